@@ -1,0 +1,12 @@
+use Rattle.nfs_data.proofs.Shown.{bad_handle_holds, stale_holds, names_holds}
+use Rattle.nfs_data.proofs.getattr.attempt.Goals as goal
+
+pub answer-requires : goal.answer-requires
+answer-requires c = bad_handle_holds c.args.ctx.now c.args.view.now c.args.object.now (rw c.as_slice.ensures at c.in-BadHandle.ensures)
+
+pub answer-requires-in-Stale : goal.answer-requires-in-Stale
+answer-requires-in-Stale c = stale_holds c.args.ctx.now c.args.view.now c.args.object.now (rw c.as_slice.ensures at c.in-Stale.ensures)
+
+pub answer-requires-in-Inode : goal.answer-requires-in-Inode
+answer-requires-in-Inode c =
+    names_holds c.args.ctx.now c.args.view.now c.args.object.now c.in-Inode.number c.in-Inode.inode.now c.attributes.result (rw c.as_slice.ensures at c.in-Inode.ensures) c.attributes.ensures

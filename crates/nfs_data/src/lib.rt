@@ -1,0 +1,54 @@
+//! The procedures of NFS version 3 on attributes and data (RFC 1813, section 3.3), each as an attempt on a view.
+//!
+//! An attempt is a function of its arguments: it reads the view and nothing else, and comes to the addresses that it
+//! still needs, or to a `Done`. Its contract is the promise that a `Done` keeps by its type, which is that the answer
+//! is a step of the machine in every sound store that the view fits, and exactly what is asked for. So far the
+//! procedures are NULL and GETATTR. It stands on `nfs_objects` for views and ends, and on `nfs_machine` for the steps.
+#![tactic(auto)]
+
+ghost use Rattle.std.specs.Prelude.{IfOk};
+ghost use Rattle.nfs_objects.specs.Attempt.{Attempts, AsksFor};
+ghost use Rattle.nfs_data.specs.Wanted.{wanted};
+
+mod getattr;
+pub mod inodes;
+
+use nfs_machine::{Call, Ctx, Reply};
+use nfs_objects::{Outcome, View, unchanged};
+use nfs_wire::{NfsCall, NfsReply};
+use std::alloc::{AllocError, Global};
+
+/// Tries a call on a view.
+///
+/// NULL asks for nothing. GETATTR asks for the object that the handle names, unless the view has it; a handle that is
+/// bad, of another start of the server, or of an export that does not admit the host is answered without asking.
+///
+/// # Errors
+///
+/// `AllocError` where the memory for what the call comes to was refused.
+pub fn attempt(alloc: Global, call: &NfsCall, ctx: &Ctx, view: &View) -> Result<Outcome, AllocError>
+    ensures attempts { IfOk result (λ outcome. Attempts (Call.Nfs call.now) ctx.now view.now outcome) }
+    ensures asks { IfOk result (AsksFor (wanted ctx.now view.now.entries call.now)) }
+{
+    match call {
+        NfsCall::Null => null(alloc, ctx, view),
+        NfsCall::Getattr(object) => getattr::attempt(alloc, object, ctx, view),
+    }
+}
+
+/// NULL does nothing (RFC 1813, 3.3.0).
+fn null(alloc: Global, ctx: &Ctx, view: &View) -> Result<Outcome, AllocError>
+    ensures attempts { IfOk result (λ outcome. Attempts (Call.Nfs NfsCall.Null) ctx.now view.now outcome) }
+    ensures asks { IfOk result (AsksFor (wanted ctx.now view.now.entries NfsCall.Null)) }
+{
+    unchanged(
+        alloc,
+        Call::Nfs(NfsCall::Null),
+        ctx,
+        view,
+        Reply::Nfs(NfsReply::Null),
+    )
+}
+
+#[cfg(test)]
+mod tests;

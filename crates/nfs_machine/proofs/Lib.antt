@@ -1,0 +1,7 @@
+mod Asked
+mod Chosen
+mod Faults
+mod Handles
+mod Listed
+mod Pieces
+mod Runs

@@ -1,0 +1,18 @@
+use Rattle.std.proofs.Common.{refl, arith}
+use Rattle.nfs_machine.proofs.Chosen.{one_left}
+use Rattle.nfs_machine.specs.MountSteps.{walk}
+use Rattle.nfs_machine.specs.Worked.{open_export, lower_export}
+use Rattle.nfs_machine.proofs.worked.worked_walks.Goals as goal
+
+pub returns : goal.returns
+unfolding walk
+returns c = record {
+  root = λ o e. cc;
+  directory = λ o e. cc;
+  file = refl;
+  through_file = refl;
+  nothing = refl;
+  admitted = record { leads = record { export = lower_export; stands = refl; admitted = refl; begins = refl }; longest = λ other more leads. omega arith };
+  not_admitted = record { leads = record { export = open_export; stands = refl; admitted = refl; begins = refl }; longest = one_left };
+  empty_parts = record { leads = record { export = open_export; stands = refl; admitted = refl; begins = refl }; longest = λ other more leads. omega arith };
+}

@@ -1,0 +1,28 @@
+-- The exports, and which of them admit a host.
+use Rattle.std.specs.Prelude.{ℕ, Bool, false, ◌||◌, List, [], ◌∷◌, Option, Some, None, slice_get, zero, suc}
+use Rattle.std.specs.List.{list_any}
+use Rattle.nfs_machine.specs.Bytes.{same_bytes}
+use Rattle.nfs_machine.specs.declared.exports.Export.{Export}
+
+-- an export: its path, whether it is read only, and the hosts that it admits
+pub record ExportValue : Type 0 where
+  pub path : List ℕ
+  pub read_only : Bool
+  pub hosts : List (List ℕ)
+
+abbrev pub export_value : Export → ExportValue
+export_value e = record { path = e.path; read_only = e.read_only; hosts = e.hosts.items }
+
+-- `*` admits every host
+abbrev pub admits : ExportValue → List ℕ → Bool
+admits e host = list_any (λ h. same_bytes h host || same_bytes h (42 ∷ [])) e.hosts
+
+-- the export with a number; numbers are from 1
+abbrev pub export_at : List ExportValue → ℕ → Option ExportValue
+export_at exports zero = None
+export_at exports (suc n) = slice_get exports n
+
+-- whether there is such an export and it admits the host
+abbrev pub export_admits : Option ExportValue → List ℕ → Bool
+export_admits None host = false
+export_admits (Some e) host = admits e host

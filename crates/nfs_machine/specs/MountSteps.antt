@@ -1,0 +1,114 @@
+-- The steps of MOUNT version 3, one definition for each procedure (RFC 1813, appendix I, 5.2).
+use Rattle.std.specs.Prelude.{◌≡◌, ℕ, ◌≤◌, ◌-◌, Bool, true, not, ◌&&◌, ◌||◌, List, [], ◌∷◌, ◌++◌, length, drop, Option, Some, None, Result, Ok, Err, nat_lt, if◌then◌else◌, find, ◌⊎◌, ◌==◌}
+use Rattle.std.specs.List.{list_any}
+use Rattle.std.specs.FinMap.{get}
+use Rattle.side_wire.specs.declared.message.Message.{Message}
+use Rattle.side_wire.specs.declared.mount.MountCall.{MountCall}
+use Rattle.side_wire.specs.declared.mount.MountCall.TheVariants as calls
+use Rattle.side_wire.specs.declared.mount.MountReply.{MountReply}
+use Rattle.side_wire.specs.declared.mount.MountReply.TheVariants as replies
+use Rattle.side_wire.specs.declared.mount.MountStatus.{MountStatus}
+use Rattle.side_wire.specs.declared.mount.MountStatus.TheVariants as status
+use Rattle.nfs_machine.specs.Bytes.{same_bytes}
+use Rattle.nfs_machine.specs.Exports.{ExportValue, admits, export_at}
+use Rattle.nfs_machine.specs.Handles.{handle_bytes}
+use Rattle.nfs_machine.specs.NfsSteps.{OnlyAnswers}
+use Rattle.nfs_machine.specs.Paths.{parts, pieces, is_dots, begins_with_slash}
+use Rattle.nfs_machine.specs.State.{Regular, Directory, Link, BlockDevice, CharacterDevice, Socket, Fifo, Entry, Living, Mounted, State}
+use Rattle.nfs_machine.specs.declared.context.Ctx.{Ctx}
+
+-- no directory of any server is called so: INVAL for a path without a leading slash, with NUL, or with a part "." or "..";
+-- then NAMETOOLONG for a part above 255 bytes
+abbrev pub path_fault : List ℕ → Option MountStatus
+path_fault path =
+    if not (begins_with_slash path) || list_any (λ b. b == 0) path || list_any is_dots (pieces path) then Some status.Invalid
+    else (if list_any (λ part. nat_lt 255 (length part)) (pieces path) then Some status.NameTooLong else None)
+
+-- the export admits the host, and its parts begin the names, which go on with rest
+pub record Leads (exports : List ExportValue) (host : List ℕ) (names : List (List ℕ)) (number : ℕ) (rest : List (List ℕ)) : Type 0 where
+  pub export : ExportValue
+  pub stands : export_at exports number ≡ Some export
+  pub admitted : admits export host ≡ true
+  pub begins : names ≡ parts export.path ++ rest
+
+-- of the exports that lead there, the one with the longest path: the least is left to walk
+pub record Chosen (exports : List ExportValue) (host : List ℕ) (names : List (List ℕ)) (number : ℕ) (rest : List (List ℕ)) : Type 0 where
+  pub leads : Leads exports host names number rest
+  pub longest : (other : ℕ) (more : List (List ℕ)) → Leads exports host names other more → length rest ≤ length more
+
+abbrev pub entry_named : List Entry → List ℕ → Result Entry MountStatus
+entry_named [] name = Err status.NoEntry
+entry_named (e ∷ entries) name = if same_bytes e.name name then Ok e else entry_named entries name
+
+-- the entries of a directory; a walk stops at anything else
+abbrev pub entries_at : Option Living → Result (Living × List Entry) MountStatus
+entries_at None = Err status.NoEntry
+entries_at (Some o) = elim o.content [
+  | Directory entries last_cookie ↦ Ok (o, entries)
+  | Regular bytes ↦ Err status.NotDirectory
+  | Link text ↦ Err status.NotDirectory
+  | BlockDevice device ↦ Err status.NotDirectory
+  | CharacterDevice device ↦ Err status.NotDirectory
+  | Socket ↦ Err status.NotDirectory
+  | Fifo ↦ Err status.NotDirectory
+]
+
+infixl 10 ◌>>=◌
+abbrev pub ◌>>=◌ : {A B : Type 0} → Result A MountStatus → (A → Result B MountStatus) → Result B MountStatus
+(Ok x) >>= f = f x
+(Err e) >>= f = Err e
+
+-- the directory that names lead to from a number, with its own number; no link is followed
+unfoldable pub walk : (ℕ → Option Living) → ℕ → List (List ℕ) → Result (ℕ × Living) MountStatus
+walk find number [] = do
+  d ← entries_at (find number)
+  Ok (number, d.0)
+walk find number (name ∷ names) = do
+  d ← entries_at (find number)
+  e ← entry_named d.1 name
+  walk find e.number names
+
+-- what a path names for a caller: the root of an export has the export's number
+abbrev pub Target : State → Ctx → List ℕ → Result (ℕ × Living) MountStatus → Type 0
+Target m ctx path found =
+    (path_fault path ≡ None) × (number : ℕ) × (rest : List (List ℕ)) × Chosen ctx.exports ctx.host (parts path) number rest × (found ≡ walk (get m.objects) number rest)
+
+-- no export that admits the caller leads there
+abbrev pub NoExport : Ctx → List ℕ → Type 0
+NoExport ctx path = (number : ℕ) (rest : List (List ℕ)) → Leads ctx.exports ctx.host (parts path) number rest → ⊥
+
+-- the newest that are kept
+abbrev pub mount_limit : ℕ
+mount_limit = 65536
+
+abbrev pub is_mounted : List Mounted → Mounted → Bool
+is_mounted mounts m = list_any (λ (x : Mounted). same_bytes x.host m.host && same_bytes x.path m.path) mounts
+
+abbrev pub newest : List Mounted → List Mounted
+newest mounts = drop (length mounts - mount_limit) mounts
+
+-- a pair is added last, unless it is there
+abbrev pub with_mount : State → Mounted → State
+with_mount m mounted = if is_mounted m.mounts mounted then m else record m { mounts = newest (m.mounts ++ mounted ∷ []) }
+
+abbrev pub handle_at : Ctx → ℕ → Living → List ℕ
+handle_at ctx number o = handle_bytes (record { export = o.export; start = ctx.start; fileid = number; generation = o.generation })
+
+-- MNT, 5.2.1
+abbrev pub MntAnswers : State → Ctx → List ℕ → Result (List ℕ) MountStatus → State → Type 0
+MntAnswers old ctx path (Ok handle) new =
+    (found : ℕ × Living) × Target old ctx path (Ok found) × (handle ≡ handle_at ctx found.0 found.1)
+    × (new ≡ with_mount old (record { host = ctx.host; path = path }))
+MntAnswers old ctx path (Err e) new =
+    ((path_fault path ≡ Some e) ⊎ ((path_fault path ≡ None) × NoExport ctx path × (e ≡ status.Access)) ⊎ Target old ctx path (Err e)) × (new ≡ old)
+
+pub record MntStep (old : State) (ctx : Ctx) (path : List ℕ) (reply : MountReply) (messages : List Message) (new : State) : Type 0 where
+  pub result : Result (List ℕ) MountStatus
+  pub reply_is : reply ≡ replies.Mnt result
+  pub no_message : messages ≡ []
+  pub answers : MntAnswers old ctx path result new
+
+-- what the machine may answer a call of MOUNT, and the state that it goes on to
+unfoldable pub MountStep : State → Ctx → MountCall → MountReply → List Message → State → Type 0
+MountStep old ctx calls.Null reply messages new = OnlyAnswers replies.Null old reply messages new
+MountStep old ctx (calls.Mnt path) reply messages new = MntStep old ctx path reply messages new

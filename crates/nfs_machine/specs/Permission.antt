@@ -1,0 +1,44 @@
+-- Who may do what (RFC 1813, 4.4).
+use Rattle.std.specs.Prelude.{ℕ, ◌/◌, ◌%◌, Bool, ◌||◌, ◌&&◌, if◌then◌else◌, ◌==◌}
+use Rattle.std.specs.List.{list_any}
+use Rattle.nfs_rpc.specs.declared.credentials.Ids.{Ids}
+use Rattle.nfs_machine.specs.State.{Living}
+
+pub data Right : Type 0 where
+  -- of a file: by its owner always; else r, or x (a program is read to be run)
+  Reading : Right
+  -- of a file: by its owner always; else w
+  Writing : Right
+  -- of a directory: x
+  Searching : Right
+  -- of a directory: r
+  Listing : Right
+  -- of a directory's entries: w and x
+  Changing : Right
+
+-- whether a group is the caller's own or one of its further groups
+abbrev pub is_member : Ids → ℕ → Bool
+is_member ids gid = (ids.gid == gid) || list_any (λ g. g == gid) ids.gids
+
+-- the three bits of the caller's class: owner, else group, else other
+abbrev pub class_bits : Ids → Living → ℕ
+class_bits ids o = if ids.uid == o.uid then o.mode / 64 % 8 else (if is_member ids o.gid then o.mode / 8 % 8 else o.mode % 8)
+
+abbrev pub reads : ℕ → Bool
+reads bits = bits / 4 % 2 == 1
+
+abbrev pub writes : ℕ → Bool
+writes bits = bits / 2 % 2 == 1
+
+abbrev pub runs : ℕ → Bool
+runs bits = bits % 2 == 1
+
+abbrev pub class_may : Right → Bool → ℕ → Bool
+class_may Reading owner bits = owner || reads bits || runs bits
+class_may Writing owner bits = owner || writes bits
+class_may Searching owner bits = runs bits
+class_may Listing owner bits = reads bits
+class_may Changing owner bits = writes bits && runs bits
+
+abbrev pub may : Ids → Living → Right → Bool
+may ids o right = (ids.uid == 0) || class_may right (ids.uid == o.uid) (class_bits ids o)

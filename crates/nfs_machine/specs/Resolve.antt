@@ -1,0 +1,27 @@
+-- What a handle that a caller sends names (RFC 1813, 2.6: NFS3ERR_BADHANDLE, NFS3ERR_STALE).
+use Rattle.std.specs.Prelude.{ℕ, ◌&&◌, List, Option, Some, None, if◌then◌else◌, ◌==◌}
+use Rattle.std.specs.FinMap.{get}
+use Rattle.nfs_machine.specs.Exports.{export_admits, export_at}
+use Rattle.nfs_machine.specs.Handles.{handle_of}
+use Rattle.nfs_machine.specs.State.{Living, State}
+use Rattle.nfs_machine.specs.declared.context.Ctx.{Ctx}
+use Rattle.nfs_machine.specs.declared.handle.Handle.{Handle}
+
+pub data Resolved : Type 0 where
+  -- no handle of this server's form
+  BadHandle : Resolved
+  -- a handle that names nothing for this caller
+  Stale : Resolved
+  Names : (number : ℕ) (object : Living) → Resolved
+
+abbrev pub living_at : Option Living → Handle → Resolved
+living_at None h = Stale
+living_at (Some object) h = if (object.generation == h.generation) && (object.export == h.export) then Names h.fileid object else Stale
+
+-- what a handle names among the objects that a look-up finds
+abbrev pub named : (ℕ → Option Living) → Ctx → Option Handle → Resolved
+named find ctx None = BadHandle
+named find ctx (Some h) = if (h.start == ctx.start) && export_admits (export_at ctx.exports h.export) ctx.host then living_at (find h.fileid) h else Stale
+
+abbrev pub resolve : State → Ctx → List ℕ → Resolved
+resolve m ctx bytes = named (get m.objects) ctx (handle_of bytes)

@@ -1,0 +1,85 @@
+-- Records of what was executed, and runs of the machine over them.
+use Rattle.std.specs.Prelude.{◌≡◌, ℕ, List, [], ◌∷◌, ◌++◌, Ok}
+use Rattle.nfs_rpc.specs.Early.{call_of}
+use Rattle.nfs_rpc.specs.Messages.{CallHeader}
+use Rattle.nfs_rpc.specs.declared.programs.Program.{Program}
+use Rattle.nfs_rpc.specs.declared.programs.Program.TheVariants as programs
+use Rattle.nfs_wire.specs.Calls.{procedure_of, SpellsArguments}
+use Rattle.side_wire.specs.Mount.{mount_procedure_of, SpellsMountArguments}
+use Rattle.side_wire.specs.Nlm.{nlm_procedure_of, SpellsNlmArguments}
+use Rattle.side_wire.specs.declared.message.Message.{Message}
+use Rattle.nfs_machine.specs.Exports.{ExportValue}
+use Rattle.nfs_machine.specs.State.{State}
+use Rattle.nfs_machine.specs.Step.{Step}
+use Rattle.nfs_machine.specs.declared.calls.Call.{Call}
+use Rattle.nfs_machine.specs.declared.calls.Call.TheVariants as calls
+use Rattle.nfs_machine.specs.declared.calls.Reply.{Reply}
+use Rattle.nfs_machine.specs.declared.context.Ctx.{Ctx}
+use Rattle.nfs_machine.specs.declared.context.Limits.{Limits}
+use Rattle.nfs_machine.specs.declared.moment.Moment.{Moment}
+
+-- what a server was started with
+pub record Setting : Type 0 where
+  pub start : ℕ
+  pub exports : List ExportValue
+  pub limits : Limits
+
+-- a record that came in: from whom, its bytes, and when
+pub record Arrival : Type 0 where
+  pub host : List ℕ
+  pub bytes : List ℕ
+  pub moment : Moment
+
+-- the program that a call is for, and the number of its procedure
+abbrev pub program_of : Call → Program
+program_of (calls.Nfs call) = programs.Nfs
+program_of (calls.Mount call) = programs.Mount
+program_of (calls.Nlm call) = programs.Nlm
+
+abbrev pub number_of : Call → ℕ
+number_of (calls.Nfs call) = procedure_of call
+number_of (calls.Mount call) = mount_procedure_of call
+number_of (calls.Nlm call) = nlm_procedure_of call
+
+abbrev pub Spelled : Call → List ℕ → Type 0
+Spelled (calls.Nfs call) bytes = SpellsArguments call bytes
+Spelled (calls.Mount call) bytes = SpellsMountArguments call bytes
+Spelled (calls.Nlm call) bytes = SpellsNlmArguments call bytes
+
+-- the header's program and procedure are the call's, and a front of its arguments spells the call's; bytes after them are ignored
+pub record IsCall (header : CallHeader) (call : Call) : Type 0 where
+  pub program : program_of call ≡ header.program
+  pub procedure : number_of call ≡ header.procedure
+  pub front : List ℕ
+  pub rest : List ℕ
+  pub arguments : header.arguments ≡ front ++ rest
+  pub spelled : Spelled call front
+
+abbrev pub ctx_of : Setting → Arrival → CallHeader → Ctx
+ctx_of setting arrival header =
+    record { host = arrival.host; ids = header.ids; moment = arrival.moment; start = setting.start; exports = setting.exports; limits = setting.limits }
+
+-- what the arrival asks: this call, under this context
+pub record Asks (setting : Setting) (arrival : Arrival) (ctx : Ctx) (call : Call) : Type 0 where
+  pub header : CallHeader
+  pub read : call_of arrival.bytes ≡ Ok header
+  pub is_call : IsCall header call
+  pub made_under : ctx ≡ ctx_of setting arrival header
+
+-- a call that was executed, with what it was answered and the messages that it put
+pub record Record : Type 0 where
+  pub arrival : Arrival
+  pub reply : Reply
+  pub messages : List Message
+
+-- the record is one step of the machine
+pub record Executes (setting : Setting) (old : State) (r : Record) (new : State) : Type 0 where
+  pub ctx : Ctx
+  pub call : Call
+  pub asks : Asks setting r.arrival ctx call
+  pub step : Step old ctx call r.reply r.messages new
+
+-- one record after the other, each a step from the state that the one before it left
+abbrev pub Run : Setting → State → List Record → State → Type 0
+Run setting old [] new = new ≡ old
+Run setting old (r ∷ records) new = (mid : State) × Executes setting old r mid × Run setting mid records new

@@ -1,0 +1,90 @@
+-- The state of the machine: one value, which one call at a time changes (RFC 1813, 1.6 and 2.5; appendices I and II).
+use Rattle.std.specs.Prelude.{ℕ, ℤ, Bool, List, Option}
+use Rattle.std.specs.Ordering.{nat_cmp}
+use Rattle.std.specs.FinMap.{FinMap}
+use Rattle.nfs_wire.specs.declared.attributes.DeviceNumber.{DeviceNumber}
+use Rattle.nfs_wire.specs.declared.attributes.Time.{Time}
+use Rattle.side_wire.specs.declared.message.NlmLock.{NlmLock}
+
+-- a name in a directory: the object that it leads to, and its cookie
+pub record Entry : Type 0 where
+  pub name : List ℕ
+  pub number : ℕ
+  pub cookie : ℕ
+
+-- what an object is and contains
+pub data Content : Type 0 where
+  Regular : (bytes : List ℕ) → Content
+  -- entries in rising order of cookie, each name once, and the greatest cookie ever used
+  Directory : (entries : List Entry) (last_cookie : ℕ) → Content
+  Link : (text : List ℕ) → Content
+  BlockDevice : (device : DeviceNumber) → Content
+  CharacterDevice : (device : DeviceNumber) → Content
+  Socket : Content
+  Fifo : Content
+
+-- a living object; its handle is made of its export, the start number, its number and its generation
+pub record Living : Type 0 where
+  pub export : ℕ
+  pub generation : ℕ
+  pub content : Content
+  pub mode : ℕ
+  pub uid : ℕ
+  pub gid : ℕ
+  pub accessed : Time
+  pub modified : Time
+  pub changed : Time
+  -- of an exclusive CREATE
+  pub verifier : Option (List ℕ)
+
+-- a host that mounted a path, as it sent it
+pub record Mounted : Type 0 where
+  pub host : List ℕ
+  pub path : List ℕ
+
+-- who holds a lock
+pub record Owner : Type 0 where
+  pub caller_name : List ℕ
+  pub owner : List ℕ
+  pub process : ℤ
+
+pub record Lock : Type 0 where
+  pub file : ℕ
+  pub owner : Owner
+  pub first : ℕ
+  pub last : ℕ
+  pub exclusive : Bool
+
+-- a share reservation: which access its owner has, and which it denies to others
+pub record Share : Type 0 where
+  pub file : ℕ
+  pub caller_name : List ℕ
+  pub owner : List ℕ
+  pub denies_reading : Bool
+  pub denies_writing : Bool
+  pub reads : Bool
+  pub writes : Bool
+
+-- a request for a lock, with the number that its grant has: it waits, or is held and not yet answered
+pub record Request : Type 0 where
+  pub number : ℕ
+  pub file : ℕ
+  pub host : List ℕ
+  pub exclusive : Bool
+  pub asked : NlmLock
+  -- asked by LOCK_MSG
+  pub by_message : Bool
+
+pub record State : Type 0 where
+  -- the living objects by their numbers, which are their fileids
+  pub objects : FinMap nat_cmp Living
+  -- which numbers and generations were given, and are never given again
+  pub spent : ℕ → ℕ → Bool
+  -- in order of adding, each pair once
+  pub mounts : List Mounted
+  pub locks : List Lock
+  pub shares : List Share
+  -- in order of arrival
+  pub waiting : List Request
+  pub granted : List Request
+  pub spent_grants : ℕ → Bool

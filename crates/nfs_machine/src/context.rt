@@ -1,0 +1,44 @@
+//! What a call is made under.
+
+ghost use Rattle.std.specs.Prelude.{◌≡◌};
+
+use crate::exports::Exports;
+use crate::moment::Moment;
+use bytes::Bytes;
+use nfs_rpc::Ids;
+use std::alloc::AllocError;
+
+/// Figures that the server was started with.
+#[derive(Clone, Copy, Debug, PartialEq, Eq)]
+pub struct Limits {
+    /// The total space that FSSTAT tells, in bytes.
+    pub total_bytes: u64,
+}
+
+/// Who calls and when, and what the server was started with.
+#[derive(Drop)]
+pub struct Ctx {
+    /// The peer's address text, without a port.
+    pub host: Bytes,
+    pub ids: Ids,
+    pub moment: Moment,
+    /// The start number, which each handle has.
+    pub start: u64,
+    pub exports: Exports,
+    pub limits: Limits,
+}
+
+impl Clone for Ctx {
+    ghost is_clone = { λ ctx copy. copy ≡ ctx };
+
+    fn clone(&self) -> Result<Ctx, AllocError> {
+        Ok(Ctx {
+            host: self.host.clone()?,
+            ids: self.ids,
+            moment: self.moment,
+            start: self.start,
+            exports: self.exports.clone()?,
+            limits: self.limits,
+        })
+    }
+}

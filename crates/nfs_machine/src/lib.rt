@@ -1,0 +1,28 @@
+//! The sequential machine of the server: its state, the step that each call makes, and runs of steps (RFC 1813).
+//!
+//! It is what every other crate is proved against. The definitions stand in `specs/`, one file for each thing:
+//! `State`, `Resolve`, `Permission`, `Attributes`, the steps of each program, `Run`. The code here is what a call is
+//! made under (`Ctx`, `Exports`, `Moment`), handles, the answer to a call that memory is wanting for, the laws of the
+//! machine, and worked values of the definitions. It stands on the call headers of `nfs_rpc` and on the calls and
+//! replies of `nfs_wire` and `side_wire`.
+#![tactic(auto)]
+
+pub mod calls;
+pub mod context;
+mod export_faults;
+pub mod exports;
+pub mod handle;
+pub mod laws;
+pub mod moment;
+pub mod paths;
+mod refusals;
+pub mod worked;
+
+pub use calls::{Call, Refusal, Reply};
+pub use context::{Ctx, Limits};
+pub use exports::{Export, ExportError, ExportText, Exports};
+pub use handle::Handle;
+pub use moment::{Moment, Moments};
+
+#[cfg(test)]
+mod tests;

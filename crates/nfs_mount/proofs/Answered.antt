@@ -1,0 +1,93 @@
+-- The answers to MNT are the machine's: what the path names in the view it names in every store that the view fits.
+use Rattle.std.proofs.Common.{◌≡◌, ℕ, Bool, true, false, cond, List, [], ◌∷◌, ◌++◌, map, Option, Some, None, IsSome, Result, Ok, Err, ◌⊎◌, inl, inr, refl, sym, ◌∙◌, ap, subst}
+use Rattle.std.specs.Borrow.{Bor}
+use Rattle.std.specs.FinMap.{get}
+use Rattle.side_wire.specs.declared.mount.MountCall.TheVariants as calls
+use Rattle.side_wire.specs.declared.mount.MountReply.TheVariants as replies
+use Rattle.side_wire.specs.declared.mount.MountStatus.{MountStatus}
+use Rattle.side_wire.specs.declared.mount.MountStatus.TheVariants.{Access}
+use Rattle.nfs_machine.specs.MountSteps.{Chosen, MountStep, NoExport, Target, handle_at, is_mounted, newest, path_fault, walk, with_mount}
+use Rattle.nfs_machine.specs.Paths.{parts}
+use Rattle.nfs_machine.specs.State.{Mounted, State}
+use Rattle.nfs_machine.specs.declared.calls.Call.TheVariants.{Mount}
+use Rattle.nfs_machine.specs.declared.calls.Reply.TheVariants as answers
+use Rattle.nfs_machine.specs.declared.context.Ctx.{Ctx}
+use Rattle.nfs_objects.specs.Endings.{HoldsUnchanged}
+use Rattle.nfs_objects.proofs.Seen.{lives-seen, mounts-seen}
+use Rattle.nfs_objects.specs.Stands.{living_of_inode, mounted, mounted_of, mounts_of}
+use Rattle.nfs_objects.specs.Values.{ViewValue, seen_at}
+use Rattle.nfs_objects.specs.declared.address.Addr.TheVariants.{Inode, Mounts}
+use Rattle.nfs_objects.specs.declared.object.Inode as inodes
+use Rattle.nfs_objects.specs.declared.object.Mount as tables
+use Rattle.nfs_objects.specs.declared.object.Object.{Object}
+use Rattle.nfs_mount.specs.Tables.{Adds, StoresMounts}
+use Rattle.nfs_mount.specs.Walks.{IsNamed, Walks}
+
+pub null_answered : (ctx : Ctx) (view : ViewValue) → HoldsUnchanged (Mount calls.Null) ctx view (answers.Mount replies.Null)
+unfolding MountStep
+null_answered ctx view = record { step = λ s m stands sound roots fits. record { reply_is = refl; no_message = refl; unchanged = refl } }
+
+module _ (ctx : Ctx) (view : ViewValue) (path : List ℕ) where
+  pub fault_refused : (e : MountStatus) → path_fault path ≡ Some e → HoldsUnchanged (Mount (calls.Mnt path)) ctx view (answers.Mount (replies.Mnt (Err e)))
+  unfolding MountStep
+  fault_refused e fault =
+      record { step = λ s m stands sound roots fits. record { result = Err e; reply_is = refl; no_message = refl; answers = (inl fault, refl) } }
+
+  module _ (sane : path_fault path ≡ None) where
+    pub no_export_refused : NoExport ctx path → HoldsUnchanged (Mount (calls.Mnt path)) ctx view (answers.Mount (replies.Mnt (Err Access)))
+    unfolding MountStep
+    no_export_refused none =
+        record { step = λ s m stands sound roots fits. record { result = Err Access; reply_is = refl; no_message = refl; answers = (inr (inl (sane, none, refl)), refl) } }
+
+    module _ (number : ℕ) (rest : List (List ℕ)) (known : Option Object) (chosen : Chosen ctx.exports ctx.host (parts path) number rest) (seen : seen_at view.entries (Inode number) ≡ Some known) where
+      pub walk_refused : (e : MountStatus) → Walks known rest (Err e) → HoldsUnchanged (Mount (calls.Mnt path)) ctx view (answers.Mount (replies.Mnt (Err e)))
+      unfolding MountStep
+      walk_refused e walks = record {
+        step = λ s m stands sound roots fits. record {
+          result = Err e;
+          reply_is = refl;
+          no_message = refl;
+          answers = (inr (inr (sane, number, rest, chosen, sym (walks (get m.objects) number (lives-seen s m view number known stands fits seen)))), refl);
+        };
+      }
+
+      pub named : (inode : Bor inodes.Inode) → Walks known rest (Ok inode) → IsNamed ctx view path number inode.now
+      named inode walks = record {
+        target = λ s m stands sound roots fits. (sane, number, rest, chosen, sym (walks (get m.objects) number (lives-seen s m view number known stands fits seen)));
+      }
+
+  module _ (number : ℕ) (inode : inodes.Inode) (known : Option Object) (handle : List ℕ) (named : IsNamed ctx view path number inode)
+      (seen : seen_at view.entries Mounts ≡ Some known) (is : handle ≡ handle_at ctx number (living_of_inode inode)) where
+    pub listed_answered : Adds known ctx.host path None → HoldsUnchanged (Mount (calls.Mnt path)) ctx view (answers.Mount (replies.Mnt (Ok handle)))
+    unfolding MountStep
+    listed_answered listed = record {
+      step = λ s m stands sound roots fits. record {
+        result = Ok handle;
+        reply_is = refl;
+        no_message = refl;
+        answers = (
+          (number, living_of_inode inode),
+          named.target s m stands sound roots fits,
+          is,
+          sym (ap (λ b. cond b m (record m { mounts = newest (m.mounts ++ mounted ctx.host path ∷ []) })) (ap (λ l. is_mounted l (mounted ctx.host path)) (mounts-seen s m view known stands fits seen) ∙ listed)),
+        );
+      };
+    }
+
+    pub added_answered : (table : List tables.Mount) → Adds known ctx.host path (Some table) → StoresMounts (Mount (calls.Mnt path)) ctx view table (answers.Mount (replies.Mnt (Ok handle)))
+    unfolding MountStep
+    added_answered table adds = record {
+      seen = subst (λ o. IsSome o) (sym seen) refl;
+      step = λ s m stands sound roots fits. record {
+        result = Ok handle;
+        reply_is = refl;
+        no_message = refl;
+        answers = (
+          (number, living_of_inode inode),
+          named.target s m stands sound roots fits,
+          is,
+          ap (λ l. record m { mounts = l }) (adds.1 ∙ ap (λ l. newest (l ++ mounted ctx.host path ∷ [])) (sym (mounts-seen s m view known stands fits seen)))
+              ∙ sym (ap (λ b. cond b m (record m { mounts = newest (m.mounts ++ mounted ctx.host path ∷ []) })) (ap (λ l. is_mounted l (mounted ctx.host path)) (mounts-seen s m view known stands fits seen) ∙ adds.0)),
+        );
+      };
+    }

@@ -1,0 +1,6 @@
+pub mod Answered
+pub mod Best
+pub mod Fronts
+pub mod Parts
+pub mod Stored
+pub mod Walked

@@ -1,0 +1,5 @@
+pub mod Choices
+pub mod Fronts
+pub mod Needs
+pub mod Tables
+pub mod Walks

@@ -1,0 +1,3 @@
+pub mod Mounts
+pub mod Promised
+pub mod Seen

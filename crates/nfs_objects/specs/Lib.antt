@@ -1,0 +1,9 @@
+pub mod Attempt
+pub mod Endings
+pub mod Fits
+pub mod Parts
+pub mod Promise
+pub mod Sound
+pub mod Stands
+pub mod Store
+pub mod Values

@@ -1,0 +1,30 @@
+-- What is true of every store that the server makes.
+use Rattle.std.specs.Prelude.{◌≡◌, ℕ, ◌≤◌, true, List, Some}
+use Rattle.std.specs.FinMap.{get}
+use Rattle.nfs_machine.specs.Attributes.{links_of, is_directory}
+use Rattle.nfs_machine.specs.Exports.{ExportValue, export_at}
+use Rattle.nfs_machine.specs.State.{Living, State}
+use Rattle.nfs_objects.specs.declared.address.Addr.TheVariants as addresses
+use Rattle.nfs_objects.specs.declared.object.Inode.{Inode}
+use Rattle.nfs_objects.specs.declared.object.Object.TheVariants as objects
+use Rattle.nfs_objects.specs.Stands.{content_of}
+use Rattle.nfs_objects.specs.Store.{Store}
+
+pub record Sound (s : Store) (m : State) : Type 0 where
+  -- the count of links that an inode keeps is the count that it has
+  pub links : (n : ℕ) (i : Inode) → s.at (addresses.Inode n) ≡ Some (objects.Inode i) → i.links ≡ links_of m n (content_of i.content)
+  -- the directories of an export form one tree: while none has entries it is the root, whose number is the export's
+  pub tree : (n : ℕ) (i : Inode) → s.at (addresses.Inode n) ≡ Some (objects.Inode i) → i.export ≡ n
+  -- its generation was given
+  pub generations : (n : ℕ) (i : Inode) → s.at (addresses.Inode n) ≡ Some (objects.Inode i) → i.generation ≤ s.last n
+
+-- the root of an export has the export's number, and is a directory
+pub record RootLives (m : State) (number : ℕ) : Type 0 where
+  pub root : Living
+  pub lives : get m.objects number ≡ Some root
+  pub own : root.export ≡ number
+  pub directory : is_directory root.content ≡ true
+
+-- each export has its root
+abbrev pub RootsLive : List ExportValue → State → Type 0
+RootsLive exports m = (number : ℕ) (e : ExportValue) → export_at exports number ≡ Some e → RootLives m number

@@ -1,0 +1,149 @@
+//! What a call comes to.
+
+ghost use Rattle.std.specs.Prelude.{◌≡◌};
+ghost use Rattle.nfs_objects.specs.Values.{done_value};
+ghost use Rattle.nfs_objects.specs.Promise.{IsPromised};
+ghost use Rattle.nfs_objects.specs.Parts.{parts_value};
+
+use crate::address::{Addr, Mode};
+use crate::object::Object;
+use crate::view::View;
+use nfs_machine::{Call, Ctx, Reply};
+use side_wire::Message;
+use std::marker::Model;
+use std::sync::Arc;
+
+/// What is to stand at an address from then on; None frees it.
+#[derive(Drop)]
+pub struct Write {
+    pub address: Addr,
+    pub object: Option<Arc<Object>>,
+}
+
+/// The end of a call, made on a view. Its type keeps the promise: in every sound store that the view fits, the reply,
+/// messages and writes are one step of the machine, which leaves the store sound, and only what was read is written.
+#[derive(Drop)]
+pub struct Done {
+    call: Call,
+    ctx: Ctx,
+    view: View,
+    writes: Vec<Write>,
+    messages: Vec<Message>,
+    reply: Reply,
+}
+
+impl Model for Done {
+    ghost use Rattle.nfs_objects.specs.Values.{DoneValue, done_value};
+
+    ghost Value = { DoneValue };
+
+    ghost view = { λ d. done_value d.call d.ctx d.view d.writes.items d.messages.items d.reply };
+
+    ghost use Rattle.nfs_objects.specs.Promise.{IsPromised};
+
+    ghost invariant = { λ d. IsPromised (done_value d.call d.ctx d.view d.writes.items d.messages.items d.reply) };
+}
+
+/// What a `Done` was made of.
+#[derive(Drop)]
+pub struct Parts {
+    pub call: Call,
+    pub ctx: Ctx,
+    pub view: View,
+    pub writes: Vec<Write>,
+    pub messages: Vec<Message>,
+    pub reply: Reply,
+}
+
+/// What an attempt comes to.
+#[derive(Drop)]
+pub enum Outcome {
+    /// These addresses have to be read first, in these modes.
+    Need(Vec<(Addr, Mode)>),
+    /// So many new numbers are wanted first.
+    Fresh(u32),
+    /// The call is done.
+    Done(Done),
+}
+
+impl Done {
+    /// The end with these writes, messages and reply. Whoever makes one shows the promise.
+    pub fn new(
+        call: Call,
+        ctx: Ctx,
+        view: View,
+        writes: Vec<Write>,
+        messages: Vec<Message>,
+        reply: Reply,
+    ) -> Done
+        requires { IsPromised (done_value call ctx view writes.items messages.items reply) }
+        ensures { result ≡ done_value call ctx view writes.items messages.items reply }
+    {
+        Done {
+            call,
+            ctx,
+            view,
+            writes,
+            messages,
+            reply,
+        }
+    }
+
+    /// The call that it ends.
+    pub fn call(&self) -> &Call
+        ensures { result.now ≡ self.now.call }
+    {
+        &self.call
+    }
+
+    /// What the call was made under.
+    pub fn ctx(&self) -> &Ctx
+        ensures { result.now ≡ self.now.ctx }
+    {
+        &self.ctx
+    }
+
+    /// What the call had read.
+    pub fn view(&self) -> &View
+        ensures { result.now ≡ self.now.view }
+    {
+        &self.view
+    }
+
+    /// What the caller is answered.
+    pub fn reply(&self) -> &Reply
+        ensures { result.now ≡ self.now.reply }
+    {
+        &self.reply
+    }
+
+    /// What it was made of.
+    pub fn into_parts(self) -> Parts
+        ensures parts { parts_value result ≡ self }
+        ensures promised { IsPromised self }
+    {
+        let Done {
+            call,
+            ctx,
+            view,
+            writes,
+            messages,
+            reply,
+        } = self;
+        Parts {
+            call,
+            ctx,
+            view,
+            writes,
+            messages,
+            reply,
+        }
+    }
+
+    /// Whoever has one has the promise.
+    pub fn promise(&self)
+        ensures { IsPromised self.now }
+    {
+        let _ = &self.writes;
+    }
+}

@@ -1,0 +1,4 @@
+pub mod Fragments
+pub mod Streams
+pub mod Places
+pub mod Readers

@@ -1,0 +1,9 @@
+pub mod Records
+pub mod Held
+pub mod Programs
+pub mod Gids
+pub mod Messages
+pub mod Early
+pub mod Calls
+pub mod GidsLaws
+pub mod Streams

@@ -1,0 +1,78 @@
+-- Reading finds what spells the arguments, since the laws of XDR hold at the type of every procedure's arguments;
+-- and a call is made again of its procedure's number and the value of its arguments, so equal values are equal calls.
+use Rattle.std.proofs.Common.{◌≡◌, ◌≢◌, ℕ, ◌<◌, zero, suc, List, [], ◌∷◌, ◌++◌, length, slice_index_or, Result, Ok, Err, refl, sym, subst, ap, ◌∙◌, arith}
+use Rattle.nfs_xdr.specs.declared.XdrError.{XdrError}
+use Rattle.nfs_xdr.specs.declared.XdrError.TheVariants.{Memory}
+use Rattle.nfs_xdr.specs.Types.{Xdr, Void, Value, Spells}
+use Rattle.nfs_xdr.specs.Reading.{read}
+use Rattle.nfs_xdr.specs.Laws.{IsBytes}
+use Rattle.nfs_xdr.proofs.Spelling.{spelling_is_unique, reading_finds_spelling, refusal_means_unspelled}
+use Rattle.nfs_wire.specs.Calls.{arguments, arguments_type, procedure_of, arguments_of, IsFrontedBy, IsGarbage, SpellsOneCall}
+use Rattle.std.specs.Result.{IsErrAnd}
+use Rattle.nfs_wire.specs.ArgumentsError.{arguments_error}
+use Rattle.nfs_wire.specs.declared.arguments.ArgumentsError.{ArgumentsError}
+use Rattle.nfs_wire.specs.declared.arguments.ArgumentsError.TheVariants as out
+use Rattle.nfs_wire.specs.declared.arguments.ArgumentsError.TheVariants.{Garbage}
+use Rattle.nfs_wire.specs.declared.calls.NfsCall.{NfsCall}
+use Rattle.nfs_wire.specs.declared.calls.NfsCall.TheVariants.{Null, Getattr}
+
+-- what is read is spelled by a front
+pub IsFrontedBy-read : (call : NfsCall) (bytes rest : List ℕ) → IsBytes bytes → read (arguments_type (procedure_of call)) bytes ≡ Ok (arguments_of call, rest) → IsFrontedBy call bytes
+IsFrontedBy-read call bytes rest fits e =
+    let found = reading_finds_spelling (arguments_type (procedure_of call)) bytes rest (arguments_of call) fits e in
+    (found.0, rest, found.1, found.2)
+
+-- each call is of a procedure that there is
+known : (call : NfsCall) → procedure_of call < length arguments
+known Null = omega arith
+known (Getattr object) = omega arith
+
+-- what reading refuses, no front spells
+pub IsGarbage-refused : (procedure : ℕ) (bytes : List ℕ) (error : XdrError) → (procedure < length arguments → read (arguments_type procedure) bytes ≡ Err error) → IsGarbage procedure bytes
+IsGarbage-refused procedure bytes error refused call front rest of_call whole spelled =
+    let P : ℕ → Type 0 = λ n. n < length arguments in
+    let Q : ℕ → Type 0 = λ n. read (arguments_type n) bytes ≡ Err error in
+    let e : read (arguments_type (procedure_of call)) bytes ≡ Err error = subst Q (sym of_call) (refused (subst P of_call (known call))) in
+    (refusal_means_unspelled (arguments_type (procedure_of call)) bytes error e).1 (arguments_of call) front rest whole spelled
+
+-- for each type of a list a way to make a call of its value
+abbrev Makers : List Xdr → Type 0
+Makers [] = Unit {0}
+Makers (t ∷ ts) = (Value t → NfsCall) × Makers ts
+
+-- the call that is made of a value of the type at a place
+made : (types : List Xdr) → Makers types → (n : ℕ) → Value (slice_index_or types n Void) → NfsCall
+made [] makers n value = Null
+made (t ∷ ts) makers zero value = makers.0 value
+made (t ∷ ts) makers (suc n) value = made ts makers.1 n value
+
+-- each procedure's call, made of the value of its arguments
+makers : Makers arguments
+makers = ((λ _. Null), ((λ object. Getattr object), tt))
+
+call_of : (procedure : ℕ) → Value (arguments_type procedure) → NfsCall
+call_of procedure value = made arguments makers procedure value
+
+call_of-arguments_of : (call : NfsCall) → call_of (procedure_of call) (arguments_of call) ≡ call
+unfolding made call_of makers
+call_of-arguments_of Null = refl
+call_of-arguments_of (Getattr object) = refl
+
+-- equal values of one procedure make equal calls
+call_of-unique : (m n : ℕ) → m ≡ n → (v : Value (arguments_type m)) (w : Value (arguments_type n)) (front rest front' rest' : List ℕ) → front ++ rest ≡ front' ++ rest' → Spells (arguments_type m) v front → Spells (arguments_type n) w front' → call_of m v ≡ call_of n w
+call_of-unique m n same v w front rest front' rest' whole spelled spelled' =
+    let P : ℕ → Type 0 = λ k. (w : Value (arguments_type k)) → Spells (arguments_type k) w front' → call_of m v ≡ call_of k w in
+    let here : P m = λ w spelled'. ap (call_of m) (spelling_is_unique (arguments_type m) v w front rest front' rest' whole spelled spelled').1 in
+    subst P same here w spelled'
+
+pub spells_one_call : SpellsOneCall
+spells_one_call bytes front rest front' rest' call call' same whole spelled whole' spelled' =
+    sym (call_of-arguments_of call) ∙ call_of-unique (procedure_of call) (procedure_of call') same (arguments_of call) (arguments_of call') front rest front' rest' (sym whole ∙ whole') spelled spelled' ∙ call_of-arguments_of call'
+
+-- what is answered as garbage was no want of memory
+pub is_not_memory : (result : Result NfsCall ArgumentsError) (e : XdrError) → IsErrAnd result (λ answer. answer ≡ arguments_error e) → result ≡ Err Garbage → e ≢ Memory
+is_not_memory result e gives garbage memory =
+    let P : Result NfsCall ArgumentsError → Type 0 = λ r. IsErrAnd r (λ answer. answer ≡ arguments_error e) in
+    let told : Garbage ≡ arguments_error e = subst P garbage gives in
+    let want : arguments_error e ≡ out.Memory = ap arguments_error memory in
+    cc

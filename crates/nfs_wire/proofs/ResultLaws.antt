@@ -1,0 +1,64 @@
+-- A refused call's result is the status and the other arm.
+use Rattle.std.proofs.Common.{◌≡◌, ℕ, List, ◌++◌, Result, Ok, Err, OnOk, refl, sym, ap, ◌∙◌, lit<}
+use Rattle.nfs_xdr.specs.declared.XdrError.{XdrError}
+use Rattle.nfs_xdr.specs.Laws.{IsItsSpelling}
+use Rattle.nfs_xdr.proofs.Spelling.{writing_appends, writing_spells}
+use Rattle.nfs_xdr.specs.Types.{Xdr, Void, Value, HasSpelling}
+use Rattle.nfs_xdr.specs.Writing.{with_arm, appended, write, WritesFront}
+use Rattle.nfs_wire.specs.Replies.{arm, outcome, refused_value, WritesResult}
+use Rattle.nfs_wire.specs.Status.{nfsstat3, status_number}
+use Rattle.nfs_wire.specs.Attributes.{ftype3, type_number}
+use Rattle.nfs_wire.specs.declared.attributes.FileType.{FileType}
+use Rattle.nfs_wire.specs.declared.attributes.FileType.TheVariants.{Regular}
+use Rattle.nfs_wire.specs.declared.status.NfsStatus.{NfsStatus}
+use Rattle.nfs_wire.specs.declared.status.NfsStatus.TheVariants.{Permission}
+
+-- the status NFS3_OK is appended, and then its arm
+pub appended_done : (done refused : Xdr) (value : Value done) (old : List ℕ) → appended (outcome done refused) (0, value) old ≡ appended done value (appended nfsstat3 0 old)
+unfolding appended with_arm
+appended_done done refused value old = refl
+
+-- another status is appended, and then the other arm
+pub appended_refused : (done refused : Xdr) (status : NfsStatus) (value : Value refused) (old : List ℕ) → appended (outcome done refused) (status_number status, refused_value done refused status value) old ≡ appended refused value (appended nfsstat3 (status_number status) old)
+unfolding appended with_arm
+appended_refused done refused Permission value old = refl
+appended_refused done refused _ value old = refl
+
+-- nothing is appended
+pub appended_void : (old : List ℕ) → appended Void tt old ≡ old
+unfolding appended
+appended_void old = refl
+
+-- a file's type is one of ftype3
+pub type_form : (kind : FileType) → HasSpelling ftype3 (type_number kind)
+type_form Regular = (lit< tt, refl)
+type_form _ = (lit< tt, refl)
+
+-- a status is one of nfsstat3
+pub status_form : (status : NfsStatus) → HasSpelling nfsstat3 (status_number status)
+status_form Permission = (lit< tt, refl)
+status_form _ = (lit< tt, refl)
+
+-- a refused call's result has a spelling where its other arm has
+pub refused_form : (done refused : Xdr) (status : NfsStatus) (value : Value refused) → HasSpelling refused value → HasSpelling (outcome done refused) (status_number status, refused_value done refused status value)
+refused_form done refused Permission value form = (lit< tt, refl, form)
+refused_form done refused _ value form = (lit< tt, refl, form)
+
+-- the status NFS3_OK at the end, and what writes its arm behind it
+pub WritesResult-done : (done refused : Xdr) (value : Value done) (old middle new : List ℕ) (result : Result (Unit {0}) XdrError) → middle ≡ appended nfsstat3 0 old → WritesFront done value middle new result → HasSpelling done value → WritesResult (outcome done refused, (0, value)) old new result
+WritesResult-done done refused value old middle new (Ok _) status arm form =
+    (arm ∙ ap (appended done value) status ∙ sym (appended_done done refused value old), (lit< tt, refl, form))
+WritesResult-done done refused value old middle new (Err e) status arm form = arm
+
+-- what is written is the bytes of the result
+pub WritesResult-bytes : (x : (t : Xdr) × Value t) (old new : List ℕ) (result : Result (Unit {0}) XdrError) → WritesResult x old new result → OnOk result (new ≡ old ++ write x.0 x.1)
+WritesResult-bytes x old new (Ok _) written = written.0 ∙ writing_appends x.0 x.1 old
+WritesResult-bytes x old new (Err e) written = tt
+
+-- and they spell it
+pub WritesResult-spells : (x : (t : Xdr) × Value t) (old new : List ℕ) (result : Result (Unit {0}) XdrError) → WritesResult x old new result → OnOk result (IsItsSpelling x.0 x.1 (write x.0 x.1))
+WritesResult-spells x old new (Ok _) written = writing_spells x.0 x.1 written.1
+WritesResult-spells x old new (Err e) written = tt
+
+-- what joins the parts of a result
+pub ruleset results = (appended_done, appended_refused, appended_void, refused_form)

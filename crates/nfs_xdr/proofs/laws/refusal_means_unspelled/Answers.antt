@@ -1,0 +1,5 @@
+use Rattle.nfs_xdr.proofs.Spelling.{refusal_means_unspelled}
+use Rattle.nfs_xdr.proofs.laws.refusal_means_unspelled.Goals as goal
+
+pub returns : goal.returns
+returns c = refusal_means_unspelled

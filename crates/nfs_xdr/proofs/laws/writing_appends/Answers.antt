@@ -1,0 +1,5 @@
+use Rattle.nfs_xdr.proofs.Spelling.{writing_appends}
+use Rattle.nfs_xdr.proofs.laws.writing_appends.Goals as goal
+
+pub returns : goal.returns
+returns c = writing_appends

@@ -1,0 +1,5 @@
+use Rattle.nfs_xdr.proofs.Spelling.{writing_spells}
+use Rattle.nfs_xdr.proofs.laws.writing_spells.Goals as goal
+
+pub returns : goal.returns
+returns c = writing_spells

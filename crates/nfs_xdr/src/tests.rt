@@ -1,0 +1,238 @@
+//! The example of RFC 4506 section 7, and the edges of each item. The example's reader and writer show
+//! how a message is read and written; `read_gids` shows a loop.
+
+ghost use Rattle.std.specs.Prelude.{◌≡◌, ◌≤◌, ◌<◌, ◌^◌, length};
+ghost use Rattle.nfs_xdr.specs.declared.tests.Kind.TheVariants.{Text, Data, Exec};
+ghost use Rattle.nfs_xdr.specs.Example.{kind, file};
+ghost use Rattle.nfs_xdr.specs.Reading.{ReadsFront};
+ghost use Rattle.nfs_xdr.specs.Types.{Word, Array, Entries, Value};
+ghost use Rattle.nfs_xdr.specs.Writing.{WritesFront};
+
+use super::*;
+use bytes::Bytes;
+use std::alloc::Global;
+use std::test::Fail;
+
+/// The kind of a file.
+#[derive(Debug, Drop)]
+enum Kind {
+    Text,
+    Data(Bytes),
+    Exec(Bytes),
+}
+
+/// The file of the RFC's example.
+#[derive(Debug, Drop)]
+struct File {
+    name: Bytes,
+    kind: Kind,
+    owner: Bytes,
+    content: Bytes,
+}
+
+#[tactic(auto, using(crate::proofs::Unions::unions), unfolding(crate::specs::Reading::read))]
+fn read_kind(reader: &mut SharedReader<'_>) -> Result<Kind, XdrError>
+    ensures { ReadsFront kind (λ k. elim k as (λ _. Value kind) [ Text ↦ (0, tt) | Data s ↦ (1, s) | Exec s ↦ (2, s) ]) reader.old reader.new result }
+{
+    match reader.u32()? {
+        0 => Ok(Kind::Text),
+        1 => Ok(Kind::Data(reader.opaque(255)?)),
+        2 => Ok(Kind::Exec(reader.opaque(255)?)),
+        _ => Err(XdrError::BadValue),
+    }
+}
+
+#[tactic(auto, unfolding(crate::specs::Reading::read))]
+fn read_file(reader: &mut SharedReader<'_>) -> Result<File, XdrError>
+    ensures { ReadsFront file (λ f. (f.name, (elim f.kind as (λ _. Value kind) [ Text ↦ (0, tt) | Data s ↦ (1, s) | Exec s ↦ (2, s) ], (f.owner, f.content)))) reader.old reader.new result }
+{
+    let name = reader.opaque(255)?;
+    let kind = read_kind(reader)?;
+    let owner = reader.opaque(32)?;
+    let content = reader.opaque(65535)?;
+    Ok(File {
+        name,
+        kind,
+        owner,
+        content,
+    })
+}
+
+#[tactic(auto, unfolding(crate::specs::Reading::read))]
+fn read_gids(alloc: Global, reader: &mut Reader<'_>) -> Result<Vec<u32>, XdrError>
+    ensures { ReadsFront (Array 16 Word) (λ gids. gids.items) reader.old reader.new result }
+{
+    let count = reader.u32()?;
+    if count > 16 {
+        return Err(XdrError::TooLong);
+    }
+    let mut gids = Vec::new(alloc);
+    for _i in 0..count {
+        gids.push(reader.u32()?)?;
+    }
+    Ok(gids)
+}
+
+#[tactic(auto, using(crate::proofs::Unions::unions), unfolding(crate::specs::Writing::appended))]
+fn write_program(
+    writer: &mut Writer,
+    name: &[u8],
+    interpretor: &[u8],
+    owner: &[u8],
+    content: &[u8],
+) -> Result<(), XdrError>
+    requires name { length name.now < 2 ^ 32 }
+    requires interpretor { length interpretor.now < 2 ^ 32 }
+    requires owner { length owner.now < 2 ^ 32 }
+    requires content { length content.now < 2 ^ 32 }
+    ensures { WritesFront file (name.now, ((2, interpretor.now), (owner.now, content.now))) writer.old writer.new result }
+{
+    writer.opaque(name)?;
+    writer.u32(2)?;
+    writer.opaque(interpretor)?;
+    writer.opaque(owner)?;
+    writer.opaque(content)
+}
+
+#[tactic(auto, unfolding(crate::specs::Writing::appended))]
+fn write_cookies(writer: &mut Writer, cookies: &[u32]) -> Result<(), XdrError>
+    ensures { WritesFront (Entries Word) cookies.now writer.old writer.new result }
+{
+    for cookie in cookies {
+        writer.bool(true)?;
+        writer.u32(*cookie)?;
+    }
+    writer.bool(false)
+}
+
+/// The bytes that the RFC prints for its example.
+const SILLYPROG: [u8; 48] = [
+    0, 0, 0, 9, b's', b'i', b'l', b'l', b'y', b'p', b'r', b'o', b'g', 0, 0, 0, 0, 0, 0, 2, 0, 0, 0,
+    4, b'l', b'i', b's', b'p', 0, 0, 0, 4, b'j', b'o', b'h', b'n', 0, 0, 0, 6, b'(', b'q', b'u',
+    b'i', b't', b')', 0, 0,
+];
+
+#[test]
+fn reads_the_example(rt: HostRuntime) -> Result<(), Fail> {
+    let record = Bytes::copy_from_slice(rt.alloc(), &SILLYPROG)?;
+    let mut reader = SharedReader::new(&record);
+    let file = read_file(&mut reader)?;
+    assert_eq!(rt; file.name.as_slice(), b"sillyprog".as_slice());
+    let Kind::Exec(interpretor) = &file.kind else {
+        panic!(&rt; "the kind is EXEC");
+    };
+    assert_eq!(rt; interpretor.as_slice(), b"lisp".as_slice());
+    assert_eq!(rt; file.owner.as_slice(), b"john".as_slice());
+    assert_eq!(rt; file.content.as_slice(), b"(quit)".as_slice());
+    assert!(rt; reader.is_empty());
+    Ok(())
+}
+
+#[test]
+fn writes_the_example(rt: HostRuntime) -> Result<(), Fail> {
+    let mut writer = Writer::new(rt.alloc());
+    write_program(&mut writer, b"sillyprog", b"lisp", b"john", b"(quit)")?;
+    assert_eq!(rt; writer.as_slice(), SILLYPROG.as_slice());
+    Ok(())
+}
+
+#[test]
+fn reads_each_item(rt: HostRuntime) -> Result<(), Fail> {
+    let bytes = [
+        0x80, 0, 0, 1, 0xff, 0xff, 0xff, 0xfe, 1, 2, 3, 4, 5, 6, 7, 8, 0, 0, 0, 1, 0, 0, 0, 0, 10,
+        11, 12, 9, 0, 0, 0, 5, 1, 2, 3, 4, 5, 9, 9, 9, 42,
+    ];
+    let mut reader = Reader::new(&bytes);
+    assert_eq!(rt; reader.fork().len(), 41);
+    assert_eq!(rt; reader.u32()?, 0x8000_0001);
+    assert_eq!(rt; reader.i32()?, -2);
+    assert_eq!(rt; reader.u64()?, 0x0102_0304_0506_0708);
+    assert!(rt; reader.bool()?);
+    assert!(rt; !reader.bool()?);
+    assert_eq!(rt; reader.fixed(3)?, [10, 11, 12].as_slice());
+    assert_eq!(rt; reader.opaque(5)?, [1, 2, 3, 4, 5].as_slice());
+    assert!(rt; !reader.is_empty());
+
+    let record = Bytes::copy_from_slice(rt.alloc(), &bytes)?;
+    let mut reader = SharedReader::new(&record);
+    assert_eq!(rt; reader.fork().len(), 41);
+    assert_eq!(rt; reader.u32()?, 0x8000_0001);
+    assert_eq!(rt; reader.i32()?, -2);
+    assert_eq!(rt; reader.u64()?, 0x0102_0304_0506_0708);
+    assert!(rt; reader.bool()?);
+    assert!(rt; !reader.bool()?);
+    assert_eq!(rt; reader.fixed(3)?.as_slice(), [10, 11, 12].as_slice());
+    assert_eq!(rt; reader.opaque(5)?.as_slice(), [1, 2, 3, 4, 5].as_slice());
+    assert_eq!(rt; reader.as_slice(), [42].as_slice());
+    assert_eq!(rt; reader.rest()?.as_slice(), [42].as_slice());
+    Ok(())
+}
+
+#[test]
+fn writes_each_item(rt: HostRuntime) -> Result<(), Fail> {
+    let mut writer = Writer::with_capacity(rt.alloc(), 8)?;
+    assert!(rt; writer.is_empty());
+    writer.u32(0x8000_0001)?;
+    writer.i32(-2)?;
+    writer.u64(0x0102_0304_0506_0708)?;
+    writer.bool(true)?;
+    writer.bool(false)?;
+    writer.fixed(&[10, 11, 12])?;
+    writer.opaque(&[1, 2, 3, 4, 5])?;
+    assert_eq!(rt; writer.len(), 40);
+    let written = writer.into_vec();
+    let bytes = [
+        0x80, 0, 0, 1, 0xff, 0xff, 0xff, 0xfe, 1, 2, 3, 4, 5, 6, 7, 8, 0, 0, 0, 1, 0, 0, 0, 0, 10,
+        11, 12, 0, 0, 0, 0, 5, 1, 2, 3, 4, 5, 0, 0, 0,
+    ];
+    assert_eq!(rt; written.as_slice(), bytes.as_slice());
+
+    let mut writer = Writer::from_vec(written);
+    writer.truncate(4);
+    write_cookies(&mut writer, &[7])?;
+    let entries = [0x80, 0, 0, 1, 0, 0, 0, 1, 0, 0, 0, 7, 0, 0, 0, 0];
+    assert_eq!(rt; writer.as_slice(), entries.as_slice());
+    Ok(())
+}
+
+#[test]
+fn refuses_and_stays(rt: HostRuntime) {
+    let short = [0, 0, 0, 3, 1, 2, 3];
+    let mut reader = Reader::new(&short);
+    assert_eq!(rt; reader.u64(), Err(XdrError::Short));
+    assert_eq!(rt; reader.opaque(2), Err(XdrError::TooLong));
+    assert_eq!(rt; reader.opaque(3), Err(XdrError::Short));
+    assert_eq!(rt; reader.fixed(usize::MAX), Err(XdrError::Short));
+    assert_eq!(rt; reader.bool(), Err(XdrError::BadValue));
+    assert_eq!(rt; reader.len(), 7);
+
+    let huge = [0xff, 0xff, 0xff, 0xff];
+    let mut reader = Reader::new(&huge);
+    assert_eq!(rt; reader.opaque(usize::MAX), Err(XdrError::Short));
+    assert_eq!(rt; reader.opaque(0xffff_fffe), Err(XdrError::TooLong));
+    assert_eq!(rt; reader.len(), 4);
+}
+
+#[test]
+fn reads_an_array_up_to_its_bound(rt: HostRuntime) -> Result<(), Fail> {
+    let gids = [0, 0, 0, 2, 0, 0, 0, 7, 0, 0, 1, 0];
+    let read = read_gids(rt.alloc(), &mut Reader::new(&gids))?;
+    assert_eq!(rt; read.as_slice(), [7, 256].as_slice());
+    let many = [0, 0, 0, 17];
+    assert_eq!(rt;
+        read_gids(rt.alloc(), &mut Reader::new(&many)).err(),
+        Some(XdrError::TooLong)
+    );
+    Ok(())
+}
+
+#[test]
+fn laws_are_called() {
+    spelling_is_unique();
+    reading_finds_spelling();
+    spelling_is_read();
+    refusal_means_unspelled();
+    spelled_has_spelling();
+    writing_spells();
+    writing_appends();
+}

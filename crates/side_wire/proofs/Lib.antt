@@ -1,0 +1,3 @@
+pub mod MountLaws
+pub mod NlmLaws
+pub mod ProgramLaws

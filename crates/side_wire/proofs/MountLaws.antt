@@ -1,0 +1,40 @@
+-- MOUNT's tables are those of a program, so its laws are those of every program.
+use Rattle.std.proofs.Common.{◌≡◌, ℕ, ◌<◌, List, length, Err, refl, arith, lit<}
+use Rattle.nfs_xdr.specs.Types.{HasSpelling}
+use Rattle.nfs_xdr.specs.Writing.{appended}
+use Rattle.side_wire.specs.Mount.{mount_arguments, mount_procedure_of, mount_arguments_of, SpellsMountArguments, mountres3, mount_arm, mount_status_number, nothing, mount_outcome}
+use Rattle.side_wire.specs.Programs.{SpellsOneCall}
+use Rattle.side_wire.proofs.ProgramLaws.{Makers, made, spells_one_call}
+use Rattle.side_wire.specs.declared.mount.MountCall.{MountCall}
+use Rattle.side_wire.specs.declared.mount.MountCall.TheVariants.{Null, Mnt}
+use Rattle.side_wire.specs.declared.mount.MountStatus.{MountStatus}
+use Rattle.side_wire.specs.declared.mount.MountStatus.TheVariants.{Permission}
+
+-- each call is of a procedure that there is
+pub mount_procedure_of-lt : (call : MountCall) → mount_procedure_of call < length mount_arguments
+mount_procedure_of-lt Null = omega arith
+mount_procedure_of-lt (Mnt path) = omega arith
+
+-- each procedure's call, made of the value of its arguments
+abbrev makers : Makers MountCall mount_arguments
+makers = ((λ _. Null), ((λ path. Mnt path), tt))
+
+made_again : (call : MountCall) → made Null mount_arguments makers (mount_procedure_of call) (mount_arguments_of call) ≡ call
+made_again Null = refl
+made_again (Mnt path) = refl
+
+pub mount_spells_one_call : SpellsOneCall mount_procedure_of SpellsMountArguments
+mount_spells_one_call = spells_one_call mount_arguments mount_procedure_of mount_arguments_of (made Null mount_arguments makers) made_again
+
+-- the arm of a status other than MNT3_OK is nothing
+pub appended_nothing : (status : MountStatus) (old : List ℕ) → appended (mount_arm (mount_status_number status)) (nothing status) old ≡ old
+unfolding appended
+appended_nothing Permission old = refl
+appended_nothing _ old = refl
+
+-- the result of a refused call has a spelling
+pub refused_form : (status : MountStatus) → HasSpelling mountres3 (mount_outcome (Err status))
+refused_form Permission = (lit< tt, refl, tt)
+refused_form _ = (lit< tt, refl, tt)
+
+pub ruleset refusals = (appended_nothing, refused_form)

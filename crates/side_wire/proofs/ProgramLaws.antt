@@ -1,0 +1,75 @@
+-- Reading finds what spells the arguments, since the laws of XDR hold at the type of every procedure's arguments;
+-- and a call is made again of its procedure's number and the value of its arguments, so equal values are equal calls.
+use Rattle.std.proofs.Common.{◌≡◌, ◌≢◌, ℕ, zero, suc, ◌<◌, List, [], ◌∷◌, ◌++◌, length, Result, Ok, Err, OnOk, sym, subst, ap, ◌∙◌}
+use Rattle.std.specs.Result.{IsErrAnd}
+use Rattle.nfs_xdr.specs.declared.XdrError.{XdrError}
+use Rattle.nfs_xdr.specs.declared.XdrError.TheVariants.{Memory}
+use Rattle.nfs_xdr.specs.Types.{Xdr, Value, Spells}
+use Rattle.nfs_xdr.specs.Laws.{IsBytes, IsItsSpelling}
+use Rattle.nfs_xdr.specs.Reading.{read}
+use Rattle.nfs_xdr.specs.Writing.{write}
+use Rattle.side_wire.specs.Programs.{type_at, IsFrontedBy, IsGarbage, SpellsOneCall, WritesResult}
+use Rattle.side_wire.specs.ArgumentsError.{arguments_error}
+use Rattle.side_wire.specs.declared.arguments.ArgumentsError.{ArgumentsError}
+use Rattle.side_wire.specs.declared.arguments.ArgumentsError.TheVariants as out
+use Rattle.nfs_xdr.proofs.Spelling.{spelling_is_unique, reading_finds_spelling, refusal_means_unspelled, writing_appends, writing_spells}
+
+-- the bytes spell the arguments of a call of a program
+abbrev pub SpellsCall : {C : Type 0} → (types : List Xdr) (procedure_of : C → ℕ) → ((call : C) → Value (type_at types (procedure_of call))) → C → List ℕ → Type 0
+SpellsCall types procedure_of arguments_of call bytes =
+    Spells (type_at types (procedure_of call)) (arguments_of call) bytes
+
+-- what is read is spelled by a front
+pub IsFrontedBy-read : {C : Type 0} (types : List Xdr) (procedure_of : C → ℕ) (arguments_of : (call : C) → Value (type_at types (procedure_of call))) (call : C) (bytes rest : List ℕ) → IsBytes bytes → read (type_at types (procedure_of call)) bytes ≡ Ok (arguments_of call, rest) → IsFrontedBy (SpellsCall types procedure_of arguments_of) call bytes
+IsFrontedBy-read types procedure_of arguments_of call bytes rest fits e =
+    let found = reading_finds_spelling (type_at types (procedure_of call)) bytes rest (arguments_of call) fits e in
+    (found.0, rest, found.1, found.2)
+
+-- what reading refuses, no front spells
+pub IsGarbage-refused : {C : Type 0} (types : List Xdr) (procedure_of : C → ℕ) (arguments_of : (call : C) → Value (type_at types (procedure_of call))) → ((call : C) → procedure_of call < length types) → (procedure : ℕ) (bytes : List ℕ) (error : XdrError) → (procedure < length types → read (type_at types procedure) bytes ≡ Err error) → IsGarbage procedure_of (SpellsCall types procedure_of arguments_of) procedure bytes
+IsGarbage-refused types procedure_of arguments_of known procedure bytes error refused call front rest of_call whole spelled =
+    let P : ℕ → Type 0 = λ n. n < length types in
+    let Q : ℕ → Type 0 = λ n. read (type_at types n) bytes ≡ Err error in
+    let e : read (type_at types (procedure_of call)) bytes ≡ Err error = subst Q (sym of_call) (refused (subst P of_call (known call))) in
+    (refusal_means_unspelled (type_at types (procedure_of call)) bytes error e).1 (arguments_of call) front rest whole spelled
+
+-- equal values of one procedure make equal calls
+made_unique : {C : Type 0} (types : List Xdr) (make : (n : ℕ) → Value (type_at types n) → C) (m n : ℕ) → m ≡ n → (v : Value (type_at types m)) (w : Value (type_at types n)) (front rest front' rest' : List ℕ) → front ++ rest ≡ front' ++ rest' → Spells (type_at types m) v front → Spells (type_at types n) w front' → make m v ≡ make n w
+made_unique types make m n same v w front rest front' rest' whole spelled spelled' =
+    let P : ℕ → Type 0 = λ k. (w : Value (type_at types k)) → Spells (type_at types k) w front' → make m v ≡ make k w in
+    let here : P m = λ w spelled'. ap (make m) (spelling_is_unique (type_at types m) v w front rest front' rest' whole spelled spelled').1 in
+    subst P same here w spelled'
+
+-- a program of which each call is made again of its procedure and its arguments
+pub spells_one_call : {C : Type 0} (types : List Xdr) (procedure_of : C → ℕ) (arguments_of : (call : C) → Value (type_at types (procedure_of call))) (make : (n : ℕ) → Value (type_at types n) → C) → ((call : C) → make (procedure_of call) (arguments_of call) ≡ call) → SpellsOneCall procedure_of (SpellsCall types procedure_of arguments_of)
+spells_one_call types procedure_of arguments_of make again bytes front rest front' rest' call call' same whole spelled whole' spelled' =
+    sym (again call) ∙ made_unique types make (procedure_of call) (procedure_of call') same (arguments_of call) (arguments_of call') front rest front' rest' (sym whole ∙ whole') spelled spelled' ∙ again call'
+
+-- for each type of a list a way to make a call of its value
+abbrev pub Makers : Type 0 → List Xdr → Type 0
+Makers C [] = Unit {0}
+Makers C (t ∷ ts) = (Value t → C) × Makers C ts
+
+-- the call that is made of a value of the type at a place
+abbrev pub made : {C : Type 0} → C → (types : List Xdr) → Makers C types → (n : ℕ) → Value (type_at types n) → C
+made other [] makers n value = other
+made other (t ∷ ts) makers zero value = makers.0 value
+made other (t ∷ ts) makers (suc n) value = made other ts makers.1 n value
+
+-- what is answered as garbage was no want of memory
+pub is_not_memory : {C : Type 0} (result : Result C ArgumentsError) (e : XdrError) → IsErrAnd result (λ answer. answer ≡ arguments_error e) → result ≡ Err out.Garbage → e ≢ Memory
+is_not_memory {C} result e gives garbage memory =
+    let P : Result C ArgumentsError → Type 0 = λ r. IsErrAnd r (λ answer. answer ≡ arguments_error e) in
+    let told : out.Garbage ≡ arguments_error e = subst P garbage gives in
+    let want : arguments_error e ≡ out.Memory = ap arguments_error memory in
+    cc
+
+-- what is written is the bytes of the result
+pub WritesResult-bytes : (x : (t : Xdr) × Value t) (old new : List ℕ) (result : Result (Unit {0}) XdrError) → WritesResult x old new result → OnOk result (new ≡ old ++ write x.0 x.1)
+WritesResult-bytes x old new (Ok _) written = written.0 ∙ writing_appends x.0 x.1 old
+WritesResult-bytes x old new (Err e) written = tt
+
+-- and they spell it
+pub WritesResult-spells : (x : (t : Xdr) × Value t) (old new : List ℕ) (result : Result (Unit {0}) XdrError) → WritesResult x old new result → OnOk result (IsItsSpelling x.0 x.1 (write x.0 x.1))
+WritesResult-spells x old new (Ok _) written = writing_spells x.0 x.1 written.1
+WritesResult-spells x old new (Err e) written = tt

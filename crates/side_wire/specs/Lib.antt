@@ -1,0 +1,4 @@
+pub mod ArgumentsError
+pub mod Mount
+pub mod Nlm
+pub mod Programs

@@ -1,0 +1,39 @@
+-- What is said of the calls and results of each program. A program has the type of each procedure's arguments, the
+-- procedure of each call, the value of its arguments, and the type and value of each reply's result.
+use Rattle.std.specs.Prelude.{◌≡◌, ◌≢◌, ℕ, ◌<◌, List, ◌++◌, length, slice_index_or, Result, Ok, Err}
+use Rattle.nfs_xdr.specs.declared.XdrError.{XdrError}
+use Rattle.nfs_xdr.specs.declared.XdrError.TheVariants.{Memory}
+use Rattle.nfs_xdr.specs.Reading.{read}
+use Rattle.nfs_xdr.specs.Types.{Xdr, Void, Value, HasSpelling}
+use Rattle.nfs_xdr.specs.Writing.{appended}
+
+-- the type of a procedure's arguments, of those of all procedures in the order of their numbers
+abbrev pub type_at : List Xdr → ℕ → Xdr
+type_at types procedure = slice_index_or types procedure Void
+
+-- a front of the bytes spells the arguments of the call; what follows it is ignored
+abbrev pub IsFrontedBy : {C : Type 0} → (C → List ℕ → Type 0) → C → List ℕ → Type 0
+IsFrontedBy spells call bytes =
+    (front : List ℕ) × (rest : List ℕ) × (bytes ≡ front ++ rest) × spells call front
+
+-- no front of the bytes spells the arguments of a call of this procedure
+abbrev pub IsGarbage : {C : Type 0} → (C → ℕ) → (C → List ℕ → Type 0) → ℕ → List ℕ → Type 0
+IsGarbage {C} procedure_of spells procedure bytes =
+    (call : C) (front rest : List ℕ) → procedure_of call ≡ procedure → bytes ≡ front ++ rest → spells call front → ⊥
+
+-- one list of bytes spells at its front at most one call of a procedure
+abbrev pub SpellsOneCall : {C : Type 0} → (C → ℕ) → (C → List ℕ → Type 0) → Type 0
+SpellsOneCall {C} procedure_of spells =
+    (bytes front rest front' rest' : List ℕ) (call call' : C) → procedure_of call ≡ procedure_of call' → bytes ≡ front ++ rest → spells call front → bytes ≡ front' ++ rest' → spells call' front' → call ≡ call'
+
+-- What reading a call answers and leaves: the call whose arguments reading gives, or the error that it gives.
+abbrev pub ReadsCall : {C : Type 0} → (types : List Xdr) (procedure_of : C → ℕ) → ((call : C) → Value (type_at types (procedure_of call))) → ℕ → List ℕ → List ℕ → Result C XdrError → Type 0
+ReadsCall types procedure_of arguments_of procedure old new (Ok call) =
+    (procedure_of call ≡ procedure) × (read (type_at types (procedure_of call)) old ≡ Ok (arguments_of call, new))
+ReadsCall types procedure_of arguments_of procedure old new (Err e) =
+    e ≢ Memory → procedure < length types → read (type_at types procedure) old ≡ Err e
+
+-- What a writer of a result answers and leaves: the value at the end, which has a spelling, or no memory.
+abbrev pub WritesResult : (t : Xdr) × Value t → List ℕ → List ℕ → Result (Unit {0}) XdrError → Type 0
+WritesResult value old new (Ok _) = (new ≡ appended value.0 value.1 old) × HasSpelling value.0 value.1
+WritesResult value old new (Err e) = e ≡ Memory

@@ -1,0 +1,36 @@
+//! What reading arguments answers beside a call.
+
+ghost use Rattle.nfs_xdr.specs.Laws.{IsBytes};
+
+use nfs_xdr::XdrError;
+use thiserror::Error;
+
+/// Why arguments were not read.
+#[derive(Clone, Copy, Debug, PartialEq, Eq, Error)]
+pub enum ArgumentsError {
+    /// They are no arguments of the procedure.
+    #[error("the arguments can't be read")]
+    Garbage,
+    /// There is no memory to share their bytes.
+    #[error("out of memory")]
+    Memory,
+}
+
+impl From<XdrError> for ArgumentsError {
+    ghost use Rattle.std.specs.Prelude.{◌≡◌};
+    ghost use Rattle.side_wire.specs.ArgumentsError.{arguments_error};
+
+    ghost from_gives = { λ error answer. answer ≡ arguments_error error };
+
+    fn from(error: XdrError) -> ArgumentsError {
+        match error {
+            XdrError::Short | XdrError::TooLong | XdrError::BadValue => ArgumentsError::Garbage,
+            XdrError::Memory => ArgumentsError::Memory,
+        }
+    }
+}
+
+/// The items of a slice are bytes, which is what the laws of reading ask of what is read.
+pub(crate) fn are_bytes(bytes: &[u8])
+    ensures { IsBytes bytes.now }
+{}

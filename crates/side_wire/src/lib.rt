@@ -1,0 +1,25 @@
+//! The forms of MOUNT version 3 (RFC 1813, appendix I) and of NLM version 4 (appendix II): arguments
+//! read and results written.
+//!
+//! A call that is read is spelled by a front of its arguments, and what is refused as garbage is
+//! spelled, as a call of that procedure, by no front. What is written of a reply is the one spelling of
+//! its result with zeros as padding. Both stand on the types of XDR as data, and on the one reader,
+//! writer and laws of `nfs_xdr`.
+//!
+//! A procedure is a variant of its program's call and reply; a line in each table of `specs/Mount` or
+//! `specs/Nlm`; an arm of `read_call` with a function that reads its arguments, and one of
+//! `append_result` with a function that writes its result; and a line for each of the three tables in
+//! `proofs/MountLaws` or `proofs/NlmLaws`.
+#![tactic(auto)]
+
+pub mod arguments;
+pub mod message;
+pub mod mount;
+pub mod nlm;
+#[cfg(test)]
+mod tests;
+
+pub use arguments::ArgumentsError;
+pub use message::{Message, NlmLock};
+pub use mount::{MountCall, MountReply, MountStatus};
+pub use nlm::{NlmCall, NlmReply};

@@ -1,0 +1,161 @@
+//! MOUNT version 3 (RFC 1813, appendix I).
+
+ghost use Rattle.std.specs.Prelude.{◌≡◌, ◌≤◌, ◌++◌, length, IfOk, IfErr, IsErrOf, OnOk};
+ghost use Rattle.nfs_xdr.specs.Laws.{IsItsSpelling};
+ghost use Rattle.nfs_xdr.specs.Reading.{ReadsFront};
+ghost use Rattle.nfs_xdr.specs.declared.XdrError.TheVariants.{Memory};
+ghost use Rattle.side_wire.specs.Programs.{IsFrontedBy, IsGarbage, SpellsOneCall, WritesResult};
+ghost use Rattle.side_wire.specs.Mount.{mount_procedure_of, SpellsMountArguments, dirpath, mount_status_number, mnt_result, mount_result_of, mount_result_bytes, HasMountForm, ReadsMountCall};
+
+use crate::arguments::{ArgumentsError, are_bytes};
+use bytes::Bytes;
+use nfs_xdr::{SharedReader, Writer, XdrError};
+
+/// The flavor of credentials that may be used on what is mounted (RFC 5531, 8.2).
+const AUTH_SYS: i32 = 1;
+
+/// A status other than MNT3_OK (`mountstat3`).
+#[derive(Clone, Copy, Debug, PartialEq, Eq)]
+pub enum MountStatus {
+    Permission,
+    NoEntry,
+    Io,
+    Access,
+    NotDirectory,
+    Invalid,
+    NameTooLong,
+    NotSupported,
+    ServerFault,
+}
+
+/// A call of MOUNT version 3.
+#[derive(Clone, Debug, Drop, PartialEq, Eq)]
+pub enum MountCall {
+    /// Procedure 0 (RFC 1813, 5.2.0).
+    Null,
+    /// Procedure 1 (RFC 1813, 5.2.1), with the path.
+    Mnt(Bytes),
+}
+
+/// The results of a call of MOUNT version 3.
+#[derive(Clone, Debug, Drop, PartialEq, Eq)]
+pub enum MountReply {
+    /// Procedure 0 (RFC 1813, 5.2.0).
+    Null,
+    /// Procedure 1 (RFC 1813, 5.2.1): the handle of what the path names, of at most 64 bytes. The
+    /// flavors that may be used on it are AUTH_SYS alone.
+    Mnt(Result<Bytes, MountStatus>),
+}
+
+/// One list of bytes holds at its front the arguments of at most one call of a procedure.
+pub fn one_call_is_spelled()
+    ensures { SpellsOneCall mount_procedure_of SpellsMountArguments }
+{}
+
+/// The call of the procedure of this number that the bytes hold. Bytes after its arguments are ignored.
+///
+/// `Memory` comes only where the record's bytes could not be shared.
+pub fn read_args(
+    procedure: u32,
+    mut arguments: SharedReader<'_>,
+) -> Result<MountCall, ArgumentsError>
+    // A call that is read is of that procedure, and a front of the bytes spells its arguments.
+    ensures procedure { IfOk result (λ call. mount_procedure_of call ≡ procedure) }
+    ensures found { IfOk result (λ call. IsFrontedBy SpellsMountArguments call arguments.entry) }
+    // Garbage is what no front spells, as arguments of that procedure.
+    ensures garbage { IsErrOf result ArgumentsError.Garbage → IsGarbage mount_procedure_of SpellsMountArguments procedure arguments.entry }
+{
+    are_bytes(arguments.as_slice());
+    Ok(read_call(procedure, &mut arguments)?)
+}
+
+/// Writes the result of a reply at the end. An error is want of memory; what the writer then holds of
+/// the result is not said.
+pub fn write_result(writer: &mut Writer, reply: &MountReply) -> Result<(), XdrError>
+    requires { HasMountForm reply.now }
+    ensures written { OnOk result (writer.new ≡ writer.old ++ mount_result_bytes reply.now) }
+    // Those bytes are the one spelling of the result with zeros as padding.
+    ensures spelled { OnOk result (IsItsSpelling (mount_result_of reply.now).0 (mount_result_of reply.now).1 (mount_result_bytes reply.now)) }
+    ensures err { IfErr result (λ e. e ≡ Memory) }
+{
+    append_result(writer, reply)
+}
+
+/// The arguments of a call, of the procedure of this number. Bytes after them are ignored.
+#[tactic(auto, unfolding(nfs_xdr::specs::Reading::read))]
+fn read_call(procedure: u32, arguments: &mut SharedReader<'_>) -> Result<MountCall, XdrError>
+    ensures { ReadsMountCall procedure arguments.old arguments.new result }
+{
+    match procedure {
+        0 => Ok(MountCall::Null),
+        1 => read_mnt(arguments),
+        _ => Err(XdrError::BadValue),
+    }
+}
+
+/// The arguments of MNT (RFC 1813, 5.2.1).
+fn read_mnt(arguments: &mut SharedReader<'_>) -> Result<MountCall, XdrError>
+    ensures { ReadsMountCall 1 arguments.old arguments.new result }
+{
+    Ok(MountCall::Mnt(read_path(arguments)?))
+}
+
+/// A path (`dirpath`, RFC 1813, 5.1.5).
+fn read_path(reader: &mut SharedReader<'_>) -> Result<Bytes, XdrError>
+    ensures { ReadsFront dirpath (λ path. path) reader.old reader.new result }
+{
+    reader.opaque(1024)
+}
+
+/// Writes the result of a reply at the end, procedure by procedure.
+#[tactic(auto, unfolding(nfs_xdr::specs::Writing::appended))]
+fn append_result(writer: &mut Writer, reply: &MountReply) -> Result<(), XdrError>
+    requires { HasMountForm reply.now }
+    ensures { WritesResult (mount_result_of reply.now) writer.old writer.new result }
+{
+    match reply {
+        MountReply::Null => Ok(()),
+        MountReply::Mnt(mounted) => write_mnt(writer, mounted),
+    }
+}
+
+/// The result of MNT (`mountres3`, RFC 1813, 5.2.1).
+#[tactic(auto, using(crate::proofs::MountLaws::refusals), unfolding(nfs_xdr::specs::Writing::appended, nfs_xdr::specs::Writing::with_arm))]
+fn write_mnt(writer: &mut Writer, mounted: &Result<Bytes, MountStatus>) -> Result<(), XdrError>
+    requires { IfOk mounted.now (λ handle. length handle ≤ 64) }
+    ensures { WritesResult (mnt_result mounted.now) writer.old writer.new result }
+{
+    match mounted {
+        Ok(handle) => write_mounted(writer, handle.as_slice()),
+        Err(status) => writer.u32(number(*status)),
+    }
+}
+
+/// MNT3_OK with its arm (`mountres3_ok`, RFC 1813, 5.2.1): the handle, and an array of one flavor.
+#[tactic(auto, unfolding(nfs_xdr::specs::Writing::appended, nfs_xdr::specs::Writing::with_arm))]
+fn write_mounted(writer: &mut Writer, handle: &[u8]) -> Result<(), XdrError>
+    requires { length handle.now ≤ 64 }
+    ensures { WritesResult (mnt_result (Ok handle.now)) writer.old writer.new result }
+{
+    writer.u32(0)?;
+    writer.opaque(handle)?;
+    writer.u32(1)?;
+    writer.i32(AUTH_SYS)
+}
+
+/// The number of a status (`mountstat3`).
+fn number(status: MountStatus) -> u32
+    ensures { result ≡ mount_status_number status }
+{
+    match status {
+        MountStatus::Permission => 1,
+        MountStatus::NoEntry => 2,
+        MountStatus::Io => 5,
+        MountStatus::Access => 13,
+        MountStatus::NotDirectory => 20,
+        MountStatus::Invalid => 22,
+        MountStatus::NameTooLong => 63,
+        MountStatus::NotSupported => 10004,
+        MountStatus::ServerFault => 10006,
+    }
+}
