@@ -1,0 +1,82 @@
+-- What a record is answered: its fault, its refusal, or the reply of its step.
+use Rattle.std.proofs.Common.{◌≡◌, ℕ, List, [], ◌∷◌, Option, Some, Result, Ok, Err, IfOk, inl, inr, refl, sym, ◌∙◌, ap, subst}
+use Rattle.std.specs.declared.alloc.AllocError.{AllocError}
+use Rattle.std.specs.declared.alloc.Global.{Global}
+use Rattle.std.specs.declared.vec.Vec.{Vec}
+use Rattle.nfs_rpc.specs.declared.faults.Early.{Early}
+use Rattle.nfs_rpc.specs.declared.credentials.Ids.{Ids}
+use Rattle.nfs_machine.specs.Refusal.{refusal_of}
+use Rattle.nfs_machine.specs.Run.{Arrival, Record, Setting, ctx_of}
+use Rattle.nfs_machine.specs.State.{State}
+use Rattle.nfs_machine.specs.declared.calls.Call.{Call}
+use Rattle.nfs_machine.specs.declared.context.Ctx.{Ctx}
+use Rattle.nfs_machine.specs.declared.moment.Moment.{Moment}
+use Rattle.nfs_server.specs.Asked.{IsAsked}
+use Rattle.nfs_server.specs.Executed.{MakesStep, context_of}
+use Rattle.nfs_server.specs.Plain.{PlainValue, StandsFor}
+use Rattle.nfs_server.specs.Served.{IsAnswered, answer_bytes}
+use Rattle.nfs_server.specs.Serving.{EarlyOf, early_bytes, refusal_bytes, success}
+use Rattle.nfs_server.specs.declared.asking.Asked.{Asked}
+
+pub early_answered : (arrival : Arrival) (p : PlainValue) (fault : Early) (answer : List ℕ) → EarlyOf arrival.bytes fault → answer ≡ early_bytes fault → IsAnswered arrival p p answer
+early_answered arrival p fault answer is answered = record {
+  setting = refl;
+  each = λ m stands. ([], m, inl (record { fault = fault; is = is; answered = answered; nothing = refl; unchanged = refl }), stands);
+}
+
+-- the answer of a record with a fault, where there is memory for it
+pub early_result : (arrival : Arrival) (p : PlainValue) (fault : Early) (r : Result (Option (Vec ℕ Global)) AllocError) → EarlyOf arrival.bytes fault → IfOk r (λ answer. answer_bytes answer ≡ early_bytes fault)
+    → IfOk r (λ answer. IsAnswered arrival p p (answer_bytes answer))
+early_result arrival p fault (Ok answer) is answered = early_answered arrival p fault (answer_bytes answer) is answered
+early_result arrival p fault (Err e) is answered = tt
+
+module _ (host bytes : List ℕ) (moment : Moment) (asked : Asked) (is : IsAsked bytes asked) where
+  abbrev arrival : Arrival
+  arrival = record { host = host; bytes = bytes; moment = moment }
+
+  context_is : (setting : Setting) → context_of setting host asked.ids moment ≡ ctx_of setting arrival is.header
+  context_is setting = ap (λ (ids : Ids). context_of setting host ids moment) (sym is.ids)
+
+  pub refused_answered : (old new : PlainValue) (answer : List ℕ) → new ≡ old → answer ≡ refusal_bytes asked.xid (refusal_of asked.call) → IsAnswered arrival old new answer
+  refused_answered old new answer same answered =
+      subst (λ (p : PlainValue). IsAnswered arrival old p answer) (sym same)
+      (record {
+        setting = refl;
+        each = λ m stands. (
+          [],
+          m,
+          inr (inl (record {
+            ctx = context_of old.setting host asked.ids moment;
+            call = asked.call;
+            asks = record { header = is.header; read = is.read; is_call = is.is_call; made_under = context_is old.setting };
+            answered = answered ∙ ap (λ x. refusal_bytes x (refusal_of asked.call)) (sym is.xid);
+            nothing = refl;
+            unchanged = refl;
+          })),
+          stands,
+        );
+      })
+
+  pub executed_answered : (old new : PlainValue) (answer : List ℕ) → MakesStep (context_of old.setting host asked.ids moment) asked.call asked.xid old new answer → IsAnswered arrival old new answer
+  executed_answered old new answer made = record {
+    setting = made.setting;
+    each = λ m stands.
+        let (after, step, then) = made.each m stands in
+        let done : Record = record { arrival = arrival; reply = made.reply; messages = made.messages } in (
+          done ∷ [],
+          after,
+          inr (inr (record {
+            done = done;
+            own = refl;
+            executes = record {
+              ctx = context_of old.setting host asked.ids moment;
+              call = asked.call;
+              asks = record { header = is.header; read = is.read; is_call = is.is_call; made_under = context_is old.setting };
+              step = step;
+            };
+            answered = made.answered ∙ ap (λ x. success x made.reply) (sym is.xid);
+            one = refl;
+          })),
+          then,
+        );
+  }

@@ -1,0 +1,194 @@
+-- Answering one list of records and then another answers both: arrivals, moments, answers and runs follow one another.
+use Rattle.std.proofs.Common.{◌≡◌, ℕ, List, [], ◌∷◌, ◌++◌, map, Option, Some, None, Result, Ok, Err, ◌⊎◌, inl, inr, refl, sym, ◌∙◌, ap, subst, append_assoc, append-nil}
+use Rattle.std.proofs.lemmas.List.{map-append}
+use Rattle.std.specs.List.{AllByRecursion}
+use Rattle.std.specs.Io.KnownBytes.{Appends}
+use Rattle.nfs_machine.specs.Run.{Setting, Arrival, Record, Run}
+use Rattle.nfs_machine.specs.State.{State}
+use Rattle.nfs_machine.specs.declared.moment.Moment.{Moment}
+use Rattle.nfs_server.specs.Plain.{PlainValue, StandsFor}
+use Rattle.nfs_server.specs.Serving.{AreFrom, Answers, Serves, Ticks}
+use Rattle.nfs_server.specs.Served.{Answered, AreAnswered, Goes, Stops, Reached, IsAnswered}
+use Rattle.nfs_server.specs.declared.serve.StreamFault.{StreamFault}
+use Rattle.nfs_server.specs.declared.serve.StreamFault.TheVariants.{Read, Write, TooLarge, Memory}
+
+run_join : (setting : Setting) (first mid last : State) (earlier later : List Record) → Run setting first earlier mid → Run setting mid later last → Run setting first (earlier ++ later) last
+run_join setting first mid last [] later a b = subst (λ (s : State). Run setting s later last) a b
+run_join setting first mid last (r ∷ earlier) later a b = (a.0, a.1, run_join setting a.0 mid last earlier later a.2 b)
+
+-- an answer adds one step or none
+answer_run : (setting : Setting) (old new : State) (arrival : Arrival) (answer : List ℕ) (records : List Record) → Answers setting old arrival answer records new → Run setting old records new
+answer_run setting old new arrival answer records (inl early) = subst (λ (rs : List Record). Run setting old rs new) (sym early.nothing) early.unchanged
+answer_run setting old new arrival answer records (inr (inl refused)) = subst (λ (rs : List Record). Run setting old rs new) (sym refused.nothing) refused.unchanged
+answer_run setting old new arrival answer records (inr (inr executed)) = subst (λ (rs : List Record). Run setting old rs new) (sym executed.one) (new, executed.executes, refl)
+
+pub served_run : (setting : Setting) (old new : State) (arrivals : List Arrival) (written : List ℕ) (records : List Record) → Serves setting old arrivals written records new → Run setting old records new
+served_run setting old new [] written records served = subst (λ (rs : List Record). Run setting old rs new) (sym served.1) served.2
+served_run setting old new (arrival ∷ arrivals) written records (answer, others, first, later, mid, w, r, now, then) =
+    subst (λ (rs : List Record). Run setting old rs new) (sym r)
+    (run_join setting old mid new first later (answer_run setting old mid arrival answer first now) (served_run setting mid new arrivals others later then))
+
+served_join : (setting : Setting) (first mid last : State) (earlier later : List Arrival) (w x : List ℕ) (r s : List Record) → Serves setting first earlier w r mid → Serves setting mid later x s last
+    → Serves setting first (earlier ++ later) (w ++ x) (r ++ s) last
+served_join setting first mid last [] later w x r s a b =
+    subst (λ (v : List ℕ). Serves setting first later (v ++ x) (r ++ s) last) (sym a.0)
+    (subst (λ (q : List Record). Serves setting first later x (q ++ s) last) (sym a.1) (subst (λ (m : State). Serves setting m later x s last) a.2 b))
+served_join setting first mid last (arrival ∷ earlier) later w x r s (answer, others, now, then, next, we, re, answers, serves) b = (
+  answer,
+  others ++ x,
+  now,
+  then ++ s,
+  next,
+  ap (λ v. v ++ x) we ∙ append_assoc answer others x,
+  ap (λ q. q ++ s) re ∙ append_assoc now then s,
+  answers,
+  served_join setting next mid last earlier later others x then s serves b,
+)
+
+pub all_join : {X : Type 0} (P : X → Type 0) (xs ys : List X) → AllByRecursion P xs → AllByRecursion P ys → AllByRecursion P (xs ++ ys)
+all_join P [] ys a b = b
+all_join P (x ∷ xs) ys a b = (a.0, all_join P xs ys a.1 b)
+
+pub appends_join : (a b c : Option (List ℕ)) (w x : List ℕ) → Appends a b w → Appends b c x → Appends a c (w ++ x)
+appends_join None b c w x p q = tt
+appends_join (Some s) None c w x p q = absurd p
+appends_join (Some s) (Some t) None w x p q = absurd q
+appends_join (Some s) (Some t) (Some u) w x p q = q ∙ ap (λ l. l ++ x) p ∙ append_assoc s w x
+
+pub appends_nothing : (a : Option (List ℕ)) → Appends a a []
+appends_nothing None = tt
+appends_nothing (Some x) = sym (append-nil x)
+
+-- a record in hand leaves those behind it
+reached_more : (fault : StreamFault) (others more : List (List ℕ)) (unsent : List ℕ) → (fault ≡ Write) ⊎ (fault ≡ Memory) → Reached fault others unsent → Reached fault more unsent
+reached_more fault others more unsent (inl is) r = subst (λ (f : StreamFault). Reached f more unsent) (sym is) tt
+reached_more fault others more unsent (inr is) r = subst (λ (f : StreamFault). Reached f more unsent) (sym is) (subst (λ (f : StreamFault). Reached f others unsent) is r)
+
+module _ {Clock : Type 0} (gives : Clock → Moment → Clock → Type 0) (host : List ℕ) where
+  ticks_join : (first mid last : Clock) (earlier later : List Arrival) → Ticks gives first earlier mid → Ticks gives mid later last → Ticks gives first (earlier ++ later) last
+  ticks_join first mid last [] later a b = subst (λ (k : Clock). Ticks gives k later last) a b
+  ticks_join first mid last (arrival ∷ earlier) later a b = (a.0, a.1, ticks_join a.0 mid last earlier later a.2 b)
+
+  from_join : (c d : List (List ℕ)) (earlier later : List Arrival) → AreFrom host c earlier → AreFrom host d later → AreFrom host (c ++ d) (earlier ++ later)
+  from_join c d earlier later a b = (
+    map-append (λ (x : Arrival). x.bytes) earlier later ∙ ap (λ l. l ++ map (λ (x : Arrival). x.bytes) later) a.0 ∙ ap (λ l. c ++ l) b.0,
+    all_join (λ (x : Arrival). x.host ≡ host) earlier later a.1 b.1,
+  )
+
+  module _ (first mid last : Clock) (c d : List (List ℕ)) (old new newest : PlainValue) where
+    module _ (w x : List ℕ) (a : AreAnswered gives host c first mid old new w) (b : AreAnswered gives host d mid last new newest x) where
+      joined : (m : State) → StandsFor old m → Answered gives host (c ++ d) first last old newest (w ++ x) m
+      joined m stands =
+          let one = a.each m stands in
+          let two = b.each one.after one.stands in
+          let served : Serves old.setting one.after two.arrivals x two.records two.after = subst (λ (s : Setting). Serves s one.after two.arrivals x two.records two.after) a.setting two.served in
+          let serves = served_join old.setting m one.after two.after one.arrivals two.arrivals w x one.records two.records one.served served in
+          record {
+            arrivals = one.arrivals ++ two.arrivals;
+            records = one.records ++ two.records;
+            after = two.after;
+            came = from_join c d one.arrivals two.arrivals one.came two.came;
+            ticked = ticks_join first mid last one.arrivals two.arrivals one.ticked two.ticked;
+            served = serves;
+            run = served_run old.setting m two.after (one.arrivals ++ two.arrivals) (w ++ x) (one.records ++ two.records) serves;
+            stands = two.stands;
+          }
+
+      pub answered_join : AreAnswered gives host (c ++ d) first last old newest (w ++ x)
+      answered_join = record { setting = b.setting ∙ a.setting; each = joined }
+
+  -- nothing came, and nothing is answered
+  pub goes_nothing : (clock : Clock) (plain : PlainValue) (written : Option (List ℕ)) → Goes gives host [] clock clock plain plain written written
+  goes_nothing clock plain written = record {
+    answers = [];
+    written = appends_nothing written;
+    answered = record {
+      setting = refl;
+      each = λ m stands. record { arrivals = []; records = []; after = m; came = (refl, tt); ticked = refl; served = (refl, refl, refl); run = refl; stands = stands };
+    };
+  }
+
+  pub goes_join : (first mid last : Clock) (c d : List (List ℕ)) (old new newest : PlainValue) (before now after : Option (List ℕ))
+      → Goes gives host c first mid old new before now → Goes gives host d mid last new newest now after → Goes gives host (c ++ d) first last old newest before after
+  goes_join first mid last c d old new newest before now after a b = record {
+    answers = a.answers ++ b.answers;
+    written = appends_join before now after a.answers b.answers a.written b.written;
+    answered = answered_join first mid last c d old new newest a.answers b.answers a.answered b.answered;
+  }
+
+  -- serving went on, and stopped
+  pub stops_join : (fault : StreamFault) (first mid : Clock) (c d : List (List ℕ)) (old new newest : PlainValue) (before now after : Option (List ℕ))
+      → Goes gives host c first mid old new before now → Stops gives host fault d mid new newest now after → Stops gives host fault (c ++ d) first old newest before after
+  stops_join fault first mid c d old new newest before now after a b = record {
+    first = c ++ b.first;
+    others = b.others;
+    sent = a.answers ++ b.sent;
+    unsent = b.unsent;
+    later = b.later;
+    whole = ap (λ l. c ++ l) b.whole ∙ sym (append_assoc c b.first b.others);
+    written = appends_join before now after a.answers b.sent a.written b.written;
+    answered =
+        subst (λ (w : List ℕ). AreAnswered gives host (c ++ b.first) first b.later old newest w) (sym (append_assoc a.answers b.sent b.unsent))
+        (answered_join first mid b.later c b.first old new newest a.answers (b.sent ++ b.unsent) a.answered b.answered);
+    reached = b.reached;
+  }
+
+  -- a fault before the next of these records
+  pub stops_before : (fault : StreamFault) (clock : Clock) (plain : PlainValue) (written : Option (List ℕ)) (others : List (List ℕ)) → Reached fault others [] → Stops gives host fault others clock plain plain written written
+  unfolding goes_nothing
+  stops_before fault clock plain written others reached =
+      let nothing = goes_nothing clock plain written in
+      record { first = []; others = others; sent = []; unsent = []; later = clock; whole = refl; written = nothing.written; answered = nothing.answered; reached = reached }
+
+  -- a fault after all of these records
+  pub goes_stops : (fault : StreamFault) (first last : Clock) (c : List (List ℕ)) (old new : PlainValue) (before after : Option (List ℕ)) → Reached fault [] []
+      → Goes gives host c first last old new before after → Stops gives host fault c first old new before after
+  goes_stops fault first last c old new before after reached a = record {
+    first = c;
+    others = [];
+    sent = a.answers;
+    unsent = [];
+    later = last;
+    whole = sym (append-nil c);
+    written = a.written;
+    answered = subst (λ (w : List ℕ). AreAnswered gives host c first last old new w) (sym (append-nil a.answers)) a.answered;
+    reached = reached;
+  }
+
+  -- one record is answered, at the clock's next moment
+  pub one_answered : (first last : Clock) (moment : Moment) (bytes : List ℕ) (old new : PlainValue) (answer : List ℕ)
+      → gives first moment last → IsAnswered (record { host = host; bytes = bytes; moment = moment }) old new answer
+      → AreAnswered gives host (bytes ∷ []) first last old new answer
+  one_answered first last moment bytes old new answer ticked a =
+      let arrival : Arrival = record { host = host; bytes = bytes; moment = moment } in
+      record {
+        setting = a.setting;
+        each = λ m stands.
+            let (records, after, answers, then) = a.each m stands in
+            let serves : Serves old.setting m (arrival ∷ []) answer records after = (answer, [], records, [], after, sym (append-nil answer), sym (append-nil records), answers, (refl, refl, refl)) in
+            record {
+              arrivals = arrival ∷ [];
+              records = records;
+              after = after;
+              came = (refl, (refl, tt));
+              ticked = (last, ticked, refl);
+              served = serves;
+              run = served_run old.setting m after (arrival ∷ []) answer records serves;
+              stands = then;
+            };
+      }
+
+  -- further records come behind those at which it stopped
+  pub more_ahead : (fault : StreamFault) (c d : List (List ℕ)) (first : Clock) (old new : PlainValue) (before after : Option (List ℕ)) → Stops gives host fault c first old new before after
+      → (fault ≡ Write) ⊎ (fault ≡ Memory) → Stops gives host fault (c ++ d) first old new before after
+  more_ahead fault c d first old new before after s which = record {
+    first = s.first;
+    others = s.others ++ d;
+    sent = s.sent;
+    unsent = s.unsent;
+    later = s.later;
+    whole = ap (λ l. l ++ d) s.whole ∙ append_assoc s.first s.others d;
+    written = s.written;
+    answered = s.answered;
+    reached = reached_more fault s.others (s.others ++ d) s.unsent which s.reached;
+  }

@@ -1,0 +1,13 @@
+pub mod Answering
+pub mod Garbage
+pub mod Joins
+pub mod Loops
+pub mod Nothing
+pub mod Opening
+pub mod Parsed
+pub mod Pieces
+pub mod Rounds
+pub mod Sizes
+pub mod Steps
+pub mod Stores
+pub mod Views

@@ -1,0 +1,164 @@
+-- The slots that a server starts with stand for the machine's opening state: the roots live, and nothing else.
+use Rattle.std.proofs.Common.{◌≡◌, ◌≢◌, ℕ, zero, suc, ◌+◌, ◌<◌, ◌≤◌, ◌⊎◌, inl, inr, Bool, true, false, ◌&&◌, cond, nat_le, List, [], ◌∷◌, ◌++◌, length, length-append, map, Option, Some, None, option_map, refl, sym, ◌∙◌, ap, subst, arith}
+use Rattle.std.proofs.lemmas.Bool.Decides.{nat_tests}
+use Rattle.std.proofs.lemmas.Option.{slice_get_past, slice_get_within}
+use Rattle.std.specs.List.{slice_get}
+use Rattle.std.specs.Cmp.{nat_cmp_total}
+use Rattle.std.specs.Ordering.{nat_cmp, eq_by_cmp}
+use Rattle.std.specs.FinMap.{FinMap, get, insert, get-insert, get-empty}
+use Rattle.nfs_wire.specs.declared.attributes.Time.{Time}
+use Rattle.nfs_machine.specs.Attributes.{links_of}
+use Rattle.nfs_machine.specs.Exports.{ExportValue, export_at, export_value}
+use Rattle.nfs_machine.specs.declared.context.Limits.{Limits}
+use Rattle.nfs_machine.specs.declared.exports.Export.{Export}
+use Rattle.std.proofs.lemmas.List.{length-map}
+use Rattle.nfs_machine.specs.Opening.{opening, opening_last, opening_root, opening_roots, time_of}
+use Rattle.nfs_machine.specs.Run.{Setting}
+use Rattle.nfs_machine.specs.State.{Living, State}
+use Rattle.nfs_machine.specs.declared.moment.Moment.{Moment}
+use Rattle.nfs_objects.specs.Sound.{RootLives}
+use Rattle.nfs_objects.specs.Stands.{content_of, living_of}
+use Rattle.nfs_objects.specs.declared.object.Inode.{Inode}
+use Rattle.nfs_objects.specs.declared.object.Object.{Object}
+use Rattle.nfs_objects.specs.declared.object.Object.TheVariants as objects
+use Rattle.nfs_server.specs.Plain.{PlainValue, StandsFor}
+use Rattle.nfs_server.specs.Roots.{root_of, root_slot, root_slots}
+use Rattle.nfs_server.specs.Slots.{SlotValue, empty_slot, object_in, last_in}
+
+le_or : (a b : ℕ) → (a ≤ b) ⊎ (b < a)
+le_or a b = elim (nat_le a b) as (λ t. nat_le a b ≡ t → (a ≤ b) ⊎ (b < a)) [ true ↦ λ e. inl (grind (arith, nat_tests)) | false ↦ λ e. inr (grind (arith, nat_tests)) ] refl
+
+get_front : (xs ys : List SlotValue) (k : ℕ) → k < length xs → slice_get (xs ++ ys) k ≡ slice_get xs k
+get_front [] ys k h = absurd (omega (arith, h))
+get_front (x ∷ xs) ys zero h = refl
+get_front (x ∷ xs) ys (suc k) h = get_front xs ys k (omega (arith, h))
+
+get_last : (xs : List SlotValue) (x : SlotValue) → slice_get (xs ++ x ∷ []) (length xs) ≡ Some x
+get_last [] x = refl
+get_last (y ∷ xs) x = get_last xs x
+
+module _ (time : Time) where
+  slots_len : (n : ℕ) → length (root_slots n time) ≡ suc n
+  unfolding root_slots
+  slots_len zero = refl
+  slots_len (suc n) = length-append (root_slots n time) (root_slot (suc n) time ∷ []) ∙ (let e : length (root_slots n time) + 1 ≡ suc (suc n) = omega (arith, slots_len n) in e)
+
+  slot_zero : (n : ℕ) → slice_get (root_slots n time) 0 ≡ Some empty_slot
+  unfolding root_slots
+  slot_zero zero = refl
+  slot_zero (suc n) = get_front (root_slots n time) (root_slot (suc n) time ∷ []) 0 (omega (arith, slots_len n)) ∙ slot_zero n
+
+  slot_root : (n k : ℕ) → 1 ≤ k → k ≤ n → slice_get (root_slots n time) k ≡ Some (root_slot k time)
+  unfolding root_slots
+  slot_root zero k low high = absurd (omega (arith, low, high))
+  slot_root (suc n) k low high =
+      elim (le_or k n) [
+        | inl h ↦ get_front (root_slots n time) (root_slot (suc n) time ∷ []) k (omega (arith, slots_len n, h)) ∙ slot_root n k low h
+        | inr h ↦
+            let same : suc n ≡ k = omega (arith, h, high) in
+            subst (λ j. slice_get (root_slots n time ++ root_slot (suc n) time ∷ []) j ≡ Some (root_slot j time)) same
+            (subst (λ j. slice_get (root_slots n time ++ root_slot (suc n) time ∷ []) j ≡ Some (root_slot (suc n) time)) (slots_len n) (get_last (root_slots n time) (root_slot (suc n) time)))
+      ]
+
+  slot_none : (n k : ℕ) → n < k → slice_get (root_slots n time) k ≡ None
+  slot_none n k h = slice_get_past (root_slots n time) k (omega (arith, slots_len n, h))
+
+  insert_here : (m : FinMap nat_cmp Living) (k n : ℕ) (o : Living) → n ≡ k → get (insert m k o) n ≡ Some o
+  insert_here m k n o e = get-insert nat_cmp_total m k o n ∙ ap (λ b. cond b (Some o) (get m n)) (let t : eq_by_cmp nat_cmp n k ≡ true = grind (arith, nat_tests) in t)
+
+  insert_there : (m : FinMap nat_cmp Living) (k n : ℕ) (o : Living) → n ≢ k → get (insert m k o) n ≡ get m n
+  insert_there m k n o e = get-insert nat_cmp_total m k o n ∙ ap (λ b. cond b (Some o) (get m n)) (let t : eq_by_cmp nat_cmp n k ≡ false = grind (arith, nat_tests) in t)
+
+  root_found : (es : List ExportValue) (k n : ℕ) → k ≤ n → n < k + length es → get (opening_roots k es time) n ≡ Some (opening_root n time)
+  root_found [] k n low high = absurd (omega (arith, low, high))
+  root_found (e ∷ es) k n low high =
+      elim (le_or n k) [
+        | inl h ↦ (let same : n ≡ k = omega (arith, low, h) in insert_here (opening_roots (k + 1) es time) k n (opening_root k time) same ∙ ap (λ j. Some (opening_root j time)) (sym same))
+        | inr h ↦
+            insert_there (opening_roots (k + 1) es time) k n (opening_root k time) (λ same. omega (arith, h, same))
+            ∙ root_found es (k + 1) n (omega (arith, h)) (omega (arith, high))
+      ]
+
+  root_none : (es : List ExportValue) (k n : ℕ) → (n < k) ⊎ (k + length es ≤ n) → get (opening_roots k es time) n ≡ None
+  root_none [] k n out = get-empty nat_cmp n
+  root_none (e ∷ es) k n (inl below) =
+      insert_there (opening_roots (k + 1) es time) k n (opening_root k time) (λ same. omega (arith, below, same)) ∙ root_none es (k + 1) n (inl (omega (arith, below)))
+  root_none (e ∷ es) k n (inr above) =
+      insert_there (opening_roots (k + 1) es time) k n (opening_root k time) (λ same. omega (arith, above, same)) ∙ root_none es (k + 1) n (inr (omega (arith, above)))
+
+module _ (es : List ExportValue) (moment : Moment) where
+  abbrev time : Time
+  time = time_of moment
+
+  abbrev slots : List SlotValue
+  slots = root_slots (length es) time
+
+  lives : (n : ℕ) → get (opening_roots 1 es time) n ≡ living_of (object_in (slice_get slots n))
+  lives zero = root_none time es 1 zero (inl (omega arith)) ∙ sym (ap (λ (s : Option SlotValue). living_of (object_in s)) (slot_zero time (length es)))
+  lives (suc n) =
+      elim (le_or (suc n) (length es)) [
+        | inl h ↦
+            root_found time es 1 (suc n) (omega arith) (omega (arith, h))
+            ∙ sym (ap (λ (s : Option SlotValue). living_of (object_in s)) (slot_root time (length es) (suc n) (omega arith) h))
+        | inr h ↦
+            root_none time es 1 (suc n) (inr (omega (arith, h)))
+            ∙ sym (ap (λ (s : Option SlotValue). living_of (object_in s)) (slot_none time (length es) (suc n) h))
+      ]
+
+  lasts : (n : ℕ) → opening_last (length es) n ≡ last_in (slice_get slots n)
+  lasts zero = sym (ap last_in (slot_zero time (length es)))
+  lasts (suc n) =
+      elim (le_or (suc n) (length es)) [
+        | inl h ↦ (let e : opening_last (length es) (suc n) ≡ 1 = grind (arith, nat_tests) in e) ∙ sym (ap last_in (slot_root time (length es) (suc n) (omega arith) h))
+        | inr h ↦ (let e : opening_last (length es) (suc n) ≡ 0 = grind (arith, nat_tests) in e) ∙ sym (ap last_in (slot_none time (length es) (suc n) h))
+      ]
+
+  abbrev IsRoot : ℕ → Inode → Type 0
+  IsRoot n i = (root_of n time ≡ i) × (1 ≤ last_in (slice_get slots n))
+
+  is_root : (n : ℕ) (i : Inode) → object_in (slice_get slots n) ≡ Some (objects.Inode i) → IsRoot n i
+  is_root zero i is = let none : None ≡ Some (objects.Inode i) = sym (ap object_in (slot_zero time (length es))) ∙ is in cc
+  is_root (suc n) i is =
+      elim (le_or (suc n) (length es)) [
+        | inl h ↦
+            let some : Some (objects.Inode (root_of (suc n) time)) ≡ Some (objects.Inode i) = sym (ap object_in (slot_root time (length es) (suc n) (omega arith) h)) ∙ is in
+            ((let same : root_of (suc n) time ≡ i = cc in same), (let e = ap last_in (slot_root time (length es) (suc n) (omega arith) h) in omega (arith, e)))
+        | inr h ↦ (let none : None ≡ Some (objects.Inode i) = sym (ap object_in (slot_none time (length es) (suc n) h)) ∙ is in absurd cc)
+      ]
+
+  root_lives : (number : ℕ) (e : ExportValue) → export_at es number ≡ Some e → RootLives (opening es moment) number
+  root_lives zero e is = cc
+  root_lives (suc n) e is = record {
+    root = opening_root (suc n) time;
+    lives = root_found time es 1 (suc n) (omega arith) (omega (arith, slice_get_within es n e is));
+    own = refl;
+    directory = refl;
+  }
+
+  pub opening_stands : (p : PlainValue) → p.slots ≡ slots → p.mounts ≡ None → p.setting.exports ≡ es → StandsFor p (opening es moment)
+  opening_stands p is none exports =
+      subst (λ (q : PlainValue). StandsFor q (opening es moment)) (let slots_is = sym is in let mounts_is = sym none in λ i. record { slots = slots_is i; mounts = mounts_is i; setting = p.setting })
+      (record {
+        represents = record {
+          objects = lives;
+          mounts = refl;
+          spent = λ n g. ap (nat_le g) (lasts n);
+          no_locks = refl;
+          no_shares = refl;
+          no_waiting = refl;
+          no_granted = refl;
+          no_spent_grants = λ n. refl;
+        };
+        sound = record {
+          links = λ n i is. (let r = is_root n i is in subst (λ (j : Inode). j.links ≡ links_of (opening es moment) n (content_of j.content)) r.0 refl);
+          tree = λ n i is. sym (ap (λ (j : Inode). j.export) (is_root n i is).0);
+          generations = λ n i is. (let r = is_root n i is in subst (λ (j : Inode). j.generation ≤ last_in (slice_get slots n)) r.0 r.1);
+        };
+        roots = λ number e at. root_lives number e (subst (λ (l : List ExportValue). export_at l number ≡ Some e) exports at);
+      })
+
+pub opening_of : (made : List SlotValue) (list : List Export) (es : List ExportValue) (moment : Moment) (start : ℕ) (limits : Limits) → made ≡ root_slots (length list) (time_of moment) → map export_value list ≡ es
+    → StandsFor (record { slots = made; mounts = None; setting = record { start = start; exports = es; limits = limits } }) (opening es moment)
+opening_of made list es moment start limits is exports =
+    opening_stands es moment (record { slots = made; mounts = None; setting = record { start = start; exports = es; limits = limits } })
+    (is ∙ ap (λ n. root_slots n (time_of moment)) (sym (length-map list export_value) ∙ ap length exports)) refl refl

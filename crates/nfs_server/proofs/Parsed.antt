@@ -1,0 +1,164 @@
+-- The program's command is one of which clap states the matches and the faults exactly: its options are plain flags and options, and
+-- none has a rule on another. What the getters of the matches give is then a function of the words.
+use Rattle.std.proofs.Common.{◌≡◌, ℕ, Bool, true, List, [], ◌∷◌, map, refl, subst, ap, sym, ◌∙◌, inl, inr}
+use Rattle.std.specs.Prelude.{◌⊎◌, IfSome, MatchResult, Option, Some, None, Result, Ok, Err, option_map, unwrap_or, codes}
+use Rattle.std.specs.Borrow.{Bor}
+use Rattle.std.specs.Str.Parse.{ParsesUnsigned}
+use Rattle.clap.specs.Words.{App, HasKind, HasMatchesOf, ReadsOne, Row, Text, fault_of, first_value, found_of, is_simple, is_simple_and_free, kind_of, matched_of, matches_of, one_of, one_text, raw_values, rows_of}
+use Rattle.clap.specs.declared.error.Error.{Error}
+use Rattle.clap.specs.declared.error.kind.ErrorKind.{ErrorKind}
+use Rattle.clap.specs.declared.error.kind.ErrorKind.TheVariants as kind
+use Rattle.clap.specs.declared.parser.matches.ArgMatches.{ArgMatches}
+use Rattle.clap.specs.declared.parser.matches.Found.{Found}
+use Rattle.clap.proofs.OnLiterals.{clap_on_literals}
+use Rattle.clap.proofs.WalkLemmas.{first_value-rows, one_text-rows, raw_values-rows}
+use Rattle.std.proofs.lemmas.Result.{MatchResult-weaker}
+use Rattle.nfs_machine.specs.ExportFaults.{export_fault, export_of}
+use Rattle.nfs_machine.specs.Exports.{ExportValue}
+use Rattle.nfs_machine.specs.declared.exports.ExportError.{ExportError}
+use Rattle.nfs_machine.specs.declared.exports.ExportError.TheVariants as export
+use Rattle.nfs_machine.specs.declared.exports.ExportText.{ExportText}
+use Rattle.nfs_server.specs.CommandLine.{AreRefused, Configures, IsHost, IsHostRefusal, IsParsedFrom, IsRefusal, IsTaken, IsValueRefusal, Reads, ReadsFlag, ReadsNumber, Refuses, export_parts, exports_of, host_of, nfsd, parts_of}
+use Rattle.nfs_server.specs.Exits.{exit_of_command, exit_of_exports, exit_of_kind}
+use Rattle.nfs_server.specs.declared.exit.Exit.{Exit}
+use Rattle.nfs_server.specs.declared.options.Options.{Options}
+use Rattle.nfs_server.specs.declared.exit.Exit.TheVariants.{CommandLine, Exports, Memory, NoTransport, StandardStream}
+
+nfsd_is_simple : is_simple nfsd ≡ true
+unfolding nfsd clap_on_literals
+nfsd_is_simple = refl
+
+nfsd_is_simple_and_free : is_simple_and_free nfsd ≡ true
+unfolding nfsd clap_on_literals
+nfsd_is_simple_and_free = refl
+
+exit_of_kind-cases : (k : ErrorKind) (e : Error) → (exit_of_kind k e ≡ Memory) ⊎ (exit_of_kind k e ≡ CommandLine e)
+exit_of_kind-cases kind.OutOfMemory e = inl refl
+exit_of_kind-cases _ e = inr refl
+
+refuses_kinds : (words : List Text) (e : Error) → HasKind (fault_of nfsd words) e → Refuses words (exit_of_command e)
+refuses_kinds words e (inl memory) = subst (Refuses words) (sym (ap (λ k. exit_of_kind k e) memory)) tt
+refuses_kinds words e (inr among) = elim (exit_of_kind-cases (kind_of e) e) [
+  | inl is ↦ subst (Refuses words) (sym is) tt
+  | inr is ↦ subst (Refuses words) (sym is) (inl among)
+]
+
+-- an error of the parse is told as such, or as want of memory
+pub refuses_command : (a : App) (words : List Text) (e : Error) → a ≡ nfsd
+    → (is_simple_and_free a ≡ true → HasKind (fault_of a words) e) → Refuses words (exit_of_command e)
+refuses_command a words e is kinds =
+    refuses_kinds words e (subst (λ (b : App). HasKind (fault_of b words) e) is (kinds (ap is_simple_and_free is ∙ nfsd_is_simple_and_free)))
+
+-- the matches are those of the words
+pub parsed_from : (a : App) (words : List Text) (m : ArgMatches) → a ≡ nfsd
+    → (is_simple_and_free a ≡ true → fault_of a words ≡ []) → HasMatchesOf a words m → IsParsedFrom words m
+parsed_from a words m is kinds has = record {
+  faultless = subst (λ (b : App). fault_of b words ≡ []) is (kinds (ap is_simple_and_free is ∙ nfsd_is_simple_and_free));
+  rows = subst (λ (b : App). rows_of (found_of m) ≡ matches_of b words) is (has (ap is_simple is ∙ nfsd_is_simple)).0;
+}
+
+-- the host that is read is that of the rows
+pub host_read : (f : Found) (r : Option (Bor Text)) (d : Bor Text) → option_map (λ s. s.now) r ≡ first_value f (codes "host")
+    → d.now ≡ codes "127.0.0.1" → (unwrap_or r d).now ≡ host_of (rows_of f)
+host_read f None d is default = default ∙ ap (λ o. unwrap_or o (codes "127.0.0.1")) (is ∙ first_value-rows f (codes "host"))
+host_read f (Some h) d is default = ap (λ o. unwrap_or o (codes "127.0.0.1")) (is ∙ first_value-rows f (codes "host"))
+
+parts_of_texts : (texts : List (Bor Text)) → map (λ t. export_parts t.now) texts ≡ map export_parts (map (λ t. t.now) texts)
+parts_of_texts [] = refl
+parts_of_texts (t ∷ texts) = ap (λ rest. export_parts t.now ∷ rest) (parts_of_texts texts)
+
+-- the texts of the exports that are read are those of the rows
+pub exports_read : (f : Found) (r : Option (Bor (List (Bor Text)))) (d : Bor (List (Bor Text)))
+    → option_map (λ s. map (λ v. v.now) s.now) r ≡ option_map raw_values (matched_of f (codes "export"))
+    → d.now ≡ [] → map (λ t. export_parts t.now) (unwrap_or r d).now ≡ map export_parts (exports_of (rows_of f))
+exports_read f None d is none =
+    ap (map (λ (t : Bor Text). export_parts t.now)) none
+    ∙ ap (λ o. map export_parts (unwrap_or o [])) (is ∙ raw_values-rows f (codes "export"))
+exports_read f (Some s) d is none =
+    parts_of_texts s.now ∙ ap (λ o. map export_parts (unwrap_or o [])) (is ∙ raw_values-rows f (codes "export"))
+
+reads_one : {E : Type 0} (gives : List ℕ → Result ℕ E → Type 0) (bits : ℕ) (t : Text) (r : Option ℕ)
+    → ((x : Result ℕ E) → gives t x → ParsesUnsigned bits 10 t x) → ReadsOne gives t r → ReadsNumber bits (Some t) r
+reads_one gives bits t None parses read = parses (Err read.0) read.1
+reads_one gives bits t (Some n) parses read = parses (Ok n) read
+
+-- a number that is read is that of the rows
+pub number_read : {E : Type 0} (gives : List ℕ → Result ℕ E → Type 0) (bits : ℕ) (f : Found) (id : Text) (r : Option ℕ)
+    → ((t : Text) (x : Result ℕ E) → gives t x → ParsesUnsigned bits 10 t x)
+    → (one_text f id ≡ None → r ≡ None) → ((t : Text) → one_text f id ≡ Some t → ReadsOne gives t r)
+    → ReadsNumber bits (one_of id (rows_of f)) r
+number_read {E} gives bits f id r parses none value =
+    let go : (o : Option Text) → one_text f id ≡ o → ReadsNumber bits o r =
+    λ o. elim o as (λ (o : Option Text). one_text f id ≡ o → ReadsNumber bits o r) [
+      | None ↦ none
+      | Some t ↦ λ is. reads_one gives bits t r (parses t) (value t is)
+    ] in
+    go (one_of id (rows_of f)) (one_text-rows f id)
+
+exit_of_exports-cases : (e : ExportError) → (exit_of_exports e ≡ Memory) ⊎ (exit_of_exports e ≡ Exports e)
+exit_of_exports-cases export.Memory = inl refl
+exit_of_exports-cases _ = inr refl
+
+-- exports that are refused are told as such, or as want of memory
+pub refuses_exports : (rows : List Row) (list : List ExportText) (e : ExportError) → map parts_of list ≡ map export_parts (exports_of rows)
+    → (e ≡ export.Memory) ⊎ (export_fault list ≡ Some e) → IsRefusal rows (exit_of_exports e)
+refuses_exports rows list e are (inl memory) = subst (IsRefusal rows) (sym (ap exit_of_exports memory)) tt
+refuses_exports rows list e are (inr fault) = elim (exit_of_exports-cases e) [
+  | inl is ↦ subst (IsRefusal rows) (sym is) tt
+  | inr is ↦ subst (IsRefusal rows) (sym is) (list, are, fault)
+]
+
+-- words whose matches are found, with a host of its length, are taken
+pub taken : (words : List Text) (m : ArgMatches) (host : Text) → IsParsedFrom words m
+    → (host ≡ host_of (rows_of (found_of m))) × IsHost host → IsTaken words
+taken words m host parsed is = record {
+  faultless = parsed.faultless;
+  host = subst (λ (rows : List Row). IsHost (host_of rows)) parsed.rows (subst IsHost is.0 is.1);
+}
+
+-- a flag that is read is that of the words
+pub flag_read : (words : List Text) (m : ArgMatches) (id : Text) (is_set : Bool) → IsParsedFrom words m
+    → ReadsFlag (one_text (found_of m) id) is_set → ReadsFlag (one_of id (matches_of nfsd words)) is_set
+flag_read words m id is_set parsed reads =
+    subst (λ (text : Option Text). ReadsFlag text is_set) (one_text-rows (found_of m) id ∙ ap (one_of id) parsed.rows) reads
+
+-- the options of the rows are those of the words
+pub options_read : (words : List Text) (m : ArgMatches) (options : Options) → IsParsedFrom words m → IsTaken words
+    → ReadsFlag (one_of (codes "stdio") (matches_of nfsd words)) true → Reads (rows_of (found_of m)) options → Configures words options
+options_read words m options parsed is_taken transport reads = record {
+  taken = is_taken;
+  transport = transport;
+  reads = subst (λ (rows : List Row). Reads rows options) parsed.rows reads;
+}
+
+-- and so is what refuses them
+pub refuses_options : (words : List Text) (m : ArgMatches) (exit : Exit) → IsParsedFrom words m → IsTaken words
+    → ReadsFlag (one_of (codes "stdio") (matches_of nfsd words)) true → IsRefusal (rows_of (found_of m)) exit → Refuses words exit
+refuses_options words m (Exports e) parsed is_taken transport refused =
+    (is_taken, transport, subst (λ (rows : List Row). AreRefused rows e) parsed.rows refused)
+refuses_options words m Memory parsed is_taken transport refused = tt
+refuses_options words m (CommandLine e) parsed is_taken transport refused = absurd refused
+refuses_options words m NoTransport parsed is_taken transport refused = absurd refused
+refuses_options words m StandardStream parsed is_taken transport refused = absurd refused
+
+-- what `Exports::new` says, by its result
+pub exports_made : (list : List ExportText) (r : Result (List ExportValue) ExportError) → IfSome (export_fault list) (λ fault. r ≡ Err fault)
+    → (export_fault list ≡ None → MatchResult r (λ exports. exports ≡ map export_of list) (λ e. e ≡ export.Memory))
+    → MatchResult r (λ exports. (export_fault list ≡ None) × (exports ≡ map export_of list)) (λ e. (e ≡ export.Memory) ⊎ (export_fault list ≡ Some e))
+exports_made list r at_fault faultless =
+    let P : Result (List ExportValue) ExportError → Type 0 =
+    λ r. MatchResult r (λ exports. (export_fault list ≡ None) × (exports ≡ map export_of list)) (λ e. (e ≡ export.Memory) ⊎ (export_fault list ≡ Some e)) in
+    let go : (o : Option ExportError) → export_fault list ≡ o → IfSome o (λ fault. r ≡ Err fault) → P r =
+    λ o. elim o as (λ (o : Option ExportError). export_fault list ≡ o → IfSome o (λ fault. r ≡ Err fault) → P r) [
+      | None ↦ λ is told. MatchResult-weaker r (faultless is) (λ exports e. (is, e)) (λ e memory. inl memory)
+      | Some fault ↦ λ is told. subst P (sym told) (inr is)
+    ] in
+    go (export_fault list) refl at_fault
+
+-- a value that is refused refuses the host, where that has another length
+pub refuses_host : (rows : List Row) (exit : Exit) → (IsHost (host_of rows) → ⊥) → IsValueRefusal exit → IsHostRefusal rows exit
+refuses_host rows (CommandLine e) other refused = (other, refused)
+refuses_host rows Memory other refused = tt
+refuses_host rows NoTransport other refused = absurd refused
+refuses_host rows (Exports e) other refused = absurd refused
+refuses_host rows StandardStream other refused = absurd refused

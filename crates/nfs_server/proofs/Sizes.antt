@@ -1,0 +1,65 @@
+-- Answers are short: each part of a result has a bound.
+use Rattle.std.proofs.Common.{◌≡◌, ℕ, ◌+◌, ◌<◌, ◌≤◌, List, ◌++◌, length, length-append, Result, Ok, Err, ap, arith}
+use Rattle.std.proofs.lemmas.List.{length-replicate}
+use Rattle.std.specs.Int.{w32, to_be_bytes}
+use Rattle.nfs_xdr.specs.Types.{padding}
+use Rattle.nfs_xdr.specs.Writing.{appended, with_word, with_hyper, with_padded, with_arm}
+use Rattle.nfs_rpc.specs.Messages.{reply_of}
+use Rattle.nfs_rpc.specs.declared.faults.Answer.TheVariants.{Success}
+use Rattle.nfs_wire.specs.Replies.{result_bytes}
+use Rattle.nfs_wire.specs.declared.replies.NfsReply.{NfsReply}
+use Rattle.nfs_wire.specs.declared.replies.NfsReply.TheVariants as nfs
+use Rattle.nfs_wire.specs.declared.status.NfsStatus.{NfsStatus}
+use Rattle.nfs_wire.specs.declared.status.NfsStatus.TheVariants.{Permission}
+use Rattle.side_wire.specs.Mount.{HasMountForm, mount_result_bytes}
+use Rattle.side_wire.specs.Nlm.{nlm_result_bytes}
+use Rattle.side_wire.specs.declared.mount.MountReply.{MountReply}
+use Rattle.side_wire.specs.declared.mount.MountReply.TheVariants as mount
+use Rattle.side_wire.specs.declared.mount.MountStatus.{MountStatus}
+use Rattle.side_wire.specs.declared.mount.MountStatus.TheVariants as mount_status
+use Rattle.side_wire.specs.declared.nlm.NlmReply.{NlmReply}
+use Rattle.side_wire.specs.declared.nlm.NlmReply.TheVariants as nlm
+use Rattle.nfs_machine.specs.declared.calls.Reply.{Reply}
+use Rattle.nfs_machine.specs.declared.calls.Reply.TheVariants as replies
+use Rattle.nfs_server.specs.Forms.{HasForm}
+use Rattle.nfs_server.specs.Serving.{results_of}
+
+refused_size : (s : NfsStatus) → length (result_bytes (nfs.Getattr (Err s))) ≤ 1000
+unfolding appended with_word with_hyper with_padded with_arm
+refused_size Permission = omega arith
+refused_size _ = omega arith
+
+nfs_size : (r : NfsReply) → length (result_bytes r) ≤ 1000
+unfolding appended with_word with_hyper with_padded with_arm
+nfs_size nfs.Null = omega arith
+nfs_size (nfs.Getattr (Ok a)) = omega arith
+nfs_size (nfs.Getattr (Err s)) = refused_size s
+
+mount_refused_size : (s : MountStatus) → length (mount_result_bytes (mount.Mnt (Err s))) ≤ 1000
+unfolding appended with_word with_hyper with_padded with_arm
+mount_refused_size mount_status.Permission = omega arith
+mount_refused_size _ = omega arith
+
+mounted_size : (handle : List ℕ) → length handle ≤ 64 → length (mount_result_bytes (mount.Mnt (Ok handle))) ≤ 1000
+unfolding appended with_word with_hyper with_padded with_arm
+mounted_size handle h = simp (length-append, length-replicate) (let p : padding (length handle) ≤ 3 = omega arith in omega (arith, h, p))
+
+mount_size : (r : MountReply) → HasMountForm r → length (mount_result_bytes r) ≤ 1000
+unfolding appended with_word with_hyper with_padded with_arm
+mount_size mount.Null form = omega arith
+mount_size (mount.Mnt (Ok handle)) form = mounted_size handle form
+mount_size (mount.Mnt (Err s)) form = mount_refused_size s
+
+nlm_size : (r : NlmReply) → length (nlm_result_bytes r) ≤ 1000
+unfolding appended
+nlm_size nlm.Null = omega arith
+
+pub results_size : (reply : Reply) → HasForm reply → length (results_of reply) ≤ 1000
+results_size (replies.Nfs reply) form = nfs_size reply
+results_size (replies.Mount reply) form = mount_size reply form
+results_size (replies.Nlm reply) form = nlm_size reply
+
+pub answer_size : (start header whole : List ℕ) (xid : ℕ) (reply : Reply) → HasForm reply → start ≡ to_be_bytes w32 0 → header ≡ start ++ reply_of xid Success → whole ≡ header ++ results_of reply
+    → length whole < 2147483652
+answer_size start header whole xid reply form s h w =
+    omega (arith, results_size reply form, ap length s, simp length-append at (ap length h), simp length-append at (ap length w))

@@ -1,0 +1,98 @@
+-- A call's end, at the present store, is one step of the machine, and its reply has its form.
+use Rattle.std.proofs.Common.{◌≡◌, ℕ, ◌≤◌, List, length, Result, Ok, Err, IfOk, refl, sym, ◌∙◌, ap, subst, arith, inl, inr, [], ◌∷◌}
+use Rattle.side_wire.specs.Mount.{HasMountForm}
+use Rattle.side_wire.specs.declared.message.Message.{Message}
+use Rattle.side_wire.specs.declared.mount.MountCall.{MountCall}
+use Rattle.side_wire.specs.declared.mount.MountCall.TheVariants as mount
+use Rattle.side_wire.specs.declared.mount.MountReply.{MountReply}
+use Rattle.side_wire.specs.declared.mount.MountStatus.{MountStatus}
+use Rattle.nfs_wire.specs.declared.calls.NfsCall.TheVariants as nfs
+use Rattle.nfs_machine.specs.Exports.{ExportValue}
+use Rattle.nfs_machine.specs.MountSteps.{MountStep, MntAnswers}
+use Rattle.nfs_machine.specs.State.{State}
+use Rattle.nfs_machine.specs.Step.{Step}
+use Rattle.nfs_machine.specs.declared.calls.Call.{Call}
+use Rattle.nfs_machine.specs.declared.calls.Call.TheVariants as calls
+use Rattle.nfs_machine.specs.declared.calls.Reply.{Reply}
+use Rattle.nfs_machine.specs.declared.calls.Reply.TheVariants as replies
+use Rattle.nfs_machine.specs.declared.context.Ctx.{Ctx}
+use Rattle.nfs_objects.specs.Fits.{Fits}
+use Rattle.nfs_objects.specs.Promise.{IsPromised}
+use Rattle.nfs_objects.specs.Sound.{Sound, RootsLive}
+use Rattle.nfs_objects.specs.Stands.{Represents}
+use Rattle.nfs_objects.specs.Store.{Store, with_writes}
+use Rattle.nfs_objects.specs.Values.{DoneValue}
+use Rattle.nfs_server.specs.Executed.{MakesStep}
+use Rattle.std.specs.Prelude.{Option}
+use Rattle.nfs_machine.specs.Refusal.{refusal_of}
+use Rattle.nfs_machine.specs.Run.{Setting}
+use Rattle.nfs_objects.specs.declared.address.Addr.{Addr}
+use Rattle.nfs_objects.specs.declared.object.Object.{Object}
+use Rattle.nfs_server.specs.Slots.{SlotValue}
+use Rattle.nfs_server.specs.Forms.{HasForm, RefusalHasForm}
+use Rattle.nfs_server.specs.Plain.{PlainValue, Stands, StandsFor, store_in, store_of}
+use Rattle.nfs_server.specs.Serving.{success}
+
+result_form : (old : State) (ctx : Ctx) (path : List ℕ) (r : Result (List ℕ) MountStatus) (new : State) → MntAnswers old ctx path r new → IfOk r (λ handle. length handle ≤ 64)
+result_form old ctx path (Ok handle) new (found, target, is, then) = subst (λ (h : List ℕ). length h ≤ 64) (sym is) (omega arith)
+result_form old ctx path (Err e) new answers = tt
+
+mount_form : (old : State) (ctx : Ctx) (call : MountCall) (reply : MountReply) (messages : List Message) (new : State) → MountStep old ctx call reply messages new → HasMountForm reply
+unfolding MountStep
+mount_form old ctx mount.Null reply messages new step = subst HasMountForm (sym step.reply_is) tt
+mount_form old ctx (mount.Mnt path) reply messages new step = subst HasMountForm (sym step.reply_is) (result_form old ctx path step.result new step.answers)
+
+step_form : (old : State) (ctx : Ctx) (call : Call) (reply : Reply) (messages : List Message) (new : State) → Step old ctx call reply messages new → HasForm reply
+step_form old ctx (calls.Nfs call) (replies.Nfs reply) messages new step = tt
+step_form old ctx (calls.Nfs call) (replies.Mount reply) messages new step = absurd step
+step_form old ctx (calls.Nfs call) (replies.Nlm reply) messages new step = tt
+step_form old ctx (calls.Mount call) (replies.Nfs reply) messages new step = tt
+step_form old ctx (calls.Mount call) (replies.Mount reply) messages new step = mount_form old ctx call reply messages new step
+step_form old ctx (calls.Mount call) (replies.Nlm reply) messages new step = tt
+step_form old ctx (calls.Nlm call) (replies.Nfs reply) messages new step = tt
+step_form old ctx (calls.Nlm call) (replies.Mount reply) messages new step = absurd step
+step_form old ctx (calls.Nlm call) (replies.Nlm reply) messages new step = tt
+
+module _ (d : DoneValue) (old : PlainValue) (promised : IsPromised d) (fits : Fits d.view (store_of old)) (exports : d.ctx.exports ≡ old.setting.exports) where
+  pub reply_form : Stands old → HasForm d.reply
+  reply_form (m, stands) =
+      let step = promised.kept (store_of old) m stands.represents stands.sound (subst (λ (es : List ExportValue). RootsLive es m) (sym exports) stands.roots) fits in
+      step_form m d.ctx d.call d.reply d.messages step.new step.step
+
+  module _ (new : PlainValue) (made : store_of new ≡ with_writes (store_of old) d.writes) (setting : new.setting ≡ old.setting) where
+    abbrev Stepped : State → Type 0
+    Stepped m = (after : State) × Step m d.ctx d.call d.reply d.messages after × StandsFor new after
+
+    stepped : (m : State) → StandsFor old m → Stepped m
+    stepped m stands =
+        let step = promised.kept (store_of old) m stands.represents stands.sound (subst (λ (es : List ExportValue). RootsLive es m) (sym exports) stands.roots) fits in
+        let same : d.ctx.exports ≡ new.setting.exports = exports ∙ sym (ap (λ (s : Setting). s.exports) setting) in (
+          step.new,
+          step.step,
+          record {
+            represents = subst (λ (s : Store). Represents s step.new) (sym made) step.stands;
+            sound = subst (λ (s : Store). Sound s step.new) (sym made) step.sound;
+            roots = subst (λ (es : List ExportValue). RootsLive es step.new) same step.roots;
+          },
+        )
+
+    pub stands_on : Stands old → Stands new
+    stands_on (m, stands) = let s = stepped m stands in (s.0, s.2)
+
+    pub makes_step : (xid : ℕ) (answer : List ℕ) → answer ≡ success xid d.reply → MakesStep d.ctx d.call xid old new answer
+    makes_step xid answer answered = record { setting = setting; reply = d.reply; messages = d.messages; answered = answered; each = stepped }
+
+-- room and then the writes: the store is the old one with the writes
+pub store_made : (slots middle first : List SlotValue) (mounts before : Option Object) (setting : Setting) (old : PlainValue) (writes all : List (Addr × Option Object))
+    → store_in slots mounts ≡ with_writes (store_in middle before) writes → ((m : Option Object) → store_in middle m ≡ store_in first m)
+    → record { slots = first; mounts = before; setting = setting } ≡ old → writes ≡ all → store_in slots mounts ≡ with_writes (store_of old) all
+store_made slots middle first mounts before setting old writes all made room is same =
+    made ∙ ap (λ (s : Store). with_writes s writes) (room before ∙ ap store_of is) ∙ ap (with_writes (store_of old)) same
+
+-- a refusal holds no handle
+pub refusal_form : (call : Call) → RefusalHasForm (refusal_of call)
+refusal_form (calls.Nfs nfs.Null) = tt
+refusal_form (calls.Nfs (nfs.Getattr object)) = tt
+refusal_form (calls.Mount mount.Null) = tt
+refusal_form (calls.Mount (mount.Mnt path)) = tt
+refusal_form (calls.Nlm call) = tt

@@ -1,0 +1,32 @@
+-- The command line is taken once its words and its host are; what is left is the transport and the exports.
+use Rattle.std.proofs.Common.{rules, ◌≡◌, List, ℕ, Bool, map, subst, false, true}
+use Rattle.std.specs.Prelude.{codes}
+use Rattle.std.proofs.lemmas.Result.{MatchResult-weaker}
+use Rattle.clap.specs.Words.{matches_of, one_of}
+use Rattle.nfs_server.specs.CommandLine.{IsTaken, ReadsFlag, nfsd}
+use Rattle.nfs_server.proofs.Parsed.{flag_read, options_read, refuses_options, taken}
+use Rattle.nfs_server.proofs.command_line.configure.Goals as goal
+
+pub returns-then-not-get_flag : goal.returns-then-not-get_flag
+returns-then-not-get_flag g c =
+    let words = map g.S.AsStr.text c.args.words.now in
+    let matches = c.in_ok-matches.matches in
+    let flag = flag_read words matches (codes "stdio") c.get_flag.result c.in_ok-matches.ensures
+    (c.get_flag.ensures.value, c.get_flag.ensures.other, c.get_flag.ensures.none) in
+    let unset : c.get_flag.result ≡ false = search rules in (
+      taken words matches c.in_ok-host.host.now c.in_ok-matches.ensures c.in_ok-host.ensures,
+      subst (ReadsFlag (one_of (codes "stdio") (matches_of nfsd words))) unset flag,
+    )
+
+pub returns : goal.returns
+returns g c =
+    let words = map g.S.AsStr.text c.args.words.now in
+    let matches = c.in_ok-matches.matches in
+    let flag = flag_read words matches (codes "stdio") c.get_flag.result c.in_ok-matches.ensures
+    (c.get_flag.ensures.value, c.get_flag.ensures.other, c.get_flag.ensures.none) in
+    let set : c.get_flag.result ≡ true = search rules in
+    let transport = subst (ReadsFlag (one_of (codes "stdio") (matches_of nfsd words))) set flag in
+    let is_taken = taken words matches c.in_ok-host.host.now c.in_ok-matches.ensures c.in_ok-host.ensures in
+    MatchResult-weaker c.read_options.result c.read_options.ensures
+    (λ options. options_read words matches options c.in_ok-matches.ensures is_taken transport)
+    (λ exit. refuses_options words matches exit c.in_ok-matches.ensures is_taken transport)

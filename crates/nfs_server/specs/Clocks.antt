@@ -1,0 +1,30 @@
+-- What the server's clocks give.
+use Rattle.std.specs.Prelude.{◌≡◌, ◌^◌, ℕ, Option, Some, None, nat_lt, if◌then◌else◌}
+use Rattle.nfs_machine.specs.declared.moment.Moment.{Moment}
+use Rattle.nfs_server.specs.declared.clock.FixedClock.{FixedClock}
+use Rattle.nfs_server.specs.declared.clock.MachineClock.{MachineClock}
+use Rattle.nfs_server.specs.declared.clock.ServerClock.{ServerClock}
+use Rattle.nfs_server.specs.declared.clock.ServerClock.TheVariants.{Fixed, Machine}
+
+-- the moment is the beginning of the clock's second, which stays
+abbrev pub StandsStill : FixedClock → Moment → FixedClock → Type 0
+StandsStill old moment new = (moment.seconds ≡ old.seconds) × (moment.nanoseconds ≡ 0) × (new ≡ old)
+
+-- any moment may come, and is the clock's last from then on
+abbrev pub RemembersLast : {C : Type 0} → MachineClock C → Moment → MachineClock C → Type 0
+RemembersLast old moment new = new.last ≡ moment
+
+abbrev pub Gives : {C : Type 0} → ServerClock C → Moment → ServerClock C → Type 0
+Gives (Fixed old) moment (Fixed new) = StandsStill old moment new
+Gives (Machine old) moment (Machine new) = RemembersLast old moment new
+Gives _ moment _ = ⊥
+
+-- the clock stands still at the second that is given, or where none is, it has given no moment yet
+abbrev pub IsClockOf : {C : Type 0} → Option ℕ → ServerClock C → Type 0
+IsClockOf (Some seconds) (Fixed clock) = clock.seconds ≡ seconds
+IsClockOf None (Machine clock) = (clock.last.seconds ≡ 0) × (clock.last.nanoseconds ≡ 0)
+IsClockOf _ _ = ⊥
+
+-- so many nanoseconds as a start number
+abbrev pub number_of : ℕ → ℕ
+number_of nanoseconds = if nat_lt nanoseconds (2 ^ 64) then nanoseconds else 0

@@ -1,0 +1,139 @@
+-- The command line: which words are taken, and what they ask for.
+use Rattle.std.specs.Prelude.{◌≡◌, ◌≤◌, ◌<◌, ◌^◌, ◌⊎◌, ◌==◌, ℕ, Bool, true, false, List, [], ◌∷◌, length, map, drop, Option, Some, None, option_map, unwrap_or, slice_get, codes, pos}
+use Rattle.std.specs.List.{slice_split}
+use Rattle.std.specs.Option.{SomeIff}
+use Rattle.std.specs.Str.Parse.{IsNumeral, digits_value, without_leading_plus}
+use Rattle.clap.specs.Words.{App, IsAmong, Row, Rule, Text, all_of, fault_of, first_of, found_of, kind_of, matches_of, new_app, new_rule, one_of, rows_of, with_rule}
+use Rattle.clap.specs.declared.builder.action.ArgAction.TheVariants.{SetTrue}
+use Rattle.clap.specs.declared.builder.value_parser.ValueParser.{ValueParser}
+use Rattle.clap.specs.declared.builder.value_parser.ValueParser.TheVariants.{Signed, Unsigned}
+use Rattle.clap.specs.declared.error.kind.ErrorKind.TheVariants.{ValueValidation}
+use Rattle.clap.specs.declared.parser.matches.ArgMatches.{ArgMatches}
+use Rattle.nfs_machine.specs.ExportFaults.{export_fault, export_of}
+use Rattle.nfs_machine.specs.Exports.{ExportValue}
+use Rattle.nfs_machine.specs.declared.exports.ExportError.{ExportError}
+use Rattle.nfs_machine.specs.declared.exports.ExportText.{ExportText}
+use Rattle.nfs_server.specs.declared.exit.Exit.{Exit}
+use Rattle.nfs_server.specs.declared.exit.Exit.TheVariants.{CommandLine, NoTransport, Exports, Memory, StandardStream}
+use Rattle.nfs_server.specs.declared.options.Options.{Options}
+
+-- ---- the options
+
+-- `--NAME`
+abbrev pub flag_rule : Text → Rule
+flag_rule name = record (new_rule name) { long = Some name; action = Some SetTrue }
+
+-- `--NAME VALUE`
+abbrev pub option_rule : Text → Rule
+option_rule name = record (new_rule name) { long = Some name; value_names = 1 }
+
+-- `--NAME VALUE`, where the parser takes the value
+abbrev pub number_rule : Text → ValueParser → Rule
+number_rule name parser = record (option_rule name) { parser = Some parser }
+
+-- the program's options
+unfoldable pub nfsd : App
+nfsd =
+    let stdio = flag_rule (codes "stdio") in
+    let export = record (option_rule (codes "export")) { required = true } in
+    let start = number_rule (codes "start") (Unsigned 0 18446744073709551615) in
+    let clock = number_rule (codes "clock") (Signed (pos 0) (pos 4294967295)) in
+    let host = option_rule (codes "host") in
+    let bytes = number_rule (codes "bytes") (Unsigned 0 18446744073709551615) in
+    with_rule (with_rule (with_rule (with_rule (with_rule (with_rule (new_app (codes "nfsd")) stdio) export) start) clock) host) bytes
+
+-- ---- what a value spells
+
+-- an export's path, mode and hosts: what stands between the commas of PATH,MODE,HOST[,HOST..]
+abbrev pub export_parts : Text → Text × Text × List Text
+export_parts text =
+    let fields = slice_split (λ b. b == 44) text in
+    (unwrap_or (slice_get fields 0) [], unwrap_or (slice_get fields 1) [], drop 2 fields)
+
+abbrev pub parts_of : ExportText → Text × Text × List Text
+parts_of export = (export.path, export.mode, export.hosts.items)
+
+-- a number in decimal digits, which fits in so many bits, is read, and nothing where no text is given
+abbrev pub ReadsNumber : ℕ → Option Text → Option ℕ → Type 0
+ReadsNumber bits None number = number ≡ None
+ReadsNumber bits (Some text) number =
+    let digits = without_leading_plus text in
+    SomeIff number (IsNumeral 10 digits × (digits_value 10 digits < 2 ^ bits)) (digits_value 10 digits)
+
+-- a flag is set, or not, as its text says; where it isn't used it has none, or "false"
+abbrev pub ReadsFlag : Option Text → Bool → Type 0
+ReadsFlag text is_set =
+    (text ≡ Some (codes "true") → is_set ≡ true) × (text ≡ Some (codes "false") → is_set ≡ false) × (text ≡ None → is_set ≡ false)
+
+-- a host has 1 to 255 bytes
+abbrev pub IsHost : Text → Type 0
+IsHost host = (1 ≤ length host) × (length host ≤ 255)
+
+abbrev pub host_of : List Row → Text
+host_of rows = unwrap_or (first_of (codes "host") rows) (codes "127.0.0.1")
+
+abbrev pub exports_of : List Row → List Text
+exports_of rows = unwrap_or (all_of (codes "export") rows) []
+
+-- ---- what the words come to
+
+-- the rows of a command line that is taken give the options
+pub record Reads (rows : List Row) (options : Options) : Type 0 where
+  pub start : ReadsNumber 64 (one_of (codes "start") rows) options.start
+  pub clock : ReadsNumber 32 (one_of (codes "clock") rows) options.clock
+  pub bytes : (number : Option ℕ) × ReadsNumber 64 (one_of (codes "bytes") rows) number × (options.bytes ≡ unwrap_or number 1099511627776)
+  pub host : options.host ≡ host_of rows
+  pub exports : (list : List ExportText)
+      × (map parts_of list ≡ map export_parts (exports_of rows)) × (export_fault list ≡ None) × (options.exports ≡ map export_of list)
+
+-- the exports of the rows are at fault
+abbrev pub AreRefused : List Row → ExportError → Type 0
+AreRefused rows e = (list : List ExportText) × (map parts_of list ≡ map export_parts (exports_of rows)) × (export_fault list ≡ Some e)
+
+-- why rows that are taken give no options
+abbrev pub IsRefusal : List Row → Exit → Type 0
+IsRefusal rows (Exports e) = AreRefused rows e
+IsRefusal rows Memory = Unit {0}
+IsRefusal rows _ = ⊥
+
+-- the words are those of the program's options, and the host has its length
+pub record IsTaken (words : List Text) : Type 0 where
+  pub faultless : fault_of nfsd words ≡ []
+  pub host : IsHost (host_of (matches_of nfsd words))
+
+-- the words are taken, name a transport, and ask for these options
+pub record Configures (words : List Text) (options : Options) : Type 0 where
+  pub taken : IsTaken words
+  pub transport : ReadsFlag (one_of (codes "stdio") (matches_of nfsd words)) true
+  pub reads : Reads (matches_of nfsd words) options
+
+-- a value is refused
+abbrev pub IsValueRefusal : Exit → Type 0
+IsValueRefusal (CommandLine e) = kind_of e ≡ ValueValidation
+IsValueRefusal _ = ⊥
+
+-- the words couldn't be read
+abbrev pub IsReadingFault : Exit → Type 0
+IsReadingFault Memory = Unit {0}
+IsReadingFault exit = IsValueRefusal exit
+
+-- the matches are those of words that the program takes
+pub record IsParsedFrom (words : List Text) (matches : ArgMatches) : Type 0 where
+  pub faultless : fault_of nfsd words ≡ []
+  pub rows : rows_of (found_of matches) ≡ matches_of nfsd words
+
+-- the host has another length
+abbrev pub IsHostRefusal : List Row → Exit → Type 0
+IsHostRefusal rows (CommandLine e) = (IsHost (host_of rows) → ⊥) × (kind_of e ≡ ValueValidation)
+IsHostRefusal rows Memory = Unit {0}
+IsHostRefusal rows _ = ⊥
+
+-- why the words are refused: the first that is at fault of the command line, the transport and the exports
+abbrev pub Refuses : List Text → Exit → Type 0
+Refuses words (CommandLine e) = IsAmong (kind_of e) (fault_of nfsd words)
+    ⊎ ((fault_of nfsd words ≡ []) × (IsHost (host_of (matches_of nfsd words)) → ⊥) × (kind_of e ≡ ValueValidation))
+Refuses words NoTransport = IsTaken words × ReadsFlag (one_of (codes "stdio") (matches_of nfsd words)) false
+Refuses words (Exports e) =
+    IsTaken words × ReadsFlag (one_of (codes "stdio") (matches_of nfsd words)) true × AreRefused (matches_of nfsd words) e
+Refuses words Memory = Unit {0}
+Refuses words StandardStream = ⊥

@@ -1,0 +1,16 @@
+-- Replies whose results have a form.
+use Rattle.side_wire.specs.Mount.{HasMountForm}
+use Rattle.nfs_machine.specs.declared.calls.Reply.{Reply}
+use Rattle.nfs_machine.specs.declared.calls.Reply.TheVariants.{Nfs, Mount, Nlm}
+use Rattle.nfs_machine.specs.declared.calls.Refusal.{Refusal}
+use Rattle.nfs_machine.specs.declared.calls.Refusal.TheVariants as refusals
+
+-- each part of the reply is within its bound
+abbrev pub HasForm : Reply → Type 0
+HasForm (Nfs reply) = Unit {0}
+HasForm (Mount reply) = HasMountForm reply
+HasForm (Nlm reply) = Unit {0}
+
+abbrev pub RefusalHasForm : Refusal → Type 0
+RefusalHasForm (refusals.Reply reply) = HasForm reply
+RefusalHasForm refusals.SystemError = Unit {0}

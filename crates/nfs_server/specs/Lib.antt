@@ -1,0 +1,12 @@
+pub mod Asked
+pub mod Clocks
+pub mod CommandLine
+pub mod Executed
+pub mod Exits
+pub mod Forms
+pub mod Plain
+pub mod Roots
+pub mod Served
+pub mod Serving
+pub mod Slots
+pub mod Taken

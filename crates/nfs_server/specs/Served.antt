@@ -1,0 +1,88 @@
+-- What serving the records of a stream comes to.
+use Rattle.std.specs.Prelude.{◌≡◌, ℕ, List, [], ◌∷◌, ◌++◌, Option, Some, None, vec_items}
+use Rattle.std.specs.Io.KnownBytes.{Appends}
+use Rattle.std.specs.declared.vec.Vec.{Vec}
+use Rattle.std.specs.declared.alloc.Global.{Global}
+use Rattle.nfs_rpc.specs.Records.{IsStream, IsTooLarge}
+use Rattle.nfs_machine.specs.Run.{Setting, Arrival, Record, Run}
+use Rattle.nfs_machine.specs.State.{State}
+use Rattle.nfs_machine.specs.declared.moment.Moment.{Moment}
+use Rattle.nfs_server.specs.Plain.{PlainValue, StandsFor}
+use Rattle.nfs_server.specs.Serving.{AreFrom, Answers, Serves, Ticks}
+use Rattle.nfs_server.specs.declared.serve.StreamFault.{StreamFault}
+use Rattle.nfs_server.specs.declared.serve.StreamFault.TheVariants.{Read, Write, TooLarge, Memory}
+
+-- These records came from the host, one after the other and each at the clock's next moment. From this state, which the
+-- store stood for, the bytes are their answers, what was executed is a run, and the store stands for its end.
+pub record Answered {Clock : Type 0} (gives : Clock → Moment → Clock → Type 0) (host : List ℕ) (contents : List (List ℕ)) (clock later : Clock) (old new : PlainValue) (answers : List ℕ) (m : State) : Type 0 where
+  pub arrivals : List Arrival
+  pub records : List Record
+  pub after : State
+  pub came : AreFrom host contents arrivals
+  pub ticked : Ticks gives clock arrivals later
+  pub served : Serves old.setting m arrivals answers records after
+  pub run : Run old.setting m records after
+  pub stands : StandsFor new after
+
+-- so from every state that the store stood for; what the server was started with stays
+pub record AreAnswered {Clock : Type 0} (gives : Clock → Moment → Clock → Type 0) (host : List ℕ) (contents : List (List ℕ)) (clock later : Clock) (old new : PlainValue) (answers : List ℕ) : Type 0 where
+  pub setting : new.setting ≡ old.setting
+  pub each : (m : State) → StandsFor old m → Answered gives host contents clock later old new answers m
+
+-- the records were answered, and their answers were written
+pub record Goes {Clock : Type 0} (gives : Clock → Moment → Clock → Type 0) (host : List ℕ) (contents : List (List ℕ)) (clock later : Clock) (old new : PlainValue) (before after : Option (List ℕ)) : Type 0 where
+  pub answers : List ℕ
+  pub written : Appends before after answers
+  pub answered : AreAnswered gives host contents clock later old new answers
+
+-- How far serving came at a fault. Read and TooLarge: all records are answered, and all answers written. Write: the
+-- record in hand is answered, and its answer may be written in part. Memory: the record in hand is not answered.
+abbrev pub Reached : StreamFault → (others : List (List ℕ)) → (unsent : List ℕ) → Type 0
+Reached Read others unsent = (others ≡ []) × (unsent ≡ [])
+Reached TooLarge others unsent = (others ≡ []) × (unsent ≡ [])
+Reached Write others unsent = Unit {0}
+Reached Memory others unsent = unsent ≡ []
+
+-- the first of the records were answered, and a beginning of their answers was written
+pub record Stops {Clock : Type 0} (gives : Clock → Moment → Clock → Type 0) (host : List ℕ) (fault : StreamFault) (contents : List (List ℕ)) (clock : Clock) (old new : PlainValue) (before after : Option (List ℕ)) : Type 0 where
+  pub first : List (List ℕ)
+  pub others : List (List ℕ)
+  pub sent : List ℕ
+  pub unsent : List ℕ
+  pub later : Clock
+  pub whole : contents ≡ first ++ others
+  pub written : Appends before after sent
+  pub answered : AreAnswered gives host first clock later old new (sent ++ unsent)
+  pub reached : Reached fault others unsent
+
+-- all records of the input were served; bytes after the last whole record are left (RFC 5531, section 11)
+pub record ServesAll {Clock : Type 0} (gives : Clock → Moment → Clock → Type 0) (host input : List ℕ) (clock later : Clock) (old new : PlainValue) (before after : Option (List ℕ)) : Type 0 where
+  pub contents : List (List ℕ)
+  pub rest : List ℕ
+  pub split : IsStream input contents rest
+  pub goes : Goes gives host contents clock later old new before after
+
+-- a front of the input was taken in, and of its records the first were served
+pub record ServesFront {Clock : Type 0} (gives : Clock → Moment → Clock → Type 0) (host input : List ℕ) (fault : StreamFault) (clock : Clock) (old new : PlainValue) (before after : Option (List ℕ)) : Type 0 where
+  pub fed : List ℕ
+  pub ahead : List ℕ
+  pub contents : List (List ℕ)
+  pub rest : List ℕ
+  pub front : input ≡ fed ++ ahead
+  pub split : IsStream fed contents rest
+  pub stops : Stops gives host fault contents clock old new before after
+  pub too_large : fault ≡ TooLarge → IsTooLarge fed
+
+-- the record is answered so, from every state that the store stood for
+pub record IsAnswered (arrival : Arrival) (old new : PlainValue) (answer : List ℕ) : Type 0 where
+  pub setting : new.setting ≡ old.setting
+  pub each : (m : State) → StandsFor old m → (records : List Record) × (after : State) × Answers old.setting m arrival answer records after × StandsFor new after
+
+-- the bytes of an answer; nothing for what is dropped
+abbrev pub answer_bytes : Option (Vec ℕ Global) → List ℕ
+answer_bytes None = []
+answer_bytes (Some bytes) = bytes.items
+
+-- what was served is a run of the machine
+abbrev pub ServedIsRun : Type 0
+ServedIsRun = (setting : Setting) (old new : State) (arrivals : List Arrival) (written : List ℕ) (records : List Record) → Serves setting old arrivals written records new → Run setting old records new

@@ -1,0 +1,75 @@
+//! The bytes of answers, each one fragment.
+
+ghost use Rattle.std.specs.Prelude.{◌≡◌, ◌++◌, IfOk, OnOk};
+ghost use Rattle.nfs_server.specs.Forms.{HasForm, RefusalHasForm};
+ghost use Rattle.nfs_server.specs.Served.{answer_bytes};
+ghost use Rattle.nfs_server.specs.Serving.{early_bytes, failure, refusal_bytes, results_of, success};
+
+use nfs_machine::{Refusal, Reply};
+use nfs_rpc::{Answer, Early, Fault, finish_record, start_record, write_reply};
+use nfs_xdr::{Writer, XdrError};
+use side_wire::{mount, nlm};
+use std::alloc::{AllocError, Global};
+
+/// Room for most answers.
+const CAPACITY: usize = 256;
+
+/// A call that was carried out is answered by its results.
+pub(crate) fn success(alloc: Global, xid: u32, reply: &Reply) -> Result<Vec<u8>, AllocError>
+    requires { HasForm reply.now }
+    ensures { IfOk result (λ bytes. bytes.items ≡ success xid reply.now) }
+{
+    write_success(alloc, xid, reply).map_err(|_| AllocError)
+}
+
+fn write_success(alloc: Global, xid: u32, reply: &Reply) -> Result<Vec<u8>, XdrError>
+    requires { HasForm reply.now }
+    ensures { IfOk result (λ bytes. bytes.items ≡ success xid reply.now) }
+{
+    let mut writer = start_record(alloc, CAPACITY)?;
+    write_reply(&mut writer, xid, Answer::Success)?;
+    write_results(&mut writer, reply)?;
+    Ok(finish_record(writer))
+}
+
+/// A call that was not carried out is answered by its fault.
+pub(crate) fn failure(alloc: Global, xid: u32, fault: Fault) -> Result<Vec<u8>, AllocError>
+    ensures { IfOk result (λ bytes. bytes.items ≡ failure xid fault) }
+{
+    let mut writer = start_record(alloc, CAPACITY).map_err(|_| AllocError)?;
+    write_reply(&mut writer, xid, Answer::Failure(fault)).map_err(|_| AllocError)?;
+    Ok(finish_record(writer))
+}
+
+/// A record with a fault is answered by it, or dropped.
+pub(crate) fn early(alloc: Global, early: Early) -> Result<Option<Vec<u8>>, AllocError>
+    ensures { IfOk result (λ answer. answer_bytes answer ≡ early_bytes early) }
+{
+    match early {
+        Early::Drop => Ok(None),
+        Early::Answer { xid, fault } => Ok(Some(failure(alloc, xid, fault)?)),
+    }
+}
+
+/// A call that there was no memory for is answered by its refusal.
+pub(crate) fn refuse(alloc: Global, xid: u32, refusal: &Refusal) -> Result<Vec<u8>, AllocError>
+    requires { RefusalHasForm refusal.now }
+    ensures { IfOk result (λ bytes. bytes.items ≡ refusal_bytes xid refusal.now) }
+{
+    match refusal {
+        Refusal::Reply(reply) => success(alloc, xid, reply),
+        Refusal::SystemError => failure(alloc, xid, Fault::SystemError),
+    }
+}
+
+/// Writes the results of a reply at the end.
+fn write_results(writer: &mut Writer, reply: &Reply) -> Result<(), XdrError>
+    requires { HasForm reply.now }
+    ensures { OnOk result (writer.new ≡ writer.old ++ results_of reply.now) }
+{
+    match reply {
+        Reply::Nfs(reply) => nfs_wire::write_result(writer, reply),
+        Reply::Mount(reply) => mount::write_result(writer, reply),
+        Reply::Nlm(reply) => nlm::write_result(writer, reply),
+    }
+}

@@ -1,0 +1,80 @@
+//! What a record asks.
+
+ghost use Rattle.nfs_server.specs.Asked.{ReadsArguments, ReadsRecord};
+
+use nfs_machine::Call;
+use nfs_rpc::{Early, Fault, Ids, Program, Record, read_call};
+use nfs_xdr::SharedReader;
+use side_wire::{mount, nlm};
+
+/// A call that came in.
+#[derive(Drop)]
+pub(crate) struct Asked {
+    pub xid: u32,
+    pub ids: Ids,
+    pub call: Call,
+}
+
+/// Why a record asks nothing that can be executed.
+#[derive(Clone, Copy)]
+pub(crate) enum Unasked {
+    /// It has a fault.
+    Early(Early),
+    /// There is no memory to share its arguments' bytes.
+    Memory,
+}
+
+/// Why arguments were not read.
+#[derive(Clone, Copy)]
+enum Unread {
+    /// They are no arguments of the procedure.
+    Garbage,
+    /// There is no memory to share their bytes.
+    Memory,
+}
+
+/// Reads the call that a record is, or its first fault.
+pub(crate) fn read_record(message: &Record) -> Result<Asked, Unasked>
+    ensures { ReadsRecord message.now result }
+{
+    let header = match read_call(message) {
+        Ok(header) => header,
+        Err(early) => return Err(Unasked::Early(early)),
+    };
+    let (xid, ids) = (header.xid, header.ids);
+    match read_arguments(header.program, header.procedure, header.arguments) {
+        Ok(call) => Ok(Asked { xid, ids, call }),
+        Err(Unread::Garbage) => Err(Unasked::Early(Early::Answer {
+            xid,
+            fault: Fault::GarbageArguments,
+        })),
+        Err(Unread::Memory) => Err(Unasked::Memory),
+    }
+}
+
+/// Reads the arguments of a program's procedure.
+fn read_arguments(
+    program: Program,
+    procedure: u32,
+    arguments: SharedReader<'_>,
+) -> Result<Call, Unread>
+    ensures { ReadsArguments program procedure arguments.entry result }
+{
+    match program {
+        Program::Nfs => match nfs_wire::read_args(procedure, arguments) {
+            Ok(call) => Ok(Call::Nfs(call)),
+            Err(nfs_wire::ArgumentsError::Garbage) => Err(Unread::Garbage),
+            Err(nfs_wire::ArgumentsError::Memory) => Err(Unread::Memory),
+        },
+        Program::Mount => match mount::read_args(procedure, arguments) {
+            Ok(call) => Ok(Call::Mount(call)),
+            Err(side_wire::ArgumentsError::Garbage) => Err(Unread::Garbage),
+            Err(side_wire::ArgumentsError::Memory) => Err(Unread::Memory),
+        },
+        Program::Nlm => match nlm::read_args(procedure, arguments) {
+            Ok(call) => Ok(Call::Nlm(call)),
+            Err(side_wire::ArgumentsError::Garbage) => Err(Unread::Garbage),
+            Err(side_wire::ArgumentsError::Memory) => Err(Unread::Memory),
+        },
+    }
+}

@@ -1,0 +1,133 @@
+//! The clocks of the server: one that stands still, and the machine's.
+
+ghost use Rattle.std.specs.Prelude.{◌≡◌, ◌+◌, ◌*◌, ◌^◌, ◌<◌, ◌↔◌, IsSome, IfSome};
+ghost use Rattle.std.specs.Duration.{as_nanos};
+ghost use Rattle.nfs_server.specs.Clocks.{number_of};
+
+use nfs_machine::{Moment, Moments};
+use std::rt::Clock;
+use std::time::{Duration, SystemTime, UNIX_EPOCH};
+
+/// A clock that stands still: every moment is the beginning of one second.
+#[derive(Clone, Copy, Debug, PartialEq, Eq)]
+pub struct FixedClock {
+    /// Seconds since 1970.
+    pub seconds: u32,
+}
+
+impl Moments for FixedClock {
+    ghost use Rattle.nfs_server.specs.Clocks.{StandsStill};
+
+    ghost gives = { StandsStill };
+
+    fn moment(&mut self) -> Moment {
+        Moment {
+            seconds: self.seconds,
+            nanoseconds: 0,
+        }
+    }
+}
+
+/// The machine's clock. Where it can't be read, or its time is no moment, it gives the last moment again.
+#[derive(Drop)]
+pub struct MachineClock<C> {
+    clock: C,
+    /// The last moment given.
+    pub last: Moment,
+}
+
+impl<C> MachineClock<C> {
+    /// A clock that has given no moment yet: as its last one stands the first of 1970.
+    pub fn new(clock: C) -> MachineClock<C>
+        ensures { (result.last.seconds ≡ 0) × (result.last.nanoseconds ≡ 0) }
+    {
+        MachineClock {
+            clock,
+            last: Moment {
+                seconds: 0,
+                nanoseconds: 0,
+            },
+        }
+    }
+}
+
+impl<C: Clock> Moments for MachineClock<C> {
+    ghost use Rattle.nfs_server.specs.Clocks.{RemembersLast};
+
+    ghost gives = { RemembersLast };
+
+    fn moment(&mut self) -> Moment {
+        self.last = since_1970(&self.clock)
+            .and_then(moment_at)
+            .unwrap_or(self.last);
+        self.last
+    }
+}
+
+/// The server's clock: one that stands still, or the machine's.
+#[derive(Drop)]
+pub enum ServerClock<C> {
+    Fixed(FixedClock),
+    Machine(MachineClock<C>),
+}
+
+impl<C> ServerClock<C> {
+    ghost use Rattle.nfs_server.specs.Clocks.{IsClockOf};
+
+    /// A clock that stands still at this second, or where none is given the machine's clock.
+    pub fn new(clock: C, seconds: Option<u32>) -> ServerClock<C>
+    where
+        C: Drop,
+        ensures { IsClockOf seconds result }
+    {
+        match seconds {
+            Some(seconds) => ServerClock::Fixed(FixedClock { seconds }),
+            None => ServerClock::Machine(MachineClock::new(clock)),
+        }
+    }
+}
+
+impl<C: Clock> Moments for ServerClock<C> {
+    ghost use Rattle.nfs_server.specs.Clocks.{Gives};
+
+    ghost gives = { Gives };
+
+    fn moment(&mut self) -> Moment {
+        match self {
+            ServerClock::Fixed(clock) => clock.moment(),
+            ServerClock::Machine(clock) => clock.moment(),
+        }
+    }
+}
+
+/// A start number for handles: the nanoseconds of the machine's clock, 0 where they can't be read as a u64.
+pub fn start_number(clock: &impl Clock) -> u64 {
+    since_1970(clock).map_or(0, number_at)
+}
+
+fn since_1970(clock: &impl Clock) -> Option<Duration> {
+    let now = SystemTime::now(clock).ok()?;
+    now.duration_since(UNIX_EPOCH).ok()
+}
+
+// The moment that is so long after 1970 began; None where its seconds are no u32.
+fn moment_at(since_1970: Duration) -> Option<Moment>
+    ensures in_range { IsSome result ↔ (as_nanos since_1970 < 2 ^ 32 * 1_000_000_000) }
+    ensures value { IfSome result (λ moment.
+        moment.seconds * 1_000_000_000 + moment.nanoseconds ≡ as_nanos since_1970) }
+{
+    let seconds = u32::try_from(since_1970.as_secs()).ok()?;
+    Some(Moment {
+        seconds,
+        nanoseconds: since_1970.subsec_nanos(),
+    })
+}
+
+fn number_at(since_1970: Duration) -> u64
+    ensures { result ≡ number_of (as_nanos since_1970) }
+{
+    u64::try_from(since_1970.as_nanos()).unwrap_or(0)
+}
+
+#[cfg(test)]
+mod tests;

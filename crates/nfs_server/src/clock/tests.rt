@@ -1,0 +1,91 @@
+use super::{FixedClock, MachineClock, ServerClock, start_number};
+use nfs_machine::Moments;
+use std::cell::Cell;
+use std::io;
+use std::rt::Clock;
+use std::time::Duration;
+
+// A clock that gives the time that was set, or none.
+#[derive(Drop)]
+struct SetClock {
+    time: Cell<Option<Duration>>,
+}
+
+impl Clock for SetClock {
+    fn monotonic(&self) -> io::Result<Duration> {
+        Ok(Duration::ZERO)
+    }
+
+    fn since_1970(&self) -> io::Result<Duration> {
+        match self.time.get() {
+            Some(time) => Ok(time),
+            None => Err(io::Error::from(io::ErrorKind::Other)),
+        }
+    }
+}
+
+fn set(time: Option<Duration>) -> SetClock {
+    SetClock {
+        time: Cell::new(time),
+    }
+}
+
+#[test]
+fn a_fixed_clock_stands_still(rt: HostRuntime) {
+    let mut clock = FixedClock { seconds: 1000 };
+    for _ in 0..2 {
+        let moment = clock.moment();
+        assert_eq!(rt; (moment.seconds, moment.nanoseconds), (1000, 0));
+    }
+}
+
+#[test]
+fn the_machine_s_clock_falls_back_on_the_last_moment(rt: HostRuntime) {
+    let times = set(None);
+    let mut clock = MachineClock::new(&times);
+    let given = [
+        (None, (0, 0)),
+        (Some(Duration::new(1000, 5)), (1000, 5)),
+        (None, (1000, 5)),
+        (
+            Some(Duration::new(4_294_967_295, 999_999_999)),
+            (4_294_967_295, 999_999_999),
+        ),
+        (Some(Duration::from_secs(7)), (7, 0)),
+        (Some(Duration::from_secs(4_294_967_296)), (7, 0)),
+        (Some(Duration::from_secs(u64::MAX)), (7, 0)),
+    ];
+    for (time, (seconds, nanoseconds)) in given {
+        times.time.set(time);
+        let moment = clock.moment();
+        assert_eq!(rt;
+            (moment.seconds, moment.nanoseconds),
+            (seconds, nanoseconds),
+            "at {time:?}"
+        );
+    }
+}
+
+#[test]
+fn the_server_s_clock_is_one_of_the_two(rt: HostRuntime) {
+    let times = set(Some(Duration::new(5, 6)));
+    let mut fixed = ServerClock::new(&times, Some(1000));
+    let moment = fixed.moment();
+    assert_eq!(rt; (moment.seconds, moment.nanoseconds), (1000, 0));
+    let mut machine = ServerClock::new(&times, None);
+    let moment = machine.moment();
+    assert_eq!(rt; (moment.seconds, moment.nanoseconds), (5, 6));
+}
+
+#[test]
+fn a_start_number_is_nanoseconds(rt: HostRuntime) {
+    let numbers = [
+        (None, 0),
+        (Some(Duration::new(5, 6)), 5_000_000_006),
+        (Some(Duration::from_nanos(u64::MAX)), u64::MAX),
+        (Some(Duration::new(18_446_744_073, 709_551_616)), 0),
+    ];
+    for (time, number) in numbers {
+        assert_eq!(rt; start_number(&set(time)), number, "at {time:?}");
+    }
+}

@@ -1,0 +1,255 @@
+//! The command line: which options there are, and what they ask for.
+
+ghost use Rattle.std.specs.Prelude.{◌≡◌, ◌==◌, [], false, IfErr, IfOk, MatchResult, map, slice_get, unwrap_or};
+ghost use Rattle.std.specs.List.{slice_split};
+ghost use Rattle.clap.specs.Words.{app_of, found_of, rows_of, rule_of};
+ghost use Rattle.nfs_server.specs.CommandLine.{Configures, IsHost, IsHostRefusal, IsParsedFrom, IsReadingFault, IsRefusal, IsValueRefusal, Reads, Refuses, export_parts, flag_rule, host_of, nfsd, number_rule, option_rule, parts_of};
+
+use crate::exit::Exit;
+use crate::options::Options;
+use bytes::Bytes;
+use clap::builder::ValueParser;
+use clap::error::ErrorKind;
+use clap::{Arg, ArgAction, ArgMatches, Command, value_parser};
+use nfs_machine::{ExportText, Exports};
+use std::alloc::{AllocError, Global};
+use std::convert::AsStr;
+use std::rt::Env;
+use std::{env, io};
+
+/// The peer's host where the command line names none.
+const DEFAULT_HOST: &str = "127.0.0.1";
+
+/// The total that FSSTAT tells where the command line says none, in bytes.
+const DEFAULT_BYTES: u64 = 1_099_511_627_776;
+
+/// The greatest length of a host, in bytes.
+const MAX_HOST: usize = 255;
+
+/// What is said of a host of another length.
+const BAD_HOST: &str = "the value of '--host <TEXT>' must have 1 to 255 bytes";
+
+/// What is said of words that are no text.
+const BAD_TEXT: &str = "invalid UTF-8 was detected in one or more arguments";
+
+// `--NAME`
+fn flag<'a>(alloc: Global, name: &'a str, help: &'a str) -> Arg<'a>
+    ensures rule { rule_of result ≡ flag_rule name.entry.now }
+    ensures local { result.global ≡ false }
+{
+    Arg::new(alloc, name)
+        .long(name)
+        .action(ArgAction::SetTrue)
+        .help(help)
+}
+
+// `--NAME VALUE`
+fn option<'a>(alloc: Global, name: &'a str, value: &'a str, help: &'a str) -> Arg<'a>
+    ensures rule { rule_of result ≡ option_rule name.entry.now }
+    ensures local { result.global ≡ false }
+{
+    Arg::new(alloc, name)
+        .long(name)
+        .value_name(value)
+        .help(help)
+}
+
+// `--NAME VALUE`, where the parser takes the value
+fn number<'a>(
+    alloc: Global,
+    name: &'a str,
+    value: &'a str,
+    parser: ValueParser<'a>,
+    help: &'a str,
+) -> Arg<'a>
+    ensures rule { rule_of result ≡ number_rule name.entry.now parser.entry }
+    ensures local { result.global ≡ false }
+{
+    option(alloc, name, value, help).value_parser(parser)
+}
+
+// The program's options.
+fn command<'a>(alloc: Global) -> Result<Command<'a>, AllocError>
+    ensures { IfOk result (λ command. app_of command ≡ nfsd) }
+{
+    let stdio = flag(
+        alloc,
+        "stdio",
+        "Serve records from standard input to standard output",
+    );
+    let export = option(
+        alloc,
+        "export",
+        "PATH,MODE,HOST[,HOST..]",
+        "Export PATH, for writing too (rw) or not (ro), to these hosts, or to all (*)",
+    );
+    let start = number(
+        alloc,
+        "start",
+        "N",
+        value_parser!(u64),
+        "The start number in handles [default: the machine's time in nanoseconds]",
+    );
+    let clock = number(
+        alloc,
+        "clock",
+        "S",
+        value_parser!(u32),
+        "Make every moment second S since 1970 [default: the machine's clock]",
+    );
+    let host = option(
+        alloc,
+        "host",
+        "TEXT",
+        "The peer's host, 1 to 255 bytes [default: 127.0.0.1]",
+    );
+    let bytes = number(
+        alloc,
+        "bytes",
+        "N",
+        value_parser!(u64),
+        "The total that FSSTAT tells, in bytes [default: 1099511627776]",
+    );
+    Command::new(alloc, "nfsd")
+        .about("Serve files by NFS version 3")
+        .arg(stdio)?
+        .arg(export.required(true))?
+        .arg(start)?
+        .arg(clock)?
+        .arg(host)?
+        .arg(bytes)
+}
+
+/// The words of the program's command line, of which the first is its name.
+///
+/// # Errors
+///
+/// `CommandLine` where the words can't be read as text, `Memory`.
+pub fn arguments<R: Env + AllocGlobal>(rt: &R) -> Result<Vec<String>, Exit>
+    ensures { IfErr result IsReadingFault }
+{
+    match env::args(rt) {
+        Ok(words) => Ok(words.collect(rt.alloc())?),
+        Err(error) => match error.kind() {
+            io::ErrorKind::OutOfMemory => Err(Exit::Memory),
+            _ => Err(refusal(&mut command(rt.alloc())?, BAD_TEXT)?),
+        },
+    }
+}
+
+// The exit where a value is refused, with this message.
+fn refusal(command: &mut Command<'_>, message: &str) -> Result<Exit, AllocError>
+    ensures { IfOk result IsValueRefusal }
+{
+    Ok(Exit::CommandLine(command.error(ErrorKind::ValueValidation, message)?))
+}
+
+/// What a command line asks for, of which the first word is the program's name.
+///
+/// # Errors
+///
+/// Faults are looked for in this order: `CommandLine` where the words are none that the program takes, ask for its
+/// help, or give a host of no byte or of more than 255; `NoTransport`; `Exports` where these are refused. `Memory`
+/// where memory was refused.
+pub fn configure<S: AsStr>(alloc: Global, words: &[S]) -> Result<Options, Exit>
+    ensures { MatchResult result (Configures (map S.text words.now)) (Refuses (map S.text words.now)) }
+{
+    let mut command = command(alloc)?;
+    let matches = parse(&mut command, words)?;
+    let host = host(&mut command, &matches)?;
+    if !matches.get_flag("stdio") {
+        return Err(Exit::NoTransport);
+    }
+    read_options(alloc, &matches, host)
+}
+
+fn parse<'a, S: AsStr>(command: &mut Command<'a>, words: &'a [S]) -> Result<ArgMatches<'a>, Exit>
+    requires { app_of command.old ≡ nfsd }
+    ensures { MatchResult result (IsParsedFrom (map S.text words.entry.now))
+        (Refuses (map S.text words.entry.now)) }
+{
+    Ok(command.try_get_matches_from_mut(words)?)
+}
+
+// The host that the options name, or the default.
+fn host<'a>(command: &mut Command<'a>, matches: &ArgMatches<'a>) -> Result<&'a str, Exit>
+    ensures { MatchResult result (λ host. (host.now ≡ host_of (rows_of (found_of matches.now))) × IsHost host.now)
+        (IsHostRefusal (rows_of (found_of matches.now))) }
+{
+    let host = matches.get_str("host").unwrap_or(DEFAULT_HOST);
+    if host.is_empty() || host.len() > MAX_HOST {
+        return Err(refusal(command, BAD_HOST)?);
+    }
+    Ok(host)
+}
+
+// The options of a command line that is taken.
+fn read_options(alloc: Global, matches: &ArgMatches<'_>, host: &str) -> Result<Options, Exit>
+    requires host_has_length { IsHost host.now }
+    requires host_is { host.now ≡ host_of (rows_of (found_of matches.now)) }
+    ensures { MatchResult result (Reads (rows_of (found_of matches.now)))
+        (IsRefusal (rows_of (found_of matches.now))) }
+{
+    let list = export_texts(alloc, matches.get_strs("export").unwrap_or(&[]))?;
+    Ok(Options {
+        exports: Exports::new(alloc, list)?,
+        start: matches.get_one("start"),
+        clock: matches.get_one("clock"),
+        host: Bytes::copy_from_slice(alloc, host.as_bytes())?,
+        bytes: matches.get_one("bytes").unwrap_or(DEFAULT_BYTES),
+    })
+}
+
+fn export_texts(alloc: Global, texts: &[&str]) -> Result<Vec<ExportText>, AllocError>
+    ensures { IfOk result (λ list.
+        map parts_of list.items ≡ map (λ text. export_parts text.now) texts.now) }
+{
+    let mut list = Vec::with_capacity(alloc, texts.len())?;
+    for text in texts {
+        list.push(export_text(alloc, text)?)?;
+    }
+    Ok(list)
+}
+
+// The export that PATH,MODE,HOST[,HOST..] spells. A part that is missing is empty.
+fn export_text(alloc: Global, text: &str) -> Result<ExportText, AllocError>
+    ensures { IfOk result (λ export. parts_of export ≡ export_parts text.now) }
+{
+    let fields = fields(alloc, text)?;
+    Ok(ExportText {
+        path: Bytes::copy_from_slice(alloc, field(&fields, 0).as_bytes())?,
+        mode: Bytes::copy_from_slice(alloc, field(&fields, 1).as_bytes())?,
+        hosts: hosts(alloc, fields.get(2..).unwrap_or(&[]))?,
+    })
+}
+
+// What stands between the commas.
+fn fields<'a>(alloc: Global, text: &'a str) -> Result<Vec<&'a str>, AllocError>
+    ensures { IfOk result (λ fields. map (λ field. field.now) fields.items
+        ≡ slice_split (λ b. b == 44) text.entry.now) }
+{
+    text.split(',').collect(alloc)
+}
+
+// The field at this place, from 0; a missing one is empty.
+fn field<'a>(fields: &[&'a str], place: usize) -> &'a str
+    ensures { result.now ≡ unwrap_or (slice_get (map (λ field. field.now) fields.now) place) [] }
+{
+    match fields.get(place) {
+        Some(field) => field,
+        None => "",
+    }
+}
+
+fn hosts(alloc: Global, texts: &[&str]) -> Result<Vec<Bytes>, AllocError>
+    ensures { IfOk result (λ hosts. hosts.items ≡ map (λ text. text.now) texts.now) }
+{
+    let mut hosts = Vec::with_capacity(alloc, texts.len())?;
+    for text in texts {
+        hosts.push(Bytes::copy_from_slice(alloc, text.as_bytes())?)?;
+    }
+    Ok(hosts)
+}
+
+#[cfg(test)]
+mod tests;

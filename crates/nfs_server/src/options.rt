@@ -1,0 +1,22 @@
+//! What the program is asked to serve.
+
+ghost use Rattle.std.specs.Prelude.{◌≤◌, length};
+
+use bytes::Bytes;
+use nfs_machine::Exports;
+
+/// What the command line asks for.
+#[derive(Drop)]
+pub struct Options {
+    /// What is exported, in the order given.
+    pub exports: Exports,
+    /// The start number in handles; None where it is to be the machine's time.
+    pub start: Option<u64>,
+    /// The second of every moment; None where the machine's clock gives the moments.
+    pub clock: Option<u32>,
+    /// The peer's host.
+    pub host: Bytes,
+    /// The total that FSSTAT tells, in bytes.
+    pub bytes: u64,
+    pub ghost host_has_length: { (1 ≤ length host) × (length host ≤ 255) },
+}
