@@ -188,15 +188,28 @@ fn a_name_below_a_root_is_no_entry(rt: HostRuntime) -> Result<(), Fail> {
 }
 
 #[test]
-fn the_longest_export_that_admits_the_host_is_taken(rt: HostRuntime) -> Result<(), Fail> {
+fn the_longest_export_is_taken(rt: HostRuntime) -> Result<(), Fail> {
     let alloc = rt.alloc();
-    let other = ctx(two_exports(alloc)?, b"10.0.0.1")?;
-    let admitted = ctx(two_exports(alloc)?, b"10.0.0.2")?;
-    let parts = done(mnt(alloc, b"/a/b", &admitted, &view(alloc, 2, None)?)?).ok_or("done")?;
+    let ctx = ctx(two_exports(alloc)?, b"10.0.0.2")?;
+    let parts = done(mnt(alloc, b"/a/b", &ctx, &view(alloc, 2, None)?)?).ok_or("done")?;
     assert_eq!(rt; parts.reply, handle(&SECOND_ROOT));
-    let parts = done(mnt(alloc, b"/a/b", &other, &view(alloc, 1, None)?)?).ok_or("done")?;
+    Ok(())
+}
+
+#[test]
+fn an_export_that_does_not_admit_the_host_is_passed_over(rt: HostRuntime) -> Result<(), Fail> {
+    let alloc = rt.alloc();
+    let ctx = ctx(two_exports(alloc)?, b"10.0.0.1")?;
+    let parts = done(mnt(alloc, b"/a/b", &ctx, &view(alloc, 1, None)?)?).ok_or("done")?;
     assert_eq!(rt; parts.reply, refusal(MountStatus::NoEntry));
-    let parts = done(mnt(alloc, b"//a/", &other, &view(alloc, 1, None)?)?).ok_or("done")?;
+    Ok(())
+}
+
+#[test]
+fn a_mount_is_listed_as_it_was_sent(rt: HostRuntime) -> Result<(), Fail> {
+    let alloc = rt.alloc();
+    let ctx = ctx(two_exports(alloc)?, b"10.0.0.1")?;
+    let parts = done(mnt(alloc, b"//a/", &ctx, &view(alloc, 1, None)?)?).ok_or("done")?;
     assert_eq!(rt; parts.reply, handle(&FIRST_ROOT));
     let mounts = stored(&parts).ok_or("a table is stored")?;
     assert_eq!(rt; mounts.len(), 1);
