@@ -26,3 +26,6 @@ pub use options::Options;
 pub use plain::Plain;
 pub use serve::{Served, StreamFault, serve_plain, served_is_a_run};
 pub use stdio::serve_stdio;
+
+#[cfg(test)]
+mod tests;

@@ -1,0 +1,127 @@
+//! Whole streams through a server of `/data` for every host, started with number 7 at (1000, 0), where every moment is
+//! (1000, 0). Calls and replies are worked out by hand from RFC 5531, sections 9 and 11, and RFC 1813.
+
+ghost use Rattle.std.specs.Prelude.{◌≤◌, length};
+
+mod answered;
+mod faults;
+mod memory;
+mod streams;
+
+use crate::*;
+use bytes::Bytes;
+use nfs_machine::{ExportText, Exports, Limits, Moment};
+use nfs_rpc::stream::Counted;
+use std::alloc::{AllocError, Global};
+use std::io::{Read, Write};
+use std::process::Abort;
+use std::test::Fail;
+
+/// NULL of NFS without a credential (RFC 1813, 3.3.0).
+const NULL: [u32; 11] = [0x80000028, 1, 0, 2, 100003, 3, 0, 0, 0, 0, 0];
+
+const NULL_REPLY: [u32; 7] = [0x80000018, 1, 1, 0, 0, 0, 0];
+
+/// NULL with xid 5, to be told from the first.
+const OTHER_NULL: [u32; 11] = [0x80000028, 5, 0, 2, 100003, 3, 0, 0, 0, 0, 0];
+
+const OTHER_NULL_REPLY: [u32; 7] = [0x80000018, 5, 1, 0, 0, 0, 0];
+
+/// GETATTR of the root: mark, export 1, start 7, fileid 1, generation 1.
+const GETATTR: [u32; 20] = [
+    0x8000004c, 3, 0, 2, 100003, 3, 1, 0, 0, 0, 0, 32, 0x4e464433, 1, 0, 7, 0, 1, 0, 1,
+];
+
+/// OK: a directory of mode 0777, with 2 links, of 4096 bytes, on file system 1, made at (1000, 0).
+const GETATTR_REPLY: [u32; 29] = [
+    0x80000070, 3, 1, 0, 0, 0, 0, 0, 2, 0x1ff, 2, 0, 0, 0, 0x1000, 0, 0x1000, 0, 0, 0, 1, 0, 1,
+    1000, 0, 1000, 0, 1000, 0,
+];
+
+/// MNT of `/data`.
+const MNT: [u32; 14] = [
+    0x80000034, 2, 0, 2, 100005, 3, 1, 0, 0, 0, 0, 5, 0x2f646174, 0x61000000,
+];
+
+/// OK: the root's handle, and AUTH_SYS as the one flavor.
+const MNT_REPLY: [u32; 19] = [
+    0x80000048, 2, 1, 0, 0, 0, 0, 0, 32, 0x4e464433, 1, 0, 7, 0, 1, 0, 1, 1, 1,
+];
+
+/// Words as bytes.
+fn spelled(alloc: Global, words: &[u32]) -> Result<Vec<u8>, AllocError> {
+    let mut bytes = Vec::new(alloc);
+    for word in words {
+        bytes.extend_from_slice(&word.to_be_bytes())?;
+    }
+    Ok(bytes)
+}
+
+/// The first words, and the others behind them, as bytes.
+fn both(alloc: Global, first: &[u32], others: &[u32]) -> Result<Vec<u8>, AllocError> {
+    let mut bytes = spelled(alloc, first)?;
+    bytes.extend_from_slice(&spelled(alloc, others)?)?;
+    Ok(bytes)
+}
+
+fn host() -> Bytes
+    ensures { (1 ≤ length result) × (length result ≤ 255) }
+{
+    Bytes::from_static(b"10.0.0.1")
+}
+
+/// `/data` for every host.
+fn exports(alloc: Global) -> Result<Exports, AllocError> {
+    let mut hosts = Vec::new(alloc);
+    hosts.push(Bytes::from_static(b"*"))?;
+    let mut list = Vec::new(alloc);
+    list.push(ExportText {
+        path: Bytes::from_static(b"/data"),
+        mode: Bytes::from_static(b"rw"),
+        hosts,
+    })?;
+    Exports::new(alloc, list).map_err(|_| AllocError)
+}
+
+/// The opening state.
+fn opened(alloc: Global) -> Result<Plain, AllocError> {
+    let limits = Limits {
+        total_bytes: 1 << 40,
+    };
+    let moment = Moment {
+        seconds: 1000,
+        nanoseconds: 0,
+    };
+    Plain::new(alloc, 7, exports(alloc)?, limits, moment)
+}
+
+/// Serves a stream from this store on.
+fn serve<R: Read, W: Write>(
+    alloc: Global,
+    plain: &mut Plain,
+    reader: &mut Counted<R>,
+    writer: &mut Counted<W>,
+) -> Result<Served, StreamFault> {
+    let mut clock = FixedClock { seconds: 1000 };
+    serve_plain(alloc, plain, &host(), &mut clock, reader, writer)
+}
+
+/// What a new server writes for this input, and how serving it ends.
+fn answers(
+    alloc: Global,
+    input: &[u8],
+) -> Result<(Vec<u8>, Result<Served, StreamFault>), AllocError> {
+    let mut plain = opened(alloc)?;
+    let mut writer = Counted::new(Vec::new(alloc));
+    let end = serve(alloc, &mut plain, &mut Counted::new(input), &mut writer);
+    Ok((writer.into_inner(), end))
+}
+
+/// A new server answers these words by those, to the end of its input.
+fn answers_by(rt: &(impl Abort + AllocGlobal), input: &[u32], wanted: &[u32]) -> Result<(), Fail> {
+    let alloc = rt.alloc();
+    let (written, end) = answers(alloc, &spelled(alloc, input)?)?;
+    assert_eq!(rt; written.as_slice(), spelled(alloc, wanted)?.as_slice());
+    assert_eq!(rt; end, Ok(Served));
+    Ok(())
+}

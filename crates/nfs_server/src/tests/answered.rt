@@ -1,0 +1,148 @@
+//! Records and their answers.
+
+use super::*;
+
+#[test]
+fn null(rt: HostRuntime) -> Result<(), Fail> {
+    answers_by(&rt, &NULL, &NULL_REPLY)
+}
+
+#[test]
+fn null_in_three_fragments(rt: HostRuntime) -> Result<(), Fail> {
+    let alloc = rt.alloc();
+    let call = spelled(alloc, &NULL[1..])?;
+    let (first, others) = call.split_at(call.len().min(1));
+    let mut input = spelled(alloc, &[0x00000001])?;
+    input.extend_from_slice(first)?;
+    input.extend_from_slice(&spelled(alloc, &[0, 0x80000027])?)?;
+    input.extend_from_slice(others)?;
+    let (written, _) = answers(alloc, &input)?;
+    assert_eq!(rt; written.as_slice(), spelled(alloc, &NULL_REPLY)?.as_slice());
+    Ok(())
+}
+
+#[test]
+fn attributes_of_the_root(rt: HostRuntime) -> Result<(), Fail> {
+    answers_by(&rt, &GETATTR, &GETATTR_REPLY)
+}
+
+#[test]
+fn an_unknown_program(rt: HostRuntime) -> Result<(), Fail> {
+    let call = [0x80000028, 4, 0, 2, 100000, 3, 0, 0, 0, 0, 0];
+    answers_by(&rt, &call, &[0x80000018, 4, 1, 0, 0, 0, 1])
+}
+
+#[test]
+fn version_2_of_nfs(rt: HostRuntime) -> Result<(), Fail> {
+    let call = [0x80000028, 4, 0, 2, 100003, 2, 0, 0, 0, 0, 0];
+    answers_by(&rt, &call, &[0x80000020, 4, 1, 0, 0, 0, 2, 3, 3])
+}
+
+#[test]
+fn version_3_of_nlm(rt: HostRuntime) -> Result<(), Fail> {
+    let call = [0x80000028, 4, 0, 2, 100021, 3, 0, 0, 0, 0, 0];
+    answers_by(&rt, &call, &[0x80000020, 4, 1, 0, 0, 0, 2, 4, 4])
+}
+
+#[test]
+fn version_3_of_rpc(rt: HostRuntime) -> Result<(), Fail> {
+    let call = [0x80000028, 4, 0, 3, 100003, 3, 0, 0, 0, 0, 0];
+    answers_by(&rt, &call, &[0x80000018, 4, 1, 1, 0, 2, 2])
+}
+
+#[test]
+fn a_credential_of_another_flavor(rt: HostRuntime) -> Result<(), Fail> {
+    let call = [0x80000028, 4, 0, 2, 100003, 3, 0, 6, 0, 0, 0];
+    answers_by(&rt, &call, &[0x80000014, 4, 1, 1, 1, 1])
+}
+
+#[test]
+fn another_flavor_comes_before_another_program(rt: HostRuntime) -> Result<(), Fail> {
+    let call = [0x80000028, 4, 0, 2, 100000, 9, 0, 6, 0, 0, 0];
+    answers_by(&rt, &call, &[0x80000014, 4, 1, 1, 1, 1])
+}
+
+#[test]
+fn a_mount(rt: HostRuntime) -> Result<(), Fail> {
+    answers_by(&rt, &MNT, &MNT_REPLY)
+}
+
+#[test]
+fn a_mount_with_a_new_xid(rt: HostRuntime) -> Result<(), Fail> {
+    let alloc = rt.alloc();
+    let mut again = MNT;
+    again[1] = 6;
+    let mut reply = MNT_REPLY;
+    reply[1] = 6;
+    let (written, _) = answers(alloc, &both(alloc, &MNT, &again)?)?;
+    assert_eq!(rt;
+        written.as_slice(),
+        both(alloc, &MNT_REPLY, &reply)?.as_slice()
+    );
+    Ok(())
+}
+
+#[test]
+fn a_mount_below_the_root(rt: HostRuntime) -> Result<(), Fail> {
+    let call = [
+        0x80000034, 2, 0, 2, 100005, 3, 1, 0, 0, 0, 0, 7, 0x2f646174, 0x612f7800,
+    ];
+    answers_by(&rt, &call, &[0x8000001c, 2, 1, 0, 0, 0, 0, 2])
+}
+
+#[test]
+fn a_mount_of_another_path(rt: HostRuntime) -> Result<(), Fail> {
+    let call = [
+        0x80000034, 2, 0, 2, 100005, 3, 1, 0, 0, 0, 0, 6, 0x2f6f7468, 0x65720000,
+    ];
+    answers_by(&rt, &call, &[0x8000001c, 2, 1, 0, 0, 0, 0, 13])
+}
+
+#[test]
+fn a_handle_of_65_bytes(rt: HostRuntime) -> Result<(), Fail> {
+    let call = [
+        0x80000070, 3, 0, 2, 100003, 3, 1, 0, 0, 0, 0, 65, 0x4e464433, 1, 0, 7, 0, 1, 0, 1, 0, 0,
+        0, 0, 0, 0, 0, 0, 0,
+    ];
+    answers_by(&rt, &call, &[0x80000018, 3, 1, 0, 0, 0, 4])
+}
+
+#[test]
+fn a_reply_is_dropped(rt: HostRuntime) -> Result<(), Fail> {
+    let alloc = rt.alloc();
+    let (written, _) = answers(alloc, &both(alloc, &NULL_REPLY, &NULL)?)?;
+    assert_eq!(rt; written.as_slice(), spelled(alloc, &NULL_REPLY)?.as_slice());
+    Ok(())
+}
+
+#[test]
+fn two_records_in_one_piece(rt: HostRuntime) -> Result<(), Fail> {
+    let alloc = rt.alloc();
+    let (written, _) = answers(alloc, &both(alloc, &NULL, &OTHER_NULL)?)?;
+    assert_eq!(rt;
+        written.as_slice(),
+        both(alloc, &NULL_REPLY, &OTHER_NULL_REPLY)?.as_slice()
+    );
+    Ok(())
+}
+
+#[test]
+fn a_record_that_is_cut(rt: HostRuntime) -> Result<(), Fail> {
+    let alloc = rt.alloc();
+    let call = spelled(alloc, &NULL)?;
+    let (written, end) = answers(alloc, &call[..call.len().min(43)])?;
+    assert!(rt; written.is_empty());
+    assert_eq!(rt; end, Ok(Served));
+    Ok(())
+}
+
+#[test]
+fn a_record_of_73728_bytes(rt: HostRuntime) -> Result<(), Fail> {
+    let alloc = rt.alloc();
+    let mut input = both(alloc, &[0x80012000], &NULL[1..])?;
+    input.extend_from_slice(&vec![in alloc; 7; 73_688]?)?;
+    let (written, end) = answers(alloc, &input)?;
+    assert_eq!(rt; written.as_slice(), spelled(alloc, &NULL_REPLY)?.as_slice());
+    assert_eq!(rt; end, Ok(Served));
+    Ok(())
+}

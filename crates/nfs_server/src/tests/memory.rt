@@ -1,0 +1,79 @@
+//! Want of memory. Whichever one allocation is refused, these tests pass: run them with each refused in turn. A call is
+//! then answered by its refusal, or ends the stream, and sent again it is answered as if nothing had happened.
+
+use super::*;
+
+/// The bytes of these words, from a second try where the first is refused.
+fn spelled_at_last(alloc: Global, words: &[u32]) -> Result<Vec<u8>, AllocError> {
+    match spelled(alloc, words) {
+        Ok(bytes) => Ok(bytes),
+        Err(_) => spelled(alloc, words),
+    }
+}
+
+/// The opening state, from a second try where the first is refused.
+fn opened_at_last(alloc: Global) -> Result<Plain, AllocError> {
+    match opened(alloc) {
+        Ok(plain) => Ok(plain),
+        Err(_) => opened(alloc),
+    }
+}
+
+/// What is written for this input from this store on, and how serving ends; room for the answers is there before.
+fn served(
+    alloc: Global,
+    plain: &mut Plain,
+    input: &[u8],
+) -> Result<(Vec<u8>, Result<Served, StreamFault>), AllocError> {
+    let room = match Vec::with_capacity(alloc, 256) {
+        Ok(room) => room,
+        Err(_) => Vec::with_capacity(alloc, 256)?,
+    };
+    let mut writer = Counted::new(room);
+    let end = serve(alloc, plain, &mut Counted::new(input), &mut writer);
+    Ok((writer.into_inner(), end))
+}
+
+/// The call is answered by its reply; or by its refusal, or not at all for want of memory, and then by its reply.
+fn answers_at_last(
+    rt: &(impl Abort + AllocGlobal),
+    call: &[u32],
+    reply: &[u32],
+    refusal: &[u32],
+) -> Result<(), Fail> {
+    let alloc = rt.alloc();
+    let mut plain = opened_at_last(alloc)?;
+    let call = spelled_at_last(alloc, call)?;
+    let reply = spelled_at_last(alloc, reply)?;
+    let refusal = spelled_at_last(alloc, refusal)?;
+    let (written, end) = served(alloc, &mut plain, &call)?;
+    let refused = end == Ok(Served) && written == refusal;
+    let stopped = end == Err(StreamFault::Memory) && written.is_empty();
+    if !refused && !stopped {
+        assert_eq!(rt; written.as_slice(), reply.as_slice());
+    }
+    let (written, end) = served(alloc, &mut plain, &call)?;
+    assert_eq!(rt; written.as_slice(), reply.as_slice());
+    assert_eq!(rt; end, Ok(Served));
+    Ok(())
+}
+
+/// SYSTEM_ERR (RFC 5531, section 9).
+#[test]
+fn null_is_refused(rt: HostRuntime) -> Result<(), Fail> {
+    answers_at_last(&rt, &NULL, &NULL_REPLY, &[0x80000018, 1, 1, 0, 0, 0, 5])
+}
+
+/// NFS3ERR_JUKEBOX (RFC 1813, section 2.6).
+#[test]
+fn getattr_is_refused(rt: HostRuntime) -> Result<(), Fail> {
+    let refusal = [0x8000001c, 3, 1, 0, 0, 0, 0, 10008];
+    answers_at_last(&rt, &GETATTR, &GETATTR_REPLY, &refusal)
+}
+
+/// MNT3ERR_SERVERFAULT (RFC 1813, appendix I, section 5.1.5).
+#[test]
+fn mnt_is_refused(rt: HostRuntime) -> Result<(), Fail> {
+    let refusal = [0x8000001c, 2, 1, 0, 0, 0, 0, 10006];
+    answers_at_last(&rt, &MNT, &MNT_REPLY, &refusal)
+}

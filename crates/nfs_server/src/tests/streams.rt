@@ -1,0 +1,87 @@
+//! Readers and writers that do not go on as the simplest do.
+
+use std::alloc::Global;
+use std::io::{Error, ErrorKind, Read, Result, Write};
+
+/// A reader that fails after some calls.
+#[derive(Drop)]
+pub struct Failing<R> {
+    pub reader: R,
+    /// How many calls come before the one that fails.
+    pub good: u64,
+}
+
+impl<R: Read> Read for Failing<R> {
+    fn read(&mut self, buffer: &mut [u8]) -> Result<usize> {
+        if self.good == 0 {
+            return Err(Error::from(ErrorKind::Other));
+        }
+        self.good -= 1;
+        self.reader.read(buffer)
+    }
+}
+
+/// What a writer does in the place of a write.
+#[derive(Clone, Copy)]
+pub enum Trouble {
+    Fails,
+    TakesNothing,
+}
+
+/// A writer that takes some bytes at a call, and has trouble after some calls.
+#[derive(Drop)]
+pub struct Choppy {
+    pub written: Vec<u8>,
+    /// How many bytes a call takes at most.
+    pub most: usize,
+    /// How many calls come before the trouble.
+    pub good: u64,
+    pub trouble: Trouble,
+}
+
+impl Choppy {
+    /// A writer that takes all bytes of each of its first calls.
+    pub fn failing_after(alloc: Global, good: u64, trouble: Trouble) -> Choppy {
+        Choppy {
+            written: Vec::new(alloc),
+            most: usize::MAX,
+            good,
+            trouble,
+        }
+    }
+}
+
+impl Write for Choppy {
+    fn write(&mut self, buffer: &[u8]) -> Result<usize> {
+        if self.good == 0 {
+            return match self.trouble {
+                Trouble::Fails => Err(Error::from(ErrorKind::Other)),
+                Trouble::TakesNothing => Ok(0),
+            };
+        }
+        self.good -= 1;
+        let count = buffer.len().min(self.most);
+        self.written.extend_from_slice(&buffer[..count])?;
+        Ok(count)
+    }
+
+    fn flush(&mut self) -> Result<()> {
+        Ok(())
+    }
+}
+
+/// A writer that sends nothing on.
+#[derive(Drop)]
+pub struct Unflushed {
+    pub written: Vec<u8>,
+}
+
+impl Write for Unflushed {
+    fn write(&mut self, buffer: &[u8]) -> Result<usize> {
+        self.written.write(buffer)
+    }
+
+    fn flush(&mut self) -> Result<()> {
+        Err(Error::from(ErrorKind::Other))
+    }
+}
