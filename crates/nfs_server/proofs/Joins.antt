@@ -1,5 +1,5 @@
 -- Answering one list of records and then another answers both: arrivals, moments, answers and runs follow one another.
-use Rattle.std.proofs.Common.{◌≡◌, ℕ, List, [], ◌∷◌, ◌++◌, map, Option, Some, None, Result, Ok, Err, ◌⊎◌, inl, inr, refl, sym, ◌∙◌, ap, subst, append_assoc, append-nil}
+use Rattle.std.proofs.Common.{◌≡◌, ◌≢◌, ℕ, List, [], ◌∷◌, ◌++◌, map, Option, Some, None, ◌⊎◌, inl, inr, refl, sym, ◌∙◌, ap, subst, append_assoc, append-nil}
 use Rattle.std.proofs.lemmas.List.{map-append}
 use Rattle.std.specs.List.{AllByRecursion}
 use Rattle.std.specs.Io.KnownBytes.{Appends}
@@ -8,7 +8,7 @@ use Rattle.nfs_machine.specs.State.{State}
 use Rattle.nfs_machine.specs.declared.moment.Moment.{Moment}
 use Rattle.nfs_server.specs.Plain.{PlainValue, StandsFor}
 use Rattle.nfs_server.specs.Serving.{AreFrom, Answers, Serves, Ticks}
-use Rattle.nfs_server.specs.Served.{Answered, AreAnswered, Goes, Stops, Reached, IsAnswered}
+use Rattle.nfs_server.specs.Served.{Answered, AreAnswered, Ends, Goes, Stops, IsAnswered}
 use Rattle.nfs_server.specs.declared.serve.StreamFault.{StreamFault}
 use Rattle.nfs_server.specs.declared.serve.StreamFault.TheVariants.{Read, Write, TooLarge, Memory}
 
@@ -58,11 +58,6 @@ appends_join (Some s) (Some t) (Some u) w x p q = q ∙ ap (λ l. l ++ x) p ∙ 
 pub appends_nothing : (a : Option (List ℕ)) → Appends a a []
 appends_nothing None = tt
 appends_nothing (Some x) = sym (append-nil x)
-
--- a record in hand leaves those behind it
-reached_more : (fault : StreamFault) (others more : List (List ℕ)) (unsent : List ℕ) → (fault ≡ Write) ⊎ (fault ≡ Memory) → Reached fault others unsent → Reached fault more unsent
-reached_more fault others more unsent (inl is) r = subst (λ (f : StreamFault). Reached f more unsent) (sym is) tt
-reached_more fault others more unsent (inr is) r = subst (λ (f : StreamFault). Reached f more unsent) (sym is) (subst (λ (f : StreamFault). Reached f others unsent) is r)
 
 module _ {Clock : Type 0} (gives : Clock → Moment → Clock → Type 0) (host : List ℕ) where
   ticks_join : (first mid last : Clock) (earlier later : List Arrival) → Ticks gives first earlier mid → Ticks gives mid later last → Ticks gives first (earlier ++ later) last
@@ -117,42 +112,45 @@ module _ {Clock : Type 0} (gives : Clock → Moment → Clock → Type 0) (host 
   }
 
   -- serving went on, and stopped
-  pub stops_join : (fault : StreamFault) (first mid : Clock) (c d : List (List ℕ)) (old new newest : PlainValue) (before now after : Option (List ℕ))
-      → Goes gives host c first mid old new before now → Stops gives host fault d mid new newest now after → Stops gives host fault (c ++ d) first old newest before after
-  stops_join fault first mid c d old new newest before now after a b = record {
+  pub stops_join : (fault : StreamFault) (first mid last : Clock) (c d : List (List ℕ)) (old new newest : PlainValue) (before now after : Option (List ℕ))
+      → Goes gives host c first mid old new before now → Stops gives host fault d mid last new newest now after → Stops gives host fault (c ++ d) first last old newest before after
+  stops_join fault first mid last c d old new newest before now after a b = record {
     first = c ++ b.first;
     others = b.others;
-    sent = a.answers ++ b.sent;
-    unsent = b.unsent;
-    later = b.later;
+    mid = b.mid;
+    between = b.between;
+    sent = b.sent;
     whole = ap (λ l. c ++ l) b.whole ∙ sym (append_assoc c b.first b.others);
-    written = appends_join before now after a.answers b.sent a.written b.written;
-    answered =
-        subst (λ (w : List ℕ). AreAnswered gives host (c ++ b.first) first b.later old newest w) (sym (append_assoc a.answers b.sent b.unsent))
-        (answered_join first mid b.later c b.first old new newest a.answers (b.sent ++ b.unsent) a.answered b.answered);
-    reached = b.reached;
+    goes = goes_join first mid b.mid c b.first old new b.between before now b.sent a b.goes;
+    ends = b.ends;
   }
 
-  -- a fault before the next of these records
-  pub stops_before : (fault : StreamFault) (clock : Clock) (plain : PlainValue) (written : Option (List ℕ)) (others : List (List ℕ)) → Reached fault others [] → Stops gives host fault others clock plain plain written written
-  unfolding goes_nothing
-  stops_before fault clock plain written others reached =
-      let nothing = goes_nothing clock plain written in
-      record { first = []; others = others; sent = []; unsent = []; later = clock; whole = refl; written = nothing.written; answered = nothing.answered; reached = reached }
+  -- a fault at the first of these records
+  pub stops_before : (fault : StreamFault) (clock later : Clock) (old new : PlainValue) (before after : Option (List ℕ)) (others : List (List ℕ)) → Ends gives host fault others clock later old new before after
+      → Stops gives host fault others clock later old new before after
+  stops_before fault clock later old new before after others ends = record {
+    first = [];
+    others = others;
+    mid = clock;
+    between = old;
+    sent = before;
+    whole = refl;
+    goes = goes_nothing clock old before;
+    ends = ends;
+  }
 
   -- a fault after all of these records
-  pub goes_stops : (fault : StreamFault) (first last : Clock) (c : List (List ℕ)) (old new : PlainValue) (before after : Option (List ℕ)) → Reached fault [] []
-      → Goes gives host c first last old new before after → Stops gives host fault c first old new before after
-  goes_stops fault first last c old new before after reached a = record {
+  pub goes_stops : (fault : StreamFault) (first last : Clock) (c : List (List ℕ)) (old new : PlainValue) (before after : Option (List ℕ)) → Ends gives host fault [] last last new new after after
+      → Goes gives host c first last old new before after → Stops gives host fault c first last old new before after
+  goes_stops fault first last c old new before after ends a = record {
     first = c;
     others = [];
-    sent = a.answers;
-    unsent = [];
-    later = last;
+    mid = last;
+    between = new;
+    sent = after;
     whole = sym (append-nil c);
-    written = a.written;
-    answered = subst (λ (w : List ℕ). AreAnswered gives host c first last old new w) (sym (append-nil a.answers)) a.answered;
-    reached = reached;
+    goes = a;
+    ends = ends;
   }
 
   -- one record is answered, at the clock's next moment
@@ -178,17 +176,28 @@ module _ {Clock : Type 0} (gives : Clock → Moment → Clock → Type 0) (host 
             };
       }
 
-  -- further records come behind those at which it stopped
-  pub more_ahead : (fault : StreamFault) (c d : List (List ℕ)) (first : Clock) (old new : PlainValue) (before after : Option (List ℕ)) → Stops gives host fault c first old new before after
-      → (fault ≡ Write) ⊎ (fault ≡ Memory) → Stops gives host fault (c ++ d) first old new before after
-  more_ahead fault c d first old new before after s which = record {
-    first = s.first;
-    others = s.others ++ d;
-    sent = s.sent;
-    unsent = s.unsent;
-    later = s.later;
-    whole = ap (λ l. l ++ d) s.whole ∙ append_assoc s.first s.others d;
-    written = s.written;
-    answered = s.answered;
-    reached = reached_more fault s.others (s.others ++ d) s.unsent which s.reached;
+  -- the record in hand leaves those behind it
+  ends_ahead : (fault : StreamFault) (c d : List (List ℕ)) (clock later : Clock) (old new : PlainValue) (before after : Option (List ℕ)) → c ≢ [] → (fault ≡ Write) ⊎ (fault ≡ Memory)
+      → Ends gives host fault c clock later old new before after → Ends gives host fault (c ++ d) clock later old new before after
+  ends_ahead Read c d clock later old new before after some (inl is) e = let f : Read ≡ Write = is in cc
+  ends_ahead Read c d clock later old new before after some (inr is) e = let f : Read ≡ Memory = is in cc
+  ends_ahead TooLarge c d clock later old new before after some (inl is) e = let f : TooLarge ≡ Write = is in cc
+  ends_ahead TooLarge c d clock later old new before after some (inr is) e = let f : TooLarge ≡ Memory = is in cc
+  ends_ahead Write c d clock later old new before after some which e = record {
+    hand = e.hand;
+    behind = e.behind ++ d;
+    whole = ap (λ l. l ++ d) e.whole;
+    sent = e.sent;
+    unsent = e.unsent;
+    written = e.written;
+    answered = e.answered;
   }
+  ends_ahead Memory c d clock later old new before after some which (inl e) = absurd (some e.0)
+  ends_ahead Memory c d clock later old new before after some which (inr e) =
+      inr (record { hand = e.hand; behind = e.behind ++ d; whole = ap (λ l. l ++ d) e.whole; moment = e.moment; ticked = e.ticked; unchanged = e.unchanged; unwritten = e.unwritten })
+
+  -- a record at which it stopped, and others behind it
+  pub stops_at : (fault : StreamFault) (hand : List ℕ) (d : List (List ℕ)) (first last : Clock) (old new : PlainValue) (before after : Option (List ℕ)) → Ends gives host fault (hand ∷ []) first last old new before after
+      → (fault ≡ Write) ⊎ (fault ≡ Memory) → Stops gives host fault (hand ∷ d) first last old new before after
+  stops_at fault hand d first last old new before after ends which =
+      stops_before fault first last old new before after (hand ∷ d) (ends_ahead fault (hand ∷ []) d first last old new before after (λ e. let f : (hand ∷ []) ≡ [] = e in cc) which ends)

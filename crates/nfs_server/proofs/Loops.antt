@@ -2,12 +2,12 @@
 use Rattle.std.proofs.Common.{◌≡◌, ℕ, ◌≤◌, List, [], ◌∷◌, ◌++◌, ◌⊎◌, length, take, drop, take-append-drop, append_assoc, append-nil, Option, Result, Ok, Err, IfErr, OnOk, OnErr, refl, sym, ◌∙◌, ap, subst}
 use Rattle.nfs_server.specs.declared.serve.StreamFault.{StreamFault}
 use Rattle.nfs_server.specs.declared.serve.StreamFault.TheVariants.{Write, Memory}
-use Rattle.nfs_server.proofs.Joins.{appends_join, appends_nothing, goes_nothing, goes_join, stops_join, more_ahead}
+use Rattle.nfs_server.proofs.Joins.{appends_join, appends_nothing, goes_nothing, goes_join, stops_join, stops_at}
 use Rattle.std.specs.Io.KnownBytes.{Appends, Consumes}
-use Rattle.nfs_rpc.specs.Records.{RecordsValue, Holds}
+use Rattle.nfs_rpc.specs.Records.{RecordsValue, Holds, IsTooLarge}
 use Rattle.nfs_machine.specs.declared.moment.Moment.{Moment}
 use Rattle.nfs_server.specs.Plain.{PlainValue}
-use Rattle.nfs_server.specs.Served.{AreAnswered, Goes, Stops, Reached}
+use Rattle.nfs_server.specs.Served.{AreAnswered, Ends, Goes, Stops}
 
 -- a front of the bytes is written
 pub record Writing (before now : Option (List ℕ)) (bytes rest : List ℕ) (failures fails : ℕ) : Type 0 where
@@ -30,6 +30,7 @@ pub record Taking {Clock : Type 0} (gives : Clock → Moment → Clock → Type 
   pub given : List (List ℕ)
   pub holds : Holds records fed given
   pub none : records.queued ≡ []
+  pub within : IsTooLarge fed → ⊥
   pub read : Consumes unread left fed
   pub goes : Goes gives host given first clock old plain before now
   pub many : reads ≤ length fed
@@ -46,32 +47,32 @@ writing_more before now later bytes rest left failures fails failed n w more is 
 }
 
 -- an answer that is sent, or of which a beginning is
-module _ {Clock : Type 0} (gives : Clock → Moment → Clock → Type 0) (host : List ℕ) (c : List (List ℕ)) (first last : Clock) (old new : PlainValue) (before after : Option (List ℕ)) (answer bytes : List ℕ) where
-  pub sent_goes : (r : Result (Unit {0}) StreamFault) → OnOk r (Appends before after bytes) → bytes ≡ answer → AreAnswered gives host c first last old new answer
-      → OnOk r (Goes gives host c first last old new before after)
+module _ {Clock : Type 0} (gives : Clock → Moment → Clock → Type 0) (host hand : List ℕ) (first last : Clock) (old new : PlainValue) (before after : Option (List ℕ)) (answer bytes : List ℕ) where
+  pub sent_goes : (r : Result (Unit {0}) StreamFault) → OnOk r (Appends before after bytes) → bytes ≡ answer → AreAnswered gives host (hand ∷ []) first last old new answer
+      → OnOk r (Goes gives host (hand ∷ []) first last old new before after)
   sent_goes (Ok u) written is a = record { answers = answer; written = subst (λ (w : List ℕ). Appends before after w) is written; answered = a }
   sent_goes (Err e) written is a = tt
 
   abbrev pub Part : Type 0
   Part = (sent : List ℕ) × (unsent : List ℕ) × (bytes ≡ sent ++ unsent) × Appends before after sent
 
-  part_stops : (e : StreamFault) → e ≡ Write → Part → bytes ≡ answer → AreAnswered gives host c first last old new answer → Stops gives host e c first old new before after
-  part_stops e is (sent, unsent, cut, written) same a = record {
-    first = c;
-    others = [];
-    sent = sent;
-    unsent = unsent;
-    later = last;
-    whole = sym (append-nil c);
-    written = written;
-    answered = subst (λ (w : List ℕ). AreAnswered gives host c first last old new w) (sym same ∙ cut) a;
-    reached = subst (λ (f : StreamFault). Reached f [] unsent) (sym is) tt;
-  }
+  part_cut : (e : StreamFault) → e ≡ Write → Part → bytes ≡ answer → AreAnswered gives host (hand ∷ []) first last old new answer → Ends gives host e (hand ∷ []) first last old new before after
+  part_cut e is (sent, unsent, cut, written) same a =
+      subst (λ (f : StreamFault). Ends gives host f (hand ∷ []) first last old new before after) (sym is)
+      (record {
+        hand = hand;
+        behind = [];
+        whole = refl;
+        sent = sent;
+        unsent = unsent;
+        written = written;
+        answered = subst (λ (w : List ℕ). AreAnswered gives host (hand ∷ []) first last old new w) (sym same ∙ cut) a;
+      })
 
-  pub sent_stops : (P : Type 0) (r : Result (Unit {0}) StreamFault) → OnErr r Part → IfErr r (λ e. (e ≡ Write) × P) → bytes ≡ answer → AreAnswered gives host c first last old new answer
-      → IfErr r (λ e. Stops gives host e c first old new before after)
+  pub sent_stops : (P : Type 0) (r : Result (Unit {0}) StreamFault) → OnErr r Part → IfErr r (λ e. (e ≡ Write) × P) → bytes ≡ answer → AreAnswered gives host (hand ∷ []) first last old new answer
+      → IfErr r (λ e. Ends gives host e (hand ∷ []) first last old new before after)
   sent_stops P (Ok u) part fault same a = tt
-  sent_stops P (Err e) part fault same a = part_stops e fault.0 part same a
+  sent_stops P (Err e) part fault same a = part_cut e fault.0 part same a
 
 -- what is dropped is answered by nothing
 pub dropped_goes : {Clock : Type 0} (gives : Clock → Moment → Clock → Type 0) (host : List ℕ) (c : List (List ℕ)) (first last : Clock) (old new : PlainValue) (written : Option (List ℕ))
@@ -104,9 +105,9 @@ module _ {Clock : Type 0} (gives : Clock → Moment → Clock → Type 0) (host 
 
   -- the next record is not
   pub answering_stops : (fault : StreamFault) (r : List ℕ) → Answering gives host first clock old plain before now initial records failures fails → records ≡ record left { queued = r ∷ left.queued }
-      → Stops gives host fault (r ∷ []) clock plain next now after → (fault ≡ Write) ⊎ (fault ≡ Memory)
-      → Stops gives host fault initial.queued first old next before after
-  answering_stops fault r a is stops which =
+      → Ends gives host fault (r ∷ []) clock later plain next now after → (fault ≡ Write) ⊎ (fault ≡ Memory)
+      → Stops gives host fault initial.queued first later old next before after
+  answering_stops fault r a is ends which =
       let whole : initial.queued ≡ a.served ++ (r ∷ left.queued) = a.cut ∙ ap (λ (v : RecordsValue). a.served ++ v.queued) is in
-      subst (λ (c : List (List ℕ)). Stops gives host fault c first old next before after) (sym whole)
-      (stops_join gives host fault first clock a.served (r ∷ left.queued) old plain next before now after a.goes (more_ahead gives host fault (r ∷ []) left.queued clock plain next now after stops which))
+      subst (λ (c : List (List ℕ)). Stops gives host fault c first later old next before after) (sym whole)
+      (stops_join gives host fault first clock later a.served (r ∷ left.queued) old plain next before now after a.goes (stops_at gives host fault r left.queued clock later plain next now after ends which))

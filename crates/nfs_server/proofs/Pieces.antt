@@ -1,11 +1,11 @@
 -- A piece that is taken in follows what was taken in before, and its records follow those that were answered.
-use Rattle.std.proofs.Common.{◌≡◌, ◌≢◌, ℕ, ◌+◌, ◌-◌, ◌^◌, ◌<◌, ◌≤◌, ◌⊎◌, inl, inr, List, [], ◌∷◌, ◌++◌, length, length-append, Option, Some, None, Result, Ok, Err, refl, sym, ◌∙◌, ap, subst, append_assoc, append-nil, arith}
+use Rattle.std.proofs.Common.{◌≡◌, ◌≢◌, ℕ, ◌+◌, ◌<◌, ◌≤◌, ◌⊎◌, inl, inr, List, [], ◌∷◌, ◌++◌, length, length-append, Option, Some, None, Result, Err, refl, sym, ◌∙◌, ap, subst, append_assoc, append-nil, arith}
 use Rattle.std.specs.Io.KnownBytes.{Consumes, IsAtEnd}
 use Rattle.nfs_rpc.specs.Records.{RecordsValue, Holds, IsStream, IsTooLarge}
 use Rattle.nfs_rpc.specs.Streams.{one_more}
 use Rattle.nfs_machine.specs.declared.moment.Moment.{Moment}
 use Rattle.nfs_server.specs.Plain.{PlainValue}
-use Rattle.nfs_server.specs.Served.{Goes, Stops, Reached, ServesAll, ServesFront}
+use Rattle.nfs_server.specs.Served.{Ends, Goes, IsFaultOf, Stops, ServesAll, ServesFront}
 use Rattle.nfs_server.specs.Taken.{Follows, Takes, TakesIn}
 use Rattle.nfs_server.specs.declared.serve.Served.{Served}
 use Rattle.nfs_server.specs.declared.serve.Taken.{Taken}
@@ -41,14 +41,22 @@ whole_of (Some x) (Some y) input fed read end is =
 
 pub more_of : (taken : Taken) (old new : RecordsValue) (piece : List ℕ) (left : Option (List ℕ)) → taken ≢ End → TakesIn taken old new piece left → (0 < length piece) × Follows old new piece
 more_of End old new piece left more t = absurd (more refl)
-more_of Piece old new piece left more t = t
+more_of Piece old new piece left more t = (t.0, t.1)
 more_of Refused old new piece left more t = (t.0, t.1)
+
+-- a piece that is not refused makes no record too large
+pub taken_within : (taken : Taken) (old new : RecordsValue) (piece : List ℕ) (left : Option (List ℕ)) → taken ≢ End → taken ≢ Refused → TakesIn taken old new piece left
+    → (stream : List ℕ) (given : List (List ℕ)) → Holds old stream given → IsTooLarge (stream ++ piece) → ⊥
+taken_within End old new piece left more other t = absurd (more refl)
+taken_within Piece old new piece left more other t = t.2
+taken_within Refused old new piece left more other t = absurd (other refl)
 
 module _ {Clock : Type 0} (gives : Clock → Moment → Clock → Type 0) (host : List ℕ) (first clock : Clock) (old plain : PlainValue) (before now unread left : Option (List ℕ))
     (records : RecordsValue) (reads reading readings writing writings : ℕ) (t : Taking gives host first clock old plain before now unread left records reads reading readings writing writings) where
   -- a fault before the next piece
-  pub fault_taking : (fault : StreamFault) → Reached fault [] [] → (fault ≡ TooLarge → ⊥) → (input : List ℕ) → unread ≡ Some input → ServesFront gives host input fault first old plain before now
-  fault_taking fault reached other input is =
+  pub fault_taking : (fault : StreamFault) → Ends gives host fault [] clock clock plain plain now now → IsFaultOf fault t.fed → (input : List ℕ) → unread ≡ Some input
+      → ServesFront gives host input fault first clock old plain before now
+  fault_taking fault ends is_fault input is =
       let front = ahead_of unread left input t.fed t.read is in
       record {
         fed = t.fed;
@@ -57,8 +65,8 @@ module _ {Clock : Type 0} (gives : Clock → Moment → Clock → Type 0) (host 
         rest = t.holds.rest;
         front = front.1;
         split = subst (λ (q : List (List ℕ)). IsStream t.fed q t.holds.rest) (ap (λ l. t.given ++ l) t.none ∙ append-nil t.given) t.holds.split;
-        stops = goes_stops gives host fault first clock t.given old plain before now reached t.goes;
-        too_large = λ e. absurd (other e);
+        stops = goes_stops gives host fault first clock t.given old plain before now ends t.goes;
+        is_fault = is_fault;
       }
 
   pub all_taken : (fuller : RecordsValue) (ahead : Option (List ℕ)) → Takes End records fuller left ahead → (input : List ℕ) → unread ≡ Some input → ServesAll gives host input first clock old plain before now
@@ -71,6 +79,7 @@ module _ {Clock : Type 0} (gives : Clock → Moment → Clock → Type 0) (host 
         split =
             subst (λ (s : List ℕ). IsStream s t.given t.holds.rest) (sym (append-nil t.fed) ∙ whole)
             (subst (λ (q : List (List ℕ)). IsStream t.fed q t.holds.rest) (ap (λ l. t.given ++ l) t.none ∙ append-nil t.given) t.holds.split);
+        within = subst (λ (s : List ℕ). IsTooLarge s → ⊥) (sym (append-nil t.fed) ∙ whole) t.within;
         goes = t.goes;
       }
 
@@ -79,9 +88,9 @@ module _ {Clock : Type 0} (gives : Clock → Moment → Clock → Type 0) (host 
     follows = (more_of taken records fuller takes.piece ahead more takes.takes).1 t.fed t.given t.holds
 
     -- a fault while the records of a piece were served
-    pub fault_taken : (fault : StreamFault) (next : PlainValue) (after : Option (List ℕ)) → Stops gives host fault fuller.queued clock plain next now after → (fault ≡ TooLarge → IsTooLarge (t.fed ++ takes.piece))
-        → (input : List ℕ) → unread ≡ Some input → ServesFront gives host input fault first old next before after
-    fault_taken fault next after stops large input is =
+    pub fault_taken : (fault : StreamFault) (later : Clock) (next : PlainValue) (after : Option (List ℕ)) → Stops gives host fault fuller.queued clock later plain next now after → IsFaultOf fault (t.fed ++ takes.piece)
+        → (input : List ℕ) → unread ≡ Some input → ServesFront gives host input fault first later old next before after
+    fault_taken fault later next after stops is_fault input is =
         let front = ahead_of unread ahead input (t.fed ++ takes.piece) (consumes_join unread left ahead t.fed takes.piece t.read takes.read) is in
         record {
           fed = t.fed ++ takes.piece;
@@ -90,16 +99,16 @@ module _ {Clock : Type 0} (gives : Clock → Moment → Clock → Type 0) (host 
           rest = follows.rest;
           front = front.1;
           split = follows.split;
-          stops = stops_join gives host fault first clock t.given fuller.queued old plain next before now after t.goes stops;
-          too_large = large;
+          stops = stops_join gives host fault first clock later t.given fuller.queued old plain next before now after t.goes stops;
+          is_fault = is_fault;
         }
 
     -- the piece is taken in, and its records are served
-    pub taking_more : (later : Clock) (next : PlainValue) (after : Option (List ℕ)) (served : RecordsValue) (reads' writes' : ℕ) → Goes gives host fuller.queued clock later plain next now after → served.queued ≡ []
+    pub taking_more : taken ≢ Refused → (later : Clock) (next : PlainValue) (after : Option (List ℕ)) (served : RecordsValue) (reads' writes' : ℕ) → Goes gives host fuller.queued clock later plain next now after → served.queued ≡ []
         → ((stream : List ℕ) (given : List (List ℕ)) → Holds fuller stream given → Holds served stream (given ++ fuller.queued))
         → reads' ≡ readings → writes' ≡ writings
         → Taking gives host first later old next before after unread ahead served (reads + 1) reading reads' writing writes'
-    taking_more later next after served reads' writes' goes none holds reader writer =
+    taking_more other later next after served reads' writes' goes none holds reader writer =
         let some : 0 < length takes.piece = (more_of taken records fuller takes.piece ahead more takes.takes).0 in
         let many : reads ≤ length t.fed = t.many in
         record {
@@ -107,6 +116,7 @@ module _ {Clock : Type 0} (gives : Clock → Moment → Clock → Type 0) (host 
           given = t.given ++ fuller.queued;
           holds = holds (t.fed ++ takes.piece) t.given follows;
           none = none;
+          within = taken_within taken records fuller takes.piece ahead more other takes.takes t.fed t.given t.holds;
           read = consumes_join unread left ahead t.fed takes.piece t.read takes.read;
           goes = goes_join gives host first clock later t.given fuller.queued old plain next before now after t.goes goes;
           many = omega (arith, length-append t.fed takes.piece);
@@ -126,6 +136,14 @@ no_record (content ∷ records) rest (front, back, cut, marked, later) =
     let whole = marked.marked in
     absurd (omega (arith, simp length-append at (ap length whole), simp length-append at (ap length cut)))
 
+-- nor is one too large in it
+none_too_large : IsTooLarge [] → ⊥
+none_too_large ([], rest, split, large) =
+    let whole = large.whole in
+    let empty : rest ≡ [] = split.0 in
+    omega (arith, simp length-append at (ap length whole), ap length empty)
+none_too_large (content ∷ records, rest, split, large) = let none : (content ∷ records) ≡ [] = no_record (content ∷ records) rest split in cc
+
 pub nothing_queued : (v : RecordsValue) → Holds v [] [] → v.queued ≡ []
 nothing_queued v holds = no_record v.queued holds.rest holds.split
 
@@ -136,6 +154,7 @@ taking_none gives host first old before unread records reading writing holds = r
   given = [];
   holds = holds;
   none = nothing_queued records holds;
+  within = none_too_large;
   read = consumes_nothing unread;
   goes = goes_nothing gives host first old before;
   many = omega arith;
@@ -144,17 +163,18 @@ taking_none gives host first old before unread records reading writing holds = r
 }
 
 -- a fault in taking a piece in is of the reader or of memory
-pub reached_early : {P : Type 0} (e : StreamFault) → ((e ≡ Read) × P) ⊎ (e ≡ Memory) → Reached e [] []
-reached_early e (inl is) = subst (λ (f : StreamFault). Reached f [] []) (sym is.0) (refl, refl)
-reached_early e (inr is) = subst (λ (f : StreamFault). Reached f [] []) (sym is) refl
+pub ends_early : {Clock P : Type 0} (gives : Clock → Moment → Clock → Type 0) (host : List ℕ) (clock : Clock) (plain : PlainValue) (now : Option (List ℕ)) (e : StreamFault) → ((e ≡ Read) × P) ⊎ (e ≡ Memory)
+    → Ends gives host e [] clock clock plain plain now now
+ends_early gives host clock plain now e (inl is) = subst (λ (f : StreamFault). Ends gives host f [] clock clock plain plain now now) (sym is.0) (refl, refl, refl, refl)
+ends_early gives host clock plain now e (inr is) = subst (λ (f : StreamFault). Ends gives host f [] clock clock plain plain now now) (sym is) (inl (refl, refl, refl, refl))
 
-pub not_large : {P : Type 0} (e : StreamFault) → ((e ≡ Read) × P) ⊎ (e ≡ Memory) → e ≡ TooLarge → ⊥
-not_large e (inl is) large = let f : Read ≡ TooLarge = sym is.0 ∙ large in cc
-not_large e (inr is) large = let f : Memory ≡ TooLarge = sym is ∙ large in cc
+pub early_fault : {P : Type 0} (e : StreamFault) (fed : List ℕ) → (IsTooLarge fed → ⊥) → ((e ≡ Read) × P) ⊎ (e ≡ Memory) → IsFaultOf e fed
+early_fault e fed within (inl is) = subst (λ (f : StreamFault). IsFaultOf f fed) (sym is.0) within
+early_fault e fed within (inr is) = subst (λ (f : StreamFault). IsFaultOf f fed) (sym is) tt
 
-pub later_large : {P : Type 0} (e : StreamFault) → ((e ≡ Write) × P) ⊎ (e ≡ Memory) → e ≡ TooLarge → ⊥
-later_large e (inl is) large = let f : Write ≡ TooLarge = sym is.0 ∙ large in cc
-later_large e (inr is) large = let f : Memory ≡ TooLarge = sym is ∙ large in cc
+pub later_fault : {P : Type 0} (e : StreamFault) (fed : List ℕ) → ((e ≡ Write) × P) ⊎ (e ≡ Memory) → IsFaultOf e fed
+later_fault e fed (inl is) = subst (λ (f : StreamFault). IsFaultOf f fed) (sym is.0) tt
+later_fault e fed (inr is) = subst (λ (f : StreamFault). IsFaultOf f fed) (sym is) tt
 
 pub later_not_read : {P : Type 0} (e : StreamFault) → ((e ≡ Write) × P) ⊎ (e ≡ Memory) → e ≡ Read → ⊥
 later_not_read e (inl is) read = let f : Write ≡ Read = sym is.0 ∙ read in cc
@@ -178,7 +198,7 @@ refused_write e = let f : TooLarge ≡ Write = cc in cc
 
 -- a fault before the first piece
 pub front_none : {Clock : Type 0} (gives : Clock → Moment → Clock → Type 0) (host : List ℕ) (first : Clock) (old : PlainValue) (before : Option (List ℕ)) (records : RecordsValue)
-    → Holds records [] [] → (input : List ℕ) → ServesFront gives host input Memory first old old before before
+    → Holds records [] [] → (input : List ℕ) → ServesFront gives host input Memory first first old old before before
 front_none gives host first old before records holds input = record {
   fed = [];
   ahead = input;
@@ -186,6 +206,6 @@ front_none gives host first old before records holds input = record {
   rest = holds.rest;
   front = refl;
   split = holds.split;
-  stops = stops_before gives host Memory first old before records.queued refl;
-  too_large = λ e. cc;
+  stops = stops_before gives host Memory first first old old before before records.queued (inl (nothing_queued records holds, refl, refl, refl));
+  is_fault = tt;
 }

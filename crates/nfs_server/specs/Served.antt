@@ -1,5 +1,5 @@
 -- What serving the records of a stream comes to.
-use Rattle.std.specs.Prelude.{◌≡◌, ℕ, List, [], ◌∷◌, ◌++◌, Option, Some, None, vec_items}
+use Rattle.std.specs.Prelude.{◌≡◌, ◌⊎◌, ℕ, List, [], ◌∷◌, ◌++◌, Option, Some, None}
 use Rattle.std.specs.Io.KnownBytes.{Appends}
 use Rattle.std.specs.declared.vec.Vec.{Vec}
 use Rattle.std.specs.declared.alloc.Global.{Global}
@@ -35,43 +35,73 @@ pub record Goes {Clock : Type 0} (gives : Clock → Moment → Clock → Type 0)
   pub written : Appends before after answers
   pub answered : AreAnswered gives host contents clock later old new answers
 
--- How far serving came at a fault. Read and TooLarge: all records are answered, and all answers written. Write: the
--- record in hand is answered, and its answer may be written in part. Memory: the record in hand is not answered.
-abbrev pub Reached : StreamFault → (others : List (List ℕ)) → (unsent : List ℕ) → Type 0
-Reached Read others unsent = (others ≡ []) × (unsent ≡ [])
-Reached TooLarge others unsent = (others ≡ []) × (unsent ≡ [])
-Reached Write others unsent = Unit {0}
-Reached Memory others unsent = unsent ≡ []
+-- none of these records is left, and nothing more was done
+abbrev pub Stays : {Clock : Type 0} → List (List ℕ) → (clock later : Clock) (old new : PlainValue) (before after : Option (List ℕ)) → Type 0
+Stays contents clock later old new before after = (contents ≡ []) × (later ≡ clock) × (new ≡ old) × (after ≡ before)
 
--- the first of the records were answered, and a beginning of their answers was written
-pub record Stops {Clock : Type 0} (gives : Clock → Moment → Clock → Type 0) (host : List ℕ) (fault : StreamFault) (contents : List (List ℕ)) (clock : Clock) (old new : PlainValue) (before after : Option (List ℕ)) : Type 0 where
-  pub first : List (List ℕ)
-  pub others : List (List ℕ)
+-- the first of these records came at the clock's next moment, and has no answer
+pub record IsUnanswered {Clock : Type 0} (gives : Clock → Moment → Clock → Type 0) (contents : List (List ℕ)) (clock later : Clock) (old new : PlainValue) (before after : Option (List ℕ)) : Type 0 where
+  pub hand : List ℕ
+  pub behind : List (List ℕ)
+  pub whole : contents ≡ hand ∷ behind
+  pub moment : Moment
+  pub ticked : gives clock moment later
+  pub unchanged : new ≡ old
+  pub unwritten : after ≡ before
+
+-- the first of these records is answered, and a beginning of its answer was written
+pub record IsCut {Clock : Type 0} (gives : Clock → Moment → Clock → Type 0) (host : List ℕ) (contents : List (List ℕ)) (clock later : Clock) (old new : PlainValue) (before after : Option (List ℕ)) : Type 0 where
+  pub hand : List ℕ
+  pub behind : List (List ℕ)
+  pub whole : contents ≡ hand ∷ behind
   pub sent : List ℕ
   pub unsent : List ℕ
-  pub later : Clock
-  pub whole : contents ≡ first ++ others
   pub written : Appends before after sent
-  pub answered : AreAnswered gives host first clock later old new (sent ++ unsent)
-  pub reached : Reached fault others unsent
+  pub answered : AreAnswered gives host (hand ∷ []) clock later old new (sent ++ unsent)
+
+-- What was done at a fault with the records that had come. Read and TooLarge: none is left. Write: the first one's answer is cut.
+-- Memory: none is left, or the first one has no answer.
+abbrev pub Ends : {Clock : Type 0} → (Clock → Moment → Clock → Type 0) → List ℕ → StreamFault → List (List ℕ) → (clock later : Clock) (old new : PlainValue) (before after : Option (List ℕ)) → Type 0
+Ends gives host Read contents clock later old new before after = Stays contents clock later old new before after
+Ends gives host TooLarge contents clock later old new before after = Stays contents clock later old new before after
+Ends gives host Write contents clock later old new before after = IsCut gives host contents clock later old new before after
+Ends gives host Memory contents clock later old new before after = Stays contents clock later old new before after ⊎ IsUnanswered gives contents clock later old new before after
+
+-- the first of the records were answered, and their answers were written; at the next one serving ended by the fault
+pub record Stops {Clock : Type 0} (gives : Clock → Moment → Clock → Type 0) (host : List ℕ) (fault : StreamFault) (contents : List (List ℕ)) (clock later : Clock) (old new : PlainValue) (before after : Option (List ℕ)) : Type 0 where
+  pub first : List (List ℕ)
+  pub others : List (List ℕ)
+  pub mid : Clock
+  pub between : PlainValue
+  pub sent : Option (List ℕ)
+  pub whole : contents ≡ first ++ others
+  pub goes : Goes gives host first clock mid old between before sent
+  pub ends : Ends gives host fault others mid later between new sent after
 
 -- all records of the input were served; bytes after the last whole record are left (RFC 5531, section 11)
 pub record ServesAll {Clock : Type 0} (gives : Clock → Moment → Clock → Type 0) (host input : List ℕ) (clock later : Clock) (old new : PlainValue) (before after : Option (List ℕ)) : Type 0 where
   pub contents : List (List ℕ)
   pub rest : List ℕ
   pub split : IsStream input contents rest
+  pub within : IsTooLarge input → ⊥
   pub goes : Goes gives host contents clock later old new before after
 
+-- a record is too large where this is the fault, and none where a read failed
+abbrev pub IsFaultOf : StreamFault → List ℕ → Type 0
+IsFaultOf TooLarge fed = IsTooLarge fed
+IsFaultOf Read fed = IsTooLarge fed → ⊥
+IsFaultOf _ fed = Unit {0}
+
 -- a front of the input was taken in, and of its records the first were served
-pub record ServesFront {Clock : Type 0} (gives : Clock → Moment → Clock → Type 0) (host input : List ℕ) (fault : StreamFault) (clock : Clock) (old new : PlainValue) (before after : Option (List ℕ)) : Type 0 where
+pub record ServesFront {Clock : Type 0} (gives : Clock → Moment → Clock → Type 0) (host input : List ℕ) (fault : StreamFault) (clock later : Clock) (old new : PlainValue) (before after : Option (List ℕ)) : Type 0 where
   pub fed : List ℕ
   pub ahead : List ℕ
   pub contents : List (List ℕ)
   pub rest : List ℕ
   pub front : input ≡ fed ++ ahead
   pub split : IsStream fed contents rest
-  pub stops : Stops gives host fault contents clock old new before after
-  pub too_large : fault ≡ TooLarge → IsTooLarge fed
+  pub stops : Stops gives host fault contents clock later old new before after
+  pub is_fault : IsFaultOf fault fed
 
 -- the record is answered so, from every state that the store stood for
 pub record IsAnswered (arrival : Arrival) (old new : PlainValue) (answer : List ℕ) : Type 0 where

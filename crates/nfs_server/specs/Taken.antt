@@ -11,7 +11,8 @@ Follows old new piece = (stream : List ℕ) (given : List (List ℕ)) → Holds 
 
 abbrev pub TakesIn : Taken → RecordsValue → RecordsValue → List ℕ → Option (List ℕ) → Type 0
 TakesIn End old new piece left = (piece ≡ []) × (new ≡ old) × IsAtEnd left
-TakesIn Piece old new piece left = (0 < length piece) × Follows old new piece
+TakesIn Piece old new piece left =
+    (0 < length piece) × Follows old new piece × ((stream : List ℕ) (given : List (List ℕ)) → Holds old stream given → IsTooLarge (stream ++ piece) → ⊥)
 TakesIn Refused old new piece left =
     (0 < length piece) × Follows old new piece × ((stream : List ℕ) (given : List (List ℕ)) → Holds old stream given → IsTooLarge (stream ++ piece))
 

@@ -4,7 +4,7 @@ ghost use Rattle.std.specs.Prelude.{◌≡◌, ℕ, ◌+◌, ◌-◌, ◌^◌, �
 ghost use Rattle.std.specs.Io.KnownBytes.{Appends, Consumes, Keeps};
 ghost use Rattle.nfs_rpc.specs.Records.{Holds};
 ghost use Rattle.nfs_rpc.specs.Streams.{one_more};
-ghost use Rattle.nfs_server.specs.Served.{Goes, Stops, ServedIsRun, ServesAll, ServesFront};
+ghost use Rattle.nfs_server.specs.Served.{Ends, Goes, Stops, ServedIsRun, ServesAll, ServesFront};
 ghost use Rattle.nfs_server.specs.Taken.{Takes};
 
 use crate::plain::Plain;
@@ -71,7 +71,7 @@ pub fn serve_plain<C: Moments, R: Source, W: Sink>(
     ensures ok { IfOk result (λ _. (input : List ℕ) → R.unread reader.old ≡ Some input
         → ServesAll C.gives host.now input clock.old clock.new plain.old plain.new (W.written writer.old) (W.written writer.new)) }
     ensures fault { IfErr result (λ e. (input : List ℕ) → R.unread reader.old ≡ Some input
-        → ServesFront C.gives host.now input e clock.old plain.old plain.new (W.written writer.old) (W.written writer.new)) }
+        → ServesFront C.gives host.now input e clock.old clock.new plain.old plain.new (W.written writer.old) (W.written writer.new)) }
     // A fault of a stream is one that the stream counted, or there was no end of it.
     ensures read { IsErrOf result StreamFault.Read → (R.Counts.failures reader.new ≡ one_more (R.Counts.failures reader.old))
         ⊎ ((input : List ℕ) → R.unread reader.old ≡ Some input → 2 ^ 64 - 1 ≤ length input) }
@@ -115,7 +115,7 @@ fn serve_pieces<C: Moments, R: Source, W: Sink>(
     ensures ok { IfOk result (λ _. (input : List ℕ) → R.unread reader.old ≡ Some input
         → ServesAll C.gives host.now input clock.old clock.new plain.old plain.new (W.written writer.old) (W.written writer.new)) }
     ensures fault { IfErr result (λ e. (input : List ℕ) → R.unread reader.old ≡ Some input
-        → ServesFront C.gives host.now input e clock.old plain.old plain.new (W.written writer.old) (W.written writer.new)) }
+        → ServesFront C.gives host.now input e clock.old clock.new plain.old plain.new (W.written writer.old) (W.written writer.new)) }
     ensures read { IsErrOf result StreamFault.Read → (R.Counts.failures reader.new ≡ one_more (R.Counts.failures reader.old))
         ⊎ ((input : List ℕ) → R.unread reader.old ≡ Some input → 2 ^ 64 - 1 ≤ length input) }
     ensures write { IsErrOf result StreamFault.Write → W.Counts.failures writer.new ≡ one_more (W.Counts.failures writer.old) }
@@ -172,7 +172,7 @@ fn serve_records<C: Moments, W: Sink>(
     ensures all { OnOk result (records.new.queued ≡ []) }
     ensures holds { OnOk result ((stream : List ℕ) (given : List (List ℕ)) → Holds records.old stream given → Holds records.new stream (given ++ records.old.queued)) }
     ensures ok { OnOk result (W.Counts.failures writer.new ≡ W.Counts.failures writer.old) }
-    ensures stops { IfErr result (λ e. Stops C.gives host.now e records.old.queued clock.old plain.old plain.new (W.written writer.old) (W.written writer.new)) }
+    ensures stops { IfErr result (λ e. Stops C.gives host.now e records.old.queued clock.old clock.new plain.old plain.new (W.written writer.old) (W.written writer.new)) }
     ensures fault { IfErr result (λ e. ((e ≡ StreamFault.Write) × (W.Counts.failures writer.new ≡ one_more (W.Counts.failures writer.old))) ⊎ (e ≡ StreamFault.Memory)) }
 {
     'records: while let Some(record) = records.next() {
@@ -193,7 +193,7 @@ fn serve_record<C: Moments, W: Sink>(
     requires { (1 ≤ length host.now) × (length host.now ≤ 255) }
     ensures goes { OnOk result (Goes C.gives host.now (message ∷ []) clock.old clock.new plain.old plain.new (W.written writer.old) (W.written writer.new)) }
     ensures ok { OnOk result (W.Counts.failures writer.new ≡ W.Counts.failures writer.old) }
-    ensures stops { IfErr result (λ e. Stops C.gives host.now e (message ∷ []) clock.old plain.old plain.new (W.written writer.old) (W.written writer.new)) }
+    ensures ends { IfErr result (λ e. Ends C.gives host.now e (message ∷ []) clock.old clock.new plain.old plain.new (W.written writer.old) (W.written writer.new)) }
     ensures fault { IfErr result (λ e. ((e ≡ StreamFault.Write) × (W.Counts.failures writer.new ≡ one_more (W.Counts.failures writer.old))) ⊎ (e ≡ StreamFault.Memory)) }
 {
     let moment = clock.moment();

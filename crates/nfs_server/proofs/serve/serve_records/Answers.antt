@@ -1,4 +1,4 @@
-use Rattle.std.proofs.Common.{◌⊎◌, inl, inr, sym}
+use Rattle.std.proofs.Common.{inl, inr}
 use Rattle.std.proofs.lemmas.Result.{err_from_is_err_and}
 use Rattle.nfs_server.proofs.Loops.{answering_none, answering_more, answering_stops}
 use Rattle.nfs_server.proofs.serve.serve_records.Goals as goal
@@ -14,5 +14,5 @@ pub returns-in_err-serve_record-clause-stops : goal.returns-in_err-serve_record-
 returns-in_err-serve_record-clause-stops g c =
     let p = err_from_is_err_and c.from_residual.result c.from_residual.ensures.1 in
     rw (p.1, p.2)
-    (answering_stops _ _ _ _ c.serve_record.new.clock _ _ _ _ _ _ _ _ _ _ _ 0 _ c.in-Some.record c.records.invariant c.in-Some.ensures.some c.in_err-serve_record.ensures.stops
+    (answering_stops _ _ _ _ _ _ _ _ _ _ _ _ _ _ _ _ 0 _ c.in-Some.record c.records.invariant c.in-Some.ensures.some c.in_err-serve_record.ensures.ends
     (elim c.in_err-serve_record.ensures.fault [ inl w ↦ inl w.0 | inr m ↦ inr m ]))
