@@ -1,5 +1,5 @@
 -- What a record is answered: its fault, its refusal, or the reply of its step.
-use Rattle.std.proofs.Common.{◌≡◌, ℕ, List, [], ◌∷◌, Option, Some, Result, Ok, Err, IfOk, inl, inr, refl, sym, ◌∙◌, ap, subst}
+use Rattle.std.proofs.Common.{◌≡◌, ℕ, List, [], ◌∷◌, Option, Result, Ok, Err, IfOk, inl, inr, refl, sym, ◌∙◌, ap, subst}
 use Rattle.std.specs.declared.alloc.AllocError.{AllocError}
 use Rattle.std.specs.declared.alloc.Global.{Global}
 use Rattle.std.specs.declared.vec.Vec.{Vec}
@@ -7,13 +7,10 @@ use Rattle.nfs_rpc.specs.declared.faults.Early.{Early}
 use Rattle.nfs_rpc.specs.declared.credentials.Ids.{Ids}
 use Rattle.nfs_machine.specs.Refusal.{refusal_of}
 use Rattle.nfs_machine.specs.Run.{Arrival, Record, Setting, ctx_of}
-use Rattle.nfs_machine.specs.State.{State}
-use Rattle.nfs_machine.specs.declared.calls.Call.{Call}
-use Rattle.nfs_machine.specs.declared.context.Ctx.{Ctx}
 use Rattle.nfs_machine.specs.declared.moment.Moment.{Moment}
 use Rattle.nfs_server.specs.Asked.{IsAsked}
 use Rattle.nfs_server.specs.Executed.{MakesStep, context_of}
-use Rattle.nfs_server.specs.Plain.{PlainValue, StandsFor}
+use Rattle.nfs_server.specs.Plain.{PlainValue}
 use Rattle.nfs_server.specs.Served.{IsAnswered, answer_bytes}
 use Rattle.nfs_server.specs.Serving.{EarlyOf, early_bytes, refusal_bytes, success}
 use Rattle.nfs_server.specs.declared.asking.Asked.{Asked}

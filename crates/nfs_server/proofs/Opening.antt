@@ -1,5 +1,5 @@
 -- The slots that a server starts with stand for the machine's opening state: the roots live, and nothing else.
-use Rattle.std.proofs.Common.{◌≡◌, ◌≢◌, ℕ, zero, suc, ◌+◌, ◌<◌, ◌≤◌, ◌⊎◌, inl, inr, Bool, true, false, ◌&&◌, cond, nat_le, List, [], ◌∷◌, ◌++◌, length, length-append, map, Option, Some, None, option_map, refl, sym, ◌∙◌, ap, subst, arith}
+use Rattle.std.proofs.Common.{◌≡◌, ◌≢◌, ℕ, zero, suc, ◌+◌, ◌<◌, ◌≤◌, ◌⊎◌, inl, inr, true, false, cond, nat_le, List, [], ◌∷◌, ◌++◌, length, length-append, map, Option, Some, None, refl, sym, ◌∙◌, ap, subst, arith}
 use Rattle.std.proofs.lemmas.Bool.Decides.{nat_tests}
 use Rattle.std.proofs.lemmas.Option.{slice_get_past, slice_get_within}
 use Rattle.std.specs.List.{slice_get}
@@ -13,13 +13,11 @@ use Rattle.nfs_machine.specs.declared.context.Limits.{Limits}
 use Rattle.nfs_machine.specs.declared.exports.Export.{Export}
 use Rattle.std.proofs.lemmas.List.{length-map}
 use Rattle.nfs_machine.specs.Opening.{opening, opening_last, opening_root, opening_roots, time_of}
-use Rattle.nfs_machine.specs.Run.{Setting}
-use Rattle.nfs_machine.specs.State.{Living, State}
+use Rattle.nfs_machine.specs.State.{Living}
 use Rattle.nfs_machine.specs.declared.moment.Moment.{Moment}
 use Rattle.nfs_objects.specs.Sound.{RootLives}
 use Rattle.nfs_objects.specs.Stands.{content_of, living_of}
 use Rattle.nfs_objects.specs.declared.object.Inode.{Inode}
-use Rattle.nfs_objects.specs.declared.object.Object.{Object}
 use Rattle.nfs_objects.specs.declared.object.Object.TheVariants as objects
 use Rattle.nfs_server.specs.Plain.{PlainValue, StandsFor}
 use Rattle.nfs_server.specs.Roots.{root_of, root_slot, root_slots}

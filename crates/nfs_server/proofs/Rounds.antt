@@ -1,9 +1,8 @@
 -- What the loops that grow a view and the slots keep.
 use Rattle.std.proofs.Common.{◌≡◌, ◌≢◌, ℕ, zero, suc, ◌+◌, ◌<◌, ◌≤◌, List, [], ◌∷◌, ◌++◌, length, length-append, map, replicate, take, refl, sym, ◌∙◌, ap, subst, append_assoc, append-nil, arith}
-use Rattle.std.proofs.Common.{get_or, set, None, Some, option_map}
+use Rattle.std.proofs.Common.{get_or, set, None, Some}
 use Rattle.std.proofs.Math.Seq.{take-append_seam}
 use Rattle.std.proofs.lemmas.List.{map-append, map-set, take_more, take-map}
-use Rattle.std.specs.Arc.{arc_value}
 use Rattle.std.specs.List.{AllByRecursion}
 use Rattle.nfs_objects.specs.Fits.{Fits}
 use Rattle.nfs_objects.specs.Store.{Store, with_write, with_writes}
@@ -18,7 +17,7 @@ use Rattle.nfs_server.specs.Slots.{SlotValue, empty_slot}
 use Rattle.nfs_server.proofs.Joins.{all_join}
 use Rattle.nfs_server.proofs.Stores.{store_room}
 use Rattle.nfs_server.proofs.Views.{fits_more, fits_reserved, none_behind, last_behind}
-use Rattle.nfs_server.specs.Roots.{root_of, root_slot, root_slots}
+use Rattle.nfs_server.specs.Roots.{root_of, root_slots}
 use Rattle.nfs_server.specs.Slots.{generation_in, put_in, slot_value}
 use Rattle.nfs_server.specs.declared.slots.Slot.{Slot}
 use Rattle.nfs_objects.specs.declared.view.Reserved.{Reserved}

@@ -1,15 +1,14 @@
 -- The store that slots are: room adds nothing to it, and what is put into a slot is a write to it.
-use Rattle.std.proofs.Common.{◌≡◌, ◌≢◌, ℕ, zero, suc, ◌<◌, Bool, true, false, cond, nat_eq, max, List, [], ◌∷◌, ◌++◌, length, replicate, set, get_or, Option, Some, None, refl, sym, ◌∙◌, ap, subst, arith}
+use Rattle.std.proofs.Common.{◌≡◌, ◌≢◌, ℕ, zero, suc, ◌<◌, true, false, cond, nat_eq, max, List, [], ◌∷◌, ◌++◌, length, replicate, set, get_or, Option, Some, None, refl, sym, ◌∙◌, ap, subst, arith}
 use Rattle.std.proofs.lemmas.Bool.Decides.{nat_tests}
 use Rattle.std.specs.List.{slice_get}
-use Rattle.nfs_objects.specs.Store.{Store, put_at, give, with_write}
-use Rattle.nfs_objects.specs.Values.{is_addr}
+use Rattle.nfs_objects.specs.Store.{put_at, give, with_write}
 use Rattle.nfs_objects.specs.declared.address.Addr.{Addr}
 use Rattle.nfs_objects.specs.declared.address.Addr.TheVariants.{Inode, Mounts}
 use Rattle.nfs_objects.specs.declared.object.Object.{Object}
 use Rattle.nfs_objects.specs.declared.object.Object.TheVariants as objects
 use Rattle.nfs_server.specs.Plain.{object_at, store_in}
-use Rattle.nfs_server.specs.Slots.{SlotValue, empty_slot, object_in, last_in, generation_in, put_in}
+use Rattle.nfs_server.specs.Slots.{SlotValue, empty_slot, object_in, last_in, put_in}
 
 room_empty : {X : Type 0} (f : Option SlotValue → X) → f (Some empty_slot) ≡ f None → (count n : ℕ) → f (slice_get (replicate count empty_slot) n) ≡ f None
 room_empty f e zero n = refl

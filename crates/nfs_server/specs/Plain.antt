@@ -1,11 +1,10 @@
 -- The store of one caller, and the state that it stands for.
-use Rattle.std.specs.Prelude.{ℕ, ◌<◌, List, length, max, Option, Some, None, slice_get}
+use Rattle.std.specs.Prelude.{◌<◌, List, length, Option, slice_get}
 use Rattle.nfs_machine.specs.Run.{Setting}
 use Rattle.nfs_machine.specs.State.{State}
 use Rattle.nfs_objects.specs.declared.address.Addr.{Addr}
 use Rattle.nfs_objects.specs.declared.address.Addr.TheVariants.{Inode, Mounts}
 use Rattle.nfs_objects.specs.declared.object.Object.{Object}
-use Rattle.nfs_objects.specs.declared.object.Object.TheVariants as objects
 use Rattle.nfs_objects.specs.Sound.{Sound, RootsLive}
 use Rattle.nfs_objects.specs.Stands.{Represents}
 use Rattle.nfs_objects.specs.Store.{Store}

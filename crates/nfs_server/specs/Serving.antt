@@ -1,9 +1,9 @@
 -- What the records of a stream are answered (RFC 5531, 8 and 11; RFC 1813, 3).
-use Rattle.std.specs.Prelude.{◌≡◌, ℕ, ◌^◌, ◌-◌, ◌≤◌, Bool, true, List, [], ◌∷◌, ◌++◌, length, map, take, Option, Some, Result, Ok, Err, ◌⊎◌}
+use Rattle.std.specs.Prelude.{◌≡◌, ℕ, true, List, [], ◌∷◌, ◌++◌, map, Ok, Err, ◌⊎◌}
 use Rattle.std.specs.List.{AllByRecursion}
 use Rattle.nfs_rpc.specs.Early.{call_of}
 use Rattle.nfs_rpc.specs.Messages.{CallHeader, reply_of}
-use Rattle.nfs_rpc.specs.Records.{fragment, IsStream}
+use Rattle.nfs_rpc.specs.Records.{fragment}
 use Rattle.nfs_rpc.specs.declared.faults.Answer.TheVariants as answers
 use Rattle.nfs_rpc.specs.declared.faults.Early.{Early}
 use Rattle.nfs_rpc.specs.declared.faults.Early.TheVariants as early
@@ -13,7 +13,7 @@ use Rattle.nfs_wire.specs.Replies.{result_bytes}
 use Rattle.side_wire.specs.Mount.{mount_result_bytes}
 use Rattle.side_wire.specs.Nlm.{nlm_result_bytes}
 use Rattle.nfs_machine.specs.Refusal.{refusal_of}
-use Rattle.nfs_machine.specs.Run.{Setting, Arrival, Record, Asks, Executes, IsCall, Run}
+use Rattle.nfs_machine.specs.Run.{Setting, Arrival, Record, Asks, Executes, IsCall}
 use Rattle.nfs_machine.specs.State.{State}
 use Rattle.nfs_machine.specs.declared.calls.Call.{Call}
 use Rattle.nfs_machine.specs.declared.calls.Refusal.{Refusal}

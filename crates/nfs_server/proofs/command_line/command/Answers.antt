@@ -1,6 +1,6 @@
 -- Each option adds the rule that its builder states, in the order of the chain.
 use Rattle.std.proofs.Common.{rules, ◌≡◌, ◌∙◌, ap, ap₂}
-use Rattle.std.specs.Prelude.{Some, true, codes, pos}
+use Rattle.std.specs.Prelude.{true, codes, pos}
 use Rattle.std.proofs.lemmas.Result.{IfOk-weaker}
 use Rattle.clap.specs.Words.{Rule, rule_of, with_rule}
 use Rattle.clap.specs.Simple.{app_of_fields}

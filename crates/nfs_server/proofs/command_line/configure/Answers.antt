@@ -1,9 +1,9 @@
 -- The command line is taken once its words and its host are; what is left is the transport and the exports.
-use Rattle.std.proofs.Common.{rules, ◌≡◌, List, ℕ, Bool, map, subst, false, true}
+use Rattle.std.proofs.Common.{rules, ◌≡◌, map, subst, false, true}
 use Rattle.std.specs.Prelude.{codes}
 use Rattle.std.proofs.lemmas.Result.{MatchResult-weaker}
 use Rattle.clap.specs.Words.{matches_of, one_of}
-use Rattle.nfs_server.specs.CommandLine.{IsTaken, ReadsFlag, nfsd}
+use Rattle.nfs_server.specs.CommandLine.{ReadsFlag, nfsd}
 use Rattle.nfs_server.proofs.Parsed.{flag_read, options_read, refuses_options, taken}
 use Rattle.nfs_server.proofs.command_line.configure.Goals as goal
 

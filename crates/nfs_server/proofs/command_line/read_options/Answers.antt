@@ -1,6 +1,6 @@
 -- Each field is what its option gives by the rows.
 use Rattle.std.proofs.Common.{rules, refl, ap, map, List, ℕ, ◌≡◌, ◌∙◌}
-use Rattle.std.specs.Prelude.{Result, Option, codes}
+use Rattle.std.specs.Prelude.{Result, codes}
 use Rattle.std.specs.Borrow.{Bor}
 use Rattle.std.specs.Str.Parse.{ExplainsUnsignedError, HasUnsignedDigitsIfOk, ParsesUnsigned}
 use Rattle.std.specs.declared.num.ParseIntError.{ParseIntError}

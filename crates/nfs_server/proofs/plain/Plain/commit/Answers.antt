@@ -1,4 +1,4 @@
-use Rattle.std.proofs.Common.{◌≡◌, List, ap, ◌∙◌, map, subst, sym}
+use Rattle.std.proofs.Common.{List, ap, ◌∙◌, map, subst, sym}
 use Rattle.nfs_objects.specs.Values.{write_value}
 use Rattle.nfs_objects.specs.declared.done.Write.{Write}
 use Rattle.nfs_server.specs.Forms.{HasForm}
