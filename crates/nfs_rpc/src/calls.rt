@@ -52,10 +52,10 @@ struct Heading<'a> {
 
 #[tactic(auto, unfolding(crate::specs::Early::call_of))]
 /// Reads the header of the call that a record is, or tells how the record ends early. It takes no memory.
-pub fn read_call(record: &Record) -> Result<RpcCall<'_>, Early>
-    ensures { IsCallOf record.entry.now result }
+pub fn read_call(message: &Record) -> Result<RpcCall<'_>, Early>
+    ensures { IsCallOf message.entry.now result }
 {
-    let mut reader = SharedReader::new(record);
+    let mut reader = SharedReader::new(message);
     let Ok(opening) = read_opening(&mut reader) else {
         return Err(Early::Drop);
     };
