@@ -1,5 +1,6 @@
 //! Records and their answers.
 
+use super::streams::Flushed;
 use super::*;
 
 #[test]
@@ -123,6 +124,22 @@ fn two_records_in_one_piece(rt: HostRuntime) -> Result<(), Fail> {
         written.as_slice(),
         both(alloc, &NULL_REPLY, &OTHER_NULL_REPLY)?.as_slice()
     );
+    Ok(())
+}
+
+#[test]
+fn each_answer_is_sent_on(rt: HostRuntime) -> Result<(), Fail> {
+    let alloc = rt.alloc();
+    let mut plain = opened(alloc)?;
+    let input = both(alloc, &NULL, &OTHER_NULL)?;
+    let mut writer = Counted::new(Flushed {
+        written: Vec::new(alloc),
+        flushes: Vec::new(alloc),
+    });
+    let mut reader = Counted::new(input.as_slice());
+    let end = serve(alloc, &mut plain, &mut reader, &mut writer);
+    assert_eq!(rt; end, Ok(Served));
+    assert_eq!(rt; writer.into_inner().flushes.as_slice(), [28, 56].as_slice());
     Ok(())
 }
 

@@ -85,3 +85,21 @@ impl Write for Unflushed {
         Err(Error::from(ErrorKind::Other))
     }
 }
+
+/// A writer that knows how many bytes it had at each flush.
+#[derive(Drop)]
+pub struct Flushed {
+    pub written: Vec<u8>,
+    pub flushes: Vec<usize>,
+}
+
+impl Write for Flushed {
+    fn write(&mut self, buffer: &[u8]) -> Result<usize> {
+        self.written.write(buffer)
+    }
+
+    fn flush(&mut self) -> Result<()> {
+        self.flushes.push(self.written.len())?;
+        Ok(())
+    }
+}
