@@ -1,20 +1,19 @@
 -- The answers to MNT are the machine's: what the path names in the view it names in every store that the view fits.
-use Rattle.std.proofs.Common.{◌≡◌, ℕ, Bool, true, false, cond, List, [], ◌∷◌, ◌++◌, map, Option, Some, None, IsSome, Result, Ok, Err, ◌⊎◌, inl, inr, refl, sym, ◌∙◌, ap, subst}
+use Rattle.std.proofs.Common.{◌≡◌, ℕ, cond, List, [], ◌∷◌, ◌++◌, Option, Some, None, IsSome, Ok, Err, inl, inr, refl, sym, ◌∙◌, ap, subst}
 use Rattle.std.specs.Borrow.{Bor}
 use Rattle.std.specs.FinMap.{get}
 use Rattle.side_wire.specs.declared.mount.MountCall.TheVariants as calls
 use Rattle.side_wire.specs.declared.mount.MountReply.TheVariants as replies
 use Rattle.side_wire.specs.declared.mount.MountStatus.{MountStatus}
 use Rattle.side_wire.specs.declared.mount.MountStatus.TheVariants.{Access}
-use Rattle.nfs_machine.specs.MountSteps.{Chosen, MountStep, NoExport, Target, handle_at, is_mounted, newest, path_fault, walk, with_mount}
+use Rattle.nfs_machine.specs.MountSteps.{Chosen, MountStep, NoExport, handle_at, is_mounted, newest, path_fault}
 use Rattle.nfs_machine.specs.Paths.{parts}
-use Rattle.nfs_machine.specs.State.{Mounted, State}
 use Rattle.nfs_machine.specs.declared.calls.Call.TheVariants.{Mount}
 use Rattle.nfs_machine.specs.declared.calls.Reply.TheVariants as answers
 use Rattle.nfs_machine.specs.declared.context.Ctx.{Ctx}
 use Rattle.nfs_objects.specs.Endings.{HoldsUnchanged}
 use Rattle.nfs_objects.proofs.Seen.{lives-seen, mounts-seen}
-use Rattle.nfs_objects.specs.Stands.{living_of_inode, mounted, mounted_of, mounts_of}
+use Rattle.nfs_objects.specs.Stands.{living_of_inode, mounted}
 use Rattle.nfs_objects.specs.Values.{ViewValue, seen_at}
 use Rattle.nfs_objects.specs.declared.address.Addr.TheVariants.{Inode, Mounts}
 use Rattle.nfs_objects.specs.declared.object.Inode as inodes

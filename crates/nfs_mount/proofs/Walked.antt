@@ -1,9 +1,8 @@
 -- A walk ends at the inode where no name is left, and one name further where a directory has no entries.
-use Rattle.std.proofs.Common.{◌≡◌, ℕ, List, [], ◌∷◌, Option, Some, None, Result, Ok, Err, refl, ap, ◌∙◌, sym, option_map}
-use Rattle.side_wire.specs.declared.mount.MountStatus.{MountStatus}
+use Rattle.std.proofs.Common.{◌≡◌, ℕ, List, [], ◌∷◌, Option, Some, None, Ok, Err, refl, ap, sym, option_map}
 use Rattle.side_wire.specs.declared.mount.MountStatus.TheVariants.{NoEntry}
 use Rattle.nfs_machine.specs.MountSteps.{entries_at, walk}
-use Rattle.nfs_machine.specs.State.{Entry, Living}
+use Rattle.nfs_machine.specs.State.{Living}
 use Rattle.nfs_objects.specs.Stands.{inode_of, living_of, living_of_inode}
 use Rattle.nfs_objects.specs.declared.object.Content.{Content}
 use Rattle.nfs_objects.specs.declared.object.Content.TheVariants.{Directory}

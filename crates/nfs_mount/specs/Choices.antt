@@ -1,5 +1,5 @@
 -- Exports that lead to a path (RFC 1813, 5.2.1).
-use Rattle.std.specs.Prelude.{◌≡◌, ℕ, Bool, true, List, ◌++◌, length, Option, Some, None, nat_lt, if◌then◌else◌}
+use Rattle.std.specs.Prelude.{◌≡◌, ℕ, true, List, ◌++◌, length, Option, Some, None, nat_lt, if◌then◌else◌}
 use Rattle.nfs_machine.specs.Exports.{ExportValue, admits}
 use Rattle.nfs_machine.specs.Paths.{parts}
 use Rattle.nfs_mount.specs.declared.choice.Choice.{Choice}

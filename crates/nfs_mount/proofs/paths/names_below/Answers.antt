@@ -1,4 +1,4 @@
-use Rattle.std.proofs.Common.{◌≡◌, sym, subst, ◌∙◌, MatchOption}
+use Rattle.std.proofs.Common.{sym, ◌∙◌}
 use Rattle.nfs_machine.specs.Paths.{parts}
 use Rattle.nfs_mount.proofs.Fronts.{behind_all, behind_differs, behind_none, behind_short, behind_some}
 use Rattle.nfs_mount.proofs.paths.names_below.Goals as goal
