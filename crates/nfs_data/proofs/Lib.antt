@@ -1,3 +1,4 @@
-pub mod Meant
 pub mod Nothing
+pub mod Reading
 pub mod Shown
+pub mod Writing

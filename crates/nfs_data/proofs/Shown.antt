@@ -1,34 +1,25 @@
 -- GETATTR's answer is a step in every sound store that the view fits: the handle names there what was found, and the
 -- links that an inode counts are those that it has.
-use Rattle.std.proofs.Common.{◌≡◌, ℕ, List, [], Some, Result, Ok, Err, refl, sym, ap, ◌∙◌}
+use Rattle.std.proofs.Common.{◌≡◌, ℕ, List, [], Result, Ok, Err, refl, sym, ap, ◌∙◌}
 use Rattle.nfs_wire.specs.declared.attributes.Attributes.{Attributes}
 use Rattle.nfs_wire.specs.declared.calls.NfsCall.TheVariants as nfs
 use Rattle.nfs_wire.specs.declared.replies.NfsReply.TheVariants as replies
 use Rattle.nfs_wire.specs.declared.status.NfsStatus.{NfsStatus}
 use Rattle.nfs_wire.specs.declared.status.NfsStatus.TheVariants as status
-use Rattle.nfs_machine.specs.Attributes.{attributes_of, links_of}
-use Rattle.nfs_machine.specs.NfsSteps.{NfsStep, attributes_result}
+use Rattle.nfs_machine.specs.DataSteps.{attributes_result}
+use Rattle.nfs_machine.specs.NfsSteps.{NfsStep}
 use Rattle.nfs_machine.specs.Resolve.{resolve}
 use Rattle.nfs_machine.specs.State.{State}
 use Rattle.nfs_machine.specs.declared.calls.Call.TheVariants as calls
 use Rattle.nfs_machine.specs.declared.calls.Reply.TheVariants as answers
 use Rattle.nfs_machine.specs.declared.context.Ctx.{Ctx}
-use Rattle.nfs_objects.proofs.Seen.{fits_at}
 use Rattle.nfs_objects.specs.Endings.{HoldsUnchanged}
-use Rattle.nfs_objects.specs.Stands.{content_of, living_of_inode}
 use Rattle.nfs_objects.specs.Values.{ViewValue}
-use Rattle.nfs_objects.specs.declared.address.Addr.TheVariants as addresses
 use Rattle.nfs_objects.specs.declared.object.Inode.{Inode}
-use Rattle.nfs_objects.specs.declared.object.Object.TheVariants as objects
-use Rattle.nfs_data.proofs.Meant.{resolve-means}
-use Rattle.nfs_data.specs.Found.{BadHandle, Stale, Names, found_at}
-use Rattle.nfs_data.specs.Shown.{Shows}
-
--- what is shown of an inode is what the machine shows of its object, where the inode counts its links
-pub shown-attributes : (m : State) (number : ℕ) (i : Inode) (shown : Attributes) → Shows number i shown → i.links ≡ links_of m number (content_of i.content)
-    → shown ≡ attributes_of m number (living_of_inode i)
-shown-attributes m number i shown shows links =
-    shows m ∙ ap (λ n. record (attributes_of m number (living_of_inode i)) { links = n }) links
+use Rattle.nfs_inodes.proofs.Attributed.{seen-attributes}
+use Rattle.nfs_inodes.proofs.Meant.{resolve-means}
+use Rattle.nfs_inodes.specs.Found.{BadHandle, Stale, Names, found_at}
+use Rattle.nfs_inodes.specs.Shown.{Shows}
 
 module _ (ctx : Ctx) (view : ViewValue) (object : List ℕ) where
   abbrev Answers : Result Attributes NfsStatus → Type 0
@@ -53,6 +44,5 @@ module _ (ctx : Ctx) (view : ViewValue) (object : List ℕ) where
       record {
         step = λ s m stands sound roots fits.
             let means = resolve-means s m ctx view object (Names number i) found stands fits in
-            let there = fits_at view.entries s.at (addresses.Inode number) (Some (objects.Inode i)) fits.entries means.1 in
-            step m (Ok shown) (ap (λ a. Ok a) (shown-attributes m number i shown shows (sound.links number i there)) ∙ ap (attributes_result m) (sym means.0));
+            step m (Ok shown) (ap (λ a. Ok a) (seen-attributes s m view number i shown sound fits means.1 shows) ∙ ap (attributes_result m) (sym means.0));
       }

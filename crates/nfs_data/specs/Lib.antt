@@ -1,3 +1,2 @@
-pub mod Found
-pub mod Shown
+pub mod Calls
 pub mod Wanted

@@ -5,8 +5,8 @@ ghost use Rattle.nfs_objects.specs.Attempt.{Attempts, AsksFor, IsNeed};
 ghost use Rattle.nfs_objects.specs.Endings.{HoldsUnchanged};
 ghost use Rattle.nfs_data.specs.Wanted.{wanted};
 
-use crate::inodes::{Found, attributes, resolve};
 use bytes::Bytes;
+use nfs_inodes::{Found, attributes, resolve};
 use nfs_machine::{Call, Ctx, Reply};
 use nfs_objects::{Outcome, View, needed, unchanged};
 use nfs_wire::{Attributes, NfsCall, NfsReply, NfsStatus};

@@ -3,36 +3,43 @@
 //! An attempt is a function of its arguments: it reads the view and nothing else, and comes to the addresses that it
 //! still needs, or to a `Done`. Its contract is the promise that a `Done` keeps by its type, which is that the answer
 //! is a step of the machine in every sound store that the view fits, and exactly what is asked for. So far the
-//! procedures are NULL and GETATTR. It stands on `nfs_objects` for views and ends, and on `nfs_machine` for the steps.
+//! procedures are NULL, GETATTR, READ and WRITE. It stands on `nfs_objects` for views and ends, on `nfs_inodes` for what handles name and
+//! what is shown of inodes, and on `nfs_machine` for the steps.
 #![tactic(auto)]
 
-ghost use Rattle.std.specs.Prelude.{IfOk};
+ghost use Rattle.std.specs.Prelude.{◌≡◌, true, IfOk};
 ghost use Rattle.nfs_objects.specs.Attempt.{Attempts, AsksFor};
+ghost use Rattle.nfs_data.specs.Calls.{is_data_call};
 ghost use Rattle.nfs_data.specs.Wanted.{wanted};
 
 mod getattr;
-pub mod inodes;
+mod read;
+mod write;
 
 use nfs_machine::{Call, Ctx, Reply};
 use nfs_objects::{Outcome, View, unchanged};
 use nfs_wire::{NfsCall, NfsReply};
 use std::alloc::{AllocError, Global};
 
-/// Tries a call on a view.
+/// Tries a call of one of this crate's procedures on a view.
 ///
-/// NULL asks for nothing. GETATTR asks for the object that the handle names, unless the view has it; a handle that is
+/// NULL asks for nothing. The others ask for the object that the handle names, unless the view has it; a handle that is
 /// bad, of another start of the server, or of an export that does not admit the host is answered without asking.
 ///
 /// # Errors
 ///
 /// `AllocError` where the memory for what the call comes to was refused.
 pub fn attempt(alloc: Global, call: &NfsCall, ctx: &Ctx, view: &View) -> Result<Outcome, AllocError>
+    requires { is_data_call call.now ≡ true }
     ensures attempts { IfOk result (λ outcome. Attempts (Call.Nfs call.now) ctx.now view.now outcome) }
     ensures asks { IfOk result (AsksFor (wanted ctx.now view.now.entries call.now)) }
 {
     match call {
         NfsCall::Null => null(alloc, ctx, view),
         NfsCall::Getattr(object) => getattr::attempt(alloc, object, ctx, view),
+        NfsCall::Read(arguments) => read::attempt(alloc, arguments, ctx, view),
+        NfsCall::Write(arguments) => write::attempt(alloc, arguments, ctx, view),
+        _ => unreachable!(),
     }
 }
 
@@ -49,6 +56,3 @@ fn null(alloc: Global, ctx: &Ctx, view: &View) -> Result<Outcome, AllocError>
         Reply::Nfs(NfsReply::Null),
     )
 }
-
-#[cfg(test)]
-mod tests;

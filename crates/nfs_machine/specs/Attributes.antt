@@ -69,15 +69,19 @@ is_living_directory (Some o) = is_directory o.content
 abbrev pub names_in : ℕ → Living → ℕ
 names_in number directory = count_by (λ (e : Entry). e.number == number) (entries_of directory.content)
 
+-- how many names lead to the object
+abbrev pub names_of : State → ℕ → ℕ
+names_of m number = sum_by (names_in number) (values m.objects)
+
 -- of a directory 2 and its subdirectories, of anything else the count of its names
 abbrev pub links_of : State → ℕ → Content → ℕ
 links_of m number (Directory entries last_cookie) = 2 + count_by (λ (e : Entry). is_living_directory (get m.objects e.number)) entries
-links_of m number (Regular bytes) = sum_by (names_in number) (values m.objects)
-links_of m number (Link text) = sum_by (names_in number) (values m.objects)
-links_of m number (BlockDevice device) = sum_by (names_in number) (values m.objects)
-links_of m number (CharacterDevice device) = sum_by (names_in number) (values m.objects)
-links_of m number Socket = sum_by (names_in number) (values m.objects)
-links_of m number Fifo = sum_by (names_in number) (values m.objects)
+links_of m number (Regular bytes) = names_of m number
+links_of m number (Link text) = names_of m number
+links_of m number (BlockDevice device) = names_of m number
+links_of m number (CharacterDevice device) = names_of m number
+links_of m number Socket = names_of m number
+links_of m number Fifo = names_of m number
 
 abbrev pub attributes_of : State → ℕ → Living → Attributes
 attributes_of m number o = record {

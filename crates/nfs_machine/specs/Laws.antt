@@ -1,7 +1,13 @@
 -- Laws of the machine.
-use Rattle.std.specs.Prelude.{◌≡◌, ℕ, ◌<◌, ◌^◌, List, [], ◌∷◌, ◌++◌, Some}
+use Rattle.std.specs.Prelude.{◌≡◌, ℕ, ◌<◌, ◌≤◌, ◌^◌, List, [], ◌∷◌, ◌++◌, length, Some, IfSome}
 use Rattle.std.specs.List.{All}
+use Rattle.nfs_wire.specs.Replies.{HasNfsForm, result_bytes}
+use Rattle.nfs_wire.specs.declared.calls.NfsCall.{NfsCall}
+use Rattle.nfs_wire.specs.declared.replies.NfsReply.{NfsReply}
+use Rattle.side_wire.specs.declared.message.Message.{Message}
 use Rattle.nfs_machine.specs.Handles.{handle_bytes, handle_of}
+use Rattle.nfs_machine.specs.NfsSteps.{NfsStep}
+use Rattle.nfs_machine.specs.Refusal.{nfs_refusal}
 use Rattle.nfs_machine.specs.Run.{Arrival, Asks, Executes, Record, Run, Setting}
 use Rattle.nfs_machine.specs.State.{State}
 use Rattle.nfs_machine.specs.declared.calls.Call.{Call}
@@ -37,3 +43,16 @@ HandlesAreWritten = (bytes : List ℕ) (h : Handle) → All (λ b. b < 256) byte
 abbrev pub ArrivalsAskOnce : Type 0
 ArrivalsAskOnce = (setting : Setting) (arrival : Arrival) (ctx ctx' : Ctx) (call call' : Call)
     → Asks setting arrival ctx call → Asks setting arrival ctx' call' → (ctx ≡ ctx') × (call ≡ call')
+
+-- a reply of NFS has a spelling, and its bytes are fewer than one record holds
+pub record IsShort (reply : NfsReply) : Type 0 where
+  pub form : HasNfsForm reply
+  pub short : length (result_bytes reply) ≤ 70000
+
+-- what a call of NFS is answered is short
+abbrev pub RepliesAreShort : Type 0
+RepliesAreShort = (old : State) (ctx : Ctx) (call : NfsCall) (reply : NfsReply) (messages : List Message) (new : State) → NfsStep old ctx call reply messages new → IsShort reply
+
+-- and so is what it is refused by
+abbrev pub RefusalsAreShort : Type 0
+RefusalsAreShort = (call : NfsCall) → IfSome (nfs_refusal call) IsShort

@@ -1,10 +1,15 @@
+pub mod Answers
 pub mod Attributes
 pub mod Bytes
+pub mod Checks
+pub mod Data
+pub mod DataSteps
 pub mod ExportFaults
 pub mod Exports
 pub mod Handles
 pub mod Laws
 pub mod MountSteps
+pub mod NameSteps
 pub mod NfsSteps
 pub mod NlmSteps
 pub mod Opening
@@ -13,6 +18,11 @@ pub mod Permission
 pub mod Refusal
 pub mod Resolve
 pub mod Run
+pub mod Shown
 pub mod State
 pub mod Step
+pub mod Times
+pub mod WellFormed
 pub mod Worked
+pub mod WorkedCreate
+pub mod WorkedFiles

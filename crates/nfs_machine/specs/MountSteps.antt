@@ -11,9 +11,9 @@ use Rattle.side_wire.specs.declared.mount.MountStatus.{MountStatus}
 use Rattle.side_wire.specs.declared.mount.MountStatus.TheVariants as status
 use Rattle.nfs_machine.specs.Bytes.{same_bytes}
 use Rattle.nfs_machine.specs.Exports.{ExportValue, admits, export_at}
-use Rattle.nfs_machine.specs.Handles.{handle_bytes}
-use Rattle.nfs_machine.specs.NfsSteps.{OnlyAnswers}
+use Rattle.nfs_machine.specs.Answers.{OnlyAnswers}
 use Rattle.nfs_machine.specs.Paths.{parts, pieces, is_dots, begins_with_slash}
+pub use Rattle.nfs_machine.specs.Shown.{handle_at}
 use Rattle.nfs_machine.specs.State.{Regular, Directory, Link, BlockDevice, CharacterDevice, Socket, Fifo, Entry, Living, Mounted, State}
 use Rattle.nfs_machine.specs.declared.context.Ctx.{Ctx}
 
@@ -90,9 +90,6 @@ newest mounts = drop (length mounts - mount_limit) mounts
 -- a pair is added last, unless it is there
 abbrev pub with_mount : State → Mounted → State
 with_mount m mounted = if is_mounted m.mounts mounted then m else record m { mounts = newest (m.mounts ++ mounted ∷ []) }
-
-abbrev pub handle_at : Ctx → ℕ → Living → List ℕ
-handle_at ctx number o = handle_bytes (record { export = o.export; start = ctx.start; fileid = number; generation = o.generation })
 
 -- MNT, 5.2.1
 abbrev pub MntAnswers : State → Ctx → List ℕ → Result (List ℕ) MountStatus → State → Type 0

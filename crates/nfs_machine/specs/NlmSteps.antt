@@ -5,7 +5,7 @@ use Rattle.side_wire.specs.declared.nlm.NlmCall.{NlmCall}
 use Rattle.side_wire.specs.declared.nlm.NlmCall.TheVariants as calls
 use Rattle.side_wire.specs.declared.nlm.NlmReply.{NlmReply}
 use Rattle.side_wire.specs.declared.nlm.NlmReply.TheVariants as replies
-use Rattle.nfs_machine.specs.NfsSteps.{OnlyAnswers}
+use Rattle.nfs_machine.specs.Answers.{OnlyAnswers}
 use Rattle.nfs_machine.specs.State.{State}
 use Rattle.nfs_machine.specs.declared.context.Ctx.{Ctx}
 

@@ -5,10 +5,8 @@ use Rattle.std.specs.FinMap.{FinMap, empty, insert}
 use Rattle.nfs_wire.specs.declared.attributes.Time.{Time}
 use Rattle.nfs_machine.specs.Exports.{ExportValue}
 use Rattle.nfs_machine.specs.State.{Directory, Living, State}
+pub use Rattle.nfs_machine.specs.Times.{time_of}
 use Rattle.nfs_machine.specs.declared.moment.Moment.{Moment}
-
-abbrev pub time_of : Moment → Time
-time_of moment = record { seconds = moment.seconds; nanoseconds = moment.nanoseconds }
 
 -- mode 0777; "." and ".." have the cookies 1 and 2
 abbrev pub opening_root : ℕ → Time → Living

@@ -1,6 +1,6 @@
 //! The laws of the machine.
 
-ghost use Rattle.nfs_machine.specs.Laws.{ArrivalsAskOnce, HandlesAreRead, HandlesAreWritten, RunsGoOn, RunsJoin};
+ghost use Rattle.nfs_machine.specs.Laws.{ArrivalsAskOnce, HandlesAreRead, HandlesAreWritten, RefusalsAreShort, RepliesAreShort, RunsGoOn, RunsJoin};
 
 use side_wire::{mount, nlm};
 
@@ -29,3 +29,9 @@ pub fn arrivals_ask_once()
     mount::one_call_is_spelled();
     nlm::one_call_is_spelled();
 }
+
+/// A reply of NFS has a spelling, which is shorter than a record may be; so has a refusal.
+pub fn replies_are_short()
+    ensures replies { RepliesAreShort }
+    ensures refusals { RefusalsAreShort }
+{}

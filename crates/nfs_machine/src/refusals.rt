@@ -4,11 +4,22 @@ ghost use Rattle.std.specs.Prelude.{◌≡◌};
 ghost use Rattle.nfs_machine.specs.Refusal.{mount_refusal, nfs_refusal, refusal_by, refusal_of};
 
 use crate::calls::{Call, Refusal, Reply};
-use nfs_wire::{NfsCall, NfsReply, NfsStatus};
+use nfs_wire::{
+    AccessReply, CommitReply, FsinfoReply, FsstatReply, LinkedReply, LookupReply, MadeReply,
+    NfsCall, NfsReply, NfsStatus, PathconfReply, ReadReply, ReaddirReply, ReaddirplusReply,
+    ReadlinkReply, RemovedReply, RenamedReply, SetattrReply, Wcc, WriteReply,
+};
 use side_wire::{MountCall, MountReply, MountStatus};
+
+/// Nothing is shown of an object.
+const NOTHING: Wcc = Wcc {
+    before: None,
+    after: None,
+};
 
 impl Call {
     /// What this call is answered where it cannot be executed for want of memory. It takes no memory itself.
+    #[tactic(auto, unfolding(crate::specs::Refusal::refusal_of))]
     pub fn refusal(&self) -> Refusal
         ensures { result ≡ refusal_of self.now }
     {
@@ -36,6 +47,88 @@ fn nfs_refusal(call: &NfsCall) -> Option<NfsReply>
     match call {
         NfsCall::Null => None,
         NfsCall::Getattr(_) => Some(NfsReply::Getattr(Err(NfsStatus::Jukebox))),
+        NfsCall::Setattr(_) => Some(NfsReply::Setattr(SetattrReply {
+            wcc: NOTHING,
+            result: Err(NfsStatus::Jukebox),
+        })),
+        NfsCall::Lookup(_) => Some(NfsReply::Lookup(LookupReply {
+            directory: None,
+            result: Err(NfsStatus::Jukebox),
+        })),
+        NfsCall::Access(_) => Some(NfsReply::Access(AccessReply {
+            attributes: None,
+            result: Err(NfsStatus::Jukebox),
+        })),
+        NfsCall::Readlink(_) => Some(NfsReply::Readlink(ReadlinkReply {
+            attributes: None,
+            result: Err(NfsStatus::Jukebox),
+        })),
+        NfsCall::Read(_) => Some(NfsReply::Read(ReadReply {
+            attributes: None,
+            result: Err(NfsStatus::Jukebox),
+        })),
+        NfsCall::Write(_) => Some(NfsReply::Write(WriteReply {
+            wcc: NOTHING,
+            result: Err(NfsStatus::Jukebox),
+        })),
+        NfsCall::Create(_) => Some(NfsReply::Create(MadeReply {
+            directory: NOTHING,
+            result: Err(NfsStatus::Jukebox),
+        })),
+        NfsCall::Mkdir(_) => Some(NfsReply::Mkdir(MadeReply {
+            directory: NOTHING,
+            result: Err(NfsStatus::Jukebox),
+        })),
+        NfsCall::Symlink(_) => Some(NfsReply::Symlink(MadeReply {
+            directory: NOTHING,
+            result: Err(NfsStatus::Jukebox),
+        })),
+        NfsCall::Mknod(_) => Some(NfsReply::Mknod(MadeReply {
+            directory: NOTHING,
+            result: Err(NfsStatus::Jukebox),
+        })),
+        NfsCall::Remove(_) => Some(NfsReply::Remove(RemovedReply {
+            directory: NOTHING,
+            result: Err(NfsStatus::Jukebox),
+        })),
+        NfsCall::Rmdir(_) => Some(NfsReply::Rmdir(RemovedReply {
+            directory: NOTHING,
+            result: Err(NfsStatus::Jukebox),
+        })),
+        NfsCall::Rename(_) => Some(NfsReply::Rename(RenamedReply {
+            from: NOTHING,
+            to: NOTHING,
+            result: Err(NfsStatus::Jukebox),
+        })),
+        NfsCall::Link(_) => Some(NfsReply::Link(LinkedReply {
+            attributes: None,
+            directory: NOTHING,
+            result: Err(NfsStatus::Jukebox),
+        })),
+        NfsCall::Readdir(_) => Some(NfsReply::Readdir(ReaddirReply {
+            attributes: None,
+            result: Err(NfsStatus::Jukebox),
+        })),
+        NfsCall::Readdirplus(_) => Some(NfsReply::Readdirplus(ReaddirplusReply {
+            attributes: None,
+            result: Err(NfsStatus::Jukebox),
+        })),
+        NfsCall::Fsstat(_) => Some(NfsReply::Fsstat(FsstatReply {
+            attributes: None,
+            result: Err(NfsStatus::Jukebox),
+        })),
+        NfsCall::Fsinfo(_) => Some(NfsReply::Fsinfo(FsinfoReply {
+            attributes: None,
+            result: Err(NfsStatus::Jukebox),
+        })),
+        NfsCall::Pathconf(_) => Some(NfsReply::Pathconf(PathconfReply {
+            attributes: None,
+            result: Err(NfsStatus::Jukebox),
+        })),
+        NfsCall::Commit(_) => Some(NfsReply::Commit(CommitReply {
+            wcc: NOTHING,
+            result: Err(NfsStatus::Jukebox),
+        })),
     }
 }
 

@@ -1,26 +1,29 @@
 -- The answers to MNT are the machine's: what the path names in the view it names in every store that the view fits.
 use Rattle.std.proofs.Common.{◌≡◌, ℕ, cond, List, [], ◌∷◌, ◌++◌, Option, Some, None, IsSome, Ok, Err, inl, inr, refl, sym, ◌∙◌, ap, subst}
-use Rattle.std.specs.Borrow.{Bor}
 use Rattle.std.specs.FinMap.{get}
 use Rattle.side_wire.specs.declared.mount.MountCall.TheVariants as calls
 use Rattle.side_wire.specs.declared.mount.MountReply.TheVariants as replies
 use Rattle.side_wire.specs.declared.mount.MountStatus.{MountStatus}
 use Rattle.side_wire.specs.declared.mount.MountStatus.TheVariants.{Access}
-use Rattle.nfs_machine.specs.MountSteps.{Chosen, MountStep, NoExport, handle_at, is_mounted, newest, path_fault}
+use Rattle.nfs_machine.specs.MountSteps.{Chosen, MountStep, NoExport, handle_at, is_mounted, newest, path_fault, walk}
 use Rattle.nfs_machine.specs.Paths.{parts}
+use Rattle.nfs_machine.specs.State.{Living, State}
 use Rattle.nfs_machine.specs.declared.calls.Call.TheVariants.{Mount}
 use Rattle.nfs_machine.specs.declared.calls.Reply.TheVariants as answers
 use Rattle.nfs_machine.specs.declared.context.Ctx.{Ctx}
 use Rattle.nfs_objects.specs.Endings.{HoldsUnchanged}
 use Rattle.nfs_objects.proofs.Seen.{lives-seen, mounts-seen}
-use Rattle.nfs_objects.specs.Stands.{living_of_inode, mounted}
+use Rattle.nfs_objects.specs.Fits.{Fits}
+use Rattle.nfs_objects.specs.Stands.{Represents, living_of_inode, mounted}
+use Rattle.nfs_objects.specs.Store.{Store}
 use Rattle.nfs_objects.specs.Values.{ViewValue, seen_at}
-use Rattle.nfs_objects.specs.declared.address.Addr.TheVariants.{Inode, Mounts}
+use Rattle.nfs_objects.specs.declared.address.Addr.TheVariants.{Mounts}
 use Rattle.nfs_objects.specs.declared.object.Inode as inodes
 use Rattle.nfs_objects.specs.declared.object.Mount as tables
 use Rattle.nfs_objects.specs.declared.object.Object.{Object}
 use Rattle.nfs_mount.specs.Tables.{Adds, StoresMounts}
-use Rattle.nfs_mount.specs.Walks.{IsNamed, Walks}
+use Rattle.nfs_mount.specs.Walks.{Agrees, Ends, IsNamed}
+use Rattle.nfs_mount.proofs.Walked.{ended}
 
 pub null_answered : (ctx : Ctx) (view : ViewValue) → HoldsUnchanged (Mount calls.Null) ctx view (answers.Mount replies.Null)
 unfolding MountStep
@@ -38,21 +41,25 @@ module _ (ctx : Ctx) (view : ViewValue) (path : List ℕ) where
     no_export_refused none =
         record { step = λ s m stands sound roots fits. record { result = Err Access; reply_is = refl; no_message = refl; answers = (inr (inl (sane, none, refl)), refl) } }
 
-    module _ (number : ℕ) (rest : List (List ℕ)) (known : Option Object) (chosen : Chosen ctx.exports ctx.host (parts path) number rest) (seen : seen_at view.entries (Inode number) ≡ Some known) where
-      pub walk_refused : (e : MountStatus) → Walks known rest (Err e) → HoldsUnchanged (Mount (calls.Mnt path)) ctx view (answers.Mount (replies.Mnt (Err e)))
+    module _ (root : ℕ) (rest : List (List ℕ)) (chosen : Chosen ctx.exports ctx.host (parts path) root rest) where
+      agrees : (s : Store) (m : State) → Represents s m → Fits view s → Agrees view (get m.objects)
+      agrees s m stands fits = λ n known seen. lives-seen s m view n known stands fits seen
+
+      pub walk_refused : (e : MountStatus) → ((at : ℕ → Option Living) → Agrees view at → walk at root rest ≡ Err e)
+          → HoldsUnchanged (Mount (calls.Mnt path)) ctx view (answers.Mount (replies.Mnt (Err e)))
       unfolding MountStep
       walk_refused e walks = record {
         step = λ s m stands sound roots fits. record {
           result = Err e;
           reply_is = refl;
           no_message = refl;
-          answers = (inr (inr (sane, number, rest, chosen, sym (walks (get m.objects) number (lives-seen s m view number known stands fits seen)))), refl);
+          answers = (inr (inr (sane, root, rest, chosen, sym (walks (get m.objects) (agrees s m stands fits)))), refl);
         };
       }
 
-      pub named : (inode : Bor inodes.Inode) → Walks known rest (Ok inode) → IsNamed ctx view path number inode.now
-      named inode walks = record {
-        target = λ s m stands sound roots fits. (sane, number, rest, chosen, sym (walks (get m.objects) number (lives-seen s m view number known stands fits seen)));
+      pub named : (number : ℕ) (inode : inodes.Inode) → Ends view root rest number inode → IsNamed ctx view path number inode
+      named number inode ends = record {
+        target = λ s m stands sound roots fits. (sane, root, rest, chosen, sym (ended view root rest number inode ends (get m.objects) (agrees s m stands fits)));
       }
 
   module _ (number : ℕ) (inode : inodes.Inode) (known : Option Object) (handle : List ℕ) (named : IsNamed ctx view path number inode)

@@ -1,8 +1,9 @@
 -- Where only the table of mounts is written, all else of the store and of the state stays: objects, links, roots.
-use Rattle.std.proofs.Common.{◌≡◌, ℕ, List, map, Some, refl, sym, ◌∙◌}
-use Rattle.nfs_machine.specs.Attributes.{links_of}
+use Rattle.std.proofs.Common.{ℕ, List, map, Some, refl, sym, ◌∙◌}
+use Rattle.std.specs.FinMap.{get}
+use Rattle.nfs_machine.proofs.WellFormed.{Alike, alike_itself, links-alike, parent-alike, well_formed-alike}
 use Rattle.nfs_machine.specs.Exports.{ExportValue}
-use Rattle.nfs_machine.specs.State.{Content, Regular, Directory, Link, BlockDevice, CharacterDevice, Socket, Fifo, Mounted, State}
+use Rattle.nfs_machine.specs.State.{State}
 use Rattle.nfs_machine.specs.declared.calls.Call.{Call}
 use Rattle.nfs_machine.specs.declared.calls.Reply.{Reply}
 use Rattle.nfs_machine.specs.declared.context.Ctx.{Ctx}
@@ -15,15 +16,6 @@ use Rattle.nfs_objects.specs.declared.address.Addr.TheVariants.{Mounts}
 use Rattle.nfs_objects.specs.declared.object.Mount.{Mount}
 use Rattle.nfs_objects.specs.declared.object.Object.TheVariants as objects
 use Rattle.nfs_mount.specs.Tables.{StoresMounts, mounts_stored}
-
-links_of-mounts : (m : State) (mounts : List Mounted) (n : ℕ) (c : Content) → links_of (record m { mounts = mounts }) n c ≡ links_of m n c
-links_of-mounts m mounts n (Regular bytes) = refl
-links_of-mounts m mounts n (Directory entries last) = refl
-links_of-mounts m mounts n (Link text) = refl
-links_of-mounts m mounts n (BlockDevice device) = refl
-links_of-mounts m mounts n (CharacterDevice device) = refl
-links_of-mounts m mounts n Socket = refl
-links_of-mounts m mounts n Fifo = refl
 
 module _ (s : Store) (m : State) (table : List Mount) where
   pub mounts_represented : Represents s m → Represents (with_write s Mounts (Some (objects.Mounts table))) (record m { mounts = map mounted_of table })
@@ -38,12 +30,16 @@ module _ (s : Store) (m : State) (table : List Mount) where
     no_spent_grants = r.no_spent_grants;
   }
 
+  alike : (n : ℕ) → Alike (get m.objects n) (get m.objects n)
+  alike n = alike_itself (get m.objects n)
+
   pub mounts_sound : Sound s m → Sound (with_write s Mounts (Some (objects.Mounts table))) (record m { mounts = map mounted_of table })
-  mounts_sound sound = record {
-    links = λ n i at. sound.links n i at ∙ sym (links_of-mounts m (map mounted_of table) n (content_of i.content));
-    tree = sound.tree;
-    generations = sound.generations;
-  }
+  mounts_sound sound =
+      let after : State = record m { mounts = map mounted_of table } in record {
+        links = λ n i at. sound.links n i at ∙ sym (links-alike m after alike (λ n. refl) n (content_of i.content));
+        parents = λ n i d at is. parent-alike m after alike n d.parent (sound.parents n i d at is);
+        well_formed = well_formed-alike m after alike (λ n. refl) (λ n g given. given) sound.well_formed;
+      }
 
   pub mounts_roots : (exports : List ExportValue) → RootsLive exports m → RootsLive exports (record m { mounts = map mounted_of table })
   mounts_roots exports roots = λ number e at. let r = roots number e at in record { root = r.root; lives = r.lives; own = r.own; directory = r.directory }
@@ -58,5 +54,5 @@ promised_mounts call ctx view table reply stores = record {
     sound = mounts_sound s m table sound;
     roots = mounts_roots s m table ctx.exports roots;
   };
-  writes = (stores.seen, tt);
+  writes = λ s fits. (stores.seen, tt);
 }

@@ -13,6 +13,7 @@ use Rattle.nfs_objects.specs.declared.address.Mode.{Mode}
 use Rattle.nfs_objects.specs.declared.address.Mode.TheVariants.{Exclusive}
 use Rattle.nfs_objects.specs.declared.done.Outcome.{Outcome}
 use Rattle.nfs_objects.specs.declared.done.Outcome.TheVariants.{Need, Fresh, Done}
+use Rattle.nfs_mount.specs.Walks.{ComesTo}
 
 -- those of the addresses that the view has not, each to be held alone
 abbrev pub lacking : ViewValue → List Addr → List (Addr × Mode)
@@ -24,15 +25,22 @@ IsDoneOrNeeds wanted (Need addresses) = addresses.items ≡ wanted
 IsDoneOrNeeds wanted (Fresh count) = ⊥
 IsDoneOrNeeds wanted (Done done) = Unit {0}
 
--- what a walk of these names reads: the root with this number, and where no name is left the table of mounts
+-- what a walk of these names from a number reads next: what stands there, and where no name is left the table of mounts
 abbrev pub reads : ℕ → List (List ℕ) → List Addr
 reads number [] = Inode number ∷ Mounts ∷ []
 reads number (name ∷ names) = Inode number ∷ []
 
--- the path is sane, an export is chosen, and what the walk from it reads and the view has not is asked for
-abbrev pub AsksForWalk : Ctx → ViewValue → List ℕ → List (Addr × Mode) → Type 0
-AsksForWalk ctx view path asked =
-    (path_fault path ≡ None) × (number : ℕ) × (rest : List (List ℕ)) × Chosen ctx.exports ctx.host (parts path) number rest × (asked ≡ lacking view (reads number rest))
+-- the path is sane, an export is chosen, its walk comes to a number as far as the view shows, and what it reads next and the view has not
+-- is asked for
+pub record AsksForWalk (ctx : Ctx) (view : ViewValue) (path : List ℕ) (asked : List (Addr × Mode)) : Type 0 where
+  pub sane : path_fault path ≡ None
+  pub root : ℕ
+  pub names : List (List ℕ)
+  pub chosen : Chosen ctx.exports ctx.host (parts path) root names
+  pub number : ℕ
+  pub left : List (List ℕ)
+  pub comes : ComesTo view root names number left
+  pub asked_is : asked ≡ lacking view (reads number left)
 
 abbrev pub MntAsks : Ctx → ViewValue → List ℕ → Outcome → Type 0
 MntAsks ctx view path (Need addresses) = AsksForWalk ctx view path addresses.items

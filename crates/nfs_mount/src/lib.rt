@@ -3,8 +3,7 @@
 //! An attempt is a function of its arguments: it reads the view and nothing else, and comes to the addresses that it
 //! still needs, or to a `Done`. Its contract is the promise that a `Done` keeps by its type, which is that the answer
 //! is a step of the machine in every sound store that the view fits, and what is asked for. So far the procedures are
-//! NULL and MNT, over directories without entries. It stands on `nfs_objects` for views and ends, and on `nfs_machine`
-//! for exports, handles and the steps.
+//! NULL and MNT. It stands on `nfs_objects` for views and ends, and on `nfs_machine` for exports, handles and the steps.
 #![tactic(auto)]
 
 ghost use Rattle.std.specs.Prelude.{[], IfOk};
@@ -24,8 +23,9 @@ use std::alloc::{AllocError, Global};
 /// Tries a call on a view.
 ///
 /// NULL asks for nothing. MNT refuses a path that no directory can have, or that no export leads the host to, without
-/// asking. Else it asks for the root of the longest such export, and where the path ends there for the table of mounts,
-/// both at once, as far as the view has not got them.
+/// asking. Else it walks from the root of the longest such export, through the directories that the view shows, and asks
+/// for what stands where the walk comes to, with the table of mounts where no name is left, as far as the view has not
+/// got them.
 ///
 /// # Errors
 ///
@@ -53,6 +53,3 @@ fn null(alloc: Global, ctx: &Ctx, view: &View) -> Result<Outcome, AllocError>
     let call = Call::Mount(MountCall::Null);
     unchanged(alloc, call, ctx, view, Reply::Mount(MountReply::Null))
 }
-
-#[cfg(test)]
-mod tests;

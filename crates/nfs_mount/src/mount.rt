@@ -1,7 +1,6 @@
 //! MNT (RFC 1813, appendix I, 5.2.1).
 
-ghost use Rattle.std.specs.Prelude.{◌≡◌, [], ◌∷◌, IfOk, OnOk, Err, Some, None, is_none, option_map};
-ghost use Rattle.std.specs.Arc.{arc_value};
+ghost use Rattle.std.specs.Prelude.{◌≡◌, [], ◌∷◌, IfOk, Err, None, is_none};
 ghost use Rattle.nfs_machine.specs.MountSteps.{Chosen, path_fault};
 ghost use Rattle.nfs_machine.specs.Paths.{parts};
 ghost use Rattle.nfs_objects.specs.Attempt.{Attempts, IsDone, IsNeed};
@@ -15,10 +14,9 @@ use crate::paths::{Names, path_fault};
 use crate::tables::{store_mounts, with_mount};
 use bytes::Bytes;
 use nfs_machine::{Call, Ctx, Handle, Reply};
-use nfs_objects::{Addr, Content, Inode, Mode, Object, Outcome, View, living, unchanged};
+use nfs_objects::{Addr, Inode, Mode, Outcome, View, living, unchanged};
 use side_wire::{MountCall, MountReply, MountStatus};
 use std::alloc::{AllocError, Global};
-use std::sync::Arc;
 
 /// MNT of a path: the handle of the directory that it names, and the path is listed for the caller's host. A path that
 /// is no path of any directory, or that no export leads to, is refused before an address is asked for.
@@ -48,36 +46,47 @@ fn enter(
     ensures attempts { IfOk result (λ outcome. Attempts (Call.Mount (MountCall.Mnt path.now)) ctx.now view.now outcome) }
     ensures asks { IfOk result (MntAsks ctx.now view.now path.now) }
 {
-    let Choice {
-        number,
-        depth: _,
-        rest,
-    } = choice;
-    let root = Addr::Inode(number);
-    let Some(known) = view.find(root) else {
-        return if rest.is_done() {
-            ask(alloc, view, &[root, Addr::Mounts])
-        } else {
-            ask(alloc, view, &[root])
-        };
-    };
-    match walk(known, rest) {
-        Ok(inode) => grant(alloc, path, ctx, view, number, inode),
-        Err(status) => refuse(alloc, path, ctx, view, status),
+    match walk(view, choice.number, choice.rest) {
+        Walked::Found(number, inode) => grant(alloc, path, ctx, view, number, inode),
+        Walked::Refused(status) => refuse(alloc, path, ctx, view, status),
+        Walked::Unread(number, true) => ask(alloc, view, &[Addr::Inode(number), Addr::Mounts]),
+        Walked::Unread(number, false) => ask(alloc, view, &[Addr::Inode(number)]),
     }
 }
 
-/// Walks names from what stands at a number; there are no entries in a directory so far.
-fn walk<'a>(known: &'a Option<Arc<Object>>, mut names: Names<'_>) -> Result<&'a Inode, MountStatus>
-    ensures walks { Walks (option_map arc_value known.now) names.entry result }
-    ensures end { OnOk result (names.entry ≡ []) }
+/// What a walk comes to, as far as the view shows.
+#[derive(Clone, Copy, Debug)]
+enum Walked<'a> {
+    /// The directory that the names lead to, with its number.
+    Found(u64, &'a Inode),
+    /// The names lead to no directory.
+    Refused(MountStatus),
+    /// What stands at this number decides, and the view has not shown it; and whether no name is left to walk from there.
+    Unread(u64, bool),
+}
+
+/// Walks names from a root, through the directories that the view shows. No link is followed.
+fn walk<'a>(view: &'a View, root: u64, mut names: Names<'_>) -> Walked<'a>
+    ensures { Walks view.now root names.entry result }
 {
-    let Some(inode) = living(known) else {
-        return Err(MountStatus::NoEntry);
-    };
-    match (inode.content, names.next()) {
-        (Content::Directory(_), None) => Ok(inode),
-        (Content::Directory(_), Some(_)) => Err(MountStatus::NoEntry),
+    let mut number = root;
+    'names: loop {
+        let Some(known) = view.find(Addr::Inode(number)) else {
+            return Walked::Unread(number, names.is_done());
+        };
+        let Some(inode) = living(known) else {
+            return Walked::Refused(MountStatus::NoEntry);
+        };
+        let Some(directory) = inode.directory() else {
+            return Walked::Refused(MountStatus::NotDirectory);
+        };
+        let Some(name) = names.next() else {
+            return Walked::Found(number, inode);
+        };
+        let Some(leaf) = directory.entries.find(name) else {
+            return Walked::Refused(MountStatus::NoEntry);
+        };
+        number = leaf.number;
     }
 }
 

@@ -8,7 +8,7 @@ ghost use Rattle.nfs_mount.specs.Tables.{Adds, StoresMounts, mounts_stored};
 
 use bytes::Bytes;
 use nfs_machine::{Call, Ctx, Reply};
-use nfs_objects::{Addr, Done, MountTable, Object, Outcome, View, Write, mount_table};
+use nfs_objects::{Addr, MountTable, Object, Outcome, View, Write, ended, mount_table};
 use std::alloc::{AllocError, Global};
 use std::sync::Arc;
 
@@ -41,15 +41,8 @@ pub fn store_mounts(
     ensures attempts { IfOk result (λ outcome. Attempts call ctx.now view.now outcome) }
     ensures done { IfOk result (IsDone (mounts_stored call ctx.now view.now table reply)) }
 {
-    let done = Done::new(
-        call,
-        ctx.clone()?,
-        view.copy(alloc)?,
-        write_mounts(alloc, table)?,
-        Vec::new(alloc),
-        reply,
-    );
-    Ok(Outcome::Done(done))
+    let writes = write_mounts(alloc, table)?;
+    ended(alloc, call, ctx, view, writes, reply)
 }
 
 fn write_mounts(alloc: Global, table: MountTable) -> Result<Vec<Write>, AllocError>

@@ -1,3 +1,6 @@
+pub mod Entered
+pub mod Listed
 pub mod Mounts
 pub mod Promised
+pub mod Replaced
 pub mod Seen

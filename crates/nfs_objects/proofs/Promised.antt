@@ -12,5 +12,5 @@ pub promised_unchanged : (call : Call) (ctx : Ctx) (view : ViewValue) (reply : R
 promised_unchanged call ctx view reply holds =
     record {
       kept = λ s m stands sound roots fits. record { new = m; step = holds.step s m stands sound roots fits; stands = stands; sound = sound; roots = roots };
-      writes = tt;
+      writes = λ s fits. tt;
     }

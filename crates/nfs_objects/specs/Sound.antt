@@ -1,10 +1,13 @@
 -- What is true of every store that the server makes.
-use Rattle.std.specs.Prelude.{◌≡◌, ℕ, ◌≤◌, true, List, Some}
+use Rattle.std.specs.Prelude.{◌≡◌, ℕ, true, List, Some}
 use Rattle.std.specs.FinMap.{get}
 use Rattle.nfs_machine.specs.Attributes.{links_of, is_directory}
 use Rattle.nfs_machine.specs.Exports.{ExportValue, export_at}
 use Rattle.nfs_machine.specs.State.{Living, State}
+use Rattle.nfs_machine.specs.WellFormed.{IsParent, WellFormed}
 use Rattle.nfs_objects.specs.declared.address.Addr.TheVariants as addresses
+use Rattle.nfs_objects.specs.declared.directory.Directory.{Directory}
+use Rattle.nfs_objects.specs.declared.object.Content.TheVariants as contents
 use Rattle.nfs_objects.specs.declared.object.Inode.{Inode}
 use Rattle.nfs_objects.specs.declared.object.Object.TheVariants as objects
 use Rattle.nfs_objects.specs.Stands.{content_of}
@@ -13,10 +16,10 @@ use Rattle.nfs_objects.specs.Store.{Store}
 pub record Sound (s : Store) (m : State) : Type 0 where
   -- the count of links that an inode keeps is the count that it has
   pub links : (n : ℕ) (i : Inode) → s.at (addresses.Inode n) ≡ Some (objects.Inode i) → i.links ≡ links_of m n (content_of i.content)
-  -- the directories of an export form one tree: while none has entries it is the root, whose number is the export's
-  pub tree : (n : ℕ) (i : Inode) → s.at (addresses.Inode n) ≡ Some (objects.Inode i) → i.export ≡ n
-  -- its generation was given
-  pub generations : (n : ℕ) (i : Inode) → s.at (addresses.Inode n) ≡ Some (objects.Inode i) → i.generation ≤ s.last n
+  -- the parent that a directory keeps is its parent
+  pub parents : (n : ℕ) (i : Inode) (d : Directory) → s.at (addresses.Inode n) ≡ Some (objects.Inode i) → i.content ≡ contents.Directory d → IsParent m n d.parent
+  -- names lead to living objects, and directories form one tree
+  pub well_formed : WellFormed m
 
 -- the root of an export has the export's number, and is a directory
 pub record RootLives (m : State) (number : ℕ) : Type 0 where

@@ -1,7 +1,8 @@
 -- The state that a store stands for.
 use Rattle.std.specs.Prelude.{◌≡◌, ℕ, false, List, [], map, Option, Some, None, option_map, unwrap_or, nat_le}
 use Rattle.std.specs.FinMap.{get}
-use Rattle.nfs_machine.specs.State.{Directory, Living, Mounted, State}
+use Rattle.nfs_wire.specs.declared.calls.Verifier.{Verifier}
+use Rattle.nfs_machine.specs.State.{Living, Mounted, State}
 use Rattle.nfs_machine.specs.State as machine
 use Rattle.nfs_objects.specs.declared.address.Addr.TheVariants as addresses
 use Rattle.nfs_objects.specs.declared.object.Content.{Content}
@@ -12,9 +13,19 @@ use Rattle.nfs_objects.specs.declared.object.Object.{Object}
 use Rattle.nfs_objects.specs.declared.object.Object.TheVariants as objects
 use Rattle.nfs_objects.specs.Store.{Store}
 
--- a directory without entries is the machine's with none
+-- the machine's content; it does not keep the parent of a directory, which follows from the names
 abbrev pub content_of : Content → machine.Content
-content_of (contents.Directory last_cookie) = Directory [] last_cookie
+content_of (contents.Regular bytes) = machine.Regular bytes
+content_of (contents.Directory directory) = machine.Directory directory.entries directory.last_cookie
+content_of (contents.Link text) = machine.Link text
+content_of (contents.BlockDevice device) = machine.BlockDevice device
+content_of (contents.CharacterDevice device) = machine.CharacterDevice device
+content_of contents.Socket = machine.Socket
+content_of contents.Fifo = machine.Fifo
+
+-- the bytes of an exclusive CREATE
+abbrev pub verifier_of : Option Verifier → Option (List ℕ)
+verifier_of verifier = option_map (λ (v : Verifier). v.bytes) verifier
 
 -- the living object that an inode is
 abbrev pub living_of_inode : Inode → Living
@@ -28,7 +39,7 @@ living_of_inode i = record {
   accessed = i.accessed;
   modified = i.modified;
   changed = i.changed;
-  verifier = None;
+  verifier = verifier_of i.verifier;
 }
 
 -- the inode that stands there

@@ -8,14 +8,16 @@
 #![tactic(auto)]
 
 pub mod address;
+pub mod directory;
 pub mod done;
 pub mod ending;
 pub mod object;
 pub mod view;
 
 pub use address::{Addr, Mode};
+pub use directory::{Directory, Entries, Leaf};
 pub use done::{Done, Outcome, Parts, Write};
-pub use ending::{needed, unchanged};
+pub use ending::{Creation, created, ended, needed, rewritten, unchanged};
 pub use nfs_machine::Handle;
 pub use object::{Content, Inode, MOUNT_LIMIT, Mount, MountTable, Object, living, mount_table};
 pub use view::{Entry, Reserved, View, share};

@@ -1,11 +1,13 @@
 //! What stands in the store.
 
-ghost use Rattle.std.specs.Prelude.{◌≡◌, IfOk, option_map, option_copied};
+ghost use Rattle.std.specs.Prelude.{◌≡◌, false, IfOk, MatchOption, option_map, option_copied};
 ghost use Rattle.std.specs.Arc.{arc_value};
-ghost use Rattle.nfs_objects.specs.Stands.{inode_of, table_of};
+ghost use Rattle.nfs_machine.specs.Attributes.{is_directory};
+ghost use Rattle.nfs_objects.specs.Stands.{content_of, inode_of, table_of};
 
+use crate::directory::Directory;
 use bytes::Bytes;
-use nfs_wire::Time;
+use nfs_wire::{DeviceNumber, Time, Verifier};
 use std::alloc::{AllocError, Global};
 use std::marker::Model;
 use std::sync::Arc;
@@ -14,14 +16,37 @@ use std::sync::Arc;
 pub const MOUNT_LIMIT: usize = 65536;
 
 /// What an object is and contains.
-#[derive(Clone, Copy, Debug, PartialEq, Eq)]
+#[derive(Debug, Drop)]
 pub enum Content {
-    /// A directory without entries, with the greatest cookie that it ever used.
-    Directory(u64),
+    /// The bytes of a file.
+    Regular(Bytes),
+    Directory(Directory),
+    /// The text of a symbolic link.
+    Link(Bytes),
+    BlockDevice(DeviceNumber),
+    CharacterDevice(DeviceNumber),
+    Socket,
+    Fifo,
+}
+
+impl Clone for Content {
+    ghost is_clone = { λ content copy. copy ≡ content };
+
+    fn clone(&self) -> Result<Content, AllocError> {
+        Ok(match self {
+            Content::Regular(bytes) => Content::Regular(bytes.clone()?),
+            Content::Directory(directory) => Content::Directory(directory.clone()?),
+            Content::Link(text) => Content::Link(text.clone()?),
+            Content::BlockDevice(device) => Content::BlockDevice(*device),
+            Content::CharacterDevice(device) => Content::CharacterDevice(*device),
+            Content::Socket => Content::Socket,
+            Content::Fifo => Content::Fifo,
+        })
+    }
 }
 
 /// An object of the file system.
-#[derive(Clone, Copy, Debug, PartialEq, Eq)]
+#[derive(Debug, Drop)]
 pub struct Inode {
     /// The number of its export, from 1.
     pub export: u32,
@@ -37,6 +62,40 @@ pub struct Inode {
     pub accessed: Time,
     pub modified: Time,
     pub changed: Time,
+    /// Of the exclusive CREATE that made it (RFC 1813, 3.3.8).
+    pub verifier: Option<Verifier>,
+}
+
+impl Inode {
+    /// What it contains, where it is a directory.
+    pub fn directory(&self) -> Option<&Directory>
+        ensures { MatchOption result (is_directory (content_of self.now.content) ≡ false) (λ directory. self.now.content ≡ Content.Directory directory.now) }
+    {
+        match &self.content {
+            Content::Directory(directory) => Some(directory),
+            _ => None,
+        }
+    }
+}
+
+impl Clone for Inode {
+    ghost is_clone = { λ inode copy. copy ≡ inode };
+
+    fn clone(&self) -> Result<Inode, AllocError> {
+        Ok(Inode {
+            export: self.export,
+            generation: self.generation,
+            content: self.content.clone()?,
+            mode: self.mode,
+            uid: self.uid,
+            gid: self.gid,
+            links: self.links,
+            accessed: self.accessed,
+            modified: self.modified,
+            changed: self.changed,
+            verifier: self.verifier,
+        })
+    }
 }
 
 /// A host that mounted a path, as it sent it.

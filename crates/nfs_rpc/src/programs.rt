@@ -54,7 +54,8 @@ impl Program {
         ensures { result ≡ is_built self procedure }
     {
         match self {
-            Program::Nfs | Program::Mount => procedure <= 1,
+            Program::Nfs => procedure <= 1 || procedure == 3 || (6 <= procedure && procedure <= 8),
+            Program::Mount => procedure <= 1,
             Program::Nlm => procedure == 0,
         }
     }

@@ -54,6 +54,11 @@ module _ (host bytes : List ℕ) (moment : Moment) (asked : Asked) (is : IsAsked
         );
       })
 
+  pub refused_result : (old new : PlainValue) (r : Result (Vec ℕ Global) AllocError) → new ≡ old → IfOk r (λ answer. answer.items ≡ refusal_bytes asked.xid (refusal_of asked.call))
+      → IfOk r (λ answer. IsAnswered arrival old new answer.items)
+  refused_result old new (Ok answer) same answered = refused_answered old new answer.items same answered
+  refused_result old new (Err e) same answered = tt
+
   pub executed_answered : (old new : PlainValue) (answer : List ℕ) → MakesStep (context_of old.setting host asked.ids moment) asked.call asked.xid old new answer → IsAnswered arrival old new answer
   executed_answered old new answer made = record {
     setting = made.setting;

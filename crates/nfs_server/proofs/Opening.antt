@@ -7,16 +7,22 @@ use Rattle.std.specs.Cmp.{nat_cmp_total}
 use Rattle.std.specs.Ordering.{nat_cmp, eq_by_cmp}
 use Rattle.std.specs.FinMap.{FinMap, get, insert, get-insert, get-empty}
 use Rattle.nfs_wire.specs.declared.attributes.Time.{Time}
-use Rattle.nfs_machine.specs.Attributes.{links_of}
+use Rattle.std.specs.List.{AllByRecursion}
+use Rattle.nfs_machine.proofs.Sums.{sum-none}
+use Rattle.nfs_machine.specs.Attributes.{entries_of, is_living_directory, links_of, names_in, names_of}
 use Rattle.nfs_machine.specs.Exports.{ExportValue, export_at, export_value}
 use Rattle.nfs_machine.specs.declared.context.Limits.{Limits}
 use Rattle.nfs_machine.specs.declared.exports.Export.{Export}
 use Rattle.std.proofs.lemmas.List.{length-map}
 use Rattle.nfs_machine.specs.Opening.{opening, opening_last, opening_root, opening_roots, time_of}
-use Rattle.nfs_machine.specs.State.{Living}
+use Rattle.nfs_machine.specs.State.{Directory, Entry, Living}
+use Rattle.nfs_machine.specs.WellFormed.{CookiesRise, IsDirectoryOf, IsParent, WellFormed}
 use Rattle.nfs_machine.specs.declared.moment.Moment.{Moment}
 use Rattle.nfs_objects.specs.Sound.{RootLives}
 use Rattle.nfs_objects.specs.Stands.{content_of, living_of}
+use Rattle.nfs_objects.specs.declared.directory.Directory.{Directory as DirectoryInode}
+use Rattle.nfs_objects.specs.declared.object.Content.{Content}
+use Rattle.nfs_objects.specs.declared.object.Content.TheVariants as contents
 use Rattle.nfs_objects.specs.declared.object.Inode.{Inode}
 use Rattle.nfs_objects.specs.declared.object.Object.TheVariants as objects
 use Rattle.nfs_server.specs.Plain.{PlainValue, StandsFor}
@@ -84,6 +90,16 @@ module _ (time : Time) where
   root_none (e ∷ es) k n (inr above) =
       insert_there (opening_roots (k + 1) es time) k n (opening_root k time) (λ same. omega (arith, above, same)) ∙ root_none es (k + 1) n (inr (omega (arith, above)))
 
+-- the parent that a directory keeps; of what is none, 0
+abbrev parent_of : Content → ℕ
+parent_of (contents.Directory d) = d.parent
+parent_of (contents.Regular bytes) = 0
+parent_of (contents.Link text) = 0
+parent_of (contents.BlockDevice device) = 0
+parent_of (contents.CharacterDevice device) = 0
+parent_of contents.Socket = 0
+parent_of contents.Fifo = 0
+
 module _ (es : List ExportValue) (moment : Moment) where
   abbrev time : Time
   time = time_of moment
@@ -111,18 +127,54 @@ module _ (es : List ExportValue) (moment : Moment) where
         | inr h ↦ (let e : opening_last (length es) (suc n) ≡ 0 = grind (arith, nat_tests) in e) ∙ sym (ap last_in (slot_none time (length es) (suc n) h))
       ]
 
-  abbrev IsRoot : ℕ → Inode → Type 0
-  IsRoot n i = (root_of n time ≡ i) × (1 ≤ last_in (slice_get slots n))
-
-  is_root : (n : ℕ) (i : Inode) → object_in (slice_get slots n) ≡ Some (objects.Inode i) → IsRoot n i
+  is_root : (n : ℕ) (i : Inode) → object_in (slice_get slots n) ≡ Some (objects.Inode i) → root_of n time ≡ i
   is_root zero i is = let none : None ≡ Some (objects.Inode i) = sym (ap object_in (slot_zero time (length es))) ∙ is in cc
   is_root (suc n) i is =
       elim (le_or (suc n) (length es)) [
-        | inl h ↦
-            let some : Some (objects.Inode (root_of (suc n) time)) ≡ Some (objects.Inode i) = sym (ap object_in (slot_root time (length es) (suc n) (omega arith) h)) ∙ is in
-            ((let same : root_of (suc n) time ≡ i = cc in same), (let e = ap last_in (slot_root time (length es) (suc n) (omega arith) h) in omega (arith, e)))
+        | inl h ↦ (let some : Some (objects.Inode (root_of (suc n) time)) ≡ Some (objects.Inode i) = sym (ap object_in (slot_root time (length es) (suc n) (omega arith) h)) ∙ is in cc)
         | inr h ↦ (let none : None ≡ Some (objects.Inode i) = sym (ap object_in (slot_none time (length es) (suc n) h)) ∙ is in absurd cc)
       ]
+
+  -- what lives is the root with its number, whose generation was given
+  abbrev IsRoot : ℕ → Living → Type 0
+  IsRoot n o = (opening_root n time ≡ o) × (opening_last (length es) n ≡ 1)
+
+  only_roots : (n : ℕ) (o : Living) → get (opening_roots 1 es time) n ≡ Some o → IsRoot n o
+  only_roots zero o at = let none : None ≡ Some o = sym (root_none time es 1 zero (inl (omega arith))) ∙ at in cc
+  only_roots (suc n) o at =
+      elim (le_or (suc n) (length es)) [
+        | inl h ↦
+            let some : Some (opening_root (suc n) time) ≡ Some o = sym (root_found time es 1 (suc n) (omega arith) (omega (arith, h))) ∙ at in
+            ((let same : opening_root (suc n) time ≡ o = cc in same), (let e : opening_last (length es) (suc n) ≡ 1 = grind (arith, nat_tests) in e))
+        | inr h ↦ (let none : None ≡ Some o = sym (root_none time es 1 (suc n) (inr (omega (arith, h)))) ∙ at in absurd cc)
+      ]
+
+  root_cookies : (entries : List Entry) (last : ℕ) → Directory [] 2 ≡ Directory entries last → CookiesRise 2 entries last
+  root_cookies entries last is =
+      let none : [] ≡ entries = cc in
+      let two : 2 ≡ last = cc in
+      subst (λ k. CookiesRise 2 entries k) two (subst (λ (xs : List Entry). CookiesRise 2 xs 2) none (omega arith))
+
+  -- no names, and so nothing below a root
+  roots_formed : WellFormed (opening es moment)
+  roots_formed = record {
+    names = λ n o at. subst (IsDirectoryOf (opening es moment)) (only_roots n o at).0 (record { once = tt; leads = tt });
+    cookies = λ n o entries last at is. root_cookies entries last (ap (λ (x : Living). x.content) (only_roots n o at).0 ∙ is);
+    named = λ n o at other. (let own : n ≡ o.export = ap (λ (x : Living). x.export) (only_roots n o at).0 in absurd (grind (arith, nat_tests)));
+    one_name = λ n o at kind.
+        let none : names_of (opening es moment) n ≡ 0 = sum-none (names_in n) (opening_roots 1 es time) (λ q v there. subst (λ (x : Living). names_in n x ≡ 0) (only_roots q v there).0 refl) in
+        omega arith;
+    depth = λ n. 0;
+    deeper = λ n o at.
+        subst (λ (x : Living). AllByRecursion (λ (e : Entry). is_living_directory (get (opening_roots 1 es time) e.number) ≡ true → 0 < 0) (entries_of x.content)) (only_roots n o at).0 tt;
+    given = λ n o at. (let r = only_roots n o at in subst (λ (x : Living). nat_le x.generation (opening_last (length es) n) ≡ true) r.0 (ap (nat_le 1) r.1));
+  }
+
+  own_parent : (n : ℕ) (d : DirectoryInode) → get (opening_roots 1 es time) n ≡ Some (opening_root n time) → contents.Directory (record { parent = n; last_cookie = 2; entries = [] }) ≡ contents.Directory d
+      → IsParent (opening es moment) n d.parent
+  own_parent n d at is =
+      let own : n ≡ d.parent = ap parent_of is in
+      subst (IsParent (opening es moment) n) own (record { directory = opening_root n time; lives = at; named_in = inl (refl, refl) })
 
   root_lives : (number : ℕ) (e : ExportValue) → export_at es number ≡ Some e → RootLives (opening es moment) number
   root_lives zero e is = cc
@@ -148,9 +200,9 @@ module _ (es : List ExportValue) (moment : Moment) where
           no_spent_grants = λ n. refl;
         };
         sound = record {
-          links = λ n i is. (let r = is_root n i is in subst (λ (j : Inode). j.links ≡ links_of (opening es moment) n (content_of j.content)) r.0 refl);
-          tree = λ n i is. sym (ap (λ (j : Inode). j.export) (is_root n i is).0);
-          generations = λ n i is. (let r = is_root n i is in subst (λ (j : Inode). j.generation ≤ last_in (slice_get slots n)) r.0 r.1);
+          links = λ n i is. subst (λ (j : Inode). j.links ≡ links_of (opening es moment) n (content_of j.content)) (is_root n i is) refl;
+          parents = λ n i d is of. (let r = is_root n i is in own_parent n d (lives n ∙ ap living_of is ∙ ap (λ j. living_of (Some (objects.Inode j))) (sym r)) (ap (λ (j : Inode). j.content) r ∙ of));
+          well_formed = roots_formed;
         };
         roots = λ number e at. root_lives number e (subst (λ (l : List ExportValue). export_at l number ≡ Some e) exports at);
       })

@@ -24,17 +24,6 @@ use Rattle.nfs_machine.specs.declared.calls.Reply.TheVariants as replies
 use Rattle.nfs_server.specs.Forms.{HasForm}
 use Rattle.nfs_server.specs.Serving.{results_of}
 
-refused_size : (s : NfsStatus) → length (result_bytes (nfs.Getattr (Err s))) ≤ 1000
-unfolding appended with_word with_hyper with_padded with_arm
-refused_size Permission = omega arith
-refused_size _ = omega arith
-
-nfs_size : (r : NfsReply) → length (result_bytes r) ≤ 1000
-unfolding appended with_word with_hyper with_padded with_arm
-nfs_size nfs.Null = omega arith
-nfs_size (nfs.Getattr (Ok a)) = omega arith
-nfs_size (nfs.Getattr (Err s)) = refused_size s
-
 mount_refused_size : (s : MountStatus) → length (mount_result_bytes (mount.Mnt (Err s))) ≤ 1000
 unfolding appended with_word with_hyper with_padded with_arm
 mount_refused_size mount_status.Permission = omega arith
@@ -54,10 +43,10 @@ nlm_size : (r : NlmReply) → length (nlm_result_bytes r) ≤ 1000
 unfolding appended
 nlm_size nlm.Null = omega arith
 
-pub results_size : (reply : Reply) → HasForm reply → length (results_of reply) ≤ 1000
-results_size (replies.Nfs reply) form = nfs_size reply
-results_size (replies.Mount reply) form = mount_size reply form
-results_size (replies.Nlm reply) form = nlm_size reply
+pub results_size : (reply : Reply) → HasForm reply → length (results_of reply) ≤ 70000
+results_size (replies.Nfs reply) form = form.short
+results_size (replies.Mount reply) form = omega (arith, mount_size reply form)
+results_size (replies.Nlm reply) form = omega (arith, nlm_size reply)
 
 pub answer_size : (start header whole : List ℕ) (xid : ℕ) (reply : Reply) → HasForm reply → start ≡ to_be_bytes w32 0 → header ≡ start ++ reply_of xid Success → whole ≡ header ++ results_of reply
     → length whole < 2147483652

@@ -1,12 +1,15 @@
 -- A call's end, at the present store, is one step of the machine, and its reply has its form.
-use Rattle.std.proofs.Common.{◌≡◌, ℕ, ◌≤◌, List, length, Result, Ok, Err, IfOk, sym, ◌∙◌, ap, subst, arith}
+use Rattle.std.proofs.Common.{refl, ◌≡◌, ℕ, ◌≤◌, List, length, Result, Ok, Err, IfOk, sym, ◌∙◌, ap, subst, arith}
 use Rattle.side_wire.specs.Mount.{HasMountForm}
 use Rattle.side_wire.specs.declared.message.Message.{Message}
 use Rattle.side_wire.specs.declared.mount.MountCall.{MountCall}
 use Rattle.side_wire.specs.declared.mount.MountCall.TheVariants as mount
 use Rattle.side_wire.specs.declared.mount.MountReply.{MountReply}
 use Rattle.side_wire.specs.declared.mount.MountStatus.{MountStatus}
-use Rattle.nfs_wire.specs.declared.calls.NfsCall.TheVariants as nfs
+use Rattle.nfs_wire.specs.declared.calls.NfsCall.{NfsCall}
+use Rattle.nfs_wire.specs.declared.replies.NfsReply.{NfsReply}
+use Rattle.nfs_machine.proofs.Short.{replies_short, refusals_short}
+use Rattle.nfs_machine.specs.Laws.{IsShort}
 use Rattle.nfs_machine.specs.Exports.{ExportValue}
 use Rattle.nfs_machine.specs.MountSteps.{MountStep, MntAnswers}
 use Rattle.nfs_machine.specs.State.{State}
@@ -23,8 +26,8 @@ use Rattle.nfs_objects.specs.Stands.{Represents}
 use Rattle.nfs_objects.specs.Store.{Store, with_writes}
 use Rattle.nfs_objects.specs.Values.{DoneValue}
 use Rattle.nfs_server.specs.Executed.{MakesStep}
-use Rattle.std.specs.Prelude.{Option}
-use Rattle.nfs_machine.specs.Refusal.{refusal_of}
+use Rattle.std.specs.Prelude.{Option, Some, None, IfSome, option_map}
+use Rattle.nfs_machine.specs.Refusal.{nfs_refusal, refusal_by, refusal_of}
 use Rattle.nfs_machine.specs.Run.{Setting}
 use Rattle.nfs_objects.specs.declared.address.Addr.{Addr}
 use Rattle.nfs_objects.specs.declared.object.Object.{Object}
@@ -43,13 +46,13 @@ mount_form old ctx mount.Null reply messages new step = subst HasMountForm (sym 
 mount_form old ctx (mount.Mnt path) reply messages new step = subst HasMountForm (sym step.reply_is) (result_form old ctx path step.result new step.answers)
 
 step_form : (old : State) (ctx : Ctx) (call : Call) (reply : Reply) (messages : List Message) (new : State) → Step old ctx call reply messages new → HasForm reply
-step_form old ctx (calls.Nfs call) (replies.Nfs reply) messages new step = tt
+step_form old ctx (calls.Nfs call) (replies.Nfs reply) messages new step = replies_short old ctx call reply messages new step
 step_form old ctx (calls.Nfs call) (replies.Mount reply) messages new step = absurd step
 step_form old ctx (calls.Nfs call) (replies.Nlm reply) messages new step = tt
-step_form old ctx (calls.Mount call) (replies.Nfs reply) messages new step = tt
+step_form old ctx (calls.Mount call) (replies.Nfs reply) messages new step = absurd step
 step_form old ctx (calls.Mount call) (replies.Mount reply) messages new step = mount_form old ctx call reply messages new step
 step_form old ctx (calls.Mount call) (replies.Nlm reply) messages new step = tt
-step_form old ctx (calls.Nlm call) (replies.Nfs reply) messages new step = tt
+step_form old ctx (calls.Nlm call) (replies.Nfs reply) messages new step = absurd step
 step_form old ctx (calls.Nlm call) (replies.Mount reply) messages new step = absurd step
 step_form old ctx (calls.Nlm call) (replies.Nlm reply) messages new step = tt
 
@@ -89,10 +92,14 @@ pub store_made : (slots middle first : List SlotValue) (mounts before : Option O
 store_made slots middle first mounts before setting old writes all made room is same =
     made ∙ ap (λ (s : Store). with_writes s writes) (room before ∙ ap store_of is) ∙ ap (with_writes (store_of old)) same
 
--- a refusal holds no handle
+by_status : (call : NfsCall) (r : Option NfsReply) → nfs_refusal call ≡ r → RefusalHasForm (refusal_by (option_map (λ r. replies.Nfs r) r))
+by_status call None is = tt
+by_status call (Some reply) is = subst (λ (r : Option NfsReply). IfSome r IsShort) is (refusals_short call)
+
+-- a refusal has its form
 pub refusal_form : (call : Call) → RefusalHasForm (refusal_of call)
-refusal_form (calls.Nfs nfs.Null) = tt
-refusal_form (calls.Nfs (nfs.Getattr object)) = tt
+unfolding refusal_of
+refusal_form (calls.Nfs call) = by_status call (nfs_refusal call) refl
 refusal_form (calls.Mount mount.Null) = tt
 refusal_form (calls.Mount (mount.Mnt path)) = tt
 refusal_form (calls.Nlm call) = tt

@@ -1,13 +1,14 @@
 -- Replies whose results have a form.
 use Rattle.side_wire.specs.Mount.{HasMountForm}
+use Rattle.nfs_machine.specs.Laws.{IsShort}
 use Rattle.nfs_machine.specs.declared.calls.Reply.{Reply}
 use Rattle.nfs_machine.specs.declared.calls.Reply.TheVariants.{Nfs, Mount, Nlm}
 use Rattle.nfs_machine.specs.declared.calls.Refusal.{Refusal}
 use Rattle.nfs_machine.specs.declared.calls.Refusal.TheVariants as refusals
 
--- each part of the reply is within its bound
+-- each part of the reply is within its bound, and so is the whole
 abbrev pub HasForm : Reply → Type 0
-HasForm (Nfs reply) = Unit {0}
+HasForm (Nfs reply) = IsShort reply
 HasForm (Mount reply) = HasMountForm reply
 HasForm (Nlm reply) = Unit {0}
 

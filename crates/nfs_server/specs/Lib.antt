@@ -1,4 +1,5 @@
 pub mod Asked
+pub mod Built
 pub mod Clocks
 pub mod CommandLine
 pub mod Executed

@@ -1,15 +1,27 @@
 -- The slots that a server starts with: none at 0, and the root of each export at the export's number.
-use Rattle.std.specs.Prelude.{ℕ, zero, suc, List, [], ◌∷◌, ◌++◌, Some}
+use Rattle.std.specs.Prelude.{ℕ, zero, suc, List, [], ◌∷◌, ◌++◌, Some, None}
 use Rattle.nfs_wire.specs.declared.attributes.Time.{Time}
 use Rattle.nfs_objects.specs.declared.object.Content.TheVariants as contents
 use Rattle.nfs_objects.specs.declared.object.Inode.{Inode}
 use Rattle.nfs_objects.specs.declared.object.Object.TheVariants as objects
 use Rattle.nfs_server.specs.Slots.{SlotValue, empty_slot}
 
--- mode 0777; "." and ".." have the cookies 1 and 2, and are its two links
+-- its own parent, mode 0777; "." and ".." have the cookies 1 and 2, and are its two links
 abbrev pub root_of : ℕ → Time → Inode
 root_of number time =
-    record { export = number; generation = 1; content = contents.Directory 2; mode = 511; uid = 0; gid = 0; links = 2; accessed = time; modified = time; changed = time }
+    record {
+      export = number;
+      generation = 1;
+      content = contents.Directory (record { parent = number; last_cookie = 2; entries = [] });
+      mode = 511;
+      uid = 0;
+      gid = 0;
+      links = 2;
+      accessed = time;
+      modified = time;
+      changed = time;
+      verifier = None;
+    }
 
 abbrev pub root_slot : ℕ → Time → SlotValue
 root_slot number time = record { object = Some (objects.Inode (root_of number time)); last = 1 }

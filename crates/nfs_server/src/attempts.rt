@@ -1,11 +1,14 @@
 //! The attempt of a call, by its program.
 
-ghost use Rattle.std.specs.Prelude.{IfOk};
+ghost use Rattle.std.specs.Prelude.{◌≡◌, IfOk};
+ghost use Rattle.nfs_names.specs.Calls.{is_name_call};
 ghost use Rattle.nfs_objects.specs.Attempt.{Attempts};
+ghost use Rattle.nfs_server.specs.Built.{IsBuilt};
 
 use crate::nlm;
 use nfs_machine::{Call, Ctx};
 use nfs_objects::{Outcome, View};
+use nfs_wire::NfsCall;
 use std::alloc::{AllocError, Global};
 
 /// What the call comes to on what was read.
@@ -15,11 +18,31 @@ pub(crate) fn attempt(
     ctx: &Ctx,
     view: &View,
 ) -> Result<Outcome, AllocError>
+    requires { IsBuilt call.now }
     ensures { IfOk result (λ outcome. Attempts call.now ctx.now view.now outcome) }
 {
     match call {
-        Call::Nfs(call) => nfs_data::attempt(alloc, call, ctx, view),
+        Call::Nfs(call) => attempt_nfs(alloc, call, ctx, view),
         Call::Mount(call) => nfs_mount::attempt(alloc, call, ctx, view),
         Call::Nlm(call) => nlm::attempt(alloc, call, ctx, view),
     }
+}
+
+/// The same for NFS: on names, or on attributes and data.
+fn attempt_nfs(alloc: Global, call: &NfsCall, ctx: &Ctx, view: &View) -> Result<Outcome, AllocError>
+    requires { IsBuilt (Call.Nfs call.now) }
+    ensures { IfOk result (λ outcome. Attempts (Call.Nfs call.now) ctx.now view.now outcome) }
+{
+    if is_on_names(call) {
+        nfs_names::attempt(alloc, call, ctx, view)
+    } else {
+        nfs_data::attempt(alloc, call, ctx, view)
+    }
+}
+
+/// Whether the call is on names.
+fn is_on_names(call: &NfsCall) -> bool
+    ensures { result ≡ is_name_call call.now }
+{
+    matches!(call, NfsCall::Lookup(_) | NfsCall::Create(_))
 }

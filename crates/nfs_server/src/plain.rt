@@ -7,10 +7,14 @@ ghost use Rattle.std.specs.Prelude.{◌≡◌, ℕ, ◌+◌, ◌≤◌, length, 
 ghost use Rattle.std.specs.Arc.{arc_value};
 ghost use Rattle.nfs_machine.specs.Opening.{opening};
 ghost use Rattle.nfs_objects.specs.Fits.{Fits};
+ghost use Rattle.nfs_machine.specs.Refusal.{refusal_of};
+ghost use Rattle.nfs_server.specs.Asked.{IsAsked};
+ghost use Rattle.nfs_server.specs.Built.{IsBuilt};
 ghost use Rattle.nfs_server.specs.Executed.{MakesStep, RunsTo, context_of};
 ghost use Rattle.nfs_server.specs.Plain.{StandsFor, store_of};
 ghost use Rattle.nfs_server.specs.Roots.{root_of, root_slots};
 ghost use Rattle.nfs_server.specs.Served.{IsAnswered, answer_bytes};
+ghost use Rattle.nfs_server.specs.Serving.{refusal_bytes};
 
 use crate::answers;
 use crate::asking::{Asked, Unasked, read_record};
@@ -19,7 +23,9 @@ use crate::slots::{Slot, Slots};
 use crate::writes::{install, make_room, writes_of};
 use bytes::Bytes;
 use nfs_machine::{Call, Ctx, Exports, Limits, Moment};
-use nfs_objects::{Addr, Content, Done, Inode, Mode, Object, Outcome, Reserved, View, share};
+use nfs_objects::{
+    Addr, Content, Directory, Done, Entries, Inode, Mode, Object, Outcome, Reserved, View, share,
+};
 use nfs_rpc::{Ids, Record};
 use nfs_wire::Time;
 use std::alloc::{AllocError, Global};
@@ -104,17 +110,32 @@ impl Plain {
         ensures ok { IfOk result (λ answer. IsAnswered (record { host = host.now; bytes = message; moment = moment }) self.old self.new (answer_bytes answer)) }
         ensures err { OnErr result (self.new ≡ self.old) }
     {
-        let asked = match read_record(&message) {
-            Ok(asked) => asked,
-            Err(Unasked::Early(fault)) => return answers::early(alloc, fault),
-            Err(Unasked::Memory) => return Err(AllocError),
-        };
-        match self.execute(alloc, host, &asked, moment) {
-            Ok(answer) => Ok(Some(answer)),
-            Err(AllocError) => {
-                let refusal = asked.call.refusal();
-                Ok(Some(answers::refuse(alloc, asked.xid, &refusal)?))
+        match read_record(&message) {
+            Ok(asked) => {
+                let answer = self.answer_call(alloc, host, &message, &asked, moment)?;
+                Ok(Some(answer))
             }
+            Err(Unasked::Early(fault)) => answers::early(alloc, fault),
+            Err(Unasked::Memory) => Err(AllocError),
+        }
+    }
+
+    /// Answers the call that a record asks: executes it, or refuses it for want of memory.
+    fn answer_call(
+        &mut self,
+        alloc: Global,
+        host: &Bytes,
+        message: &Record,
+        asked: &Asked,
+        moment: Moment,
+    ) -> Result<Vec<u8>, AllocError>
+        requires { IsAsked message.now asked.now }
+        ensures ok { IfOk result (λ answer. IsAnswered (record { host = host.now; bytes = message.now; moment = moment }) self.old self.new answer.items) }
+        ensures err { OnErr result (self.new ≡ self.old) }
+    {
+        match self.execute(alloc, host, asked, moment) {
+            Ok(answer) => Ok(answer),
+            Err(AllocError) => refuse(alloc, asked),
         }
     }
 
@@ -126,6 +147,7 @@ impl Plain {
         asked: &Asked,
         moment: Moment,
     ) -> Result<Vec<u8>, AllocError>
+        requires { IsBuilt asked.now.call }
         ensures ok { IfOk result (λ answer. MakesStep (context_of self.old.setting host.now asked.now.ids moment) asked.now.call asked.now.xid self.old self.new answer.items) }
         ensures err { OnErr result (self.new ≡ self.old) }
     {
@@ -150,6 +172,7 @@ impl Plain {
 
     /// Attempts the call on a growing view, until it is done.
     fn run(&self, alloc: Global, call: &Call, ctx: &Ctx) -> Result<Done, AllocError>
+        requires { IsBuilt call.now }
         ensures { IfOk result (λ done. RunsTo call.now ctx.now (store_of self.now) done) }
     {
         let mut view = View::new(alloc);
@@ -221,6 +244,13 @@ impl Plain {
     }
 }
 
+/// The answer to a call that there was no memory for.
+fn refuse(alloc: Global, asked: &Asked) -> Result<Vec<u8>, AllocError>
+    ensures { IfOk result (λ answer. answer.items ≡ refusal_bytes asked.now.xid (refusal_of asked.now.call)) }
+{
+    answers::refuse(alloc, asked.xid, &asked.call.refusal())
+}
+
 /// The slots of so many roots, made at this time, behind an empty one.
 fn root_slots(alloc: Global, count: usize, time: Time) -> Result<Slots, AllocError>
     ensures { IfOk result (λ slots. slots ≡ root_slots count time) }
@@ -234,7 +264,7 @@ fn root_slots(alloc: Global, count: usize, time: Time) -> Result<Slots, AllocErr
         let Ok(export) = u32::try_from(index + 1) else {
             return Err(AllocError);
         };
-        let root = Arc::new(alloc, Object::Inode(root(export, time)))?;
+        let root = Arc::new(alloc, Object::Inode(root(alloc, export, time)))?;
         slots.push(Slot {
             object: Some(root),
             last: 1,
@@ -244,13 +274,17 @@ fn root_slots(alloc: Global, count: usize, time: Time) -> Result<Slots, AllocErr
 }
 
 /// The root of an export.
-fn root(export: u32, time: Time) -> Inode
+fn root(alloc: Global, export: u32, time: Time) -> Inode
     ensures { result ≡ root_of export time }
 {
     Inode {
         export,
         generation: 1,
-        content: Content::Directory(2),
+        content: Content::Directory(Directory {
+            parent: u64::from(export),
+            last_cookie: 2,
+            entries: Entries::new(alloc),
+        }),
         mode: 0o777,
         uid: 0,
         gid: 0,
@@ -258,5 +292,6 @@ fn root(export: u32, time: Time) -> Inode
         accessed: time,
         modified: time,
         changed: time,
+        verifier: None,
     }
 }

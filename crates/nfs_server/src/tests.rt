@@ -70,14 +70,14 @@ fn host() -> Bytes
     Bytes::from_static(b"10.0.0.1")
 }
 
-/// `/data` for every host.
-fn exports(alloc: Global) -> Result<Exports, AllocError> {
+/// `/data` for every host, in this mode.
+fn exports(alloc: Global, mode: &'static [u8]) -> Result<Exports, AllocError> {
     let mut hosts = Vec::new(alloc);
     hosts.push(Bytes::from_static(b"*"))?;
     let mut list = Vec::new(alloc);
     list.push(ExportText {
         path: Bytes::from_static(b"/data"),
-        mode: Bytes::from_static(b"rw"),
+        mode: Bytes::from_static(mode),
         hosts,
     })?;
     Exports::new(alloc, list).map_err(|_| AllocError)
@@ -85,6 +85,11 @@ fn exports(alloc: Global) -> Result<Exports, AllocError> {
 
 /// The opening state.
 fn opened(alloc: Global) -> Result<Plain, AllocError> {
+    opened_as(alloc, b"rw")
+}
+
+/// The opening state of an export in this mode.
+fn opened_as(alloc: Global, mode: &'static [u8]) -> Result<Plain, AllocError> {
     let limits = Limits {
         total_bytes: 1 << 40,
     };
@@ -92,7 +97,7 @@ fn opened(alloc: Global) -> Result<Plain, AllocError> {
         seconds: 1000,
         nanoseconds: 0,
     };
-    Plain::new(alloc, 7, exports(alloc)?, limits, moment)
+    Plain::new(alloc, 7, exports(alloc, mode)?, limits, moment)
 }
 
 /// Serves a stream from this store on.
@@ -111,7 +116,16 @@ fn answers(
     alloc: Global,
     input: &[u8],
 ) -> Result<(Vec<u8>, Result<Served, StreamFault>), AllocError> {
-    let mut plain = opened(alloc)?;
+    answers_as(alloc, b"rw", input)
+}
+
+/// What a new server whose export has this mode writes for this input, and how serving it ends.
+fn answers_as(
+    alloc: Global,
+    mode: &'static [u8],
+    input: &[u8],
+) -> Result<(Vec<u8>, Result<Served, StreamFault>), AllocError> {
+    let mut plain = opened_as(alloc, mode)?;
     let mut writer = Counted::new(Vec::new(alloc));
     let end = serve(alloc, &mut plain, &mut Counted::new(input), &mut writer);
     Ok((writer.into_inner(), end))

@@ -1,2 +1,6 @@
+pub mod ArgumentLaws
 pub mod CallLaws
 pub mod ResultLaws
+pub mod EntryLaws
+pub mod VerifierLaws
+pub mod Sizes

@@ -1,11 +1,12 @@
 -- A refused call's result is the status and the other arm.
-use Rattle.std.proofs.Common.{◌≡◌, ℕ, List, ◌++◌, Result, Ok, Err, OnOk, refl, sym, ap, ◌∙◌, lit<}
+use Rattle.std.proofs.Common.{◌≡◌, ℕ, List, ◌++◌, length, Result, Ok, Err, OnOk, refl, ◌∙◌, lit<}
 use Rattle.nfs_xdr.specs.declared.XdrError.{XdrError}
 use Rattle.nfs_xdr.specs.Laws.{IsItsSpelling}
 use Rattle.nfs_xdr.proofs.Spelling.{writing_appends, writing_spells}
-use Rattle.nfs_xdr.specs.Types.{Xdr, Void, Value, HasSpelling}
-use Rattle.nfs_xdr.specs.Writing.{with_arm, appended, write, WritesFront}
-use Rattle.nfs_wire.specs.Replies.{arm, outcome, refused_value, WritesResult}
+use Rattle.nfs_xdr.specs.Types.{Xdr, Void, Opaque, Pair, Value, HasSpelling}
+use Rattle.nfs_xdr.specs.Writing.{with_word, with_padded, with_arm, appended, write}
+use Rattle.nfs_wire.specs.Replies.{WritesResult}
+use Rattle.nfs_wire.specs.Results.{outcome, done_value, refused_value}
 use Rattle.nfs_wire.specs.Status.{nfsstat3, status_number}
 use Rattle.nfs_wire.specs.Attributes.{ftype3, type_number}
 use Rattle.nfs_wire.specs.declared.attributes.FileType.{FileType}
@@ -14,8 +15,8 @@ use Rattle.nfs_wire.specs.declared.status.NfsStatus.{NfsStatus}
 use Rattle.nfs_wire.specs.declared.status.NfsStatus.TheVariants.{Permission}
 
 -- the status NFS3_OK is appended, and then its arm
-pub appended_done : (done refused : Xdr) (value : Value done) (old : List ℕ) → appended (outcome done refused) (0, value) old ≡ appended done value (appended nfsstat3 0 old)
-unfolding appended with_arm
+pub appended_done : (done refused : Xdr) (value : Value done) (old : List ℕ) → appended (outcome done refused) (done_value done refused value) old ≡ appended done value (appended nfsstat3 0 old)
+unfolding appended with_arm done_value
 appended_done done refused value old = refl
 
 -- another status is appended, and then the other arm
@@ -23,6 +24,16 @@ pub appended_refused : (done refused : Xdr) (status : NfsStatus) (value : Value 
 unfolding appended with_arm
 appended_refused done refused Permission value old = refl
 appended_refused done refused _ value old = refl
+
+-- two items are appended one behind the other
+pub appended_pair : (first second : Xdr) (v : Value first) (w : Value second) (old : List ℕ) → appended (Pair first second) (v, w) old ≡ appended second w (appended first v old)
+unfolding appended
+appended_pair first second v w old = refl
+
+-- bytes are appended alike under each bound
+pub appended_opaque : (max : ℕ) (bytes old : List ℕ) → appended (Opaque max) bytes old ≡ with_padded bytes (with_word (length bytes) old)
+unfolding appended
+appended_opaque max bytes old = refl
 
 -- nothing is appended
 pub appended_void : (old : List ℕ) → appended Void tt old ≡ old
@@ -44,11 +55,10 @@ pub refused_form : (done refused : Xdr) (status : NfsStatus) (value : Value refu
 refused_form done refused Permission value form = (lit< tt, refl, form)
 refused_form done refused _ value form = (lit< tt, refl, form)
 
--- the status NFS3_OK at the end, and what writes its arm behind it
-pub WritesResult-done : (done refused : Xdr) (value : Value done) (old middle new : List ℕ) (result : Result (Unit {0}) XdrError) → middle ≡ appended nfsstat3 0 old → WritesFront done value middle new result → HasSpelling done value → WritesResult (outcome done refused, (0, value)) old new result
-WritesResult-done done refused value old middle new (Ok _) status arm form =
-    (arm ∙ ap (appended done value) status ∙ sym (appended_done done refused value old), (lit< tt, refl, form))
-WritesResult-done done refused value old middle new (Err e) status arm form = arm
+-- the result of a call that was done has a spelling where its arm has
+pub done_form : (done refused : Xdr) (value : Value done) → HasSpelling done value → HasSpelling (outcome done refused) (done_value done refused value)
+unfolding done_value
+done_form done refused value form = (lit< tt, refl, form)
 
 -- what is written is the bytes of the result
 pub WritesResult-bytes : (x : (t : Xdr) × Value t) (old new : List ℕ) (result : Result (Unit {0}) XdrError) → WritesResult x old new result → OnOk result (new ≡ old ++ write x.0 x.1)
@@ -60,5 +70,7 @@ pub WritesResult-spells : (x : (t : Xdr) × Value t) (old new : List ℕ) (resul
 WritesResult-spells x old new (Ok _) written = writing_spells x.0 x.1 written.1
 WritesResult-spells x old new (Err e) written = tt
 
--- what joins the parts of a result
-pub ruleset results = (appended_done, appended_refused, appended_void, refused_form)
+-- what joins the status of a result with its arm, and an arm's items
+pub ruleset outcomes = (appended_done, appended_refused, appended_void, done_form, refused_form)
+
+pub ruleset items = (appended_pair, appended_opaque)

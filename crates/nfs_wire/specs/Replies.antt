@@ -1,48 +1,97 @@
 -- The results of each procedure (RFC 1813, section 3.3), and the bytes that spell them.
--- A procedure has one line in `result_of`.
-use Rattle.std.specs.Prelude.{◌≡◌, ℕ, List, Result, Ok, Err, ◌==◌, if◌then◌else◌}
+-- A procedure has one line in `result_of` and in `HasNfsForm`.
+use Rattle.std.specs.Prelude.{◌≡◌, ◌≤◌, ◌<◌, ◌^◌, ℕ, List, length, Result, Ok, Err, IfOk, IfSome}
+use Rattle.std.specs.List.{All}
 use Rattle.nfs_xdr.specs.declared.XdrError.{XdrError}
 use Rattle.nfs_xdr.specs.declared.XdrError.TheVariants.{Memory}
-use Rattle.nfs_xdr.specs.Types.{Xdr, Void, Union, Value, HasSpelling}
+use Rattle.nfs_xdr.specs.Types.{Xdr, Void, Value, HasSpelling}
 use Rattle.nfs_xdr.specs.Writing.{write, appended}
-use Rattle.nfs_wire.specs.Attributes.{fattr3, attributes_value}
-use Rattle.nfs_wire.specs.Status.{is_status, status_number}
-use Rattle.nfs_wire.specs.declared.attributes.Attributes.{Attributes}
+use Rattle.nfs_wire.specs.Results.{getattr_result, setattr_result, lookup_result, access_result, readlink_result, read_result, written_result, made_result, removed_result, renamed_result, linked_result, readdir_result, readdirplus_result, fsstat_result, fsinfo_result, pathconf_result, commit_result}
+use Rattle.nfs_wire.specs.declared.entries.FullEntry.{FullEntry}
+use Rattle.nfs_wire.specs.declared.entries.PageEntry.{PageEntry}
+use Rattle.nfs_wire.specs.declared.replies.LookupReply.{LookupReply}
+use Rattle.nfs_wire.specs.declared.replies.MadeReply.{MadeReply}
 use Rattle.nfs_wire.specs.declared.replies.NfsReply.{NfsReply}
-use Rattle.nfs_wire.specs.declared.replies.NfsReply.TheVariants.{Null, Getattr}
-use Rattle.nfs_wire.specs.declared.status.NfsStatus.{NfsStatus}
-use Rattle.nfs_wire.specs.declared.status.NfsStatus.TheVariants.{Permission}
-
--- the arm of a status: one for NFS3_OK, and one for every other
-abbrev pub arm : Xdr → Xdr → ℕ → Xdr
-arm done refused status = if status == 0 then done else refused
-
--- a result: a union on the status (RFC 1813, 3.3)
-abbrev pub outcome : Xdr → Xdr → Xdr
-outcome done refused = Union is_status (arm done refused)
-
--- the value of the arm of a status other than NFS3_OK
-abbrev pub refused_value : (done refused : Xdr) → (status : NfsStatus) → Value refused → Value (arm done refused (status_number status))
-refused_value done refused Permission value = value
-refused_value done refused _ value = value
-
--- the value of a result whose other arm is void
-abbrev pub outcome_value : {A : Type 0} → (done : Xdr) → (A → Value done) → Result A NfsStatus → Value (outcome done Void)
-outcome_value done view (Ok x) = (0, view x)
-outcome_value done view (Err status) = (status_number status, refused_value done Void status tt)
-
--- the result of GETATTR (RFC 1813, 3.3.1)
-abbrev pub getattr_result : Result Attributes NfsStatus → (t : Xdr) × Value t
-getattr_result result = (outcome fattr3 Void, outcome_value fattr3 attributes_value result)
+use Rattle.nfs_wire.specs.declared.replies.NfsReply.TheVariants.{Null, Getattr, Setattr, Lookup, Access, Readlink, Read, Write, Create, Mkdir, Symlink, Mknod, Remove, Rmdir, Rename, Link, Readdir, Readdirplus, Fsstat, Fsinfo, Pathconf, Commit}
+use Rattle.nfs_wire.specs.declared.replies.ReadReply.{ReadReply}
+use Rattle.nfs_wire.specs.declared.replies.ReaddirReply.{ReaddirReply}
+use Rattle.nfs_wire.specs.declared.replies.ReaddirplusReply.{ReaddirplusReply}
+use Rattle.nfs_wire.specs.declared.replies.ReadlinkReply.{ReadlinkReply}
 
 -- the type and the value of a reply's result
 abbrev pub result_of : NfsReply → (t : Xdr) × Value t
 result_of Null = (Void, tt)
-result_of (Getattr result) = getattr_result result
+result_of (Getattr r) = getattr_result r
+result_of (Setattr r) = setattr_result r
+result_of (Lookup r) = lookup_result r
+result_of (Access r) = access_result r
+result_of (Readlink r) = readlink_result r
+result_of (Read r) = read_result r
+result_of (Write r) = written_result r
+result_of (Create r) = made_result r
+result_of (Mkdir r) = made_result r
+result_of (Symlink r) = made_result r
+result_of (Mknod r) = made_result r
+result_of (Remove r) = removed_result r
+result_of (Rmdir r) = removed_result r
+result_of (Rename r) = renamed_result r
+result_of (Link r) = linked_result r
+result_of (Readdir r) = readdir_result r
+result_of (Readdirplus r) = readdirplus_result r
+result_of (Fsstat r) = fsstat_result r
+result_of (Fsinfo r) = fsinfo_result r
+result_of (Pathconf r) = pathconf_result r
+result_of (Commit r) = commit_result r
 
 -- the bytes of a reply's result
 abbrev pub result_bytes : NfsReply → List ℕ
 result_bytes reply = write (result_of reply).0 (result_of reply).1
+
+-- a handle that is there is within its bound, NFS3_FHSIZE (RFC 1813, 2.4)
+abbrev pub IsHandle : List ℕ → Type 0
+IsHandle handle = length handle ≤ 64
+
+-- the length of a string or of opaque data fits its word (RFC 4506, 4.10 and 4.11)
+abbrev pub FitsWord : List ℕ → Type 0
+FitsWord bytes = length bytes < 2 ^ 32
+
+-- the same of single results
+abbrev pub HasLookupForm : LookupReply → Type 0
+HasLookupForm r = IfOk r.result (λ found. IsHandle found.object)
+
+abbrev pub HasReadlinkForm : ReadlinkReply → Type 0
+HasReadlinkForm r = IfOk r.result (λ text. FitsWord text)
+
+abbrev pub HasReadForm : ReadReply → Type 0
+HasReadForm r = IfOk r.result (λ read. FitsWord read.«data»)
+
+abbrev pub HasMadeForm : MadeReply → Type 0
+HasMadeForm r = IfOk r.result (λ made. IfSome made.object IsHandle)
+
+abbrev pub HasEntryForm : PageEntry → Type 0
+HasEntryForm entry = FitsWord entry.name
+
+abbrev pub HasFullEntryForm : FullEntry → Type 0
+HasFullEntryForm full = FitsWord full.entry.name × IfSome full.object IsHandle
+
+abbrev pub HasReaddirForm : ReaddirReply → Type 0
+HasReaddirForm r = IfOk r.result (λ page. All HasEntryForm page.entries)
+
+abbrev pub HasReaddirplusForm : ReaddirplusReply → Type 0
+HasReaddirplusForm r = IfOk r.result (λ page. All HasFullEntryForm page.entries)
+
+-- A reply whose result has a spelling: its handles are within their bound, and the lengths of its other byte strings fit a word.
+abbrev pub HasNfsForm : NfsReply → Type 0
+HasNfsForm (Lookup r) = HasLookupForm r
+HasNfsForm (Readlink r) = HasReadlinkForm r
+HasNfsForm (Read r) = HasReadForm r
+HasNfsForm (Create r) = HasMadeForm r
+HasNfsForm (Mkdir r) = HasMadeForm r
+HasNfsForm (Symlink r) = HasMadeForm r
+HasNfsForm (Mknod r) = HasMadeForm r
+HasNfsForm (Readdir r) = HasReaddirForm r
+HasNfsForm (Readdirplus r) = HasReaddirplusForm r
+HasNfsForm _ = Unit {0}
 
 -- What a writer of a result answers and leaves: the value at the end, which has a spelling, or no memory.
 abbrev pub WritesResult : (t : Xdr) × Value t → List ℕ → List ℕ → Result (Unit {0}) XdrError → Type 0

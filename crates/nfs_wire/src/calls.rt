@@ -1,20 +1,240 @@
 //! The calls of NFS version 3, with their arguments.
 
 ghost use Rattle.std.specs.Prelude.{◌≡◌, IfOk, IsErrOf};
-ghost use Rattle.nfs_xdr.specs.Reading.{ReadsFront};
-ghost use Rattle.nfs_wire.specs.Calls.{nfs_fh3, procedure_of, IsFrontedBy, IsGarbage, ReadsCall, SpellsOneCall};
+ghost use Rattle.nfs_wire.specs.Calls.{procedure_of, IsFrontedBy, IsGarbage, ReadsCall, SpellsOneCall};
+
+mod data;
+mod items;
+mod names;
+mod pages;
 
 use crate::arguments::{ArgumentsError, are_bytes};
+use crate::attributes::{DeviceNumber, SetAttributes, Time};
 use bytes::Bytes;
 use nfs_xdr::{SharedReader, XdrError};
 
-/// A call of NFS version 3.
+/// A name in a directory (`diropargs3`).
 #[derive(Clone, Debug, Drop, PartialEq, Eq)]
+pub struct Place {
+    /// The handle of the directory.
+    pub directory: Bytes,
+    pub name: Bytes,
+}
+
+/// 8 bytes that nobody but their maker reads (`createverf3`, `cookieverf3` and `writeverf3`).
+#[derive(Clone, Copy, Debug, PartialEq, Eq)]
+pub struct Verifier {
+    pub bytes: [u8; 8],
+}
+
+/// The arguments of SETATTR (RFC 1813, 3.3.2).
+#[derive(Clone, Debug, Drop, PartialEq, Eq)]
+pub struct SetattrArguments {
+    /// The object's handle.
+    pub object: Bytes,
+    pub attributes: SetAttributes,
+    /// When given, the object's time of change must be this.
+    pub guard: Option<Time>,
+}
+
+/// The arguments of ACCESS (RFC 1813, 3.3.4).
+#[derive(Clone, Debug, Drop, PartialEq, Eq)]
+pub struct AccessArguments {
+    /// The object's handle.
+    pub object: Bytes,
+    /// A bit for each right that is asked about.
+    pub rights: u32,
+}
+
+/// The arguments of READ (RFC 1813, 3.3.6).
+#[derive(Clone, Debug, Drop, PartialEq, Eq)]
+pub struct ReadArguments {
+    /// The file's handle.
+    pub file: Bytes,
+    /// In bytes.
+    pub offset: u64,
+    /// In bytes.
+    pub count: u32,
+}
+
+/// How a WRITE is to be committed (`stable_how`, RFC 1813, 3.3.7).
+#[derive(Clone, Copy, Debug, PartialEq, Eq)]
+pub enum Stability {
+    Unstable,
+    DataSync,
+    FileSync,
+}
+
+/// The arguments of WRITE (RFC 1813, 3.3.7).
+#[derive(Clone, Debug, Drop, PartialEq, Eq)]
+pub struct WriteArguments {
+    /// The file's handle.
+    pub file: Bytes,
+    /// In bytes.
+    pub offset: u64,
+    /// In bytes. The caller gives it beside the data, and the two may differ.
+    pub count: u32,
+    pub stable: Stability,
+    pub data: Bytes,
+}
+
+/// How CREATE makes a file (`createhow3`, RFC 1813, 3.3.8).
+#[derive(Clone, Copy, Debug, PartialEq, Eq)]
+pub enum CreateHow {
+    Unchecked(SetAttributes),
+    Guarded(SetAttributes),
+    Exclusive(Verifier),
+}
+
+/// The arguments of CREATE (RFC 1813, 3.3.8).
+#[derive(Clone, Debug, Drop, PartialEq, Eq)]
+pub struct CreateArguments {
+    pub place: Place,
+    pub how: CreateHow,
+}
+
+/// The arguments of MKDIR (RFC 1813, 3.3.9).
+#[derive(Clone, Debug, Drop, PartialEq, Eq)]
+pub struct MkdirArguments {
+    pub place: Place,
+    pub attributes: SetAttributes,
+}
+
+/// The arguments of SYMLINK (RFC 1813, 3.3.10).
+#[derive(Clone, Debug, Drop, PartialEq, Eq)]
+pub struct SymlinkArguments {
+    pub place: Place,
+    pub attributes: SetAttributes,
+    /// What the link says.
+    pub text: Bytes,
+}
+
+/// A type of file that MKNOD does not make.
+#[derive(Clone, Copy, Debug, PartialEq, Eq)]
+pub enum Ordinary {
+    Regular,
+    Directory,
+    Link,
+}
+
+/// What MKNOD makes (`mknoddata3`, RFC 1813, 3.3.11).
+#[derive(Clone, Copy, Debug, PartialEq, Eq)]
+pub enum Special {
+    BlockDevice(SetAttributes, DeviceNumber),
+    CharacterDevice(SetAttributes, DeviceNumber),
+    Socket(SetAttributes),
+    Fifo(SetAttributes),
+    /// A type whose arm is void.
+    Other(Ordinary),
+}
+
+/// The arguments of MKNOD (RFC 1813, 3.3.11).
+#[derive(Clone, Debug, Drop, PartialEq, Eq)]
+pub struct MknodArguments {
+    pub place: Place,
+    pub what: Special,
+}
+
+/// The arguments of RENAME (RFC 1813, 3.3.14).
+#[derive(Clone, Debug, Drop, PartialEq, Eq)]
+pub struct RenameArguments {
+    pub from: Place,
+    pub to: Place,
+}
+
+/// The arguments of LINK (RFC 1813, 3.3.15).
+#[derive(Clone, Debug, Drop, PartialEq, Eq)]
+pub struct LinkArguments {
+    /// The file's handle.
+    pub file: Bytes,
+    /// Where the new name stands.
+    pub place: Place,
+}
+
+/// The arguments of READDIR (RFC 1813, 3.3.16).
+#[derive(Clone, Debug, Drop, PartialEq, Eq)]
+pub struct ReaddirArguments {
+    /// The directory's handle.
+    pub directory: Bytes,
+    /// The entry behind which the page begins; 0 at the start.
+    pub cookie: u64,
+    pub verifier: Verifier,
+    /// The most bytes that the result may have.
+    pub count: u32,
+}
+
+/// The arguments of READDIRPLUS (RFC 1813, 3.3.17).
+#[derive(Clone, Debug, Drop, PartialEq, Eq)]
+pub struct ReaddirplusArguments {
+    /// The directory's handle.
+    pub directory: Bytes,
+    /// The entry behind which the page begins; 0 at the start.
+    pub cookie: u64,
+    pub verifier: Verifier,
+    /// The most bytes of numbers, names and cookies.
+    pub directory_count: u32,
+    /// The most bytes that the result may have.
+    pub most: u32,
+}
+
+/// The arguments of COMMIT (RFC 1813, 3.3.21).
+#[derive(Clone, Debug, Drop, PartialEq, Eq)]
+pub struct CommitArguments {
+    /// The file's handle.
+    pub file: Bytes,
+    /// In bytes.
+    pub offset: u64,
+    /// In bytes.
+    pub count: u32,
+}
+
+/// A call of NFS version 3.
+#[derive(Debug, Drop, PartialEq, Eq)]
 pub enum NfsCall {
     /// Procedure 0 (RFC 1813, 3.3.0).
     Null,
     /// Procedure 1 (RFC 1813, 3.3.1), with the object's handle.
     Getattr(Bytes),
+    /// Procedure 2 (RFC 1813, 3.3.2).
+    Setattr(SetattrArguments),
+    /// Procedure 3 (RFC 1813, 3.3.3).
+    Lookup(Place),
+    /// Procedure 4 (RFC 1813, 3.3.4).
+    Access(AccessArguments),
+    /// Procedure 5 (RFC 1813, 3.3.5), with the link's handle.
+    Readlink(Bytes),
+    /// Procedure 6 (RFC 1813, 3.3.6).
+    Read(ReadArguments),
+    /// Procedure 7 (RFC 1813, 3.3.7).
+    Write(WriteArguments),
+    /// Procedure 8 (RFC 1813, 3.3.8).
+    Create(CreateArguments),
+    /// Procedure 9 (RFC 1813, 3.3.9).
+    Mkdir(MkdirArguments),
+    /// Procedure 10 (RFC 1813, 3.3.10).
+    Symlink(SymlinkArguments),
+    /// Procedure 11 (RFC 1813, 3.3.11).
+    Mknod(MknodArguments),
+    /// Procedure 12 (RFC 1813, 3.3.12).
+    Remove(Place),
+    /// Procedure 13 (RFC 1813, 3.3.13).
+    Rmdir(Place),
+    /// Procedure 14 (RFC 1813, 3.3.14).
+    Rename(RenameArguments),
+    /// Procedure 15 (RFC 1813, 3.3.15).
+    Link(LinkArguments),
+    /// Procedure 16 (RFC 1813, 3.3.16).
+    Readdir(ReaddirArguments),
+    /// Procedure 17 (RFC 1813, 3.3.17).
+    Readdirplus(ReaddirplusArguments),
+    /// Procedure 18 (RFC 1813, 3.3.18), with the handle of an object of the file system.
+    Fsstat(Bytes),
+    /// Procedure 19 (RFC 1813, 3.3.19), with the handle of an object of the file system.
+    Fsinfo(Bytes),
+    /// Procedure 20 (RFC 1813, 3.3.20), with the object's handle.
+    Pathconf(Bytes),
+    /// Procedure 21 (RFC 1813, 3.3.21).
+    Commit(CommitArguments),
 }
 
 /// The call of the procedure of this number that the bytes hold. Bytes after its arguments are ignored.
@@ -43,21 +263,27 @@ fn read_call(procedure: u32, arguments: &mut SharedReader<'_>) -> Result<NfsCall
 {
     match procedure {
         0 => Ok(NfsCall::Null),
-        1 => read_getattr(arguments),
+        1 => data::read_getattr(arguments),
+        2 => data::read_setattr(arguments),
+        3 => names::read_lookup(arguments),
+        4 => data::read_access(arguments),
+        5 => data::read_readlink(arguments),
+        6 => data::read_read(arguments),
+        7 => data::read_write(arguments),
+        8 => names::read_create(arguments),
+        9 => names::read_mkdir(arguments),
+        10 => names::read_symlink(arguments),
+        11 => names::read_mknod(arguments),
+        12 => names::read_remove(arguments),
+        13 => names::read_rmdir(arguments),
+        14 => names::read_rename(arguments),
+        15 => names::read_link(arguments),
+        16 => pages::read_readdir(arguments),
+        17 => pages::read_readdirplus(arguments),
+        18 => pages::read_fsstat(arguments),
+        19 => pages::read_fsinfo(arguments),
+        20 => pages::read_pathconf(arguments),
+        21 => data::read_commit(arguments),
         _ => Err(XdrError::BadValue),
     }
-}
-
-/// GETATTR3args (RFC 1813, 3.3.1).
-fn read_getattr(arguments: &mut SharedReader<'_>) -> Result<NfsCall, XdrError>
-    ensures { ReadsCall 1 arguments.old arguments.new result }
-{
-    Ok(NfsCall::Getattr(read_handle(arguments)?))
-}
-
-/// A handle (`nfs_fh3`, RFC 1813, 2.5).
-fn read_handle(reader: &mut SharedReader<'_>) -> Result<Bytes, XdrError>
-    ensures { ReadsFront nfs_fh3 (λ handle. handle) reader.old reader.new result }
-{
-    reader.opaque(64)
 }

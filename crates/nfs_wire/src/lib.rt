@@ -5,22 +5,38 @@
 //! its result with zeros as padding. Both stand on the types of XDR as data, and on the one reader,
 //! writer and laws of `nfs_xdr`.
 //!
-//! A procedure is a variant of `NfsCall` and of `NfsReply`; a line in each table of `specs/Calls` and
-//! `specs/Replies`; an arm of `read_call` with a function that reads its arguments, and one of
-//! `append_result` with a function that writes its result; and a line for each of the two tables in
-//! `proofs/CallLaws`.
+//! A procedure is a variant of `NfsCall` and of `NfsReply`. Its arguments have their XDR type and value
+//! in `specs/Arguments`, and a line in each table of `specs/Calls`; a function in `calls/`, and an arm of
+//! `read_call`; and how they are made again of their value in `proofs/ArgumentLaws`, with a line in the two
+//! tables of `proofs/CallLaws`. Its result has its XDR type and value in `specs/Results`, and a line in
+//! `specs/Replies`; and a function in `replies/`, with an arm of `append_result`.
 #![tactic(auto)]
 
 pub mod arguments;
 pub mod attributes;
 pub mod calls;
+mod clones;
+pub mod entries;
 pub mod replies;
 pub mod status;
 #[cfg(test)]
 mod tests;
 
 pub use arguments::ArgumentsError;
-pub use attributes::{Attributes, DeviceNumber, FileType, Time};
-pub use calls::{NfsCall, one_call_is_spelled, read_args};
-pub use replies::{NfsReply, write_result};
+pub use attributes::{
+    Attributes, DeviceNumber, FileType, SetAttributes, SetTime, Time, Wcc, WeakAttributes,
+};
+pub use calls::{
+    AccessArguments, CommitArguments, CreateArguments, CreateHow, LinkArguments, MkdirArguments,
+    MknodArguments, NfsCall, Ordinary, Place, ReadArguments, ReaddirArguments,
+    ReaddirplusArguments, RenameArguments, SetattrArguments, Special, Stability, SymlinkArguments,
+    Verifier, WriteArguments, one_call_is_spelled, read_args,
+};
+pub use entries::{FullEntry, FullNames, Names, PageEntry};
+pub use replies::{
+    AccessReply, CommitReply, FileSystem, Found, FsinfoReply, FsstatReply, LinkedReply,
+    LookupReply, Made, MadeReply, NfsReply, Page, PagePlus, PathLimits, PathconfReply, ReadData,
+    ReadReply, ReaddirReply, ReaddirplusReply, ReadlinkReply, RemovedReply, RenamedReply,
+    SetattrReply, Space, WriteReply, Written, write_result,
+};
 pub use status::NfsStatus;

@@ -100,6 +100,34 @@ fn a_mount_of_another_path(rt: HostRuntime) -> Result<(), Fail> {
 }
 
 #[test]
+fn a_mount_of_a_path_that_leads_from_no_root(rt: HostRuntime) -> Result<(), Fail> {
+    let call = [0x80000030, 2, 0, 2, 100005, 3, 1, 0, 0, 0, 0, 4, 0x64617461];
+    answers_by(&rt, &call, &[0x8000001c, 2, 1, 0, 0, 0, 0, 22])
+}
+
+#[test]
+fn a_mount_of_a_path_with_a_dot(rt: HostRuntime) -> Result<(), Fail> {
+    let call = [
+        0x80000034, 2, 0, 2, 100005, 3, 1, 0, 0, 0, 0, 7, 0x2f646174, 0x612f2e00,
+    ];
+    answers_by(&rt, &call, &[0x8000001c, 2, 1, 0, 0, 0, 0, 22])
+}
+
+#[test]
+fn a_mount_of_a_path_with_a_nul(rt: HostRuntime) -> Result<(), Fail> {
+    let call = [
+        0x80000034, 2, 0, 2, 100005, 3, 1, 0, 0, 0, 0, 6, 0x2f646174, 0x61000000,
+    ];
+    answers_by(&rt, &call, &[0x8000001c, 2, 1, 0, 0, 0, 0, 22])
+}
+
+#[test]
+fn a_mount_of_the_beginning_of_a_path(rt: HostRuntime) -> Result<(), Fail> {
+    let call = [0x80000030, 2, 0, 2, 100005, 3, 1, 0, 0, 0, 0, 4, 0x2f646174];
+    answers_by(&rt, &call, &[0x8000001c, 2, 1, 0, 0, 0, 0, 13])
+}
+
+#[test]
 fn a_handle_of_65_bytes(rt: HostRuntime) -> Result<(), Fail> {
     let call = [
         0x80000070, 3, 0, 2, 100003, 3, 1, 0, 0, 0, 0, 65, 0x4e464433, 1, 0, 7, 0, 1, 0, 1, 0, 0,

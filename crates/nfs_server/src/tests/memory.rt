@@ -25,9 +25,9 @@ fn served(
     plain: &mut Plain,
     input: &[u8],
 ) -> Result<(Vec<u8>, Result<Served, StreamFault>), AllocError> {
-    let room = match Vec::with_capacity(alloc, 256) {
+    let room = match Vec::with_capacity(alloc, 512) {
         Ok(room) => room,
-        Err(_) => Vec::with_capacity(alloc, 256)?,
+        Err(_) => Vec::with_capacity(alloc, 512)?,
     };
     let mut writer = Counted::new(room);
     let end = serve(alloc, plain, &mut Counted::new(input), &mut writer);
@@ -77,4 +77,21 @@ fn getattr_is_refused(rt: HostRuntime) -> Result<(), Fail> {
 fn mnt_is_refused(rt: HostRuntime) -> Result<(), Fail> {
     let refusal = [0x8000001c, 2, 1, 0, 0, 0, 0, 10006];
     answers_at_last(&rt, &MNT, &MNT_REPLY, &refusal)
+}
+
+/// NFS3ERR_JUKEBOX, with nothing told of the directory. The file that is made then is the first.
+#[test]
+fn create_is_refused(rt: HostRuntime) -> Result<(), Fail> {
+    let call = [
+        0x80000070, 8, 0, 2, 100003, 3, 8, 0, 0, 0, 0, 32, 0x4e464433, 1, 0, 7, 0, 1, 0, 1, 1,
+        0x78000000, 1, 0, 0, 0, 0, 0, 0,
+    ];
+    let reply = [
+        0x80000110, 8, 1, 0, 0, 0, 0, 0, 1, 32, 0x4e464433, 1, 0, 7, 0, 2, 0, 1, 1, 1, 0o644, 1,
+        65534, 65534, 0, 0, 0, 0, 0, 0, 0, 1, 0, 2, 1000, 0, 1000, 0, 1000, 0, 1, 0, 0x1000, 1000,
+        0, 1000, 0, 1, 2, 0o777, 2, 0, 0, 0, 0x1000, 0, 0x1000, 0, 0, 0, 1, 0, 1, 1000, 0, 1000, 1,
+        1000, 1,
+    ];
+    let refusal = [0x80000024, 8, 1, 0, 0, 0, 0, 10008, 0, 0];
+    answers_at_last(&rt, &call, &reply, &refusal)
 }

@@ -1,0 +1,244 @@
+//! New objects and their names, and CREATE over what is there (RFC 1813, 3.3.8).
+
+ghost use Rattle.std.specs.Prelude.{◌≡◌, ◌+◌, ◌<◌, ◌^◌, IfOk, IfSome, None, find, replicate};
+ghost use Rattle.nfs_machine.specs.Bytes.{same_bytes};
+ghost use Rattle.nfs_machine.specs.Checks.{bytes_in};
+ghost use Rattle.nfs_machine.specs.NameSteps.{attributes_given, create_over, given_attributes, is_verifier, may_give, new_file, new_object, no_attributes, resize_object, verifier_given};
+ghost use Rattle.nfs_machine.specs.Times.{is_time, set_time, time_of, touch};
+ghost use Rattle.nfs_objects.specs.Endings.{KeepsPlace, with_name};
+ghost use Rattle.nfs_objects.specs.Stands.{content_of, living_of_inode, verifier_of};
+ghost use Rattle.nfs_inodes.specs.Making.{seen_after};
+
+use crate::checks::bytes_in;
+use crate::content::{resized, with_content};
+use crate::data::SIZE_LIMIT;
+use crate::permission::{Right, is_member, permitted};
+use crate::times::{is_time, now, set_time};
+use bytes::Bytes;
+use nfs_machine::Ctx;
+use nfs_objects::{Content, Directory, Inode, Leaf};
+use nfs_rpc::Ids;
+use nfs_wire::{CreateHow, NfsStatus, SetAttributes, SetTime, Verifier};
+use std::alloc::{AllocError, Global};
+
+/// The mode of a new file that is given none.
+const FILE_MODE: u32 = 0o644;
+
+/// Judges the attributes that a new object is given (RFC 1813, 2.5: sattr3).
+///
+/// # Errors
+///
+/// `Invalid` where a time has a second or more of nanoseconds; else `FileTooBig` above `SIZE_LIMIT`; else `Permission`
+/// for an owner or a group that the caller may not give it to.
+pub fn given_attributes(ctx: &Ctx, given: &SetAttributes) -> Result<(), NfsStatus>
+    ensures { result ≡ given_attributes ctx.now given.now }
+{
+    if !is_time(given.accessed) || !is_time(given.modified) {
+        return Err(NfsStatus::Invalid);
+    }
+    if given.size.unwrap_or(0) > SIZE_LIMIT {
+        return Err(NfsStatus::FileTooBig);
+    }
+    if !may_give(&ctx.ids, given) {
+        return Err(NfsStatus::Permission);
+    }
+    Ok(())
+}
+
+/// Whether a caller may give an object to these ids: the user 0 to anybody, others to themselves and their groups.
+fn may_give(ids: &Ids, given: &SetAttributes) -> bool
+    ensures { result ≡ may_give ids.now given.now }
+{
+    let uid = given.uid.unwrap_or(ids.uid);
+    let gid = given.gid.unwrap_or(ids.gid);
+    ids.uid == 0 || (uid == ids.uid && is_member(ids, gid))
+}
+
+/// The file that CREATE makes, filled with zeros up to the size that is given.
+///
+/// # Errors
+///
+/// `AllocError` where the memory for the content was refused.
+pub fn new_file(
+    alloc: Global,
+    ctx: &Ctx,
+    how: &CreateHow,
+    export: u32,
+    generation: u64,
+) -> Result<Inode, AllocError>
+    ensures living { IfOk result (λ file. living_of_inode file ≡ new_file ctx.now how.now export generation) }
+    ensures links { IfOk result (λ file. file.links ≡ 1) }
+{
+    let given = attributes_given(how);
+    let content = zeros(alloc, given.size.unwrap_or(0) as usize)?;
+    let mut file = new_object(
+        ctx,
+        export,
+        generation,
+        FILE_MODE,
+        Content::Regular(content),
+        &given,
+    );
+    file.verifier = verifier_given(how);
+    Ok(file)
+}
+
+/// A new object with one link and no verifier: what is given, and else the caller's ids, the mode of its kind and the call's moment.
+pub fn new_object(
+    ctx: &Ctx,
+    export: u32,
+    generation: u64,
+    mode: u32,
+    content: Content,
+    given: &SetAttributes,
+) -> Inode
+    ensures living { living_of_inode result ≡ new_object ctx.now export generation mode (content_of content) given.now None }
+    ensures links { result.links ≡ 1 }
+{
+    let now = now(ctx);
+    Inode {
+        export,
+        generation,
+        content,
+        mode: given.mode.unwrap_or(mode) % 0o10000,
+        uid: given.uid.unwrap_or(ctx.ids.uid),
+        gid: given.gid.unwrap_or(ctx.ids.gid),
+        links: 1,
+        accessed: set_time(now, now, given.accessed),
+        modified: set_time(now, now, given.modified),
+        changed: now,
+        verifier: None,
+    }
+}
+
+/// The attributes that CREATE gives a new file.
+pub fn attributes_given(how: &CreateHow) -> SetAttributes
+    ensures { result ≡ attributes_given how.now }
+{
+    match how {
+        CreateHow::Unchecked(given) | CreateHow::Guarded(given) => *given,
+        CreateHow::Exclusive(_) => SetAttributes {
+            mode: None,
+            uid: None,
+            gid: None,
+            size: None,
+            accessed: SetTime::Leave,
+            modified: SetTime::Leave,
+        },
+    }
+}
+
+/// The verifier that a new file keeps.
+fn verifier_given(how: &CreateHow) -> Option<Verifier>
+    ensures { verifier_of result ≡ verifier_given how.now }
+{
+    match how {
+        CreateHow::Unchecked(_) | CreateHow::Guarded(_) => None,
+        CreateHow::Exclusive(verifier) => Some(*verifier),
+    }
+}
+
+fn zeros(alloc: Global, size: usize) -> Result<Bytes, AllocError>
+    ensures { IfOk result (λ content. content ≡ replicate size 0) }
+{
+    let mut zeros = Vec::with_capacity(alloc, size)?;
+    zeros.resize(size, 0)?;
+    Ok(Bytes::from_vec(zeros)?)
+}
+
+/// The inode of a directory with one more name, which leads to this number. Its cookie is one above all that the directory
+/// ever used (RFC 1813, 3.3.16).
+///
+/// # Errors
+///
+/// `AllocError` where the memory for the names was refused.
+pub fn with_name(
+    ctx: &Ctx,
+    inode: &Inode,
+    directory: &Directory,
+    name: &Bytes,
+    number: u64,
+) -> Result<Inode, AllocError>
+    requires absent { find (λ e. same_bytes e.name name.now) directory.now.entries ≡ None }
+    requires room { directory.now.last_cookie + 1 < 2 ^ 64 }
+    ensures { IfOk result (λ wider. wider ≡ record inode.now {
+      content = Content.Directory (with_name directory.now name.now number);
+      modified = touch inode.now.changed (time_of ctx.now.moment);
+      changed = touch inode.now.changed (time_of ctx.now.moment);
+    }) }
+{
+    let cookie = directory.last_cookie + 1;
+    let entries = directory.entries.with_entry(name, Leaf { number, cookie })?;
+    let wider = Directory {
+        parent: directory.parent,
+        last_cookie: cookie,
+        entries,
+    };
+    Ok(with_content(inode, now(ctx), Content::Directory(wider)))
+}
+
+/// What CREATE makes of the object that has the name; None where it stays as it is.
+///
+/// # Errors
+///
+/// `AllocError` where the memory for new content was refused. The status within is `Exists` where the object cannot be
+/// answered; `Access` and `FileTooBig` where it cannot get the size that is given.
+pub fn create_over(
+    alloc: Global,
+    ctx: &Ctx,
+    how: &CreateHow,
+    inode: &Inode,
+) -> Result<Result<Option<Inode>, NfsStatus>, AllocError>
+    ensures value { IfOk result (λ after. seen_after after ≡ create_over ctx.now how.now (living_of_inode inode.now) (bytes_in (content_of inode.now.content))) }
+    ensures keeps { IfOk result (λ after. IfOk after (λ a. IfSome a (KeepsPlace inode.now))) }
+{
+    let bytes = match bytes_in(&inode.content) {
+        Ok(bytes) => bytes,
+        Err(_) => return Ok(Err(NfsStatus::Exists)),
+    };
+    match how {
+        CreateHow::Unchecked(given) => match given.size {
+            Some(size) => resize(alloc, ctx, inode, bytes, size),
+            None => Ok(Ok(None)),
+        },
+        CreateHow::Guarded(_) => Ok(Err(NfsStatus::Exists)),
+        CreateHow::Exclusive(verifier) => {
+            if is_verifier(&inode.verifier, verifier) {
+                Ok(Ok(None))
+            } else {
+                Ok(Err(NfsStatus::Exists))
+            }
+        }
+    }
+}
+
+/// The file of this content, cut off or filled up with zeros to this size.
+fn resize(
+    alloc: Global,
+    ctx: &Ctx,
+    inode: &Inode,
+    bytes: &Bytes,
+    size: u64,
+) -> Result<Result<Option<Inode>, NfsStatus>, AllocError>
+    ensures value { IfOk result (λ after. seen_after after ≡ resize_object ctx.now (living_of_inode inode.now) bytes.now size) }
+    ensures keeps { IfOk result (λ after. IfOk after (λ a. IfSome a (λ new. KeepsPlace (record inode.now { content = Content.Regular bytes.now }) new))) }
+{
+    if let Err(status) = permitted(ctx, inode, Right::Writing) {
+        return Ok(Err(status));
+    }
+    if size > SIZE_LIMIT {
+        return Ok(Err(NfsStatus::FileTooBig));
+    }
+    let content = resized(alloc, bytes.as_slice(), size as usize)?;
+    Ok(Ok(Some(with_content(inode, now(ctx), Content::Regular(content)))))
+}
+
+/// Whether a file was made by an exclusive CREATE with this verifier.
+fn is_verifier(kept: &Option<Verifier>, given: &Verifier) -> bool
+    ensures { result ≡ is_verifier (verifier_of kept.now) given.now.bytes }
+{
+    match kept {
+        Some(kept) => kept.bytes == given.bytes,
+        None => false,
+    }
+}

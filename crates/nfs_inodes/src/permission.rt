@@ -1,0 +1,107 @@
+//! Who may do what (RFC 1813, 4.4).
+
+ghost use Rattle.std.specs.Prelude.{◌≡◌, ◌==◌};
+ghost use Rattle.std.specs.List.{list_any};
+ghost use Rattle.nfs_machine.specs.Checks.{permitted};
+ghost use Rattle.nfs_machine.specs.Permission.{class_bits, class_may, is_member, may, reads, runs, writes};
+ghost use Rattle.nfs_objects.specs.Stands.{living_of_inode};
+ghost use Rattle.nfs_inodes.specs.Rights.{right_of};
+
+use nfs_machine::Ctx;
+use nfs_objects::Inode;
+use nfs_rpc::Ids;
+use nfs_wire::NfsStatus;
+
+/// What a caller wants to do with an object.
+#[derive(Clone, Copy, Debug, PartialEq, Eq)]
+pub enum Right {
+    /// To read a file: its owner always may, else it needs r or x.
+    Reading,
+    /// To write a file: its owner always may, else it needs w.
+    Writing,
+    /// To look names up in a directory: x.
+    Searching,
+    /// To list the names of a directory: r.
+    Listing,
+    /// To add and take names of a directory: w and x.
+    Changing,
+}
+
+/// Whether a caller has a right to an object. The user 0 has all; for others the bits of one class decide, which is the
+/// owner's, else the group's, else that of all others.
+pub fn may(ids: &Ids, inode: &Inode, right: Right) -> bool
+    ensures { result ≡ may ids.now (living_of_inode inode.now) (right_of right) }
+{
+    ids.uid == 0 || class_may(right, ids.uid == inode.uid, class_bits(ids, inode))
+}
+
+/// Asks for a right.
+///
+/// # Errors
+///
+/// `Access` where the caller has it not.
+pub fn permitted(ctx: &Ctx, inode: &Inode, right: Right) -> Result<(), NfsStatus>
+    ensures { result ≡ permitted ctx.now (living_of_inode inode.now) (right_of right) }
+{
+    if may(&ctx.ids, inode, right) {
+        Ok(())
+    } else {
+        Err(NfsStatus::Access)
+    }
+}
+
+/// The three bits of the caller's class.
+fn class_bits(ids: &Ids, inode: &Inode) -> u32
+    ensures { result ≡ class_bits ids.now (living_of_inode inode.now) }
+{
+    if ids.uid == inode.uid {
+        inode.mode / 0o100 % 0o10
+    } else if is_member(ids, inode.gid) {
+        inode.mode / 0o10 % 0o10
+    } else {
+        inode.mode % 0o10
+    }
+}
+
+/// Whether the group is the caller's own, or one of its further groups.
+pub(crate) fn is_member(ids: &Ids, gid: u32) -> bool
+    ensures { result ≡ is_member ids.now gid }
+{
+    ids.gid == gid || is_among(ids.gids.as_slice(), gid)
+}
+
+fn is_among(groups: &[u32], gid: u32) -> bool
+    ensures { result ≡ list_any (λ group. group == gid) groups.now }
+{
+    groups.iter().any(|group| *group == gid)
+}
+
+fn class_may(right: Right, is_owner: bool, bits: u32) -> bool
+    ensures { result ≡ class_may (right_of right) is_owner bits }
+{
+    match right {
+        Right::Reading => is_owner || reads(bits) || runs(bits),
+        Right::Writing => is_owner || writes(bits),
+        Right::Searching => runs(bits),
+        Right::Listing => reads(bits),
+        Right::Changing => writes(bits) && runs(bits),
+    }
+}
+
+fn reads(bits: u32) -> bool
+    ensures { result ≡ reads bits }
+{
+    bits / 4 % 2 == 1
+}
+
+fn writes(bits: u32) -> bool
+    ensures { result ≡ writes bits }
+{
+    bits / 2 % 2 == 1
+}
+
+fn runs(bits: u32) -> bool
+    ensures { result ≡ runs bits }
+{
+    bits % 2 == 1
+}

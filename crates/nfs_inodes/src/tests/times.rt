@@ -1,0 +1,28 @@
+//! The time of a change rises with each change (RFC 1813, 2.5: mtime, ctime).
+
+use super::*;
+
+fn time(seconds: u32, nanoseconds: u32) -> Time {
+    Time {
+        seconds,
+        nanoseconds,
+    }
+}
+
+#[test]
+fn a_change_has_the_time_of_its_call(rt: HostRuntime) {
+    assert_eq!(rt; touch(time(999, 5), TIME), TIME);
+}
+
+#[test]
+fn a_change_in_the_same_moment_is_later(rt: HostRuntime) {
+    assert_eq!(rt; touch(TIME, TIME), time(1000, 1));
+    assert_eq!(rt; touch(time(2000, 7), TIME), time(2000, 8));
+    assert_eq!(rt; touch(time(1000, 999_999_999), TIME), time(1001, 0));
+}
+
+#[test]
+fn the_greatest_time_stays(rt: HostRuntime) {
+    let greatest = time(u32::MAX, 999_999_999);
+    assert_eq!(rt; touch(greatest, TIME), greatest);
+}

@@ -1,0 +1,85 @@
+-- The checks that procedures of NFS share. Each names the status of a call that fails it (RFC 1813, 2.6), and a
+-- procedure makes them in this order: handles, kinds, names, a read-only export, permission, and then its own.
+use Rattle.std.specs.Prelude.{ℕ, Bool, true, false, not, ◌&&◌, ◌||◌, List, length, Option, Some, None, Result, Ok, Err, nat_le, codes, find, ◌==◌}
+use Rattle.std.specs.List.{list_any}
+use Rattle.nfs_wire.specs.declared.status.NfsStatus.{NfsStatus}
+use Rattle.nfs_wire.specs.declared.status.NfsStatus.TheVariants as status
+use Rattle.nfs_machine.specs.Bytes.{same_bytes}
+use Rattle.nfs_machine.specs.Exports.{ExportValue, export_at}
+use Rattle.nfs_machine.specs.Paths.{slash}
+use Rattle.nfs_machine.specs.Permission.{Right, may}
+use Rattle.nfs_machine.specs.Resolve.{Resolved, BadHandle, Stale, Names}
+use Rattle.nfs_machine.specs.State.{Content, Regular, Directory, Link, BlockDevice, CharacterDevice, Socket, Fifo, Entry, Living}
+use Rattle.nfs_machine.specs.declared.context.Ctx.{Ctx}
+
+infixl 10 ◌>>=◌
+abbrev pub ◌>>=◌ : {A B : Type 0} → Result A NfsStatus → (A → Result B NfsStatus) → Result B NfsStatus
+(Ok x) >>= f = f x
+(Err e) >>= f = Err e
+
+abbrev pub holding : Bool → NfsStatus → Result (Unit {0}) NfsStatus
+holding true e = Ok tt
+holding false e = Err e
+
+-- the object that a handle names, with its number
+abbrev pub object_of : Resolved → Result (ℕ × Living) NfsStatus
+object_of BadHandle = Err status.BadHandle
+object_of Stale = Err status.Stale
+object_of (Names number object) = Ok (number, object)
+
+-- the entries of a directory, and the greatest cookie that it ever used
+abbrev pub entries_in : Content → Result (List Entry × ℕ) NfsStatus
+entries_in (Directory entries last_cookie) = Ok (entries, last_cookie)
+entries_in (Regular bytes) = Err status.NotDirectory
+entries_in (Link text) = Err status.NotDirectory
+entries_in (BlockDevice device) = Err status.NotDirectory
+entries_in (CharacterDevice device) = Err status.NotDirectory
+entries_in Socket = Err status.NotDirectory
+entries_in Fifo = Err status.NotDirectory
+
+-- the bytes of a regular file
+abbrev pub bytes_in : Content → Result (List ℕ) NfsStatus
+bytes_in (Regular bytes) = Ok bytes
+bytes_in (Directory entries last_cookie) = Err status.Invalid
+bytes_in (Link text) = Err status.Invalid
+bytes_in (BlockDevice device) = Err status.Invalid
+bytes_in (CharacterDevice device) = Err status.Invalid
+bytes_in Socket = Err status.Invalid
+bytes_in Fifo = Err status.Invalid
+
+-- no name is empty or holds a slash or a NUL
+abbrev pub is_spelled : List ℕ → Bool
+is_spelled name = nat_le 1 (length name) && not (list_any (λ b. (b == slash) || (b == 0)) name)
+
+-- a name that may stand in a directory
+abbrev pub name_checked : List ℕ → Result (Unit {0}) NfsStatus
+name_checked name = do
+  _ ← holding (nat_le (length name) 255) status.NameTooLong
+  holding (is_spelled name) status.Access
+
+abbrev pub is_self : List ℕ → Bool
+is_self name = same_bytes name (codes ".")
+
+abbrev pub is_above : List ℕ → Bool
+is_above name = same_bytes name (codes "..")
+
+-- a name for a new object: "." and ".." are there in every directory
+abbrev pub new_name_checked : List ℕ → Result (Unit {0}) NfsStatus
+new_name_checked name = do
+  _ ← name_checked name
+  holding (not (is_self name || is_above name)) status.Exists
+
+abbrev pub is_read_only : Option ExportValue → Bool
+is_read_only None = true
+is_read_only (Some e) = e.read_only
+
+-- the object may be changed: its export is not read only
+abbrev pub changeable : Ctx → Living → Result (Unit {0}) NfsStatus
+changeable ctx o = holding (not (is_read_only (export_at ctx.exports o.export))) status.ReadOnly
+
+abbrev pub permitted : Ctx → Living → Right → Result (Unit {0}) NfsStatus
+permitted ctx o right = holding (may ctx.ids o right) status.Access
+
+-- the entry of a name
+abbrev pub entry_of : List Entry → List ℕ → Option Entry
+entry_of entries name = find (λ e. same_bytes e.name name) entries

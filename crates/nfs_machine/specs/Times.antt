@@ -1,0 +1,34 @@
+-- Times of changes (RFC 1813, 2.5: mtime and ctime).
+use Rattle.std.specs.Prelude.{◌+◌, Bool, true, ◌&&◌, ◌||◌, nat_lt, nat_le, if◌then◌else◌, ◌==◌}
+use Rattle.nfs_wire.specs.declared.attributes.SetTime.{SetTime}
+use Rattle.nfs_wire.specs.declared.attributes.SetTime.TheVariants.{Leave, ToServer, ToClient}
+use Rattle.nfs_wire.specs.declared.attributes.Time.{Time}
+use Rattle.nfs_machine.specs.declared.moment.Moment.{Moment}
+
+abbrev pub time_of : Moment → Time
+time_of moment = record { seconds = moment.seconds; nanoseconds = moment.nanoseconds }
+
+abbrev pub is_earlier : Time → Time → Bool
+is_earlier a b = nat_lt a.seconds b.seconds || ((a.seconds == b.seconds) && nat_lt a.nanoseconds b.nanoseconds)
+
+-- one nanosecond later; the greatest time stays
+abbrev pub next : Time → Time
+next t =
+    if nat_lt t.nanoseconds 999999999 then record { seconds = t.seconds; nanoseconds = t.nanoseconds + 1 }
+    else (if nat_lt t.seconds 4294967295 then record { seconds = t.seconds + 1; nanoseconds = 0 } else t)
+
+-- the time of a change that happens now, to what was changed last at that time: it rises with each change
+abbrev pub touch : Time → Time → Time
+touch changed now = if is_earlier (next changed) now then now else next changed
+
+-- nanoseconds are below a second (3.3.2)
+abbrev pub is_time : SetTime → Bool
+is_time Leave = true
+is_time ToServer = true
+is_time (ToClient t) = nat_le t.nanoseconds 999999999
+
+-- a time that is set now (2.5: set_atime, set_mtime)
+abbrev pub set_time : Time → Time → SetTime → Time
+set_time old now Leave = old
+set_time old now ToServer = now
+set_time old now (ToClient t) = t

@@ -1,0 +1,462 @@
+-- CREATE's answer is a step in every sound store that the view fits: what is refused and what changes nothing, a file that gets another size,
+-- and a new file under a new name.
+use Rattle.std.proofs.Common.{◌≡◌, ◌==◌, ℕ, ◌+◌, ◌<◌, ◌^◌, true, false, Bool, cond, nat_lt, List, [], ◌∷◌, not, Option, Some, None, option_map, unwrap_or, IsSomeAnd, slice_get, Result, Ok, Err, refl, sym, ap, ◌∙◌, subst}
+use Rattle.std.proofs.lemmas.Bool.{ltb-true}
+use Rattle.std.specs.Cmp.{unsigned_Decides}
+use Rattle.std.specs.FinMap.{get}
+use Rattle.nfs_wire.specs.declared.attributes.Attributes.{Attributes}
+use Rattle.nfs_wire.specs.declared.attributes.Wcc.{Wcc}
+use Rattle.nfs_wire.specs.declared.attributes.WeakAttributes.{WeakAttributes}
+use Rattle.nfs_wire.specs.declared.calls.CreateArguments.{CreateArguments}
+use Rattle.nfs_wire.specs.declared.calls.CreateHow.{CreateHow}
+use Rattle.nfs_wire.specs.declared.calls.NfsCall.TheVariants as nfs
+use Rattle.nfs_wire.specs.declared.replies.Made.{Made}
+use Rattle.nfs_wire.specs.declared.replies.MadeReply.{MadeReply}
+use Rattle.nfs_wire.specs.declared.replies.NfsReply.TheVariants as replies
+use Rattle.nfs_wire.specs.declared.status.NfsStatus.{NfsStatus}
+use Rattle.nfs_wire.specs.declared.status.NfsStatus.TheVariants as status
+use Rattle.nfs_machine.specs.Answers.{answer_of, state_after}
+use Rattle.nfs_machine.specs.Attributes.{attributes_of, is_directory, links_of}
+use Rattle.nfs_machine.specs.Checks.{◌>>=◌, holding, object_of, entries_in, bytes_in, new_name_checked, changeable, permitted, entry_of, is_read_only}
+use Rattle.nfs_machine.specs.Exports.{ExportValue, export_at}
+use Rattle.nfs_machine.specs.NameSteps.{End, Known, Chosen, EndsAs, Fresh, attributes_given, create_existing, create_made, create_new, create_over, given_attributes, made, new_file, with_entry}
+use Rattle.nfs_machine.specs.NfsSteps.{NfsStep}
+use Rattle.nfs_machine.specs.Permission.{Changing}
+use Rattle.nfs_machine.specs.Resolve.{Resolved, resolve}
+use Rattle.nfs_machine.specs.Resolve as machine
+use Rattle.nfs_machine.specs.Shown.{attributes_at, replaced, wcc, with_content, with_object}
+use Rattle.nfs_machine.specs.State.{Entry, Living, State}
+use Rattle.nfs_machine.specs.Times.{time_of, touch}
+use Rattle.nfs_machine.specs.declared.calls.Call.TheVariants as calls
+use Rattle.nfs_machine.specs.declared.calls.Reply.TheVariants as answers
+use Rattle.nfs_machine.specs.declared.context.Ctx.{Ctx}
+use Rattle.nfs_objects.proofs.Entered.{created_represented, created_sound, free, linked-made, linked-wider, makes, never_given, stored-place}
+use Rattle.nfs_objects.proofs.Replaced.{rewritten_represented, rewritten_sound}
+use Rattle.nfs_objects.proofs.Seen.{fits_at, lives-seen}
+use Rattle.nfs_objects.specs.Endings.{Creates, HoldsUnchanged, IsCreation, KeepsPlace, Rewrites, with_created, with_name}
+use Rattle.nfs_objects.specs.Entries.{leaf_of}
+use Rattle.nfs_objects.specs.Fits.{Fits}
+use Rattle.nfs_objects.specs.Sound.{Sound, RootsLive}
+use Rattle.nfs_objects.specs.Stands.{Represents, content_of, inode_of, living_of, living_of_inode}
+use Rattle.nfs_objects.specs.Store.{Store, put_at}
+use Rattle.nfs_objects.specs.Values.{ViewValue, seen_at}
+use Rattle.nfs_objects.specs.declared.address.Addr.TheVariants as addresses
+use Rattle.nfs_objects.specs.declared.directory.Directory.{Directory}
+use Rattle.nfs_objects.specs.declared.directory.Leaf.{Leaf}
+use Rattle.nfs_objects.specs.declared.ending.Creation.{Creation}
+use Rattle.nfs_objects.specs.declared.object.Content.{Content}
+use Rattle.nfs_objects.specs.declared.object.Content.TheVariants as contents
+use Rattle.nfs_objects.specs.declared.object.Inode.{Inode}
+use Rattle.nfs_objects.specs.declared.object.Object.{Object}
+use Rattle.nfs_objects.specs.declared.object.Object.TheVariants as objects
+use Rattle.nfs_objects.specs.declared.view.Reserved.{Reserved}
+use Rattle.nfs_inodes.proofs.Attributed.{attributes-seen, shown-attributes}
+use Rattle.nfs_inodes.proofs.Meant.{names-seen, resolve-means}
+use Rattle.nfs_inodes.specs.Found.{BadHandle, Stale, Names, found_at}
+use Rattle.nfs_inodes.specs.Kinds.{directory_in}
+use Rattle.nfs_inodes.specs.Shown.{Shows}
+use Rattle.nfs_names.specs.Shown.{ShowsMade, ShowsWcc}
+use Rattle.nfs_names.specs.Wanted.{Addresses, checked_wanted, create_wanted, directory_checked, entry_wanted, new_judged, new_wanted, unless_known}
+
+-- checks made one after the other, and then another
+module _ {B : Type 0} (named changed permit : Result (Unit {0}) NfsStatus) (k : List Entry × ℕ → Result B NfsStatus) where
+  checks-then : (d : Directory)
+      → (named >>= λ _. changed >>= λ _. permit >>= λ _. k (d.entries, d.last_cookie))
+      ≡ ((named >>= λ _. changed >>= λ _. permit >>= λ _. Ok d) >>= λ (x : Directory). k (x.entries, x.last_cookie))
+  checks-then d = elim named as (λ n. (n >>= λ _. changed >>= λ _. permit >>= λ _. k (d.entries, d.last_cookie)) ≡ ((n >>= λ _. changed >>= λ _. permit >>= λ _. Ok d) >>= λ (x : Directory). k (x.entries, x.last_cookie))) [
+    | Ok u ↦ elim changed as (λ c. (c >>= λ _. permit >>= λ _. k (d.entries, d.last_cookie)) ≡ ((c >>= λ _. permit >>= λ _. Ok d) >>= λ (x : Directory). k (x.entries, x.last_cookie))) [
+      | Ok v ↦ elim permit as (λ p. (p >>= λ _. k (d.entries, d.last_cookie)) ≡ ((p >>= λ _. Ok d) >>= λ (x : Directory). k (x.entries, x.last_cookie))) [
+        | Ok w ↦ refl
+        | Err e ↦ refl
+      ]
+      | Err e ↦ refl
+    ]
+    | Err e ↦ refl
+  ]
+
+  -- where the directory's inode says, the machine's directory says
+  directory-same : (c : Content)
+      → (entries_in (content_of c) >>= λ entries. named >>= λ _. changed >>= λ _. permit >>= λ _. k entries)
+      ≡ ((directory_in c >>= λ directory. named >>= λ _. changed >>= λ _. permit >>= λ _. Ok directory) >>= λ (x : Directory). k (x.entries, x.last_cookie))
+  directory-same (contents.Directory directory) = checks-then directory
+  directory-same (contents.Regular bytes) = refl
+  directory-same (contents.Link text) = refl
+  directory-same (contents.BlockDevice device) = refl
+  directory-same (contents.CharacterDevice device) = refl
+  directory-same contents.Socket = refl
+  directory-same contents.Fifo = refl
+
+wcc-same : (x : Wcc) (before : Option WeakAttributes) (after : Option Attributes) → x.before ≡ before → x.after ≡ after → x ≡ record { before = before; after = after }
+wcc-same x before after same alike = ap (λ y. record x { before = y }) same ∙ ap (λ y. record x { before = before; after = y }) alike
+
+made-same : (x : Made) (object : Option (List ℕ)) (attributes : Option Attributes) → x.object ≡ object → x.attributes ≡ attributes → x ≡ record { object = object; attributes = attributes }
+made-same x object attributes same alike = ap (λ y. record x { object = y }) same ∙ ap (λ y. record x { object = object; attributes = y }) alike
+
+reply-same : (x : MadeReply) (directory : Wcc) (result : Result Made NfsStatus) → x.directory ≡ directory → x.result ≡ result
+    → replies.Create x ≡ replies.Create (record { directory = directory; result = result })
+reply-same x directory result same alike =
+    ap (λ y. replies.Create (record x { directory = y })) same ∙ ap (λ y. replies.Create (record x { directory = directory; result = y })) alike
+
+-- what is shown where the machine shows it
+some-shown : (m : State) (n : ℕ) (o : Inode) (a : Option Attributes) → IsSomeAnd a (Shows n o) → ((shown : Attributes) → Shows n o shown → Some shown ≡ attributes_at m n) → a ≡ attributes_at m n
+some-shown m n o None shows is = absurd shows
+some-shown m n o (Some a) shows is = is a shows
+
+some-made : (m : State) (n : ℕ) (o : Inode) (a : Option Attributes) → IsSomeAnd a (Shows n o) → o.links ≡ links_of m n (content_of o.content) → a ≡ Some (attributes_of m n (living_of_inode o))
+some-made m n o None shows links = absurd shows
+some-made m n o (Some a) shows links = ap (λ x. Some x) (shown-attributes m n o a shows links)
+
+is_inode : (k : Option Object) (o : Inode) → Some o ≡ inode_of k → k ≡ Some (objects.Inode o)
+is_inode None o e = cc
+is_inode (Some (objects.Inode j)) o e = let same : o ≡ j = cc in ap (λ x. Some (objects.Inode x)) (sym same)
+is_inode (Some (objects.Mounts table)) o e = cc
+
+not_both : (b : Bool) → b ≡ false → b ≡ true → ⊥
+not_both true e f = cc
+not_both false e f = cc
+
+one_inode : (o i : Inode) → Some (Some (objects.Inode o)) ≡ Some (Some (objects.Inode i)) → o ≡ i
+one_inode o i e = cc
+
+-- only a file is made over
+over-file : (ctx : Ctx) (how : CreateHow) (file after : Living) (c : Content) → Ok (Some after) ≡ create_over ctx how file (bytes_in (content_of c)) → is_directory (content_of c) ≡ false
+over-file ctx how file after (contents.Directory d) e = let refused : Ok (Some after) ≡ Err status.Exists = e in cc
+over-file ctx how file after (contents.Regular bytes) e = refl
+over-file ctx how file after (contents.Link text) e = refl
+over-file ctx how file after (contents.BlockDevice device) e = refl
+over-file ctx how file after (contents.CharacterDevice device) e = refl
+over-file ctx how file after contents.Socket e = refl
+over-file ctx how file after contents.Fifo e = refl
+
+-- what passed the checks is a directory in an export that may be changed
+checks-passed : (named changed permit : Result (Unit {0}) NfsStatus) (c : Content) (d : Directory)
+    → (directory_in c >>= λ directory. named >>= λ _. changed >>= λ _. permit >>= λ _. Ok directory) ≡ Ok d → (c ≡ contents.Directory d) × (changed ≡ Ok tt)
+checks-passed (Ok u) (Ok tt) (Ok w) (contents.Directory e) d is = (ap (λ x. contents.Directory x) (let same : e ≡ d = cc in same), refl)
+checks-passed (Err x) changed permit (contents.Directory e) d is = cc
+checks-passed (Ok u) (Err x) permit (contents.Directory e) d is = cc
+checks-passed (Ok u) (Ok v) (Err x) (contents.Directory e) d is = cc
+checks-passed named changed permit (contents.Regular bytes) d is = cc
+checks-passed named changed permit (contents.Link text) d is = cc
+checks-passed named changed permit (contents.BlockDevice device) d is = cc
+checks-passed named changed permit (contents.CharacterDevice device) d is = cc
+checks-passed named changed permit contents.Socket d is = cc
+checks-passed named changed permit contents.Fifo d is = cc
+
+exported-where : (o : Option ExportValue) → holding (not (is_read_only o)) status.ReadOnly ≡ Ok tt → (e : ExportValue) × (o ≡ Some e)
+exported-where None e = cc
+exported-where (Some x) e = (x, refl)
+
+judged-then : {B : Type 0} (given room : Result (Unit {0}) NfsStatus) (end : B) → (given >>= λ _. room >>= λ _. Ok end) ≡ ((given >>= λ _. room) >>= λ _. Ok end)
+judged-then given room end = elim given as (λ g. (g >>= λ _. room >>= λ _. Ok end) ≡ ((g >>= λ _. room) >>= λ _. Ok end)) [ Ok u ↦ refl | Err e ↦ refl ]
+
+-- the entry that was found, by its number; a new file has a cookie; a number that is wanted is not there
+pub leaf-number : (o : Option Entry) (leaf : Leaf) → Some leaf ≡ option_map leaf_of o → option_map (λ (e : Entry). e.number) o ≡ Some leaf.number
+leaf-number None leaf e = cc
+leaf-number (Some x) leaf e = ap (λ n. Some n) (let same : x.number ≡ leaf.number = cc in same)
+
+pub no-leaf : (o : Option Entry) → None ≡ option_map leaf_of o → o ≡ None
+no-leaf None e = refl
+no-leaf (Some x) e = cc
+
+pub has-cookie : (given : Result (Unit {0}) NfsStatus) (cookie : ℕ) → Ok tt ≡ (given >>= λ _. holding (nat_lt (cookie + 1) (2 ^ 64)) status.NoSpace) → cookie + 1 < 2 ^ 64
+has-cookie (Err x) cookie e = cc
+has-cookie (Ok u) cookie e = below (nat_lt (cookie + 1) (2 ^ 64)) refl e
+  where
+    below : (b : Bool) → nat_lt (cookie + 1) (2 ^ 64) ≡ b → Ok tt ≡ holding b status.NoSpace → cookie + 1 < 2 ^ 64
+    below true is f = ltb-true (cookie + 1) (2 ^ 64) is
+    below false is f = cc
+
+pub none-reserved : {X : Type 0} (xs : List X) → None ≡ slice_get xs 0 → xs ≡ []
+none-reserved [] e = refl
+none-reserved (x ∷ xs) e = cc
+
+module _ (ctx : Ctx) (view : ViewValue) (a : CreateArguments) where
+  -- what the call comes to, where the handle names this
+  abbrev end_in : (m : State) → List Entry × ℕ → ℕ → Living → Result (End m) NfsStatus
+  end_in m entries number directory = elim (entry_of entries.0 a.place.name) [
+    | Some e ↦ create_existing m ctx a.how e.number (get m.objects e.number)
+    | None ↦ create_new m ctx a number directory entries.0 entries.1
+  ]
+
+  abbrev end_by : (m : State) → Resolved → Result (End m) NfsStatus
+  end_by m r = do
+    directory ← object_of r
+    entries ← entries_in directory.1.content
+    _ ← new_name_checked a.place.name
+    _ ← changeable ctx directory.1
+    _ ← permitted ctx directory.1 Changing
+    end_in m entries directory.0 directory.1
+
+  step : (m new : State) (r : Resolved) (end : Result (Made × State) NfsStatus) (reply : MadeReply) → resolve m ctx a.place.directory ≡ r
+      → EndsAs m (end_by m r) end → reply.directory ≡ wcc (state_after m end) r → reply.result ≡ answer_of end → new ≡ state_after m end
+      → NfsStep m ctx (nfs.Create a) (replies.Create reply) [] new
+  unfolding NfsStep
+  step m new r end reply is ends d e state =
+      record {
+        end = end;
+        ends = subst (λ x. EndsAs m (end_by m x) end) (sym is) ends;
+        answers = record { reply_is = reply-same reply _ _ (d ∙ ap (wcc (state_after m end)) (sym is)) e; no_message = refl; state_is = state };
+      }
+
+  abbrev Holds : MadeReply → Type 0
+  Holds reply = HoldsUnchanged (calls.Nfs (nfs.Create a)) ctx view (answers.Nfs (replies.Create reply))
+
+  abbrev nothing : NfsStatus → MadeReply
+  nothing e = record { directory = record { before = None; after = None }; result = Err e }
+
+  pub bad_handle_holds : BadHandle ≡ found_at ctx view.entries a.place.directory → Holds (nothing status.BadHandle)
+  bad_handle_holds found = record {
+    step = λ s m stands sound roots fits.
+        step m m machine.BadHandle (Err status.BadHandle) (nothing status.BadHandle) (resolve-means s m ctx view a.place.directory BadHandle found stands fits) refl refl refl refl;
+  }
+
+  pub stale_holds : Stale ≡ found_at ctx view.entries a.place.directory → Holds (nothing status.Stale)
+  stale_holds found = record {
+    step = λ s m stands sound roots fits.
+        step m m machine.Stale (Err status.Stale) (nothing status.Stale) (resolve-means s m ctx view a.place.directory Stale found stands fits) refl refl refl refl;
+  }
+
+  -- the directory's handle names an inode that the view shows
+  module _ (number : ℕ) (i : Inode) (names : Names number i ≡ found_at ctx view.entries a.place.directory) where
+    abbrev then : (m : State) → Result Directory NfsStatus → Result (End m) NfsStatus
+    then m checked = checked >>= λ (d : Directory). end_in m (d.entries, d.last_cookie) number (living_of_inode i)
+
+    ends-here : (m : State) → end_by m (machine.Names number (living_of_inode i)) ≡ then m (directory_checked ctx i a.place.name)
+    ends-here m =
+        directory-same (new_name_checked a.place.name) (changeable ctx (living_of_inode i)) (permitted ctx (living_of_inode i) Changing)
+        (λ entries. end_in m entries number (living_of_inode i)) i.content
+
+    -- a reply is a step where the directory is shown, and the end is the machine's
+    step-here : (s : Store) (m new : State) (checked : Result Directory NfsStatus) (end : Result (Made × State) NfsStatus) (reply : MadeReply) (after : Inode)
+        → Represents s m → Fits view s → directory_checked ctx i a.place.name ≡ checked → EndsAs m (then m checked) end → ShowsWcc number i after reply.directory
+        → ((shown : Attributes) → Shows number after shown → Some shown ≡ attributes_at (state_after m end) number)
+        → reply.result ≡ answer_of end → new ≡ state_after m end → NfsStep m ctx (nfs.Create a) (replies.Create reply) [] new
+    step-here s m new checked end reply after stands fits is ends shows seen result state =
+        let means = resolve-means s m ctx view a.place.directory (Names number i) names stands fits in
+        step m new (machine.Names number (living_of_inode i)) end reply means.0 (subst (λ x. EndsAs m x end) (sym (ends-here m ∙ ap (then m) is)) ends)
+        (wcc-same reply.directory _ _ shows.before_is (some-shown (state_after m end) number after reply.directory.after shows.after_shown seen)) result state
+
+    -- nothing changes
+    unchanged_holds : (checked : Result Directory NfsStatus) (reply : MadeReply) (end : State → Result (Made × State) NfsStatus) → directory_checked ctx i a.place.name ≡ checked
+        → ShowsWcc number i i reply.directory → ((m : State) → m ≡ state_after m (end m))
+        → ((s : Store) (m : State) → Represents s m → Sound s m → Fits view s → EndsAs m (then m checked) (end m) × (reply.result ≡ answer_of (end m))) → Holds reply
+    unchanged_holds checked reply end is shows same ends = record {
+      step = λ s m stands sound roots fits.
+          let means = resolve-means s m ctx view a.place.directory (Names number i) names stands fits in
+          let e = ends s m stands sound fits in
+          step-here s m m checked (end m) reply i stands fits is e.0 shows
+          (λ shown shows. attributes-seen s m view number i shown stands sound fits means.1 shows ∙ ap (λ x. attributes_at x number) (same m)) e.1 (same m);
+    }
+
+    -- refused by a check of the directory
+    pub refused_holds : (e : NfsStatus) (reply : MadeReply) → directory_checked ctx i a.place.name ≡ Err e → ShowsWcc number i i reply.directory → reply.result ≡ Err e → Holds reply
+    refused_holds e reply is shows result = unchanged_holds (Err e) reply (λ m. Err e) is shows (λ m. refl) (λ s m stands sound fits. (refl, result))
+
+    module _ (d : Directory) (checked : directory_checked ctx i a.place.name ≡ Ok d) where
+      entry-number : (o : Option Entry) (n : ℕ) → option_map (λ (e : Entry). e.number) o ≡ Some n → (m : State) (none : Result (End m) NfsStatus)
+          → elim o [ Some e ↦ create_existing m ctx a.how e.number (get m.objects e.number) | None ↦ none ] ≡ create_existing m ctx a.how n (get m.objects n)
+      entry-number None n is m none = cc
+      entry-number (Some e) n is m none = ap (λ k. create_existing m ctx a.how k (get m.objects k)) (let same : e.number ≡ n = cc in same)
+
+      -- the name is there, and the view shows what it leads to
+      module _ (n : ℕ) (leads : option_map (λ (e : Entry). e.number) (entry_of d.entries a.place.name) ≡ Some n) (known : Option Object) (seen : seen_at view.entries (addresses.Inode n) ≡ Some known) where
+        there : (s : Store) (m : State) → Represents s m → Fits view s → then m (Ok d) ≡ create_existing m ctx a.how n (living_of known)
+        there s m stands fits =
+            entry-number (entry_of d.entries a.place.name) n leads m (create_new m ctx a number (living_of_inode i) d.entries d.last_cookie)
+            ∙ ap (create_existing m ctx a.how n) (lives-seen s m view n known stands fits seen)
+
+        pub absent_holds : (reply : MadeReply) → None ≡ inode_of known → ShowsWcc number i i reply.directory → reply.result ≡ Err status.Exists → Holds reply
+        absent_holds reply none shows result = unchanged_holds (Ok d) reply (λ m. Err status.Exists) checked shows (λ m. refl) (λ s m stands sound fits.
+            (subst (λ x. EndsAs m x (Err status.Exists)) (sym (there s m stands fits ∙ ap (λ (o : Option Inode). create_existing m ctx a.how n (option_map living_of_inode o)) (sym none))) refl, result))
+
+        module _ (o : Inode) (some : Some o ≡ inode_of known) where
+          at-name : seen_at view.entries (addresses.Inode n) ≡ Some (Some (objects.Inode o))
+          at-name = seen ∙ ap (λ k. Some k) (is_inode known o some)
+
+          abbrev over : Result (Option Living) NfsStatus
+          over = create_over ctx a.how (living_of_inode o) (bytes_in (content_of o.content))
+
+          existing : (s : Store) (m : State) (x : Result (Option Living) NfsStatus) → Represents s m → Fits view s → x ≡ over
+              → then m (Ok d) ≡ (x >>= λ y. Ok (Known (made (replaced m n y) ctx n (unwrap_or y (living_of_inode o))) (replaced m n y)))
+          existing s m x stands fits is =
+              there s m stands fits
+              ∙ ap (λ (k : Option Inode). create_existing m ctx a.how n (option_map living_of_inode k)) (sym some)
+              ∙ ap (λ r. r >>= λ y. Ok (Known (made (replaced m n y) ctx n (unwrap_or y (living_of_inode o))) (replaced m n y))) (sym is)
+
+          pub over_refused_holds : (e : NfsStatus) (reply : MadeReply) → Err e ≡ over → ShowsWcc number i i reply.directory → reply.result ≡ Err e → Holds reply
+          over_refused_holds e reply is shows result = unchanged_holds (Ok d) reply (λ m. Err e) checked shows (λ m. refl) (λ s m stands sound fits.
+              (subst (λ x. EndsAs m x (Err e)) (sym (existing s m (Err e) stands fits is)) refl, result))
+
+          -- the file stays as it is
+          pub over_kept_holds : (reply : MadeReply) (told : Made) → Ok None ≡ over → ShowsWcc number i i reply.directory → reply.result ≡ Ok told → ShowsMade ctx n o told → Holds reply
+          over_kept_holds reply told is shows result tells =
+              unchanged_holds (Ok d) reply (λ m. Ok (made m ctx n (living_of_inode o), m)) checked shows (λ m. refl) (λ s m stands sound fits.
+              let at = fits_at view.entries s.at (addresses.Inode n) (Some (objects.Inode o)) fits.entries at-name in
+              let same = made-same told _ _ tells.handle (some-made m n o told.attributes tells.attributes (sound.links n o at)) in
+              (subst (λ x. EndsAs m x (Ok (made m ctx n (living_of_inode o), m))) (sym (existing s m (Ok None) stands fits is)) refl, result ∙ ap (λ x. Ok x) same))
+
+          -- the file gets another size
+          module _ (new : Inode) (is : Ok (Some (living_of_inode new)) ≡ over) (keeps : KeepsPlace o new) where
+            apart : (n == number) ≡ false
+            apart = elim (n == number) as (λ b. (n == number) ≡ b → b ≡ false) [
+              | true ↦ λ e.
+                  let both : Some (Some (objects.Inode o)) ≡ Some (Some (objects.Inode i)) =
+                  sym at-name ∙ ap (λ k. seen_at view.entries (addresses.Inode k)) ((unsigned_Decides n number).0 e) ∙ names-seen ctx view.entries a.place.directory number i names in
+                  let same : o ≡ i = one_inode o i both in
+                  let file : is_directory (content_of i.content) ≡ false = subst (λ (x : Inode). is_directory (content_of x.content) ≡ false) same (over-file ctx a.how (living_of_inode o) (living_of_inode new) o.content is) in
+                  absurd (not_both (is_directory (content_of i.content)) file (ap (λ c. is_directory (content_of c)) passed.0))
+              | false ↦ λ e. refl
+            ] refl
+              where
+                passed : (i.content ≡ contents.Directory d) × (changeable ctx (living_of_inode i) ≡ Ok tt)
+                passed = checks-passed (new_name_checked a.place.name) (changeable ctx (living_of_inode i)) (permitted ctx (living_of_inode i) Changing) i.content d checked
+
+            pub resized_rewrites : (reply : MadeReply) (told : Made) → ShowsWcc number i i reply.directory → reply.result ≡ Ok told → ShowsMade ctx n new told
+                → Rewrites (calls.Nfs (nfs.Create a)) ctx view n new (answers.Nfs (replies.Create reply))
+            resized_rewrites reply told shows result tells = record {
+              old = o;
+              seen = at-name;
+              keeps = keeps;
+              step = λ s m stands sound roots fits.
+                  let m1 : State = with_object m n (living_of_inode new) in
+                  let at = fits_at view.entries s.at (addresses.Inode n) (Some (objects.Inode o)) fits.entries at-name in
+                  let means = resolve-means s m ctx view a.place.directory (Names number i) names stands fits in
+                  let here : put_at s.at (addresses.Inode n) (Some (objects.Inode new)) (addresses.Inode number) ≡ Some (objects.Inode i) =
+                  ap (λ b. cond b (Some (objects.Inode new)) (s.at (addresses.Inode number))) apart ∙ fits_at view.entries s.at (addresses.Inode number) (Some (objects.Inode i)) fits.entries means.1 in
+                  let put : put_at s.at (addresses.Inode n) (Some (objects.Inode new)) (addresses.Inode n) ≡ Some (objects.Inode new) =
+                  ap (λ b. cond b (Some (objects.Inode new)) (s.at (addresses.Inode n))) ((unsigned_Decides n n).1 refl) in
+                  let stood = rewritten_sound s m n o new at keeps stands sound in
+                  let lives = (rewritten_represented s m n o new at keeps stands sound).objects number ∙ ap living_of here in
+                  let same = made-same told _ _ tells.handle (some-made m1 n new told.attributes tells.attributes (stood.links n new put)) in
+                  step-here s m m1 (Ok d) (Ok (made m1 ctx n (living_of_inode new), m1)) reply i stands fits checked
+                  (subst (λ x. EndsAs m x (Ok (made m1 ctx n (living_of_inode new), m1))) (sym (existing s m (Ok (Some (living_of_inode new))) stands fits is)) refl) shows
+                  (λ shown sh. ap (λ x. Some x) (shown-attributes m1 number i shown sh (stood.links number i here)) ∙ ap (λ k. option_map (attributes_of m1 number) k) (sym lives))
+                  (result ∙ ap (λ x. Ok x) same) refl;
+            }
+
+      -- the name is not there
+      module _ (absent : entry_of d.entries a.place.name ≡ None) where
+        new-there : (m : State) → then m (Ok d) ≡ (new_judged ctx a.how d.last_cookie >>= λ _. Ok (Chosen (create_made m ctx a number (living_of_inode i) d.entries d.last_cookie)))
+        new-there m =
+            ap (λ (o : Option Entry). elim o [
+              | Some e ↦ create_existing m ctx a.how e.number (get m.objects e.number)
+              | None ↦ create_new m ctx a number (living_of_inode i) d.entries d.last_cookie
+            ]) absent
+            ∙ judged-then (given_attributes ctx (attributes_given a.how)) (holding (nat_lt (d.last_cookie + 1) (2 ^ 64)) status.NoSpace) (Chosen (create_made m ctx a number (living_of_inode i) d.entries d.last_cookie))
+
+        pub new_refused_holds : (e : NfsStatus) (reply : MadeReply) → Err e ≡ new_judged ctx a.how d.last_cookie → ShowsWcc number i i reply.directory → reply.result ≡ Err e → Holds reply
+        new_refused_holds e reply is shows result = unchanged_holds (Ok d) reply (λ m. Err e) checked shows (λ m. refl) (λ s m stands sound fits.
+            (subst (λ x. EndsAs m x (Err e)) (sym (new-there m ∙ ap (λ r. r >>= λ _. Ok (Chosen (create_made m ctx a number (living_of_inode i) d.entries d.last_cookie))) (sym is))) refl, result))
+
+        module _ (wider object : Inode) (reserved : Reserved) (judged : Ok tt ≡ new_judged ctx a.how d.last_cookie) (first : slice_get view.reserved 0 ≡ Some reserved)
+            (number_fits : reserved.number < 2 ^ 64) (generation_fits : reserved.generation < 2 ^ 64)
+            (living : living_of_inode object ≡ new_file ctx a.how i.export reserved.generation) (links : object.links ≡ 1)
+            (wider_is : wider ≡ record i {
+              content = contents.Directory (with_name d a.place.name reserved.number);
+              modified = touch i.changed (time_of ctx.moment);
+              changed = touch i.changed (time_of ctx.moment);
+            }) where
+          abbrev creation : Creation
+          creation = record { place = number; directory = wider; number = reserved.number; object = object }
+
+          generation : object.generation ≡ reserved.generation
+          generation = ap (λ (l : Living). l.generation) living
+
+          is_creation : IsCreation ctx view creation
+          is_creation =
+              let passed = checks-passed (new_name_checked a.place.name) (changeable ctx (living_of_inode i)) (permitted ctx (living_of_inode i) Changing) i.content d checked in
+              let exported = exported-where (export_at ctx.exports i.export) passed.1 in
+              record {
+                old = i;
+                place = d;
+                name = a.place.name;
+                export = exported.0;
+                seen = names-seen ctx view.entries a.place.directory number i names;
+                first = first ∙ ap (λ g. Some (let r : Reserved = record { number = reserved.number; generation = g } in r)) (sym generation);
+                content = passed.0;
+                absent = absent;
+                exported = exported.1;
+                wider = ap (λ (x : Inode). x.content) wider_is;
+                wider_export = ap (λ (x : Inode). x.export) wider_is;
+                wider_generation = ap (λ (x : Inode). x.generation) wider_is;
+                wider_links = ap (λ (x : Inode). x.links) wider_is;
+                made_export = ap (λ (l : Living). l.export) living;
+                made_kind = ap (λ (l : Living). is_directory l.content) living;
+                made_links = links;
+              }
+
+          module _ (s : Store) (m : State) (stands : Represents s m) (sound : Sound s m) (roots : RootsLive ctx.exports m) (fits : Fits view s) where
+            abbrev m1 : State
+            m1 = with_created m creation
+
+            chosen : Fresh m
+            chosen =
+                let makes = makes ctx view creation is_creation s m stands sound roots fits in
+                record {
+                  number = reserved.number;
+                  generation = object.generation;
+                  spent = m1.spent;
+                  number_fits = number_fits;
+                  generation_fits = subst (λ g. g < 2 ^ 64) (sym generation) generation_fits;
+                  free = free ctx view creation is_creation s m stands sound roots fits;
+                  never_given = never_given ctx view creation is_creation s m stands sound roots fits;
+                  given = makes.given;
+                  kept = makes.spent;
+                }
+
+            abbrev done : Result (Made × State) NfsStatus
+            done = Ok (made m1 ctx reserved.number (living_of_inode object), m1)
+
+            abbrev state_with : Living → Living → State
+            state_with w o = record (with_object (with_object m number w) reserved.number o) { spent = m1.spent }
+
+            -- the machine's file and directory are these
+            machine-done : done ≡ Ok (create_made m ctx a number (living_of_inode i) d.entries d.last_cookie chosen)
+            unfolding chosen
+            machine-done =
+                let file : living_of_inode object ≡ new_file ctx a.how i.export object.generation = living ∙ ap (new_file ctx a.how i.export) (sym generation) in
+                let place : living_of_inode wider ≡ with_content (living_of_inode i) (time_of ctx.moment) (with_entry d.entries d.last_cookie a.place.name reserved.number) = ap living_of_inode wider_is in
+                ap (λ (w : Living). Ok (made (state_with w (living_of_inode object)) ctx reserved.number (living_of_inode object), state_with w (living_of_inode object))) place
+                ∙ ap (λ (o : Living). Ok (
+                  made (state_with (with_content (living_of_inode i) (time_of ctx.moment) (with_entry d.entries d.last_cookie a.place.name reserved.number)) o) ctx reserved.number o,
+                  state_with (with_content (living_of_inode i) (time_of ctx.moment) (with_entry d.entries d.last_cookie a.place.name reserved.number)) o,
+                )) file
+
+            ends-done : EndsAs m (then m (Ok d)) done
+            ends-done = subst (λ x. EndsAs m x done) (sym (new-there m ∙ ap (λ r. r >>= λ _. Ok (Chosen (create_made m ctx a number (living_of_inode i) d.entries d.last_cookie))) (sym judged))) (chosen, machine-done)
+
+            created-step : (reply : MadeReply) (told : Made) → ShowsWcc number i wider reply.directory → reply.result ≡ Ok told → ShowsMade ctx reserved.number object told
+                → NfsStep m ctx (nfs.Create a) (replies.Create reply) [] m1
+            created-step reply told shows result tells =
+                let stood = created_sound ctx view creation is_creation s m stands sound roots fits in
+                let here = stored-place ctx view creation is_creation s m stands sound roots fits in
+                let lives = (created_represented ctx view creation is_creation s m stands sound roots fits).objects number ∙ ap living_of here in
+                let same = made-same told _ _ tells.handle (some-made m1 reserved.number object told.attributes tells.attributes (linked-made ctx view creation is_creation s m stands sound roots fits)) in
+                step-here s m m1 (Ok d) done reply wider stands fits checked ends-done shows
+                (λ shown sh. ap (λ x. Some x) (shown-attributes m1 number wider shown sh (linked-wider ctx view creation is_creation s m stands sound roots fits)) ∙ ap (λ k. option_map (attributes_of m1 number) k) (sym lives))
+                (result ∙ ap (λ x. Ok x) same) refl
+
+          pub new_creates : (reply : MadeReply) (told : Made) → ShowsWcc number i wider reply.directory → reply.result ≡ Ok told → ShowsMade ctx reserved.number object told
+              → Creates (calls.Nfs (nfs.Create a)) ctx view creation (answers.Nfs (replies.Create reply))
+          new_creates reply told shows result tells = record {
+            is = is_creation;
+            step = λ s m stands sound roots fits. created-step s m stands sound roots fits reply told shows result tells;
+          }
+
+-- what is asked for where the directory is there, and where the name leads to a number, and where it is new
+module _ (ctx : Ctx) (view : ViewValue) (a : CreateArguments) (number : ℕ) (i : Inode) (names : Names number i ≡ found_at ctx view.entries a.place.directory) (d : Directory)
+    (checked : directory_checked ctx i a.place.name ≡ Ok d) where
+  wanted-in : create_wanted ctx view a (found_at ctx view.entries a.place.directory) ≡ entry_wanted ctx view a.how d.last_cookie (entry_of d.entries a.place.name)
+  wanted-in = ap (create_wanted ctx view a) (sym names) ∙ ap (checked_wanted ctx view a) checked
+
+  pub wanted-there : (n : ℕ) → option_map (λ (e : Entry). e.number) (entry_of d.entries a.place.name) ≡ Some n
+      → create_wanted ctx view a (found_at ctx view.entries a.place.directory) ≡ Addresses (unless_known (addresses.Inode n) (seen_at view.entries (addresses.Inode n)))
+  wanted-there n leads = wanted-in ∙ of (entry_of d.entries a.place.name) leads
+    where
+      of : (o : Option Entry) → option_map (λ (e : Entry). e.number) o ≡ Some n → entry_wanted ctx view a.how d.last_cookie o ≡ Addresses (unless_known (addresses.Inode n) (seen_at view.entries (addresses.Inode n)))
+      of None e = cc
+      of (Some x) e = ap (λ k. Addresses (unless_known (addresses.Inode k) (seen_at view.entries (addresses.Inode k)))) (let same : x.number ≡ n = cc in same)
+
+  pub wanted-new : entry_of d.entries a.place.name ≡ None
+      → create_wanted ctx view a (found_at ctx view.entries a.place.directory) ≡ new_wanted view.reserved (new_judged ctx a.how d.last_cookie)
+  wanted-new absent = wanted-in ∙ ap (entry_wanted ctx view a.how d.last_cookie) absent

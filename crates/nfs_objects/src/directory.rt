@@ -1,0 +1,151 @@
+//! Directories: names, what they lead to, and their cookies.
+
+ghost use Rattle.std.specs.Prelude.{◌≡◌, [], ◌∷◌, ◌++◌, ◌==◌, length, IfOk, None, find, option_map, slice_get};
+ghost use Rattle.std.proofs.Common.{ap, nat_eq, rules};
+ghost use Rattle.std.specs.Cmp.Lexicographic.{bytes_decides, nat_list_eq_equiv, pointwise};
+ghost use Rattle.std.specs.Cmp.Rules.{hashing};
+ghost use Rattle.std.specs.Hash as fed;
+ghost use Rattle.nfs_machine.specs.Bytes.{same_bytes};
+ghost use Rattle.nfs_objects.specs.Entries.{entry, leaf_of, shown_entry};
+
+use bytes::Bytes;
+use indexmap::{Equivalent, IndexMap};
+use std::alloc::{AllocError, Global};
+use std::hash::{Hash, Hasher};
+use std::marker::Model;
+
+/// What a name leads to, with the cookie that pages go by (RFC 1813, 3.3.16).
+#[derive(Clone, Copy, Debug, PartialEq, Eq)]
+pub struct Leaf {
+    /// The object's number.
+    pub number: u64,
+    pub cookie: u64,
+}
+
+/// A name to look up. It is hashed and compared as the names of a map are.
+#[derive(Clone, Copy, PartialEq, Eq)]
+struct Name<'a> {
+    bytes: &'a [u8],
+}
+
+impl<'a> Hash for Name<'a> {
+    ghost hash_input = { λ name. fed.slice fed.u8 name.bytes.now };
+
+    ghost respects_eq = { Prim.search (hashing, rules) };
+
+    fn hash<H: Hasher>(&self, state: &mut H) {
+        self.bytes.hash(state);
+    }
+}
+
+impl<'a> Equivalent<Bytes> for Name<'a> {
+    ghost equivalent = { λ name key. pointwise nat_eq name.bytes.now key };
+
+    ghost respects_hash = { λ name key same. ap (fed.slice fed.u8) ((bytes_decides name.bytes.now key).0 same) };
+
+    ghost respects_eq = { λ name x y. nat_list_eq_equiv.congr name.bytes.now x y };
+
+    fn equivalent(&self, key: &Bytes) -> bool {
+        self.bytes == key.as_slice()
+    }
+}
+
+/// The names of a directory in order of adding, so in rising order of cookie. A clause sees them as a list.
+#[derive(Debug, Drop)]
+pub struct Entries {
+    map: IndexMap<Bytes, Leaf>,
+}
+
+impl Model for Entries {
+    ghost use Rattle.std.specs.Prelude.{List, map};
+    ghost use Rattle.nfs_machine.specs.State.{Entry};
+    ghost use Rattle.nfs_objects.specs.Entries.{entries_of_pairs};
+
+    ghost Value = { List Entry };
+
+    ghost view = { λ e. entries_of_pairs e.map.entries };
+}
+
+impl Entries {
+    /// No name.
+    pub fn new(alloc: Global) -> Entries
+        ensures { result ≡ [] }
+    {
+        Entries {
+            map: IndexMap::new(alloc),
+        }
+    }
+
+    /// How many names there are.
+    pub fn len(&self) -> usize
+        ensures { result ≡ length self.now }
+    {
+        self.map.len()
+    }
+
+    /// Whether there are no names.
+    pub fn is_empty(&self) -> bool
+        ensures { result ≡ (length self.now == 0) }
+    {
+        self.len() == 0
+    }
+
+    /// What the name leads to; None where it is not there.
+    pub fn find(&self, name: &[u8]) -> Option<Leaf>
+        ensures { result ≡ option_map leaf_of (find (λ e. same_bytes e.name name.now) self.now) }
+    {
+        self.map.get(Name { bytes: name }).copied()
+    }
+
+    /// The entry at this place, from 0.
+    pub fn get_index(&self, index: usize) -> Option<(&Bytes, &Leaf)>
+        ensures { option_map shown_entry result ≡ slice_get self.now index }
+    {
+        self.map.get_index(index)
+    }
+
+    /// The same with this entry last. The entries themselves stay as they are.
+    pub fn with_entry(&self, name: &Bytes, leaf: Leaf) -> Result<Entries, AllocError>
+        requires { find (λ e. same_bytes e.name name.now) self.now ≡ None }
+        ensures { IfOk result (λ entries. entries ≡ self.now ++ entry name.now leaf ∷ []) }
+    {
+        let mut map = self.map.clone()?;
+        map.insert(name.clone()?, leaf)?;
+        Ok(Entries { map })
+    }
+}
+
+impl Clone for Entries {
+    ghost is_clone = { λ entries copy. copy ≡ entries };
+
+    fn clone(&self) -> Result<Entries, AllocError> {
+        Ok(Entries {
+            map: self.map.clone()?,
+        })
+    }
+}
+
+/// A directory (RFC 1813, 2.1).
+#[derive(Debug, Drop)]
+pub struct Directory {
+    /// The number of the directory that it is named in; of a root, its own.
+    pub parent: u64,
+    /// The greatest cookie that it ever used; `.` and `..` have 1 and 2.
+    pub last_cookie: u64,
+    pub entries: Entries,
+}
+
+impl Clone for Directory {
+    ghost is_clone = { λ directory copy. copy ≡ directory };
+
+    fn clone(&self) -> Result<Directory, AllocError> {
+        Ok(Directory {
+            parent: self.parent,
+            last_cookie: self.last_cookie,
+            entries: self.entries.clone()?,
+        })
+    }
+}
+
+#[cfg(test)]
+mod tests;

@@ -1,0 +1,50 @@
+-- A call that was asked is of a procedure that is built: its header was read, and the last test of a header is that.
+use Rattle.std.proofs.Common.{◌≡◌, ℕ, Bool, true, false, List, Result, Ok, Err, IfOk, refl, sym, subst}
+use Rattle.nfs_rpc.specs.Early.{◌>>=◌, call_of, heading_of, holding}
+use Rattle.nfs_rpc.specs.Messages.{CallHeader}
+use Rattle.nfs_rpc.specs.Programs.{is_built}
+use Rattle.nfs_rpc.specs.declared.faults.Early.{Early}
+use Rattle.nfs_rpc.specs.declared.programs.Program.{Program}
+use Rattle.nfs_wire.specs.declared.calls.NfsCall.{NfsCall}
+use Rattle.nfs_wire.specs.declared.calls.NfsCall.TheVariants as nfs
+use Rattle.nfs_data.specs.Calls.{is_data_call}
+use Rattle.nfs_names.specs.Calls.{is_name_call}
+use Rattle.nfs_machine.specs.Run.{number_of, program_of}
+use Rattle.nfs_machine.specs.declared.calls.Call.TheVariants as calls
+use Rattle.nfs_server.specs.Asked.{IsAsked}
+use Rattle.nfs_server.specs.Built.{IsBuilt}
+use Rattle.nfs_server.specs.declared.asking.Asked.{Asked}
+
+abbrev HasBuilt : CallHeader → Type 0
+HasBuilt header = is_built header.program header.procedure ≡ true
+
+chained : {A B : Type 0} (P : B → Type 0) (r : Result A Early) (f : A → Result B Early) → ((x : A) → IfOk (f x) P) → IfOk (r >>= f) P
+chained P (Ok x) f holds = holds x
+chained P (Err e) f holds = tt
+
+held : {B : Type 0} (P : B → Type 0) (b : Bool) (e : Early) (f : Unit {0} → Result B Early) → (b ≡ true → IfOk (f tt) P) → IfOk (holding b e >>= f) P
+held P true e f holds = holds refl
+held P false e f holds = tt
+
+heading-built : (xid number version procedure flavor : ℕ) (body arguments : List ℕ) → IfOk (heading_of xid number version procedure flavor body arguments) HasBuilt
+heading-built xid number version procedure flavor body arguments = search (chained, held) depth 10
+
+record-built : (bytes : List ℕ) → IfOk (call_of bytes) HasBuilt
+unfolding call_of
+record-built bytes = search (chained, heading-built) depth 10
+
+pub asked-built : (bytes : List ℕ) (asked : Asked) → IsAsked bytes asked → IsBuilt asked.call
+asked-built bytes asked is =
+    let header : HasBuilt is.header = subst (λ (r : Result CallHeader Early). IfOk r HasBuilt) is.read (record-built bytes) in
+    let program : is_built (program_of asked.call) is.header.procedure ≡ true = subst (λ (p : Program). is_built p is.header.procedure ≡ true) (sym is.is_call.program) header in
+    subst (λ (n : ℕ). is_built (program_of asked.call) n ≡ true) (sym is.is_call.procedure) program
+
+-- a call of NFS that is built and is not on names is one on attributes and data
+pub built-data : (call : NfsCall) → IsBuilt (calls.Nfs call) → is_name_call call ≡ false → is_data_call call ≡ true
+built-data nfs.Null built other = refl
+built-data (nfs.Getattr object) built other = refl
+built-data (nfs.Lookup place) built other = sym other
+built-data (nfs.Create a) built other = sym other
+built-data (nfs.Read a) built other = refl
+built-data (nfs.Write a) built other = refl
+built-data call built other = built

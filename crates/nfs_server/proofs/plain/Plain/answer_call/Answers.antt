@@ -1,0 +1,12 @@
+use Rattle.nfs_server.proofs.Answering.{executed_answered, refused_result}
+use Rattle.nfs_server.proofs.Built.{asked-built}
+use Rattle.nfs_server.proofs.plain.Plain.answer_call.Goals as goal
+
+pub execute-requires : goal.execute-requires
+execute-requires c = asked-built _ _ c.requires
+
+pub returns-in-Ok-clause-ok : goal.returns-in-Ok-clause-ok
+returns-in-Ok-clause-ok c = executed_answered _ _ _ _ c.requires _ _ _ c.in-Ok.ensures.ok
+
+pub returns-in-Err-clause-ok : goal.returns-in-Err-clause-ok
+returns-in-Err-clause-ok c = refused_result _ _ _ _ c.requires _ _ c.refuse.result c.in-Err.ensures.err c.refuse.ensures

@@ -1,0 +1,7 @@
+use Rattle.std.proofs.Common.{sym, subst}
+use Rattle.nfs_server.specs.Forms.{RefusalHasForm}
+use Rattle.nfs_server.proofs.Steps.{refusal_form}
+use Rattle.nfs_server.proofs.plain.refuse.Goals as goal
+
+pub refuse-requires : goal.refuse-requires
+refuse-requires c = subst RefusalHasForm (sym c.refusal.ensures) (refusal_form _)

@@ -1,0 +1,113 @@
+//! Arguments of the procedures on attributes and data.
+
+ghost use Rattle.nfs_xdr.specs.Reading.{ReadsFront};
+ghost use Rattle.nfs_wire.specs.Arguments.{sattrguard3, guard_value, stable_how, stability_number};
+ghost use Rattle.nfs_wire.specs.Calls.{ReadsCall};
+
+use super::items::{UNBOUNDED, read_handle};
+use crate::attributes::{Time, read_set_attributes, read_time};
+use crate::calls::{
+    AccessArguments, CommitArguments, NfsCall, ReadArguments, SetattrArguments, Stability,
+    WriteArguments,
+};
+use nfs_xdr::{SharedReader, XdrError};
+
+/// GETATTR3args (RFC 1813, 3.3.1).
+pub(super) fn read_getattr(arguments: &mut SharedReader<'_>) -> Result<NfsCall, XdrError>
+    ensures { ReadsCall 1 arguments.old arguments.new result }
+{
+    Ok(NfsCall::Getattr(read_handle(arguments)?))
+}
+
+/// SETATTR3args (RFC 1813, 3.3.2).
+#[tactic(auto, unfolding(nfs_xdr::specs::Reading::read))]
+pub(super) fn read_setattr(arguments: &mut SharedReader<'_>) -> Result<NfsCall, XdrError>
+    ensures { ReadsCall 2 arguments.old arguments.new result }
+{
+    Ok(NfsCall::Setattr(SetattrArguments {
+        object: read_handle(arguments)?,
+        attributes: read_set_attributes(arguments)?,
+        guard: read_guard(arguments)?,
+    }))
+}
+
+/// ACCESS3args (RFC 1813, 3.3.4).
+#[tactic(auto, unfolding(nfs_xdr::specs::Reading::read))]
+pub(super) fn read_access(arguments: &mut SharedReader<'_>) -> Result<NfsCall, XdrError>
+    ensures { ReadsCall 4 arguments.old arguments.new result }
+{
+    Ok(NfsCall::Access(AccessArguments {
+        object: read_handle(arguments)?,
+        rights: arguments.u32()?,
+    }))
+}
+
+/// READLINK3args (RFC 1813, 3.3.5).
+pub(super) fn read_readlink(arguments: &mut SharedReader<'_>) -> Result<NfsCall, XdrError>
+    ensures { ReadsCall 5 arguments.old arguments.new result }
+{
+    Ok(NfsCall::Readlink(read_handle(arguments)?))
+}
+
+/// READ3args (RFC 1813, 3.3.6).
+#[tactic(auto, unfolding(nfs_xdr::specs::Reading::read))]
+pub(super) fn read_read(arguments: &mut SharedReader<'_>) -> Result<NfsCall, XdrError>
+    ensures { ReadsCall 6 arguments.old arguments.new result }
+{
+    Ok(NfsCall::Read(ReadArguments {
+        file: read_handle(arguments)?,
+        offset: arguments.u64()?,
+        count: arguments.u32()?,
+    }))
+}
+
+/// WRITE3args (RFC 1813, 3.3.7). The data is a part of the record.
+#[tactic(auto, unfolding(nfs_xdr::specs::Reading::read))]
+pub(super) fn read_write(arguments: &mut SharedReader<'_>) -> Result<NfsCall, XdrError>
+    ensures { ReadsCall 7 arguments.old arguments.new result }
+{
+    Ok(NfsCall::Write(WriteArguments {
+        file: read_handle(arguments)?,
+        offset: arguments.u64()?,
+        count: arguments.u32()?,
+        stable: read_stability(arguments)?,
+        data: arguments.opaque(UNBOUNDED)?,
+    }))
+}
+
+/// COMMIT3args (RFC 1813, 3.3.21).
+#[tactic(auto, unfolding(nfs_xdr::specs::Reading::read))]
+pub(super) fn read_commit(arguments: &mut SharedReader<'_>) -> Result<NfsCall, XdrError>
+    ensures { ReadsCall 21 arguments.old arguments.new result }
+{
+    Ok(NfsCall::Commit(CommitArguments {
+        file: read_handle(arguments)?,
+        offset: arguments.u64()?,
+        count: arguments.u32()?,
+    }))
+}
+
+/// A time that the object's time of change must be (`sattrguard3`, RFC 1813, 3.3.2).
+#[tactic(auto, unfolding(nfs_xdr::specs::Reading::read))]
+fn read_guard(reader: &mut SharedReader<'_>) -> Result<Option<Time>, XdrError>
+    ensures { ReadsFront sattrguard3 guard_value reader.old reader.new result }
+{
+    if reader.bool()? {
+        Ok(Some(read_time(reader)?))
+    } else {
+        Ok(None)
+    }
+}
+
+/// How a WRITE is to be committed (`stable_how`, RFC 1813, 3.3.7).
+#[tactic(auto, unfolding(nfs_xdr::specs::Reading::read))]
+fn read_stability(reader: &mut SharedReader<'_>) -> Result<Stability, XdrError>
+    ensures { ReadsFront stable_how stability_number reader.old reader.new result }
+{
+    match reader.u32()? {
+        0 => Ok(Stability::Unstable),
+        1 => Ok(Stability::DataSync),
+        2 => Ok(Stability::FileSync),
+        _ => Err(XdrError::BadValue),
+    }
+}
