@@ -4,8 +4,14 @@
 ghost use Rattle.std.specs.Prelude.{◌≤◌, length};
 
 mod answered;
+mod creates;
+mod credentials;
+mod exchanges;
 mod faults;
+mod files;
+mod lookups;
 mod memory;
+mod permission;
 mod streams;
 
 use crate::*;
