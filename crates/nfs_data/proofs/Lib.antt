@@ -1,3 +1,4 @@
+pub mod Few
 pub mod Nothing
 pub mod Reading
 pub mod Shown

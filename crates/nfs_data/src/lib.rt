@@ -8,7 +8,8 @@
 #![tactic(auto)]
 
 ghost use Rattle.std.specs.Prelude.{◌≡◌, true, IfOk};
-ghost use Rattle.nfs_objects.specs.Attempt.{Attempts, AsksFor};
+ghost use Rattle.nfs_objects.specs.Attempt.{Addresses, Attempts, AsksFor};
+ghost use Rattle.nfs_objects.specs.Rounds.{AsksFew};
 ghost use Rattle.nfs_data.specs.Calls.{is_data_call};
 ghost use Rattle.nfs_data.specs.Wanted.{wanted};
 
@@ -33,6 +34,8 @@ pub fn attempt(alloc: Global, call: &NfsCall, ctx: &Ctx, view: &View) -> Result<
     requires { is_data_call call.now ≡ true }
     ensures attempts { IfOk result (λ outcome. Attempts (Call.Nfs call.now) ctx.now view.now outcome) }
     ensures asks { IfOk result (AsksFor (wanted ctx.now view.now.entries call.now)) }
+    // The view and all that is asked for lie among the store's addresses and at most 256 others.
+    ensures few { AsksFew (λ v. Addresses (wanted ctx.now v.entries call.now)) }
 {
     match call {
         NfsCall::Null => null(alloc, ctx, view),

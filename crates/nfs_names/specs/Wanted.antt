@@ -11,7 +11,7 @@ use Rattle.nfs_machine.specs.NameSteps.{attributes_given, given_attributes, lead
 use Rattle.nfs_machine.specs.Permission.{Searching, Changing}
 use Rattle.nfs_machine.specs.State.{Entry}
 use Rattle.nfs_machine.specs.declared.context.Ctx.{Ctx}
-use Rattle.nfs_objects.specs.Attempt.{AsksFor}
+pub use Rattle.nfs_objects.specs.Attempt.{Wanted, Addresses, AsksAs, number_wanted, unless_known}
 use Rattle.nfs_objects.specs.Stands.{living_of_inode}
 use Rattle.nfs_objects.specs.Values.{ViewValue, seen_at}
 use Rattle.nfs_objects.specs.declared.address.Addr.{Addr}
@@ -19,8 +19,6 @@ use Rattle.nfs_objects.specs.declared.address.Addr.TheVariants as addresses
 use Rattle.nfs_objects.specs.declared.address.Mode.{Mode}
 use Rattle.nfs_objects.specs.declared.address.Mode.TheVariants.{Exclusive}
 use Rattle.nfs_objects.specs.declared.directory.Directory.{Directory}
-use Rattle.nfs_objects.specs.declared.done.Outcome.{Outcome}
-use Rattle.nfs_objects.specs.declared.done.Outcome.TheVariants as outcomes
 use Rattle.nfs_objects.specs.declared.object.Inode.{Inode}
 use Rattle.nfs_objects.specs.declared.object.Object.{Object}
 use Rattle.nfs_objects.specs.declared.view.Reserved.{Reserved}
@@ -35,11 +33,6 @@ looked_up ctx number i name = do
   _ ← permitted ctx (living_of_inode i) Searching
   leads_to number directory.parent directory.entries name
 
--- the address, where it was not read
-abbrev pub unless_known : Addr → Option (Option Object) → List (Addr × Mode)
-unless_known address None = (address, Exclusive) ∷ []
-unless_known address (Some known) = []
-
 abbrev pub object_wanted : List (Addr × Option Object) → Result ℕ NfsStatus → List (Addr × Mode)
 object_wanted entries (Ok number) = unless_known (addresses.Inode number) (seen_at entries (addresses.Inode number))
 object_wanted entries (Err status) = []
@@ -50,21 +43,6 @@ lookup_wanted ctx entries name BadHandle = []
 lookup_wanted ctx entries name Stale = []
 lookup_wanted ctx entries name (Names number i) = object_wanted entries (looked_up ctx number i name)
 lookup_wanted ctx entries name (Unread address) = (address, Exclusive) ∷ []
-
--- addresses, or one new number
-pub data Wanted : Type 0 where
-  Addresses : (addresses : List (Addr × Mode)) → Wanted
-  Number : Wanted
-
-abbrev pub IsNumber : Outcome → Type 0
-IsNumber (outcomes.Need addresses) = ⊥
-IsNumber (outcomes.Fresh count) = count ≡ 1
-IsNumber (outcomes.Done done) = ⊥
-
--- just that is asked for
-abbrev pub AsksAs : Wanted → Outcome → Type 0
-AsksAs (Addresses addresses) outcome = AsksFor addresses outcome
-AsksAs Number outcome = IsNumber outcome
 
 -- CREATE (3.3.8): the directory that may get a new name, or the status of the first check that fails
 abbrev pub directory_checked : Ctx → Inode → List ℕ → Result Directory NfsStatus
@@ -80,10 +58,6 @@ abbrev pub new_judged : Ctx → CreateHow → ℕ → Result (Unit {0}) NfsStatu
 new_judged ctx how last_cookie = do
   _ ← given_attributes ctx (attributes_given how)
   holding (nat_lt (last_cookie + 1) (2 ^ 64)) status.NoSpace
-
-abbrev pub number_wanted : Option Reserved → Wanted
-number_wanted (Some reserved) = Addresses []
-number_wanted None = Number
 
 abbrev pub new_wanted : List Reserved → Result (Unit {0}) NfsStatus → Wanted
 new_wanted reserved (Ok u) = number_wanted (slice_get reserved 0)

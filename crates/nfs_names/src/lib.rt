@@ -9,6 +9,7 @@
 
 ghost use Rattle.std.specs.Prelude.{◌≡◌, true, IfOk};
 ghost use Rattle.nfs_objects.specs.Attempt.{Attempts};
+ghost use Rattle.nfs_objects.specs.Rounds.{AsksFew};
 ghost use Rattle.nfs_names.specs.Calls.{is_name_call};
 ghost use Rattle.nfs_names.specs.Wanted.{AsksAs, wanted};
 
@@ -32,6 +33,8 @@ pub fn attempt(alloc: Global, call: &NfsCall, ctx: &Ctx, view: &View) -> Result<
     requires { is_name_call call.now ≡ true }
     ensures attempts { IfOk result (λ outcome. Attempts (Call.Nfs call.now) ctx.now view.now outcome) }
     ensures asks { IfOk result (AsksAs (wanted ctx.now view.now call.now)) }
+    // The view and all that is asked for lie among the store's addresses and at most 256 others.
+    ensures few { AsksFew (λ v. wanted ctx.now v call.now) }
 {
     match call {
         NfsCall::Create(arguments) => create::attempt(alloc, arguments, ctx, view),

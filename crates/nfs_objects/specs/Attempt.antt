@@ -1,5 +1,5 @@
 -- What an attempt may come to.
-use Rattle.std.specs.Prelude.{◌≡◌, ◌≢◌, ◌<◌, false, List, [], ◌∷◌, None}
+use Rattle.std.specs.Prelude.{◌≡◌, ◌≢◌, ◌<◌, false, List, [], ◌∷◌, Option, Some, None}
 use Rattle.std.specs.List.{AllByRecursion}
 use Rattle.nfs_machine.specs.declared.context.Ctx.{Ctx}
 use Rattle.nfs_machine.specs.declared.calls.Call.{Call}
@@ -8,6 +8,8 @@ use Rattle.nfs_objects.specs.declared.address.Mode.{Mode}
 use Rattle.nfs_objects.specs.declared.address.Mode.TheVariants.{Exclusive}
 use Rattle.nfs_objects.specs.declared.done.Outcome.{Outcome}
 use Rattle.nfs_objects.specs.declared.done.Outcome.TheVariants.{Need, Fresh, Done}
+use Rattle.nfs_objects.specs.declared.object.Object.{Object}
+use Rattle.nfs_objects.specs.declared.view.Reserved.{Reserved}
 use Rattle.nfs_objects.specs.Values.{DoneValue, ViewValue, is_addr, seen_at}
 
 -- no address stands twice
@@ -44,3 +46,28 @@ abbrev pub IsNeed : List (Addr × Mode) → Outcome → Type 0
 IsNeed wanted (Need addresses) = addresses.items ≡ wanted
 IsNeed wanted (Fresh count) = ⊥
 IsNeed wanted (Done done) = ⊥
+
+-- what an attempt asks for: addresses, or one new number
+pub data Wanted : Type 0 where
+  Addresses : (addresses : List (Addr × Mode)) → Wanted
+  Number : Wanted
+
+abbrev pub IsNumber : Outcome → Type 0
+IsNumber (Need addresses) = ⊥
+IsNumber (Fresh count) = count ≡ 1
+IsNumber (Done done) = ⊥
+
+-- just that is asked for, and nothing where the call is done
+abbrev pub AsksAs : Wanted → Outcome → Type 0
+AsksAs (Addresses addresses) outcome = AsksFor addresses outcome
+AsksAs Number outcome = IsNumber outcome
+
+-- the address, where it was not read
+abbrev pub unless_known : Addr → Option (Option Object) → List (Addr × Mode)
+unless_known address None = (address, Exclusive) ∷ []
+unless_known address (Some known) = []
+
+-- a new number, where none was given
+abbrev pub number_wanted : Option Reserved → Wanted
+number_wanted (Some reserved) = Addresses []
+number_wanted None = Number

@@ -4,6 +4,7 @@ pub mod Entries
 pub mod Fits
 pub mod Parts
 pub mod Promise
+pub mod Rounds
 pub mod Sound
 pub mod Stands
 pub mod Store
