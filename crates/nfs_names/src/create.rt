@@ -329,3 +329,6 @@ fn call(arguments: &CreateArguments) -> Result<Call, AllocError>
 {
     Ok(Call::Nfs(NfsCall::Create(arguments.clone()?)))
 }
+
+#[cfg(test)]
+mod tests;
