@@ -5,7 +5,7 @@ use Rattle.nfs_wire.specs.declared.attributes.Attributes.{Attributes}
 use Rattle.nfs_machine.specs.Attributes.{attributes_of, links_of}
 use Rattle.nfs_machine.specs.Shown.{attributes_at, with_object}
 use Rattle.nfs_machine.specs.State.{State}
-use Rattle.nfs_objects.proofs.Replaced.{rewritten_represented, rewritten_sound}
+use Rattle.nfs_objects.proofs.Replaced.{rewritten_links, rewritten_represented}
 use Rattle.nfs_objects.proofs.Seen.{fits_at, lives-seen}
 use Rattle.nfs_objects.specs.Endings.{KeepsPlace}
 use Rattle.nfs_objects.specs.Fits.{Fits}
@@ -43,6 +43,6 @@ attributes-put s m number old new shown at keeps stands sound shows =
     let put : put_at s.at (addresses.Inode number) (Some (objects.Inode new)) (addresses.Inode number) ≡ Some (objects.Inode new) =
     ap (λ b. cond b (Some (objects.Inode new)) (s.at (addresses.Inode number))) ((unsigned_Decides number number).1 refl) in
     let m1 : State = with_object m number (living_of_inode new) in
-    let links = (rewritten_sound s m number old new at keeps stands sound).links number new put in
+    let links = rewritten_links s m number old new at keeps stands sound number new put in
     let lives = (rewritten_represented s m number old new at keeps stands sound).objects number ∙ ap living_of put in
     ap (λ a. Some a) (shown-attributes m1 number new shown shows links) ∙ ap (λ o. option_map (attributes_of m1 number) o) (sym lives)

@@ -8,12 +8,12 @@ use Rattle.std.specs.Ordering.{nat_cmp}
 use Rattle.nfs_machine.specs.Attributes.{entries_of, is_directory, is_living_directory, links_of, names_in, names_of}
 use Rattle.nfs_machine.specs.Bytes.{same_bytes}
 use Rattle.nfs_machine.specs.State.{Content, Regular, Directory, Link, BlockDevice, CharacterDevice, Socket, Fifo, Entry, Living, State}
-use Rattle.nfs_machine.specs.WellFormed.{CookiesRise, IsDirectoryOf, IsParent, Leads, MakesEntry, NamesOnce, WellFormed}
+use Rattle.nfs_machine.specs.WellFormed.{CookiesRise, IsDirectoryOf, IsParent, Leads, MakesEntry, NamesOnce, TextsFit, WellFormed}
 use Rattle.nfs_machine.proofs.Sums.{get-inserted, sum-insert_new, sum-insert_old, sum-none}
 use Rattle.nfs_machine.proofs.WellFormed.{all_both, all_last, all_map}
 
 -- a name that no entry has goes last
-once-last : (es : List Entry) (e : Entry) → NamesOnce es → find (λ (x : Entry). same_bytes x.name e.name) es ≡ None → NamesOnce (es ++ e ∷ [])
+pub once-last : (es : List Entry) (e : Entry) → NamesOnce es → find (λ (x : Entry). same_bytes x.name e.name) es ≡ None → NamesOnce (es ++ e ∷ [])
 once-last [] e once absent = (tt, tt)
 once-last (x ∷ es) e once absent =
     let apart = passed (same_bytes x.name e.name) (find (λ (x : Entry). same_bytes x.name e.name) es) absent in
@@ -24,7 +24,7 @@ once-last (x ∷ es) e once absent =
     passed false rest e = (refl, e)
 
 -- and its cookie is above the others
-cookies-last : (below last : ℕ) (es : List Entry) (e : Entry) → e.cookie ≡ last + 1 → CookiesRise below es last → CookiesRise below (es ++ e ∷ []) (last + 1)
+pub cookies-last : (below last : ℕ) (es : List Entry) (e : Entry) → e.cookie ≡ last + 1 → CookiesRise below es last → CookiesRise below (es ++ e ∷ []) (last + 1)
 cookies-last below last [] e is h = (omega (arith, is, h), omega (arith, is))
 cookies-last below last (x ∷ es) e is h = (h.0, cookies-last x.cookie last es e is h.1)
 
@@ -246,8 +246,8 @@ module _ (old new : State) (place number : ℕ) (directory wider made : Living) 
         (deeper-on place directory directory makes.lives makes.entries leads-before (subst (AllByRecursion (Deep place)) (sym in_place) (w.deeper place directory makes.lives)))
         (λ is. omega (arith, depth-kept place directory makes.lives, depth-made)))
 
-    pub well_formed-made : WellFormed new
-    well_formed-made = record {
+    pub well_formed-made : TextsFit new → WellFormed new
+    well_formed-made texts = record {
       names = λ n o at. elim (before n o at) [
         | inl here ↦ subst (IsDirectoryOf new) here.1 names-made
         | inr (inl here) ↦ subst (IsDirectoryOf new) here.1 names-wider
@@ -287,6 +287,7 @@ module _ (old new : State) (place number : ℕ) (directory wider made : Living) 
             (makes.spent place wider.generation (subst (λ g. old.spent place g ≡ true) (sym makes.wider_generation) (w.given place directory makes.lives))))
         | inr (inr was) ↦ makes.spent n o.generation (w.given n o was)
       ];
+      texts = texts;
     }
 
     -- ---- links

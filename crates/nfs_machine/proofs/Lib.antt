@@ -1,11 +1,47 @@
 pub mod Asked
+pub mod Changes
+mod Bounds
 mod Chosen
+pub mod Continued
 pub mod Entered
+pub mod Facts
 mod Faults
+pub mod Follows
 mod Handles
+pub mod Kept
+mod LockingWorked
 mod Listed
+mod Listing
+pub mod Modes
+pub mod Opened
+pub mod Pages
+mod Paging
 mod Pieces
+mod Results
+mod Posted
+mod Ranges
+mod Readings
+mod Replies
+pub mod Resolved
+mod Later
+mod Rising
+pub mod Locking
+pub mod Loose
+pub mod Planned
+mod Refused
+pub mod Renamed
+mod ReplySizes
+pub mod Roots
 mod Runs
+mod RunWorked
+mod SideReplies
 pub mod Sums
+pub mod Texts
+mod Visits
+pub mod Waiting
 pub mod WellFormed
+pub mod Setting
+mod Settled
+pub mod Within
+pub mod Taken
 pub mod Short

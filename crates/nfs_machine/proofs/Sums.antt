@@ -1,5 +1,5 @@
 -- Sums over the values of a finite map: a value at a new key is added, and one that replaces another takes its part.
-use Rattle.std.proofs.Common.{◌≡◌, ◌==◌, ℕ, ◌+◌, Bool, true, false, cond, ◌&&◌, T, List, [], ◌∷◌, map, Option, Some, None, refl, sym, ◌∙◌, ap, subst, arith}
+use Rattle.std.proofs.Common.{◌≡◌, ◌==◌, ℕ, zero, suc, ◌+◌, ◌≤◌, Bool, true, false, cond, ◌&&◌, T, List, [], ◌∷◌, map, Option, Some, None, refl, sym, ◌∙◌, ap, subst, arith}
 use Rattle.std.proofs.lemmas.List.Sums.{sum_by-cons}
 use Rattle.std.specs.Cmp.{nat_cmp_total, tied_itself, unsigned_Decides, unsigned_ties}
 use Rattle.std.specs.FinMap.{FinMap, entries, entries-insert, entries_sorted, get, get-entries, get-insert, get-remove, insert, nat_cmp-IsAntisymmetric, remove, same_map, values}
@@ -75,22 +75,38 @@ module _ {X : Type 0} (f : X → ℕ) where
   found-head : (e : ℕ × X) (es : List (ℕ × X)) → find nat_cmp e.0 (e ∷ es) ≡ Some e.1
   found-head e es = ap (λ r. cond (is_eq r) (Some e.1) (find nat_cmp e.0 es)) (tied_itself nat_cmp_total e.0)
 
+  -- what the rest of a sorted list has, the list has
+  found-later : (e : ℕ × X) (es : List (ℕ × X)) (q : ℕ) (v : X) → find nat_cmp q es ≡ Some v → T (below_all nat_cmp e.0 es) → find nat_cmp q (e ∷ es) ≡ Some v
+  found-later e es q v at under =
+      let found : cond (q == e.0) (Some e.1) (find nat_cmp q es) ≡ Some v = elim (q == e.0) as (λ b. (q == e.0) ≡ b → cond b (Some e.1) (find nat_cmp q es) ≡ Some v) [
+        | true ↦ λ same. (let none : find nat_cmp q es ≡ None = ap (λ k. find nat_cmp k es) ((unsigned_Decides q e.0).0 same) ∙ below e.0 es under in cc)
+        | false ↦ λ other. at
+      ] refl in
+      subst (λ b. cond b (Some e.1) (find nat_cmp q es) ≡ Some v) (unsigned_ties q e.0) found
+
   sum-zero : (es : List (ℕ × X)) → T (is_sorted nat_cmp es) → ((q : ℕ) (v : X) → find nat_cmp q es ≡ Some v → f v ≡ 0) → sum_of es ≡ 0
   sum-zero [] sorted none = refl
   sum-zero (e ∷ es) sorted none =
       let p = parts (below_all nat_cmp e.0 es) (is_sorted nat_cmp es) sorted in
       let here : f e.1 ≡ 0 = none e.0 e.1 (found-head e es) in
-      let there : sum_of es ≡ 0 = sum-zero es p.1 (λ q v at. none q v (later q v at p.0)) in
+      let there : sum_of es ≡ 0 = sum-zero es p.1 (λ q v at. none q v (found-later e es q v at p.0)) in
       omega (arith, here, there, sum_of-cons e es)
-    where
-      later : (q : ℕ) (v : X) → find nat_cmp q es ≡ Some v → T (below_all nat_cmp e.0 es) → find nat_cmp q (e ∷ es) ≡ Some v
-      later q v at under =
-          let found : cond (q == e.0) (Some e.1) (find nat_cmp q es) ≡ Some v = elim (q == e.0) as (λ b. (q == e.0) ≡ b → cond b (Some e.1) (find nat_cmp q es) ≡ Some v) [
-            | true ↦ λ same. (let none : find nat_cmp q es ≡ None = ap (λ k. find nat_cmp k es) ((unsigned_Decides q e.0).0 same) ∙ below e.0 es under in cc)
-            | false ↦ λ other. at
-          ] refl in
-          subst (λ b. cond b (Some e.1) (find nat_cmp q es) ≡ Some v) (unsigned_ties q e.0) found
+
+  sum-part : (es : List (ℕ × X)) → T (is_sorted nat_cmp es) → 1 ≤ sum_of es → (q : ℕ) × (v : X) × (find nat_cmp q es ≡ Some v) × (1 ≤ f v)
+  sum-part [] sorted some = absurd (omega (arith, some))
+  sum-part (e ∷ es) sorted some =
+      let p = parts (below_all nat_cmp e.0 es) (is_sorted nat_cmp es) sorted in
+      elim (f e.1) as (λ k. f e.1 ≡ k → (q : ℕ) × (v : X) × (find nat_cmp q (e ∷ es) ≡ Some v) × (1 ≤ f v)) [
+        | zero ↦ λ none. (let rest = sum-part es p.1 (omega (arith, some, none, sum_of-cons e es)) in (rest.0, rest.1, found-later e es rest.0 rest.1 rest.2 p.0, rest.3))
+        | suc k ↦ λ is. (e.0, e.1, found-head e es, omega (arith, is))
+      ] refl
 
   -- where each value gives nothing
   pub sum-none : (m : FinMap nat_cmp X) → ((q : ℕ) (v : X) → get m q ≡ Some v → f v ≡ 0) → sum_by f (values m) ≡ 0
   sum-none m none = sum-zero (entries m) (entries_sorted m) (λ q v at. none q v (get-entries m q ∙ at))
+
+  -- where the sum is something, so is a value
+  pub sum-some_part : (m : FinMap nat_cmp X) → 1 ≤ sum_by f (values m) → (q : ℕ) × (v : X) × (get m q ≡ Some v) × (1 ≤ f v)
+  sum-some_part m some =
+      let part = sum-part (entries m) (entries_sorted m) some in
+      (part.0, part.1, get-entries m part.0 ∙ part.2, part.3)

@@ -5,7 +5,7 @@ use Rattle.std.specs.FinMap.{get, insert}
 use Rattle.std.specs.List.{AllByRecursion, count_by}
 use Rattle.nfs_machine.specs.Attributes.{entries_of, is_directory, is_living_directory, links_of, names_in, names_of}
 use Rattle.nfs_machine.specs.State.{Content, Regular, Directory, Link, BlockDevice, CharacterDevice, Socket, Fifo, Entry, Living, State}
-use Rattle.nfs_machine.specs.WellFormed.{IsParent, KeepsNames, Leads, NamesOnce, WellFormed}
+use Rattle.nfs_machine.specs.WellFormed.{IsParent, KeepsNames, Leads, NamesOnce, TextsFit, WellFormed}
 use Rattle.nfs_machine.proofs.Sums.{get-inserted, sum-insert_old}
 
 -- ---- lists
@@ -23,7 +23,7 @@ all_last P [] x all p = (p, tt)
 all_last P (y ∷ xs) x all p = (all.0, all_last P xs x all.1 p)
 
 -- a directory has entries, and nothing else has
-no_entries : (c : Content) → is_directory c ≡ false → entries_of c ≡ []
+pub no_entries : (c : Content) → is_directory c ≡ false → entries_of c ≡ []
 no_entries (Directory entries last) e = cc
 no_entries (Regular bytes) e = refl
 no_entries (Link text) e = refl
@@ -113,8 +113,8 @@ module _ (old new : State) (alike : (n : ℕ) → Alike (get old.objects n) (get
           no_root = subst (λ x. (entry.number == x) ≡ false) (sym same) l.no_root;
         }
 
-    pub well_formed-alike : ((n g : ℕ) → old.spent n g ≡ true → new.spent n g ≡ true) → WellFormed old → WellFormed new
-    well_formed-alike spent w = record {
+    pub well_formed-alike : ((n g : ℕ) → old.spent n g ≡ true → new.spent n g ≡ true) → TextsFit new → WellFormed old → WellFormed new
+    well_formed-alike spent texts w = record {
       names = λ n o at.
           let b = before n o at in
           let d = w.names n b.0 b.1 in
@@ -142,6 +142,7 @@ module _ (old new : State) (alike : (n : ℕ) → Alike (get old.objects n) (get
       given = λ n o at.
           let b = before n o at in
           spent n o.generation (subst (λ g. old.spent n g ≡ true) (sym b.2.generation) (w.given n b.0 b.1));
+      texts = texts;
     }
 
 -- ---- one object in the place of another

@@ -9,6 +9,10 @@ transfer_limit = 65536
 abbrev pub size_limit : ℕ
 size_limit = 1048576
 
+-- the longest text of a link, in bytes (3.3.10)
+abbrev pub text_limit : ℕ
+text_limit = 4096
+
 -- a file of this size: cut off, or filled up with zeros
 abbrev pub resized : List ℕ → ℕ → List ℕ
 resized bytes size = take size bytes ++ replicate (size - length bytes) 0

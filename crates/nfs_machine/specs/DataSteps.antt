@@ -2,6 +2,7 @@
 use Rattle.std.specs.Prelude.{ℕ, ◌+◌, List, Option, Some, None, Result, Ok, Err, length, take, min, nat_le, ◌||◌, ◌==◌, if◌then◌else◌}
 use Rattle.std.specs.Int.{w64, to_be_bytes}
 use Rattle.nfs_wire.specs.declared.attributes.Attributes.{Attributes}
+use Rattle.nfs_wire.specs.declared.calls.CommitArguments.{CommitArguments}
 use Rattle.nfs_wire.specs.declared.calls.ReadArguments.{ReadArguments}
 use Rattle.nfs_wire.specs.declared.calls.Verifier.{Verifier}
 use Rattle.nfs_wire.specs.declared.calls.WriteArguments.{WriteArguments}
@@ -14,7 +15,7 @@ use Rattle.nfs_wire.specs.declared.status.NfsStatus.TheVariants as status
 use Rattle.side_wire.specs.declared.message.Message.{Message}
 use Rattle.nfs_machine.specs.Answers.{Answers, state_after, answer_of}
 use Rattle.nfs_machine.specs.Attributes.{attributes_of}
-use Rattle.nfs_machine.specs.Checks.{◌>>=◌, holding, object_of, bytes_in, changeable, permitted}
+use Rattle.nfs_machine.specs.Checks.{◌>>=◌, holding, object_of, bytes_in, text_in, changeable, permitted}
 use Rattle.nfs_machine.specs.Data.{transfer_limit, size_limit, written, read_at}
 use Rattle.nfs_machine.specs.Permission.{Reading, Writing}
 use Rattle.nfs_machine.specs.Resolve.{Resolved, BadHandle, Stale, Names, resolve}
@@ -31,6 +32,15 @@ attributes_result m (Names number object) = Ok (attributes_of m number object)
 
 abbrev pub getattr_answer : State → Ctx → List ℕ → NfsReply
 getattr_answer m ctx object = replies.Getattr (attributes_result m (resolve m ctx object))
+
+-- READLINK, 3.3.5: no permission is asked
+abbrev pub readlink_result : State → Ctx → List ℕ → Result (List ℕ) NfsStatus
+readlink_result m ctx object = do
+  link ← object_of (resolve m ctx object)
+  text_in link.1.content
+
+abbrev pub readlink_answer : State → Ctx → List ℕ → NfsReply
+readlink_answer m ctx object = replies.Readlink (record { attributes = shown m (resolve m ctx object); result = readlink_result m ctx object })
 
 -- READ, 3.3.6
 abbrev pub read_object : Ctx → Living → ReadArguments → Result ReadData NfsStatus
@@ -80,3 +90,13 @@ write_answer old ctx a =
 
 abbrev pub WriteStep : State → Ctx → WriteArguments → NfsReply → List Message → State → Type 0
 WriteStep old ctx a reply messages new = Answers (write_answer old ctx a) (state_after old (write_end old ctx a)) reply messages new
+
+-- COMMIT, 3.3.21: what was written is there already, so nothing changes, and no permission is asked
+abbrev pub commit_result : State → Ctx → CommitArguments → Result Verifier NfsStatus
+commit_result m ctx a = do
+  file ← object_of (resolve m ctx a.file)
+  _ ← bytes_in file.1.content
+  Ok (verifier_of ctx)
+
+abbrev pub commit_answer : State → Ctx → CommitArguments → NfsReply
+commit_answer m ctx a = replies.Commit (record { wcc = wcc m (resolve m ctx a.file); result = commit_result m ctx a })

@@ -13,9 +13,12 @@ pub record ExportValue : Type 0 where
 abbrev pub export_value : Export → ExportValue
 export_value e = record { path = e.path; read_only = e.read_only; hosts = e.hosts.items }
 
--- `*` admits every host
+-- `*`, which stands for every host
+abbrev pub every_host : List ℕ
+every_host = 42 ∷ []
+
 abbrev pub admits : ExportValue → List ℕ → Bool
-admits e host = list_any (λ h. same_bytes h host || same_bytes h (42 ∷ [])) e.hosts
+admits e host = list_any (λ h. same_bytes h host || same_bytes h every_host) e.hosts
 
 -- the export with a number; numbers are from 1
 abbrev pub export_at : List ExportValue → ℕ → Option ExportValue

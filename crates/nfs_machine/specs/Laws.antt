@@ -1,18 +1,26 @@
 -- Laws of the machine.
-use Rattle.std.specs.Prelude.{◌≡◌, ℕ, ◌<◌, ◌≤◌, ◌^◌, List, [], ◌∷◌, ◌++◌, length, Some, IfSome}
+use Rattle.std.specs.Prelude.{◌≡◌, ℕ, Bool, true, false, ◌<◌, ◌≤◌, ◌^◌, List, [], ◌∷◌, ◌++◌, length, Some, is_err, IfSome, ◌⊎◌}
+use Rattle.std.specs.FinMap.{get}
 use Rattle.std.specs.List.{All}
 use Rattle.nfs_wire.specs.Replies.{HasNfsForm, result_bytes}
 use Rattle.nfs_wire.specs.declared.calls.NfsCall.{NfsCall}
 use Rattle.nfs_wire.specs.declared.replies.NfsReply.{NfsReply}
+use Rattle.nfs_wire.specs.declared.replies.NfsReply.TheVariants as replies
 use Rattle.side_wire.specs.declared.message.Message.{Message}
+use Rattle.nfs_machine.specs.Exports.{ExportValue}
 use Rattle.nfs_machine.specs.Handles.{handle_bytes, handle_of}
 use Rattle.nfs_machine.specs.NfsSteps.{NfsStep}
+use Rattle.nfs_machine.specs.Opening.{opening}
 use Rattle.nfs_machine.specs.Refusal.{nfs_refusal}
 use Rattle.nfs_machine.specs.Run.{Arrival, Asks, Executes, Record, Run, Setting}
-use Rattle.nfs_machine.specs.State.{State}
+use Rattle.nfs_machine.specs.State.{Living, State}
+use Rattle.nfs_machine.specs.Step.{Step}
+use Rattle.nfs_machine.specs.WellFormed.{WellFormed}
 use Rattle.nfs_machine.specs.declared.calls.Call.{Call}
+use Rattle.nfs_machine.specs.declared.calls.Reply.{Reply}
 use Rattle.nfs_machine.specs.declared.context.Ctx.{Ctx}
 use Rattle.nfs_machine.specs.declared.handle.Handle.{Handle}
+use Rattle.nfs_machine.specs.declared.moment.Moment.{Moment}
 
 -- a run goes on by one step
 abbrev pub RunsGoOn : Type 0
@@ -51,8 +59,70 @@ pub record IsShort (reply : NfsReply) : Type 0 where
 
 -- what a call of NFS is answered is short
 abbrev pub RepliesAreShort : Type 0
-RepliesAreShort = (old : State) (ctx : Ctx) (call : NfsCall) (reply : NfsReply) (messages : List Message) (new : State) → NfsStep old ctx call reply messages new → IsShort reply
+RepliesAreShort = (old : State) (ctx : Ctx) (call : NfsCall) (reply : NfsReply) (messages : List Message) (new : State)
+    → WellFormed old → NfsStep old ctx call reply messages new → IsShort reply
 
 -- and so is what it is refused by
 abbrev pub RefusalsAreShort : Type 0
 RefusalsAreShort = (call : NfsCall) → IfSome (nfs_refusal call) IsShort
+
+-- a reply with a status other than NFS3_OK (RFC 1813, 2.6)
+abbrev pub is_refusal : NfsReply → Bool
+is_refusal replies.Null = false
+is_refusal (replies.Getattr result) = is_err result
+is_refusal (replies.Setattr r) = is_err r.result
+is_refusal (replies.Lookup r) = is_err r.result
+is_refusal (replies.Access r) = is_err r.result
+is_refusal (replies.Readlink r) = is_err r.result
+is_refusal (replies.Read r) = is_err r.result
+is_refusal (replies.Write r) = is_err r.result
+is_refusal (replies.Create r) = is_err r.result
+is_refusal (replies.Mkdir r) = is_err r.result
+is_refusal (replies.Symlink r) = is_err r.result
+is_refusal (replies.Mknod r) = is_err r.result
+is_refusal (replies.Remove r) = is_err r.result
+is_refusal (replies.Rmdir r) = is_err r.result
+is_refusal (replies.Rename r) = is_err r.result
+is_refusal (replies.Link r) = is_err r.result
+is_refusal (replies.Readdir r) = is_err r.result
+is_refusal (replies.Readdirplus r) = is_err r.result
+is_refusal (replies.Fsstat r) = is_err r.result
+is_refusal (replies.Fsinfo r) = is_err r.result
+is_refusal (replies.Pathconf r) = is_err r.result
+is_refusal (replies.Commit r) = is_err r.result
+
+-- a call that is refused changes nothing and puts no message
+abbrev pub RefusalsChangeNothing : Type 0
+RefusalsChangeNothing = (old : State) (ctx : Ctx) (call : NfsCall) (reply : NfsReply) (messages : List Message) (new : State)
+    → NfsStep old ctx call reply messages new → is_refusal reply ≡ true → (new ≡ old) × (messages ≡ [])
+
+-- an object lives under a number, with a generation: what its handle says of it
+pub record LivesAs (m : State) (number generation : ℕ) : Type 0 where
+  pub object : Living
+  pub lives : get m.objects number ≡ Some object
+  pub generation_is : object.generation ≡ generation
+
+-- what was given stays given; and what lives now lived before under the same handle, or has one that was not given before, and is now
+pub record GivesOnce (old new : State) : Type 0 where
+  pub kept : (number generation : ℕ) → old.spent number generation ≡ true → new.spent number generation ≡ true
+  pub handles : (number generation : ℕ) → LivesAs new number generation
+      → LivesAs old number generation ⊎ ((old.spent number generation ≡ false) × (new.spent number generation ≡ true))
+
+-- each step gives a handle at most once
+abbrev pub StepsGiveOnce : Type 0
+StepsGiveOnce = (old : State) (ctx : Ctx) (call : Call) (reply : Reply) (messages : List Message) (new : State) → Step old ctx call reply messages new → GivesOnce old new
+
+-- a handle that was given is never given again: what lives under it at the end of a run lived under it when the run began
+abbrev pub NeverGivenAgain : Type 0
+NeverGivenAgain = (setting : Setting) (first last : State) (records : List Record) (number generation : ℕ)
+    → Run setting first records last → first.spent number generation ≡ true → LivesAs last number generation → LivesAs first number generation
+
+-- what is true of every state: a server starts so, each step keeps it, and so each run
+abbrev pub OpeningIsFormed : Type 0
+OpeningIsFormed = (exports : List ExportValue) (moment : Moment) → WellFormed (opening exports moment)
+
+abbrev pub StepsKeepForm : Type 0
+StepsKeepForm = (old : State) (ctx : Ctx) (call : Call) (reply : Reply) (messages : List Message) (new : State) → Step old ctx call reply messages new → WellFormed old → WellFormed new
+
+abbrev pub RunsKeepForm : Type 0
+RunsKeepForm = (setting : Setting) (first last : State) (records : List Record) → Run setting first records last → WellFormed first → WellFormed last

@@ -1,5 +1,5 @@
 -- The steps of MOUNT version 3, one definition for each procedure (RFC 1813, appendix I, 5.2).
-use Rattle.std.specs.Prelude.{◌≡◌, ℕ, ◌≤◌, ◌-◌, Bool, true, not, ◌&&◌, ◌||◌, List, [], ◌∷◌, ◌++◌, length, drop, Option, Some, None, Result, Ok, Err, nat_lt, if◌then◌else◌, find, ◌⊎◌, ◌==◌}
+use Rattle.std.specs.Prelude.{◌≡◌, ℕ, ◌≤◌, ◌-◌, Bool, true, not, ◌&&◌, ◌||◌, List, [], ◌∷◌, ◌++◌, length, drop, Option, Some, None, Result, Ok, Err, nat_lt, if◌then◌else◌, filter, find, map, ◌⊎◌, ◌==◌}
 use Rattle.std.specs.List.{list_any}
 use Rattle.std.specs.FinMap.{get}
 use Rattle.side_wire.specs.declared.message.Message.{Message}
@@ -9,9 +9,11 @@ use Rattle.side_wire.specs.declared.mount.MountReply.{MountReply}
 use Rattle.side_wire.specs.declared.mount.MountReply.TheVariants as replies
 use Rattle.side_wire.specs.declared.mount.MountStatus.{MountStatus}
 use Rattle.side_wire.specs.declared.mount.MountStatus.TheVariants as status
+use Rattle.side_wire.specs.declared.mount.lists.ExportNode.{ExportNode}
+use Rattle.side_wire.specs.declared.mount.lists.MountBody.{MountBody}
 use Rattle.nfs_machine.specs.Bytes.{same_bytes}
-use Rattle.nfs_machine.specs.Exports.{ExportValue, admits, export_at}
-use Rattle.nfs_machine.specs.Answers.{OnlyAnswers}
+use Rattle.nfs_machine.specs.Exports.{ExportValue, admits, every_host, export_at}
+use Rattle.nfs_machine.specs.Answers.{Answers, OnlyAnswers}
 use Rattle.nfs_machine.specs.Paths.{parts, pieces, is_dots, begins_with_slash}
 pub use Rattle.nfs_machine.specs.Shown.{handle_at}
 use Rattle.nfs_machine.specs.State.{Regular, Directory, Link, BlockDevice, CharacterDevice, Socket, Fifo, Entry, Living, Mounted, State}
@@ -105,7 +107,34 @@ pub record MntStep (old : State) (ctx : Ctx) (path : List ℕ) (reply : MountRep
   pub no_message : messages ≡ []
   pub answers : MntAnswers old ctx path result new
 
+-- DUMP, 5.2.2: what is mounted, in the order of mounting
+abbrev pub listed_mounts : List Mounted → List MountBody
+listed_mounts mounts = map (λ (x : Mounted). record { hostname = x.host; directory = x.path }) mounts
+
+-- the state without some mounts
+abbrev pub without_mounts : State → (Mounted → Bool) → State
+without_mounts m goes = record m { mounts = filter (λ (x : Mounted). not (goes x)) m.mounts }
+
+-- UMNT, 5.2.3: this path of this host, as it was sent
+abbrev pub is_of : List ℕ → List ℕ → Mounted → Bool
+is_of host path x = same_bytes x.host host && same_bytes x.path path
+
+-- UMNTALL, 5.2.4: every path of this host
+abbrev pub is_by : List ℕ → Mounted → Bool
+is_by host x = same_bytes x.host host
+
+-- EXPORT, 5.2.5: the exports in the order given, each with the hosts that it admits, and with none where it admits every host
+abbrev pub groups_of : ExportValue → List (List ℕ)
+groups_of e = if list_any (λ h. same_bytes h every_host) e.hosts then [] else e.hosts
+
+abbrev pub listed_exports : List ExportValue → List ExportNode
+listed_exports exports = map (λ (e : ExportValue). record { directory = e.path; groups = groups_of e }) exports
+
 -- what the machine may answer a call of MOUNT, and the state that it goes on to
 unfoldable pub MountStep : State → Ctx → MountCall → MountReply → List Message → State → Type 0
 MountStep old ctx calls.Null reply messages new = OnlyAnswers replies.Null old reply messages new
 MountStep old ctx (calls.Mnt path) reply messages new = MntStep old ctx path reply messages new
+MountStep old ctx calls.Dump reply messages new = OnlyAnswers (replies.Dump (listed_mounts old.mounts)) old reply messages new
+MountStep old ctx (calls.Unmount path) reply messages new = Answers replies.Unmount (without_mounts old (is_of ctx.host path)) reply messages new
+MountStep old ctx calls.UnmountAll reply messages new = Answers replies.UnmountAll (without_mounts old (is_by ctx.host)) reply messages new
+MountStep old ctx calls.Export reply messages new = OnlyAnswers (replies.Export (listed_exports ctx.exports)) old reply messages new

@@ -1,5 +1,5 @@
 -- What a call is answered that cannot be executed for want of memory; it changes nothing (RFC 1813, 2.6: NFS3ERR_JUKEBOX; RFC 5531, 9: SYSTEM_ERR).
-use Rattle.std.specs.Prelude.{Err, Option, Some, None, option_map}
+use Rattle.std.specs.Prelude.{ℕ, Bool, false, List, Err, Option, Some, None, is_some, option_map}
 use Rattle.nfs_wire.specs.declared.attributes.Wcc.{Wcc}
 use Rattle.nfs_wire.specs.declared.calls.NfsCall.{NfsCall}
 use Rattle.nfs_wire.specs.declared.calls.NfsCall.TheVariants as nfs
@@ -11,6 +11,14 @@ use Rattle.side_wire.specs.declared.mount.MountCall.TheVariants as mount
 use Rattle.side_wire.specs.declared.mount.MountReply.{MountReply}
 use Rattle.side_wire.specs.declared.mount.MountReply.TheVariants as mount_replies
 use Rattle.side_wire.specs.declared.mount.MountStatus.TheVariants as mount_status
+use Rattle.side_wire.specs.declared.nlm.NlmCall.{NlmCall}
+use Rattle.side_wire.specs.declared.nlm.NlmCall.TheVariants as nlm
+use Rattle.side_wire.specs.declared.nlm.NlmReply.{NlmReply}
+use Rattle.side_wire.specs.declared.nlm.NlmReply.TheVariants as nlm_replies
+use Rattle.side_wire.specs.declared.nlm.NlmResult.{NlmResult}
+use Rattle.side_wire.specs.declared.nlm.NlmStatus.TheVariants as nlm_status
+use Rattle.side_wire.specs.declared.nlm.TestResult.{TestResult}
+use Rattle.side_wire.specs.declared.nlm.TestStatus.TheVariants as test_status
 use Rattle.nfs_machine.specs.declared.calls.Call.{Call}
 use Rattle.nfs_machine.specs.declared.calls.Call.TheVariants as calls
 use Rattle.nfs_machine.specs.declared.calls.Refusal.{Refusal}
@@ -52,10 +60,33 @@ nfs_refusal (nfs.Pathconf object) = Some (nfs_replies.Pathconf (record { attribu
 nfs_refusal (nfs.Commit a) = Some (nfs_replies.Commit (record { wcc = nothing; result = Err nfs_status.Jukebox }))
 
 abbrev pub mount_refusal : MountCall → Option MountReply
-mount_refusal mount.Null = None
 mount_refusal (mount.Mnt path) = Some (mount_replies.Mnt (Err mount_status.ServerFault))
+mount_refusal call = None
+
+-- NLM4_DENIED_NOLOCKS (RFC 1813, 6.1.4), with the call's cookie
+abbrev pub no_locks : List ℕ → NlmResult
+no_locks cookie = record { cookie = cookie; status = nlm_status.DeniedNoLocks }
+
+abbrev pub no_test : List ℕ → TestResult
+no_test cookie = record { cookie = cookie; status = test_status.DeniedNoLocks }
+
+abbrev pub nlm_refusal : NlmCall → Option NlmReply
+nlm_refusal (nlm.Test a) = Some (nlm_replies.Test (no_test a.cookie))
+nlm_refusal (nlm.Lock a) = Some (nlm_replies.Lock (no_locks a.cookie))
+nlm_refusal (nlm.Cancel a) = Some (nlm_replies.Cancel (no_locks a.cookie))
+nlm_refusal (nlm.Unlock a) = Some (nlm_replies.Unlock (no_locks a.cookie))
+nlm_refusal (nlm.Granted a) = Some (nlm_replies.Granted (no_locks a.cookie))
+nlm_refusal (nlm.Share a) = Some (nlm_replies.Share (no_locks a.cookie))
+nlm_refusal (nlm.Unshare a) = Some (nlm_replies.Unshare (no_locks a.cookie))
+nlm_refusal (nlm.NmLock a) = Some (nlm_replies.NmLock (no_locks a.cookie))
+nlm_refusal call = None
+
+-- a refusal that gives the caller its cookie back
+abbrev pub returns_cookie : Call → Bool
+returns_cookie (calls.Nlm call) = is_some (nlm_refusal call)
+returns_cookie call = false
 
 unfoldable pub refusal_of : Call → Refusal
 refusal_of (calls.Nfs call) = refusal_by (option_map (λ r. replies.Nfs r) (nfs_refusal call))
 refusal_of (calls.Mount call) = refusal_by (option_map (λ r. replies.Mount r) (mount_refusal call))
-refusal_of (calls.Nlm call) = refusals.SystemError
+refusal_of (calls.Nlm call) = refusal_by (option_map (λ r. replies.Nlm r) (nlm_refusal call))

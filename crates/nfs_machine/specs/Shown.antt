@@ -31,6 +31,12 @@ wcc new BadHandle = record { before = None; after = None }
 wcc new Stale = record { before = None; after = None }
 wcc new (Names number object) = record { before = Some (weak object); after = attributes_at new number }
 
+-- a handle is not looked at where the one before it names nothing
+abbrev pub after_first : (first second : Resolved) → Resolved
+after_first BadHandle second = BadHandle
+after_first Stale second = BadHandle
+after_first (Names number object) second = second
+
 -- the handle of an object
 abbrev pub handle_at : Ctx → ℕ → Living → List ℕ
 handle_at ctx number o = handle_bytes (record { export = o.export; start = ctx.start; fileid = number; generation = o.generation })
@@ -38,6 +44,10 @@ handle_at ctx number o = handle_bytes (record { export = o.export; start = ctx.s
 -- the object with other content from now on (2.5: mtime, ctime)
 abbrev pub with_content : Living → Time → Content → Living
 with_content o now content = record o { content = content; modified = touch o.changed now; changed = touch o.changed now }
+
+-- the object with another time of change alone (2.5: ctime)
+abbrev pub touched : Living → Time → Living
+touched o now = record o { changed = touch o.changed now }
 
 -- the state with this object at a number
 abbrev pub with_object : State → ℕ → Living → State

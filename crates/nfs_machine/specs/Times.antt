@@ -1,5 +1,5 @@
 -- Times of changes (RFC 1813, 2.5: mtime and ctime).
-use Rattle.std.specs.Prelude.{◌+◌, Bool, true, ◌&&◌, ◌||◌, nat_lt, nat_le, if◌then◌else◌, ◌==◌}
+use Rattle.std.specs.Prelude.{◌+◌, Bool, true, false, ◌&&◌, ◌||◌, nat_lt, nat_le, if◌then◌else◌, ◌==◌}
 use Rattle.nfs_wire.specs.declared.attributes.SetTime.{SetTime}
 use Rattle.nfs_wire.specs.declared.attributes.SetTime.TheVariants.{Leave, ToServer, ToClient}
 use Rattle.nfs_wire.specs.declared.attributes.Time.{Time}
@@ -10,6 +10,9 @@ time_of moment = record { seconds = moment.seconds; nanoseconds = moment.nanosec
 
 abbrev pub is_earlier : Time → Time → Bool
 is_earlier a b = nat_lt a.seconds b.seconds || ((a.seconds == b.seconds) && nat_lt a.nanoseconds b.nanoseconds)
+
+abbrev pub same_time : Time → Time → Bool
+same_time a b = (a.seconds == b.seconds) && (a.nanoseconds == b.nanoseconds)
 
 -- one nanosecond later; the greatest time stays
 abbrev pub next : Time → Time
@@ -26,6 +29,17 @@ abbrev pub is_time : SetTime → Bool
 is_time Leave = true
 is_time ToServer = true
 is_time (ToClient t) = nat_le t.nanoseconds 999999999
+
+-- whose time is set
+abbrev pub is_client_time : SetTime → Bool
+is_client_time Leave = false
+is_client_time ToServer = false
+is_client_time (ToClient t) = true
+
+abbrev pub is_server_time : SetTime → Bool
+is_server_time Leave = false
+is_server_time ToServer = true
+is_server_time (ToClient t) = false
 
 -- a time that is set now (2.5: set_atime, set_mtime)
 abbrev pub set_time : Time → Time → SetTime → Time

@@ -1,10 +1,11 @@
 -- What is true of every state that a run comes to: names lead to living objects, and directories form one tree in each export.
-use Rattle.std.specs.Prelude.{◌≡◌, ℕ, ◌+◌, ◌<◌, ◌≤◌, true, false, List, [], ◌∷◌, ◌++◌, Some, None, find, ◌==◌, ◌⊎◌}
+use Rattle.std.specs.Prelude.{◌≡◌, ℕ, ◌+◌, ◌<◌, ◌≤◌, true, false, List, [], ◌∷◌, ◌++◌, length, Some, None, find, ◌==◌, ◌⊎◌}
 use Rattle.std.specs.List.{AllByRecursion}
 use Rattle.std.specs.FinMap.{get, insert}
 use Rattle.nfs_machine.specs.Attributes.{entries_of, is_directory, is_living_directory, names_in, names_of}
 use Rattle.nfs_machine.specs.Bytes.{same_bytes}
-use Rattle.nfs_machine.specs.State.{Directory, Entry, Living, State}
+use Rattle.nfs_machine.specs.Data.{text_limit}
+use Rattle.nfs_machine.specs.State.{Directory, Link, Entry, Living, State}
 
 -- each name once
 abbrev pub NamesOnce : List Entry → Type 0
@@ -28,6 +29,10 @@ pub record IsDirectoryOf (m : State) (directory : Living) : Type 0 where
   pub once : NamesOnce (entries_of directory.content)
   pub leads : AllByRecursion (Leads m directory) (entries_of directory.content)
 
+-- the text of each link is within its bound (3.3.10)
+abbrev pub TextsFit : State → Type 0
+TextsFit m = (n : ℕ) (o : Living) (text : List ℕ) → get m.objects n ≡ Some o → o.content ≡ Link text → length text ≤ text_limit
+
 pub record WellFormed (m : State) : Type 0 where
   pub names : (n : ℕ) (o : Living) → get m.objects n ≡ Some o → IsDirectoryOf m o
   pub cookies : (n : ℕ) (o : Living) (entries : List Entry) (last : ℕ) → get m.objects n ≡ Some o → o.content ≡ Directory entries last → CookiesRise 2 entries last
@@ -40,6 +45,7 @@ pub record WellFormed (m : State) : Type 0 where
       → AllByRecursion (λ (e : Entry). is_living_directory (get m.objects e.number) ≡ true → depth n < depth e.number) (entries_of o.content)
   -- the generation of what lives was given
   pub given : (n : ℕ) (o : Living) → get m.objects n ≡ Some o → m.spent n o.generation ≡ true
+  pub texts : TextsFit m
 
 -- the directory that a directory is named in; a root is its own parent
 pub record IsParent (m : State) (number parent : ℕ) : Type 0 where

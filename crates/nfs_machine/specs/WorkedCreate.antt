@@ -1,5 +1,5 @@
 -- CREATE worked through by hand: what a new file is, and what becomes of one that is there (RFC 1813, 3.3.8).
-use Rattle.std.specs.Prelude.{◌≡◌, ℕ, List, [], ◌∷◌, Option, Some, None, Result, Ok, Err, codes}
+use Rattle.std.specs.Prelude.{replicate, ◌≡◌, ℕ, List, [], ◌∷◌, Option, Some, None, Result, Ok, Err, codes}
 use Rattle.std.proofs.Common.{lit<}
 use Rattle.nfs_wire.specs.declared.attributes.SetAttributes.{SetAttributes}
 use Rattle.nfs_wire.specs.declared.attributes.SetTime.TheVariants.{ToClient}
@@ -10,7 +10,8 @@ use Rattle.nfs_wire.specs.declared.calls.Verifier.{Verifier}
 use Rattle.nfs_wire.specs.declared.status.NfsStatus.{NfsStatus}
 use Rattle.nfs_wire.specs.declared.status.NfsStatus.TheVariants as status
 use Rattle.nfs_machine.specs.Checks.{bytes_in}
-use Rattle.nfs_machine.specs.NameSteps.{create_over, given_attributes, new_object, no_attributes, with_entry}
+use Rattle.nfs_machine.specs.Making.{given_attributes, new_object, no_attributes, with_entry}
+use Rattle.nfs_machine.specs.NameSteps.{create_over}
 use Rattle.nfs_machine.specs.Opening.{opening_root}
 use Rattle.nfs_machine.specs.Shown.{with_content}
 use Rattle.nfs_machine.specs.State.{Regular, Directory, Living}
@@ -69,6 +70,10 @@ pub record WorkedNewFile : Type 0 where
 abbrev pub over : ℕ → CreateHow → Living → Result (Option Living) NfsStatus
 over uid how o = create_over (called_as uid) how o (bytes_in o.content)
 
+-- a verifier of EXCLUSIVE
+abbrev pub made_by : Verifier
+made_by = record { bytes = 1 ∷ 2 ∷ 3 ∷ 4 ∷ 5 ∷ 6 ∷ 7 ∷ 8 ∷ [] }
+
 -- what becomes of an object that has the name already
 pub record WorkedExisting : Type 0 where
   pub guarded : over 9 (Guarded no_attributes) (file [] (time 1000 0) None) ≡ Err status.Exists
@@ -79,4 +84,7 @@ pub record WorkedExisting : Type 0 where
   pub looked_up : over 5 (Unchecked no_attributes) (file [] (time 1000 0) None) ≡ Ok None
   pub too_big : over 9 (Unchecked (sized 1048577)) (file [] (time 1000 0) None) ≡ Err status.FileTooBig
   pub directory : over 9 (Unchecked no_attributes) (opening_root 1 (time 1000 0)) ≡ Err status.Exists
+  pub exclusive_directory : over 9 (Exclusive made_by) (opening_root 1 (time 1000 0)) ≡ Err status.Exists
+  pub own_maker : over 9 (Exclusive made_by) (file [] (time 1000 0) (Some made_by.bytes)) ≡ Ok None
+  pub another_maker : over 9 (Exclusive made_by) (file [] (time 1000 0) (Some (replicate 8 0))) ≡ Err status.Exists
   pub other_maker : (v : Verifier) → over 9 (Exclusive v) (file [] (time 1000 0) None) ≡ Err status.Exists

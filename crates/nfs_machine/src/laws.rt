@@ -1,20 +1,31 @@
 //! The laws of the machine.
 
-ghost use Rattle.nfs_machine.specs.Laws.{ArrivalsAskOnce, HandlesAreRead, HandlesAreWritten, RefusalsAreShort, RepliesAreShort, RunsGoOn, RunsJoin};
+ghost use Rattle.nfs_machine.specs.Laws.{ArrivalsAskOnce, HandlesAreRead, HandlesAreWritten, NeverGivenAgain, OpeningIsFormed, RefusalsAreShort, RefusalsChangeNothing, RepliesAreShort, RunsGoOn, RunsJoin, RunsKeepForm, StepsGiveOnce, StepsKeepForm};
+ghost use Rattle.nfs_machine.specs.LockLaws.{ListedLocksTell, OpeningIsApart, OpeningWaitsForNone, RunsKeepApart, RunsKeepWaiting, StepsKeepApart, StepsKeepWaiting};
+ghost use Rattle.nfs_machine.specs.Paging.{FullPagesFit, FullPagesList, PagesAreOne, PagesAreWhole, PagesExist, PagesFit, PagesList};
+ghost use Rattle.nfs_machine.specs.Readings.{ReadingsAreWhole};
+ghost use Rattle.nfs_machine.specs.SideLaws.{LocksStayFit, MountRefusalsChangeNothing, MountRepliesHaveForm, MountsStayFit, NlmMessagesHaveForm, NlmRefusalsChangeNothing, NlmRepliesHaveForm, OpeningFits, RunsStayFit, SpelledCallsFit};
+ghost use Rattle.nfs_machine.specs.TimeLaws.{RunsNeverFall, StepsTouchOnce, TimesNeverFall, TimesRise};
 
 use side_wire::{mount, nlm};
 
 /// A run goes on by one step from the state that it left.
+///
+/// Such a run is `worked_run`.
 pub fn runs_go_on()
     ensures { RunsGoOn }
 {}
 
 /// Two runs of which the second begins where the first ended are one run.
+///
+/// Such runs are the two records of `worked_run`.
 pub fn runs_join()
     ensures { RunsJoin }
 {}
 
 /// A handle and its bytes determine each other.
+///
+/// Such a handle and such bytes are in `worked_handles`.
 pub fn handles_go_both_ways()
     ensures read { HandlesAreRead }
     ensures written { HandlesAreWritten }
@@ -22,6 +33,8 @@ pub fn handles_go_both_ways()
 
 /// An arrival asks at most one call, under one context: its record has one header, and the header's arguments spell
 /// at their front at most one call of the procedure.
+///
+/// Such arrivals are in `worked_run`.
 pub fn arrivals_ask_once()
     ensures { ArrivalsAskOnce }
 {
@@ -30,8 +43,144 @@ pub fn arrivals_ask_once()
     nlm::one_call_is_spelled();
 }
 
-/// A reply of NFS has a spelling, which is shorter than a record may be; so has a refusal.
+/// A reply of NFS in a well-formed state has a spelling, which is shorter than a record may be; so has a refusal.
+///
+/// Such steps are in `worked_run` and `worked_steps`.
 pub fn replies_are_short()
     ensures replies { RepliesAreShort }
     ensures refusals { RefusalsAreShort }
+{}
+
+/// A directory that is read page by page from cookie 0 to its end, with any changes between, shows no cookie twice and
+/// each entry that stayed once.
+///
+/// Such pages are in `worked_reading`.
+pub fn pages_are_whole()
+    ensures { PagesAreWhole }
+{}
+
+/// What a page is determines it: of the same entries there is one page, or there is none.
+///
+/// Such pages, and entries without one, are in `worked_pages` and `worked_full_pages`.
+pub fn pages_are_one()
+    ensures one { PagesAreOne }
+    ensures exist { PagesExist }
+{}
+
+/// A page of READDIR or READDIRPLUS has no more bytes behind its status than the caller allows.
+///
+/// Such pages are in `worked_steps`.
+pub fn pages_fit()
+    ensures names { PagesFit }
+    ensures full { FullPagesFit }
+{}
+
+/// The time of a change is never before that of the change before it, and is later but at the greatest time. A step leaves
+/// an object as it is, or changes its time of change so, once; and in a run that of what lives under a handle never falls.
+///
+/// Times are worked through in `worked_times`. In `worked_run` the root lives under its handle to the end, and was changed.
+pub fn times_of_changes_rise()
+    ensures never_fall { TimesNeverFall }
+    ensures rise { TimesRise }
+    ensures steps { StepsTouchOnce }
+    ensures runs { RunsNeverFall }
+{}
+
+/// A page that READDIR or READDIRPLUS answers is one of the directory that the handle names, whose cookies rise: so
+/// such pages, each behind the one before, are a reading in the sense of `pages_are_whole`.
+///
+/// Such pages are in `worked_steps`.
+pub fn pages_list_directories()
+    ensures names { PagesList }
+    ensures full { FullPagesList }
+{}
+
+/// A directory that is read page by page in a run, by READDIR or READDIRPLUS, from cookie 0 to its end, with any records
+/// between, shows no cookie twice and each entry that stayed once, if all states of the run are well-formed.
+///
+/// Such a reading is `worked_turns`.
+pub fn readings_are_whole()
+    ensures { ReadingsAreWhole }
+{}
+
+/// A call of NFS that is refused changes nothing and puts no message.
+///
+/// Such a call is in `worked_steps`.
+pub fn refusals_change_nothing()
+    ensures { RefusalsChangeNothing }
+{}
+
+/// A handle is given once. What a step leaves alive lived before it under the same handle, or has one that was never
+/// given before and is given from now on; and in a run nothing new lives under a handle that was given before the run.
+///
+/// Such a run is `worked_run`, in which a handle is given and the root keeps its own.
+pub fn handles_are_given_once()
+    ensures steps { StepsGiveOnce }
+    ensures runs { NeverGivenAgain }
+{}
+
+/// What is true of the state that a server starts with stays true: names lead to living objects of their export, the directories of an export form
+/// one tree, cookies rise, and the texts of links are within their bound.
+///
+/// Such a run is `worked_run`.
+pub fn states_stay_well_formed()
+    ensures opening { OpeningIsFormed }
+    ensures steps { StepsKeepForm }
+    ensures runs { RunsKeepForm }
+{}
+
+/// No two owners ever have locks that conflict at an offset, or shares that conflict.
+///
+/// Such a run is `worked_run`. Locks are held and given back in `worked_locking`.
+pub fn owners_never_conflict()
+    ensures opening { OpeningIsApart }
+    ensures steps { StepsKeepApart }
+    ensures runs { RunsKeepApart }
+{}
+
+/// A request waits only while it conflicts with what is held of its file.
+///
+/// Such a run is `worked_run`. A request waits in `worked_locking`, and requests are granted in `worked_settling`.
+pub fn waiting_requests_conflict()
+    ensures opening { OpeningWaitsForNone }
+    ensures steps { StepsKeepWaiting }
+    ensures runs { RunsKeepWaiting }
+{}
+
+/// A reply of MOUNT or NLM has a spelling, and so has each message, where the byte strings of the call and of what is exported,
+/// mounted, held and waited for are within the bounds of the two programs.
+///
+/// Such steps are in `worked_locking`, from a state that `bounds_are_kept` speaks of.
+pub fn side_replies_have_forms()
+    ensures mount { MountRepliesHaveForm }
+    ensures nlm { NlmRepliesHaveForm }
+    ensures messages { NlmMessagesHaveForm }
+{}
+
+/// What is mounted, held and waited for is always within those bounds: a server starts so, each call of any program leaves it
+/// so, and so does a run. The byte strings of a call are within them, since it is spelled; that the name of a host that
+/// calls is, has to be given.
+///
+/// Such a run is `worked_run`, and such steps are in `worked_locking`.
+pub fn bounds_are_kept()
+    ensures opening { OpeningFits }
+    ensures calls { SpelledCallsFit }
+    ensures mounts { MountsStayFit }
+    ensures locks { LocksStayFit }
+    ensures runs { RunsStayFit }
+{}
+
+/// A call of MOUNT or NLM that is refused changes nothing and puts no message.
+///
+/// Such calls are in `worked_locking`.
+pub fn side_refusals_change_nothing()
+    ensures mount { MountRefusalsChangeNothing }
+    ensures nlm { NlmRefusalsChangeNothing }
+{}
+
+/// A lock conflicts with nothing where no listed lock stands in its way.
+///
+/// Such locks and ranges are in `worked_tests`.
+pub fn listed_locks_tell()
+    ensures { ListedLocksTell }
 {}

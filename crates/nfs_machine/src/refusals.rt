@@ -1,15 +1,20 @@
 //! What a call is answered for want of memory (RFC 1813, section 2.6: NFS3ERR_JUKEBOX; RFC 5531, section 9: SYSTEM_ERR).
 
-ghost use Rattle.std.specs.Prelude.{◌≡◌};
-ghost use Rattle.nfs_machine.specs.Refusal.{mount_refusal, nfs_refusal, refusal_by, refusal_of};
+ghost use Rattle.std.specs.Prelude.{◌≡◌, true, is_some, IfOk, OnErr};
+ghost use Rattle.nfs_machine.specs.Refusal.{mount_refusal, nfs_refusal, nlm_refusal, no_locks, refusal_by, refusal_of, returns_cookie};
 
 use crate::calls::{Call, Refusal, Reply};
+use bytes::Bytes;
 use nfs_wire::{
     AccessReply, CommitReply, FsinfoReply, FsstatReply, LinkedReply, LookupReply, MadeReply,
     NfsCall, NfsReply, NfsStatus, PathconfReply, ReadReply, ReaddirReply, ReaddirplusReply,
     ReadlinkReply, RemovedReply, RenamedReply, SetattrReply, Wcc, WriteReply,
 };
-use side_wire::{MountCall, MountReply, MountStatus};
+use side_wire::{
+    MountCall, MountReply, MountStatus, NlmCall, NlmReply, NlmResult, NlmStatus, TestResult,
+    TestStatus,
+};
+use std::alloc::AllocError;
 
 /// Nothing is shown of an object.
 const NOTHING: Wcc = Wcc {
@@ -18,15 +23,20 @@ const NOTHING: Wcc = Wcc {
 };
 
 impl Call {
-    /// What this call is answered where it cannot be executed for want of memory. It takes no memory itself.
+    /// What this call is answered where it cannot be executed for want of memory.
+    ///
+    /// # Errors
+    ///
+    /// The refusal gives a cookie back, which could not be shared. No other refusal takes memory.
     #[tactic(auto, unfolding(crate::specs::Refusal::refusal_of))]
-    pub fn refusal(&self) -> Refusal
-        ensures { result ≡ refusal_of self.now }
+    pub fn refusal(&self) -> Result<Refusal, AllocError>
+        ensures ok { IfOk result (λ refusal. refusal ≡ refusal_of self.now) }
+        ensures err { OnErr result (returns_cookie self.now ≡ true) }
     {
         match self {
-            Call::Nfs(call) => refusal_by(nfs_refusal(call).map(Reply::Nfs)),
-            Call::Mount(call) => refusal_by(mount_refusal(call).map(Reply::Mount)),
-            Call::Nlm(_) => Refusal::SystemError,
+            Call::Nfs(call) => Ok(refusal_by(nfs_refusal(call).map(Reply::Nfs))),
+            Call::Mount(call) => Ok(refusal_by(mount_refusal(call).map(Reply::Mount))),
+            Call::Nlm(call) => Ok(refusal_by(nlm_refusal(call)?.map(Reply::Nlm))),
         }
     }
 }
@@ -136,7 +146,52 @@ fn mount_refusal(call: &MountCall) -> Option<MountReply>
     ensures { result ≡ mount_refusal call.now }
 {
     match call {
-        MountCall::Null => None,
         MountCall::Mnt(_) => Some(MountReply::Mnt(Err(MountStatus::ServerFault))),
+        MountCall::Null
+        | MountCall::Dump
+        | MountCall::Unmount(_)
+        | MountCall::UnmountAll
+        | MountCall::Export => None,
     }
+}
+
+fn nlm_refusal(call: &NlmCall) -> Result<Option<NlmReply>, AllocError>
+    ensures ok { IfOk result (λ reply. reply ≡ nlm_refusal call.now) }
+    ensures err { OnErr result (is_some (nlm_refusal call.now) ≡ true) }
+{
+    Ok(match call {
+        NlmCall::Test(arguments) => Some(NlmReply::Test(TestResult {
+            cookie: arguments.cookie.clone()?,
+            status: TestStatus::DeniedNoLocks,
+        })),
+        NlmCall::Lock(arguments) => Some(NlmReply::Lock(no_locks(&arguments.cookie)?)),
+        NlmCall::Cancel(arguments) => Some(NlmReply::Cancel(no_locks(&arguments.cookie)?)),
+        NlmCall::Unlock(arguments) => Some(NlmReply::Unlock(no_locks(&arguments.cookie)?)),
+        NlmCall::Granted(arguments) => Some(NlmReply::Granted(no_locks(&arguments.cookie)?)),
+        NlmCall::Share(arguments) => Some(NlmReply::Share(no_locks(&arguments.cookie)?)),
+        NlmCall::Unshare(arguments) => Some(NlmReply::Unshare(no_locks(&arguments.cookie)?)),
+        NlmCall::NmLock(arguments) => Some(NlmReply::NmLock(no_locks(&arguments.cookie)?)),
+        NlmCall::Null
+        | NlmCall::TestMsg(_)
+        | NlmCall::LockMsg(_)
+        | NlmCall::CancelMsg(_)
+        | NlmCall::UnlockMsg(_)
+        | NlmCall::GrantedMsg(_)
+        | NlmCall::TestRes(_)
+        | NlmCall::LockRes(_)
+        | NlmCall::CancelRes(_)
+        | NlmCall::UnlockRes(_)
+        | NlmCall::GrantedRes(_)
+        | NlmCall::FreeAll(_) => None,
+    })
+}
+
+/// The lock is denied for want of memory, with the caller's cookie.
+fn no_locks(cookie: &Bytes) -> Result<NlmResult, AllocError>
+    ensures { IfOk result (λ answer. answer ≡ no_locks cookie.now) }
+{
+    Ok(NlmResult {
+        cookie: cookie.clone()?,
+        status: NlmStatus::DeniedNoLocks,
+    })
 }

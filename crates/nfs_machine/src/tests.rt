@@ -3,7 +3,10 @@ use crate::{Call, Ctx, ExportError, ExportText, Exports, Handle, Limits, Moment,
 use bytes::Bytes;
 use nfs_rpc::{Gids, Ids};
 use nfs_wire::{NfsCall, NfsReply, NfsStatus};
-use side_wire::{MountCall, MountReply, MountStatus, NlmCall, NlmReply};
+use side_wire::{
+    FreeAllArguments, LockArguments, MountCall, MountReply, MountStatus, NlmCall, NlmLock,
+    NlmReply, NlmResult, NlmStatus, TestArguments, TestResult, TestStatus,
+};
 use std::alloc::{AllocError, Global};
 use std::test::Fail;
 
@@ -196,8 +199,63 @@ fn each_call_has_its_refusal(rt: HostRuntime) -> Result<(), Fail> {
         ),
         (Call::Nlm(NlmCall::Null), Refusal::SystemError),
     ] {
-        assert_eq!(rt; call.refusal(), want);
+        assert_eq!(rt; call.refusal()?, want);
     }
+    Ok(())
+}
+
+/// A lock on the whole of a file.
+fn lock() -> NlmLock {
+    NlmLock {
+        caller_name: Bytes::from_static(b"host"),
+        file: Bytes::from_static(&ROOT),
+        owner: Bytes::from_static(b"owner"),
+        process: 1,
+        offset: 0,
+        length: 0,
+    }
+}
+
+#[test]
+fn lock_is_refused_with_its_cookie(rt: HostRuntime) -> Result<(), Fail> {
+    let call = Call::Nlm(NlmCall::Lock(LockArguments {
+        cookie: Bytes::from_static(b"cookie"),
+        block: true,
+        exclusive: true,
+        lock: lock(),
+        reclaim: false,
+        state: 3,
+    }));
+    let want = NlmReply::Lock(NlmResult {
+        cookie: Bytes::from_static(b"cookie"),
+        status: NlmStatus::DeniedNoLocks,
+    });
+    assert_eq!(rt; call.refusal()?, Refusal::Reply(Reply::Nlm(want)));
+    Ok(())
+}
+
+#[test]
+fn test_is_refused_with_its_cookie(rt: HostRuntime) -> Result<(), Fail> {
+    let call = Call::Nlm(NlmCall::Test(TestArguments {
+        cookie: Bytes::from_static(b"cookie"),
+        exclusive: true,
+        lock: lock(),
+    }));
+    let want = NlmReply::Test(TestResult {
+        cookie: Bytes::from_static(b"cookie"),
+        status: TestStatus::DeniedNoLocks,
+    });
+    assert_eq!(rt; call.refusal()?, Refusal::Reply(Reply::Nlm(want)));
+    Ok(())
+}
+
+#[test]
+fn free_all_has_no_status_to_be_refused_by(rt: HostRuntime) -> Result<(), Fail> {
+    let call = Call::Nlm(NlmCall::FreeAll(FreeAllArguments {
+        name: Bytes::from_static(b"host"),
+        state: 3,
+    }));
+    assert_eq!(rt; call.refusal()?, Refusal::SystemError);
     Ok(())
 }
 

@@ -3,6 +3,15 @@
 ghost use Rattle.nfs_machine.specs.Worked.{WorkedExports, WorkedHandles, WorkedPaths, WorkedRights, WorkedWalks};
 ghost use Rattle.nfs_machine.specs.WorkedFiles.{WorkedContent, WorkedNames, WorkedTimes};
 ghost use Rattle.nfs_machine.specs.WorkedCreate.{WorkedAttributes, WorkedExisting, WorkedNewFile};
+ghost use Rattle.nfs_machine.specs.WorkedLocking.{WorkedLocking};
+ghost use Rattle.nfs_machine.specs.WorkedLocks.{WorkedGrants, WorkedMounts, WorkedRanges, WorkedShares, WorkedTests};
+ghost use Rattle.nfs_machine.specs.WorkedPages.{WorkedFullPages, WorkedPages, WorkedReading, WorkedSizes};
+ghost use Rattle.nfs_machine.specs.WorkedReplies.{WorkedFileReplies, WorkedRootReplies};
+ghost use Rattle.nfs_machine.specs.WorkedRun.{WorkedRun, WorkedSteps, WorkedTurns};
+ghost use Rattle.nfs_machine.specs.WorkedSetting.{WorkedAccess, WorkedGuard, WorkedKinds, WorkedLimits, WorkedSetting, WorkedSpace};
+ghost use Rattle.nfs_machine.specs.WorkedSettling.{WorkedFreed, WorkedSettling};
+ghost use Rattle.nfs_machine.specs.WorkedWrites.{WorkedWrites};
+ghost use Rattle.nfs_machine.specs.WorkedNames.{WorkedLinks, WorkedMakes, WorkedRemovals, WorkedRenames, WorkedSpecialNames};
 
 /// Which paths are at fault, and which parts a path has.
 pub fn worked_paths()
@@ -44,6 +53,11 @@ pub fn worked_content()
     ensures { WorkedContent }
 {}
 
+/// What WRITE makes of a file, and what it refuses.
+pub fn worked_writes()
+    ensures { WorkedWrites }
+{}
+
 /// What a new object may be given.
 pub fn worked_attributes()
     ensures { WorkedAttributes }
@@ -57,4 +71,144 @@ pub fn worked_new_file()
 /// What CREATE makes of an object that has the name already.
 pub fn worked_existing()
     ensures { WorkedExisting }
+{}
+
+/// What the guard of SETATTR refuses, and what SETATTR makes of an object.
+pub fn worked_guard()
+    ensures { WorkedGuard }
+{}
+
+/// Who may set what.
+pub fn worked_setting()
+    ensures { WorkedSetting }
+{}
+
+/// Which rights ACCESS grants.
+pub fn worked_access()
+    ensures { WorkedAccess }
+{}
+
+/// Which kinds of object have a text or bytes.
+pub fn worked_kinds()
+    ensures { WorkedKinds }
+{}
+
+/// The room that FSSTAT tells.
+pub fn worked_space()
+    ensures { WorkedSpace }
+{}
+
+/// What FSINFO and PATHCONF tell.
+pub fn worked_limits()
+    ensures { WorkedLimits }
+{}
+
+/// Pages of READDIR, and where there is none.
+pub fn worked_pages()
+    ensures { WorkedPages }
+{}
+
+/// A reading in three pages, with changes between.
+pub fn worked_reading()
+    ensures { WorkedReading }
+{}
+
+/// Pages of READDIRPLUS.
+pub fn worked_full_pages()
+    ensures { WorkedFullPages }
+{}
+
+/// What entries take of a page, and which cookies go on.
+pub fn worked_sizes()
+    ensures { WorkedSizes }
+{}
+
+/// Whole replies about a file.
+pub fn worked_file_replies()
+    ensures { WorkedFileReplies }
+{}
+
+/// Whole replies about the root of a fresh export.
+pub fn worked_root_replies()
+    ensures { WorkedRootReplies }
+{}
+
+/// How ".", ".." and names that are too long are judged where a name is made, taken away or moved.
+pub fn worked_special_names()
+    ensures { WorkedSpecialNames }
+{}
+
+/// What MKDIR, SYMLINK and MKNOD make, and what they refuse.
+pub fn worked_makes()
+    ensures { WorkedMakes }
+{}
+
+/// What REMOVE and RMDIR take away, and what becomes of an object that loses a name.
+pub fn worked_removals()
+    ensures { WorkedRemovals }
+{}
+
+/// How many links an object may have, and which names are free.
+pub fn worked_links()
+    ensures { WorkedLinks }
+{}
+
+/// What RENAME comes to.
+pub fn worked_renames()
+    ensures { WorkedRenames }
+{}
+
+/// Ranges of locks, and the modes that calls leave on them.
+pub fn worked_ranges()
+    ensures { WorkedRanges }
+{}
+
+/// What TEST answers beside the locks of another owner.
+pub fn worked_tests()
+    ensures { WorkedTests }
+{}
+
+/// Which shares can be had together.
+pub fn worked_shares()
+    ensures { WorkedShares }
+{}
+
+/// Numbers of grants, and their cookies.
+pub fn worked_grants()
+    ensures { WorkedGrants }
+{}
+
+/// What DUMP and EXPORT list, what UMNT and UMNTALL take away, and where MNT leads with one export below another.
+pub fn worked_mounts()
+    ensures { WorkedMounts }
+{}
+
+/// Which requests that wait are granted, and in which order, when a lock is given back.
+pub fn worked_settling()
+    ensures { WorkedSettling }
+{}
+
+/// What FREE_ALL grants, and what becomes of a grant that is answered.
+pub fn worked_freed()
+    ensures { WorkedFreed }
+{}
+
+/// A run of two records: a file is made, and written.
+pub fn worked_run()
+    ensures { WorkedRun }
+{}
+
+/// Where the run ends, a directory is listed and a file removed; and a WRITE that is refused.
+pub fn worked_steps()
+    ensures { WorkedSteps }
+{}
+
+/// A reading of a directory in two pages, with a WRITE between them.
+pub fn worked_turns()
+    ensures { WorkedTurns }
+{}
+
+/// A LOCK, an UNLOCK of a part of it, a LOCK that waits and an NM_LOCK that is denied; MNT, and one that is refused.
+pub fn worked_locking()
+    ensures { WorkedLocking }
 {}

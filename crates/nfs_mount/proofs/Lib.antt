@@ -1,5 +1,6 @@
 pub mod Answered
 pub mod Best
+pub mod Few
 pub mod Fronts
 pub mod Parts
 pub mod Stored

@@ -38,7 +38,7 @@ module _ (s : Store) (m : State) (table : List Mount) where
       let after : State = record m { mounts = map mounted_of table } in record {
         links = λ n i at. sound.links n i at ∙ sym (links-alike m after alike (λ n. refl) n (content_of i.content));
         parents = λ n i d at is. parent-alike m after alike n d.parent (sound.parents n i d at is);
-        well_formed = well_formed-alike m after alike (λ n. refl) (λ n g given. given) sound.well_formed;
+        well_formed = well_formed-alike m after alike (λ n. refl) (λ n g given. given) sound.well_formed.texts sound.well_formed;
       }
 
   pub mounts_roots : (exports : List ExportValue) → RootsLive exports m → RootsLive exports (record m { mounts = map mounted_of table })

@@ -67,7 +67,7 @@ entries-other i contents.Socket is of = rw is refl
 entries-other i contents.Fifo is of = rw is refl
 
 module _ (at : ℕ → Option Living) (number : ℕ) where
-  walk-refused : (status : MountStatus) (names : List (List ℕ)) → entries_at (at number) ≡ Err status → walk at number names ≡ Err status
+  pub walk-refused : (status : MountStatus) (names : List (List ℕ)) → entries_at (at number) ≡ Err status → walk at number names ≡ Err status
   unfolding walk
   walk-refused status [] e = rw e refl
   walk-refused status (name ∷ names) e = rw e refl

@@ -1,3 +1,4 @@
+pub mod Calls
 pub mod Choices
 pub mod Fronts
 pub mod Needs

@@ -51,3 +51,4 @@ MntAsks ctx view path (Done done) = Unit {0}
 abbrev pub MountAsks : Ctx → ViewValue → MountCall → Outcome → Type 0
 MountAsks ctx view calls.Null outcome = AsksFor [] outcome
 MountAsks ctx view (calls.Mnt path) outcome = MntAsks ctx view path outcome
+MountAsks ctx view call outcome = AsksFor [] outcome

@@ -6,8 +6,10 @@
 //! NULL and MNT. It stands on `nfs_objects` for views and ends, and on `nfs_machine` for exports, handles and the steps.
 #![tactic(auto)]
 
-ghost use Rattle.std.specs.Prelude.{[], IfOk};
+ghost use Rattle.std.specs.Prelude.{◌≡◌, true, [], IfOk};
+ghost use Rattle.nfs_mount.specs.Calls.{is_mount_call};
 ghost use Rattle.nfs_mount.specs.Needs.{MountAsks};
+ghost use Rattle.nfs_objects.specs.Rounds.{AsksFewOfSound};
 ghost use Rattle.nfs_objects.specs.Attempt.{AsksFor, Attempts};
 
 mod choice;
@@ -20,7 +22,7 @@ use nfs_objects::{Outcome, View, unchanged};
 use side_wire::{MountCall, MountReply};
 use std::alloc::{AllocError, Global};
 
-/// Tries a call on a view.
+/// Tries a call of one of this crate's procedures on a view.
 ///
 /// NULL asks for nothing. MNT refuses a path that no directory can have, or that no export leads the host to, without
 /// asking. Else it walks from the root of the longest such export, through the directories that the view shows, and asks
@@ -36,12 +38,16 @@ pub fn attempt(
     ctx: &Ctx,
     view: &View,
 ) -> Result<Outcome, AllocError>
+    requires { is_mount_call call.now ≡ true }
     ensures attempts { IfOk result (λ outcome. Attempts (Call.Mount call.now) ctx.now view.now outcome) }
     ensures asks { IfOk result (MountAsks ctx.now view.now call.now) }
+    // In every sound store that the view fits, it and all that is asked for lie among the store's addresses and at most 256 others.
+    ensures few { AsksFewOfSound ctx.now.exports (λ v. MountAsks ctx.now v call.now) }
 {
     match call {
         MountCall::Null => null(alloc, ctx, view),
         MountCall::Mnt(path) => mount::mnt(alloc, path, ctx, view),
+        _ => unreachable!(),
     }
 }
 

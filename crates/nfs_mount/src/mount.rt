@@ -112,10 +112,11 @@ fn grant(
         fileid: number,
         generation: inode.generation,
     };
-    let call = Call::Mount(MountCall::Mnt(path.clone()?));
+    let table = with_mount(alloc, known, &ctx.host, path)?;
     let bytes = Bytes::copy_from_slice(alloc, &handle.bytes())?;
+    let call = Call::Mount(MountCall::Mnt(path.clone()?));
     let reply = Reply::Mount(MountReply::Mnt(Ok(bytes)));
-    match with_mount(alloc, known, &ctx.host, path)? {
+    match table {
         Some(table) => store_mounts(alloc, call, ctx, view, table, reply),
         None => unchanged(alloc, call, ctx, view, reply),
     }

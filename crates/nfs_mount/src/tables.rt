@@ -1,6 +1,6 @@
 //! The table of mounts (RFC 1813, appendix I, 5.2.1): what a call makes of it.
 
-ghost use Rattle.std.specs.Prelude.{◌≡◌, [], ◌∷◌, map, IfOk, option_map, Some};
+ghost use Rattle.std.specs.Prelude.{◌≡◌, IfOk, option_map, Some};
 ghost use Rattle.std.specs.Arc.{arc_value};
 ghost use Rattle.nfs_objects.specs.Attempt.{Attempts, IsDone};
 ghost use Rattle.nfs_objects.specs.Values.{write_value};
@@ -41,18 +41,17 @@ pub fn store_mounts(
     ensures attempts { IfOk result (λ outcome. Attempts call ctx.now view.now outcome) }
     ensures done { IfOk result (IsDone (mounts_stored call ctx.now view.now table reply)) }
 {
-    let writes = write_mounts(alloc, table)?;
-    ended(alloc, call, ctx, view, writes, reply)
+    let mut writes = Vec::with_capacity(alloc, 1)?;
+    writes.push(write_mounts(alloc, table)?)?;
+    ended(alloc, call, ctx, view, writes, Vec::new(alloc), reply)
 }
 
-fn write_mounts(alloc: Global, table: MountTable) -> Result<Vec<Write>, AllocError>
-    ensures { IfOk result (λ writes. map write_value writes.items ≡ (Addr.Mounts, Some (Object.Mounts table)) ∷ []) }
+fn write_mounts(alloc: Global, table: MountTable) -> Result<Write, AllocError>
+    ensures { IfOk result (λ write. write_value write ≡ (Addr.Mounts, Some (Object.Mounts table))) }
 {
     let object = Arc::new(alloc, Object::Mounts(table))?;
-    let mut writes = Vec::with_capacity(alloc, 1)?;
-    writes.push(Write {
+    Ok(Write {
         address: Addr::Mounts,
         object: Some(object),
-    })?;
-    Ok(writes)
+    })
 }

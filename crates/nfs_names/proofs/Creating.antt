@@ -1,6 +1,6 @@
 -- CREATE's answer is a step in every sound store that the view fits: what is refused and what changes nothing, a file that gets another size,
 -- and a new file under a new name.
-use Rattle.std.proofs.Common.{◌≡◌, ◌==◌, ℕ, ◌+◌, ◌<◌, ◌^◌, true, false, Bool, cond, nat_lt, List, [], ◌∷◌, not, Option, Some, None, option_map, unwrap_or, IsSomeAnd, slice_get, Result, Ok, Err, refl, sym, ap, ◌∙◌, subst}
+use Rattle.std.proofs.Common.{◌≡◌, ◌==◌, ℕ, ◌+◌, ◌<◌, ◌^◌, true, false, Bool, cond, nat_lt, List, [], ◌∷◌, not, Option, Some, None, option_map, unwrap_or, IsSomeAnd, slice_get, Result, Ok, Err, refl, sym, ap, ◌∙◌, subst, arith}
 use Rattle.std.proofs.lemmas.Bool.{ltb-true}
 use Rattle.std.specs.Cmp.{unsigned_Decides}
 use Rattle.std.specs.FinMap.{get}
@@ -30,8 +30,8 @@ use Rattle.nfs_machine.specs.Times.{time_of, touch}
 use Rattle.nfs_machine.specs.declared.calls.Call.TheVariants as calls
 use Rattle.nfs_machine.specs.declared.calls.Reply.TheVariants as answers
 use Rattle.nfs_machine.specs.declared.context.Ctx.{Ctx}
-use Rattle.nfs_objects.proofs.Entered.{created_represented, created_sound, free, linked-made, linked-wider, makes, never_given, stored-place}
-use Rattle.nfs_objects.proofs.Replaced.{rewritten_represented, rewritten_sound}
+use Rattle.nfs_objects.proofs.Entered.{created_represented, free, linked-made, linked-wider, makes, never_given, stored-place}
+use Rattle.nfs_objects.proofs.Replaced.{rewritten_links, rewritten_represented}
 use Rattle.nfs_objects.proofs.Seen.{fits_at, lives-seen}
 use Rattle.nfs_objects.specs.Endings.{Creates, HoldsUnchanged, IsCreation, KeepsPlace, Rewrites, with_created, with_name}
 use Rattle.nfs_objects.specs.Entries.{leaf_of}
@@ -325,12 +325,12 @@ module _ (ctx : Ctx) (view : ViewValue) (a : CreateArguments) where
                   ap (λ b. cond b (Some (objects.Inode new)) (s.at (addresses.Inode number))) apart ∙ fits_at view.entries s.at (addresses.Inode number) (Some (objects.Inode i)) fits.entries means.1 in
                   let put : put_at s.at (addresses.Inode n) (Some (objects.Inode new)) (addresses.Inode n) ≡ Some (objects.Inode new) =
                   ap (λ b. cond b (Some (objects.Inode new)) (s.at (addresses.Inode n))) ((unsigned_Decides n n).1 refl) in
-                  let stood = rewritten_sound s m n o new at keeps stands sound in
+                  let linked = rewritten_links s m n o new at keeps stands sound in
                   let lives = (rewritten_represented s m n o new at keeps stands sound).objects number ∙ ap living_of here in
-                  let same = made-same told _ _ tells.handle (some-made m1 n new told.attributes tells.attributes (stood.links n new put)) in
+                  let same = made-same told _ _ tells.handle (some-made m1 n new told.attributes tells.attributes (linked n new put)) in
                   step-here s m m1 (Ok d) (Ok (made m1 ctx n (living_of_inode new), m1)) reply i stands fits checked
                   (subst (λ x. EndsAs m x (Ok (made m1 ctx n (living_of_inode new), m1))) (sym (existing s m (Ok (Some (living_of_inode new))) stands fits is)) refl) shows
-                  (λ shown sh. ap (λ x. Some x) (shown-attributes m1 number i shown sh (stood.links number i here)) ∙ ap (λ k. option_map (attributes_of m1 number) k) (sym lives))
+                  (λ shown sh. ap (λ x. Some x) (shown-attributes m1 number i shown sh (linked number i here)) ∙ ap (λ k. option_map (attributes_of m1 number) k) (sym lives))
                   (result ∙ ap (λ x. Ok x) same) refl;
             }
 
@@ -362,6 +362,12 @@ module _ (ctx : Ctx) (view : ViewValue) (a : CreateArguments) where
           generation : object.generation ≡ reserved.generation
           generation = ap (λ (l : Living). l.generation) living
 
+          no_directory : is_directory (content_of object.content) ≡ false
+          no_directory = ap (λ (l : Living). is_directory l.content) living
+
+          no_more : (a b : ℕ) (t : Bool) → a ≡ b → t ≡ false → a ≡ b + cond {A = ℕ} t 1 0
+          no_more a b t e f = let none : cond {A = ℕ} t 1 0 ≡ 0 = ap (λ x. cond x 1 0) f in omega (arith, e, none)
+
           is_creation : IsCreation ctx view creation
           is_creation =
               let passed = checks-passed (new_name_checked a.place.name) (changeable ctx (living_of_inode i)) (permitted ctx (living_of_inode i) Changing) i.content d checked in
@@ -379,10 +385,10 @@ module _ (ctx : Ctx) (view : ViewValue) (a : CreateArguments) where
                 wider = ap (λ (x : Inode). x.content) wider_is;
                 wider_export = ap (λ (x : Inode). x.export) wider_is;
                 wider_generation = ap (λ (x : Inode). x.generation) wider_is;
-                wider_links = ap (λ (x : Inode). x.links) wider_is;
+                wider_links = no_more wider.links i.links (is_directory (content_of object.content)) (ap (λ (x : Inode). x.links) wider_is) no_directory;
                 made_export = ap (λ (l : Living). l.export) living;
-                made_kind = ap (λ (l : Living). is_directory l.content) living;
-                made_links = links;
+                made_links = links ∙ sym (ap (λ b. cond {A = ℕ} b 2 1) no_directory);
+                made_directory = λ x is. absurd (let yes : true ≡ false = sym (ap (λ y. is_directory (content_of y)) is) ∙ no_directory in cc);
               }
 
           module _ (s : Store) (m : State) (stands : Represents s m) (sound : Sound s m) (roots : RootsLive ctx.exports m) (fits : Fits view s) where
@@ -428,7 +434,6 @@ module _ (ctx : Ctx) (view : ViewValue) (a : CreateArguments) where
             created-step : (reply : MadeReply) (told : Made) → ShowsWcc number i wider reply.directory → reply.result ≡ Ok told → ShowsMade ctx reserved.number object told
                 → NfsStep m ctx (nfs.Create a) (replies.Create reply) [] m1
             created-step reply told shows result tells =
-                let stood = created_sound ctx view creation is_creation s m stands sound roots fits in
                 let here = stored-place ctx view creation is_creation s m stands sound roots fits in
                 let lives = (created_represented ctx view creation is_creation s m stands sound roots fits).objects number ∙ ap living_of here in
                 let same = made-same told _ _ tells.handle (some-made m1 reserved.number object told.attributes tells.attributes (linked-made ctx view creation is_creation s m stands sound roots fits)) in

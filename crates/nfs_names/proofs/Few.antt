@@ -1,5 +1,5 @@
 -- Each procedure asks first for its directory, and then, as that says, for what the name leads to, for a new number, or for nothing.
-use Rattle.std.proofs.Common.{◌≡◌, ℕ, Bool, true, false, cond, List, [], ◌∷◌, Option, Some, None, Result, Ok, Err, nat_eq, ◌&&◌, slice_get, refl, sym}
+use Rattle.std.proofs.Common.{◌≡◌, ℕ, true, false, cond, List, [], Option, Some, None, Result, Ok, Err, nat_eq, ◌&&◌, refl, sym}
 use Rattle.nfs_wire.specs.declared.calls.CreateArguments.{CreateArguments}
 use Rattle.nfs_wire.specs.declared.calls.CreateHow.{CreateHow}
 use Rattle.nfs_wire.specs.declared.calls.NfsCall.{NfsCall}
@@ -20,7 +20,7 @@ use Rattle.nfs_objects.specs.declared.address.Addr.TheVariants as addresses
 use Rattle.nfs_objects.specs.declared.directory.Directory.{Directory}
 use Rattle.nfs_objects.specs.declared.object.Inode.{Inode}
 use Rattle.nfs_objects.specs.declared.object.Object.{Object}
-use Rattle.nfs_inodes.specs.Found.{FoundValue, BadHandle, Stale, Names, Unread, found_by, found_inode, found_known, is_inode_of}
+use Rattle.nfs_inodes.specs.Found.{FoundValue, BadHandle, Stale, Names, found_by, found_inode, found_known, is_inode_of}
 use Rattle.nfs_names.specs.Calls.{is_name_call}
 use Rattle.nfs_names.specs.Wanted.{checked_wanted, create_wanted, directory_checked, entry_wanted, looked_up, lookup_wanted, new_judged, new_wanted, object_wanted, wanted}
 

@@ -6,17 +6,18 @@ use Rattle.std.proofs.lemmas.Bool.Decides.{leb_tells}
 use Rattle.std.specs.Cmp.{nat_eq_equiv, unsigned_Decides}
 use Rattle.std.specs.FinMap.{get, insert}
 use Rattle.std.specs.List.{AllByRecursion}
-use Rattle.nfs_machine.proofs.Entered.{links-kept, links-made, links-wider, lives-on, parent-kept, well_formed-made}
+use Rattle.nfs_machine.proofs.Entered.{links-kept, links-made, links-wider, lives-on, parent-kept, parent-made}
+use Rattle.nfs_machine.proofs.Kept.{steps_keep_form}
 use Rattle.nfs_machine.specs.Attributes.{entries_of, is_directory, links_of}
 use Rattle.nfs_machine.specs.State.{Living, State}
 use Rattle.nfs_machine.specs.State as machine
-use Rattle.nfs_machine.specs.WellFormed.{IsParent, MakesEntry}
+use Rattle.nfs_machine.specs.WellFormed.{IsParent, MakesEntry, WellFormed}
 use Rattle.nfs_machine.specs.declared.calls.Call.{Call}
 use Rattle.nfs_machine.specs.declared.calls.Reply.{Reply}
 use Rattle.nfs_machine.specs.declared.context.Ctx.{Ctx}
 use Rattle.nfs_objects.proofs.Replaced.{found-put, last-kept, lives-put}
 use Rattle.nfs_objects.proofs.Seen.{fits_at}
-use Rattle.nfs_objects.specs.Endings.{Creates, IsCreation, creation_stored, with_created}
+use Rattle.nfs_objects.specs.Endings.{Creates, IsCreation, creation_stored, new_directory, with_created}
 use Rattle.nfs_objects.specs.Fits.{Fits}
 use Rattle.nfs_objects.specs.Promise.{IsPromised}
 use Rattle.nfs_objects.specs.Sound.{Sound, RootsLive}
@@ -26,6 +27,7 @@ use Rattle.nfs_objects.specs.Values.{ViewValue, seen_at}
 use Rattle.nfs_objects.specs.declared.address.Addr.TheVariants as addresses
 use Rattle.nfs_objects.specs.declared.directory.Directory.{Directory}
 use Rattle.nfs_objects.specs.declared.ending.Creation.{Creation}
+use Rattle.nfs_objects.specs.declared.object.Content.{Content}
 use Rattle.nfs_objects.specs.declared.object.Content.TheVariants as contents
 use Rattle.nfs_objects.specs.declared.object.Inode.{Inode}
 use Rattle.nfs_objects.specs.declared.object.Object.TheVariants as objects
@@ -36,15 +38,28 @@ all_first : {X : Type 0} (P : X → Type 0) (xs : List X) (x : X) → AllByRecur
 all_first P [] x all first = cc
 all_first P (y ∷ ys) x all first = subst P (let same : y ≡ x = cc in same) all.0
 
--- what is no directory has no entries
-no_entries : (c : machine.Content) → is_directory c ≡ false → entries_of c ≡ []
-no_entries (machine.Directory entries last) e = cc
-no_entries (machine.Regular bytes) e = refl
-no_entries (machine.Link text) e = refl
-no_entries (machine.BlockDevice device) e = refl
-no_entries (machine.CharacterDevice device) e = refl
-no_entries machine.Socket e = refl
-no_entries machine.Fifo e = refl
+-- what is made has no entries, and a directory's last cookie is 2
+no_entries : (x : Content) (place : ℕ) → ((d : Directory) → x ≡ contents.Directory d → d ≡ new_directory place) → entries_of (content_of x) ≡ []
+no_entries (contents.Directory d) place is = ap (λ (e : Directory). e.entries) (is d refl)
+no_entries (contents.Regular bytes) place is = refl
+no_entries (contents.Link text) place is = refl
+no_entries (contents.BlockDevice device) place is = refl
+no_entries (contents.CharacterDevice device) place is = refl
+no_entries contents.Socket place is = refl
+no_entries contents.Fifo place is = refl
+
+two_used : (x : Content) (place last : ℕ) → ((d : Directory) → x ≡ contents.Directory d → d ≡ new_directory place) → content_of x ≡ machine.Directory [] last → 2 ≤ last
+two_used (contents.Directory d) place last is same =
+    let used : d.last_cookie ≡ 2 = ap (λ (e : Directory). e.last_cookie) (is d refl) in
+    let shown : machine.Directory d.entries d.last_cookie ≡ machine.Directory [] last = same in
+    let equal : d.last_cookie ≡ last = cc in
+    omega (arith, used, equal)
+two_used (contents.Regular bytes) place last is same = cc
+two_used (contents.Link text) place last is same = cc
+two_used (contents.BlockDevice device) place last is same = cc
+two_used (contents.CharacterDevice device) place last is same = cc
+two_used contents.Socket place last is same = cc
+two_used contents.Fifo place last is same = cc
 
 -- what is above is not at most
 above : (g k : ℕ) → k < g → nat_le g k ≡ false
@@ -69,7 +84,7 @@ below_max g a b = elim (leb_tells g a) [
     max-lt : (x y z : ℕ) → x < z → y < z → max x y < z
     max-lt x y z h k = omega (arith, h, k)
 
--- helpers of tests
+-- tests that hold
 last_true : (b c d : Bool) → c ≡ true → d ≡ true → (b || (c && d)) ≡ true
 last_true true c d e f = refl
 last_true false c d e f = ap (λ x. x && d) e ∙ f
@@ -81,12 +96,8 @@ no_inode_twice : {A : Type 0} {x : A} (o : Option A) → o ≡ None → o ≡ So
 no_inode_twice None e f = cc
 no_inode_twice (Some y) e f = cc
 
-not_both : (b : Bool) → b ≡ false → b ≡ true → ⊥
-not_both true e f = cc
-not_both false e f = cc
-
-joined_links : (a b c d k : ℕ) → a ≡ b → b ≡ c → d ≡ c + k → k ≡ 0 → a ≡ d
-joined_links a b c d k e f g h = omega arith
+joined_links : (a b c d k : ℕ) → a ≡ b + k → b ≡ c → d ≡ c + k → a ≡ d
+joined_links a b c d k e f g = omega arith
 
 module _ (ctx : Ctx) (view : ViewValue) (c : Creation) (r : IsCreation ctx view c) where
   -- the view shows that nothing stands at the new number, and its generation is above all given
@@ -138,8 +149,8 @@ module _ (ctx : Ctx) (view : ViewValue) (c : Creation) (r : IsCreation ctx view 
       wider_export = r.wider_export;
       wider_generation = r.wider_generation;
       made_export = r.made_export;
-      made_entries = no_entries (content_of c.object.content) r.made_kind;
-      made_cookies = λ last is. absurd (not_both (is_directory (content_of c.object.content)) r.made_kind (ap is_directory is));
+      made_entries = no_entries c.object.content c.place r.made_directory;
+      made_cookies = λ last is. two_used c.object.content c.place last r.made_directory is;
       given = last_true (m.spent c.number c.object.generation) (c.number == c.number) (nat_le c.object.generation c.object.generation) ((unsigned_Decides c.number c.number).1 refl) (le-leb c.object.generation c.object.generation (omega arith));
       spent = λ n g spent. ap (λ b. b || ((n == c.number) && nat_le g c.object.generation)) spent;
     }
@@ -197,15 +208,13 @@ module _ (ctx : Ctx) (view : ViewValue) (c : Creation) (r : IsCreation ctx view 
 
     pub linked-made : Linked c.number c.object
     linked-made =
-        r.made_links ∙ sym (ap (λ b. cond {A = ℕ} b 2 1) r.made_kind)
-        ∙ sym (links-made m new c.place c.number (living_of_inode r.old) (living_of_inode c.directory) (living_of_inode c.object) r.name makes sound.well_formed)
+        r.made_links ∙ sym (links-made m new c.place c.number (living_of_inode r.old) (living_of_inode c.directory) (living_of_inode c.object) r.name makes sound.well_formed)
 
     pub linked-wider : Linked c.place c.directory
     linked-wider =
         let wider = links-wider m new c.place c.number (living_of_inode r.old) (living_of_inode c.directory) (living_of_inode c.object) r.name makes sound.well_formed in
-        let none : cond {A = ℕ} (is_directory (content_of c.object.content)) 1 0 ≡ 0 = ap (λ b. cond b 1 0) r.made_kind in
         joined_links c.directory.links r.old.links (links_of m c.place (content_of r.old.content)) (links_of new c.place (content_of c.directory.content))
-        (cond (is_directory (content_of c.object.content)) 1 0) r.wider_links (sound.links c.place r.old at) wider none
+        (cond (is_directory (content_of c.object.content)) 1 0) r.wider_links (sound.links c.place r.old at) wider
 
     linked-before : (n : ℕ) (i : Inode) → s.at (addresses.Inode n) ≡ Some (objects.Inode i) → Linked n i
     linked-before n i there =
@@ -218,8 +227,11 @@ module _ (ctx : Ctx) (view : ViewValue) (c : Creation) (r : IsCreation ctx view 
     kept-below : (n parent : ℕ) → IsParent m n parent → Below n parent
     kept-below = parent-kept m new c.place c.number (living_of_inode r.old) (living_of_inode c.directory) (living_of_inode c.object) r.name makes
 
-    pub created_sound : Sound stored new
-    created_sound = record {
+    made-below : Below c.number c.place
+    made-below = parent-made m new c.place c.number (living_of_inode r.old) (living_of_inode c.directory) (living_of_inode c.object) r.name makes
+
+    pub created_sound : WellFormed new → Sound stored new
+    created_sound formed = record {
       links = λ n i there. elim (stood n i there) [
         | inl here ↦ subst (λ k. Linked k i) here.0 (subst (Linked c.number) here.1 linked-made)
         | inr (inl here) ↦ subst (λ k. Linked k i) here.0 (subst (Linked c.place) here.1 linked-wider)
@@ -227,15 +239,16 @@ module _ (ctx : Ctx) (view : ViewValue) (c : Creation) (r : IsCreation ctx view 
       ];
       parents = λ n i d there is. elim (stood n i there) [
         | inl here ↦
-            let kind : is_directory (content_of c.object.content) ≡ true = ap (λ (j : Inode). is_directory (content_of j.content)) here.1 ∙ ap (λ x. is_directory (content_of x)) is in
-            absurd (not_both (is_directory (content_of c.object.content)) r.made_kind kind)
+            let fresh : d ≡ new_directory c.place = r.made_directory d (ap (λ (j : Inode). j.content) here.1 ∙ is) in
+            let parent : d.parent ≡ c.place = ap (λ (e : Directory). e.parent) fresh in
+            subst (λ k. Below k d.parent) here.0 (subst (Below c.number) (sym parent) made-below)
         | inr (inl here) ↦
             let both : contents.Directory d ≡ c.directory.content = sym (ap (λ (j : Inode). j.content) here.1 ∙ is) in
             let parent : d.parent ≡ r.place.parent = same_parent (both ∙ r.wider) in
             subst (λ k. Below k d.parent) here.0 (kept-below c.place d.parent (subst (IsParent m c.place) (sym parent) (sound.parents c.place r.old r.place at r.content)))
         | inr (inr was) ↦ kept-below n d.parent (sound.parents n i d was is)
       ];
-      well_formed = well_formed-made m new c.place c.number (living_of_inode r.old) (living_of_inode c.directory) (living_of_inode c.object) r.name makes sound.well_formed;
+      well_formed = formed;
     }
 
     pub created_roots : RootsLive ctx.exports new
@@ -250,7 +263,8 @@ promised_created call ctx view c reply r = record {
     new = with_created m c;
     step = r.step s m stands sound roots fits;
     stands = created_represented ctx view c r.is s m stands sound roots fits;
-    sound = created_sound ctx view c r.is s m stands sound roots fits;
+    sound = created_sound ctx view c r.is s m stands sound roots fits
+        (steps_keep_form m ctx call reply [] (with_created m c) (r.step s m stands sound roots fits) sound.well_formed);
     roots = created_roots ctx view c r.is s m stands sound roots fits;
   };
   writes = λ s fits. (subst (λ o. IsSome o) (sym r.is.seen) refl, (subst (λ o. IsSome o) (sym (reserved-first ctx view c r.is s fits).0) refl, tt));

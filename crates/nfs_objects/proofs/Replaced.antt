@@ -1,16 +1,17 @@
 -- Where one inode is put in the place of another, all else of the store and of the state stays: other objects, names, links, parents, roots.
-use Rattle.std.proofs.Common.{◌≡◌, ◌==◌, ℕ, ◌≤◌, true, false, cond, max, nat_le, List, Option, Some, IsSome, ◌⊎◌, inl, inr, refl, sym, ◌∙◌, ap, subst, arith}
+use Rattle.std.proofs.Common.{◌≡◌, ◌==◌, ℕ, ◌≤◌, true, false, cond, max, nat_le, List, [], Option, Some, IsSome, ◌⊎◌, inl, inr, refl, sym, ◌∙◌, ap, subst, arith}
 use Rattle.std.proofs.lemmas.Bool.Decides.{nat_tests}
 use Rattle.std.specs.Cmp.{nat_eq_equiv, unsigned_Decides}
 use Rattle.std.specs.FinMap.{FinMap, get, insert}
 use Rattle.std.specs.Ordering.{nat_cmp}
+use Rattle.nfs_machine.proofs.Kept.{steps_keep_form}
 use Rattle.nfs_machine.proofs.Sums.{get-inserted}
-use Rattle.nfs_machine.proofs.WellFormed.{Alike, after, links-alike, parent-alike, replaced-alike, replaced-names, well_formed-alike}
+use Rattle.nfs_machine.proofs.WellFormed.{Alike, after, links-alike, parent-alike, replaced-alike, replaced-names}
 use Rattle.nfs_machine.specs.Attributes.{is_directory, links_of, names_of}
 use Rattle.nfs_machine.specs.Exports.{ExportValue}
 use Rattle.nfs_machine.specs.State.{Living, State}
 use Rattle.nfs_machine.specs.State as machine
-use Rattle.nfs_machine.specs.WellFormed.{IsParent, KeepsNames}
+use Rattle.nfs_machine.specs.WellFormed.{IsParent, KeepsNames, WellFormed}
 use Rattle.nfs_machine.specs.declared.calls.Call.{Call}
 use Rattle.nfs_machine.specs.declared.calls.Reply.{Reply}
 use Rattle.nfs_machine.specs.declared.context.Ctx.{Ctx}
@@ -112,13 +113,18 @@ module _ (s : Store) (m : State) (number : ℕ) (old new : Inode) (at : s.at (ad
       ] refl
       ∙ sym (links number (content_of new.content))
 
-  pub rewritten_sound : Sound s m → Sound (with_write s (addresses.Inode number) (Some (objects.Inode new))) (with_object m number (living_of_inode new))
-  rewritten_sound sound = record {
-    links = λ n i there. elim (found-put s number new n i there) [
-      | inl here ↦ subst (λ k. i.links ≡ links_of (with_object m number (living_of_inode new)) k (content_of i.content)) here.0
-          (subst (λ (j : Inode). j.links ≡ links_of (with_object m number (living_of_inode new)) number (content_of j.content)) here.1 (links-here sound))
-      | inr other ↦ sound.links n i other ∙ sym (links n (content_of i.content))
-    ];
+  -- each inode counts its links
+  pub rewritten_links : Sound s m → (n : ℕ) (i : Inode) → put_at s.at (addresses.Inode number) (Some (objects.Inode new)) (addresses.Inode n) ≡ Some (objects.Inode i)
+      → i.links ≡ links_of (with_object m number (living_of_inode new)) n (content_of i.content)
+  rewritten_links sound n i there = elim (found-put s number new n i there) [
+    | inl here ↦ subst (λ k. i.links ≡ links_of (with_object m number (living_of_inode new)) k (content_of i.content)) here.0
+        (subst (λ (j : Inode). j.links ≡ links_of (with_object m number (living_of_inode new)) number (content_of j.content)) here.1 (links-here sound))
+    | inr other ↦ sound.links n i other ∙ sym (links n (content_of i.content))
+  ]
+
+  pub rewritten_sound : Sound s m → WellFormed (with_object m number (living_of_inode new)) → Sound (with_write s (addresses.Inode number) (Some (objects.Inode new))) (with_object m number (living_of_inode new))
+  rewritten_sound sound formed = record {
+    links = rewritten_links sound;
     parents = λ n i d there is. parent-alike m (with_object m number (living_of_inode new)) alike n d.parent (elim (found-put s number new n i there) [
       | inl here ↦
           let was : new.content ≡ contents.Directory d = ap (λ (j : Inode). j.content) here.1 ∙ is in
@@ -126,7 +132,7 @@ module _ (s : Store) (m : State) (number : ℕ) (old new : Inode) (at : s.at (ad
           subst (λ k. IsParent m k d.parent) here.0 (sound.parents number old d at (sym (keeps.content kind) ∙ was))
       | inr other ↦ sound.parents n i d other is
     ]);
-    well_formed = well_formed-alike m (with_object m number (living_of_inode new)) alike names (λ n g spent. spent) sound.well_formed;
+    well_formed = formed;
   }
 
   pub rewritten_roots : (exports : List ExportValue) → RootsLive exports m → RootsLive exports (with_object m number (living_of_inode new))
@@ -144,7 +150,8 @@ promised_rewritten call ctx view number inode reply r = record {
         new = with_object m number (living_of_inode inode);
         step = r.step s m stands sound roots fits;
         stands = rewritten_represented s m number r.old inode at r.keeps stands sound;
-        sound = rewritten_sound s m number r.old inode at r.keeps stands sound;
+        sound = rewritten_sound s m number r.old inode at r.keeps stands sound
+            (steps_keep_form m ctx call reply [] (with_object m number (living_of_inode inode)) (r.step s m stands sound roots fits) sound.well_formed);
         roots = rewritten_roots s m number r.old inode at r.keeps stands ctx.exports roots;
       };
   writes = λ s fits. (subst (λ o. IsSome o) (sym r.seen) refl, tt);

@@ -1,5 +1,5 @@
 -- When a call may end so.
-use Rattle.std.specs.Prelude.{◌≡◌, ℕ, ◌+◌, true, false, ◌||◌, ◌&&◌, List, [], ◌∷◌, ◌++◌, Some, None, find, nat_le, slice_get, ◌==◌}
+use Rattle.std.specs.Prelude.{◌≡◌, if◌then◌else◌, ℕ, ◌+◌, true, ◌||◌, ◌&&◌, List, [], ◌∷◌, ◌++◌, Some, None, find, nat_le, slice_get, ◌==◌}
 use Rattle.std.specs.FinMap.{insert}
 use Rattle.nfs_machine.specs.Attributes.{is_directory}
 use Rattle.nfs_machine.specs.Bytes.{same_bytes}
@@ -67,7 +67,12 @@ abbrev pub with_name : Directory → List ℕ → ℕ → Directory
 with_name d name number =
     record d { last_cookie = d.last_cookie + 1; entries = d.entries ++ entry name (record { number = number; cookie = d.last_cookie + 1 }) ∷ [] }
 
--- the view shows the directory, which has no such name, and gives the number and the generation; the object has one link and is no directory
+-- a directory with no name in it yet, where "." and ".." have the cookies 1 and 2; its parent
+abbrev pub new_directory : ℕ → Directory
+new_directory parent = record { parent = parent; last_cookie = 2; entries = [] }
+
+-- The view shows the directory, which has no such name, and gives the number and the generation. The object has one link; or it is a new
+-- directory, which has two and brings one to the directory that it is in.
 pub record IsCreation (ctx : Ctx) (view : ViewValue) (c : Creation) : Type 0 where
   pub old : Inode
   pub place : Directory
@@ -81,10 +86,10 @@ pub record IsCreation (ctx : Ctx) (view : ViewValue) (c : Creation) : Type 0 whe
   pub wider : c.directory.content ≡ contents.Directory (with_name place name c.number)
   pub wider_export : c.directory.export ≡ old.export
   pub wider_generation : c.directory.generation ≡ old.generation
-  pub wider_links : c.directory.links ≡ old.links
+  pub wider_links : c.directory.links ≡ old.links + (if is_directory (content_of c.object.content) then 1 else 0)
   pub made_export : c.object.export ≡ old.export
-  pub made_kind : is_directory (content_of c.object.content) ≡ false
-  pub made_links : c.object.links ≡ 1
+  pub made_links : c.object.links ≡ (if is_directory (content_of c.object.content) then 2 else 1)
+  pub made_directory : (d : Directory) → c.object.content ≡ contents.Directory d → d ≡ new_directory c.place
 
 -- in every sound store that the view fits, the reply is a step after which the directory and the object live so
 pub record Creates (call : Call) (ctx : Ctx) (view : ViewValue) (c : Creation) (reply : Reply) : Type 0 where

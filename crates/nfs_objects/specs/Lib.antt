@@ -2,7 +2,6 @@ pub mod Attempt
 pub mod Endings
 pub mod Entries
 pub mod Fits
-pub mod Parts
 pub mod Promise
 pub mod Rounds
 pub mod Sound

@@ -1,13 +1,18 @@
 -- How far the view of a call grows. An attempt asks, all that it asks for is given, and the call is tried again.
-use Rattle.std.specs.Prelude.{◌≡◌, ◌≢◌, ℕ, ◌+◌, ◌≤◌, List, [], ◌∷◌, ◌++◌, map, length, count_by, Option, None}
+use Rattle.std.specs.Prelude.{◌≡◌, ◌≢◌, ℕ, ◌+◌, ◌≤◌, List, [], ◌∷◌, ◌++◌, map, count_by, Option, None}
 use Rattle.std.specs.Option.{is_none}
+use Rattle.nfs_machine.specs.Exports.{ExportValue}
+use Rattle.nfs_machine.specs.State.{State}
 use Rattle.nfs_objects.specs.declared.address.Addr.{Addr}
 use Rattle.nfs_objects.specs.declared.address.Addr.TheVariants as addresses
-use Rattle.nfs_objects.specs.declared.address.Mode.{Mode}
+use Rattle.nfs_objects.specs.declared.done.Outcome.{Outcome}
+use Rattle.nfs_objects.specs.declared.done.Outcome.TheVariants.{Need, Fresh, Done}
 use Rattle.nfs_objects.specs.declared.object.Object.{Object}
 use Rattle.nfs_objects.specs.declared.view.Reserved.{Reserved}
 use Rattle.nfs_objects.specs.Attempt.{Wanted, Addresses, Number}
 use Rattle.nfs_objects.specs.Fits.{Fits}
+use Rattle.nfs_objects.specs.Sound.{Sound, RootsLive}
+use Rattle.nfs_objects.specs.Stands.{Represents}
 use Rattle.nfs_objects.specs.Store.{Store}
 use Rattle.nfs_objects.specs.Values.{ViewValue}
 
@@ -49,3 +54,20 @@ empty_wanted s Number = 1
 abbrev pub AsksFew : (ViewValue → Wanted) → Type 0
 AsksFew wanted = (rounds : List Round) (s : Store) → Grows wanted rounds → Fits (view_after rounds) s
     → empty_count s (map (λ e. e.0) (view_after rounds).entries) + empty_wanted s (wanted (view_after rounds)) ≤ 256
+
+-- what an outcome asks for
+abbrev pub asked_by : Outcome → Wanted
+asked_by (Need wanted) = Addresses wanted.items
+asked_by (Fresh count) = Number
+asked_by (Done done) = Addresses []
+
+-- each round gives what an outcome asks for that may come of the view after those before it
+abbrev pub GrowsBy : (ViewValue → Outcome → Type 0) → List Round → Type 0
+GrowsBy comes [] = Unit {0}
+GrowsBy comes (round ∷ earlier) = (outcome : Outcome) × comes (view_after earlier) outcome × Gives (asked_by outcome) round × GrowsBy comes earlier
+
+-- The same in every sound store that the view fits: a call may follow many names, and what bounds it is that each leads to what stands in the store.
+abbrev pub AsksFewOfSound : List ExportValue → (ViewValue → Outcome → Type 0) → Type 0
+AsksFewOfSound exports comes = (rounds : List Round) (outcome : Outcome) (s : Store) (m : State) → GrowsBy comes rounds → comes (view_after rounds) outcome
+    → Represents s m → Sound s m → RootsLive exports m → Fits (view_after rounds) s
+    → empty_count s (map (λ e. e.0) (view_after rounds).entries) + empty_wanted s (asked_by outcome) ≤ 256

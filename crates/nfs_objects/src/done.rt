@@ -1,9 +1,8 @@
 //! What a call comes to.
 
-ghost use Rattle.std.specs.Prelude.{◌≡◌};
-ghost use Rattle.nfs_objects.specs.Values.{done_value};
+ghost use Rattle.std.specs.Prelude.{◌≡◌, map};
+ghost use Rattle.nfs_objects.specs.Values.{done_value, write_value};
 ghost use Rattle.nfs_objects.specs.Promise.{IsPromised};
-ghost use Rattle.nfs_objects.specs.Parts.{parts_value};
 
 use crate::address::{Addr, Mode};
 use crate::object::Object;
@@ -42,17 +41,6 @@ impl Model for Done {
     ghost use Rattle.nfs_objects.specs.Promise.{IsPromised};
 
     ghost invariant = { λ d. IsPromised (done_value d.call d.ctx d.view d.writes.items d.messages.items d.reply) };
-}
-
-/// What a `Done` was made of.
-#[derive(Drop)]
-pub struct Parts {
-    pub call: Call,
-    pub ctx: Ctx,
-    pub view: View,
-    pub writes: Vec<Write>,
-    pub messages: Vec<Message>,
-    pub reply: Reply,
 }
 
 /// What an attempt comes to.
@@ -117,27 +105,11 @@ impl Done {
         &self.reply
     }
 
-    /// What it was made of.
-    pub fn into_parts(self) -> Parts
-        ensures parts { parts_value result ≡ self }
-        ensures promised { IsPromised self }
+    /// What is to be written, in this order.
+    pub fn writes(&self) -> &[Write]
+        ensures { map write_value result.now ≡ self.now.writes }
     {
-        let Done {
-            call,
-            ctx,
-            view,
-            writes,
-            messages,
-            reply,
-        } = self;
-        Parts {
-            call,
-            ctx,
-            view,
-            writes,
-            messages,
-            reply,
-        }
+        &self.writes
     }
 
     /// Whoever has one has the promise.

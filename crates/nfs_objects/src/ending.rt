@@ -1,6 +1,6 @@
 //! What calls in common come to.
 
-ghost use Rattle.std.specs.Prelude.{◌≡◌, [], ◌∷◌, map, IfOk, Some};
+ghost use Rattle.std.specs.Prelude.{◌≡◌, [], ◌∷◌, IfOk, Some};
 ghost use Rattle.nfs_objects.specs.Attempt.{Attempts, IsDone, IsNeed};
 ghost use Rattle.nfs_objects.specs.Endings.{Creates, HoldsUnchanged, Rewrites, creation_stored, inode_stored, only_answered};
 ghost use Rattle.nfs_objects.specs.Promise.{IsPromised};
@@ -11,10 +11,11 @@ use crate::done::{Done, Outcome, Write};
 use crate::object::{Inode, Object};
 use crate::view::View;
 use nfs_machine::{Call, Ctx, Reply};
+use side_wire::Message;
 use std::alloc::{AllocError, Global};
 use std::sync::Arc;
 
-/// The end of a call with these writes, which puts no message. Whoever makes one shows the promise.
+/// The end of a call with these writes and messages. Whoever makes one shows the promise.
 ///
 /// # Errors
 ///
@@ -25,18 +26,19 @@ pub fn ended(
     ctx: &Ctx,
     view: &View,
     writes: Vec<Write>,
+    messages: Vec<Message>,
     reply: Reply,
 ) -> Result<Outcome, AllocError>
-    requires { IsPromised (done_value call ctx.now view.now writes.items [] reply) }
+    requires { IsPromised (done_value call ctx.now view.now writes.items messages.items reply) }
     ensures attempts { IfOk result (λ outcome. Attempts call ctx.now view.now outcome) }
-    ensures done { IfOk result (IsDone (done_value call ctx.now view.now writes.items [] reply)) }
+    ensures done { IfOk result (IsDone (done_value call ctx.now view.now writes.items messages.items reply)) }
 {
     let done = Done::new(
         call,
         ctx.clone()?,
         view.copy(alloc)?,
         writes,
-        Vec::new(alloc),
+        messages,
         reply,
     );
     Ok(Outcome::Done(done))
@@ -58,7 +60,15 @@ pub fn unchanged(
     ensures attempts { IfOk result (λ outcome. Attempts call ctx.now view.now outcome) }
     ensures done { IfOk result (IsDone (only_answered call ctx.now view.now reply)) }
 {
-    ended(alloc, call, ctx, view, Vec::new(alloc), reply)
+    ended(
+        alloc,
+        call,
+        ctx,
+        view,
+        Vec::new(alloc),
+        Vec::new(alloc),
+        reply,
+    )
 }
 
 /// The end of a call after which this inode stands at a number where the view shows another. It puts no message.
@@ -79,16 +89,9 @@ pub fn rewritten(
     ensures attempts { IfOk result (λ outcome. Attempts call ctx.now view.now outcome) }
     ensures done { IfOk result (IsDone (inode_stored call ctx.now view.now number inode reply)) }
 {
-    let writes = one_write(alloc, number, inode)?;
-    ended(alloc, call, ctx, view, writes, reply)
-}
-
-fn one_write(alloc: Global, number: u64, inode: Inode) -> Result<Vec<Write>, AllocError>
-    ensures { IfOk result (λ writes. map write_value writes.items ≡ (Addr.Inode number, Some (Object.Inode inode)) ∷ []) }
-{
     let mut writes = Vec::with_capacity(alloc, 1)?;
     writes.push(write_inode(alloc, number, inode)?)?;
-    Ok(writes)
+    ended(alloc, call, ctx, view, writes, Vec::new(alloc), reply)
 }
 
 /// A new object under a new name of a directory.
@@ -124,7 +127,7 @@ pub fn created(
     let mut writes = Vec::with_capacity(alloc, 2)?;
     writes.push(write_inode(alloc, creation.place, creation.directory)?)?;
     writes.push(write_inode(alloc, creation.number, creation.object)?)?;
-    ended(alloc, call, ctx, view, writes, reply)
+    ended(alloc, call, ctx, view, writes, Vec::new(alloc), reply)
 }
 
 fn write_inode(alloc: Global, number: u64, inode: Inode) -> Result<Write, AllocError>

@@ -16,7 +16,7 @@ pub mod view;
 
 pub use address::{Addr, Mode};
 pub use directory::{Directory, Entries, Leaf};
-pub use done::{Done, Outcome, Parts, Write};
+pub use done::{Done, Outcome, Write};
 pub use ending::{Creation, created, ended, needed, rewritten, unchanged};
 pub use nfs_machine::Handle;
 pub use object::{Content, Inode, MOUNT_LIMIT, Mount, MountTable, Object, living, mount_table};

@@ -7,3 +7,4 @@ pub mod Early
 pub mod Calls
 pub mod GidsLaws
 pub mod Streams
+pub mod Worked

@@ -13,6 +13,7 @@ mod numbers;
 mod programs;
 mod replies;
 pub mod stream;
+pub mod worked;
 
 pub use calls::{RpcCall, read_call};
 pub use credentials::{GIDS_LIMIT, Gids, Ids};

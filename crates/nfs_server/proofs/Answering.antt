@@ -54,9 +54,9 @@ module _ (host bytes : List ℕ) (moment : Moment) (asked : Asked) (is : IsAsked
         );
       })
 
-  pub refused_result : (old new : PlainValue) (r : Result (Vec ℕ Global) AllocError) → new ≡ old → IfOk r (λ answer. answer.items ≡ refusal_bytes asked.xid (refusal_of asked.call))
-      → IfOk r (λ answer. IsAnswered arrival old new answer.items)
-  refused_result old new (Ok answer) same answered = refused_answered old new answer.items same answered
+  pub refused_result : (old new : PlainValue) (r : Result (Option (Vec ℕ Global)) AllocError) → new ≡ old → IfOk r (λ answer. answer_bytes answer ≡ refusal_bytes asked.xid (refusal_of asked.call))
+      → IfOk r (λ answer. IsAnswered arrival old new (answer_bytes answer))
+  refused_result old new (Ok answer) same answered = refused_answered old new (answer_bytes answer) same answered
   refused_result old new (Err e) same answered = tt
 
   pub executed_answered : (old new : PlainValue) (answer : List ℕ) → MakesStep (context_of old.setting host asked.ids moment) asked.call asked.xid old new answer → IsAnswered arrival old new answer

@@ -8,8 +8,11 @@ use Rattle.nfs_rpc.specs.declared.programs.Program.{Program}
 use Rattle.nfs_wire.specs.declared.calls.NfsCall.{NfsCall}
 use Rattle.nfs_wire.specs.declared.calls.NfsCall.TheVariants as nfs
 use Rattle.nfs_data.specs.Calls.{is_data_call}
+use Rattle.nfs_mount.specs.Calls.{is_mount_call}
 use Rattle.nfs_names.specs.Calls.{is_name_call}
-use Rattle.nfs_machine.specs.Run.{number_of, program_of}
+use Rattle.side_wire.specs.declared.mount.MountCall.{MountCall}
+use Rattle.side_wire.specs.declared.mount.MountCall.TheVariants as mount
+use Rattle.nfs_machine.specs.Run.{program_of}
 use Rattle.nfs_machine.specs.declared.calls.Call.TheVariants as calls
 use Rattle.nfs_server.specs.Asked.{IsAsked}
 use Rattle.nfs_server.specs.Built.{IsBuilt}
@@ -48,3 +51,9 @@ built-data (nfs.Create a) built other = sym other
 built-data (nfs.Read a) built other = refl
 built-data (nfs.Write a) built other = refl
 built-data call built other = built
+
+-- a call of MOUNT that is built is one that has an attempt
+pub built-mount : (call : MountCall) → IsBuilt (calls.Mount call) → is_mount_call call ≡ true
+built-mount mount.Null built = refl
+built-mount (mount.Mnt path) built = refl
+built-mount call built = built

@@ -1,22 +1,18 @@
 -- The slots that a server starts with stand for the machine's opening state: the roots live, and nothing else.
-use Rattle.std.proofs.Common.{◌≡◌, ◌≢◌, ℕ, zero, suc, ◌+◌, ◌<◌, ◌≤◌, ◌⊎◌, inl, inr, true, false, cond, nat_le, List, [], ◌∷◌, ◌++◌, length, length-append, map, Option, Some, None, refl, sym, ◌∙◌, ap, subst, arith}
+use Rattle.std.proofs.Common.{◌≡◌, ℕ, zero, suc, ◌+◌, ◌<◌, ◌≤◌, inl, inr, nat_le, List, [], ◌∷◌, ◌++◌, length, length-append, map, Option, Some, None, refl, sym, ◌∙◌, ap, subst, arith}
 use Rattle.std.proofs.lemmas.Bool.Decides.{nat_tests}
 use Rattle.std.proofs.lemmas.Option.{slice_get_past, slice_get_within}
 use Rattle.std.specs.List.{slice_get}
-use Rattle.std.specs.Cmp.{nat_cmp_total}
-use Rattle.std.specs.Ordering.{nat_cmp, eq_by_cmp}
-use Rattle.std.specs.FinMap.{FinMap, get, insert, get-insert, get-empty}
+use Rattle.std.specs.FinMap.{get}
 use Rattle.nfs_wire.specs.declared.attributes.Time.{Time}
-use Rattle.std.specs.List.{AllByRecursion}
-use Rattle.nfs_machine.proofs.Sums.{sum-none}
-use Rattle.nfs_machine.specs.Attributes.{entries_of, is_living_directory, links_of, names_in, names_of}
+use Rattle.nfs_machine.proofs.Opened.{le_or, opening_formed, root_found, root_none}
+use Rattle.nfs_machine.specs.Attributes.{links_of}
 use Rattle.nfs_machine.specs.Exports.{ExportValue, export_at, export_value}
 use Rattle.nfs_machine.specs.declared.context.Limits.{Limits}
 use Rattle.nfs_machine.specs.declared.exports.Export.{Export}
 use Rattle.std.proofs.lemmas.List.{length-map}
 use Rattle.nfs_machine.specs.Opening.{opening, opening_last, opening_root, opening_roots, time_of}
-use Rattle.nfs_machine.specs.State.{Directory, Entry, Living}
-use Rattle.nfs_machine.specs.WellFormed.{CookiesRise, IsDirectoryOf, IsParent, WellFormed}
+use Rattle.nfs_machine.specs.WellFormed.{IsParent}
 use Rattle.nfs_machine.specs.declared.moment.Moment.{Moment}
 use Rattle.nfs_objects.specs.Sound.{RootLives}
 use Rattle.nfs_objects.specs.Stands.{content_of, living_of}
@@ -28,9 +24,6 @@ use Rattle.nfs_objects.specs.declared.object.Object.TheVariants as objects
 use Rattle.nfs_server.specs.Plain.{PlainValue, StandsFor}
 use Rattle.nfs_server.specs.Roots.{root_of, root_slot, root_slots}
 use Rattle.nfs_server.specs.Slots.{SlotValue, empty_slot, object_in, last_in}
-
-le_or : (a b : ℕ) → (a ≤ b) ⊎ (b < a)
-le_or a b = elim (nat_le a b) as (λ t. nat_le a b ≡ t → (a ≤ b) ⊎ (b < a)) [ true ↦ λ e. inl (grind (arith, nat_tests)) | false ↦ λ e. inr (grind (arith, nat_tests)) ] refl
 
 get_front : (xs ys : List SlotValue) (k : ℕ) → k < length xs → slice_get (xs ++ ys) k ≡ slice_get xs k
 get_front [] ys k h = absurd (omega (arith, h))
@@ -66,29 +59,6 @@ module _ (time : Time) where
 
   slot_none : (n k : ℕ) → n < k → slice_get (root_slots n time) k ≡ None
   slot_none n k h = slice_get_past (root_slots n time) k (omega (arith, slots_len n, h))
-
-  insert_here : (m : FinMap nat_cmp Living) (k n : ℕ) (o : Living) → n ≡ k → get (insert m k o) n ≡ Some o
-  insert_here m k n o e = get-insert nat_cmp_total m k o n ∙ ap (λ b. cond b (Some o) (get m n)) (let t : eq_by_cmp nat_cmp n k ≡ true = grind (arith, nat_tests) in t)
-
-  insert_there : (m : FinMap nat_cmp Living) (k n : ℕ) (o : Living) → n ≢ k → get (insert m k o) n ≡ get m n
-  insert_there m k n o e = get-insert nat_cmp_total m k o n ∙ ap (λ b. cond b (Some o) (get m n)) (let t : eq_by_cmp nat_cmp n k ≡ false = grind (arith, nat_tests) in t)
-
-  root_found : (es : List ExportValue) (k n : ℕ) → k ≤ n → n < k + length es → get (opening_roots k es time) n ≡ Some (opening_root n time)
-  root_found [] k n low high = absurd (omega (arith, low, high))
-  root_found (e ∷ es) k n low high =
-      elim (le_or n k) [
-        | inl h ↦ (let same : n ≡ k = omega (arith, low, h) in insert_here (opening_roots (k + 1) es time) k n (opening_root k time) same ∙ ap (λ j. Some (opening_root j time)) (sym same))
-        | inr h ↦
-            insert_there (opening_roots (k + 1) es time) k n (opening_root k time) (λ same. omega (arith, h, same))
-            ∙ root_found es (k + 1) n (omega (arith, h)) (omega (arith, high))
-      ]
-
-  root_none : (es : List ExportValue) (k n : ℕ) → (n < k) ⊎ (k + length es ≤ n) → get (opening_roots k es time) n ≡ None
-  root_none [] k n out = get-empty nat_cmp n
-  root_none (e ∷ es) k n (inl below) =
-      insert_there (opening_roots (k + 1) es time) k n (opening_root k time) (λ same. omega (arith, below, same)) ∙ root_none es (k + 1) n (inl (omega (arith, below)))
-  root_none (e ∷ es) k n (inr above) =
-      insert_there (opening_roots (k + 1) es time) k n (opening_root k time) (λ same. omega (arith, above, same)) ∙ root_none es (k + 1) n (inr (omega (arith, above)))
 
 -- the parent that a directory keeps; of what is none, 0
 abbrev parent_of : Content → ℕ
@@ -135,41 +105,6 @@ module _ (es : List ExportValue) (moment : Moment) where
         | inr h ↦ (let none : None ≡ Some (objects.Inode i) = sym (ap object_in (slot_none time (length es) (suc n) h)) ∙ is in absurd cc)
       ]
 
-  -- what lives is the root with its number, whose generation was given
-  abbrev IsRoot : ℕ → Living → Type 0
-  IsRoot n o = (opening_root n time ≡ o) × (opening_last (length es) n ≡ 1)
-
-  only_roots : (n : ℕ) (o : Living) → get (opening_roots 1 es time) n ≡ Some o → IsRoot n o
-  only_roots zero o at = let none : None ≡ Some o = sym (root_none time es 1 zero (inl (omega arith))) ∙ at in cc
-  only_roots (suc n) o at =
-      elim (le_or (suc n) (length es)) [
-        | inl h ↦
-            let some : Some (opening_root (suc n) time) ≡ Some o = sym (root_found time es 1 (suc n) (omega arith) (omega (arith, h))) ∙ at in
-            ((let same : opening_root (suc n) time ≡ o = cc in same), (let e : opening_last (length es) (suc n) ≡ 1 = grind (arith, nat_tests) in e))
-        | inr h ↦ (let none : None ≡ Some o = sym (root_none time es 1 (suc n) (inr (omega (arith, h)))) ∙ at in absurd cc)
-      ]
-
-  root_cookies : (entries : List Entry) (last : ℕ) → Directory [] 2 ≡ Directory entries last → CookiesRise 2 entries last
-  root_cookies entries last is =
-      let none : [] ≡ entries = cc in
-      let two : 2 ≡ last = cc in
-      subst (λ k. CookiesRise 2 entries k) two (subst (λ (xs : List Entry). CookiesRise 2 xs 2) none (omega arith))
-
-  -- no names, and so nothing below a root
-  roots_formed : WellFormed (opening es moment)
-  roots_formed = record {
-    names = λ n o at. subst (IsDirectoryOf (opening es moment)) (only_roots n o at).0 (record { once = tt; leads = tt });
-    cookies = λ n o entries last at is. root_cookies entries last (ap (λ (x : Living). x.content) (only_roots n o at).0 ∙ is);
-    named = λ n o at other. (let own : n ≡ o.export = ap (λ (x : Living). x.export) (only_roots n o at).0 in absurd (grind (arith, nat_tests)));
-    one_name = λ n o at kind.
-        let none : names_of (opening es moment) n ≡ 0 = sum-none (names_in n) (opening_roots 1 es time) (λ q v there. subst (λ (x : Living). names_in n x ≡ 0) (only_roots q v there).0 refl) in
-        omega arith;
-    depth = λ n. 0;
-    deeper = λ n o at.
-        subst (λ (x : Living). AllByRecursion (λ (e : Entry). is_living_directory (get (opening_roots 1 es time) e.number) ≡ true → 0 < 0) (entries_of x.content)) (only_roots n o at).0 tt;
-    given = λ n o at. (let r = only_roots n o at in subst (λ (x : Living). nat_le x.generation (opening_last (length es) n) ≡ true) r.0 (ap (nat_le 1) r.1));
-  }
-
   own_parent : (n : ℕ) (d : DirectoryInode) → get (opening_roots 1 es time) n ≡ Some (opening_root n time) → contents.Directory (record { parent = n; last_cookie = 2; entries = [] }) ≡ contents.Directory d
       → IsParent (opening es moment) n d.parent
   own_parent n d at is =
@@ -202,7 +137,7 @@ module _ (es : List ExportValue) (moment : Moment) where
         sound = record {
           links = λ n i is. subst (λ (j : Inode). j.links ≡ links_of (opening es moment) n (content_of j.content)) (is_root n i is) refl;
           parents = λ n i d is of. (let r = is_root n i is in own_parent n d (lives n ∙ ap living_of is ∙ ap (λ j. living_of (Some (objects.Inode j))) (sym r)) (ap (λ (j : Inode). j.content) r ∙ of));
-          well_formed = roots_formed;
+          well_formed = opening_formed es moment;
         };
         roots = λ number e at. root_lives number e (subst (λ (l : List ExportValue). export_at l number ≡ Some e) exports at);
       })

@@ -6,47 +6,28 @@ use Rattle.nfs_xdr.specs.Types.{padding}
 use Rattle.nfs_xdr.specs.Writing.{appended, with_word, with_hyper, with_padded, with_arm}
 use Rattle.nfs_rpc.specs.Messages.{reply_of}
 use Rattle.nfs_rpc.specs.declared.faults.Answer.TheVariants.{Success}
-use Rattle.nfs_wire.specs.Replies.{result_bytes}
-use Rattle.nfs_wire.specs.declared.replies.NfsReply.{NfsReply}
-use Rattle.nfs_wire.specs.declared.replies.NfsReply.TheVariants as nfs
-use Rattle.nfs_wire.specs.declared.status.NfsStatus.{NfsStatus}
-use Rattle.nfs_wire.specs.declared.status.NfsStatus.TheVariants.{Permission}
-use Rattle.side_wire.specs.Mount.{HasMountForm, mount_result_bytes}
-use Rattle.side_wire.specs.Nlm.{nlm_result_bytes}
-use Rattle.side_wire.specs.declared.mount.MountReply.{MountReply}
+use Rattle.side_wire.specs.Mount.{mount_result_bytes}
 use Rattle.side_wire.specs.declared.mount.MountReply.TheVariants as mount
 use Rattle.side_wire.specs.declared.mount.MountStatus.{MountStatus}
 use Rattle.side_wire.specs.declared.mount.MountStatus.TheVariants as mount_status
-use Rattle.side_wire.specs.declared.nlm.NlmReply.{NlmReply}
-use Rattle.side_wire.specs.declared.nlm.NlmReply.TheVariants as nlm
 use Rattle.nfs_machine.specs.declared.calls.Reply.{Reply}
 use Rattle.nfs_machine.specs.declared.calls.Reply.TheVariants as replies
 use Rattle.nfs_server.specs.Forms.{HasForm}
 use Rattle.nfs_server.specs.Serving.{results_of}
 
-mount_refused_size : (s : MountStatus) → length (mount_result_bytes (mount.Mnt (Err s))) ≤ 1000
+pub mount_refused_size : (s : MountStatus) → length (mount_result_bytes (mount.Mnt (Err s))) ≤ 1000
 unfolding appended with_word with_hyper with_padded with_arm
 mount_refused_size mount_status.Permission = omega arith
 mount_refused_size _ = omega arith
 
-mounted_size : (handle : List ℕ) → length handle ≤ 64 → length (mount_result_bytes (mount.Mnt (Ok handle))) ≤ 1000
+pub mounted_size : (handle : List ℕ) → length handle ≤ 64 → length (mount_result_bytes (mount.Mnt (Ok handle))) ≤ 1000
 unfolding appended with_word with_hyper with_padded with_arm
 mounted_size handle h = simp (length-append, length-replicate) (let p : padding (length handle) ≤ 3 = omega arith in omega (arith, h, p))
 
-mount_size : (r : MountReply) → HasMountForm r → length (mount_result_bytes r) ≤ 1000
-unfolding appended with_word with_hyper with_padded with_arm
-mount_size mount.Null form = omega arith
-mount_size (mount.Mnt (Ok handle)) form = mounted_size handle form
-mount_size (mount.Mnt (Err s)) form = mount_refused_size s
-
-nlm_size : (r : NlmReply) → length (nlm_result_bytes r) ≤ 1000
-unfolding appended
-nlm_size nlm.Null = omega arith
-
 pub results_size : (reply : Reply) → HasForm reply → length (results_of reply) ≤ 70000
 results_size (replies.Nfs reply) form = form.short
-results_size (replies.Mount reply) form = omega (arith, mount_size reply form)
-results_size (replies.Nlm reply) form = omega (arith, nlm_size reply)
+results_size (replies.Mount reply) form = form.1
+results_size (replies.Nlm reply) form = form.1
 
 pub answer_size : (start header whole : List ℕ) (xid : ℕ) (reply : Reply) → HasForm reply → start ≡ to_be_bytes w32 0 → header ≡ start ++ reply_of xid Success → whole ≡ header ++ results_of reply
     → length whole < 2147483652

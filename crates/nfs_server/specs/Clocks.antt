@@ -1,5 +1,7 @@
 -- What the server's clocks give.
-use Rattle.std.specs.Prelude.{◌≡◌, ◌^◌, ℕ, Option, Some, None, nat_lt, if◌then◌else◌}
+use Rattle.std.specs.Prelude.{◌≡◌, ◌+◌, ◌*◌, ◌^◌, ◌<◌, ◌≤◌, ℕ, Option, Some, None, nat_lt, if◌then◌else◌}
+use Rattle.std.specs.Duration.{as_nanos}
+use Rattle.std.specs.declared.time.Duration.{Duration}
 use Rattle.nfs_machine.specs.declared.moment.Moment.{Moment}
 use Rattle.nfs_server.specs.declared.clock.FixedClock.{FixedClock}
 use Rattle.nfs_server.specs.declared.clock.MachineClock.{MachineClock}
@@ -28,3 +30,14 @@ IsClockOf _ _ = ⊥
 -- so many nanoseconds as a start number
 abbrev pub number_of : ℕ → ℕ
 number_of nanoseconds = if nat_lt nanoseconds (2 ^ 64) then nanoseconds else 0
+
+abbrev pub number_after : Option Duration → ℕ
+number_after None = 0
+number_after (Some since) = number_of (as_nanos since)
+
+-- The moment that is so long after 1970 began. It is the last one again where that is not known, or where its seconds are no u32.
+abbrev pub IsMomentAfter : Option Duration → Moment → Moment → Type 0
+IsMomentAfter None last moment = moment ≡ last
+IsMomentAfter (Some since) last moment =
+    (as_nanos since < 2 ^ 32 * 1000000000 → moment.seconds * 1000000000 + moment.nanoseconds ≡ as_nanos since)
+    × (2 ^ 32 * 1000000000 ≤ as_nanos since → moment ≡ last)

@@ -1,5 +1,7 @@
 -- Replies whose results have a form.
-use Rattle.side_wire.specs.Mount.{HasMountForm}
+use Rattle.std.specs.Prelude.{◌≤◌, length}
+use Rattle.side_wire.specs.Mount.{HasMountForm, mount_result_bytes}
+use Rattle.side_wire.specs.Nlm.{HasNlmForm, nlm_result_bytes}
 use Rattle.nfs_machine.specs.Laws.{IsShort}
 use Rattle.nfs_machine.specs.declared.calls.Reply.{Reply}
 use Rattle.nfs_machine.specs.declared.calls.Reply.TheVariants.{Nfs, Mount, Nlm}
@@ -9,8 +11,8 @@ use Rattle.nfs_machine.specs.declared.calls.Refusal.TheVariants as refusals
 -- each part of the reply is within its bound, and so is the whole
 abbrev pub HasForm : Reply → Type 0
 HasForm (Nfs reply) = IsShort reply
-HasForm (Mount reply) = HasMountForm reply
-HasForm (Nlm reply) = Unit {0}
+HasForm (Mount reply) = HasMountForm reply × (length (mount_result_bytes reply) ≤ 70000)
+HasForm (Nlm reply) = HasNlmForm reply × (length (nlm_result_bytes reply) ≤ 70000)
 
 abbrev pub RefusalHasForm : Refusal → Type 0
 RefusalHasForm (refusals.Reply reply) = HasForm reply

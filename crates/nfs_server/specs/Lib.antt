@@ -10,4 +10,5 @@ pub mod Roots
 pub mod Served
 pub mod Serving
 pub mod Slots
+pub mod Started
 pub mod Taken

@@ -9,6 +9,7 @@ use crate::nlm;
 use nfs_machine::{Call, Ctx};
 use nfs_objects::{Outcome, View};
 use nfs_wire::NfsCall;
+use side_wire::MountCall;
 use std::alloc::{AllocError, Global};
 
 /// What the call comes to on what was read.
@@ -23,7 +24,7 @@ pub(crate) fn attempt(
 {
     match call {
         Call::Nfs(call) => attempt_nfs(alloc, call, ctx, view),
-        Call::Mount(call) => nfs_mount::attempt(alloc, call, ctx, view),
+        Call::Mount(call) => attempt_mount(alloc, call, ctx, view),
         Call::Nlm(call) => nlm::attempt(alloc, call, ctx, view),
     }
 }
@@ -38,6 +39,19 @@ fn attempt_nfs(alloc: Global, call: &NfsCall, ctx: &Ctx, view: &View) -> Result<
     } else {
         nfs_data::attempt(alloc, call, ctx, view)
     }
+}
+
+/// The same for MOUNT.
+fn attempt_mount(
+    alloc: Global,
+    call: &MountCall,
+    ctx: &Ctx,
+    view: &View,
+) -> Result<Outcome, AllocError>
+    requires { IsBuilt (Call.Mount call.now) }
+    ensures { IfOk result (λ outcome. Attempts (Call.Mount call.now) ctx.now view.now outcome) }
+{
+    nfs_mount::attempt(alloc, call, ctx, view)
 }
 
 /// Whether the call is on names.

@@ -2,7 +2,7 @@
 
 ghost use Rattle.std.specs.Prelude.{◌≡◌, ◌+◌, ◌*◌, ◌^◌, ◌<◌, ◌↔◌, IsSome, IfSome};
 ghost use Rattle.std.specs.Duration.{as_nanos};
-ghost use Rattle.nfs_server.specs.Clocks.{number_of};
+ghost use Rattle.nfs_server.specs.Clocks.{IsMomentAfter, number_after, number_of};
 
 use nfs_machine::{Moment, Moments};
 use std::rt::Clock;
@@ -57,9 +57,7 @@ impl<C: Clock> Moments for MachineClock<C> {
     ghost gives = { RemembersLast };
 
     fn moment(&mut self) -> Moment {
-        self.last = since_1970(&self.clock)
-            .and_then(moment_at)
-            .unwrap_or(self.last);
+        self.last = moment_after(since_1970(&self.clock), self.last);
         self.last
     }
 }
@@ -102,12 +100,22 @@ impl<C: Clock> Moments for ServerClock<C> {
 
 /// A start number for handles: the nanoseconds of the machine's clock, 0 where they can't be read as a u64.
 pub fn start_number(clock: &impl Clock) -> u64 {
-    since_1970(clock).map_or(0, number_at)
+    number_after(since_1970(clock))
 }
 
 fn since_1970(clock: &impl Clock) -> Option<Duration> {
     let now = SystemTime::now(clock).ok()?;
     now.duration_since(UNIX_EPOCH).ok()
+}
+
+// The moment that is so long after 1970 began; the last one again where that is not known, or no moment.
+fn moment_after(since_1970: Option<Duration>, last: Moment) -> Moment
+    ensures { IsMomentAfter since_1970 last result }
+{
+    match since_1970 {
+        Some(since) => moment_at(since).unwrap_or(last),
+        None => last,
+    }
 }
 
 // The moment that is so long after 1970 began; None where its seconds are no u32.
@@ -121,6 +129,16 @@ fn moment_at(since_1970: Duration) -> Option<Moment>
         seconds,
         nanoseconds: since_1970.subsec_nanos(),
     })
+}
+
+// The nanoseconds since 1970; 0 where these are not known, or no u64.
+fn number_after(since_1970: Option<Duration>) -> u64
+    ensures { result ≡ number_after since_1970 }
+{
+    match since_1970 {
+        Some(since) => number_at(since),
+        None => 0,
+    }
 }
 
 fn number_at(since_1970: Duration) -> u64

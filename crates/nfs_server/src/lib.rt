@@ -2,7 +2,7 @@
 //!
 //! What `serve_plain` writes is, byte for byte, the answers of a run of the machine over the records of its input, in
 //! order. It stands on `nfs_rpc` for records and headers, on `nfs_wire` and `side_wire` for arguments and results, and on
-//! `nfs_data` and `nfs_mount` for what each call comes to.
+//! `nfs_data`, `nfs_names` and `nfs_mount` for what each call comes to.
 #![tactic(auto)]
 
 mod answers;
@@ -16,6 +16,7 @@ pub mod options;
 pub mod plain;
 pub mod serve;
 mod slots;
+pub mod started;
 pub mod stdio;
 mod writes;
 
@@ -25,6 +26,7 @@ pub use exit::Exit;
 pub use options::Options;
 pub use plain::Plain;
 pub use serve::{Served, StreamFault, serve_plain, served_is_a_run};
+pub use started::serve_options;
 pub use stdio::serve_stdio;
 
 #[cfg(test)]

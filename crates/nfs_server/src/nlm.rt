@@ -2,6 +2,7 @@
 
 ghost use Rattle.std.specs.Prelude.{IfOk};
 ghost use Rattle.nfs_objects.specs.Attempt.{Attempts};
+ghost use Rattle.nfs_server.specs.Built.{IsBuilt};
 
 use nfs_machine::{Call, Ctx, Reply};
 use nfs_objects::{Outcome, View, unchanged};
@@ -15,6 +16,7 @@ pub(crate) fn attempt(
     ctx: &Ctx,
     view: &View,
 ) -> Result<Outcome, AllocError>
+    requires { IsBuilt (Call.Nlm call.now) }
     ensures { IfOk result (λ outcome. Attempts (Call.Nlm call.now) ctx.now view.now outcome) }
 {
     match call {
@@ -25,5 +27,6 @@ pub(crate) fn attempt(
             view,
             Reply::Nlm(NlmReply::Null),
         ),
+        _ => unreachable!(),
     }
 }

@@ -20,7 +20,7 @@ use crate::answers;
 use crate::asking::{Asked, Unasked, read_record};
 use crate::attempts::attempt;
 use crate::slots::{Slot, Slots};
-use crate::writes::{install, make_room, writes_of};
+use crate::writes::{copy_writes, install, make_room};
 use bytes::Bytes;
 use nfs_machine::{Call, Ctx, Exports, Limits, Moment};
 use nfs_objects::{
@@ -111,10 +111,7 @@ impl Plain {
         ensures err { OnErr result (self.new ≡ self.old) }
     {
         match read_record(&message) {
-            Ok(asked) => {
-                let answer = self.answer_call(alloc, host, &message, &asked, moment)?;
-                Ok(Some(answer))
-            }
+            Ok(asked) => self.answer_call(alloc, host, &message, &asked, moment),
             Err(Unasked::Early(fault)) => answers::early(alloc, fault),
             Err(Unasked::Memory) => Err(AllocError),
         }
@@ -128,13 +125,13 @@ impl Plain {
         message: &Record,
         asked: &Asked,
         moment: Moment,
-    ) -> Result<Vec<u8>, AllocError>
+    ) -> Result<Option<Vec<u8>>, AllocError>
         requires { IsAsked message.now asked.now }
-        ensures ok { IfOk result (λ answer. IsAnswered (record { host = host.now; bytes = message.now; moment = moment }) self.old self.new answer.items) }
+        ensures ok { IfOk result (λ answer. IsAnswered (record { host = host.now; bytes = message.now; moment = moment }) self.old self.new (answer_bytes answer)) }
         ensures err { OnErr result (self.new ≡ self.old) }
     {
         match self.execute(alloc, host, asked, moment) {
-            Ok(answer) => Ok(answer),
+            Ok(answer) => Ok(Some(answer)),
             Err(AllocError) => refuse(alloc, asked),
         }
     }
@@ -227,17 +224,18 @@ impl Plain {
         }
     }
 
-    /// Makes the answer, then room for the writes; then it makes the writes, which cannot fail. An error changes nothing.
+    /// Makes the answer, a copy of the writes and room for them; then it makes the writes, which cannot fail. An error changes nothing.
     fn commit(&mut self, alloc: Global, xid: u32, done: Done) -> Result<Vec<u8>, AllocError>
         requires fits { Fits done.view (store_of self.old) }
         requires exports { done.ctx.exports ≡ self.old.setting.exports }
+        requires built { IsBuilt done.call }
         ensures ok { IfOk result (λ answer. MakesStep done.ctx done.call xid self.old self.new answer.items) }
         ensures err { OnErr result (self.new ≡ self.old) }
     {
         let _ = &self.slots;
         done.promise();
         let answer = answers::success(alloc, xid, done.reply())?;
-        let writes = writes_of(done);
+        let writes = copy_writes(alloc, done.writes())?;
         make_room(&mut self.slots, &writes)?;
         install(&mut self.slots, &mut self.mounts, writes);
         Ok(answer)
@@ -245,10 +243,12 @@ impl Plain {
 }
 
 /// The answer to a call that there was no memory for.
-fn refuse(alloc: Global, asked: &Asked) -> Result<Vec<u8>, AllocError>
-    ensures { IfOk result (λ answer. answer.items ≡ refusal_bytes asked.now.xid (refusal_of asked.now.call)) }
+fn refuse(alloc: Global, asked: &Asked) -> Result<Option<Vec<u8>>, AllocError>
+    requires { IsBuilt asked.now.call }
+    ensures { IfOk result (λ answer. answer_bytes answer ≡ refusal_bytes asked.now.xid (refusal_of asked.now.call)) }
 {
-    answers::refuse(alloc, asked.xid, &asked.call.refusal())
+    let answer = answers::refuse(alloc, asked.xid, &asked.call.refusal()?)?;
+    Ok(Some(answer))
 }
 
 /// The slots of so many roots, made at this time, behind an empty one.

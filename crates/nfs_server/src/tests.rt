@@ -12,6 +12,7 @@ mod files;
 mod lookups;
 mod memory;
 mod permission;
+mod starts;
 mod streams;
 
 use crate::*;

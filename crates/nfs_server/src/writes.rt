@@ -1,6 +1,6 @@
 //! Writes to the store: first room for all of them, then the writes, which cannot fail.
 
-ghost use Rattle.std.specs.Prelude.{◌≡◌, ℕ, ◌++◌, Option, length, replicate, map, option_map, OnOk, OnErr};
+ghost use Rattle.std.specs.Prelude.{◌≡◌, ℕ, ◌++◌, Option, length, replicate, map, option_map, IfOk, OnOk, OnErr};
 ghost use Rattle.std.specs.Arc.{arc_value};
 ghost use Rattle.std.specs.List.{AllByRecursion};
 ghost use Rattle.nfs_objects.specs.Store.{with_write, with_writes};
@@ -10,16 +10,23 @@ ghost use Rattle.nfs_server.specs.Plain.{HasRoom, store_in};
 ghost use Rattle.nfs_server.specs.Slots.{empty_slot};
 
 use crate::slots::Slots;
-use nfs_objects::{Addr, Done, Object, Parts, Write};
-use std::alloc::AllocError;
+use nfs_objects::{Addr, Object, Write, share};
+use std::alloc::{AllocError, Global};
 use std::sync::Arc;
 
-/// The writes that a call came to.
-pub(crate) fn writes_of(done: Done) -> Vec<Write>
-    ensures { map write_value result.items ≡ done.writes }
+/// The same writes, which share the objects.
+pub(crate) fn copy_writes(alloc: Global, writes: &[Write]) -> Result<Vec<Write>, AllocError>
+    ensures { IfOk result (λ copies. map write_value copies.items ≡ map write_value writes.now) }
 {
-    let Parts { writes, .. } = done.into_parts();
-    writes
+    let mut copies = Vec::with_capacity(alloc, writes.len())?;
+    for write in writes {
+        let object = share(&write.object)?;
+        copies.push(Write {
+            address: write.address,
+            object,
+        })?;
+    }
+    Ok(copies)
 }
 
 /// Makes room for all of the writes. An error changes nothing.

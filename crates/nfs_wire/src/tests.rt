@@ -35,12 +35,13 @@ fn read(
     Ok(read_args(procedure, SharedReader::new(&record)))
 }
 
-/// What is written of a reply behind a byte 255.
-fn written(rt: &HostRuntime, reply: &NfsReply) -> Result<Vec<u8>, Fail>
-    requires { HasNfsForm reply.now }
+/// What is written of a reply behind a byte 255. It takes the reply, since a test that keeps one is
+/// slow to prove.
+fn written(rt: &HostRuntime, reply: NfsReply) -> Result<Vec<u8>, Fail>
+    requires { HasNfsForm reply }
 {
     let mut writer = Writer::from_vec(bytes_of(rt, &[], &[255])?);
-    write_result(&mut writer, reply)?;
+    write_result(&mut writer, &reply)?;
     Ok(writer.into_vec())
 }
 

@@ -1,3 +1,5 @@
+pub mod EntryLaws
+pub mod MessageLaws
 pub mod MountLaws
 pub mod NlmLaws
 pub mod ProgramLaws

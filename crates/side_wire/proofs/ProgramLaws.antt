@@ -1,6 +1,6 @@
 -- Reading finds what spells the arguments, since the laws of XDR hold at the type of every procedure's arguments;
 -- and a call is made again of its procedure's number and the value of its arguments, so equal values are equal calls.
-use Rattle.std.proofs.Common.{◌≡◌, ◌≢◌, ℕ, zero, suc, ◌<◌, List, [], ◌∷◌, ◌++◌, length, Result, Ok, Err, OnOk, sym, subst, ap, ◌∙◌}
+use Rattle.std.proofs.Common.{◌≡◌, ◌≢◌, ℕ, zero, suc, List, [], ◌∷◌, ◌++◌, Result, Ok, Err, OnOk, sym, subst, ap, ◌∙◌}
 use Rattle.std.specs.Result.{IsErrAnd}
 use Rattle.nfs_xdr.specs.declared.XdrError.{XdrError}
 use Rattle.nfs_xdr.specs.declared.XdrError.TheVariants.{Memory}
@@ -26,11 +26,10 @@ IsFrontedBy-read types procedure_of arguments_of call bytes rest fits e =
     (found.0, rest, found.1, found.2)
 
 -- what reading refuses, no front spells
-pub IsGarbage-refused : {C : Type 0} (types : List Xdr) (procedure_of : C → ℕ) (arguments_of : (call : C) → Value (type_at types (procedure_of call))) → ((call : C) → procedure_of call < length types) → (procedure : ℕ) (bytes : List ℕ) (error : XdrError) → (procedure < length types → read (type_at types procedure) bytes ≡ Err error) → IsGarbage procedure_of (SpellsCall types procedure_of arguments_of) procedure bytes
-IsGarbage-refused types procedure_of arguments_of known procedure bytes error refused call front rest of_call whole spelled =
-    let P : ℕ → Type 0 = λ n. n < length types in
+pub IsGarbage-refused : {C : Type 0} (is_procedure : ℕ → Type 0) (types : List Xdr) (procedure_of : C → ℕ) (arguments_of : (call : C) → Value (type_at types (procedure_of call))) → ((call : C) → is_procedure (procedure_of call)) → (procedure : ℕ) (bytes : List ℕ) (error : XdrError) → (is_procedure procedure → read (type_at types procedure) bytes ≡ Err error) → IsGarbage procedure_of (SpellsCall types procedure_of arguments_of) procedure bytes
+IsGarbage-refused is_procedure types procedure_of arguments_of known procedure bytes error refused call front rest of_call whole spelled =
     let Q : ℕ → Type 0 = λ n. read (type_at types n) bytes ≡ Err error in
-    let e : read (type_at types (procedure_of call)) bytes ≡ Err error = subst Q (sym of_call) (refused (subst P of_call (known call))) in
+    let e : read (type_at types (procedure_of call)) bytes ≡ Err error = subst Q (sym of_call) (refused (subst is_procedure of_call (known call))) in
     (refusal_means_unspelled (type_at types (procedure_of call)) bytes error e).1 (arguments_of call) front rest whole spelled
 
 -- equal values of one procedure make equal calls

@@ -1,4 +1,6 @@
 pub mod ArgumentsError
+pub mod Messages
 pub mod Mount
 pub mod Nlm
+pub mod NlmTypes
 pub mod Programs

@@ -1,6 +1,6 @@
--- What is said of the calls and results of each program. A program has the type of each procedure's arguments, the
--- procedure of each call, the value of its arguments, and the type and value of each reply's result.
-use Rattle.std.specs.Prelude.{◌≡◌, ◌≢◌, ℕ, ◌<◌, List, ◌++◌, length, slice_index_or, Result, Ok, Err}
+-- What is said of the calls and results of each program. A program has its procedures and the type of each one's
+-- arguments, the procedure of each call, the value of its arguments, and the type and value of each reply's result.
+use Rattle.std.specs.Prelude.{◌≡◌, ◌≢◌, ℕ, List, ◌++◌, slice_index_or, Result, Ok, Err}
 use Rattle.nfs_xdr.specs.declared.XdrError.{XdrError}
 use Rattle.nfs_xdr.specs.declared.XdrError.TheVariants.{Memory}
 use Rattle.nfs_xdr.specs.Reading.{read}
@@ -27,11 +27,12 @@ SpellsOneCall {C} procedure_of spells =
     (bytes front rest front' rest' : List ℕ) (call call' : C) → procedure_of call ≡ procedure_of call' → bytes ≡ front ++ rest → spells call front → bytes ≡ front' ++ rest' → spells call' front' → call ≡ call'
 
 -- What reading a call answers and leaves: the call whose arguments reading gives, or the error that it gives.
-abbrev pub ReadsCall : {C : Type 0} → (types : List Xdr) (procedure_of : C → ℕ) → ((call : C) → Value (type_at types (procedure_of call))) → ℕ → List ℕ → List ℕ → Result C XdrError → Type 0
-ReadsCall types procedure_of arguments_of procedure old new (Ok call) =
+-- A procedure that the program has not is always refused.
+abbrev pub ReadsCall : {C : Type 0} → (is_procedure : ℕ → Type 0) (types : List Xdr) (procedure_of : C → ℕ) → ((call : C) → Value (type_at types (procedure_of call))) → ℕ → List ℕ → List ℕ → Result C XdrError → Type 0
+ReadsCall is_procedure types procedure_of arguments_of procedure old new (Ok call) =
     (procedure_of call ≡ procedure) × (read (type_at types (procedure_of call)) old ≡ Ok (arguments_of call, new))
-ReadsCall types procedure_of arguments_of procedure old new (Err e) =
-    e ≢ Memory → procedure < length types → read (type_at types procedure) old ≡ Err e
+ReadsCall is_procedure types procedure_of arguments_of procedure old new (Err e) =
+    e ≢ Memory → is_procedure procedure → read (type_at types procedure) old ≡ Err e
 
 -- What a writer of a result answers and leaves: the value at the end, which has a spelling, or no memory.
 abbrev pub WritesResult : (t : Xdr) × Value t → List ℕ → List ℕ → Result (Unit {0}) XdrError → Type 0

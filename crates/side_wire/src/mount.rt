@@ -1,18 +1,19 @@
 //! MOUNT version 3 (RFC 1813, appendix I).
 
-ghost use Rattle.std.specs.Prelude.{◌≡◌, ◌≤◌, ◌++◌, length, IfOk, IfErr, IsErrOf, OnOk};
+ghost use Rattle.std.specs.Prelude.{◌≡◌, ◌++◌, IfOk, IfErr, IsErrOf, OnOk};
 ghost use Rattle.nfs_xdr.specs.Laws.{IsItsSpelling};
 ghost use Rattle.nfs_xdr.specs.Reading.{ReadsFront};
 ghost use Rattle.nfs_xdr.specs.declared.XdrError.TheVariants.{Memory};
 ghost use Rattle.side_wire.specs.Programs.{IsFrontedBy, IsGarbage, SpellsOneCall, WritesResult};
-ghost use Rattle.side_wire.specs.Mount.{mount_procedure_of, SpellsMountArguments, dirpath, mount_status_number, mnt_result, mount_result_of, mount_result_bytes, HasMountForm, ReadsMountCall};
+ghost use Rattle.side_wire.specs.Mount.{mount_procedure_of, SpellsMountArguments, dirpath, mount_result_of, mount_result_bytes, HasMountForm, ReadsMountCall};
+
+mod lists;
+mod results;
 
 use crate::arguments::{ArgumentsError, are_bytes};
 use bytes::Bytes;
+pub use lists::{ExportList, ExportNode, Groups, MountBody, MountList};
 use nfs_xdr::{SharedReader, Writer, XdrError};
-
-/// The flavor of credentials that may be used on what is mounted (RFC 5531, 8.2).
-const AUTH_SYS: i32 = 1;
 
 /// A status other than MNT3_OK (`mountstat3`).
 #[derive(Clone, Copy, Debug, PartialEq, Eq)]
@@ -29,22 +30,38 @@ pub enum MountStatus {
 }
 
 /// A call of MOUNT version 3.
-#[derive(Clone, Debug, Drop, PartialEq, Eq)]
+#[derive(Debug, Drop, PartialEq, Eq)]
 pub enum MountCall {
     /// Procedure 0 (RFC 1813, 5.2.0).
     Null,
     /// Procedure 1 (RFC 1813, 5.2.1), with the path.
     Mnt(Bytes),
+    /// Procedure 2 (RFC 1813, 5.2.2).
+    Dump,
+    /// Procedure 3, UMNT (RFC 1813, 5.2.3), with the path.
+    Unmount(Bytes),
+    /// Procedure 4, UMNTALL (RFC 1813, 5.2.4).
+    UnmountAll,
+    /// Procedure 5 (RFC 1813, 5.2.5).
+    Export,
 }
 
 /// The results of a call of MOUNT version 3.
-#[derive(Clone, Debug, Drop, PartialEq, Eq)]
+#[derive(Debug, Drop, PartialEq, Eq)]
 pub enum MountReply {
     /// Procedure 0 (RFC 1813, 5.2.0).
     Null,
     /// Procedure 1 (RFC 1813, 5.2.1): the handle of what the path names, of at most 64 bytes. The
     /// flavors that may be used on it are AUTH_SYS alone.
     Mnt(Result<Bytes, MountStatus>),
+    /// Procedure 2 (RFC 1813, 5.2.2).
+    Dump(MountList),
+    /// Procedure 3, UMNT (RFC 1813, 5.2.3).
+    Unmount,
+    /// Procedure 4, UMNTALL (RFC 1813, 5.2.4).
+    UnmountAll,
+    /// Procedure 5 (RFC 1813, 5.2.5).
+    Export(ExportList),
 }
 
 /// One list of bytes holds at its front the arguments of at most one call of a procedure.
@@ -89,6 +106,10 @@ fn read_call(procedure: u32, arguments: &mut SharedReader<'_>) -> Result<MountCa
     match procedure {
         0 => Ok(MountCall::Null),
         1 => read_mnt(arguments),
+        2 => Ok(MountCall::Dump),
+        3 => read_unmount(arguments),
+        4 => Ok(MountCall::UnmountAll),
+        5 => Ok(MountCall::Export),
         _ => Err(XdrError::BadValue),
     }
 }
@@ -98,6 +119,13 @@ fn read_mnt(arguments: &mut SharedReader<'_>) -> Result<MountCall, XdrError>
     ensures { ReadsMountCall 1 arguments.old arguments.new result }
 {
     Ok(MountCall::Mnt(read_path(arguments)?))
+}
+
+/// The arguments of UMNT (RFC 1813, 5.2.3).
+fn read_unmount(arguments: &mut SharedReader<'_>) -> Result<MountCall, XdrError>
+    ensures { ReadsMountCall 3 arguments.old arguments.new result }
+{
+    Ok(MountCall::Unmount(read_path(arguments)?))
 }
 
 /// A path (`dirpath`, RFC 1813, 5.1.5).
@@ -114,48 +142,9 @@ fn append_result(writer: &mut Writer, reply: &MountReply) -> Result<(), XdrError
     ensures { WritesResult (mount_result_of reply.now) writer.old writer.new result }
 {
     match reply {
-        MountReply::Null => Ok(()),
-        MountReply::Mnt(mounted) => write_mnt(writer, mounted),
-    }
-}
-
-/// The result of MNT (`mountres3`, RFC 1813, 5.2.1).
-#[tactic(auto, using(crate::proofs::MountLaws::refusals), unfolding(nfs_xdr::specs::Writing::appended, nfs_xdr::specs::Writing::with_arm))]
-fn write_mnt(writer: &mut Writer, mounted: &Result<Bytes, MountStatus>) -> Result<(), XdrError>
-    requires { IfOk mounted.now (λ handle. length handle ≤ 64) }
-    ensures { WritesResult (mnt_result mounted.now) writer.old writer.new result }
-{
-    match mounted {
-        Ok(handle) => write_mounted(writer, handle.as_slice()),
-        Err(status) => writer.u32(number(*status)),
-    }
-}
-
-/// MNT3_OK with its arm (`mountres3_ok`, RFC 1813, 5.2.1): the handle, and an array of one flavor.
-#[tactic(auto, unfolding(nfs_xdr::specs::Writing::appended, nfs_xdr::specs::Writing::with_arm))]
-fn write_mounted(writer: &mut Writer, handle: &[u8]) -> Result<(), XdrError>
-    requires { length handle.now ≤ 64 }
-    ensures { WritesResult (mnt_result (Ok handle.now)) writer.old writer.new result }
-{
-    writer.u32(0)?;
-    writer.opaque(handle)?;
-    writer.u32(1)?;
-    writer.i32(AUTH_SYS)
-}
-
-/// The number of a status (`mountstat3`).
-fn number(status: MountStatus) -> u32
-    ensures { result ≡ mount_status_number status }
-{
-    match status {
-        MountStatus::Permission => 1,
-        MountStatus::NoEntry => 2,
-        MountStatus::Io => 5,
-        MountStatus::Access => 13,
-        MountStatus::NotDirectory => 20,
-        MountStatus::Invalid => 22,
-        MountStatus::NameTooLong => 63,
-        MountStatus::NotSupported => 10004,
-        MountStatus::ServerFault => 10006,
+        MountReply::Null | MountReply::Unmount | MountReply::UnmountAll => Ok(()),
+        MountReply::Mnt(mounted) => results::write_mnt(writer, mounted),
+        MountReply::Dump(mounts) => results::write_dump(writer, mounts.as_slice()),
+        MountReply::Export(exports) => results::write_export(writer, exports.as_slice()),
     }
 }

@@ -48,9 +48,21 @@ fn is_read(
     words: &[u32],
     call: NfsCall,
 ) -> Result<bool, Fail> {
-    let behind = bytes_of(rt, words, &[7])?;
-    let arguments = bytes_of(rt, front, behind.as_slice())?;
-    for length in 0..arguments.len().saturating_sub(1) {
+    is_read_before(rt, procedure, front, words, &[7], call)
+}
+
+/// The same with these bytes behind them.
+fn is_read_before(
+    rt: &HostRuntime,
+    procedure: u32,
+    front: &[u32],
+    words: &[u32],
+    behind: &[u8],
+    call: NfsCall,
+) -> Result<bool, Fail> {
+    let back = bytes_of(rt, words, behind)?;
+    let arguments = bytes_of(rt, front, back.as_slice())?;
+    for length in 0..arguments.len().saturating_sub(behind.len()) {
         if read(rt, procedure, &arguments.as_slice()[..length])? != Err(ArgumentsError::Garbage) {
             return Ok(false);
         }
@@ -70,10 +82,15 @@ fn is_garbage(
     Ok(read(rt, procedure, arguments.as_slice())? == Err(ArgumentsError::Garbage))
 }
 
+/// Whether the bytes are read as a call of NULL.
+fn is_null(rt: &HostRuntime, bytes: &[u8]) -> Result<bool, Fail> {
+    Ok(read(rt, 0, bytes)? == Ok(NfsCall::Null))
+}
+
 #[test]
 fn null_has_no_arguments(rt: HostRuntime) -> Result<(), Fail> {
-    assert_eq!(rt; read(&rt, 0, &[])?, Ok(NfsCall::Null));
-    assert_eq!(rt; read(&rt, 0, &[1, 2, 3])?, Ok(NfsCall::Null));
+    assert!(rt; is_null(&rt, &[])?);
+    assert!(rt; is_null(&rt, &[1, 2, 3])?);
     one_call_is_spelled();
     Ok(())
 }
@@ -93,28 +110,33 @@ fn getattr_is_read(rt: HostRuntime) -> Result<(), Fail> {
 
 #[test]
 fn a_handle_has_at_most_64_bytes(rt: HostRuntime) -> Result<(), Fail> {
-    let long = [7u8; 68];
-    let handle = Bytes::copy_from_slice(rt.alloc(), &long[..64])?;
-    let at_bound = bytes_of(&rt, &[64], &long[..64])?;
-    assert_eq!(rt;
-        read(&rt, 1, at_bound.as_slice())?,
-        Ok(NfsCall::Getattr(handle))
+    let handle = Bytes::copy_from_slice(rt.alloc(), &[7; 64])?;
+    assert!(rt;
+        is_read_before(
+            &rt,
+            1,
+            &[64],
+            &[0x0707_0707; 16],
+            &[],
+            NfsCall::Getattr(handle)
+        )?
     );
-    let above = bytes_of(&rt, &[65], &long)?;
-    assert_eq!(rt;
-        read(&rt, 1, above.as_slice())?,
-        Err(ArgumentsError::Garbage)
-    );
+    assert!(rt; is_garbage(&rt, 1, &[65], &[0x0707_0707; 17])?);
     Ok(())
 }
 
 #[test]
 fn padding_is_any_bytes(rt: HostRuntime) -> Result<(), Fail> {
-    let padded = bytes_of(&rt, &[5], b"abcde\x01\xff\x80")?;
     let handle = Bytes::from_static(b"abcde");
-    assert_eq!(rt;
-        read(&rt, 1, padded.as_slice())?,
-        Ok(NfsCall::Getattr(handle))
+    assert!(rt;
+        is_read_before(
+            &rt,
+            1,
+            &[5],
+            &[0x6162_6364, 0x6501_ff80],
+            &[],
+            NfsCall::Getattr(handle)
+        )?
     );
     assert!(rt; is_garbage(&rt, 1, &[u32::MAX], &[])?);
     Ok(())
@@ -183,17 +205,13 @@ fn lookup_is_read(rt: HostRuntime) -> Result<(), Fail> {
 
 #[test]
 fn a_name_has_any_length(rt: HostRuntime) -> Result<(), Fail> {
-    let name = [b'n'; 256];
-    let behind = bytes_of(&rt, &[256], &name)?;
-    let arguments = bytes_of(&rt, &HANDLE, behind.as_slice())?;
+    let mut words = [0x6e6e_6e6e; 65];
+    words[0] = 256;
     let place = Place {
         directory: handle(),
-        name: Bytes::copy_from_slice(rt.alloc(), &name)?,
+        name: Bytes::copy_from_slice(rt.alloc(), &[b'n'; 256])?,
     };
-    assert_eq!(rt;
-        read(&rt, 3, arguments.as_slice())?,
-        Ok(NfsCall::Lookup(place))
-    );
+    assert!(rt; is_read_before(&rt, 3, &HANDLE, &words, &[], NfsCall::Lookup(place))?);
     assert!(rt; is_garbage(&rt, 3, &HANDLE, &[u32::MAX, 0])?);
     Ok(())
 }

@@ -26,46 +26,46 @@ const UNKNOWN: Wcc = Wcc {
 };
 
 /// Whether these words are written of the reply.
-fn is_written(rt: &HostRuntime, reply: &NfsReply, words: &[u32]) -> Result<bool, Fail>
-    requires { HasNfsForm reply.now }
+fn is_written(rt: &HostRuntime, reply: NfsReply, words: &[u32]) -> Result<bool, Fail>
+    requires { HasNfsForm reply }
 {
+    let written = written(rt, reply)?;
     let expected = bytes_of(rt, words, &[])?;
-    are_written(rt, reply, expected.as_slice())
+    ends_in(rt, written.as_slice(), expected.as_slice())
 }
 
 /// Whether these words are written of the reply, with the attributes of the directory between them.
 fn is_written_around(
     rt: &HostRuntime,
-    reply: &NfsReply,
+    reply: NfsReply,
     front: &[u32],
     back: &[u32],
 ) -> Result<bool, Fail>
-    requires { HasNfsForm reply.now }
+    requires { HasNfsForm reply }
 {
+    let written = written(rt, reply)?;
     let back = bytes_of(rt, back, &[])?;
     let attributes = bytes_of(rt, &DIRECTORY, back.as_slice())?;
     let expected = bytes_of(rt, front, attributes.as_slice())?;
-    are_written(rt, reply, expected.as_slice())
+    ends_in(rt, written.as_slice(), expected.as_slice())
 }
 
-/// Whether these bytes are written of the reply, behind what stands there.
-fn are_written(rt: &HostRuntime, reply: &NfsReply, bytes: &[u8]) -> Result<bool, Fail>
-    requires { HasNfsForm reply.now }
-{
+/// Whether what was written is these bytes, behind what stood there.
+fn ends_in(rt: &HostRuntime, written: &[u8], bytes: &[u8]) -> Result<bool, Fail> {
     let mut expected = bytes_of(rt, &[], &[255])?;
     expected.extend_from_slice(bytes)?;
-    Ok(written(rt, reply)?.as_slice() == expected.as_slice())
+    Ok(written == expected.as_slice())
 }
 
 #[test]
 fn null_has_no_result(rt: HostRuntime) -> Result<(), Fail> {
-    assert!(rt; is_written(&rt, &NfsReply::Null, &[])?);
+    assert!(rt; is_written(&rt, NfsReply::Null, &[])?);
     Ok(())
 }
 
 #[test]
 fn attributes_are_written(rt: HostRuntime) -> Result<(), Fail> {
-    assert!(rt; is_written_around(&rt, &NfsReply::Getattr(Ok(directory())), &[0], &[])?);
+    assert!(rt; is_written_around(&rt, NfsReply::Getattr(Ok(directory())), &[0], &[])?);
     Ok(())
 }
 
@@ -108,7 +108,7 @@ fn attributes_of_a_device_are_written(rt: HostRuntime) -> Result<(), Fail> {
         0x3e8,
         0,
     ];
-    assert!(rt; is_written(&rt, &NfsReply::Getattr(Ok(device)), &words)?);
+    assert!(rt; is_written(&rt, NfsReply::Getattr(Ok(device)), &words)?);
     Ok(())
 }
 
@@ -121,7 +121,7 @@ fn refusals_are_written(rt: HostRuntime) -> Result<(), Fail> {
         (NfsStatus::BadHandle, 10001),
         (NfsStatus::Jukebox, 10008),
     ] {
-        assert!(rt; is_written(&rt, &NfsReply::Getattr(Err(status)), &[number])?);
+        assert!(rt; is_written(&rt, NfsReply::Getattr(Err(status)), &[number])?);
     }
     Ok(())
 }
@@ -143,7 +143,7 @@ fn setattr_is_written(rt: HostRuntime) -> Result<(), Fail> {
     assert!(rt;
         is_written_around(
             &rt,
-            &NfsReply::Setattr(done),
+            NfsReply::Setattr(done),
             &[0, 1, 1, 2, 3, 0, 4, 0, 1],
             &[],
         )?
@@ -155,7 +155,7 @@ fn setattr_is_written(rt: HostRuntime) -> Result<(), Fail> {
         },
         result: Err(NfsStatus::NotSynchronized),
     };
-    assert!(rt; is_written_around(&rt, &NfsReply::Setattr(refused), &[10002, 0, 1], &[])?);
+    assert!(rt; is_written_around(&rt, NfsReply::Setattr(refused), &[10002, 0, 1], &[])?);
     Ok(())
 }
 
@@ -171,7 +171,7 @@ fn lookup_is_written(rt: HostRuntime) -> Result<(), Fail> {
     assert!(rt;
         is_written_around(
             &rt,
-            &NfsReply::Lookup(done),
+            NfsReply::Lookup(done),
             &[0, 5, 0x6162_6364, 0x6500_0000, 1],
             &[0],
         )?
@@ -185,7 +185,7 @@ fn refused_lookup_is_written(rt: HostRuntime) -> Result<(), Fail> {
         directory: Some(directory()),
         result: Err(NfsStatus::NoEntry),
     };
-    assert!(rt; is_written_around(&rt, &NfsReply::Lookup(refused), &[2, 1], &[])?);
+    assert!(rt; is_written_around(&rt, NfsReply::Lookup(refused), &[2, 1], &[])?);
     Ok(())
 }
 
@@ -195,12 +195,12 @@ fn access_is_written(rt: HostRuntime) -> Result<(), Fail> {
         attributes: Some(directory()),
         result: Ok(0x1f),
     };
-    assert!(rt; is_written_around(&rt, &NfsReply::Access(done), &[0, 1], &[0x1f])?);
+    assert!(rt; is_written_around(&rt, NfsReply::Access(done), &[0, 1], &[0x1f])?);
     let refused = AccessReply {
         attributes: None,
         result: Err(NfsStatus::Stale),
     };
-    assert!(rt; is_written(&rt, &NfsReply::Access(refused), &[70, 0])?);
+    assert!(rt; is_written(&rt, NfsReply::Access(refused), &[70, 0])?);
     Ok(())
 }
 
@@ -210,12 +210,12 @@ fn readlink_is_written(rt: HostRuntime) -> Result<(), Fail> {
         attributes: Some(directory()),
         result: Ok(Bytes::from_static(b"a/b")),
     };
-    assert!(rt; is_written_around(&rt, &NfsReply::Readlink(done), &[0, 1], &[3, 0x612f_6200])?);
+    assert!(rt; is_written_around(&rt, NfsReply::Readlink(done), &[0, 1], &[3, 0x612f_6200])?);
     let refused = ReadlinkReply {
         attributes: Some(directory()),
         result: Err(NfsStatus::Invalid),
     };
-    assert!(rt; is_written_around(&rt, &NfsReply::Readlink(refused), &[22, 1], &[])?);
+    assert!(rt; is_written_around(&rt, NfsReply::Readlink(refused), &[22, 1], &[])?);
     Ok(())
 }
 
@@ -232,7 +232,7 @@ fn read_is_written(rt: HostRuntime) -> Result<(), Fail> {
     assert!(rt;
         is_written_around(
             &rt,
-            &NfsReply::Read(done),
+            NfsReply::Read(done),
             &[0, 1],
             &[5, 1, 5, 0x6865_6c6c, 0x6f00_0000],
         )?
@@ -241,7 +241,7 @@ fn read_is_written(rt: HostRuntime) -> Result<(), Fail> {
         attributes: None,
         result: Err(NfsStatus::BadHandle),
     };
-    assert!(rt; is_written(&rt, &NfsReply::Read(refused), &[10001, 0])?);
+    assert!(rt; is_written(&rt, NfsReply::Read(refused), &[10001, 0])?);
     Ok(())
 }
 
@@ -263,7 +263,7 @@ fn write_is_written(rt: HostRuntime) -> Result<(), Fail> {
         assert!(rt;
             is_written(
                 &rt,
-                &NfsReply::Write(done),
+                NfsReply::Write(done),
                 &[0, 0, 0, 5, number, 0x0102_0304, 0x0506_0708],
             )?
         );
@@ -272,7 +272,7 @@ fn write_is_written(rt: HostRuntime) -> Result<(), Fail> {
         wcc: UNKNOWN,
         result: Err(NfsStatus::FileTooBig),
     };
-    assert!(rt; is_written(&rt, &NfsReply::Write(refused), &[27, 0, 0])?);
+    assert!(rt; is_written(&rt, NfsReply::Write(refused), &[27, 0, 0])?);
     Ok(())
 }
 
@@ -291,16 +291,16 @@ fn made() -> MadeReply
 #[test]
 fn create_and_mkdir_are_written(rt: HostRuntime) -> Result<(), Fail> {
     let front = [0, 1, 4, 0x6162_6364, 1];
-    assert!(rt; is_written_around(&rt, &NfsReply::Create(made()), &front, &[0, 0])?);
-    assert!(rt; is_written_around(&rt, &NfsReply::Mkdir(made()), &front, &[0, 0])?);
+    assert!(rt; is_written_around(&rt, NfsReply::Create(made()), &front, &[0, 0])?);
+    assert!(rt; is_written_around(&rt, NfsReply::Mkdir(made()), &front, &[0, 0])?);
     Ok(())
 }
 
 #[test]
 fn symlink_and_mknod_are_written(rt: HostRuntime) -> Result<(), Fail> {
     let front = [0, 1, 4, 0x6162_6364, 1];
-    assert!(rt; is_written_around(&rt, &NfsReply::Symlink(made()), &front, &[0, 0])?);
-    assert!(rt; is_written_around(&rt, &NfsReply::Mknod(made()), &front, &[0, 0])?);
+    assert!(rt; is_written_around(&rt, NfsReply::Symlink(made()), &front, &[0, 0])?);
+    assert!(rt; is_written_around(&rt, NfsReply::Mknod(made()), &front, &[0, 0])?);
     Ok(())
 }
 
@@ -313,12 +313,12 @@ fn what_was_made_may_be_unknown(rt: HostRuntime) -> Result<(), Fail> {
             attributes: None,
         }),
     };
-    assert!(rt; is_written(&rt, &NfsReply::Create(done), &[0, 0, 0, 0, 0])?);
+    assert!(rt; is_written(&rt, NfsReply::Create(done), &[0, 0, 0, 0, 0])?);
     let refused = MadeReply {
         directory: UNKNOWN,
         result: Err(NfsStatus::BadType),
     };
-    assert!(rt; is_written(&rt, &NfsReply::Mknod(refused), &[10007, 0, 0])?);
+    assert!(rt; is_written(&rt, NfsReply::Mknod(refused), &[10007, 0, 0])?);
     Ok(())
 }
 
@@ -328,7 +328,7 @@ fn remove_and_rmdir_are_written(rt: HostRuntime) -> Result<(), Fail> {
         directory: UNKNOWN,
         result: Ok(()),
     };
-    assert!(rt; is_written(&rt, &NfsReply::Remove(done), &[0, 0, 0])?);
+    assert!(rt; is_written(&rt, NfsReply::Remove(done), &[0, 0, 0])?);
     let refused = RemovedReply {
         directory: Wcc {
             after: Some(directory()),
@@ -336,7 +336,7 @@ fn remove_and_rmdir_are_written(rt: HostRuntime) -> Result<(), Fail> {
         },
         result: Err(NfsStatus::NotEmpty),
     };
-    assert!(rt; is_written_around(&rt, &NfsReply::Rmdir(refused), &[66, 0, 1], &[])?);
+    assert!(rt; is_written_around(&rt, NfsReply::Rmdir(refused), &[66, 0, 1], &[])?);
     Ok(())
 }
 
@@ -351,13 +351,13 @@ fn rename_is_written(rt: HostRuntime) -> Result<(), Fail> {
         to: UNKNOWN,
         result: Ok(()),
     };
-    assert!(rt; is_written_around(&rt, &NfsReply::Rename(done), &[0, 0, 1], &[0, 0])?);
+    assert!(rt; is_written_around(&rt, NfsReply::Rename(done), &[0, 0, 1], &[0, 0])?);
     let refused = RenamedReply {
         from,
         to: UNKNOWN,
         result: Err(NfsStatus::CrossDevice),
     };
-    assert!(rt; is_written_around(&rt, &NfsReply::Rename(refused), &[18, 0, 1], &[0, 0])?);
+    assert!(rt; is_written_around(&rt, NfsReply::Rename(refused), &[18, 0, 1], &[0, 0])?);
     Ok(())
 }
 
@@ -368,13 +368,13 @@ fn link_is_written(rt: HostRuntime) -> Result<(), Fail> {
         directory: UNKNOWN,
         result: Ok(()),
     };
-    assert!(rt; is_written_around(&rt, &NfsReply::Link(done), &[0, 1], &[0, 0])?);
+    assert!(rt; is_written_around(&rt, NfsReply::Link(done), &[0, 1], &[0, 0])?);
     let refused = LinkedReply {
         attributes: None,
         directory: UNKNOWN,
         result: Err(NfsStatus::TooManyLinks),
     };
-    assert!(rt; is_written(&rt, &NfsReply::Link(refused), &[31, 0, 0, 0])?);
+    assert!(rt; is_written(&rt, NfsReply::Link(refused), &[31, 0, 0, 0])?);
     Ok(())
 }
 
@@ -425,7 +425,7 @@ fn readdir_is_written(rt: HostRuntime) -> Result<(), Fail> {
         0,
         1,
     ];
-    assert!(rt; is_written_around(&rt, &NfsReply::Readdir(done), &[0, 1], &back)?);
+    assert!(rt; is_written_around(&rt, NfsReply::Readdir(done), &[0, 1], &back)?);
     Ok(())
 }
 
@@ -435,7 +435,7 @@ fn refused_readdir_is_written(rt: HostRuntime) -> Result<(), Fail> {
         attributes: None,
         result: Err(NfsStatus::BadCookie),
     };
-    assert!(rt; is_written(&rt, &NfsReply::Readdir(refused), &[10003, 0])?);
+    assert!(rt; is_written(&rt, NfsReply::Readdir(refused), &[10003, 0])?);
     Ok(())
 }
 
@@ -452,7 +452,7 @@ fn a_page_may_be_empty(rt: HostRuntime) -> Result<(), Fail> {
     assert!(rt;
         is_written(
             &rt,
-            &NfsReply::Readdir(done),
+            NfsReply::Readdir(done),
             &[0, 0, 0x0102_0304, 0x0506_0708, 0, 0],
         )?
     );
@@ -519,7 +519,7 @@ fn readdirplus_is_written(rt: HostRuntime) -> Result<(), Fail> {
         3,
         1,
     ];
-    assert!(rt; is_written_around(&rt, &NfsReply::Readdirplus(done), &front, &[0, 0, 1])?);
+    assert!(rt; is_written_around(&rt, NfsReply::Readdirplus(done), &front, &[0, 0, 1])?);
     Ok(())
 }
 
@@ -529,7 +529,7 @@ fn refused_readdirplus_is_written(rt: HostRuntime) -> Result<(), Fail> {
         attributes: Some(directory()),
         result: Err(NfsStatus::TooSmall),
     };
-    assert!(rt; is_written_around(&rt, &NfsReply::Readdirplus(refused), &[10005, 1], &[])?);
+    assert!(rt; is_written_around(&rt, NfsReply::Readdirplus(refused), &[10005, 1], &[])?);
     Ok(())
 }
 
@@ -551,7 +551,7 @@ fn fsstat_is_written(rt: HostRuntime) -> Result<(), Fail> {
     assert!(rt;
         is_written_around(
             &rt,
-            &NfsReply::Fsstat(done),
+            NfsReply::Fsstat(done),
             &[0, 1],
             &[0x100, 0, 0, 2, 0, 3, 0, 4, 0, 5, 0, 6, 7],
         )?
@@ -560,7 +560,7 @@ fn fsstat_is_written(rt: HostRuntime) -> Result<(), Fail> {
         attributes: None,
         result: Err(NfsStatus::Stale),
     };
-    assert!(rt; is_written(&rt, &NfsReply::Fsstat(refused), &[70, 0])?);
+    assert!(rt; is_written(&rt, NfsReply::Fsstat(refused), &[70, 0])?);
     Ok(())
 }
 
@@ -588,7 +588,7 @@ fn fsinfo_is_written(rt: HostRuntime) -> Result<(), Fail> {
     assert!(rt;
         is_written_around(
             &rt,
-            &NfsReply::Fsinfo(done),
+            NfsReply::Fsinfo(done),
             &[0, 1],
             &[1, 2, 3, 4, 5, 6, 7, 8, 9, 0, 1, 27],
         )?
@@ -597,7 +597,7 @@ fn fsinfo_is_written(rt: HostRuntime) -> Result<(), Fail> {
         attributes: None,
         result: Err(NfsStatus::Stale),
     };
-    assert!(rt; is_written(&rt, &NfsReply::Fsinfo(refused), &[70, 0])?);
+    assert!(rt; is_written(&rt, NfsReply::Fsinfo(refused), &[70, 0])?);
     Ok(())
 }
 
@@ -618,7 +618,7 @@ fn pathconf_is_written(rt: HostRuntime) -> Result<(), Fail> {
     assert!(rt;
         is_written_around(
             &rt,
-            &NfsReply::Pathconf(done),
+            NfsReply::Pathconf(done),
             &[0, 1],
             &[32000, 255, 1, 1, 0, 1],
         )?
@@ -627,7 +627,7 @@ fn pathconf_is_written(rt: HostRuntime) -> Result<(), Fail> {
         attributes: None,
         result: Err(NfsStatus::Stale),
     };
-    assert!(rt; is_written(&rt, &NfsReply::Pathconf(refused), &[70, 0])?);
+    assert!(rt; is_written(&rt, NfsReply::Pathconf(refused), &[70, 0])?);
     Ok(())
 }
 
@@ -640,7 +640,7 @@ fn commit_is_written(rt: HostRuntime) -> Result<(), Fail> {
     assert!(rt;
         is_written(
             &rt,
-            &NfsReply::Commit(done),
+            NfsReply::Commit(done),
             &[0, 0, 0, 0x0102_0304, 0x0506_0708],
         )?
     );
@@ -648,6 +648,6 @@ fn commit_is_written(rt: HostRuntime) -> Result<(), Fail> {
         wcc: UNKNOWN,
         result: Err(NfsStatus::Invalid),
     };
-    assert!(rt; is_written(&rt, &NfsReply::Commit(refused), &[22, 0, 0])?);
+    assert!(rt; is_written(&rt, NfsReply::Commit(refused), &[22, 0, 0])?);
     Ok(())
 }

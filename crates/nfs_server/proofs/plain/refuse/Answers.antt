@@ -4,4 +4,4 @@ use Rattle.nfs_server.proofs.Steps.{refusal_form}
 use Rattle.nfs_server.proofs.plain.refuse.Goals as goal
 
 pub refuse-requires : goal.refuse-requires
-refuse-requires c = subst RefusalHasForm (sym c.refusal.ensures) (refusal_form _)
+refuse-requires c = subst RefusalHasForm (sym c.in_ok-refusal.ensures.ok) (refusal_form _ c.requires)

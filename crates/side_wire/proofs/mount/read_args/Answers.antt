@@ -1,13 +1,13 @@
 use Rattle.std.proofs.Common.{subst}
 use Rattle.nfs_xdr.specs.Laws.{IsBytes}
-use Rattle.side_wire.specs.Mount.{mount_arguments, mount_procedure_of, mount_arguments_of}
-use Rattle.side_wire.proofs.MountLaws.{mount_procedure_of-lt}
+use Rattle.side_wire.specs.Mount.{mount_arguments, IsMountProcedure, mount_procedure_of, mount_arguments_of}
+use Rattle.side_wire.proofs.MountLaws.{mount_procedure_of-is}
 use Rattle.side_wire.proofs.ProgramLaws.{IsFrontedBy-read, IsGarbage-refused, is_not_memory}
 use Rattle.side_wire.proofs.mount.read_args.Goals as goal
 
 pub returns-in_err-read_call-clause-garbage : goal.returns-in_err-read_call-clause-garbage
 returns-in_err-read_call-clause-garbage c garbage =
-    IsGarbage-refused mount_arguments mount_procedure_of mount_arguments_of mount_procedure_of-lt _ _ c.in_err-read_call.field-0.0 (c.in_err-read_call.ensures (is_not_memory _ _ c.from_residual.ensures.1 garbage))
+    IsGarbage-refused IsMountProcedure mount_arguments mount_procedure_of mount_arguments_of mount_procedure_of-is _ _ c.in_err-read_call.field-0.0 (c.in_err-read_call.ensures (is_not_memory _ _ c.from_residual.ensures.1 garbage))
 
 pub returns-clause-found : goal.returns-clause-found
 returns-clause-found c =

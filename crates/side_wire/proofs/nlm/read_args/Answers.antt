@@ -1,13 +1,13 @@
 use Rattle.std.proofs.Common.{subst}
 use Rattle.nfs_xdr.specs.Laws.{IsBytes}
-use Rattle.side_wire.specs.Nlm.{nlm_arguments, nlm_procedure_of, nlm_arguments_of}
-use Rattle.side_wire.proofs.NlmLaws.{nlm_procedure_of-lt}
+use Rattle.side_wire.specs.Nlm.{nlm_arguments, IsNlmProcedure, nlm_procedure_of, nlm_arguments_of}
+use Rattle.side_wire.proofs.NlmLaws.{nlm_procedure_of-is}
 use Rattle.side_wire.proofs.ProgramLaws.{IsFrontedBy-read, IsGarbage-refused, is_not_memory}
 use Rattle.side_wire.proofs.nlm.read_args.Goals as goal
 
 pub returns-in_err-read_call-clause-garbage : goal.returns-in_err-read_call-clause-garbage
 returns-in_err-read_call-clause-garbage c garbage =
-    IsGarbage-refused nlm_arguments nlm_procedure_of nlm_arguments_of nlm_procedure_of-lt _ _ c.in_err-read_call.field-0.0 (c.in_err-read_call.ensures (is_not_memory _ _ c.from_residual.ensures.1 garbage))
+    IsGarbage-refused IsNlmProcedure nlm_arguments nlm_procedure_of nlm_arguments_of nlm_procedure_of-is _ _ c.in_err-read_call.field-0.0 (c.in_err-read_call.ensures (is_not_memory _ _ c.from_residual.ensures.1 garbage))
 
 pub returns-clause-found : goal.returns-clause-found
 returns-clause-found c =

@@ -5,6 +5,9 @@ use Rattle.nfs_server.proofs.plain.Plain.answer_call.Goals as goal
 pub execute-requires : goal.execute-requires
 execute-requires c = asked-built _ _ c.requires
 
+pub refuse-requires : goal.refuse-requires
+refuse-requires c = asked-built _ _ c.requires
+
 pub returns-in-Ok-clause-ok : goal.returns-in-Ok-clause-ok
 returns-in-Ok-clause-ok c = executed_answered _ _ _ _ c.requires _ _ _ c.in-Ok.ensures.ok
 

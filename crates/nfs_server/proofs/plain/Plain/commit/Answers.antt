@@ -10,7 +10,7 @@ use Rattle.nfs_server.proofs.plain.Plain.commit.Goals as goal
 
 pub success-requires : goal.success-requires
 success-requires c =
-    subst HasForm (sym c.reply.ensures) (reply_form _ _ c.promise.ensures c.requires.fits c.requires.exports (subst Stands c.self.view_is c.self.invariant))
+    subst HasForm (sym c.reply.ensures) (reply_form _ _ c.promise.ensures c.requires.fits c.requires.exports c.requires.built (subst Stands c.self.view_is c.self.invariant))
 
 pub invariant_of-self : goal.invariant_of-self
 invariant_of-self c = rw c.in_err-make_room.ensures.err c.self.invariant
@@ -21,11 +21,11 @@ install-requires c = subst (λ (ws : List Write). AllRoom c.make_room.new.slots 
 pub invariant_of-self-2 : goal.invariant_of-self-2
 invariant_of-self-2 c =
     stands_on _ _ c.promise.ensures c.requires.fits c.requires.exports _
-    (store_made _ _ _ _ _ _ _ _ _ c.install.ensures c.in_ok-make_room.ensures.same c.self.view_is c.writes_of-writes.ensures)
+    (store_made _ _ _ _ _ _ _ _ _ c.install.ensures c.in_ok-make_room.ensures.same c.self.view_is (c.in_ok-writes.ensures ∙ c.writes.ensures))
     (ap (λ (p : PlainValue). p.setting) c.self.view_is) (subst Stands c.self.view_is c.self.invariant)
 
 pub returns-clause-ok : goal.returns-clause-ok
 returns-clause-ok c =
     makes_step _ _ c.promise.ensures c.requires.fits c.requires.exports _
-    (store_made _ _ _ _ _ _ _ _ _ c.install.ensures c.in_ok-make_room.ensures.same c.self.view_is c.writes_of-writes.ensures)
+    (store_made _ _ _ _ _ _ _ _ _ c.install.ensures c.in_ok-make_room.ensures.same c.self.view_is (c.in_ok-writes.ensures ∙ c.writes.ensures))
     (ap (λ (p : PlainValue). p.setting) c.self.view_is) _ _ (c.in_ok-answer.ensures ∙ ap (success c.args.xid) c.reply.ensures)

@@ -1,0 +1,115 @@
+-- What is mounted, held and waited for stays within the bounds of MOUNT and NLM, whatever is called.
+use Rattle.std.proofs.Common.{◌≡◌, ℕ, true, false, cond, List, [], ◌∷◌, ◌++◌, Result, Ok, Err, refl, sym, ap, subst}
+use Rattle.std.specs.List.{AllByRecursion}
+use Rattle.nfs_xdr.specs.Types.{Spells}
+use Rattle.side_wire.specs.Messages.{HasLockForm}
+use Rattle.side_wire.specs.Mount.{IsDirpath, IsHostName, SpellsMountArguments}
+use Rattle.side_wire.specs.Nlm.{SpellsNlmArguments}
+use Rattle.side_wire.specs.NlmTypes.{lock_value, nlm4_lock}
+use Rattle.side_wire.specs.declared.message.Message.{Message}
+use Rattle.side_wire.specs.declared.message.NlmLock.{NlmLock}
+use Rattle.side_wire.specs.declared.mount.MountCall.{MountCall}
+use Rattle.side_wire.specs.declared.mount.MountCall.TheVariants as mount
+use Rattle.side_wire.specs.declared.mount.MountReply.{MountReply}
+use Rattle.side_wire.specs.declared.mount.MountStatus.{MountStatus}
+use Rattle.side_wire.specs.declared.nlm.NlmCall.{NlmCall}
+use Rattle.side_wire.specs.declared.nlm.NlmCall.TheVariants as nlm
+use Rattle.nfs_machine.specs.MountSteps.{MntAnswers, MountStep, is_mounted, newest}
+use Rattle.nfs_machine.specs.Run.{Spelled}
+use Rattle.nfs_machine.specs.SideLaws.{AskedFits, CallFits, LocksFit, LocksStayFit, MountsFit, MountsStayFit, OpeningFits, PathFits, RunsStayFit, SpelledCallsFit}
+use Rattle.nfs_machine.specs.State.{Mounted, State}
+use Rattle.nfs_machine.specs.declared.calls.Call.{Call}
+use Rattle.nfs_machine.specs.declared.calls.Call.TheVariants as calls
+use Rattle.nfs_machine.specs.declared.calls.Reply.TheVariants as replies
+use Rattle.nfs_machine.specs.declared.context.Ctx.{Ctx}
+use Rattle.nfs_machine.proofs.Kept.{nfs-follows}
+use Rattle.nfs_machine.proofs.Locking.{nlm-touches}
+use Rattle.nfs_machine.proofs.Posted.{nlm_messages_form}
+use Rattle.nfs_machine.proofs.SideReplies.{mount_fits}
+
+-- ---- calls that are spelled
+spelled-lock : (l : NlmLock) (bytes : List ℕ) → Spells nlm4_lock (lock_value l) bytes → HasLockForm l
+spelled-lock l bytes s = (s.3.0, s.4.3.0, s.4.4.3.0)
+
+spelled-path : (call : MountCall) (bytes : List ℕ) → SpellsMountArguments call bytes → PathFits call
+spelled-path mount.Null bytes s = tt
+spelled-path (mount.Mnt path) bytes s = s.0
+spelled-path mount.Dump bytes s = tt
+spelled-path (mount.Unmount path) bytes s = tt
+spelled-path mount.UnmountAll bytes s = tt
+spelled-path mount.Export bytes s = tt
+
+spelled-call : (call : NlmCall) (bytes : List ℕ) → SpellsNlmArguments call bytes → CallFits call
+spelled-call nlm.Null bytes s = tt
+spelled-call (nlm.Test a) bytes s = (s.3.0, spelled-lock a.lock s.4.1 s.4.4)
+spelled-call (nlm.Lock a) bytes s = (s.3.0, spelled-lock a.lock s.4.4.4.0 s.4.4.4.3)
+spelled-call (nlm.Cancel a) bytes s = (s.3.0, spelled-lock a.lock s.4.4.1 s.4.4.4)
+spelled-call (nlm.Unlock a) bytes s = (s.3.0, spelled-lock a.lock s.1 s.4)
+spelled-call (nlm.Granted a) bytes s = (s.3.0, spelled-lock a.lock s.4.1 s.4.4)
+spelled-call (nlm.TestMsg a) bytes s = (s.3.0, spelled-lock a.lock s.4.1 s.4.4)
+spelled-call (nlm.LockMsg a) bytes s = (s.3.0, spelled-lock a.lock s.4.4.4.0 s.4.4.4.3)
+spelled-call (nlm.CancelMsg a) bytes s = (s.3.0, spelled-lock a.lock s.4.4.1 s.4.4.4)
+spelled-call (nlm.UnlockMsg a) bytes s = (s.3.0, spelled-lock a.lock s.1 s.4)
+spelled-call (nlm.GrantedMsg a) bytes s = (s.3.0, spelled-lock a.lock s.4.1 s.4.4)
+spelled-call (nlm.TestRes r) bytes s = tt
+spelled-call (nlm.LockRes r) bytes s = tt
+spelled-call (nlm.CancelRes r) bytes s = tt
+spelled-call (nlm.UnlockRes r) bytes s = tt
+spelled-call (nlm.GrantedRes r) bytes s = tt
+spelled-call (nlm.Share a) bytes s = s.3.0
+spelled-call (nlm.Unshare a) bytes s = s.3.0
+spelled-call (nlm.NmLock a) bytes s = (s.3.0, spelled-lock a.lock s.4.4.4.0 s.4.4.4.3)
+spelled-call (nlm.FreeAll a) bytes s = tt
+
+spelled : (ctx : Ctx) (call : Call) (bytes : List ℕ) → IsHostName ctx.host → Spelled call bytes → AskedFits ctx call
+spelled ctx (calls.Nfs call) bytes host s = tt
+spelled ctx (calls.Mount call) bytes host s = (host, spelled-path call bytes s)
+spelled ctx (calls.Nlm call) bytes host s = spelled-call call bytes s
+
+pub spelled_calls_fit : SpelledCallsFit
+spelled_calls_fit setting arrival ctx call host asks =
+    spelled ctx call asks.is_call.front (subst IsHostName (sym (ap (λ (c : Ctx). c.host) asks.made_under)) host) asks.is_call.spelled
+
+-- ---- MOUNT leaves locks as they are
+mnt-locks : (old : State) (ctx : Ctx) (path : List ℕ) (result : Result (List ℕ) MountStatus) (new : State) → MntAnswers old ctx path result new → LocksFit old → LocksFit new
+mnt-locks old ctx path (Ok handle) new (found, target, is, same) fit =
+    let x : Mounted = record { host = ctx.host; path = path } in
+    subst LocksFit (sym same) (elim (is_mounted old.mounts x) as (λ b. LocksFit (cond b old (record old { mounts = newest (old.mounts ++ x ∷ []) }))) [ true ↦ fit | false ↦ fit ])
+mnt-locks old ctx path (Err e) new (why, same) fit = subst LocksFit (sym same) fit
+
+mount-locks : (old : State) (ctx : Ctx) (call : MountCall) (reply : MountReply) (messages : List Message) (new : State) → MountStep old ctx call reply messages new → LocksFit old → LocksFit new
+unfolding MountStep
+mount-locks old ctx mount.Null reply messages new step fit = subst LocksFit (sym step.unchanged) fit
+mount-locks old ctx (mount.Mnt path) reply messages new step fit = mnt-locks old ctx path step.result new step.answers fit
+mount-locks old ctx mount.Dump reply messages new step fit = subst LocksFit (sym step.unchanged) fit
+mount-locks old ctx (mount.Unmount path) reply messages new step fit = subst LocksFit (sym step.state_is) fit
+mount-locks old ctx mount.UnmountAll reply messages new step fit = subst LocksFit (sym step.state_is) fit
+mount-locks old ctx mount.Export reply messages new step fit = subst LocksFit (sym step.unchanged) fit
+
+-- ---- steps and runs
+same-mounts : (old new : State) → new.mounts ≡ old.mounts → MountsFit old → MountsFit new
+same-mounts old new same fit = subst (λ (mounts : List Mounted). AllByRecursion (λ (x : Mounted). IsHostName x.host × IsDirpath x.path) mounts) (sym same) fit
+
+pub mounts_stay_fit : MountsStayFit
+mounts_stay_fit old ctx (calls.Nfs call) (replies.Nfs reply) messages new step asked fit = same-mounts old new (nfs-follows old ctx call reply messages new step).mounts fit
+mounts_stay_fit old ctx (calls.Mount call) (replies.Mount reply) messages new step asked fit = mount_fits old ctx call reply messages new fit asked.0 asked.1 step
+mounts_stay_fit old ctx (calls.Nlm call) (replies.Nlm reply) messages new step asked fit = same-mounts old new (nlm-touches old ctx call reply messages new step).mounts fit
+mounts_stay_fit old ctx call reply messages new step asked fit = absurd step
+
+pub locks_stay_fit : LocksStayFit
+locks_stay_fit old ctx (calls.Nfs call) (replies.Nfs reply) messages new step asked fit = (nfs-follows old ctx call reply messages new step).bounds fit
+locks_stay_fit old ctx (calls.Mount call) (replies.Mount reply) messages new step asked fit = mount-locks old ctx call reply messages new step fit
+locks_stay_fit old ctx (calls.Nlm call) (replies.Nlm reply) messages new step asked fit = (nlm_messages_form old ctx call reply messages new fit asked step).1
+locks_stay_fit old ctx call reply messages new step asked fit = absurd step
+
+pub opening_fits : OpeningFits
+opening_fits exports moment = (tt, ((λ file owner offset has. absurd (has refl)), tt))
+
+pub runs_stay_fit : RunsStayFit
+runs_stay_fit setting first last [] run hosts fit = subst (λ (m : State). MountsFit m × LocksFit m) (sym run) fit
+runs_stay_fit setting first last (r ∷ records) (mid, executes, rest) hosts fit =
+    let asked = spelled_calls_fit setting r.arrival executes.ctx executes.call hosts.0 executes.asks in
+    runs_stay_fit setting mid last records rest hosts.1 (
+      mounts_stay_fit first executes.ctx executes.call r.reply r.messages mid executes.step asked fit.0,
+      locks_stay_fit first executes.ctx executes.call r.reply r.messages mid executes.step asked fit.1,
+    )

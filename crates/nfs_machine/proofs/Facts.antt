@@ -1,0 +1,98 @@
+-- What the checks of a call tell where they are passed.
+use Rattle.std.proofs.Common.{◌≡◌, ◌==◌, ℕ, Bool, true, false, not, ◌&&◌, cond, List, [], ◌∷◌, Option, Some, None, Result, Ok, Err, IfOk, find, refl, ap, subst}
+use Rattle.std.specs.FinMap.{get}
+use Rattle.nfs_wire.specs.declared.status.NfsStatus.{NfsStatus}
+use Rattle.nfs_machine.specs.Attributes.{entries_of, is_directory}
+use Rattle.nfs_machine.specs.Bytes.{same_bytes}
+use Rattle.nfs_machine.specs.Checks.{◌>>=◌, holding, object_of, entries_in, bytes_in, entry_of, is_absent}
+use Rattle.nfs_machine.specs.RemoveSteps.{entry_found, object_found, empty_directory, has_no_entry, not_directory}
+use Rattle.nfs_machine.specs.Exports.{export_admits, export_at}
+use Rattle.nfs_machine.specs.Handles.{handle_of}
+use Rattle.nfs_machine.specs.Resolve.{Stale, Names, living_at, named, resolve}
+use Rattle.nfs_machine.specs.State.{Content, Regular, Directory, Link, BlockDevice, CharacterDevice, Socket, Fifo, Entry, Living, State}
+use Rattle.nfs_machine.specs.declared.context.Ctx.{Ctx}
+use Rattle.nfs_machine.specs.declared.handle.Handle.{Handle}
+use Rattle.nfs_machine.proofs.WellFormed.{no_entries}
+
+-- what holds after each value that a check gives holds of the chain
+pub chained-is : {A B : Type 0} (P : B → Type 0) (r : Result A NfsStatus) (f : A → Result B NfsStatus) → ((x : A) → r ≡ Ok x → IfOk (f x) P) → IfOk (r >>= f) P
+chained-is P (Ok x) f holds = holds x refl
+chained-is P (Err e) f holds = tt
+
+pub holds : (b : Bool) (e : NfsStatus) (x : Unit {0}) → holding b e ≡ Ok x → b ≡ true
+holds true e x is = refl
+holds false e x is = cc
+
+pub turned : (b : Bool) → not b ≡ true → b ≡ false
+turned true e = cc
+turned false e = refl
+
+lives-at : (find : ℕ → Option Living) (h : Handle) (o : Option Living) (x : ℕ × Living) → find h.fileid ≡ o → object_of (living_at o h) ≡ Ok x → find x.0 ≡ Some x.1
+lives-at find h None x at is = cc
+lives-at find h (Some o) x at is =
+    elim ((o.generation == h.generation) && (o.export == h.export)) as (λ b. object_of (cond b (Names h.fileid o) Stale) ≡ Ok x → find x.0 ≡ Some x.1) [
+      | true ↦ λ e. (let same : (h.fileid, o) ≡ x = cc in subst (λ (y : ℕ × Living). find y.0 ≡ Some y.1) same at)
+      | false ↦ λ e. cc
+    ] is
+
+named-lives : (find : ℕ → Option Living) (ctx : Ctx) (h : Option Handle) (x : ℕ × Living) → object_of (named find ctx h) ≡ Ok x → find x.0 ≡ Some x.1
+named-lives find ctx None x is = cc
+named-lives find ctx (Some h) x is =
+    elim ((h.start == ctx.start) && export_admits (export_at ctx.exports h.export) ctx.host) as (λ b. object_of (cond b (living_at (find h.fileid) h) Stale) ≡ Ok x → find x.0 ≡ Some x.1) [
+      | true ↦ λ e. lives-at find h (find h.fileid) x refl e
+      | false ↦ λ e. cc
+    ] is
+
+-- what a handle names lives
+pub resolved-lives : (m : State) (ctx : Ctx) (bytes : List ℕ) (x : ℕ × Living) → object_of (resolve m ctx bytes) ≡ Ok x → get m.objects x.0 ≡ Some x.1
+resolved-lives m ctx bytes x is = named-lives (get m.objects) ctx (handle_of bytes) x is
+
+pub is-directory : (c : Content) (x : List Entry × ℕ) → entries_in c ≡ Ok x → c ≡ Directory x.0 x.1
+is-directory (Directory entries last) x is = (let same : (entries, last) ≡ x = cc in ap (λ (y : List Entry × ℕ). Directory y.0 y.1) same)
+is-directory (Regular bytes) x is = cc
+is-directory (Link text) x is = cc
+is-directory (BlockDevice device) x is = cc
+is-directory (CharacterDevice device) x is = cc
+is-directory Socket x is = cc
+is-directory Fifo x is = cc
+
+pub is-regular : (c : Content) (x : List ℕ) → bytes_in c ≡ Ok x → is_directory c ≡ false
+is-regular (Directory entries last) x is = cc
+is-regular (Regular bytes) x is = refl
+is-regular (Link text) x is = cc
+is-regular (BlockDevice device) x is = cc
+is-regular (CharacterDevice device) x is = cc
+is-regular Socket x is = cc
+is-regular Fifo x is = cc
+
+pub entry-found : (o : Option Entry) (e : Entry) → entry_found o ≡ Ok e → o ≡ Some e
+entry-found None e is = cc
+entry-found (Some x) e is = (let same : x ≡ e = cc in ap (λ (y : Entry). Some y) same)
+
+pub object-found : (o : Option Living) (l : Living) → object_found o ≡ Ok l → o ≡ Some l
+object-found None l is = cc
+object-found (Some x) l is = (let same : x ≡ l = cc in ap (λ (y : Living). Some y) same)
+
+pub absent : (entries : List Entry) (name : List ℕ) → is_absent entries name ≡ true → find (λ (x : Entry). same_bytes x.name name) entries ≡ None
+absent entries name e =
+    elim (entry_of entries name) as (λ (o : Option Entry). elim o as (λ (_ : Option Entry). Bool) [ None ↦ true | Some e ↦ false ] ≡ true → o ≡ None) [
+      | None ↦ λ t. refl
+      | Some x ↦ λ t. cc
+    ] e
+
+-- what REMOVE and RMDIR take away contains no name
+pub plain-empty : (c : Content) (x : Unit {0}) → not_directory c ≡ Ok x → entries_of c ≡ []
+plain-empty c x is = no_entries c (turned (is_directory c) (holds (not (is_directory c)) _ x is))
+
+pub no-entry : (es : List Entry) → has_no_entry es ≡ true → es ≡ []
+no-entry [] e = refl
+no-entry (x ∷ es) e = cc
+
+pub directory-empty : (c : Content) (x : Unit {0}) → empty_directory c ≡ Ok x → entries_of c ≡ []
+directory-empty (Directory entries last) x is = no-entry entries (holds (has_no_entry entries) _ x is)
+directory-empty (Regular bytes) x is = cc
+directory-empty (Link text) x is = cc
+directory-empty (BlockDevice device) x is = cc
+directory-empty (CharacterDevice device) x is = cc
+directory-empty Socket x is = cc
+directory-empty Fifo x is = cc

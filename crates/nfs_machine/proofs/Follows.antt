@@ -1,0 +1,296 @@
+-- What each procedure that changes names or objects leaves: handles are given once, and what is true of every state stays true.
+use Rattle.std.proofs.Common.{◌≡◌, ◌==◌, ℕ, ◌+◌, ◌≤◌, ◌^◌, Bool, true, false, not, ◌||◌, cond, List, [], Option, Some, None, Result, Ok, Err, IfOk, IfSome, find, length, take, nat_le, nat_lt, ◌⊎◌, inl, inr, refl, sym, ◌∙◌, ap, subst}
+use Rattle.std.specs.Cmp.{unsigned_Decides}
+use Rattle.std.specs.FinMap.{get}
+use Rattle.nfs_wire.specs.declared.attributes.Time.{Time}
+use Rattle.nfs_wire.specs.declared.calls.CreateArguments.{CreateArguments}
+use Rattle.nfs_wire.specs.declared.calls.CreateHow.{CreateHow}
+use Rattle.nfs_wire.specs.declared.calls.CreateHow.TheVariants.{Unchecked, Guarded, Exclusive}
+use Rattle.nfs_wire.specs.declared.calls.Place.{Place}
+use Rattle.nfs_wire.specs.declared.calls.WriteArguments.{WriteArguments}
+use Rattle.nfs_wire.specs.declared.replies.Made.{Made}
+use Rattle.nfs_wire.specs.declared.replies.Written.{Written}
+use Rattle.nfs_wire.specs.declared.status.NfsStatus.{NfsStatus}
+use Rattle.nfs_wire.specs.declared.status.NfsStatus.TheVariants as status
+use Rattle.side_wire.specs.Messages.{HasLockForm}
+use Rattle.side_wire.specs.Nlm.{IsNetobj}
+use Rattle.nfs_machine.specs.Answers.{state_after}
+use Rattle.nfs_machine.specs.Attributes.{entries_of, is_directory}
+use Rattle.nfs_machine.specs.Bytes.{same_bytes}
+use Rattle.nfs_machine.specs.Checks.{holding, object_of, entries_in, bytes_in, new_name_checked, changeable, permitted, entry_of, is_absent}
+use Rattle.nfs_machine.specs.Data.{size_limit, resized, written}
+use Rattle.nfs_machine.specs.DataSteps.{write_count, write_end, write_object}
+use Rattle.nfs_machine.specs.Grants.{AllHeldUp, IsHeldUp}
+use Rattle.nfs_machine.specs.Laws.{GivesOnce, LivesAs}
+use Rattle.nfs_machine.specs.Locks.{NoConflict}
+use Rattle.nfs_machine.specs.Making.{Fresh, End, Known, Chosen, EndsAs, Wanted, given_attributes, make_end, make_made, make_new, new_object, with_entry}
+use Rattle.nfs_machine.specs.NameSteps.{create_end, create_existing, create_over, create_under, is_verifier, resize_object, wanted_file}
+use Rattle.nfs_machine.specs.Permission.{Changing, Writing}
+use Rattle.nfs_machine.specs.RemoveSteps.{losing_name, without_object}
+use Rattle.nfs_machine.specs.Resolve.{resolve}
+use Rattle.nfs_machine.specs.Shown.{replaced, touched, with_content, with_object}
+use Rattle.nfs_machine.specs.SideLaws.{LocksFit, OwnersFit}
+use Rattle.nfs_machine.specs.State.{Regular, Directory, Link, Entry, Living, Lock, Request, Share, State}
+use Rattle.nfs_machine.specs.TimeLaws.{TouchesOnce}
+use Rattle.nfs_machine.specs.Times.{time_of, touch}
+use Rattle.nfs_machine.specs.WellFormed.{KeepsNames, MakesEntry, WellFormed}
+use Rattle.nfs_machine.specs.declared.context.Ctx.{Ctx}
+use Rattle.nfs_machine.proofs.Changes.{differs-insert, differs-other, differs-there}
+use Rattle.nfs_machine.proofs.Continued.{Continues, Turns, continues-itself, continues-over, continues-with, gives-continued, lived-as, texts-continued, touches-continued}
+use Rattle.nfs_machine.proofs.Entered.{well_formed-made}
+use Rattle.nfs_machine.proofs.Facts.{absent, chained-is, holds, is-directory, is-regular, resolved-lives, turned}
+use Rattle.nfs_machine.proofs.Modes.{all-left, apart-but, but, mode-but, mode-gone, shares-left}
+use Rattle.nfs_machine.proofs.Roots.{free-no_root}
+use Rattle.nfs_machine.proofs.Texts.{texts-put}
+use Rattle.nfs_machine.proofs.Waiting.{held-still}
+use Rattle.nfs_machine.proofs.WellFormed.{replaced-alike, replaced-names, well_formed-alike}
+
+-- no two owners conflict, and requests that wait go on to conflict with what is held
+pub record LocksFollow (old new : State) : Type 0 where
+  pub apart : NoConflict old → NoConflict new
+  pub waits : AllHeldUp old → AllHeldUp new
+
+-- of a call at this time
+pub record Follows (now : Time) (old new : State) : Type 0 where
+  pub gives : GivesOnce old new
+  pub touches : TouchesOnce now old new
+  pub formed : WellFormed old → WellFormed new
+  pub locks : LocksFollow old new
+  -- what is mounted, held and waited for stays within its bounds
+  pub mounts : new.mounts ≡ old.mounts
+  pub bounds : LocksFit old → LocksFit new
+
+-- an object that loses a name, and with its last its locks
+pub locks-losing : (m : State) (names : ℕ) (now : Time) (number : ℕ) (o : Living) → LocksFollow m (losing_name m names now number o)
+locks-losing m names now number o =
+    elim (nat_le names 1) as (λ b. LocksFollow m (cond b (without_object m number) (with_object m number (touched o now)))) [
+      | true ↦ record {
+        apart = λ h. (apart-but number m.locks h.0, shares-left (λ (s : Share). not (s.file == number)) m.shares h.1);
+        waits = λ h. all-left (IsHeldUp m.locks) (IsHeldUp (but number m.locks)) (λ (r : Request). not (r.file == number)) m.waiting
+            (λ r e held. held-still m.locks (but number m.locks) r (λ owner offset. mode-but number m.locks r.file owner offset (turned (r.file == number) e)) held) h;
+      }
+      | false ↦ record { apart = λ h. h; waits = λ h. h }
+    ]
+
+-- its owners have nothing else
+owners-but : (number : ℕ) (locks : List Lock) → OwnersFit locks → OwnersFit (but number locks)
+owners-but number locks fit file owner offset has =
+    elim (file == number) as (λ b. (file == number) ≡ b → IsNetobj owner.owner) [
+      | true ↦ λ e. absurd (has (mode-gone number locks file owner offset e))
+      | false ↦ λ e. fit file owner offset (λ none. has (mode-but number locks file owner offset e ∙ none))
+    ] refl
+
+pub bounds-losing : (m : State) (names : ℕ) (now : Time) (number : ℕ) (o : Living) → LocksFit m → LocksFit (losing_name m names now number o)
+bounds-losing m names now number o fit =
+    elim (nat_le names 1) as (λ b. LocksFit (cond b (without_object m number) (with_object m number (touched o now)))) [
+      | true ↦ (
+        owners-but number m.locks fit.0,
+        all-left (λ (r : Request). HasLockForm r.asked) (λ (r : Request). HasLockForm r.asked) (λ (r : Request). not (r.file == number)) m.waiting (λ r e h. h) fit.1,
+      )
+      | false ↦ fit
+    ]
+
+pub mounts-losing : (m : State) (names : ℕ) (now : Time) (number : ℕ) (o : Living) → (losing_name m names now number o).mounts ≡ m.mounts
+mounts-losing m names now number o =
+    elim (nat_le names 1) as (λ b. (cond b (without_object m number) (with_object m number (touched o now))).mounts ≡ m.mounts) [ true ↦ refl | false ↦ refl ]
+
+pub follows-itself : (now : Time) (m : State) → Follows now m m
+follows-itself now m =
+    record { gives = gives-continued now m m (continues-itself now m); touches = touches-continued now m m (continues-itself now m); formed = λ w. w; locks = record { apart = λ h. h; waits = λ h. h }; mounts = refl; bounds = λ h. h }
+
+pub follows-after : {A : Type 0} (now : Time) (old : State) (end : Result (A × State) NfsStatus) → IfOk end (λ e. Follows now old e.1) → Follows now old (state_after old end)
+follows-after now old (Ok end) f = f
+follows-after now old (Err e) f = follows-itself now old
+
+-- what holds of the value of a check
+pub of-ok : {A : Type 0} (P : A → Type 0) (r : Result A NfsStatus) (x : A) → r ≡ Ok x → IfOk r P → P x
+of-ok P (Ok y) x is all = (let same : y ≡ x = cc in subst P same all)
+of-ok P (Err e) x is all = cc
+
+-- ---- an object changes but for its names
+pub record Alters (now : Time) (was is : Living) : Type 0 where
+  pub keeps : KeepsNames was is
+  pub turns : Turns now was is
+
+pub follows-altered : (now : Time) (m : State) (number : ℕ) (was is : Living) → get m.objects number ≡ Some was → Alters now was is → Follows now m (with_object m number is)
+follows-altered now m number was is lives alters =
+    let c = continues-over now m m (continues-itself now m) number was lives is alters.turns in record {
+      gives = gives-continued now m (with_object m number is) c;
+      touches = touches-continued now m (with_object m number is) c;
+      formed = λ w.
+          well_formed-alike m (with_object m number is) (replaced-alike m number was is lives alters.keeps) (replaced-names m number was is lives alters.keeps) (λ n g e. e)
+          (texts-continued now m (with_object m number is) c w.texts) w;
+      locks = record { apart = λ h. h; waits = λ h. h };
+      mounts = refl;
+      bounds = λ h. h;
+    }
+
+follows-replaced : (now : Time) (m : State) (number : ℕ) (was : Living) (is : Option Living) → get m.objects number ≡ Some was → IfSome is (Alters now was) → Follows now m (replaced m number is)
+follows-replaced now m number was None lives alters = follows-itself now m
+follows-replaced now m number was (Some o) lives alters = follows-altered now m number was o lives alters
+
+alters-regular : (o : Living) (now : Time) (bytes : List ℕ) → is_directory o.content ≡ false → Alters now o (with_content o now (Regular bytes))
+alters-regular o now bytes plain = record {
+  keeps = record { export = refl; generation = refl; kind = sym plain; content = λ e. (let no : true ≡ false = sym e ∙ plain in cc) };
+  turns = record { generation = refl; text = λ t e. cc; changed = refl };
+}
+
+module _ (m : State) (ctx : Ctx) where
+  write-alters : (file : Living) (a : WriteArguments) → IfOk (write_object ctx file a) (λ (e : Written × Option Living). IfSome e.1 (Alters (time_of ctx.moment) file))
+  write-alters file a =
+      let P : Written × Option Living → Type 0 = λ (e : Written × Option Living). IfSome e.1 (Alters (time_of ctx.moment) file) in
+      chained-is P (bytes_in file.content) _ (λ bytes is. chained-is P (holding (a.count == length a.«data») status.Invalid) _ (λ x1 e1. chained-is P (changeable ctx file) _ (λ x2 e2. chained-is P (permitted ctx file Writing) _ (λ x3 e3.
+      chained-is P (holding ((write_count a == 0) || nat_le (a.offset + write_count a) size_limit) status.FileTooBig) _ (λ x4 e4.
+      of (is-regular file.content bytes is) (write_count a == 0) (written bytes a.offset (take (write_count a) a.«data»)))))))
+    where
+      of : is_directory file.content ≡ false → (b : Bool) (bytes : List ℕ) → IfSome (cond b None (Some (with_content file (time_of ctx.moment) (Regular bytes)))) (Alters (time_of ctx.moment) file)
+      of plain true bytes = tt
+      of plain false bytes = alters-regular file (time_of ctx.moment) bytes plain
+
+  pub write-follows : (a : WriteArguments) → IfOk (write_end m ctx a) (λ e. Follows (time_of ctx.moment) m e.1)
+  write-follows a =
+      chained-is (λ (e : Written × State). Follows (time_of ctx.moment) m e.1) (object_of (resolve m ctx a.file)) _ (λ file at.
+      chained-is (λ (e : Written × State). Follows (time_of ctx.moment) m e.1) (write_object ctx file.1 a) _ (λ end is.
+      follows-replaced (time_of ctx.moment) m file.0 file.1 end.1 (resolved-lives m ctx a.file file at) (of-ok (λ (e : Written × Option Living). IfSome e.1 (Alters (time_of ctx.moment) file.1)) (write_object ctx file.1 a) end is (write-alters file.1 a))))
+
+  -- ---- an object is made
+  abbrev pub EndFollows : End m → Type 0
+  EndFollows (Known answer new) = Follows (time_of ctx.moment) m new
+  EndFollows (Chosen makes) = (fresh : Fresh m) → Follows (time_of ctx.moment) m (makes fresh).1
+
+  pub ends-follow : (r : Result (End m) NfsStatus) (end : Result (Made × State) NfsStatus) → EndsAs m r end → IfOk r EndFollows → IfOk end (λ e. Follows (time_of ctx.moment) m e.1)
+  ends-follow (Ok (Known answer new)) end is follows = subst (λ (r : Result (Made × State) NfsStatus). IfOk r (λ e. Follows (time_of ctx.moment) m e.1)) (sym is) follows
+  ends-follow (Ok (Chosen makes)) end (fresh, is) follows = subst (λ (r : Result (Made × State) NfsStatus). IfOk r (λ e. Follows (time_of ctx.moment) m e.1)) (sym is) (follows fresh)
+  ends-follow (Err e) end is follows = subst (λ (r : Result (Made × State) NfsStatus). IfOk r (λ e. Follows (time_of ctx.moment) m e.1)) (sym is) tt
+
+  -- it contains no name, and as a link a text within its bound
+  pub record Plain (wanted : Wanted) : Type 0 where
+    pub entries : entries_of wanted.content ≡ []
+    pub cookies : (last : ℕ) → wanted.content ≡ Directory [] last → 2 ≤ last
+    pub text : (t : List ℕ) → wanted.content ≡ Link t → length t ≤ 4096
+
+  module _ (name : List ℕ) (wanted : Wanted) (number : ℕ) (directory : Living) (entries : List Entry) (last : ℕ)
+      (lives : get m.objects number ≡ Some directory) (content : directory.content ≡ Directory entries last) (none : find (λ (x : Entry). same_bytes x.name name) entries ≡ None) (plain : Plain wanted) where
+    module _ (fresh : Fresh m) where
+      abbrev wider : Living
+      wider = with_content directory (time_of ctx.moment) (with_entry entries last name fresh.number)
+
+      abbrev o : Living
+      o = new_object ctx directory.export fresh.generation wanted.mode wanted.content wanted.attributes wanted.verifier
+
+      abbrev new : State
+      new = (make_made m ctx name wanted number directory entries last fresh).1
+
+      wide : Continues (time_of ctx.moment) m (with_object m number wider)
+      wide = continues-with (time_of ctx.moment) m m (continues-itself (time_of ctx.moment) m) number directory lives _ _
+
+      other : (n : ℕ) → (n == fresh.number) ≡ false → get new.objects n ≡ get (with_object m number wider).objects n
+      other n e = differs-other (with_object m number wider).objects new.objects fresh.number (Some o) (differs-insert (with_object m number wider).objects fresh.number o) n e
+
+      handles : (n g : ℕ) → LivesAs new n g → LivesAs m n g ⊎ ((m.spent n g ≡ false) × (new.spent n g ≡ true))
+      handles n g l =
+          elim (n == fresh.number) as (λ b. (n == fresh.number) ≡ b → LivesAs m n g ⊎ ((m.spent n g ≡ false) × (new.spent n g ≡ true))) [
+            | true ↦ λ e.
+                let is : n ≡ fresh.number = (unsigned_Decides n fresh.number).0 e in
+                let there : get new.objects fresh.number ≡ Some o = differs-there (with_object m number wider).objects new.objects fresh.number (Some o) (differs-insert (with_object m number wider).objects fresh.number o) in
+                let both : Some o ≡ Some l.object = sym (ap (get new.objects) is ∙ there) ∙ l.lives in
+                let same : o ≡ l.object = cc in
+                let generation : fresh.generation ≡ g = ap (λ (x : Living). x.generation) same ∙ l.generation_is in
+                inr (
+                  subst (λ k. m.spent k g ≡ false) (sym is) (subst (λ k. m.spent fresh.number k ≡ false) generation fresh.never_given),
+                  subst (λ k. fresh.spent k g ≡ true) (sym is) (subst (λ k. fresh.spent fresh.number k ≡ true) generation fresh.given),
+                )
+            | false ↦ λ e.
+                inl (lived-as (time_of ctx.moment) m (with_object m number wider) wide n g (record { object = l.object; lives = sym (other n e) ∙ l.lives; generation_is = l.generation_is }))
+          ] refl
+
+      -- the new number had no object
+      touches : TouchesOnce (time_of ctx.moment) m new
+      touches n was is at there =
+          elim (n == fresh.number) as (λ b. (n == fresh.number) ≡ b → (is ≡ was) ⊎ (is.changed ≡ touch was.changed (time_of ctx.moment))) [
+            | true ↦ λ e. (let none : get m.objects n ≡ None = ap (get m.objects) ((unsigned_Decides n fresh.number).0 e) ∙ fresh.free in cc)
+            | false ↦ λ e. touches-continued (time_of ctx.moment) m (with_object m number wider) wide n was is at (sym (other n e) ∙ there)
+          ] refl
+
+      gives : GivesOnce m new
+      gives = record { kept = fresh.kept; handles = handles }
+
+      makes : WellFormed m → MakesEntry m new number fresh.number directory wider o name
+      makes w = record {
+        entries = entries;
+        last = last;
+        lives = lives;
+        content = content;
+        absent = none;
+        free = fresh.free;
+        no_root = free-no_root m w number directory fresh.number lives fresh.free;
+        objects = refl;
+        wider_content = refl;
+        wider_export = refl;
+        wider_generation = refl;
+        made_export = refl;
+        made_entries = plain.entries;
+        made_cookies = plain.cookies;
+        given = fresh.given;
+        spent = fresh.kept;
+      }
+
+      formed : WellFormed m → WellFormed new
+      formed w =
+          well_formed-made m new number fresh.number directory wider o name (makes w) w
+          (texts-put (with_object m number wider) fresh.number o (texts-continued (time_of ctx.moment) m (with_object m number wider) wide w.texts) plain.text)
+
+      made-follows : Follows (time_of ctx.moment) m (make_made m ctx name wanted number directory entries last fresh).1
+      made-follows = record { gives = gives; touches = touches; formed = formed; locks = record { apart = λ h. h; waits = λ h. h }; mounts = refl; bounds = λ h. h }
+
+    new-follows : IfOk (make_new m ctx name wanted number directory entries last) EndFollows
+    new-follows = chained-is EndFollows (given_attributes ctx wanted.attributes) _ (λ x1 e1. chained-is EndFollows (holding (nat_lt (last + 1) (2 ^ 64)) status.NoSpace) _ (λ x2 e2. made-follows))
+
+  pub make-follows : (place : Place) (wanted : Result Wanted NfsStatus) (own : ℕ → Living → Result (Unit {0}) NfsStatus) → ((number : ℕ) (directory : Living) (x : Unit {0}) → own number directory ≡ Ok x → IfOk wanted Plain)
+      → IfOk (make_end m ctx place wanted own) EndFollows
+  make-follows place wanted own plain =
+      chained-is EndFollows (object_of (resolve m ctx place.directory)) _ (λ directory at.
+      chained-is EndFollows (entries_in directory.1.content) _ (λ entries is.
+      chained-is EndFollows (new_name_checked place.name) _ (λ x1 e1.
+      chained-is EndFollows wanted _ (λ what e2.
+      chained-is EndFollows (changeable ctx directory.1) _ (λ x3 e3.
+      chained-is EndFollows (permitted ctx directory.1 Changing) _ (λ x4 e4.
+      chained-is EndFollows (holding (is_absent entries.0 place.name) status.Exists) _ (λ x5 e5.
+      chained-is EndFollows (own directory.0 directory.1) _ (λ x6 e6.
+      new-follows place.name what directory.0 directory.1 entries.0 entries.1 (resolved-lives m ctx place.directory directory at) (is-directory directory.1.content entries is)
+      (absent entries.0 place.name (holds (is_absent entries.0 place.name) status.Exists x5 e5)) (of-ok Plain wanted what e2 (plain directory.0 directory.1 x6 e6))))))))))
+
+  -- CREATE of what is there
+  over-alters : (how : CreateHow) (file : Living) (r : Result (List ℕ) NfsStatus) → bytes_in file.content ≡ r → IfOk (create_over ctx how file r) (λ after. IfSome after (Alters (time_of ctx.moment) file))
+  over-alters how file (Err e) is = tt
+  over-alters (Guarded a) file (Ok bytes) is = tt
+  over-alters (Exclusive verifier) file (Ok bytes) is =
+      elim (is_verifier file.verifier verifier.bytes) as (λ b. IfOk (cond b (Ok None) (Err status.Exists)) (λ after. IfSome after (Alters (time_of ctx.moment) file))) [ true ↦ tt | false ↦ tt ]
+  over-alters (Unchecked a) file (Ok bytes) is = sized a.size
+    where
+      sized : (size : Option ℕ) → IfOk (elim size as (λ (_ : Option ℕ). Result (Option Living) NfsStatus) [ None ↦ Ok None | Some size ↦ resize_object ctx file bytes size ]) (λ after. IfSome after (Alters (time_of ctx.moment) file))
+      sized None = tt
+      sized (Some size) =
+          let P : Option Living → Type 0 = λ (after : Option Living). IfSome after (Alters (time_of ctx.moment) file) in
+          chained-is P (permitted ctx file Writing) _ (λ x1 e1. chained-is P (holding (nat_le size size_limit) status.FileTooBig) _ (λ x2 e2. alters-regular file (time_of ctx.moment) (resized bytes size) (is-regular file.content bytes is)))
+
+  existing-follows : (how : CreateHow) (number : ℕ) (o : Option Living) → get m.objects number ≡ o → IfOk (create_existing m ctx how number o) EndFollows
+  existing-follows how number None at = tt
+  existing-follows how number (Some o) at =
+      chained-is EndFollows (create_over ctx how o (bytes_in o.content)) _ (λ after is.
+      follows-replaced (time_of ctx.moment) m number o after at (of-ok (λ (after : Option Living). IfSome after (Alters (time_of ctx.moment) o)) (create_over ctx how o (bytes_in o.content)) after is (over-alters how o (bytes_in o.content) refl)))
+
+  pub create-follows : (a : CreateArguments) → IfOk (create_end m ctx a) EndFollows
+  create-follows a =
+      chained-is EndFollows (object_of (resolve m ctx a.place.directory)) _ (λ directory at.
+      chained-is EndFollows (entries_in directory.1.content) _ (λ entries is.
+      chained-is EndFollows (new_name_checked a.place.name) _ (λ x1 e1.
+      chained-is EndFollows (changeable ctx directory.1) _ (λ x3 e3.
+      chained-is EndFollows (permitted ctx directory.1 Changing) _ (λ x4 e4.
+      under directory.0 directory.1 entries.0 entries.1 (resolved-lives m ctx a.place.directory directory at) (is-directory directory.1.content entries is) (entry_of entries.0 a.place.name) refl)))))
+    where
+      under : (number : ℕ) (directory : Living) (entries : List Entry) (last : ℕ) → get m.objects number ≡ Some directory → directory.content ≡ Directory entries last
+          → (e : Option Entry) → entry_of entries a.place.name ≡ e → IfOk (create_under m ctx a number directory entries last e) EndFollows
+      under number directory entries last lives content (Some e) is = existing-follows a.how e.number (get m.objects e.number) refl
+      under number directory entries last lives content None is =
+          new-follows a.place.name (wanted_file a.how) number directory entries last lives content is (record { entries = refl; cookies = λ k c. (let no : is_directory (wanted_file a.how).content ≡ true = ap is_directory c in cc); text = λ t c. cc })

@@ -1,0 +1,279 @@
+-- What each step keeps, and so each run: a handle is given once, and what is true of every state stays true.
+use Rattle.std.proofs.Common.{◌≡◌, ◌==◌, ℕ, ◌+◌, ◌≤◌, ◌^◌, Bool, true, false, not, ◌||◌, cond, List, [], ◌∷◌, ◌++◌, length, Option, Some, None, Result, Ok, Err, IfOk, filter, nat_le, nat_lt, inl, inr, refl, sym, ◌∙◌, subst, arith}
+use Rattle.std.proofs.lemmas.Bool.{leb-true}
+use Rattle.std.specs.FinMap.{FinMap, get}
+use Rattle.std.specs.List.{list_any}
+use Rattle.std.specs.Ordering.{nat_cmp}
+use Rattle.nfs_wire.specs.declared.attributes.SetAttributes.{SetAttributes}
+use Rattle.nfs_wire.specs.declared.attributes.Time.{Time}
+use Rattle.nfs_wire.specs.declared.calls.NfsCall.{NfsCall}
+use Rattle.nfs_wire.specs.declared.calls.NfsCall.TheVariants as nfs
+use Rattle.nfs_wire.specs.declared.calls.Place.{Place}
+use Rattle.nfs_wire.specs.declared.calls.Special.{Special}
+use Rattle.nfs_wire.specs.declared.calls.Special.TheVariants as special
+use Rattle.nfs_wire.specs.declared.replies.MadeReply.{MadeReply}
+use Rattle.nfs_wire.specs.declared.replies.NfsReply.{NfsReply}
+use Rattle.nfs_wire.specs.declared.status.NfsStatus.{NfsStatus}
+use Rattle.nfs_wire.specs.declared.status.NfsStatus.TheVariants as status
+use Rattle.side_wire.specs.declared.message.Message.{Message}
+use Rattle.side_wire.specs.declared.mount.MountCall.{MountCall}
+use Rattle.side_wire.specs.declared.mount.MountCall.TheVariants as mount
+use Rattle.side_wire.specs.declared.mount.MountReply.{MountReply}
+use Rattle.side_wire.specs.declared.mount.MountStatus.{MountStatus}
+use Rattle.side_wire.specs.declared.nlm.NlmCall.{NlmCall}
+use Rattle.side_wire.specs.declared.nlm.NlmReply.{NlmReply}
+use Rattle.nfs_machine.specs.Answers.{Answers, state_after}
+use Rattle.nfs_machine.specs.AttributeSteps.{setattr_end}
+use Rattle.nfs_machine.specs.Attributes.{links_of, names_of}
+use Rattle.nfs_machine.specs.Checks.{holding, link_limit, may_gain_link}
+use Rattle.nfs_machine.specs.DataSteps.{write_end}
+use Rattle.nfs_machine.specs.Grants.{AllHeldUp}
+use Rattle.nfs_machine.specs.Laws.{GivesOnce, LivesAs, NeverGivenAgain, RunsKeepForm, StepsGiveOnce, StepsKeepForm}
+use Rattle.nfs_machine.specs.LinkSteps.{link_end}
+use Rattle.nfs_machine.specs.LockLaws.{RunsKeepApart, RunsKeepWaiting, StepsKeepApart, StepsKeepWaiting}
+use Rattle.nfs_machine.specs.Locks.{NoConflict}
+use Rattle.nfs_machine.specs.MakeSteps.{mkdir_end, may_make, mknod_end, symlink_end, text_checked, wanted_directory, wanted_link, wanted_special}
+use Rattle.nfs_machine.specs.Making.{End, MakeStep}
+use Rattle.nfs_machine.specs.MountSteps.{MntAnswers, MountStep, is_by, is_mounted, is_of, newest, with_mount, without_mounts}
+use Rattle.nfs_machine.specs.NameSteps.{create_end}
+use Rattle.nfs_machine.specs.NfsSteps.{NfsStep}
+use Rattle.nfs_machine.specs.NlmSteps.{NlmStep}
+use Rattle.nfs_machine.specs.RemoveSteps.{remove_end, rmdir_end}
+use Rattle.nfs_machine.specs.RenameSteps.{GoesIntoItself, Move, Plan, SameObject, Moves, RenameEnds, brings_link, moved_end, rename_plan, with_moved, with_names_moved, without_replaced}
+use Rattle.nfs_machine.specs.Shown.{touched, with_object}
+use Rattle.nfs_machine.specs.SideLaws.{LocksFit}
+use Rattle.nfs_machine.specs.State.{Directory, Living, Mounted, State}
+use Rattle.nfs_machine.specs.Step.{Step}
+use Rattle.nfs_machine.specs.TimeLaws.{StepsTouchOnce, TouchesOnce}
+use Rattle.nfs_machine.specs.Times.{time_of}
+use Rattle.nfs_machine.specs.WellFormed.{WellFormed}
+use Rattle.nfs_machine.specs.declared.calls.Call.{Call}
+use Rattle.nfs_machine.specs.declared.calls.Call.TheVariants as calls
+use Rattle.nfs_machine.specs.declared.calls.Reply.{Reply}
+use Rattle.nfs_machine.specs.declared.calls.Reply.TheVariants as replies
+use Rattle.nfs_machine.specs.declared.context.Ctx.{Ctx}
+use Rattle.nfs_machine.proofs.Continued.{gives-continued, touches-continued}
+use Rattle.nfs_machine.proofs.Facts.{chained-is}
+use Rattle.nfs_machine.proofs.Follows.{EndFollows, Follows, LocksFollow, Plain, bounds-losing, create-follows, ends-follow, follows-after, follows-itself, locks-losing, make-follows, mounts-losing, of-ok, write-follows}
+use Rattle.nfs_machine.proofs.Locking.{nlm-touches}
+use Rattle.nfs_machine.proofs.Planned.{IsMove, IsPlan, continues-moved, planned}
+use Rattle.nfs_machine.proofs.Renamed.{well_formed-moved}
+use Rattle.nfs_machine.proofs.Setting.{setattr-follows}
+use Rattle.nfs_machine.proofs.Taken.{link-follows, remove-follows, rmdir-follows}
+use Rattle.nfs_machine.proofs.Waiting.{nlm-waits}
+use Rattle.nfs_machine.proofs.WellFormed.{alike_itself, well_formed-alike}
+
+stays : (now : Time) (old new : State) → new ≡ old → Follows now old new
+stays now old new same = subst (Follows now old) (sym same) (follows-itself now old)
+
+answered : {A : Type 0} {Answer : Type 0} (now : Time) (answer : Answer) (old : State) (end : Result (A × State) NfsStatus) (reply : Answer) (messages : List Message) (new : State)
+    → Answers answer (state_after old end) reply messages new → IfOk end (λ e. Follows now old e.1) → Follows now old new
+answered now answer old end reply messages new step f = subst (Follows now old) (sym step.state_is) (follows-after now old end f)
+
+made : (old : State) (ctx : Ctx) (place : Place) (comes_to : Result (End old) NfsStatus) (reply_of : MadeReply → NfsReply) (reply : NfsReply) (messages : List Message) (new : State)
+    → MakeStep old ctx place comes_to reply_of reply messages new → IfOk comes_to (EndFollows old ctx) → Follows (time_of ctx.moment) old new
+made old ctx place comes_to reply_of reply messages new step f =
+    subst (Follows (time_of ctx.moment) old) (sym step.answers.state_is) (follows-after (time_of ctx.moment) old step.end (ends-follow old ctx comes_to step.end step.ends f))
+
+-- what is made contains no name
+special-plain : (m : State) (ctx : Ctx) (what : Special) → IfOk (wanted_special what) (Plain m ctx)
+special-plain m ctx (special.BlockDevice given device) = record { entries = refl; cookies = λ last is. cc; text = λ t is. cc }
+special-plain m ctx (special.CharacterDevice given device) = record { entries = refl; cookies = λ last is. cc; text = λ t is. cc }
+special-plain m ctx (special.Socket given) = record { entries = refl; cookies = λ last is. cc; text = λ t is. cc }
+special-plain m ctx (special.Fifo given) = record { entries = refl; cookies = λ last is. cc; text = λ t is. cc }
+special-plain m ctx (special.Other kind) = tt
+
+directory-plain : (last : ℕ) → Directory [] 2 ≡ Directory [] last → 2 ≤ last
+directory-plain last is = (let same : 2 ≡ last = cc in omega (arith, same))
+
+-- the text of a link was checked
+text-within : (text : List ℕ) (x : Unit {0}) → text_checked text ≡ Ok x → length text ≤ 4096
+text-within text x is =
+    of-ok (λ _. length text ≤ 4096) (text_checked text) x is
+    (chained-is (λ _. length text ≤ 4096) (holding (nat_le 1 (length text)) status.Invalid) _ (λ x1 e1.
+    chained-is (λ _. length text ≤ 4096) (holding (not (list_any (λ b. b == 0) text)) status.Invalid) _ (λ x2 e2. short (nat_le (length text) 4096) refl)))
+  where
+    short : (b : Bool) → nat_le (length text) 4096 ≡ b → IfOk (holding b status.NameTooLong) (λ _. length text ≤ 4096)
+    short true e = leb-true (length text) 4096 e
+    short false e = tt
+
+link-plain : (m : State) (ctx : Ctx) (text : List ℕ) (given : SetAttributes) (x : Unit {0}) → text_checked text ≡ Ok x → Plain m ctx (wanted_link text given)
+link-plain m ctx text given x is = record { entries = refl; cookies = λ last e. cc; text = λ t e. (let same : text ≡ t = cc in subst (λ (s : List ℕ). length s ≤ 4096) same (text-within text x is)) }
+
+-- a RENAME
+module _ (old : State) (ctx : Ctx) where
+  moved-locks : (now : Time) (move : Move) (replaced : Option (ℕ × Living))
+      → LocksFollow old (without_replaced old (with_object (with_names_moved old now move) move.from.number (touched move.from.object now)) now replaced)
+  moved-locks now move None = record { apart = λ h. h; waits = λ h. h }
+  moved-locks now move (Some o) =
+      let l = locks-losing (with_object (with_names_moved old now move) move.from.number (touched move.from.object now)) (names_of old o.0) now o.0 o.1 in
+      record { apart = l.apart; waits = l.waits }
+
+  moved-mounts : (now : Time) (move : Move) (replaced : Option (ℕ × Living))
+      → (without_replaced old (with_object (with_names_moved old now move) move.from.number (touched move.from.object now)) now replaced).mounts ≡ old.mounts
+  moved-mounts now move None = refl
+  moved-mounts now move (Some o) = mounts-losing (with_object (with_names_moved old now move) move.from.number (touched move.from.object now)) (names_of old o.0) now o.0 o.1
+
+  moved-bounds : (now : Time) (move : Move) (replaced : Option (ℕ × Living))
+      → LocksFit old → LocksFit (without_replaced old (with_object (with_names_moved old now move) move.from.number (touched move.from.object now)) now replaced)
+  moved-bounds now move None = λ h. h
+  moved-bounds now move (Some o) = bounds-losing (with_object (with_names_moved old now move) move.from.number (touched move.from.object now)) (names_of old o.0) now o.0 o.1
+
+  moved-follows : (move : Move) → IsMove old move → (GoesIntoItself old move → ⊥) → IfOk (moved_end old ctx move) (λ e. Follows (time_of ctx.moment) old e.1)
+  moved-follows move is out =
+      chained-is (λ (e : Unit {0} × State). Follows (time_of ctx.moment) old e.1) (holding (not (brings_link move) || nat_lt (links_of old move.target move.directory.content) link_limit) status.TooManyLinks) _ (λ x1 e1.
+      chained-is (λ (e : Unit {0} × State). Follows (time_of ctx.moment) old e.1) (holding (nat_lt (move.last_cookie + 1) (2 ^ 64)) status.NoSpace) _ (λ x2 e2. record {
+        gives = gives-continued (time_of ctx.moment) old (with_moved old (time_of ctx.moment) move) (continues-moved old (time_of ctx.moment) move is);
+        touches = touches-continued (time_of ctx.moment) old (with_moved old (time_of ctx.moment) move) (continues-moved old (time_of ctx.moment) move is);
+        formed = λ w. well_formed-moved old (time_of ctx.moment) move is w out;
+        locks = moved-locks (time_of ctx.moment) move move.replaced;
+        mounts = moved-mounts (time_of ctx.moment) move move.replaced;
+        bounds = moved-bounds (time_of ctx.moment) move move.replaced;
+      }))
+
+  abbrev After : Result (Unit {0} × State) NfsStatus → Type 0
+  After end = Follows (time_of ctx.moment) old (state_after old end)
+
+  renamed : (plan : Result Plan NfsStatus) (end : Result (Unit {0} × State) NfsStatus) → IfOk plan (IsPlan old) → RenameEnds old ctx plan end → After end
+  renamed (Err e) end is ends = subst After (sym ends) (follows-itself (time_of ctx.moment) old)
+  renamed (Ok SameObject) end is ends = subst After (sym ends) (follows-itself (time_of ctx.moment) old)
+  renamed (Ok (Moves move)) end is (inl into) = subst After (sym into.1) (follows-itself (time_of ctx.moment) old)
+  renamed (Ok (Moves move)) end is (inr out) = subst After (sym out.1) (follows-after (time_of ctx.moment) old (moved_end old ctx move) (moved-follows move is out.0))
+
+pub nfs-follows : (old : State) (ctx : Ctx) (call : NfsCall) (reply : NfsReply) (messages : List Message) (new : State) → NfsStep old ctx call reply messages new → Follows (time_of ctx.moment) old new
+unfolding NfsStep
+nfs-follows old ctx nfs.Null reply messages new step = stays (time_of ctx.moment) old new step.unchanged
+nfs-follows old ctx (nfs.Getattr object) reply messages new step = stays (time_of ctx.moment) old new step.unchanged
+nfs-follows old ctx (nfs.Lookup place) reply messages new step = stays (time_of ctx.moment) old new step.answers.unchanged
+nfs-follows old ctx (nfs.Read a) reply messages new step = stays (time_of ctx.moment) old new step.unchanged
+nfs-follows old ctx (nfs.Write a) reply messages new step = answered (time_of ctx.moment) _ old (write_end old ctx a) reply messages new step (write-follows old ctx a)
+nfs-follows old ctx (nfs.Create a) reply messages new step = made old ctx a.place (create_end old ctx a) _ reply messages new step (create-follows old ctx a)
+nfs-follows old ctx (nfs.Mkdir a) reply messages new step =
+    made old ctx a.place (mkdir_end old ctx a) _ reply messages new step
+    (make-follows old ctx a.place (Ok (wanted_directory a.attributes)) (λ number directory. may_gain_link old number directory.content)
+    (λ number directory x e. record { entries = refl; cookies = directory-plain; text = λ t is. cc }))
+nfs-follows old ctx (nfs.Symlink a) reply messages new step =
+    made old ctx a.place (symlink_end old ctx a) _ reply messages new step
+    (make-follows old ctx a.place (Ok (wanted_link a.text a.attributes)) (λ number directory. text_checked a.text)
+    (λ number directory x e. link-plain old ctx a.text a.attributes x e))
+nfs-follows old ctx (nfs.Mknod a) reply messages new step =
+    made old ctx a.place (mknod_end old ctx a) _ reply messages new step (make-follows old ctx a.place (wanted_special a.what) (λ number directory. may_make ctx a.what)
+    (λ number directory x e. special-plain old ctx a.what))
+nfs-follows old ctx (nfs.Remove place) reply messages new step = answered (time_of ctx.moment) _ old (remove_end old ctx place) reply messages new step (remove-follows old ctx place)
+nfs-follows old ctx (nfs.Rmdir place) reply messages new step = answered (time_of ctx.moment) _ old (rmdir_end old ctx place) reply messages new step (rmdir-follows old ctx place)
+nfs-follows old ctx (nfs.Link a) reply messages new step = answered (time_of ctx.moment) _ old (link_end old ctx a) reply messages new step (link-follows old ctx a)
+nfs-follows old ctx (nfs.Rename a) reply messages new step =
+    subst (Follows (time_of ctx.moment) old) (sym step.answers.state_is) (renamed old ctx (rename_plan old ctx a) step.end (planned old ctx a) step.ends)
+nfs-follows old ctx (nfs.Setattr a) reply messages new step = answered (time_of ctx.moment) _ old (setattr_end old ctx a) reply messages new step (setattr-follows old ctx a)
+nfs-follows old ctx (nfs.Access a) reply messages new step = stays (time_of ctx.moment) old new step.unchanged
+nfs-follows old ctx (nfs.Readlink object) reply messages new step = stays (time_of ctx.moment) old new step.unchanged
+nfs-follows old ctx (nfs.Readdir a) reply messages new step = stays (time_of ctx.moment) old new step.answers.unchanged
+nfs-follows old ctx (nfs.Readdirplus a) reply messages new step = stays (time_of ctx.moment) old new step.answers.unchanged
+nfs-follows old ctx (nfs.Fsstat object) reply messages new step = stays (time_of ctx.moment) old new step.unchanged
+nfs-follows old ctx (nfs.Fsinfo object) reply messages new step = stays (time_of ctx.moment) old new step.unchanged
+nfs-follows old ctx (nfs.Pathconf object) reply messages new step = stays (time_of ctx.moment) old new step.unchanged
+nfs-follows old ctx (nfs.Commit a) reply messages new step = stays (time_of ctx.moment) old new step.unchanged
+
+-- what every step keeps, whatever its call names
+record Keeps (now : Time) (old new : State) : Type 0 where
+  pub gives : GivesOnce old new
+  pub touches : TouchesOnce now old new
+  pub formed : WellFormed old → WellFormed new
+  pub locks : LocksFollow old new
+
+keeps : (now : Time) (old new : State) → Follows now old new → Keeps now old new
+keeps now old new f = record { gives = f.gives; touches = f.touches; formed = f.formed; locks = f.locks }
+
+unchanged : (now : Time) (old new : State) → new ≡ old → Keeps now old new
+unchanged now old new same = keeps now old new (stays now old new same)
+
+-- MOUNT leaves the objects as they are
+with-mounts : (now : Time) (m : State) (mounts : List Mounted) → Keeps now m (record m { mounts = mounts })
+with-mounts now m mounts = record {
+  gives = gives-continued now m (record m { mounts = mounts }) (record { kept = λ n g e. e; lived = λ n o at. (o, at, inl refl) });
+  touches = touches-continued now m (record m { mounts = mounts }) (record { kept = λ n g e. e; lived = λ n o at. (o, at, inl refl) });
+  formed = λ w. well_formed-alike m (record m { mounts = mounts }) (λ n. alike_itself (get m.objects n)) (λ n. refl) (λ n g e. e) w.texts w;
+  locks = record { apart = λ h. h; waits = λ h. h };
+}
+
+mounted : (now : Time) (m : State) (x : Mounted) → Keeps now m (with_mount m x)
+mounted now m x =
+    elim (is_mounted m.mounts x) as (λ b. Keeps now m (cond b m (record m { mounts = newest (m.mounts ++ x ∷ []) }))) [
+      | true ↦ keeps now m m (follows-itself now m)
+      | false ↦ with-mounts now m (newest (m.mounts ++ x ∷ []))
+    ]
+
+unmounted : (now : Time) (m : State) (goes : Mounted → Bool) → Keeps now m (without_mounts m goes)
+unmounted now m goes = with-mounts now m (filter (λ (x : Mounted). not (goes x)) m.mounts)
+
+mnt : (old : State) (ctx : Ctx) (path : List ℕ) (result : Result (List ℕ) MountStatus) (new : State) → MntAnswers old ctx path result new → Keeps (time_of ctx.moment) old new
+mnt old ctx path (Ok handle) new (found, target, is, same) = subst (Keeps (time_of ctx.moment) old) (sym same) (mounted (time_of ctx.moment) old (record { host = ctx.host; path = path }))
+mnt old ctx path (Err e) new (why, same) = unchanged (time_of ctx.moment) old new same
+
+mount-keeps : (old : State) (ctx : Ctx) (call : MountCall) (reply : MountReply) (messages : List Message) (new : State) → MountStep old ctx call reply messages new → Keeps (time_of ctx.moment) old new
+unfolding MountStep
+mount-keeps old ctx mount.Null reply messages new step = unchanged (time_of ctx.moment) old new step.unchanged
+mount-keeps old ctx (mount.Mnt path) reply messages new step = mnt old ctx path step.result new step.answers
+mount-keeps old ctx mount.Dump reply messages new step = unchanged (time_of ctx.moment) old new step.unchanged
+mount-keeps old ctx (mount.Unmount path) reply messages new step = subst (Keeps (time_of ctx.moment) old) (sym step.state_is) (unmounted (time_of ctx.moment) old (is_of ctx.host path))
+mount-keeps old ctx mount.UnmountAll reply messages new step = subst (Keeps (time_of ctx.moment) old) (sym step.state_is) (unmounted (time_of ctx.moment) old (is_by ctx.host))
+mount-keeps old ctx mount.Export reply messages new step = unchanged (time_of ctx.moment) old new step.unchanged
+
+-- so does NLM
+untouched : (now : Time) (old new : State) → new.objects ≡ old.objects → new.spent ≡ old.spent → (NoConflict old → NoConflict new) → (AllHeldUp old → AllHeldUp new) → Keeps now old new
+untouched now old new objects spent apart waits =
+    subst (λ (x : FinMap nat_cmp Living). Keeps now old (record new { objects = x })) (sym objects)
+    (subst (λ (x : ℕ → ℕ → Bool). Keeps now old (record new { objects = old.objects; spent = x })) (sym spent) (record {
+      gives = gives-continued now old (record new { objects = old.objects; spent = old.spent }) (record { kept = λ n g e. e; lived = λ n o at. (o, at, inl refl) });
+      touches = touches-continued now old (record new { objects = old.objects; spent = old.spent }) (record { kept = λ n g e. e; lived = λ n o at. (o, at, inl refl) });
+      formed = λ w. well_formed-alike old (record new { objects = old.objects; spent = old.spent }) (λ n. alike_itself (get old.objects n)) (λ n. refl) (λ n g e. e) w.texts w;
+      locks = record { apart = apart; waits = waits };
+    }))
+
+nlm-keeps : (old : State) (ctx : Ctx) (call : NlmCall) (reply : NlmReply) (messages : List Message) (new : State) → NlmStep old ctx call reply messages new → Keeps (time_of ctx.moment) old new
+nlm-keeps old ctx call reply messages new step = (let same = nlm-touches old ctx call reply messages new step in untouched (time_of ctx.moment) old new same.objects same.spent same.apart (nlm-waits old ctx call reply messages new step))
+
+step-keeps : (old : State) (ctx : Ctx) (call : Call) (reply : Reply) (messages : List Message) (new : State) → Step old ctx call reply messages new → Keeps (time_of ctx.moment) old new
+step-keeps old ctx (calls.Nfs call) (replies.Nfs reply) messages new step = keeps (time_of ctx.moment) old new (nfs-follows old ctx call reply messages new step)
+step-keeps old ctx (calls.Mount call) (replies.Mount reply) messages new step = mount-keeps old ctx call reply messages new step
+step-keeps old ctx (calls.Nlm call) (replies.Nlm reply) messages new step = nlm-keeps old ctx call reply messages new step
+step-keeps old ctx call reply messages new step = absurd step
+
+pub steps_give_once : StepsGiveOnce
+steps_give_once old ctx call reply messages new step = (step-keeps old ctx call reply messages new step).gives
+
+pub steps_touch_once : StepsTouchOnce
+steps_touch_once old ctx call reply messages new step = (step-keeps old ctx call reply messages new step).touches
+
+pub never_given_again : NeverGivenAgain
+never_given_again setting first last [] n g run spent l = subst (λ m. LivesAs m n g) run l
+never_given_again setting first last (r ∷ records) n g (mid, executes, rest) spent l =
+    let gives = steps_give_once first executes.ctx executes.call r.reply r.messages mid executes.step in
+    elim (gives.handles n g (never_given_again setting mid last records n g rest (gives.kept n g spent) l)) [
+      | inl before ↦ before
+      | inr never ↦ (let no : true ≡ false = sym spent ∙ never.0 in cc)
+    ]
+
+pub steps_keep_form : StepsKeepForm
+steps_keep_form old ctx call reply messages new step = (step-keeps old ctx call reply messages new step).formed
+
+pub runs_keep_form : RunsKeepForm
+runs_keep_form setting first last [] run w = subst WellFormed (sym run) w
+runs_keep_form setting first last (r ∷ records) (mid, executes, rest) w =
+    runs_keep_form setting mid last records rest (steps_keep_form first executes.ctx executes.call r.reply r.messages mid executes.step w)
+
+pub steps_keep_apart : StepsKeepApart
+steps_keep_apart old ctx call reply messages new step = (step-keeps old ctx call reply messages new step).locks.apart
+
+pub steps_keep_waiting : StepsKeepWaiting
+steps_keep_waiting old ctx call reply messages new step = (step-keeps old ctx call reply messages new step).locks.waits
+
+pub runs_keep_apart : RunsKeepApart
+runs_keep_apart setting first last [] run h = subst NoConflict (sym run) h
+runs_keep_apart setting first last (r ∷ records) (mid, executes, rest) h =
+    runs_keep_apart setting mid last records rest (steps_keep_apart first executes.ctx executes.call r.reply r.messages mid executes.step h)
+
+pub runs_keep_waiting : RunsKeepWaiting
+runs_keep_waiting setting first last [] run h = subst AllHeldUp (sym run) h
+runs_keep_waiting setting first last (r ∷ records) (mid, executes, rest) h =
+    runs_keep_waiting setting mid last records rest (steps_keep_waiting first executes.ctx executes.call r.reply r.messages mid executes.step h)

@@ -1,0 +1,173 @@
+-- The steps of MOUNT and NLM that are worked through: the lists of locks at every offset, and what the handle names.
+use Rattle.std.proofs.Common.{◌≡◌, ◌==◌, ℕ, ◌+◌, ◌<◌, ◌≤◌, Bool, true, false, not, ◌&&◌, ◌||◌, cond, [], ◌∷◌, Option, Some, None, Result, Ok, Err, nat_le, inl, inr, refl, sym, ◌∙◌, ap, subst, arith}
+use Rattle.std.proofs.lemmas.Bool.{le-leb, leb-true}
+use Rattle.std.proofs.lemmas.Bool.Decides.{leb_tells}
+use Rattle.std.proofs.lemmas.List.Sums.{sum_by-cons}
+use Rattle.std.specs.List.{count_by, sum_by}
+use Rattle.side_wire.specs.declared.nlm.LockArguments.{LockArguments}
+use Rattle.side_wire.specs.declared.nlm.NlmStatus.TheVariants as status
+use Rattle.side_wire.specs.declared.message.NlmLock.{NlmLock}
+use Rattle.nfs_machine.specs.Checks.{is_writable}
+use Rattle.nfs_machine.specs.Locks.{Conflicts, Exclusive, Lists, Range, Unlocked, fits_offsets, holds, is_within, mode_at, mode_by, modes_with, range_of, same_owner}
+use Rattle.nfs_machine.specs.LockSteps.{◌>>=◌, Fault, LockOf, ReadOnly, TooBig, UnlockOf, holding, named_object, regular}
+use Rattle.side_wire.specs.declared.mount.MountStatus.{MountStatus}
+use Rattle.side_wire.specs.declared.mount.MountStatus.TheVariants as mount_status
+use Rattle.nfs_machine.specs.MountSteps.{MountStep, entries_at, walk}
+use Rattle.nfs_machine.specs.MountSteps.{◌>>=◌ as ◌>>=m◌}
+use Rattle.nfs_machine.specs.Resolve.{Resolved, Names, resolve}
+use Rattle.nfs_machine.specs.State.{Living, Lock, Owner}
+use Rattle.nfs_machine.specs.Worked.{open_export, root_bytes}
+use Rattle.nfs_machine.specs.WorkedLocks.{a, b, lock, on_file, split, whole}
+use Rattle.nfs_machine.specs.WorkedLocking.{WorkedLocking, giving_back, locking, with_split, with_waiting, with_whole}
+use Rattle.nfs_machine.specs.WorkedRun.{nobody, root_with_x, written, x_bytes, x_written}
+use Rattle.nfs_machine.specs.NlmSteps.{NlmStep}
+use Rattle.nfs_machine.proofs.Modes.{both, listed_locks_tell}
+use Rattle.nfs_machine.proofs.Opened.{le_or}
+use Rattle.nfs_machine.proofs.Ranges.{locked}
+use Rattle.nfs_machine.proofs.RunWorked.{root-written, x-lives, x-named}
+
+-- ---- 0 to 99 without 40 to 59
+no : (m n : ℕ) → n < m → nat_le m n ≡ false
+no m n less = elim (leb_tells m n) [ inl x ↦ absurd (let most = x.1 in omega (arith, most, less)) | inr x ↦ x.0 ]
+
+and-false : (t : Bool) → (t && false) ≡ false
+and-false true = refl
+and-false false = refl
+
+module _ (offset : ℕ) where
+  among : (low high : ℕ) → low ≤ offset → offset ≤ high → is_within low high offset ≡ true
+  among low high h k = ap (λ t. t && nat_le offset high) (le-leb low offset h) ∙ le-leb offset high k
+
+  under : (low high : ℕ) → offset < low → is_within low high offset ≡ false
+  under low high h = ap (λ t. t && nat_le offset high) (no low offset h)
+
+  over : (low high : ℕ) → high < offset → is_within low high offset ≡ false
+  over low high h = ap (λ t. nat_le low offset && t) (no offset high h) ∙ and-false (nat_le low offset)
+
+  abbrev Agree : Bool → Bool → Bool → Bool → Type 0
+  Agree low high out all = mode_by (cond low (Some (lock a 0 39 true)) (cond high (Some (lock a 60 99 true)) None)) ≡ cond out Unlocked (mode_by (cond all (Some (lock a 0 99 true)) None))
+
+  alike : (t : Bool) → Agree false t false t
+  alike true = refl
+  alike false = refl
+
+  agree : Agree (is_within 0 39 offset) (is_within 60 99 offset) (is_within 40 59 offset) (is_within 0 99 offset)
+  agree = elim (le_or offset 39) [
+    | inl h ↦
+        subst (λ t. Agree t (is_within 60 99 offset) (is_within 40 59 offset) (is_within 0 99 offset)) (sym (among 0 39 (omega arith) h))
+        (subst (λ t. Agree true (is_within 60 99 offset) t (is_within 0 99 offset)) (sym (under 40 59 (omega (arith, h))))
+        (subst (λ t. Agree true (is_within 60 99 offset) false t) (sym (among 0 99 (omega arith) (omega (arith, h)))) refl))
+    | inr h ↦
+        subst (λ t. Agree t (is_within 60 99 offset) (is_within 40 59 offset) (is_within 0 99 offset)) (sym (over 0 39 h)) (elim (le_or offset 59) [
+          | inl k ↦
+              subst (λ t. Agree false t (is_within 40 59 offset) (is_within 0 99 offset)) (sym (under 60 99 (omega (arith, k))))
+              (subst (λ t. Agree false false t (is_within 0 99 offset)) (sym (among 40 59 (omega (arith, h)) k)) refl)
+          | inr k ↦
+              subst (λ t. Agree false (is_within 60 99 offset) t (is_within 0 99 offset)) (sym (over 40 59 k))
+              (subst (λ t. Agree false t false (is_within 0 99 offset)) (sym (ap (λ t. t && nat_le offset 99) (le-leb 60 offset (omega (arith, k))))) (subst (λ t. Agree false (nat_le offset 99) false t) (sym (ap (λ t. t && nat_le offset 99) (le-leb 0 offset (omega arith)))) (alike (nat_le offset 99))))
+        ])
+  ]
+
+  apart : is_within 0 39 offset ≡ true → is_within 60 99 offset ≡ true → ⊥
+  apart e f =
+      let x = both (nat_le 0 offset) (nat_le offset 39) e in
+      let y = both (nat_le 60 offset) (nat_le offset 99) f in
+      let below : offset ≤ 39 = leb-true offset 39 x.1 in
+      let above : 60 ≤ offset = leb-true 60 offset y.0 in
+      omega (arith, below, above)
+
+given-back : Lists split (modes_with whole (on_file a 40 20) Unlocked)
+given-back = record { modes_are = modes; once = once }
+  where
+    modes : (file : ℕ) (owner : Owner) (offset : ℕ) → mode_at split file owner offset ≡ modes_with whole (on_file a 40 20) Unlocked file owner offset
+    modes file owner offset =
+        elim ((5 == file) && same_owner a owner) as (λ t. Agree offset (t && is_within 0 39 offset) (t && is_within 60 99 offset) (t && is_within 40 59 offset) (t && is_within 0 99 offset)) [
+          | true ↦ agree offset
+          | false ↦ refl
+        ]
+
+    few : (t : Bool) (offset : ℕ) → cond {A = ℕ} (t && is_within 0 39 offset) 1 0 + cond {A = ℕ} (t && is_within 60 99 offset) 1 0 ≤ 1
+    few false offset = omega arith
+    few true offset =
+        elim (is_within 0 39 offset) as (λ t. is_within 0 39 offset ≡ t → cond {A = ℕ} t 1 0 + cond {A = ℕ} (is_within 60 99 offset) 1 0 ≤ 1) [
+          | true ↦ λ e. elim (is_within 60 99 offset) as (λ t. is_within 60 99 offset ≡ t → 1 + cond {A = ℕ} t 1 0 ≤ 1) [
+            | true ↦ λ f. absurd (apart offset e f)
+            | false ↦ λ f. omega arith
+          ] refl
+          | false ↦ λ e. elim (is_within 60 99 offset) as (λ t. 0 + cond {A = ℕ} t 1 0 ≤ 1) [ true ↦ omega arith | false ↦ omega arith ]
+        ] refl
+
+    once : (file : ℕ) (owner : Owner) (offset : ℕ) → count_by (holds file owner offset) split ≤ 1
+    once file owner offset =
+        let f : Lock → ℕ = λ (l : Lock). cond {A = ℕ} (holds file owner offset l) 1 0 in
+        let nil : sum_by f [] ≡ 0 = refl in
+        let two : f (lock a 0 39 true) + f (lock a 60 99 true) ≤ 1 = few ((5 == file) && same_owner a owner) offset in
+        omega (arith, nil, two, sum_by-cons f (lock a 0 39 true) (lock a 60 99 true ∷ []), sum_by-cons f (lock a 60 99 true) [])
+
+-- ---- NLM
+abbrev file_by : Resolved → Result (ℕ × Living) Fault
+file_by r = named_object r >>= λ o. regular o.1.content >>= λ _. Ok o
+
+abbrev range_by : NlmLock → Resolved → Result Range Fault
+range_by l r = file_by r >>= λ file. holding (fits_offsets l) TooBig >>= λ _. Ok (range_of file.0 l)
+
+abbrev lock_by : LockArguments → Resolved → Result Range Fault
+lock_by l r =
+    file_by r >>= λ file. holding (fits_offsets l.lock) TooBig >>= λ _. holding (not l.exclusive || is_writable nobody file.1) ReadOnly >>= λ _. Ok (range_of file.0 l.lock)
+
+-- where a path without parts leads
+abbrev found_by : Option Living → Result (ℕ × Living) MountStatus
+found_by o = entries_at o >>=m λ d. Ok (1, d.0)
+
+is-x : resolve written nobody x_bytes ≡ Names 5 x_written
+is-x = x-named written x_written refl refl x-lives
+
+held : Conflicts split (on_file b 30 1) Exclusive
+held = record { other = a; offset = 30; is_other = refl; is_inside = refl; conflict = refl }
+
+pub worked-locking : WorkedLocking
+unfolding NlmStep MountStep walk
+worked-locking = record {
+  locks = record {
+    status = status.Granted;
+    ends = subst (λ r. LockOf written nobody (locking a 0 100 true) false (lock_by (locking a 0 100 true) r) status.Granted [] with_whole) (sym is-x)
+        (inl (record { free = listed_locks_tell [] (on_file a 0 100) Exclusive refl; status_is = refl; changes = record { locks = whole; lists = locked; settles = (tt, refl) } }));
+    reply_is = refl;
+  };
+  unlocks = record {
+    status = status.Granted;
+    ends = subst (λ r. UnlockOf with_whole (range_by giving_back.lock r) status.Granted [] with_split) (sym is-x)
+        (record { status_is = refl; changes = record { locks = split; lists = given-back; settles = (tt, refl) } });
+    reply_is = refl;
+  };
+  waits = record {
+    status = status.Blocked;
+    ends = subst (λ r. LockOf with_split nobody (locking b 30 1 true) false (lock_by (locking b 30 1 true) r) status.Blocked [] with_waiting) (sym is-x)
+        (inr (record { conflicts = held; ends = inl (record { number = 5; is_number = refl; never_given = refl; answers = record { reply_is = refl; no_message = refl; state_is = refl } }) }));
+    reply_is = refl;
+  };
+  denied = record {
+    status = status.Denied;
+    ends = subst (λ r. LockOf with_split nobody (locking b 30 1 false) false (lock_by (locking b 30 1 false) r) status.Denied [] with_split) (sym is-x)
+        (inr (record { conflicts = held; ends = record { reply_is = refl; no_message = refl; unchanged = refl } }));
+    reply_is = refl;
+  };
+  mounts = record {
+    result = Ok root_bytes;
+    reply_is = refl;
+    no_message = refl;
+    answers = (
+      (1, root_with_x),
+      (
+        refl,
+        1,
+        [],
+        record { leads = record { export = open_export; stands = refl; admitted = refl; begins = refl }; longest = λ other more leads. omega arith },
+        sym (ap found_by root-written),
+      ),
+      refl,
+      refl,
+    );
+  };
+  not_mounted = record { result = Err mount_status.Invalid; reply_is = refl; no_message = refl; answers = (inl refl, refl) };
+}

@@ -1,0 +1,87 @@
+-- The state that a server starts with: its roots live, one for each export, and nothing else; so it is well formed.
+use Rattle.std.proofs.Common.{◌≡◌, ◌≢◌, ℕ, ◌+◌, ◌<◌, ◌≤◌, ◌⊎◌, inl, inr, true, false, cond, nat_le, List, [], ◌∷◌, length, Some, None, refl, sym, ◌∙◌, ap, subst, arith}
+use Rattle.std.proofs.lemmas.Bool.Decides.{nat_tests}
+use Rattle.std.specs.Cmp.{nat_cmp_total}
+use Rattle.std.specs.FinMap.{FinMap, get, insert, get-insert, get-empty}
+use Rattle.std.specs.List.{AllByRecursion}
+use Rattle.std.specs.Ordering.{nat_cmp, eq_by_cmp}
+use Rattle.nfs_wire.specs.declared.attributes.Time.{Time}
+use Rattle.nfs_machine.specs.Attributes.{entries_of, is_living_directory, names_in, names_of}
+use Rattle.nfs_machine.specs.Exports.{ExportValue}
+use Rattle.nfs_machine.specs.Laws.{OpeningIsFormed}
+use Rattle.nfs_machine.specs.Opening.{opening, opening_last, opening_root, opening_roots, time_of}
+use Rattle.nfs_machine.specs.State.{Directory, Link, Entry, Living}
+use Rattle.nfs_machine.specs.WellFormed.{CookiesRise, IsDirectoryOf, WellFormed}
+use Rattle.nfs_machine.specs.declared.moment.Moment.{Moment}
+use Rattle.nfs_machine.proofs.Sums.{sum-none}
+
+pub le_or : (a b : ℕ) → (a ≤ b) ⊎ (b < a)
+le_or a b = elim (nat_le a b) as (λ t. nat_le a b ≡ t → (a ≤ b) ⊎ (b < a)) [ true ↦ λ e. inl (grind (arith, nat_tests)) | false ↦ λ e. inr (grind (arith, nat_tests)) ] refl
+
+module _ (time : Time) where
+  insert_here : (m : FinMap nat_cmp Living) (k n : ℕ) (o : Living) → n ≡ k → get (insert m k o) n ≡ Some o
+  insert_here m k n o e = get-insert nat_cmp_total m k o n ∙ ap (λ b. cond b (Some o) (get m n)) (let t : eq_by_cmp nat_cmp n k ≡ true = grind (arith, nat_tests) in t)
+
+  insert_there : (m : FinMap nat_cmp Living) (k n : ℕ) (o : Living) → n ≢ k → get (insert m k o) n ≡ get m n
+  insert_there m k n o e = get-insert nat_cmp_total m k o n ∙ ap (λ b. cond b (Some o) (get m n)) (let t : eq_by_cmp nat_cmp n k ≡ false = grind (arith, nat_tests) in t)
+
+  pub root_found : (es : List ExportValue) (k n : ℕ) → k ≤ n → n < k + length es → get (opening_roots k es time) n ≡ Some (opening_root n time)
+  root_found [] k n low high = absurd (omega (arith, low, high))
+  root_found (e ∷ es) k n low high =
+      elim (le_or n k) [
+        | inl h ↦ (let same : n ≡ k = omega (arith, low, h) in insert_here (opening_roots (k + 1) es time) k n (opening_root k time) same ∙ ap (λ j. Some (opening_root j time)) (sym same))
+        | inr h ↦
+            insert_there (opening_roots (k + 1) es time) k n (opening_root k time) (λ same. omega (arith, h, same))
+            ∙ root_found es (k + 1) n (omega (arith, h)) (omega (arith, high))
+      ]
+
+  pub root_none : (es : List ExportValue) (k n : ℕ) → (n < k) ⊎ (k + length es ≤ n) → get (opening_roots k es time) n ≡ None
+  root_none [] k n out = get-empty nat_cmp n
+  root_none (e ∷ es) k n (inl below) =
+      insert_there (opening_roots (k + 1) es time) k n (opening_root k time) (λ same. omega (arith, below, same)) ∙ root_none es (k + 1) n (inl (omega (arith, below)))
+  root_none (e ∷ es) k n (inr above) =
+      insert_there (opening_roots (k + 1) es time) k n (opening_root k time) (λ same. omega (arith, above, same)) ∙ root_none es (k + 1) n (inr (omega (arith, above)))
+
+module _ (es : List ExportValue) (moment : Moment) where
+  abbrev time : Time
+  time = time_of moment
+
+  -- what lives is the root with its number, whose generation was given
+  abbrev IsRoot : ℕ → Living → Type 0
+  IsRoot n o = (opening_root n time ≡ o) × (opening_last (length es) n ≡ 1)
+
+  pub only_roots : (n : ℕ) (o : Living) → get (opening_roots 1 es time) n ≡ Some o → IsRoot n o
+  only_roots n o at = elim (le_or 1 n) [
+    | inl low ↦ elim (le_or n (length es)) [
+      | inl h ↦
+          let some : Some (opening_root n time) ≡ Some o = sym (root_found time es 1 n low (omega (arith, h))) ∙ at in
+          ((let same : opening_root n time ≡ o = cc in same), (let e : opening_last (length es) n ≡ 1 = grind (arith, nat_tests) in e))
+      | inr h ↦ (let none : None ≡ Some o = sym (root_none time es 1 n (inr (omega (arith, h)))) ∙ at in absurd cc)
+    ]
+    | inr zero ↦ (let none : None ≡ Some o = sym (root_none time es 1 n (inl zero)) ∙ at in absurd cc)
+  ]
+
+  root_cookies : (entries : List Entry) (last : ℕ) → Directory [] 2 ≡ Directory entries last → CookiesRise 2 entries last
+  root_cookies entries last is =
+      let none : [] ≡ entries = cc in
+      let two : 2 ≡ last = cc in
+      subst (λ k. CookiesRise 2 entries k) two (subst (λ (xs : List Entry). CookiesRise 2 xs 2) none (omega arith))
+
+  -- no names, and so nothing below a root
+  roots_formed : WellFormed (opening es moment)
+  roots_formed = record {
+    names = λ n o at. subst (IsDirectoryOf (opening es moment)) (only_roots n o at).0 (record { once = tt; leads = tt });
+    cookies = λ n o entries last at is. root_cookies entries last (ap (λ (x : Living). x.content) (only_roots n o at).0 ∙ is);
+    named = λ n o at other. (let own : n ≡ o.export = ap (λ (x : Living). x.export) (only_roots n o at).0 in absurd (grind (arith, nat_tests)));
+    one_name = λ n o at kind.
+        let none : names_of (opening es moment) n ≡ 0 = sum-none (names_in n) (opening_roots 1 es time) (λ q v there. subst (λ (x : Living). names_in n x ≡ 0) (only_roots q v there).0 refl) in
+        omega arith;
+    depth = λ n. 0;
+    deeper = λ n o at.
+        subst (λ (x : Living). AllByRecursion (λ (e : Entry). is_living_directory (get (opening_roots 1 es time) e.number) ≡ true → 0 < 0) (entries_of x.content)) (only_roots n o at).0 tt;
+    given = λ n o at. (let r = only_roots n o at in subst (λ (x : Living). nat_le x.generation (opening_last (length es) n) ≡ true) r.0 (ap (nat_le 1) r.1));
+    texts = λ n o text at is. (let no : Directory [] 2 ≡ Link text = ap (λ (x : Living). x.content) (only_roots n o at).0 ∙ is in cc);
+  }
+
+pub opening_formed : OpeningIsFormed
+opening_formed es moment = roots_formed es moment

@@ -1,0 +1,308 @@
+-- The run and the steps that are worked through: what lives at each number is told by the maps, and the rest computes.
+use Rattle.std.proofs.Common.{◌≡◌, ◌==◌, ℕ, ◌≤◌, ◌^◌, Bool, true, false, ◌||◌, ◌&&◌, cond, nat_le, List, [], ◌∷◌, ◌++◌, Option, Some, None, Result, Ok, codes, inl, refl, sym, ◌∙◌, ap, subst, arith}
+use Rattle.std.proofs.lemmas.Bool.{leb-true}
+use Rattle.std.specs.FinMap.{get, insert, get-empty}
+use Rattle.std.specs.List.{Contains}
+use Rattle.std.specs.Ordering.{nat_cmp}
+use Rattle.nfs_xdr.proofs.Spelling.{writing_spells}
+use Rattle.nfs_xdr.specs.Reading.{read}
+use Rattle.nfs_xdr.specs.Types.{HasSpelling}
+use Rattle.nfs_xdr.specs.Writing.{appended, with_arm, with_hyper, with_padded, with_word}
+use Rattle.nfs_rpc.specs.Early.{call_of}
+use Rattle.nfs_wire.specs.Calls.{arguments_of, arguments_type, procedure_of}
+use Rattle.nfs_wire.specs.declared.calls.NfsCall.{NfsCall}
+use Rattle.nfs_wire.specs.declared.calls.NfsCall.TheVariants as nfs
+use Rattle.nfs_wire.specs.declared.calls.Verifier.{Verifier}
+use Rattle.nfs_wire.specs.declared.calls.WriteArguments.{WriteArguments}
+use Rattle.nfs_wire.specs.declared.replies.NfsReply.TheVariants as nfs_replies
+use Rattle.nfs_wire.specs.declared.replies.Written.{Written}
+use Rattle.nfs_wire.specs.declared.status.NfsStatus.{NfsStatus}
+use Rattle.nfs_wire.specs.declared.status.NfsStatus.TheVariants as status
+use Rattle.nfs_machine.specs.Answers.{answer_of, state_after}
+use Rattle.nfs_machine.specs.Attributes.{names_in, names_of}
+use Rattle.nfs_machine.specs.Checks.{◌>>=◌, changeable, entries_in, entry_of, holding, new_name_checked, object_of, old_name_checked, permitted}
+use Rattle.nfs_machine.specs.DataSteps.{write_answer, write_object}
+use Rattle.nfs_machine.specs.Making.{End, EndsAs, Fresh, made}
+use Rattle.nfs_machine.specs.NameSteps.{create_under}
+use Rattle.nfs_machine.specs.NfsSteps.{NfsStep}
+use Rattle.nfs_machine.specs.Pages.{all_entries, behind, fits, fits_full}
+use Rattle.nfs_machine.specs.PageSteps.{PagesOf, is_good}
+use Rattle.nfs_machine.specs.Permission.{Changing, Listing}
+use Rattle.nfs_machine.specs.RemoveSteps.{Named, losing_name, named_in, not_directory, object_found, remove_end, taken_reply, with_name_taken}
+use Rattle.nfs_machine.specs.Resolve.{Resolved, Stale, Names, living_at, resolve}
+use Rattle.nfs_machine.specs.Readings.{Has}
+use Rattle.nfs_machine.specs.Run.{Asks, Executes, Record, Run}
+use Rattle.nfs_machine.specs.Shown.{replaced, wcc, with_object}
+use Rattle.nfs_machine.specs.State.{Directory, Entry, Living, State}
+use Rattle.nfs_machine.specs.WellFormed.{IsParent, WellFormed}
+use Rattle.nfs_machine.specs.Worked.{root_bytes, root_handle}
+use Rattle.nfs_machine.specs.WorkedCreate.{moment}
+use Rattle.nfs_machine.specs.WorkedFiles.{time}
+use Rattle.nfs_machine.specs.WorkedPages.{seven, zeros}
+use Rattle.nfs_machine.specs.WorkedReplies.{root}
+use Rattle.nfs_machine.specs.WorkedRun.{WorkedRun, WorkedSteps, WorkedTurns, all_three, argument_bytes, arrives, executed, first_two, header_of, in_root, listed_full_reply, listed_reply, listing, listing_full, made_reply, making, miscounted, nobody, opened, page_reply, refused_reply, removed, removed_reply, root_after, root_with_x, setting, with_x, writing, written, x, x_bytes, x_entry, x_written}
+use Rattle.nfs_machine.specs.declared.calls.Call.TheVariants as calls
+use Rattle.nfs_machine.proofs.Opened.{only_roots, opening_formed}
+use Rattle.nfs_machine.proofs.Kept.{runs_keep_form}
+use Rattle.nfs_machine.proofs.Pages.{fits-shrinks, page-ends, page-stops}
+use Rattle.nfs_machine.proofs.Sums.{get-inserted, sum-insert_new, sum-insert_old, sum-none}
+
+-- ---- what lives where
+root-opened : get opened.objects 1 ≡ Some root
+root-opened = get-inserted _ 1 root 1
+
+none-opened : get opened.objects 5 ≡ None
+none-opened = get-inserted _ 1 root 5 ∙ get-empty nat_cmp 5
+
+root-made : get with_x.objects 1 ≡ Some root_with_x
+root-made = get-inserted (insert opened.objects 1 root_with_x) 5 x 1 ∙ get-inserted opened.objects 1 root_with_x 1
+
+x-made : get with_x.objects 5 ≡ Some x
+x-made = get-inserted (insert opened.objects 1 root_with_x) 5 x 5
+
+pub root-written : get written.objects 1 ≡ Some root_with_x
+root-written = get-inserted with_x.objects 5 x_written 1 ∙ root-made
+
+pub x-lives : get written.objects 5 ≡ Some x_written
+x-lives = get-inserted with_x.objects 5 x_written 5
+
+root-named : (m : State) (o : Living) → o.generation ≡ 1 → o.export ≡ 1 → get m.objects 1 ≡ Some o → resolve m nobody root_bytes ≡ Names 1 o
+root-named m o generation export at =
+    ap (λ (l : Option Living). living_at l root_handle) at ∙ ap (λ k. cond ((k == 1) && (o.export == 1)) (Names 1 o) Stale) generation ∙ ap (λ k. cond (k == 1) (Names 1 o) Stale) export
+
+pub x-named : (m : State) (o : Living) → o.generation ≡ 1 → o.export ≡ 1 → get m.objects 5 ≡ Some o → resolve m nobody x_bytes ≡ Names 5 o
+x-named m o generation export at =
+    ap (λ (l : Option Living). living_at l (record root_handle { fileid = 5 })) at ∙ ap (λ k. cond ((k == 1) && (o.export == 1)) (Names 5 o) Stale) generation ∙ ap (λ k. cond (k == 1) (Names 5 o) Stale) export
+
+-- ---- the calls arrive
+asked : (call : NfsCall) → call_of (arrives call).bytes ≡ Ok (header_of call) → HasSpelling (arguments_type (procedure_of call)) (arguments_of call) → Asks setting (arrives call) nobody (calls.Nfs call)
+asked call read form = record {
+  header = header_of call;
+  read = read;
+  is_call = record {
+    program = refl;
+    procedure = refl;
+    front = argument_bytes call;
+    rest = [];
+    arguments = sym (append-nil (argument_bytes call));
+    spelled = (writing_spells (arguments_type (procedure_of call)) (arguments_of call) form).spelled;
+  };
+  made_under = refl;
+}
+  where
+    append-nil : (xs : List ℕ) → xs ++ [] ≡ xs
+    append-nil [] = refl
+    append-nil (b ∷ xs) = ap (λ ys. b ∷ ys) (append-nil xs)
+
+making-read : call_of (arrives (nfs.Create making)).bytes ≡ Ok (header_of (nfs.Create making))
+unfolding call_of read appended with_word with_hyper with_padded with_arm
+making-read = refl
+
+writing-read : call_of (arrives (nfs.Write writing)).bytes ≡ Ok (header_of (nfs.Write writing))
+unfolding call_of read appended with_word with_hyper with_padded with_arm
+writing-read = refl
+
+within : (m n : ℕ) → nat_le m n ≡ true → m ≤ n
+within = leb-true
+
+making-form : HasSpelling (arguments_type 8) (arguments_of (nfs.Create making))
+making-form = (((within 32 64 refl, within 33 (2 ^ 32) refl), (within 1 4294967295 refl, within 2 (2 ^ 32) refl)), (within 1 (2 ^ 32) refl, refl, (tt, (tt, (tt, (tt, ((within 1 (2 ^ 32) refl, refl, tt), (within 1 (2 ^ 32) refl, refl, tt))))))))
+
+writing-form : HasSpelling (arguments_type 7) (arguments_of (nfs.Write writing))
+writing-form = ((within 32 64 refl, within 33 (2 ^ 32) refl), (within 1 (2 ^ 64) refl, (within 3 (2 ^ 32) refl, ((within 3 (2 ^ 32) refl, refl), (within 2 4294967295 refl, within 3 (2 ^ 32) refl)))))
+
+-- ---- CREATE
+fresh : Fresh opened
+fresh = record {
+  number = 5;
+  generation = 1;
+  spent = λ n g. ((n == 5) && (g == 1)) || opened.spent n g;
+  number_fits = within 6 (2 ^ 64) refl;
+  generation_fits = within 2 (2 ^ 64) refl;
+  free = none-opened;
+  never_given = refl;
+  given = refl;
+  kept = λ n g e. either ((n == 5) && (g == 1)) (opened.spent n g) e;
+}
+  where
+    either : (a b : Bool) → b ≡ true → (a || b) ≡ true
+    either true b e = refl
+    either false b e = e
+
+abbrev create_by : Resolved → Result (End opened) NfsStatus
+create_by r =
+    object_of r >>= λ directory. entries_in directory.1.content >>= λ entries. new_name_checked making.place.name >>= λ _. changeable nobody directory.1 >>= λ _. permitted nobody directory.1 Changing
+    >>= λ _. create_under opened nobody making directory.0 directory.1 entries.0 entries.1 (entry_of entries.0 making.place.name)
+
+creates : NfsStep opened nobody (nfs.Create making) made_reply [] with_x
+unfolding NfsStep fresh
+creates = record {
+  end = Ok (made with_x nobody 5 x, with_x);
+  ends = subst (λ r. EndsAs opened (create_by r) (Ok (made with_x nobody 5 x, with_x))) (sym (root-named opened root refl refl root-opened)) (fresh, refl);
+  answers = record { reply_is = refl; no_message = refl; state_is = refl };
+}
+
+-- ---- WRITE
+abbrev write_by : WriteArguments → Resolved → Result (Written × State) NfsStatus
+write_by a r = object_of r >>= λ file. write_object nobody file.1 a >>= λ end. Ok (end.0, replaced with_x file.0 end.1)
+
+writes : NfsStep with_x nobody (nfs.Write writing) (write_answer with_x nobody writing) [] written
+unfolding NfsStep
+writes = record { reply_is = refl; no_message = refl; state_is = sym (ap (λ r. state_after with_x (write_by writing r)) (x-named with_x x refl refl x-made)) }
+
+refused : NfsStep with_x nobody (nfs.Write miscounted) refused_reply [] with_x
+unfolding NfsStep
+refused =
+    let named = x-named with_x x refl refl x-made in record {
+      reply_is = sym (ap (λ r. nfs_replies.Write (record { wcc = wcc (state_after with_x (write_by miscounted r)) (resolve with_x nobody x_bytes); result = answer_of (write_by miscounted r) })) named);
+      no_message = refl;
+      state_is = sym (ap (λ r. state_after with_x (write_by miscounted r)) named);
+    }
+
+-- ---- READDIR
+abbrev entries_from : (cookie : ℕ) → Verifier → Resolved → Result (List Entry) NfsStatus
+entries_from cookie verifier r =
+    object_of r >>= λ d. entries_in d.1.content >>= λ entries. permitted nobody d.1 Listing >>= λ _. holding (is_good nobody cookie verifier) status.BadCookie >>= λ _. Ok (behind cookie (all_entries d.0 1 entries.0))
+
+abbrev entries_by : Resolved → Result (List Entry) NfsStatus
+entries_by = entries_from 0 zeros
+
+-- the root is its own parent
+root-parent : (m : State) → get m.objects 1 ≡ Some root_with_x → (number : ℕ) (d : Living) → Names 1 root_with_x ≡ Names number d → IsParent m number 1
+root-parent m lives number d both = (let own : 1 ≡ number = cc in subst (λ k. IsParent m k 1) own (record { directory = root_with_x; lives = lives; named_in = inl (refl, refl) }))
+
+lists : NfsStep written nobody (nfs.Readdir listing) listed_reply [] written
+unfolding NfsStep
+lists =
+    let named = root-named written root_with_x refl refl root-written in record {
+      parent = 1;
+      is_parent = λ number d is kind. root-parent written root-written number d (sym named ∙ is);
+      page = Ok (all_three, true);
+      is_page = subst (λ r. PagesOf (fits 65536) (entries_by r) (Ok (all_three, true))) (sym named) (page-ends (fits 65536) all_three refl);
+      answers = record { reply_is = refl; no_message = refl; unchanged = refl };
+    }
+
+-- ---- READDIRPLUS
+lists-full : NfsStep written nobody (nfs.Readdirplus listing_full) listed_full_reply [] written
+unfolding NfsStep
+lists-full =
+    let named = root-named written root_with_x refl refl root-written in record {
+      parent = 1;
+      is_parent = λ number d is kind. root-parent written root-written number d (sym named ∙ is);
+      page = Ok (all_three, true);
+      is_page = subst (λ r. PagesOf (fits_full 65536 65536) (entries_by r) (Ok (all_three, true))) (sym named) (page-ends (fits_full 65536 65536) all_three refl);
+      answers = record { reply_is = refl; no_message = refl; unchanged = refl };
+    }
+
+-- ---- REMOVE
+names-x : names_of written 5 ≡ 1
+names-x =
+    let none : names_of opened 5 ≡ 0 = sum-none (names_in 5) opened.objects (λ q v at. subst (λ (o : Living). names_in 5 o ≡ 0) (only_roots setting.exports moment q v at).0 refl) in
+    let free : get (insert opened.objects 1 root_with_x) 5 ≡ None = get-inserted opened.objects 1 root_with_x 5 ∙ none-opened in
+    let one : names_in 5 root_with_x ≡ 1 = refl in
+    let of_root : names_in 5 root ≡ 0 = refl in
+    let of_x : names_in 5 x ≡ 0 = refl in
+    let of_written : names_in 5 x_written ≡ 0 = refl in
+    omega (
+      arith,
+      none,
+      one,
+      of_root,
+      of_x,
+      of_written,
+      sum-insert_old (names_in 5) opened.objects 1 root root_with_x root-opened,
+      sum-insert_new (names_in 5) (insert opened.objects 1 root_with_x) 5 x free,
+      sum-insert_old (names_in 5) with_x.objects 5 x x_written x-made,
+    )
+
+abbrev named_x : Living → Named
+named_x o = record { place = 1; directory = root_with_x; entries = x_entry ∷ []; last_cookie = 3; name = codes "x"; number = 5; object = o }
+
+abbrev take_named : Result Named NfsStatus → Result (Unit {0} × State) NfsStatus
+take_named n = n >>= λ named. not_directory named.object.content >>= λ _. Ok (tt, with_name_taken written (time 1000 0) named)
+
+abbrev take_by : Resolved → Result (Unit {0} × State) NfsStatus
+take_by r =
+    object_of r >>= λ directory. entries_in directory.1.content >>= λ entries. old_name_checked (codes "x") >>= λ _. changeable nobody directory.1 >>= λ _. permitted nobody directory.1 Changing
+    >>= λ _. take_named (named_in written directory entries (codes "x"))
+
+taken : remove_end written nobody (in_root (codes "x")) ≡ Ok (tt, removed)
+taken =
+    ap take_by (root-named written root_with_x refl refl root-written)
+    ∙ ap (λ (l : Option Living). take_named (object_found l >>= λ o. Ok (named_x o))) x-lives
+    ∙ ap (λ k. Ok (tt, losing_name (with_object written 1 root_after) k (time 1000 0) 5 x_written)) names-x
+
+takes : NfsStep written nobody (nfs.Remove (in_root (codes "x"))) removed_reply [] removed
+unfolding NfsStep
+takes = record {
+  reply_is = sym (ap (λ end. nfs_replies.Remove (taken_reply written nobody (in_root (codes "x")) end)) taken);
+  no_message = refl;
+  state_is = sym (ap (state_after written) taken);
+}
+
+executes-create : Executes setting opened (executed (nfs.Create making) made_reply) with_x
+executes-create = record { ctx = nobody; call = calls.Nfs (nfs.Create making); asks = asked (nfs.Create making) making-read making-form; step = creates }
+
+executes-write : Executes setting with_x (executed (nfs.Write writing) (write_answer with_x nobody writing)) written
+executes-write = record { ctx = nobody; call = calls.Nfs (nfs.Write writing); asks = asked (nfs.Write writing) writing-read writing-form; step = writes }
+
+pub worked-run : WorkedRun
+worked-run = record {
+  run = (with_x, executes-create, (written, executes-write, refl));
+  hosts = (within 8 255 refl, (within 8 255 refl, tt));
+  given = refl;
+  first = root-opened;
+  last = root-written;
+  later = refl;
+}
+
+pub worked-steps : WorkedSteps
+worked-steps = record { listed = lists; listed_full = lists-full; removes = takes; refuses = refused }
+
+-- ---- a reading of the root
+-- a page of it, where "x" is its only name
+lists-page : (m : State) → get m.objects 1 ≡ Some root_with_x → (cookie : ℕ) (verifier : Verifier) (count : ℕ) (page : List Entry) (eof : Bool)
+    → PagesOf (fits count) (entries_from cookie verifier (Names 1 root_with_x)) (Ok (page, eof))
+    → NfsStep m nobody (nfs.Readdir (record { directory = root_bytes; cookie = cookie; verifier = verifier; count = count })) (page_reply m page eof) [] m
+unfolding NfsStep
+lists-page m lives cookie verifier count page eof is_page =
+    let named = root-named m root_with_x refl refl lives in record {
+      parent = 1;
+      is_parent = λ number d is kind. root-parent m lives number d (sym named ∙ is);
+      page = Ok (page, eof);
+      is_page = subst (λ r. PagesOf (fits count) (entries_from cookie verifier r) (Ok (page, eof))) (sym named) is_page;
+      answers = record { reply_is = refl; no_message = refl; unchanged = refl };
+    }
+
+-- "x" is one of its names
+has-x : (m : State) → get m.objects 1 ≡ Some root_with_x → Has m nobody root_bytes x_entry
+has-x m lives number object entries last names content =
+    let same : root_with_x ≡ object = (let named = root-named m root_with_x refl refl lives in cc) in
+    let whole : x_entry ∷ [] ≡ entries = (let shows : Directory (x_entry ∷ []) 3 ≡ Directory entries last = ap (λ (o : Living). o.content) same ∙ content in cc) in
+    subst (λ es. Contains es x_entry) whole (0, within 1 1 refl, refl)
+
+-- what a run from there comes to
+made-formed : (records : List Record) (m : State) → Run setting with_x records m → WellFormed m
+made-formed records m run = runs_keep_form setting with_x m records run (runs_keep_form setting opened with_x (executed (nfs.Create making) made_reply ∷ []) (with_x, executes-create, refl) (opening_formed setting.exports moment))
+
+pub worked-turns : WorkedTurns
+worked-turns = record {
+  formed = made-formed;
+  reading = (
+    with_x,
+    record { run = refl; step = lists-page with_x root-made 0 zeros 160 first_two false first-page; from = refl; shows = refl },
+    refl,
+    (
+      written,
+      record { run = (written, executes-write, refl); step = lists-page written root-written 2 seven 65536 (x_entry ∷ []) true second-page; from = refl; shows = refl },
+      refl,
+    ),
+  );
+  stays = (has-x with_x root-made, has-x written root-written);
+}
+  where
+    first-page : PagesOf (fits 160) (entries_from 0 zeros (Names 1 root_with_x)) (Ok (first_two, false))
+    first-page = page-stops (fits 160) (fits-shrinks 160) _ _ x_entry [] refl refl
+
+    second-page : PagesOf (fits 65536) (entries_from 2 seven (Names 1 root_with_x)) (Ok (x_entry ∷ [], true))
+    second-page = page-ends (fits 65536) (x_entry ∷ []) refl

@@ -1,0 +1,232 @@
+-- Replies of MOUNT and NLM have spellings, and calls that are refused change nothing.
+use Rattle.std.proofs.Common.{◌≡◌, ℕ, ◌≤◌, ◌-◌, zero, suc, Bool, true, false, not, ◌||◌, cond, List, [], ◌∷◌, ◌++◌, length, drop, map, Result, Ok, Err, IfOk, filter, inl, inr, refl, sym, ◌∙◌, ap, subst, arith}
+use Rattle.std.proofs.lemmas.List.Elements.{All-from_recursion}
+use Rattle.std.specs.List.{All, AllByRecursion, list_any}
+use Rattle.side_wire.specs.Mount.{HasExportNodeForm, HasMountBodyForm, HasMountForm, IsDirpath, IsHostName}
+use Rattle.side_wire.specs.Nlm.{HasNlmForm, HasTestStatusForm, IsNetobj}
+use Rattle.side_wire.specs.declared.message.Message.{Message}
+use Rattle.side_wire.specs.declared.mount.MountCall.{MountCall}
+use Rattle.side_wire.specs.declared.mount.MountCall.TheVariants as mount
+use Rattle.side_wire.specs.declared.mount.MountReply.{MountReply}
+use Rattle.side_wire.specs.declared.mount.MountReply.TheVariants as mount_replies
+use Rattle.side_wire.specs.declared.mount.MountStatus.{MountStatus}
+use Rattle.side_wire.specs.declared.nlm.CancelArguments.{CancelArguments}
+use Rattle.side_wire.specs.declared.nlm.LockArguments.{LockArguments}
+use Rattle.side_wire.specs.declared.nlm.NlmCall.TheVariants as nlm
+use Rattle.side_wire.specs.declared.nlm.NlmStatus.{NlmStatus}
+use Rattle.side_wire.specs.declared.nlm.NlmStatus.TheVariants as status
+use Rattle.side_wire.specs.declared.nlm.TestStatus.{TestStatus}
+use Rattle.side_wire.specs.declared.nlm.TestStatus.TheVariants as tested
+use Rattle.nfs_machine.specs.Bytes.{same_bytes}
+use Rattle.nfs_machine.specs.Exports.{ExportValue, every_host}
+use Rattle.nfs_machine.specs.Locks.{Mode, Range, Unlocked, mode_of, shares_conflict}
+use Rattle.nfs_machine.specs.LockSteps.{CancelOf, Fault, HeldUp, LockOf, NoFile, NotRegular, ReadOnly, ShareOf, TooBig, TestOf, Tests, UnlockOf, UnshareOf, cancel_status, fault_tested, is_request, lock_checked, range_checked, share_checked, share_left, share_status, unshare_checked}
+use Rattle.nfs_machine.specs.MountSteps.{MntAnswers, MountStep, groups_of, is_by, is_mounted, is_of, listed_exports, listed_mounts, mount_limit, newest, with_mount, without_mounts}
+use Rattle.nfs_machine.specs.NlmSteps.{NlmStep}
+use Rattle.nfs_machine.specs.SideLaws.{ExportsFit, MountRefusalsChangeNothing, MountRepliesHaveForm, MountsFit, NlmRefusalsChangeNothing, NlmRepliesHaveForm, OwnersFit, PathFits, is_mount_refusal, is_nlm_refusal, refuses}
+use Rattle.nfs_machine.specs.State.{Mounted, Share, State}
+use Rattle.nfs_machine.specs.declared.context.Ctx.{Ctx}
+use Rattle.nfs_machine.proofs.Modes.{all-joined, all-left}
+
+-- ---- MOUNT
+all-listed : {X Y : Type 0} (P : X → Type 0) (Q : Y → Type 0) (f : X → Y) (xs : List X) → ((x : X) → P x → Q (f x)) → AllByRecursion P xs → AllByRecursion Q (map f xs)
+all-listed P Q f [] g all = tt
+all-listed P Q f (x ∷ xs) g all = (g x all.0, all-listed P Q f xs g all.1)
+
+all-dropped : {X : Type 0} (P : X → Type 0) (n : ℕ) (xs : List X) → AllByRecursion P xs → AllByRecursion P (drop n xs)
+all-dropped P zero xs all = all
+all-dropped P (suc n) [] all = tt
+all-dropped P (suc n) (x ∷ xs) all = all-dropped P n xs all.1
+
+mounts-form : (mounts : List Mounted) → AllByRecursion (λ (x : Mounted). IsHostName x.host × IsDirpath x.path) mounts → All HasMountBodyForm (listed_mounts mounts)
+mounts-form mounts fit =
+    All-from_recursion HasMountBodyForm (listed_mounts mounts)
+    (all-listed (λ (x : Mounted). IsHostName x.host × IsDirpath x.path) HasMountBodyForm (λ (x : Mounted). record { hostname = x.host; directory = x.path }) mounts (λ x h. h) fit)
+
+groups-form : (e : ExportValue) → AllByRecursion IsHostName e.hosts → All IsHostName (groups_of e)
+groups-form e fit =
+    elim (list_any (λ h. same_bytes h every_host) e.hosts) as (λ b. All IsHostName (cond b [] e.hosts)) [
+      | true ↦ All-from_recursion IsHostName [] tt
+      | false ↦ All-from_recursion IsHostName e.hosts fit
+    ]
+
+exports-form : (exports : List ExportValue) → ExportsFit exports → All HasExportNodeForm (listed_exports exports)
+exports-form exports fit =
+    All-from_recursion HasExportNodeForm (listed_exports exports)
+    (all-listed (λ (e : ExportValue). IsDirpath e.path × AllByRecursion IsHostName e.hosts) HasExportNodeForm (λ (e : ExportValue). record { directory = e.path; groups = groups_of e }) exports
+    (λ e h. (h.0, groups-form e h.1)) fit)
+
+mnt-form : (old : State) (ctx : Ctx) (path : List ℕ) (result : Result (List ℕ) MountStatus) (new : State) → MntAnswers old ctx path result new → IfOk result (λ handle. length handle ≤ 64)
+mnt-form old ctx path (Ok handle) new (found, target, is, e) = subst (λ (h : List ℕ). length h ≤ 64) (sym is) (omega arith)
+mnt-form old ctx path (Err e) new answers = tt
+
+pub mount_replies_form : MountRepliesHaveForm
+unfolding MountStep
+mount_replies_form old ctx mount.Null reply messages new fit exports step = subst HasMountForm (sym step.reply_is) tt
+mount_replies_form old ctx (mount.Mnt path) reply messages new fit exports step = subst HasMountForm (sym step.reply_is) (mnt-form old ctx path step.result new step.answers)
+mount_replies_form old ctx mount.Dump reply messages new fit exports step = subst HasMountForm (sym step.reply_is) (mounts-form old.mounts fit)
+mount_replies_form old ctx (mount.Unmount path) reply messages new fit exports step = subst HasMountForm (sym step.reply_is) tt
+mount_replies_form old ctx mount.UnmountAll reply messages new fit exports step = subst HasMountForm (sym step.reply_is) tt
+mount_replies_form old ctx mount.Export reply messages new fit exports step = subst HasMountForm (sym step.reply_is) (exports-form ctx.exports exports)
+
+mounted-fit : (m : State) (x : Mounted) → IsHostName x.host × IsDirpath x.path → MountsFit m → MountsFit (with_mount m x)
+mounted-fit m x one fit =
+    elim (is_mounted m.mounts x) as (λ b. MountsFit (cond b m (record m { mounts = newest (m.mounts ++ x ∷ []) }))) [
+      | true ↦ fit
+      | false ↦ all-dropped (λ (x : Mounted). IsHostName x.host × IsDirpath x.path) (length (m.mounts ++ x ∷ []) - mount_limit) (m.mounts ++ x ∷ [])
+          (all-joined (λ (x : Mounted). IsHostName x.host × IsDirpath x.path) m.mounts (x ∷ []) fit (one, tt))
+    ]
+
+mnt-fit : (old : State) (ctx : Ctx) (path : List ℕ) (result : Result (List ℕ) MountStatus) (new : State) → MountsFit old → IsHostName ctx.host → IsDirpath path → MntAnswers old ctx path result new → MountsFit new
+mnt-fit old ctx path (Ok handle) new fit host within (found, target, is, e) = subst MountsFit (sym e) (mounted-fit old (record { host = ctx.host; path = path }) (host, within) fit)
+mnt-fit old ctx path (Err e) new fit host within (why, same) = subst MountsFit (sym same) fit
+
+left-fit : (m : State) (goes : Mounted → Bool) → MountsFit m → MountsFit (without_mounts m goes)
+left-fit m goes fit =
+    all-left (λ (x : Mounted). IsHostName x.host × IsDirpath x.path) (λ (x : Mounted). IsHostName x.host × IsDirpath x.path) (λ (x : Mounted). not (goes x)) m.mounts (λ x e h. h) fit
+
+pub mount_fits : (old : State) (ctx : Ctx) (call : MountCall) (reply : MountReply) (messages : List Message) (new : State)
+    → MountsFit old → IsHostName ctx.host → PathFits call → MountStep old ctx call reply messages new → MountsFit new
+unfolding MountStep
+mount_fits old ctx mount.Null reply messages new fit host path step = subst MountsFit (sym step.unchanged) fit
+mount_fits old ctx (mount.Mnt path) reply messages new fit host within step = mnt-fit old ctx path step.result new fit host within step.answers
+mount_fits old ctx mount.Dump reply messages new fit host path step = subst MountsFit (sym step.unchanged) fit
+mount_fits old ctx (mount.Unmount path) reply messages new fit host within step = subst MountsFit (sym step.state_is) (left-fit old (is_of ctx.host path) fit)
+mount_fits old ctx mount.UnmountAll reply messages new fit host path step = subst MountsFit (sym step.state_is) (left-fit old (is_by ctx.host) fit)
+mount_fits old ctx mount.Export reply messages new fit host path step = subst MountsFit (sym step.unchanged) fit
+
+mnt-refused : (old : State) (ctx : Ctx) (path : List ℕ) (result : Result (List ℕ) MountStatus) (new : State) → MntAnswers old ctx path result new → is_mount_refusal (mount_replies.Mnt result) ≡ true → new ≡ old
+mnt-refused old ctx path (Ok handle) new answers e = cc
+mnt-refused old ctx path (Err x) new (why, same) e = same
+
+pub mount_refusals_unchanged : MountRefusalsChangeNothing
+unfolding MountStep
+mount_refusals_unchanged old ctx mount.Null reply messages new step e = (step.unchanged, step.no_message)
+mount_refusals_unchanged old ctx (mount.Mnt path) reply messages new step e = (mnt-refused old ctx path step.result new step.answers (sym (ap is_mount_refusal step.reply_is) ∙ e), step.no_message)
+mount_refusals_unchanged old ctx mount.Dump reply messages new step e = (step.unchanged, step.no_message)
+mount_refusals_unchanged old ctx (mount.Unmount path) reply messages new step e = (let no : false ≡ true = sym (ap is_mount_refusal step.reply_is) ∙ e in cc)
+mount_refusals_unchanged old ctx mount.UnmountAll reply messages new step e = (let no : false ≡ true = sym (ap is_mount_refusal step.reply_is) ∙ e in cc)
+mount_refusals_unchanged old ctx mount.Export reply messages new step e = (step.unchanged, step.no_message)
+
+-- ---- NLM
+has-some : (exclusive : Bool) → mode_of exclusive ≡ Unlocked → ⊥
+has-some true e = cc
+has-some false e = cc
+
+tests-form : (m : State) (r : Range) (mode : Mode) (s : TestStatus) → OwnersFit m.locks → Tests m r mode s → HasTestStatusForm s
+tests-form m r mode tested.Granted fit t = tt
+tests-form m r mode (tested.Denied holder) fit t =
+    subst IsNetobj (sym t.owner_is) (fit r.file t.other t.common (λ none. has-some holder.exclusive (sym (t.has t.common t.is_shown) ∙ none)))
+tests-form m r mode s fit t = absurd t
+
+fault-form : (fault : Fault) → HasTestStatusForm (fault_tested fault)
+fault-form NoFile = tt
+fault-form NotRegular = tt
+fault-form TooBig = tt
+fault-form ReadOnly = tt
+
+pub test-form : (old : State) (exclusive : Bool) (r : Result Range Fault) (s : TestStatus) (messages : List Message) (new : State) → OwnersFit old.locks → TestOf old exclusive r s messages new → HasTestStatusForm s
+test-form old exclusive (Err fault) s messages new fit step = subst HasTestStatusForm (sym step.reply_is) (fault-form fault)
+test-form old exclusive (Ok r) s messages new fit step = tests-form old r (mode_of exclusive) s fit step.tests
+
+pub nlm_replies_form : NlmRepliesHaveForm
+unfolding NlmStep
+nlm_replies_form old ctx nlm.Null reply messages new fit call step = subst HasNlmForm (sym step.reply_is) tt
+nlm_replies_form old ctx (nlm.Test a) reply messages new fit call step =
+    subst HasNlmForm (sym step.reply_is) (call.0, test-form old a.exclusive (range_checked old ctx a.lock) step.status messages new fit step.ends)
+nlm_replies_form old ctx (nlm.Lock a) reply messages new fit call step = subst HasNlmForm (sym step.reply_is) call.0
+nlm_replies_form old ctx (nlm.Cancel a) reply messages new fit call step = subst HasNlmForm (sym step.reply_is) call.0
+nlm_replies_form old ctx (nlm.Unlock a) reply messages new fit call step = subst HasNlmForm (sym step.reply_is) call.0
+nlm_replies_form old ctx (nlm.Granted a) reply messages new fit call step = subst HasNlmForm (sym step.reply_is) call.0
+nlm_replies_form old ctx (nlm.TestMsg a) reply messages new fit call step = subst HasNlmForm (sym step.reply_is) tt
+nlm_replies_form old ctx (nlm.LockMsg a) reply messages new fit call step = subst HasNlmForm (sym step.reply_is) tt
+nlm_replies_form old ctx (nlm.CancelMsg a) reply messages new fit call step = subst HasNlmForm (sym step.reply_is) tt
+nlm_replies_form old ctx (nlm.UnlockMsg a) reply messages new fit call step = subst HasNlmForm (sym step.reply_is) tt
+nlm_replies_form old ctx (nlm.GrantedMsg a) reply messages new fit call step = subst HasNlmForm (sym step.reply_is) tt
+nlm_replies_form old ctx (nlm.TestRes r) reply messages new fit call step = subst HasNlmForm (sym step.reply_is) tt
+nlm_replies_form old ctx (nlm.LockRes r) reply messages new fit call step = subst HasNlmForm (sym step.reply_is) tt
+nlm_replies_form old ctx (nlm.CancelRes r) reply messages new fit call step = subst HasNlmForm (sym step.reply_is) tt
+nlm_replies_form old ctx (nlm.UnlockRes r) reply messages new fit call step = subst HasNlmForm (sym step.reply_is) tt
+nlm_replies_form old ctx (nlm.GrantedRes r) reply messages new fit call step = subst HasNlmForm (sym step.reply_is) tt
+nlm_replies_form old ctx (nlm.Share a) reply messages new fit call step = subst HasNlmForm (sym step.reply_is) call
+nlm_replies_form old ctx (nlm.Unshare a) reply messages new fit call step = subst HasNlmForm (sym step.reply_is) call
+nlm_replies_form old ctx (nlm.NmLock a) reply messages new fit call step = subst HasNlmForm (sym step.reply_is) call.0
+nlm_replies_form old ctx (nlm.FreeAll a) reply messages new fit call step = subst HasNlmForm (sym step.reply_is) tt
+
+abbrev Nothing : State → List Message → State → Type 0
+Nothing old messages new = (new ≡ old) × (messages ≡ [])
+
+not-granted : {A : Type 0} (s : NlmStatus) → s ≡ status.Granted → refuses s ≡ true → A
+not-granted s is e = (let no : false ≡ true = sym (ap refuses is) ∙ e in cc)
+
+pub test-unchanged : (old : State) (exclusive : Bool) (r : Result Range Fault) (s : TestStatus) (messages : List Message) (new : State) → TestOf old exclusive r s messages new → Nothing old messages new
+test-unchanged old exclusive (Err fault) s messages new step = (step.unchanged, step.no_message)
+test-unchanged old exclusive (Ok r) s messages new step = (step.unchanged, step.no_message)
+
+held-unchanged : (old : State) (ctx : Ctx) (a : LockArguments) (by_message : Bool) (r : Range) (block waits : Bool) (s : NlmStatus) (messages : List Message) (new : State)
+    → HeldUp old ctx a by_message r block waits s messages new → refuses s ≡ true → Nothing old messages new
+held-unchanged old ctx a by_message r false waits s messages new step e = (step.unchanged, step.no_message)
+held-unchanged old ctx a by_message r true true s messages new step e = (step.unchanged, step.no_message)
+held-unchanged old ctx a by_message r true false s messages new (inl waits) e = (let no : false ≡ true = sym (ap refuses waits.answers.reply_is) ∙ e in cc)
+held-unchanged old ctx a by_message r true false s messages new (inr none) e = (none.answers.unchanged, none.answers.no_message)
+
+lock-unchanged : (old : State) (ctx : Ctx) (a : LockArguments) (by_message : Bool) (r : Result Range Fault) (s : NlmStatus) (messages : List Message) (new : State)
+    → LockOf old ctx a by_message r s messages new → refuses s ≡ true → Nothing old messages new
+lock-unchanged old ctx a by_message (Err fault) s messages new step e = (step.unchanged, step.no_message)
+lock-unchanged old ctx a by_message (Ok r) s messages new (inl free) e = not-granted s free.status_is e
+lock-unchanged old ctx a by_message (Ok r) s messages new (inr held) e = held-unchanged old ctx a by_message r a.block (list_any (is_request r a.exclusive a.lock) old.waiting) s messages new held.ends e
+
+none-left : {X : Type 0} (p : X → Bool) (xs : List X) → list_any p xs ≡ false → filter (λ x. not (p x)) xs ≡ xs
+none-left p [] e = refl
+none-left p (x ∷ xs) e =
+    elim (p x) as (λ b. (b || list_any p xs) ≡ false → cond (not b) (x ∷ filter (λ x. not (p x)) xs) (filter (λ x. not (p x)) xs) ≡ x ∷ xs) [
+      | true ↦ λ e. cc
+      | false ↦ λ e. ap (λ l. x ∷ l) (none-left p xs e)
+    ] e
+
+cancel-unchanged : (old : State) (a : CancelArguments) (r : Result Range Fault) (s : NlmStatus) (messages : List Message) (new : State) → CancelOf old a r s messages new → refuses s ≡ true → Nothing old messages new
+cancel-unchanged old a (Err fault) s messages new step e = (step.unchanged, step.no_message)
+cancel-unchanged old a (Ok r) s messages new step e =
+    elim (list_any (is_request r a.exclusive a.lock) old.waiting) as (λ b. list_any (is_request r a.exclusive a.lock) old.waiting ≡ b → s ≡ cancel_status b → Nothing old messages new) [
+      | true ↦ λ is t. not-granted s t e
+      | false ↦ λ is t. (step.state_is ∙ ap (λ w. record old { waiting = w }) (none-left (is_request r a.exclusive a.lock) old.waiting is), step.no_message)
+    ] refl step.reply_is
+
+unlock-unchanged : (old : State) (r : Result Range Fault) (s : NlmStatus) (messages : List Message) (new : State) → UnlockOf old r s messages new → refuses s ≡ true → Nothing old messages new
+unlock-unchanged old (Err fault) s messages new step e = (step.unchanged, step.no_message)
+unlock-unchanged old (Ok r) s messages new step e = not-granted s step.status_is e
+
+share-unchanged : (old : State) (r : Result Share Fault) (s : NlmStatus) (messages : List Message) (new : State) → ShareOf old r s messages new → refuses s ≡ true → Nothing old messages new
+share-unchanged old (Err fault) s messages new step e = (step.unchanged, step.no_message)
+share-unchanged old (Ok share) s messages new step e =
+    elim (list_any (shares_conflict share) old.shares) as (λ b. s ≡ share_status b → new ≡ share_left old share b → Nothing old messages new) [
+      | true ↦ λ t same. (same, step.no_message)
+      | false ↦ λ t same. not-granted s t e
+    ] step.reply_is step.state_is
+
+unshare-unchanged : (old : State) (r : Result Share Fault) (s : NlmStatus) (messages : List Message) (new : State) → UnshareOf old r s messages new → refuses s ≡ true → Nothing old messages new
+unshare-unchanged old (Err fault) s messages new step e = (step.unchanged, step.no_message)
+unshare-unchanged old (Ok share) s messages new step e = not-granted s step.reply_is e
+
+pub nlm_refusals_unchanged : NlmRefusalsChangeNothing
+unfolding NlmStep
+nlm_refusals_unchanged old ctx nlm.Null reply messages new step e = (step.unchanged, step.no_message)
+nlm_refusals_unchanged old ctx (nlm.Test a) reply messages new step e = test-unchanged old a.exclusive (range_checked old ctx a.lock) step.status messages new step.ends
+nlm_refusals_unchanged old ctx (nlm.Lock a) reply messages new step e = lock-unchanged old ctx a false (lock_checked old ctx a) step.status messages new step.ends (sym (ap is_nlm_refusal step.reply_is) ∙ e)
+nlm_refusals_unchanged old ctx (nlm.Cancel a) reply messages new step e = cancel-unchanged old a (range_checked old ctx a.lock) step.status messages new step.ends (sym (ap is_nlm_refusal step.reply_is) ∙ e)
+nlm_refusals_unchanged old ctx (nlm.Unlock a) reply messages new step e = unlock-unchanged old (range_checked old ctx a.lock) step.status messages new step.ends (sym (ap is_nlm_refusal step.reply_is) ∙ e)
+nlm_refusals_unchanged old ctx (nlm.Granted a) reply messages new step e = (step.ends.unchanged, step.ends.no_message)
+nlm_refusals_unchanged old ctx (nlm.TestMsg a) reply messages new step e = (let no : false ≡ true = sym (ap is_nlm_refusal step.reply_is) ∙ e in cc)
+nlm_refusals_unchanged old ctx (nlm.LockMsg a) reply messages new step e = (let no : false ≡ true = sym (ap is_nlm_refusal step.reply_is) ∙ e in cc)
+nlm_refusals_unchanged old ctx (nlm.CancelMsg a) reply messages new step e = (let no : false ≡ true = sym (ap is_nlm_refusal step.reply_is) ∙ e in cc)
+nlm_refusals_unchanged old ctx (nlm.UnlockMsg a) reply messages new step e = (let no : false ≡ true = sym (ap is_nlm_refusal step.reply_is) ∙ e in cc)
+nlm_refusals_unchanged old ctx (nlm.GrantedMsg a) reply messages new step e = (let no : false ≡ true = sym (ap is_nlm_refusal step.reply_is) ∙ e in cc)
+nlm_refusals_unchanged old ctx (nlm.TestRes r) reply messages new step e = (step.unchanged, step.no_message)
+nlm_refusals_unchanged old ctx (nlm.LockRes r) reply messages new step e = (step.unchanged, step.no_message)
+nlm_refusals_unchanged old ctx (nlm.CancelRes r) reply messages new step e = (step.unchanged, step.no_message)
+nlm_refusals_unchanged old ctx (nlm.UnlockRes r) reply messages new step e = (step.unchanged, step.no_message)
+nlm_refusals_unchanged old ctx (nlm.GrantedRes r) reply messages new step e = (let no : false ≡ true = sym (ap is_nlm_refusal step.reply_is) ∙ e in cc)
+nlm_refusals_unchanged old ctx (nlm.Share a) reply messages new step e = share-unchanged old (share_checked old ctx a.share) step.status messages new step.ends (sym (ap is_nlm_refusal step.reply_is) ∙ e)
+nlm_refusals_unchanged old ctx (nlm.Unshare a) reply messages new step e = unshare-unchanged old (unshare_checked old ctx a.share) step.status messages new step.ends (sym (ap is_nlm_refusal step.reply_is) ∙ e)
+nlm_refusals_unchanged old ctx (nlm.NmLock a) reply messages new step e = lock-unchanged old ctx a false (lock_checked old ctx a) step.status messages new step.ends (sym (ap is_nlm_refusal step.reply_is) ∙ e)
+nlm_refusals_unchanged old ctx (nlm.FreeAll a) reply messages new step e = (let no : false ≡ true = sym (ap is_nlm_refusal step.reply_is) ∙ e in cc)

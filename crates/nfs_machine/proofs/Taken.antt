@@ -1,0 +1,225 @@
+-- What REMOVE, RMDIR and LINK leave: handles are given once, and what is true of every state stays true.
+use Rattle.std.proofs.Common.{◌≡◌, ◌==◌, ℕ, ◌+◌, ◌^◌, Bool, true, false, not, cond, List, [], Some, None, Result, Ok, IfOk, find, nat_lt, refl, sym, ◌∙◌, ap, subst, arith}
+use Rattle.std.specs.Cmp.{unsigned_Decides}
+use Rattle.std.specs.FinMap.{get}
+use Rattle.nfs_wire.specs.declared.attributes.Time.{Time}
+use Rattle.nfs_wire.specs.declared.calls.LinkArguments.{LinkArguments}
+use Rattle.nfs_wire.specs.declared.calls.Place.{Place}
+use Rattle.nfs_wire.specs.declared.status.NfsStatus.{NfsStatus}
+use Rattle.nfs_wire.specs.declared.status.NfsStatus.TheVariants as status
+use Rattle.nfs_machine.specs.Attributes.{entries_of, is_directory, names_of}
+use Rattle.nfs_machine.specs.Bytes.{same_bytes}
+use Rattle.nfs_machine.specs.Checks.{holding, object_of, entries_in, old_name_checked, changeable, permitted, entry_of, is_absent, may_gain_link}
+use Rattle.nfs_machine.specs.LinkSteps.{link_end}
+use Rattle.nfs_machine.specs.Making.{with_entry}
+use Rattle.nfs_machine.specs.Permission.{Changing}
+use Rattle.nfs_machine.specs.RemoveSteps.{Named, directory_name_checked, empty_directory, entry_found, named_in, not_directory, object_found, remove_end, rmdir_end, take_end, with_name_taken, without}
+use Rattle.nfs_machine.specs.Resolve.{resolve}
+use Rattle.nfs_machine.specs.Shown.{touched, with_content, with_object}
+use Rattle.nfs_machine.specs.State.{Content, Directory, Entry, Living, State}
+use Rattle.nfs_machine.specs.Times.{time_of}
+use Rattle.nfs_machine.specs.WellFormed.{WellFormed}
+use Rattle.nfs_machine.specs.declared.context.Ctx.{Ctx}
+use Rattle.nfs_machine.proofs.Changes.{apart, differs-insert, differs-other, itself}
+use Rattle.nfs_machine.proofs.Continued.{Continues, continues-itself, continues-losing, continues-touched, continues-with, gives-continued, texts-continued, touched-swaps, touches-continued, well_formed-losing}
+use Rattle.nfs_machine.proofs.Facts.{absent, chained-is, directory-empty, entry-found, holds, is-directory, object-found, plain-empty, resolved-lives, turned}
+use Rattle.nfs_machine.proofs.Follows.{Follows, bounds-losing, locks-losing, mounts-losing, of-ok}
+use Rattle.nfs_machine.proofs.Loose.{AddsName, Loose, Swaps, TakesName, also, loose-added, loose-same, loose-taken, loosened, names_of-taken, none_loose, tightened}
+use Rattle.nfs_machine.proofs.Roots.{directory-root}
+
+-- a name that is in its directory, and leads to what lives there
+pub record IsNamed (m : State) (n : Named) : Type 0 where
+  pub lives : get m.objects n.place ≡ Some n.directory
+  pub content : n.directory.content ≡ Directory n.entries n.last_cookie
+  pub entry : Entry
+  pub found : find (λ (x : Entry). same_bytes x.name n.name) n.entries ≡ Some entry
+  pub number : entry.number ≡ n.number
+  pub object : get m.objects n.number ≡ Some n.object
+
+pub is-named : (m : State) (directory : ℕ × Living) (entries : List Entry × ℕ) (name : List ℕ) → get m.objects directory.0 ≡ Some directory.1 → directory.1.content ≡ Directory entries.0 entries.1
+    → IfOk (named_in m directory entries name) (IsNamed m)
+is-named m directory entries name lives content =
+    chained-is (IsNamed m) (entry_found (entry_of entries.0 name)) _ (λ e is.
+    chained-is (IsNamed m) (object_found (get m.objects e.number)) _ (λ o at. record {
+      lives = lives;
+      content = content;
+      entry = e;
+      found = entry-found (entry_of entries.0 name) e is;
+      number = refl;
+      object = object-found (get m.objects e.number) o at;
+    }))
+
+-- a directory in the place of another: its entries alone differ
+pub narrower-swaps : (m : State) (n : Named) (now : Time) (entries : List Entry) (last : ℕ) → IsNamed m n
+    → Swaps m (with_object m n.place (with_content n.directory now (Directory entries last))) n.place n.directory (with_content n.directory now (Directory entries last))
+narrower-swaps m n now entries last named = record {
+  lives = named.lives;
+  objects = differs-insert m.objects n.place (with_content n.directory now (Directory entries last));
+  export = refl;
+  generation = refl;
+  kind = sym (ap is_directory named.content);
+  spent = λ n g e. e;
+}
+
+module _ (m : State) (now : Time) (n : Named) (named : IsNamed m n) where
+  abbrev pub narrower : Living
+  narrower = with_content n.directory now (Directory (without n.entries n.name) n.last_cookie)
+
+  abbrev pub mid : State
+  mid = with_object m n.place narrower
+
+  pub takes : TakesName m mid n.place n.directory narrower n.name named.entry
+  takes = record {
+    swaps = narrower-swaps m n now (without n.entries n.name) n.last_cookie named;
+    entries = n.entries;
+    last = n.last_cookie;
+    content = named.content;
+    found = named.found;
+    narrower_content = refl;
+  }
+
+  pub loose-mid : (loose : ℕ → Bool) → Loose loose m → Loose (also n.number loose) mid
+  loose-mid loose l = subst (λ k. Loose (also k loose) mid) named.number (loose-taken m mid n.place n.directory narrower n.name named.entry takes loose l)
+
+  -- the object has one name less
+  pub one-less : (loose : ℕ → Bool) → Loose loose m → names_of mid n.number + 1 ≡ names_of m n.number
+  one-less loose l =
+      let one : cond {A = ℕ} (named.entry.number == n.number) 1 0 ≡ 1 = ap (λ k. cond {A = ℕ} (k == n.number) 1 0) named.number ∙ ap (λ b. cond b 1 0) (itself n.number) in
+      omega (arith, names_of-taken m mid n.place n.directory narrower n.name named.entry takes loose l n.number, one)
+
+  module _ (empty : entries_of n.object.content ≡ []) where
+    -- it is another than its directory, which has an entry
+    elsewhere : (n.number == n.place) ≡ false
+    elsewhere = apart n.number n.place (λ same.
+        let both : Some n.object ≡ Some n.directory = sym named.object ∙ ap (get m.objects) same ∙ named.lives in
+        let is : n.object ≡ n.directory = cc in
+        let none : n.entries ≡ [] = sym (ap entries_of named.content) ∙ sym (ap (λ (o : Living). entries_of o.content) is) ∙ empty in
+        let found : find (λ (x : Entry). same_bytes x.name n.name) [] ≡ Some named.entry = subst (λ es. find (λ (x : Entry). same_bytes x.name n.name) es ≡ Some named.entry) none named.found in
+        cc)
+
+    object-there : get mid.objects n.number ≡ Some n.object
+    object-there = differs-other m.objects mid.objects n.place (Some narrower) (differs-insert m.objects n.place narrower) n.number elsewhere ∙ named.object
+
+    continues-taken : Continues now m (with_name_taken m now n)
+    continues-taken =
+        continues-losing now m mid (continues-with now m m (continues-itself now m) n.place n.directory named.lives (without n.entries n.name) n.last_cookie) n.number n.object named.object (names_of m n.number)
+
+    pub taken-follows : Follows now m (with_name_taken m now n)
+    taken-follows = record {
+      gives = gives-continued now m (with_name_taken m now n) continues-taken;
+      touches = touches-continued now m (with_name_taken m now n) continues-taken;
+      formed = λ w.
+          let l = loosened none_loose m w in
+          well_formed-losing mid n.number n.object object-there (loose-mid none_loose l) (names_of m n.number) now empty (one-less none_loose l)
+          (texts-continued now m (with_name_taken m now n) continues-taken w.texts);
+      locks = (let l = locks-losing mid (names_of m n.number) now n.number n.object in record { apart = l.apart; waits = l.waits });
+      mounts = mounts-losing mid (names_of m n.number) now n.number n.object;
+      bounds = bounds-losing mid (names_of m n.number) now n.number n.object;
+    }
+
+module _ (m : State) (ctx : Ctx) where
+  abbrev Leaves : Unit {0} × State → Type 0
+  Leaves e = Follows (time_of ctx.moment) m e.1
+
+  take-follows : (place : Place) (name : List ℕ → Result (Unit {0}) NfsStatus) (content : Content → Result (Unit {0}) NfsStatus) → ((c : Content) (x : Unit {0}) → content c ≡ Ok x → entries_of c ≡ [])
+      → IfOk (take_end m ctx place name content) Leaves
+  take-follows place name content empty =
+      chained-is Leaves (object_of (resolve m ctx place.directory)) _ (λ directory at.
+      chained-is Leaves (entries_in directory.1.content) _ (λ entries is.
+      chained-is Leaves (name place.name) _ (λ x1 e1.
+      chained-is Leaves (changeable ctx directory.1) _ (λ x2 e2.
+      chained-is Leaves (permitted ctx directory.1 Changing) _ (λ x3 e3.
+      chained-is Leaves (named_in m directory entries place.name) _ (λ n e4.
+      chained-is Leaves (content n.object.content) _ (λ x5 e5.
+      taken-follows m (time_of ctx.moment) n
+      (of-ok (IsNamed m) (named_in m directory entries place.name) n e4
+      (is-named m directory entries place.name (resolved-lives m ctx place.directory directory at) (is-directory directory.1.content entries is)))
+      (empty n.object.content x5 e5))))))))
+
+  pub remove-follows : (place : Place) → IfOk (remove_end m ctx place) Leaves
+  remove-follows place = take-follows place old_name_checked not_directory plain-empty
+
+  pub rmdir-follows : (place : Place) → IfOk (rmdir_end m ctx place) Leaves
+  rmdir-follows place = take-follows place directory_name_checked empty_directory directory-empty
+
+-- ---- one name more
+module _ (m : State) (now : Time) (number : ℕ) (object : Living) (place : ℕ) (directory : Living) (entries : List Entry) (last : ℕ) (name : List ℕ)
+    (there : get m.objects number ≡ Some object) (lives : get m.objects place ≡ Some directory) (export : object.export ≡ directory.export) (plain : is_directory object.content ≡ false)
+    (content : directory.content ≡ Directory entries last) (none : find (λ (x : Entry). same_bytes x.name name) entries ≡ None) where
+  abbrev wider : Living
+  wider = with_content directory now (with_entry entries last name number)
+
+  abbrev added : State
+  added = with_object m place wider
+
+  kind : is_directory directory.content ≡ true
+  kind = ap is_directory content
+
+  no-root : WellFormed m → (number == directory.export) ≡ false
+  no-root w = apart number directory.export (λ same.
+      let root = directory-root m w place directory lives kind in
+      let both : Some object ≡ Some root.0 = sym there ∙ ap (get m.objects) same ∙ root.1 in
+      let is : object ≡ root.0 = cc in
+      let no : true ≡ false = sym root.2 ∙ sym (ap (λ (o : Living). is_directory o.content) is) ∙ plain in cc)
+
+  other-place : (number == place) ≡ false
+  other-place = apart number place (λ same.
+      let both : Some object ≡ Some directory = sym there ∙ ap (get m.objects) same ∙ lives in
+      let is : object ≡ directory = cc in
+      let no : true ≡ false = sym kind ∙ sym (ap (λ (o : Living). is_directory o.content) is) ∙ plain in cc)
+
+  adds : WellFormed m → AddsName m added place number directory wider object name
+  adds w = record {
+    swaps = record { lives = lives; objects = differs-insert m.objects place wider; export = refl; generation = refl; kind = sym kind; spent = λ n g e. e };
+    entries = entries;
+    last = last;
+    content = content;
+    absent = none;
+    wider_content = refl;
+    lives = there;
+    export = export;
+    no_root = no-root w;
+    nameless = λ e. (let no : true ≡ false = sym e ∙ plain in cc);
+  }
+
+  continues-linked : Continues now m (with_object added number (touched object now))
+  continues-linked = continues-touched now m added (continues-with now m m (continues-itself now m) place directory lives _ _) number object there
+
+  formed : WellFormed m → WellFormed (with_object added number (touched object now))
+  formed w =
+      let l = loosened (also number none_loose) m w in
+      let wide = loose-added m added place number directory wider object name (adds w) none_loose l l.depth (record { deeper = l.deeper; added = λ e. (let no : true ≡ false = sym e ∙ plain in cc) }) in
+      let at : get added.objects number ≡ Some object = differs-other m.objects added.objects place (Some wider) (differs-insert m.objects place wider) number other-place ∙ there in
+      tightened (with_object added number (touched object now)) (texts-continued now m (with_object added number (touched object now)) continues-linked w.texts)
+      (loose-same added (with_object added number (touched object now)) number object (touched object now) (touched-swaps added number object at now) refl none_loose wide)
+
+  pub linked-follows : Follows now m (with_object added number (touched object now))
+  linked-follows = record {
+    gives = gives-continued now m (with_object added number (touched object now)) continues-linked;
+    touches = touches-continued now m (with_object added number (touched object now)) continues-linked;
+    formed = formed;
+    locks = record { apart = λ h. h; waits = λ h. h };
+    mounts = refl;
+    bounds = λ h. h;
+  }
+
+pub link-follows : (m : State) (ctx : Ctx) (a : LinkArguments) → IfOk (link_end m ctx a) (Leaves m ctx)
+link-follows m ctx a =
+    let P : Unit {0} × State → Type 0 = Leaves m ctx in
+    chained-is P (object_of (resolve m ctx a.file)) _ (λ file at.
+    chained-is P (object_of (resolve m ctx a.place.directory)) _ (λ directory there.
+    chained-is P (holding (file.1.export == directory.1.export) status.CrossDevice) _ (λ x1 e1.
+    chained-is P (holding (not (is_directory file.1.content)) status.Invalid) _ (λ x2 e2.
+    chained-is P (entries_in directory.1.content) _ (λ entries is.
+    chained-is P (old_name_checked a.place.name) _ (λ x3 e3.
+    chained-is P (changeable ctx directory.1) _ (λ x4 e4.
+    chained-is P (permitted ctx directory.1 Changing) _ (λ x5 e5.
+    chained-is P (holding (is_absent entries.0 a.place.name) status.Exists) _ (λ x6 e6.
+    chained-is P (may_gain_link m file.0 file.1.content) _ (λ x7 e7.
+    chained-is P (holding (nat_lt (entries.1 + 1) (2 ^ 64)) status.NoSpace) _ (λ x8 e8.
+    linked-follows m (time_of ctx.moment) file.0 file.1 directory.0 directory.1 entries.0 entries.1 a.place.name
+    (resolved-lives m ctx a.file file at) (resolved-lives m ctx a.place.directory directory there)
+    ((unsigned_Decides file.1.export directory.1.export).0 (holds (file.1.export == directory.1.export) status.CrossDevice x1 e1))
+    (turned (is_directory file.1.content) (holds (not (is_directory file.1.content)) status.Invalid x2 e2))
+    (is-directory directory.1.content entries is)
+    (absent entries.0 a.place.name (holds (is_absent entries.0 a.place.name) status.Exists x6 e6)))))))))))))

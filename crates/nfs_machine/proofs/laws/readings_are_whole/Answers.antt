@@ -1,0 +1,5 @@
+use Rattle.nfs_machine.proofs.Readings.{readings-whole}
+use Rattle.nfs_machine.proofs.laws.readings_are_whole.Goals as goal
+
+pub returns : goal.returns
+returns c = readings-whole

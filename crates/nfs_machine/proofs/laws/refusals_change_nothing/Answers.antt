@@ -1,0 +1,5 @@
+use Rattle.nfs_machine.proofs.Refused.{refusals_unchanged}
+use Rattle.nfs_machine.proofs.laws.refusals_change_nothing.Goals as goal
+
+pub returns : goal.returns
+returns c = refusals_unchanged

@@ -1,0 +1,16 @@
+use Rattle.nfs_machine.proofs.Kept.{steps_touch_once}
+use Rattle.nfs_machine.proofs.Rising.{never_fall, rise}
+use Rattle.nfs_machine.proofs.Later.{runs_never_fall}
+use Rattle.nfs_machine.proofs.laws.times_of_changes_rise.Goals as goal
+
+pub returns-clause-never_fall : goal.returns-clause-never_fall
+returns-clause-never_fall c = never_fall
+
+pub returns-clause-rise : goal.returns-clause-rise
+returns-clause-rise c = rise
+
+pub returns-clause-steps : goal.returns-clause-steps
+returns-clause-steps c = steps_touch_once
+
+pub returns-clause-runs : goal.returns-clause-runs
+returns-clause-runs c = runs_never_fall

@@ -1,0 +1,26 @@
+use Rattle.nfs_machine.proofs.Ranges.{locked}
+use Rattle.std.proofs.Common.{refl}
+use Rattle.nfs_machine.proofs.worked.worked_ranges.Goals as goal
+
+pub returns : goal.returns
+returns c = record {
+  end_of_100 = refl;
+  to_end = refl;
+  last_byte = refl;
+  above = refl;
+  all_but_one = refl;
+  shown = refl;
+  shown_to_end = refl;
+  locked = locked;
+  at_39 = refl;
+  at_40 = refl;
+  at_59 = refl;
+  at_60 = refl;
+  at_100 = refl;
+  of_other = refl;
+  of_other_file = refl;
+  shared_at_55 = refl;
+  exclusive_at_45 = refl;
+  shared_beside_shared = refl;
+  shared_beside_exclusive = refl;
+}

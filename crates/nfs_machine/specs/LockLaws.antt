@@ -1,0 +1,40 @@
+-- Laws of locks, shares and requests that wait (RFC 1813, appendix II).
+use Rattle.std.specs.Prelude.{◌≡◌, false, List}
+use Rattle.std.specs.List.{list_any}
+use Rattle.side_wire.specs.declared.message.Message.{Message}
+use Rattle.nfs_machine.specs.Exports.{ExportValue}
+use Rattle.nfs_machine.specs.Grants.{AllHeldUp}
+use Rattle.nfs_machine.specs.Locks.{Conflicts, Mode, NoConflict, Range, stands_in_way}
+use Rattle.nfs_machine.specs.Opening.{opening}
+use Rattle.nfs_machine.specs.Run.{Record, Run, Setting}
+use Rattle.nfs_machine.specs.State.{Lock, State}
+use Rattle.nfs_machine.specs.Step.{Step}
+use Rattle.nfs_machine.specs.declared.calls.Call.{Call}
+use Rattle.nfs_machine.specs.declared.calls.Reply.{Reply}
+use Rattle.nfs_machine.specs.declared.context.Ctx.{Ctx}
+use Rattle.nfs_machine.specs.declared.moment.Moment.{Moment}
+
+-- where no listed lock stands in the way, nothing conflicts
+abbrev pub ListedLocksTell : Type 0
+ListedLocksTell = (locks : List Lock) (r : Range) (mode : Mode) → list_any (stands_in_way r mode) locks ≡ false → Conflicts locks r mode → ⊥
+
+-- a server starts with no lock, no share and no request that waits
+abbrev pub OpeningIsApart : Type 0
+OpeningIsApart = (exports : List ExportValue) (moment : Moment) → NoConflict (opening exports moment)
+
+abbrev pub OpeningWaitsForNone : Type 0
+OpeningWaitsForNone = (exports : List ExportValue) (moment : Moment) → AllHeldUp (opening exports moment)
+
+-- no two owners come to conflict, by locks or by shares: each step keeps that, and so each run
+abbrev pub StepsKeepApart : Type 0
+StepsKeepApart = (old : State) (ctx : Ctx) (call : Call) (reply : Reply) (messages : List Message) (new : State) → Step old ctx call reply messages new → NoConflict old → NoConflict new
+
+abbrev pub RunsKeepApart : Type 0
+RunsKeepApart = (setting : Setting) (first last : State) (records : List Record) → Run setting first records last → NoConflict first → NoConflict last
+
+-- each request that waits conflicts with what is held of its file: each step keeps that, and so each run
+abbrev pub StepsKeepWaiting : Type 0
+StepsKeepWaiting = (old : State) (ctx : Ctx) (call : Call) (reply : Reply) (messages : List Message) (new : State) → Step old ctx call reply messages new → AllHeldUp old → AllHeldUp new
+
+abbrev pub RunsKeepWaiting : Type 0
+RunsKeepWaiting = (setting : Setting) (first last : State) (records : List Record) → Run setting first records last → AllHeldUp first → AllHeldUp last

@@ -1,0 +1,134 @@
+-- Locks and shares worked through by hand (RFC 1813, appendix II), and lists of MOUNT (appendix I, 5.2.2 to 5.2.5).
+use Rattle.std.specs.Prelude.{◌≡◌, ℕ, ◌-◌, ◌^◌, Bool, true, false, List, [], ◌∷◌, Ok, Err, codes, pos}
+use Rattle.std.specs.List.{list_any}
+use Rattle.side_wire.specs.declared.message.NlmLock.{NlmLock}
+use Rattle.side_wire.specs.declared.mount.MountStatus.TheVariants as mount_status
+use Rattle.side_wire.specs.declared.nlm.LockHolder.{LockHolder}
+use Rattle.side_wire.specs.declared.nlm.ShareAccess.{ShareAccess}
+use Rattle.side_wire.specs.declared.nlm.ShareAccess.TheVariants as access
+use Rattle.side_wire.specs.declared.nlm.ShareMode.{ShareMode}
+use Rattle.side_wire.specs.declared.nlm.ShareMode.TheVariants as mode
+use Rattle.side_wire.specs.declared.nlm.TestStatus.TheVariants as tested
+use Rattle.nfs_machine.specs.Grants.{grant_cookie}
+use Rattle.nfs_machine.specs.LockSteps.{Tests, NotRegular, is_grant_number, length_shown, regular, share_of, without_share}
+use Rattle.nfs_machine.specs.Locks.{Exclusive, Lists, Range, Shared, Unlocked, fits_offsets, last_of, modes_conflict, modes_with, range_of, shares_conflict}
+use Rattle.nfs_machine.specs.MountSteps.{Chosen, is_by, is_of, listed_exports, listed_mounts, walk, without_mounts}
+use Rattle.nfs_machine.specs.Paths.{parts}
+use Rattle.nfs_machine.specs.State.{Regular, Directory, Socket, Lock, Mounted, Owner, Share, State}
+use Rattle.nfs_machine.specs.Worked.{exports, find}
+
+-- the owners A and B
+abbrev pub a : Owner
+a = record { caller_name = codes "c1"; owner = 1 ∷ []; process = pos 1 }
+
+abbrev pub b : Owner
+b = record { caller_name = codes "c2"; owner = 2 ∷ []; process = pos 2 }
+
+-- a lock as a caller names it, and the range that it is on file 5
+abbrev pub asked : Owner → ℕ → ℕ → NlmLock
+asked o offset length = record { caller_name = o.caller_name; file = []; owner = o.owner; process = o.process; offset = offset; length = length }
+
+abbrev pub on_file : Owner → ℕ → ℕ → Range
+on_file o offset length = range_of 5 (asked o offset length)
+
+abbrev pub lock : Owner → ℕ → ℕ → Bool → Lock
+lock o first last exclusive = record { file = 5; owner = o; first = first; last = last; exclusive = exclusive }
+
+-- A has 0 to 99 exclusively
+abbrev pub whole : List Lock
+whole = lock a 0 99 true ∷ []
+
+-- and gave back 20 bytes from 40 on
+abbrev pub split : List Lock
+split = lock a 0 39 true ∷ lock a 60 99 true ∷ []
+
+-- and has the rest of the file from 200 on
+abbrev pub to_the_end : List Lock
+to_the_end = lock a 200 (2 ^ 64 - 1) true ∷ split
+
+abbrev pub holder : ℕ → ℕ → LockHolder
+holder offset length = record { exclusive = true; process = pos 1; owner = 1 ∷ []; offset = offset; length = length }
+
+pub record WorkedRanges : Type 0 where
+  pub end_of_100 : last_of (asked a 0 100) ≡ 99
+  pub to_end : last_of (asked a 200 0) ≡ 2 ^ 64 - 1
+  pub last_byte : fits_offsets (asked a (2 ^ 64 - 1) 1) ≡ true
+  pub above : fits_offsets (asked a (2 ^ 64 - 1) 2) ≡ false
+  pub all_but_one : fits_offsets (asked a 1 (2 ^ 64 - 1)) ≡ true
+  pub shown : length_shown 60 99 ≡ 40
+  pub shown_to_end : length_shown 200 (2 ^ 64 - 1) ≡ 0
+  -- LOCK of 0 to 99
+  pub locked : Lists whole (modes_with [] (on_file a 0 100) Exclusive)
+  -- UNLOCK of 20 bytes from 40 on
+  pub at_39 : modes_with whole (on_file a 40 20) Unlocked 5 a 39 ≡ Exclusive
+  pub at_40 : modes_with whole (on_file a 40 20) Unlocked 5 a 40 ≡ Unlocked
+  pub at_59 : modes_with whole (on_file a 40 20) Unlocked 5 a 59 ≡ Unlocked
+  pub at_60 : modes_with whole (on_file a 40 20) Unlocked 5 a 60 ≡ Exclusive
+  pub at_100 : modes_with whole (on_file a 40 20) Unlocked 5 a 100 ≡ Unlocked
+  pub of_other : modes_with whole (on_file a 40 20) Unlocked 5 b 30 ≡ Unlocked
+  pub of_other_file : modes_with whole (on_file a 40 20) Unlocked 6 a 30 ≡ Unlocked
+  -- a shared lock of 10 bytes from 50 on inside the exclusive one
+  pub shared_at_55 : modes_with whole (on_file a 50 10) Shared 5 a 55 ≡ Shared
+  pub exclusive_at_45 : modes_with whole (on_file a 50 10) Shared 5 a 45 ≡ Exclusive
+  pub shared_beside_shared : modes_conflict Shared Shared ≡ false
+  pub shared_beside_exclusive : modes_conflict Shared Exclusive ≡ true
+
+-- exclusive TESTs of one byte by B
+pub record WorkedTests : Type 0 where
+  pub at_30 : (m : State) → Tests (record m { locks = split }) (on_file b 30 1) Exclusive (tested.Denied (holder 0 40))
+  pub part_of_it : (m : State) → Tests (record m { locks = split }) (on_file b 30 1) Exclusive (tested.Denied (holder 30 5))
+  pub at_50 : (m : State) → Tests (record m { locks = split }) (on_file b 50 1) Exclusive tested.Granted
+  pub at_99 : (m : State) → Tests (record m { locks = split }) (on_file b 99 1) Exclusive (tested.Denied (holder 60 40))
+  pub at_the_end : (m : State) → Tests (record m { locks = to_the_end }) (on_file b (2 ^ 64 - 1) 1) Exclusive (tested.Denied (holder 200 0))
+  -- A's own locks don't stand in its way
+  pub own : (m : State) → Tests (record m { locks = split }) (on_file a 0 0) Exclusive tested.Granted
+  pub file : regular (Regular []) ≡ Ok tt
+  pub directory : regular (Directory [] 2) ≡ Err NotRegular
+  pub socket : regular Socket ≡ Err NotRegular
+
+abbrev pub share : Owner → ShareMode → ShareAccess → Share
+share o denied taken = share_of 5 (record { caller_name = o.caller_name; file = []; owner = o.owner; mode = denied; access = taken })
+
+-- A denies writing and reads
+abbrev pub reading : Share
+reading = share a mode.DenyWrite access.Read
+
+-- B reads beside it
+abbrev pub reading_too : Share
+reading_too = share b mode.DenyNone access.Read
+
+pub record WorkedShares : Type 0 where
+  pub writing_is_denied : list_any (shares_conflict (share b mode.DenyNone access.Write)) (reading ∷ []) ≡ true
+  pub reading_is_not : list_any (shares_conflict reading_too) (reading ∷ []) ≡ false
+  pub denying_readers : list_any (shares_conflict (share a mode.DenyRead access.Read)) (reading ∷ reading_too ∷ []) ≡ true
+  pub other_file : shares_conflict (record (share b mode.DenyNone access.Write) { file = 6 }) reading ≡ false
+  pub unshare_of_none : (m : State) → (without_share (record m { shares = reading ∷ reading_too ∷ [] }) (share (record a { caller_name = codes "c3" }) mode.DenyNone access.Neither)).shares ≡ reading ∷ reading_too ∷ []
+  pub unshare : (m : State) → (without_share (record m { shares = reading ∷ reading_too ∷ [] }) reading).shares ≡ reading_too ∷ []
+
+-- numbers of grants, and the cookies that they are
+pub record WorkedGrants : Type 0 where
+  pub same_remainder : is_grant_number 5 69 ≡ true
+  pub other_remainder : is_grant_number 5 70 ≡ false
+  pub own_number : is_grant_number 5 5 ≡ true
+  pub too_great : is_grant_number 0 (2 ^ 64) ≡ false
+  pub cookie : grant_cookie 69 ≡ 0 ∷ 0 ∷ 0 ∷ 0 ∷ 0 ∷ 0 ∷ 0 ∷ 69 ∷ []
+
+abbrev pub mounted : List ℕ → List ℕ → Mounted
+mounted host path = record { host = host; path = path }
+
+abbrev pub three_mounts : List Mounted
+three_mounts = mounted (codes "h1") (codes "/a") ∷ mounted (codes "h2") (codes "/a") ∷ mounted (codes "h1") (codes "//a/") ∷ []
+
+-- of exports `/a` for `*` and `/a/b` for 10.0.0.2
+pub record WorkedMounts : Type 0 where
+  pub dump : listed_mounts three_mounts
+      ≡ record { hostname = codes "h1"; directory = codes "/a" } ∷ record { hostname = codes "h2"; directory = codes "/a" } ∷ record { hostname = codes "h1"; directory = codes "//a/" } ∷ []
+  -- UMNT compares the path as it was sent
+  pub umnt : (m : State) → (without_mounts (record m { mounts = three_mounts }) (is_of (codes "h1") (codes "/a"))).mounts ≡ mounted (codes "h2") (codes "/a") ∷ mounted (codes "h1") (codes "//a/") ∷ []
+  pub umnt_of_none : (m : State) → (without_mounts (record m { mounts = three_mounts }) (is_of (codes "h2") (codes "//a/"))).mounts ≡ three_mounts
+  pub umntall : (m : State) → (without_mounts (record m { mounts = three_mounts }) (is_by (codes "h1"))).mounts ≡ mounted (codes "h2") (codes "/a") ∷ []
+  pub export : listed_exports exports ≡ record { directory = codes "/a"; groups = [] } ∷ record { directory = codes "/a/b"; groups = codes "10.0.0.2" ∷ [] } ∷ []
+  -- by 10.0.0.2 the root of export 2; by another host what `b` is below export 1
+  pub lower : Chosen exports (codes "10.0.0.2") (parts (codes "/a/b")) 2 []
+  pub not_lower : Chosen exports (codes "10.0.0.1") (parts (codes "/a/b")) 1 (codes "b" ∷ [])
+  pub nothing_there : walk find 1 (codes "b" ∷ []) ≡ Err mount_status.NoEntry

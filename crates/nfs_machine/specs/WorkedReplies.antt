@@ -1,0 +1,124 @@
+-- Whole replies worked through by hand (RFC 1813, 3.3).
+use Rattle.std.specs.Prelude.{◌≡◌, ℕ, List, [], ◌∷◌, take, Some, None, Ok, Err, codes}
+use Rattle.std.specs.FinMap.{get, values}
+use Rattle.nfs_wire.specs.declared.attributes.Attributes.{Attributes}
+use Rattle.nfs_wire.specs.declared.attributes.FileType.TheVariants as types
+use Rattle.nfs_wire.specs.declared.attributes.WeakAttributes.{WeakAttributes}
+use Rattle.nfs_wire.specs.declared.calls.SetattrArguments.{SetattrArguments}
+use Rattle.nfs_wire.specs.declared.attributes.Time.{Time}
+use Rattle.nfs_wire.specs.declared.replies.NfsReply.TheVariants as replies
+use Rattle.nfs_wire.specs.declared.status.NfsStatus.TheVariants as status
+use Rattle.nfs_machine.specs.AttributeSteps.{access_answer, setattr_answer}
+use Rattle.nfs_machine.specs.Attributes.{names_of}
+use Rattle.nfs_machine.specs.DataSteps.{commit_answer, readlink_result}
+use Rattle.nfs_machine.specs.FileSystemSteps.{file_system, fsinfo_answer, fsstat_answer, path_limits, pathconf_answer}
+use Rattle.nfs_machine.specs.Handles.{handle_bytes}
+use Rattle.nfs_machine.specs.Opening.{opening_root}
+use Rattle.nfs_machine.specs.State.{Living, State}
+use Rattle.nfs_machine.specs.Worked.{root_bytes}
+use Rattle.nfs_machine.specs.WorkedCreate.{called_as, file}
+use Rattle.nfs_machine.specs.WorkedFiles.{time}
+use Rattle.nfs_machine.specs.WorkedSetting.{with_mode}
+use Rattle.nfs_machine.specs.declared.context.Ctx.{Ctx}
+
+-- a file of 3 bytes, made at 1000 s and changed at 1000 s and 1 ns, and a root
+abbrev pub known_file : Living
+known_file = file (codes "hey") (time 1000 1) None
+
+abbrev pub root : Living
+root = opening_root 1 (time 1000 0)
+
+-- states in which the file lives under one name, and in which the root lives alone
+pub record HasFile (m : State) : Type 0 where
+  pub lives : get m.objects 2 ≡ Some known_file
+  pub named_once : names_of m 2 ≡ 1
+
+pub record HasRoot (m : State) : Type 0 where
+  pub lives : get m.objects 1 ≡ Some root
+  pub alone : values m.objects ≡ root ∷ []
+
+abbrev pub file_bytes : List ℕ
+file_bytes = handle_bytes (record { export = 1; start = 7; fileid = 2; generation = 4 })
+
+abbrev pub setting_mode : Time → SetattrArguments
+setting_mode guard = record { object = file_bytes; attributes = with_mode 384; guard = Some guard }
+
+-- what is shown of the file in this mode, and changed then
+abbrev pub file_shown : ℕ → Time → Attributes
+file_shown mode changed = record {
+  kind = types.Regular;
+  mode = mode;
+  links = 1;
+  uid = 9;
+  gid = 9;
+  size = 3;
+  used = 4096;
+  device = record { major = 0; minor = 0 };
+  fsid = 1;
+  fileid = 2;
+  accessed = time 1000 0;
+  modified = time 1000 1;
+  changed = changed;
+}
+
+abbrev pub root_shown : Attributes
+root_shown = record {
+  kind = types.Directory;
+  mode = 511;
+  links = 2;
+  uid = 0;
+  gid = 0;
+  size = 4096;
+  used = 4096;
+  device = record { major = 0; minor = 0 };
+  fsid = 1;
+  fileid = 1;
+  accessed = time 1000 0;
+  modified = time 1000 0;
+  changed = time 1000 0;
+}
+
+abbrev pub file_before : WeakAttributes
+file_before = record { size = 3; modified = time 1000 1; changed = time 1000 1 }
+
+abbrev pub with_room : ℕ → Ctx
+with_room bytes = record (called_as 0) { limits = record { total_bytes = bytes } }
+
+-- what is answered in a state with the file
+pub record WorkedFileReplies : Type 0 where
+  pub guarded : (m : State) → HasFile m → setattr_answer m (called_as 0) (setting_mode (time 1000 0)) ≡ replies.Setattr (record {
+    wcc = record { before = Some file_before; after = Some (file_shown 420 (time 1000 1)) };
+    result = Err status.NotSynchronized;
+  })
+  pub set : (m : State) → HasFile m → setattr_answer m (called_as 0) (setting_mode (time 1000 1)) ≡ replies.Setattr (record {
+    wcc = record { before = Some file_before; after = Some (file_shown 384 (time 1000 2)) };
+    result = Ok tt;
+  })
+  pub access : (m : State) → HasFile m → access_answer m (called_as 5) (record { object = file_bytes; rights = 63 }) ≡ replies.Access (record { attributes = Some (file_shown 420 (time 1000 1)); result = Ok 1 })
+  pub no_link : (m : State) → HasFile m → readlink_result m (called_as 0) file_bytes ≡ Err status.Invalid
+  pub committed : (m : State) → HasFile m → commit_answer m (called_as 5) (record { file = file_bytes; offset = 0; count = 0 }) ≡ replies.Commit (record {
+    wcc = record { before = Some file_before; after = Some (file_shown 420 (time 1000 1)) };
+    result = Ok (record { bytes = 0 ∷ 0 ∷ 0 ∷ 0 ∷ 0 ∷ 0 ∷ 0 ∷ 7 ∷ [] });
+  })
+  pub limits : (m : State) → HasFile m → pathconf_answer m (called_as 0) file_bytes ≡ replies.Pathconf (record { attributes = Some (file_shown 420 (time 1000 1)); result = Ok path_limits })
+  pub bad_handle : (m : State) → fsinfo_answer m (called_as 0) (take 31 file_bytes) ≡ replies.Fsinfo (record { attributes = None; result = Err status.BadHandle })
+
+-- and in the state of a fresh export
+pub record WorkedRootReplies : Type 0 where
+  pub space : (m : State) → HasRoot m → fsstat_answer m (with_room 1099511627776) root_bytes ≡ replies.Fsstat (record {
+    attributes = Some root_shown;
+    result = Ok (record {
+      total_bytes = 1099511627776;
+      free_bytes = 1099511623680;
+      available_bytes = 1099511623680;
+      total_files = 4294967295;
+      free_files = 4294967294;
+      available_files = 4294967294;
+      unchanged_for = 0;
+    });
+  })
+  pub system : (m : State) → HasRoot m → fsinfo_answer m (called_as 0) root_bytes ≡ replies.Fsinfo (record { attributes = Some root_shown; result = Ok file_system })
+  pub no_file : (m : State) → HasRoot m → commit_answer m (called_as 0) (record { file = root_bytes; offset = 0; count = 0 }) ≡ replies.Commit (record {
+    wcc = record { before = Some (record { size = 4096; modified = time 1000 0; changed = time 1000 0 }); after = Some root_shown };
+    result = Err status.Invalid;
+  })

@@ -1,0 +1,186 @@
+-- A run worked through by hand: a file is made and written (RFC 1813, 3.3.7 and 3.3.8); and steps from where it ends.
+use Rattle.std.specs.Prelude.{◌≡◌, ℕ, Bool, true, false, ◌&&◌, ◌||◌, List, [], ◌∷◌, ◌++◌, Some, Ok, Err, codes, ◌==◌}
+use Rattle.std.specs.FinMap.{get, insert}
+use Rattle.std.specs.List.{AllByRecursion}
+use Rattle.nfs_xdr.specs.Writing.{write}
+use Rattle.nfs_rpc.specs.Messages.{CallHeader, words}
+use Rattle.nfs_rpc.specs.declared.programs.Program.TheVariants as programs
+use Rattle.nfs_wire.specs.Calls.{arguments_of, arguments_type, procedure_of}
+use Rattle.nfs_wire.specs.declared.calls.CreateArguments.{CreateArguments}
+use Rattle.nfs_wire.specs.declared.calls.CreateHow.TheVariants.{Unchecked}
+use Rattle.nfs_wire.specs.declared.calls.NfsCall.{NfsCall}
+use Rattle.nfs_wire.specs.declared.calls.NfsCall.TheVariants as nfs
+use Rattle.nfs_wire.specs.declared.calls.Place.{Place}
+use Rattle.nfs_wire.specs.declared.calls.ReaddirArguments.{ReaddirArguments}
+use Rattle.nfs_wire.specs.declared.calls.ReaddirplusArguments.{ReaddirplusArguments}
+use Rattle.nfs_wire.specs.declared.calls.Stability.TheVariants.{FileSync}
+use Rattle.nfs_wire.specs.declared.calls.WriteArguments.{WriteArguments}
+use Rattle.nfs_wire.specs.declared.replies.NfsReply.{NfsReply}
+use Rattle.nfs_wire.specs.declared.replies.NfsReply.TheVariants as nfs_replies
+use Rattle.nfs_wire.specs.declared.status.NfsStatus.TheVariants as status
+use Rattle.side_wire.specs.Mount.{IsHostName}
+use Rattle.nfs_machine.specs.DataSteps.{write_answer}
+use Rattle.nfs_machine.specs.Handles.{handle_bytes}
+use Rattle.nfs_machine.specs.Making.{made, no_attributes}
+use Rattle.nfs_machine.specs.NameSteps.{new_file}
+use Rattle.nfs_machine.specs.NfsSteps.{NfsStep}
+use Rattle.nfs_machine.specs.Opening.{opening}
+use Rattle.nfs_machine.specs.PageSteps.{readdir_result, readdirplus_result}
+use Rattle.nfs_machine.specs.Readings.{Reading, StaysThrough, Turn}
+use Rattle.nfs_machine.specs.RemoveSteps.{without_object}
+use Rattle.nfs_machine.specs.Resolve.{resolve}
+use Rattle.nfs_machine.specs.Run.{Arrival, Record, Run, Setting}
+use Rattle.nfs_machine.specs.Shown.{shown, wcc, with_content, with_object}
+use Rattle.nfs_machine.specs.State.{Directory, Regular, Entry, Living, State}
+use Rattle.nfs_machine.specs.Times.{is_earlier}
+use Rattle.nfs_machine.specs.WellFormed.{WellFormed}
+use Rattle.nfs_machine.specs.Worked.{open_export, root_bytes, user}
+use Rattle.nfs_machine.specs.WorkedCreate.{called_as, moment}
+use Rattle.nfs_machine.specs.WorkedFiles.{time}
+use Rattle.nfs_machine.specs.WorkedPages.{seven, zeros}
+use Rattle.nfs_machine.specs.WorkedReplies.{root}
+use Rattle.nfs_machine.specs.declared.calls.Reply.TheVariants as replies
+use Rattle.nfs_machine.specs.declared.context.Ctx.{Ctx}
+
+abbrev pub setting : Setting
+setting = record { start = 7; exports = open_export ∷ []; limits = record { total_bytes = 0 } }
+
+-- a call by nobody: xid, CALL, RPC 2, NFS 3, its procedure, AUTH_NONE twice, and its arguments (RFC 5531, 9)
+abbrev pub argument_bytes : NfsCall → List ℕ
+argument_bytes call = write (arguments_type (procedure_of call)) (arguments_of call)
+
+abbrev pub arrives : NfsCall → Arrival
+arrives call =
+    record { host = codes "10.0.0.1"; bytes = words (9 ∷ 0 ∷ 2 ∷ 100003 ∷ 3 ∷ procedure_of call ∷ 0 ∷ 0 ∷ 0 ∷ 0 ∷ []) ++ argument_bytes call; moment = moment }
+
+abbrev pub header_of : NfsCall → CallHeader
+header_of call = record { xid = 9; program = programs.Nfs; procedure = procedure_of call; ids = user 65534 65534; arguments = argument_bytes call }
+
+abbrev pub nobody : Ctx
+nobody = called_as 65534
+
+abbrev pub executed : NfsCall → NfsReply → Record
+executed call reply = record { arrival = arrives call; reply = replies.Nfs reply; messages = [] }
+
+-- the state of a server with one export
+abbrev pub opened : State
+opened = opening (open_export ∷ []) moment
+
+-- a file "x" is made, with the number 5 and the generation 1
+abbrev pub in_root : List ℕ → Place
+in_root name = record { directory = root_bytes; name = name }
+
+abbrev pub making : CreateArguments
+making = record { place = in_root (codes "x"); how = Unchecked no_attributes }
+
+abbrev pub x_entry : Entry
+x_entry = record { name = codes "x"; number = 5; cookie = 3 }
+
+abbrev pub root_with_x : Living
+root_with_x = with_content root (time 1000 0) (Directory (x_entry ∷ []) 3)
+
+abbrev pub x : Living
+x = new_file nobody (Unchecked no_attributes) 1 1
+
+abbrev pub with_x : State
+with_x = record opened { objects = insert (insert opened.objects 1 root_with_x) 5 x; spent = λ n g. ((n == 5) && (g == 1)) || opened.spent n g }
+
+abbrev pub made_reply : NfsReply
+made_reply = nfs_replies.Create (record { directory = wcc with_x (resolve opened nobody root_bytes); result = Ok (made with_x nobody 5 x) })
+
+-- "hi" is written into it
+abbrev pub x_bytes : List ℕ
+x_bytes = handle_bytes (record { export = 1; start = 7; fileid = 5; generation = 1 })
+
+abbrev pub writing : WriteArguments
+writing = record { file = x_bytes; offset = 0; count = 2; stable = FileSync; «data» = codes "hi" }
+
+abbrev pub x_written : Living
+x_written = with_content x (time 1000 0) (Regular (codes "hi"))
+
+abbrev pub written : State
+written = with_object with_x 5 x_written
+
+abbrev pub records : List Record
+records = executed (nfs.Create making) made_reply ∷ executed (nfs.Write writing) (write_answer with_x nobody writing) ∷ []
+
+-- The run, of hosts whose names are within their bound. The root lives under its handle from the beginning to the end, and was changed.
+pub record WorkedRun : Type 0 where
+  pub run : Run setting opened records written
+  pub hosts : AllByRecursion (λ (r : Record). IsHostName r.arrival.host) records
+  pub given : opened.spent 1 root.generation ≡ true
+  pub first : get opened.objects 1 ≡ Some root
+  pub last : get written.objects 1 ≡ Some root_with_x
+  pub later : is_earlier root.changed root_with_x.changed ≡ true
+
+-- the root is listed by both procedures, and "x" is removed; a WRITE whose count is not that of its data is refused
+abbrev pub listing : ReaddirArguments
+listing = record { directory = root_bytes; cookie = 0; verifier = zeros; count = 65536 }
+
+abbrev pub all_three : List Entry
+all_three = record { name = codes "."; number = 1; cookie = 1 } ∷ record { name = codes ".."; number = 1; cookie = 2 } ∷ x_entry ∷ []
+
+abbrev pub listing_full : ReaddirplusArguments
+listing_full = record { directory = root_bytes; cookie = 0; verifier = zeros; directory_count = 65536; most = 65536 }
+
+abbrev pub root_after : Living
+root_after = with_content root_with_x (time 1000 0) (Directory [] 3)
+
+abbrev pub removed : State
+removed = without_object (with_object written 1 root_after) 5
+
+abbrev pub miscounted : WriteArguments
+miscounted = record writing { count = 3 }
+
+abbrev pub listed_reply : NfsReply
+listed_reply = nfs_replies.Readdir (record { attributes = shown written (resolve written nobody root_bytes); result = readdir_result nobody (Ok (all_three, true)) })
+
+abbrev pub listed_full_reply : NfsReply
+listed_full_reply = nfs_replies.Readdirplus (record { attributes = shown written (resolve written nobody root_bytes); result = readdirplus_result written nobody (Ok (all_three, true)) })
+
+abbrev pub removed_reply : NfsReply
+removed_reply = nfs_replies.Remove (record { directory = wcc removed (resolve written nobody root_bytes); result = Ok tt })
+
+abbrev pub refused_reply : NfsReply
+refused_reply = nfs_replies.Write (record { wcc = wcc with_x (resolve with_x nobody x_bytes); result = Err status.Invalid })
+
+pub record WorkedSteps : Type 0 where
+  pub listed : NfsStep written nobody (nfs.Readdir listing) listed_reply [] written
+  pub listed_full : NfsStep written nobody (nfs.Readdirplus listing_full) listed_full_reply [] written
+  pub removes : NfsStep written nobody (nfs.Remove (in_root (codes "x"))) removed_reply [] removed
+  pub refuses : NfsStep with_x nobody (nfs.Write miscounted) refused_reply [] with_x
+
+-- A reading of the root in two pages, with the WRITE between them: the first from the state in which "x" was made, with room for
+-- two entries, and the second from its last cookie on. "x" stays.
+abbrev pub first_listing : ReaddirArguments
+first_listing = record { directory = root_bytes; cookie = 0; verifier = zeros; count = 160 }
+
+abbrev pub second_listing : ReaddirArguments
+second_listing = record { directory = root_bytes; cookie = 2; verifier = seven; count = 65536 }
+
+abbrev pub first_two : List Entry
+first_two = record { name = codes "."; number = 1; cookie = 1 } ∷ record { name = codes ".."; number = 1; cookie = 2 } ∷ []
+
+abbrev pub page_reply : State → List Entry → Bool → NfsReply
+page_reply m page eof = nfs_replies.Readdir (record { attributes = shown m (resolve m nobody root_bytes); result = readdir_result nobody (Ok (page, eof)) })
+
+abbrev pub first_turn : Turn
+first_turn = record { between = []; ctx = nobody; call = nfs.Readdir first_listing; reply = page_reply with_x first_two false; page = first_two; eof = false }
+
+abbrev pub second_turn : Turn
+second_turn = record {
+  between = executed (nfs.Write writing) (write_answer with_x nobody writing) ∷ [];
+  ctx = nobody;
+  call = nfs.Readdir second_listing;
+  reply = page_reply written (x_entry ∷ []) true;
+  page = x_entry ∷ [];
+  eof = true;
+}
+
+abbrev pub turns : List Turn
+turns = first_turn ∷ second_turn ∷ []
+
+pub record WorkedTurns : Type 0 where
+  pub formed : (records : List Record) (m : State) → Run setting with_x records m → WellFormed m
+  pub reading : Reading setting with_x root_bytes 0 turns
+  pub stays : StaysThrough setting with_x root_bytes 0 turns reading x_entry

@@ -1,0 +1,62 @@
+-- Requests that wait, worked through by hand (RFC 1813, appendix II, 6.2: procedures 2, 4 and 5).
+use Rattle.std.specs.Prelude.{ℕ, true, false, List, [], ◌∷◌, ◌++◌, codes, pos}
+use Rattle.side_wire.specs.declared.nlm.NlmResult.{NlmResult}
+use Rattle.side_wire.specs.declared.nlm.NlmStatus.{NlmStatus}
+use Rattle.side_wire.specs.declared.nlm.NlmStatus.TheVariants as nlm_status
+use Rattle.nfs_machine.specs.Grants.{ChangesLocks, grant_cookie, grant_message}
+use Rattle.nfs_machine.specs.LockSteps.{Frees, GrantEnds}
+use Rattle.nfs_machine.specs.Locks.{Unlocked}
+use Rattle.nfs_machine.specs.State.{Lock, Owner, Request, State}
+use Rattle.nfs_machine.specs.WorkedRun.{nobody}
+use Rattle.nfs_machine.specs.WorkedLocks.{a, asked, b, lock, on_file}
+
+abbrev pub c : Owner
+c = record { caller_name = codes "c3"; owner = 3 ∷ []; process = pos 3 }
+
+-- a shared lock of the first 20 bytes that waits under a number
+abbrev pub waiting : Owner → ℕ → Request
+waiting o number = record { number = number; file = 5; host = o.caller_name; exclusive = false; asked = asked o 0 20; by_message = false }
+
+abbrev pub two_held : List Lock
+two_held = lock a 0 9 true ∷ lock c 10 19 true ∷ []
+
+abbrev pub both_shared : List Lock
+both_shared = lock a 0 19 false ∷ lock b 0 19 false ∷ []
+
+-- A has 0 to 9 and C 10 to 19, exclusively. B and then A wait for a shared lock of both. When C gives its lock back, A is granted
+-- first, since A's own lock is in B's way, and then B.
+abbrev pub WorkedSettling : Type 0
+WorkedSettling = (m : State)
+    → ChangesLocks (record m { locks = two_held; waiting = waiting b 5 ∷ waiting a 69 ∷ [] }) (on_file c 10 10) Unlocked
+    (grant_message (waiting a 69) ∷ grant_message (waiting b 5) ∷ [])
+    (record m { locks = both_shared; waiting = []; granted = (m.granted ++ waiting a 69 ∷ []) ++ waiting b 5 ∷ [] })
+
+-- C has the first 20 bytes, and A and B wait for them: both to share them, or each alone
+abbrev pub alone : Owner → ℕ → Request
+alone o number = record (waiting o number) { exclusive = true }
+
+abbrev pub held_by_c : State → Request → Request → State
+held_by_c m first second = record m { locks = lock c 0 19 true ∷ []; shares = []; waiting = first ∷ second ∷ []; granted = [] }
+
+-- A has them alone, and B waits
+abbrev pub held_by_a : State → State
+held_by_a m = record m { locks = lock a 0 19 true ∷ []; shares = []; waiting = alone b 69 ∷ []; granted = alone a 5 ∷ [] }
+
+abbrev pub held_by_b : State → State
+held_by_b m = record m { locks = lock b 0 19 true ∷ []; shares = []; waiting = []; granted = alone b 69 ∷ [] }
+
+-- A's host answers its grant
+abbrev pub answer : NlmStatus → NlmResult
+answer s = record { cookie = grant_cookie 5; status = s }
+
+pub record WorkedFreed : Type 0 where
+  -- FREE_ALL of C's caller: both share, in order of asking; or A alone has them
+  pub shared : (m : State) → Frees (held_by_c m (waiting a 5) (waiting b 69)) (codes "c3") (grant_message (waiting a 5) ∷ grant_message (waiting b 69) ∷ [])
+      (record m { locks = both_shared; shares = []; waiting = []; granted = waiting a 5 ∷ waiting b 69 ∷ [] })
+  pub first_alone : (m : State) → Frees (held_by_c m (alone a 5) (alone b 69)) (codes "c3") (grant_message (alone a 5) ∷ []) (held_by_a m)
+  -- A's host does not take it, so B has them; a second answer changes nothing
+  pub refused : (m : State) → GrantEnds (held_by_a m) (record nobody { host = codes "c1" }) (answer nlm_status.Denied) (grant_message (alone b 69) ∷ []) (held_by_b m)
+  pub again : (m : State) → GrantEnds (held_by_b m) (record nobody { host = codes "c1" }) (answer nlm_status.Denied) [] (held_by_b m)
+  pub taken : (m : State) → GrantEnds (held_by_a m) (record nobody { host = codes "c1" }) (answer nlm_status.Granted) [] (record (held_by_a m) { granted = [] })
+  -- another host's answer is of no grant
+  pub of_other : (m : State) → GrantEnds (held_by_a m) (record nobody { host = codes "c2" }) (answer nlm_status.Denied) [] (held_by_a m)

@@ -1,0 +1,41 @@
+-- What a server does from its start on.
+use Rattle.std.specs.Prelude.{◌≡◌, ◌⊎◌, ℕ, List, Option, Some, unwrap_or}
+use Rattle.nfs_machine.specs.Opening.{opening}
+use Rattle.nfs_machine.specs.Run.{Setting}
+use Rattle.nfs_machine.specs.declared.moment.Moment.{Moment}
+use Rattle.nfs_server.specs.Exits.{exit_of}
+use Rattle.nfs_server.specs.Plain.{PlainValue, StandsFor}
+use Rattle.nfs_server.specs.Served.{ServesAll, ServesFront}
+use Rattle.nfs_server.specs.declared.exit.Exit.{Exit}
+use Rattle.nfs_server.specs.declared.exit.Exit.TheVariants.{Memory}
+use Rattle.nfs_server.specs.declared.options.Options.{Options}
+use Rattle.nfs_server.specs.declared.serve.StreamFault.{StreamFault}
+
+-- what the options say, with this start number where they name none
+abbrev pub setting_of : Options → ℕ → Setting
+setting_of options otherwise =
+    record { start = unwrap_or options.start otherwise; exports = options.exports; limits = record { total_bytes = options.bytes } }
+
+-- the clock's first moment made the opening state, which the store stood for, and so it went on from there
+pub record FromStart {Clock : Type 0} (gives : Clock → Moment → Clock → Type 0) (setting : Setting) (clock : Clock) (GoesOn : Clock → PlainValue → PlainValue → Type 0) : Type 0 where
+  pub moment : Moment
+  pub started : Clock
+  pub opened : PlainValue
+  pub left : PlainValue
+  pub ticked : gives clock moment started
+  pub under : opened.setting ≡ setting
+  pub stands : StandsFor opened (opening setting.exports moment)
+  pub on : GoesOn started opened left
+
+-- all records of the input were served
+abbrev pub ServesFromStart : {Clock : Type 0} → (Clock → Moment → Clock → Type 0) → Setting → (host : List ℕ) (unread : Option (List ℕ)) (clock later : Clock) (before after : Option (List ℕ)) → Type 0
+ServesFromStart gives setting host unread clock later before after = (input : List ℕ) → unread ≡ Some input
+    → FromStart gives setting clock (λ started opened left. ServesAll gives host input started later opened left before after)
+
+-- The program ends early: by want of memory, where nothing was written, or by a fault of the stream, which the streams tell, where a
+-- front of the input was taken in and the first of its records were served.
+abbrev pub FailsFromStart : {Clock : Type 0} → (Clock → Moment → Clock → Type 0) → Setting → (host : List ℕ) (unread : Option (List ℕ)) (clock later : Clock) (before after : Option (List ℕ)) → (StreamFault → Type 0) → Exit → Type 0
+FailsFromStart gives setting host unread clock later before after IsTold exit =
+    ((exit ≡ Memory) × (after ≡ before))
+    ⊎ ((fault : StreamFault) × (exit ≡ exit_of fault) × IsTold fault × ((input : List ℕ) → unread ≡ Some input
+    → FromStart gives setting clock (λ started opened left. ServesFront gives host input fault started later opened left before after)))

@@ -1,0 +1,50 @@
+//! The program from its start to the end of its input.
+
+ghost use Rattle.std.specs.Prelude.{◌≡◌, ℕ, ◌-◌, ◌^◌, ◌≤◌, ◌⊎◌, List, length, Some, IfErr, OnOk};
+ghost use Rattle.nfs_rpc.specs.Streams.{one_more};
+ghost use Rattle.nfs_server.specs.Started.{FailsFromStart, ServesFromStart, setting_of};
+
+use crate::exit::Exit;
+use crate::options::Options;
+use crate::plain::Plain;
+use crate::serve::{Served, StreamFault, serve_plain};
+use nfs_machine::{Limits, Moments};
+use nfs_rpc::stream::{Sink, Source};
+use std::alloc::Global;
+
+/// Serves the input as the options say, with this start number where they name none: from the opening state, which is
+/// made at the clock's first moment, to the end of the input.
+///
+/// # Errors
+///
+/// What the program ends by: `Memory` where there is none for the opening state, else what the stream's fault is.
+pub fn serve_options<C: Moments, R: Source, W: Sink>(
+    alloc: Global,
+    options: Options,
+    start: u64,
+    clock: &mut C,
+    reader: &mut R,
+    writer: &mut W,
+) -> Result<(), Exit>
+    ensures ok { OnOk result (ServesFromStart C.gives (setting_of options start) options.host (R.unread reader.old) clock.old clock.new (W.written writer.old) (W.written writer.new)) }
+    // A fault of a stream is one that the stream counted, or there was no end of it.
+    ensures fault { IfErr result (FailsFromStart C.gives (setting_of options start) options.host (R.unread reader.old) clock.old clock.new (W.written writer.old) (W.written writer.new)
+        (λ fault. (fault ≡ StreamFault.Read → (R.Counts.failures reader.new ≡ one_more (R.Counts.failures reader.old))
+        ⊎ ((input : List ℕ) → R.unread reader.old ≡ Some input → 2 ^ 64 - 1 ≤ length input))
+        × (fault ≡ StreamFault.Write → W.Counts.failures writer.new ≡ one_more (W.Counts.failures writer.old)))) }
+{
+    let Options {
+        exports,
+        start: named,
+        clock: _,
+        host,
+        bytes,
+    } = options;
+    let limits = Limits { total_bytes: bytes };
+    let moment = clock.moment();
+    let mut plain = Plain::new(alloc, named.unwrap_or(start), exports, limits, moment)?;
+    match serve_plain(alloc, &mut plain, &host, clock, reader, writer) {
+        Ok(Served) => Ok(()),
+        Err(fault) => Err(Exit::of(fault)),
+    }
+}
