@@ -36,7 +36,7 @@ module _ (ctx : Ctx) (view : ViewValue) (a : ReadArguments) where
 
   step : (m : State) (r : Resolved) (reply : ReadReply) → reply ≡ answer_at m r → resolve m ctx a.file ≡ r → NfsStep m ctx (nfs.Read a) (replies.Read reply) [] m
   unfolding NfsStep
-  step m r reply is named = record { reply_is = ap (λ x. replies.Read x) (is ∙ ap (answer_at m) (sym named)); no_message = refl; unchanged = refl }
+  step m r reply is named = record { reply_is = ap (λ x. replies.Read x) (is ∙ ap (answer_at m) (sym named)); no_message = refl; state_is = refl }
 
   pub bad_handle_holds : BadHandle ≡ found_at ctx view.entries a.file → Answers None (Err status.BadHandle)
   bad_handle_holds found =

@@ -29,7 +29,7 @@ module _ (ctx : Ctx) (view : ViewValue) (object : List ℕ) where
   step : (m : State) (result : Result Attributes NfsStatus) → result ≡ attributes_result m (resolve m ctx object)
       → NfsStep m ctx (nfs.Getattr object) (replies.Getattr result) [] m
   unfolding NfsStep
-  step m result is = record { reply_is = ap (λ r. replies.Getattr r) is; no_message = refl; unchanged = refl }
+  step m result is = record { reply_is = ap (λ r. replies.Getattr r) is; no_message = refl; state_is = refl }
 
   pub bad_handle_holds : BadHandle ≡ found_at ctx view.entries object → Answers (Err status.BadHandle)
   bad_handle_holds found =

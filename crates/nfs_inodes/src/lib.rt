@@ -3,8 +3,9 @@
 //!
 //! `resolve` tells what a handle names as far as a view shows, which is what it names in every state whose store the view
 //! fits; `attributes` are the machine's of the inode's object; `may` and the checks that procedures share (`directory`,
-//! `name_checked`, `new_name_checked`, `permitted`, `changeable`) answer as the machine does, and `read` and `write` come to
-//! what the machine's READ and WRITE make of the object. It stands on `nfs_objects` for views and inodes.
+//! `name_checked`, `new_name_checked`, `permitted`, `changeable`) answer as the machine does, and `read`, `write`, `new_file`
+//! and `create_over` come to what the machine's READ, WRITE and CREATE make of the object. It stands on `nfs_objects` for views
+//! and inodes.
 #![tactic(auto)]
 
 pub mod checks;

@@ -11,7 +11,9 @@ use std::alloc::{AllocError, Global};
 use std::sync::Arc;
 use std::test::Fail;
 
+mod content;
 mod data;
+mod making;
 mod times;
 
 const TIME: Time = Time {

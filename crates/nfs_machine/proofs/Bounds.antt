@@ -79,12 +79,12 @@ mnt-locks old ctx path (Err e) new (why, same) fit = subst LocksFit (sym same) f
 
 mount-locks : (old : State) (ctx : Ctx) (call : MountCall) (reply : MountReply) (messages : List Message) (new : State) → MountStep old ctx call reply messages new → LocksFit old → LocksFit new
 unfolding MountStep
-mount-locks old ctx mount.Null reply messages new step fit = subst LocksFit (sym step.unchanged) fit
+mount-locks old ctx mount.Null reply messages new step fit = subst LocksFit (sym step.state_is) fit
 mount-locks old ctx (mount.Mnt path) reply messages new step fit = mnt-locks old ctx path step.result new step.answers fit
-mount-locks old ctx mount.Dump reply messages new step fit = subst LocksFit (sym step.unchanged) fit
+mount-locks old ctx mount.Dump reply messages new step fit = subst LocksFit (sym step.state_is) fit
 mount-locks old ctx (mount.Unmount path) reply messages new step fit = subst LocksFit (sym step.state_is) fit
 mount-locks old ctx mount.UnmountAll reply messages new step fit = subst LocksFit (sym step.state_is) fit
-mount-locks old ctx mount.Export reply messages new step fit = subst LocksFit (sym step.unchanged) fit
+mount-locks old ctx mount.Export reply messages new step fit = subst LocksFit (sym step.state_is) fit
 
 -- ---- steps and runs
 same-mounts : (old new : State) → new.mounts ≡ old.mounts → MountsFit old → MountsFit new

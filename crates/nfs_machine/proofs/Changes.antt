@@ -1,7 +1,8 @@
 -- A finite map that differs from another at one key: sums over both, and what names in lists of entries that lose one or have no other.
 use Rattle.std.proofs.Common.{◌≡◌, ◌==◌, ℕ, ◌+◌, ◌<◌, ◌≤◌, Bool, true, false, cond, not, List, [], ◌∷◌, Option, Some, None, find, refl, sym, ◌∙◌, ap, subst, arith}
 use Rattle.std.proofs.lemmas.List.Sums.{sum_by-cons}
-use Rattle.std.specs.Cmp.{nat_cmp_total, unsigned_Decides, unsigned_ties}
+use Rattle.std.proofs.lemmas.Cmp.{nat_list_eq_equiv}
+use Rattle.std.specs.Cmp.{nat_cmp_total, nat_eq_equiv, unsigned_Decides, unsigned_ties}
 use Rattle.std.specs.Cmp.Lexicographic.{bytes_decides}
 use Rattle.std.specs.FinMap.{FinMap, get, get-remove, insert, nat_cmp-IsAntisymmetric, remove, same_map, values}
 use Rattle.std.specs.List.{AllByRecursion, count_by, filter, sum_by}
@@ -33,7 +34,7 @@ apart n k other =
     ] refl
 
 pub flipped : (n k : ℕ) → (n == k) ≡ false → (k == n) ≡ false
-flipped n k e = apart k n (λ same. (let t : (n == k) ≡ true = (unsigned_Decides n k).1 (sym same) in let no : true ≡ false = sym t ∙ e in cc))
+flipped n k e = nat_eq_equiv.symm k n ∙ e
 
 module _ {X : Type 0} (old new : FinMap nat_cmp X) (k : ℕ) (v : Option X) (differs : Differs old new k v) where
   pub differs-there : get new k ≡ v
@@ -125,10 +126,7 @@ others-stay name (e ∷ es) other =
     ap (λ b. cond (not b) (e ∷ without es name) (without es name)) away ∙ ap (λ rest. e ∷ rest) (others-stay name es other.1)
   where
     away : same_bytes e.name name ≡ false
-    away = elim (same_bytes e.name name) as (λ b. same_bytes e.name name ≡ b → b ≡ false) [
-      | true ↦ λ t. sym ((bytes_decides name e.name).1 (sym ((bytes_decides e.name name).0 t))) ∙ other.0
-      | false ↦ λ t. refl
-    ] refl
+    away = nat_list_eq_equiv.symm e.name name ∙ other.0
 
 -- without a name that no entry has
 pub without-absent : (name : List ℕ) (es : List Entry) → find (λ (e : Entry). same_bytes e.name name) es ≡ None → without es name ≡ es

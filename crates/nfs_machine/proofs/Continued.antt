@@ -13,7 +13,7 @@ use Rattle.nfs_machine.specs.TimeLaws.{TouchesOnce}
 use Rattle.nfs_machine.specs.Times.{touch}
 use Rattle.nfs_machine.specs.WellFormed.{TextsFit, WellFormed}
 use Rattle.nfs_machine.proofs.Changes.{differs-insert, differs-other, differs-remove, differs-there}
-use Rattle.nfs_machine.proofs.Loose.{Loose, Swaps, also, fastened, loose-same, none_loose, tightened, well_formed-dropped}
+use Rattle.nfs_machine.proofs.Loose.{Loose, also, fastened, loose-come, loose-touched, none_loose, tightened}
 
 -- an object in the place of another: under the same handle, changed at this time, and with no new text
 pub record Turns (now : Time) (was is : Living) : Type 0 where
@@ -96,22 +96,25 @@ module _ (now : Time) (old mid : State) (c : Continues now old mid) (number : �
         | false ↦ continues-touched
       ]
 
-pub touched-swaps : (mid : State) (number : ℕ) (object : Living) → get mid.objects number ≡ Some object → (now : Time) → Swaps mid (with_object mid number (touched object now)) number object (touched object now)
-touched-swaps mid number object at now = record { lives = at; objects = differs-insert mid.objects number (touched object now); export = refl; generation = refl; kind = refl; spent = λ n g e. e }
-
 -- an object that contains no name and lost one goes with its last, or stays
 module _ (mid : State) (number : ℕ) (object : Living) (at : get mid.objects number ≡ Some object) (l : Loose (also number none_loose) mid) where
   gone : entries_of object.content ≡ [] → names_of mid number ≡ 0 → TextsFit (without_object mid number) → WellFormed (without_object mid number)
-  gone empty none = well_formed-dropped mid (without_object mid number) number object (record {
-    lives = at;
-    nameless = none;
-    empty = empty;
-    objects = differs-remove mid.objects number;
-    spent = λ n g e. e;
-  }) l
+  gone empty none texts =
+      tightened (without_object mid number) texts
+      (fastened number none_loose (without_object mid number)
+      (loose-come mid (without_object mid number) number (Some object) None (record {
+        lives = at;
+        objects = differs-remove mid.objects number;
+        nameless = none;
+        was_empty = empty;
+        is_empty = tt;
+        is_new = tt;
+        spent = λ n g e. e;
+      }) none_loose l)
+      (λ o there. (let nothing : get (without_object mid number).objects number ≡ None = differs-there mid.objects (without_object mid number).objects number None (differs-remove mid.objects number) in cc)))
 
   stays : (now : Time) → 1 ≤ names_of mid number → TextsFit (with_object mid number (touched object now)) → WellFormed (with_object mid number (touched object now))
-  stays now some texts = tightened (with_object mid number (touched object now)) texts (loose-same mid (with_object mid number (touched object now)) number object (touched object now) (touched-swaps mid number object at now) refl none_loose (fastened number none_loose mid l some))
+  stays now some texts = tightened (with_object mid number (touched object now)) texts (loose-touched mid number object at none_loose (fastened number none_loose mid l (λ o there. some)) now)
 
   pub well_formed-losing : (names : ℕ) (now : Time) → entries_of object.content ≡ [] → names_of mid number + 1 ≡ names → TextsFit (losing_name mid names now number object)
       → WellFormed (losing_name mid names now number object)

@@ -1,11 +1,15 @@
 -- What the checks of a call tell where they are passed.
 use Rattle.std.proofs.Common.{◌≡◌, ◌==◌, ℕ, Bool, true, false, not, ◌&&◌, cond, List, [], ◌∷◌, Option, Some, None, Result, Ok, Err, IfOk, find, refl, ap, subst}
+use Rattle.std.specs.Prelude.{is_none}
+use Rattle.std.specs.Prelude.{ok_or}
 use Rattle.std.specs.FinMap.{get}
 use Rattle.nfs_wire.specs.declared.status.NfsStatus.{NfsStatus}
+use Rattle.nfs_wire.specs.declared.status.NfsStatus.TheVariants as status
 use Rattle.nfs_machine.specs.Attributes.{entries_of, is_directory}
 use Rattle.nfs_machine.specs.Bytes.{same_bytes}
-use Rattle.nfs_machine.specs.Checks.{◌>>=◌, holding, object_of, entries_in, bytes_in, entry_of, is_absent}
-use Rattle.nfs_machine.specs.RemoveSteps.{entry_found, object_found, empty_directory, has_no_entry, not_directory}
+use Rattle.nfs_machine.specs.Checks.{◌>>=◌, holding, object_of, entries_in, bytes_in, entry_of}
+use Rattle.nfs_machine.specs.Pages.{are_none}
+use Rattle.nfs_machine.specs.RemoveSteps.{empty_directory, not_directory}
 use Rattle.nfs_machine.specs.Exports.{export_admits, export_at}
 use Rattle.nfs_machine.specs.Handles.{handle_of}
 use Rattle.nfs_machine.specs.Resolve.{Stale, Names, living_at, named, resolve}
@@ -65,17 +69,17 @@ is-regular (CharacterDevice device) x is = cc
 is-regular Socket x is = cc
 is-regular Fifo x is = cc
 
-pub entry-found : (o : Option Entry) (e : Entry) → entry_found o ≡ Ok e → o ≡ Some e
+pub entry-found : (o : Option Entry) (e : Entry) → ok_or o status.NoEntry ≡ Ok e → o ≡ Some e
 entry-found None e is = cc
 entry-found (Some x) e is = (let same : x ≡ e = cc in ap (λ (y : Entry). Some y) same)
 
-pub object-found : (o : Option Living) (l : Living) → object_found o ≡ Ok l → o ≡ Some l
+pub object-found : (o : Option Living) (l : Living) → ok_or o status.NoEntry ≡ Ok l → o ≡ Some l
 object-found None l is = cc
 object-found (Some x) l is = (let same : x ≡ l = cc in ap (λ (y : Living). Some y) same)
 
-pub absent : (entries : List Entry) (name : List ℕ) → is_absent entries name ≡ true → find (λ (x : Entry). same_bytes x.name name) entries ≡ None
+pub absent : (entries : List Entry) (name : List ℕ) → is_none (entry_of entries name) ≡ true → find (λ (x : Entry). same_bytes x.name name) entries ≡ None
 absent entries name e =
-    elim (entry_of entries name) as (λ (o : Option Entry). elim o as (λ (_ : Option Entry). Bool) [ None ↦ true | Some e ↦ false ] ≡ true → o ≡ None) [
+    elim (entry_of entries name) as (λ (o : Option Entry). is_none o ≡ true → o ≡ None) [
       | None ↦ λ t. refl
       | Some x ↦ λ t. cc
     ] e
@@ -84,12 +88,12 @@ absent entries name e =
 pub plain-empty : (c : Content) (x : Unit {0}) → not_directory c ≡ Ok x → entries_of c ≡ []
 plain-empty c x is = no_entries c (turned (is_directory c) (holds (not (is_directory c)) _ x is))
 
-pub no-entry : (es : List Entry) → has_no_entry es ≡ true → es ≡ []
+pub no-entry : (es : List Entry) → are_none es ≡ true → es ≡ []
 no-entry [] e = refl
 no-entry (x ∷ es) e = cc
 
 pub directory-empty : (c : Content) (x : Unit {0}) → empty_directory c ≡ Ok x → entries_of c ≡ []
-directory-empty (Directory entries last) x is = no-entry entries (holds (has_no_entry entries) _ x is)
+directory-empty (Directory entries last) x is = no-entry entries (holds (are_none entries) _ x is)
 directory-empty (Regular bytes) x is = cc
 directory-empty (Link text) x is = cc
 directory-empty (BlockDevice device) x is = cc

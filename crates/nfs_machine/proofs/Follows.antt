@@ -1,5 +1,6 @@
 -- What each procedure that changes names or objects leaves: handles are given once, and what is true of every state stays true.
 use Rattle.std.proofs.Common.{◌≡◌, ◌==◌, ℕ, ◌+◌, ◌≤◌, ◌^◌, Bool, true, false, not, ◌||◌, cond, List, [], Option, Some, None, Result, Ok, Err, IfOk, IfSome, find, length, take, nat_le, nat_lt, ◌⊎◌, inl, inr, refl, sym, ◌∙◌, ap, subst}
+use Rattle.std.specs.Prelude.{is_none}
 use Rattle.std.specs.Cmp.{unsigned_Decides}
 use Rattle.std.specs.FinMap.{get}
 use Rattle.nfs_wire.specs.declared.attributes.Time.{Time}
@@ -14,15 +15,15 @@ use Rattle.nfs_wire.specs.declared.status.NfsStatus.{NfsStatus}
 use Rattle.nfs_wire.specs.declared.status.NfsStatus.TheVariants as status
 use Rattle.side_wire.specs.Messages.{HasLockForm}
 use Rattle.side_wire.specs.Nlm.{IsNetobj}
+use Rattle.nfs_machine.specs.LockLaws.{AllHeldUp, NoConflict}
 use Rattle.nfs_machine.specs.Answers.{state_after}
 use Rattle.nfs_machine.specs.Attributes.{entries_of, is_directory}
 use Rattle.nfs_machine.specs.Bytes.{same_bytes}
-use Rattle.nfs_machine.specs.Checks.{holding, object_of, entries_in, bytes_in, new_name_checked, changeable, permitted, entry_of, is_absent}
+use Rattle.nfs_machine.specs.Checks.{holding, object_of, entries_in, bytes_in, new_name_checked, changeable, permitted, entry_of}
 use Rattle.nfs_machine.specs.Data.{size_limit, resized, written}
 use Rattle.nfs_machine.specs.DataSteps.{write_count, write_end, write_object}
-use Rattle.nfs_machine.specs.Grants.{AllHeldUp, IsHeldUp}
+use Rattle.nfs_machine.specs.Grants.{IsHeldUp}
 use Rattle.nfs_machine.specs.Laws.{GivesOnce, LivesAs}
-use Rattle.nfs_machine.specs.Locks.{NoConflict}
 use Rattle.nfs_machine.specs.Making.{Fresh, End, Known, Chosen, EndsAs, Wanted, given_attributes, make_end, make_made, make_new, new_object, with_entry}
 use Rattle.nfs_machine.specs.NameSteps.{create_end, create_existing, create_over, create_under, is_verifier, resize_object, wanted_file}
 use Rattle.nfs_machine.specs.Permission.{Changing, Writing}
@@ -33,17 +34,18 @@ use Rattle.nfs_machine.specs.SideLaws.{LocksFit, OwnersFit}
 use Rattle.nfs_machine.specs.State.{Regular, Directory, Link, Entry, Living, Lock, Request, Share, State}
 use Rattle.nfs_machine.specs.TimeLaws.{TouchesOnce}
 use Rattle.nfs_machine.specs.Times.{time_of, touch}
-use Rattle.nfs_machine.specs.WellFormed.{KeepsNames, MakesEntry, WellFormed}
+use Rattle.nfs_machine.specs.WellFormed.{WellFormed}
 use Rattle.nfs_machine.specs.declared.context.Ctx.{Ctx}
 use Rattle.nfs_machine.proofs.Changes.{differs-insert, differs-other, differs-there}
 use Rattle.nfs_machine.proofs.Continued.{Continues, Turns, continues-itself, continues-over, continues-with, gives-continued, lived-as, texts-continued, touches-continued}
-use Rattle.nfs_machine.proofs.Entered.{well_formed-made}
+use Rattle.nfs_machine.proofs.Entered.{MakesEntry, well_formed-made}
 use Rattle.nfs_machine.proofs.Facts.{absent, chained-is, holds, is-directory, is-regular, resolved-lives, turned}
+use Rattle.nfs_machine.proofs.Loose.{well_formed-alike}
 use Rattle.nfs_machine.proofs.Modes.{all-left, apart-but, but, mode-but, mode-gone, shares-left}
 use Rattle.nfs_machine.proofs.Roots.{free-no_root}
 use Rattle.nfs_machine.proofs.Texts.{texts-put}
 use Rattle.nfs_machine.proofs.Waiting.{held-still}
-use Rattle.nfs_machine.proofs.WellFormed.{replaced-alike, replaced-names, well_formed-alike}
+use Rattle.nfs_machine.proofs.WellFormed.{KeepsNames, replaced-alike, replaced-names}
 
 -- no two owners conflict, and requests that wait go on to conflict with what is held
 pub record LocksFollow (old new : State) : Type 0 where
@@ -255,10 +257,10 @@ module _ (m : State) (ctx : Ctx) where
       chained-is EndFollows wanted _ (λ what e2.
       chained-is EndFollows (changeable ctx directory.1) _ (λ x3 e3.
       chained-is EndFollows (permitted ctx directory.1 Changing) _ (λ x4 e4.
-      chained-is EndFollows (holding (is_absent entries.0 place.name) status.Exists) _ (λ x5 e5.
+      chained-is EndFollows (holding (is_none (entry_of entries.0 place.name)) status.Exists) _ (λ x5 e5.
       chained-is EndFollows (own directory.0 directory.1) _ (λ x6 e6.
       new-follows place.name what directory.0 directory.1 entries.0 entries.1 (resolved-lives m ctx place.directory directory at) (is-directory directory.1.content entries is)
-      (absent entries.0 place.name (holds (is_absent entries.0 place.name) status.Exists x5 e5)) (of-ok Plain wanted what e2 (plain directory.0 directory.1 x6 e6))))))))))
+      (absent entries.0 place.name (holds (is_none (entry_of entries.0 place.name)) status.Exists x5 e5)) (of-ok Plain wanted what e2 (plain directory.0 directory.1 x6 e6))))))))))
 
   -- CREATE of what is there
   over-alters : (how : CreateHow) (file : Living) (r : Result (List ℕ) NfsStatus) → bytes_in file.content ≡ r → IfOk (create_over ctx how file r) (λ after. IfSome after (Alters (time_of ctx.moment) file))

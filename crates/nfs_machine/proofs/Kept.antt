@@ -27,11 +27,9 @@ use Rattle.nfs_machine.specs.AttributeSteps.{setattr_end}
 use Rattle.nfs_machine.specs.Attributes.{links_of, names_of}
 use Rattle.nfs_machine.specs.Checks.{holding, link_limit, may_gain_link}
 use Rattle.nfs_machine.specs.DataSteps.{write_end}
-use Rattle.nfs_machine.specs.Grants.{AllHeldUp}
 use Rattle.nfs_machine.specs.Laws.{GivesOnce, LivesAs, NeverGivenAgain, RunsKeepForm, StepsGiveOnce, StepsKeepForm}
 use Rattle.nfs_machine.specs.LinkSteps.{link_end}
-use Rattle.nfs_machine.specs.LockLaws.{RunsKeepApart, RunsKeepWaiting, StepsKeepApart, StepsKeepWaiting}
-use Rattle.nfs_machine.specs.Locks.{NoConflict}
+use Rattle.nfs_machine.specs.LockLaws.{RunsKeepApart, RunsKeepWaiting, StepsKeepApart, StepsKeepWaiting, AllHeldUp, NoConflict}
 use Rattle.nfs_machine.specs.MakeSteps.{mkdir_end, may_make, mknod_end, symlink_end, text_checked, wanted_directory, wanted_link, wanted_special}
 use Rattle.nfs_machine.specs.Making.{End, MakeStep}
 use Rattle.nfs_machine.specs.MountSteps.{MntAnswers, MountStep, is_by, is_mounted, is_of, newest, with_mount, without_mounts}
@@ -39,7 +37,7 @@ use Rattle.nfs_machine.specs.NameSteps.{create_end}
 use Rattle.nfs_machine.specs.NfsSteps.{NfsStep}
 use Rattle.nfs_machine.specs.NlmSteps.{NlmStep}
 use Rattle.nfs_machine.specs.RemoveSteps.{remove_end, rmdir_end}
-use Rattle.nfs_machine.specs.RenameSteps.{GoesIntoItself, Move, Plan, SameObject, Moves, RenameEnds, brings_link, moved_end, rename_plan, with_moved, with_names_moved, without_replaced}
+use Rattle.nfs_machine.specs.RenameSteps.{GoesIntoItself, Move, RenameEnds, brings_link, moved_end, rename_plan, with_moved, with_names_moved, without_replaced}
 use Rattle.nfs_machine.specs.Shown.{touched, with_object}
 use Rattle.nfs_machine.specs.SideLaws.{LocksFit}
 use Rattle.nfs_machine.specs.State.{Directory, Living, Mounted, State}
@@ -56,12 +54,13 @@ use Rattle.nfs_machine.proofs.Continued.{gives-continued, touches-continued}
 use Rattle.nfs_machine.proofs.Facts.{chained-is}
 use Rattle.nfs_machine.proofs.Follows.{EndFollows, Follows, LocksFollow, Plain, bounds-losing, create-follows, ends-follow, follows-after, follows-itself, locks-losing, make-follows, mounts-losing, of-ok, write-follows}
 use Rattle.nfs_machine.proofs.Locking.{nlm-touches}
+use Rattle.nfs_machine.proofs.Loose.{well_formed-alike}
 use Rattle.nfs_machine.proofs.Planned.{IsMove, IsPlan, continues-moved, planned}
 use Rattle.nfs_machine.proofs.Renamed.{well_formed-moved}
 use Rattle.nfs_machine.proofs.Setting.{setattr-follows}
 use Rattle.nfs_machine.proofs.Taken.{link-follows, remove-follows, rmdir-follows}
 use Rattle.nfs_machine.proofs.Waiting.{nlm-waits}
-use Rattle.nfs_machine.proofs.WellFormed.{alike_itself, well_formed-alike}
+use Rattle.nfs_machine.proofs.WellFormed.{alike_itself}
 
 stays : (now : Time) (old new : State) → new ≡ old → Follows now old new
 stays now old new same = subst (Follows now old) (sym same) (follows-itself now old)
@@ -134,18 +133,18 @@ module _ (old : State) (ctx : Ctx) where
   abbrev After : Result (Unit {0} × State) NfsStatus → Type 0
   After end = Follows (time_of ctx.moment) old (state_after old end)
 
-  renamed : (plan : Result Plan NfsStatus) (end : Result (Unit {0} × State) NfsStatus) → IfOk plan (IsPlan old) → RenameEnds old ctx plan end → After end
+  renamed : (plan : Result (Option Move) NfsStatus) (end : Result (Unit {0} × State) NfsStatus) → IfOk plan (IsPlan old) → RenameEnds old ctx plan end → After end
   renamed (Err e) end is ends = subst After (sym ends) (follows-itself (time_of ctx.moment) old)
-  renamed (Ok SameObject) end is ends = subst After (sym ends) (follows-itself (time_of ctx.moment) old)
-  renamed (Ok (Moves move)) end is (inl into) = subst After (sym into.1) (follows-itself (time_of ctx.moment) old)
-  renamed (Ok (Moves move)) end is (inr out) = subst After (sym out.1) (follows-after (time_of ctx.moment) old (moved_end old ctx move) (moved-follows move is out.0))
+  renamed (Ok None) end is ends = subst After (sym ends) (follows-itself (time_of ctx.moment) old)
+  renamed (Ok (Some move)) end is (inl into) = subst After (sym into.1) (follows-itself (time_of ctx.moment) old)
+  renamed (Ok (Some move)) end is (inr out) = subst After (sym out.1) (follows-after (time_of ctx.moment) old (moved_end old ctx move) (moved-follows move is out.0))
 
 pub nfs-follows : (old : State) (ctx : Ctx) (call : NfsCall) (reply : NfsReply) (messages : List Message) (new : State) → NfsStep old ctx call reply messages new → Follows (time_of ctx.moment) old new
 unfolding NfsStep
-nfs-follows old ctx nfs.Null reply messages new step = stays (time_of ctx.moment) old new step.unchanged
-nfs-follows old ctx (nfs.Getattr object) reply messages new step = stays (time_of ctx.moment) old new step.unchanged
-nfs-follows old ctx (nfs.Lookup place) reply messages new step = stays (time_of ctx.moment) old new step.answers.unchanged
-nfs-follows old ctx (nfs.Read a) reply messages new step = stays (time_of ctx.moment) old new step.unchanged
+nfs-follows old ctx nfs.Null reply messages new step = stays (time_of ctx.moment) old new step.state_is
+nfs-follows old ctx (nfs.Getattr object) reply messages new step = stays (time_of ctx.moment) old new step.state_is
+nfs-follows old ctx (nfs.Lookup place) reply messages new step = stays (time_of ctx.moment) old new step.answers.state_is
+nfs-follows old ctx (nfs.Read a) reply messages new step = stays (time_of ctx.moment) old new step.state_is
 nfs-follows old ctx (nfs.Write a) reply messages new step = answered (time_of ctx.moment) _ old (write_end old ctx a) reply messages new step (write-follows old ctx a)
 nfs-follows old ctx (nfs.Create a) reply messages new step = made old ctx a.place (create_end old ctx a) _ reply messages new step (create-follows old ctx a)
 nfs-follows old ctx (nfs.Mkdir a) reply messages new step =
@@ -165,14 +164,14 @@ nfs-follows old ctx (nfs.Link a) reply messages new step = answered (time_of ctx
 nfs-follows old ctx (nfs.Rename a) reply messages new step =
     subst (Follows (time_of ctx.moment) old) (sym step.answers.state_is) (renamed old ctx (rename_plan old ctx a) step.end (planned old ctx a) step.ends)
 nfs-follows old ctx (nfs.Setattr a) reply messages new step = answered (time_of ctx.moment) _ old (setattr_end old ctx a) reply messages new step (setattr-follows old ctx a)
-nfs-follows old ctx (nfs.Access a) reply messages new step = stays (time_of ctx.moment) old new step.unchanged
-nfs-follows old ctx (nfs.Readlink object) reply messages new step = stays (time_of ctx.moment) old new step.unchanged
-nfs-follows old ctx (nfs.Readdir a) reply messages new step = stays (time_of ctx.moment) old new step.answers.unchanged
-nfs-follows old ctx (nfs.Readdirplus a) reply messages new step = stays (time_of ctx.moment) old new step.answers.unchanged
-nfs-follows old ctx (nfs.Fsstat object) reply messages new step = stays (time_of ctx.moment) old new step.unchanged
-nfs-follows old ctx (nfs.Fsinfo object) reply messages new step = stays (time_of ctx.moment) old new step.unchanged
-nfs-follows old ctx (nfs.Pathconf object) reply messages new step = stays (time_of ctx.moment) old new step.unchanged
-nfs-follows old ctx (nfs.Commit a) reply messages new step = stays (time_of ctx.moment) old new step.unchanged
+nfs-follows old ctx (nfs.Access a) reply messages new step = stays (time_of ctx.moment) old new step.state_is
+nfs-follows old ctx (nfs.Readlink object) reply messages new step = stays (time_of ctx.moment) old new step.state_is
+nfs-follows old ctx (nfs.Readdir a) reply messages new step = stays (time_of ctx.moment) old new step.answers.state_is
+nfs-follows old ctx (nfs.Readdirplus a) reply messages new step = stays (time_of ctx.moment) old new step.answers.state_is
+nfs-follows old ctx (nfs.Fsstat object) reply messages new step = stays (time_of ctx.moment) old new step.state_is
+nfs-follows old ctx (nfs.Fsinfo object) reply messages new step = stays (time_of ctx.moment) old new step.state_is
+nfs-follows old ctx (nfs.Pathconf object) reply messages new step = stays (time_of ctx.moment) old new step.state_is
+nfs-follows old ctx (nfs.Commit a) reply messages new step = stays (time_of ctx.moment) old new step.state_is
 
 -- what every step keeps, whatever its call names
 record Keeps (now : Time) (old new : State) : Type 0 where
@@ -212,12 +211,12 @@ mnt old ctx path (Err e) new (why, same) = unchanged (time_of ctx.moment) old ne
 
 mount-keeps : (old : State) (ctx : Ctx) (call : MountCall) (reply : MountReply) (messages : List Message) (new : State) → MountStep old ctx call reply messages new → Keeps (time_of ctx.moment) old new
 unfolding MountStep
-mount-keeps old ctx mount.Null reply messages new step = unchanged (time_of ctx.moment) old new step.unchanged
+mount-keeps old ctx mount.Null reply messages new step = unchanged (time_of ctx.moment) old new step.state_is
 mount-keeps old ctx (mount.Mnt path) reply messages new step = mnt old ctx path step.result new step.answers
-mount-keeps old ctx mount.Dump reply messages new step = unchanged (time_of ctx.moment) old new step.unchanged
+mount-keeps old ctx mount.Dump reply messages new step = unchanged (time_of ctx.moment) old new step.state_is
 mount-keeps old ctx (mount.Unmount path) reply messages new step = subst (Keeps (time_of ctx.moment) old) (sym step.state_is) (unmounted (time_of ctx.moment) old (is_of ctx.host path))
 mount-keeps old ctx mount.UnmountAll reply messages new step = subst (Keeps (time_of ctx.moment) old) (sym step.state_is) (unmounted (time_of ctx.moment) old (is_by ctx.host))
-mount-keeps old ctx mount.Export reply messages new step = unchanged (time_of ctx.moment) old new step.unchanged
+mount-keeps old ctx mount.Export reply messages new step = unchanged (time_of ctx.moment) old new step.state_is
 
 -- so does NLM
 untouched : (now : Time) (old new : State) → new.objects ≡ old.objects → new.spent ≡ old.spent → (NoConflict old → NoConflict new) → (AllHeldUp old → AllHeldUp new) → Keeps now old new

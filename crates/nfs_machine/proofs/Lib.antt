@@ -1,6 +1,7 @@
 pub mod Asked
 pub mod Changes
 mod Bounds
+pub mod Checked
 mod Chosen
 pub mod Continued
 pub mod Entered
@@ -32,7 +33,7 @@ mod Refused
 pub mod Renamed
 mod ReplySizes
 pub mod Roots
-mod Runs
+pub mod Runs
 mod RunWorked
 mod SideReplies
 pub mod Sums

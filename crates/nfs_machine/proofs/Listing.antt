@@ -1,9 +1,10 @@
 -- How many bytes pages have: what fits by its sums fits by its bytes.
-use Rattle.std.proofs.Common.{◌≡◌, ℕ, ◌+◌, ◌≤◌, Bool, true, ◌&&◌, List, [], ◌∷◌, length, length-append, map, min, Option, Some, None, Result, Ok, Err, IfOk, IfSome, nat_le, arith, ap, option_map, refl, sym, subst, false}
+use Rattle.std.proofs.Common.{◌≡◌, ℕ, ◌+◌, ◌≤◌, Bool, true, List, [], ◌∷◌, length, length-append, map, min, Option, Some, None, Result, Ok, Err, IfOk, IfSome, nat_le, arith, ap, option_map, sym, subst}
 use Rattle.std.proofs.lemmas.Bool.{leb-true}
 use Rattle.std.proofs.lemmas.List.{length-replicate}
 use Rattle.std.proofs.lemmas.List.Elements.{All-cons, All-nil}
 use Rattle.std.proofs.lemmas.List.Sums.{sum_by-cons}
+use Rattle.std.specs.Cmp.{first_so}
 use Rattle.std.specs.FinMap.{get}
 use Rattle.std.specs.List.{All, fold, sum_by}
 use Rattle.nfs_xdr.specs.Types.{Xdr, Word, Flag, Entries, Pair, Value, padding}
@@ -147,11 +148,6 @@ paged fit (Ok entries) (Ok p) is = is.1.fits
 paged fit (Err e) (Ok p) is = cc
 paged fit entries (Err e) is = tt
 
--- both tests of READDIRPLUS hold
-first : (a b : Bool) → (a && b) ≡ true → a ≡ true
-first true b h = refl
-first false b h = h
-
 pub names-within : (count : ℕ) (entries : Result (List Entry) NfsStatus) (page : Result (List Entry × Bool) NfsStatus) → PagesOf (fits count) entries page → Within entry_size count page
 names-within count entries page is = weaker page (paged (fits count) entries page is)
   where
@@ -164,7 +160,7 @@ pub full-within : (directory_count most : ℕ) (entries : Result (List Entry) Nf
 full-within directory_count most entries page is = weaker page (paged (fits_full directory_count most) entries page is)
   where
     weaker : (page : Result (List Entry × Bool) NfsStatus) → IfOk page (λ p. fits_full directory_count most p.0 ≡ true) → Within full_entry_size most page
-    weaker (Ok p) h = leb-true (104 + sum_by full_entry_size p.0) (min most 65536) (first _ (nat_le (sum_by entry_size p.0) directory_count) h)
+    weaker (Ok p) h = leb-true (104 + sum_by full_entry_size p.0) (min most 65536) (first_so _ (nat_le (sum_by entry_size p.0) directory_count) h)
     weaker (Err e) h = tt
 
 -- what a page has, read off the reply

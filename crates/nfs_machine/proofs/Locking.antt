@@ -7,16 +7,19 @@ use Rattle.side_wire.specs.declared.nlm.LockArguments.{LockArguments}
 use Rattle.side_wire.specs.declared.nlm.NlmCall.{NlmCall}
 use Rattle.side_wire.specs.declared.nlm.NlmCall.TheVariants as calls
 use Rattle.side_wire.specs.declared.nlm.NlmReply.{NlmReply}
+use Rattle.side_wire.specs.declared.nlm.NlmShare.{NlmShare}
 use Rattle.side_wire.specs.declared.nlm.NlmStatus.{NlmStatus}
 use Rattle.side_wire.specs.declared.nlm.NlmStatus.TheVariants as status
 use Rattle.side_wire.specs.declared.nlm.TestStatus.{TestStatus}
+use Rattle.nfs_machine.specs.LockLaws.{NoConflict}
 use Rattle.nfs_machine.specs.Grants.{ChangesLocks, Grants, SettleInOrder, Settles, requested, with_locks}
 use Rattle.nfs_machine.specs.Bytes.{same_bytes}
-use Rattle.nfs_machine.specs.Locks.{Conflicts, Mode, NoConflict, Range, Unlocked, mode_of, shares_conflict}
-use Rattle.nfs_machine.specs.LockSteps.{CancelOf, Fault, Frees, GrantOf, HeldUp, LockOf, ShareOf, TestOf, UnlockOf, UnshareOf, is_answered, is_own, is_request, lock_checked, range_checked, share_checked, share_left, unshare_checked, with_share, without_caller, without_grant, without_share}
+use Rattle.nfs_machine.specs.Locks.{Conflicts, Mode, Range, Unlocked, mode_of, shares_conflict}
+use Rattle.nfs_machine.specs.LockSteps.{Fault, Frees, GrantOf, HeldUp, Shares, file_checked, is_answered, is_own, is_request, lock_checked, range_checked, share_checked, share_of, with_share, without_caller, without_grant, without_share}
 use Rattle.nfs_machine.specs.NlmSteps.{NlmStep}
-use Rattle.nfs_machine.specs.State.{Request, Share, State}
+use Rattle.nfs_machine.specs.State.{Living, Request, Share, State}
 use Rattle.nfs_machine.specs.declared.context.Ctx.{Ctx}
+use Rattle.nfs_machine.proofs.Checked.{CancelOf, LockOf, ShareOf, TestOf, UnlockOf, UnshareOf}
 use Rattle.nfs_machine.proofs.Modes.{apart-with, apart-without, shares-left, shares-with, unlocking-free}
 
 pub record Untouched (old new : State) : Type 0 where
@@ -53,29 +56,29 @@ changed old r mode messages new free c =
     then old (with_locks old c.locks) new (record { objects = refl; spent = refl; mounts = refl; apart = λ h. (apart-with old.locks r mode free c.locks c.lists h.0, h.1) }) (settled (with_locks old c.locks) r.file messages new c.settles)
 
 tested : (old : State) (exclusive : Bool) (r : Result Range Fault) (s : TestStatus) (messages : List Message) (new : State) → TestOf old exclusive r s messages new → Untouched old new
-tested old exclusive (Err fault) s messages new step = same old new step.unchanged
-tested old exclusive (Ok r) s messages new step = same old new step.unchanged
+tested old exclusive (Err fault) s messages new step = same old new step.state_is
+tested old exclusive (Ok r) s messages new step = same old new step.2
 
 held-up : (old : State) (ctx : Ctx) (a : LockArguments) (by_message : Bool) (r : Range) (block waits : Bool) (s : NlmStatus) (messages : List Message) (new : State)
     → HeldUp old ctx a by_message r block waits s messages new → Untouched old new
-held-up old ctx a by_message r false waits s messages new step = same old new step.unchanged
-held-up old ctx a by_message r true true s messages new step = same old new step.unchanged
+held-up old ctx a by_message r false waits s messages new step = same old new step.state_is
+held-up old ctx a by_message r true true s messages new step = same old new step.state_is
 held-up old ctx a by_message r true false s messages new (inl waits) = from old _ new refl refl refl (λ h. h) waits.answers.state_is
-held-up old ctx a by_message r true false s messages new (inr none) = same old new none.answers.unchanged
+held-up old ctx a by_message r true false s messages new (inr none) = same old new none.answers.state_is
 
 locked : (old : State) (ctx : Ctx) (a : LockArguments) (by_message : Bool) (r : Result Range Fault) (s : NlmStatus) (messages : List Message) (new : State)
     → LockOf old ctx a by_message r s messages new → Untouched old new
-locked old ctx a by_message (Err fault) s messages new step = same old new step.unchanged
-locked old ctx a by_message (Ok r) s messages new (inl free) = changed old r (mode_of a.exclusive) messages new free.free free.changes
-locked old ctx a by_message (Ok r) s messages new (inr held) = held-up old ctx a by_message r a.block (list_any (is_request r a.exclusive a.lock) old.waiting) s messages new held.ends
+locked old ctx a by_message (Err fault) s messages new step = same old new step.state_is
+locked old ctx a by_message (Ok r) s messages new (inl free) = changed old r (mode_of a.exclusive) messages new free.0 free.2
+locked old ctx a by_message (Ok r) s messages new (inr held) = held-up old ctx a by_message r a.block (list_any (is_request r a.exclusive a.lock) old.waiting) s messages new held.1
 
 cancelled : (old : State) (a : CancelArguments) (r : Result Range Fault) (s : NlmStatus) (messages : List Message) (new : State) → CancelOf old a r s messages new → Untouched old new
-cancelled old a (Err fault) s messages new step = same old new step.unchanged
+cancelled old a (Err fault) s messages new step = same old new step.state_is
 cancelled old a (Ok r) s messages new step = from old _ new refl refl refl (λ h. h) step.state_is
 
 unlocked : (old : State) (r : Result Range Fault) (s : NlmStatus) (messages : List Message) (new : State) → UnlockOf old r s messages new → Untouched old new
-unlocked old (Err fault) s messages new step = same old new step.unchanged
-unlocked old (Ok r) s messages new step = changed old r Unlocked messages new (unlocking-free old.locks r) step.changes
+unlocked old (Err fault) s messages new step = same old new step.state_is
+unlocked old (Ok r) s messages new step = changed old r Unlocked messages new (unlocking-free old.locks r) step.1
 
 answered : (old : State) (request : Option Request) (goes : Request → Bool) (s : NlmStatus) (messages : List Message) (new : State) → GrantOf old request goes s messages new → Untouched old new
 answered old None goes s messages new step = same old new step.1
@@ -83,17 +86,17 @@ answered old (Some request) goes status.Granted messages new step = from old _ n
 answered old (Some request) goes s messages new step =
     then old (without_grant old goes) new (record { objects = refl; spent = refl; mounts = refl; apart = λ h. h }) (changed (without_grant old goes) (requested request) Unlocked messages new (unlocking-free old.locks (requested request)) step)
 
-share-untouched : (old : State) (share : Share) (conflicts : Bool) (new : State) → list_any (shares_conflict share) old.shares ≡ conflicts → new ≡ share_left old share conflicts → Untouched old new
-share-untouched old share true new is e = same old new e
-share-untouched old share false new is e = from old (with_share old share) new refl refl refl (λ h. (h.0, shares-with (λ (other : Share). not (is_own share other)) share old.shares is h.1)) e
+share-untouched : (old : State) (share : Share) (conflicts : Bool) (s : NlmStatus) (messages : List Message) (new : State) → list_any (shares_conflict share) old.shares ≡ conflicts → Shares old share conflicts s messages new → Untouched old new
+share-untouched old share true s messages new is step = same old new step.state_is
+share-untouched old share false s messages new is step = from old (with_share old share) new refl refl refl (λ h. (h.0, shares-with (λ (other : Share). not (is_own share other)) share old.shares is h.1)) step.state_is
 
 shared : (old : State) (r : Result Share Fault) (s : NlmStatus) (messages : List Message) (new : State) → ShareOf old r s messages new → Untouched old new
-shared old (Err fault) s messages new step = same old new step.unchanged
-shared old (Ok share) s messages new step = share-untouched old share (list_any (shares_conflict share) old.shares) new refl step.state_is
+shared old (Err fault) s messages new step = same old new step.state_is
+shared old (Ok share) s messages new step = share-untouched old share (list_any (shares_conflict share) old.shares) s messages new refl step
 
-unshared : (old : State) (r : Result Share Fault) (s : NlmStatus) (messages : List Message) (new : State) → UnshareOf old r s messages new → Untouched old new
-unshared old (Err fault) s messages new step = same old new step.unchanged
-unshared old (Ok share) s messages new step = from old (without_share old share) new refl refl refl (λ h. (h.0, shares-left (λ (other : Share). not (is_own share other)) old.shares h.1)) step.state_is
+unshared : (old : State) (asked : NlmShare) (r : Result (ℕ × Living) Fault) (s : NlmStatus) (messages : List Message) (new : State) → UnshareOf old asked r s messages new → Untouched old new
+unshared old asked (Err fault) s messages new step = same old new step.state_is
+unshared old asked (Ok file) s messages new step = from old (without_share old (share_of file.0 asked)) new refl refl refl (λ h. (h.0, shares-left (λ (other : Share). not (is_own (share_of file.0 asked) other)) old.shares h.1)) step.state_is
 
 freed : (old : State) (name : List ℕ) (messages : List Message) (new : State) → Frees old name messages new → Untouched old new
 freed old name messages new f =
@@ -103,23 +106,23 @@ freed old name messages new f =
 
 pub nlm-touches : (old : State) (ctx : Ctx) (call : NlmCall) (reply : NlmReply) (messages : List Message) (new : State) → NlmStep old ctx call reply messages new → Untouched old new
 unfolding NlmStep
-nlm-touches old ctx calls.Null reply messages new step = same old new step.unchanged
+nlm-touches old ctx calls.Null reply messages new step = same old new step.state_is
 nlm-touches old ctx (calls.Test a) reply messages new step = tested old a.exclusive (range_checked old ctx a.lock) step.status messages new step.ends
 nlm-touches old ctx (calls.Lock a) reply messages new step = locked old ctx a false (lock_checked old ctx a) step.status messages new step.ends
 nlm-touches old ctx (calls.Cancel a) reply messages new step = cancelled old a (range_checked old ctx a.lock) step.status messages new step.ends
 nlm-touches old ctx (calls.Unlock a) reply messages new step = unlocked old (range_checked old ctx a.lock) step.status messages new step.ends
-nlm-touches old ctx (calls.Granted a) reply messages new step = same old new step.ends.unchanged
+nlm-touches old ctx (calls.Granted a) reply messages new step = same old new step.ends.state_is
 nlm-touches old ctx (calls.TestMsg a) reply messages new step = tested old a.exclusive (range_checked old ctx a.lock) step.status step.granted new step.ends
 nlm-touches old ctx (calls.LockMsg a) reply messages new step = locked old ctx a true (lock_checked old ctx a) step.status step.granted new step.ends
 nlm-touches old ctx (calls.CancelMsg a) reply messages new step = cancelled old a (range_checked old ctx a.lock) step.status step.granted new step.ends
 nlm-touches old ctx (calls.UnlockMsg a) reply messages new step = unlocked old (range_checked old ctx a.lock) step.status step.granted new step.ends
-nlm-touches old ctx (calls.GrantedMsg a) reply messages new step = same old new step.ends.unchanged
-nlm-touches old ctx (calls.TestRes r) reply messages new step = same old new step.unchanged
-nlm-touches old ctx (calls.LockRes r) reply messages new step = same old new step.unchanged
-nlm-touches old ctx (calls.CancelRes r) reply messages new step = same old new step.unchanged
-nlm-touches old ctx (calls.UnlockRes r) reply messages new step = same old new step.unchanged
-nlm-touches old ctx (calls.GrantedRes r) reply messages new step = answered old (find (is_answered ctx.host r.cookie) old.granted) (is_answered ctx.host r.cookie) r.status messages new step.ends
+nlm-touches old ctx (calls.GrantedMsg a) reply messages new step = same old new step.ends.state_is
+nlm-touches old ctx (calls.TestRes r) reply messages new step = same old new step.state_is
+nlm-touches old ctx (calls.LockRes r) reply messages new step = same old new step.state_is
+nlm-touches old ctx (calls.CancelRes r) reply messages new step = same old new step.state_is
+nlm-touches old ctx (calls.UnlockRes r) reply messages new step = same old new step.state_is
+nlm-touches old ctx (calls.GrantedRes r) reply messages new step = answered old (find (is_answered ctx.host r.cookie) old.granted) (is_answered ctx.host r.cookie) r.status messages new step.1
 nlm-touches old ctx (calls.Share a) reply messages new step = shared old (share_checked old ctx a.share) step.status messages new step.ends
-nlm-touches old ctx (calls.Unshare a) reply messages new step = unshared old (unshare_checked old ctx a.share) step.status messages new step.ends
+nlm-touches old ctx (calls.Unshare a) reply messages new step = unshared old a.share (file_checked old ctx a.share.file) step.status messages new step.ends
 nlm-touches old ctx (calls.NmLock a) reply messages new step = locked old ctx a false (lock_checked old ctx a) step.status messages new step.ends
-nlm-touches old ctx (calls.FreeAll a) reply messages new step = freed old a.name messages new step.ends
+nlm-touches old ctx (calls.FreeAll a) reply messages new step = freed old a.name messages new step.1

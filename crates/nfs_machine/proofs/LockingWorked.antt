@@ -1,15 +1,16 @@
 -- The steps of MOUNT and NLM that are worked through: the lists of locks at every offset, and what the handle names.
 use Rattle.std.proofs.Common.{◌≡◌, ◌==◌, ℕ, ◌+◌, ◌<◌, ◌≤◌, Bool, true, false, not, ◌&&◌, ◌||◌, cond, [], ◌∷◌, Option, Some, None, Result, Ok, Err, nat_le, inl, inr, refl, sym, ◌∙◌, ap, subst, arith}
-use Rattle.std.proofs.lemmas.Bool.{le-leb, leb-true}
-use Rattle.std.proofs.lemmas.Bool.Decides.{leb_tells}
+use Rattle.std.proofs.Math.Bool.{and-false}
+use Rattle.std.proofs.lemmas.Bool.{and_parts, le-leb, leb-true, lt-leb}
 use Rattle.std.proofs.lemmas.List.Sums.{sum_by-cons}
 use Rattle.std.specs.List.{count_by, sum_by}
 use Rattle.side_wire.specs.declared.nlm.LockArguments.{LockArguments}
 use Rattle.side_wire.specs.declared.nlm.NlmStatus.TheVariants as status
+use Rattle.side_wire.specs.declared.nlm.TestStatus.TheVariants as tested
 use Rattle.side_wire.specs.declared.message.NlmLock.{NlmLock}
-use Rattle.nfs_machine.specs.Checks.{is_writable}
+use Rattle.nfs_machine.specs.Checks.{◌>>=◌, holding, is_writable}
 use Rattle.nfs_machine.specs.Locks.{Conflicts, Exclusive, Lists, Range, Unlocked, fits_offsets, holds, is_within, mode_at, mode_by, modes_with, range_of, same_owner}
-use Rattle.nfs_machine.specs.LockSteps.{◌>>=◌, Fault, LockOf, ReadOnly, TooBig, UnlockOf, holding, named_object, regular}
+use Rattle.nfs_machine.specs.LockSteps.{Fault, named_object, regular}
 use Rattle.side_wire.specs.declared.mount.MountStatus.{MountStatus}
 use Rattle.side_wire.specs.declared.mount.MountStatus.TheVariants as mount_status
 use Rattle.nfs_machine.specs.MountSteps.{MountStep, entries_at, walk}
@@ -21,28 +22,22 @@ use Rattle.nfs_machine.specs.WorkedLocks.{a, b, lock, on_file, split, whole}
 use Rattle.nfs_machine.specs.WorkedLocking.{WorkedLocking, giving_back, locking, with_split, with_waiting, with_whole}
 use Rattle.nfs_machine.specs.WorkedRun.{nobody, root_with_x, written, x_bytes, x_written}
 use Rattle.nfs_machine.specs.NlmSteps.{NlmStep}
-use Rattle.nfs_machine.proofs.Modes.{both, listed_locks_tell}
+use Rattle.nfs_machine.proofs.Checked.{LockOf, UnlockOf}
+use Rattle.nfs_machine.proofs.Modes.{listed_locks_tell}
 use Rattle.nfs_machine.proofs.Opened.{le_or}
 use Rattle.nfs_machine.proofs.Ranges.{locked}
 use Rattle.nfs_machine.proofs.RunWorked.{root-written, x-lives, x-named}
 
 -- ---- 0 to 99 without 40 to 59
-no : (m n : ℕ) → n < m → nat_le m n ≡ false
-no m n less = elim (leb_tells m n) [ inl x ↦ absurd (let most = x.1 in omega (arith, most, less)) | inr x ↦ x.0 ]
-
-and-false : (t : Bool) → (t && false) ≡ false
-and-false true = refl
-and-false false = refl
-
 module _ (offset : ℕ) where
   among : (low high : ℕ) → low ≤ offset → offset ≤ high → is_within low high offset ≡ true
   among low high h k = ap (λ t. t && nat_le offset high) (le-leb low offset h) ∙ le-leb offset high k
 
   under : (low high : ℕ) → offset < low → is_within low high offset ≡ false
-  under low high h = ap (λ t. t && nat_le offset high) (no low offset h)
+  under low high h = ap (λ t. t && nat_le offset high) (lt-leb low offset h)
 
   over : (low high : ℕ) → high < offset → is_within low high offset ≡ false
-  over low high h = ap (λ t. nat_le low offset && t) (no offset high h) ∙ and-false (nat_le low offset)
+  over low high h = ap (λ t. nat_le low offset && t) (lt-leb offset high h) ∙ and-false (nat_le low offset)
 
   abbrev Agree : Bool → Bool → Bool → Bool → Type 0
   Agree low high out all = mode_by (cond low (Some (lock a 0 39 true)) (cond high (Some (lock a 60 99 true)) None)) ≡ cond out Unlocked (mode_by (cond all (Some (lock a 0 99 true)) None))
@@ -70,8 +65,8 @@ module _ (offset : ℕ) where
 
   apart : is_within 0 39 offset ≡ true → is_within 60 99 offset ≡ true → ⊥
   apart e f =
-      let x = both (nat_le 0 offset) (nat_le offset 39) e in
-      let y = both (nat_le 60 offset) (nat_le offset 99) f in
+      let x = and_parts (nat_le 0 offset) (nat_le offset 39) e in
+      let y = and_parts (nat_le 60 offset) (nat_le offset 99) f in
       let below : offset ≤ 39 = leb-true offset 39 x.1 in
       let above : 60 ≤ offset = leb-true 60 offset y.0 in
       omega (arith, below, above)
@@ -109,11 +104,11 @@ abbrev file_by : Resolved → Result (ℕ × Living) Fault
 file_by r = named_object r >>= λ o. regular o.1.content >>= λ _. Ok o
 
 abbrev range_by : NlmLock → Resolved → Result Range Fault
-range_by l r = file_by r >>= λ file. holding (fits_offsets l) TooBig >>= λ _. Ok (range_of file.0 l)
+range_by l r = file_by r >>= λ file. holding (fits_offsets l) (status.FileTooBig, tested.FileTooBig) >>= λ _. Ok (range_of file.0 l)
 
 abbrev lock_by : LockArguments → Resolved → Result Range Fault
 lock_by l r =
-    file_by r >>= λ file. holding (fits_offsets l.lock) TooBig >>= λ _. holding (not l.exclusive || is_writable nobody file.1) ReadOnly >>= λ _. Ok (range_of file.0 l.lock)
+    file_by r >>= λ file. holding (fits_offsets l.lock) (status.FileTooBig, tested.FileTooBig) >>= λ _. holding (not l.exclusive || is_writable nobody file.1) (status.ReadOnly, tested.ReadOnly) >>= λ _. Ok (range_of file.0 l.lock)
 
 -- where a path without parts leads
 abbrev found_by : Option Living → Result (ℕ × Living) MountStatus
@@ -131,25 +126,25 @@ worked-locking = record {
   locks = record {
     status = status.Granted;
     ends = subst (λ r. LockOf written nobody (locking a 0 100 true) false (lock_by (locking a 0 100 true) r) status.Granted [] with_whole) (sym is-x)
-        (inl (record { free = listed_locks_tell [] (on_file a 0 100) Exclusive refl; status_is = refl; changes = record { locks = whole; lists = locked; settles = (tt, refl) } }));
+        (inl (listed_locks_tell [] (on_file a 0 100) Exclusive refl, refl, record { locks = whole; lists = locked; settles = (tt, refl) }));
     reply_is = refl;
   };
   unlocks = record {
     status = status.Granted;
     ends = subst (λ r. UnlockOf with_whole (range_by giving_back.lock r) status.Granted [] with_split) (sym is-x)
-        (record { status_is = refl; changes = record { locks = split; lists = given-back; settles = (tt, refl) } });
+        (refl, record { locks = split; lists = given-back; settles = (tt, refl) });
     reply_is = refl;
   };
   waits = record {
     status = status.Blocked;
     ends = subst (λ r. LockOf with_split nobody (locking b 30 1 true) false (lock_by (locking b 30 1 true) r) status.Blocked [] with_waiting) (sym is-x)
-        (inr (record { conflicts = held; ends = inl (record { number = 5; is_number = refl; never_given = refl; answers = record { reply_is = refl; no_message = refl; state_is = refl } }) }));
+        (inr (held, inl (record { number = 5; is_number = refl; never_given = refl; answers = record { reply_is = refl; no_message = refl; state_is = refl } })));
     reply_is = refl;
   };
   denied = record {
     status = status.Denied;
     ends = subst (λ r. LockOf with_split nobody (locking b 30 1 false) false (lock_by (locking b 30 1 false) r) status.Denied [] with_split) (sym is-x)
-        (inr (record { conflicts = held; ends = record { reply_is = refl; no_message = refl; unchanged = refl } }));
+        (inr (held, record { reply_is = refl; no_message = refl; state_is = refl }));
     reply_is = refl;
   };
   mounts = record {

@@ -1,20 +1,19 @@
--- What is true of every state while some objects may have no name: a name is taken away, its object goes or gets another name, and all is as it was.
-use Rattle.std.proofs.Common.{◌≡◌, ◌==◌, ℕ, ◌+◌, ◌<◌, ◌≤◌, Bool, true, false, ◌||◌, cond, List, [], ◌∷◌, ◌++◌, Some, None, find, ◌⊎◌, inl, inr, refl, sym, ◌∙◌, ap, subst, arith}
+-- What is true of every state while some objects may have no name: a name is taken away and its object goes or gets another name, or an object comes and gets its name.
+use Rattle.std.proofs.Common.{◌≡◌, ◌==◌, ℕ, ◌+◌, ◌<◌, ◌≤◌, Bool, true, false, ◌||◌, cond, List, [], ◌∷◌, ◌++◌, Option, Some, None, find, ◌⊎◌, inl, inr, IfSome, refl, sym, ◌∙◌, ap, subst, arith}
 use Rattle.std.proofs.lemmas.List.Sums.{sum_by-append}
 use Rattle.std.specs.Cmp.{unsigned_Decides}
 use Rattle.std.specs.FinMap.{get}
 use Rattle.std.specs.List.{AllByRecursion, count_by, sum_by}
+use Rattle.nfs_wire.specs.declared.attributes.Time.{Time}
 use Rattle.nfs_machine.specs.Attributes.{entries_of, is_directory, is_living_directory, names_in, names_of}
 use Rattle.nfs_machine.specs.Bytes.{same_bytes}
 use Rattle.nfs_machine.specs.RemoveSteps.{without}
+use Rattle.nfs_machine.specs.Shown.{touched, with_object}
 use Rattle.nfs_machine.specs.State.{Directory, Entry, Living, State}
 use Rattle.nfs_machine.specs.WellFormed.{CookiesRise, IsDirectoryOf, Leads, NamesOnce, TextsFit, WellFormed}
-use Rattle.nfs_machine.proofs.Changes.{Differs, all-filter, cookies-filter, count-without, differs-other, differs-there, flipped, itself, none-passes, once-filter, part-of_sum, sum-differs, weight}
-use Rattle.nfs_machine.proofs.Entered.{cookies-last, once-last}
-use Rattle.nfs_machine.proofs.WellFormed.{all_both, all_last, all_map}
-
-abbrev pub Deep : State → (ℕ → ℕ) → ℕ → Entry → Type 0
-Deep m depth n e = is_living_directory (get m.objects e.number) ≡ true → depth n < depth e.number
+use Rattle.nfs_machine.proofs.Changes.{Differs, all-filter, apart, cookies-filter, count-without, differs-other, differs-there, flipped, itself, once-filter, sum-differs, weight}
+use Rattle.nfs_machine.proofs.Modes.{apart-or}
+use Rattle.nfs_machine.proofs.WellFormed.{Alike, Deep, KeepsNames, LivesOn, all_last, before, deep-on, keeps_entries, leads-on, lives-alike, names-on, replaced-alike, replaced-names}
 
 -- a well-formed state, but that the objects of these numbers may have no name; texts of links are no part of it
 pub record Loose (loose : ℕ → Bool) (m : State) : Type 0 where
@@ -40,13 +39,13 @@ pub tightened : (m : State) → TextsFit m → Loose none_loose m → WellFormed
 tightened m texts l =
     record { names = l.names; cookies = l.cookies; named = λ n o at other. l.named n o at other refl; one_name = l.one_name; depth = l.depth; deeper = l.deeper; given = l.given; texts = texts }
 
--- an object that has a name is not loose
-pub fastened : (number : ℕ) (loose : ℕ → Bool) (m : State) → Loose (also number loose) m → 1 ≤ names_of m number → Loose loose m
+-- a number where what lives has a name is not loose
+pub fastened : (number : ℕ) (loose : ℕ → Bool) (m : State) → Loose (also number loose) m → ((o : Living) → get m.objects number ≡ Some o → 1 ≤ names_of m number) → Loose loose m
 fastened number loose m l has = record {
   names = l.names;
   cookies = l.cookies;
   named = λ n o at other firm. elim (n == number) as (λ b. (n == number) ≡ b → 1 ≤ names_of m n) [
-    | true ↦ λ e. subst (λ k. 1 ≤ names_of m k) (sym ((unsigned_Decides n number).0 e)) has
+    | true ↦ λ e. (let same : n ≡ number = (unsigned_Decides n number).0 e in subst (λ k. 1 ≤ names_of m k) (sym same) (has o (sym (ap (get m.objects) same) ∙ at)))
     | false ↦ λ e. l.named n o at other (ap (λ b. b || loose n) e ∙ firm)
   ] refl;
   one_name = l.one_name;
@@ -55,9 +54,46 @@ fastened number loose m l has = record {
   given = l.given;
 }
 
-either : (a b : Bool) → (a || b) ≡ false → (a ≡ false) × (b ≡ false)
-either true b e = cc
-either false b e = (refl, e)
+-- ---- objects that keep their names
+module _ (old new : State) (alike : (n : ℕ) → Alike (get old.objects n) (get new.objects n)) (names : (n : ℕ) → names_of new n ≡ names_of old n) (spent : (n g : ℕ) → old.spent n g ≡ true → new.spent n g ≡ true) where
+  on-alike : (n : ℕ) (o : Living) → get old.objects n ≡ Some o → 1 ≤ names_of old n → LivesOn new n o
+  on-alike n o at some = lives-alike old new alike n o at
+
+  pub loose-alike : (loose : ℕ → Bool) → Loose loose old → Loose loose new
+  loose-alike loose l = record {
+    names = λ n o at.
+        let b = before old new alike n o at in
+        let d = l.names n b.0 b.1 in
+        let same = keeps_entries b.0 o b.2 in
+        record { once = subst NamesOnce (sym same) d.once; leads = subst (AllByRecursion (Leads new o)) (sym same) (leads-on old new on-alike n b.0 b.1 o b.2.export d.leads) };
+    cookies = λ n o entries last at is.
+        let b = before old new alike n o at in
+        let kind : is_directory b.0.content ≡ true = sym b.2.kind ∙ ap is_directory is in
+        l.cookies n b.0 entries last b.1 (sym (b.2.content kind) ∙ is);
+    named = λ n o at other firm.
+        let b = before old new alike n o at in
+        subst (λ k. 1 ≤ k) (sym (names n)) (l.named n b.0 b.1 (subst (λ x. (n == x) ≡ false) b.2.export other) firm);
+    one_name = λ n o at kind.
+        let b = before old new alike n o at in
+        subst (λ k. k ≤ 1) (sym (names n)) (l.one_name n b.0 b.1 (sym b.2.kind ∙ kind));
+    depth = l.depth;
+    deeper = λ n o at.
+        let b = before old new alike n o at in
+        subst (AllByRecursion (Deep new l.depth n)) (sym (keeps_entries b.0 o b.2)) (deep-on old new on-alike n b.0 b.1 l.depth (l.names n b.0 b.1).leads (l.deeper n b.0 b.1));
+    given = λ n o at.
+        let b = before old new alike n o at in
+        spent n o.generation (subst (λ g. old.spent n g ≡ true) (sym b.2.generation) (l.given n b.0 b.1));
+  }
+
+  pub well_formed-alike : TextsFit new → WellFormed old → WellFormed new
+  well_formed-alike texts w = tightened new texts (loose-alike none_loose (loosened none_loose old w))
+
+module _ (m : State) (number : ℕ) (was : Living) (at : get m.objects number ≡ Some was) (loose : ℕ → Bool) (l : Loose loose m) where
+  pub loose-replaced : (is : Living) → KeepsNames was is → Loose loose (with_object m number is)
+  loose-replaced is keeps = loose-alike m (with_object m number is) (replaced-alike m number was is at keeps) (replaced-names m number was is at keeps) (λ n g e. e) loose l
+
+  pub loose-touched : (now : Time) → Loose loose (with_object m number (touched was now))
+  loose-touched now = loose-replaced (touched was now) (record { export = refl; generation = refl; kind = refl; content = λ e. refl })
 
 -- ---- one object in the place of another, of the same export and generation, and a directory where it was one
 pub record Swaps (old new : State) (place : ℕ) (was is : Living) : Type 0 where
@@ -69,29 +105,32 @@ pub record Swaps (old new : State) (place : ℕ) (was is : Living) : Type 0 wher
   pub spent : (n g : ℕ) → old.spent n g ≡ true → new.spent n g ≡ true
 
 module _ (old new : State) (place : ℕ) (was is : Living) (s : Swaps old new place was is) where
-  -- what lived before lives on
-  pub record LivesOn (n : ℕ) (o : Living) : Type 0 where
-    pub object : Living
-    pub lives : get new.objects n ≡ Some object
-    pub export : object.export ≡ o.export
-    pub kind : is_directory object.content ≡ is_directory o.content
-
-  pub is-lives : get new.objects place ≡ Some is
+  is-lives : get new.objects place ≡ Some is
   is-lives = differs-there old.objects new.objects place (Some is) s.objects
 
-  pub lives-on : (n : ℕ) (o : Living) → get old.objects n ≡ Some o → LivesOn n o
-  lives-on n o at =
-      elim (n == place) as (λ b. (n == place) ≡ b → LivesOn n o) [
+  -- where it is like the one before, what lives now is like what lived
+  pub swapped : (R : Living → Living → Type 0) → ((o : Living) → R o o) → R was is → (n : ℕ) (o : Living) → get old.objects n ≡ Some o → (p : Living) × (get new.objects n ≡ Some p) × R o p
+  swapped R same like n o at =
+      elim (n == place) as (λ b. (n == place) ≡ b → (p : Living) × (get new.objects n ≡ Some p) × R o p) [
         | true ↦ λ e.
-            let same-place : n ≡ place = (unsigned_Decides n place).0 e in
-            let same : was ≡ o = (let both : Some was ≡ Some o = sym (ap (get old.objects) same-place ∙ s.lives) ∙ at in cc) in
-            record { object = is; lives = ap (get new.objects) same-place ∙ is-lives; export = s.export ∙ ap (λ (x : Living). x.export) same; kind = s.kind ∙ ap (λ (x : Living). is_directory x.content) same }
-        | false ↦ λ e. record { object = o; lives = differs-other old.objects new.objects place (Some is) s.objects n e ∙ at; export = refl; kind = refl }
+            let here : n ≡ place = (unsigned_Decides n place).0 e in
+            let own : was ≡ o = (let both : Some was ≡ Some o = sym (ap (get old.objects) here ∙ s.lives) ∙ at in cc) in
+            (is, ap (get new.objects) here ∙ is-lives, subst (λ (x : Living). R x is) own like)
+        | false ↦ λ e. (o, differs-other old.objects new.objects place (Some is) s.objects n e ∙ at, same o)
       ] refl
 
+  -- what lived before lives on
+  pub lives-on : (n : ℕ) (o : Living) → get old.objects n ≡ Some o → LivesOn new n o
+  lives-on n o at =
+      let p = swapped (λ (x y : Living). (y.export ≡ x.export) × (is_directory y.content ≡ is_directory x.content)) (λ x. (refl, refl)) (s.export, s.kind) n o at in
+      record { object = p.0; lives = p.1; export = p.2.0; kind = p.2.1 }
+
+  on : (n : ℕ) (o : Living) → get old.objects n ≡ Some o → 1 ≤ names_of old n → LivesOn new n o
+  on n o at some = lives-on n o at
+
   -- what lives now is the new one, or lived before
-  pub before : (n : ℕ) (o : Living) → get new.objects n ≡ Some o → ((n ≡ place) × (is ≡ o)) ⊎ (get old.objects n ≡ Some o)
-  before n o at =
+  now-lives : (n : ℕ) (o : Living) → get new.objects n ≡ Some o → ((n ≡ place) × (is ≡ o)) ⊎ (get old.objects n ≡ Some o)
+  now-lives n o at =
       elim (n == place) as (λ b. (n == place) ≡ b → ((n ≡ place) × (is ≡ o)) ⊎ (get old.objects n ≡ Some o)) [
         | true ↦ λ e.
             let same-place : n ≡ place = (unsigned_Decides n place).0 e in
@@ -99,79 +138,77 @@ module _ (old new : State) (place : ℕ) (was is : Living) (s : Swaps old new pl
         | false ↦ λ e. inr (sym (differs-other old.objects new.objects place (Some is) s.objects n e) ∙ at)
       ] refl
 
-  pub directories-on : (n : ℕ) (o : Living) → get old.objects n ≡ Some o → is_living_directory (get new.objects n) ≡ is_living_directory (get old.objects n)
-  directories-on n o at = let l = lives-on n o at in ap is_living_directory l.lives ∙ l.kind ∙ sym (ap is_living_directory at)
-
-  pub leads-on : (d e : Living) (x : Entry) → e.export ≡ d.export → Leads old d x → Leads new e x
-  leads-on d e x same l =
-      let o = lives-on x.number l.object l.lives in
-      record { object = o.object; lives = o.lives; export = o.export ∙ l.export ∙ sym same; no_root = subst (λ k. (x.number == k) ≡ false) (sym same) l.no_root }
-
-  pub deep-on : (depth : ℕ → ℕ) (n : ℕ) (d : Living) (es : List Entry) → AllByRecursion (Leads old d) es → AllByRecursion (Deep old depth n) es → AllByRecursion (Deep new depth n) es
-  deep-on depth n d es leads deep =
-      all_map (λ e. Leads old d e × Deep old depth n e) (Deep new depth n)
-      (λ e both living. both.1 (sym (directories-on e.number (both.0).object (both.0).lives) ∙ living))
-      es (all_both (Leads old d) (Deep old depth n) es leads deep)
-
-  pub names-kept : (n : ℕ) (o : Living) → IsDirectoryOf old o → IsDirectoryOf new o
-  names-kept n o d = record { once = d.once; leads = all_map (Leads old o) (Leads new o) (λ x l. leads-on o o x refl l) (entries_of o.content) d.leads }
-
   pub names_of-swapped : (n : ℕ) → names_of new n + names_in n was ≡ names_of old n + names_in n is
   names_of-swapped n =
       let sums = sum-differs (names_in n) old.objects new.objects place (Some is) s.objects in
       let here : weight (names_in n) (get old.objects place) ≡ names_in n was = ap (weight (names_in n)) s.lives in
       omega (arith, sums, here)
 
-  pub given-on : (loose : ℕ → Bool) → Loose loose old → (n : ℕ) (o : Living) → get new.objects n ≡ Some o → new.spent n o.generation ≡ true
-  given-on loose l n o at = elim (before n o at) [
-    | inl here ↦
-        subst (λ (x : Living). new.spent n x.generation ≡ true) here.1
-        (subst (λ k. new.spent k is.generation ≡ true) (sym here.0)
-        (s.spent place is.generation (subst (λ g. old.spent place g ≡ true) (sym s.generation) (l.given place was s.lives))))
-    | inr there ↦ s.spent n o.generation (l.given n o there)
-  ]
+  module _ (loose : ℕ → Bool) (l : Loose loose old) (entries : List Entry) (last : ℕ) (content : was.content ≡ Directory entries last) where
+    once-was : NamesOnce entries
+    once-was = subst NamesOnce (ap entries_of content) (l.names place was s.lives).once
 
-  -- where it names the same, all stays
-  module _ (same : is.content ≡ was.content) where
-    pub names_of-same : (n : ℕ) → names_of new n ≡ names_of old n
-    names_of-same n = (let both : names_in n is ≡ names_in n was = ap (λ c. count_by (λ (e : Entry). e.number == n) (entries_of c)) same in omega (arith, both, names_of-swapped n))
+    leads-was : AllByRecursion (Leads new is) entries
+    leads-was = subst (AllByRecursion (Leads new is)) (ap entries_of content) (leads-on old new on place was s.lives is s.export (l.names place was s.lives).leads)
 
-    pub loose-same : (loose : ℕ → Bool) → Loose loose old → Loose loose new
-    loose-same loose l = record {
-      names = λ n o at. elim (before n o at) [
-        | inl here ↦
-            let d = l.names place was s.lives in
-            subst (IsDirectoryOf new) here.1 (record {
-              once = subst (λ c. NamesOnce (entries_of c)) (sym same) d.once;
-              leads = subst (λ c. AllByRecursion (Leads new is) (entries_of c)) (sym same) (all_map (Leads old was) (Leads new is) (λ x. leads-on was is x s.export) (entries_of was.content) d.leads);
-            })
-        | inr there ↦ names-kept n o (l.names n o there)
-      ];
-      cookies = λ n o entries last at c. elim (before n o at) [
-        | inl here ↦ l.cookies place was entries last s.lives (sym same ∙ ap (λ (x : Living). x.content) here.1 ∙ c)
-        | inr there ↦ l.cookies n o entries last there c
-      ];
-      named = λ n o at other firm. elim (before n o at) [
-        | inl here ↦
-            let own : (n == is.export) ≡ false = subst (λ (x : Living). (n == x.export) ≡ false) (sym here.1) other in
-            let root : (n == was.export) ≡ false = subst (λ k. (n == k) ≡ false) s.export own in
-            omega (arith, names_of-same n, l.named n was (ap (get old.objects) here.0 ∙ s.lives) root firm)
-        | inr there ↦ omega (arith, names_of-same n, l.named n o there other firm)
-      ];
-      one_name = λ n o at kind. elim (before n o at) [
-        | inl here ↦ omega (arith, names_of-same n, l.one_name n was (ap (get old.objects) here.0 ∙ s.lives) (sym s.kind ∙ ap (λ (x : Living). is_directory x.content) here.1 ∙ kind))
-        | inr there ↦ omega (arith, names_of-same n, l.one_name n o there kind)
-      ];
-      depth = l.depth;
-      deeper = λ n o at. elim (before n o at) [
-        | inl here ↦
-            let there : get old.objects n ≡ Some was = ap (get old.objects) here.0 ∙ s.lives in
-            subst (λ (x : Living). AllByRecursion (Deep new l.depth n) (entries_of x.content)) here.1
-            (subst (λ c. AllByRecursion (Deep new l.depth n) (entries_of c)) (sym same) (deep-on l.depth n was (entries_of was.content) (l.names n was there).leads (l.deeper n was there)))
-        | inr there ↦ deep-on l.depth n o (entries_of o.content) (l.names n o there).leads (l.deeper n o there)
-      ];
-      given = given-on loose l;
-    }
+    deep-was : (depth : ℕ → ℕ) → ((n : ℕ) (o : Living) → get old.objects n ≡ Some o → AllByRecursion (Deep old depth n) (entries_of o.content)) → AllByRecursion (Deep new depth place) entries
+    deep-was depth deeper =
+        subst (AllByRecursion (Deep new depth place)) (ap entries_of content) (deep-on old new on place was s.lives depth (l.names place was s.lives).leads (deeper place was s.lives))
+
+  -- what to show of its entries, and of how many names lead to each object
+  record Fits (loose : ℕ → Bool) : Type 0 where
+    pub entries : List Entry
+    pub last : ℕ
+    pub content : is.content ≡ Directory entries last
+    pub once : NamesOnce entries
+    pub leads : AllByRecursion (Leads new is) entries
+    pub cookies : CookiesRise 2 entries last
+    pub named : (n : ℕ) (o : Living) → get old.objects n ≡ Some o → (n == o.export) ≡ false → loose n ≡ false → 1 ≤ names_of new n
+    pub one_name : (n : ℕ) (o : Living) → get old.objects n ≡ Some o → is_directory o.content ≡ true → names_of new n ≤ 1
+    pub depth : ℕ → ℕ
+    pub deeper : (n : ℕ) (o : Living) → get old.objects n ≡ Some o → AllByRecursion (Deep old depth n) (entries_of o.content)
+    pub own_deeper : AllByRecursion (Deep new depth place) entries
+
+  loose-swapped : (loose more : ℕ → Bool) → Loose loose old → Fits more → Loose more new
+  loose-swapped loose more l f = record {
+    names = λ n o at. elim (now-lives n o at) [
+      | inl here ↦
+          subst (IsDirectoryOf new) here.1
+          (record { once = subst NamesOnce (sym (ap entries_of f.content)) f.once; leads = subst (AllByRecursion (Leads new is)) (sym (ap entries_of f.content)) f.leads })
+      | inr there ↦ names-on old new on n o there (l.names n o there)
+    ];
+    cookies = λ n o entries last at c. elim (now-lives n o at) [
+      | inl here ↦
+          let both : Directory f.entries f.last ≡ Directory entries last = sym f.content ∙ ap (λ (x : Living). x.content) here.1 ∙ c in
+          let k : f.last ≡ last = cc in
+          subst (λ es. CookiesRise 2 es last) (ap entries_of both) (subst (λ k. CookiesRise 2 f.entries k) k f.cookies)
+      | inr there ↦ l.cookies n o entries last there c
+    ];
+    named = λ n o at other firm. elim (now-lives n o at) [
+      | inl here ↦
+          let own : (n == is.export) ≡ false = subst (λ (x : Living). (n == x.export) ≡ false) (sym here.1) other in
+          f.named n was (ap (get old.objects) here.0 ∙ s.lives) (subst (λ k. (n == k) ≡ false) s.export own) firm
+      | inr there ↦ f.named n o there other firm
+    ];
+    one_name = λ n o at kind. elim (now-lives n o at) [
+      | inl here ↦ f.one_name n was (ap (get old.objects) here.0 ∙ s.lives) (sym s.kind ∙ ap (λ (x : Living). is_directory x.content) here.1 ∙ kind)
+      | inr there ↦ f.one_name n o there kind
+    ];
+    depth = f.depth;
+    deeper = λ n o at. elim (now-lives n o at) [
+      | inl here ↦
+          subst (λ (x : Living). AllByRecursion (Deep new f.depth n) (entries_of x.content)) here.1
+          (subst (AllByRecursion (Deep new f.depth n)) (sym (ap entries_of f.content)) (subst (λ k. AllByRecursion (Deep new f.depth k) f.entries) (sym here.0) f.own_deeper))
+      | inr there ↦ deep-on old new on n o there f.depth (l.names n o there).leads (f.deeper n o there)
+    ];
+    given = λ n o at. elim (now-lives n o at) [
+      | inl here ↦
+          subst (λ (x : Living). new.spent n x.generation ≡ true) here.1
+          (subst (λ k. new.spent k is.generation ≡ true) (sym here.0)
+          (s.spent place is.generation (subst (λ g. old.spent place g ≡ true) (sym s.generation) (l.given place was s.lives))))
+      | inr there ↦ s.spent n o.generation (l.given n o there)
+    ];
+  }
 
 -- ---- a name is taken away
 pub record TakesName (old new : State) (place : ℕ) (directory narrower : Living) (name : List ℕ) (e : Entry) : Type 0 where
@@ -186,148 +223,129 @@ module _ (old new : State) (place : ℕ) (directory narrower : Living) (name : L
   s : Swaps old new place directory narrower
   s = t.swaps
 
-  of_directory : entries_of directory.content ≡ t.entries
-  of_directory = ap entries_of t.content
-
-  of_narrower : entries_of narrower.content ≡ without t.entries name
-  of_narrower = ap entries_of t.narrower_content
-
-  was-once : NamesOnce t.entries
-  was-once = subst NamesOnce of_directory (w.names place directory s.lives).once
-
-  was-leading : AllByRecursion (Leads old directory) t.entries
-  was-leading = subst (AllByRecursion (Leads old directory)) of_directory (w.names place directory s.lives).leads
-
-  was-deep : AllByRecursion (Deep old w.depth place) t.entries
-  was-deep = subst (AllByRecursion (Deep old w.depth place)) of_directory (w.deeper place directory s.lives)
-
   names_in-narrower : (n : ℕ) → names_in n narrower + cond (e.number == n) 1 0 ≡ names_in n directory
   names_in-narrower n =
       let test : Entry → Bool = λ (x : Entry). x.number == n in
-      let is : names_in n narrower ≡ count_by test (without t.entries name) = ap (count_by test) of_narrower in
-      let was : names_in n directory ≡ count_by test t.entries = ap (count_by test) of_directory in
-      let one = count-without test name t.entries e was-once t.found in
+      let is : names_in n narrower ≡ count_by test (without t.entries name) = ap (λ c. count_by test (entries_of c)) t.narrower_content in
+      let was : names_in n directory ≡ count_by test t.entries = ap (λ c. count_by test (entries_of c)) t.content in
+      let one = count-without test name t.entries e (once-was old new place directory narrower s loose w t.entries t.last t.content) t.found in
       omega (arith, is, was, one)
 
   -- the object that it led to has one name less
   pub names_of-taken : (n : ℕ) → names_of new n + cond (e.number == n) 1 0 ≡ names_of old n
   names_of-taken n = omega (arith, names_in-narrower n, names_of-swapped old new place directory narrower s n)
 
-  names-narrower : IsDirectoryOf new narrower
-  names-narrower = record {
-    once = subst NamesOnce (sym of_narrower) (once-filter _ t.entries was-once);
-    leads = subst (AllByRecursion (Leads new narrower)) (sym of_narrower)
-        (all-filter (Leads new narrower) _ t.entries (all_map (Leads old directory) (Leads new narrower) (λ x l. leads-on old new place directory narrower s directory narrower x s.export l) t.entries was-leading));
-  }
-
-  cookies-narrower : (entries : List Entry) (last : ℕ) → narrower.content ≡ Directory entries last → CookiesRise 2 entries last
-  cookies-narrower entries last is =
-      let both : Directory (without t.entries name) t.last ≡ Directory entries last = sym t.narrower_content ∙ is in
-      let es : without t.entries name ≡ entries = ap entries_of both in
-      let l : t.last ≡ last = cc in
-      subst (λ k. CookiesRise 2 entries k) l
-      (subst (λ xs. CookiesRise 2 xs t.last) es (cookies-filter _ 2 t.last t.entries (w.cookies place directory t.entries t.last s.lives t.content)))
-
   pub loose-taken : Loose (also e.number loose) new
-  loose-taken = record {
-    names = λ n o at. elim (before old new place directory narrower s n o at) [
-      | inl here ↦ subst (IsDirectoryOf new) here.1 names-narrower
-      | inr there ↦ names-kept old new place directory narrower s n o (w.names n o there)
-    ];
-    cookies = λ n o entries last at is. elim (before old new place directory narrower s n o at) [
-      | inl here ↦ cookies-narrower entries last (ap (λ (x : Living). x.content) here.1 ∙ is)
-      | inr there ↦ w.cookies n o entries last there is
-    ];
+  loose-taken = loose-swapped old new place directory narrower s loose (also e.number loose) w (record {
+    entries = without t.entries name;
+    last = t.last;
+    content = t.narrower_content;
+    once = once-filter _ t.entries (once-was old new place directory narrower s loose w t.entries t.last t.content);
+    leads = all-filter (Leads new narrower) _ t.entries (leads-was old new place directory narrower s loose w t.entries t.last t.content);
+    cookies = cookies-filter _ 2 t.last t.entries (w.cookies place directory t.entries t.last s.lives t.content);
     named = λ n o at other more.
-        let firm = either (n == e.number) (loose n) more in
+        let firm = apart-or (n == e.number) (loose n) more in
         let one : cond {A = ℕ} (e.number == n) 1 0 ≡ 0 = ap (λ b. cond b 1 0) (flipped n e.number firm.0) in
-        elim (before old new place directory narrower s n o at) [
-          | inl here ↦
-              let own : (n == narrower.export) ≡ false = subst (λ (x : Living). (n == x.export) ≡ false) (sym here.1) other in
-              let root : (place == directory.export) ≡ false = subst (λ k. (k == directory.export) ≡ false) here.0 (subst (λ k. (n == k) ≡ false) s.export own) in
-              let some : 1 ≤ names_of old n = subst (λ k. 1 ≤ names_of old k) (sym here.0) (w.named place directory s.lives root (subst (λ k. loose k ≡ false) here.0 firm.1)) in
-              omega (arith, names_of-taken n, one, some)
-          | inr there ↦ omega (arith, names_of-taken n, one, w.named n o there other firm.1)
-        ];
-    one_name = λ n o at kind. elim (before old new place directory narrower s n o at) [
-      | inl here ↦
-          let most : names_of old n ≤ 1 = subst (λ k. names_of old k ≤ 1) (sym here.0) (w.one_name place directory s.lives (ap is_directory t.content)) in
-          omega (arith, names_of-taken n, most)
-      | inr there ↦ omega (arith, names_of-taken n, w.one_name n o there kind)
-    ];
+        omega (arith, names_of-taken n, one, w.named n o at other firm.1);
+    one_name = λ n o at kind. omega (arith, names_of-taken n, w.one_name n o at kind);
     depth = w.depth;
-    deeper = λ n o at. elim (before old new place directory narrower s n o at) [
-      | inl here ↦
-          subst (λ (x : Living). AllByRecursion (Deep new w.depth n) (entries_of x.content)) here.1
-          (subst (λ k. AllByRecursion (Deep new w.depth k) (entries_of narrower.content)) (sym here.0)
-          (subst (AllByRecursion (Deep new w.depth place)) (sym of_narrower)
-          (all-filter (Deep new w.depth place) _ t.entries (deep-on old new place directory narrower s w.depth place directory t.entries was-leading was-deep))))
-      | inr there ↦ deep-on old new place directory narrower s w.depth n o (entries_of o.content) (w.names n o there).leads (w.deeper n o there)
-    ];
-    given = given-on old new place directory narrower s loose w;
-  }
+    deeper = w.deeper;
+    own_deeper = all-filter (Deep new w.depth place) _ t.entries (deep-was old new place directory narrower s loose w t.entries t.last t.content w.depth w.deeper);
+  })
 
--- ---- an object without a name goes
-pub record Drops (old new : State) (number : ℕ) (object : Living) : Type 0 where
-  pub lives : get old.objects number ≡ Some object
+-- ---- what contains no name and has none comes or goes
+abbrev pub Empty : Living → Type 0
+Empty o = entries_of o.content ≡ []
+
+-- what comes: its generation was given, and a directory's first cookies are those of "." and ".."
+pub record IsNew (m : State) (number : ℕ) (o : Living) : Type 0 where
+  pub cookies : (last : ℕ) → o.content ≡ Directory [] last → 2 ≤ last
+  pub given : m.spent number o.generation ≡ true
+
+pub record Comes (old new : State) (number : ℕ) (was is : Option Living) : Type 0 where
+  pub lives : get old.objects number ≡ was
+  pub objects : Differs old.objects new.objects number is
   pub nameless : names_of old number ≡ 0
-  pub empty : entries_of object.content ≡ []
-  pub objects : Differs old.objects new.objects number None
+  pub was_empty : IfSome was Empty
+  pub is_empty : IfSome is Empty
+  pub is_new : IfSome is (IsNew new number)
   pub spent : (n g : ℕ) → old.spent n g ≡ true → new.spent n g ≡ true
 
-module _ (old new : State) (number : ℕ) (object : Living) (d : Drops old new number object) where
-  -- what lives now lived before, and is another
-  pub before-dropped : (n : ℕ) (o : Living) → get new.objects n ≡ Some o → ((n == number) ≡ false) × (get old.objects n ≡ Some o)
-  before-dropped n o at =
-      elim (n == number) as (λ b. (n == number) ≡ b → ((n == number) ≡ false) × (get old.objects n ≡ Some o)) [
-        | true ↦ λ e. (let none : get new.objects n ≡ None = ap (get new.objects) ((unsigned_Decides n number).0 e) ∙ differs-there old.objects new.objects number None d.objects in cc)
-        | false ↦ λ e. (e, sym (differs-other old.objects new.objects number None d.objects n e) ∙ at)
+names_in-empty : (n : ℕ) (x : Option Living) → IfSome x Empty → weight (names_in n) x ≡ 0
+names_in-empty n None empty = refl
+names_in-empty n (Some o) empty = ap (count_by (λ (e : Entry). e.number == n)) empty
+
+module _ (old new : State) (number : ℕ) (was is : Option Living) (c : Comes old new number was is) where
+  pub names_of-come : (n : ℕ) → names_of new n ≡ names_of old n
+  names_of-come n =
+      let sums = sum-differs (names_in n) old.objects new.objects number is c.objects in
+      let here : weight (names_in n) (get old.objects number) ≡ 0 = ap (weight (names_in n)) c.lives ∙ names_in-empty n was c.was_empty in
+      omega (arith, sums, here, names_in-empty n is c.is_empty)
+
+  -- what has a name is another, and lives on
+  on-come : (n : ℕ) (o : Living) → get old.objects n ≡ Some o → 1 ≤ names_of old n → LivesOn new n o
+  on-come n o at some =
+      let other : (n == number) ≡ false = apart n number (λ same. (let none : names_of old n ≡ 0 = subst (λ k. names_of old k ≡ 0) (sym same) c.nameless in absurd (omega (arith, some, none)))) in
+      record { object = o; lives = differs-other old.objects new.objects number is c.objects n other ∙ at; export = refl; kind = refl }
+
+  -- what lives now came, or lived before
+  come : (n : ℕ) (o : Living) → get new.objects n ≡ Some o → ((n ≡ number) × Empty o × IsNew new number o) ⊎ (get old.objects n ≡ Some o)
+  come n o at =
+      elim (n == number) as (λ b. (n == number) ≡ b → ((n ≡ number) × Empty o × IsNew new number o) ⊎ (get old.objects n ≡ Some o)) [
+        | true ↦ λ e.
+            let same : n ≡ number = (unsigned_Decides n number).0 e in
+            let own : is ≡ Some o = sym (ap (get new.objects) same ∙ differs-there old.objects new.objects number is c.objects) ∙ at in
+            inl (same, subst (λ x. IfSome x Empty) own c.is_empty, subst (λ x. IfSome x (IsNew new number)) own c.is_new)
+        | false ↦ λ e. inr (sym (differs-other old.objects new.objects number is c.objects n e) ∙ at)
       ] refl
 
-  pub names_of-dropped : (n : ℕ) → names_of new n ≡ names_of old n
-  names_of-dropped n =
-      let sums = sum-differs (names_in n) old.objects new.objects number None d.objects in
-      let here : weight (names_in n) (get old.objects number) ≡ names_in n object = ap (weight (names_in n)) d.lives in
-      let none : names_in n object ≡ 0 = ap (count_by (λ (e : Entry). e.number == n)) d.empty in
-      omega (arith, sums, here, none)
+  pub loose-come : (loose : ℕ → Bool) → Loose (also number loose) old → Loose (also number loose) new
+  loose-come loose l = record {
+    names = λ n o at. elim (come n o at) [
+      | inl here ↦ record { once = subst NamesOnce (sym here.1) tt; leads = subst (AllByRecursion (Leads new o)) (sym here.1) tt }
+      | inr there ↦ names-on old new on-come n o there (l.names n o there)
+    ];
+    cookies = λ n o entries last at e. elim (come n o at) [
+      | inl here ↦
+          let none : entries ≡ [] = sym (ap entries_of e) ∙ here.1 in
+          subst (λ es. CookiesRise 2 es last) (sym none) (here.2.cookies last (e ∙ ap (λ es. Directory es last) none))
+      | inr there ↦ l.cookies n o entries last there e
+    ];
+    named = λ n o at other firm. elim (come n o at) [
+      | inl here ↦ (let no : true ≡ false = sym ((unsigned_Decides n number).1 here.0) ∙ (apart-or (n == number) (loose n) firm).0 in cc)
+      | inr there ↦ omega (arith, names_of-come n, l.named n o there other firm)
+    ];
+    one_name = λ n o at kind. elim (come n o at) [
+      | inl here ↦ (let none : names_of old n ≡ 0 = subst (λ k. names_of old k ≡ 0) (sym here.0) c.nameless in omega (arith, names_of-come n, none))
+      | inr there ↦ omega (arith, names_of-come n, l.one_name n o there kind)
+    ];
+    depth = l.depth;
+    deeper = λ n o at. elim (come n o at) [
+      | inl here ↦ subst (AllByRecursion (Deep new l.depth n)) (sym here.1) tt
+      | inr there ↦ deep-on old new on-come n o there l.depth (l.names n o there).leads (l.deeper n o there)
+    ];
+    given = λ n o at. elim (come n o at) [
+      | inl here ↦ subst (λ k. new.spent k o.generation ≡ true) (sym here.0) here.2.given
+      | inr there ↦ c.spent n o.generation (l.given n o there)
+    ];
+  }
 
-  module _ (l : Loose (also number none_loose) old) where
-    -- no entry leads to it
-    elsewhere : (n : ℕ) (o : Living) → get old.objects n ≡ Some o → AllByRecursion (λ (e : Entry). (e.number == number) ≡ false) (entries_of o.content)
-    elsewhere n o at =
-        none-passes (λ (e : Entry). e.number == number) (entries_of o.content)
-        (let part : names_in number o ≤ names_of old number = part-of_sum (names_in number) old.objects n o at in
-        let none = d.nameless in
-        let zero : names_in number o ≡ 0 = omega (arith, part, none) in zero)
+-- ---- lists of entries with one more
+-- a name that no entry has goes last
+once-last : (es : List Entry) (e : Entry) → NamesOnce es → find (λ (x : Entry). same_bytes x.name e.name) es ≡ None → NamesOnce (es ++ e ∷ [])
+once-last [] e once absent = (tt, tt)
+once-last (x ∷ es) e once absent =
+    let apart = passed (same_bytes x.name e.name) (find (λ (x : Entry). same_bytes x.name e.name) es) absent in
+    (all_last (λ (f : Entry). same_bytes x.name f.name ≡ false) es e once.0 apart.0, once-last es e once.1 apart.1)
+  where
+    passed : (b : Bool) (rest : Option Entry) → cond b (Some x) rest ≡ None → (b ≡ false) × (rest ≡ None)
+    passed true rest e = cc
+    passed false rest e = (refl, e)
 
-    leads-dropped : (o : Living) (es : List Entry) → AllByRecursion (λ (e : Entry). (e.number == number) ≡ false) es → AllByRecursion (Leads old o) es → AllByRecursion (Leads new o) es
-    leads-dropped o es other leads =
-        all_map (λ (e : Entry). ((e.number == number) ≡ false) × Leads old o e) (Leads new o)
-        (λ e both. record {
-          object = (both.1).object;
-          lives = differs-other old.objects new.objects number None d.objects e.number both.0 ∙ (both.1).lives;
-          export = (both.1).export;
-          no_root = (both.1).no_root;
-        }) es (all_both (λ (e : Entry). (e.number == number) ≡ false) (Leads old o) es other leads)
-
-    pub well_formed-dropped : TextsFit new → WellFormed new
-    well_formed-dropped texts = record {
-      names = λ n o at.
-          let b = before-dropped n o at in
-          let was = l.names n o b.1 in
-          record { once = was.once; leads = leads-dropped o (entries_of o.content) (elsewhere n o b.1) was.leads };
-      cookies = λ n o entries last at is. l.cookies n o entries last (before-dropped n o at).1 is;
-      named = λ n o at other. (let b = before-dropped n o at in omega (arith, names_of-dropped n, l.named n o b.1 other (ap (λ t. t || false) b.0)));
-      one_name = λ n o at kind. omega (arith, names_of-dropped n, l.one_name n o (before-dropped n o at).1 kind);
-      depth = l.depth;
-      deeper = λ n o at.
-          let b = before-dropped n o at in
-          all_map (λ (e : Entry). ((e.number == number) ≡ false) × Deep old l.depth n e) (Deep new l.depth n)
-          (λ e both living. both.1 (sym (ap is_living_directory (differs-other old.objects new.objects number None d.objects e.number both.0)) ∙ living))
-          (entries_of o.content) (all_both (λ (e : Entry). (e.number == number) ≡ false) (Deep old l.depth n) (entries_of o.content) (elsewhere n o b.1) (l.deeper n o b.1));
-      given = λ n o at. d.spent n o.generation (l.given n o (before-dropped n o at).1);
-      texts = texts;
-    }
+-- and its cookie is above the others
+cookies-last : (below last : ℕ) (es : List Entry) (e : Entry) → e.cookie ≡ last + 1 → CookiesRise below es last → CookiesRise below (es ++ e ∷ []) (last + 1)
+cookies-last below last [] e is h = (omega (arith, is, h), omega (arith, is))
+cookies-last below last (x ∷ es) e is h = (h.0, cookies-last x.cookie last es e is h.1)
 
 -- ---- an object gets a name
 pub record AddsName (old new : State) (place number : ℕ) (directory wider object : Living) (name : List ℕ) : Type 0 where
@@ -349,25 +367,14 @@ pub record Deepens (m : State) (depth : ℕ → ℕ) (place number : ℕ) (objec
   pub added : is_directory object.content ≡ true → depth place < depth number
 
 module _ (old new : State) (place number : ℕ) (directory wider object : Living) (name : List ℕ) (a : AddsName old new place number directory wider object name) where
-  added-swaps : Swaps old new place directory wider
-  added-swaps = a.swaps
-
-  entry : Entry
+  abbrev entry : Entry
   entry = record { name = name; number = number; cookie = a.last + 1 }
 
-  added_directory : entries_of directory.content ≡ a.entries
-  added_directory = ap entries_of a.content
-
-  added_wider : entries_of wider.content ≡ a.entries ++ entry ∷ []
-  unfolding entry
-  added_wider = ap entries_of a.wider_content
-
-  names_in-added : (n : ℕ) → names_in n wider ≡ names_in n directory + cond (number == n) 1 0
-  unfolding entry
+  pub names_in-added : (n : ℕ) → names_in n wider ≡ names_in n directory + cond (number == n) 1 0
   names_in-added n =
       let test : Entry → ℕ = λ (e : Entry). cond (e.number == n) 1 0 in
-      let was : names_in n directory ≡ sum_by test a.entries = ap (sum_by test) added_directory in
-      let is : names_in n wider ≡ sum_by test (a.entries ++ entry ∷ []) = ap (sum_by test) added_wider in
+      let was : names_in n directory ≡ sum_by test a.entries = ap (λ c. sum_by test (entries_of c)) a.content in
+      let is : names_in n wider ≡ sum_by test (a.entries ++ entry ∷ []) = ap (λ c. sum_by test (entries_of c)) a.wider_content in
       let one : sum_by test (entry ∷ []) ≡ cond (number == n) 1 0 = omega arith in
       omega (arith, was, is, one, sum_by-append test a.entries (entry ∷ []))
 
@@ -375,45 +382,16 @@ module _ (old new : State) (place number : ℕ) (directory wider object : Living
   names_of-added n = omega (arith, names_in-added n, names_of-swapped old new place directory wider a.swaps n)
 
   module _ (loose : ℕ → Bool) (l : Loose (also number loose) old) (depth : ℕ → ℕ) (deepens : Deepens old depth place number object) where
+    object-on : LivesOn new number object
+    object-on = lives-on old new place directory wider a.swaps number object a.lives
+
     added-leads : Leads new wider entry
-    unfolding entry
-    added-leads =
-        let o = lives-on old new place directory wider a.swaps number object a.lives in record {
-          object = o.object;
-          lives = o.lives;
-          export = o.export ∙ a.export ∙ sym a.swaps.export;
-          no_root = subst (λ k. (number == k) ≡ false) (sym a.swaps.export) a.no_root;
-        }
-
-    before-leading : AllByRecursion (Leads old directory) a.entries
-    before-leading = subst (AllByRecursion (Leads old directory)) added_directory (l.names place directory a.swaps.lives).leads
-
-    names-wider : IsDirectoryOf new wider
-    unfolding entry
-    names-wider = record {
-      once = subst NamesOnce (sym added_wider) (once-last a.entries entry (subst NamesOnce added_directory (l.names place directory a.swaps.lives).once) a.absent);
-      leads = subst (AllByRecursion (Leads new wider)) (sym added_wider)
-          (all_last (Leads new wider) a.entries entry (all_map (Leads old directory) (Leads new wider) (λ x. leads-on old new place directory wider a.swaps directory wider x a.swaps.export) a.entries before-leading) added-leads);
+    added-leads = record {
+      object = object-on.object;
+      lives = object-on.lives;
+      export = object-on.export ∙ a.export ∙ sym a.swaps.export;
+      no_root = subst (λ k. (number == k) ≡ false) (sym a.swaps.export) a.no_root;
     }
-
-    cookies-wider : (entries : List Entry) (last : ℕ) → wider.content ≡ Directory entries last → CookiesRise 2 entries last
-    unfolding entry
-    cookies-wider entries last is =
-        let both : Directory (a.entries ++ entry ∷ []) (a.last + 1) ≡ Directory entries last = sym a.wider_content ∙ is in
-        let es : a.entries ++ entry ∷ [] ≡ entries = ap entries_of both in
-        let k : a.last + 1 ≡ last = cc in
-        subst (λ k. CookiesRise 2 entries k) k
-        (subst (λ xs. CookiesRise 2 xs (a.last + 1)) es
-        (cookies-last 2 a.last a.entries entry refl (l.cookies place directory a.entries a.last a.swaps.lives a.content)))
-
-    deep-wider : AllByRecursion (Deep new depth place) (entries_of wider.content)
-    unfolding entry
-    deep-wider =
-        subst (AllByRecursion (Deep new depth place)) (sym added_wider)
-        (all_last (Deep new depth place) a.entries entry
-        (deep-on old new place directory wider a.swaps depth place directory a.entries before-leading
-        (subst (AllByRecursion (Deep old depth place)) added_directory (deepens.deeper place directory a.swaps.lives)))
-        (λ living. deepens.added (sym (let o = lives-on old new place directory wider a.swaps number object a.lives in ap is_living_directory o.lives ∙ o.kind) ∙ living)))
 
     named-added : 1 ≤ names_of new number
     named-added =
@@ -433,39 +411,20 @@ module _ (old new : State) (place number : ℕ) (directory wider object : Living
           | false ↦ λ e. (let one : cond {A = ℕ} (number == n) 1 0 ≡ 0 = ap (λ b. cond b 1 0) e in omega (arith, names_of-added n, one, l.one_name n o at kind))
         ] refl
 
-    named-else : (n : ℕ) (o : Living) → get old.objects n ≡ Some o → (n == o.export) ≡ false → loose n ≡ false → 1 ≤ names_of new n
-    named-else n o at other firm =
-        elim (n == number) as (λ b. (n == number) ≡ b → 1 ≤ names_of new n) [
-          | true ↦ λ e. subst (λ k. 1 ≤ names_of new k) (sym ((unsigned_Decides n number).0 e)) named-added
-          | false ↦ λ e. omega (arith, names_of-added n, l.named n o at other (ap (λ b. b || loose n) e ∙ firm))
-        ] refl
-
     pub loose-added : Loose loose new
-    loose-added = record {
-      names = λ n o at. elim (before old new place directory wider a.swaps n o at) [
-        | inl here ↦ subst (IsDirectoryOf new) here.1 names-wider
-        | inr there ↦ names-kept old new place directory wider a.swaps n o (l.names n o there)
-      ];
-      cookies = λ n o entries last at is. elim (before old new place directory wider a.swaps n o at) [
-        | inl here ↦ cookies-wider entries last (ap (λ (x : Living). x.content) here.1 ∙ is)
-        | inr there ↦ l.cookies n o entries last there is
-      ];
-      named = λ n o at other more. elim (before old new place directory wider a.swaps n o at) [
-        | inl here ↦
-            let own : (n == wider.export) ≡ false = subst (λ (x : Living). (n == x.export) ≡ false) (sym here.1) other in
-            let root : (n == directory.export) ≡ false = subst (λ k. (n == k) ≡ false) a.swaps.export own in
-            let there : get old.objects n ≡ Some directory = ap (get old.objects) here.0 ∙ a.swaps.lives in
-            named-else n directory there root more
-        | inr there ↦ named-else n o there other more
-      ];
-      one_name = λ n o at kind. elim (before old new place directory wider a.swaps n o at) [
-        | inl here ↦ once-named n directory (ap (get old.objects) here.0 ∙ a.swaps.lives) (ap is_directory a.content)
-        | inr there ↦ once-named n o there kind
-      ];
-      depth = depth;
-      deeper = λ n o at. elim (before old new place directory wider a.swaps n o at) [
-        | inl here ↦ subst (λ (x : Living). AllByRecursion (Deep new depth n) (entries_of x.content)) here.1 (subst (λ k. AllByRecursion (Deep new depth k) (entries_of wider.content)) (sym here.0) deep-wider)
-        | inr there ↦ deep-on old new place directory wider a.swaps depth n o (entries_of o.content) (l.names n o there).leads (deepens.deeper n o there)
-      ];
-      given = given-on old new place directory wider a.swaps (also number loose) l;
-    }
+    loose-added = fastened number loose new
+        (loose-swapped old new place directory wider a.swaps (also number loose) (also number loose) l (record {
+          entries = a.entries ++ entry ∷ [];
+          last = a.last + 1;
+          content = a.wider_content;
+          once = once-last a.entries entry (once-was old new place directory wider a.swaps (also number loose) l a.entries a.last a.content) a.absent;
+          leads = all_last (Leads new wider) a.entries entry (leads-was old new place directory wider a.swaps (also number loose) l a.entries a.last a.content) added-leads;
+          cookies = cookies-last 2 a.last a.entries entry refl (l.cookies place directory a.entries a.last a.swaps.lives a.content);
+          named = λ n o at other firm. omega (arith, names_of-added n, l.named n o at other firm);
+          one_name = once-named;
+          depth = depth;
+          deeper = deepens.deeper;
+          own_deeper = all_last (Deep new depth place) a.entries entry (deep-was old new place directory wider a.swaps (also number loose) l a.entries a.last a.content depth deepens.deeper)
+              (λ living. deepens.added (sym (ap is_living_directory object-on.lives ∙ object-on.kind) ∙ living));
+        }))
+        (λ o at. named-added)

@@ -1,18 +1,17 @@
 -- Modes of owners at offsets, and that no two conflict.
 use Rattle.std.proofs.Common.{◌≡◌, ◌==◌, ℕ, Bool, true, false, not, ◌&&◌, ◌||◌, cond, List, [], ◌∷◌, ◌++◌, Some, filter, find, refl, sym, ◌∙◌, ap, subst, nat_le, ◌≤◌, arith}
-use Rattle.std.proofs.lemmas.Bool.{leb-true, le-leb}
-use Rattle.std.specs.Cmp.{signed_Decides, unsigned_Decides}
+use Rattle.std.proofs.Math.Bool.{or_comm}
+use Rattle.std.proofs.lemmas.Bool.{and_parts, leb-true, le-leb}
+use Rattle.std.proofs.lemmas.Cmp.{nat_list_eq_equiv}
+use Rattle.std.specs.Cmp.{nat_eq_equiv, signed_Decides, unsigned_Decides}
 use Rattle.std.specs.Cmp.Lexicographic.{bytes_decides}
 use Rattle.std.specs.List.{AllByRecursion, list_any}
 use Rattle.std.specs.Ordering.{int_eq}
 use Rattle.nfs_machine.specs.Bytes.{same_bytes}
-use Rattle.nfs_machine.specs.Locks.{Conflicts, Exclusive, Lists, Mode, NoLocksConflict, NoSharesConflict, Range, Shared, Unlocked, denies, holds, is_in, is_within, mode_at, mode_by, mode_of, modes_conflict, modes_with, modes_without, same_owner, same_sharer, shares_conflict, stands_in_way}
-use Rattle.nfs_machine.specs.LockLaws.{ListedLocksTell}
+use Rattle.nfs_machine.specs.Locks.{Conflicts, Exclusive, Lists, Mode, Range, Shared, Unlocked, denies, holds, is_in, is_within, mode_at, mode_by, mode_of, modes_conflict, modes_with, modes_without, same_owner, same_sharer, shares_conflict}
+use Rattle.nfs_machine.specs.LockLaws.{ListedLocksTell, NoLocksConflict, NoSharesConflict, stands_in_way}
 use Rattle.nfs_machine.specs.State.{Lock, Owner, Share}
-
-pub both : (a b : Bool) → (a && b) ≡ true → (a ≡ true) × (b ≡ true)
-both true b e = (refl, e)
-both false b e = cc
+use Rattle.nfs_machine.proofs.Changes.{flipped}
 
 -- ---- lists
 pub all-left : {X : Type 0} (P Q : X → Type 0) (p : X → Bool) (xs : List X) → ((x : X) → p x ≡ true → P x → Q x) → AllByRecursion P xs → AllByRecursion Q (filter p xs)
@@ -47,8 +46,8 @@ owner-itself a =
 
 pub one-owner : (a b : Owner) → same_owner a b ≡ true → a ≡ b
 one-owner a b e =
-    let all = both (same_bytes a.caller_name b.caller_name && same_bytes a.owner b.owner) (int_eq a.process b.process) e in
-    let texts = both (same_bytes a.caller_name b.caller_name) (same_bytes a.owner b.owner) all.0 in
+    let all = and_parts (same_bytes a.caller_name b.caller_name && same_bytes a.owner b.owner) (int_eq a.process b.process) e in
+    let texts = and_parts (same_bytes a.caller_name b.caller_name) (same_bytes a.owner b.owner) all.0 in
     let n : a.caller_name ≡ b.caller_name = (bytes_decides a.caller_name b.caller_name).0 texts.0 in
     let o : a.owner ≡ b.owner = (bytes_decides a.owner b.owner).0 texts.1 in
     let p : a.process ≡ b.process = (signed_Decides a.process b.process).0 all.1 in
@@ -69,8 +68,8 @@ pub record Inside (r : Range) (file : ℕ) (owner : Owner) (offset : ℕ) : Type
 
 pub inside : (r : Range) (file : ℕ) (owner : Owner) (offset : ℕ) → is_in r file owner offset ≡ true → Inside r file owner offset
 inside r file owner offset e =
-    let all = both ((r.file == file) && same_owner r.owner owner) (is_within r.first r.last offset) e in
-    let whose = both (r.file == file) (same_owner r.owner owner) all.0 in
+    let all = and_parts ((r.file == file) && same_owner r.owner owner) (is_within r.first r.last offset) e in
+    let whose = and_parts (r.file == file) (same_owner r.owner owner) all.0 in
     record { file_is = (unsigned_Decides r.file file).0 whose.0; owner_is = one-owner r.owner owner whose.1; within = all.1 }
 
 pub none-left : (mode : Mode) → modes_conflict mode Unlocked ≡ false
@@ -96,12 +95,12 @@ unlocking-free locks r c = (let no : false ≡ true = c.conflict in cc)
 -- ---- a list in which no lock stands in the way
 pub narrower : (first last low high offset : ℕ) → low ≤ first → last ≤ high → is_within first last offset ≡ true → is_within low high offset ≡ true
 narrower first last low high offset from to e =
-    let w = both (nat_le first offset) (nat_le offset last) e in
+    let w = and_parts (nat_le first offset) (nat_le offset last) e in
     let over : first ≤ offset = leb-true first offset w.0 in
     let under : offset ≤ last = leb-true offset last w.1 in
     ap (λ b. b && nat_le offset high) (le-leb low offset (omega (arith, from, over))) ∙ le-leb offset high (omega (arith, to, under))
 
-apart-or : (a b : Bool) → (a || b) ≡ false → (a ≡ false) × (b ≡ false)
+pub apart-or : (a b : Bool) → (a || b) ≡ false → (a ≡ false) × (b ≡ false)
 apart-or true b e = cc
 apart-or false b e = (refl, e)
 
@@ -113,8 +112,8 @@ free-list (l ∷ locks) r mode none other offset apart within =
     elim (holds r.file other offset l) as (λ b. holds r.file other offset l ≡ b → modes_conflict mode (mode_by (cond b (Some l) (find (holds r.file other offset) locks))) ≡ false) [
       | true ↦ λ e.
           let i = inside (record { file = l.file; owner = l.owner; first = l.first; last = l.last }) r.file other offset e in
-          let mine = both (nat_le l.first offset) (nat_le offset l.last) i.within in
-          let asked = both (nat_le r.first offset) (nat_le offset r.last) within in
+          let mine = and_parts (nat_le l.first offset) (nat_le offset l.last) i.within in
+          let asked = and_parts (nat_le r.first offset) (nat_le offset r.last) within in
           let a1 : l.first ≤ offset = leb-true l.first offset mine.0 in
           let a2 : offset ≤ l.last = leb-true offset l.last mine.1 in
           let b1 : r.first ≤ offset = leb-true r.first offset asked.0 in
@@ -194,11 +193,7 @@ abbrev pub but : ℕ → List Lock → List Lock
 but number locks = filter (λ (l : Lock). not (l.file == number)) locks
 
 pub other-number : (n k file : ℕ) → n ≡ k → (file == k) ≡ false → (n == file) ≡ false
-other-number n k file is other =
-    elim (n == file) as (λ b. (n == file) ≡ b → b ≡ false) [
-      | true ↦ λ e. (let same : file ≡ k = sym ((unsigned_Decides n file).0 e) ∙ is in let yes : (file == k) ≡ true = (unsigned_Decides file k).1 same in let no : true ≡ false = sym yes ∙ other in cc)
-      | false ↦ λ e. refl
-    ] refl
+other-number n k file is other = subst (λ j. (j == file) ≡ false) (sym is) (flipped file k other)
 
 pub mode-but : (number : ℕ) (locks : List Lock) (file : ℕ) (owner : Owner) (offset : ℕ) → (file == number) ≡ false → mode_at (but number locks) file owner offset ≡ mode_at locks file owner offset
 mode-but number [] file owner offset other = refl
@@ -238,38 +233,12 @@ shares-left p shares apart =
     all-left (λ (a : Share). AllByRecursion (λ (b : Share). shares_conflict a b ≡ false) shares) (λ (a : Share). AllByRecursion (λ (b : Share). shares_conflict a b ≡ false) (filter p shares)) p shares
     (λ a e all. all-left (λ (b : Share). shares_conflict a b ≡ false) (λ (b : Share). shares_conflict a b ≡ false) p shares (λ b t x. x) all) apart
 
-numbers-back : (a b : ℕ) → (a == b) ≡ (b == a)
-numbers-back a b =
-    elim (a == b) as (λ t. (a == b) ≡ t → t ≡ (b == a)) [
-      | true ↦ λ e. sym ((unsigned_Decides b a).1 (sym ((unsigned_Decides a b).0 e)))
-      | false ↦ λ e. elim (b == a) as (λ t. (b == a) ≡ t → false ≡ t) [
-        | true ↦ λ s. sym e ∙ (unsigned_Decides a b).1 (sym ((unsigned_Decides b a).0 s))
-        | false ↦ λ s. refl
-      ] refl
-    ] refl
-
-bytes-back : (a b : List ℕ) → same_bytes a b ≡ same_bytes b a
-bytes-back a b =
-    elim (same_bytes a b) as (λ t. same_bytes a b ≡ t → t ≡ same_bytes b a) [
-      | true ↦ λ e. sym ((bytes_decides b a).1 (sym ((bytes_decides a b).0 e)))
-      | false ↦ λ e. elim (same_bytes b a) as (λ t. same_bytes b a ≡ t → false ≡ t) [
-        | true ↦ λ s. sym e ∙ (bytes_decides a b).1 (sym ((bytes_decides b a).0 s))
-        | false ↦ λ s. refl
-      ] refl
-    ] refl
-
-or-back : (a b : Bool) → (a || b) ≡ (b || a)
-or-back true true = refl
-or-back true false = refl
-or-back false true = refl
-or-back false false = refl
-
 shares-back : (a b : Share) → shares_conflict a b ≡ shares_conflict b a
 shares-back a b =
-    ap (λ t. (t && not (same_sharer a b)) && (denies a b || denies b a)) (numbers-back a.file b.file)
-    ∙ ap (λ t. ((b.file == a.file) && not (t && same_bytes a.owner b.owner)) && (denies a b || denies b a)) (bytes-back a.caller_name b.caller_name)
-    ∙ ap (λ t. ((b.file == a.file) && not (same_bytes b.caller_name a.caller_name && t)) && (denies a b || denies b a)) (bytes-back a.owner b.owner)
-    ∙ ap (λ t. ((b.file == a.file) && not (same_sharer b a)) && t) (or-back (denies a b) (denies b a))
+    ap (λ t. (t && not (same_sharer a b)) && (denies a b || denies b a)) (nat_eq_equiv.symm a.file b.file)
+    ∙ ap (λ t. ((b.file == a.file) && not (t && same_bytes a.owner b.owner)) && (denies a b || denies b a)) (nat_list_eq_equiv.symm a.caller_name b.caller_name)
+    ∙ ap (λ t. ((b.file == a.file) && not (same_bytes b.caller_name a.caller_name && t)) && (denies a b || denies b a)) (nat_list_eq_equiv.symm a.owner b.owner)
+    ∙ ap (λ t. ((b.file == a.file) && not (same_sharer b a)) && t) (or_comm (denies a b) (denies b a))
 
 share-itself : (s : Share) → shares_conflict s s ≡ false
 share-itself s =

@@ -4,7 +4,7 @@ use Rattle.std.proofs.lemmas.Bool.{leb-true, le-leb}
 use Rattle.std.proofs.Math.Seq.{take-append_seam}
 use Rattle.std.proofs.lemmas.List.{length-take, nil_from_length, take-append-drop}
 use Rattle.std.proofs.lemmas.List.Sums.{sum_by-append}
-use Rattle.std.specs.Cmp.{unsigned_Decides}
+use Rattle.std.specs.Cmp.{first_so, unsigned_Decides}
 use Rattle.std.specs.List.{sum_by}
 use Rattle.nfs_wire.specs.declared.status.NfsStatus.{NfsStatus}
 use Rattle.nfs_wire.specs.declared.status.NfsStatus.TheVariants as status
@@ -125,7 +125,7 @@ module _ (fit : List Entry → Bool) (entries : List Entry) where
   find-page : (n : ℕ) → n ≤ length entries → Bounded n → Paged
   find-page zero le bounded =
       elim (fit [] && are_none entries) as (λ t. (fit [] && are_none entries) ≡ t → Paged) [
-        | true ↦ λ is. (Ok ([], true), ([], record { begins = none (fit []) entries is; fits = yes (fit []) (are_none entries) is; goes_on = λ e. refl }, bounded, refl))
+        | true ↦ λ is. (Ok ([], true), ([], record { begins = none (fit []) entries is; fits = first_so (fit []) (are_none entries) is; goes_on = λ e. refl }, bounded, refl))
         | false ↦ λ is. (
           Err status.TooSmall,
           (
@@ -147,10 +147,6 @@ module _ (fit : List Entry → Bool) (entries : List Entry) where
       none false [] is = refl
       none true (x ∷ es) is = absurd cc
       none false (x ∷ es) is = absurd cc
-
-      yes : (a b : Bool) → (a && b) ≡ true → a ≡ true
-      yes true b is = refl
-      yes false b is = is
 
       clash : (a b : Bool) → a ≡ true → b ≡ true → (a && b) ≡ false → ⊥
       clash true true x y is = absurd cc

@@ -1,6 +1,6 @@
 -- A directory that is read page by page shows each entry that stayed, once.
-use Rattle.std.proofs.Common.{◌≡◌, ◌==◌, ℕ, suc, ◌+◌, ◌<◌, ◌≤◌, Bool, true, false, cond, List, [], ◌∷◌, ◌++◌, nat_lt, ◌⊎◌, inl, inr, refl, sym, ◌∙◌, ap, subst, arith}
-use Rattle.std.proofs.lemmas.Bool.{leb-true, le-leb}
+use Rattle.std.proofs.Common.{◌≡◌, ◌==◌, ℕ, suc, ◌+◌, ◌<◌, ◌≤◌, true, false, cond, List, [], ◌∷◌, ◌++◌, nat_lt, ◌⊎◌, inl, inr, refl, sym, ◌∙◌, ap, subst, arith}
+use Rattle.std.proofs.lemmas.Bool.{both_ways, leb-true, le-leb, ne_eqb}
 use Rattle.std.proofs.lemmas.List.Elements.{Contains-append_cases, Contains-append_left, Contains-append_right, Contains-push_cases}
 use Rattle.std.proofs.lemmas.List.Sums.{sum_by-cons}
 use Rattle.std.specs.Cmp.{unsigned_Decides}
@@ -77,14 +77,10 @@ left c (x ∷ es) e lt at =
         | inr more ↦ Contains-append_right (x ∷ []) (behind c es) e (left c es e lt more)
       ]
       | false ↦ λ is. elim (cases x es e at) [
-        | inl same ↦ (let passes = le-leb (suc c) x.cookie (subst (λ (y : Entry). suc c ≤ y.cookie) (sym same) (omega (arith, lt))) in absurd (apart (nat_lt c x.cookie) is passes))
+        | inl same ↦ (let passes = le-leb (suc c) x.cookie (subst (λ (y : Entry). suc c ≤ y.cookie) (sym same) (omega (arith, lt))) in absurd (both_ways (nat_lt c x.cookie) is passes))
         | inr more ↦ left c es e lt more
       ]
     ] refl
-  where
-    apart : (t : Bool) → t ≡ false → t ≡ true → ⊥
-    apart true is_false is_true = absurd cc
-    apart false is_false is_true = absurd cc
 
 -- ---- pages
 pages-rise : (c : ℕ) (visits : List Visit) → InOrder visits → ReadsOn c visits → Rises c (shown_by visits)
@@ -124,17 +120,10 @@ cookies k es = count_by (λ (x : Entry). x.cookie == k) es
 counted : (k : ℕ) (x : Entry) (es : List Entry) → cookies k (x ∷ es) ≡ cond (x.cookie == k) 1 0 + cookies k es
 counted k x es = sum_by-cons (λ (y : Entry). cond {A = ℕ} (y.cookie == k) 1 0) x es
 
-other : (a b : ℕ) → (a ≡ b → ⊥) → (a == b) ≡ false
-other a b differ =
-    elim (a == b) as (λ t. (a == b) ≡ t → t ≡ false) [
-      | true ↦ λ is. absurd (differ ((unsigned_Decides a b).0 is))
-      | false ↦ λ is. refl
-    ] refl
-
 none-below : (k b : ℕ) (es : List Entry) → k ≤ b → Rises b es → cookies k es ≡ 0
 none-below k b [] le h = refl
 none-below k b (x ∷ es) le h =
-    let apart = other x.cookie k (λ same. omega (arith, same, h, le)) in
+    let apart = ne_eqb x.cookie k (λ same. omega (arith, same, h, le)) in
     let zero_here : cond {A = ℕ} (x.cookie == k) 1 0 ≡ 0 = ap (λ t. cond t 1 0) apart in
     omega (arith, counted k x es, zero_here, none-below k x.cookie es (omega (arith, le, h)) h.1)
 
@@ -149,7 +138,7 @@ one b (x ∷ es) e h at =
           )
       | inr more ↦ (
           let later = above-all x.cookie es e h.1 more in
-          let apart = other x.cookie e.cookie (λ same. omega (arith, same, later)) in
+          let apart = ne_eqb x.cookie e.cookie (λ same. omega (arith, same, later)) in
           let zero_here : cond {A = ℕ} (x.cookie == e.cookie) 1 0 ≡ 0 = ap (λ t. cond t 1 0) apart in
           omega (arith, counted e.cookie x es, zero_here, one x.cookie es e h.1 more)
           )

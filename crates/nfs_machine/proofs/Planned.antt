@@ -1,5 +1,6 @@
 -- What the checks of RENAME tell of a name that moves, and that handles stay.
 use Rattle.std.proofs.Common.{◌≡◌, ◌==◌, ℕ, true, false, cond, List, Option, Some, None, Result, Ok, Err, IfOk, option_map, refl, sym, ◌∙◌, ap, subst}
+use Rattle.std.specs.Prelude.{ok_or}
 use Rattle.std.specs.Cmp.{unsigned_Decides}
 use Rattle.std.specs.FinMap.{get}
 use Rattle.nfs_wire.specs.declared.attributes.Time.{Time}
@@ -9,8 +10,8 @@ use Rattle.nfs_wire.specs.declared.status.NfsStatus.TheVariants as status
 use Rattle.nfs_machine.specs.Attributes.{names_of}
 use Rattle.nfs_machine.specs.Checks.{◌>>=◌, holding, object_of, entries_in, old_name_checked, changeable, permitted, entry_of}
 use Rattle.nfs_machine.specs.Permission.{Changing}
-use Rattle.nfs_machine.specs.RemoveSteps.{Named, entry_found, named_in, object_found, without}
-use Rattle.nfs_machine.specs.RenameSteps.{Move, Plan, SameObject, Moves, is_compatible, object_under, plan_over, rename_plan, with_moved, with_names_moved, without_replaced}
+use Rattle.nfs_machine.specs.RemoveSteps.{Named, named_in, without}
+use Rattle.nfs_machine.specs.RenameSteps.{Move, is_compatible, object_under, plan_over, rename_plan, with_moved, with_names_moved, without_replaced}
 use Rattle.nfs_machine.specs.Resolve.{resolve}
 use Rattle.nfs_machine.specs.Shown.{touched, with_object}
 use Rattle.nfs_machine.specs.State.{Directory, Entry, Living, State}
@@ -30,9 +31,9 @@ pub record IsMove (m : State) (move : Move) : Type 0 where
   pub other : (o : ℕ × Living) → move.replaced ≡ Some o → (o.0 == move.from.number) ≡ false
   pub compatible : (o : ℕ × Living) → move.replaced ≡ Some o → is_compatible move.from.object.content o.1.content ≡ true
 
-abbrev pub IsPlan : State → Plan → Type 0
-IsPlan m SameObject = Unit {0}
-IsPlan m (Moves move) = IsMove m move
+abbrev pub IsPlan : State → Option Move → Type 0
+IsPlan m None = Unit {0}
+IsPlan m (Some move) = IsMove m move
 
 module _ (m : State) where
   -- before what has the name is judged
@@ -54,7 +55,7 @@ module _ (m : State) where
     compatible = λ o some. (let both : None ≡ Some o = sym is ∙ some in cc);
   }
   plan-over move (Some r) is begun =
-      elim (r.0 == move.from.number) as (λ b. (r.0 == move.from.number) ≡ b → IfOk (cond b (Ok SameObject) (judged)) (IsPlan m)) [
+      elim (r.0 == move.from.number) as (λ b. (r.0 == move.from.number) ≡ b → IfOk (cond b (Ok None) (judged)) (IsPlan m)) [
         | true ↦ λ e. tt
         | false ↦ λ e. chained-is (IsPlan m) (holding (is_compatible move.from.object.content r.1.content) status.Exists) _ (λ x1 e1. record {
           from = begun.from;
@@ -70,12 +71,12 @@ module _ (m : State) where
         })
       ] refl
     where
-      judged : Result Plan NfsStatus
-      judged = holding (is_compatible move.from.object.content r.1.content) status.Exists >>= (λ x. Ok (Moves move))
+      judged : Result (Option Move) NfsStatus
+      judged = holding (is_compatible move.from.object.content r.1.content) status.Exists >>= (λ x. Ok (Some move))
 
   pub planned : (ctx : Ctx) (a : RenameArguments) → IfOk (rename_plan m ctx a) (IsPlan m)
   planned ctx a =
-      let P : Plan → Type 0 = IsPlan m in
+      let P : Option Move → Type 0 = IsPlan m in
       chained-is P (object_of (resolve m ctx a.from.directory)) _ (λ from at.
       chained-is P (object_of (resolve m ctx a.to.directory)) _ (λ to there.
       chained-is P (holding (from.1.export == to.1.export) status.CrossDevice) _ (λ x1 e1.
@@ -103,8 +104,8 @@ module _ (m : State) where
 
       same-directory : (directory : ℕ × Living) (entries : List Entry × ℕ) (name : List ℕ) → IfOk (named_in m directory entries name) (λ (n : Named). n.directory ≡ directory.1)
       same-directory directory entries name =
-          chained-is (λ (n : Named). n.directory ≡ directory.1) (entry_found (entry_of entries.0 name)) _ (λ e is.
-          chained-is (λ (n : Named). n.directory ≡ directory.1) (object_found (get m.objects e.number)) _ (λ o at. refl))
+          chained-is (λ (n : Named). n.directory ≡ directory.1) (ok_or (entry_of entries.0 name) status.NoEntry) _ (λ e is.
+          chained-is (λ (n : Named). n.directory ≡ directory.1) (ok_or (get m.objects e.number) status.NoEntry) _ (λ o at. refl))
 
       placed : (directory : ℕ × Living) (entries : List Entry × ℕ) (name : List ℕ) → get m.objects directory.0 ≡ Some directory.1 → directory.1.content ≡ Directory entries.0 entries.1
           → IfOk (named_in m directory entries name) (λ (n : Named). IsNamed m n × (n.directory ≡ directory.1))

@@ -9,18 +9,20 @@ use Rattle.side_wire.specs.declared.message.Message.{Message}
 use Rattle.side_wire.specs.declared.nlm.CancelArguments.{CancelArguments}
 use Rattle.side_wire.specs.declared.nlm.LockArguments.{LockArguments}
 use Rattle.side_wire.specs.declared.nlm.NlmCall.TheVariants as calls
+use Rattle.side_wire.specs.declared.nlm.NlmShare.{NlmShare}
 use Rattle.side_wire.specs.declared.nlm.NlmStatus.{NlmStatus}
 use Rattle.side_wire.specs.declared.nlm.NlmStatus.TheVariants as status
 use Rattle.nfs_machine.specs.Bytes.{same_bytes}
 use Rattle.nfs_machine.specs.Grants.{ChangesLocks, SettleInOrder, Settles, grant_arguments, grant_message, requested, with_locks}
 use Rattle.nfs_machine.specs.Locks.{Lists, Mode, Range, Unlocked, is_in, mode_at, mode_of, modes_with, modes_without, range_of, shares_conflict}
-use Rattle.nfs_machine.specs.LockSteps.{CancelOf, Fault, Frees, GrantOf, HeldUp, LockOf, ShareOf, UnlockOf, UnshareOf, asked_by, is_answered, is_request, lock_checked, range_checked, share_checked, share_left, unshare_checked, with_share, without_caller, without_grant, without_request, without_share}
+use Rattle.nfs_machine.specs.LockSteps.{Fault, Frees, GrantOf, HeldUp, Shares, asked_by, file_checked, is_answered, is_request, lock_checked, range_checked, share_checked, share_of, with_share, without_caller, without_grant, without_request, without_share}
 use Rattle.nfs_machine.specs.NlmSteps.{NlmStep}
 use Rattle.nfs_machine.specs.SideLaws.{LocksFit, NlmMessagesHaveForm, OwnersFit, PutsForms}
-use Rattle.nfs_machine.specs.State.{Lock, Owner, Request, Share, State}
+use Rattle.nfs_machine.specs.State.{Living, Lock, Owner, Request, Share, State}
 use Rattle.nfs_machine.specs.declared.context.Ctx.{Ctx}
+use Rattle.nfs_machine.proofs.Checked.{CancelOf, LockOf, ShareOf, UnlockOf, UnshareOf}
 use Rattle.nfs_machine.proofs.Modes.{all-joined, all-left, inside}
-use Rattle.nfs_machine.proofs.SideReplies.{test-form, test-unchanged}
+use Rattle.nfs_machine.proofs.SideReplies.{range-form, test-form, test-unchanged}
 use Rattle.nfs_machine.proofs.Waiting.{all-removed, lock-range}
 
 -- where the range's owner is within its bound, so is each owner
@@ -84,50 +86,50 @@ unlocks old r messages new c fit = settled (with_locks old c.locks) r.file messa
 
 held-up : (old : State) (ctx : Ctx) (a : LockArguments) (by_message : Bool) (r : Range) (block waits : Bool) (s : NlmStatus) (messages : List Message) (new : State)
     → HasLockForm a.lock → HeldUp old ctx a by_message r block waits s messages new → LocksFit old → PutsForms messages new
-held-up old ctx a by_message r false waits s messages new lock step fit = same old messages new step.unchanged step.no_message fit
-held-up old ctx a by_message r true true s messages new lock step fit = same old messages new step.unchanged step.no_message fit
+held-up old ctx a by_message r false waits s messages new lock step fit = same old messages new step.state_is step.no_message fit
+held-up old ctx a by_message r true true s messages new lock step fit = same old messages new step.state_is step.no_message fit
 held-up old ctx a by_message r true false s messages new lock (inl waits) fit =
     same (record old {
       waiting = old.waiting ++ record { number = waits.number; file = r.file; host = ctx.host; exclusive = a.exclusive; asked = a.lock; by_message = by_message } ∷ [];
       spent_grants = λ n. (n == waits.number) || old.spent_grants n;
     }) messages new waits.answers.state_is waits.answers.no_message
     (fit.0, all-joined Asked old.waiting (record { number = waits.number; file = r.file; host = ctx.host; exclusive = a.exclusive; asked = a.lock; by_message = by_message } ∷ []) fit.1 (lock, tt))
-held-up old ctx a by_message r true false s messages new lock (inr none) fit = same old messages new none.answers.unchanged none.answers.no_message fit
+held-up old ctx a by_message r true false s messages new lock (inr none) fit = same old messages new none.answers.state_is none.answers.no_message fit
 
 locked : (old : State) (ctx : Ctx) (a : LockArguments) (by_message : Bool) (r : Result Range Fault) (s : NlmStatus) (messages : List Message) (new : State)
     → IfOk r (λ r. r ≡ range_of r.file a.lock) → HasLockForm a.lock → LockOf old ctx a by_message r s messages new → LocksFit old → PutsForms messages new
-locked old ctx a by_message (Err fault) s messages new is lock step fit = same old messages new step.unchanged step.no_message fit
+locked old ctx a by_message (Err fault) s messages new is lock step fit = same old messages new step.state_is step.no_message fit
 locked old ctx a by_message (Ok r) s messages new is lock (inl free) fit =
-    settled (with_locks old free.changes.locks) r.file messages new free.changes.settles
-    (owners-with old.locks free.changes.locks r (mode_of a.exclusive) (subst (λ (x : Range). IsNetobj x.owner.owner) (sym is) lock.2) free.changes.lists fit.0, fit.1)
+    settled (with_locks old free.2.locks) r.file messages new free.2.settles
+    (owners-with old.locks free.2.locks r (mode_of a.exclusive) (subst (λ (x : Range). IsNetobj x.owner.owner) (sym is) lock.2) free.2.lists fit.0, fit.1)
 locked old ctx a by_message (Ok r) s messages new is lock (inr up) fit =
-    held-up old ctx a by_message r a.block (list_any (is_request r a.exclusive a.lock) old.waiting) s messages new lock up.ends fit
+    held-up old ctx a by_message r a.block (list_any (is_request r a.exclusive a.lock) old.waiting) s messages new lock up.1 fit
 
 cancelled : (old : State) (a : CancelArguments) (r : Result Range Fault) (s : NlmStatus) (messages : List Message) (new : State) → CancelOf old a r s messages new → LocksFit old → PutsForms messages new
-cancelled old a (Err fault) s messages new step fit = same old messages new step.unchanged step.no_message fit
+cancelled old a (Err fault) s messages new step fit = same old messages new step.state_is step.no_message fit
 cancelled old a (Ok r) s messages new step fit =
     same (without_request old (is_request r a.exclusive a.lock)) messages new step.state_is step.no_message (fit.0, all-left Asked Asked (λ (q : Request). not (is_request r a.exclusive a.lock q)) old.waiting (λ q e h. h) fit.1)
 
 unlocked : (old : State) (r : Result Range Fault) (s : NlmStatus) (messages : List Message) (new : State) → UnlockOf old r s messages new → LocksFit old → PutsForms messages new
-unlocked old (Err fault) s messages new step fit = same old messages new step.unchanged step.no_message fit
-unlocked old (Ok r) s messages new step fit = unlocks old r messages new step.changes fit
+unlocked old (Err fault) s messages new step fit = same old messages new step.state_is step.no_message fit
+unlocked old (Ok r) s messages new step fit = unlocks old r messages new step.1 fit
 
 answered : (old : State) (request : Option Request) (goes : Request → Bool) (s : NlmStatus) (messages : List Message) (new : State) → GrantOf old request goes s messages new → LocksFit old → PutsForms messages new
 answered old None goes s messages new step fit = same old messages new step.1 step.0 fit
 answered old (Some request) goes status.Granted messages new step fit = same (without_grant old goes) messages new step.1 step.0 fit
 answered old (Some request) goes s messages new step fit = unlocks (without_grant old goes) (requested request) messages new step fit
 
-share-left : (old : State) (share : Share) (conflicts : Bool) (messages : List Message) (new : State) → new ≡ share_left old share conflicts → messages ≡ [] → LocksFit old → PutsForms messages new
-share-left old share true messages new e none fit = same old messages new e none fit
-share-left old share false messages new e none fit = same (with_share old share) messages new e none fit
+share-left : (old : State) (share : Share) (conflicts : Bool) (s : NlmStatus) (messages : List Message) (new : State) → Shares old share conflicts s messages new → LocksFit old → PutsForms messages new
+share-left old share true s messages new step fit = same old messages new step.state_is step.no_message fit
+share-left old share false s messages new step fit = same (with_share old share) messages new step.state_is step.no_message fit
 
 shared : (old : State) (r : Result Share Fault) (s : NlmStatus) (messages : List Message) (new : State) → ShareOf old r s messages new → LocksFit old → PutsForms messages new
-shared old (Err fault) s messages new step fit = same old messages new step.unchanged step.no_message fit
-shared old (Ok share) s messages new step fit = share-left old share (list_any (shares_conflict share) old.shares) messages new step.state_is step.no_message fit
+shared old (Err fault) s messages new step fit = same old messages new step.state_is step.no_message fit
+shared old (Ok share) s messages new step fit = share-left old share (list_any (shares_conflict share) old.shares) s messages new step fit
 
-unshared : (old : State) (r : Result Share Fault) (s : NlmStatus) (messages : List Message) (new : State) → UnshareOf old r s messages new → LocksFit old → PutsForms messages new
-unshared old (Err fault) s messages new step fit = same old messages new step.unchanged step.no_message fit
-unshared old (Ok share) s messages new step fit = same (without_share old share) messages new step.state_is step.no_message fit
+unshared : (old : State) (asked : NlmShare) (r : Result (ℕ × Living) Fault) (s : NlmStatus) (messages : List Message) (new : State) → UnshareOf old asked r s messages new → LocksFit old → PutsForms messages new
+unshared old asked (Err fault) s messages new step fit = same old messages new step.state_is step.no_message fit
+unshared old asked (Ok file) s messages new step fit = same (without_share old (share_of file.0 asked)) messages new step.state_is step.no_message fit
 
 freed : (old : State) (name : List ℕ) (messages : List Message) (new : State) → Frees old name messages new → LocksFit old → PutsForms messages new
 freed old name messages new f fit =
@@ -144,15 +146,15 @@ posted granted messages host result new are form puts = (
 
 pub nlm_messages_form : NlmMessagesHaveForm
 unfolding NlmStep
-nlm_messages_form old ctx calls.Null reply messages new fit call step = same old messages new step.unchanged step.no_message fit
+nlm_messages_form old ctx calls.Null reply messages new fit call step = same old messages new step.state_is step.no_message fit
 nlm_messages_form old ctx (calls.Test a) reply messages new fit call step = (let t = test-unchanged old a.exclusive (range_checked old ctx a.lock) step.status messages new step.ends in same old messages new t.0 t.1 fit)
 nlm_messages_form old ctx (calls.Lock a) reply messages new fit call step = locked old ctx a false (lock_checked old ctx a) step.status messages new (lock-range old ctx a) call.1 step.ends fit
 nlm_messages_form old ctx (calls.Cancel a) reply messages new fit call step = cancelled old a (range_checked old ctx a.lock) step.status messages new step.ends fit
 nlm_messages_form old ctx (calls.Unlock a) reply messages new fit call step = unlocked old (range_checked old ctx a.lock) step.status messages new step.ends fit
-nlm_messages_form old ctx (calls.Granted a) reply messages new fit call step = same old messages new step.ends.unchanged step.ends.no_message fit
+nlm_messages_form old ctx (calls.Granted a) reply messages new fit call step = same old messages new step.ends.state_is step.ends.no_message fit
 nlm_messages_form old ctx (calls.TestMsg a) reply messages new fit call step =
     let t = test-unchanged old a.exclusive (range_checked old ctx a.lock) step.status step.granted new step.ends in
-    posted step.granted messages ctx.host _ new step.messages_are (call.0, test-form old a.exclusive (range_checked old ctx a.lock) step.status step.granted new fit.0 step.ends) (same old step.granted new t.0 t.1 fit)
+    posted step.granted messages ctx.host _ new step.messages_are (call.0, test-form old a.exclusive (range_checked old ctx a.lock) step.status step.granted new (range-form old ctx a.lock) fit.0 step.ends) (same old step.granted new t.0 t.1 fit)
 nlm_messages_form old ctx (calls.LockMsg a) reply messages new fit call step =
     posted step.granted messages ctx.host _ new step.messages_are call.0 (locked old ctx a true (lock_checked old ctx a) step.status step.granted new (lock-range old ctx a) call.1 step.ends fit)
 nlm_messages_form old ctx (calls.CancelMsg a) reply messages new fit call step =
@@ -160,13 +162,13 @@ nlm_messages_form old ctx (calls.CancelMsg a) reply messages new fit call step =
 nlm_messages_form old ctx (calls.UnlockMsg a) reply messages new fit call step =
     posted step.granted messages ctx.host _ new step.messages_are call.0 (unlocked old (range_checked old ctx a.lock) step.status step.granted new step.ends fit)
 nlm_messages_form old ctx (calls.GrantedMsg a) reply messages new fit call step =
-    posted step.granted messages ctx.host _ new step.messages_are call.0 (same old step.granted new step.ends.unchanged step.ends.no_message fit)
-nlm_messages_form old ctx (calls.TestRes r) reply messages new fit call step = same old messages new step.unchanged step.no_message fit
-nlm_messages_form old ctx (calls.LockRes r) reply messages new fit call step = same old messages new step.unchanged step.no_message fit
-nlm_messages_form old ctx (calls.CancelRes r) reply messages new fit call step = same old messages new step.unchanged step.no_message fit
-nlm_messages_form old ctx (calls.UnlockRes r) reply messages new fit call step = same old messages new step.unchanged step.no_message fit
-nlm_messages_form old ctx (calls.GrantedRes r) reply messages new fit call step = answered old (find (is_answered ctx.host r.cookie) old.granted) (is_answered ctx.host r.cookie) r.status messages new step.ends fit
+    posted step.granted messages ctx.host _ new step.messages_are call.0 (same old step.granted new step.ends.state_is step.ends.no_message fit)
+nlm_messages_form old ctx (calls.TestRes r) reply messages new fit call step = same old messages new step.state_is step.no_message fit
+nlm_messages_form old ctx (calls.LockRes r) reply messages new fit call step = same old messages new step.state_is step.no_message fit
+nlm_messages_form old ctx (calls.CancelRes r) reply messages new fit call step = same old messages new step.state_is step.no_message fit
+nlm_messages_form old ctx (calls.UnlockRes r) reply messages new fit call step = same old messages new step.state_is step.no_message fit
+nlm_messages_form old ctx (calls.GrantedRes r) reply messages new fit call step = answered old (find (is_answered ctx.host r.cookie) old.granted) (is_answered ctx.host r.cookie) r.status messages new step.1 fit
 nlm_messages_form old ctx (calls.Share a) reply messages new fit call step = shared old (share_checked old ctx a.share) step.status messages new step.ends fit
-nlm_messages_form old ctx (calls.Unshare a) reply messages new fit call step = unshared old (unshare_checked old ctx a.share) step.status messages new step.ends fit
+nlm_messages_form old ctx (calls.Unshare a) reply messages new fit call step = unshared old a.share (file_checked old ctx a.share.file) step.status messages new step.ends fit
 nlm_messages_form old ctx (calls.NmLock a) reply messages new fit call step = locked old ctx a false (lock_checked old ctx a) step.status messages new (lock-range old ctx a) call.1 step.ends fit
-nlm_messages_form old ctx (calls.FreeAll a) reply messages new fit call step = freed old a.name messages new step.ends fit
+nlm_messages_form old ctx (calls.FreeAll a) reply messages new fit call step = freed old a.name messages new step.1 fit

@@ -17,10 +17,10 @@ stays old (Err e) refused = refl
 
 pub refusals_unchanged : RefusalsChangeNothing
 unfolding NfsStep
-refusals_unchanged old ctx calls.Null reply messages new step e = (step.unchanged, step.no_message)
-refusals_unchanged old ctx (calls.Getattr object) reply messages new step e = (step.unchanged, step.no_message)
-refusals_unchanged old ctx (calls.Lookup place) reply messages new step e = (step.answers.unchanged, step.answers.no_message)
-refusals_unchanged old ctx (calls.Read a) reply messages new step e = (step.unchanged, step.no_message)
+refusals_unchanged old ctx calls.Null reply messages new step e = (step.state_is, step.no_message)
+refusals_unchanged old ctx (calls.Getattr object) reply messages new step e = (step.state_is, step.no_message)
+refusals_unchanged old ctx (calls.Lookup place) reply messages new step e = (step.answers.state_is, step.answers.no_message)
+refusals_unchanged old ctx (calls.Read a) reply messages new step e = (step.state_is, step.no_message)
 refusals_unchanged old ctx (calls.Write a) reply messages new step e =
     (step.state_is ∙ stays old (write_end old ctx a) (sym (ap is_refusal step.reply_is) ∙ e), step.no_message)
 refusals_unchanged old ctx (calls.Create a) reply messages new step e =
@@ -41,11 +41,11 @@ refusals_unchanged old ctx (calls.Link a) reply messages new step e =
     (step.state_is ∙ stays old (link_end old ctx a) (sym (ap is_refusal step.reply_is) ∙ e), step.no_message)
 refusals_unchanged old ctx (calls.Setattr a) reply messages new step e =
     (step.state_is ∙ stays old (setattr_end old ctx a) (sym (ap is_refusal step.reply_is) ∙ e), step.no_message)
-refusals_unchanged old ctx (calls.Access a) reply messages new step e = (step.unchanged, step.no_message)
-refusals_unchanged old ctx (calls.Readlink object) reply messages new step e = (step.unchanged, step.no_message)
-refusals_unchanged old ctx (calls.Readdir a) reply messages new step e = (step.answers.unchanged, step.answers.no_message)
-refusals_unchanged old ctx (calls.Readdirplus a) reply messages new step e = (step.answers.unchanged, step.answers.no_message)
-refusals_unchanged old ctx (calls.Fsstat object) reply messages new step e = (step.unchanged, step.no_message)
-refusals_unchanged old ctx (calls.Fsinfo object) reply messages new step e = (step.unchanged, step.no_message)
-refusals_unchanged old ctx (calls.Pathconf object) reply messages new step e = (step.unchanged, step.no_message)
-refusals_unchanged old ctx (calls.Commit a) reply messages new step e = (step.unchanged, step.no_message)
+refusals_unchanged old ctx (calls.Access a) reply messages new step e = (step.state_is, step.no_message)
+refusals_unchanged old ctx (calls.Readlink object) reply messages new step e = (step.state_is, step.no_message)
+refusals_unchanged old ctx (calls.Readdir a) reply messages new step e = (step.answers.state_is, step.answers.no_message)
+refusals_unchanged old ctx (calls.Readdirplus a) reply messages new step e = (step.answers.state_is, step.answers.no_message)
+refusals_unchanged old ctx (calls.Fsstat object) reply messages new step e = (step.state_is, step.no_message)
+refusals_unchanged old ctx (calls.Fsinfo object) reply messages new step e = (step.state_is, step.no_message)
+refusals_unchanged old ctx (calls.Pathconf object) reply messages new step e = (step.state_is, step.no_message)
+refusals_unchanged old ctx (calls.Commit a) reply messages new step e = (step.state_is, step.no_message)

@@ -10,19 +10,20 @@ use Rattle.nfs_machine.specs.Attributes.{entries_of, is_directory, is_living_dir
 use Rattle.nfs_machine.specs.Bytes.{same_bytes}
 use Rattle.nfs_machine.specs.Checks.{entry_of}
 use Rattle.nfs_machine.specs.Making.{with_entry}
-use Rattle.nfs_machine.specs.RemoveSteps.{Named, has_no_entry, without}
+use Rattle.nfs_machine.specs.Pages.{are_none}
+use Rattle.nfs_machine.specs.RemoveSteps.{Named, without}
 use Rattle.nfs_machine.specs.RenameSteps.{GoesIntoItself, IsWithin, itself, below, Move, entries_left, is_compatible, object_under, with_moved, with_names_moved, without_replaced}
 use Rattle.nfs_machine.specs.Shown.{touched, with_content, with_object}
 use Rattle.nfs_machine.specs.State.{Content, Directory, Entry, Living, State}
 use Rattle.nfs_machine.specs.WellFormed.{Leads, TextsFit, WellFormed}
 use Rattle.nfs_machine.proofs.Changes.{apart, count-filter, differs-insert, differs-other, differs-there, find-all, find-filter, find-other, find-taken, flipped, without-absent}
-use Rattle.nfs_machine.proofs.Continued.{texts-continued, touched-swaps, well_formed-losing}
+use Rattle.nfs_machine.proofs.Continued.{texts-continued, well_formed-losing}
 use Rattle.nfs_machine.proofs.Facts.{no-entry}
-use Rattle.nfs_machine.proofs.Loose.{AddsName, Deep, Deepens, Loose, Swaps, also, loose-added, loose-same, loosened, names_of-added, names_of-same, names_of-taken, none_loose, tightened}
+use Rattle.nfs_machine.proofs.Loose.{AddsName, Deepens, Loose, also, loose-added, loose-replaced, loose-touched, loosened, names_of-added, names_of-taken, none_loose, tightened}
 use Rattle.nfs_machine.proofs.Planned.{IsMove, continues-moved}
 use Rattle.nfs_machine.proofs.Sums.{get-inserted}
 use Rattle.nfs_machine.proofs.Taken.{IsNamed, loose-mid, one-less, takes}
-use Rattle.nfs_machine.proofs.WellFormed.{no_entries}
+use Rattle.nfs_machine.proofs.WellFormed.{Deep, no_entries, replaced-names}
 use Rattle.nfs_machine.proofs.Within.{deepened, depth}
 
 -- ---- a directory that has names less
@@ -49,7 +50,7 @@ either-way false true e t = cc
 either-way false false e t = inr refl
 
 replaced-empty : (moved replaced : Content) → is_compatible moved replaced ≡ true → entries_of replaced ≡ []
-replaced-empty moved replaced t = elim (either-way (is_directory moved) (is_directory replaced) (has_no_entry (entries_of replaced)) t) [
+replaced-empty moved replaced t = elim (either-way (is_directory moved) (is_directory replaced) (are_none (entries_of replaced)) t) [
   | inl none ↦ no-entry (entries_of replaced) none
   | inr plain ↦ no_entries replaced plain
 ]
@@ -88,13 +89,6 @@ none-under m directory (Some e) leads none =
     let some : object_under m (Some e) ≡ Some (e.number, l.object) = ap (option_map (λ (o : Living). (e.number, o))) l.lives in
     cc
 
-same-test : (a b : ℕ) → (a == b) ≡ (b == a)
-same-test a b =
-    elim (b == a) as (λ t. (b == a) ≡ t → (a == b) ≡ t) [
-      | true ↦ λ t. (unsigned_Decides a b).1 (sym ((unsigned_Decides b a).0 t))
-      | false ↦ λ t. flipped b a t
-    ] refl
-
 module _ (m : State) (now : Time) (move : Move) (is : IsMove m move) (w : WellFormed m) (out : GoesIntoItself m move → ⊥) where
   abbrev number : ℕ
   number = move.from.number
@@ -112,17 +106,18 @@ module _ (m : State) (now : Time) (move : Move) (is : IsMove m move) (w : WellFo
   abbrev free : State
   free = with_object m target freed
 
-  free-swaps : Swaps m free target move.directory freed
-  free-swaps = record { lives = is.lives; objects = differs-insert m.objects target freed; export = refl; generation = refl; kind = sym (ap is_directory is.content); spent = λ n g e. e }
-
   not-named : move.replaced ≡ None → entry_of move.entries move.name ≡ None
   not-named none =
       none-under m move.directory (entry_of move.entries move.name) (λ e found. entry-leads m w target move.directory move.entries move.last_cookie is.lives is.content move.name e found) (sym is.over ∙ none)
 
   freed-none : move.replaced ≡ None → Loose none_loose free
   freed-none none =
-      loose-same m free target move.directory freed free-swaps
-      (ap (λ es. Directory es move.last_cookie) (without-absent move.name move.entries (not-named none)) ∙ sym is.content) none_loose (loosened none_loose m w)
+      loose-replaced m target move.directory is.lives none_loose (loosened none_loose m w) freed (record {
+        export = refl;
+        generation = refl;
+        kind = sym (ap is_directory is.content);
+        content = λ e. ap (λ es. Directory es move.last_cookie) (without-absent move.name move.entries (not-named none)) ∙ sym is.content;
+      })
 
   -- what has it
   abbrev over_named : ℕ × Living → Named
@@ -329,7 +324,7 @@ module _ (m : State) (now : Time) (move : Move) (is : IsMove m move) (w : WellFo
     moved = with_object named number (touched move.from.object now)
 
     moved-loose : Loose loose moved
-    moved-loose = loose-same named moved number move.from.object (touched move.from.object now) (touched-swaps named number move.from.object object-named now) refl loose named-loose
+    moved-loose = loose-touched named number move.from.object object-named loose named-loose now
 
     names_of-moved : (n : ℕ) → names_of moved n ≡ names_of free n
     unfolding is-leaving
@@ -338,7 +333,7 @@ module _ (m : State) (now : Time) (move : Move) (is : IsMove m move) (w : WellFo
         omega (
           arith,
           one,
-          names_of-same named moved number move.from.object (touched move.from.object now) (touched-swaps named number move.from.object object-named now) refl n,
+          replaced-names named number move.from.object (touched move.from.object now) object-named (record { export = refl; generation = refl; kind = refl; content = λ e. refl }) n,
           names_of-added left named target number waiting wider move.from.object move.name adds n,
           names_of-taken free left place (fd (target == place)) (left_of (target == place)) move.from.name is.from.entry (takes free now leaving is-leaving) loose l n,
         )
@@ -359,7 +354,7 @@ module _ (m : State) (now : Time) (move : Move) (is : IsMove m move) (w : WellFo
             get-inserted free.objects place (left_of (target == place)) q
             ∙ elim (q == place) as (λ b. (q == place) ≡ b → cond b (Some (left_of (target == place))) (get free.objects q) ≡ cond b (Some narrower) (get m.objects q)) [
               | true ↦ λ f.
-                  let other : (target == place) ≡ false = same-test target place ∙ subst (λ k. (k == target) ≡ false) ((unsigned_Decides q place).0 f) e in
+                  let other : (target == place) ≡ false = flipped place target (subst (λ k. (k == target) ≡ false) ((unsigned_Decides q place).0 f) e) in
                   ap (λ b. Some (left_of b)) other
               | false ↦ λ f. differs-other m.objects free.objects target (Some freed) (differs-insert m.objects target freed) q e
             ] refl

@@ -1,7 +1,7 @@
 -- The time of a change rises with each change.
-use Rattle.std.proofs.Common.{◌≡◌, ◌==◌, ℕ, suc, ◌+◌, ◌<◌, ◌≤◌, Bool, true, false, cond, nat_lt, ◌&&◌, ◌||◌, ◌⊎◌, inl, inr, refl, sym, ◌∙◌, ap, subst, arith}
-use Rattle.std.proofs.lemmas.Bool.{leb-true, le-leb}
-use Rattle.std.proofs.lemmas.Bool.Decides.{leb_tells}
+use Rattle.std.proofs.Common.{◌≡◌, ◌==◌, suc, ◌+◌, ◌<◌, ◌≤◌, true, false, cond, nat_lt, ◌&&◌, ◌||◌, ◌⊎◌, inl, inr, refl, sym, ◌∙◌, ap, subst, arith}
+use Rattle.std.proofs.Math.Bool.{or-true}
+use Rattle.std.proofs.lemmas.Bool.{leb-true, le-leb, ltb-false}
 use Rattle.std.specs.Cmp.{unsigned_Decides}
 use Rattle.nfs_wire.specs.declared.attributes.Time.{Time}
 use Rattle.nfs_machine.specs.TimeLaws.{TimesNeverFall, TimesRise}
@@ -25,10 +25,6 @@ tells a b (inl less) = ap (λ t. t || ((a.seconds == b.seconds) && nat_lt a.nano
 tells a b (inr same) =
     ap (λ t. nat_lt a.seconds b.seconds || (t && nat_lt a.nanoseconds b.nanoseconds)) ((unsigned_Decides a.seconds b.seconds).1 same.0)
     ∙ ap (λ t. nat_lt a.seconds b.seconds || t) (le-leb (suc a.nanoseconds) b.nanoseconds same.1) ∙ or-true (nat_lt a.seconds b.seconds)
-  where
-    or-true : (t : Bool) → (t || true) ≡ true
-    or-true true = refl
-    or-true false = refl
 
 after : (a b c : Time) → Earlier a b → Earlier b c → Earlier a c
 after a b c (inl h) (inl k) = inl (omega (arith, h, k))
@@ -56,7 +52,7 @@ next-later t =
       | true ↦ λ is. inl (inr (refl, omega arith))
       | false ↦ λ is. elim (nat_lt t.seconds 4294967295) as (λ b. nat_lt t.seconds 4294967295 ≡ b → Follows t (cond b (record { seconds = t.seconds + 1; nanoseconds = 0 }) t)) [
         | true ↦ λ below. inl (inl (omega arith))
-        | false ↦ λ below. inr (refl, least t.seconds 4294967295 below, least t.nanoseconds 999999999 is)
+        | false ↦ λ below. inr (refl, ltb-false t.seconds 4294967295 below, ltb-false t.nanoseconds 999999999 is)
       ] refl
     ] refl
   where
@@ -65,13 +61,6 @@ next-later t =
 
     second : Time
     second = cond (nat_lt t.seconds 4294967295) (record { seconds = t.seconds + 1; nanoseconds = 0 }) t
-
-    least : (m n : ℕ) → nat_lt m n ≡ false → n ≤ m
-    least m n is =
-        elim (leb_tells (suc m) n) [
-          | inl passes ↦ absurd (let clash = sym passes.0 ∙ is in cc)
-          | inr above ↦ (let lt = above.1 in omega (arith, lt))
-        ]
 
 touched : (changed now : Time) → Follows changed (touch changed now)
 touched changed now =

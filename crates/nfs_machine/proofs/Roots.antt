@@ -7,8 +7,9 @@ use Rattle.std.specs.List.{AllByRecursion, count_by}
 use Rattle.nfs_machine.specs.Attributes.{entries_of, is_directory, is_living_directory, names_in}
 use Rattle.nfs_machine.specs.State.{Entry, Living, State}
 use Rattle.nfs_machine.specs.WellFormed.{Leads, WellFormed}
+use Rattle.nfs_machine.proofs.Changes.{apart}
 use Rattle.nfs_machine.proofs.Sums.{sum-some_part}
-use Rattle.nfs_machine.proofs.WellFormed.{all_both, no_entries}
+use Rattle.nfs_machine.proofs.WellFormed.{Deep, all_both, no_entries}
 
 -- where some entry passes a test, what is true of all is true of one that passes
 pub passing : (P : Entry → Type 0) (test : Entry → Bool) (es : List Entry) → AllByRecursion P es → 1 ≤ count_by test es → (e : Entry) × P e × (test e ≡ true)
@@ -41,9 +42,9 @@ module _ (m : State) (w : WellFormed m) where
       let part = sum-some_part (names_in n) m.objects (w.named n o at other) in
       let place : ℕ = part.0 in
       let directory : Living = part.1 in
-      let P : Entry → Type 0 = λ (e : Entry). Leads m directory e × (is_living_directory (get m.objects e.number) ≡ true → w.depth place < w.depth e.number) in
+      let P : Entry → Type 0 = λ (e : Entry). Leads m directory e × Deep m w.depth place e in
       let found = passing P (λ (e : Entry). e.number == n) (entries_of directory.content)
-      (all_both (Leads m directory) (λ (e : Entry). is_living_directory (get m.objects e.number) ≡ true → w.depth place < w.depth e.number) (entries_of directory.content) (w.names place directory part.2).leads (w.deeper place directory part.2))
+      (all_both (Leads m directory) (Deep m w.depth place) (entries_of directory.content) (w.names place directory part.2).leads (w.deeper place directory part.2))
       part.3 in
       let number : found.0.number ≡ n = (unsigned_Decides found.0.number n).0 found.2 in
       let there : get m.objects found.0.number ≡ Some o = ap (get m.objects) number ∙ at in
@@ -84,7 +85,4 @@ module _ (m : State) (w : WellFormed m) where
   -- so what is free is no root
   pub free-no_root : (n : ℕ) (o : Living) (number : ℕ) → get m.objects n ≡ Some o → get m.objects number ≡ None → (number == o.export) ≡ false
   free-no_root n o number at free =
-      elim (number == o.export) as (λ b. (number == o.export) ≡ b → b ≡ false) [
-        | true ↦ λ e. (let r = root-lives n o at in let none : get m.objects o.export ≡ None = ap (get m.objects) (sym ((unsigned_Decides number o.export).0 e)) ∙ free in let there = r.1 in cc)
-        | false ↦ λ e. refl
-      ] refl
+      apart number o.export (λ same. (let r = root-lives n o at in let none : get m.objects o.export ≡ None = ap (get m.objects) (sym same) ∙ free in let there = r.1 in cc))

@@ -1,6 +1,7 @@
 -- The run and the steps that are worked through: what lives at each number is told by the maps, and the rest computes.
 use Rattle.std.proofs.Common.{◌≡◌, ◌==◌, ℕ, ◌≤◌, ◌^◌, Bool, true, false, ◌||◌, ◌&&◌, cond, nat_le, List, [], ◌∷◌, ◌++◌, Option, Some, None, Result, Ok, codes, inl, refl, sym, ◌∙◌, ap, subst, arith}
-use Rattle.std.proofs.lemmas.Bool.{leb-true}
+use Rattle.std.specs.Prelude.{ok_or}
+use Rattle.std.proofs.lemmas.Bool.{leb-true, or_right}
 use Rattle.std.specs.FinMap.{get, insert, get-empty}
 use Rattle.std.specs.List.{Contains}
 use Rattle.std.specs.Ordering.{nat_cmp}
@@ -28,7 +29,7 @@ use Rattle.nfs_machine.specs.NfsSteps.{NfsStep}
 use Rattle.nfs_machine.specs.Pages.{all_entries, behind, fits, fits_full}
 use Rattle.nfs_machine.specs.PageSteps.{PagesOf, is_good}
 use Rattle.nfs_machine.specs.Permission.{Changing, Listing}
-use Rattle.nfs_machine.specs.RemoveSteps.{Named, losing_name, named_in, not_directory, object_found, remove_end, taken_reply, with_name_taken}
+use Rattle.nfs_machine.specs.RemoveSteps.{Named, losing_name, named_in, not_directory, remove_end, with_name_taken}
 use Rattle.nfs_machine.specs.Resolve.{Resolved, Stale, Names, living_at, resolve}
 use Rattle.nfs_machine.specs.Readings.{Has}
 use Rattle.nfs_machine.specs.Run.{Asks, Executes, Record, Run}
@@ -122,12 +123,8 @@ fresh = record {
   free = none-opened;
   never_given = refl;
   given = refl;
-  kept = λ n g e. either ((n == 5) && (g == 1)) (opened.spent n g) e;
+  kept = λ n g e. or_right ((n == 5) && (g == 1)) (opened.spent n g) e;
 }
-  where
-    either : (a b : Bool) → b ≡ true → (a || b) ≡ true
-    either true b e = refl
-    either false b e = e
 
 abbrev create_by : Resolved → Result (End opened) NfsStatus
 create_by r =
@@ -179,7 +176,7 @@ lists =
       is_parent = λ number d is kind. root-parent written root-written number d (sym named ∙ is);
       page = Ok (all_three, true);
       is_page = subst (λ r. PagesOf (fits 65536) (entries_by r) (Ok (all_three, true))) (sym named) (page-ends (fits 65536) all_three refl);
-      answers = record { reply_is = refl; no_message = refl; unchanged = refl };
+      answers = record { reply_is = refl; no_message = refl; state_is = refl };
     }
 
 -- ---- READDIRPLUS
@@ -191,7 +188,7 @@ lists-full =
       is_parent = λ number d is kind. root-parent written root-written number d (sym named ∙ is);
       page = Ok (all_three, true);
       is_page = subst (λ r. PagesOf (fits_full 65536 65536) (entries_by r) (Ok (all_three, true))) (sym named) (page-ends (fits_full 65536 65536) all_three refl);
-      answers = record { reply_is = refl; no_message = refl; unchanged = refl };
+      answers = record { reply_is = refl; no_message = refl; state_is = refl };
     }
 
 -- ---- REMOVE
@@ -229,13 +226,13 @@ take_by r =
 taken : remove_end written nobody (in_root (codes "x")) ≡ Ok (tt, removed)
 taken =
     ap take_by (root-named written root_with_x refl refl root-written)
-    ∙ ap (λ (l : Option Living). take_named (object_found l >>= λ o. Ok (named_x o))) x-lives
+    ∙ ap (λ (l : Option Living). take_named (ok_or l status.NoEntry >>= λ o. Ok (named_x o))) x-lives
     ∙ ap (λ k. Ok (tt, losing_name (with_object written 1 root_after) k (time 1000 0) 5 x_written)) names-x
 
 takes : NfsStep written nobody (nfs.Remove (in_root (codes "x"))) removed_reply [] removed
 unfolding NfsStep
 takes = record {
-  reply_is = sym (ap (λ end. nfs_replies.Remove (taken_reply written nobody (in_root (codes "x")) end)) taken);
+  reply_is = sym (ap (λ end. nfs_replies.Remove (record { directory = wcc (state_after written end) (resolve written nobody root_bytes); result = answer_of end })) taken);
   no_message = refl;
   state_is = sym (ap (state_after written) taken);
 }
@@ -271,7 +268,7 @@ lists-page m lives cookie verifier count page eof is_page =
       is_parent = λ number d is kind. root-parent m lives number d (sym named ∙ is);
       page = Ok (page, eof);
       is_page = subst (λ r. PagesOf (fits count) (entries_from cookie verifier r) (Ok (page, eof))) (sym named) is_page;
-      answers = record { reply_is = refl; no_message = refl; unchanged = refl };
+      answers = record { reply_is = refl; no_message = refl; state_is = refl };
     }
 
 -- "x" is one of its names

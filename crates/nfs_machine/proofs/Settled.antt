@@ -1,6 +1,6 @@
 -- Requests that wait, worked through: each change of locks, at every offset.
 use Rattle.std.proofs.Common.{◌≡◌, ◌==◌, ℕ, ◌≤◌, Bool, true, false, ◌&&◌, cond, List, [], ◌∷◌, ◌++◌, Some, None, nat_le, codes, refl, sym, ◌∙◌, ap, subst, arith}
-use Rattle.std.proofs.lemmas.Bool.{leb-true}
+use Rattle.std.proofs.lemmas.Bool.{and_parts, leb-true}
 use Rattle.std.specs.List.{count_by}
 use Rattle.nfs_machine.specs.Bytes.{same_bytes}
 use Rattle.nfs_machine.specs.Grants.{Grants, IsHeldUp, grant_message, requested}
@@ -8,7 +8,7 @@ use Rattle.nfs_machine.specs.Locks.{Lists, Shared, mode_of, modes_without, Unloc
 use Rattle.nfs_machine.specs.State.{Lock, Owner, Request, State}
 use Rattle.nfs_machine.specs.WorkedLocks.{a, b, lock, on_file}
 use Rattle.nfs_machine.specs.WorkedSettling.{WorkedFreed, WorkedSettling, alone, both_shared, c, held_by_a, held_by_b, two_held, waiting}
-use Rattle.nfs_machine.proofs.Modes.{inside, listed_locks_tell, narrower, both}
+use Rattle.nfs_machine.proofs.Modes.{inside, listed_locks_tell, narrower}
 
 abbrev first_held : List Lock
 first_held = lock a 0 9 true ∷ []
@@ -24,8 +24,8 @@ away : (file : ℕ) (owner : Owner) (offset : ℕ) → is_in (on_file c 10 10) f
 away file owner offset c_has a_has =
     let theirs = inside (on_file c 10 10) file owner offset c_has in
     let mine = inside (on_file a 0 10) file owner offset a_has in
-    let x = both (nat_le 10 offset) (nat_le offset 19) theirs.within in
-    let y = both (nat_le 0 offset) (nat_le offset 9) mine.within in
+    let x = and_parts (nat_le 10 offset) (nat_le offset 19) theirs.within in
+    let y = and_parts (nat_le 0 offset) (nat_le offset 9) mine.within in
     let above : 10 ≤ offset = leb-true 10 offset x.0 in
     let below : offset ≤ 9 = leb-true offset 9 y.1 in
     omega (arith, above, below)
@@ -47,7 +47,7 @@ given-back = record { modes_are = modes; once = once-of (lock a 0 9 true) }
 -- A shares all 20 bytes
 wider : (file : ℕ) (owner : Owner) (offset : ℕ) → holds file owner offset (lock a 0 9 true) ≡ true → holds file owner offset (lock a 0 19 false) ≡ true
 wider file owner offset e =
-    let all = both ((5 == file) && same_owner a owner) (is_within 0 9 offset) e in
+    let all = and_parts ((5 == file) && same_owner a owner) (is_within 0 9 offset) e in
     ap (λ t. t && is_within 0 19 offset) all.0 ∙ narrower 0 9 0 19 offset (omega arith) (omega arith) all.1
 
 shared-by-a : Lists first_shared (modes_with first_held (on_file a 0 20) Shared)

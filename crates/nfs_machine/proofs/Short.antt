@@ -25,7 +25,7 @@ use Rattle.nfs_machine.specs.AttributeSteps.{setattr_end, access_result}
 use Rattle.nfs_machine.specs.DataSteps.{attributes_result, readlink_result, read_result, write_end, commit_result}
 use Rattle.nfs_machine.specs.FileSystemSteps.{fsstat_result, fsinfo_result, pathconf_result}
 use Rattle.nfs_machine.specs.Laws.{IsShort, RefusalsAreShort, RepliesAreShort}
-use Rattle.nfs_machine.specs.LinkSteps.{link_end, link_reply}
+use Rattle.nfs_machine.specs.LinkSteps.{link_end}
 use Rattle.nfs_machine.specs.MakeSteps.{mkdir_end, symlink_end, mknod_end, may_make, text_checked, wanted_directory, wanted_link, wanted_special}
 use Rattle.nfs_machine.specs.Making.{Fresh, End, Known, Chosen, EndsAs, Wanted, make_end, make_made, make_new}
 use Rattle.nfs_machine.specs.NameSteps.{found_of, lookup_result, create_end, create_existing, create_over, create_under, wanted_file}
@@ -34,7 +34,7 @@ use Rattle.nfs_machine.specs.PageSteps.{entries_left}
 use Rattle.nfs_machine.specs.RemoveSteps.{remove_end, rmdir_end}
 use Rattle.nfs_machine.specs.RenameSteps.{rename_reply}
 use Rattle.nfs_machine.specs.Resolve.{resolve}
-use Rattle.nfs_machine.specs.Shown.{shown, wcc}
+use Rattle.nfs_machine.specs.Shown.{after_first, shown, wcc}
 use Rattle.nfs_machine.specs.State.{Entry, Living, State}
 use Rattle.nfs_machine.specs.declared.context.Ctx.{Ctx}
 use Rattle.nfs_machine.proofs.ReplySizes.{linked-size, removed-size, renamed-size}
@@ -173,8 +173,11 @@ replies_short old ctx (calls.Rename a) reply messages new w step =
     let r = rename_reply old ctx a step.end in
     subst IsShort (sym step.answers.reply_is) (record { form = tt; short = omega (arith, renamed-size r.from r.to r.result) })
 replies_short old ctx (calls.Link a) reply messages new w step =
-    let r = link_reply old ctx a (link_end old ctx a) in
-    subst IsShort (sym step.reply_is) (record { form = tt; short = omega (arith, linked-size r.attributes r.directory r.result) })
+    let file = resolve old ctx a.file in let new = state_after old (link_end old ctx a) in
+    subst IsShort (sym step.reply_is) (record {
+      form = tt;
+      short = omega (arith, linked-size (shown new file) (wcc new (after_first file (resolve old ctx a.place.directory))) (answer_of (link_end old ctx a)));
+    })
 
 -- a refusal shows nothing
 pub refusals_short : RefusalsAreShort

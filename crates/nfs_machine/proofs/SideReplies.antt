@@ -1,10 +1,11 @@
 -- Replies of MOUNT and NLM have spellings, and calls that are refused change nothing.
-use Rattle.std.proofs.Common.{◌≡◌, ℕ, ◌≤◌, ◌-◌, zero, suc, Bool, true, false, not, ◌||◌, cond, List, [], ◌∷◌, ◌++◌, length, drop, map, Result, Ok, Err, IfOk, filter, inl, inr, refl, sym, ◌∙◌, ap, subst, arith}
+use Rattle.std.proofs.Common.{◌≡◌, ℕ, ◌≤◌, ◌-◌, zero, suc, Bool, true, false, not, ◌||◌, cond, List, [], ◌∷◌, ◌++◌, length, drop, map, Result, Ok, Err, IfErr, IfOk, is_ok, filter, inl, inr, refl, sym, ◌∙◌, ap, subst, arith}
 use Rattle.std.proofs.lemmas.List.Elements.{All-from_recursion}
 use Rattle.std.specs.List.{All, AllByRecursion, list_any}
 use Rattle.side_wire.specs.Mount.{HasExportNodeForm, HasMountBodyForm, HasMountForm, IsDirpath, IsHostName}
 use Rattle.side_wire.specs.Nlm.{HasNlmForm, HasTestStatusForm, IsNetobj}
 use Rattle.side_wire.specs.declared.message.Message.{Message}
+use Rattle.side_wire.specs.declared.message.NlmLock.{NlmLock}
 use Rattle.side_wire.specs.declared.mount.MountCall.{MountCall}
 use Rattle.side_wire.specs.declared.mount.MountCall.TheVariants as mount
 use Rattle.side_wire.specs.declared.mount.MountReply.{MountReply}
@@ -13,19 +14,23 @@ use Rattle.side_wire.specs.declared.mount.MountStatus.{MountStatus}
 use Rattle.side_wire.specs.declared.nlm.CancelArguments.{CancelArguments}
 use Rattle.side_wire.specs.declared.nlm.LockArguments.{LockArguments}
 use Rattle.side_wire.specs.declared.nlm.NlmCall.TheVariants as nlm
+use Rattle.side_wire.specs.declared.nlm.NlmShare.{NlmShare}
 use Rattle.side_wire.specs.declared.nlm.NlmStatus.{NlmStatus}
 use Rattle.side_wire.specs.declared.nlm.NlmStatus.TheVariants as status
 use Rattle.side_wire.specs.declared.nlm.TestStatus.{TestStatus}
 use Rattle.side_wire.specs.declared.nlm.TestStatus.TheVariants as tested
 use Rattle.nfs_machine.specs.Bytes.{same_bytes}
+use Rattle.nfs_machine.specs.Checks.{◌>>=◌, bytes_in, holding}
 use Rattle.nfs_machine.specs.Exports.{ExportValue, every_host}
-use Rattle.nfs_machine.specs.Locks.{Mode, Range, Unlocked, mode_of, shares_conflict}
-use Rattle.nfs_machine.specs.LockSteps.{CancelOf, Fault, HeldUp, LockOf, NoFile, NotRegular, ReadOnly, ShareOf, TooBig, TestOf, Tests, UnlockOf, UnshareOf, cancel_status, fault_tested, is_request, lock_checked, range_checked, share_checked, share_left, share_status, unshare_checked}
+use Rattle.nfs_machine.specs.Locks.{Mode, Range, Unlocked, fits_offsets, mode_of, shares_conflict}
+use Rattle.nfs_machine.specs.LockSteps.{Fault, HeldUp, Shares, Tests, file_checked, is_request, lock_checked, named_object, range_checked, regular, share_checked}
 use Rattle.nfs_machine.specs.MountSteps.{MntAnswers, MountStep, groups_of, is_by, is_mounted, is_of, listed_exports, listed_mounts, mount_limit, newest, with_mount, without_mounts}
 use Rattle.nfs_machine.specs.NlmSteps.{NlmStep}
 use Rattle.nfs_machine.specs.SideLaws.{ExportsFit, MountRefusalsChangeNothing, MountRepliesHaveForm, MountsFit, NlmRefusalsChangeNothing, NlmRepliesHaveForm, OwnersFit, PathFits, is_mount_refusal, is_nlm_refusal, refuses}
-use Rattle.nfs_machine.specs.State.{Mounted, Share, State}
+use Rattle.nfs_machine.specs.Resolve.{BadHandle, Names, Resolved, Stale, resolve}
+use Rattle.nfs_machine.specs.State.{Living, Mounted, Share, State}
 use Rattle.nfs_machine.specs.declared.context.Ctx.{Ctx}
+use Rattle.nfs_machine.proofs.Checked.{CancelOf, LockOf, ShareOf, TestOf, UnlockOf, UnshareOf}
 use Rattle.nfs_machine.proofs.Modes.{all-joined, all-left}
 
 -- ---- MOUNT
@@ -88,12 +93,12 @@ left-fit m goes fit =
 pub mount_fits : (old : State) (ctx : Ctx) (call : MountCall) (reply : MountReply) (messages : List Message) (new : State)
     → MountsFit old → IsHostName ctx.host → PathFits call → MountStep old ctx call reply messages new → MountsFit new
 unfolding MountStep
-mount_fits old ctx mount.Null reply messages new fit host path step = subst MountsFit (sym step.unchanged) fit
+mount_fits old ctx mount.Null reply messages new fit host path step = subst MountsFit (sym step.state_is) fit
 mount_fits old ctx (mount.Mnt path) reply messages new fit host within step = mnt-fit old ctx path step.result new fit host within step.answers
-mount_fits old ctx mount.Dump reply messages new fit host path step = subst MountsFit (sym step.unchanged) fit
+mount_fits old ctx mount.Dump reply messages new fit host path step = subst MountsFit (sym step.state_is) fit
 mount_fits old ctx (mount.Unmount path) reply messages new fit host within step = subst MountsFit (sym step.state_is) (left-fit old (is_of ctx.host path) fit)
 mount_fits old ctx mount.UnmountAll reply messages new fit host path step = subst MountsFit (sym step.state_is) (left-fit old (is_by ctx.host) fit)
-mount_fits old ctx mount.Export reply messages new fit host path step = subst MountsFit (sym step.unchanged) fit
+mount_fits old ctx mount.Export reply messages new fit host path step = subst MountsFit (sym step.state_is) fit
 
 mnt-refused : (old : State) (ctx : Ctx) (path : List ℕ) (result : Result (List ℕ) MountStatus) (new : State) → MntAnswers old ctx path result new → is_mount_refusal (mount_replies.Mnt result) ≡ true → new ≡ old
 mnt-refused old ctx path (Ok handle) new answers e = cc
@@ -101,12 +106,12 @@ mnt-refused old ctx path (Err x) new (why, same) e = same
 
 pub mount_refusals_unchanged : MountRefusalsChangeNothing
 unfolding MountStep
-mount_refusals_unchanged old ctx mount.Null reply messages new step e = (step.unchanged, step.no_message)
+mount_refusals_unchanged old ctx mount.Null reply messages new step e = (step.state_is, step.no_message)
 mount_refusals_unchanged old ctx (mount.Mnt path) reply messages new step e = (mnt-refused old ctx path step.result new step.answers (sym (ap is_mount_refusal step.reply_is) ∙ e), step.no_message)
-mount_refusals_unchanged old ctx mount.Dump reply messages new step e = (step.unchanged, step.no_message)
+mount_refusals_unchanged old ctx mount.Dump reply messages new step e = (step.state_is, step.no_message)
 mount_refusals_unchanged old ctx (mount.Unmount path) reply messages new step e = (let no : false ≡ true = sym (ap is_mount_refusal step.reply_is) ∙ e in cc)
 mount_refusals_unchanged old ctx mount.UnmountAll reply messages new step e = (let no : false ≡ true = sym (ap is_mount_refusal step.reply_is) ∙ e in cc)
-mount_refusals_unchanged old ctx mount.Export reply messages new step e = (step.unchanged, step.no_message)
+mount_refusals_unchanged old ctx mount.Export reply messages new step e = (step.state_is, step.no_message)
 
 -- ---- NLM
 has-some : (exclusive : Bool) → mode_of exclusive ≡ Unlocked → ⊥
@@ -119,21 +124,38 @@ tests-form m r mode (tested.Denied holder) fit t =
     subst IsNetobj (sym t.owner_is) (fit r.file t.other t.common (λ none. has-some holder.exclusive (sym (t.has t.common t.is_shown) ∙ none)))
 tests-form m r mode s fit t = absurd t
 
-fault-form : (fault : Fault) → HasTestStatusForm (fault_tested fault)
-fault-form NoFile = tt
-fault-form NotRegular = tt
-fault-form TooBig = tt
-fault-form ReadOnly = tt
+abbrev FaultsHaveForm : {A : Type 0} → Result A Fault → Type 0
+FaultsHaveForm r = IfErr r (λ fault. HasTestStatusForm fault.1)
 
-pub test-form : (old : State) (exclusive : Bool) (r : Result Range Fault) (s : TestStatus) (messages : List Message) (new : State) → OwnersFit old.locks → TestOf old exclusive r s messages new → HasTestStatusForm s
-test-form old exclusive (Err fault) s messages new fit step = subst HasTestStatusForm (sym step.reply_is) (fault-form fault)
-test-form old exclusive (Ok r) s messages new fit step = tests-form old r (mode_of exclusive) s fit step.tests
+named-form : (r : Resolved) → FaultsHaveForm (named_object r)
+named-form BadHandle = tt
+named-form Stale = tt
+named-form (Names number object) = tt
+
+faults-form : {A B : Type 0} (r : Result A Fault) (f : A → Result B Fault) → FaultsHaveForm r → ((x : A) → FaultsHaveForm (f x)) → FaultsHaveForm (r >>= f)
+faults-form (Ok x) f form all = all x
+faults-form (Err e) f form all = form
+
+held-form : (b : Bool) (fault : Fault) → HasTestStatusForm fault.1 → FaultsHaveForm (holding b fault)
+held-form true fault form = tt
+held-form false fault form = form
+
+pub range-form : (old : State) (ctx : Ctx) (l : NlmLock) → FaultsHaveForm (range_checked old ctx l)
+range-form old ctx l =
+    faults-form (file_checked old ctx l.file) _
+    (faults-form (named_object (resolve old ctx l.file)) _ (named-form (resolve old ctx l.file))
+    (λ file. faults-form (regular file.1.content) _ (held-form (is_ok (bytes_in file.1.content)) (status.Failed, tested.Failed) tt) (λ x. tt)))
+    (λ file. faults-form (holding (fits_offsets l) (status.FileTooBig, tested.FileTooBig)) _ (held-form (fits_offsets l) (status.FileTooBig, tested.FileTooBig) tt) (λ x. tt))
+
+pub test-form : (old : State) (exclusive : Bool) (r : Result Range Fault) (s : TestStatus) (messages : List Message) (new : State) → FaultsHaveForm r → OwnersFit old.locks → TestOf old exclusive r s messages new → HasTestStatusForm s
+test-form old exclusive (Err fault) s messages new form fit step = subst HasTestStatusForm (sym step.reply_is) form
+test-form old exclusive (Ok r) s messages new form fit step = tests-form old r (mode_of exclusive) s fit step.0
 
 pub nlm_replies_form : NlmRepliesHaveForm
 unfolding NlmStep
 nlm_replies_form old ctx nlm.Null reply messages new fit call step = subst HasNlmForm (sym step.reply_is) tt
 nlm_replies_form old ctx (nlm.Test a) reply messages new fit call step =
-    subst HasNlmForm (sym step.reply_is) (call.0, test-form old a.exclusive (range_checked old ctx a.lock) step.status messages new fit step.ends)
+    subst HasNlmForm (sym step.reply_is) (call.0, test-form old a.exclusive (range_checked old ctx a.lock) step.status messages new (range-form old ctx a.lock) fit step.ends)
 nlm_replies_form old ctx (nlm.Lock a) reply messages new fit call step = subst HasNlmForm (sym step.reply_is) call.0
 nlm_replies_form old ctx (nlm.Cancel a) reply messages new fit call step = subst HasNlmForm (sym step.reply_is) call.0
 nlm_replies_form old ctx (nlm.Unlock a) reply messages new fit call step = subst HasNlmForm (sym step.reply_is) call.0
@@ -147,11 +169,11 @@ nlm_replies_form old ctx (nlm.TestRes r) reply messages new fit call step = subs
 nlm_replies_form old ctx (nlm.LockRes r) reply messages new fit call step = subst HasNlmForm (sym step.reply_is) tt
 nlm_replies_form old ctx (nlm.CancelRes r) reply messages new fit call step = subst HasNlmForm (sym step.reply_is) tt
 nlm_replies_form old ctx (nlm.UnlockRes r) reply messages new fit call step = subst HasNlmForm (sym step.reply_is) tt
-nlm_replies_form old ctx (nlm.GrantedRes r) reply messages new fit call step = subst HasNlmForm (sym step.reply_is) tt
+nlm_replies_form old ctx (nlm.GrantedRes r) reply messages new fit call step = subst HasNlmForm (sym step.0) tt
 nlm_replies_form old ctx (nlm.Share a) reply messages new fit call step = subst HasNlmForm (sym step.reply_is) call
 nlm_replies_form old ctx (nlm.Unshare a) reply messages new fit call step = subst HasNlmForm (sym step.reply_is) call
 nlm_replies_form old ctx (nlm.NmLock a) reply messages new fit call step = subst HasNlmForm (sym step.reply_is) call.0
-nlm_replies_form old ctx (nlm.FreeAll a) reply messages new fit call step = subst HasNlmForm (sym step.reply_is) tt
+nlm_replies_form old ctx (nlm.FreeAll a) reply messages new fit call step = subst HasNlmForm (sym step.0) tt
 
 abbrev Nothing : State → List Message → State → Type 0
 Nothing old messages new = (new ≡ old) × (messages ≡ [])
@@ -160,21 +182,21 @@ not-granted : {A : Type 0} (s : NlmStatus) → s ≡ status.Granted → refuses 
 not-granted s is e = (let no : false ≡ true = sym (ap refuses is) ∙ e in cc)
 
 pub test-unchanged : (old : State) (exclusive : Bool) (r : Result Range Fault) (s : TestStatus) (messages : List Message) (new : State) → TestOf old exclusive r s messages new → Nothing old messages new
-test-unchanged old exclusive (Err fault) s messages new step = (step.unchanged, step.no_message)
-test-unchanged old exclusive (Ok r) s messages new step = (step.unchanged, step.no_message)
+test-unchanged old exclusive (Err fault) s messages new step = (step.state_is, step.no_message)
+test-unchanged old exclusive (Ok r) s messages new step = (step.2, step.1)
 
 held-unchanged : (old : State) (ctx : Ctx) (a : LockArguments) (by_message : Bool) (r : Range) (block waits : Bool) (s : NlmStatus) (messages : List Message) (new : State)
     → HeldUp old ctx a by_message r block waits s messages new → refuses s ≡ true → Nothing old messages new
-held-unchanged old ctx a by_message r false waits s messages new step e = (step.unchanged, step.no_message)
-held-unchanged old ctx a by_message r true true s messages new step e = (step.unchanged, step.no_message)
+held-unchanged old ctx a by_message r false waits s messages new step e = (step.state_is, step.no_message)
+held-unchanged old ctx a by_message r true true s messages new step e = (step.state_is, step.no_message)
 held-unchanged old ctx a by_message r true false s messages new (inl waits) e = (let no : false ≡ true = sym (ap refuses waits.answers.reply_is) ∙ e in cc)
-held-unchanged old ctx a by_message r true false s messages new (inr none) e = (none.answers.unchanged, none.answers.no_message)
+held-unchanged old ctx a by_message r true false s messages new (inr none) e = (none.answers.state_is, none.answers.no_message)
 
 lock-unchanged : (old : State) (ctx : Ctx) (a : LockArguments) (by_message : Bool) (r : Result Range Fault) (s : NlmStatus) (messages : List Message) (new : State)
     → LockOf old ctx a by_message r s messages new → refuses s ≡ true → Nothing old messages new
-lock-unchanged old ctx a by_message (Err fault) s messages new step e = (step.unchanged, step.no_message)
-lock-unchanged old ctx a by_message (Ok r) s messages new (inl free) e = not-granted s free.status_is e
-lock-unchanged old ctx a by_message (Ok r) s messages new (inr held) e = held-unchanged old ctx a by_message r a.block (list_any (is_request r a.exclusive a.lock) old.waiting) s messages new held.ends e
+lock-unchanged old ctx a by_message (Err fault) s messages new step e = (step.state_is, step.no_message)
+lock-unchanged old ctx a by_message (Ok r) s messages new (inl free) e = not-granted s free.1 e
+lock-unchanged old ctx a by_message (Ok r) s messages new (inr held) e = held-unchanged old ctx a by_message r a.block (list_any (is_request r a.exclusive a.lock) old.waiting) s messages new held.1 e
 
 none-left : {X : Type 0} (p : X → Bool) (xs : List X) → list_any p xs ≡ false → filter (λ x. not (p x)) xs ≡ xs
 none-left p [] e = refl
@@ -185,48 +207,48 @@ none-left p (x ∷ xs) e =
     ] e
 
 cancel-unchanged : (old : State) (a : CancelArguments) (r : Result Range Fault) (s : NlmStatus) (messages : List Message) (new : State) → CancelOf old a r s messages new → refuses s ≡ true → Nothing old messages new
-cancel-unchanged old a (Err fault) s messages new step e = (step.unchanged, step.no_message)
+cancel-unchanged old a (Err fault) s messages new step e = (step.state_is, step.no_message)
 cancel-unchanged old a (Ok r) s messages new step e =
-    elim (list_any (is_request r a.exclusive a.lock) old.waiting) as (λ b. list_any (is_request r a.exclusive a.lock) old.waiting ≡ b → s ≡ cancel_status b → Nothing old messages new) [
+    elim (list_any (is_request r a.exclusive a.lock) old.waiting) as (λ b. list_any (is_request r a.exclusive a.lock) old.waiting ≡ b → s ≡ cond b status.Granted status.Denied → Nothing old messages new) [
       | true ↦ λ is t. not-granted s t e
       | false ↦ λ is t. (step.state_is ∙ ap (λ w. record old { waiting = w }) (none-left (is_request r a.exclusive a.lock) old.waiting is), step.no_message)
     ] refl step.reply_is
 
 unlock-unchanged : (old : State) (r : Result Range Fault) (s : NlmStatus) (messages : List Message) (new : State) → UnlockOf old r s messages new → refuses s ≡ true → Nothing old messages new
-unlock-unchanged old (Err fault) s messages new step e = (step.unchanged, step.no_message)
-unlock-unchanged old (Ok r) s messages new step e = not-granted s step.status_is e
+unlock-unchanged old (Err fault) s messages new step e = (step.state_is, step.no_message)
+unlock-unchanged old (Ok r) s messages new step e = not-granted s step.0 e
 
 share-unchanged : (old : State) (r : Result Share Fault) (s : NlmStatus) (messages : List Message) (new : State) → ShareOf old r s messages new → refuses s ≡ true → Nothing old messages new
-share-unchanged old (Err fault) s messages new step e = (step.unchanged, step.no_message)
+share-unchanged old (Err fault) s messages new step e = (step.state_is, step.no_message)
 share-unchanged old (Ok share) s messages new step e =
-    elim (list_any (shares_conflict share) old.shares) as (λ b. s ≡ share_status b → new ≡ share_left old share b → Nothing old messages new) [
-      | true ↦ λ t same. (same, step.no_message)
-      | false ↦ λ t same. not-granted s t e
-    ] step.reply_is step.state_is
+    elim (list_any (shares_conflict share) old.shares) as (λ b. Shares old share b s messages new → Nothing old messages new) [
+      | true ↦ λ denied. (denied.state_is, denied.no_message)
+      | false ↦ λ kept. not-granted s kept.reply_is e
+    ] step
 
-unshare-unchanged : (old : State) (r : Result Share Fault) (s : NlmStatus) (messages : List Message) (new : State) → UnshareOf old r s messages new → refuses s ≡ true → Nothing old messages new
-unshare-unchanged old (Err fault) s messages new step e = (step.unchanged, step.no_message)
-unshare-unchanged old (Ok share) s messages new step e = not-granted s step.reply_is e
+unshare-unchanged : (old : State) (asked : NlmShare) (r : Result (ℕ × Living) Fault) (s : NlmStatus) (messages : List Message) (new : State) → UnshareOf old asked r s messages new → refuses s ≡ true → Nothing old messages new
+unshare-unchanged old asked (Err fault) s messages new step e = (step.state_is, step.no_message)
+unshare-unchanged old asked (Ok file) s messages new step e = not-granted s step.reply_is e
 
 pub nlm_refusals_unchanged : NlmRefusalsChangeNothing
 unfolding NlmStep
-nlm_refusals_unchanged old ctx nlm.Null reply messages new step e = (step.unchanged, step.no_message)
+nlm_refusals_unchanged old ctx nlm.Null reply messages new step e = (step.state_is, step.no_message)
 nlm_refusals_unchanged old ctx (nlm.Test a) reply messages new step e = test-unchanged old a.exclusive (range_checked old ctx a.lock) step.status messages new step.ends
 nlm_refusals_unchanged old ctx (nlm.Lock a) reply messages new step e = lock-unchanged old ctx a false (lock_checked old ctx a) step.status messages new step.ends (sym (ap is_nlm_refusal step.reply_is) ∙ e)
 nlm_refusals_unchanged old ctx (nlm.Cancel a) reply messages new step e = cancel-unchanged old a (range_checked old ctx a.lock) step.status messages new step.ends (sym (ap is_nlm_refusal step.reply_is) ∙ e)
 nlm_refusals_unchanged old ctx (nlm.Unlock a) reply messages new step e = unlock-unchanged old (range_checked old ctx a.lock) step.status messages new step.ends (sym (ap is_nlm_refusal step.reply_is) ∙ e)
-nlm_refusals_unchanged old ctx (nlm.Granted a) reply messages new step e = (step.ends.unchanged, step.ends.no_message)
+nlm_refusals_unchanged old ctx (nlm.Granted a) reply messages new step e = (step.ends.state_is, step.ends.no_message)
 nlm_refusals_unchanged old ctx (nlm.TestMsg a) reply messages new step e = (let no : false ≡ true = sym (ap is_nlm_refusal step.reply_is) ∙ e in cc)
 nlm_refusals_unchanged old ctx (nlm.LockMsg a) reply messages new step e = (let no : false ≡ true = sym (ap is_nlm_refusal step.reply_is) ∙ e in cc)
 nlm_refusals_unchanged old ctx (nlm.CancelMsg a) reply messages new step e = (let no : false ≡ true = sym (ap is_nlm_refusal step.reply_is) ∙ e in cc)
 nlm_refusals_unchanged old ctx (nlm.UnlockMsg a) reply messages new step e = (let no : false ≡ true = sym (ap is_nlm_refusal step.reply_is) ∙ e in cc)
 nlm_refusals_unchanged old ctx (nlm.GrantedMsg a) reply messages new step e = (let no : false ≡ true = sym (ap is_nlm_refusal step.reply_is) ∙ e in cc)
-nlm_refusals_unchanged old ctx (nlm.TestRes r) reply messages new step e = (step.unchanged, step.no_message)
-nlm_refusals_unchanged old ctx (nlm.LockRes r) reply messages new step e = (step.unchanged, step.no_message)
-nlm_refusals_unchanged old ctx (nlm.CancelRes r) reply messages new step e = (step.unchanged, step.no_message)
-nlm_refusals_unchanged old ctx (nlm.UnlockRes r) reply messages new step e = (step.unchanged, step.no_message)
-nlm_refusals_unchanged old ctx (nlm.GrantedRes r) reply messages new step e = (let no : false ≡ true = sym (ap is_nlm_refusal step.reply_is) ∙ e in cc)
+nlm_refusals_unchanged old ctx (nlm.TestRes r) reply messages new step e = (step.state_is, step.no_message)
+nlm_refusals_unchanged old ctx (nlm.LockRes r) reply messages new step e = (step.state_is, step.no_message)
+nlm_refusals_unchanged old ctx (nlm.CancelRes r) reply messages new step e = (step.state_is, step.no_message)
+nlm_refusals_unchanged old ctx (nlm.UnlockRes r) reply messages new step e = (step.state_is, step.no_message)
+nlm_refusals_unchanged old ctx (nlm.GrantedRes r) reply messages new step e = (let no : false ≡ true = sym (ap is_nlm_refusal step.0) ∙ e in cc)
 nlm_refusals_unchanged old ctx (nlm.Share a) reply messages new step e = share-unchanged old (share_checked old ctx a.share) step.status messages new step.ends (sym (ap is_nlm_refusal step.reply_is) ∙ e)
-nlm_refusals_unchanged old ctx (nlm.Unshare a) reply messages new step e = unshare-unchanged old (unshare_checked old ctx a.share) step.status messages new step.ends (sym (ap is_nlm_refusal step.reply_is) ∙ e)
+nlm_refusals_unchanged old ctx (nlm.Unshare a) reply messages new step e = unshare-unchanged old a.share (file_checked old ctx a.share.file) step.status messages new step.ends (sym (ap is_nlm_refusal step.reply_is) ∙ e)
 nlm_refusals_unchanged old ctx (nlm.NmLock a) reply messages new step e = lock-unchanged old ctx a false (lock_checked old ctx a) step.status messages new step.ends (sym (ap is_nlm_refusal step.reply_is) ∙ e)
-nlm_refusals_unchanged old ctx (nlm.FreeAll a) reply messages new step e = (let no : false ≡ true = sym (ap is_nlm_refusal step.reply_is) ∙ e in cc)
+nlm_refusals_unchanged old ctx (nlm.FreeAll a) reply messages new step e = (let no : false ≡ true = sym (ap is_nlm_refusal step.0) ∙ e in cc)

@@ -1,5 +1,7 @@
 -- What REMOVE, RMDIR and LINK leave: handles are given once, and what is true of every state stays true.
 use Rattle.std.proofs.Common.{◌≡◌, ◌==◌, ℕ, ◌+◌, ◌^◌, Bool, true, false, not, cond, List, [], Some, None, Result, Ok, IfOk, find, nat_lt, refl, sym, ◌∙◌, ap, subst, arith}
+use Rattle.std.specs.Prelude.{is_none}
+use Rattle.std.specs.Prelude.{ok_or}
 use Rattle.std.specs.Cmp.{unsigned_Decides}
 use Rattle.std.specs.FinMap.{get}
 use Rattle.nfs_wire.specs.declared.attributes.Time.{Time}
@@ -9,11 +11,11 @@ use Rattle.nfs_wire.specs.declared.status.NfsStatus.{NfsStatus}
 use Rattle.nfs_wire.specs.declared.status.NfsStatus.TheVariants as status
 use Rattle.nfs_machine.specs.Attributes.{entries_of, is_directory, names_of}
 use Rattle.nfs_machine.specs.Bytes.{same_bytes}
-use Rattle.nfs_machine.specs.Checks.{holding, object_of, entries_in, old_name_checked, changeable, permitted, entry_of, is_absent, may_gain_link}
+use Rattle.nfs_machine.specs.Checks.{holding, object_of, entries_in, old_name_checked, changeable, permitted, entry_of, may_gain_link}
 use Rattle.nfs_machine.specs.LinkSteps.{link_end}
 use Rattle.nfs_machine.specs.Making.{with_entry}
 use Rattle.nfs_machine.specs.Permission.{Changing}
-use Rattle.nfs_machine.specs.RemoveSteps.{Named, directory_name_checked, empty_directory, entry_found, named_in, not_directory, object_found, remove_end, rmdir_end, take_end, with_name_taken, without}
+use Rattle.nfs_machine.specs.RemoveSteps.{Named, directory_name_checked, empty_directory, named_in, not_directory, remove_end, rmdir_end, take_end, with_name_taken, without}
 use Rattle.nfs_machine.specs.Resolve.{resolve}
 use Rattle.nfs_machine.specs.Shown.{touched, with_content, with_object}
 use Rattle.nfs_machine.specs.State.{Content, Directory, Entry, Living, State}
@@ -21,10 +23,10 @@ use Rattle.nfs_machine.specs.Times.{time_of}
 use Rattle.nfs_machine.specs.WellFormed.{WellFormed}
 use Rattle.nfs_machine.specs.declared.context.Ctx.{Ctx}
 use Rattle.nfs_machine.proofs.Changes.{apart, differs-insert, differs-other, itself}
-use Rattle.nfs_machine.proofs.Continued.{Continues, continues-itself, continues-losing, continues-touched, continues-with, gives-continued, texts-continued, touched-swaps, touches-continued, well_formed-losing}
+use Rattle.nfs_machine.proofs.Continued.{Continues, continues-itself, continues-losing, continues-touched, continues-with, gives-continued, texts-continued, touches-continued, well_formed-losing}
 use Rattle.nfs_machine.proofs.Facts.{absent, chained-is, directory-empty, entry-found, holds, is-directory, object-found, plain-empty, resolved-lives, turned}
 use Rattle.nfs_machine.proofs.Follows.{Follows, bounds-losing, locks-losing, mounts-losing, of-ok}
-use Rattle.nfs_machine.proofs.Loose.{AddsName, Loose, Swaps, TakesName, also, loose-added, loose-same, loose-taken, loosened, names_of-taken, none_loose, tightened}
+use Rattle.nfs_machine.proofs.Loose.{AddsName, Loose, Swaps, TakesName, also, loose-added, loose-taken, loose-touched, loosened, names_of-taken, none_loose, tightened}
 use Rattle.nfs_machine.proofs.Roots.{directory-root}
 
 -- a name that is in its directory, and leads to what lives there
@@ -39,8 +41,8 @@ pub record IsNamed (m : State) (n : Named) : Type 0 where
 pub is-named : (m : State) (directory : ℕ × Living) (entries : List Entry × ℕ) (name : List ℕ) → get m.objects directory.0 ≡ Some directory.1 → directory.1.content ≡ Directory entries.0 entries.1
     → IfOk (named_in m directory entries name) (IsNamed m)
 is-named m directory entries name lives content =
-    chained-is (IsNamed m) (entry_found (entry_of entries.0 name)) _ (λ e is.
-    chained-is (IsNamed m) (object_found (get m.objects e.number)) _ (λ o at. record {
+    chained-is (IsNamed m) (ok_or (entry_of entries.0 name) status.NoEntry) _ (λ e is.
+    chained-is (IsNamed m) (ok_or (get m.objects e.number) status.NoEntry) _ (λ o at. record {
       lives = lives;
       content = content;
       entry = e;
@@ -191,7 +193,7 @@ module _ (m : State) (now : Time) (number : ℕ) (object : Living) (place : ℕ)
       let wide = loose-added m added place number directory wider object name (adds w) none_loose l l.depth (record { deeper = l.deeper; added = λ e. (let no : true ≡ false = sym e ∙ plain in cc) }) in
       let at : get added.objects number ≡ Some object = differs-other m.objects added.objects place (Some wider) (differs-insert m.objects place wider) number other-place ∙ there in
       tightened (with_object added number (touched object now)) (texts-continued now m (with_object added number (touched object now)) continues-linked w.texts)
-      (loose-same added (with_object added number (touched object now)) number object (touched object now) (touched-swaps added number object at now) refl none_loose wide)
+      (loose-touched added number object at none_loose wide now)
 
   pub linked-follows : Follows now m (with_object added number (touched object now))
   linked-follows = record {
@@ -214,7 +216,7 @@ link-follows m ctx a =
     chained-is P (old_name_checked a.place.name) _ (λ x3 e3.
     chained-is P (changeable ctx directory.1) _ (λ x4 e4.
     chained-is P (permitted ctx directory.1 Changing) _ (λ x5 e5.
-    chained-is P (holding (is_absent entries.0 a.place.name) status.Exists) _ (λ x6 e6.
+    chained-is P (holding (is_none (entry_of entries.0 a.place.name)) status.Exists) _ (λ x6 e6.
     chained-is P (may_gain_link m file.0 file.1.content) _ (λ x7 e7.
     chained-is P (holding (nat_lt (entries.1 + 1) (2 ^ 64)) status.NoSpace) _ (λ x8 e8.
     linked-follows m (time_of ctx.moment) file.0 file.1 directory.0 directory.1 entries.0 entries.1 a.place.name
@@ -222,4 +224,4 @@ link-follows m ctx a =
     ((unsigned_Decides file.1.export directory.1.export).0 (holds (file.1.export == directory.1.export) status.CrossDevice x1 e1))
     (turned (is_directory file.1.content) (holds (not (is_directory file.1.content)) status.Invalid x2 e2))
     (is-directory directory.1.content entries is)
-    (absent entries.0 a.place.name (holds (is_absent entries.0 a.place.name) status.Exists x6 e6)))))))))))))
+    (absent entries.0 a.place.name (holds (is_none (entry_of entries.0 a.place.name)) status.Exists x6 e6)))))))))))))

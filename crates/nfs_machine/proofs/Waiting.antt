@@ -8,16 +8,20 @@ use Rattle.side_wire.specs.declared.nlm.LockArguments.{LockArguments}
 use Rattle.side_wire.specs.declared.nlm.NlmCall.{NlmCall}
 use Rattle.side_wire.specs.declared.nlm.NlmCall.TheVariants as calls
 use Rattle.side_wire.specs.declared.nlm.NlmReply.{NlmReply}
+use Rattle.side_wire.specs.declared.nlm.NlmShare.{NlmShare}
 use Rattle.side_wire.specs.declared.nlm.NlmStatus.{NlmStatus}
 use Rattle.side_wire.specs.declared.nlm.NlmStatus.TheVariants as status
 use Rattle.side_wire.specs.declared.nlm.TestStatus.{TestStatus}
-use Rattle.nfs_machine.specs.Grants.{AllHeldUp, ChangesLocks, Grants, IsHeldUp, SettleInOrder, Settles, requested, with_locks}
+use Rattle.side_wire.specs.declared.nlm.TestStatus.TheVariants as tested_status
+use Rattle.nfs_machine.specs.LockLaws.{AllHeldUp}
+use Rattle.nfs_machine.specs.Grants.{ChangesLocks, Grants, IsHeldUp, SettleInOrder, Settles, requested, with_locks}
 use Rattle.nfs_machine.specs.Locks.{Conflicts, Lists, Mode, Range, Unlocked, fits_offsets, is_within, mode_at, mode_of, modes_conflict, modes_with, range_of, same_owner, shares_conflict}
-use Rattle.nfs_machine.specs.LockSteps.{CancelOf, Fault, Frees, GrantOf, HeldUp, LockOf, ReadOnly, ShareOf, TestOf, TooBig, UnlockOf, UnshareOf, ◌>>=◌, file_checked, holding, is_answered, is_request, lock_checked, range_checked, share_checked, share_left, unshare_checked, without_caller, without_grant}
-use Rattle.nfs_machine.specs.Checks.{is_writable}
+use Rattle.nfs_machine.specs.LockSteps.{Fault, Frees, GrantOf, HeldUp, Shares, file_checked, is_answered, is_request, lock_checked, range_checked, share_checked, without_caller, without_grant}
+use Rattle.nfs_machine.specs.Checks.{◌>>=◌, holding, is_writable}
 use Rattle.nfs_machine.specs.NlmSteps.{NlmStep}
-use Rattle.nfs_machine.specs.State.{Lock, Owner, Request, Share, State}
+use Rattle.nfs_machine.specs.State.{Living, Lock, Owner, Request, Share, State}
 use Rattle.nfs_machine.specs.declared.context.Ctx.{Ctx}
+use Rattle.nfs_machine.proofs.Checked.{CancelOf, LockOf, ShareOf, TestOf, UnlockOf, UnshareOf}
 use Rattle.nfs_machine.proofs.Modes.{all-joined, all-left, all-mapped}
 
 -- where the modes on the file are as before, what conflicted conflicts
@@ -100,56 +104,56 @@ ranged (Err e) f l all = tt
 pub lock-range : (old : State) (ctx : Ctx) (a : LockArguments) → IfOk (lock_checked old ctx a) (λ r. r ≡ range_of r.file a.lock)
 lock-range old ctx a =
     let P : Range → Type 0 = λ (r : Range). r ≡ range_of r.file a.lock in
-    ranged (file_checked old ctx a.lock.file) _ P (λ file. ranged (holding (fits_offsets a.lock) TooBig) _ P (λ x. ranged (holding (not a.exclusive || is_writable ctx file.1) ReadOnly) _ P (λ y. refl)))
+    ranged (file_checked old ctx a.lock.file) _ P (λ file. ranged (holding (fits_offsets a.lock) (status.FileTooBig, tested_status.FileTooBig)) _ P (λ x. ranged (holding (not a.exclusive || is_writable ctx file.1) (status.ReadOnly, tested_status.ReadOnly)) _ P (λ y. refl)))
 
 held-up : (old : State) (ctx : Ctx) (a : LockArguments) (by_message : Bool) (r : Range) (block waits : Bool) (s : NlmStatus) (messages : List Message) (new : State)
     → r ≡ range_of r.file a.lock → Conflicts old.locks r (mode_of a.exclusive) → HeldUp old ctx a by_message r block waits s messages new → AllHeldUp old → AllHeldUp new
-held-up old ctx a by_message r false waits s messages new is c step held = stays old new step.unchanged held
-held-up old ctx a by_message r true true s messages new is c step held = stays old new step.unchanged held
+held-up old ctx a by_message r false waits s messages new is c step held = stays old new step.state_is held
+held-up old ctx a by_message r true true s messages new is c step held = stays old new step.state_is held
 held-up old ctx a by_message r true false s messages new is c (inl waits) held =
     subst AllHeldUp (sym waits.answers.state_is)
     (all-joined (IsHeldUp old.locks) old.waiting (record { number = waits.number; file = r.file; host = ctx.host; exclusive = a.exclusive; asked = a.lock; by_message = by_message } ∷ []) held
     (subst (λ x. Conflicts old.locks x (mode_of a.exclusive)) is c, tt))
-held-up old ctx a by_message r true false s messages new is c (inr none) held = stays old new none.answers.unchanged held
+held-up old ctx a by_message r true false s messages new is c (inr none) held = stays old new none.answers.state_is held
 
 locked : (old : State) (ctx : Ctx) (a : LockArguments) (by_message : Bool) (r : Result Range Fault) (s : NlmStatus) (messages : List Message) (new : State)
     → IfOk r (λ r. r ≡ range_of r.file a.lock) → LockOf old ctx a by_message r s messages new → AllHeldUp old → AllHeldUp new
-locked old ctx a by_message (Err fault) s messages new is step held = stays old new step.unchanged held
-locked old ctx a by_message (Ok r) s messages new is (inl free) held = changed old r (mode_of a.exclusive) messages new free.changes held
+locked old ctx a by_message (Err fault) s messages new is step held = stays old new step.state_is held
+locked old ctx a by_message (Ok r) s messages new is (inl free) held = changed old r (mode_of a.exclusive) messages new free.2 held
 locked old ctx a by_message (Ok r) s messages new is (inr up) held =
-    held-up old ctx a by_message r a.block (list_any (is_request r a.exclusive a.lock) old.waiting) s messages new is up.conflicts up.ends held
+    held-up old ctx a by_message r a.block (list_any (is_request r a.exclusive a.lock) old.waiting) s messages new is up.0 up.1 held
 
 left : (locks : List Lock) (p : Request → Bool) (waiting : List Request) → AllByRecursion (IsHeldUp locks) waiting → AllByRecursion (IsHeldUp locks) (filter p waiting)
 left locks p waiting held = all-left (IsHeldUp locks) (IsHeldUp locks) p waiting (λ r e h. h) held
 
 cancelled : (old : State) (a : CancelArguments) (r : Result Range Fault) (s : NlmStatus) (messages : List Message) (new : State) → CancelOf old a r s messages new → AllHeldUp old → AllHeldUp new
-cancelled old a (Err fault) s messages new step held = stays old new step.unchanged held
+cancelled old a (Err fault) s messages new step held = stays old new step.state_is held
 cancelled old a (Ok r) s messages new step held = subst AllHeldUp (sym step.state_is) (left old.locks (λ (q : Request). not (is_request r a.exclusive a.lock q)) old.waiting held)
 
 unlocked : (old : State) (r : Result Range Fault) (s : NlmStatus) (messages : List Message) (new : State) → UnlockOf old r s messages new → AllHeldUp old → AllHeldUp new
-unlocked old (Err fault) s messages new step held = stays old new step.unchanged held
-unlocked old (Ok r) s messages new step held = changed old r Unlocked messages new step.changes held
+unlocked old (Err fault) s messages new step held = stays old new step.state_is held
+unlocked old (Ok r) s messages new step held = changed old r Unlocked messages new step.1 held
 
 answered : (old : State) (request : Option Request) (goes : Request → Bool) (s : NlmStatus) (messages : List Message) (new : State) → GrantOf old request goes s messages new → AllHeldUp old → AllHeldUp new
 answered old None goes s messages new step held = stays old new step.1 held
 answered old (Some request) goes status.Granted messages new step held = subst AllHeldUp (sym step.1) held
 answered old (Some request) goes s messages new step held = changed (without_grant old goes) (requested request) Unlocked messages new step held
 
-shared : (old : State) (share : Share) (conflicts : Bool) (new : State) → new ≡ share_left old share conflicts → AllHeldUp old → AllHeldUp new
-shared old share true new e held = stays old new e held
-shared old share false new e held = subst AllHeldUp (sym e) held
+shared : (old : State) (share : Share) (conflicts : Bool) (s : NlmStatus) (messages : List Message) (new : State) → Shares old share conflicts s messages new → AllHeldUp old → AllHeldUp new
+shared old share true s messages new step held = stays old new step.state_is held
+shared old share false s messages new step held = subst AllHeldUp (sym step.state_is) held
 
 share-held : (old : State) (r : Result Share Fault) (s : NlmStatus) (messages : List Message) (new : State) → ShareOf old r s messages new → AllHeldUp old → AllHeldUp new
-share-held old (Err fault) s messages new step held = stays old new step.unchanged held
-share-held old (Ok share) s messages new step held = shared old share (list_any (shares_conflict share) old.shares) new step.state_is held
+share-held old (Err fault) s messages new step held = stays old new step.state_is held
+share-held old (Ok share) s messages new step held = shared old share (list_any (shares_conflict share) old.shares) s messages new step held
 
-unshared : (old : State) (r : Result Share Fault) (s : NlmStatus) (messages : List Message) (new : State) → UnshareOf old r s messages new → AllHeldUp old → AllHeldUp new
-unshared old (Err fault) s messages new step held = stays old new step.unchanged held
-unshared old (Ok share) s messages new step held = subst AllHeldUp (sym step.state_is) held
+unshared : (old : State) (asked : NlmShare) (r : Result (ℕ × Living) Fault) (s : NlmStatus) (messages : List Message) (new : State) → UnshareOf old asked r s messages new → AllHeldUp old → AllHeldUp new
+unshared old asked (Err fault) s messages new step held = stays old new step.state_is held
+unshared old asked (Ok file) s messages new step held = subst AllHeldUp (sym step.state_is) held
 
 tested : (old : State) (exclusive : Bool) (r : Result Range Fault) (s : TestStatus) (messages : List Message) (new : State) → TestOf old exclusive r s messages new → AllHeldUp old → AllHeldUp new
-tested old exclusive (Err fault) s messages new step held = stays old new step.unchanged held
-tested old exclusive (Ok r) s messages new step held = stays old new step.unchanged held
+tested old exclusive (Err fault) s messages new step held = stays old new step.state_is held
+tested old exclusive (Ok r) s messages new step held = stays old new step.2 held
 
 -- all files that are waited for settle
 freed : (old : State) (name : List ℕ) (messages : List Message) (new : State) → Frees old name messages new → AllHeldUp new
@@ -160,23 +164,23 @@ freed old name messages new f =
 
 pub nlm-waits : (old : State) (ctx : Ctx) (call : NlmCall) (reply : NlmReply) (messages : List Message) (new : State) → NlmStep old ctx call reply messages new → AllHeldUp old → AllHeldUp new
 unfolding NlmStep
-nlm-waits old ctx calls.Null reply messages new step held = stays old new step.unchanged held
+nlm-waits old ctx calls.Null reply messages new step held = stays old new step.state_is held
 nlm-waits old ctx (calls.Test a) reply messages new step held = tested old a.exclusive (range_checked old ctx a.lock) step.status messages new step.ends held
 nlm-waits old ctx (calls.Lock a) reply messages new step held = locked old ctx a false (lock_checked old ctx a) step.status messages new (lock-range old ctx a) step.ends held
 nlm-waits old ctx (calls.Cancel a) reply messages new step held = cancelled old a (range_checked old ctx a.lock) step.status messages new step.ends held
 nlm-waits old ctx (calls.Unlock a) reply messages new step held = unlocked old (range_checked old ctx a.lock) step.status messages new step.ends held
-nlm-waits old ctx (calls.Granted a) reply messages new step held = stays old new step.ends.unchanged held
+nlm-waits old ctx (calls.Granted a) reply messages new step held = stays old new step.ends.state_is held
 nlm-waits old ctx (calls.TestMsg a) reply messages new step held = tested old a.exclusive (range_checked old ctx a.lock) step.status step.granted new step.ends held
 nlm-waits old ctx (calls.LockMsg a) reply messages new step held = locked old ctx a true (lock_checked old ctx a) step.status step.granted new (lock-range old ctx a) step.ends held
 nlm-waits old ctx (calls.CancelMsg a) reply messages new step held = cancelled old a (range_checked old ctx a.lock) step.status step.granted new step.ends held
 nlm-waits old ctx (calls.UnlockMsg a) reply messages new step held = unlocked old (range_checked old ctx a.lock) step.status step.granted new step.ends held
-nlm-waits old ctx (calls.GrantedMsg a) reply messages new step held = stays old new step.ends.unchanged held
-nlm-waits old ctx (calls.TestRes r) reply messages new step held = stays old new step.unchanged held
-nlm-waits old ctx (calls.LockRes r) reply messages new step held = stays old new step.unchanged held
-nlm-waits old ctx (calls.CancelRes r) reply messages new step held = stays old new step.unchanged held
-nlm-waits old ctx (calls.UnlockRes r) reply messages new step held = stays old new step.unchanged held
-nlm-waits old ctx (calls.GrantedRes r) reply messages new step held = answered old (find (is_answered ctx.host r.cookie) old.granted) (is_answered ctx.host r.cookie) r.status messages new step.ends held
+nlm-waits old ctx (calls.GrantedMsg a) reply messages new step held = stays old new step.ends.state_is held
+nlm-waits old ctx (calls.TestRes r) reply messages new step held = stays old new step.state_is held
+nlm-waits old ctx (calls.LockRes r) reply messages new step held = stays old new step.state_is held
+nlm-waits old ctx (calls.CancelRes r) reply messages new step held = stays old new step.state_is held
+nlm-waits old ctx (calls.UnlockRes r) reply messages new step held = stays old new step.state_is held
+nlm-waits old ctx (calls.GrantedRes r) reply messages new step held = answered old (find (is_answered ctx.host r.cookie) old.granted) (is_answered ctx.host r.cookie) r.status messages new step.1 held
 nlm-waits old ctx (calls.Share a) reply messages new step held = share-held old (share_checked old ctx a.share) step.status messages new step.ends held
-nlm-waits old ctx (calls.Unshare a) reply messages new step held = unshared old (unshare_checked old ctx a.share) step.status messages new step.ends held
+nlm-waits old ctx (calls.Unshare a) reply messages new step held = unshared old a.share (file_checked old ctx a.share.file) step.status messages new step.ends held
 nlm-waits old ctx (calls.NmLock a) reply messages new step held = locked old ctx a false (lock_checked old ctx a) step.status messages new (lock-range old ctx a) step.ends held
-nlm-waits old ctx (calls.FreeAll a) reply messages new step held = freed old a.name messages new step.ends
+nlm-waits old ctx (calls.FreeAll a) reply messages new step held = freed old a.name messages new step.1

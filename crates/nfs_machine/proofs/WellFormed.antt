@@ -1,11 +1,13 @@
--- What is true of every state stays true where an object changes but for its names, and where a new object is made under a new name.
+-- Where what has a name lives on, names lead where they led, links are as many and parents stay; so where objects change but for their names.
 use Rattle.std.proofs.Common.{◌≡◌, ◌==◌, ℕ, ◌+◌, ◌<◌, ◌≤◌, Bool, true, false, cond, List, [], ◌∷◌, ◌++◌, Option, Some, None, inl, inr, refl, sym, ◌∙◌, ap, subst, arith}
+use Rattle.std.proofs.lemmas.List.Sums.{sum_by-cons}
 use Rattle.std.specs.Cmp.{unsigned_Decides}
 use Rattle.std.specs.FinMap.{get, insert}
 use Rattle.std.specs.List.{AllByRecursion, count_by}
 use Rattle.nfs_machine.specs.Attributes.{entries_of, is_directory, is_living_directory, links_of, names_in, names_of}
 use Rattle.nfs_machine.specs.State.{Content, Regular, Directory, Link, BlockDevice, CharacterDevice, Socket, Fifo, Entry, Living, State}
-use Rattle.nfs_machine.specs.WellFormed.{IsParent, KeepsNames, Leads, NamesOnce, TextsFit, WellFormed}
+use Rattle.nfs_machine.specs.WellFormed.{IsDirectoryOf, IsParent, Leads}
+use Rattle.nfs_machine.proofs.Changes.{part-of_sum}
 use Rattle.nfs_machine.proofs.Sums.{get-inserted, sum-insert_old}
 
 -- ---- lists
@@ -32,8 +34,116 @@ no_entries (CharacterDevice device) e = refl
 no_entries Socket e = refl
 no_entries Fifo e = refl
 
+-- each entry of a list is counted in it
+pub counted : (es : List Entry) → AllByRecursion (λ (e : Entry). 1 ≤ count_by (λ (x : Entry). x.number == e.number) es) es
+counted [] = tt
+counted (e ∷ es) = (
+  (let one : cond {A = ℕ} (e.number == e.number) 1 0 ≡ 1 = ap (λ b. cond b 1 0) ((unsigned_Decides e.number e.number).1 refl) in
+      omega (arith, one, sum_by-cons (λ (x : Entry). cond {A = ℕ} (x.number == e.number) 1 0) e es)),
+  all_map (λ (f : Entry). 1 ≤ count_by (λ (x : Entry). x.number == f.number) es) (λ (f : Entry). 1 ≤ count_by (λ (x : Entry). x.number == f.number) (e ∷ es))
+      (λ f some. omega (arith, some, sum_by-cons (λ (x : Entry). cond {A = ℕ} (x.number == f.number) 1 0) e es)) es (counted es),
+)
+
+-- what an entry of a living directory leads to has a name
+has-names : (m : State) (n : ℕ) (d : Living) → get m.objects n ≡ Some d → AllByRecursion (λ (e : Entry). 1 ≤ names_of m e.number) (entries_of d.content)
+has-names m n d at =
+    all_map (λ (e : Entry). 1 ≤ names_in e.number d) (λ (e : Entry). 1 ≤ names_of m e.number) (λ e some. (let part = part-of_sum (names_in e.number) m.objects n d at in omega (arith, some, part)))
+    (entries_of d.content) (counted (entries_of d.content))
+
+-- ---- links
+abbrev pub is_subdirectory : State → Entry → Bool
+is_subdirectory m e = is_living_directory (get m.objects e.number)
+
+pub links-by : (m : State) (n : ℕ) (c : Content) → links_of m n c ≡ cond (is_directory c) (2 + count_by (is_subdirectory m) (entries_of c)) (names_of m n)
+links-by m n (Directory entries last) = refl
+links-by m n (Regular bytes) = refl
+links-by m n (Link text) = refl
+links-by m n (BlockDevice device) = refl
+links-by m n (CharacterDevice device) = refl
+links-by m n Socket = refl
+links-by m n Fifo = refl
+
+-- the links of what is no directory are its names
+pub links-names : (m : State) (n : ℕ) (c : Content) → is_directory c ≡ false → links_of m n c ≡ names_of m n
+links-names m n c plain = links-by m n c ∙ ap (λ b. cond b (2 + count_by (is_subdirectory m) (entries_of c)) (names_of m n)) plain
+
+pub links-same : (old new : State) (n : ℕ) (c : Content) → names_of new n ≡ names_of old n → count_by (is_subdirectory new) (entries_of c) ≡ count_by (is_subdirectory old) (entries_of c) → links_of new n c ≡ links_of old n c
+links-same old new n c names counts =
+    links-by new n c ∙ ap (λ k. cond (is_directory c) (2 + k) (names_of new n)) counts ∙ ap (cond (is_directory c) (2 + count_by (is_subdirectory old) (entries_of c))) names ∙ sym (links-by old n c)
+
+-- ---- what lives on: an object of the same export, and a directory where it was one
+pub record LivesOn (new : State) (n : ℕ) (o : Living) : Type 0 where
+  pub object : Living
+  pub lives : get new.objects n ≡ Some object
+  pub export : object.export ≡ o.export
+  pub kind : is_directory object.content ≡ is_directory o.content
+
+-- directories stand deeper than the one that they are named in
+abbrev pub Deep : State → (ℕ → ℕ) → ℕ → Entry → Type 0
+Deep m depth n e = is_living_directory (get m.objects e.number) ≡ true → depth n < depth e.number
+
+-- where all that has a name lives on
+module _ (old new : State) (on : (n : ℕ) (o : Living) → get old.objects n ≡ Some o → 1 ≤ names_of old n → LivesOn new n o) where
+  module _ (n : ℕ) (d : Living) (at : get old.objects n ≡ Some d) where
+    abbrev LeadsOn : Entry → Type 0
+    LeadsOn e = (l : Leads old d e) × LivesOn new e.number l.object
+
+    all-on : AllByRecursion (Leads old d) (entries_of d.content) → AllByRecursion LeadsOn (entries_of d.content)
+    all-on leads =
+        all_map (λ (e : Entry). (1 ≤ names_of old e.number) × Leads old d e) LeadsOn
+        (λ e both. (both.1, on e.number (both.1).object (both.1).lives both.0))
+        (entries_of d.content) (all_both (λ (e : Entry). 1 ≤ names_of old e.number) (Leads old d) (entries_of d.content) (has-names old n d at) leads)
+
+    pub leads-on : (is : Living) → is.export ≡ d.export → AllByRecursion (Leads old d) (entries_of d.content) → AllByRecursion (Leads new is) (entries_of d.content)
+    leads-on is same leads =
+        all_map LeadsOn (Leads new is)
+        (λ e l. record { object = (l.1).object; lives = (l.1).lives; export = (l.1).export ∙ (l.0).export ∙ sym same; no_root = subst (λ k. (e.number == k) ≡ false) (sym same) (l.0).no_root })
+        (entries_of d.content) (all-on leads)
+
+    kinds-on : AllByRecursion (Leads old d) (entries_of d.content) → AllByRecursion (λ (e : Entry). is_subdirectory new e ≡ is_subdirectory old e) (entries_of d.content)
+    kinds-on leads =
+        all_map LeadsOn (λ (e : Entry). is_subdirectory new e ≡ is_subdirectory old e)
+        (λ e l. ap is_living_directory (l.1).lives ∙ (l.1).kind ∙ sym (ap is_living_directory (l.0).lives))
+        (entries_of d.content) (all-on leads)
+
+    pub names-on : IsDirectoryOf old d → IsDirectoryOf new d
+    names-on was = record { once = was.once; leads = leads-on d refl was.leads }
+
+    pub deep-on : (depth : ℕ → ℕ) → AllByRecursion (Leads old d) (entries_of d.content) → AllByRecursion (Deep old depth n) (entries_of d.content) → AllByRecursion (Deep new depth n) (entries_of d.content)
+    deep-on depth leads deep =
+        all_map (λ (e : Entry). (is_subdirectory new e ≡ is_subdirectory old e) × Deep old depth n e) (Deep new depth n) (λ e both living. both.1 (sym both.0 ∙ living))
+        (entries_of d.content) (all_both (λ (e : Entry). is_subdirectory new e ≡ is_subdirectory old e) (Deep old depth n) (entries_of d.content) (kinds-on leads) deep)
+
+    pub counts-on : AllByRecursion (Leads old d) (entries_of d.content) → count_by (is_subdirectory new) (entries_of d.content) ≡ count_by (is_subdirectory old) (entries_of d.content)
+    counts-on leads = same (entries_of d.content) (kinds-on leads)
+      where
+        same : (es : List Entry) → AllByRecursion (λ (e : Entry). is_subdirectory new e ≡ is_subdirectory old e) es → count_by (is_subdirectory new) es ≡ count_by (is_subdirectory old) es
+        same [] kinds = refl
+        same (e ∷ es) kinds =
+            let here : cond {A = ℕ} (is_subdirectory new e) 1 0 ≡ cond (is_subdirectory old e) 1 0 = ap (λ b. cond b 1 0) kinds.0 in
+            let there = same es kinds.1 in
+            omega (arith, here, there, sum_by-cons (λ (x : Entry). cond {A = ℕ} (is_subdirectory new x) 1 0) e es, sum_by-cons (λ (x : Entry). cond {A = ℕ} (is_subdirectory old x) 1 0) e es)
+
+-- ---- a directory keeps its parent, where that one lives on with as many names of it or more
+pub parent-on : (old new : State) (n parent : ℕ) (p : IsParent old n parent) (o : Living) → get new.objects parent ≡ Some o → o.export ≡ p.directory.export → names_in n p.directory ≤ names_in n o → IsParent new n parent
+parent-on old new n parent p o lives export more = record {
+  directory = o;
+  lives = lives;
+  named_in = elim p.named_in [
+    | inl root ↦ inl (root.0, root.1 ∙ sym export)
+    | inr named ↦ inr (omega (arith, named, more))
+  ];
+}
+
 -- ---- objects that keep their names
-keeps_entries : (a b : Living) → KeepsNames a b → entries_of b.content ≡ entries_of a.content
+-- one object in the place of another that names nothing else: it keeps its export and its generation, and a directory all that it contains
+pub record KeepsNames (old new : Living) : Type 0 where
+  pub export : new.export ≡ old.export
+  pub generation : new.generation ≡ old.generation
+  pub kind : is_directory new.content ≡ is_directory old.content
+  pub content : is_directory old.content ≡ true → new.content ≡ old.content
+
+pub keeps_entries : (a b : Living) → KeepsNames a b → entries_of b.content ≡ entries_of a.content
 keeps_entries a b k =
     elim (is_directory a.content) as (λ t. is_directory a.content ≡ t → entries_of b.content ≡ entries_of a.content) [
       | true ↦ λ e. ap entries_of (k.content e)
@@ -85,65 +195,15 @@ module _ (old new : State) (alike : (n : ℕ) → Alike (get old.objects n) (get
   -- a directory keeps its place in the tree
   pub parent-alike : (n parent : ℕ) → IsParent old n parent → IsParent new n parent
   parent-alike n parent p =
-      let a = after parent p.directory p.lives in record {
-        directory = a.0;
-        lives = a.1;
-        named_in = elim p.named_in [
-          | inl root ↦ inl (root.0, root.1 ∙ sym a.2.export)
-          | inr named ↦ inr (subst (λ es. 1 ≤ count_by (λ (e : Entry). e.number == n) es) (sym (keeps_entries p.directory a.0 a.2)) named)
-        ];
-      }
+      let a = after parent p.directory p.lives in
+      let same : names_in n a.0 ≡ names_in n p.directory = ap (count_by (λ (e : Entry). e.number == n)) (keeps_entries p.directory a.0 a.2) in
+      parent-on old new n parent p a.0 a.1 a.2.export (omega (arith, same))
 
-  module _ (names : (n : ℕ) → names_of new n ≡ names_of old n) where
-    pub links-alike : (n : ℕ) (c : Content) → links_of new n c ≡ links_of old n c
-    links-alike n (Directory entries last) = ap (λ (test : ℕ → Bool). 2 + count_by (λ (e : Entry). test e.number) entries) (λ i. λ k. directories-alike k i)
-    links-alike n (Regular bytes) = names n
-    links-alike n (Link text) = names n
-    links-alike n (BlockDevice device) = names n
-    links-alike n (CharacterDevice device) = names n
-    links-alike n Socket = names n
-    links-alike n Fifo = names n
+  pub lives-alike : (n : ℕ) (p : Living) → get old.objects n ≡ Some p → LivesOn new n p
+  lives-alike n p at = let a = after n p at in record { object = a.0; lives = a.1; export = a.2.export; kind = a.2.kind }
 
-    leads-alike : (d e : Living) (entry : Entry) → e.export ≡ d.export → Leads old d entry → Leads new e entry
-    leads-alike d e entry same l =
-        let a = after entry.number l.object l.lives in record {
-          object = a.0;
-          lives = a.1;
-          export = a.2.export ∙ l.export ∙ sym same;
-          no_root = subst (λ x. (entry.number == x) ≡ false) (sym same) l.no_root;
-        }
-
-    pub well_formed-alike : ((n g : ℕ) → old.spent n g ≡ true → new.spent n g ≡ true) → TextsFit new → WellFormed old → WellFormed new
-    well_formed-alike spent texts w = record {
-      names = λ n o at.
-          let b = before n o at in
-          let d = w.names n b.0 b.1 in
-          let same = keeps_entries b.0 o b.2 in record {
-            once = subst NamesOnce (sym same) d.once;
-            leads = subst (AllByRecursion (Leads new o)) (sym same) (all_map (Leads old b.0) (Leads new o) (λ e l. leads-alike b.0 o e b.2.export l) (entries_of b.0.content) d.leads);
-          };
-      cookies = λ n o entries last at is.
-          let b = before n o at in
-          let kind : is_directory b.0.content ≡ true = sym b.2.kind ∙ ap is_directory is in
-          w.cookies n b.0 entries last b.1 (sym (b.2.content kind) ∙ is);
-      named = λ n o at other.
-          let b = before n o at in
-          subst (λ k. 1 ≤ k) (sym (names n)) (w.named n b.0 b.1 (subst (λ x. (n == x) ≡ false) b.2.export other));
-      one_name = λ n o at kind.
-          let b = before n o at in
-          subst (λ k. k ≤ 1) (sym (names n)) (w.one_name n b.0 b.1 (sym b.2.kind ∙ kind));
-      depth = w.depth;
-      deeper = λ n o at.
-          let b = before n o at in
-          let same = keeps_entries b.0 o b.2 in
-          subst (AllByRecursion (λ (e : Entry). is_living_directory (get new.objects e.number) ≡ true → w.depth n < w.depth e.number)) (sym same)
-          (all_map (λ (e : Entry). is_living_directory (get old.objects e.number) ≡ true → w.depth n < w.depth e.number) (λ (e : Entry). is_living_directory (get new.objects e.number) ≡ true → w.depth n < w.depth e.number)
-          (λ e deep lives. deep (sym (directories-alike e.number) ∙ lives)) (entries_of b.0.content) (w.deeper n b.0 b.1));
-      given = λ n o at.
-          let b = before n o at in
-          spent n o.generation (subst (λ g. old.spent n g ≡ true) (sym b.2.generation) (w.given n b.0 b.1));
-      texts = texts;
-    }
+  pub links-alike : ((n : ℕ) → names_of new n ≡ names_of old n) → (n : ℕ) (c : Content) → links_of new n c ≡ links_of old n c
+  links-alike names n c = links-same old new n c (names n) (ap (λ (test : ℕ → Bool). count_by (λ (e : Entry). test e.number) (entries_of c)) (λ i. λ k. directories-alike k i))
 
 -- ---- one object in the place of another
 module _ (m : State) (number : ℕ) (old new : Living) (lives : get m.objects number ≡ Some old) (keeps : KeepsNames old new) where

@@ -1,18 +1,17 @@
 -- Whether a directory is within another can be told, so a directory that moves to one that is not within it can be counted deeper with all below it.
-use Rattle.std.proofs.Common.{◌≡◌, ◌==◌, ℕ, zero, suc, ◌+◌, ◌≤◌, ◌<◌, Bool, true, false, cond, List, [], ◌∷◌, Option, Some, None, refl, sym, ◌∙◌, ap, subst, arith}
-use Rattle.std.proofs.lemmas.List.Sums.{sum_by-cons}
+use Rattle.std.proofs.Common.{◌≡◌, ◌==◌, ℕ, zero, suc, ◌+◌, ◌≤◌, ◌<◌, Bool, true, false, cond, [], Option, Some, None, refl, sym, ◌∙◌, ap, subst, arith}
 use Rattle.std.specs.Cmp.{unsigned_Decides}
 use Rattle.std.specs.FinMap.{FinMap, get, remove, values}
-use Rattle.std.specs.List.{AllByRecursion, count_by, sum_by}
+use Rattle.std.specs.List.{count_by, sum_by}
 use Rattle.std.specs.Ordering.{nat_cmp}
 use Rattle.nfs_machine.specs.Attributes.{entries_of, is_directory, is_living_directory, names_in, names_of}
 use Rattle.nfs_machine.specs.RenameSteps.{IsWithin, itself, below}
 use Rattle.nfs_machine.specs.State.{Entry, Living, State}
 use Rattle.nfs_machine.proofs.Changes.{differs-other, differs-remove, part-of_sum, sum-differs, weight}
-use Rattle.nfs_machine.proofs.Loose.{Deep, Deepens, Loose}
+use Rattle.nfs_machine.proofs.Loose.{Deepens, Loose}
 use Rattle.nfs_machine.proofs.Roots.{has-directory, passing}
 use Rattle.nfs_machine.proofs.Sums.{sum-some_part}
-use Rattle.nfs_machine.proofs.WellFormed.{all_both, all_map}
+use Rattle.nfs_machine.proofs.WellFormed.{Deep, all_both, all_map, counted}
 
 -- two values at two keys have both their parts in a sum
 two-parts : {X : Type 0} (f : X → ℕ) (m : FinMap nat_cmp X) (k j : ℕ) (v u : X) → get m k ≡ Some v → get m j ≡ Some u → (j == k) ≡ false → f v + f u ≤ sum_by f (values m)
@@ -21,16 +20,6 @@ two-parts f m k j v u at there other =
     let here : weight f (get m k) ≡ f v = ap (weight f) at in
     let rest = part-of_sum f (remove m k) j u (differs-other m (remove m k) k None (differs-remove m k) j other ∙ there) in
     omega (arith, s, here, rest)
-
--- each entry of a list is counted in it
-counted : (es : List Entry) → AllByRecursion (λ (e : Entry). 1 ≤ count_by (λ (x : Entry). x.number == e.number) es) es
-counted [] = tt
-counted (e ∷ es) = (
-  (let one : cond {A = ℕ} (e.number == e.number) 1 0 ≡ 1 = ap (λ b. cond b 1 0) ((unsigned_Decides e.number e.number).1 refl) in
-      omega (arith, one, sum_by-cons (λ (x : Entry). cond {A = ℕ} (x.number == e.number) 1 0) e es)),
-  all_map (λ (f : Entry). 1 ≤ count_by (λ (x : Entry). x.number == f.number) es) (λ (f : Entry). 1 ≤ count_by (λ (x : Entry). x.number == f.number) (e ∷ es))
-      (λ f some. omega (arith, some, sum_by-cons (λ (x : Entry). cond {A = ℕ} (x.number == f.number) 1 0) e es)) es (counted es),
-)
 
 living-directory : (x : Option Living) → is_living_directory x ≡ true → (o : Living) × (x ≡ Some o) × (is_directory o.content ≡ true)
 living-directory None e = cc
@@ -47,6 +36,16 @@ record Under (m : State) (top n : ℕ) : Type 0 where
 under : (m : State) (top n : ℕ) → IsWithin m top n → (n == top) ≡ false → Under m top n
 under m top n (itself k) other = (let same : (k == k) ≡ true = (unsigned_Decides k k).1 refl in let no : true ≡ false = sym same ∙ other in cc)
 under m top n (below upper middle lower directory within lives named) other = record { middle = middle; directory = directory; within = within; lives = lives; named = named }
+
+-- nothing else is within what contains no name
+pub within-empty : (m : State) (top : ℕ) (o : Living) → get m.objects top ≡ Some o → entries_of o.content ≡ [] → (upper lower : ℕ) → IsWithin m upper lower → upper ≡ top → lower ≡ top
+within-empty m top o at empty _ _ (itself number) same = same
+within-empty m top o at empty _ _ (below upper middle lower directory within lives named) same =
+    let both : Some o ≡ Some directory = sym at ∙ sym (ap (get m.objects) (within-empty m top o at empty upper middle within same)) ∙ lives in
+    let own : o ≡ directory = cc in
+    let some : 1 ≤ names_in lower o = subst (λ (d : Living). 1 ≤ names_in lower d) (sym own) named in
+    let none : names_in lower o ≡ 0 = ap (count_by (λ (e : Entry). e.number == lower)) empty in
+    absurd (omega (arith, some, none))
 
 module _ (m : State) (loose : ℕ → Bool) (l : Loose loose m) where
   one-above : (n p q : ℕ) (d e : Living) → get m.objects p ≡ Some d → get m.objects q ≡ Some e → 1 ≤ names_in n d → 1 ≤ names_in n e → names_of m n ≤ 1 → q ≡ p

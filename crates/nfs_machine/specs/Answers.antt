@@ -4,13 +4,7 @@ use Rattle.nfs_wire.specs.declared.status.NfsStatus.{NfsStatus}
 use Rattle.side_wire.specs.declared.message.Message.{Message}
 use Rattle.nfs_machine.specs.State.{State}
 
--- this answer, no message, and nothing changes
-pub record OnlyAnswers {Answer : Type 0} (answer : Answer) (old : State) (reply : Answer) (messages : List Message) (new : State) : Type 0 where
-  pub reply_is : reply ≡ answer
-  pub no_message : messages ≡ []
-  pub unchanged : new ≡ old
-
--- this answer, no message, and this state
+-- this answer, no message, and this state, which is the old one where nothing changes
 pub record Answers {Answer : Type 0} (answer : Answer) (after : State) (reply : Answer) (messages : List Message) (new : State) : Type 0 where
   pub reply_is : reply ≡ answer
   pub no_message : messages ≡ []

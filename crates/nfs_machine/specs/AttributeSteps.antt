@@ -1,5 +1,5 @@
 -- The steps of NFS version 3 that set attributes and tell rights, one definition for each procedure (RFC 1813, 3.3).
-use Rattle.std.specs.Prelude.{ℕ, ◌+◌, ◌/◌, ◌%◌, Bool, true, not, ◌&&◌, ◌||◌, Option, Some, None, is_some, is_ok, option_map, unwrap_or, Result, Ok, nat_le, if◌then◌else◌, ◌==◌, List}
+use Rattle.std.specs.Prelude.{ℕ, ◌+◌, ◌/◌, ◌%◌, Bool, true, not, ◌&&◌, ◌||◌, Option, Some, None, is_some, is_ok, option_map, unwrap_or, Result, Ok, nat_le, if◌then◌else◌, ◌==◌}
 use Rattle.nfs_rpc.specs.declared.credentials.Ids.{Ids}
 use Rattle.nfs_wire.specs.declared.attributes.SetAttributes.{SetAttributes}
 use Rattle.nfs_wire.specs.declared.attributes.Time.{Time}
@@ -9,8 +9,7 @@ use Rattle.nfs_wire.specs.declared.replies.NfsReply.{NfsReply}
 use Rattle.nfs_wire.specs.declared.replies.NfsReply.TheVariants as replies
 use Rattle.nfs_wire.specs.declared.status.NfsStatus.{NfsStatus}
 use Rattle.nfs_wire.specs.declared.status.NfsStatus.TheVariants as status
-use Rattle.side_wire.specs.declared.message.Message.{Message}
-use Rattle.nfs_machine.specs.Answers.{Answers, state_after, answer_of}
+use Rattle.nfs_machine.specs.Answers.{state_after, answer_of}
 use Rattle.nfs_machine.specs.Attributes.{is_directory}
 use Rattle.nfs_machine.specs.Checks.{◌>>=◌, holding, object_of, bytes_in, changeable, is_writable}
 use Rattle.nfs_machine.specs.Data.{size_limit, resized}
@@ -98,9 +97,6 @@ setattr_end old ctx a = do
 abbrev pub setattr_answer : State → Ctx → SetattrArguments → NfsReply
 setattr_answer old ctx a =
     replies.Setattr (record { wcc = wcc (state_after old (setattr_end old ctx a)) (resolve old ctx a.object); result = answer_of (setattr_end old ctx a) })
-
-abbrev pub SetattrStep : State → Ctx → SetattrArguments → NfsReply → List Message → State → Type 0
-SetattrStep old ctx a reply messages new = Answers (setattr_answer old ctx a) (state_after old (setattr_end old ctx a)) reply messages new
 
 -- ACCESS, 3.3.4
 -- the number of a right, where it is asked and granted

@@ -24,10 +24,7 @@ abbrev pub size_of : Content → ℕ
 size_of (Regular bytes) = length bytes
 size_of (Directory entries last_cookie) = block
 size_of (Link text) = length text
-size_of (BlockDevice device) = 0
-size_of (CharacterDevice device) = 0
-size_of Socket = 0
-size_of Fifo = 0
+size_of content = 0
 
 -- the size, rounded up to whole blocks
 abbrev pub used_of : Content → ℕ
@@ -36,30 +33,16 @@ used_of content = (size_of content + 4095) / block * block
 abbrev pub device_of : Content → DeviceNumber
 device_of (BlockDevice device) = device
 device_of (CharacterDevice device) = device
-device_of (Regular bytes) = record { major = 0; minor = 0 }
-device_of (Directory entries last_cookie) = record { major = 0; minor = 0 }
-device_of (Link text) = record { major = 0; minor = 0 }
-device_of Socket = record { major = 0; minor = 0 }
-device_of Fifo = record { major = 0; minor = 0 }
+device_of content = record { major = 0; minor = 0 }
 
 -- the entries of a directory; of what is none, no entry
 abbrev pub entries_of : Content → List Entry
 entries_of (Directory entries last_cookie) = entries
-entries_of (Regular bytes) = []
-entries_of (Link text) = []
-entries_of (BlockDevice device) = []
-entries_of (CharacterDevice device) = []
-entries_of Socket = []
-entries_of Fifo = []
+entries_of content = []
 
 abbrev pub is_directory : Content → Bool
 is_directory (Directory entries last_cookie) = true
-is_directory (Regular bytes) = false
-is_directory (Link text) = false
-is_directory (BlockDevice device) = false
-is_directory (CharacterDevice device) = false
-is_directory Socket = false
-is_directory Fifo = false
+is_directory content = false
 
 abbrev pub is_living_directory : Option Living → Bool
 is_living_directory None = false
@@ -76,12 +59,7 @@ names_of m number = sum_by (names_in number) (values m.objects)
 -- of a directory 2 and its subdirectories, of anything else the count of its names
 abbrev pub links_of : State → ℕ → Content → ℕ
 links_of m number (Directory entries last_cookie) = 2 + count_by (λ (e : Entry). is_living_directory (get m.objects e.number)) entries
-links_of m number (Regular bytes) = names_of m number
-links_of m number (Link text) = names_of m number
-links_of m number (BlockDevice device) = names_of m number
-links_of m number (CharacterDevice device) = names_of m number
-links_of m number Socket = names_of m number
-links_of m number Fifo = names_of m number
+links_of m number content = names_of m number
 
 abbrev pub attributes_of : State → ℕ → Living → Attributes
 attributes_of m number o = record {

@@ -10,15 +10,15 @@ use Rattle.nfs_machine.specs.Exports.{ExportValue, export_at}
 use Rattle.nfs_machine.specs.Paths.{slash}
 use Rattle.nfs_machine.specs.Permission.{Right, may}
 use Rattle.nfs_machine.specs.Resolve.{Resolved, BadHandle, Stale, Names}
-use Rattle.nfs_machine.specs.State.{Content, Regular, Directory, Link, BlockDevice, CharacterDevice, Socket, Fifo, Entry, Living, State}
+use Rattle.nfs_machine.specs.State.{Content, Regular, Directory, Link, Entry, Living, State}
 use Rattle.nfs_machine.specs.declared.context.Ctx.{Ctx}
 
 infixl 10 ◌>>=◌
-abbrev pub ◌>>=◌ : {A B : Type 0} → Result A NfsStatus → (A → Result B NfsStatus) → Result B NfsStatus
+abbrev pub ◌>>=◌ : {A B E : Type 0} → Result A E → (A → Result B E) → Result B E
 (Ok x) >>= f = f x
 (Err e) >>= f = Err e
 
-abbrev pub holding : Bool → NfsStatus → Result (Unit {0}) NfsStatus
+abbrev pub holding : {E : Type 0} → Bool → E → Result (Unit {0}) E
 holding true e = Ok tt
 holding false e = Err e
 
@@ -31,32 +31,17 @@ object_of (Names number object) = Ok (number, object)
 -- the entries of a directory, and the greatest cookie that it ever used
 abbrev pub entries_in : Content → Result (List Entry × ℕ) NfsStatus
 entries_in (Directory entries last_cookie) = Ok (entries, last_cookie)
-entries_in (Regular bytes) = Err status.NotDirectory
-entries_in (Link text) = Err status.NotDirectory
-entries_in (BlockDevice device) = Err status.NotDirectory
-entries_in (CharacterDevice device) = Err status.NotDirectory
-entries_in Socket = Err status.NotDirectory
-entries_in Fifo = Err status.NotDirectory
+entries_in content = Err status.NotDirectory
 
 -- the bytes of a regular file
 abbrev pub bytes_in : Content → Result (List ℕ) NfsStatus
 bytes_in (Regular bytes) = Ok bytes
-bytes_in (Directory entries last_cookie) = Err status.Invalid
-bytes_in (Link text) = Err status.Invalid
-bytes_in (BlockDevice device) = Err status.Invalid
-bytes_in (CharacterDevice device) = Err status.Invalid
-bytes_in Socket = Err status.Invalid
-bytes_in Fifo = Err status.Invalid
+bytes_in content = Err status.Invalid
 
 -- the text of a link
 abbrev pub text_in : Content → Result (List ℕ) NfsStatus
 text_in (Link text) = Ok text
-text_in (Regular bytes) = Err status.Invalid
-text_in (Directory entries last_cookie) = Err status.Invalid
-text_in (BlockDevice device) = Err status.Invalid
-text_in (CharacterDevice device) = Err status.Invalid
-text_in Socket = Err status.Invalid
-text_in Fifo = Err status.Invalid
+text_in content = Err status.Invalid
 
 -- no name is empty or holds a slash or a NUL
 abbrev pub is_spelled : List ℕ → Bool
@@ -103,9 +88,6 @@ permitted ctx o right = holding (may ctx.ids o right) status.Access
 -- the entry of a name
 abbrev pub entry_of : List Entry → List ℕ → Option Entry
 entry_of entries name = find (λ e. same_bytes e.name name) entries
-
-abbrev pub is_absent : List Entry → List ℕ → Bool
-is_absent entries name = elim (entry_of entries name) [ None ↦ true | Some e ↦ false ]
 
 -- the greatest number of links of an object (3.3.20: linkmax)
 abbrev pub link_limit : ℕ

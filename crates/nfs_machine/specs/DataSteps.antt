@@ -1,5 +1,5 @@
 -- The steps of NFS version 3 on attributes and data, one definition for each procedure (RFC 1813, 3.3).
-use Rattle.std.specs.Prelude.{ℕ, ◌+◌, List, Option, Some, None, Result, Ok, Err, length, take, min, nat_le, ◌||◌, ◌==◌, if◌then◌else◌}
+use Rattle.std.specs.Prelude.{ℕ, ◌+◌, List, Option, Some, None, Result, Ok, length, take, min, nat_le, ◌||◌, ◌==◌, if◌then◌else◌}
 use Rattle.std.specs.Int.{w64, to_be_bytes}
 use Rattle.nfs_wire.specs.declared.attributes.Attributes.{Attributes}
 use Rattle.nfs_wire.specs.declared.calls.CommitArguments.{CommitArguments}
@@ -12,13 +12,12 @@ use Rattle.nfs_wire.specs.declared.replies.ReadData.{ReadData}
 use Rattle.nfs_wire.specs.declared.replies.Written.{Written}
 use Rattle.nfs_wire.specs.declared.status.NfsStatus.{NfsStatus}
 use Rattle.nfs_wire.specs.declared.status.NfsStatus.TheVariants as status
-use Rattle.side_wire.specs.declared.message.Message.{Message}
-use Rattle.nfs_machine.specs.Answers.{Answers, state_after, answer_of}
+use Rattle.nfs_machine.specs.Answers.{state_after, answer_of}
 use Rattle.nfs_machine.specs.Attributes.{attributes_of}
 use Rattle.nfs_machine.specs.Checks.{◌>>=◌, holding, object_of, bytes_in, text_in, changeable, permitted}
 use Rattle.nfs_machine.specs.Data.{transfer_limit, size_limit, written, read_at}
 use Rattle.nfs_machine.specs.Permission.{Reading, Writing}
-use Rattle.nfs_machine.specs.Resolve.{Resolved, BadHandle, Stale, Names, resolve}
+use Rattle.nfs_machine.specs.Resolve.{Resolved, resolve}
 use Rattle.nfs_machine.specs.Shown.{shown, wcc, with_content, replaced}
 use Rattle.nfs_machine.specs.State.{Regular, Living, State}
 use Rattle.nfs_machine.specs.Times.{time_of}
@@ -26,9 +25,7 @@ use Rattle.nfs_machine.specs.declared.context.Ctx.{Ctx}
 
 -- GETATTR, 3.3.1
 abbrev pub attributes_result : State → Resolved → Result Attributes NfsStatus
-attributes_result m BadHandle = Err status.BadHandle
-attributes_result m Stale = Err status.Stale
-attributes_result m (Names number object) = Ok (attributes_of m number object)
+attributes_result m resolved = object_of resolved >>= λ o. Ok (attributes_of m o.0 o.1)
 
 abbrev pub getattr_answer : State → Ctx → List ℕ → NfsReply
 getattr_answer m ctx object = replies.Getattr (attributes_result m (resolve m ctx object))
@@ -87,9 +84,6 @@ write_end old ctx a = do
 abbrev pub write_answer : State → Ctx → WriteArguments → NfsReply
 write_answer old ctx a =
     replies.Write (record { wcc = wcc (state_after old (write_end old ctx a)) (resolve old ctx a.file); result = answer_of (write_end old ctx a) })
-
-abbrev pub WriteStep : State → Ctx → WriteArguments → NfsReply → List Message → State → Type 0
-WriteStep old ctx a reply messages new = Answers (write_answer old ctx a) (state_after old (write_end old ctx a)) reply messages new
 
 -- COMMIT, 3.3.21: what was written is there already, so nothing changes, and no permission is asked
 abbrev pub commit_result : State → Ctx → CommitArguments → Result Verifier NfsStatus

@@ -16,12 +16,9 @@ use Rattle.nfs_machine.specs.State.{Living, State}
 use Rattle.nfs_machine.specs.declared.context.Ctx.{Ctx}
 
 -- FSSTAT, 3.3.18
--- the space that an object takes of an export, and all living ones
-abbrev pub used_in : ℕ → Living → ℕ
-used_in export o = if o.export == export then used_of o.content else 0
-
+-- the space that the living objects take of an export, and their count
 abbrev pub bytes_used : List Living → ℕ → ℕ
-bytes_used objects export = sum_by (used_in export) objects
+bytes_used objects export = sum_by (λ (o : Living). if o.export == export then used_of o.content else 0) objects
 
 abbrev pub files_used : List Living → ℕ → ℕ
 files_used objects export = count_by (λ (o : Living). o.export == export) objects
@@ -50,10 +47,7 @@ fsstat_result m ctx object = do
 abbrev pub fsstat_answer : State → Ctx → List ℕ → NfsReply
 fsstat_answer m ctx object = replies.Fsstat (record { attributes = shown m (resolve m ctx object); result = fsstat_result m ctx object })
 
--- FSINFO, 3.3.19: links (1), symbolic links (2), the same PATHCONF everywhere (8), times can be set (16)
-abbrev pub properties : ℕ
-properties = 1 + 2 + 8 + 16
-
+-- FSINFO, 3.3.19
 abbrev pub file_system : FileSystem
 file_system = record {
   read_most = transfer_limit;
@@ -65,7 +59,8 @@ file_system = record {
   directory_preferred = 32768;
   largest_file = size_limit;
   time_step = record { seconds = 0; nanoseconds = 1 };
-  properties = properties;
+  -- links (1), symbolic links (2), the same PATHCONF everywhere (8), times can be set (16)
+  properties = 1 + 2 + 8 + 16;
 }
 
 abbrev pub fsinfo_result : State → Ctx → List ℕ → Result FileSystem NfsStatus

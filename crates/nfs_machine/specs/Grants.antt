@@ -15,10 +15,6 @@ requested r = range_of r.file r.asked
 abbrev pub IsHeldUp : List Lock → Request → Type 0
 IsHeldUp locks r = Conflicts locks (requested r) (mode_of r.exclusive)
 
--- each request that waits conflicts with what is held
-abbrev pub AllHeldUp : State → Type 0
-AllHeldUp m = AllByRecursion (IsHeldUp m.locks) m.waiting
-
 -- the cookie of GRANTED is the request's number
 abbrev pub grant_cookie : ℕ → List ℕ
 grant_cookie number = to_be_bytes w64 number

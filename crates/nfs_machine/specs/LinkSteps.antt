@@ -1,15 +1,13 @@
 -- The step of LINK (RFC 1813, 3.3.15): one name more for an object that is no directory.
-use Rattle.std.specs.Prelude.{◌+◌, ◌^◌, not, List, Result, Ok, nat_lt, ◌==◌}
+use Rattle.std.specs.Prelude.{◌+◌, ◌^◌, not, Result, Ok, nat_lt, ◌==◌, is_none}
 use Rattle.nfs_wire.specs.declared.calls.LinkArguments.{LinkArguments}
-use Rattle.nfs_wire.specs.declared.replies.LinkedReply.{LinkedReply}
 use Rattle.nfs_wire.specs.declared.replies.NfsReply.{NfsReply}
 use Rattle.nfs_wire.specs.declared.replies.NfsReply.TheVariants as replies
 use Rattle.nfs_wire.specs.declared.status.NfsStatus.{NfsStatus}
 use Rattle.nfs_wire.specs.declared.status.NfsStatus.TheVariants as status
-use Rattle.side_wire.specs.declared.message.Message.{Message}
-use Rattle.nfs_machine.specs.Answers.{Answers, state_after, answer_of}
+use Rattle.nfs_machine.specs.Answers.{state_after, answer_of}
 use Rattle.nfs_machine.specs.Attributes.{is_directory}
-use Rattle.nfs_machine.specs.Checks.{◌>>=◌, holding, object_of, entries_in, old_name_checked, changeable, permitted, is_absent, may_gain_link}
+use Rattle.nfs_machine.specs.Checks.{◌>>=◌, holding, object_of, entries_in, old_name_checked, changeable, permitted, may_gain_link, entry_of}
 use Rattle.nfs_machine.specs.Making.{with_entry}
 use Rattle.nfs_machine.specs.Permission.{Changing}
 use Rattle.nfs_machine.specs.Resolve.{resolve}
@@ -28,7 +26,7 @@ link_end old ctx a = do
   _ ← old_name_checked a.place.name
   _ ← changeable ctx directory.1
   _ ← permitted ctx directory.1 Changing
-  _ ← holding (is_absent entries.0 a.place.name) status.Exists
+  _ ← holding (is_none (entry_of entries.0 a.place.name)) status.Exists
   _ ← may_gain_link old file.0 file.1.content
   _ ← holding (nat_lt (entries.1 + 1) (2 ^ 64)) status.NoSpace
   Ok (
@@ -37,13 +35,10 @@ link_end old ctx a = do
         file.0 (touched file.1 (time_of ctx.moment)),
   )
 
-abbrev pub link_reply : State → Ctx → LinkArguments → Result (Unit {0} × State) NfsStatus → LinkedReply
-link_reply old ctx a end =
-    let file = resolve old ctx a.file in record {
-      attributes = shown (state_after old end) file;
-      directory = wcc (state_after old end) (after_first file (resolve old ctx a.place.directory));
-      result = answer_of end;
-    }
-
-abbrev pub LinkStep : State → Ctx → LinkArguments → NfsReply → List Message → State → Type 0
-LinkStep old ctx a reply messages new = Answers (replies.Link (link_reply old ctx a (link_end old ctx a))) (state_after old (link_end old ctx a)) reply messages new
+abbrev pub link_answer : State → Ctx → LinkArguments → NfsReply
+link_answer old ctx a =
+    let file = resolve old ctx a.file in let new = state_after old (link_end old ctx a) in replies.Link (record {
+      attributes = shown new file;
+      directory = wcc new (after_first file (resolve old ctx a.place.directory));
+      result = answer_of (link_end old ctx a);
+    })

@@ -1,5 +1,5 @@
 -- What the calls of NLM come to (RFC 1813, appendix II, 6.2): a status, the messages that they put, and the state that they leave.
-use Rattle.std.specs.Prelude.{◌≡◌, ℕ, ◌+◌, ◌-◌, ◌%◌, ◌^◌, Bool, true, false, not, ◌&&◌, ◌||◌, List, [], ◌∷◌, ◌++◌, Option, Some, None, Result, Ok, Err, nat_lt, if◌then◌else◌, filter, find, ◌⊎◌, ◌==◌}
+use Rattle.std.specs.Prelude.{◌≡◌, ℕ, ◌+◌, ◌-◌, ◌%◌, ◌^◌, Bool, true, false, not, ◌&&◌, ◌||◌, List, [], ◌∷◌, ◌++◌, Option, Some, None, Result, Ok, Err, is_ok, nat_lt, if◌then◌else◌, filter, find, ◌⊎◌, ◌==◌}
 use Rattle.std.specs.List.{list_any}
 use Rattle.side_wire.specs.declared.message.Message.{Message}
 use Rattle.side_wire.specs.declared.message.NlmLock.{NlmLock}
@@ -19,62 +19,29 @@ use Rattle.side_wire.specs.declared.nlm.TestArguments.{TestArguments}
 use Rattle.side_wire.specs.declared.nlm.TestStatus.{TestStatus}
 use Rattle.side_wire.specs.declared.nlm.TestStatus.TheVariants as tested
 use Rattle.side_wire.specs.declared.nlm.UnlockArguments.{UnlockArguments}
-use Rattle.nfs_machine.specs.Answers.{Answers, OnlyAnswers}
+use Rattle.nfs_machine.specs.Answers.{Answers}
 use Rattle.nfs_machine.specs.Bytes.{same_bytes}
-use Rattle.nfs_machine.specs.Checks.{is_writable}
+use Rattle.nfs_machine.specs.Checks.{◌>>=◌, bytes_in, holding, is_writable}
 use Rattle.nfs_machine.specs.Grants.{ChangesLocks, SettleAll, grant_cookie, requested}
 use Rattle.nfs_machine.specs.Locks.{Conflicts, Lists, Mode, Unlocked, Range, fits_offsets, is_within, last_offset, mode_at, mode_of, modes_conflict, modes_without, range_of, same_owner, same_sharer, shares_conflict}
-use Rattle.nfs_machine.specs.Resolve.{Resolved, BadHandle, Stale, Names, resolve}
-use Rattle.nfs_machine.specs.State.{Content, Regular, Directory, Link, BlockDevice, CharacterDevice, Socket, Fifo, Living, Lock, Owner, Request, Share, State}
+use Rattle.nfs_machine.specs.Resolve.{Resolved, Names, resolve}
+use Rattle.nfs_machine.specs.State.{Content, Living, Lock, Owner, Request, Share, State}
 use Rattle.nfs_machine.specs.declared.context.Ctx.{Ctx}
 
 -- ---- checks, in this order: handle (6.3.2), kind, range (6.3.1), a read-only export
 
--- why a call is refused before any conflict is looked for
-pub data Fault : Type 0 where
-  -- the handle names nothing: NLM4_STALE_FH
-  NoFile : Fault
-  -- what it names is no regular file: NLM4_FAILED
-  NotRegular : Fault
-  -- bytes above the last offset: NLM4_FBIG
-  TooBig : Fault
-  -- on a read-only export: NLM4_ROFS
-  ReadOnly : Fault
+-- why a call is refused before any conflict is looked for: a status, and the same as TEST answers it
+abbrev pub Fault : Type 0
+Fault = NlmStatus × TestStatus
 
-abbrev pub fault_status : Fault → NlmStatus
-fault_status NoFile = status.StaleHandle
-fault_status NotRegular = status.Failed
-fault_status TooBig = status.FileTooBig
-fault_status ReadOnly = status.ReadOnly
-
-abbrev pub fault_tested : Fault → TestStatus
-fault_tested NoFile = tested.StaleHandle
-fault_tested NotRegular = tested.Failed
-fault_tested TooBig = tested.FileTooBig
-fault_tested ReadOnly = tested.ReadOnly
-
-infixl 10 ◌>>=◌
-abbrev pub ◌>>=◌ : {A B : Type 0} → Result A Fault → (A → Result B Fault) → Result B Fault
-(Ok x) >>= f = f x
-(Err e) >>= f = Err e
-
-abbrev pub holding : Bool → Fault → Result (Unit {0}) Fault
-holding true e = Ok tt
-holding false e = Err e
-
-abbrev pub regular : Content → Result (Unit {0}) Fault
-regular (Regular bytes) = Ok tt
-regular (Directory entries last_cookie) = Err NotRegular
-regular (Link text) = Err NotRegular
-regular (BlockDevice device) = Err NotRegular
-regular (CharacterDevice device) = Err NotRegular
-regular Socket = Err NotRegular
-regular Fifo = Err NotRegular
-
+-- a handle that names nothing: NLM4_STALE_FH
 abbrev pub named_object : Resolved → Result (ℕ × Living) Fault
-named_object BadHandle = Err NoFile
-named_object Stale = Err NoFile
 named_object (Names number object) = Ok (number, object)
+named_object resolved = Err (status.StaleHandle, tested.StaleHandle)
+
+-- what it names is no regular file: NLM4_FAILED
+abbrev pub regular : Content → Result (Unit {0}) Fault
+regular content = holding (is_ok (bytes_in content)) (status.Failed, tested.Failed)
 
 -- the regular file that a handle names, with its number
 abbrev pub file_checked : State → Ctx → List ℕ → Result (ℕ × Living) Fault
@@ -83,20 +50,25 @@ file_checked old ctx handle = do
   _ ← regular file.1.content
   Ok file
 
--- the range that a call names
+-- the range that a call names; NLM4_FBIG where it has bytes above the last offset
 abbrev pub range_checked : State → Ctx → NlmLock → Result Range Fault
 range_checked old ctx l = do
   file ← file_checked old ctx l.file
-  _ ← holding (fits_offsets l) TooBig
+  _ ← holding (fits_offsets l) (status.FileTooBig, tested.FileTooBig)
   Ok (range_of file.0 l)
 
--- the same of a LOCK, which asks for no exclusive lock on a read-only export
+-- the same of a LOCK, which asks for no exclusive lock on a read-only export: NLM4_ROFS
 abbrev pub lock_checked : State → Ctx → LockArguments → Result Range Fault
 lock_checked old ctx a = do
   file ← file_checked old ctx a.lock.file
-  _ ← holding (fits_offsets a.lock) TooBig
-  _ ← holding (not a.exclusive || is_writable ctx file.1) ReadOnly
+  _ ← holding (fits_offsets a.lock) (status.FileTooBig, tested.FileTooBig)
+  _ ← holding (not a.exclusive || is_writable ctx file.1) (status.ReadOnly, tested.ReadOnly)
   Ok (range_of file.0 a.lock)
+
+-- a call at fault is answered its status and changes nothing; any other goes on with what was checked
+abbrev pub Checked : {A Status : Type 0} → (Fault → Status) → State → Result A Fault → (A → Status → List Message → State → Type 0) → Status → List Message → State → Type 0
+Checked status_of old (Err fault) goes_on s messages new = Answers (status_of fault) old s messages new
+Checked status_of old (Ok x) goes_on s messages new = goes_on x s messages new
 
 -- ---- TEST, procedure 1
 
@@ -125,17 +97,9 @@ Tests m r mode (tested.Denied holder) = Holds m r mode holder
 Tests m r mode s = ⊥
 
 -- it changes nothing
-pub record TestIs (m : State) (r : Range) (mode : Mode) (s : TestStatus) (messages : List Message) (new : State) : Type 0 where
-  pub tests : Tests m r mode s
-  pub no_message : messages ≡ []
-  pub unchanged : new ≡ m
-
-abbrev pub TestOf : State → Bool → Result Range Fault → TestStatus → List Message → State → Type 0
-TestOf old exclusive (Err fault) s messages new = OnlyAnswers (fault_tested fault) old s messages new
-TestOf old exclusive (Ok r) s messages new = TestIs old r (mode_of exclusive) s messages new
-
 abbrev pub TestEnds : State → Ctx → TestArguments → TestStatus → List Message → State → Type 0
-TestEnds old ctx a s messages new = TestOf old a.exclusive (range_checked old ctx a.lock) s messages new
+TestEnds old ctx a =
+    Checked (λ fault. fault.1) old (range_checked old ctx a.lock) (λ r s messages new. Tests old r (mode_of a.exclusive) s × (messages ≡ []) × (new ≡ old))
 
 -- ---- LOCK and NM_LOCK, procedures 2 and 22; reclaim and state are not looked at
 
@@ -164,60 +128,39 @@ pub record Waits (old : State) (ctx : Ctx) (a : LockArguments) (by_message : Boo
 -- every number was given
 pub record NoNumber (old : State) (file : ℕ) (s : NlmStatus) (messages : List Message) (new : State) : Type 0 where
   pub all_given : (number : ℕ) → is_grant_number file number ≡ true → old.spent_grants number ≡ true
-  pub answers : OnlyAnswers status.DeniedNoLocks old s messages new
+  pub answers : Answers status.DeniedNoLocks old s messages new
 
 -- a call that conflicts: it waits, where it would, unless it waits already
 abbrev pub HeldUp : State → Ctx → LockArguments → Bool → Range → (block : Bool) → (waits : Bool) → NlmStatus → List Message → State → Type 0
-HeldUp old ctx a by_message r false waits s messages new = OnlyAnswers status.Denied old s messages new
-HeldUp old ctx a by_message r true true s messages new = OnlyAnswers status.Blocked old s messages new
+HeldUp old ctx a by_message r false waits s messages new = Answers status.Denied old s messages new
+HeldUp old ctx a by_message r true true s messages new = Answers status.Blocked old s messages new
 HeldUp old ctx a by_message r true false s messages new = Waits old ctx a by_message r.file s messages new ⊎ NoNumber old r.file s messages new
 
-pub record LockIsHeldUp (old : State) (ctx : Ctx) (a : LockArguments) (by_message : Bool) (r : Range) (s : NlmStatus) (messages : List Message) (new : State) : Type 0 where
-  pub conflicts : Conflicts old.locks r (mode_of a.exclusive)
-  pub ends : HeldUp old ctx a by_message r a.block (list_any (is_request r a.exclusive a.lock) old.waiting) s messages new
-
-pub record LockIsGranted (old : State) (r : Range) (mode : Mode) (s : NlmStatus) (messages : List Message) (new : State) : Type 0 where
-  pub free : Conflicts old.locks r mode → ⊥
-  pub status_is : s ≡ status.Granted
-  pub changes : ChangesLocks old r mode messages new
-
-abbrev pub LockOf : State → Ctx → LockArguments → Bool → Result Range Fault → NlmStatus → List Message → State → Type 0
-LockOf old ctx a by_message (Err fault) s messages new = OnlyAnswers (fault_status fault) old s messages new
-LockOf old ctx a by_message (Ok r) s messages new =
-    LockIsGranted old r (mode_of a.exclusive) s messages new ⊎ LockIsHeldUp old ctx a by_message r s messages new
+-- the lock is granted where it conflicts with nothing
+abbrev pub Locks : State → Ctx → LockArguments → Bool → Range → NlmStatus → List Message → State → Type 0
+Locks old ctx a by_message r s messages new =
+    ((Conflicts old.locks r (mode_of a.exclusive) → ⊥) × (s ≡ status.Granted) × ChangesLocks old r (mode_of a.exclusive) messages new)
+    ⊎ (Conflicts old.locks r (mode_of a.exclusive) × HeldUp old ctx a by_message r a.block (list_any (is_request r a.exclusive a.lock) old.waiting) s messages new)
 
 abbrev pub LockEnds : State → Ctx → LockArguments → Bool → NlmStatus → List Message → State → Type 0
-LockEnds old ctx a by_message s messages new = LockOf old ctx a by_message (lock_checked old ctx a) s messages new
+LockEnds old ctx a by_message = Checked (λ fault. fault.0) old (lock_checked old ctx a) (Locks old ctx a by_message)
 
 -- ---- CANCEL, procedure 3: an equal request waits no more
 
 abbrev pub without_request : State → (Request → Bool) → State
 without_request m goes = record m { waiting = filter (λ (r : Request). not (goes r)) m.waiting }
 
-abbrev pub cancel_status : Bool → NlmStatus
-cancel_status true = status.Granted
-cancel_status false = status.Denied
-
-abbrev pub CancelOf : State → CancelArguments → Result Range Fault → NlmStatus → List Message → State → Type 0
-CancelOf old a (Err fault) s messages new = OnlyAnswers (fault_status fault) old s messages new
-CancelOf old a (Ok r) s messages new =
-    Answers (cancel_status (list_any (is_request r a.exclusive a.lock) old.waiting)) (without_request old (is_request r a.exclusive a.lock)) s messages new
+abbrev pub Cancels : State → (Request → Bool) → NlmStatus → List Message → State → Type 0
+Cancels old goes s messages new = Answers (if list_any goes old.waiting then status.Granted else status.Denied) (without_request old goes) s messages new
 
 abbrev pub CancelEnds : State → Ctx → CancelArguments → NlmStatus → List Message → State → Type 0
-CancelEnds old ctx a s messages new = CancelOf old a (range_checked old ctx a.lock) s messages new
+CancelEnds old ctx a = Checked (λ fault. fault.0) old (range_checked old ctx a.lock) (λ r. Cancels old (is_request r a.exclusive a.lock))
 
 -- ---- UNLOCK, procedure 4
 
-pub record Unlocks (old : State) (r : Range) (s : NlmStatus) (messages : List Message) (new : State) : Type 0 where
-  pub status_is : s ≡ status.Granted
-  pub changes : ChangesLocks old r Unlocked messages new
-
-abbrev pub UnlockOf : State → Result Range Fault → NlmStatus → List Message → State → Type 0
-UnlockOf old (Err fault) s messages new = OnlyAnswers (fault_status fault) old s messages new
-UnlockOf old (Ok r) s messages new = Unlocks old r s messages new
-
 abbrev pub UnlockEnds : State → Ctx → UnlockArguments → NlmStatus → List Message → State → Type 0
-UnlockEnds old ctx a s messages new = UnlockOf old (range_checked old ctx a.lock) s messages new
+UnlockEnds old ctx a =
+    Checked (λ fault. fault.0) old (range_checked old ctx a.lock) (λ r s messages new. (s ≡ status.Granted) × ChangesLocks old r Unlocked messages new)
 
 -- ---- GRANTED_RES, procedure 15: the answer to GRANTED
 
@@ -241,28 +184,24 @@ GrantEnds old ctx a messages new = GrantOf old (find (is_answered ctx.host a.coo
 -- ---- SHARE and UNSHARE, procedures 20 and 21
 
 abbrev pub denies_reading : ShareMode → Bool
-denies_reading mode.DenyNone = false
 denies_reading mode.DenyRead = true
-denies_reading mode.DenyWrite = false
 denies_reading mode.DenyReadWrite = true
+denies_reading other = false
 
 abbrev pub denies_writing : ShareMode → Bool
-denies_writing mode.DenyNone = false
-denies_writing mode.DenyRead = false
 denies_writing mode.DenyWrite = true
 denies_writing mode.DenyReadWrite = true
+denies_writing other = false
 
 abbrev pub reads : ShareAccess → Bool
-reads access.Neither = false
 reads access.Read = true
-reads access.Write = false
 reads access.ReadWrite = true
+reads other = false
 
 abbrev pub writes : ShareAccess → Bool
-writes access.Neither = false
-writes access.Read = false
 writes access.Write = true
 writes access.ReadWrite = true
+writes other = false
 
 abbrev pub share_of : ℕ → NlmShare → Share
 share_of file s = record {
@@ -289,37 +228,20 @@ with_share m s = record m { shares = (without_share m s).shares ++ s ∷ [] }
 abbrev pub share_checked : State → Ctx → NlmShare → Result Share Fault
 share_checked old ctx s = do
   file ← file_checked old ctx s.file
-  _ ← holding (not (writes s.access) || is_writable ctx file.1) ReadOnly
+  _ ← holding (not (writes s.access) || is_writable ctx file.1) (status.ReadOnly, tested.ReadOnly)
   Ok (share_of file.0 s)
 
--- whether it conflicts decides the status and what is left
-abbrev pub share_status : (conflicts : Bool) → NlmStatus
-share_status true = status.Denied
-share_status false = status.Granted
-
-abbrev pub share_left : State → Share → (conflicts : Bool) → State
-share_left m s true = m
-share_left m s false = with_share m s
-
-abbrev pub ShareOf : State → Result Share Fault → NlmStatus → List Message → State → Type 0
-ShareOf old (Err fault) s messages new = OnlyAnswers (fault_status fault) old s messages new
-ShareOf old (Ok share) s messages new =
-    Answers (share_status (list_any (shares_conflict share) old.shares)) (share_left old share (list_any (shares_conflict share) old.shares)) s messages new
+-- a share that conflicts is denied, and leaves what is there
+abbrev pub Shares : State → Share → (conflicts : Bool) → NlmStatus → List Message → State → Type 0
+Shares old share true s messages new = Answers status.Denied old s messages new
+Shares old share false s messages new = Answers status.Granted (with_share old share) s messages new
 
 abbrev pub ShareEnds : State → Ctx → ShareArguments → NlmStatus → List Message → State → Type 0
-ShareEnds old ctx a s messages new = ShareOf old (share_checked old ctx a.share) s messages new
-
-abbrev pub unshare_checked : State → Ctx → NlmShare → Result Share Fault
-unshare_checked old ctx s = do
-  file ← file_checked old ctx s.file
-  Ok (share_of file.0 s)
-
-abbrev pub UnshareOf : State → Result Share Fault → NlmStatus → List Message → State → Type 0
-UnshareOf old (Err fault) s messages new = OnlyAnswers (fault_status fault) old s messages new
-UnshareOf old (Ok share) s messages new = Answers status.Granted (without_share old share) s messages new
+ShareEnds old ctx a = Checked (λ fault. fault.0) old (share_checked old ctx a.share) (λ share. Shares old share (list_any (shares_conflict share) old.shares))
 
 abbrev pub UnshareEnds : State → Ctx → ShareArguments → NlmStatus → List Message → State → Type 0
-UnshareEnds old ctx a s messages new = UnshareOf old (unshare_checked old ctx a.share) s messages new
+UnshareEnds old ctx a =
+    Checked (λ fault. fault.0) old (file_checked old ctx a.share.file) (λ file. Answers status.Granted (without_share old (share_of file.0 a.share)))
 
 -- ---- FREE_ALL, procedure 23; its state is not looked at
 

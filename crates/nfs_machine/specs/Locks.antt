@@ -1,10 +1,9 @@
 -- Locks on ranges of files and share reservations: who has what, and what conflicts (RFC 1813, appendix II, 6.1.4).
 use Rattle.std.specs.Prelude.{◌≡◌, ℕ, ◌+◌, ◌-◌, ◌^◌, ◌≤◌, Bool, true, false, not, ◌&&◌, ◌||◌, List, Option, Some, None, nat_le, if◌then◌else◌, count_by, find, ◌==◌}
-use Rattle.std.specs.List.{AllByRecursion}
 use Rattle.std.specs.Ordering.{int_eq}
 use Rattle.side_wire.specs.declared.message.NlmLock.{NlmLock}
 use Rattle.nfs_machine.specs.Bytes.{same_bytes}
-use Rattle.nfs_machine.specs.State.{Lock, Owner, Share, State}
+use Rattle.nfs_machine.specs.State.{Lock, Owner, Share}
 
 -- how an owner has an offset of a file
 pub data Mode : Type 0 where
@@ -59,11 +58,8 @@ fits_offsets l = nat_le (l.offset + l.length) (2 ^ 64)
 abbrev pub last_of : NlmLock → ℕ
 last_of l = if l.length == 0 then last_offset else l.offset + l.length - 1
 
-abbrev pub owner_of : NlmLock → Owner
-owner_of l = record { caller_name = l.caller_name; owner = l.owner; process = l.process }
-
 abbrev pub range_of : ℕ → NlmLock → Range
-range_of file l = record { file = file; owner = owner_of l; first = l.offset; last = last_of l }
+range_of file l = record { file = file; owner = record { caller_name = l.caller_name; owner = l.owner; process = l.process }; first = l.offset; last = last_of l }
 
 abbrev pub is_in : Range → ℕ → Owner → ℕ → Bool
 is_in r file owner offset = (r.file == file) && same_owner r.owner owner && is_within r.first r.last offset
@@ -78,13 +74,10 @@ modes_without locks caller_name file owner offset = if same_bytes owner.caller_n
 
 -- two owners can't have one offset so: both have it, and one of them exclusively
 abbrev pub modes_conflict : Mode → Mode → Bool
-modes_conflict Unlocked mode = false
-modes_conflict Shared Unlocked = false
-modes_conflict Shared Shared = false
 modes_conflict Shared Exclusive = true
-modes_conflict Exclusive Unlocked = false
 modes_conflict Exclusive Shared = true
 modes_conflict Exclusive Exclusive = true
+modes_conflict a b = false
 
 -- another owner has an offset of the range in a mode that conflicts with this one
 pub record Conflicts (locks : List Lock) (r : Range) (mode : Mode) : Type 0 where
@@ -93,11 +86,6 @@ pub record Conflicts (locks : List Lock) (r : Range) (mode : Mode) : Type 0 wher
   pub is_other : same_owner r.owner other ≡ false
   pub is_inside : is_within r.first r.last offset ≡ true
   pub conflict : modes_conflict mode (mode_at locks r.file other offset) ≡ true
-
--- a listed lock that stands in the way: another owner's, with an offset of the range, and one of the two exclusive
-abbrev pub stands_in_way : Range → Mode → Lock → Bool
-stands_in_way r mode l =
-    (l.file == r.file) && not (same_owner r.owner l.owner) && nat_le l.first r.last && nat_le r.first l.last && modes_conflict mode (mode_of l.exclusive)
 
 -- one sharer: the same caller, and the same owner (oh) within it
 abbrev pub same_sharer : Share → Share → Bool
@@ -110,13 +98,3 @@ denies a b = (a.denies_reading && b.reads) || (a.denies_writing && b.writes)
 -- two shares that can't be had together
 abbrev pub shares_conflict : Share → Share → Bool
 shares_conflict a b = (a.file == b.file) && not (same_sharer a b) && (denies a b || denies b a)
-
--- no two owners have an offset in modes that conflict
-abbrev pub NoLocksConflict : List Lock → Type 0
-NoLocksConflict locks = (file : ℕ) (a b : Owner) (offset : ℕ) → same_owner a b ≡ false → modes_conflict (mode_at locks file a offset) (mode_at locks file b offset) ≡ false
-
-abbrev pub NoSharesConflict : List Share → Type 0
-NoSharesConflict shares = AllByRecursion (λ (a : Share). AllByRecursion (λ (b : Share). shares_conflict a b ≡ false) shares) shares
-
-abbrev pub NoConflict : State → Type 0
-NoConflict m = NoLocksConflict m.locks × NoSharesConflict m.shares

@@ -7,20 +7,17 @@ use Rattle.nfs_wire.specs.declared.calls.MknodArguments.{MknodArguments}
 use Rattle.nfs_wire.specs.declared.calls.Special.{Special}
 use Rattle.nfs_wire.specs.declared.calls.Special.TheVariants as special
 use Rattle.nfs_wire.specs.declared.calls.SymlinkArguments.{SymlinkArguments}
-use Rattle.nfs_wire.specs.declared.replies.NfsReply.{NfsReply}
-use Rattle.nfs_wire.specs.declared.replies.NfsReply.TheVariants as replies
 use Rattle.nfs_wire.specs.declared.status.NfsStatus.{NfsStatus}
 use Rattle.nfs_wire.specs.declared.status.NfsStatus.TheVariants as status
-use Rattle.side_wire.specs.declared.message.Message.{Message}
 use Rattle.nfs_machine.specs.Checks.{◌>>=◌, holding, may_gain_link}
 use Rattle.nfs_machine.specs.Data.{text_limit}
-use Rattle.nfs_machine.specs.Making.{End, Wanted, MakeStep, make_end, sizeless}
+use Rattle.nfs_machine.specs.Making.{End, Wanted, make_end}
 use Rattle.nfs_machine.specs.State.{Content, Directory, Link, BlockDevice, CharacterDevice, Socket, Fifo, State}
 use Rattle.nfs_machine.specs.declared.context.Ctx.{Ctx}
 
--- an object of this mode where none is given
+-- an object of this mode where none is given; a size is for regular files alone
 abbrev pub wanted_of : (mode : ℕ) → Content → SetAttributes → Wanted
-wanted_of mode content given = record { mode = mode; content = content; attributes = sizeless given; verifier = None }
+wanted_of mode content given = record { mode = mode; content = content; attributes = record given { size = None }; verifier = None }
 
 -- MKDIR, 3.3.9: a directory of mode 0755 with no entry, where "." and ".." have the cookies 1 and 2; its parent has one link more
 abbrev pub wanted_directory : SetAttributes → Wanted
@@ -28,9 +25,6 @@ wanted_directory given = wanted_of 493 (Directory [] 2) given
 
 abbrev pub mkdir_end : (old : State) → Ctx → MkdirArguments → Result (End old) NfsStatus
 mkdir_end old ctx a = make_end old ctx a.place (Ok (wanted_directory a.attributes)) (λ number directory. may_gain_link old number directory.content)
-
-abbrev pub MkdirStep : State → Ctx → MkdirArguments → NfsReply → List Message → State → Type 0
-MkdirStep old ctx a reply messages new = MakeStep old ctx a.place (mkdir_end old ctx a) replies.Mkdir reply messages new
 
 -- SYMLINK, 3.3.10: a link of mode 0777. Its text is neither empty nor holds a NUL, and has at most 4,096 bytes
 abbrev pub wanted_link : List ℕ → SetAttributes → Wanted
@@ -45,9 +39,6 @@ text_checked text = do
 abbrev pub symlink_end : (old : State) → Ctx → SymlinkArguments → Result (End old) NfsStatus
 symlink_end old ctx a = make_end old ctx a.place (Ok (wanted_link a.text a.attributes)) (λ number directory. text_checked a.text)
 
-abbrev pub SymlinkStep : State → Ctx → SymlinkArguments → NfsReply → List Message → State → Type 0
-SymlinkStep old ctx a reply messages new = MakeStep old ctx a.place (symlink_end old ctx a) replies.Symlink reply messages new
-
 -- MKNOD, 3.3.11: a device, a socket or a FIFO of mode 0644; no other type is made
 abbrev pub wanted_special : Special → Result Wanted NfsStatus
 wanted_special (special.BlockDevice given device) = Ok (wanted_of 420 (BlockDevice device) given)
@@ -59,9 +50,7 @@ wanted_special (special.Other kind) = Err status.BadType
 abbrev pub is_device : Special → Bool
 is_device (special.BlockDevice given device) = true
 is_device (special.CharacterDevice given device) = true
-is_device (special.Socket given) = false
-is_device (special.Fifo given) = false
-is_device (special.Other kind) = false
+is_device what = false
 
 -- uid 0 alone makes devices
 abbrev pub may_make : Ctx → Special → Result (Unit {0}) NfsStatus
@@ -69,6 +58,3 @@ may_make ctx what = holding (not (is_device what) || (ctx.ids.uid == 0)) status.
 
 abbrev pub mknod_end : (old : State) → Ctx → MknodArguments → Result (End old) NfsStatus
 mknod_end old ctx a = make_end old ctx a.place (wanted_special a.what) (λ number directory. may_make ctx a.what)
-
-abbrev pub MknodStep : State → Ctx → MknodArguments → NfsReply → List Message → State → Type 0
-MknodStep old ctx a reply messages new = MakeStep old ctx a.place (mknod_end old ctx a) replies.Mknod reply messages new

@@ -1,5 +1,5 @@
 -- How a call makes a new object under a new name (RFC 1813, 3.3.8 to 3.3.11).
-use Rattle.std.specs.Prelude.{◌≡◌, ℕ, ◌+◌, ◌<◌, ◌^◌, ◌%◌, true, false, ◌&&◌, ◌||◌, Bool, List, [], ◌∷◌, ◌++◌, Option, Some, None, unwrap_or, Result, Ok, Err, nat_le, nat_lt, ◌==◌}
+use Rattle.std.specs.Prelude.{◌≡◌, ℕ, ◌+◌, ◌<◌, ◌^◌, ◌%◌, true, false, ◌&&◌, ◌||◌, Bool, List, [], ◌∷◌, ◌++◌, Option, Some, None, unwrap_or, Result, Ok, Err, nat_le, nat_lt, ◌==◌, is_none}
 use Rattle.std.specs.FinMap.{get}
 use Rattle.nfs_rpc.specs.declared.credentials.Ids.{Ids}
 use Rattle.nfs_wire.specs.declared.attributes.SetAttributes.{SetAttributes}
@@ -13,7 +13,7 @@ use Rattle.nfs_wire.specs.declared.status.NfsStatus.TheVariants as status
 use Rattle.side_wire.specs.declared.message.Message.{Message}
 use Rattle.nfs_machine.specs.Answers.{Answers, state_after, answer_of}
 use Rattle.nfs_machine.specs.Attributes.{attributes_of}
-use Rattle.nfs_machine.specs.Checks.{◌>>=◌, holding, object_of, entries_in, new_name_checked, changeable, permitted, is_absent}
+use Rattle.nfs_machine.specs.Checks.{◌>>=◌, holding, object_of, entries_in, new_name_checked, changeable, permitted, entry_of}
 use Rattle.nfs_machine.specs.Data.{size_limit}
 use Rattle.nfs_machine.specs.Permission.{Changing, is_member}
 use Rattle.nfs_machine.specs.Resolve.{resolve}
@@ -65,11 +65,6 @@ new_object ctx export generation mode content a verifier = record {
 abbrev pub with_entry : List Entry → ℕ → List ℕ → ℕ → Content
 with_entry entries last_cookie name number = Directory (entries ++ record { name = name; number = number; cookie = last_cookie + 1 } ∷ []) (last_cookie + 1)
 
--- the state with a new object, under a name in a directory
-abbrev pub with_new : (m : State) → Ctx → Fresh m → ℕ → Living → List Entry → ℕ → List ℕ → Living → State
-with_new m ctx fresh number directory entries last_cookie name o =
-    record (with_object (with_object m number (with_content directory (time_of ctx.moment) (with_entry entries last_cookie name fresh.number))) fresh.number o) { spent = fresh.spent }
-
 -- what a call that makes an object answers: its handle and its attributes
 abbrev pub made : State → Ctx → ℕ → Living → Made
 made m ctx number o = record { object = Some (handle_at ctx number o); attributes = Some (attributes_of m number o) }
@@ -95,14 +90,13 @@ pub record Wanted : Type 0 where
 abbrev pub no_attributes : SetAttributes
 no_attributes = record { mode = None; uid = None; gid = None; size = None; accessed = Leave; modified = Leave }
 
--- a size is for regular files alone; any other object takes none
-abbrev pub sizeless : SetAttributes → SetAttributes
-sizeless a = record a { size = None }
-
+-- the object, under a name in a directory
 abbrev pub make_made : (old : State) → Ctx → (name : List ℕ) → Wanted → ℕ → Living → List Entry → ℕ → Fresh old → Made × State
 make_made old ctx name wanted number directory entries last_cookie fresh =
     let o = new_object ctx directory.export fresh.generation wanted.mode wanted.content wanted.attributes wanted.verifier in
-    let new = with_new old ctx fresh number directory entries last_cookie name o in (made new ctx fresh.number o, new)
+    let wider = with_content directory (time_of ctx.moment) (with_entry entries last_cookie name fresh.number) in
+    let new = record (with_object (with_object old number wider) fresh.number o) { spent = fresh.spent } in
+    (made new ctx fresh.number o, new)
 
 -- the last checks: the attributes that are given, and that the directory has a cookie left for the name
 abbrev pub make_new : (old : State) → Ctx → (name : List ℕ) → Wanted → ℕ → Living → List Entry → ℕ → Result (End old) NfsStatus
@@ -120,7 +114,7 @@ make_end old ctx place wanted own = do
   what ← wanted
   _ ← changeable ctx directory.1
   _ ← permitted ctx directory.1 Changing
-  _ ← holding (is_absent entries.0 place.name) status.Exists
+  _ ← holding (is_none (entry_of entries.0 place.name)) status.Exists
   _ ← own directory.0 directory.1
   make_new old ctx place.name what directory.0 directory.1 entries.0 entries.1
 

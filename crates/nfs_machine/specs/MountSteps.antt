@@ -1,5 +1,5 @@
 -- The steps of MOUNT version 3, one definition for each procedure (RFC 1813, appendix I, 5.2).
-use Rattle.std.specs.Prelude.{◌≡◌, ℕ, ◌≤◌, ◌-◌, Bool, true, not, ◌&&◌, ◌||◌, List, [], ◌∷◌, ◌++◌, length, drop, Option, Some, None, Result, Ok, Err, nat_lt, if◌then◌else◌, filter, find, map, ◌⊎◌, ◌==◌}
+use Rattle.std.specs.Prelude.{◌≡◌, ℕ, ◌≤◌, ◌-◌, Bool, true, not, ◌&&◌, ◌||◌, List, [], ◌∷◌, ◌++◌, length, drop, Option, Some, None, Result, Ok, Err, ok_or, nat_lt, if◌then◌else◌, filter, find, map, ◌⊎◌, ◌==◌}
 use Rattle.std.specs.List.{list_any}
 use Rattle.std.specs.FinMap.{get}
 use Rattle.side_wire.specs.declared.message.Message.{Message}
@@ -11,12 +11,15 @@ use Rattle.side_wire.specs.declared.mount.MountStatus.{MountStatus}
 use Rattle.side_wire.specs.declared.mount.MountStatus.TheVariants as status
 use Rattle.side_wire.specs.declared.mount.lists.ExportNode.{ExportNode}
 use Rattle.side_wire.specs.declared.mount.lists.MountBody.{MountBody}
+use Rattle.nfs_machine.specs.Attributes.{entries_of, is_directory}
 use Rattle.nfs_machine.specs.Bytes.{same_bytes}
+pub use Rattle.nfs_machine.specs.Checks.{◌>>=◌}
+use Rattle.nfs_machine.specs.Checks.{entry_of}
 use Rattle.nfs_machine.specs.Exports.{ExportValue, admits, every_host, export_at}
-use Rattle.nfs_machine.specs.Answers.{Answers, OnlyAnswers}
+use Rattle.nfs_machine.specs.Answers.{Answers}
 use Rattle.nfs_machine.specs.Paths.{parts, pieces, is_dots, begins_with_slash}
 pub use Rattle.nfs_machine.specs.Shown.{handle_at}
-use Rattle.nfs_machine.specs.State.{Regular, Directory, Link, BlockDevice, CharacterDevice, Socket, Fifo, Entry, Living, Mounted, State}
+use Rattle.nfs_machine.specs.State.{Entry, Living, Mounted, State}
 use Rattle.nfs_machine.specs.declared.context.Ctx.{Ctx}
 
 -- no directory of any server is called so: INVAL for a path without a leading slash, with NUL, or with a part "." or "..";
@@ -38,27 +41,10 @@ pub record Chosen (exports : List ExportValue) (host : List ℕ) (names : List (
   pub leads : Leads exports host names number rest
   pub longest : (other : ℕ) (more : List (List ℕ)) → Leads exports host names other more → length rest ≤ length more
 
-abbrev pub entry_named : List Entry → List ℕ → Result Entry MountStatus
-entry_named [] name = Err status.NoEntry
-entry_named (e ∷ entries) name = if same_bytes e.name name then Ok e else entry_named entries name
-
 -- the entries of a directory; a walk stops at anything else
 abbrev pub entries_at : Option Living → Result (Living × List Entry) MountStatus
 entries_at None = Err status.NoEntry
-entries_at (Some o) = elim o.content [
-  | Directory entries last_cookie ↦ Ok (o, entries)
-  | Regular bytes ↦ Err status.NotDirectory
-  | Link text ↦ Err status.NotDirectory
-  | BlockDevice device ↦ Err status.NotDirectory
-  | CharacterDevice device ↦ Err status.NotDirectory
-  | Socket ↦ Err status.NotDirectory
-  | Fifo ↦ Err status.NotDirectory
-]
-
-infixl 10 ◌>>=◌
-abbrev pub ◌>>=◌ : {A B : Type 0} → Result A MountStatus → (A → Result B MountStatus) → Result B MountStatus
-(Ok x) >>= f = f x
-(Err e) >>= f = Err e
+entries_at (Some o) = if is_directory o.content then Ok (o, entries_of o.content) else Err status.NotDirectory
 
 -- the directory that names lead to from a number, with its own number; no link is followed
 unfoldable pub walk : (ℕ → Option Living) → ℕ → List (List ℕ) → Result (ℕ × Living) MountStatus
@@ -67,7 +53,7 @@ walk find number [] = do
   Ok (number, d.0)
 walk find number (name ∷ names) = do
   d ← entries_at (find number)
-  e ← entry_named d.1 name
+  e ← ok_or (entry_of d.1 name) status.NoEntry
   walk find e.number names
 
 -- what a path names for a caller: the root of an export has the export's number
@@ -83,8 +69,12 @@ NoExport ctx path = (number : ℕ) (rest : List (List ℕ)) → Leads ctx.export
 abbrev pub mount_limit : ℕ
 mount_limit = 65536
 
+-- this path of this host, as it was sent
+abbrev pub is_of : List ℕ → List ℕ → Mounted → Bool
+is_of host path x = same_bytes x.host host && same_bytes x.path path
+
 abbrev pub is_mounted : List Mounted → Mounted → Bool
-is_mounted mounts m = list_any (λ (x : Mounted). same_bytes x.host m.host && same_bytes x.path m.path) mounts
+is_mounted mounts m = list_any (is_of m.host m.path) mounts
 
 abbrev pub newest : List Mounted → List Mounted
 newest mounts = drop (length mounts - mount_limit) mounts
@@ -111,13 +101,9 @@ pub record MntStep (old : State) (ctx : Ctx) (path : List ℕ) (reply : MountRep
 abbrev pub listed_mounts : List Mounted → List MountBody
 listed_mounts mounts = map (λ (x : Mounted). record { hostname = x.host; directory = x.path }) mounts
 
--- the state without some mounts
+-- the state without some mounts: UMNT, 5.2.3, takes this path of this host away
 abbrev pub without_mounts : State → (Mounted → Bool) → State
 without_mounts m goes = record m { mounts = filter (λ (x : Mounted). not (goes x)) m.mounts }
-
--- UMNT, 5.2.3: this path of this host, as it was sent
-abbrev pub is_of : List ℕ → List ℕ → Mounted → Bool
-is_of host path x = same_bytes x.host host && same_bytes x.path path
 
 -- UMNTALL, 5.2.4: every path of this host
 abbrev pub is_by : List ℕ → Mounted → Bool
@@ -132,9 +118,9 @@ listed_exports exports = map (λ (e : ExportValue). record { directory = e.path;
 
 -- what the machine may answer a call of MOUNT, and the state that it goes on to
 unfoldable pub MountStep : State → Ctx → MountCall → MountReply → List Message → State → Type 0
-MountStep old ctx calls.Null reply messages new = OnlyAnswers replies.Null old reply messages new
+MountStep old ctx calls.Null reply messages new = Answers replies.Null old reply messages new
 MountStep old ctx (calls.Mnt path) reply messages new = MntStep old ctx path reply messages new
-MountStep old ctx calls.Dump reply messages new = OnlyAnswers (replies.Dump (listed_mounts old.mounts)) old reply messages new
+MountStep old ctx calls.Dump reply messages new = Answers (replies.Dump (listed_mounts old.mounts)) old reply messages new
 MountStep old ctx (calls.Unmount path) reply messages new = Answers replies.Unmount (without_mounts old (is_of ctx.host path)) reply messages new
 MountStep old ctx calls.UnmountAll reply messages new = Answers replies.UnmountAll (without_mounts old (is_by ctx.host)) reply messages new
-MountStep old ctx calls.Export reply messages new = OnlyAnswers (replies.Export (listed_exports ctx.exports)) old reply messages new
+MountStep old ctx calls.Export reply messages new = Answers (replies.Export (listed_exports ctx.exports)) old reply messages new

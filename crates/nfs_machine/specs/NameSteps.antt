@@ -1,5 +1,5 @@
 -- The steps of LOOKUP and CREATE (RFC 1813, 3.3.3 and 3.3.8).
-use Rattle.std.specs.Prelude.{◌≡◌, ℕ, Bool, true, false, List, Option, Some, None, unwrap_or, Result, Ok, Err, nat_le, replicate, if◌then◌else◌}
+use Rattle.std.specs.Prelude.{ℕ, Bool, false, List, Option, Some, None, option_map, unwrap_or, Result, Ok, Err, ok_or, nat_le, replicate, if◌then◌else◌}
 use Rattle.std.specs.FinMap.{get}
 use Rattle.nfs_wire.specs.declared.attributes.SetAttributes.{SetAttributes}
 use Rattle.nfs_wire.specs.declared.calls.CreateArguments.{CreateArguments}
@@ -7,35 +7,30 @@ use Rattle.nfs_wire.specs.declared.calls.CreateHow.{CreateHow}
 use Rattle.nfs_wire.specs.declared.calls.CreateHow.TheVariants.{Unchecked, Guarded, Exclusive}
 use Rattle.nfs_wire.specs.declared.calls.Place.{Place}
 use Rattle.nfs_wire.specs.declared.replies.Found.{Found}
-use Rattle.nfs_wire.specs.declared.replies.Made.{Made}
 use Rattle.nfs_wire.specs.declared.replies.NfsReply.{NfsReply}
 use Rattle.nfs_wire.specs.declared.replies.NfsReply.TheVariants as replies
 use Rattle.nfs_wire.specs.declared.status.NfsStatus.{NfsStatus}
 use Rattle.nfs_wire.specs.declared.status.NfsStatus.TheVariants as status
 use Rattle.side_wire.specs.declared.message.Message.{Message}
-use Rattle.nfs_machine.specs.Answers.{OnlyAnswers}
-use Rattle.nfs_machine.specs.Attributes.{attributes_of, is_directory}
+use Rattle.nfs_machine.specs.Answers.{Answers}
+use Rattle.nfs_machine.specs.Attributes.{attributes_of}
 use Rattle.nfs_machine.specs.Bytes.{same_bytes}
 use Rattle.nfs_machine.specs.Checks.{◌>>=◌, holding, object_of, entries_in, bytes_in, name_checked, new_name_checked, is_self, is_above, changeable, permitted, entry_of}
 use Rattle.nfs_machine.specs.Data.{size_limit, resized}
-pub use Rattle.nfs_machine.specs.Making.{Fresh, may_give, given_attributes, new_object, with_entry, with_new, made, End, Known, Chosen, EndsAs, no_attributes}
-use Rattle.nfs_machine.specs.Making.{Wanted, MakeStep, make_made, make_new}
+pub use Rattle.nfs_machine.specs.Making.{Fresh, may_give, given_attributes, new_object, with_entry, made, End, Known, Chosen, EndsAs, no_attributes}
+use Rattle.nfs_machine.specs.Making.{Wanted, make_new}
+use Rattle.nfs_machine.specs.PageSteps.{IsParentOf}
 use Rattle.nfs_machine.specs.Permission.{Writing, Searching, Changing}
-use Rattle.nfs_machine.specs.Resolve.{Names, resolve}
+use Rattle.nfs_machine.specs.Resolve.{resolve}
 use Rattle.nfs_machine.specs.Shown.{shown, handle_at, with_content, replaced}
 use Rattle.nfs_machine.specs.State.{Regular, Entry, Living, State}
 use Rattle.nfs_machine.specs.Times.{time_of}
-use Rattle.nfs_machine.specs.WellFormed.{IsParent}
 use Rattle.nfs_machine.specs.declared.context.Ctx.{Ctx}
 
 -- LOOKUP, 3.3.3: a name leads to an entry's object, "." to the directory itself and ".." to its parent
-abbrev pub number_of_entry : Option Entry → Result ℕ NfsStatus
-number_of_entry (Some e) = Ok e.number
-number_of_entry None = Err status.NoEntry
-
 abbrev pub leads_to : (number parent : ℕ) → List Entry → List ℕ → Result ℕ NfsStatus
 leads_to number parent entries name =
-    if is_self name then Ok number else (if is_above name then Ok parent else number_of_entry (entry_of entries name))
+    if is_self name then Ok number else (if is_above name then Ok parent else ok_or (option_map (λ (e : Entry). e.number) (entry_of entries name)) status.NoEntry)
 
 abbrev pub found_of : State → Ctx → ℕ → Option Living → Result Found NfsStatus
 found_of m ctx number None = Err status.NoEntry
@@ -52,8 +47,8 @@ lookup_result m ctx place parent = do
 
 pub record LookupStep (old : State) (ctx : Ctx) (place : Place) (reply : NfsReply) (messages : List Message) (new : State) : Type 0 where
   pub parent : ℕ
-  pub is_parent : (number : ℕ) (directory : Living) → resolve old ctx place.directory ≡ Names number directory → is_directory directory.content ≡ true → IsParent old number parent
-  pub answers : OnlyAnswers (replies.Lookup (record { directory = shown old (resolve old ctx place.directory); result = lookup_result old ctx place parent })) old reply messages new
+  pub is_parent : IsParentOf old ctx place.directory parent
+  pub answers : Answers (replies.Lookup (record { directory = shown old (resolve old ctx place.directory); result = lookup_result old ctx place parent })) old reply messages new
 
 -- CREATE, 3.3.8
 -- which attributes a new file is given, and the verifier that it keeps
@@ -63,9 +58,8 @@ attributes_given (Guarded a) = a
 attributes_given (Exclusive verifier) = no_attributes
 
 abbrev pub verifier_given : CreateHow → Option (List ℕ)
-verifier_given (Unchecked a) = None
-verifier_given (Guarded a) = None
 verifier_given (Exclusive verifier) = Some verifier.bytes
+verifier_given how = None
 
 abbrev pub is_verifier : Option (List ℕ) → List ℕ → Bool
 is_verifier None bytes = false
@@ -101,16 +95,10 @@ new_file ctx how export generation =
     let wanted = wanted_file how in
     new_object ctx export generation wanted.mode wanted.content wanted.attributes wanted.verifier
 
-abbrev pub create_made : (old : State) → Ctx → CreateArguments → ℕ → Living → List Entry → ℕ → Fresh old → Made × State
-create_made old ctx a number directory entries last_cookie = make_made old ctx a.place.name (wanted_file a.how) number directory entries last_cookie
-
-abbrev pub create_new : (old : State) → Ctx → CreateArguments → ℕ → Living → List Entry → ℕ → Result (End old) NfsStatus
-create_new old ctx a number directory entries last_cookie = make_new old ctx a.place.name (wanted_file a.how) number directory entries last_cookie
-
 -- the name is there, or it is new
 abbrev pub create_under : (old : State) → Ctx → CreateArguments → ℕ → Living → List Entry → ℕ → Option Entry → Result (End old) NfsStatus
 create_under old ctx a number directory entries last_cookie (Some e) = create_existing old ctx a.how e.number (get old.objects e.number)
-create_under old ctx a number directory entries last_cookie None = create_new old ctx a number directory entries last_cookie
+create_under old ctx a number directory entries last_cookie None = make_new old ctx a.place.name (wanted_file a.how) number directory entries last_cookie
 
 abbrev pub create_end : (old : State) → Ctx → CreateArguments → Result (End old) NfsStatus
 create_end old ctx a = do
@@ -120,6 +108,3 @@ create_end old ctx a = do
   _ ← changeable ctx directory.1
   _ ← permitted ctx directory.1 Changing
   create_under old ctx a directory.0 directory.1 entries.0 entries.1 (entry_of entries.0 a.place.name)
-
-abbrev pub CreateStep : State → Ctx → CreateArguments → NfsReply → List Message → State → Type 0
-CreateStep old ctx a reply messages new = MakeStep old ctx a.place (create_end old ctx a) replies.Create reply messages new

@@ -12,7 +12,7 @@ use Rattle.side_wire.specs.declared.nlm.NlmStatus.{NlmStatus}
 use Rattle.side_wire.specs.declared.nlm.NlmStatus.TheVariants as status
 use Rattle.side_wire.specs.declared.nlm.TestResult.{TestResult}
 use Rattle.side_wire.specs.declared.nlm.TestStatus.{TestStatus}
-use Rattle.nfs_machine.specs.Answers.{OnlyAnswers}
+use Rattle.nfs_machine.specs.Answers.{Answers}
 use Rattle.nfs_machine.specs.LockSteps.{CancelEnds, Frees, GrantEnds, LockEnds, ShareEnds, TestEnds, UnlockEnds, UnshareEnds}
 use Rattle.nfs_machine.specs.State.{State}
 use Rattle.nfs_machine.specs.declared.context.Ctx.{Ctx}
@@ -38,34 +38,26 @@ pub record Posts {Status : Type 0} (Ends : Status → List Message → State →
   pub reply_is : reply ≡ void
   pub messages_are : messages ≡ granted ++ record { host = host; call = result_of status } ∷ []
 
--- a call with no status
-pub record IsVoid (Ends : List Message → State → Type 0) (void : NlmReply) (reply : NlmReply) (messages : List Message) (new : State) : Type 0 where
-  pub ends : Ends messages new
-  pub reply_is : reply ≡ void
-
--- GRANTED, procedure 5: this server waits for no lock
-abbrev pub GrantedEnds : State → NlmStatus → List Message → State → Type 0
-GrantedEnds old s messages new = OnlyAnswers status.Denied old s messages new
-
 -- what the machine may answer a call of NLM, and the state that it goes on to
 unfoldable pub NlmStep : State → Ctx → NlmCall → NlmReply → List Message → State → Type 0
-NlmStep old ctx calls.Null reply messages new = OnlyAnswers replies.Null old reply messages new
+NlmStep old ctx calls.Null reply messages new = Answers replies.Null old reply messages new
 NlmStep old ctx (calls.Test a) reply messages new = Replies (TestEnds old ctx a) (λ s. replies.Test (test_with a.cookie s)) reply messages new
 NlmStep old ctx (calls.Lock a) reply messages new = Replies (LockEnds old ctx a false) (λ s. replies.Lock (result_with a.cookie s)) reply messages new
 NlmStep old ctx (calls.Cancel a) reply messages new = Replies (CancelEnds old ctx a) (λ s. replies.Cancel (result_with a.cookie s)) reply messages new
 NlmStep old ctx (calls.Unlock a) reply messages new = Replies (UnlockEnds old ctx a) (λ s. replies.Unlock (result_with a.cookie s)) reply messages new
-NlmStep old ctx (calls.Granted a) reply messages new = Replies (GrantedEnds old) (λ s. replies.Granted (result_with a.cookie s)) reply messages new
+-- GRANTED, procedure 5, and GRANTED_MSG: this server waits for no lock
+NlmStep old ctx (calls.Granted a) reply messages new = Replies (Answers status.Denied old) (λ s. replies.Granted (result_with a.cookie s)) reply messages new
 NlmStep old ctx (calls.TestMsg a) reply messages new = Posts (TestEnds old ctx a) ctx.host (λ s. callbacks.TestRes (test_with a.cookie s)) replies.TestMsg reply messages new
 NlmStep old ctx (calls.LockMsg a) reply messages new = Posts (LockEnds old ctx a true) ctx.host (λ s. callbacks.LockRes (result_with a.cookie s)) replies.LockMsg reply messages new
 NlmStep old ctx (calls.CancelMsg a) reply messages new = Posts (CancelEnds old ctx a) ctx.host (λ s. callbacks.CancelRes (result_with a.cookie s)) replies.CancelMsg reply messages new
 NlmStep old ctx (calls.UnlockMsg a) reply messages new = Posts (UnlockEnds old ctx a) ctx.host (λ s. callbacks.UnlockRes (result_with a.cookie s)) replies.UnlockMsg reply messages new
-NlmStep old ctx (calls.GrantedMsg a) reply messages new = Posts (GrantedEnds old) ctx.host (λ s. callbacks.GrantedRes (result_with a.cookie s)) replies.GrantedMsg reply messages new
-NlmStep old ctx (calls.TestRes r) reply messages new = OnlyAnswers replies.TestRes old reply messages new
-NlmStep old ctx (calls.LockRes r) reply messages new = OnlyAnswers replies.LockRes old reply messages new
-NlmStep old ctx (calls.CancelRes r) reply messages new = OnlyAnswers replies.CancelRes old reply messages new
-NlmStep old ctx (calls.UnlockRes r) reply messages new = OnlyAnswers replies.UnlockRes old reply messages new
-NlmStep old ctx (calls.GrantedRes r) reply messages new = IsVoid (GrantEnds old ctx r) replies.GrantedRes reply messages new
+NlmStep old ctx (calls.GrantedMsg a) reply messages new = Posts (Answers status.Denied old) ctx.host (λ s. callbacks.GrantedRes (result_with a.cookie s)) replies.GrantedMsg reply messages new
+NlmStep old ctx (calls.TestRes r) reply messages new = Answers replies.TestRes old reply messages new
+NlmStep old ctx (calls.LockRes r) reply messages new = Answers replies.LockRes old reply messages new
+NlmStep old ctx (calls.CancelRes r) reply messages new = Answers replies.CancelRes old reply messages new
+NlmStep old ctx (calls.UnlockRes r) reply messages new = Answers replies.UnlockRes old reply messages new
+NlmStep old ctx (calls.GrantedRes r) reply messages new = (reply ≡ replies.GrantedRes) × GrantEnds old ctx r messages new
 NlmStep old ctx (calls.Share a) reply messages new = Replies (ShareEnds old ctx a) (λ s. replies.Share (result_with a.cookie s)) reply messages new
 NlmStep old ctx (calls.Unshare a) reply messages new = Replies (UnshareEnds old ctx a) (λ s. replies.Unshare (result_with a.cookie s)) reply messages new
 NlmStep old ctx (calls.NmLock a) reply messages new = Replies (LockEnds old ctx a false) (λ s. replies.NmLock (result_with a.cookie s)) reply messages new
-NlmStep old ctx (calls.FreeAll a) reply messages new = IsVoid (Frees old a.name) replies.FreeAll reply messages new
+NlmStep old ctx (calls.FreeAll a) reply messages new = (reply ≡ replies.FreeAll) × Frees old a.name messages new

@@ -13,7 +13,7 @@ use Rattle.nfs_wire.specs.declared.replies.PagePlus.{PagePlus}
 use Rattle.nfs_wire.specs.declared.status.NfsStatus.{NfsStatus}
 use Rattle.nfs_wire.specs.declared.status.NfsStatus.TheVariants as status
 use Rattle.side_wire.specs.declared.message.Message.{Message}
-use Rattle.nfs_machine.specs.Answers.{OnlyAnswers}
+use Rattle.nfs_machine.specs.Answers.{Answers}
 use Rattle.nfs_machine.specs.Attributes.{is_directory}
 use Rattle.nfs_machine.specs.Bytes.{same_bytes}
 use Rattle.nfs_machine.specs.Checks.{◌>>=◌, holding, object_of, entries_in, permitted}
@@ -62,7 +62,7 @@ pub record ReaddirStep (old : State) (ctx : Ctx) (a : ReaddirArguments) (reply :
   pub is_parent : IsParentOf old ctx a.directory parent
   pub page : Result (List Entry × Bool) NfsStatus
   pub is_page : PagesOf (fits a.count) (entries_left old ctx a.directory a.cookie a.verifier parent) page
-  pub answers : OnlyAnswers (replies.Readdir (record { attributes = shown old (resolve old ctx a.directory); result = readdir_result ctx page })) old reply messages new
+  pub answers : Answers (replies.Readdir (record { attributes = shown old (resolve old ctx a.directory); result = readdir_result ctx page })) old reply messages new
 
 -- READDIRPLUS, 3.3.17: attributes and handle of what each name leads to
 abbrev pub full_entry : State → Ctx → Entry → FullEntry
@@ -78,4 +78,4 @@ pub record ReaddirplusStep (old : State) (ctx : Ctx) (a : ReaddirplusArguments) 
   pub is_parent : IsParentOf old ctx a.directory parent
   pub page : Result (List Entry × Bool) NfsStatus
   pub is_page : PagesOf (fits_full a.directory_count a.most) (entries_left old ctx a.directory a.cookie a.verifier parent) page
-  pub answers : OnlyAnswers (replies.Readdirplus (record { attributes = shown old (resolve old ctx a.directory); result = readdirplus_result old ctx page })) old reply messages new
+  pub answers : Answers (replies.Readdirplus (record { attributes = shown old (resolve old ctx a.directory); result = readdirplus_result old ctx page })) old reply messages new

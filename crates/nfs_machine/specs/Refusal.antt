@@ -17,7 +17,6 @@ use Rattle.side_wire.specs.declared.nlm.NlmReply.{NlmReply}
 use Rattle.side_wire.specs.declared.nlm.NlmReply.TheVariants as nlm_replies
 use Rattle.side_wire.specs.declared.nlm.NlmResult.{NlmResult}
 use Rattle.side_wire.specs.declared.nlm.NlmStatus.TheVariants as nlm_status
-use Rattle.side_wire.specs.declared.nlm.TestResult.{TestResult}
 use Rattle.side_wire.specs.declared.nlm.TestStatus.TheVariants as test_status
 use Rattle.nfs_machine.specs.declared.calls.Call.{Call}
 use Rattle.nfs_machine.specs.declared.calls.Call.TheVariants as calls
@@ -67,11 +66,8 @@ mount_refusal call = None
 abbrev pub no_locks : List ℕ → NlmResult
 no_locks cookie = record { cookie = cookie; status = nlm_status.DeniedNoLocks }
 
-abbrev pub no_test : List ℕ → TestResult
-no_test cookie = record { cookie = cookie; status = test_status.DeniedNoLocks }
-
 abbrev pub nlm_refusal : NlmCall → Option NlmReply
-nlm_refusal (nlm.Test a) = Some (nlm_replies.Test (no_test a.cookie))
+nlm_refusal (nlm.Test a) = Some (nlm_replies.Test (record { cookie = a.cookie; status = test_status.DeniedNoLocks }))
 nlm_refusal (nlm.Lock a) = Some (nlm_replies.Lock (no_locks a.cookie))
 nlm_refusal (nlm.Cancel a) = Some (nlm_replies.Cancel (no_locks a.cookie))
 nlm_refusal (nlm.Unlock a) = Some (nlm_replies.Unlock (no_locks a.cookie))

@@ -1,10 +1,9 @@
 -- The steps of REMOVE and RMDIR (RFC 1813, 3.3.12 and 3.3.13), and what becomes of an object that loses a name.
-use Rattle.std.specs.Prelude.{ℕ, Bool, true, false, not, List, [], ◌∷◌, Option, Some, None, Result, Ok, Err, filter, nat_le, if◌then◌else◌, ◌==◌}
+use Rattle.std.specs.Prelude.{ℕ, not, List, Result, Ok, ok_or, filter, nat_le, if◌then◌else◌, ◌==◌}
 use Rattle.std.specs.FinMap.{get, remove}
 use Rattle.nfs_wire.specs.declared.attributes.Time.{Time}
 use Rattle.nfs_wire.specs.declared.calls.Place.{Place}
 use Rattle.nfs_wire.specs.declared.replies.NfsReply.{NfsReply}
-use Rattle.nfs_wire.specs.declared.replies.NfsReply.TheVariants as replies
 use Rattle.nfs_wire.specs.declared.replies.RemovedReply.{RemovedReply}
 use Rattle.nfs_wire.specs.declared.status.NfsStatus.{NfsStatus}
 use Rattle.nfs_wire.specs.declared.status.NfsStatus.TheVariants as status
@@ -13,6 +12,7 @@ use Rattle.nfs_machine.specs.Answers.{Answers, state_after, answer_of}
 use Rattle.nfs_machine.specs.Attributes.{is_directory, names_of}
 use Rattle.nfs_machine.specs.Bytes.{same_bytes}
 use Rattle.nfs_machine.specs.Checks.{◌>>=◌, holding, object_of, entries_in, name_checked, old_name_checked, is_self, is_above, changeable, permitted, entry_of}
+use Rattle.nfs_machine.specs.Pages.{are_none}
 use Rattle.nfs_machine.specs.Permission.{Changing}
 use Rattle.nfs_machine.specs.Resolve.{resolve}
 use Rattle.nfs_machine.specs.Shown.{wcc, touched, with_content, with_object}
@@ -30,18 +30,10 @@ pub record Named : Type 0 where
   pub number : ℕ
   pub object : Living
 
-abbrev pub entry_found : Option Entry → Result Entry NfsStatus
-entry_found None = Err status.NoEntry
-entry_found (Some e) = Ok e
-
-abbrev pub object_found : Option Living → Result Living NfsStatus
-object_found None = Err status.NoEntry
-object_found (Some o) = Ok o
-
 abbrev pub named_in : State → ℕ × Living → List Entry × ℕ → List ℕ → Result Named NfsStatus
 named_in m directory entries name = do
-  e ← entry_found (entry_of entries.0 name)
-  o ← object_found (get m.objects e.number)
+  e ← ok_or (entry_of entries.0 name) status.NoEntry
+  o ← ok_or (get m.objects e.number) status.NoEntry
   Ok (record { place = directory.0; directory = directory.1; entries = entries.0; last_cookie = entries.1; name = name; number = e.number; object = o })
 
 -- the entries without a name
@@ -79,8 +71,10 @@ take_end old ctx place name_checked content_checked = do
   _ ← content_checked named.object.content
   Ok (tt, with_name_taken old (time_of ctx.moment) named)
 
-abbrev pub taken_reply : State → Ctx → Place → Result (Unit {0} × State) NfsStatus → RemovedReply
-taken_reply old ctx place end = record { directory = wcc (state_after old end) (resolve old ctx place.directory); result = answer_of end }
+-- the step of such a call: its directory is shown before and after
+abbrev pub TakeStep : State → Ctx → Place → Result (Unit {0} × State) NfsStatus → (RemovedReply → NfsReply) → NfsReply → List Message → State → Type 0
+TakeStep old ctx place end reply_of =
+    Answers (reply_of (record { directory = wcc (state_after old end) (resolve old ctx place.directory); result = answer_of end })) (state_after old end)
 
 -- REMOVE, 3.3.12: of any object but a directory
 abbrev pub not_directory : Content → Result (Unit {0}) NfsStatus
@@ -89,10 +83,6 @@ not_directory content = holding (not (is_directory content)) status.IsDirectory
 abbrev pub remove_end : State → Ctx → Place → Result (Unit {0} × State) NfsStatus
 remove_end old ctx place = take_end old ctx place old_name_checked not_directory
 
-abbrev pub RemoveStep : State → Ctx → Place → NfsReply → List Message → State → Type 0
-RemoveStep old ctx place reply messages new =
-    Answers (replies.Remove (taken_reply old ctx place (remove_end old ctx place))) (state_after old (remove_end old ctx place)) reply messages new
-
 -- RMDIR, 3.3.13: of a directory with no entry; "." can't be taken away, and ".." is there always
 abbrev pub directory_name_checked : List ℕ → Result (Unit {0}) NfsStatus
 directory_name_checked name = do
@@ -100,18 +90,10 @@ directory_name_checked name = do
   _ ← holding (not (is_self name)) status.Invalid
   holding (not (is_above name)) status.Exists
 
-abbrev pub has_no_entry : List Entry → Bool
-has_no_entry [] = true
-has_no_entry (e ∷ entries) = false
-
 abbrev pub empty_directory : Content → Result (Unit {0}) NfsStatus
 empty_directory content = do
   entries ← entries_in content
-  holding (has_no_entry entries.0) status.NotEmpty
+  holding (are_none entries.0) status.NotEmpty
 
 abbrev pub rmdir_end : State → Ctx → Place → Result (Unit {0} × State) NfsStatus
 rmdir_end old ctx place = take_end old ctx place directory_name_checked empty_directory
-
-abbrev pub RmdirStep : State → Ctx → Place → NfsReply → List Message → State → Type 0
-RmdirStep old ctx place reply messages new =
-    Answers (replies.Rmdir (taken_reply old ctx place (rmdir_end old ctx place))) (state_after old (rmdir_end old ctx place)) reply messages new

@@ -13,8 +13,9 @@ use Rattle.nfs_machine.specs.Answers.{Answers, state_after, answer_of}
 use Rattle.nfs_machine.specs.Attributes.{entries_of, is_directory, links_of, names_in, names_of}
 use Rattle.nfs_machine.specs.Checks.{◌>>=◌, holding, object_of, entries_in, entry_of, old_name_checked, changeable, permitted, link_limit}
 use Rattle.nfs_machine.specs.Making.{with_entry}
+use Rattle.nfs_machine.specs.Pages.{are_none}
 use Rattle.nfs_machine.specs.Permission.{Changing}
-use Rattle.nfs_machine.specs.RemoveSteps.{Named, has_no_entry, losing_name, named_in, without}
+use Rattle.nfs_machine.specs.RemoveSteps.{Named, losing_name, named_in, without}
 use Rattle.nfs_machine.specs.Resolve.{resolve}
 use Rattle.nfs_machine.specs.Shown.{after_first, touched, wcc, with_content, with_object}
 use Rattle.nfs_machine.specs.State.{Content, Directory, Entry, Living, State}
@@ -36,28 +37,24 @@ pub record Move : Type 0 where
   pub name : List ℕ
   pub replaced : Option (ℕ × Living)
 
-pub data Plan : Type 0 where
-  -- both names lead to one object: nothing changes
-  SameObject : Plan
-  Moves : (move : Move) → Plan
-
 abbrev pub object_under : State → Option Entry → Option (ℕ × Living)
 object_under m None = None
 object_under m (Some e) = option_map (λ o. (e.number, o)) (get m.objects e.number)
 
 -- what may be replaced by it: both are directories, and the one that goes has no entry, or neither is one
 abbrev pub is_compatible : (moved replaced : Content) → Bool
-is_compatible moved replaced = (is_directory moved && is_directory replaced && has_no_entry (entries_of replaced)) || (not (is_directory moved) && not (is_directory replaced))
+is_compatible moved replaced = (is_directory moved && is_directory replaced && are_none (entries_of replaced)) || (not (is_directory moved) && not (is_directory replaced))
 
-abbrev pub plan_over : Move → Option (ℕ × Living) → Result Plan NfsStatus
-plan_over move None = Ok (Moves move)
+-- where both names lead to one object, nothing moves
+abbrev pub plan_over : Move → Option (ℕ × Living) → Result (Option Move) NfsStatus
+plan_over move None = Ok (Some move)
 plan_over move (Some o) =
-    if o.0 == move.from.number then Ok SameObject
+    if o.0 == move.from.number then Ok None
     else (do
       _ ← holding (is_compatible move.from.object.content o.1.content) status.Exists
-      Ok (Moves move))
+      Ok (Some move))
 
-abbrev pub rename_plan : State → Ctx → RenameArguments → Result Plan NfsStatus
+abbrev pub rename_plan : State → Ctx → RenameArguments → Result (Option Move) NfsStatus
 rename_plan old ctx a = do
   from ← object_of (resolve old ctx a.from.directory)
   to ← object_of (resolve old ctx a.to.directory)
@@ -108,10 +105,10 @@ moved_end old ctx move = do
 abbrev pub GoesIntoItself : State → Move → Type 0
 GoesIntoItself m move = (is_directory move.from.object.content ≡ true) × IsWithin m move.from.number move.target
 
-abbrev pub RenameEnds : State → Ctx → Result Plan NfsStatus → Result (Unit {0} × State) NfsStatus → Type 0
+abbrev pub RenameEnds : State → Ctx → Result (Option Move) NfsStatus → Result (Unit {0} × State) NfsStatus → Type 0
 RenameEnds old ctx (Err e) end = end ≡ Err e
-RenameEnds old ctx (Ok SameObject) end = end ≡ Ok (tt, old)
-RenameEnds old ctx (Ok (Moves move)) end = (GoesIntoItself old move × (end ≡ Err status.Invalid)) ⊎ ((GoesIntoItself old move → ⊥) × (end ≡ moved_end old ctx move))
+RenameEnds old ctx (Ok None) end = end ≡ Ok (tt, old)
+RenameEnds old ctx (Ok (Some move)) end = (GoesIntoItself old move × (end ≡ Err status.Invalid)) ⊎ ((GoesIntoItself old move → ⊥) × (end ≡ moved_end old ctx move))
 
 abbrev pub rename_reply : State → Ctx → RenameArguments → Result (Unit {0} × State) NfsStatus → RenamedReply
 rename_reply old ctx a end =

@@ -7,7 +7,7 @@ use Rattle.nfs_wire.specs.declared.attributes.Wcc.{Wcc}
 use Rattle.nfs_wire.specs.declared.attributes.WeakAttributes.{WeakAttributes}
 use Rattle.nfs_machine.specs.Attributes.{attributes_of, size_of}
 use Rattle.nfs_machine.specs.Handles.{handle_bytes}
-use Rattle.nfs_machine.specs.Resolve.{Resolved, BadHandle, Stale, Names}
+use Rattle.nfs_machine.specs.Resolve.{Resolved, BadHandle, Names}
 use Rattle.nfs_machine.specs.State.{Content, Living, State}
 use Rattle.nfs_machine.specs.Times.{touch}
 use Rattle.nfs_machine.specs.declared.context.Ctx.{Ctx}
@@ -18,24 +18,21 @@ attributes_at m number = option_map (attributes_of m number) (get m.objects numb
 
 -- the attributes of what a handle named, in the state after the call: always shown where it named something
 abbrev pub shown : State → Resolved → Option Attributes
-shown new BadHandle = None
-shown new Stale = None
 shown new (Names number object) = attributes_at new number
+shown new resolved = None
 
 abbrev pub weak : Living → WeakAttributes
 weak o = record { size = size_of o.content; modified = o.modified; changed = o.changed }
 
 -- what a handle named, before the call and after it
 abbrev pub wcc : State → Resolved → Wcc
-wcc new BadHandle = record { before = None; after = None }
-wcc new Stale = record { before = None; after = None }
 wcc new (Names number object) = record { before = Some (weak object); after = attributes_at new number }
+wcc new resolved = record { before = None; after = None }
 
 -- a handle is not looked at where the one before it names nothing
 abbrev pub after_first : (first second : Resolved) → Resolved
-after_first BadHandle second = BadHandle
-after_first Stale second = BadHandle
 after_first (Names number object) second = second
+after_first first second = BadHandle
 
 -- the handle of an object
 abbrev pub handle_at : Ctx → ℕ → Living → List ℕ

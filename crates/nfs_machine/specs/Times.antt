@@ -26,20 +26,17 @@ touch changed now = if is_earlier (next changed) now then now else next changed
 
 -- nanoseconds are below a second (3.3.2)
 abbrev pub is_time : SetTime → Bool
-is_time Leave = true
-is_time ToServer = true
 is_time (ToClient t) = nat_le t.nanoseconds 999999999
+is_time set = true
 
 -- whose time is set
 abbrev pub is_client_time : SetTime → Bool
-is_client_time Leave = false
-is_client_time ToServer = false
 is_client_time (ToClient t) = true
+is_client_time set = false
 
 abbrev pub is_server_time : SetTime → Bool
-is_server_time Leave = false
 is_server_time ToServer = true
-is_server_time (ToClient t) = false
+is_server_time set = false
 
 -- a time that is set now (2.5: set_atime, set_mtime)
 abbrev pub set_time : Time → Time → SetTime → Time

@@ -1,7 +1,7 @@
 -- What is true of every state that a run comes to: names lead to living objects, and directories form one tree in each export.
-use Rattle.std.specs.Prelude.{◌≡◌, ℕ, ◌+◌, ◌<◌, ◌≤◌, true, false, List, [], ◌∷◌, ◌++◌, length, Some, None, find, ◌==◌, ◌⊎◌}
+use Rattle.std.specs.Prelude.{◌≡◌, ℕ, ◌<◌, ◌≤◌, true, false, List, [], ◌∷◌, length, Some, ◌==◌, ◌⊎◌}
 use Rattle.std.specs.List.{AllByRecursion}
-use Rattle.std.specs.FinMap.{get, insert}
+use Rattle.std.specs.FinMap.{get}
 use Rattle.nfs_machine.specs.Attributes.{entries_of, is_directory, is_living_directory, names_in, names_of}
 use Rattle.nfs_machine.specs.Bytes.{same_bytes}
 use Rattle.nfs_machine.specs.Data.{text_limit}
@@ -52,31 +52,3 @@ pub record IsParent (m : State) (number parent : ℕ) : Type 0 where
   pub directory : Living
   pub lives : get m.objects parent ≡ Some directory
   pub named_in : (parent ≡ number) × (number ≡ directory.export) ⊎ (1 ≤ names_in number directory)
-
--- one object in the place of another that names nothing else: it keeps its export and its generation, and a directory all that it contains
-pub record KeepsNames (old new : Living) : Type 0 where
-  pub export : new.export ≡ old.export
-  pub generation : new.generation ≡ old.generation
-  pub kind : is_directory new.content ≡ is_directory old.content
-  pub content : is_directory old.content ≡ true → new.content ≡ old.content
-
--- a new object under a new name of a directory: what the directory and the object are then, in a state in which nothing else changes
-pub record MakesEntry (old new : State) (place number : ℕ) (directory wider made : Living) (name : List ℕ) : Type 0 where
-  pub entries : List Entry
-  pub last : ℕ
-  pub lives : get old.objects place ≡ Some directory
-  pub content : directory.content ≡ Directory entries last
-  pub absent : find (λ (e : Entry). same_bytes e.name name) entries ≡ None
-  pub free : get old.objects number ≡ None
-  pub no_root : (number == directory.export) ≡ false
-  pub objects : new.objects ≡ insert (insert old.objects place wider) number made
-  -- the name takes the cookie one above the greatest ever used
-  pub wider_content : wider.content ≡ Directory (entries ++ record { name = name; number = number; cookie = last + 1 } ∷ []) (last + 1)
-  pub wider_export : wider.export ≡ directory.export
-  pub wider_generation : wider.generation ≡ directory.generation
-  pub made_export : made.export ≡ directory.export
-  -- the object contains no names
-  pub made_entries : entries_of made.content ≡ []
-  pub made_cookies : (last : ℕ) → made.content ≡ Directory [] last → 2 ≤ last
-  pub given : new.spent number made.generation ≡ true
-  pub spent : (n g : ℕ) → old.spent n g ≡ true → new.spent n g ≡ true

@@ -5,12 +5,13 @@ use Rattle.side_wire.specs.declared.message.NlmLock.{NlmLock}
 use Rattle.side_wire.specs.declared.mount.MountStatus.TheVariants as mount_status
 use Rattle.side_wire.specs.declared.nlm.LockHolder.{LockHolder}
 use Rattle.side_wire.specs.declared.nlm.ShareAccess.{ShareAccess}
+use Rattle.side_wire.specs.declared.nlm.NlmStatus.TheVariants as status
 use Rattle.side_wire.specs.declared.nlm.ShareAccess.TheVariants as access
 use Rattle.side_wire.specs.declared.nlm.ShareMode.{ShareMode}
 use Rattle.side_wire.specs.declared.nlm.ShareMode.TheVariants as mode
 use Rattle.side_wire.specs.declared.nlm.TestStatus.TheVariants as tested
 use Rattle.nfs_machine.specs.Grants.{grant_cookie}
-use Rattle.nfs_machine.specs.LockSteps.{Tests, NotRegular, is_grant_number, length_shown, regular, share_of, without_share}
+use Rattle.nfs_machine.specs.LockSteps.{Tests, is_grant_number, length_shown, regular, share_of, without_share}
 use Rattle.nfs_machine.specs.Locks.{Exclusive, Lists, Range, Shared, Unlocked, fits_offsets, last_of, modes_conflict, modes_with, range_of, shares_conflict}
 use Rattle.nfs_machine.specs.MountSteps.{Chosen, is_by, is_of, listed_exports, listed_mounts, walk, without_mounts}
 use Rattle.nfs_machine.specs.Paths.{parts}
@@ -83,8 +84,8 @@ pub record WorkedTests : Type 0 where
   -- A's own locks don't stand in its way
   pub own : (m : State) → Tests (record m { locks = split }) (on_file a 0 0) Exclusive tested.Granted
   pub file : regular (Regular []) ≡ Ok tt
-  pub directory : regular (Directory [] 2) ≡ Err NotRegular
-  pub socket : regular Socket ≡ Err NotRegular
+  pub directory : regular (Directory [] 2) ≡ Err (status.Failed, tested.Failed)
+  pub socket : regular Socket ≡ Err (status.Failed, tested.Failed)
 
 abbrev pub share : Owner → ShareMode → ShareAccess → Share
 share o denied taken = share_of 5 (record { caller_name = o.caller_name; file = []; owner = o.owner; mode = denied; access = taken })

@@ -1,5 +1,5 @@
 -- Calls on names worked through by hand: MKDIR, SYMLINK, MKNOD, REMOVE, RMDIR, RENAME and LINK (RFC 1813, 3.3.9 to 3.3.15).
-use Rattle.std.specs.Prelude.{◌≡◌, ℕ, ℤ, true, false, List, [], ◌∷◌, ◌++◌, Option, Some, None, Result, Ok, Err, codes, replicate}
+use Rattle.std.specs.Prelude.{◌≡◌, ℕ, ℤ, true, false, List, [], ◌∷◌, ◌++◌, Option, Some, None, Result, Ok, Err, codes, replicate, is_none}
 use Rattle.std.specs.FinMap.{get}
 use Rattle.nfs_wire.specs.declared.attributes.DeviceNumber.{DeviceNumber}
 use Rattle.nfs_wire.specs.declared.calls.Ordinary.TheVariants as ordinary
@@ -7,12 +7,12 @@ use Rattle.nfs_wire.specs.declared.calls.Special.TheVariants.{BlockDevice, Chara
 use Rattle.nfs_wire.specs.declared.status.NfsStatus.{NfsStatus}
 use Rattle.nfs_wire.specs.declared.status.NfsStatus.TheVariants as status
 use Rattle.nfs_machine.specs.Attributes.{is_directory, links_of, names_in}
-use Rattle.nfs_machine.specs.Checks.{is_absent, may_gain_link, new_name_checked, old_name_checked}
+use Rattle.nfs_machine.specs.Checks.{may_gain_link, new_name_checked, old_name_checked, entry_of}
 use Rattle.nfs_machine.specs.MakeSteps.{may_make, text_checked, wanted_directory, wanted_link, wanted_special}
 use Rattle.nfs_machine.specs.Making.{Wanted, given_attributes, new_object, no_attributes}
 use Rattle.nfs_machine.specs.Refusal.{nothing}
 use Rattle.nfs_machine.specs.RemoveSteps.{Named, directory_name_checked, empty_directory, losing_name, not_directory, without, without_object}
-use Rattle.nfs_machine.specs.RenameSteps.{IsWithin, Move, Moves, RenameEnds, SameObject, brings_link, entries_left, is_compatible, moved_end, plan_over}
+use Rattle.nfs_machine.specs.RenameSteps.{IsWithin, Move, RenameEnds, brings_link, entries_left, is_compatible, moved_end, plan_over}
 use Rattle.nfs_machine.specs.Resolve.{Stale, Names}
 use Rattle.nfs_machine.specs.Shown.{after_first, touched, wcc, with_object}
 use Rattle.nfs_machine.specs.State.{Content, Regular, Directory, Link, Entry, Living, Lock, State}
@@ -116,8 +116,8 @@ pub record WorkedLinks : Type 0 where
       → links_of m 1 (Directory both_entries 7) ≡ 4
   -- both names of one directory may lead to one file
   pub two_names : names_in 4 (object 511 (Directory (first_entry ∷ record second_entry { number = 4 } ∷ []) 7)) ≡ 2
-  pub taken_name : is_absent both_entries (codes "b") ≡ false
-  pub free_name : is_absent both_entries (codes "c") ≡ true
+  pub taken_name : is_none (entry_of both_entries (codes "b")) ≡ false
+  pub free_name : is_none (entry_of both_entries (codes "c")) ≡ true
   -- of two handles, the second is not looked at where the first names nothing
   pub not_read : (m : State) (o : Living) → wcc m (after_first Stale (Names 2 o)) ≡ nothing
   pub read : (o : Living) → after_first (Names 4 o) Stale ≡ Stale
@@ -149,9 +149,9 @@ pub record WorkedRenames : Type 0 where
   pub directory_over_file : is_compatible (Directory [] 2) (Regular []) ≡ false
   pub file_over_directory : is_compatible (Regular []) (Directory [] 2) ≡ false
   pub file_over_link : is_compatible (Regular []) (Link (codes "x")) ≡ true
-  pub same_object : plan_over (move_to (Regular []) 2 7 (Some (4, object 511 (Regular [])))) (Some (4, object 511 (Regular []))) ≡ Ok SameObject
+  pub same_object : plan_over (move_to (Regular []) 2 7 (Some (4, object 511 (Regular [])))) (Some (4, object 511 (Regular []))) ≡ Ok None
   pub over_file : plan_over (move_to (Directory [] 2) 2 7 (Some (5, object 420 (Regular [])))) (Some (5, object 420 (Regular []))) ≡ Err status.Exists
-  pub over_nothing : plan_over (move_to (Directory [] 2) 2 7 None) None ≡ Ok (Moves (move_to (Directory [] 2) 2 7 None))
+  pub over_nothing : plan_over (move_to (Directory [] 2) 2 7 None) None ≡ Ok (Some (move_to (Directory [] 2) 2 7 None))
   -- what the target keeps: its other names, and in the old name's directory not that one
   pub left_in_other : entries_left (move_to (Regular []) 3 7 None) ≡ first_entry ∷ []
   pub left_in_same : entries_left (move_to (Regular []) 2 7 None) ≡ []
@@ -161,6 +161,6 @@ pub record WorkedRenames : Type 0 where
   pub link_of_file : brings_link (move_to (Regular []) 3 7 None) ≡ false
   pub last_cookie : (m : State) → moved_end m (called_as 0) (move_to (Regular []) 3 18446744073709551615 None) ≡ Err status.NoSpace
   -- a directory into itself
-  pub into_itself : (m : State) (end : Result (Unit {0} × State) NfsStatus) → RenameEnds m (called_as 0) (Ok (Moves (move_to (Directory [] 2) 4 7 None))) end → end ≡ Err status.Invalid
+  pub into_itself : (m : State) (end : Result (Unit {0} × State) NfsStatus) → RenameEnds m (called_as 0) (Ok (Some (move_to (Directory [] 2) 4 7 None))) end → end ≡ Err status.Invalid
   -- and below: a name of the directory 4 leads to the directory 6
   pub below : (m : State) (directory : Living) → get m.objects 4 ≡ Some directory → directory.content ≡ Directory (record first_entry { number = 6 } ∷ []) 3 → IsWithin m 4 6

@@ -27,7 +27,7 @@ use Rattle.nfs_mount.proofs.Walked.{ended}
 
 pub null_answered : (ctx : Ctx) (view : ViewValue) → HoldsUnchanged (Mount calls.Null) ctx view (answers.Mount replies.Null)
 unfolding MountStep
-null_answered ctx view = record { step = λ s m stands sound roots fits. record { reply_is = refl; no_message = refl; unchanged = refl } }
+null_answered ctx view = record { step = λ s m stands sound roots fits. record { reply_is = refl; no_message = refl; state_is = refl } }
 
 module _ (ctx : Ctx) (view : ViewValue) (path : List ℕ) where
   pub fault_refused : (e : MountStatus) → path_fault path ≡ Some e → HoldsUnchanged (Mount (calls.Mnt path)) ctx view (answers.Mount (replies.Mnt (Err e)))

@@ -1,8 +1,9 @@
 -- What names lead to lives in every sound store, so a walk goes on only to what stands there. Besides that MNT asks for the table of mounts alone, and for this once.
-use Rattle.std.proofs.Common.{◌≡◌, ◌==◌, ℕ, ◌+◌, ◌≤◌, Bool, true, false, cond, List, [], ◌∷◌, ◌++◌, map, filter, count_by, Option, Some, None, Result, Ok, Err, refl, sym, ◌∙◌, ap, subst, arith}
+use Rattle.std.proofs.Common.{◌≡◌, ◌==◌, ℕ, ◌+◌, ◌≤◌, Bool, true, false, cond, List, [], ◌∷◌, ◌++◌, map, filter, find, count_by, Option, Some, None, Result, Ok, Err, refl, sym, ◌∙◌, ap, subst, arith}
 use Rattle.std.specs.FinMap.{get}
 use Rattle.std.specs.List.{AllByRecursion}
 use Rattle.std.specs.Option.{is_none}
+use Rattle.std.specs.Prelude.{ok_or}
 use Rattle.std.proofs.lemmas.Bool.Decides.{nat_tests}
 use Rattle.std.proofs.lemmas.List.{map-append}
 use Rattle.std.proofs.lemmas.List.Sums.{sum_by-append, sum_by-cons}
@@ -10,10 +11,10 @@ use Rattle.side_wire.specs.declared.mount.MountCall.{MountCall}
 use Rattle.side_wire.specs.declared.mount.MountCall.TheVariants as calls
 use Rattle.side_wire.specs.declared.mount.MountStatus.{MountStatus}
 use Rattle.side_wire.specs.declared.mount.MountStatus.TheVariants.{NoEntry, NotDirectory}
-use Rattle.nfs_machine.specs.Attributes.{entries_of}
+use Rattle.nfs_machine.specs.Attributes.{entries_of, is_directory}
 use Rattle.nfs_machine.specs.Bytes.{same_bytes}
-use Rattle.nfs_machine.specs.MountSteps.{entries_at, entry_named, walk, ◌>>=◌}
-use Rattle.nfs_machine.specs.State.{Content, Regular, Directory, Link, BlockDevice, CharacterDevice, Socket, Fifo, Entry, Living, State}
+use Rattle.nfs_machine.specs.MountSteps.{entries_at, walk, ◌>>=◌}
+use Rattle.nfs_machine.specs.State.{Regular, Entry, Living, State}
 use Rattle.nfs_machine.specs.WellFormed.{Leads}
 use Rattle.nfs_machine.specs.declared.context.Ctx.{Ctx}
 use Rattle.nfs_objects.proofs.Seen.{fits_at}
@@ -30,7 +31,7 @@ use Rattle.nfs_objects.specs.declared.address.Mode.TheVariants.{Exclusive}
 use Rattle.nfs_objects.specs.declared.done.Outcome.{Outcome}
 use Rattle.nfs_objects.specs.declared.done.Outcome.TheVariants.{Need, Fresh, Done}
 use Rattle.nfs_objects.specs.declared.object.Object.{Object}
-use Rattle.nfs_mount.proofs.Walked.{walk-refused}
+use Rattle.nfs_mount.proofs.Walked.{entry_named, walk-refused}
 use Rattle.nfs_mount.specs.Needs.{AsksForWalk, MntAsks, MountAsks, lacking, reads}
 use Rattle.nfs_mount.specs.Walks.{Agrees, ComesTo}
 
@@ -38,26 +39,18 @@ use Rattle.nfs_mount.specs.Walks.{Agrees, ComesTo}
 all-named : (P : Entry → Type 0) (es : List Entry) (name : List ℕ) (e : Entry) → AllByRecursion P es → entry_named es name ≡ Ok e → P e
 all-named P [] name e all named = cc
 all-named P (x ∷ es) name e all named =
-    elim (same_bytes x.name name) as (λ b. cond b (Ok x) (entry_named es name) ≡ Ok e → P e) [
+    elim (same_bytes x.name name) as (λ b. ok_or (cond b (Some x) (find (λ (y : Entry). same_bytes y.name name) es)) NoEntry ≡ Ok e → P e) [
       | true ↦ λ here. subst P (let same : x ≡ e = cc in same) all.0
       | false ↦ λ there. all-named P es name e all.1 there
     ] named
 
 -- the entries that a walk goes through are those of the directory
 entries-are : (o : Living) (d : Living × List Entry) → entries_at (Some o) ≡ Ok d → d.1 ≡ entries_of o.content
-entries-are o d at = of o.content refl
-  where
-    of : (c : Content) → o.content ≡ c → d.1 ≡ entries_of o.content
-    of (Directory entries last) is =
-        let same : Ok (o, entries) ≡ Ok d = rw is at at in
-        let both : (o, entries) ≡ d = cc in
-        rw is (ap (λ (x : Living × List Entry). x.1) (sym both))
-    of (Regular bytes) is = let no : Err NotDirectory ≡ Ok d = rw is at at in cc
-    of (Link text) is = let no : Err NotDirectory ≡ Ok d = rw is at at in cc
-    of (BlockDevice device) is = let no : Err NotDirectory ≡ Ok d = rw is at at in cc
-    of (CharacterDevice device) is = let no : Err NotDirectory ≡ Ok d = rw is at at in cc
-    of Socket is = let no : Err NotDirectory ≡ Ok d = rw is at at in cc
-    of Fifo is = let no : Err NotDirectory ≡ Ok d = rw is at at in cc
+entries-are o d at =
+    elim (is_directory o.content) as (λ b. cond b (Ok (o, entries_of o.content)) (Err NotDirectory) ≡ Ok d → d.1 ≡ entries_of o.content) [
+      | true ↦ λ found. (let same : (o, entries_of o.content) ≡ d = cc in sym (ap (λ (x : Living × List Entry). x.1) same))
+      | false ↦ λ none. cc
+    ] at
 
 abbrev Lives : (ℕ → Option Living) → ℕ → Type 0
 Lives at n = (o : Living) × (at n ≡ Some o)

@@ -1,7 +1,8 @@
 -- Where only the table of mounts is written, all else of the store and of the state stays: objects, links, roots.
 use Rattle.std.proofs.Common.{ℕ, List, map, Some, refl, sym, ◌∙◌}
 use Rattle.std.specs.FinMap.{get}
-use Rattle.nfs_machine.proofs.WellFormed.{Alike, alike_itself, links-alike, parent-alike, well_formed-alike}
+use Rattle.nfs_machine.proofs.Loose.{well_formed-alike}
+use Rattle.nfs_machine.proofs.WellFormed.{Alike, alike_itself, links-alike, parent-alike}
 use Rattle.nfs_machine.specs.Exports.{ExportValue}
 use Rattle.nfs_machine.specs.State.{State}
 use Rattle.nfs_machine.specs.declared.calls.Call.{Call}

@@ -1,11 +1,13 @@
 -- A walk goes through the directories that the view shows, entry by entry, and ends where nothing lives, at what is no directory, or with its names.
-use Rattle.std.proofs.Common.{◌≡◌, ◌==◌, ℕ, true, false, cond, List, [], ◌∷◌, length, find, option_map, Option, Some, None, Ok, Err, refl, sym, ◌∙◌, ap, subst, arith}
+use Rattle.std.proofs.Common.{◌≡◌, ◌==◌, ℕ, true, false, List, [], ◌∷◌, length, find, option_map, Option, Some, None, Result, Ok, Err, refl, sym, ◌∙◌, ap, subst, arith}
+use Rattle.std.specs.Prelude.{ok_or}
 use Rattle.std.proofs.lemmas.Bool.Decides.{nat_tests}
 use Rattle.side_wire.specs.declared.mount.MountStatus.{MountStatus}
 use Rattle.side_wire.specs.declared.mount.MountStatus.TheVariants.{NoEntry, NotDirectory}
 use Rattle.nfs_machine.specs.Attributes.{is_directory}
 use Rattle.nfs_machine.specs.Bytes.{same_bytes}
-use Rattle.nfs_machine.specs.MountSteps.{entries_at, entry_named, walk}
+use Rattle.nfs_machine.specs.Checks.{entry_of}
+use Rattle.nfs_machine.specs.MountSteps.{entries_at, walk}
 use Rattle.nfs_machine.specs.State.{Entry, Living}
 use Rattle.nfs_objects.specs.Entries.{leaf_of}
 use Rattle.nfs_objects.specs.Stands.{content_of, inode_of, living_of, living_of_inode}
@@ -20,31 +22,21 @@ use Rattle.nfs_objects.specs.declared.object.Object.{Object}
 use Rattle.nfs_objects.specs.declared.object.Object.TheVariants as objects
 use Rattle.nfs_mount.specs.Needs.{reads}
 use Rattle.nfs_mount.specs.Walks.{Agrees, ComesTo, Ends}
+use Rattle.nfs_objects.proofs.Listed.{no-leaf}
 
--- the entry of a name, as a look-up finds it
+-- the entry of a name, as a walk looks it up
+abbrev pub entry_named : List Entry → List ℕ → Result Entry MountStatus
+entry_named entries name = ok_or (entry_of entries name) NoEntry
+
 named-found : (es : List Entry) (name : List ℕ) (e : Entry) → find (λ (x : Entry). same_bytes x.name name) es ≡ Some e → entry_named es name ≡ Ok e
-named-found [] name e at = cc
-named-found (x ∷ es) name e at =
-    elim (same_bytes x.name name) as (λ b. cond b (Some x) (find (λ (x : Entry). same_bytes x.name name) es) ≡ Some e → cond b (Ok x) (entry_named es name) ≡ Ok e) [
-      | true ↦ λ here. (let same : x ≡ e = cc in ap (λ y. Ok y) same)
-      | false ↦ λ there. named-found es name e there
-    ] at
+named-found es name e at = ap (λ o. ok_or o NoEntry) at
 
 named-absent : (es : List Entry) (name : List ℕ) → find (λ (x : Entry). same_bytes x.name name) es ≡ None → entry_named es name ≡ Err NoEntry
-named-absent [] name none = refl
-named-absent (x ∷ es) name none =
-    elim (same_bytes x.name name) as (λ b. cond b (Some x) (find (λ (x : Entry). same_bytes x.name name) es) ≡ None → cond b (Ok x) (entry_named es name) ≡ Err NoEntry) [
-      | true ↦ λ here. cc
-      | false ↦ λ there. named-absent es name there
-    ] none
+named-absent es name none = ap (λ o. ok_or o NoEntry) none
 
 mapped-some : (o : Option Entry) (leaf : Leaf) → Some leaf ≡ option_map leaf_of o → (e : Entry) × (o ≡ Some e) × (leaf.number ≡ e.number)
 mapped-some None leaf is = cc
 mapped-some (Some e) leaf is = (e, refl, (let same : leaf ≡ leaf_of e = cc in ap (λ (l : Leaf). l.number) same))
-
-mapped-none : (o : Option Entry) → None ≡ option_map leaf_of o → o ≡ None
-mapped-none None is = refl
-mapped-none (Some e) is = cc
 
 some_inode : (o : Option Object) (i : Inode) → Some i ≡ inode_of o → o ≡ Some (objects.Inode i)
 some_inode None i is = cc
@@ -114,7 +106,7 @@ module _ (view : ViewValue) (root : ℕ) (start : List (List ℕ)) (number : ℕ
             → walk at root start ≡ Err NoEntry
         refused-absent absent at agrees =
             comes at agrees ∙ ap (walk at number) more
-            ∙ walk-absent at number (living_of_inode i) d.entries name rest (entries at agrees) (named-absent d.entries name (mapped-none _ absent))
+            ∙ walk-absent at number (living_of_inode i) d.entries name rest (entries at agrees) (named-absent d.entries name (no-leaf _ absent))
 
         pub comes-on : (leaf : Leaf) → Some leaf ≡ option_map leaf_of (find (λ (x : Entry). same_bytes x.name name) d.entries) → ComesTo view root start leaf.number rest
         comes-on leaf found at agrees =

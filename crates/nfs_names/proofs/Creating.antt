@@ -1,7 +1,7 @@
 -- CREATE's answer is a step in every sound store that the view fits: what is refused and what changes nothing, a file that gets another size,
 -- and a new file under a new name.
 use Rattle.std.proofs.Common.{◌≡◌, ◌==◌, ℕ, ◌+◌, ◌<◌, ◌^◌, true, false, Bool, cond, nat_lt, List, [], ◌∷◌, not, Option, Some, None, option_map, unwrap_or, IsSomeAnd, slice_get, Result, Ok, Err, refl, sym, ap, ◌∙◌, subst, arith}
-use Rattle.std.proofs.lemmas.Bool.{ltb-true}
+use Rattle.std.proofs.lemmas.Bool.{both_ways, ltb-true}
 use Rattle.std.specs.Cmp.{unsigned_Decides}
 use Rattle.std.specs.FinMap.{get}
 use Rattle.nfs_wire.specs.declared.attributes.Attributes.{Attributes}
@@ -15,11 +15,13 @@ use Rattle.nfs_wire.specs.declared.replies.MadeReply.{MadeReply}
 use Rattle.nfs_wire.specs.declared.replies.NfsReply.TheVariants as replies
 use Rattle.nfs_wire.specs.declared.status.NfsStatus.{NfsStatus}
 use Rattle.nfs_wire.specs.declared.status.NfsStatus.TheVariants as status
+use Rattle.nfs_machine.proofs.Changes.{apart}
 use Rattle.nfs_machine.specs.Answers.{answer_of, state_after}
 use Rattle.nfs_machine.specs.Attributes.{attributes_of, is_directory, links_of}
 use Rattle.nfs_machine.specs.Checks.{◌>>=◌, holding, object_of, entries_in, bytes_in, new_name_checked, changeable, permitted, entry_of, is_read_only}
 use Rattle.nfs_machine.specs.Exports.{ExportValue, export_at}
-use Rattle.nfs_machine.specs.NameSteps.{End, Known, Chosen, EndsAs, Fresh, attributes_given, create_existing, create_made, create_new, create_over, given_attributes, made, new_file, with_entry}
+use Rattle.nfs_machine.specs.NameSteps.{End, Known, Chosen, EndsAs, Fresh, attributes_given, create_existing, create_over, given_attributes, made, new_file, with_entry, wanted_file}
+use Rattle.nfs_machine.specs.Making.{make_made, make_new}
 use Rattle.nfs_machine.specs.NfsSteps.{NfsStep}
 use Rattle.nfs_machine.specs.Permission.{Changing}
 use Rattle.nfs_machine.specs.Resolve.{Resolved, resolve}
@@ -32,7 +34,7 @@ use Rattle.nfs_machine.specs.declared.calls.Reply.TheVariants as answers
 use Rattle.nfs_machine.specs.declared.context.Ctx.{Ctx}
 use Rattle.nfs_objects.proofs.Entered.{created_represented, free, linked-made, linked-wider, makes, never_given, stored-place}
 use Rattle.nfs_objects.proofs.Replaced.{rewritten_links, rewritten_represented}
-use Rattle.nfs_objects.proofs.Seen.{fits_at, lives-seen}
+use Rattle.nfs_objects.proofs.Seen.{fits_at, is_inode, lives-seen}
 use Rattle.nfs_objects.specs.Endings.{Creates, HoldsUnchanged, IsCreation, KeepsPlace, Rewrites, with_created, with_name}
 use Rattle.nfs_objects.specs.Entries.{leaf_of}
 use Rattle.nfs_objects.specs.Fits.{Fits}
@@ -106,15 +108,6 @@ some-made : (m : State) (n : ℕ) (o : Inode) (a : Option Attributes) → IsSome
 some-made m n o None shows links = absurd shows
 some-made m n o (Some a) shows links = ap (λ x. Some x) (shown-attributes m n o a shows links)
 
-is_inode : (k : Option Object) (o : Inode) → Some o ≡ inode_of k → k ≡ Some (objects.Inode o)
-is_inode None o e = cc
-is_inode (Some (objects.Inode j)) o e = let same : o ≡ j = cc in ap (λ x. Some (objects.Inode x)) (sym same)
-is_inode (Some (objects.Mounts table)) o e = cc
-
-not_both : (b : Bool) → b ≡ false → b ≡ true → ⊥
-not_both true e f = cc
-not_both false e f = cc
-
 one_inode : (o i : Inode) → Some (Some (objects.Inode o)) ≡ Some (Some (objects.Inode i)) → o ≡ i
 one_inode o i e = cc
 
@@ -154,10 +147,6 @@ pub leaf-number : (o : Option Entry) (leaf : Leaf) → Some leaf ≡ option_map 
 leaf-number None leaf e = cc
 leaf-number (Some x) leaf e = ap (λ n. Some n) (let same : x.number ≡ leaf.number = cc in same)
 
-pub no-leaf : (o : Option Entry) → None ≡ option_map leaf_of o → o ≡ None
-no-leaf None e = refl
-no-leaf (Some x) e = cc
-
 pub has-cookie : (given : Result (Unit {0}) NfsStatus) (cookie : ℕ) → Ok tt ≡ (given >>= λ _. holding (nat_lt (cookie + 1) (2 ^ 64)) status.NoSpace) → cookie + 1 < 2 ^ 64
 has-cookie (Err x) cookie e = cc
 has-cookie (Ok u) cookie e = below (nat_lt (cookie + 1) (2 ^ 64)) refl e
@@ -175,7 +164,7 @@ module _ (ctx : Ctx) (view : ViewValue) (a : CreateArguments) where
   abbrev end_in : (m : State) → List Entry × ℕ → ℕ → Living → Result (End m) NfsStatus
   end_in m entries number directory = elim (entry_of entries.0 a.place.name) [
     | Some e ↦ create_existing m ctx a.how e.number (get m.objects e.number)
-    | None ↦ create_new m ctx a number directory entries.0 entries.1
+    | None ↦ make_new m ctx a.place.name (wanted_file a.how) number directory entries.0 entries.1
   ]
 
   abbrev end_by : (m : State) → Resolved → Result (End m) NfsStatus
@@ -262,7 +251,7 @@ module _ (ctx : Ctx) (view : ViewValue) (a : CreateArguments) where
       module _ (n : ℕ) (leads : option_map (λ (e : Entry). e.number) (entry_of d.entries a.place.name) ≡ Some n) (known : Option Object) (seen : seen_at view.entries (addresses.Inode n) ≡ Some known) where
         there : (s : Store) (m : State) → Represents s m → Fits view s → then m (Ok d) ≡ create_existing m ctx a.how n (living_of known)
         there s m stands fits =
-            entry-number (entry_of d.entries a.place.name) n leads m (create_new m ctx a number (living_of_inode i) d.entries d.last_cookie)
+            entry-number (entry_of d.entries a.place.name) n leads m (make_new m ctx a.place.name (wanted_file a.how) number (living_of_inode i) d.entries d.last_cookie)
             ∙ ap (create_existing m ctx a.how n) (lives-seen s m view n known stands fits seen)
 
         pub absent_holds : (reply : MadeReply) → None ≡ inode_of known → ShowsWcc number i i reply.directory → reply.result ≡ Err status.Exists → Holds reply
@@ -297,16 +286,13 @@ module _ (ctx : Ctx) (view : ViewValue) (a : CreateArguments) where
 
           -- the file gets another size
           module _ (new : Inode) (is : Ok (Some (living_of_inode new)) ≡ over) (keeps : KeepsPlace o new) where
-            apart : (n == number) ≡ false
-            apart = elim (n == number) as (λ b. (n == number) ≡ b → b ≡ false) [
-              | true ↦ λ e.
-                  let both : Some (Some (objects.Inode o)) ≡ Some (Some (objects.Inode i)) =
-                  sym at-name ∙ ap (λ k. seen_at view.entries (addresses.Inode k)) ((unsigned_Decides n number).0 e) ∙ names-seen ctx view.entries a.place.directory number i names in
-                  let same : o ≡ i = one_inode o i both in
-                  let file : is_directory (content_of i.content) ≡ false = subst (λ (x : Inode). is_directory (content_of x.content) ≡ false) same (over-file ctx a.how (living_of_inode o) (living_of_inode new) o.content is) in
-                  absurd (not_both (is_directory (content_of i.content)) file (ap (λ c. is_directory (content_of c)) passed.0))
-              | false ↦ λ e. refl
-            ] refl
+            other : (n == number) ≡ false
+            other = apart n number (λ same_number.
+                let both : Some (Some (objects.Inode o)) ≡ Some (Some (objects.Inode i)) =
+                sym at-name ∙ ap (λ k. seen_at view.entries (addresses.Inode k)) same_number ∙ names-seen ctx view.entries a.place.directory number i names in
+                let same : o ≡ i = one_inode o i both in
+                let file : is_directory (content_of i.content) ≡ false = subst (λ (x : Inode). is_directory (content_of x.content) ≡ false) same (over-file ctx a.how (living_of_inode o) (living_of_inode new) o.content is) in
+                both_ways (is_directory (content_of i.content)) file (ap (λ c. is_directory (content_of c)) passed.0))
               where
                 passed : (i.content ≡ contents.Directory d) × (changeable ctx (living_of_inode i) ≡ Ok tt)
                 passed = checks-passed (new_name_checked a.place.name) (changeable ctx (living_of_inode i)) (permitted ctx (living_of_inode i) Changing) i.content d checked
@@ -322,7 +308,7 @@ module _ (ctx : Ctx) (view : ViewValue) (a : CreateArguments) where
                   let at = fits_at view.entries s.at (addresses.Inode n) (Some (objects.Inode o)) fits.entries at-name in
                   let means = resolve-means s m ctx view a.place.directory (Names number i) names stands fits in
                   let here : put_at s.at (addresses.Inode n) (Some (objects.Inode new)) (addresses.Inode number) ≡ Some (objects.Inode i) =
-                  ap (λ b. cond b (Some (objects.Inode new)) (s.at (addresses.Inode number))) apart ∙ fits_at view.entries s.at (addresses.Inode number) (Some (objects.Inode i)) fits.entries means.1 in
+                  ap (λ b. cond b (Some (objects.Inode new)) (s.at (addresses.Inode number))) other ∙ fits_at view.entries s.at (addresses.Inode number) (Some (objects.Inode i)) fits.entries means.1 in
                   let put : put_at s.at (addresses.Inode n) (Some (objects.Inode new)) (addresses.Inode n) ≡ Some (objects.Inode new) =
                   ap (λ b. cond b (Some (objects.Inode new)) (s.at (addresses.Inode n))) ((unsigned_Decides n n).1 refl) in
                   let linked = rewritten_links s m n o new at keeps stands sound in
@@ -336,17 +322,17 @@ module _ (ctx : Ctx) (view : ViewValue) (a : CreateArguments) where
 
       -- the name is not there
       module _ (absent : entry_of d.entries a.place.name ≡ None) where
-        new-there : (m : State) → then m (Ok d) ≡ (new_judged ctx a.how d.last_cookie >>= λ _. Ok (Chosen (create_made m ctx a number (living_of_inode i) d.entries d.last_cookie)))
+        new-there : (m : State) → then m (Ok d) ≡ (new_judged ctx a.how d.last_cookie >>= λ _. Ok (Chosen (make_made m ctx a.place.name (wanted_file a.how) number (living_of_inode i) d.entries d.last_cookie)))
         new-there m =
             ap (λ (o : Option Entry). elim o [
               | Some e ↦ create_existing m ctx a.how e.number (get m.objects e.number)
-              | None ↦ create_new m ctx a number (living_of_inode i) d.entries d.last_cookie
+              | None ↦ make_new m ctx a.place.name (wanted_file a.how) number (living_of_inode i) d.entries d.last_cookie
             ]) absent
-            ∙ judged-then (given_attributes ctx (attributes_given a.how)) (holding (nat_lt (d.last_cookie + 1) (2 ^ 64)) status.NoSpace) (Chosen (create_made m ctx a number (living_of_inode i) d.entries d.last_cookie))
+            ∙ judged-then (given_attributes ctx (attributes_given a.how)) (holding (nat_lt (d.last_cookie + 1) (2 ^ 64)) status.NoSpace) (Chosen (make_made m ctx a.place.name (wanted_file a.how) number (living_of_inode i) d.entries d.last_cookie))
 
         pub new_refused_holds : (e : NfsStatus) (reply : MadeReply) → Err e ≡ new_judged ctx a.how d.last_cookie → ShowsWcc number i i reply.directory → reply.result ≡ Err e → Holds reply
         new_refused_holds e reply is shows result = unchanged_holds (Ok d) reply (λ m. Err e) checked shows (λ m. refl) (λ s m stands sound fits.
-            (subst (λ x. EndsAs m x (Err e)) (sym (new-there m ∙ ap (λ r. r >>= λ _. Ok (Chosen (create_made m ctx a number (living_of_inode i) d.entries d.last_cookie))) (sym is))) refl, result))
+            (subst (λ x. EndsAs m x (Err e)) (sym (new-there m ∙ ap (λ r. r >>= λ _. Ok (Chosen (make_made m ctx a.place.name (wanted_file a.how) number (living_of_inode i) d.entries d.last_cookie))) (sym is))) refl, result))
 
         module _ (wider object : Inode) (reserved : Reserved) (judged : Ok tt ≡ new_judged ctx a.how d.last_cookie) (first : slice_get view.reserved 0 ≡ Some reserved)
             (number_fits : reserved.number < 2 ^ 64) (generation_fits : reserved.generation < 2 ^ 64)
@@ -417,7 +403,7 @@ module _ (ctx : Ctx) (view : ViewValue) (a : CreateArguments) where
             state_with w o = record (with_object (with_object m number w) reserved.number o) { spent = m1.spent }
 
             -- the machine's file and directory are these
-            machine-done : done ≡ Ok (create_made m ctx a number (living_of_inode i) d.entries d.last_cookie chosen)
+            machine-done : done ≡ Ok (make_made m ctx a.place.name (wanted_file a.how) number (living_of_inode i) d.entries d.last_cookie chosen)
             unfolding chosen
             machine-done =
                 let file : living_of_inode object ≡ new_file ctx a.how i.export object.generation = living ∙ ap (new_file ctx a.how i.export) (sym generation) in
@@ -429,7 +415,7 @@ module _ (ctx : Ctx) (view : ViewValue) (a : CreateArguments) where
                 )) file
 
             ends-done : EndsAs m (then m (Ok d)) done
-            ends-done = subst (λ x. EndsAs m x done) (sym (new-there m ∙ ap (λ r. r >>= λ _. Ok (Chosen (create_made m ctx a number (living_of_inode i) d.entries d.last_cookie))) (sym judged))) (chosen, machine-done)
+            ends-done = subst (λ x. EndsAs m x done) (sym (new-there m ∙ ap (λ r. r >>= λ _. Ok (Chosen (make_made m ctx a.place.name (wanted_file a.how) number (living_of_inode i) d.entries d.last_cookie))) (sym judged))) (chosen, machine-done)
 
             created-step : (reply : MadeReply) (told : Made) → ShowsWcc number i wider reply.directory → reply.result ≡ Ok told → ShowsMade ctx reserved.number object told
                 → NfsStep m ctx (nfs.Create a) (replies.Create reply) [] m1

@@ -21,7 +21,7 @@ use Rattle.nfs_machine.specs.WellFormed.{IsParent}
 use Rattle.nfs_machine.specs.declared.calls.Call.TheVariants as calls
 use Rattle.nfs_machine.specs.declared.calls.Reply.TheVariants as answers
 use Rattle.nfs_machine.specs.declared.context.Ctx.{Ctx}
-use Rattle.nfs_objects.proofs.Seen.{fits_at, lives-seen}
+use Rattle.nfs_objects.proofs.Seen.{fits_at, is_inode, lives-seen}
 use Rattle.nfs_objects.specs.Endings.{HoldsUnchanged}
 use Rattle.nfs_objects.specs.Fits.{Fits}
 use Rattle.nfs_objects.specs.Sound.{Sound}
@@ -118,7 +118,7 @@ module _ (ctx : Ctx) (view : ViewValue) (place : Place) where
       record {
         parent = parent;
         is_parent = λ n o names kind. parents n o (sym is ∙ names) kind;
-        answers = record { reply_is = reply-same (d ∙ ap (shown m) (sym is)) whole; no_message = refl; unchanged = refl };
+        answers = record { reply_is = reply-same (d ∙ ap (shown m) (sym is)) whole; no_message = refl; state_is = refl };
       }
 
   pub bad_handle_holds : BadHandle ≡ found_at ctx view.entries place.directory → Answers None (Err status.BadHandle)
@@ -167,11 +167,6 @@ module _ (ctx : Ctx) (view : ViewValue) (place : Place) where
       pub absent_holds : None ≡ inode_of known → Answers (Some directory) (Err status.NoEntry)
       absent_holds none = named_holds (Err status.NoEntry) (λ s m stands sound fits.
           found_there s m stands fits (Err status.NoEntry) (ap (λ (o : Option Inode). found_of m ctx n (option_map living_of_inode o)) none))
-
-      is_inode : (k : Option Object) (o : Inode) → Some o ≡ inode_of k → k ≡ Some (objects.Inode o)
-      is_inode None o e = cc
-      is_inode (Some (objects.Inode j)) o e = let same : o ≡ j = cc in ap (λ x. Some (objects.Inode x)) (sym same)
-      is_inode (Some (objects.Mounts table)) o e = cc
 
       pub found_holds : (o : Inode) (found : Found) → Some o ≡ inode_of known → found.object ≡ handle_at ctx n (living_of_inode o) → IsSomeAnd found.attributes (Shows n o)
           → Answers (Some directory) (Ok found)

@@ -1,17 +1,19 @@
 -- Where a new object is made under a new name, all else of the store and of the state stays: the object was not there, and its directory has one more name.
 use Rattle.std.proofs.Common.{◌≡◌, ◌==◌, ℕ, ◌+◌, ◌<◌, ◌≤◌, true, false, Bool, cond, ◌||◌, ◌&&◌, max, nat_le, List, [], ◌∷◌, Option, Some, None, IsSome, slice_get, ◌⊎◌, inl, inr, refl, sym, ◌∙◌, ap, subst, arith}
+use Rattle.std.proofs.Math.Bool.{or-false}
 use Rattle.std.proofs.Math.Nat.{le-max_left, le-max_right}
-use Rattle.std.proofs.lemmas.Bool.{le-leb}
+use Rattle.std.proofs.lemmas.Bool.{le-leb, lt-leb}
 use Rattle.std.proofs.lemmas.Bool.Decides.{leb_tells}
 use Rattle.std.specs.Cmp.{nat_eq_equiv, unsigned_Decides}
 use Rattle.std.specs.FinMap.{get, insert}
 use Rattle.std.specs.List.{AllByRecursion}
-use Rattle.nfs_machine.proofs.Entered.{links-kept, links-made, links-wider, lives-on, parent-kept, parent-made}
+use Rattle.nfs_machine.proofs.Changes.{apart}
+use Rattle.nfs_machine.proofs.Entered.{MakesEntry, links-kept, links-made, links-wider, lives-on, parent-kept, parent-made}
 use Rattle.nfs_machine.proofs.Kept.{steps_keep_form}
 use Rattle.nfs_machine.specs.Attributes.{entries_of, is_directory, links_of}
-use Rattle.nfs_machine.specs.State.{Living, State}
+use Rattle.nfs_machine.specs.State.{State}
 use Rattle.nfs_machine.specs.State as machine
-use Rattle.nfs_machine.specs.WellFormed.{IsParent, MakesEntry, WellFormed}
+use Rattle.nfs_machine.specs.WellFormed.{IsParent, WellFormed}
 use Rattle.nfs_machine.specs.declared.calls.Call.{Call}
 use Rattle.nfs_machine.specs.declared.calls.Reply.{Reply}
 use Rattle.nfs_machine.specs.declared.context.Ctx.{Ctx}
@@ -61,20 +63,13 @@ two_used (contents.CharacterDevice device) place last is same = cc
 two_used contents.Socket place last is same = cc
 two_used contents.Fifo place last is same = cc
 
--- what is above is not at most
-above : (g k : ℕ) → k < g → nat_le g k ≡ false
-above g k h = elim (leb_tells g k) [ inl x ↦ absurd (apart g k x.1 h) | inr x ↦ x.0 ]
-  where
-    apart : (x y : ℕ) → x ≤ y → y < x → ⊥
-    apart x y h k = omega (arith, h, k)
-
 -- at most the greater of two is at most one of them
 below_max : (g a b : ℕ) → (nat_le g a || nat_le g b) ≡ nat_le g (max a b)
 below_max g a b = elim (leb_tells g a) [
   | inl x ↦ ap (λ t. t || nat_le g b) x.0 ∙ sym (le-leb g (max a b) (le_trans g a (max a b) x.1 (le-max_left a b)))
   | inr x ↦ ap (λ t. t || nat_le g b) x.0 ∙ elim (leb_tells g b) [
     | inl y ↦ y.0 ∙ sym (le-leb g (max a b) (le_trans g b (max a b) y.1 (le-max_right a b)))
-    | inr y ↦ y.0 ∙ sym (above g (max a b) (max-lt a b g x.1 y.1))
+    | inr y ↦ y.0 ∙ sym (lt-leb g (max a b) (max-lt a b g x.1 y.1))
   ]
 ]
   where
@@ -124,16 +119,10 @@ module _ (ctx : Ctx) (view : ViewValue) (c : Creation) (r : IsCreation ctx view 
     free = stands.objects c.number ∙ ap living_of (fits_at view.entries s.at (addresses.Inode c.number) None fits.entries (reserved-first s fits).0)
 
     pub never_given : m.spent c.number c.object.generation ≡ false
-    never_given = stands.spent c.number c.object.generation ∙ above c.object.generation (s.last c.number) (reserved-first s fits).1
+    never_given = stands.spent c.number c.object.generation ∙ lt-leb c.object.generation (s.last c.number) (reserved-first s fits).1
 
     no_root : (c.number == r.old.export) ≡ false
-    no_root =
-        elim (c.number == r.old.export) as (λ b. (c.number == r.old.export) ≡ b → b ≡ false) [
-          | true ↦ λ e.
-              let root = roots r.old.export r.export r.exported in
-              absurd (no_inode_twice (get m.objects c.number) free (ap (get m.objects) ((unsigned_Decides c.number r.old.export).0 e) ∙ root.lives))
-          | false ↦ λ e. refl
-        ] refl
+    no_root = apart c.number r.old.export (λ same. (let root = roots r.old.export r.export r.exported in no_inode_twice (get m.objects c.number) free (ap (get m.objects) same ∙ root.lives)))
 
     pub makes : MakesEntry m new c.place c.number (living_of_inode r.old) (living_of_inode c.directory) (living_of_inode c.object) r.name
     makes = record {
@@ -163,13 +152,9 @@ module _ (ctx : Ctx) (view : ViewValue) (c : Creation) (r : IsCreation ctx view 
         ∙ ap (λ b. nat_le g (s.last n) || (b && nat_le g c.object.generation)) (nat_eq_equiv.symm n c.number)
         ∙ elim (c.number == n) as (λ b. (nat_le g (s.last n) || (b && nat_le g c.object.generation)) ≡ nat_le g (cond b (max (s.last n) c.object.generation) (s.last n))) [
           | true ↦ below_max g (s.last n) c.object.generation
-          | false ↦ or_false (nat_le g (s.last n))
+          | false ↦ or-false (nat_le g (s.last n))
         ]
         ∙ ap (λ k. nat_le g (cond (c.number == n) (max k c.object.generation) k)) (sym kept)
-      where
-        or_false : (b : Bool) → (b || false) ≡ b
-        or_false true = refl
-        or_false false = refl
 
     pub created_represented : Represents stored new
     created_represented = record {
@@ -190,10 +175,7 @@ module _ (ctx : Ctx) (view : ViewValue) (c : Creation) (r : IsCreation ctx view 
         ∙ ap (λ b. cond b (Some (objects.Inode c.directory)) (s.at (addresses.Inode c.place))) ((unsigned_Decides c.place c.place).1 refl)
       where
         other : (c.number == c.place) ≡ false
-        other = elim (c.number == c.place) as (λ b. (c.number == c.place) ≡ b → b ≡ false) [
-          | true ↦ λ e. absurd (no_inode_twice (get m.objects c.number) free (ap (get m.objects) ((unsigned_Decides c.number c.place).0 e) ∙ stands.objects c.place ∙ ap living_of at))
-          | false ↦ λ e. refl
-        ] refl
+        other = apart c.number c.place (λ same. no_inode_twice (get m.objects c.number) free (ap (get m.objects) same ∙ stands.objects c.place ∙ ap living_of at))
 
     -- what stands now is the new object, the wider directory, or stood before
     stood : (n : ℕ) (i : Inode) → stored.at (addresses.Inode n) ≡ Some (objects.Inode i)
@@ -225,10 +207,10 @@ module _ (ctx : Ctx) (view : ViewValue) (c : Creation) (r : IsCreation ctx view 
     Below n parent = IsParent new n parent
 
     kept-below : (n parent : ℕ) → IsParent m n parent → Below n parent
-    kept-below = parent-kept m new c.place c.number (living_of_inode r.old) (living_of_inode c.directory) (living_of_inode c.object) r.name makes
+    kept-below = parent-kept m new c.place c.number (living_of_inode r.old) (living_of_inode c.directory) (living_of_inode c.object) r.name makes sound.well_formed
 
     made-below : Below c.number c.place
-    made-below = parent-made m new c.place c.number (living_of_inode r.old) (living_of_inode c.directory) (living_of_inode c.object) r.name makes
+    made-below = parent-made m new c.place c.number (living_of_inode r.old) (living_of_inode c.directory) (living_of_inode c.object) r.name makes sound.well_formed
 
     pub created_sound : WellFormed new → Sound stored new
     created_sound formed = record {

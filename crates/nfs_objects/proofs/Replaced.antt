@@ -6,17 +6,18 @@ use Rattle.std.specs.FinMap.{FinMap, get, insert}
 use Rattle.std.specs.Ordering.{nat_cmp}
 use Rattle.nfs_machine.proofs.Kept.{steps_keep_form}
 use Rattle.nfs_machine.proofs.Sums.{get-inserted}
-use Rattle.nfs_machine.proofs.WellFormed.{Alike, after, links-alike, parent-alike, replaced-alike, replaced-names}
+use Rattle.nfs_machine.proofs.WellFormed.{Alike, KeepsNames, after, links-alike, links-names, parent-alike, replaced-alike, replaced-names}
 use Rattle.nfs_machine.specs.Attributes.{is_directory, links_of, names_of}
 use Rattle.nfs_machine.specs.Exports.{ExportValue}
+use Rattle.nfs_machine.specs.Shown.{with_object}
 use Rattle.nfs_machine.specs.State.{Living, State}
 use Rattle.nfs_machine.specs.State as machine
-use Rattle.nfs_machine.specs.WellFormed.{IsParent, KeepsNames, WellFormed}
+use Rattle.nfs_machine.specs.WellFormed.{IsParent, WellFormed}
 use Rattle.nfs_machine.specs.declared.calls.Call.{Call}
 use Rattle.nfs_machine.specs.declared.calls.Reply.{Reply}
 use Rattle.nfs_machine.specs.declared.context.Ctx.{Ctx}
 use Rattle.nfs_objects.proofs.Seen.{fits_at}
-use Rattle.nfs_objects.specs.Endings.{KeepsPlace, Rewrites, inode_stored, with_object}
+use Rattle.nfs_objects.specs.Endings.{KeepsPlace, Rewrites, inode_stored}
 use Rattle.nfs_objects.specs.Promise.{IsPromised}
 use Rattle.nfs_objects.specs.Sound.{Sound, RootsLive}
 use Rattle.nfs_objects.specs.Stands.{Represents, content_of, living_of, living_of_inode}
@@ -62,16 +63,6 @@ last-kept s m number old new stands sound at kept n =
           omega arith
       | false ↦ λ e. refl
     ] refl
-
--- the links of what is no directory are its names
-pub links-names : (m : State) (n : ℕ) (c : machine.Content) → is_directory c ≡ false → links_of m n c ≡ names_of m n
-links-names m n (machine.Directory entries last) e = cc
-links-names m n (machine.Regular bytes) e = refl
-links-names m n (machine.Link text) e = refl
-links-names m n (machine.BlockDevice device) e = refl
-links-names m n (machine.CharacterDevice device) e = refl
-links-names m n machine.Socket e = refl
-links-names m n machine.Fifo e = refl
 
 pub keeps_names : (old new : Inode) → KeepsPlace old new → KeepsNames (living_of_inode old) (living_of_inode new)
 keeps_names old new k = record { export = k.export; generation = k.generation; kind = k.kind; content = λ e. ap content_of (k.content e) }

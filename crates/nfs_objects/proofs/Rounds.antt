@@ -16,9 +16,9 @@ use Rattle.nfs_objects.specs.declared.address.Mode.TheVariants.{Exclusive}
 use Rattle.nfs_objects.specs.declared.object.Object.{Object}
 use Rattle.nfs_objects.specs.declared.view.Reserved.{Reserved}
 
-is_addr-same : (a : Addr) → is_addr a a ≡ true
-is_addr-same (addresses.Inode n) = (unsigned_Decides n n).1 refl
-is_addr-same addresses.Mounts = refl
+pub is_addr-refl : (a : Addr) → is_addr a a ≡ true
+is_addr-refl (addresses.Inode n) = (unsigned_Decides n n).1 refl
+is_addr-refl addresses.Mounts = refl
 
 -- what a call asks for, once it has what stood at the first address
 pub data Second : Type 0 where
@@ -75,7 +75,7 @@ module _ (a : Addr) (second : Option Object → Second) where
 
   -- what was read at the first address
   seen-first : (e : Addr × Option Object) (more : List (Addr × Option Object)) → e.0 ≡ a → seen_at (e ∷ more) a ≡ Some e.1
-  seen-first e more same = ap (λ b. cond b (Some e.1) (seen_at more a)) (ap (λ x. is_addr x a) same ∙ is_addr-same a)
+  seen-first e more same = ap (λ b. cond b (Some e.1) (seen_at more a)) (ap (λ x. is_addr x a) same ∙ is_addr-refl a)
 
   -- after one round
   abbrev First : Round → Type 0
@@ -98,7 +98,7 @@ module _ (a : Addr) (second : Option Object → Second) where
     seen-second b f same =
         elim (is_addr e.0 b) as (λ x. unless_known b (cond x (Some e.1) (cond (is_addr f.0 b) (Some f.1) None)) ≡ []) [
           | true ↦ refl
-          | false ↦ ap (λ x. unless_known b (cond x (Some f.1) None)) (ap (λ x. is_addr x b) same ∙ is_addr-same b)
+          | false ↦ ap (λ x. unless_known b (cond x (Some f.1) None)) (ap (λ x. is_addr x b) same ∙ is_addr-refl b)
         ]
 
     -- nothing is asked for at the address that the other round gave

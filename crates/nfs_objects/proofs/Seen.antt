@@ -1,5 +1,5 @@
 -- What a view shows stands in each store that it fits.
-use Rattle.std.specs.Prelude.{◌≡◌, ℕ, true, false, List, [], ◌∷◌, Option, Some, refl}
+use Rattle.std.specs.Prelude.{◌≡◌, ℕ, true, false, List, [], ◌∷◌, Option, Some, None, refl}
 use Rattle.std.proofs.Common.{cond, sym, ◌∙◌, ap, arith}
 use Rattle.std.proofs.lemmas.Bool.Decides.{nat_tests}
 use Rattle.std.specs.List.{AllByRecursion}
@@ -7,9 +7,11 @@ use Rattle.std.specs.FinMap.{get}
 use Rattle.nfs_machine.specs.State.{State}
 use Rattle.nfs_objects.specs.declared.address.Addr.{Addr}
 use Rattle.nfs_objects.specs.declared.address.Addr.TheVariants.{Inode, Mounts}
+use Rattle.nfs_objects.specs.declared.object.Inode as stored
 use Rattle.nfs_objects.specs.declared.object.Object.{Object}
+use Rattle.nfs_objects.specs.declared.object.Object.TheVariants as objects
 use Rattle.nfs_objects.specs.Fits.{Fits}
-use Rattle.nfs_objects.specs.Stands.{Represents, living_of, mounts_of}
+use Rattle.nfs_objects.specs.Stands.{Represents, inode_of, living_of, mounts_of}
 use Rattle.nfs_objects.specs.Store.{Store}
 use Rattle.nfs_objects.specs.Values.{ViewValue, seen_at, is_addr}
 
@@ -38,3 +40,9 @@ lives-seen s m view n o stands fits seen = stands.objects n ∙ ap living_of (fi
 pub mounts-seen : (s : Store) (m : State) (view : ViewValue) (o : Option Object) → Represents s m → Fits view s
     → seen_at view.entries Mounts ≡ Some o → m.mounts ≡ mounts_of o
 mounts-seen s m view o stands fits seen = stands.mounts ∙ ap mounts_of (fits_at view.entries s.at Mounts o fits.entries seen)
+
+-- where an inode stands, it stands
+pub is_inode : (k : Option Object) (o : stored.Inode) → Some o ≡ inode_of k → k ≡ Some (objects.Inode o)
+is_inode None o e = cc
+is_inode (Some (objects.Inode j)) o e = let same : o ≡ j = cc in ap (λ x. Some (objects.Inode x)) (sym same)
+is_inode (Some (objects.Mounts table)) o e = cc

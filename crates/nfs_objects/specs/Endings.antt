@@ -1,10 +1,10 @@
 -- When a call may end so.
 use Rattle.std.specs.Prelude.{◌≡◌, if◌then◌else◌, ℕ, ◌+◌, true, ◌||◌, ◌&&◌, List, [], ◌∷◌, ◌++◌, Some, None, find, nat_le, slice_get, ◌==◌}
-use Rattle.std.specs.FinMap.{insert}
 use Rattle.nfs_machine.specs.Attributes.{is_directory}
 use Rattle.nfs_machine.specs.Bytes.{same_bytes}
 use Rattle.nfs_machine.specs.Exports.{ExportValue, export_at}
-use Rattle.nfs_machine.specs.State.{Entry, Living, State}
+use Rattle.nfs_machine.specs.Shown.{with_object}
+use Rattle.nfs_machine.specs.State.{Entry, State}
 use Rattle.nfs_machine.specs.Step.{Step}
 use Rattle.nfs_machine.specs.declared.context.Ctx.{Ctx}
 use Rattle.nfs_machine.specs.declared.calls.Call.{Call}
@@ -29,10 +29,6 @@ pub record HoldsUnchanged (call : Call) (ctx : Ctx) (view : ViewValue) (reply : 
 -- the end of a call that is answered, and no more
 abbrev pub only_answered : Call → Ctx → ViewValue → Reply → DoneValue
 only_answered call ctx view reply = record { call = call; ctx = ctx; view = view; writes = []; messages = []; reply = reply }
-
--- this object lives at the number, and all else is as before
-abbrev pub with_object : State → ℕ → Living → State
-with_object m number o = record m { objects = insert m.objects number o }
 
 -- one inode in the place of another: its handle and its links stay, and a directory all that it contains
 pub record KeepsPlace (old new : Inode) : Type 0 where

@@ -27,16 +27,17 @@ mark_is_one true false m n small small' same = absurd (omega arith)
 mark_is_one false true m n small small' same = absurd (omega arith)
 mark_is_one false false m n small small' same = (refl, omega arith)
 
+-- a fragment's header is a word
+pub mark_small : (b : Bool) (i : ℕ) → i < 2 ^ 31 → mark b + i < 2 ^ 32
+mark_small true i small = omega arith
+mark_small false i small = omega arith
+
 -- a header that stands before some bytes
 pub header_front : (l k : Bool) (m n : ℕ) (x y : List ℕ) → m < 2 ^ 31 → n < 2 ^ 31 → to_be_bytes w32 (mark l + m) ++ x ≡ to_be_bytes w32 (mark k + n) ++ y → (l ≡ k) × (m ≡ n) × (x ≡ y)
 header_front l k m n x y small small' same =
     let words = word_front (mark l + m) (mark k + n) x y (mark_small l m small) (mark_small k n small') same in
     let marks = mark_is_one l k m n small small' words.0 in
     (marks.0, marks.1, words.1)
-  where
-    mark_small : (b : Bool) (i : ℕ) → i < 2 ^ 31 → mark b + i < 2 ^ 32
-    mark_small true i small = omega arith
-    mark_small false i small = omega arith
 
 -- two fragments at one front are the same
 pub fragment_front : (l k : Bool) (a b x y : List ℕ) → length a < 2 ^ 31 → length b < 2 ^ 31 → fragment l a ++ x ≡ fragment k b ++ y → (l ≡ k) × (a ≡ b) × (x ≡ y)

@@ -8,7 +8,7 @@ use Rattle.nfs_rpc.specs.Held.{IsPlace}
 use Rattle.nfs_rpc.specs.declared.marking.Place.{Place}
 use Rattle.nfs_rpc.specs.declared.marking.Place.TheVariants.{Header, Body, Refused}
 use Rattle.nfs_rpc.specs.declared.marking.TheConstants.{RECORD_LIMIT}
-use Rattle.nfs_rpc.proofs.Fragments.{word_front, header_front, fragment_front, Stops, earlier_are_one}
+use Rattle.nfs_rpc.proofs.Fragments.{word_front, header_front, fragment_front, Stops, earlier_are_one, mark_small}
 
 length_digits : (count number : ℕ) → length (bytes_high_first count number) ≡ count
 length_digits zero number = refl
@@ -25,10 +25,6 @@ data Tail : ℕ → List ℕ → Type 0 where
 small_word : (number size : ℕ) (l : Bool) (n : ℕ) → n < 2 ^ 31 → number ≡ mark l + n → number % 2 ^ 31 ≡ n
 small_word number size true n small is = omega arith
 small_word number size false n small is = omega arith
-
-mark_small : (b : Bool) (i : ℕ) → i < 2 ^ 31 → mark b + i < 2 ^ 32
-mark_small true i small = omega arith
-mark_small false i small = omega arith
 
 -- none of them begins with an earlier fragment within the limit
 tail_stops : (size : ℕ) (tail : List ℕ) → Tail size tail → Stops size tail

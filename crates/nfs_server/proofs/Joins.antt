@@ -1,20 +1,17 @@
 -- Answering one list of records and then another answers both: arrivals, moments, answers and runs follow one another.
 use Rattle.std.proofs.Common.{◌≡◌, ◌≢◌, ℕ, List, [], ◌∷◌, ◌++◌, map, Option, Some, None, ◌⊎◌, inl, inr, refl, sym, ◌∙◌, ap, subst, append_assoc, append-nil}
 use Rattle.std.proofs.lemmas.List.{map-append}
-use Rattle.std.specs.List.{AllByRecursion}
 use Rattle.std.specs.Io.KnownBytes.{Appends}
 use Rattle.nfs_machine.specs.Run.{Setting, Arrival, Record, Run}
 use Rattle.nfs_machine.specs.State.{State}
 use Rattle.nfs_machine.specs.declared.moment.Moment.{Moment}
+use Rattle.nfs_machine.proofs.Modes.{all-joined}
+use Rattle.nfs_machine.proofs.Runs.{run-append}
 use Rattle.nfs_server.specs.Plain.{PlainValue, StandsFor}
 use Rattle.nfs_server.specs.Serving.{AreFrom, Answers, Serves, Ticks}
 use Rattle.nfs_server.specs.Served.{Answered, AreAnswered, Ends, Goes, Stops, IsAnswered}
 use Rattle.nfs_server.specs.declared.serve.StreamFault.{StreamFault}
 use Rattle.nfs_server.specs.declared.serve.StreamFault.TheVariants.{Read, Write, TooLarge, Memory}
-
-run_join : (setting : Setting) (first mid last : State) (earlier later : List Record) → Run setting first earlier mid → Run setting mid later last → Run setting first (earlier ++ later) last
-run_join setting first mid last [] later a b = subst (λ (s : State). Run setting s later last) a b
-run_join setting first mid last (r ∷ earlier) later a b = (a.0, a.1, run_join setting a.0 mid last earlier later a.2 b)
 
 -- an answer adds one step or none
 answer_run : (setting : Setting) (old new : State) (arrival : Arrival) (answer : List ℕ) (records : List Record) → Answers setting old arrival answer records new → Run setting old records new
@@ -26,7 +23,7 @@ pub served_run : (setting : Setting) (old new : State) (arrivals : List Arrival)
 served_run setting old new [] written records served = subst (λ (rs : List Record). Run setting old rs new) (sym served.1) served.2
 served_run setting old new (arrival ∷ arrivals) written records (answer, others, first, later, mid, w, r, now, then) =
     subst (λ (rs : List Record). Run setting old rs new) (sym r)
-    (run_join setting old mid new first later (answer_run setting old mid arrival answer first now) (served_run setting mid new arrivals others later then))
+    (run-append setting old mid new first later (answer_run setting old mid arrival answer first now) (served_run setting mid new arrivals others later then))
 
 served_join : (setting : Setting) (first mid last : State) (earlier later : List Arrival) (w x : List ℕ) (r s : List Record) → Serves setting first earlier w r mid → Serves setting mid later x s last
     → Serves setting first (earlier ++ later) (w ++ x) (r ++ s) last
@@ -44,10 +41,6 @@ served_join setting first mid last (arrival ∷ earlier) later w x r s (answer, 
   answers,
   served_join setting next mid last earlier later others x then s serves b,
 )
-
-pub all_join : {X : Type 0} (P : X → Type 0) (xs ys : List X) → AllByRecursion P xs → AllByRecursion P ys → AllByRecursion P (xs ++ ys)
-all_join P [] ys a b = b
-all_join P (x ∷ xs) ys a b = (a.0, all_join P xs ys a.1 b)
 
 pub appends_join : (a b c : Option (List ℕ)) (w x : List ℕ) → Appends a b w → Appends b c x → Appends a c (w ++ x)
 appends_join None b c w x p q = tt
@@ -67,7 +60,7 @@ module _ {Clock : Type 0} (gives : Clock → Moment → Clock → Type 0) (host 
   from_join : (c d : List (List ℕ)) (earlier later : List Arrival) → AreFrom host c earlier → AreFrom host d later → AreFrom host (c ++ d) (earlier ++ later)
   from_join c d earlier later a b = (
     map-append (λ (x : Arrival). x.bytes) earlier later ∙ ap (λ l. l ++ map (λ (x : Arrival). x.bytes) later) a.0 ∙ ap (λ l. c ++ l) b.0,
-    all_join (λ (x : Arrival). x.host ≡ host) earlier later a.1 b.1,
+    all-joined (λ (x : Arrival). x.host ≡ host) earlier later a.1 b.1,
   )
 
   module _ (first mid last : Clock) (c d : List (List ℕ)) (old new newest : PlainValue) where

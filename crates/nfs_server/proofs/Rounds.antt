@@ -2,7 +2,7 @@
 use Rattle.std.proofs.Common.{◌≡◌, ◌≢◌, ℕ, zero, suc, ◌+◌, ◌<◌, ◌≤◌, List, [], ◌∷◌, ◌++◌, length, length-append, map, replicate, take, refl, sym, ◌∙◌, ap, subst, append_assoc, append-nil, arith}
 use Rattle.std.proofs.Common.{get_or, set, None, Some}
 use Rattle.std.proofs.Math.Seq.{take-append_seam}
-use Rattle.std.proofs.lemmas.List.{map-append, map-set, take_more, take-map}
+use Rattle.std.proofs.lemmas.List.{map-append, map-set, take_all, take_more, take-map}
 use Rattle.std.specs.List.{AllByRecursion}
 use Rattle.nfs_objects.specs.Fits.{Fits}
 use Rattle.nfs_objects.specs.Store.{Store, with_write, with_writes}
@@ -14,7 +14,7 @@ use Rattle.nfs_objects.specs.declared.done.Write.{Write}
 use Rattle.std.specs.Prelude.{Option}
 use Rattle.nfs_server.specs.Plain.{HasRoom, store_in}
 use Rattle.nfs_server.specs.Slots.{SlotValue, empty_slot}
-use Rattle.nfs_server.proofs.Joins.{all_join}
+use Rattle.nfs_machine.proofs.Modes.{all-joined}
 use Rattle.nfs_server.proofs.Stores.{store_room}
 use Rattle.nfs_server.proofs.Views.{fits_more, fits_reserved, none_behind, last_behind}
 use Rattle.nfs_server.specs.Roots.{root_of, root_slots}
@@ -83,7 +83,7 @@ making_more initial slots more writes later w count m is room last = record {
   growing = growing_join initial slots more count m.growing is;
   room =
       subst (AllRoom more) (sym last)
-      (all_join (λ (x : Addr × Option Object). HasRoom more x.0) writes (w ∷ []) (all_room_more slots more (growing_len slots more (record { count = count; grown = is })) writes m.room) (room, tt));
+      (all-joined (λ (x : Addr × Option Object). HasRoom more x.0) writes (w ∷ []) (all_room_more slots more (growing_len slots more (record { count = count; grown = is })) writes m.room) (room, tt));
 }
 
 pub making_store : (initial slots : List SlotValue) → Growing initial slots → (mounts : Option Object) → store_in slots mounts ≡ store_in initial mounts
@@ -176,14 +176,8 @@ making_back initial slots more writes count is m grown =
     let g = growing_join initial slots more grown.0 m.growing grown.1 in
     ap (λ n. take n more) is ∙ ap (take (length initial)) g.grown ∙ take-append_seam initial (replicate g.count empty_slot)
 
-take_whole : {X : Type 0} (xs : List X) (n : ℕ) → length xs ≤ n → take n xs ≡ xs
-take_whole [] zero h = refl
-take_whole [] (suc n) h = refl
-take_whole (x ∷ xs) zero h = absurd (omega (arith, h))
-take_whole (x ∷ xs) (suc n) h = ap (λ l. x ∷ l) (take_whole xs n (omega (arith, h)))
-
 pub making_all : (initial slots : List SlotValue) (writes : List Write) (index : ℕ) → length writes ≤ index → Making initial slots (map write_value (take index writes)) → AllRoom slots (map write_value writes)
-making_all initial slots writes index h m = subst (λ (ws : List Write). AllRoom slots (map write_value ws)) (take_whole writes index h) m.room
+making_all initial slots writes index h m = subst (λ (ws : List Write). AllRoom slots (map write_value ws)) (take_all index writes h) m.room
 
 pub nil_of_len : {X : Type 0} (xs : List X) (n : ℕ) → n ≡ length xs → n ≡ 0 → xs ≡ []
 nil_of_len [] n len none = refl

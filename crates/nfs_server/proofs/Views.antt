@@ -1,19 +1,19 @@
 -- A view that fits a store fits it with one more true entry.
-use Rattle.std.proofs.Common.{◌≡◌, ℕ, ◌<◌, ◌≤◌, true, false, cond, List, [], ◌∷◌, ◌++◌, length, Option, Some, None, refl, sym, ◌∙◌, ap, subst, arith}
+use Rattle.std.proofs.Common.{◌≡◌, ℕ, ◌<◌, ◌≤◌, true, false, cond, List, [], ◌∷◌, ◌++◌, length, Option, Some, None, refl, sym, ◌∙◌, ap, subst}
 use Rattle.std.specs.List.{AllByRecursion}
-use Rattle.std.proofs.lemmas.Bool.Decides.{nat_tests}
 use Rattle.std.proofs.lemmas.Option.{slice_get_past}
 use Rattle.nfs_objects.specs.Fits.{Fits}
 use Rattle.nfs_objects.specs.Store.{Store}
 use Rattle.nfs_objects.specs.Values.{ViewValue, is_addr, seen_at}
 use Rattle.nfs_objects.specs.declared.address.Addr.{Addr}
-use Rattle.nfs_objects.specs.declared.address.Addr.TheVariants.{Inode, Mounts}
+use Rattle.nfs_objects.specs.declared.address.Addr.TheVariants.{Inode}
 use Rattle.nfs_objects.specs.declared.object.Object.{Object}
 use Rattle.nfs_objects.specs.declared.view.Reserved.{Reserved}
+use Rattle.nfs_objects.proofs.Rounds.{is_addr-refl}
 use Rattle.nfs_objects.proofs.Seen.{is_addr-same}
 use Rattle.nfs_server.specs.Plain.{store_in}
 use Rattle.nfs_server.specs.Slots.{SlotValue, object_in, last_in}
-use Rattle.nfs_server.proofs.Joins.{all_join}
+use Rattle.nfs_machine.proofs.Modes.{all-joined}
 
 -- what was seen is seen
 seen_more : (es : List (Addr × Option Object)) (more : List (Addr × Option Object)) (a : Addr) (o : Option Object) → seen_at es a ≡ Some o → seen_at (es ++ more) a ≡ Some o
@@ -23,10 +23,6 @@ seen_more (e ∷ es) more a o seen =
       | true ↦ λ here. here
       | false ↦ λ there. seen_more es more a o there
     ] seen
-
-is_addr-refl : (a : Addr) → is_addr a a ≡ true
-is_addr-refl Mounts = refl
-is_addr-refl (Inode n) = grind (arith, nat_tests)
 
 -- where all entries are true, an address that is added shows what stands there
 seen_added : (es : List (Addr × Option Object)) (at : Addr → Option Object) (a : Addr) → AllByRecursion (λ e. at e.0 ≡ e.1) es → seen_at (es ++ (a, at a) ∷ []) a ≡ Some (at a)
@@ -49,7 +45,7 @@ pub fits_more : (v w : ViewValue) (s : Store) (a : Addr) (o : Option Object) →
 fits_more v w s a o fits is added =
     subst (λ (x : ViewValue). Fits x s) (sym added)
     (record {
-      entries = all_join (λ e. s.at e.0 ≡ e.1) v.entries ((a, o) ∷ []) fits.entries (sym is, tt);
+      entries = all-joined (λ e. s.at e.0 ≡ e.1) v.entries ((a, o) ∷ []) fits.entries (sym is, tt);
       reserved = free_more v.entries ((a, o) ∷ []) s v.reserved fits.reserved;
     })
 
@@ -61,9 +57,9 @@ fits_reserved v w s r fits none below added =
     in
     subst (λ (x : ViewValue). Fits x s) (sym added)
     (record {
-      entries = all_join (λ e. s.at e.0 ≡ e.1) v.entries ((Inode r.number, None) ∷ []) fits.entries (none, tt);
+      entries = all-joined (λ e. s.at e.0 ≡ e.1) v.entries ((Inode r.number, None) ∷ []) fits.entries (none, tt);
       reserved =
-          all_join (IsFree (v.entries ++ (Inode r.number, None) ∷ []) s) v.reserved (r ∷ [])
+          all-joined (IsFree (v.entries ++ (Inode r.number, None) ∷ []) s) v.reserved (r ∷ [])
           (free_more v.entries ((Inode r.number, None) ∷ []) s v.reserved fits.reserved) ((seen, below), tt);
     })
 

@@ -1,6 +1,5 @@
 pub mod ArgumentLaws
 pub mod CallLaws
 pub mod ResultLaws
-pub mod EntryLaws
 pub mod VerifierLaws
 pub mod Sizes

@@ -5,7 +5,7 @@ use Rattle.nfs_xdr.specs.Laws.{IsItsSpelling}
 use Rattle.nfs_xdr.proofs.Spelling.{writing_appends, writing_spells}
 use Rattle.nfs_xdr.specs.Types.{Xdr, Void, Opaque, Pair, Value, HasSpelling}
 use Rattle.nfs_xdr.specs.Writing.{with_word, with_padded, with_arm, appended, write}
-use Rattle.nfs_wire.specs.Replies.{WritesResult}
+use Rattle.nfs_xdr.specs.Writing.{WritesResult}
 use Rattle.nfs_wire.specs.Results.{outcome, done_value, refused_value}
 use Rattle.nfs_wire.specs.Status.{nfsstat3, status_number}
 use Rattle.nfs_wire.specs.Attributes.{ftype3, type_number}
@@ -59,16 +59,6 @@ refused_form done refused _ value form = (lit< tt, refl, form)
 pub done_form : (done refused : Xdr) (value : Value done) → HasSpelling done value → HasSpelling (outcome done refused) (done_value done refused value)
 unfolding done_value
 done_form done refused value form = (lit< tt, refl, form)
-
--- what is written is the bytes of the result
-pub WritesResult-bytes : (x : (t : Xdr) × Value t) (old new : List ℕ) (result : Result (Unit {0}) XdrError) → WritesResult x old new result → OnOk result (new ≡ old ++ write x.0 x.1)
-WritesResult-bytes x old new (Ok _) written = written.0 ∙ writing_appends x.0 x.1 old
-WritesResult-bytes x old new (Err e) written = tt
-
--- and they spell it
-pub WritesResult-spells : (x : (t : Xdr) × Value t) (old new : List ℕ) (result : Result (Unit {0}) XdrError) → WritesResult x old new result → OnOk result (IsItsSpelling x.0 x.1 (write x.0 x.1))
-WritesResult-spells x old new (Ok _) written = writing_spells x.0 x.1 written.1
-WritesResult-spells x old new (Err e) written = tt
 
 -- what joins the status of a result with its arm, and an arm's items
 pub ruleset outcomes = (appended_done, appended_refused, appended_void, done_form, refused_form)

@@ -1,10 +1,9 @@
 -- Which bytes spell the arguments of a call (RFC 1813, section 3.3).
 -- A procedure has one line in each of `arguments`, `procedure_of` and `arguments_of`.
-use Rattle.std.specs.Prelude.{◌≡◌, ◌≢◌, ℕ, ◌<◌, Result, Ok, Err, List, [], ◌∷◌, ◌++◌, length, slice_index_or}
+use Rattle.std.specs.Prelude.{ℕ, ◌<◌, Result, List, [], ◌∷◌, length, slice_index_or}
 use Rattle.nfs_xdr.specs.declared.XdrError.{XdrError}
-use Rattle.nfs_xdr.specs.declared.XdrError.TheVariants.{Memory}
-use Rattle.nfs_xdr.specs.Reading.{read}
-use Rattle.nfs_xdr.specs.Types.{Xdr, Void, Value, Spells}
+use Rattle.nfs_xdr.specs.Programs as program
+use Rattle.nfs_xdr.specs.Types.{Xdr, Void, Value}
 use Rattle.nfs_wire.specs.Arguments.{nfs_fh3, diropargs3, setattr3args, access3args, read3args, write3args, create3args, mkdir3args, symlink3args, mknod3args, rename3args, link3args, readdir3args, readdirplus3args, commit3args, place_value, setattr_value, access_value, read_value, write_value, create_value, mkdir_value, symlink_value, mknod_value, rename_value, link_value, readdir_value, readdirplus_value, commit_value}
 use Rattle.nfs_wire.specs.declared.calls.NfsCall.{NfsCall}
 use Rattle.nfs_wire.specs.declared.calls.NfsCall.TheVariants.{Null, Getattr, Setattr, Lookup, Access, Readlink, Read, Write, Create, Mkdir, Symlink, Mknod, Remove, Rmdir, Rename, Link, Readdir, Readdirplus, Fsstat, Fsinfo, Pathconf, Commit}
@@ -110,28 +109,26 @@ arguments_of (Fsinfo root) = root
 arguments_of (Pathconf object) = object
 arguments_of (Commit a) = commit_value a
 
+-- NFS has a procedure of this number
+abbrev pub IsProcedure : ℕ → Type 0
+IsProcedure n = n < length arguments
+
 -- the bytes spell the arguments of the call
 abbrev pub SpellsArguments : NfsCall → List ℕ → Type 0
-SpellsArguments call bytes = Spells (arguments_type (procedure_of call)) (arguments_of call) bytes
+SpellsArguments = program.SpellsCall arguments procedure_of arguments_of
 
 -- a front of the bytes spells the arguments of the call; what follows it is ignored
 abbrev pub IsFrontedBy : NfsCall → List ℕ → Type 0
-IsFrontedBy call bytes =
-    (front : List ℕ) × (rest : List ℕ) × (bytes ≡ front ++ rest) × SpellsArguments call front
+IsFrontedBy = program.IsFrontedBy SpellsArguments
 
 -- no front of the bytes spells the arguments of a call of this procedure
 abbrev pub IsGarbage : ℕ → List ℕ → Type 0
-IsGarbage procedure bytes =
-    (call : NfsCall) (front rest : List ℕ) → procedure_of call ≡ procedure → bytes ≡ front ++ rest → SpellsArguments call front → ⊥
+IsGarbage = program.IsGarbage procedure_of SpellsArguments
 
 -- one list of bytes spells at its front at most one call of a procedure
 abbrev pub SpellsOneCall : Type 0
-SpellsOneCall =
-    (bytes front rest front' rest' : List ℕ) (call call' : NfsCall) → procedure_of call ≡ procedure_of call' → bytes ≡ front ++ rest → SpellsArguments call front → bytes ≡ front' ++ rest' → SpellsArguments call' front' → call ≡ call'
+SpellsOneCall = program.SpellsOneCall procedure_of SpellsArguments
 
--- What reading a call answers and leaves: the call whose arguments reading gives, or the error that it gives.
+-- what reading a call answers and leaves
 abbrev pub ReadsCall : ℕ → List ℕ → List ℕ → Result NfsCall XdrError → Type 0
-ReadsCall procedure old new (Ok call) =
-    (procedure_of call ≡ procedure) × (read (arguments_type (procedure_of call)) old ≡ Ok (arguments_of call, new))
-ReadsCall procedure old new (Err e) =
-    e ≢ Memory → procedure < length arguments → read (arguments_type procedure) old ≡ Err e
+ReadsCall = program.ReadsCall IsProcedure arguments procedure_of arguments_of

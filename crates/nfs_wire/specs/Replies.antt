@@ -92,8 +92,3 @@ HasNfsForm (Mknod r) = HasMadeForm r
 HasNfsForm (Readdir r) = HasReaddirForm r
 HasNfsForm (Readdirplus r) = HasReaddirplusForm r
 HasNfsForm _ = Unit {0}
-
--- What a writer of a result answers and leaves: the value at the end, which has a spelling, or no memory.
-abbrev pub WritesResult : (t : Xdr) × Value t → List ℕ → List ℕ → Result (Unit {0}) XdrError → Type 0
-WritesResult value old new (Ok _) = (new ≡ appended value.0 value.1 old) × HasSpelling value.0 value.1
-WritesResult value old new (Err e) = e ≡ Memory

@@ -3,7 +3,8 @@
 ghost use Rattle.std.specs.Prelude.{◌≡◌, ◌++◌, OnOk, IfErr};
 ghost use Rattle.nfs_xdr.specs.Laws.{IsItsSpelling};
 ghost use Rattle.nfs_xdr.specs.declared.XdrError.TheVariants.{Memory};
-ghost use Rattle.nfs_wire.specs.Replies.{result_of, result_bytes, HasNfsForm, WritesResult};
+ghost use Rattle.nfs_wire.specs.Replies.{result_of, result_bytes, HasNfsForm};
+ghost use Rattle.nfs_xdr.specs.Writing.{WritesResult};
 
 mod data;
 mod items;

@@ -6,3 +6,5 @@ pub mod Written
 pub mod NoMemory
 pub mod Spelling
 pub mod Arrays
+pub mod Entries
+pub mod ProgramLaws

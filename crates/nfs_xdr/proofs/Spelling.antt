@@ -1,11 +1,12 @@
 -- The laws: what a front spells is read with that front's end, so a front, a value and a refusal are each what reading gives, and reading is a function.
-use Rattle.std.proofs.Common.{◌≡◌, ℕ, List, ◌++◌, length, Result, Ok, Err, sym, ap, ◌∙◌, arith}
+use Rattle.std.proofs.Common.{◌≡◌, ℕ, List, ◌++◌, length, OnOk, Result, Ok, Err, sym, ap, ◌∙◌, arith}
 use Rattle.std.proofs.lemmas.List.{length-append, length-replicate}
 use Rattle.std.specs.Prelude.{replicate}
 use Rattle.nfs_xdr.specs.declared.XdrError.{XdrError}
 use Rattle.nfs_xdr.specs.Types.{Xdr, Value, AnyPadding, ZeroPadding}
 use Rattle.nfs_xdr.specs.Reading.{read, ReadsFront}
-use Rattle.nfs_xdr.specs.Laws.{IsBytes, Tells, SpellingIsUnique, ReadingFindsSpelling, SpellingIsRead, RefusalMeansUnspelled, SpelledHasSpelling, WritingSpells, WritingAppends}
+use Rattle.nfs_xdr.specs.Writing.{WritesResult, write}
+use Rattle.nfs_xdr.specs.Laws.{IsBytes, IsItsSpelling, Tells, SpellingIsUnique, ReadingFindsSpelling, SpellingIsRead, RefusalMeansUnspelled, SpelledHasSpelling, WritingSpells, WritingAppends}
 use Rattle.nfs_xdr.proofs.Numbers.{ok_is}
 use Rattle.nfs_xdr.proofs.Found.{found}
 use Rattle.nfs_xdr.proofs.Again.{again}
@@ -63,3 +64,13 @@ tells t view old new (Ok x) fits e =
     let f = reading_finds_spelling t old new (view x) fits e in
     (f.0, new, f.1, f.2)
 tells t view old new (Err d) fits e = λ known. (refusal_means_unspelled t old d (e known)).1
+
+-- what is written is the bytes of the value
+pub WritesResult-bytes : (x : (t : Xdr) × Value t) (old new : List ℕ) (result : Result (Unit {0}) XdrError) → WritesResult x old new result → OnOk result (new ≡ old ++ write x.0 x.1)
+WritesResult-bytes x old new (Ok _) written = written.0 ∙ writing_appends x.0 x.1 old
+WritesResult-bytes x old new (Err e) written = tt
+
+-- and they spell it
+pub WritesResult-spells : (x : (t : Xdr) × Value t) (old new : List ℕ) (result : Result (Unit {0}) XdrError) → WritesResult x old new result → OnOk result (IsItsSpelling x.0 x.1 (write x.0 x.1))
+WritesResult-spells x old new (Ok _) written = writing_spells x.0 x.1 written.1
+WritesResult-spells x old new (Err e) written = tt

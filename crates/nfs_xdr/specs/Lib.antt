@@ -3,3 +3,4 @@ pub mod Reading
 pub mod Writing
 pub mod Laws
 pub mod Example
+pub mod Programs

@@ -3,7 +3,7 @@ use Rattle.std.specs.Prelude.{◌≡◌, ℕ, List, [], ◌++◌, length, replic
 use Rattle.std.specs.Int.{w32, w64, to_be_bytes, cast_unsigned}
 use Rattle.nfs_xdr.specs.declared.XdrError.{XdrError}
 use Rattle.nfs_xdr.specs.declared.XdrError.TheVariants.{Memory}
-use Rattle.nfs_xdr.specs.Types.{Xdr, Void, Word, Int, Hyper, Flag, Enum, Fixed, Opaque, Pair, Array, Optional, Entries, Union, Value, padding, flag_number}
+use Rattle.nfs_xdr.specs.Types.{HasSpelling, Xdr, Void, Word, Int, Hyper, Flag, Enum, Fixed, Opaque, Pair, Array, Optional, Entries, Union, Value, padding, flag_number}
 
 -- bytes and their padding
 abbrev pub padded : List ℕ → List ℕ
@@ -53,3 +53,8 @@ Writes t v old new (Err e) = (e ≡ Memory) × (new ≡ old)
 abbrev pub WritesFront : (t : Xdr) → Value t → List ℕ → List ℕ → Result (Unit {0}) XdrError → Type 0
 WritesFront t v old new (Ok _) = new ≡ appended t v old
 WritesFront t v old new (Err e) = e ≡ Memory
+
+-- What a writer of a value with its type answers and leaves: the value at the end, which has a spelling, or no memory.
+abbrev pub WritesResult : (t : Xdr) × Value t → List ℕ → List ℕ → Result (Unit {0}) XdrError → Type 0
+WritesResult value old new (Ok _) = (new ≡ appended value.0 value.1 old) × HasSpelling value.0 value.1
+WritesResult value old new (Err e) = e ≡ Memory

@@ -5,6 +5,9 @@
 //! appends the value's bytes, with zeros as padding (`Writes`). The laws join both to `Spells`, for every
 //! type. It stands on `byteorder` for words and on `bytes` for byte strings that are shared.
 //!
+//! What is said of the calls of any program, from the types of its procedures' arguments, stands in
+//! `specs/Programs`, and its laws in `proofs/ProgramLaws`.
+//!
 //! A message is read or written by a plain function with `?`, whose clause is `ReadsFront` or
 //! `WritesFront`; the tests have an example, a union and loops among them.
 #![tactic(auto)]

@@ -1,5 +1,4 @@
-pub mod EntryLaws
 pub mod MessageLaws
 pub mod MountLaws
 pub mod NlmLaws
-pub mod ProgramLaws
+pub mod ArgumentsErrorLaws

@@ -3,8 +3,8 @@ use Rattle.std.proofs.Common.{◌≡◌, ℕ, List, Err, refl, lit<}
 use Rattle.nfs_xdr.specs.Types.{HasSpelling}
 use Rattle.nfs_xdr.specs.Writing.{appended}
 use Rattle.side_wire.specs.Mount.{mount_arguments, IsMountProcedure, mount_procedure_of, mount_arguments_of, SpellsMountArguments, mountres3, mount_arm, mount_status_number, nothing, mount_outcome}
-use Rattle.side_wire.specs.Programs.{SpellsOneCall}
-use Rattle.side_wire.proofs.ProgramLaws.{Makers, made, spells_one_call}
+use Rattle.nfs_xdr.specs.Programs.{SpellsOneCall}
+use Rattle.nfs_xdr.proofs.ProgramLaws.{Makers, made, spells_one_call}
 use Rattle.side_wire.specs.declared.mount.MountCall.{MountCall}
 use Rattle.side_wire.specs.declared.mount.MountCall.TheVariants.{Null, Mnt, Dump, Unmount, UnmountAll, Export}
 use Rattle.side_wire.specs.declared.mount.MountStatus.{MountStatus}

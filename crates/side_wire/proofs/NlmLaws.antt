@@ -6,8 +6,8 @@ use Rattle.nfs_xdr.specs.Reading.{arm_of}
 use Rattle.nfs_xdr.proofs.Unions.{read_at, ReadAt}
 use Rattle.side_wire.specs.NlmTypes.{nlm4_lock, nlm4_holder, nlm4_testrply, test_arm, nlm4_testres, nlm4_res, nlm4_testargs, nlm4_lockargs, nlm4_cancargs, nlm4_unlockargs, nlm4_share, nlm4_shareargs, nlm4_notify, nlm_status_number, test_status_value, test_result_value, result_value, mode_number, access_number, share_value, share_arguments_value}
 use Rattle.side_wire.specs.Nlm.{nlm_arguments, IsNlmProcedure, nlm_procedure_of, nlm_arguments_of, SpellsNlmArguments}
-use Rattle.side_wire.specs.Programs.{type_at, SpellsOneCall}
-use Rattle.side_wire.proofs.ProgramLaws.{Makers, made, spells_one_call}
+use Rattle.nfs_xdr.specs.Programs.{type_at, SpellsOneCall}
+use Rattle.nfs_xdr.proofs.ProgramLaws.{Makers, made, spells_one_call}
 use Rattle.side_wire.specs.declared.message.NlmLock.{NlmLock}
 use Rattle.side_wire.specs.declared.nlm.CancelArguments.{CancelArguments}
 use Rattle.side_wire.specs.declared.nlm.FreeAllArguments.{FreeAllArguments}

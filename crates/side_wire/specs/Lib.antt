@@ -3,4 +3,3 @@ pub mod Messages
 pub mod Mount
 pub mod Nlm
 pub mod NlmTypes
-pub mod Programs

@@ -4,7 +4,7 @@ use Rattle.nfs_xdr.specs.Types.{Xdr, Word, Opaque, Pair, Value, Spells}
 use Rattle.nfs_xdr.specs.Writing.{write}
 use Rattle.side_wire.specs.Nlm.{nlm_arguments, nlm_procedure_of, nlm_arguments_of, test_result, plain_result, IsNetobj, HasTestResultForm, HasResultForm}
 use Rattle.side_wire.specs.NlmTypes.{nlm4_testargs, nlm4_res, test_value, result_value}
-use Rattle.side_wire.specs.Programs.{type_at}
+use Rattle.nfs_xdr.specs.Programs.{type_at}
 use Rattle.side_wire.specs.declared.message.Callback.{Callback}
 use Rattle.side_wire.specs.declared.message.Callback.TheVariants.{Granted, GrantedMsg, TestRes, LockRes, CancelRes, UnlockRes, GrantedRes}
 use Rattle.side_wire.specs.declared.message.Message.{Message}

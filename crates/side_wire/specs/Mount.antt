@@ -3,9 +3,9 @@
 use Rattle.std.specs.Prelude.{ℕ, ◌<◌, ◌≤◌, Bool, List, [], ◌∷◌, length, Result, Ok, Err, IfOk, ◌==◌, if◌then◌else◌, map, pos}
 use Rattle.std.specs.List.{All, list_any}
 use Rattle.nfs_xdr.specs.declared.XdrError.{XdrError}
-use Rattle.nfs_xdr.specs.Types.{Xdr, Void, Int, Opaque, Pair, Array, Entries, Union, Value, Spells}
+use Rattle.nfs_xdr.specs.Types.{Xdr, Void, Int, Opaque, Pair, Array, Entries, Union, Value}
 use Rattle.nfs_xdr.specs.Writing.{write}
-use Rattle.side_wire.specs.Programs.{type_at, ReadsCall}
+use Rattle.nfs_xdr.specs.Programs.{type_at, SpellsCall, ReadsCall}
 use Rattle.side_wire.specs.declared.mount.MountCall.{MountCall}
 use Rattle.side_wire.specs.declared.mount.MountCall.TheVariants as call
 use Rattle.side_wire.specs.declared.mount.MountReply.{MountReply}
@@ -67,8 +67,7 @@ mount_arguments_of call.Export = tt
 
 -- the bytes spell the arguments of the call
 abbrev pub SpellsMountArguments : MountCall → List ℕ → Type 0
-SpellsMountArguments c bytes =
-    Spells (type_at mount_arguments (mount_procedure_of c)) (mount_arguments_of c) bytes
+SpellsMountArguments = SpellsCall mount_arguments mount_procedure_of mount_arguments_of
 
 -- what reading a call answers and leaves
 abbrev pub ReadsMountCall : ℕ → List ℕ → List ℕ → Result MountCall XdrError → Type 0

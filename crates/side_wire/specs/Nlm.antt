@@ -2,10 +2,10 @@
 -- A procedure has one line in each of `nlm_arguments`, `nlm_procedure_of`, `nlm_arguments_of`, `nlm_result_of` and `HasNlmForm`.
 use Rattle.std.specs.Prelude.{◌≢◌, ℕ, ◌<◌, ◌≤◌, List, [], ◌∷◌, length, Result}
 use Rattle.nfs_xdr.specs.declared.XdrError.{XdrError}
-use Rattle.nfs_xdr.specs.Types.{Xdr, Void, Value, Spells}
+use Rattle.nfs_xdr.specs.Types.{Xdr, Void, Value}
 use Rattle.nfs_xdr.specs.Writing.{write}
 use Rattle.side_wire.specs.NlmTypes.{nlm4_testargs, nlm4_lockargs, nlm4_cancargs, nlm4_unlockargs, nlm4_testres, nlm4_res, nlm4_shareres, nlm4_shareargs, nlm4_notify, test_value, lock_arguments_value, cancel_value, unlock_value, test_result_value, result_value, share_result_value, share_arguments_value, free_all_value}
-use Rattle.side_wire.specs.Programs.{type_at, ReadsCall}
+use Rattle.nfs_xdr.specs.Programs.{type_at, SpellsCall, ReadsCall}
 use Rattle.side_wire.specs.declared.nlm.NlmCall.{NlmCall}
 use Rattle.side_wire.specs.declared.nlm.NlmCall.TheVariants as call
 use Rattle.side_wire.specs.declared.nlm.NlmReply.{NlmReply}
@@ -113,8 +113,7 @@ nlm_arguments_of (call.FreeAll a) = free_all_value a
 
 -- the bytes spell the arguments of the call
 abbrev pub SpellsNlmArguments : NlmCall → List ℕ → Type 0
-SpellsNlmArguments c bytes =
-    Spells (type_at nlm_arguments (nlm_procedure_of c)) (nlm_arguments_of c) bytes
+SpellsNlmArguments = SpellsCall nlm_arguments nlm_procedure_of nlm_arguments_of
 
 -- what reading a call answers and leaves
 abbrev pub ReadsNlmCall : ℕ → List ℕ → List ℕ → Result NlmCall XdrError → Type 0

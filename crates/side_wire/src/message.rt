@@ -8,7 +8,8 @@ ghost use Rattle.nfs_xdr.specs.declared.XdrError.TheVariants.{Memory};
 ghost use Rattle.side_wire.specs.Messages.{call_of, call_header, header_value, callback_arguments, message_of, message_bytes, CallbacksAreCalls, HasLockForm, HasTestArgumentsForm, HasCallbackForm, SpellsResult, IsNoResult};
 ghost use Rattle.side_wire.specs.Nlm.{nlm_procedure_of};
 ghost use Rattle.side_wire.specs.NlmTypes.{nlm4_lock, lock_value, nlm4_testargs, test_value};
-ghost use Rattle.side_wire.specs.Programs.{IsFrontedBy, WritesResult};
+ghost use Rattle.nfs_xdr.specs.Programs.{IsFrontedBy};
+ghost use Rattle.nfs_xdr.specs.Writing.{WritesResult};
 
 use crate::arguments::{ArgumentsError, are_bytes};
 use crate::nlm::items::{read_plain_result, write_plain_result, write_test_result};

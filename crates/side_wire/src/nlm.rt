@@ -3,7 +3,8 @@
 ghost use Rattle.std.specs.Prelude.{◌≡◌, ◌++◌, IfOk, IfErr, IsErrOf, OnOk};
 ghost use Rattle.nfs_xdr.specs.Laws.{IsItsSpelling};
 ghost use Rattle.nfs_xdr.specs.declared.XdrError.TheVariants.{Memory};
-ghost use Rattle.side_wire.specs.Programs.{IsFrontedBy, IsGarbage, SpellsOneCall, WritesResult};
+ghost use Rattle.nfs_xdr.specs.Programs.{IsFrontedBy, IsGarbage, SpellsOneCall};
+ghost use Rattle.nfs_xdr.specs.Writing.{WritesResult};
 ghost use Rattle.side_wire.specs.Nlm.{nlm_procedure_of, SpellsNlmArguments, nlm_result_of, nlm_result_bytes, HasNlmForm, ReadsNlmCall};
 
 pub(crate) mod items;

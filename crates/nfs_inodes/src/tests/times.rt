@@ -1,6 +1,7 @@
-//! The time of a change rises with each change (RFC 1813, 2.5: mtime, ctime).
+//! The time of a change rises with each change (RFC 1813, 2.5: mtime, ctime), and how times are set (2.5: set_atime).
 
 use super::*;
+use nfs_wire::SetTime;
 
 fn time(seconds: u32, nanoseconds: u32) -> Time {
     Time {
@@ -25,4 +26,22 @@ fn a_change_in_the_same_moment_is_later(rt: HostRuntime) {
 fn the_greatest_time_stays(rt: HostRuntime) {
     let greatest = time(u32::MAX, 999_999_999);
     assert_eq!(rt; touch(greatest, TIME), greatest);
+}
+
+#[test]
+fn a_time_has_less_than_a_second_of_nanoseconds(rt: HostRuntime) {
+    assert!(rt; is_time(SetTime::ToClient(time(9, 999_999_999))));
+    assert!(rt; !is_time(SetTime::ToClient(time(9, 1_000_000_000))));
+    assert!(rt; is_time(SetTime::ToServer));
+}
+
+#[test]
+fn a_time_is_left_or_set(rt: HostRuntime) {
+    let now = time(2000, 5);
+    assert_eq!(rt; set_time(TIME, now, SetTime::Leave), TIME);
+    assert_eq!(rt; set_time(TIME, now, SetTime::ToServer), now);
+    assert_eq!(rt;
+        set_time(TIME, now, SetTime::ToClient(time(9, 1))),
+        time(9, 1)
+    );
 }

@@ -1,6 +1,7 @@
 //! Results of the procedures on names in directories.
 
-ghost use Rattle.nfs_wire.specs.Replies.{HasLookupForm, HasMadeForm, WritesResult};
+ghost use Rattle.nfs_wire.specs.Replies.{HasLookupForm, HasMadeForm};
+ghost use Rattle.nfs_xdr.specs.Writing.{WritesResult};
 ghost use Rattle.nfs_wire.specs.Results.{lookup_result, made_result, removed_result, renamed_result, linked_result};
 
 use super::items::write_optional_handle;

@@ -4,7 +4,8 @@ ghost use Rattle.std.specs.Prelude.{map};
 ghost use Rattle.std.specs.List.{All};
 ghost use Rattle.nfs_xdr.specs.Types.{Entries, HasSpelling};
 ghost use Rattle.nfs_xdr.specs.Writing.{WritesFront};
-ghost use Rattle.nfs_wire.specs.Replies.{HasEntryForm, HasFullEntryForm, HasReaddirForm, HasReaddirplusForm, WritesResult};
+ghost use Rattle.nfs_wire.specs.Replies.{HasEntryForm, HasFullEntryForm, HasReaddirForm, HasReaddirplusForm};
+ghost use Rattle.nfs_xdr.specs.Writing.{WritesResult};
 ghost use Rattle.nfs_wire.specs.Results.{entry3, entry_value, entryplus3, full_entry_value, space3, space_value, file_system3, file_system_value, path_limits3, path_limits_value, readdir_result, readdirplus_result, fsstat_result, fsinfo_result, pathconf_result};
 
 use super::items::{write_optional_handle, write_verifier};

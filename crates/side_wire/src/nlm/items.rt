@@ -3,7 +3,7 @@
 ghost use Rattle.nfs_xdr.specs.Reading.{ReadsFront};
 ghost use Rattle.nfs_xdr.specs.Types.{HasSpelling};
 ghost use Rattle.nfs_xdr.specs.Writing.{WritesFront};
-ghost use Rattle.side_wire.specs.Programs.{WritesResult};
+ghost use Rattle.nfs_xdr.specs.Writing.{WritesResult};
 ghost use Rattle.side_wire.specs.declared.nlm.TestStatus.TheVariants.{Denied};
 ghost use Rattle.side_wire.specs.Nlm.{test_result, plain_result, share_result, HasTestResultForm, HasTestStatusForm, HasResultForm, IsNetobj};
 ghost use Rattle.side_wire.specs.NlmTypes.{netobj, nlm4_stats, nlm_status_number, nlm4_lock, lock_value, nlm4_holder, holder_value, nlm4_testrply, test_status_value, nlm4_testres, test_result_value, nlm4_res, result_value, nlm4_testargs, test_value, nlm4_lockargs, lock_arguments_value, nlm4_cancargs, cancel_value, nlm4_unlockargs, unlock_value, fsh4_mode, mode_number, fsh4_access, access_number, nlm4_share, share_value, nlm4_shareargs, share_arguments_value, nlm4_notify, free_all_value};

@@ -1,5 +1,6 @@
 use Rattle.std.proofs.Common.{IfOk, sym, subst}
-use Rattle.nfs_names.proofs.Creating.{leaf-number, no-leaf, refused_holds, wanted-new, wanted-there}
+use Rattle.nfs_objects.proofs.Listed.{no-leaf}
+use Rattle.nfs_names.proofs.Creating.{leaf-number, refused_holds, wanted-new, wanted-there}
 use Rattle.nfs_names.specs.Wanted.{AsksAs}
 use Rattle.nfs_names.proofs.create.create_in.Goals as goal
 

@@ -2,7 +2,7 @@ use Rattle.std.proofs.Common.{subst}
 use Rattle.nfs_xdr.specs.Laws.{IsBytes}
 use Rattle.nfs_xdr.proofs.Spelling.{reading_finds_spelling, refusal_means_unspelled}
 use Rattle.side_wire.specs.NlmTypes.{nlm4_res, result_value}
-use Rattle.side_wire.proofs.ProgramLaws.{is_not_memory}
+use Rattle.side_wire.proofs.ArgumentsErrorLaws.{is_not_memory}
 use Rattle.side_wire.proofs.message.read_granted_result.Goals as goal
 
 pub returns-in_err-read_plain_result-clause-garbage : goal.returns-in_err-read_plain_result-clause-garbage

@@ -1,15 +1,19 @@
--- What is said of the calls and results of each program. A program has its procedures and the type of each one's
--- arguments, the procedure of each call, the value of its arguments, and the type and value of each reply's result.
+-- What is said of the calls of each program (RFC 5531). A program has its procedures and the type of each one's
+-- arguments, the procedure of each call, and the value of its arguments.
 use Rattle.std.specs.Prelude.{◌≡◌, ◌≢◌, ℕ, List, ◌++◌, slice_index_or, Result, Ok, Err}
 use Rattle.nfs_xdr.specs.declared.XdrError.{XdrError}
 use Rattle.nfs_xdr.specs.declared.XdrError.TheVariants.{Memory}
 use Rattle.nfs_xdr.specs.Reading.{read}
-use Rattle.nfs_xdr.specs.Types.{Xdr, Void, Value, HasSpelling}
-use Rattle.nfs_xdr.specs.Writing.{appended}
+use Rattle.nfs_xdr.specs.Types.{Xdr, Void, Value, Spells}
 
 -- the type of a procedure's arguments, of those of all procedures in the order of their numbers
 abbrev pub type_at : List Xdr → ℕ → Xdr
 type_at types procedure = slice_index_or types procedure Void
+
+-- the bytes spell the arguments of the call
+abbrev pub SpellsCall : {C : Type 0} → (types : List Xdr) (procedure_of : C → ℕ) → ((call : C) → Value (type_at types (procedure_of call))) → C → List ℕ → Type 0
+SpellsCall types procedure_of arguments_of call bytes =
+    Spells (type_at types (procedure_of call)) (arguments_of call) bytes
 
 -- a front of the bytes spells the arguments of the call; what follows it is ignored
 abbrev pub IsFrontedBy : {C : Type 0} → (C → List ℕ → Type 0) → C → List ℕ → Type 0
@@ -33,8 +37,3 @@ ReadsCall is_procedure types procedure_of arguments_of procedure old new (Ok cal
     (procedure_of call ≡ procedure) × (read (type_at types (procedure_of call)) old ≡ Ok (arguments_of call, new))
 ReadsCall is_procedure types procedure_of arguments_of procedure old new (Err e) =
     e ≢ Memory → is_procedure procedure → read (type_at types procedure) old ≡ Err e
-
--- What a writer of a result answers and leaves: the value at the end, which has a spelling, or no memory.
-abbrev pub WritesResult : (t : Xdr) × Value t → List ℕ → List ℕ → Result (Unit {0}) XdrError → Type 0
-WritesResult value old new (Ok _) = (new ≡ appended value.0 value.1 old) × HasSpelling value.0 value.1
-WritesResult value old new (Err e) = e ≡ Memory

@@ -1,23 +1,14 @@
 -- Reading finds what spells the arguments, since the laws of XDR hold at the type of every procedure's arguments;
 -- and a call is made again of its procedure's number and the value of its arguments, so equal values are equal calls.
-use Rattle.std.proofs.Common.{◌≡◌, ◌≢◌, ℕ, zero, suc, List, [], ◌∷◌, ◌++◌, Result, Ok, Err, OnOk, sym, subst, ap, ◌∙◌}
+use Rattle.std.proofs.Common.{◌≡◌, ◌≢◌, ℕ, zero, suc, List, [], ◌∷◌, ◌++◌, Result, Ok, Err, sym, subst, ap, ◌∙◌}
 use Rattle.std.specs.Result.{IsErrAnd}
 use Rattle.nfs_xdr.specs.declared.XdrError.{XdrError}
 use Rattle.nfs_xdr.specs.declared.XdrError.TheVariants.{Memory}
 use Rattle.nfs_xdr.specs.Types.{Xdr, Value, Spells}
-use Rattle.nfs_xdr.specs.Laws.{IsBytes, IsItsSpelling}
+use Rattle.nfs_xdr.specs.Laws.{IsBytes}
+use Rattle.nfs_xdr.specs.Programs.{type_at, SpellsCall, IsFrontedBy, IsGarbage, SpellsOneCall}
 use Rattle.nfs_xdr.specs.Reading.{read}
-use Rattle.nfs_xdr.specs.Writing.{write}
-use Rattle.side_wire.specs.Programs.{type_at, IsFrontedBy, IsGarbage, SpellsOneCall, WritesResult}
-use Rattle.side_wire.specs.ArgumentsError.{arguments_error}
-use Rattle.side_wire.specs.declared.arguments.ArgumentsError.{ArgumentsError}
-use Rattle.side_wire.specs.declared.arguments.ArgumentsError.TheVariants as out
-use Rattle.nfs_xdr.proofs.Spelling.{spelling_is_unique, reading_finds_spelling, refusal_means_unspelled, writing_appends, writing_spells}
-
--- the bytes spell the arguments of a call of a program
-abbrev pub SpellsCall : {C : Type 0} → (types : List Xdr) (procedure_of : C → ℕ) → ((call : C) → Value (type_at types (procedure_of call))) → C → List ℕ → Type 0
-SpellsCall types procedure_of arguments_of call bytes =
-    Spells (type_at types (procedure_of call)) (arguments_of call) bytes
+use Rattle.nfs_xdr.proofs.Spelling.{spelling_is_unique, reading_finds_spelling, refusal_means_unspelled}
 
 -- what is read is spelled by a front
 pub IsFrontedBy-read : {C : Type 0} (types : List Xdr) (procedure_of : C → ℕ) (arguments_of : (call : C) → Value (type_at types (procedure_of call))) (call : C) (bytes rest : List ℕ) → IsBytes bytes → read (type_at types (procedure_of call)) bytes ≡ Ok (arguments_of call, rest) → IsFrontedBy (SpellsCall types procedure_of arguments_of) call bytes
@@ -55,20 +46,9 @@ made other [] makers n value = other
 made other (t ∷ ts) makers zero value = makers.0 value
 made other (t ∷ ts) makers (suc n) value = made other ts makers.1 n value
 
--- what is answered as garbage was no want of memory
-pub is_not_memory : {C : Type 0} (result : Result C ArgumentsError) (e : XdrError) → IsErrAnd result (λ answer. answer ≡ arguments_error e) → result ≡ Err out.Garbage → e ≢ Memory
-is_not_memory {C} result e gives garbage memory =
-    let P : Result C ArgumentsError → Type 0 = λ r. IsErrAnd r (λ answer. answer ≡ arguments_error e) in
-    let told : out.Garbage ≡ arguments_error e = subst P garbage gives in
-    let want : arguments_error e ≡ out.Memory = ap arguments_error memory in
-    cc
-
--- what is written is the bytes of the result
-pub WritesResult-bytes : (x : (t : Xdr) × Value t) (old new : List ℕ) (result : Result (Unit {0}) XdrError) → WritesResult x old new result → OnOk result (new ≡ old ++ write x.0 x.1)
-WritesResult-bytes x old new (Ok _) written = written.0 ∙ writing_appends x.0 x.1 old
-WritesResult-bytes x old new (Err e) written = tt
-
--- and they spell it
-pub WritesResult-spells : (x : (t : Xdr) × Value t) (old new : List ℕ) (result : Result (Unit {0}) XdrError) → WritesResult x old new result → OnOk result (IsItsSpelling x.0 x.1 (write x.0 x.1))
-WritesResult-spells x old new (Ok _) written = writing_spells x.0 x.1 written.1
-WritesResult-spells x old new (Err e) written = tt
+-- What is answered as garbage was no want of memory, where the two have different answers.
+pub is_not_memory : {C E : Type 0} (told : XdrError → E) (garbage : E) → told Memory ≢ garbage → (result : Result C E) (e : XdrError) → IsErrAnd result (λ answer. answer ≡ told e) → result ≡ Err garbage → e ≢ Memory
+is_not_memory {C} {E} told garbage apart result e gives is memory =
+    let P : Result C E → Type 0 = λ r. IsErrAnd r (λ answer. answer ≡ told e) in
+    let answered : garbage ≡ told e = subst P is gives in
+    apart (sym (answered ∙ ap told memory))
