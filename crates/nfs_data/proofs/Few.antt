@@ -1,5 +1,5 @@
 -- Each procedure asks for one address at most, that of the object that its handle names.
-use Rattle.std.proofs.Common.{◌≡◌, ℕ, Bool, true, false, cond, List, [], ◌∷◌, Option, Some, None, nat_eq, ◌&&◌, refl, sym, ap}
+use Rattle.std.proofs.Common.{◌≡◌, true, false, cond, [], Option, Some, None, nat_eq, ◌&&◌, refl, sym, ap}
 use Rattle.nfs_machine.specs.Exports.{export_admits, export_at}
 use Rattle.nfs_machine.specs.Handles.{handle_of}
 use Rattle.nfs_machine.specs.declared.context.Ctx.{Ctx}
@@ -7,7 +7,7 @@ use Rattle.nfs_machine.specs.declared.handle.Handle.{Handle}
 use Rattle.nfs_wire.specs.declared.calls.NfsCall.{NfsCall}
 use Rattle.nfs_wire.specs.declared.calls.NfsCall.TheVariants as calls
 use Rattle.nfs_objects.proofs.Rounds.{Enough, few-alike, few-none, few-two, first_wanted}
-use Rattle.nfs_objects.specs.Attempt.{Wanted, Addresses}
+use Rattle.nfs_objects.specs.Attempt.{Addresses}
 use Rattle.nfs_objects.specs.Rounds.{AsksFew}
 use Rattle.nfs_objects.specs.Stands.{inode_of}
 use Rattle.nfs_objects.specs.Values.{ViewValue, seen_at}

@@ -3,6 +3,7 @@ use Rattle.std.proofs.Common.{◌≡◌, ◌==◌, ℕ, Bool, true, false, not, 
 use Rattle.std.specs.Prelude.{is_none}
 use Rattle.std.specs.Prelude.{ok_or}
 use Rattle.std.specs.FinMap.{get}
+use Rattle.std.proofs.lemmas.Bool.{not-true}
 use Rattle.nfs_wire.specs.declared.status.NfsStatus.{NfsStatus}
 use Rattle.nfs_wire.specs.declared.status.NfsStatus.TheVariants as status
 use Rattle.nfs_machine.specs.Attributes.{entries_of, is_directory}
@@ -26,10 +27,6 @@ chained-is P (Err e) f holds = tt
 pub holds : (b : Bool) (e : NfsStatus) (x : Unit {0}) → holding b e ≡ Ok x → b ≡ true
 holds true e x is = refl
 holds false e x is = cc
-
-pub turned : (b : Bool) → not b ≡ true → b ≡ false
-turned true e = cc
-turned false e = refl
 
 lives-at : (find : ℕ → Option Living) (h : Handle) (o : Option Living) (x : ℕ × Living) → find h.fileid ≡ o → object_of (living_at o h) ≡ Ok x → find x.0 ≡ Some x.1
 lives-at find h None x at is = cc
@@ -86,7 +83,7 @@ absent entries name e =
 
 -- what REMOVE and RMDIR take away contains no name
 pub plain-empty : (c : Content) (x : Unit {0}) → not_directory c ≡ Ok x → entries_of c ≡ []
-plain-empty c x is = no_entries c (turned (is_directory c) (holds (not (is_directory c)) _ x is))
+plain-empty c x is = no_entries c (not-true (is_directory c) (holds (not (is_directory c)) _ x is))
 
 pub no-entry : (es : List Entry) → are_none es ≡ true → es ≡ []
 no-entry [] e = refl

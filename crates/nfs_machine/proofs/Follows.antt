@@ -3,6 +3,7 @@ use Rattle.std.proofs.Common.{◌≡◌, ◌==◌, ℕ, ◌+◌, ◌≤◌, ◌^
 use Rattle.std.specs.Prelude.{is_none}
 use Rattle.std.specs.Cmp.{unsigned_Decides}
 use Rattle.std.specs.FinMap.{get}
+use Rattle.std.proofs.lemmas.Bool.{not-true}
 use Rattle.nfs_wire.specs.declared.attributes.Time.{Time}
 use Rattle.nfs_wire.specs.declared.calls.CreateArguments.{CreateArguments}
 use Rattle.nfs_wire.specs.declared.calls.CreateHow.{CreateHow}
@@ -39,7 +40,7 @@ use Rattle.nfs_machine.specs.declared.context.Ctx.{Ctx}
 use Rattle.nfs_machine.proofs.Changes.{differs-insert, differs-other, differs-there}
 use Rattle.nfs_machine.proofs.Continued.{Continues, Turns, continues-itself, continues-over, continues-with, gives-continued, lived-as, texts-continued, touches-continued}
 use Rattle.nfs_machine.proofs.Entered.{MakesEntry, well_formed-made}
-use Rattle.nfs_machine.proofs.Facts.{absent, chained-is, holds, is-directory, is-regular, resolved-lives, turned}
+use Rattle.nfs_machine.proofs.Facts.{absent, chained-is, holds, is-directory, is-regular, resolved-lives}
 use Rattle.nfs_machine.proofs.Loose.{well_formed-alike}
 use Rattle.nfs_machine.proofs.Modes.{all-left, apart-but, but, mode-but, mode-gone, shares-left}
 use Rattle.nfs_machine.proofs.Roots.{free-no_root}
@@ -69,7 +70,7 @@ locks-losing m names now number o =
       | true ↦ record {
         apart = λ h. (apart-but number m.locks h.0, shares-left (λ (s : Share). not (s.file == number)) m.shares h.1);
         waits = λ h. all-left (IsHeldUp m.locks) (IsHeldUp (but number m.locks)) (λ (r : Request). not (r.file == number)) m.waiting
-            (λ r e held. held-still m.locks (but number m.locks) r (λ owner offset. mode-but number m.locks r.file owner offset (turned (r.file == number) e)) held) h;
+            (λ r e held. held-still m.locks (but number m.locks) r (λ owner offset. mode-but number m.locks r.file owner offset (not-true (r.file == number) e)) held) h;
       }
       | false ↦ record { apart = λ h. h; waits = λ h. h }
     ]

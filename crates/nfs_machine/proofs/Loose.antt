@@ -1,5 +1,6 @@
 -- What is true of every state while some objects may have no name: a name is taken away and its object goes or gets another name, or an object comes and gets its name.
 use Rattle.std.proofs.Common.{◌≡◌, ◌==◌, ℕ, ◌+◌, ◌<◌, ◌≤◌, Bool, true, false, ◌||◌, cond, List, [], ◌∷◌, ◌++◌, Option, Some, None, find, ◌⊎◌, inl, inr, IfSome, refl, sym, ◌∙◌, ap, subst, arith}
+use Rattle.std.proofs.lemmas.Bool.{or_parts}
 use Rattle.std.proofs.lemmas.List.Sums.{sum_by-append}
 use Rattle.std.specs.Cmp.{unsigned_Decides}
 use Rattle.std.specs.FinMap.{get}
@@ -12,7 +13,6 @@ use Rattle.nfs_machine.specs.Shown.{touched, with_object}
 use Rattle.nfs_machine.specs.State.{Directory, Entry, Living, State}
 use Rattle.nfs_machine.specs.WellFormed.{CookiesRise, IsDirectoryOf, Leads, NamesOnce, TextsFit, WellFormed}
 use Rattle.nfs_machine.proofs.Changes.{Differs, all-filter, apart, cookies-filter, count-without, differs-other, differs-there, flipped, itself, once-filter, sum-differs, weight}
-use Rattle.nfs_machine.proofs.Modes.{apart-or}
 use Rattle.nfs_machine.proofs.WellFormed.{Alike, Deep, KeepsNames, LivesOn, all_last, before, deep-on, keeps_entries, leads-on, lives-alike, names-on, replaced-alike, replaced-names}
 
 -- a well-formed state, but that the objects of these numbers may have no name; texts of links are no part of it
@@ -244,7 +244,7 @@ module _ (old new : State) (place : ℕ) (directory narrower : Living) (name : L
     leads = all-filter (Leads new narrower) _ t.entries (leads-was old new place directory narrower s loose w t.entries t.last t.content);
     cookies = cookies-filter _ 2 t.last t.entries (w.cookies place directory t.entries t.last s.lives t.content);
     named = λ n o at other more.
-        let firm = apart-or (n == e.number) (loose n) more in
+        let firm = or_parts (n == e.number) (loose n) more in
         let one : cond {A = ℕ} (e.number == n) 1 0 ≡ 0 = ap (λ b. cond b 1 0) (flipped n e.number firm.0) in
         omega (arith, names_of-taken n, one, w.named n o at other firm.1);
     one_name = λ n o at kind. omega (arith, names_of-taken n, w.one_name n o at kind);
@@ -312,7 +312,7 @@ module _ (old new : State) (number : ℕ) (was is : Option Living) (c : Comes ol
       | inr there ↦ l.cookies n o entries last there e
     ];
     named = λ n o at other firm. elim (come n o at) [
-      | inl here ↦ (let no : true ≡ false = sym ((unsigned_Decides n number).1 here.0) ∙ (apart-or (n == number) (loose n) firm).0 in cc)
+      | inl here ↦ (let no : true ≡ false = sym ((unsigned_Decides n number).1 here.0) ∙ (or_parts (n == number) (loose n) firm).0 in cc)
       | inr there ↦ omega (arith, names_of-come n, l.named n o there other firm)
     ];
     one_name = λ n o at kind. elim (come n o at) [

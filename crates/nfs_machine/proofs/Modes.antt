@@ -1,7 +1,7 @@
 -- Modes of owners at offsets, and that no two conflict.
 use Rattle.std.proofs.Common.{◌≡◌, ◌==◌, ℕ, Bool, true, false, not, ◌&&◌, ◌||◌, cond, List, [], ◌∷◌, ◌++◌, Some, filter, find, refl, sym, ◌∙◌, ap, subst, nat_le, ◌≤◌, arith}
 use Rattle.std.proofs.Math.Bool.{or_comm}
-use Rattle.std.proofs.lemmas.Bool.{and_parts, leb-true, le-leb}
+use Rattle.std.proofs.lemmas.Bool.{and_parts, leb-true, le-leb, or_parts}
 use Rattle.std.proofs.lemmas.Cmp.{nat_list_eq_equiv}
 use Rattle.std.specs.Cmp.{nat_eq_equiv, signed_Decides, unsigned_Decides}
 use Rattle.std.specs.Cmp.Lexicographic.{bytes_decides}
@@ -100,15 +100,11 @@ narrower first last low high offset from to e =
     let under : offset ≤ last = leb-true offset last w.1 in
     ap (λ b. b && nat_le offset high) (le-leb low offset (omega (arith, from, over))) ∙ le-leb offset high (omega (arith, to, under))
 
-pub apart-or : (a b : Bool) → (a || b) ≡ false → (a ≡ false) × (b ≡ false)
-apart-or true b e = cc
-apart-or false b e = (refl, e)
-
 free-list : (locks : List Lock) (r : Range) (mode : Mode) → list_any (stands_in_way r mode) locks ≡ false → (other : Owner) (offset : ℕ)
     → same_owner r.owner other ≡ false → is_within r.first r.last offset ≡ true → modes_conflict mode (mode_at locks r.file other offset) ≡ false
 free-list [] r mode none other offset apart within = none-left mode
 free-list (l ∷ locks) r mode none other offset apart within =
-    let away = apart-or (stands_in_way r mode l) (list_any (stands_in_way r mode) locks) none in
+    let away = or_parts (stands_in_way r mode l) (list_any (stands_in_way r mode) locks) none in
     elim (holds r.file other offset l) as (λ b. holds r.file other offset l ≡ b → modes_conflict mode (mode_by (cond b (Some l) (find (holds r.file other offset) locks))) ≡ false) [
       | true ↦ λ e.
           let i = inside (record { file = l.file; owner = l.owner; first = l.first; last = l.last }) r.file other offset e in

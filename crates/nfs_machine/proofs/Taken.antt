@@ -4,6 +4,7 @@ use Rattle.std.specs.Prelude.{is_none}
 use Rattle.std.specs.Prelude.{ok_or}
 use Rattle.std.specs.Cmp.{unsigned_Decides}
 use Rattle.std.specs.FinMap.{get}
+use Rattle.std.proofs.lemmas.Bool.{not-true}
 use Rattle.nfs_wire.specs.declared.attributes.Time.{Time}
 use Rattle.nfs_wire.specs.declared.calls.LinkArguments.{LinkArguments}
 use Rattle.nfs_wire.specs.declared.calls.Place.{Place}
@@ -24,7 +25,7 @@ use Rattle.nfs_machine.specs.WellFormed.{WellFormed}
 use Rattle.nfs_machine.specs.declared.context.Ctx.{Ctx}
 use Rattle.nfs_machine.proofs.Changes.{apart, differs-insert, differs-other, itself}
 use Rattle.nfs_machine.proofs.Continued.{Continues, continues-itself, continues-losing, continues-touched, continues-with, gives-continued, texts-continued, touches-continued, well_formed-losing}
-use Rattle.nfs_machine.proofs.Facts.{absent, chained-is, directory-empty, entry-found, holds, is-directory, object-found, plain-empty, resolved-lives, turned}
+use Rattle.nfs_machine.proofs.Facts.{absent, chained-is, directory-empty, entry-found, holds, is-directory, object-found, plain-empty, resolved-lives}
 use Rattle.nfs_machine.proofs.Follows.{Follows, bounds-losing, locks-losing, mounts-losing, of-ok}
 use Rattle.nfs_machine.proofs.Loose.{AddsName, Loose, Swaps, TakesName, also, loose-added, loose-taken, loose-touched, loosened, names_of-taken, none_loose, tightened}
 use Rattle.nfs_machine.proofs.Roots.{directory-root}
@@ -222,6 +223,6 @@ link-follows m ctx a =
     linked-follows m (time_of ctx.moment) file.0 file.1 directory.0 directory.1 entries.0 entries.1 a.place.name
     (resolved-lives m ctx a.file file at) (resolved-lives m ctx a.place.directory directory there)
     ((unsigned_Decides file.1.export directory.1.export).0 (holds (file.1.export == directory.1.export) status.CrossDevice x1 e1))
-    (turned (is_directory file.1.content) (holds (not (is_directory file.1.content)) status.Invalid x2 e2))
+    (not-true (is_directory file.1.content) (holds (not (is_directory file.1.content)) status.Invalid x2 e2))
     (is-directory directory.1.content entries is)
     (absent entries.0 a.place.name (holds (is_none (entry_of entries.0 a.place.name)) status.Exists x6 e6)))))))))))))

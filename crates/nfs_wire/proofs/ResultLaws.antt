@@ -1,11 +1,7 @@
 -- A refused call's result is the status and the other arm.
-use Rattle.std.proofs.Common.{◌≡◌, ℕ, List, ◌++◌, length, Result, Ok, Err, OnOk, refl, ◌∙◌, lit<}
-use Rattle.nfs_xdr.specs.declared.XdrError.{XdrError}
-use Rattle.nfs_xdr.specs.Laws.{IsItsSpelling}
-use Rattle.nfs_xdr.proofs.Spelling.{writing_appends, writing_spells}
+use Rattle.std.proofs.Common.{◌≡◌, ℕ, List, length, refl, lit<}
 use Rattle.nfs_xdr.specs.Types.{Xdr, Void, Opaque, Pair, Value, HasSpelling}
-use Rattle.nfs_xdr.specs.Writing.{with_word, with_padded, with_arm, appended, write}
-use Rattle.nfs_xdr.specs.Writing.{WritesResult}
+use Rattle.nfs_xdr.specs.Writing.{with_word, with_padded, with_arm, appended}
 use Rattle.nfs_wire.specs.Results.{outcome, done_value, refused_value}
 use Rattle.nfs_wire.specs.Status.{nfsstat3, status_number}
 use Rattle.nfs_wire.specs.Attributes.{ftype3, type_number}

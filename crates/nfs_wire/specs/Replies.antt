@@ -1,11 +1,9 @@
 -- The results of each procedure (RFC 1813, section 3.3), and the bytes that spell them.
 -- A procedure has one line in `result_of` and in `HasNfsForm`.
-use Rattle.std.specs.Prelude.{◌≡◌, ◌≤◌, ◌<◌, ◌^◌, ℕ, List, length, Result, Ok, Err, IfOk, IfSome}
+use Rattle.std.specs.Prelude.{◌≤◌, ◌<◌, ◌^◌, ℕ, List, length, IfOk, IfSome}
 use Rattle.std.specs.List.{All}
-use Rattle.nfs_xdr.specs.declared.XdrError.{XdrError}
-use Rattle.nfs_xdr.specs.declared.XdrError.TheVariants.{Memory}
-use Rattle.nfs_xdr.specs.Types.{Xdr, Void, Value, HasSpelling}
-use Rattle.nfs_xdr.specs.Writing.{write, appended}
+use Rattle.nfs_xdr.specs.Types.{Xdr, Void, Value}
+use Rattle.nfs_xdr.specs.Writing.{write}
 use Rattle.nfs_wire.specs.Results.{getattr_result, setattr_result, lookup_result, access_result, readlink_result, read_result, written_result, made_result, removed_result, renamed_result, linked_result, readdir_result, readdirplus_result, fsstat_result, fsinfo_result, pathconf_result, commit_result}
 use Rattle.nfs_wire.specs.declared.entries.FullEntry.{FullEntry}
 use Rattle.nfs_wire.specs.declared.entries.PageEntry.{PageEntry}

@@ -1,5 +1,5 @@
 -- A callback's arguments are those of a call.
-use Rattle.std.proofs.Common.{◌≡◌, refl}
+use Rattle.std.proofs.Common.{refl}
 use Rattle.side_wire.specs.Messages.{CallbacksAreCalls}
 use Rattle.side_wire.specs.declared.message.Callback.TheVariants.{Granted, GrantedMsg, TestRes, LockRes, CancelRes, UnlockRes, GrantedRes}
 
