@@ -1,7 +1,14 @@
 -- What is seen of a CREATE over an object (RFC 1813, 3.3.8).
-use Rattle.std.specs.Prelude.{Option, option_map, Result, Ok, Err}
+use Rattle.std.specs.Prelude.{ℕ, List, Option, Some, option_map, Result, Ok, Err, nat_le}
 use Rattle.nfs_wire.specs.declared.status.NfsStatus.{NfsStatus}
-use Rattle.nfs_machine.specs.State.{Living}
+use Rattle.nfs_wire.specs.declared.status.NfsStatus.TheVariants as status
+use Rattle.nfs_machine.specs.Checks.{◌>>=◌, holding, permitted}
+use Rattle.nfs_machine.specs.Data.{resized, size_limit}
+use Rattle.nfs_machine.specs.Permission.{Writing}
+use Rattle.nfs_machine.specs.Shown.{with_content}
+use Rattle.nfs_machine.specs.State.{Regular, Living}
+use Rattle.nfs_machine.specs.Times.{time_of}
+use Rattle.nfs_machine.specs.declared.context.Ctx.{Ctx}
 use Rattle.nfs_objects.specs.Stands.{living_of_inode}
 use Rattle.nfs_objects.specs.declared.object.Inode.{Inode}
 
@@ -9,3 +16,10 @@ use Rattle.nfs_objects.specs.declared.object.Inode.{Inode}
 abbrev pub seen_after : Result (Option Inode) NfsStatus → Result (Option Living) NfsStatus
 seen_after (Ok after) = Ok (option_map living_of_inode after)
 seen_after (Err e) = Err e
+
+-- the file, cut off or filled up to this size
+abbrev pub file_resized : Ctx → Living → List ℕ → ℕ → Result (Option Living) NfsStatus
+file_resized ctx file bytes size = do
+  _ ← permitted ctx file Writing
+  _ ← holding (nat_le size size_limit) status.FileTooBig
+  Ok (Some (with_content file (time_of ctx.moment) (Regular (resized bytes size))))

@@ -1,8 +1,7 @@
 //! The checks that procedures share; each tells the status of a call that fails it (RFC 1813, 2.6).
 
 ghost use Rattle.std.specs.Prelude.{◌≡◌};
-ghost use Rattle.nfs_machine.specs.Checks.{bytes_in, changeable, is_read_only};
-ghost use Rattle.nfs_machine.specs.Exports.{export_at};
+ghost use Rattle.nfs_machine.specs.Checks.{bytes_in, changeable};
 ghost use Rattle.nfs_objects.specs.Stands.{content_of, living_of_inode};
 ghost use Rattle.nfs_inodes.specs.Lent.{lent};
 
@@ -33,19 +32,8 @@ pub fn bytes_in(content: &Content) -> Result<&Bytes, NfsStatus>
 pub fn changeable(ctx: &Ctx, inode: &Inode) -> Result<(), NfsStatus>
     ensures { result ≡ changeable ctx.now (living_of_inode inode.now) }
 {
-    if is_read_only(ctx, inode.export) {
-        Err(NfsStatus::ReadOnly)
-    } else {
-        Ok(())
-    }
-}
-
-/// Whether the export with this number is read only, or not there.
-fn is_read_only(ctx: &Ctx, export: u32) -> bool
-    ensures { result ≡ is_read_only (export_at ctx.now.exports export) }
-{
-    match ctx.exports.get(export) {
-        Some(export) => export.read_only,
-        None => true,
+    match ctx.exports.get(inode.export) {
+        Some(export) if !export.read_only => Ok(()),
+        _ => Err(NfsStatus::ReadOnly),
     }
 }

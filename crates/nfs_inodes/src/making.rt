@@ -1,13 +1,14 @@
 //! New objects and their names, and CREATE over what is there (RFC 1813, 3.3.8).
 
-ghost use Rattle.std.specs.Prelude.{◌≡◌, ◌+◌, ◌<◌, ◌^◌, IfOk, IfSome, None, find, replicate};
+ghost use Rattle.std.specs.Prelude.{◌≡◌, ◌==◌, ◌||◌, ◌&&◌, ◌+◌, ◌<◌, ◌^◌, false, IfOk, IfSome, None, Some, find, replicate, unwrap_or};
 ghost use Rattle.nfs_machine.specs.Bytes.{same_bytes};
 ghost use Rattle.nfs_machine.specs.Checks.{bytes_in};
-ghost use Rattle.nfs_machine.specs.NameSteps.{attributes_given, create_over, given_attributes, is_verifier, may_give, new_file, new_object, no_attributes, resize_object, verifier_given};
+ghost use Rattle.nfs_machine.specs.Permission.{is_member};
+ghost use Rattle.nfs_machine.specs.NameSteps.{create_over, given_attributes, new_object, wanted_file};
 ghost use Rattle.nfs_machine.specs.Times.{is_time, set_time, time_of, touch};
 ghost use Rattle.nfs_objects.specs.Endings.{KeepsPlace, with_name};
 ghost use Rattle.nfs_objects.specs.Stands.{content_of, living_of_inode, verifier_of};
-ghost use Rattle.nfs_inodes.specs.Making.{seen_after};
+ghost use Rattle.nfs_inodes.specs.Making.{file_resized, seen_after};
 
 use crate::checks::bytes_in;
 use crate::content::{resized, with_content};
@@ -47,7 +48,7 @@ pub fn given_attributes(ctx: &Ctx, given: &SetAttributes) -> Result<(), NfsStatu
 
 /// Whether a caller may give an object to these ids: the user 0 to anybody, others to themselves and their groups.
 fn may_give(ids: &Ids, given: &SetAttributes) -> bool
-    ensures { result ≡ may_give ids.now given.now }
+    ensures { result ≡ ((ids.now.uid == 0) || ((unwrap_or given.now.uid ids.now.uid == ids.now.uid) && is_member ids.now (unwrap_or given.now.gid ids.now.gid))) }
 {
     let uid = given.uid.unwrap_or(ids.uid);
     let gid = given.gid.unwrap_or(ids.gid);
@@ -66,7 +67,7 @@ pub fn new_file(
     export: u32,
     generation: u64,
 ) -> Result<Inode, AllocError>
-    ensures living { IfOk result (λ file. living_of_inode file ≡ new_file ctx.now how.now export generation) }
+    ensures living { IfOk result (λ file. living_of_inode file ≡ new_object ctx.now export generation (wanted_file how.now)) }
     ensures links { IfOk result (λ file. file.links ≡ 1) }
 {
     let given = attributes_given(how);
@@ -92,7 +93,7 @@ pub fn new_object(
     content: Content,
     given: &SetAttributes,
 ) -> Inode
-    ensures living { living_of_inode result ≡ new_object ctx.now export generation mode (content_of content) given.now None }
+    ensures living { living_of_inode result ≡ new_object ctx.now export generation (record { mode = mode; content = content_of content; attributes = given.now; verifier = None }) }
     ensures links { result.links ≡ 1 }
 {
     let now = now(ctx);
@@ -113,7 +114,7 @@ pub fn new_object(
 
 /// The attributes that CREATE gives a new file.
 pub fn attributes_given(how: &CreateHow) -> SetAttributes
-    ensures { result ≡ attributes_given how.now }
+    ensures { result ≡ (wanted_file how.now).attributes }
 {
     match how {
         CreateHow::Unchecked(given) | CreateHow::Guarded(given) => *given,
@@ -130,7 +131,7 @@ pub fn attributes_given(how: &CreateHow) -> SetAttributes
 
 /// The verifier that a new file keeps.
 fn verifier_given(how: &CreateHow) -> Option<Verifier>
-    ensures { verifier_of result ≡ verifier_given how.now }
+    ensures { verifier_of result ≡ (wanted_file how.now).verifier }
 {
     match how {
         CreateHow::Unchecked(_) | CreateHow::Guarded(_) => None,
@@ -220,7 +221,7 @@ fn resize(
     bytes: &Bytes,
     size: u64,
 ) -> Result<Result<Option<Inode>, NfsStatus>, AllocError>
-    ensures value { IfOk result (λ after. seen_after after ≡ resize_object ctx.now (living_of_inode inode.now) bytes.now size) }
+    ensures value { IfOk result (λ after. seen_after after ≡ file_resized ctx.now (living_of_inode inode.now) bytes.now size) }
     ensures keeps { IfOk result (λ after. IfOk after (λ a. IfSome a (λ new. KeepsPlace (record inode.now { content = Content.Regular bytes.now }) new))) }
 {
     if let Err(status) = permitted(ctx, inode, Right::Writing) {
@@ -235,7 +236,7 @@ fn resize(
 
 /// Whether a file was made by an exclusive CREATE with this verifier.
 fn is_verifier(kept: &Option<Verifier>, given: &Verifier) -> bool
-    ensures { result ≡ is_verifier (verifier_of kept.now) given.now.bytes }
+    ensures { result ≡ elim (verifier_of kept.now) [ None ↦ false | Some kept ↦ same_bytes kept given.now.bytes ] }
 {
     match kept {
         Some(kept) => kept.bytes == given.bytes,

@@ -1,8 +1,10 @@
 //! Names in directories (RFC 1813, 3.3.3: `filename3`), and what they lead to.
 
-ghost use Rattle.std.specs.Prelude.{◌≡◌, ◌||◌, ◌==◌};
+ghost use Rattle.std.specs.Prelude.{◌≡◌, ◌||◌, ◌&&◌, ◌==◌, codes, length, nat_le, not};
 ghost use Rattle.std.specs.List.{list_any};
-ghost use Rattle.nfs_machine.specs.Checks.{is_above, is_self, is_spelled, name_checked, new_name_checked};
+ghost use Rattle.nfs_wire.specs.declared.status.NfsStatus.TheVariants as status;
+ghost use Rattle.nfs_machine.specs.Bytes.{same_bytes};
+ghost use Rattle.nfs_machine.specs.Checks.{name_checked, plain_name_checked};
 ghost use Rattle.nfs_machine.specs.Paths.{slash};
 ghost use Rattle.nfs_machine.specs.NameSteps.{leads_to};
 
@@ -35,7 +37,7 @@ pub fn name_checked(name: &[u8]) -> Result<(), NfsStatus>
 ///
 /// Those of `name_checked`; else `Exists` where the name is `.` or `..`, which are in every directory.
 pub fn new_name_checked(name: &[u8]) -> Result<(), NfsStatus>
-    ensures { result ≡ new_name_checked name.now }
+    ensures { result ≡ plain_name_checked status.Exists status.Exists name.now }
 {
     name_checked(name)?;
     if is_self(name) || is_above(name) {
@@ -64,7 +66,7 @@ pub fn leads_to(number: u64, directory: &Directory, name: &[u8]) -> Result<u64, 
 }
 
 fn is_spelled(name: &[u8]) -> bool
-    ensures { result ≡ is_spelled name.now }
+    ensures { result ≡ (nat_le 1 (length name.now) && not (list_any (λ byte. (byte == slash) || (byte == 0)) name.now)) }
 {
     !name.is_empty() && !has_separator(name)
 }
@@ -77,13 +79,13 @@ fn has_separator(name: &[u8]) -> bool
 }
 
 fn is_self(name: &[u8]) -> bool
-    ensures { result ≡ is_self name.now }
+    ensures { result ≡ same_bytes (codes ".") name.now }
 {
-    name == b".".as_slice()
+    b".".as_slice() == name
 }
 
 fn is_above(name: &[u8]) -> bool
-    ensures { result ≡ is_above name.now }
+    ensures { result ≡ same_bytes (codes "..") name.now }
 {
-    name == b"..".as_slice()
+    b"..".as_slice() == name
 }

@@ -14,10 +14,11 @@ use Rattle.side_wire.specs.declared.mount.MountReply.{MountReply}
 use Rattle.side_wire.specs.declared.mount.MountStatus.{MountStatus}
 use Rattle.side_wire.specs.declared.nlm.NlmCall.{NlmCall}
 use Rattle.side_wire.specs.declared.nlm.NlmCall.TheVariants as nlm
+use Rattle.nfs_rpc.specs.declared.programs.Program.{Program}
 use Rattle.nfs_machine.specs.MountSteps.{MntAnswers, MountStep, is_mounted, newest}
-use Rattle.nfs_machine.specs.Run.{Spelled}
+use Rattle.nfs_machine.specs.Run.{IsCall}
 use Rattle.nfs_machine.specs.SideLaws.{AskedFits, CallFits, LocksFit, LocksStayFit, MountsFit, MountsStayFit, OpeningFits, PathFits, RunsStayFit, SpelledCallsFit}
-use Rattle.nfs_machine.specs.State.{Mounted, State}
+use Rattle.nfs_machine.specs.State.{State}
 use Rattle.nfs_machine.specs.declared.calls.Call.{Call}
 use Rattle.nfs_machine.specs.declared.calls.Call.TheVariants as calls
 use Rattle.nfs_machine.specs.declared.calls.Reply.TheVariants as replies
@@ -26,6 +27,7 @@ use Rattle.nfs_machine.proofs.Kept.{nfs-follows}
 use Rattle.nfs_machine.proofs.Locking.{nlm-touches}
 use Rattle.nfs_machine.proofs.Posted.{nlm_messages_form}
 use Rattle.nfs_machine.proofs.SideReplies.{mount_fits}
+use Rattle.side_wire.specs.declared.mount.lists.MountBody.{MountBody}
 
 -- ---- calls that are spelled
 spelled-lock : (l : NlmLock) (bytes : List ℕ) → Spells nlm4_lock (lock_value l) bytes → HasLockForm l
@@ -61,26 +63,26 @@ spelled-call (nlm.Unshare a) bytes s = s.3.0
 spelled-call (nlm.NmLock a) bytes s = (s.3.0, spelled-lock a.lock s.4.4.4.0 s.4.4.4.3)
 spelled-call (nlm.FreeAll a) bytes s = tt
 
-spelled : (ctx : Ctx) (call : Call) (bytes : List ℕ) → IsHostName ctx.host → Spelled call bytes → AskedFits ctx call
-spelled ctx (calls.Nfs call) bytes host s = tt
-spelled ctx (calls.Mount call) bytes host s = (host, spelled-path call bytes s)
-spelled ctx (calls.Nlm call) bytes host s = spelled-call call bytes s
+spelled : (ctx : Ctx) (program : Program) (procedure : ℕ) (bytes : List ℕ) (call : Call) → IsHostName ctx.host → IsCall program procedure bytes call → AskedFits ctx call
+spelled ctx program procedure bytes (calls.Nfs call) host is = tt
+spelled ctx program procedure bytes (calls.Mount call) host is = (host, spelled-path call is.2.0 is.2.3)
+spelled ctx program procedure bytes (calls.Nlm call) host is = spelled-call call is.2.0 is.2.3
 
 pub spelled_calls_fit : SpelledCallsFit
 spelled_calls_fit setting arrival ctx call host asks =
-    spelled ctx call asks.is_call.front (subst IsHostName (sym (ap (λ (c : Ctx). c.host) asks.made_under)) host) asks.is_call.spelled
+    spelled ctx asks.header.program asks.header.procedure asks.header.arguments call (subst IsHostName (sym (ap (λ (c : Ctx). c.host) asks.made_under)) host) asks.is_call
 
 -- ---- MOUNT leaves locks as they are
 mnt-locks : (old : State) (ctx : Ctx) (path : List ℕ) (result : Result (List ℕ) MountStatus) (new : State) → MntAnswers old ctx path result new → LocksFit old → LocksFit new
 mnt-locks old ctx path (Ok handle) new (found, target, is, same) fit =
-    let x : Mounted = record { host = ctx.host; path = path } in
+    let x : MountBody = record { hostname = ctx.host; directory = path } in
     subst LocksFit (sym same) (elim (is_mounted old.mounts x) as (λ b. LocksFit (cond b old (record old { mounts = newest (old.mounts ++ x ∷ []) }))) [ true ↦ fit | false ↦ fit ])
 mnt-locks old ctx path (Err e) new (why, same) fit = subst LocksFit (sym same) fit
 
 mount-locks : (old : State) (ctx : Ctx) (call : MountCall) (reply : MountReply) (messages : List Message) (new : State) → MountStep old ctx call reply messages new → LocksFit old → LocksFit new
 unfolding MountStep
 mount-locks old ctx mount.Null reply messages new step fit = subst LocksFit (sym step.state_is) fit
-mount-locks old ctx (mount.Mnt path) reply messages new step fit = mnt-locks old ctx path step.result new step.answers fit
+mount-locks old ctx (mount.Mnt path) reply messages new step fit = mnt-locks old ctx path step.0 new step.3 fit
 mount-locks old ctx mount.Dump reply messages new step fit = subst LocksFit (sym step.state_is) fit
 mount-locks old ctx (mount.Unmount path) reply messages new step fit = subst LocksFit (sym step.state_is) fit
 mount-locks old ctx mount.UnmountAll reply messages new step fit = subst LocksFit (sym step.state_is) fit
@@ -88,7 +90,7 @@ mount-locks old ctx mount.Export reply messages new step fit = subst LocksFit (s
 
 -- ---- steps and runs
 same-mounts : (old new : State) → new.mounts ≡ old.mounts → MountsFit old → MountsFit new
-same-mounts old new same fit = subst (λ (mounts : List Mounted). AllByRecursion (λ (x : Mounted). IsHostName x.host × IsDirpath x.path) mounts) (sym same) fit
+same-mounts old new same fit = subst (λ (mounts : List MountBody). AllByRecursion (λ (x : MountBody). IsHostName x.hostname × IsDirpath x.directory) mounts) (sym same) fit
 
 pub mounts_stay_fit : MountsStayFit
 mounts_stay_fit old ctx (calls.Nfs call) (replies.Nfs reply) messages new step asked fit = same-mounts old new (nfs-follows old ctx call reply messages new step).mounts fit

@@ -1,15 +1,20 @@
 -- What the checks of a call tell where they are passed.
-use Rattle.std.proofs.Common.{◌≡◌, ◌==◌, ℕ, Bool, true, false, not, ◌&&◌, cond, List, [], ◌∷◌, Option, Some, None, Result, Ok, Err, IfOk, find, refl, ap, subst}
-use Rattle.std.specs.Prelude.{is_none}
-use Rattle.std.specs.Prelude.{ok_or}
+use Rattle.std.proofs.Common.{◌≡◌, ◌==◌, ℕ, Bool, true, false, not, ◌&&◌, cond, List, [], ◌∷◌, length, arith, Option, Some, None, Result, Ok, Err, IfOk, find, refl, ap, subst}
+use Rattle.std.specs.Cmp.{unsigned_Decides}
+use Rattle.std.specs.Prelude.{is_none, ok_or}
 use Rattle.std.specs.FinMap.{get}
-use Rattle.std.proofs.lemmas.Bool.{not-true}
+use Rattle.std.proofs.lemmas.Bool.{false_from_ne_true, not-true}
+use Rattle.nfs_wire.specs.declared.calls.SetattrArguments.{SetattrArguments}
+use Rattle.nfs_wire.specs.declared.calls.WriteArguments.{WriteArguments}
+use Rattle.nfs_wire.specs.declared.replies.Written.{Written}
 use Rattle.nfs_wire.specs.declared.status.NfsStatus.{NfsStatus}
 use Rattle.nfs_wire.specs.declared.status.NfsStatus.TheVariants as status
+use Rattle.nfs_machine.specs.AttributeSteps.{set_object}
+use Rattle.nfs_machine.specs.DataSteps.{write_object}
+use Rattle.nfs_machine.specs.Shown.{replaced, with_object}
 use Rattle.nfs_machine.specs.Attributes.{entries_of, is_directory}
 use Rattle.nfs_machine.specs.Bytes.{same_bytes}
 use Rattle.nfs_machine.specs.Checks.{◌>>=◌, holding, object_of, entries_in, bytes_in, entry_of}
-use Rattle.nfs_machine.specs.Pages.{are_none}
 use Rattle.nfs_machine.specs.RemoveSteps.{empty_directory, not_directory}
 use Rattle.nfs_machine.specs.Exports.{export_admits, export_at}
 use Rattle.nfs_machine.specs.Handles.{handle_of}
@@ -18,6 +23,13 @@ use Rattle.nfs_machine.specs.State.{Content, Regular, Directory, Link, BlockDevi
 use Rattle.nfs_machine.specs.declared.context.Ctx.{Ctx}
 use Rattle.nfs_machine.specs.declared.handle.Handle.{Handle}
 use Rattle.nfs_machine.proofs.WellFormed.{no_entries}
+
+-- what SETATTR and WRITE come to
+abbrev pub setattr_end : State → Ctx → SetattrArguments → Result (Unit {0} × State) NfsStatus
+setattr_end old ctx a = object_of (resolve old ctx a.object) >>= λ o. set_object ctx o.1 a >>= λ after. Ok (tt, with_object old o.0 after)
+
+abbrev pub write_end : State → Ctx → WriteArguments → Result (Written × State) NfsStatus
+write_end old ctx a = object_of (resolve old ctx a.file) >>= λ o. write_object ctx o.1 a >>= λ x. Ok (x.0, replaced old o.0 x.1)
 
 -- what holds after each value that a check gives holds of the chain
 pub chained-is : {A B : Type 0} (P : B → Type 0) (r : Result A NfsStatus) (f : A → Result B NfsStatus) → ((x : A) → r ≡ Ok x → IfOk (f x) P) → IfOk (r >>= f) P
@@ -66,13 +78,9 @@ is-regular (CharacterDevice device) x is = cc
 is-regular Socket x is = cc
 is-regular Fifo x is = cc
 
-pub entry-found : (o : Option Entry) (e : Entry) → ok_or o status.NoEntry ≡ Ok e → o ≡ Some e
-entry-found None e is = cc
-entry-found (Some x) e is = (let same : x ≡ e = cc in ap (λ (y : Entry). Some y) same)
-
-pub object-found : (o : Option Living) (l : Living) → ok_or o status.NoEntry ≡ Ok l → o ≡ Some l
-object-found None l is = cc
-object-found (Some x) l is = (let same : x ≡ l = cc in ap (λ (y : Living). Some y) same)
+pub leads-found : (p : Option (ℕ × Living)) (x : ℕ × Living) → ok_or p status.NoEntry ≡ Ok x → p ≡ Some x
+leads-found None x is = cc
+leads-found (Some y) x is = (let same : y ≡ x = cc in ap (λ (z : ℕ × Living). Some z) same)
 
 pub absent : (entries : List Entry) (name : List ℕ) → is_none (entry_of entries name) ≡ true → find (λ (x : Entry). same_bytes x.name name) entries ≡ None
 absent entries name e =
@@ -85,9 +93,16 @@ absent entries name e =
 pub plain-empty : (c : Content) (x : Unit {0}) → not_directory c ≡ Ok x → entries_of c ≡ []
 plain-empty c x is = no_entries c (not-true (is_directory c) (holds (not (is_directory c)) _ x is))
 
+-- whether there is none
+abbrev pub are_none : List Entry → Bool
+are_none es = length es == 0
+
 pub no-entry : (es : List Entry) → are_none es ≡ true → es ≡ []
 no-entry [] e = refl
-no-entry (x ∷ es) e = cc
+no-entry (x ∷ es) e = (let z = (unsigned_Decides (length (x ∷ es)) 0).0 e in absurd (omega (arith, z)))
+
+pub some-entry : (x : Entry) (es : List Entry) → are_none (x ∷ es) ≡ false
+some-entry x es = false_from_ne_true (are_none (x ∷ es)) (λ e. (let z = (unsigned_Decides (length (x ∷ es)) 0).0 e in omega (arith, z)))
 
 pub directory-empty : (c : Content) (x : Unit {0}) → empty_directory c ≡ Ok x → entries_of c ≡ []
 directory-empty (Directory entries last) x is = no-entry entries (holds (are_none entries) _ x is)

@@ -1,11 +1,10 @@
 -- What each procedure that changes names or objects leaves: handles are given once, and what is true of every state stays true.
-use Rattle.std.proofs.Common.{◌≡◌, ◌==◌, ℕ, ◌+◌, ◌≤◌, ◌^◌, Bool, true, false, not, ◌||◌, cond, List, [], Option, Some, None, Result, Ok, Err, IfOk, IfSome, find, length, take, nat_le, nat_lt, ◌⊎◌, inl, inr, refl, sym, ◌∙◌, ap, subst}
-use Rattle.std.specs.Prelude.{is_none}
+use Rattle.std.proofs.Common.{◌≡◌, ◌==◌, ℕ, ◌+◌, ◌≤◌, ◌^◌, Bool, true, false, not, ◌&&◌, ◌||◌, cond, List, [], Option, Some, None, Result, Ok, Err, IfOk, IfSome, find, length, take, nat_le, nat_lt, ◌⊎◌, inl, inr, refl, sym, ◌∙◌, ap, subst, leb-true}
+use Rattle.std.specs.List.{list_any}
 use Rattle.std.specs.Cmp.{unsigned_Decides}
 use Rattle.std.specs.FinMap.{get}
 use Rattle.std.proofs.lemmas.Bool.{not-true}
 use Rattle.nfs_wire.specs.declared.attributes.Time.{Time}
-use Rattle.nfs_wire.specs.declared.calls.CreateArguments.{CreateArguments}
 use Rattle.nfs_wire.specs.declared.calls.CreateHow.{CreateHow}
 use Rattle.nfs_wire.specs.declared.calls.CreateHow.TheVariants.{Unchecked, Guarded, Exclusive}
 use Rattle.nfs_wire.specs.declared.calls.Place.{Place}
@@ -18,21 +17,21 @@ use Rattle.side_wire.specs.Messages.{HasLockForm}
 use Rattle.side_wire.specs.Nlm.{IsNetobj}
 use Rattle.nfs_machine.specs.LockLaws.{AllHeldUp, NoConflict}
 use Rattle.nfs_machine.specs.Answers.{state_after}
-use Rattle.nfs_machine.specs.Attributes.{entries_of, is_directory}
+use Rattle.nfs_machine.specs.Attributes.{entries_of, is_directory, links_of}
 use Rattle.nfs_machine.specs.Bytes.{same_bytes}
-use Rattle.nfs_machine.specs.Checks.{holding, object_of, entries_in, bytes_in, new_name_checked, changeable, permitted, entry_of}
+use Rattle.nfs_machine.specs.Checks.{◌>>=◌, holding, object_of, entries_in, bytes_in, plain_name_checked, changeable, permitted, entry_of}
 use Rattle.nfs_machine.specs.Data.{size_limit, resized, written}
-use Rattle.nfs_machine.specs.DataSteps.{write_count, write_end, write_object}
+use Rattle.nfs_machine.specs.DataSteps.{write_count, write_object}
 use Rattle.nfs_machine.specs.Grants.{IsHeldUp}
 use Rattle.nfs_machine.specs.Laws.{GivesOnce, LivesAs}
-use Rattle.nfs_machine.specs.Making.{Fresh, End, Known, Chosen, EndsAs, Wanted, given_attributes, make_end, make_made, make_new, new_object, with_entry}
-use Rattle.nfs_machine.specs.NameSteps.{create_end, create_existing, create_over, create_under, is_verifier, resize_object, wanted_file}
+use Rattle.nfs_machine.specs.Making.{Fresh, End, Known, Chosen, EndsAs, Wanted, given_attributes, make_end, make_new, new_object, with_entry, kind_checked}
+use Rattle.nfs_machine.specs.NameSteps.{create_existing, create_over, wanted_file}
 use Rattle.nfs_machine.specs.Permission.{Changing, Writing}
 use Rattle.nfs_machine.specs.RemoveSteps.{losing_name, without_object}
 use Rattle.nfs_machine.specs.Resolve.{resolve}
 use Rattle.nfs_machine.specs.Shown.{replaced, touched, with_content, with_object}
 use Rattle.nfs_machine.specs.SideLaws.{LocksFit, OwnersFit}
-use Rattle.nfs_machine.specs.State.{Regular, Directory, Link, Entry, Living, Lock, Request, Share, State}
+use Rattle.nfs_machine.specs.State.{Regular, Directory, Link, Entry, Living, Lock, Request, Share, State, Content}
 use Rattle.nfs_machine.specs.TimeLaws.{TouchesOnce}
 use Rattle.nfs_machine.specs.Times.{time_of, touch}
 use Rattle.nfs_machine.specs.WellFormed.{WellFormed}
@@ -40,7 +39,7 @@ use Rattle.nfs_machine.specs.declared.context.Ctx.{Ctx}
 use Rattle.nfs_machine.proofs.Changes.{differs-insert, differs-other, differs-there}
 use Rattle.nfs_machine.proofs.Continued.{Continues, Turns, continues-itself, continues-over, continues-with, gives-continued, lived-as, texts-continued, touches-continued}
 use Rattle.nfs_machine.proofs.Entered.{MakesEntry, well_formed-made}
-use Rattle.nfs_machine.proofs.Facts.{absent, chained-is, holds, is-directory, is-regular, resolved-lives}
+use Rattle.nfs_machine.proofs.Facts.{chained-is, is-directory, is-regular, resolved-lives, write_end}
 use Rattle.nfs_machine.proofs.Loose.{well_formed-alike}
 use Rattle.nfs_machine.proofs.Modes.{all-left, apart-but, but, mode-but, mode-gone, shares-left}
 use Rattle.nfs_machine.proofs.Roots.{free-no_root}
@@ -166,23 +165,35 @@ module _ (m : State) (ctx : Ctx) where
   ends-follow (Ok (Chosen makes)) end (fresh, is) follows = subst (λ (r : Result (Made × State) NfsStatus). IfOk r (λ e. Follows (time_of ctx.moment) m e.1)) (sym is) (follows fresh)
   ends-follow (Err e) end is follows = subst (λ (r : Result (Made × State) NfsStatus). IfOk r (λ e. Follows (time_of ctx.moment) m e.1)) (sym is) tt
 
-  -- it contains no name, and as a link a text within its bound
+  -- the text of a link was checked
+  text-within : (links : ℕ) (c : Content) (x : Unit {0}) → kind_checked ctx links c ≡ Ok x → (t : List ℕ) → c ≡ Link t → length t ≤ 4096
+  text-within links (Link text) x is t e =
+      let same : text ≡ t = cc in
+      subst (λ (s : List ℕ). length s ≤ 4096) same (of-ok (λ _. length text ≤ 4096) (kind_checked ctx links (Link text)) x is
+      (chained-is (λ _. length text ≤ 4096) (holding (nat_le 1 (length text) && not (list_any (λ b. b == 0) text)) status.Invalid) _ (λ x1 e1. short text (nat_le (length text) 4096) refl)))
+    where
+      short : (text : List ℕ) (b : Bool) → nat_le (length text) 4096 ≡ b → IfOk (holding b status.NameTooLong) (λ _. length text ≤ 4096)
+      short text true e = leb-true (length text) 4096 e
+      short text false e = tt
+  text-within links other x is t e = cc
+
+  -- it contains no name
   pub record Plain (wanted : Wanted) : Type 0 where
     pub entries : entries_of wanted.content ≡ []
     pub cookies : (last : ℕ) → wanted.content ≡ Directory [] last → 2 ≤ last
-    pub text : (t : List ℕ) → wanted.content ≡ Link t → length t ≤ 4096
 
   module _ (name : List ℕ) (wanted : Wanted) (number : ℕ) (directory : Living) (entries : List Entry) (last : ℕ)
-      (lives : get m.objects number ≡ Some directory) (content : directory.content ≡ Directory entries last) (none : find (λ (x : Entry). same_bytes x.name name) entries ≡ None) (plain : Plain wanted) where
+      (lives : get m.objects number ≡ Some directory) (content : directory.content ≡ Directory entries last) (none : find (λ (x : Entry). same_bytes x.name name) entries ≡ None) (plain : Plain wanted)
+      (text : (t : List ℕ) → wanted.content ≡ Link t → length t ≤ 4096) where
     module _ (fresh : Fresh m) where
       abbrev wider : Living
       wider = with_content directory (time_of ctx.moment) (with_entry entries last name fresh.number)
 
       abbrev o : Living
-      o = new_object ctx directory.export fresh.generation wanted.mode wanted.content wanted.attributes wanted.verifier
+      o = new_object ctx directory.export fresh.generation wanted
 
       abbrev new : State
-      new = (make_made m ctx name wanted number directory entries last fresh).1
+      new = record (with_object (with_object m number wider) fresh.number o) { spent = fresh.spent }
 
       wide : Continues (time_of ctx.moment) m (with_object m number wider)
       wide = continues-with (time_of ctx.moment) m m (continues-itself (time_of ctx.moment) m) number directory lives _ _
@@ -241,59 +252,56 @@ module _ (m : State) (ctx : Ctx) where
       formed : WellFormed m → WellFormed new
       formed w =
           well_formed-made m new number fresh.number directory wider o name (makes w) w
-          (texts-put (with_object m number wider) fresh.number o (texts-continued (time_of ctx.moment) m (with_object m number wider) wide w.texts) plain.text)
+          (texts-put (with_object m number wider) fresh.number o (texts-continued (time_of ctx.moment) m (with_object m number wider) wide w.texts) text)
 
-      made-follows : Follows (time_of ctx.moment) m (make_made m ctx name wanted number directory entries last fresh).1
+      made-follows : Follows (time_of ctx.moment) m new
       made-follows = record { gives = gives; touches = touches; formed = formed; locks = record { apart = λ h. h; waits = λ h. h }; mounts = refl; bounds = λ h. h }
 
-    new-follows : IfOk (make_new m ctx name wanted number directory entries last) EndFollows
-    new-follows = chained-is EndFollows (given_attributes ctx wanted.attributes) _ (λ x1 e1. chained-is EndFollows (holding (nat_lt (last + 1) (2 ^ 64)) status.NoSpace) _ (λ x2 e2. made-follows))
+  new-follows : (name : List ℕ) (wanted : Wanted) (number : ℕ) (directory : Living) (entries : List Entry) (last : ℕ) → get m.objects number ≡ Some directory → directory.content ≡ Directory entries last
+      → find (λ (x : Entry). same_bytes x.name name) entries ≡ None → Plain wanted → IfOk (make_new m ctx name wanted number directory entries last) EndFollows
+  new-follows name wanted number directory entries last lives content none plain =
+      chained-is EndFollows (kind_checked ctx (links_of m number directory.content) wanted.content) _ (λ x0 e0.
+      chained-is EndFollows (given_attributes ctx wanted.attributes) _ (λ x1 e1.
+      chained-is EndFollows (holding (nat_lt (last + 1) (2 ^ 64)) status.NoSpace) _ (λ x2 e2.
+      made-follows name wanted number directory entries last lives content none plain (text-within (links_of m number directory.content) wanted.content x0 e0))))
 
-  pub make-follows : (place : Place) (wanted : Result Wanted NfsStatus) (own : ℕ → Living → Result (Unit {0}) NfsStatus) → ((number : ℕ) (directory : Living) (x : Unit {0}) → own number directory ≡ Ok x → IfOk wanted Plain)
-      → IfOk (make_end m ctx place wanted own) EndFollows
-  make-follows place wanted own plain =
+  pub make-follows : (place : Place) (wanted : Result Wanted NfsStatus) (there : ℕ → Option Living → Result (End m) NfsStatus) → IfOk wanted Plain
+      → ((number : ℕ) → IfOk (there number (get m.objects number)) EndFollows) → IfOk (make_end m ctx place wanted there) EndFollows
+  make-follows place wanted there plain found =
       chained-is EndFollows (object_of (resolve m ctx place.directory)) _ (λ directory at.
       chained-is EndFollows (entries_in directory.1.content) _ (λ entries is.
-      chained-is EndFollows (new_name_checked place.name) _ (λ x1 e1.
+      chained-is EndFollows (plain_name_checked status.Exists status.Exists place.name) _ (λ x1 e1.
       chained-is EndFollows wanted _ (λ what e2.
       chained-is EndFollows (changeable ctx directory.1) _ (λ x3 e3.
       chained-is EndFollows (permitted ctx directory.1 Changing) _ (λ x4 e4.
-      chained-is EndFollows (holding (is_none (entry_of entries.0 place.name)) status.Exists) _ (λ x5 e5.
-      chained-is EndFollows (own directory.0 directory.1) _ (λ x6 e6.
-      new-follows place.name what directory.0 directory.1 entries.0 entries.1 (resolved-lives m ctx place.directory directory at) (is-directory directory.1.content entries is)
-      (absent entries.0 place.name (holds (is_none (entry_of entries.0 place.name)) status.Exists x5 e5)) (of-ok Plain wanted what e2 (plain directory.0 directory.1 x6 e6))))))))))
+      under what (of-ok Plain wanted what e2 plain) directory.0 directory.1 entries.0 entries.1
+      (resolved-lives m ctx place.directory directory at) (is-directory directory.1.content entries is) (entry_of entries.0 place.name) refl))))))
+    where
+      under : (what : Wanted) → Plain what → (number : ℕ) (directory : Living) (entries : List Entry) (last : ℕ) → get m.objects number ≡ Some directory → directory.content ≡ Directory entries last
+          → (e : Option Entry) → entry_of entries place.name ≡ e
+          → IfOk (elim e as (λ (_ : Option Entry). Result (End m) NfsStatus) [ Some e ↦ there e.number (get m.objects e.number) | None ↦ make_new m ctx place.name what number directory entries last ]) EndFollows
+      under what plain number directory entries last lives content (Some e) is = found e.number
+      under what plain number directory entries last lives content None is = new-follows place.name what number directory entries last lives content is plain
 
   -- CREATE of what is there
   over-alters : (how : CreateHow) (file : Living) (r : Result (List ℕ) NfsStatus) → bytes_in file.content ≡ r → IfOk (create_over ctx how file r) (λ after. IfSome after (Alters (time_of ctx.moment) file))
   over-alters how file (Err e) is = tt
   over-alters (Guarded a) file (Ok bytes) is = tt
   over-alters (Exclusive verifier) file (Ok bytes) is =
-      elim (is_verifier file.verifier verifier.bytes) as (λ b. IfOk (cond b (Ok None) (Err status.Exists)) (λ after. IfSome after (Alters (time_of ctx.moment) file))) [ true ↦ tt | false ↦ tt ]
+      elim (elim file.verifier as (λ (_ : Option (List ℕ)). Bool) [ None ↦ false | Some kept ↦ same_bytes kept verifier.bytes ]) as (λ b. IfOk (cond b (Ok None) (Err status.Exists)) (λ after. IfSome after (Alters (time_of ctx.moment) file))) [ true ↦ tt | false ↦ tt ]
   over-alters (Unchecked a) file (Ok bytes) is = sized a.size
     where
-      sized : (size : Option ℕ) → IfOk (elim size as (λ (_ : Option ℕ). Result (Option Living) NfsStatus) [ None ↦ Ok None | Some size ↦ resize_object ctx file bytes size ]) (λ after. IfSome after (Alters (time_of ctx.moment) file))
+      sized : (size : Option ℕ) → IfOk (elim size as (λ (_ : Option ℕ). Result (Option Living) NfsStatus) [ None ↦ Ok None | Some size ↦ permitted ctx file Writing >>= λ _. holding (nat_le size size_limit) status.FileTooBig >>= λ _. Ok (Some (with_content file (time_of ctx.moment) (Regular (resized bytes size)))) ]) (λ after. IfSome after (Alters (time_of ctx.moment) file))
       sized None = tt
       sized (Some size) =
           let P : Option Living → Type 0 = λ (after : Option Living). IfSome after (Alters (time_of ctx.moment) file) in
           chained-is P (permitted ctx file Writing) _ (λ x1 e1. chained-is P (holding (nat_le size size_limit) status.FileTooBig) _ (λ x2 e2. alters-regular file (time_of ctx.moment) (resized bytes size) (is-regular file.content bytes is)))
 
-  existing-follows : (how : CreateHow) (number : ℕ) (o : Option Living) → get m.objects number ≡ o → IfOk (create_existing m ctx how number o) EndFollows
+  pub existing-follows : (how : CreateHow) (number : ℕ) (o : Option Living) → get m.objects number ≡ o → IfOk (create_existing m ctx how number o) EndFollows
   existing-follows how number None at = tt
   existing-follows how number (Some o) at =
       chained-is EndFollows (create_over ctx how o (bytes_in o.content)) _ (λ after is.
       follows-replaced (time_of ctx.moment) m number o after at (of-ok (λ (after : Option Living). IfSome after (Alters (time_of ctx.moment) o)) (create_over ctx how o (bytes_in o.content)) after is (over-alters how o (bytes_in o.content) refl)))
 
-  pub create-follows : (a : CreateArguments) → IfOk (create_end m ctx a) EndFollows
-  create-follows a =
-      chained-is EndFollows (object_of (resolve m ctx a.place.directory)) _ (λ directory at.
-      chained-is EndFollows (entries_in directory.1.content) _ (λ entries is.
-      chained-is EndFollows (new_name_checked a.place.name) _ (λ x1 e1.
-      chained-is EndFollows (changeable ctx directory.1) _ (λ x3 e3.
-      chained-is EndFollows (permitted ctx directory.1 Changing) _ (λ x4 e4.
-      under directory.0 directory.1 entries.0 entries.1 (resolved-lives m ctx a.place.directory directory at) (is-directory directory.1.content entries is) (entry_of entries.0 a.place.name) refl)))))
-    where
-      under : (number : ℕ) (directory : Living) (entries : List Entry) (last : ℕ) → get m.objects number ≡ Some directory → directory.content ≡ Directory entries last
-          → (e : Option Entry) → entry_of entries a.place.name ≡ e → IfOk (create_under m ctx a number directory entries last e) EndFollows
-      under number directory entries last lives content (Some e) is = existing-follows a.how e.number (get m.objects e.number) refl
-      under number directory entries last lives content None is =
-          new-follows a.place.name (wanted_file a.how) number directory entries last lives content is (record { entries = refl; cookies = λ k c. (let no : is_directory (wanted_file a.how).content ≡ true = ap is_directory c in cc); text = λ t c. cc })
+  pub file-plain : (how : CreateHow) → Plain (wanted_file how)
+  file-plain how = record { entries = refl; cookies = λ k c. (let no : is_directory (wanted_file how).content ≡ true = ap is_directory c in cc) }

@@ -1,10 +1,7 @@
 -- What each step keeps, and so each run: a handle is given once, and what is true of every state stays true.
-use Rattle.std.proofs.Common.{◌≡◌, ◌==◌, ℕ, ◌+◌, ◌≤◌, ◌^◌, Bool, true, false, not, ◌||◌, cond, List, [], ◌∷◌, ◌++◌, length, Option, Some, None, Result, Ok, Err, IfOk, filter, nat_le, nat_lt, inl, inr, refl, sym, ◌∙◌, subst, arith}
-use Rattle.std.proofs.lemmas.Bool.{leb-true}
+use Rattle.std.proofs.Common.{◌≡◌, ℕ, ◌+◌, ◌≤◌, ◌^◌, Bool, true, false, not, ◌||◌, cond, List, [], ◌∷◌, ◌++◌, Option, Some, None, Result, Ok, Err, IfOk, filter, nat_lt, inl, inr, refl, sym, ◌∙◌, subst, arith, ◌==◌}
 use Rattle.std.specs.FinMap.{FinMap, get}
-use Rattle.std.specs.List.{list_any}
 use Rattle.std.specs.Ordering.{nat_cmp}
-use Rattle.nfs_wire.specs.declared.attributes.SetAttributes.{SetAttributes}
 use Rattle.nfs_wire.specs.declared.attributes.Time.{Time}
 use Rattle.nfs_wire.specs.declared.calls.NfsCall.{NfsCall}
 use Rattle.nfs_wire.specs.declared.calls.NfsCall.TheVariants as nfs
@@ -22,25 +19,27 @@ use Rattle.side_wire.specs.declared.mount.MountReply.{MountReply}
 use Rattle.side_wire.specs.declared.mount.MountStatus.{MountStatus}
 use Rattle.side_wire.specs.declared.nlm.NlmCall.{NlmCall}
 use Rattle.side_wire.specs.declared.nlm.NlmReply.{NlmReply}
+use Rattle.nfs_wire.specs.declared.calls.RenameArguments.{RenameArguments}
+use Rattle.std.specs.Prelude.{ok_or, is_some}
+use Rattle.std.specs.Cmp.{unsigned_Decides}
+use Rattle.nfs_machine.specs.Resolve.{resolve}
+use Rattle.nfs_machine.specs.Permission.{Changing}
 use Rattle.nfs_machine.specs.Answers.{Answers, state_after}
-use Rattle.nfs_machine.specs.AttributeSteps.{setattr_end}
-use Rattle.nfs_machine.specs.Attributes.{links_of, names_of}
-use Rattle.nfs_machine.specs.Checks.{holding, link_limit, may_gain_link}
-use Rattle.nfs_machine.specs.DataSteps.{write_end}
+use Rattle.nfs_machine.specs.Attributes.{links_of, names_of, is_directory}
+use Rattle.nfs_machine.specs.Checks.{holding, link_limit, ◌>>=◌, object_of, entries_in, entry_of, changeable, permitted, plain_name_checked}
 use Rattle.nfs_machine.specs.Laws.{GivesOnce, LivesAs, NeverGivenAgain, RunsKeepForm, StepsGiveOnce, StepsKeepForm}
 use Rattle.nfs_machine.specs.LinkSteps.{link_end}
 use Rattle.nfs_machine.specs.LockLaws.{RunsKeepApart, RunsKeepWaiting, StepsKeepApart, StepsKeepWaiting, AllHeldUp, NoConflict}
-use Rattle.nfs_machine.specs.MakeSteps.{mkdir_end, may_make, mknod_end, symlink_end, text_checked, wanted_directory, wanted_link, wanted_special}
-use Rattle.nfs_machine.specs.Making.{End, MakeStep}
-use Rattle.nfs_machine.specs.MountSteps.{MntAnswers, MountStep, is_by, is_mounted, is_of, newest, with_mount, without_mounts}
-use Rattle.nfs_machine.specs.NameSteps.{create_end}
+use Rattle.nfs_machine.specs.MakeSteps.{wanted_special}
+use Rattle.nfs_machine.specs.Making.{End, MakeStep, Wanted, make_end}
+use Rattle.nfs_machine.specs.MountSteps.{MntAnswers, MountStep, is_mounted, is_of, newest, with_mount, without_mounts}
 use Rattle.nfs_machine.specs.NfsSteps.{NfsStep}
 use Rattle.nfs_machine.specs.NlmSteps.{NlmStep}
-use Rattle.nfs_machine.specs.RemoveSteps.{remove_end, rmdir_end}
-use Rattle.nfs_machine.specs.RenameSteps.{GoesIntoItself, Move, RenameEnds, brings_link, moved_end, rename_plan, with_moved, with_names_moved, without_replaced}
+use Rattle.nfs_machine.specs.RemoveSteps.{object_under}
+use Rattle.nfs_machine.specs.RenameSteps.{IsWithin, RenameEnds, is_compatible, move_plan, rename_plan}
 use Rattle.nfs_machine.specs.Shown.{touched, with_object}
 use Rattle.nfs_machine.specs.SideLaws.{LocksFit}
-use Rattle.nfs_machine.specs.State.{Directory, Living, Mounted, State}
+use Rattle.nfs_machine.specs.State.{Directory, Living, State, Entry}
 use Rattle.nfs_machine.specs.Step.{Step}
 use Rattle.nfs_machine.specs.TimeLaws.{StepsTouchOnce, TouchesOnce}
 use Rattle.nfs_machine.specs.Times.{time_of}
@@ -51,16 +50,19 @@ use Rattle.nfs_machine.specs.declared.calls.Reply.{Reply}
 use Rattle.nfs_machine.specs.declared.calls.Reply.TheVariants as replies
 use Rattle.nfs_machine.specs.declared.context.Ctx.{Ctx}
 use Rattle.nfs_machine.proofs.Continued.{gives-continued, touches-continued}
-use Rattle.nfs_machine.proofs.Facts.{chained-is}
-use Rattle.nfs_machine.proofs.Follows.{EndFollows, Follows, LocksFollow, Plain, bounds-losing, create-follows, ends-follow, follows-after, follows-itself, locks-losing, make-follows, mounts-losing, of-ok, write-follows}
+use Rattle.nfs_machine.proofs.Facts.{chained-is, holds, is-directory, leads-found, resolved-lives, setattr_end, write_end}
+use Rattle.nfs_machine.proofs.Follows.{EndFollows, Follows, LocksFollow, Plain, bounds-losing, ends-follow, follows-after, follows-itself, locks-losing, make-follows, mounts-losing, write-follows, file-plain, existing-follows}
 use Rattle.nfs_machine.proofs.Locking.{nlm-touches}
 use Rattle.nfs_machine.proofs.Loose.{well_formed-alike}
-use Rattle.nfs_machine.proofs.Planned.{IsMove, IsPlan, continues-moved, planned}
+use Rattle.nfs_machine.proofs.Moves.{GoesIntoItself, Move, named_as, remove_end, rmdir_end, with_moved, with_names_moved, without_replaced}
+use Rattle.nfs_machine.proofs.Planned.{IsBegun, IsMove, continues-moved, moves-free, moves-over}
 use Rattle.nfs_machine.proofs.Renamed.{well_formed-moved}
 use Rattle.nfs_machine.proofs.Setting.{setattr-follows}
-use Rattle.nfs_machine.proofs.Taken.{link-follows, remove-follows, rmdir-follows}
+use Rattle.nfs_machine.proofs.Taken.{link-follows, remove-follows, rmdir-follows, is-under}
 use Rattle.nfs_machine.proofs.Waiting.{nlm-waits}
 use Rattle.nfs_machine.proofs.WellFormed.{alike_itself}
+use Rattle.nfs_machine.specs.Bytes.{same_bytes}
+use Rattle.side_wire.specs.declared.mount.lists.MountBody.{MountBody}
 
 stays : (now : Time) (old new : State) → new ≡ old → Follows now old new
 stays now old new same = subst (Follows now old) (sym same) (follows-itself now old)
@@ -69,35 +71,23 @@ answered : {A : Type 0} {Answer : Type 0} (now : Time) (answer : Answer) (old : 
     → Answers answer (state_after old end) reply messages new → IfOk end (λ e. Follows now old e.1) → Follows now old new
 answered now answer old end reply messages new step f = subst (Follows now old) (sym step.state_is) (follows-after now old end f)
 
-made : (old : State) (ctx : Ctx) (place : Place) (comes_to : Result (End old) NfsStatus) (reply_of : MadeReply → NfsReply) (reply : NfsReply) (messages : List Message) (new : State)
-    → MakeStep old ctx place comes_to reply_of reply messages new → IfOk comes_to (EndFollows old ctx) → Follows (time_of ctx.moment) old new
-made old ctx place comes_to reply_of reply messages new step f =
-    subst (Follows (time_of ctx.moment) old) (sym step.answers.state_is) (follows-after (time_of ctx.moment) old step.end (ends-follow old ctx comes_to step.end step.ends f))
+made : (old : State) (ctx : Ctx) (place : Place) (wanted : Result Wanted NfsStatus) (there : ℕ → Option Living → Result (End old) NfsStatus) (reply_of : MadeReply → NfsReply) (reply : NfsReply)
+    (messages : List Message) (new : State) → MakeStep old ctx place wanted there reply_of reply messages new → IfOk wanted (Plain old ctx)
+    → ((number : ℕ) → IfOk (there number (get old.objects number)) (EndFollows old ctx)) → Follows (time_of ctx.moment) old new
+made old ctx place wanted there reply_of reply messages new step plain found =
+    subst (Follows (time_of ctx.moment) old) (sym step.answers.state_is) (follows-after (time_of ctx.moment) old step.end
+    (ends-follow old ctx (make_end old ctx place wanted there) step.end step.ends (make-follows old ctx place wanted there plain found)))
 
 -- what is made contains no name
 special-plain : (m : State) (ctx : Ctx) (what : Special) → IfOk (wanted_special what) (Plain m ctx)
-special-plain m ctx (special.BlockDevice given device) = record { entries = refl; cookies = λ last is. cc; text = λ t is. cc }
-special-plain m ctx (special.CharacterDevice given device) = record { entries = refl; cookies = λ last is. cc; text = λ t is. cc }
-special-plain m ctx (special.Socket given) = record { entries = refl; cookies = λ last is. cc; text = λ t is. cc }
-special-plain m ctx (special.Fifo given) = record { entries = refl; cookies = λ last is. cc; text = λ t is. cc }
+special-plain m ctx (special.BlockDevice given device) = record { entries = refl; cookies = λ last is. cc }
+special-plain m ctx (special.CharacterDevice given device) = record { entries = refl; cookies = λ last is. cc }
+special-plain m ctx (special.Socket given) = record { entries = refl; cookies = λ last is. cc }
+special-plain m ctx (special.Fifo given) = record { entries = refl; cookies = λ last is. cc }
 special-plain m ctx (special.Other kind) = tt
 
 directory-plain : (last : ℕ) → Directory [] 2 ≡ Directory [] last → 2 ≤ last
 directory-plain last is = (let same : 2 ≡ last = cc in omega (arith, same))
-
--- the text of a link was checked
-text-within : (text : List ℕ) (x : Unit {0}) → text_checked text ≡ Ok x → length text ≤ 4096
-text-within text x is =
-    of-ok (λ _. length text ≤ 4096) (text_checked text) x is
-    (chained-is (λ _. length text ≤ 4096) (holding (nat_le 1 (length text)) status.Invalid) _ (λ x1 e1.
-    chained-is (λ _. length text ≤ 4096) (holding (not (list_any (λ b. b == 0) text)) status.Invalid) _ (λ x2 e2. short (nat_le (length text) 4096) refl)))
-  where
-    short : (b : Bool) → nat_le (length text) 4096 ≡ b → IfOk (holding b status.NameTooLong) (λ _. length text ≤ 4096)
-    short true e = leb-true (length text) 4096 e
-    short false e = tt
-
-link-plain : (m : State) (ctx : Ctx) (text : List ℕ) (given : SetAttributes) (x : Unit {0}) → text_checked text ≡ Ok x → Plain m ctx (wanted_link text given)
-link-plain m ctx text given x is = record { entries = refl; cookies = λ last e. cc; text = λ t e. (let same : text ≡ t = cc in subst (λ (s : List ℕ). length s ≤ 4096) same (text-within text x is)) }
 
 -- a RENAME
 module _ (old : State) (ctx : Ctx) where
@@ -118,51 +108,107 @@ module _ (old : State) (ctx : Ctx) where
   moved-bounds now move None = λ h. h
   moved-bounds now move (Some o) = bounds-losing (with_object (with_names_moved old now move) move.from.number (touched move.from.object now)) (names_of old o.0) now o.0 o.1
 
-  moved-follows : (move : Move) → IsMove old move → (GoesIntoItself old move → ⊥) → IfOk (moved_end old ctx move) (λ e. Follows (time_of ctx.moment) old e.1)
-  moved-follows move is out =
-      chained-is (λ (e : Unit {0} × State). Follows (time_of ctx.moment) old e.1) (holding (not (brings_link move) || nat_lt (links_of old move.target move.directory.content) link_limit) status.TooManyLinks) _ (λ x1 e1.
-      chained-is (λ (e : Unit {0} × State). Follows (time_of ctx.moment) old e.1) (holding (nat_lt (move.last_cookie + 1) (2 ^ 64)) status.NoSpace) _ (λ x2 e2. record {
-        gives = gives-continued (time_of ctx.moment) old (with_moved old (time_of ctx.moment) move) (continues-moved old (time_of ctx.moment) move is);
-        touches = touches-continued (time_of ctx.moment) old (with_moved old (time_of ctx.moment) move) (continues-moved old (time_of ctx.moment) move is);
-        formed = λ w. well_formed-moved old (time_of ctx.moment) move is w out;
-        locks = moved-locks (time_of ctx.moment) move move.replaced;
-        mounts = moved-mounts (time_of ctx.moment) move move.replaced;
-        bounds = moved-bounds (time_of ctx.moment) move move.replaced;
-      }))
+  moved-follows : (now : Time) (move : Move) → IsMove old move → (GoesIntoItself old move → ⊥) → Follows now old (with_moved old now move)
+  moved-follows now move is out = record {
+    gives = gives-continued now old (with_moved old now move) (continues-moved old now move is);
+    touches = touches-continued now old (with_moved old now move) (continues-moved old now move is);
+    formed = λ w. well_formed-moved old now move is w out;
+    locks = moved-locks now move move.replaced;
+    mounts = moved-mounts now move move.replaced;
+    bounds = moved-bounds now move move.replaced;
+  }
+
+  -- what is known of the directory that moves, and of the end then
+  abbrev StaysOut : Option (ℕ × ℕ) → Type 0
+  StaysOut None = Unit {0}
+  StaysOut (Some p) = IsWithin old p.0 p.1 → ⊥
+
+  abbrev IsPlan : Option (ℕ × ℕ) × Result (Unit {0} × State) NfsStatus → Type 0
+  IsPlan plan = StaysOut plan.0 → IfOk plan.1 (λ e. Follows (time_of ctx.moment) old e.1)
+
+  stays-out : (b : Bool) (moved target : ℕ) → StaysOut (cond b (Some (moved, target)) None) → (b ≡ true) × IsWithin old moved target → ⊥
+  stays-out true moved target out into = out into.1
+  stays-out false moved target out into = (let no : false ≡ true = into.0 in cc)
+
+  module _ (a : RenameArguments) (from to : ℕ × Living) (from_entries to_entries : List Entry × ℕ) (moved : ℕ × Living) where
+    abbrev move_of : Option (ℕ × Living) → Move
+    move_of replaced =
+        record { from = named_as from from_entries a.from.name moved; target = to.0; directory = to.1; entries = to_entries.0; last_cookie = to_entries.1; name = a.to.name; replaced = replaced }
+
+    abbrev gains : Option (ℕ × Living) → Result (Unit {0}) NfsStatus
+    gains replaced = holding (not (is_directory moved.1.content) || (to.0 == from.0) || is_some replaced || nat_lt (links_of old to.0 to.1.content) link_limit) status.TooManyLinks
+
+    abbrev end_of : Option (ℕ × Living) → Result (Unit {0} × State) NfsStatus
+    end_of replaced = gains replaced >>= λ _. holding (nat_lt (to_entries.1 + 1) (2 ^ 64)) status.NoSpace >>= λ _. Ok (tt, with_moved old (time_of ctx.moment) (move_of replaced))
+
+    abbrev plan_of : Option (ℕ × Living) → Option (ℕ × ℕ) × Result (Unit {0} × State) NfsStatus
+    plan_of replaced = (cond (is_directory moved.1.content) (Some (moved.0, to.0)) None, end_of replaced)
+
+    plan-follows : (replaced : Option (ℕ × Living)) → IsMove old (move_of replaced) → IsPlan (plan_of replaced)
+    plan-follows replaced is out =
+        let P : Unit {0} × State → Type 0 = λ e. Follows (time_of ctx.moment) old e.1 in
+        chained-is P (gains replaced) _ (λ x1 e1.
+        chained-is P (holding (nat_lt (to_entries.1 + 1) (2 ^ 64)) status.NoSpace) _ (λ x2 e2.
+        moved-follows (time_of ctx.moment) (move_of replaced) is (stays-out (is_directory moved.1.content) moved.0 to.0 out)))
+
+    move-planned : (replaced : Option (ℕ × Living)) → IsBegun old (move_of replaced) → IfOk (move_plan old (time_of ctx.moment) a from to from_entries to_entries moved replaced) IsPlan
+    move-planned None begun = plan-follows None (moves-free old (move_of None) begun refl)
+    move-planned (Some r) begun =
+        elim (r.0 == moved.0) as (λ b. (r.0 == moved.0) ≡ b
+        → IfOk (cond b (Ok (None, Ok (tt, old))) (holding (is_compatible moved.1.content r.1.content) status.Exists >>= λ _. Ok (plan_of (Some r)))) IsPlan) [
+          | true ↦ λ e out. follows-itself (time_of ctx.moment) old
+          | false ↦ λ e. chained-is IsPlan (holding (is_compatible moved.1.content r.1.content) status.Exists) _ (λ x1 e1.
+              plan-follows (Some r) (moves-over old (move_of (Some r)) begun r refl e (holds (is_compatible moved.1.content r.1.content) status.Exists x1 e1)))
+        ] refl
+
+  planned : (a : RenameArguments) → IfOk (rename_plan old ctx a) IsPlan
+  planned a =
+      chained-is IsPlan (object_of (resolve old ctx a.from.directory)) _ (λ from at.
+      chained-is IsPlan (object_of (resolve old ctx a.to.directory)) _ (λ to there.
+      chained-is IsPlan (holding (from.1.export == to.1.export) status.CrossDevice) _ (λ x1 e1.
+      chained-is IsPlan (entries_in from.1.content) _ (λ from_entries is.
+      chained-is IsPlan (entries_in to.1.content) _ (λ to_entries is_to.
+      chained-is IsPlan (plain_name_checked status.Invalid status.Invalid a.from.name) _ (λ x2 e2.
+      chained-is IsPlan (plain_name_checked status.Invalid status.Invalid a.to.name) _ (λ x3 e3.
+      chained-is IsPlan (changeable ctx from.1) _ (λ x4 e4.
+      chained-is IsPlan (permitted ctx from.1 Changing) _ (λ x5 e5.
+      chained-is IsPlan (permitted ctx to.1 Changing) _ (λ x6 e6.
+      chained-is IsPlan (ok_or (object_under old (entry_of from_entries.0 a.from.name)) status.NoEntry) _ (λ moved e7.
+      move-planned a from to from_entries to_entries moved (object_under old (entry_of to_entries.0 a.to.name)) (record {
+        from = is-under old from from_entries a.from.name moved (resolved-lives old ctx a.from.directory from at) (is-directory from.1.content from_entries is)
+            (leads-found (object_under old (entry_of from_entries.0 a.from.name)) moved e7);
+        lives = resolved-lives old ctx a.to.directory to there;
+        content = is-directory to.1.content to_entries is_to;
+        export = (unsigned_Decides from.1.export to.1.export).0 (holds (from.1.export == to.1.export) status.CrossDevice x1 e1);
+        over = refl;
+      }))))))))))))
 
   abbrev After : Result (Unit {0} × State) NfsStatus → Type 0
   After end = Follows (time_of ctx.moment) old (state_after old end)
 
-  renamed : (plan : Result (Option Move) NfsStatus) (end : Result (Unit {0} × State) NfsStatus) → IfOk plan (IsPlan old) → RenameEnds old ctx plan end → After end
+  renamed : (plan : Result (Option (ℕ × ℕ) × Result (Unit {0} × State) NfsStatus) NfsStatus) (end : Result (Unit {0} × State) NfsStatus) → IfOk plan IsPlan → RenameEnds old plan end → After end
   renamed (Err e) end is ends = subst After (sym ends) (follows-itself (time_of ctx.moment) old)
-  renamed (Ok None) end is ends = subst After (sym ends) (follows-itself (time_of ctx.moment) old)
-  renamed (Ok (Some move)) end is (inl into) = subst After (sym into.1) (follows-itself (time_of ctx.moment) old)
-  renamed (Ok (Some move)) end is (inr out) = subst After (sym out.1) (follows-after (time_of ctx.moment) old (moved_end old ctx move) (moved-follows move is out.0))
+  renamed (Ok (None, known)) end is ends = subst After (sym ends) (follows-after (time_of ctx.moment) old known (is tt))
+  renamed (Ok (Some (moved, target), known)) end is (inl into) = subst After (sym into.1) (follows-itself (time_of ctx.moment) old)
+  renamed (Ok (Some (moved, target), known)) end is (inr out) = subst After (sym out.1) (follows-after (time_of ctx.moment) old known (is out.0))
 
 pub nfs-follows : (old : State) (ctx : Ctx) (call : NfsCall) (reply : NfsReply) (messages : List Message) (new : State) → NfsStep old ctx call reply messages new → Follows (time_of ctx.moment) old new
 unfolding NfsStep
 nfs-follows old ctx nfs.Null reply messages new step = stays (time_of ctx.moment) old new step.state_is
 nfs-follows old ctx (nfs.Getattr object) reply messages new step = stays (time_of ctx.moment) old new step.state_is
-nfs-follows old ctx (nfs.Lookup place) reply messages new step = stays (time_of ctx.moment) old new step.answers.state_is
+nfs-follows old ctx (nfs.Lookup place) reply messages new step = stays (time_of ctx.moment) old new step.2.state_is
 nfs-follows old ctx (nfs.Read a) reply messages new step = stays (time_of ctx.moment) old new step.state_is
 nfs-follows old ctx (nfs.Write a) reply messages new step = answered (time_of ctx.moment) _ old (write_end old ctx a) reply messages new step (write-follows old ctx a)
-nfs-follows old ctx (nfs.Create a) reply messages new step = made old ctx a.place (create_end old ctx a) _ reply messages new step (create-follows old ctx a)
-nfs-follows old ctx (nfs.Mkdir a) reply messages new step =
-    made old ctx a.place (mkdir_end old ctx a) _ reply messages new step
-    (make-follows old ctx a.place (Ok (wanted_directory a.attributes)) (λ number directory. may_gain_link old number directory.content)
-    (λ number directory x e. record { entries = refl; cookies = directory-plain; text = λ t is. cc }))
-nfs-follows old ctx (nfs.Symlink a) reply messages new step =
-    made old ctx a.place (symlink_end old ctx a) _ reply messages new step
-    (make-follows old ctx a.place (Ok (wanted_link a.text a.attributes)) (λ number directory. text_checked a.text)
-    (λ number directory x e. link-plain old ctx a.text a.attributes x e))
-nfs-follows old ctx (nfs.Mknod a) reply messages new step =
-    made old ctx a.place (mknod_end old ctx a) _ reply messages new step (make-follows old ctx a.place (wanted_special a.what) (λ number directory. may_make ctx a.what)
-    (λ number directory x e. special-plain old ctx a.what))
+nfs-follows old ctx (nfs.Create a) reply messages new step =
+    made old ctx a.place _ _ _ reply messages new step (file-plain old ctx a.how) (λ number. existing-follows old ctx a.how number (get old.objects number) refl)
+nfs-follows old ctx (nfs.Mkdir a) reply messages new step = made old ctx a.place _ _ _ reply messages new step (record { entries = refl; cookies = directory-plain }) (λ number. tt)
+nfs-follows old ctx (nfs.Symlink a) reply messages new step = made old ctx a.place _ _ _ reply messages new step (record { entries = refl; cookies = λ last is. cc }) (λ number. tt)
+nfs-follows old ctx (nfs.Mknod a) reply messages new step = made old ctx a.place _ _ _ reply messages new step (special-plain old ctx a.what) (λ number. tt)
 nfs-follows old ctx (nfs.Remove place) reply messages new step = answered (time_of ctx.moment) _ old (remove_end old ctx place) reply messages new step (remove-follows old ctx place)
 nfs-follows old ctx (nfs.Rmdir place) reply messages new step = answered (time_of ctx.moment) _ old (rmdir_end old ctx place) reply messages new step (rmdir-follows old ctx place)
 nfs-follows old ctx (nfs.Link a) reply messages new step = answered (time_of ctx.moment) _ old (link_end old ctx a) reply messages new step (link-follows old ctx a)
 nfs-follows old ctx (nfs.Rename a) reply messages new step =
-    subst (Follows (time_of ctx.moment) old) (sym step.answers.state_is) (renamed old ctx (rename_plan old ctx a) step.end (planned old ctx a) step.ends)
+    subst (Follows (time_of ctx.moment) old) (sym step.2.state_is) (renamed old ctx (rename_plan old ctx a) step.0 (planned old ctx a) step.1)
 nfs-follows old ctx (nfs.Setattr a) reply messages new step = answered (time_of ctx.moment) _ old (setattr_end old ctx a) reply messages new step (setattr-follows old ctx a)
 nfs-follows old ctx (nfs.Access a) reply messages new step = stays (time_of ctx.moment) old new step.state_is
 nfs-follows old ctx (nfs.Readlink object) reply messages new step = stays (time_of ctx.moment) old new step.state_is
@@ -187,7 +233,7 @@ unchanged : (now : Time) (old new : State) → new ≡ old → Keeps now old new
 unchanged now old new same = keeps now old new (stays now old new same)
 
 -- MOUNT leaves the objects as they are
-with-mounts : (now : Time) (m : State) (mounts : List Mounted) → Keeps now m (record m { mounts = mounts })
+with-mounts : (now : Time) (m : State) (mounts : List MountBody) → Keeps now m (record m { mounts = mounts })
 with-mounts now m mounts = record {
   gives = gives-continued now m (record m { mounts = mounts }) (record { kept = λ n g e. e; lived = λ n o at. (o, at, inl refl) });
   touches = touches-continued now m (record m { mounts = mounts }) (record { kept = λ n g e. e; lived = λ n o at. (o, at, inl refl) });
@@ -195,27 +241,27 @@ with-mounts now m mounts = record {
   locks = record { apart = λ h. h; waits = λ h. h };
 }
 
-mounted : (now : Time) (m : State) (x : Mounted) → Keeps now m (with_mount m x)
+mounted : (now : Time) (m : State) (x : MountBody) → Keeps now m (with_mount m x)
 mounted now m x =
     elim (is_mounted m.mounts x) as (λ b. Keeps now m (cond b m (record m { mounts = newest (m.mounts ++ x ∷ []) }))) [
       | true ↦ keeps now m m (follows-itself now m)
       | false ↦ with-mounts now m (newest (m.mounts ++ x ∷ []))
     ]
 
-unmounted : (now : Time) (m : State) (goes : Mounted → Bool) → Keeps now m (without_mounts m goes)
-unmounted now m goes = with-mounts now m (filter (λ (x : Mounted). not (goes x)) m.mounts)
+unmounted : (now : Time) (m : State) (goes : MountBody → Bool) → Keeps now m (without_mounts m goes)
+unmounted now m goes = with-mounts now m (filter (λ (x : MountBody). not (goes x)) m.mounts)
 
 mnt : (old : State) (ctx : Ctx) (path : List ℕ) (result : Result (List ℕ) MountStatus) (new : State) → MntAnswers old ctx path result new → Keeps (time_of ctx.moment) old new
-mnt old ctx path (Ok handle) new (found, target, is, same) = subst (Keeps (time_of ctx.moment) old) (sym same) (mounted (time_of ctx.moment) old (record { host = ctx.host; path = path }))
+mnt old ctx path (Ok handle) new (found, target, is, same) = subst (Keeps (time_of ctx.moment) old) (sym same) (mounted (time_of ctx.moment) old (record { hostname = ctx.host; directory = path }))
 mnt old ctx path (Err e) new (why, same) = unchanged (time_of ctx.moment) old new same
 
 mount-keeps : (old : State) (ctx : Ctx) (call : MountCall) (reply : MountReply) (messages : List Message) (new : State) → MountStep old ctx call reply messages new → Keeps (time_of ctx.moment) old new
 unfolding MountStep
 mount-keeps old ctx mount.Null reply messages new step = unchanged (time_of ctx.moment) old new step.state_is
-mount-keeps old ctx (mount.Mnt path) reply messages new step = mnt old ctx path step.result new step.answers
+mount-keeps old ctx (mount.Mnt path) reply messages new step = mnt old ctx path step.0 new step.3
 mount-keeps old ctx mount.Dump reply messages new step = unchanged (time_of ctx.moment) old new step.state_is
 mount-keeps old ctx (mount.Unmount path) reply messages new step = subst (Keeps (time_of ctx.moment) old) (sym step.state_is) (unmounted (time_of ctx.moment) old (is_of ctx.host path))
-mount-keeps old ctx mount.UnmountAll reply messages new step = subst (Keeps (time_of ctx.moment) old) (sym step.state_is) (unmounted (time_of ctx.moment) old (is_by ctx.host))
+mount-keeps old ctx mount.UnmountAll reply messages new step = subst (Keeps (time_of ctx.moment) old) (sym step.state_is) (unmounted (time_of ctx.moment) old (λ (x : MountBody). same_bytes x.hostname ctx.host))
 mount-keeps old ctx mount.Export reply messages new step = unchanged (time_of ctx.moment) old new step.state_is
 
 -- so does NLM

@@ -14,6 +14,7 @@ mod LockingWorked
 mod Listed
 mod Listing
 pub mod Modes
+pub mod Moves
 pub mod Opened
 pub mod Pages
 mod Paging

@@ -1,5 +1,5 @@
 -- How many bytes pages have: what fits by its sums fits by its bytes.
-use Rattle.std.proofs.Common.{◌≡◌, ℕ, ◌+◌, ◌≤◌, Bool, true, List, [], ◌∷◌, length, length-append, map, min, Option, Some, None, Result, Ok, Err, IfOk, IfSome, nat_le, arith, ap, option_map, sym, subst}
+use Rattle.std.proofs.Common.{◌/◌, ◌*◌, ◌≡◌, ℕ, ◌+◌, ◌≤◌, Bool, true, List, [], ◌∷◌, length, length-append, map, min, Option, Some, None, Result, Ok, Err, IfOk, IfSome, nat_le, arith, ap, option_map, sym, subst}
 use Rattle.std.proofs.lemmas.Bool.{leb-true}
 use Rattle.std.proofs.lemmas.List.{length-replicate}
 use Rattle.std.proofs.lemmas.List.Elements.{All-cons, All-nil}
@@ -23,12 +23,17 @@ use Rattle.nfs_wire.specs.declared.replies.ReaddirplusReply.{ReaddirplusReply}
 use Rattle.nfs_wire.specs.declared.status.NfsStatus.{NfsStatus}
 use Rattle.side_wire.specs.declared.message.Message.{Message}
 use Rattle.nfs_machine.specs.DataSteps.{verifier_of}
-use Rattle.nfs_machine.specs.Pages.{fits, fits_full, entry_size, full_entry_size, name_size}
-use Rattle.nfs_machine.specs.PageSteps.{PagesOf, ReaddirStep, ReaddirplusStep, entries_left, full_entry, page_entry, readdir_result, readdirplus_result}
+use Rattle.nfs_machine.specs.Pages.{fits, fits_full, entry_size, full_entry_size}
+use Rattle.nfs_machine.proofs.Pages.{PagesOf, ReaddirStep, ReaddirplusStep, readdir_result, readdirplus_result}
+use Rattle.nfs_machine.specs.PageSteps.{entries_left, full_entry, page_entry}
 use Rattle.nfs_machine.specs.Resolve.{resolve}
 use Rattle.nfs_machine.specs.Shown.{attributes_at, handle_at, shown}
 use Rattle.nfs_machine.specs.State.{Entry, Living, State}
 use Rattle.nfs_machine.specs.declared.context.Ctx.{Ctx}
+
+-- a name with padding
+abbrev name_size : List ℕ → ℕ
+name_size name = (length name + 3) / 4 * 4
 
 adds-name : (name : List ℕ) → Adds filename3 name (4 + name_size name)
 unfolding appended with_padded with_word
@@ -144,7 +149,7 @@ readdirplus-form m ctx attributes count (Err e) within = tt
 
 -- what a step answers fits
 paged : (fit : List Entry → Bool) (entries : Result (List Entry) NfsStatus) (page : Result (List Entry × Bool) NfsStatus) → PagesOf fit entries page → IfOk page (λ p. fit p.0 ≡ true)
-paged fit (Ok entries) (Ok p) is = is.1.fits
+paged fit (Ok entries) (Ok p) is = is.1.1
 paged fit (Err e) (Ok p) is = cc
 paged fit entries (Err e) is = tt
 

@@ -1,29 +1,27 @@
 -- The steps of MOUNT and NLM that are worked through: the lists of locks at every offset, and what the handle names.
-use Rattle.std.proofs.Common.{◌≡◌, ◌==◌, ℕ, ◌+◌, ◌<◌, ◌≤◌, Bool, true, false, not, ◌&&◌, ◌||◌, cond, [], ◌∷◌, Option, Some, None, Result, Ok, Err, nat_le, inl, inr, refl, sym, ◌∙◌, ap, subst, arith}
+use Rattle.std.proofs.Common.{◌≡◌, ◌==◌, ℕ, ◌+◌, ◌<◌, ◌≤◌, Bool, true, false, not, ◌&&◌, ◌||◌, cond, [], ◌∷◌, Option, Some, None, Result, Ok, Err, is_ok, nat_le, inl, inr, refl, sym, ◌∙◌, ap, subst, arith}
 use Rattle.std.proofs.Math.Bool.{and-false}
 use Rattle.std.proofs.lemmas.Bool.{and_parts, le-leb, leb-true, lt-leb}
 use Rattle.std.proofs.lemmas.List.Sums.{sum_by-cons}
 use Rattle.std.specs.List.{count_by, sum_by}
-use Rattle.side_wire.specs.declared.nlm.LockArguments.{LockArguments}
 use Rattle.side_wire.specs.declared.nlm.NlmStatus.TheVariants as status
 use Rattle.side_wire.specs.declared.nlm.TestStatus.TheVariants as tested
 use Rattle.side_wire.specs.declared.message.NlmLock.{NlmLock}
-use Rattle.nfs_machine.specs.Checks.{◌>>=◌, holding, is_writable}
-use Rattle.nfs_machine.specs.Locks.{Conflicts, Exclusive, Lists, Range, Unlocked, fits_offsets, holds, is_within, mode_at, mode_by, modes_with, range_of, same_owner}
-use Rattle.nfs_machine.specs.LockSteps.{Fault, named_object, regular}
+use Rattle.nfs_machine.specs.Checks.{◌>>=◌, bytes_in, holding, is_writable}
+use Rattle.nfs_machine.specs.Locks.{Conflicts, Lists, fits_offsets, is_within, mode_at, modes_with, range_of, same_owner}
+use Rattle.nfs_machine.specs.LockSteps.{Fault}
 use Rattle.side_wire.specs.declared.mount.MountStatus.{MountStatus}
 use Rattle.side_wire.specs.declared.mount.MountStatus.TheVariants as mount_status
-use Rattle.nfs_machine.specs.MountSteps.{MountStep, entries_at, walk}
-use Rattle.nfs_machine.specs.MountSteps.{◌>>=◌ as ◌>>=m◌}
+use Rattle.nfs_machine.specs.MountSteps.{MountStep, entries_at, walk, ◌>>=◌ as ◌>>=m◌}
 use Rattle.nfs_machine.specs.Resolve.{Resolved, Names, resolve}
-use Rattle.nfs_machine.specs.State.{Living, Lock, Owner}
+use Rattle.nfs_machine.specs.State.{Living, Lock, Owner, Range}
 use Rattle.nfs_machine.specs.Worked.{open_export, root_bytes}
-use Rattle.nfs_machine.specs.WorkedLocks.{a, b, lock, on_file, split, whole}
+use Rattle.nfs_machine.specs.WorkedLocks.{a, b, lock, on_file, split, whole, Unlocked, Exclusive}
 use Rattle.nfs_machine.specs.WorkedLocking.{WorkedLocking, giving_back, locking, with_split, with_waiting, with_whole}
 use Rattle.nfs_machine.specs.WorkedRun.{nobody, root_with_x, written, x_bytes, x_written}
 use Rattle.nfs_machine.specs.NlmSteps.{NlmStep}
 use Rattle.nfs_machine.proofs.Checked.{LockOf, UnlockOf}
-use Rattle.nfs_machine.proofs.Modes.{listed_locks_tell}
+use Rattle.nfs_machine.proofs.Modes.{listed_locks_tell, holds, mode_by}
 use Rattle.nfs_machine.proofs.Opened.{le_or}
 use Rattle.nfs_machine.proofs.Ranges.{locked}
 use Rattle.nfs_machine.proofs.RunWorked.{root-written, x-lives, x-named}
@@ -100,15 +98,12 @@ given-back = record { modes_are = modes; once = once }
         omega (arith, nil, two, sum_by-cons f (lock a 0 39 true) (lock a 60 99 true ∷ []), sum_by-cons f (lock a 60 99 true) [])
 
 -- ---- NLM
-abbrev file_by : Resolved → Result (ℕ × Living) Fault
-file_by r = named_object r >>= λ o. regular o.1.content >>= λ _. Ok o
-
-abbrev range_by : NlmLock → Resolved → Result Range Fault
-range_by l r = file_by r >>= λ file. holding (fits_offsets l) (status.FileTooBig, tested.FileTooBig) >>= λ _. Ok (range_of file.0 l)
-
-abbrev lock_by : LockArguments → Resolved → Result Range Fault
-lock_by l r =
-    file_by r >>= λ file. holding (fits_offsets l.lock) (status.FileTooBig, tested.FileTooBig) >>= λ _. holding (not l.exclusive || is_writable nobody file.1) (status.ReadOnly, tested.ReadOnly) >>= λ _. Ok (range_of file.0 l.lock)
+abbrev range_by : Bool → NlmLock → Resolved → Result Range Fault
+range_by writes l r =
+    (elim r as (λ r. Result (ℕ × Living) Fault) [ Names number object ↦ Ok (number, object) | other ↦ Err (status.StaleHandle, tested.StaleHandle) ]
+    >>= λ file. holding (is_ok (bytes_in file.1.content)) (status.Failed, tested.Failed) >>= λ _. holding (fits_offsets l) (status.FileTooBig, tested.FileTooBig)
+    >>= λ _. holding (not writes || is_writable nobody file.1) (status.ReadOnly, tested.ReadOnly) >>= λ _. Ok file.0)
+    >>= λ file. Ok (range_of file l)
 
 -- where a path without parts leads
 abbrev found_by : Option Living → Result (ℕ × Living) MountStatus
@@ -123,35 +118,35 @@ held = record { other = a; offset = 30; is_other = refl; is_inside = refl; confl
 pub worked-locking : WorkedLocking
 unfolding NlmStep MountStep walk
 worked-locking = record {
-  locks = record {
-    status = status.Granted;
-    ends = subst (λ r. LockOf written nobody (locking a 0 100 true) false (lock_by (locking a 0 100 true) r) status.Granted [] with_whole) (sym is-x)
-        (inl (listed_locks_tell [] (on_file a 0 100) Exclusive refl, refl, record { locks = whole; lists = locked; settles = (tt, refl) }));
-    reply_is = refl;
-  };
-  unlocks = record {
-    status = status.Granted;
-    ends = subst (λ r. UnlockOf with_whole (range_by giving_back.lock r) status.Granted [] with_split) (sym is-x)
-        (refl, record { locks = split; lists = given-back; settles = (tt, refl) });
-    reply_is = refl;
-  };
-  waits = record {
-    status = status.Blocked;
-    ends = subst (λ r. LockOf with_split nobody (locking b 30 1 true) false (lock_by (locking b 30 1 true) r) status.Blocked [] with_waiting) (sym is-x)
-        (inr (held, inl (record { number = 5; is_number = refl; never_given = refl; answers = record { reply_is = refl; no_message = refl; state_is = refl } })));
-    reply_is = refl;
-  };
-  denied = record {
-    status = status.Denied;
-    ends = subst (λ r. LockOf with_split nobody (locking b 30 1 false) false (lock_by (locking b 30 1 false) r) status.Denied [] with_split) (sym is-x)
-        (inr (held, record { reply_is = refl; no_message = refl; state_is = refl }));
-    reply_is = refl;
-  };
-  mounts = record {
-    result = Ok root_bytes;
-    reply_is = refl;
-    no_message = refl;
-    answers = (
+  locks = (
+    status.Granted,
+    subst (λ r. LockOf written nobody (locking a 0 100 true) false (range_by true ((locking a 0 100 true)).lock r) status.Granted [] with_whole) (sym is-x)
+        (inl (listed_locks_tell [] (on_file a 0 100) Exclusive refl, refl, (whole, locked, (tt, refl)))),
+    refl,
+  );
+  unlocks = (
+    status.Granted,
+    subst (λ r. UnlockOf with_whole (range_by false giving_back.lock r) status.Granted [] with_split) (sym is-x)
+        (refl, (split, given-back, (tt, refl))),
+    refl,
+  );
+  waits = (
+    status.Blocked,
+    subst (λ r. LockOf with_split nobody (locking b 30 1 true) false (range_by true ((locking b 30 1 true)).lock r) status.Blocked [] with_waiting) (sym is-x)
+        (inr (held, inl ((5, refl, refl, record { reply_is = refl; no_message = refl; state_is = refl })))),
+    refl,
+  );
+  denied = (
+    status.Denied,
+    subst (λ r. LockOf with_split nobody (locking b 30 1 false) false (range_by true ((locking b 30 1 false)).lock r) status.Denied [] with_split) (sym is-x)
+        (inr (held, record { reply_is = refl; no_message = refl; state_is = refl })),
+    refl,
+  );
+  mounts = (
+    Ok root_bytes,
+    refl,
+    refl,
+    (
       (1, root_with_x),
       (
         refl,
@@ -162,7 +157,7 @@ worked-locking = record {
       ),
       refl,
       refl,
-    );
-  };
-  not_mounted = record { result = Err mount_status.Invalid; reply_is = refl; no_message = refl; answers = (inl refl, refl) };
+    ),
+  );
+  not_mounted = (Err mount_status.Invalid, refl, refl, (inl refl, refl));
 }

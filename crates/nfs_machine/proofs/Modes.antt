@@ -1,5 +1,5 @@
 -- Modes of owners at offsets, and that no two conflict.
-use Rattle.std.proofs.Common.{◌≡◌, ◌==◌, ℕ, Bool, true, false, not, ◌&&◌, ◌||◌, cond, List, [], ◌∷◌, ◌++◌, Some, filter, find, refl, sym, ◌∙◌, ap, subst, nat_le, ◌≤◌, arith}
+use Rattle.std.proofs.Common.{◌≡◌, ◌==◌, ℕ, Bool, true, false, not, ◌&&◌, ◌||◌, cond, List, [], ◌∷◌, ◌++◌, Some, filter, find, refl, sym, ◌∙◌, ap, subst, nat_le, ◌≤◌, arith, None, Option, option_map}
 use Rattle.std.proofs.Math.Bool.{or_comm}
 use Rattle.std.proofs.lemmas.Bool.{and_parts, leb-true, le-leb, or_parts}
 use Rattle.std.proofs.lemmas.Cmp.{nat_list_eq_equiv}
@@ -8,9 +8,9 @@ use Rattle.std.specs.Cmp.Lexicographic.{bytes_decides}
 use Rattle.std.specs.List.{AllByRecursion, list_any}
 use Rattle.std.specs.Ordering.{int_eq}
 use Rattle.nfs_machine.specs.Bytes.{same_bytes}
-use Rattle.nfs_machine.specs.Locks.{Conflicts, Exclusive, Lists, Mode, Range, Shared, Unlocked, denies, holds, is_in, is_within, mode_at, mode_by, mode_of, modes_conflict, modes_with, modes_without, same_owner, same_sharer, shares_conflict}
+use Rattle.nfs_machine.specs.Locks.{Conflicts, Lists, Mode, denies, is_in, is_within, mode_at, modes_conflict, modes_with, same_owner, same_sharer, shares_conflict}
 use Rattle.nfs_machine.specs.LockLaws.{ListedLocksTell, NoLocksConflict, NoSharesConflict, stands_in_way}
-use Rattle.nfs_machine.specs.State.{Lock, Owner, Share}
+use Rattle.nfs_machine.specs.State.{Lock, Owner, Share, Range}
 use Rattle.nfs_machine.proofs.Changes.{flipped}
 
 -- ---- lists
@@ -61,6 +61,14 @@ other-back a b e =
     ] refl
 
 -- ---- what a range contains
+
+-- what a lock contains, and the mode of one that is found
+abbrev pub holds : ℕ → Owner → ℕ → Lock → Bool
+holds file owner offset l = is_in l.range file owner offset
+
+abbrev pub mode_by : Option Lock → Mode
+mode_by found = option_map (λ (l : Lock). l.exclusive) found
+
 pub record Inside (r : Range) (file : ℕ) (owner : Owner) (offset : ℕ) : Type 0 where
   pub file_is : r.file ≡ file
   pub owner_is : r.owner ≡ owner
@@ -72,24 +80,18 @@ inside r file owner offset e =
     let whose = and_parts (r.file == file) (same_owner r.owner owner) all.0 in
     record { file_is = (unsigned_Decides r.file file).0 whose.0; owner_is = one-owner r.owner owner whose.1; within = all.1 }
 
-pub none-left : (mode : Mode) → modes_conflict mode Unlocked ≡ false
-none-left Unlocked = refl
-none-left Shared = refl
-none-left Exclusive = refl
+pub none-left : (mode : Mode) → modes_conflict mode None ≡ false
+none-left None = refl
+none-left (Some a) = refl
 
 pub conflict-back : (a b : Mode) → modes_conflict a b ≡ modes_conflict b a
-conflict-back Unlocked Unlocked = refl
-conflict-back Unlocked Shared = refl
-conflict-back Unlocked Exclusive = refl
-conflict-back Shared Unlocked = refl
-conflict-back Shared Shared = refl
-conflict-back Shared Exclusive = refl
-conflict-back Exclusive Unlocked = refl
-conflict-back Exclusive Shared = refl
-conflict-back Exclusive Exclusive = refl
+conflict-back None None = refl
+conflict-back None (Some b) = refl
+conflict-back (Some a) None = refl
+conflict-back (Some a) (Some b) = or_comm a b
 
 -- nothing stands in the way of no mode
-pub unlocking-free : (locks : List Lock) (r : Range) → Conflicts locks r Unlocked → ⊥
+pub unlocking-free : (locks : List Lock) (r : Range) → Conflicts locks r None → ⊥
 unlocking-free locks r c = (let no : false ≡ true = c.conflict in cc)
 
 -- ---- a list in which no lock stands in the way
@@ -107,7 +109,7 @@ free-list (l ∷ locks) r mode none other offset apart within =
     let away = or_parts (stands_in_way r mode l) (list_any (stands_in_way r mode) locks) none in
     elim (holds r.file other offset l) as (λ b. holds r.file other offset l ≡ b → modes_conflict mode (mode_by (cond b (Some l) (find (holds r.file other offset) locks))) ≡ false) [
       | true ↦ λ e.
-          let i = inside (record { file = l.file; owner = l.owner; first = l.first; last = l.last }) r.file other offset e in
+          let i = inside l.range r.file other offset e in
           let mine = and_parts (nat_le l.first offset) (nat_le offset l.last) i.within in
           let asked = and_parts (nat_le r.first offset) (nat_le offset r.last) within in
           let a1 : l.first ≤ offset = leb-true l.first offset mine.0 in
@@ -118,7 +120,7 @@ free-list (l ∷ locks) r mode none other offset apart within =
           let owner : same_owner r.owner l.owner ≡ false = subst (λ x. same_owner r.owner x ≡ false) (sym i.owner_is) apart in
           let low : nat_le l.first r.last ≡ true = le-leb l.first r.last (omega (arith, a1, b2)) in
           let high : nat_le r.first l.last ≡ true = le-leb r.first l.last (omega (arith, b1, a2)) in
-          sym (passed (l.file == r.file) (same_owner r.owner l.owner) (nat_le l.first r.last) (nat_le r.first l.last) (modes_conflict mode (mode_of l.exclusive)) file owner low high) ∙ away.0
+          sym (passed (l.file == r.file) (same_owner r.owner l.owner) (nat_le l.first r.last) (nat_le r.first l.last) (modes_conflict mode (Some l.exclusive)) file owner low high) ∙ away.0
       | false ↦ λ e. free-list locks r mode away.1 other offset apart within
     ] refl
   where
@@ -171,14 +173,18 @@ module _ (locks : List Lock) (r : Range) (mode : Mode) (free : Conflicts locks r
         ] refl
       ] refl
 
-pub apart-without : (locks : List Lock) (name : List ℕ) (new : List Lock) → Lists new (modes_without locks name) → NoLocksConflict locks → NoLocksConflict new
+-- the modes where all owners of a caller lose what they have
+abbrev pub without_caller : List Lock → List ℕ → ℕ → Owner → ℕ → Mode
+without_caller locks name file owner offset = cond (same_bytes owner.caller_name name) None (mode_at locks file owner offset)
+
+pub apart-without : (locks : List Lock) (name : List ℕ) (new : List Lock) → Lists new (without_caller locks name) → NoLocksConflict locks → NoLocksConflict new
 apart-without locks name new lists old file a b offset other =
     let at-a = mode_at locks file a offset in
     let at-b = mode_at locks file b offset in
-    ap (λ x. modes_conflict x (mode_at new file b offset)) (lists.modes_are file a offset) ∙ ap (λ x. modes_conflict (modes_without locks name file a offset) x) (lists.modes_are file b offset)
-    ∙ elim (same_bytes a.caller_name name) as (λ s. modes_conflict (cond s Unlocked at-a) (modes_without locks name file b offset) ≡ false) [
+    ap (λ x. modes_conflict x (mode_at new file b offset)) (lists.modes_are file a offset) ∙ ap (λ x. modes_conflict (without_caller locks name file a offset) x) (lists.modes_are file b offset)
+    ∙ elim (same_bytes a.caller_name name) as (λ s. modes_conflict (cond s None at-a) (without_caller locks name file b offset) ≡ false) [
       | true ↦ refl
-      | false ↦ elim (same_bytes b.caller_name name) as (λ t. modes_conflict at-a (cond t Unlocked at-b) ≡ false) [
+      | false ↦ elim (same_bytes b.caller_name name) as (λ t. modes_conflict at-a (cond t None at-b) ≡ false) [
         | true ↦ none-left at-a
         | false ↦ old file a b offset other
       ]
@@ -204,10 +210,10 @@ mode-but number (l ∷ locks) file owner offset other =
       ]
     ] refl
 
-pub mode-gone : (number : ℕ) (locks : List Lock) (file : ℕ) (owner : Owner) (offset : ℕ) → (file == number) ≡ true → mode_at (but number locks) file owner offset ≡ Unlocked
+pub mode-gone : (number : ℕ) (locks : List Lock) (file : ℕ) (owner : Owner) (offset : ℕ) → (file == number) ≡ true → mode_at (but number locks) file owner offset ≡ None
 mode-gone number [] file owner offset same = refl
 mode-gone number (l ∷ locks) file owner offset same =
-    elim (l.file == number) as (λ b. (l.file == number) ≡ b → mode_by (find (holds file owner offset) (cond (not b) (l ∷ but number locks) (but number locks))) ≡ Unlocked) [
+    elim (l.file == number) as (λ b. (l.file == number) ≡ b → mode_by (find (holds file owner offset) (cond (not b) (l ∷ but number locks) (but number locks))) ≡ None) [
       | true ↦ λ is. mode-gone number locks file owner offset same
       | false ↦ λ is.
           let away : holds file owner offset l ≡ false = ap (λ b. (b && same_owner l.owner owner) && is_within l.first l.last offset) (ap (λ k. l.file == k) ((unsigned_Decides file number).0 same) ∙ is) in
@@ -231,17 +237,19 @@ shares-left p shares apart =
 
 shares-back : (a b : Share) → shares_conflict a b ≡ shares_conflict b a
 shares-back a b =
-    ap (λ t. (t && not (same_sharer a b)) && (denies a b || denies b a)) (nat_eq_equiv.symm a.file b.file)
-    ∙ ap (λ t. ((b.file == a.file) && not (t && same_bytes a.owner b.owner)) && (denies a b || denies b a)) (nat_list_eq_equiv.symm a.caller_name b.caller_name)
-    ∙ ap (λ t. ((b.file == a.file) && not (same_bytes b.caller_name a.caller_name && t)) && (denies a b || denies b a)) (nat_list_eq_equiv.symm a.owner b.owner)
-    ∙ ap (λ t. ((b.file == a.file) && not (same_sharer b a)) && t) (or_comm (denies a b) (denies b a))
+    let or = denies a.mode b.access || denies b.mode a.access in
+    ap (λ t. (t && not ((t && same_bytes a.caller_name b.caller_name) && same_bytes a.owner b.owner)) && or) (nat_eq_equiv.symm a.file b.file)
+    ∙ ap (λ t. ((b.file == a.file) && not (((b.file == a.file) && t) && same_bytes a.owner b.owner)) && or) (nat_list_eq_equiv.symm a.caller_name b.caller_name)
+    ∙ ap (λ t. ((b.file == a.file) && not (((b.file == a.file) && same_bytes b.caller_name a.caller_name) && t)) && or) (nat_list_eq_equiv.symm a.owner b.owner)
+    ∙ ap (λ t. ((b.file == a.file) && not (same_sharer b a)) && t) (or_comm (denies a.mode b.access) (denies b.mode a.access))
 
 share-itself : (s : Share) → shares_conflict s s ≡ false
 share-itself s =
-    ap (λ t. ((s.file == s.file) && not (t && same_bytes s.owner s.owner)) && (denies s s || denies s s)) ((bytes_decides s.caller_name s.caller_name).1 refl)
-    ∙ ap (λ t. ((s.file == s.file) && not t) && (denies s s || denies s s)) ((bytes_decides s.owner s.owner).1 refl) ∙ of (s.file == s.file)
+    let or = denies s.mode s.access || denies s.mode s.access in
+    ap (λ t. ((s.file == s.file) && not (((s.file == s.file) && t) && same_bytes s.owner s.owner)) && or) ((bytes_decides s.caller_name s.caller_name).1 refl)
+    ∙ ap (λ t. ((s.file == s.file) && not (((s.file == s.file) && true) && t)) && or) ((bytes_decides s.owner s.owner).1 refl) ∙ of (s.file == s.file)
   where
-    of : (t : Bool) → ((t && false) && (denies s s || denies s s)) ≡ false
+    of : (t : Bool) → ((t && not ((t && true) && true)) && (denies s.mode s.access || denies s.mode s.access)) ≡ false
     of true = refl
     of false = refl
 

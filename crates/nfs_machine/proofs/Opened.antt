@@ -1,5 +1,5 @@
 -- The state that a server starts with: its roots live, one for each export, and nothing else; so it is well formed.
-use Rattle.std.proofs.Common.{◌≡◌, ◌≢◌, ℕ, ◌+◌, ◌<◌, ◌≤◌, ◌⊎◌, inl, inr, true, false, cond, nat_le, List, [], ◌∷◌, length, Some, None, refl, sym, ◌∙◌, ap, subst, arith}
+use Rattle.std.proofs.Common.{◌≡◌, ◌≢◌, ℕ, ◌+◌, ◌<◌, ◌≤◌, ◌&&◌, ◌⊎◌, inl, inr, true, false, cond, nat_le, List, [], ◌∷◌, length, Some, None, refl, sym, ◌∙◌, ap, subst, arith, if◌then◌else◌}
 use Rattle.std.proofs.lemmas.Bool.Decides.{nat_tests}
 use Rattle.std.specs.Cmp.{nat_cmp_total}
 use Rattle.std.specs.FinMap.{FinMap, get, insert, get-insert, get-empty}
@@ -9,7 +9,7 @@ use Rattle.nfs_wire.specs.declared.attributes.Time.{Time}
 use Rattle.nfs_machine.specs.Attributes.{entries_of, is_living_directory, names_in, names_of}
 use Rattle.nfs_machine.specs.Exports.{ExportValue}
 use Rattle.nfs_machine.specs.Laws.{OpeningIsFormed}
-use Rattle.nfs_machine.specs.Opening.{opening, opening_last, opening_root, opening_roots, time_of}
+use Rattle.nfs_machine.specs.Opening.{opening, opening_root, opening_roots, time_of}
 use Rattle.nfs_machine.specs.State.{Directory, Link, Entry, Living}
 use Rattle.nfs_machine.specs.WellFormed.{CookiesRise, IsDirectoryOf, WellFormed}
 use Rattle.nfs_machine.specs.declared.moment.Moment.{Moment}
@@ -46,16 +46,20 @@ module _ (es : List ExportValue) (moment : Moment) where
   abbrev time : Time
   time = time_of moment
 
+  -- the last generation that a number was given
+  abbrev last_given : ℕ → ℕ
+  last_given n = if nat_le 1 n && nat_le n (length es) then 1 else 0
+
   -- what lives is the root with its number, whose generation was given
   abbrev IsRoot : ℕ → Living → Type 0
-  IsRoot n o = (opening_root n time ≡ o) × (opening_last (length es) n ≡ 1)
+  IsRoot n o = (opening_root n time ≡ o) × (last_given n ≡ 1)
 
   pub only_roots : (n : ℕ) (o : Living) → get (opening_roots 1 es time) n ≡ Some o → IsRoot n o
   only_roots n o at = elim (le_or 1 n) [
     | inl low ↦ elim (le_or n (length es)) [
       | inl h ↦
           let some : Some (opening_root n time) ≡ Some o = sym (root_found time es 1 n low (omega (arith, h))) ∙ at in
-          ((let same : opening_root n time ≡ o = cc in same), (let e : opening_last (length es) n ≡ 1 = grind (arith, nat_tests) in e))
+          ((let same : opening_root n time ≡ o = cc in same), (let e : last_given n ≡ 1 = grind (arith, nat_tests) in e))
       | inr h ↦ (let none : None ≡ Some o = sym (root_none time es 1 n (inr (omega (arith, h)))) ∙ at in absurd cc)
     ]
     | inr zero ↦ (let none : None ≡ Some o = sym (root_none time es 1 n (inl zero)) ∙ at in absurd cc)
@@ -79,7 +83,7 @@ module _ (es : List ExportValue) (moment : Moment) where
     depth = λ n. 0;
     deeper = λ n o at.
         subst (λ (x : Living). AllByRecursion (λ (e : Entry). is_living_directory (get (opening_roots 1 es time) e.number) ≡ true → 0 < 0) (entries_of x.content)) (only_roots n o at).0 tt;
-    given = λ n o at. (let r = only_roots n o at in subst (λ (x : Living). nat_le x.generation (opening_last (length es) n) ≡ true) r.0 (ap (nat_le 1) r.1));
+    given = λ n o at. (let r = only_roots n o at in subst (λ (x : Living). nat_le x.generation (last_given n) ≡ true) r.0 (ap (nat_le 1) r.1));
     texts = λ n o text at is. (let no : Directory [] 2 ≡ Link text = ap (λ (x : Living). x.content) (only_roots n o at).0 ∙ is in cc);
   }
 

@@ -1,16 +1,45 @@
 -- The page of a list of entries: there is one, and it ends where the next entry no longer fits.
-use Rattle.std.proofs.Common.{Result, subst, take, drop, zero, suc, ◌==◌, ◌∙◌, ◌≡◌, ℕ, ◌+◌, ◌≤◌, Bool, true, false, ◌&&◌, List, [], ◌∷◌, ◌++◌, length, length-append, min, Ok, Err, nat_le, refl, sym, ap, arith}
+use Rattle.std.proofs.Common.{Result, subst, take, drop, zero, suc, ◌==◌, ◌∙◌, ◌≡◌, ℕ, ◌+◌, ◌≤◌, Bool, true, false, ◌&&◌, List, [], ◌∷◌, ◌++◌, length, length-append, map, min, Ok, Err, nat_le, refl, sym, ap, arith}
 use Rattle.std.proofs.lemmas.Bool.{leb-true, le-leb}
 use Rattle.std.proofs.Math.Seq.{take-append_seam}
 use Rattle.std.proofs.lemmas.List.{length-take, nil_from_length, take-append-drop}
 use Rattle.std.proofs.lemmas.List.Sums.{sum_by-append}
 use Rattle.std.specs.Cmp.{first_so, unsigned_Decides}
 use Rattle.std.specs.List.{sum_by}
+use Rattle.nfs_wire.specs.declared.calls.ReaddirArguments.{ReaddirArguments}
+use Rattle.nfs_wire.specs.declared.calls.ReaddirplusArguments.{ReaddirplusArguments}
+use Rattle.nfs_wire.specs.declared.replies.NfsReply.{NfsReply}
+use Rattle.nfs_wire.specs.declared.replies.NfsReply.TheVariants as replies
+use Rattle.nfs_wire.specs.declared.replies.Page.{Page}
+use Rattle.nfs_wire.specs.declared.replies.PagePlus.{PagePlus}
 use Rattle.nfs_wire.specs.declared.status.NfsStatus.{NfsStatus}
 use Rattle.nfs_wire.specs.declared.status.NfsStatus.TheVariants as status
-use Rattle.nfs_machine.specs.Pages.{IsPage, Pages, are_none, entry_size, fits, fits_full, full_entry_size}
+use Rattle.side_wire.specs.declared.message.Message.{Message}
+use Rattle.nfs_machine.specs.Checks.{◌>>=◌}
+use Rattle.nfs_machine.specs.DataSteps.{verifier_of}
+use Rattle.nfs_machine.specs.PageSteps.{PageStep, full_entry, page_entry}
+use Rattle.nfs_machine.specs.Pages.{IsPage, Pages, entry_size, fits, fits_full, full_entry_size}
 use Rattle.nfs_machine.specs.Paging.{PagesAreOne, PagesExist}
-use Rattle.nfs_machine.specs.State.{Entry}
+use Rattle.nfs_machine.specs.State.{Entry, State}
+use Rattle.nfs_machine.specs.declared.context.Ctx.{Ctx}
+use Rattle.nfs_machine.proofs.Facts.{are_none, no-entry, some-entry}
+
+-- what READDIR and READDIRPLUS answer of a page, and their steps
+abbrev pub readdir_result : Ctx → Result (List Entry × Bool) NfsStatus → Result Page NfsStatus
+readdir_result ctx page = page >>= λ p. Ok (record { verifier = verifier_of ctx; entries = map page_entry p.0; eof = p.1 })
+
+abbrev pub readdirplus_result : State → Ctx → Result (List Entry × Bool) NfsStatus → Result PagePlus NfsStatus
+readdirplus_result m ctx page = page >>= λ p. Ok (record { verifier = verifier_of ctx; entries = map (full_entry m ctx) p.0; eof = p.1 })
+
+abbrev pub ReaddirStep : State → Ctx → ReaddirArguments → NfsReply → List Message → State → Type 0
+ReaddirStep old ctx a = PageStep old ctx a.directory a.cookie a.verifier (fits a.count) (λ attributes page. replies.Readdir (record { attributes = attributes; result = readdir_result ctx page }))
+
+abbrev pub ReaddirplusStep : State → Ctx → ReaddirplusArguments → NfsReply → List Message → State → Type 0
+ReaddirplusStep old ctx a = PageStep old ctx a.directory a.cookie a.verifier (fits_full a.directory_count a.most) (λ attributes page. replies.Readdirplus (record { attributes = attributes; result = readdirplus_result old ctx page }))
+
+-- the page of the entries that are left, as a step has it
+abbrev pub PagesOf : (fit : List Entry → Bool) → Result (List Entry) NfsStatus → Result (List Entry × Bool) NfsStatus → Type 0
+PagesOf fit left page = elim left as (λ r. Type 0) [ Ok entries ↦ Pages fit entries page | Err e ↦ page ≡ Err e ]
 
 -- what fits still fits with less
 abbrev pub Shrinks : (List Entry → Bool) → Type 0
@@ -56,11 +85,11 @@ longest fit shrinks (x ∷ front) rest (o ∷ other) more same stops h =
 pub page-stops : (fit : List Entry → Bool) → Shrinks fit → (f : Entry) (front : List Entry) (x : Entry) (rest : List Entry) → fit (f ∷ front) ≡ true → fit (f ∷ front ++ x ∷ []) ≡ false
     → Pages fit (f ∷ front ++ x ∷ rest) (Ok (f ∷ front, false))
 page-stops fit shrinks f front x rest here next =
-    (x ∷ rest, record { begins = refl; fits = here; goes_on = λ none. cc }, λ other more is. longest fit shrinks (f ∷ front) (x ∷ rest) other more is.begins (λ y ys same. (let head : x ≡ y = cc in ap (λ z. fit (f ∷ front ++ z ∷ [])) (sym head) ∙ next)) is.fits, refl)
+    (x ∷ rest, (refl, here, λ none. cc), λ other more is. longest fit shrinks (f ∷ front) (x ∷ rest) other more is.0 (λ y ys same. (let head : x ≡ y = cc in ap (λ z. fit (f ∷ front ++ z ∷ [])) (sym head) ∙ next)) is.1, sym (some-entry x rest))
 
 pub page-ends : (fit : List Entry → Bool) (front : List Entry) → fit front ≡ true → Pages fit front (Ok (front, true))
 page-ends fit front here =
-    ([], record { begins = sym (append-nil front); fits = here; goes_on = λ none. refl }, λ other more is. (let whole = ap length is.begins in let sum = length-append other more in omega (arith, whole, sum)), refl)
+    ([], (sym (append-nil front), here, λ none. refl), λ other more is. (let whole = ap length is.0 in let sum = length-append other more in omega (arith, whole, sum)), refl)
   where
     append-nil : (xs : List Entry) → xs ++ [] ≡ xs
     append-nil [] = refl
@@ -68,16 +97,16 @@ page-ends fit front here =
 
 -- there is no page where nothing fits, nor where the first entry does not
 pub page-none : (fit : List Entry → Bool) → Shrinks fit → (entries : List Entry) → fit [] ≡ false → Pages fit entries (Err status.TooSmall)
-page-none fit shrinks entries none = (λ front rest is. (let yes = shrinks [] front is.fits in absurd cc), refl)
+page-none fit shrinks entries none = (λ front rest is. (let yes = shrinks [] front is.1 in absurd cc), refl)
 
 pub page-first : (fit : List Entry → Bool) → Shrinks fit → (x : Entry) (entries : List Entry) → fit (x ∷ []) ≡ false → Pages fit (x ∷ entries) (Err status.TooSmall)
 page-first fit shrinks x entries none = (λ front rest is. first front rest is, refl)
   where
     first : (front rest : List Entry) → IsPage fit (x ∷ entries) front rest → ⊥
-    first [] rest is = let gone = is.goes_on refl in let begins = is.begins in absurd cc
+    first [] rest is = let gone = is.2 refl in let begins = is.0 in absurd cc
     first (f ∷ front) rest is =
-        let head : x ≡ f = let begins = is.begins in cc in
-        let yes = shrinks (f ∷ []) front is.fits in
+        let head : x ≡ f = let begins = is.0 in cc in
+        let yes = shrinks (f ∷ []) front is.1 in
         let no = ap (λ y. fit (y ∷ [])) (sym head) ∙ none in
         absurd cc
 
@@ -97,7 +126,7 @@ pub one-page : PagesAreOne
 one-page fit entries (Ok (p, eof)) (Ok (q, eof')) a b =
     let le = a.2 q b.0 b.1 in
     let ge = b.2 p a.0 a.1 in
-    let same = heads-alike p q a.0 b.0 (sym a.1.begins ∙ b.1.begins) (omega (arith, le, ge)) in
+    let same = heads-alike p q a.0 b.0 (sym a.1.0 ∙ b.1.0) (omega (arith, le, ge)) in
     let fronts = same.0 in
     let ends : eof ≡ eof' = a.3 ∙ ap are_none same.1 ∙ sym b.3 in
     cc
@@ -114,7 +143,7 @@ module _ (fit : List Entry → Bool) (entries : List Entry) where
   Paged = (page : Result (List Entry × Bool) NfsStatus) × Pages fit entries page
 
   front-of : (other more : List Entry) → IsPage fit entries other more → other ≡ take (length other) entries
-  front-of other more is = sym (ap (take (length other)) is.begins ∙ take-append_seam other more)
+  front-of other more is = sym (ap (take (length other)) is.0 ∙ take-append_seam other more)
 
   whole : (n : ℕ) → take n entries ++ drop n entries ≡ entries
   whole n = take-append-drop n entries
@@ -125,15 +154,15 @@ module _ (fit : List Entry → Bool) (entries : List Entry) where
   find-page : (n : ℕ) → n ≤ length entries → Bounded n → Paged
   find-page zero le bounded =
       elim (fit [] && are_none entries) as (λ t. (fit [] && are_none entries) ≡ t → Paged) [
-        | true ↦ λ is. (Ok ([], true), ([], record { begins = none (fit []) entries is; fits = first_so (fit []) (are_none entries) is; goes_on = λ e. refl }, bounded, refl))
+        | true ↦ λ is. (Ok ([], true), ([], (none (fit []) entries is, first_so (fit []) (are_none entries) is, λ e. refl), bounded, refl))
         | false ↦ λ is. (
           Err status.TooSmall,
           (
             λ front rest page. (
                 let empty = nil_from_length front (let below = bounded front rest page in omega (arith, below)) in
-                let fits = subst (λ (f : List Entry). fit f ≡ true) empty page.fits in
-                let over = page.goes_on empty in
-                let begins : entries ≡ [] = page.begins ∙ ap (λ f. f ++ rest) empty ∙ over in
+                let fits = subst (λ (f : List Entry). fit f ≡ true) empty page.1 in
+                let over = page.2 empty in
+                let begins : entries ≡ [] = page.0 ∙ ap (λ f. f ++ rest) empty ∙ over in
                 let gone = ap are_none begins in
                 clash (fit []) (are_none entries) fits gone is
                 ),
@@ -143,10 +172,8 @@ module _ (fit : List Entry → Bool) (entries : List Entry) where
       ] refl
     where
       none : (t : Bool) (es : List Entry) → (t && are_none es) ≡ true → es ≡ []
-      none true [] is = refl
-      none false [] is = refl
-      none true (x ∷ es) is = absurd cc
-      none false (x ∷ es) is = absurd cc
+      none true es is = no-entry es is
+      none false es is = absurd cc
 
       clash : (a b : Bool) → a ≡ true → b ≡ true → (a && b) ≡ false → ⊥
       clash true true x y is = absurd cc
@@ -158,7 +185,7 @@ module _ (fit : List Entry → Bool) (entries : List Entry) where
           Ok (take (suc n) entries, are_none (drop (suc n) entries)),
           (
             drop (suc n) entries,
-            record { begins = sym (whole (suc n)); fits = is; goes_on = λ e. absurd (let l = long (suc n) le in let z = ap length e in omega (arith, l, z)) },
+            (sym (whole (suc n)), is, λ e. absurd (let l = long (suc n) le in let z = ap length e in omega (arith, l, z))),
             λ other more page. (let l = long (suc n) le in let below = bounded other more page in omega (arith, l, below)),
             refl,
           ),
@@ -176,7 +203,7 @@ module _ (fit : List Entry → Bool) (entries : List Entry) where
       shorter other more page true same is =
           let size = (unsigned_Decides (length other) (suc n)).0 same in
           let front = front-of other more page ∙ ap (λ k. take k entries) size in
-          let fits = sym page.fits ∙ ap fit front ∙ is in
+          let fits = sym page.1 ∙ ap fit front ∙ is in
           absurd (apart fits)
       shorter other more page false same is =
           let below = bounded other more page in
@@ -184,4 +211,4 @@ module _ (fit : List Entry → Bool) (entries : List Entry) where
           lower (length other) n below differ
 
 pub some-page : PagesExist
-some-page fit entries = find-page fit entries (length entries) (omega arith) (λ other more page. (let whole = ap length page.begins in let sum = length-append other more in omega (arith, whole, sum)))
+some-page fit entries = find-page fit entries (length entries) (omega arith) (λ other more page. (let whole = ap length page.0 in let sum = length-append other more in omega (arith, whole, sum)))

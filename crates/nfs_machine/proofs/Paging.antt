@@ -5,9 +5,10 @@ use Rattle.std.proofs.lemmas.List.Elements.{Contains-append_cases, Contains-appe
 use Rattle.std.proofs.lemmas.List.Sums.{sum_by-cons}
 use Rattle.std.specs.Cmp.{unsigned_Decides}
 use Rattle.std.specs.List.{Contains, count_by}
-use Rattle.nfs_machine.specs.Pages.{are_none, behind}
+use Rattle.nfs_machine.specs.Pages.{behind}
 use Rattle.nfs_machine.specs.Paging.{InOrder, PagesAreWhole, ReadsOn, Rises, Stays, Visit, last_cookie, shown_by}
 use Rattle.nfs_machine.specs.State.{Entry}
+use Rattle.nfs_machine.proofs.Facts.{are_none, no-entry}
 
 -- ---- cookies that rise
 rises-lower : (a b : ℕ) (es : List Entry) → a ≤ b → Rises b es → Rises a es
@@ -86,27 +87,26 @@ left c (x ∷ es) e lt at =
 pages-rise : (c : ℕ) (visits : List Visit) → InOrder visits → ReadsOn c visits → Rises c (shown_by visits)
 pages-rise c [] order on = tt
 pages-rise c (v ∷ []) order on =
-    let whole = subst (Rises c) on.0.1.begins (behind-rises 0 c v.entries order.0) in
+    let whole = subst (Rises c) on.0.1.0 (behind-rises 0 c v.entries order.0) in
     rises-both c v.page [] (rises-front c v.page on.0.0 whole) tt
 pages-rise c (v ∷ w ∷ visits) order on =
-    let whole = subst (Rises c) on.0.1.begins (behind-rises 0 c v.entries order.0) in
+    let whole = subst (Rises c) on.0.1.0 (behind-rises 0 c v.entries order.0) in
     rises-both c v.page (shown_by (w ∷ visits)) (rises-front c v.page on.0.0 whole) (pages-rise (last_cookie c v.page) (w ∷ visits) order.1 on.2)
 
 none-left : (es : List Entry) (e : Entry) → are_none es ≡ true → Contains es e → ⊥
-none-left [] e is at = nowhere e at
-none-left (x ∷ es) e is at = absurd cc
+none-left es e is at = nowhere e (subst (λ l. Contains l e) (no-entry es is) at)
 
 shows : (c : ℕ) (visits : List Visit) (e : Entry) → InOrder visits → ReadsOn c visits → Stays visits e → c < e.cookie → Contains (shown_by visits) e
 shows c [] e order on stays lt = absurd on
 shows c (v ∷ []) e order on stays lt =
-    let here = subst (λ es. Contains es e) on.0.1.begins (left c v.entries e lt stays.0) in
+    let here = subst (λ es. Contains es e) on.0.1.0 (left c v.entries e lt stays.0) in
     elim (Contains-append_cases v.page on.0.0 e here) [
       | inl in_page ↦ Contains-append_left v.page [] e in_page
       | inr in_rest ↦ absurd (none-left on.0.0 e (sym on.0.3 ∙ on.1) in_rest)
     ]
 shows c (v ∷ w ∷ visits) e order on stays lt =
-    let here = subst (λ es. Contains es e) on.0.1.begins (left c v.entries e lt stays.0) in
-    let whole = subst (Rises c) on.0.1.begins (behind-rises 0 c v.entries order.0) in
+    let here = subst (λ es. Contains es e) on.0.1.0 (left c v.entries e lt stays.0) in
+    let whole = subst (Rises c) on.0.1.0 (behind-rises 0 c v.entries order.0) in
     elim (Contains-append_cases v.page on.0.0 e here) [
       | inl in_page ↦ Contains-append_left v.page (shown_by (w ∷ visits)) e in_page
       | inr in_rest ↦ Contains-append_right v.page (shown_by (w ∷ visits)) e

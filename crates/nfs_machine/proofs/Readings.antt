@@ -15,7 +15,8 @@ use Rattle.nfs_machine.proofs.Runs.{run-append}
 use Rattle.nfs_machine.proofs.Visits.{lists}
 use Rattle.nfs_machine.specs.NfsSteps.{NfsStep}
 use Rattle.nfs_machine.specs.Pages.{all_entries, fits, fits_full}
-use Rattle.nfs_machine.specs.PageSteps.{PagesOf, entries_left, full_entry, page_entry, readdir_result, readdirplus_result}
+use Rattle.nfs_machine.proofs.Pages.{PagesOf, readdir_result, readdirplus_result}
+use Rattle.nfs_machine.specs.PageSteps.{entries_left, full_entry, page_entry}
 use Rattle.nfs_machine.specs.Paging.{InOrder, Lists, ReadsOn, Rises, Stays, Visit, last_cookie, shown_by}
 use Rattle.nfs_machine.specs.Readings.{Has, IsTurn, Reading, ReadingsAreWhole, StaysThrough, Turn, all_shown, entry_shown, full_shown, lists_from, names_shown, page_shown}
 use Rattle.nfs_machine.specs.Run.{Record, Run, Setting}

@@ -2,14 +2,13 @@
 use Rattle.std.proofs.Common.{◌≡◌, true, Result, Ok, Err, is_err, refl, sym, ◌∙◌, ap}
 use Rattle.nfs_wire.specs.declared.calls.NfsCall.TheVariants as calls
 use Rattle.nfs_wire.specs.declared.status.NfsStatus.{NfsStatus}
+use Rattle.nfs_machine.proofs.Facts.{setattr_end, write_end}
 use Rattle.nfs_machine.specs.Answers.{answer_of, state_after}
-use Rattle.nfs_machine.specs.AttributeSteps.{setattr_end}
-use Rattle.nfs_machine.specs.DataSteps.{write_end}
 use Rattle.nfs_machine.specs.Laws.{RefusalsChangeNothing, is_refusal}
 use Rattle.nfs_machine.specs.LinkSteps.{link_end}
 use Rattle.nfs_machine.specs.NfsSteps.{NfsStep}
-use Rattle.nfs_machine.specs.RemoveSteps.{remove_end, rmdir_end}
 use Rattle.nfs_machine.specs.State.{State}
+use Rattle.nfs_machine.proofs.Moves.{remove_end, rmdir_end}
 
 stays : {A : Type 0} (old : State) (end : Result (A × State) NfsStatus) → is_err (answer_of end) ≡ true → state_after old end ≡ old
 stays old (Ok end) e = cc
@@ -19,7 +18,7 @@ pub refusals_unchanged : RefusalsChangeNothing
 unfolding NfsStep
 refusals_unchanged old ctx calls.Null reply messages new step e = (step.state_is, step.no_message)
 refusals_unchanged old ctx (calls.Getattr object) reply messages new step e = (step.state_is, step.no_message)
-refusals_unchanged old ctx (calls.Lookup place) reply messages new step e = (step.answers.state_is, step.answers.no_message)
+refusals_unchanged old ctx (calls.Lookup place) reply messages new step e = (step.2.state_is, step.2.no_message)
 refusals_unchanged old ctx (calls.Read a) reply messages new step e = (step.state_is, step.no_message)
 refusals_unchanged old ctx (calls.Write a) reply messages new step e =
     (step.state_is ∙ stays old (write_end old ctx a) (sym (ap is_refusal step.reply_is) ∙ e), step.no_message)
@@ -36,7 +35,7 @@ refusals_unchanged old ctx (calls.Remove place) reply messages new step e =
 refusals_unchanged old ctx (calls.Rmdir place) reply messages new step e =
     (step.state_is ∙ stays old (rmdir_end old ctx place) (sym (ap is_refusal step.reply_is) ∙ e), step.no_message)
 refusals_unchanged old ctx (calls.Rename a) reply messages new step e =
-    (step.answers.state_is ∙ stays old step.end (sym (ap is_refusal step.answers.reply_is) ∙ e), step.answers.no_message)
+    (step.2.state_is ∙ stays old step.0 (sym (ap is_refusal step.2.reply_is) ∙ e), step.2.no_message)
 refusals_unchanged old ctx (calls.Link a) reply messages new step e =
     (step.state_is ∙ stays old (link_end old ctx a) (sym (ap is_refusal step.reply_is) ∙ e), step.no_message)
 refusals_unchanged old ctx (calls.Setattr a) reply messages new step e =

@@ -10,19 +10,19 @@ use Rattle.nfs_machine.specs.Attributes.{entries_of, is_directory, is_living_dir
 use Rattle.nfs_machine.specs.Bytes.{same_bytes}
 use Rattle.nfs_machine.specs.Checks.{entry_of}
 use Rattle.nfs_machine.specs.Making.{with_entry}
-use Rattle.nfs_machine.specs.Pages.{are_none}
-use Rattle.nfs_machine.specs.RemoveSteps.{Named, without}
-use Rattle.nfs_machine.specs.RenameSteps.{GoesIntoItself, IsWithin, itself, below, Move, entries_left, is_compatible, object_under, with_moved, with_names_moved, without_replaced}
+use Rattle.nfs_machine.specs.RemoveSteps.{object_under, without}
+use Rattle.nfs_machine.specs.RenameSteps.{IsWithin, itself, below, is_compatible}
 use Rattle.nfs_machine.specs.Shown.{touched, with_content, with_object}
 use Rattle.nfs_machine.specs.State.{Content, Directory, Entry, Living, State}
 use Rattle.nfs_machine.specs.WellFormed.{Leads, TextsFit, WellFormed}
 use Rattle.nfs_machine.proofs.Changes.{apart, count-filter, differs-insert, differs-other, differs-there, find-all, find-filter, find-other, find-taken, flipped, without-absent}
 use Rattle.nfs_machine.proofs.Continued.{texts-continued, well_formed-losing}
-use Rattle.nfs_machine.proofs.Facts.{no-entry}
+use Rattle.nfs_machine.proofs.Facts.{are_none, no-entry}
 use Rattle.nfs_machine.proofs.Loose.{AddsName, Deepens, Loose, also, loose-added, loose-replaced, loose-touched, loosened, names_of-added, names_of-taken, none_loose, tightened}
+use Rattle.nfs_machine.proofs.Moves.{GoesIntoItself, Move, Named, entries_left, with_moved, with_names_moved, without_replaced}
 use Rattle.nfs_machine.proofs.Planned.{IsMove, continues-moved}
 use Rattle.nfs_machine.proofs.Sums.{get-inserted}
-use Rattle.nfs_machine.proofs.Taken.{IsNamed, loose-mid, one-less, takes}
+use Rattle.nfs_machine.proofs.Taken.{IsNamed, loose-mid, one-less, takes, under-entry}
 use Rattle.nfs_machine.proofs.WellFormed.{Deep, no_entries, replaced-names}
 use Rattle.nfs_machine.proofs.Within.{deepened, depth}
 
@@ -56,14 +56,6 @@ replaced-empty moved replaced t = elim (either-way (is_directory moved) (is_dire
 ]
 
 -- ---- entries of a directory
-under-entry : (m : State) (x : Option Entry) (o : ℕ × Living) → object_under m x ≡ Some o → (e : Entry) × (x ≡ Some e) × (e.number ≡ o.0) × (get m.objects o.0 ≡ Some o.1)
-under-entry m None o is = cc
-under-entry m (Some e) o is = found (get m.objects e.number) refl is
-  where
-    found : (l : Option Living) → get m.objects e.number ≡ l → option_map (λ (x : Living). (e.number, x)) l ≡ Some o → (f : Entry) × (Some e ≡ Some f) × (f.number ≡ o.0) × (get m.objects o.0 ≡ Some o.1)
-    found None at some = cc
-    found (Some x) at some = (let same : (e.number, x) ≡ o = cc in (e, refl, ap (λ (y : ℕ × Living). y.0) same, subst (λ (y : ℕ × Living). get m.objects y.0 ≡ Some y.1) same at))
-
 module _ (m : State) (w : WellFormed m) (place : ℕ) (directory : Living) (entries : List Entry) (last : ℕ) (lives : get m.objects place ≡ Some directory) (content : directory.content ≡ Directory entries last)
     (name : List ℕ) (e : Entry) (found : find (λ (x : Entry). same_bytes x.name name) entries ≡ Some e) where
   of_content : entries_of directory.content ≡ entries

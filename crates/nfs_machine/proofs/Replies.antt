@@ -1,36 +1,44 @@
 -- Whole replies from states of which only what lives at one number is known.
-use Rattle.std.proofs.Common.{◌≡◌, ℕ, List, [], ◌∷◌, Option, Some, option_map, Ok, Err, ◌∙◌, ap}
+use Rattle.std.proofs.Common.{◌≡◌, ◌||◌, ◌==◌, ℕ, List, [], ◌∷◌, take, Option, Some, None, option_map, Result, Ok, Err, refl, sym, ◌∙◌, ap}
 use Rattle.std.specs.FinMap.{values}
 use Rattle.nfs_wire.specs.declared.attributes.Attributes.{Attributes}
 use Rattle.nfs_wire.specs.declared.calls.SetattrArguments.{SetattrArguments}
 use Rattle.nfs_wire.specs.declared.replies.NfsReply.{NfsReply}
 use Rattle.nfs_wire.specs.declared.replies.NfsReply.TheVariants as replies
 use Rattle.nfs_wire.specs.declared.replies.Space.{Space}
+use Rattle.nfs_wire.specs.declared.calls.NfsCall.TheVariants as calls
+use Rattle.nfs_wire.specs.declared.status.NfsStatus.{NfsStatus}
 use Rattle.nfs_wire.specs.declared.status.NfsStatus.TheVariants as status
-use Rattle.nfs_machine.proofs.Setting.{attributes-alter}
 use Rattle.nfs_machine.proofs.Sums.{get-inserted}
 use Rattle.nfs_machine.proofs.WellFormed.{replaced-names}
 use Rattle.nfs_machine.specs.Attributes.{attributes_of}
-use Rattle.nfs_machine.specs.AttributeSteps.{access_answer, granted, set_object, setattr_answer, with_attributes}
+use Rattle.nfs_machine.specs.AttributeSteps.{granted, set_object}
 use Rattle.nfs_machine.specs.Answers.{answer_of, state_after}
-use Rattle.nfs_machine.specs.Checks.{◌>>=◌, bytes_in, object_of, text_in}
-use Rattle.nfs_machine.specs.DataSteps.{commit_answer, readlink_result, verifier_of}
-use Rattle.nfs_machine.specs.FileSystemSteps.{file_system, fsinfo_answer, fsstat_answer, path_limits, pathconf_answer, space_left}
+use Rattle.nfs_machine.specs.Checks.{◌>>=◌, bytes_in, object_of, text_in, entries_in, holding, permitted}
+use Rattle.nfs_machine.specs.DataSteps.{verifier_of}
+use Rattle.nfs_machine.specs.FileSystemSteps.{file_system, path_limits, space_left}
+use Rattle.nfs_machine.specs.NfsSteps.{NfsStep}
+use Rattle.nfs_machine.specs.Bytes.{same_bytes}
+use Rattle.nfs_machine.specs.Pages.{all_entries, behind}
+use Rattle.nfs_machine.specs.PageSteps.{entries_left}
+use Rattle.nfs_machine.specs.Permission.{Listing}
+use Rattle.nfs_machine.specs.WorkedPages.{seven, zeros}
+use Rattle.nfs_wire.specs.declared.calls.Verifier.{Verifier}
 use Rattle.nfs_machine.specs.Resolve.{Resolved, Names, living_at, resolve}
 use Rattle.nfs_machine.specs.Shown.{attributes_at, shown, wcc, weak, with_object}
-use Rattle.nfs_machine.specs.State.{Living, State}
+use Rattle.nfs_machine.specs.State.{Entry, Living, State}
 use Rattle.nfs_machine.specs.Worked.{root_bytes}
 use Rattle.nfs_machine.specs.WorkedCreate.{called_as}
 use Rattle.nfs_machine.specs.WorkedFiles.{time}
-use Rattle.nfs_machine.specs.WorkedReplies.{HasFile, HasRoot, file_before, file_bytes, file_shown, known_file, root, root_shown, setting_mode, with_room}
-use Rattle.nfs_machine.specs.WorkedSetting.{with_mode}
+use Rattle.nfs_machine.specs.WorkedReplies.{IsAnswered, HasFile, HasRoot, file_before, file_bytes, file_shown, known_file, root, root_shown, setting_mode, with_room}
 use Rattle.nfs_machine.specs.declared.context.Ctx.{Ctx}
 
 -- the replies as functions of what the handle names
+abbrev set_by : State → Ctx → SetattrArguments → Resolved → Result (Unit {0} × State) NfsStatus
+set_by m ctx a r = object_of r >>= λ o. set_object ctx o.1 a >>= λ x. Ok (tt, with_object m o.0 x)
+
 abbrev setattr_by : State → Ctx → SetattrArguments → Resolved → NfsReply
-setattr_by m ctx a r =
-    let end = object_of r >>= λ o. set_object ctx o.1 a >>= λ x. Ok (tt, with_object m o.0 x) in
-    replies.Setattr (record { wcc = wcc (state_after m end) r; result = answer_of end })
+setattr_by m ctx a r = replies.Setattr (record { wcc = wcc (state_after m (set_by m ctx a r)) r; result = answer_of (set_by m ctx a r) })
 
 abbrev access_by : State → Ctx → ℕ → Resolved → NfsReply
 access_by m ctx asked r = replies.Access (record { attributes = shown m r; result = object_of r >>= λ o. Ok (granted ctx o.1 asked) })
@@ -40,6 +48,9 @@ commit_by m ctx r = replies.Commit (record { wcc = wcc m r; result = object_of r
 
 abbrev pathconf_by : State → Resolved → NfsReply
 pathconf_by m r = replies.Pathconf (record { attributes = shown m r; result = object_of r >>= λ o. Ok path_limits })
+
+abbrev readlink_by : State → Resolved → NfsReply
+readlink_by m r = replies.Readlink (record { attributes = shown m r; result = object_of r >>= λ o. text_in o.1.content })
 
 abbrev fsinfo_by : State → Resolved → NfsReply
 fsinfo_by m r = replies.Fsinfo (record { attributes = shown m r; result = object_of r >>= λ o. Ok file_system })
@@ -55,7 +66,7 @@ module _ (m : State) (has : HasFile m) where
   at = ap (option_map (attributes_of m 2)) has.lives ∙ ap (λ n. Some (record (file_shown 420 (time 1000 1)) { links = n })) has.named_once
 
   abbrev set_file : Living
-  set_file = with_attributes known_file (time 1000 0) (with_mode 384)
+  set_file = record known_file { mode = 384; changed = time 1000 2 }
 
   abbrev after : State
   after = with_object m 2 set_file
@@ -63,34 +74,68 @@ module _ (m : State) (has : HasFile m) where
   set-at : attributes_at after 2 ≡ Some (file_shown 384 (time 1000 2))
   set-at =
       ap (option_map (attributes_of after 2)) (get-inserted m.objects 2 set_file 2)
-      ∙ ap (λ n. Some (record (file_shown 384 (time 1000 2)) { links = n })) (replaced-names m 2 known_file set_file has.lives (attributes-alter known_file (time 1000 0) (with_mode 384)).keeps 2 ∙ has.named_once)
+      ∙ ap (λ n. Some (record (file_shown 384 (time 1000 2)) { links = n })) (replaced-names m 2 known_file set_file has.lives (record { export = refl; generation = refl; kind = refl; content = λ is. refl }) 2 ∙ has.named_once)
 
-  pub guarded : setattr_answer m (called_as 0) (setting_mode (time 1000 0)) ≡ replies.Setattr (record { wcc = record { before = Some file_before; after = Some (file_shown 420 (time 1000 1)) }; result = Err status.NotSynchronized })
-  guarded =
-      ap (setattr_by m (called_as 0) (setting_mode (time 1000 0))) (named 0)
-      ∙ ap (λ (x : Option Attributes). replies.Setattr (record { wcc = record { before = Some file_before; after = x }; result = Err status.NotSynchronized })) at
+  pub guarded : IsAnswered m (called_as 0) (calls.Setattr (setting_mode (time 1000 0))) (replies.Setattr (record { wcc = record { before = Some file_before; after = Some (file_shown 420 (time 1000 1)) }; result = Err status.NotSynchronized }))
+  unfolding NfsStep
+  guarded = record {
+    reply_is = sym (
+        ap (setattr_by m (called_as 0) (setting_mode (time 1000 0))) (named 0)
+        ∙ ap (λ (x : Option Attributes). replies.Setattr (record { wcc = record { before = Some file_before; after = x }; result = Err status.NotSynchronized })) at);
+    no_message = refl;
+    state_is = sym (ap (λ r. state_after m (set_by m (called_as 0) (setting_mode (time 1000 0)) r)) (named 0));
+  }
 
-  pub set : setattr_answer m (called_as 0) (setting_mode (time 1000 1)) ≡ replies.Setattr (record { wcc = record { before = Some file_before; after = Some (file_shown 384 (time 1000 2)) }; result = Ok tt })
-  set =
-      ap (setattr_by m (called_as 0) (setting_mode (time 1000 1))) (named 0)
-      ∙ ap (λ (x : Option Attributes). replies.Setattr (record { wcc = record { before = Some file_before; after = x }; result = Ok tt })) set-at
+  pub set : NfsStep m (called_as 0) (calls.Setattr (setting_mode (time 1000 1))) (replies.Setattr (record { wcc = record { before = Some file_before; after = Some (file_shown 384 (time 1000 2)) }; result = Ok tt })) [] after
+  unfolding NfsStep
+  set = record {
+    reply_is = sym (
+        ap (setattr_by m (called_as 0) (setting_mode (time 1000 1))) (named 0)
+        ∙ ap (λ (x : Option Attributes). replies.Setattr (record { wcc = record { before = Some file_before; after = x }; result = Ok tt })) set-at);
+    no_message = refl;
+    state_is = sym (ap (λ r. state_after m (set_by m (called_as 0) (setting_mode (time 1000 1)) r)) (named 0));
+  }
 
-  pub access : access_answer m (called_as 5) (record { object = file_bytes; rights = 63 }) ≡ replies.Access (record { attributes = Some (file_shown 420 (time 1000 1)); result = Ok 1 })
-  access = ap (access_by m (called_as 5) 63) (named 5) ∙ ap (λ (x : Option Attributes). replies.Access (record { attributes = x; result = Ok 1 })) at
+  pub access : IsAnswered m (called_as 5) (calls.Access (record { object = file_bytes; rights = 63 })) (replies.Access (record { attributes = Some (file_shown 420 (time 1000 1)); result = Ok 1 }))
+  unfolding NfsStep
+  access = record {
+    reply_is = sym (ap (access_by m (called_as 5) 63) (named 5) ∙ ap (λ (x : Option Attributes). replies.Access (record { attributes = x; result = Ok 1 })) at);
+    no_message = refl;
+    state_is = refl;
+  }
 
-  pub no_link : readlink_result m (called_as 0) file_bytes ≡ Err status.Invalid
-  no_link = ap (λ r. object_of r >>= λ link. text_in link.1.content) (named 0)
+  pub no_link : IsAnswered m (called_as 0) (calls.Readlink file_bytes) (replies.Readlink (record { attributes = Some (file_shown 420 (time 1000 1)); result = Err status.Invalid }))
+  unfolding NfsStep
+  no_link = record {
+    reply_is = sym (ap (readlink_by m) (named 0) ∙ ap (λ (x : Option Attributes). replies.Readlink (record { attributes = x; result = Err status.Invalid })) at);
+    no_message = refl;
+    state_is = refl;
+  }
 
-  pub committed : commit_answer m (called_as 5) (record { file = file_bytes; offset = 0; count = 0 }) ≡ replies.Commit (record {
+  pub committed : IsAnswered m (called_as 5) (calls.Commit (record { file = file_bytes; offset = 0; count = 0 })) (replies.Commit (record {
     wcc = record { before = Some file_before; after = Some (file_shown 420 (time 1000 1)) };
     result = Ok (verifier_of (called_as 5));
-  })
-  committed =
-      ap (commit_by m (called_as 5)) (named 5)
-      ∙ ap (λ (x : Option Attributes). replies.Commit (record { wcc = record { before = Some file_before; after = x }; result = Ok (verifier_of (called_as 5)) })) at
+  }))
+  unfolding NfsStep
+  committed = record {
+    reply_is = sym (
+        ap (commit_by m (called_as 5)) (named 5)
+        ∙ ap (λ (x : Option Attributes). replies.Commit (record { wcc = record { before = Some file_before; after = x }; result = Ok (verifier_of (called_as 5)) })) at);
+    no_message = refl;
+    state_is = refl;
+  }
 
-  pub limits : pathconf_answer m (called_as 0) file_bytes ≡ replies.Pathconf (record { attributes = Some (file_shown 420 (time 1000 1)); result = Ok path_limits })
-  limits = ap (pathconf_by m) (named 0) ∙ ap (λ (x : Option Attributes). replies.Pathconf (record { attributes = x; result = Ok path_limits })) at
+  pub limits : IsAnswered m (called_as 0) (calls.Pathconf file_bytes) (replies.Pathconf (record { attributes = Some (file_shown 420 (time 1000 1)); result = Ok path_limits }))
+  unfolding NfsStep
+  limits = record {
+    reply_is = sym (ap (pathconf_by m) (named 0) ∙ ap (λ (x : Option Attributes). replies.Pathconf (record { attributes = x; result = Ok path_limits })) at);
+    no_message = refl;
+    state_is = refl;
+  }
+
+pub bad_handle : (m : State) → IsAnswered m (called_as 0) (calls.Fsinfo (take 31 file_bytes)) (replies.Fsinfo (record { attributes = None; result = Err status.BadHandle }))
+unfolding NfsStep
+bad_handle m = record { reply_is = refl; no_message = refl; state_is = refl }
 
 module _ (m : State) (has : HasRoot m) where
   root-named : (bytes : ℕ) → resolve m (with_room bytes) root_bytes ≡ Names 1 root
@@ -102,16 +147,49 @@ module _ (m : State) (has : HasRoot m) where
   abbrev fresh : Space
   fresh = space_left 1099511627776 (root ∷ []) 1
 
-  pub space : fsstat_answer m (with_room 1099511627776) root_bytes ≡ replies.Fsstat (record { attributes = Some root_shown; result = Ok fresh })
-  space =
-      ap (fsstat_by m 1099511627776 (values m.objects)) (root-named 1099511627776)
-      ∙ ap (λ (x : Option Attributes). replies.Fsstat (record { attributes = x; result = Ok (space_left 1099511627776 (values m.objects) 1) })) root-at
-      ∙ ap (λ (os : List Living). replies.Fsstat (record { attributes = Some root_shown; result = Ok (space_left 1099511627776 os 1) })) has.alone
+  pub space : IsAnswered m (with_room 1099511627776) (calls.Fsstat root_bytes) (replies.Fsstat (record { attributes = Some root_shown; result = Ok fresh }))
+  unfolding NfsStep
+  space = record {
+    reply_is = sym (
+        ap (fsstat_by m 1099511627776 (values m.objects)) (root-named 1099511627776)
+        ∙ ap (λ (x : Option Attributes). replies.Fsstat (record { attributes = x; result = Ok (space_left 1099511627776 (values m.objects) 1) })) root-at
+        ∙ ap (λ (os : List Living). replies.Fsstat (record { attributes = Some root_shown; result = Ok (space_left 1099511627776 os 1) })) has.alone);
+    no_message = refl;
+    state_is = refl;
+  }
 
-  pub system : fsinfo_answer m (called_as 0) root_bytes ≡ replies.Fsinfo (record { attributes = Some root_shown; result = Ok file_system })
-  system = ap (fsinfo_by m) (root-named 0) ∙ ap (λ (x : Option Attributes). replies.Fsinfo (record { attributes = x; result = Ok file_system })) root-at
+  pub system : IsAnswered m (called_as 0) (calls.Fsinfo root_bytes) (replies.Fsinfo (record { attributes = Some root_shown; result = Ok file_system }))
+  unfolding NfsStep
+  system = record {
+    reply_is = sym (ap (fsinfo_by m) (root-named 0) ∙ ap (λ (x : Option Attributes). replies.Fsinfo (record { attributes = x; result = Ok file_system })) root-at);
+    no_message = refl;
+    state_is = refl;
+  }
 
-  pub no_file : commit_answer m (called_as 0) (record { file = root_bytes; offset = 0; count = 0 }) ≡ replies.Commit (record { wcc = record { before = Some (weak root); after = Some root_shown }; result = Err status.Invalid })
-  no_file =
-      ap (commit_by m (called_as 0)) (root-named 0)
-      ∙ ap (λ (x : Option Attributes). replies.Commit (record { wcc = record { before = Some (weak root); after = x }; result = Err status.Invalid })) root-at
+  pub no_file : IsAnswered m (called_as 0) (calls.Commit (record { file = root_bytes; offset = 0; count = 0 })) (replies.Commit (record { wcc = record { before = Some (weak root); after = Some root_shown }; result = Err status.Invalid }))
+  unfolding NfsStep
+  no_file = record {
+    reply_is = sym (
+        ap (commit_by m (called_as 0)) (root-named 0)
+        ∙ ap (λ (x : Option Attributes). replies.Commit (record { wcc = record { before = Some (weak root); after = x }; result = Err status.Invalid })) root-at);
+    no_message = refl;
+    state_is = refl;
+  }
+
+  -- what is left of the root behind a cookie
+  abbrev left_by : ℕ → Verifier → Resolved → Result (List Entry) NfsStatus
+  left_by cookie verifier r = do
+    d ← object_of r
+    entries ← entries_in d.1.content
+    _ ← permitted (called_as 0) d.1 Listing
+    _ ← holding ((cookie == 0) || same_bytes verifier.bytes (verifier_of (called_as 0)).bytes) status.BadCookie
+    Ok (behind cookie (all_entries d.0 1 entries.0))
+
+  pub first_cookie : entries_left m (called_as 0) root_bytes 0 zeros 1 ≡ Ok (all_entries 1 1 [])
+  first_cookie = ap (left_by 0 zeros) (root-named 0)
+
+  pub other_cookie : entries_left m (called_as 0) root_bytes 4 zeros 1 ≡ Err status.BadCookie
+  other_cookie = ap (left_by 4 zeros) (root-named 0)
+
+  pub good_cookie : entries_left m (called_as 0) root_bytes 4 seven 1 ≡ Ok []
+  good_cookie = ap (left_by 4 seven) (root-named 0)

@@ -1,5 +1,5 @@
 -- The run and the steps that are worked through: what lives at each number is told by the maps, and the rest computes.
-use Rattle.std.proofs.Common.{◌≡◌, ◌==◌, ℕ, ◌≤◌, ◌^◌, Bool, true, false, ◌||◌, ◌&&◌, cond, nat_le, List, [], ◌∷◌, ◌++◌, Option, Some, None, Result, Ok, codes, inl, refl, sym, ◌∙◌, ap, subst, arith}
+use Rattle.std.proofs.Common.{◌≡◌, ◌==◌, ℕ, ◌≤◌, ◌^◌, Bool, true, false, ◌||◌, ◌&&◌, cond, nat_le, List, [], ◌∷◌, ◌++◌, Option, Some, None, option_map, Result, Ok, codes, inl, refl, sym, ◌∙◌, ap, subst, arith}
 use Rattle.std.specs.Prelude.{ok_or}
 use Rattle.std.proofs.lemmas.Bool.{leb-true, or_right}
 use Rattle.std.specs.FinMap.{get, insert, get-empty}
@@ -19,21 +19,21 @@ use Rattle.nfs_wire.specs.declared.replies.NfsReply.TheVariants as nfs_replies
 use Rattle.nfs_wire.specs.declared.replies.Written.{Written}
 use Rattle.nfs_wire.specs.declared.status.NfsStatus.{NfsStatus}
 use Rattle.nfs_wire.specs.declared.status.NfsStatus.TheVariants as status
+use Rattle.nfs_machine.specs.Bytes.{same_bytes}
 use Rattle.nfs_machine.specs.Answers.{answer_of, state_after}
 use Rattle.nfs_machine.specs.Attributes.{names_in, names_of}
-use Rattle.nfs_machine.specs.Checks.{◌>>=◌, changeable, entries_in, entry_of, holding, new_name_checked, object_of, old_name_checked, permitted}
-use Rattle.nfs_machine.specs.DataSteps.{write_answer, write_object}
-use Rattle.nfs_machine.specs.Making.{End, EndsAs, Fresh, made}
-use Rattle.nfs_machine.specs.NameSteps.{create_under}
+use Rattle.nfs_machine.specs.Checks.{◌>>=◌, changeable, entries_in, entry_of, holding, object_of, permitted, plain_name_checked}
+use Rattle.nfs_machine.specs.DataSteps.{write_object, verifier_of}
+use Rattle.nfs_machine.specs.Making.{End, EndsAs, Fresh, made, make_new}
+use Rattle.nfs_machine.specs.NameSteps.{create_existing, wanted_file}
 use Rattle.nfs_machine.specs.NfsSteps.{NfsStep}
 use Rattle.nfs_machine.specs.Pages.{all_entries, behind, fits, fits_full}
-use Rattle.nfs_machine.specs.PageSteps.{PagesOf, is_good}
 use Rattle.nfs_machine.specs.Permission.{Changing, Listing}
-use Rattle.nfs_machine.specs.RemoveSteps.{Named, losing_name, named_in, not_directory, remove_end, with_name_taken}
+use Rattle.nfs_machine.specs.RemoveSteps.{losing_name, not_directory, object_under, without}
 use Rattle.nfs_machine.specs.Resolve.{Resolved, Stale, Names, living_at, resolve}
 use Rattle.nfs_machine.specs.Readings.{Has}
 use Rattle.nfs_machine.specs.Run.{Asks, Executes, Record, Run}
-use Rattle.nfs_machine.specs.Shown.{replaced, wcc, with_object}
+use Rattle.nfs_machine.specs.Shown.{replaced, wcc, with_content, with_object}
 use Rattle.nfs_machine.specs.State.{Directory, Entry, Living, State}
 use Rattle.nfs_machine.specs.WellFormed.{IsParent, WellFormed}
 use Rattle.nfs_machine.specs.Worked.{root_bytes, root_handle}
@@ -41,11 +41,12 @@ use Rattle.nfs_machine.specs.WorkedCreate.{moment}
 use Rattle.nfs_machine.specs.WorkedFiles.{time}
 use Rattle.nfs_machine.specs.WorkedPages.{seven, zeros}
 use Rattle.nfs_machine.specs.WorkedReplies.{root}
-use Rattle.nfs_machine.specs.WorkedRun.{WorkedRun, WorkedSteps, WorkedTurns, all_three, argument_bytes, arrives, executed, first_two, header_of, in_root, listed_full_reply, listed_reply, listing, listing_full, made_reply, making, miscounted, nobody, opened, page_reply, refused_reply, removed, removed_reply, root_after, root_with_x, setting, with_x, writing, written, x, x_bytes, x_entry, x_written}
+use Rattle.nfs_machine.specs.WorkedRun.{wrote_reply, WorkedRun, WorkedSteps, WorkedTurns, all_three, argument_bytes, arrives, executed, first_two, header_of, in_root, listed_full_reply, listed_reply, listing, listing_full, made_reply, making, miscounted, nobody, opened, page_reply, refused_reply, removed, removed_reply, root_after, root_with_x, setting, with_x, writing, written, x, x_bytes, x_entry, x_written}
 use Rattle.nfs_machine.specs.declared.calls.Call.TheVariants as calls
+use Rattle.nfs_machine.proofs.Moves.{remove_end}
 use Rattle.nfs_machine.proofs.Opened.{only_roots, opening_formed}
 use Rattle.nfs_machine.proofs.Kept.{runs_keep_form}
-use Rattle.nfs_machine.proofs.Pages.{fits-shrinks, page-ends, page-stops}
+use Rattle.nfs_machine.proofs.Pages.{PagesOf, fits-shrinks, page-ends, page-stops}
 use Rattle.nfs_machine.proofs.Sums.{get-inserted, sum-insert_new, sum-insert_old, sum-none}
 
 -- ---- what lives where
@@ -80,14 +81,11 @@ asked : (call : NfsCall) → call_of (arrives call).bytes ≡ Ok (header_of call
 asked call read form = record {
   header = header_of call;
   read = read;
-  is_call = record {
-    program = refl;
-    procedure = refl;
-    front = argument_bytes call;
-    rest = [];
-    arguments = sym (append-nil (argument_bytes call));
-    spelled = (writing_spells (arguments_type (procedure_of call)) (arguments_of call) form).spelled;
-  };
+  is_call = (
+    refl,
+    refl,
+    (argument_bytes call, [], sym (append-nil (argument_bytes call)), (writing_spells (arguments_type (procedure_of call)) (arguments_of call) form).spelled),
+  );
   made_under = refl;
 }
   where
@@ -126,10 +124,16 @@ fresh = record {
   kept = λ n g e. or_right ((n == 5) && (g == 1)) (opened.spent n g) e;
 }
 
+abbrev create_under : ℕ → Living → List Entry → ℕ → Option Entry → Result (End opened) NfsStatus
+create_under number directory entries last e = elim e [
+  | Some e ↦ create_existing opened nobody making.how e.number (get opened.objects e.number)
+  | None ↦ make_new opened nobody making.place.name (wanted_file making.how) number directory entries last
+]
+
 abbrev create_by : Resolved → Result (End opened) NfsStatus
 create_by r =
-    object_of r >>= λ directory. entries_in directory.1.content >>= λ entries. new_name_checked making.place.name >>= λ _. changeable nobody directory.1 >>= λ _. permitted nobody directory.1 Changing
-    >>= λ _. create_under opened nobody making directory.0 directory.1 entries.0 entries.1 (entry_of entries.0 making.place.name)
+    object_of r >>= λ directory. entries_in directory.1.content >>= λ entries. plain_name_checked status.Exists status.Exists making.place.name >>= λ _. changeable nobody directory.1 >>= λ _. permitted nobody directory.1 Changing
+    >>= λ _. create_under directory.0 directory.1 entries.0 entries.1 (entry_of entries.0 making.place.name)
 
 creates : NfsStep opened nobody (nfs.Create making) made_reply [] with_x
 unfolding NfsStep fresh
@@ -143,9 +147,14 @@ creates = record {
 abbrev write_by : WriteArguments → Resolved → Result (Written × State) NfsStatus
 write_by a r = object_of r >>= λ file. write_object nobody file.1 a >>= λ end. Ok (end.0, replaced with_x file.0 end.1)
 
-writes : NfsStep with_x nobody (nfs.Write writing) (write_answer with_x nobody writing) [] written
+writes : NfsStep with_x nobody (nfs.Write writing) wrote_reply [] written
 unfolding NfsStep
-writes = record { reply_is = refl; no_message = refl; state_is = sym (ap (λ r. state_after with_x (write_by writing r)) (x-named with_x x refl refl x-made)) }
+writes =
+    let named = x-named with_x x refl refl x-made in record {
+      reply_is = sym (ap (λ r. nfs_replies.Write (record { wcc = wcc (state_after with_x (write_by writing r)) (resolve with_x nobody x_bytes); result = answer_of (write_by writing r) })) named);
+      no_message = refl;
+      state_is = sym (ap (λ r. state_after with_x (write_by writing r)) named);
+    }
 
 refused : NfsStep with_x nobody (nfs.Write miscounted) refused_reply [] with_x
 unfolding NfsStep
@@ -159,7 +168,7 @@ refused =
 -- ---- READDIR
 abbrev entries_from : (cookie : ℕ) → Verifier → Resolved → Result (List Entry) NfsStatus
 entries_from cookie verifier r =
-    object_of r >>= λ d. entries_in d.1.content >>= λ entries. permitted nobody d.1 Listing >>= λ _. holding (is_good nobody cookie verifier) status.BadCookie >>= λ _. Ok (behind cookie (all_entries d.0 1 entries.0))
+    object_of r >>= λ d. entries_in d.1.content >>= λ entries. permitted nobody d.1 Listing >>= λ _. holding ((cookie == 0) || same_bytes verifier.bytes (verifier_of nobody).bytes) status.BadCookie >>= λ _. Ok (behind cookie (all_entries d.0 1 entries.0))
 
 abbrev entries_by : Resolved → Result (List Entry) NfsStatus
 entries_by = entries_from 0 zeros
@@ -212,21 +221,25 @@ names-x =
       sum-insert_old (names_in 5) with_x.objects 5 x x_written x-made,
     )
 
-abbrev named_x : Living → Named
-named_x o = record { place = 1; directory = root_with_x; entries = x_entry ∷ []; last_cookie = 3; name = codes "x"; number = 5; object = o }
+abbrev take_object : Option (ℕ × Living) → Result (Unit {0} × State) NfsStatus
+take_object found =
+    ok_or found status.NoEntry >>= λ o. not_directory o.1.content >>= λ _. Ok (tt, losing_name (with_object written 1 root_after) (names_of written o.0) (time 1000 0) o.0 o.1)
 
-abbrev take_named : Result Named NfsStatus → Result (Unit {0} × State) NfsStatus
-take_named n = n >>= λ named. not_directory named.object.content >>= λ _. Ok (tt, with_name_taken written (time 1000 0) named)
+abbrev take_under : ℕ × Living → List Entry × ℕ → Result (Unit {0} × State) NfsStatus
+take_under directory entries =
+    ok_or (object_under written (entry_of entries.0 (codes "x"))) status.NoEntry >>= λ o. not_directory o.1.content >>= λ _.
+    let left = with_object written directory.0 (with_content directory.1 (time 1000 0) (Directory (without entries.0 (codes "x")) entries.1)) in
+    Ok (tt, losing_name left (names_of written o.0) (time 1000 0) o.0 o.1)
 
 abbrev take_by : Resolved → Result (Unit {0} × State) NfsStatus
 take_by r =
-    object_of r >>= λ directory. entries_in directory.1.content >>= λ entries. old_name_checked (codes "x") >>= λ _. changeable nobody directory.1 >>= λ _. permitted nobody directory.1 Changing
-    >>= λ _. take_named (named_in written directory entries (codes "x"))
+    object_of r >>= λ directory. entries_in directory.1.content >>= λ entries. plain_name_checked status.Invalid status.Invalid (codes "x") >>= λ _. changeable nobody directory.1 >>= λ _. permitted nobody directory.1 Changing
+    >>= λ _. take_under directory entries
 
 taken : remove_end written nobody (in_root (codes "x")) ≡ Ok (tt, removed)
 taken =
     ap take_by (root-named written root_with_x refl refl root-written)
-    ∙ ap (λ (l : Option Living). take_named (ok_or l status.NoEntry >>= λ o. Ok (named_x o))) x-lives
+    ∙ ap (λ (l : Option Living). take_object (option_map (λ (o : Living). (5, o)) l)) x-lives
     ∙ ap (λ k. Ok (tt, losing_name (with_object written 1 root_after) k (time 1000 0) 5 x_written)) names-x
 
 takes : NfsStep written nobody (nfs.Remove (in_root (codes "x"))) removed_reply [] removed
@@ -240,7 +253,7 @@ takes = record {
 executes-create : Executes setting opened (executed (nfs.Create making) made_reply) with_x
 executes-create = record { ctx = nobody; call = calls.Nfs (nfs.Create making); asks = asked (nfs.Create making) making-read making-form; step = creates }
 
-executes-write : Executes setting with_x (executed (nfs.Write writing) (write_answer with_x nobody writing)) written
+executes-write : Executes setting with_x (executed (nfs.Write writing) wrote_reply) written
 executes-write = record { ctx = nobody; call = calls.Nfs (nfs.Write writing); asks = asked (nfs.Write writing) writing-read writing-form; step = writes }
 
 pub worked-run : WorkedRun

@@ -1,48 +1,56 @@
 -- SETATTR leaves names as they are.
-use Rattle.std.proofs.Common.{◌≡◌, ℕ, true, Option, Some, None, option_map, unwrap_or, IfOk, refl}
-use Rattle.nfs_wire.specs.declared.attributes.SetAttributes.{SetAttributes}
+use Rattle.std.proofs.Common.{◌≡◌, ℕ, true, ◌&&◌, List, Option, Some, None, Result, Ok, IfOk, refl}
 use Rattle.nfs_wire.specs.declared.attributes.Time.{Time}
 use Rattle.nfs_wire.specs.declared.calls.SetattrArguments.{SetattrArguments}
-use Rattle.nfs_machine.proofs.Facts.{chained-is, resolved-lives}
+use Rattle.nfs_wire.specs.declared.status.NfsStatus.{NfsStatus}
+use Rattle.nfs_wire.specs.declared.status.NfsStatus.TheVariants as status
+use Rattle.nfs_machine.specs.Data.{resized}
+use Rattle.nfs_machine.proofs.Facts.{chained-is, resolved-lives, setattr_end}
 use Rattle.nfs_machine.proofs.Follows.{Alters, Follows, follows-altered, of-ok}
 use Rattle.nfs_machine.proofs.Short.{chained}
-use Rattle.nfs_machine.proofs.Texts.{attributes-text}
-use Rattle.nfs_machine.specs.AttributeSteps.{set_object, setattr_end, sized, with_attributes}
+use Rattle.nfs_machine.specs.AttributeSteps.{set_object}
 use Rattle.nfs_machine.specs.Attributes.{is_directory}
-use Rattle.nfs_machine.specs.Checks.{object_of}
+use Rattle.nfs_machine.specs.Checks.{◌>>=◌, bytes_in, changeable, holding, object_of}
 use Rattle.nfs_machine.specs.Resolve.{resolve}
 use Rattle.nfs_machine.specs.State.{Content, Regular, Directory, Link, BlockDevice, CharacterDevice, Socket, Fifo, Living, State}
-use Rattle.nfs_machine.specs.Times.{time_of}
+use Rattle.nfs_machine.specs.Times.{is_time, time_of, touch}
 use Rattle.nfs_machine.specs.declared.context.Ctx.{Ctx}
 
-sized-kind : (c : Content) (size : Option ℕ) → is_directory (unwrap_or (option_map (sized c) size) c) ≡ is_directory c
-sized-kind c None = refl
-sized-kind (Regular bytes) (Some size) = refl
-sized-kind (Directory entries last) (Some size) = refl
-sized-kind (Link text) (Some size) = refl
-sized-kind (BlockDevice device) (Some size) = refl
-sized-kind (CharacterDevice device) (Some size) = refl
-sized-kind Socket (Some size) = refl
-sized-kind Fifo (Some size) = refl
+-- a content in the size that is set, if one is
+abbrev sized : Content → Option ℕ → Result Content NfsStatus
+sized c size = elim size [ None ↦ Ok c | Some size ↦ bytes_in c >>= λ bytes. Ok (Regular (resized bytes size)) ]
 
-sized-directory : (c : Content) (size : Option ℕ) → is_directory c ≡ true → unwrap_or (option_map (sized c) size) c ≡ c
-sized-directory c None is = refl
-sized-directory (Directory entries last) (Some size) is = refl
-sized-directory (Regular bytes) (Some size) is = cc
-sized-directory (Link text) (Some size) is = refl
-sized-directory (BlockDevice device) (Some size) is = refl
-sized-directory (CharacterDevice device) (Some size) is = refl
-sized-directory Socket (Some size) is = refl
-sized-directory Fifo (Some size) is = refl
+record Sized (was is : Content) : Type 0 where
+  kind : is_directory is ≡ is_directory was
+  content : is_directory was ≡ true → is ≡ was
+  text : (t : List ℕ) → is ≡ Link t → was ≡ Link t
 
-pub attributes-alter : (o : Living) (now : Time) (a : SetAttributes) → Alters now o (with_attributes o now a)
-attributes-alter o now a = record {
-  keeps = record { export = refl; generation = refl; kind = sized-kind o.content a.size; content = λ is. sized-directory o.content a.size is };
-  turns = record { generation = refl; text = attributes-text o now a; changed = refl };
+sized-keeps : (c : Content) (size : Option ℕ) → IfOk (sized c size) (Sized c)
+sized-keeps c None = record { kind = refl; content = λ is. refl; text = λ t e. e }
+sized-keeps (Regular bytes) (Some size) = record { kind = refl; content = λ is. cc; text = λ t e. cc }
+sized-keeps (Directory entries last) (Some size) = tt
+sized-keeps (Link text) (Some size) = tt
+sized-keeps (BlockDevice device) (Some size) = tt
+sized-keeps (CharacterDevice device) (Some size) = tt
+sized-keeps Socket (Some size) = tt
+sized-keeps Fifo (Some size) = tt
+
+-- an object in such a content, and with any other attributes
+set-alter : (o : Living) (now : Time) (content : Content) (mode uid gid : ℕ) (accessed modified : Time) → Sized o.content content
+    → Alters now o (record o { content = content; mode = mode; uid = uid; gid = gid; accessed = accessed; modified = modified; changed = touch o.changed now; verifier = None })
+set-alter o now content mode uid gid accessed modified is = record {
+  keeps = record { export = refl; generation = refl; kind = is.kind; content = is.content };
+  turns = record { generation = refl; text = is.text; changed = refl };
 }
 
 set-alters : (ctx : Ctx) (o : Living) (a : SetattrArguments) → IfOk (set_object ctx o a) (Alters (time_of ctx.moment) o)
-set-alters ctx o a = search (chained, attributes-alter) depth 10
+set-alters ctx o a =
+    let set = a.attributes in
+    let P : Living → Type 0 = Alters (time_of ctx.moment) o in
+    chained P (changeable ctx o) _ (λ x1. chained P (holding _ status.NotSynchronized) _ (λ x2. chained P (holding (is_time set.accessed && is_time set.modified) status.Invalid) _ (λ x3.
+    chained-is P (sized o.content set.size) _ (λ content is.
+    let keeps : Sized o.content content = of-ok (Sized o.content) (sized o.content set.size) content is (sized-keeps o.content set.size) in
+    search (chained, set-alter, keeps) depth 10))))
 
 pub setattr-follows : (old : State) (ctx : Ctx) (a : SetattrArguments) → IfOk (setattr_end old ctx a) (λ e. Follows (time_of ctx.moment) old e.1)
 setattr-follows old ctx a =

@@ -4,11 +4,12 @@ use Rattle.std.proofs.lemmas.Bool.{and_parts, leb-true}
 use Rattle.std.specs.List.{count_by}
 use Rattle.nfs_machine.specs.Bytes.{same_bytes}
 use Rattle.nfs_machine.specs.Grants.{Grants, IsHeldUp, grant_message, requested}
-use Rattle.nfs_machine.specs.Locks.{Lists, Shared, mode_of, modes_without, Unlocked, holds, is_in, is_within, mode_at, mode_by, modes_with, same_owner}
+use Rattle.nfs_machine.specs.Locks.{Lists, is_in, is_within, mode_at, modes_with, same_owner}
+use Rattle.nfs_machine.specs.NlmSteps.{NlmStep}
 use Rattle.nfs_machine.specs.State.{Lock, Owner, Request, State}
-use Rattle.nfs_machine.specs.WorkedLocks.{a, b, lock, on_file}
+use Rattle.nfs_machine.specs.WorkedLocks.{a, b, lock, on_file, Unlocked, Shared}
 use Rattle.nfs_machine.specs.WorkedSettling.{WorkedFreed, WorkedSettling, alone, both_shared, c, held_by_a, held_by_b, two_held, waiting}
-use Rattle.nfs_machine.proofs.Modes.{inside, listed_locks_tell, narrower}
+use Rattle.nfs_machine.proofs.Modes.{inside, listed_locks_tell, narrower, without_caller, holds, mode_by}
 
 abbrev first_held : List Lock
 first_held = lock a 0 9 true ∷ []
@@ -96,10 +97,10 @@ b-held-up : IsHeldUp first_held (waiting b 5)
 b-held-up = record { other = a; offset = 0; is_other = refl; is_inside = refl; conflict = refl }
 
 pub worked-settling : WorkedSettling
-worked-settling m = record {
-  locks = first_held;
-  lists = given-back;
-  settles = (
+worked-settling m = (
+  first_held,
+  given-back,
+  (
     record m { locks = first_shared; waiting = waiting b 5 ∷ []; granted = m.granted ++ waiting a 69 ∷ [] },
     record {
       earlier = waiting b 5 ∷ [];
@@ -131,8 +132,8 @@ worked-settling m = record {
       },
       (tt, refl),
     ),
-  );
-}
+  ),
+)
 
 -- ---- FREE_ALL, and answers of grants
 same-turned : (owner : Owner) (file offset : ℕ) → same_bytes owner.caller_name (codes "c3") ≡ false → holds file owner offset (lock c 0 19 true) ≡ false
@@ -141,10 +142,10 @@ same-turned owner file offset other = elim (holds file owner offset (lock c 0 19
   | false ↦ λ has. refl
 ] refl
 
-freed : Lists [] (modes_without (lock c 0 19 true ∷ []) (codes "c3"))
+freed : Lists [] (without_caller (lock c 0 19 true ∷ []) (codes "c3"))
 freed = record { modes_are = modes; once = λ file owner offset. omega arith }
   where
-    modes : (file : ℕ) (owner : Owner) (offset : ℕ) → Unlocked ≡ modes_without (lock c 0 19 true ∷ []) (codes "c3") file owner offset
+    modes : (file : ℕ) (owner : Owner) (offset : ℕ) → Unlocked ≡ without_caller (lock c 0 19 true ∷ []) (codes "c3") file owner offset
     modes file owner offset =
         elim (same_bytes owner.caller_name (codes "c3")) as (λ t. same_bytes owner.caller_name (codes "c3") ≡ t → Unlocked ≡ cond t Unlocked (mode_at (lock c 0 19 true ∷ []) file owner offset)) [
           | true ↦ λ own. refl
@@ -152,12 +153,12 @@ freed = record { modes_are = modes; once = λ file owner offset. omega arith }
         ] refl
 
 -- one lock where there was none
-alone-of : (o : Owner) (exclusive : Bool) → Lists (lock o 0 19 exclusive ∷ []) (modes_with [] (on_file o 0 20) (mode_of exclusive))
+alone-of : (o : Owner) (exclusive : Bool) → Lists (lock o 0 19 exclusive ∷ []) (modes_with [] (on_file o 0 20) (Some exclusive))
 alone-of o exclusive = record { modes_are = modes; once = once-of (lock o 0 19 exclusive) }
   where
-    modes : (file : ℕ) (owner : Owner) (offset : ℕ) → mode_at (lock o 0 19 exclusive ∷ []) file owner offset ≡ modes_with [] (on_file o 0 20) (mode_of exclusive) file owner offset
+    modes : (file : ℕ) (owner : Owner) (offset : ℕ) → mode_at (lock o 0 19 exclusive ∷ []) file owner offset ≡ modes_with [] (on_file o 0 20) (Some exclusive) file owner offset
     modes file owner offset =
-        elim (holds file owner offset (lock o 0 19 exclusive)) as (λ t. mode_by (cond t (Some (lock o 0 19 exclusive)) None) ≡ cond t (mode_of exclusive) Unlocked) [ true ↦ refl | false ↦ refl ]
+        elim (holds file owner offset (lock o 0 19 exclusive)) as (λ t. mode_by (cond t (Some (lock o 0 19 exclusive)) None) ≡ cond t (Some exclusive) Unlocked) [ true ↦ refl | false ↦ refl ]
 
 -- and none where it is given back
 none-of : (o : Owner) (exclusive : Bool) → Lists [] (modes_with (lock o 0 19 exclusive ∷ []) (on_file o 0 20) Unlocked)
@@ -177,10 +178,10 @@ grants-first m request later o exclusive file range mode = record {
   waits = refl;
   file_is = file;
   held_up = tt;
-  free = λ held. listed_locks_tell [] (requested request) (mode_of request.exclusive) refl held;
+  free = λ held. listed_locks_tell [] (requested request) (Some request.exclusive) refl held;
   locks = lock o 0 19 exclusive ∷ [];
-  lists = subst (λ r. Lists (lock o 0 19 exclusive ∷ []) (modes_with [] r (mode_of request.exclusive))) (sym range)
-      (subst (λ e. Lists (lock o 0 19 exclusive ∷ []) (modes_with [] (on_file o 0 20) (mode_of e))) (sym mode) (alone-of o exclusive));
+  lists = subst (λ r. Lists (lock o 0 19 exclusive ∷ []) (modes_with [] r (Some request.exclusive))) (sym range)
+      (subst (λ e. Lists (lock o 0 19 exclusive ∷ []) (modes_with [] (on_file o 0 20) (Some e))) (sym mode) (alone-of o exclusive));
   message_is = refl;
   state_is = refl;
 }
@@ -189,67 +190,58 @@ a-in-the-way : IsHeldUp (lock a 0 19 true ∷ []) (alone b 69)
 a-in-the-way = record { other = a; offset = 0; is_other = refl; is_inside = refl; conflict = refl }
 
 pub worked-freed : WorkedFreed
+unfolding NlmStep
 worked-freed = record {
-  shared = λ m. record {
-    locks = [];
-    lists = freed;
-    settle = record {
-      files = 5 ∷ [];
-      rise = (tt, tt);
-      all_files = (refl, (refl, tt));
-      settle = (
-        record m { locks = both_shared; shares = []; waiting = []; granted = waiting a 5 ∷ waiting b 69 ∷ [] },
-        grant_message (waiting a 5) ∷ grant_message (waiting b 69) ∷ [],
-        [],
-        refl,
+  shared = λ m. (
+    [],
+    freed,
+    5 ∷ [],
+    (
+      tt,
+      record m { locks = both_shared; shares = []; waiting = []; granted = waiting a 5 ∷ waiting b 69 ∷ [] },
+      grant_message (waiting a 5) ∷ grant_message (waiting b 69) ∷ [],
+      [],
+      refl,
+      (
+        record m { locks = first_shared; shares = []; waiting = waiting b 69 ∷ []; granted = waiting a 5 ∷ [] },
+        grants-first (record m { shares = []; granted = [] }) (waiting a 5) (waiting b 69 ∷ []) a false refl refl refl,
         (
-          record m { locks = first_shared; shares = []; waiting = waiting b 69 ∷ []; granted = waiting a 5 ∷ [] },
-          grants-first (record m { shares = []; granted = [] }) (waiting a 5) (waiting b 69 ∷ []) a false refl refl refl,
-          (
-            record m { locks = both_shared; shares = []; waiting = []; granted = waiting a 5 ∷ waiting b 69 ∷ [] },
-            record {
-              earlier = [];
-              request = waiting b 69;
-              later = [];
-              waits = refl;
-              file_is = refl;
-              held_up = tt;
-              free = listed_locks_tell first_shared (on_file b 0 20) Shared refl;
-              locks = both_shared;
-              lists = shared-by-b;
-              message_is = refl;
-              state_is = refl;
-            },
-            (tt, refl),
-          ),
+          record m { locks = both_shared; shares = []; waiting = []; granted = waiting a 5 ∷ waiting b 69 ∷ [] },
+          record {
+            earlier = [];
+            request = waiting b 69;
+            later = [];
+            waits = refl;
+            file_is = refl;
+            held_up = tt;
+            free = listed_locks_tell first_shared (on_file b 0 20) Shared refl;
+            locks = both_shared;
+            lists = shared-by-b;
+            message_is = refl;
+            state_is = refl;
+          },
+          (tt, refl),
         ),
-        (refl, refl),
-      );
-    };
-  };
-  first_alone = λ m. record {
-    locks = [];
-    lists = freed;
-    settle = record {
-      files = 5 ∷ [];
-      rise = (tt, tt);
-      all_files = (refl, (refl, tt));
-      settle = (
-        held_by_a m,
-        grant_message (alone a 5) ∷ [],
-        [],
-        refl,
-        (held_by_a m, grants-first (record m { shares = []; granted = [] }) (alone a 5) (alone b 69 ∷ []) a true refl refl refl, (((λ e. a-in-the-way), tt), refl)),
-        (refl, refl),
-      );
-    };
-  };
-  refused = λ m. record {
-    locks = [];
-    lists = none-of a true;
-    settles = (held_by_b m, grants-first (record m { shares = []; granted = [] }) (alone b 69) [] b true refl refl refl, (tt, refl));
-  };
-  again = λ m. (refl, refl);
-  taken = λ m. (refl, refl);
-  of_other = λ m. (refl, refl);
+      ),
+      (tt, refl, refl),
+    ),
+  );
+  first_alone = λ m. (
+    [],
+    freed,
+    5 ∷ [],
+    (
+      tt,
+      held_by_a m,
+      grant_message (alone a 5) ∷ [],
+      [],
+      refl,
+      (held_by_a m, grants-first (record m { shares = []; granted = [] }) (alone a 5) (alone b 69 ∷ []) a true refl refl refl, (((λ e. a-in-the-way), tt), refl)),
+      ((a-in-the-way, tt), refl, refl),
+    ),
+  );
+  refused = λ m. (refl, ([], none-of a true, (held_by_b m, grants-first (record m { shares = []; granted = [] }) (alone b 69) [] b true refl refl refl, (tt, refl))));
+  again = λ m. (refl, (refl, refl));
+  taken = λ m. (refl, (refl, refl));
+  of_other = λ m. (refl, (refl, refl));
 }

@@ -1,12 +1,12 @@
 -- Replies are short: handles have 32 bytes, and a READ gives at most 65,536.
-use Rattle.std.proofs.Common.{ℕ, ◌≤◌, List, length, drop, min, Option, Some, None, Result, Ok, Err, IfOk, IfSome, sym, subst, arith}
+use Rattle.nfs_machine.specs.Permission.{Changing}
+use Rattle.std.proofs.Common.{ℕ, ◌≤◌, ◌+◌, ◌^◌, nat_lt, List, [], length, drop, min, Option, Some, None, Result, Ok, Err, IfOk, IfSome, sym, subst, arith}
 use Rattle.std.proofs.lemmas.List.{length-take}
-use Rattle.std.specs.FinMap.{get}
+use Rattle.std.specs.FinMap.{get, values}
 use Rattle.nfs_xdr.specs.Writing.{appended, with_word, with_arm}
 use Rattle.nfs_wire.proofs.Sizes.{getattr-size, lookup-size, read-size, write-size, made-size}
 use Rattle.nfs_wire.specs.Replies.{FitsWord, IsHandle}
 use Rattle.nfs_wire.specs.declared.calls.CommitArguments.{CommitArguments}
-use Rattle.nfs_wire.specs.declared.calls.CreateArguments.{CreateArguments}
 use Rattle.nfs_wire.specs.declared.calls.CreateHow.{CreateHow}
 use Rattle.nfs_wire.specs.declared.calls.NfsCall.TheVariants as calls
 use Rattle.nfs_wire.specs.declared.calls.Place.{Place}
@@ -16,29 +16,31 @@ use Rattle.nfs_wire.specs.declared.calls.WriteArguments.{WriteArguments}
 use Rattle.nfs_wire.specs.declared.replies.Made.{Made}
 use Rattle.nfs_wire.specs.declared.replies.ReadData.{ReadData}
 use Rattle.nfs_wire.specs.declared.status.NfsStatus.{NfsStatus}
+use Rattle.nfs_machine.proofs.Facts.{setattr_end, write_end}
+use Rattle.nfs_wire.specs.declared.status.NfsStatus.TheVariants as status
 use Rattle.nfs_machine.specs.Answers.{answer_of, state_after}
-use Rattle.nfs_machine.specs.Checks.{◌>>=◌, bytes_in, may_gain_link}
+use Rattle.nfs_machine.specs.Attributes.{attributes_of, links_of}
+use Rattle.nfs_machine.specs.Checks.{◌>>=◌, holding, bytes_in, object_of, text_in, entries_in, plain_name_checked, changeable, permitted, entry_of}
 use Rattle.nfs_machine.specs.Data.{read_at}
 use Rattle.nfs_machine.proofs.Listing.{readdir-size, readdir-form, readdirplus-size, readdirplus-form, names-within, full-within}
 use Rattle.nfs_machine.proofs.Results.{setattr-size, access-size, readlink-size, fsstat-size, fsinfo-size, pathconf-size, commit-size}
-use Rattle.nfs_machine.specs.AttributeSteps.{setattr_end, access_result}
-use Rattle.nfs_machine.specs.DataSteps.{attributes_result, readlink_result, read_result, write_end, commit_result}
-use Rattle.nfs_machine.specs.FileSystemSteps.{fsstat_result, fsinfo_result, pathconf_result}
+use Rattle.nfs_machine.specs.AttributeSteps.{granted}
+use Rattle.nfs_machine.specs.DataSteps.{read_object, verifier_of}
+use Rattle.nfs_machine.specs.FileSystemSteps.{space_left, file_system, path_limits}
 use Rattle.nfs_machine.specs.Laws.{IsShort, RefusalsAreShort, RepliesAreShort}
 use Rattle.nfs_machine.specs.LinkSteps.{link_end}
-use Rattle.nfs_machine.specs.MakeSteps.{mkdir_end, symlink_end, mknod_end, may_make, text_checked, wanted_directory, wanted_link, wanted_special}
-use Rattle.nfs_machine.specs.Making.{Fresh, End, Known, Chosen, EndsAs, Wanted, make_end, make_made, make_new}
-use Rattle.nfs_machine.specs.NameSteps.{found_of, lookup_result, create_end, create_existing, create_over, create_under, wanted_file}
+use Rattle.nfs_machine.specs.MakeSteps.{wanted_special, wanted_of}
+use Rattle.nfs_machine.specs.Making.{Fresh, End, Known, Chosen, EndsAs, Wanted, make_end, make_new, given_attributes, kind_checked}
+use Rattle.nfs_machine.specs.NameSteps.{lookup_result, create_existing, create_over, wanted_file}
 use Rattle.nfs_machine.specs.NfsSteps.{NfsStep}
 use Rattle.nfs_machine.specs.PageSteps.{entries_left}
-use Rattle.nfs_machine.specs.RemoveSteps.{remove_end, rmdir_end}
-use Rattle.nfs_machine.specs.RenameSteps.{rename_reply}
 use Rattle.nfs_machine.specs.Resolve.{resolve}
 use Rattle.nfs_machine.specs.Shown.{after_first, shown, wcc}
-use Rattle.nfs_machine.specs.State.{Entry, Living, State}
+use Rattle.nfs_machine.specs.State.{Entry, Living, State, Link, Directory}
 use Rattle.nfs_machine.specs.declared.context.Ctx.{Ctx}
 use Rattle.nfs_machine.proofs.ReplySizes.{linked-size, removed-size, renamed-size}
 use Rattle.nfs_machine.proofs.Texts.{texts-read}
+use Rattle.nfs_machine.proofs.Moves.{remove_end, rmdir_end}
 
 -- what holds of every answer of a chain holds of the chain
 pub chained : {A B : Type 0} (P : B → Type 0) (r : Result A NfsStatus) (f : A → Result B NfsStatus) → ((x : A) → IfOk (f x) P) → IfOk (r >>= f) P
@@ -61,20 +63,22 @@ text-fits (Ok text) short = omega (arith, short)
 text-fits (Err e) short = tt
 
 module _ (m : State) (ctx : Ctx) where
-  found-short : (number : ℕ) (o : Option Living) → IfOk (found_of m ctx number o) (λ found. length found.object ≤ 64)
-  found-short number None = tt
-  found-short number (Some o) = omega arith
-
   lookup-short : (place : Place) (parent : ℕ) → IfOk (lookup_result m ctx place parent) (λ found. length found.object ≤ 64)
-  lookup-short place parent = search (chained, found-short) depth 10
+  lookup-short place parent = search (chained, arith) depth 12
 
-  read-short : (a : ReadArguments) → IfOk (read_result m ctx a) (λ read. length read.«data» ≤ 65536)
+  abbrev read_result : ReadArguments → Result ReadData NfsStatus
+  read_result a = object_of (resolve m ctx a.file) >>= λ o. read_object ctx o.1 a
+
+  abbrev commit_result : CommitArguments → Result Verifier NfsStatus
+  commit_result a = object_of (resolve m ctx a.file) >>= λ o. bytes_in o.1.content >>= λ bytes. Ok (verifier_of ctx)
+
+  read-short : (a : ReadArguments) → IfOk (read_result a) (λ read. length read.«data» ≤ 65536)
   read-short a = search (chained, read-at-short) depth 8
 
   write-short : (a : WriteArguments) → IfOk (write_end m ctx a) (λ end. length end.0.verifier.bytes ≤ 8)
   write-short a = search (chained, arith) depth 10
 
-  commit-short : (a : CommitArguments) → IfOk (commit_result m ctx a) (λ (v : Verifier). length v.bytes ≤ 8)
+  commit-short : (a : CommitArguments) → IfOk (commit_result a) (λ (v : Verifier). length v.bytes ≤ 8)
   commit-short a = search (chained, arith) depth 8
 
   -- a handle that an end answers, whatever the machine chooses
@@ -86,22 +90,27 @@ module _ (m : State) (ctx : Ctx) where
   existing-short how number None = tt
   existing-short how number (Some o) = chained _ (create_over ctx how o (bytes_in o.content)) _ λ after. omega arith
 
-  made-new : (name : List ℕ) (wanted : Wanted) (number : ℕ) (directory : Living) (entries : List Entry) (last : ℕ) → EndShort (Chosen (make_made m ctx name wanted number directory entries last))
-  made-new name wanted number directory entries last fresh = omega arith
-
   new-short : (name : List ℕ) (wanted : Wanted) (number : ℕ) (directory : Living) (entries : List Entry) (last : ℕ) → IfOk (make_new m ctx name wanted number directory entries last) EndShort
-  new-short name wanted number directory entries last = search (chained, made-new) depth 6
+  new-short name wanted number directory entries last =
+      chained EndShort (kind_checked ctx (links_of m number directory.content) wanted.content) _ (λ x0.
+      chained EndShort (given_attributes ctx wanted.attributes) _ (λ x1.
+      chained EndShort (holding (nat_lt (last + 1) (2 ^ 64)) status.NoSpace) _ (λ x2 fresh. omega arith)))
 
-  make-short : (place : Place) (wanted : Result Wanted NfsStatus) (own : ℕ → Living → Result (Unit {0}) NfsStatus) → IfOk (make_end m ctx place wanted own) EndShort
-  make-short place wanted own = search (chained, new-short) depth 12
+  module _ (place : Place) (there : ℕ → Option Living → Result (End m) NfsStatus) (found : (number : ℕ) (o : Option Living) → IfOk (there number o) EndShort) where
+    by-name : (what : Wanted) (number : ℕ) (directory : Living) (entries : List Entry) (last : ℕ) (e : Option Entry)
+        → IfOk (elim e as (λ (_ : Option Entry). Result (End m) NfsStatus) [ Some e ↦ there e.number (get m.objects e.number) | None ↦ make_new m ctx place.name what number directory entries last ]) EndShort
+    by-name what number directory entries last None = new-short place.name what number directory entries last
+    by-name what number directory entries last (Some e) = found e.number (get m.objects e.number)
 
-  by-name : (a : CreateArguments) (number : ℕ) (directory : Living) (entries : List Entry) (last : ℕ) (e : Option Entry)
-      → IfOk (create_under m ctx a number directory entries last e) EndShort
-  by-name a number directory entries last None = new-short a.place.name (wanted_file a.how) number directory entries last
-  by-name a number directory entries last (Some e) = existing-short a.how e.number (get m.objects e.number)
-
-  create-short : (a : CreateArguments) → IfOk (create_end m ctx a) EndShort
-  create-short a = search (chained, by-name) depth 10
+    make-short : (wanted : Result Wanted NfsStatus) → IfOk (make_end m ctx place wanted there) EndShort
+    make-short wanted =
+        chained EndShort (object_of (resolve m ctx place.directory)) _ (λ directory.
+        chained EndShort (entries_in directory.1.content) _ (λ entries.
+        chained EndShort (plain_name_checked status.Exists status.Exists place.name) _ (λ x1.
+        chained EndShort wanted _ (λ what.
+        chained EndShort (changeable ctx directory.1) _ (λ x2.
+        chained EndShort (permitted ctx directory.1 Changing) _ (λ x3.
+        by-name what directory.0 directory.1 entries.0 entries.1 (entry_of entries.0 place.name)))))))
 
   ends-short : (r : Result (End m) NfsStatus) (end : Result (Made × State) NfsStatus) → EndsAs m r end → IfOk r EndShort → IfOk (answer_of end) (λ made. IfSome made.object IsHandle)
   ends-short (Ok (Known answer new)) end is short = subst (λ (r : Result (Made × State) NfsStatus). IfOk (answer_of r) (λ made. IfSome made.object IsHandle)) (sym is) short
@@ -113,10 +122,10 @@ pub replies_short : RepliesAreShort
 unfolding NfsStep appended
 replies_short old ctx calls.Null reply messages new w step = subst IsShort (sym step.reply_is) (record { form = tt; short = omega arith })
 replies_short old ctx (calls.Getattr object) reply messages new w step =
-    subst IsShort (sym step.reply_is) (record { form = tt; short = omega (arith, getattr-size (attributes_result old (resolve old ctx object))) })
+    subst IsShort (sym step.reply_is) (record { form = tt; short = omega (arith, getattr-size (object_of (resolve old ctx object) >>= λ o. Ok (attributes_of old o.0 o.1))) })
 replies_short old ctx (calls.Lookup place) reply messages new w step =
-    let form = lookup-short old ctx place step.parent in
-    subst IsShort (sym step.answers.reply_is) (record { form = form; short = omega (arith, lookup-size (shown old (resolve old ctx place.directory)) (lookup_result old ctx place step.parent) form) })
+    let form = lookup-short old ctx place step.0 in
+    subst IsShort (sym step.2.reply_is) (record { form = form; short = omega (arith, lookup-size (shown old (resolve old ctx place.directory)) (lookup_result old ctx place step.0) form) })
 replies_short old ctx (calls.Read a) reply messages new w step = subst IsShort (sym step.reply_is) (record {
   form = weaker (read_result old ctx a) (read-short old ctx a);
   short = omega (arith, read-size (shown old (resolve old ctx a.file)) (read_result old ctx a) 65536 (read-short old ctx a));
@@ -126,15 +135,15 @@ replies_short old ctx (calls.Write a) reply messages new w step = subst IsShort 
   short = omega (arith, write-size (wcc (state_after old (write_end old ctx a)) (resolve old ctx a.file)) (answer_of (write_end old ctx a)) (answered (λ w. length w.verifier.bytes ≤ 8) (write_end old ctx a) (write-short old ctx a)));
 })
 replies_short old ctx (calls.Create a) reply messages new w step =
-    let form = ends-short old ctx (create_end old ctx a) step.end step.ends (create-short old ctx a) in
+    let form = ends-short old ctx (make_end old ctx a.place (Ok (wanted_file a.how)) (create_existing old ctx a.how)) step.end step.ends (make-short old ctx a.place (create_existing old ctx a.how) (existing-short old ctx a.how) (Ok (wanted_file a.how))) in
     subst IsShort (sym step.answers.reply_is) (record { form = form; short = omega (arith, made-size (wcc (state_after old step.end) (resolve old ctx a.place.directory)) (answer_of step.end) form) })
 replies_short old ctx (calls.Setattr a) reply messages new w step =
     subst IsShort (sym step.reply_is) (record { form = tt; short = omega (arith, setattr-size (wcc (state_after old (setattr_end old ctx a)) (resolve old ctx a.object)) (answer_of (setattr_end old ctx a))) })
 replies_short old ctx (calls.Access a) reply messages new w step =
-    subst IsShort (sym step.reply_is) (record { form = tt; short = omega (arith, access-size (shown old (resolve old ctx a.object)) (access_result old ctx a)) })
+    subst IsShort (sym step.reply_is) (record { form = tt; short = omega (arith, access-size (shown old (resolve old ctx a.object)) (object_of (resolve old ctx a.object) >>= λ o. Ok (granted ctx o.1 a.rights))) })
 replies_short old ctx (calls.Readlink object) reply messages new w step = subst IsShort (sym step.reply_is) (record {
-  form = text-fits (readlink_result old ctx object) (texts-read old ctx object w.texts);
-  short = omega (arith, readlink-size (shown old (resolve old ctx object)) (readlink_result old ctx object) 4096 (texts-read old ctx object w.texts));
+  form = text-fits (object_of (resolve old ctx object) >>= λ o. text_in o.1.content) (texts-read old ctx object w.texts);
+  short = omega (arith, readlink-size (shown old (resolve old ctx object)) (object_of (resolve old ctx object) >>= λ o. text_in o.1.content) 4096 (texts-read old ctx object w.texts));
 })
 replies_short old ctx (calls.Readdir a) reply messages new w step =
     let within = names-within a.count (entries_left old ctx a.directory a.cookie a.verifier step.parent) step.page step.is_page in
@@ -149,29 +158,29 @@ replies_short old ctx (calls.Readdirplus a) reply messages new w step =
       short = omega (arith, readdirplus-size old ctx (shown old (resolve old ctx a.directory)) a.most step.page within);
     })
 replies_short old ctx (calls.Fsstat object) reply messages new w step =
-    subst IsShort (sym step.reply_is) (record { form = tt; short = omega (arith, fsstat-size (shown old (resolve old ctx object)) (fsstat_result old ctx object)) })
+    subst IsShort (sym step.reply_is) (record { form = tt; short = omega (arith, fsstat-size (shown old (resolve old ctx object)) (object_of (resolve old ctx object) >>= λ o. Ok (space_left ctx.limits.total_bytes (values old.objects) o.1.export))) })
 replies_short old ctx (calls.Fsinfo object) reply messages new w step =
-    subst IsShort (sym step.reply_is) (record { form = tt; short = omega (arith, fsinfo-size (shown old (resolve old ctx object)) (fsinfo_result old ctx object)) })
+    subst IsShort (sym step.reply_is) (record { form = tt; short = omega (arith, fsinfo-size (shown old (resolve old ctx object)) (object_of (resolve old ctx object) >>= λ o. Ok file_system)) })
 replies_short old ctx (calls.Pathconf object) reply messages new w step =
-    subst IsShort (sym step.reply_is) (record { form = tt; short = omega (arith, pathconf-size (shown old (resolve old ctx object)) (pathconf_result old ctx object)) })
+    subst IsShort (sym step.reply_is) (record { form = tt; short = omega (arith, pathconf-size (shown old (resolve old ctx object)) (object_of (resolve old ctx object) >>= λ o. Ok path_limits)) })
 replies_short old ctx (calls.Commit a) reply messages new w step =
     subst IsShort (sym step.reply_is) (record { form = tt; short = omega (arith, commit-size (wcc old (resolve old ctx a.file)) (commit_result old ctx a) (commit-short old ctx a)) })
 replies_short old ctx (calls.Mkdir a) reply messages new w step =
-    let form = ends-short old ctx (mkdir_end old ctx a) step.end step.ends (make-short old ctx a.place (Ok (wanted_directory a.attributes)) (λ number directory. may_gain_link old number directory.content)) in
+    let form = ends-short old ctx (make_end old ctx a.place (Ok (wanted_of 493 (Directory [] 2) a.attributes)) (λ number object. Err status.Exists)) step.end step.ends (make-short old ctx a.place (λ number object. Err status.Exists) (λ number object. tt) (Ok (wanted_of 493 (Directory [] 2) a.attributes))) in
     subst IsShort (sym step.answers.reply_is) (record { form = form; short = omega (arith, made-size (wcc (state_after old step.end) (resolve old ctx a.place.directory)) (answer_of step.end) form) })
 replies_short old ctx (calls.Symlink a) reply messages new w step =
-    let form = ends-short old ctx (symlink_end old ctx a) step.end step.ends (make-short old ctx a.place (Ok (wanted_link a.text a.attributes)) (λ number directory. text_checked a.text)) in
+    let form = ends-short old ctx (make_end old ctx a.place (Ok (wanted_of 511 (Link a.text) a.attributes)) (λ number object. Err status.Exists)) step.end step.ends (make-short old ctx a.place (λ number object. Err status.Exists) (λ number object. tt) (Ok (wanted_of 511 (Link a.text) a.attributes))) in
     subst IsShort (sym step.answers.reply_is) (record { form = form; short = omega (arith, made-size (wcc (state_after old step.end) (resolve old ctx a.place.directory)) (answer_of step.end) form) })
 replies_short old ctx (calls.Mknod a) reply messages new w step =
-    let form = ends-short old ctx (mknod_end old ctx a) step.end step.ends (make-short old ctx a.place (wanted_special a.what) (λ number directory. may_make ctx a.what)) in
+    let form = ends-short old ctx (make_end old ctx a.place (wanted_special a.what) (λ number object. Err status.Exists)) step.end step.ends (make-short old ctx a.place (λ number object. Err status.Exists) (λ number object. tt) (wanted_special a.what)) in
     subst IsShort (sym step.answers.reply_is) (record { form = form; short = omega (arith, made-size (wcc (state_after old step.end) (resolve old ctx a.place.directory)) (answer_of step.end) form) })
 replies_short old ctx (calls.Remove place) reply messages new w step =
     subst IsShort (sym step.reply_is) (record { form = tt; short = omega (arith, removed-size (wcc (state_after old (remove_end old ctx place)) (resolve old ctx place.directory)) (answer_of (remove_end old ctx place))) })
 replies_short old ctx (calls.Rmdir place) reply messages new w step =
     subst IsShort (sym step.reply_is) (record { form = tt; short = omega (arith, removed-size (wcc (state_after old (rmdir_end old ctx place)) (resolve old ctx place.directory)) (answer_of (rmdir_end old ctx place))) })
 replies_short old ctx (calls.Rename a) reply messages new w step =
-    let r = rename_reply old ctx a step.end in
-    subst IsShort (sym step.answers.reply_is) (record { form = tt; short = omega (arith, renamed-size r.from r.to r.result) })
+    let from = resolve old ctx a.from.directory in let after = state_after old step.0 in
+    subst IsShort (sym step.2.reply_is) (record { form = tt; short = omega (arith, renamed-size (wcc after from) (wcc after (after_first from (resolve old ctx a.to.directory))) (answer_of step.0)) })
 replies_short old ctx (calls.Link a) reply messages new w step =
     let file = resolve old ctx a.file in let new = state_after old (link_end old ctx a) in
     subst IsShort (sym step.reply_is) (record {

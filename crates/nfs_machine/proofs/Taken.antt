@@ -1,7 +1,6 @@
 -- What REMOVE, RMDIR and LINK leave: handles are given once, and what is true of every state stays true.
-use Rattle.std.proofs.Common.{◌≡◌, ◌==◌, ℕ, ◌+◌, ◌^◌, Bool, true, false, not, cond, List, [], Some, None, Result, Ok, IfOk, find, nat_lt, refl, sym, ◌∙◌, ap, subst, arith}
-use Rattle.std.specs.Prelude.{is_none}
-use Rattle.std.specs.Prelude.{ok_or}
+use Rattle.std.proofs.Common.{◌≡◌, ◌==◌, ℕ, ◌+◌, ◌^◌, Bool, true, false, not, cond, List, [], Some, None, Result, Ok, IfOk, find, nat_lt, refl, sym, ◌∙◌, ap, subst, arith, Option, option_map}
+use Rattle.std.specs.Prelude.{is_none, ok_or}
 use Rattle.std.specs.Cmp.{unsigned_Decides}
 use Rattle.std.specs.FinMap.{get}
 use Rattle.std.proofs.lemmas.Bool.{not-true}
@@ -10,13 +9,13 @@ use Rattle.nfs_wire.specs.declared.calls.LinkArguments.{LinkArguments}
 use Rattle.nfs_wire.specs.declared.calls.Place.{Place}
 use Rattle.nfs_wire.specs.declared.status.NfsStatus.{NfsStatus}
 use Rattle.nfs_wire.specs.declared.status.NfsStatus.TheVariants as status
-use Rattle.nfs_machine.specs.Attributes.{entries_of, is_directory, names_of}
+use Rattle.nfs_machine.specs.Attributes.{entries_of, is_directory, names_of, links_of}
 use Rattle.nfs_machine.specs.Bytes.{same_bytes}
-use Rattle.nfs_machine.specs.Checks.{holding, object_of, entries_in, old_name_checked, changeable, permitted, entry_of, may_gain_link}
+use Rattle.nfs_machine.specs.Checks.{holding, object_of, entries_in, plain_name_checked, changeable, permitted, entry_of, link_limit}
 use Rattle.nfs_machine.specs.LinkSteps.{link_end}
 use Rattle.nfs_machine.specs.Making.{with_entry}
 use Rattle.nfs_machine.specs.Permission.{Changing}
-use Rattle.nfs_machine.specs.RemoveSteps.{Named, directory_name_checked, empty_directory, named_in, not_directory, remove_end, rmdir_end, take_end, with_name_taken, without}
+use Rattle.nfs_machine.specs.RemoveSteps.{empty_directory, not_directory, without, object_under}
 use Rattle.nfs_machine.specs.Resolve.{resolve}
 use Rattle.nfs_machine.specs.Shown.{touched, with_content, with_object}
 use Rattle.nfs_machine.specs.State.{Content, Directory, Entry, Living, State}
@@ -25,9 +24,10 @@ use Rattle.nfs_machine.specs.WellFormed.{WellFormed}
 use Rattle.nfs_machine.specs.declared.context.Ctx.{Ctx}
 use Rattle.nfs_machine.proofs.Changes.{apart, differs-insert, differs-other, itself}
 use Rattle.nfs_machine.proofs.Continued.{Continues, continues-itself, continues-losing, continues-touched, continues-with, gives-continued, texts-continued, touches-continued, well_formed-losing}
-use Rattle.nfs_machine.proofs.Facts.{absent, chained-is, directory-empty, entry-found, holds, is-directory, object-found, plain-empty, resolved-lives}
-use Rattle.nfs_machine.proofs.Follows.{Follows, bounds-losing, locks-losing, mounts-losing, of-ok}
+use Rattle.nfs_machine.proofs.Facts.{absent, chained-is, directory-empty, holds, is-directory, leads-found, plain-empty, resolved-lives}
+use Rattle.nfs_machine.proofs.Follows.{Follows, bounds-losing, locks-losing, mounts-losing}
 use Rattle.nfs_machine.proofs.Loose.{AddsName, Loose, Swaps, TakesName, also, loose-added, loose-taken, loose-touched, loosened, names_of-taken, none_loose, tightened}
+use Rattle.nfs_machine.proofs.Moves.{Named, named_as, remove_end, rmdir_end, take_end, with_name_taken}
 use Rattle.nfs_machine.proofs.Roots.{directory-root}
 
 -- a name that is in its directory, and leads to what lives there
@@ -39,18 +39,20 @@ pub record IsNamed (m : State) (n : Named) : Type 0 where
   pub number : entry.number ≡ n.number
   pub object : get m.objects n.number ≡ Some n.object
 
-pub is-named : (m : State) (directory : ℕ × Living) (entries : List Entry × ℕ) (name : List ℕ) → get m.objects directory.0 ≡ Some directory.1 → directory.1.content ≡ Directory entries.0 entries.1
-    → IfOk (named_in m directory entries name) (IsNamed m)
-is-named m directory entries name lives content =
-    chained-is (IsNamed m) (ok_or (entry_of entries.0 name) status.NoEntry) _ (λ e is.
-    chained-is (IsNamed m) (ok_or (get m.objects e.number) status.NoEntry) _ (λ o at. record {
-      lives = lives;
-      content = content;
-      entry = e;
-      found = entry-found (entry_of entries.0 name) e is;
-      number = refl;
-      object = object-found (get m.objects e.number) o at;
-    }))
+-- what an entry leads to lives at its number
+pub under-entry : (m : State) (x : Option Entry) (o : ℕ × Living) → object_under m x ≡ Some o → (e : Entry) × (x ≡ Some e) × (e.number ≡ o.0) × (get m.objects o.0 ≡ Some o.1)
+under-entry m None o is = cc
+under-entry m (Some e) o is = found (get m.objects e.number) refl is
+  where
+    found : (l : Option Living) → get m.objects e.number ≡ l → option_map (λ (x : Living). (e.number, x)) l ≡ Some o → (f : Entry) × (Some e ≡ Some f) × (f.number ≡ o.0) × (get m.objects o.0 ≡ Some o.1)
+    found None at some = cc
+    found (Some x) at some = (let same : (e.number, x) ≡ o = cc in (e, refl, ap (λ (y : ℕ × Living). y.0) same, subst (λ (y : ℕ × Living). get m.objects y.0 ≡ Some y.1) same at))
+
+pub is-under : (m : State) (directory : ℕ × Living) (entries : List Entry × ℕ) (name : List ℕ) (o : ℕ × Living) → get m.objects directory.0 ≡ Some directory.1 → directory.1.content ≡ Directory entries.0 entries.1
+    → object_under m (entry_of entries.0 name) ≡ Some o → IsNamed m (named_as directory entries name o)
+is-under m directory entries name o lives content is =
+    let e = under-entry m (entry_of entries.0 name) o is in
+    record { lives = lives; content = content; entry = e.0; found = e.1; number = e.2; object = e.3 }
 
 -- a directory in the place of another: its entries alone differ
 pub narrower-swaps : (m : State) (n : Named) (now : Time) (entries : List Entry) (last : ℕ) → IsNamed m n
@@ -132,18 +134,18 @@ module _ (m : State) (ctx : Ctx) where
       chained-is Leaves (name place.name) _ (λ x1 e1.
       chained-is Leaves (changeable ctx directory.1) _ (λ x2 e2.
       chained-is Leaves (permitted ctx directory.1 Changing) _ (λ x3 e3.
-      chained-is Leaves (named_in m directory entries place.name) _ (λ n e4.
-      chained-is Leaves (content n.object.content) _ (λ x5 e5.
-      taken-follows m (time_of ctx.moment) n
-      (of-ok (IsNamed m) (named_in m directory entries place.name) n e4
-      (is-named m directory entries place.name (resolved-lives m ctx place.directory directory at) (is-directory directory.1.content entries is)))
-      (empty n.object.content x5 e5))))))))
+      chained-is Leaves (ok_or (object_under m (entry_of entries.0 place.name)) status.NoEntry) _ (λ o e4.
+      chained-is Leaves (content o.1.content) _ (λ x5 e5.
+      taken-follows m (time_of ctx.moment) (named_as directory entries place.name o)
+      (is-under m directory entries place.name o (resolved-lives m ctx place.directory directory at) (is-directory directory.1.content entries is)
+      (leads-found (object_under m (entry_of entries.0 place.name)) o e4))
+      (empty o.1.content x5 e5))))))))
 
   pub remove-follows : (place : Place) → IfOk (remove_end m ctx place) Leaves
-  remove-follows place = take-follows place old_name_checked not_directory plain-empty
+  remove-follows place = take-follows place (plain_name_checked status.Invalid status.Invalid) not_directory plain-empty
 
   pub rmdir-follows : (place : Place) → IfOk (rmdir_end m ctx place) Leaves
-  rmdir-follows place = take-follows place directory_name_checked empty_directory directory-empty
+  rmdir-follows place = take-follows place (plain_name_checked status.Invalid status.Exists) empty_directory directory-empty
 
 -- ---- one name more
 module _ (m : State) (now : Time) (number : ℕ) (object : Living) (place : ℕ) (directory : Living) (entries : List Entry) (last : ℕ) (name : List ℕ)
@@ -214,11 +216,11 @@ link-follows m ctx a =
     chained-is P (holding (file.1.export == directory.1.export) status.CrossDevice) _ (λ x1 e1.
     chained-is P (holding (not (is_directory file.1.content)) status.Invalid) _ (λ x2 e2.
     chained-is P (entries_in directory.1.content) _ (λ entries is.
-    chained-is P (old_name_checked a.place.name) _ (λ x3 e3.
+    chained-is P (plain_name_checked status.Invalid status.Invalid a.place.name) _ (λ x3 e3.
     chained-is P (changeable ctx directory.1) _ (λ x4 e4.
     chained-is P (permitted ctx directory.1 Changing) _ (λ x5 e5.
     chained-is P (holding (is_none (entry_of entries.0 a.place.name)) status.Exists) _ (λ x6 e6.
-    chained-is P (may_gain_link m file.0 file.1.content) _ (λ x7 e7.
+    chained-is P (holding (nat_lt (links_of m file.0 file.1.content) link_limit) status.TooManyLinks) _ (λ x7 e7.
     chained-is P (holding (nat_lt (entries.1 + 1) (2 ^ 64)) status.NoSpace) _ (λ x8 e8.
     linked-follows m (time_of ctx.moment) file.0 file.1 directory.0 directory.1 entries.0 entries.1 a.place.name
     (resolved-lives m ctx a.file file at) (resolved-lives m ctx a.place.directory directory there)

@@ -1,13 +1,9 @@
 -- Where the texts of links are within their bound, so are the answers of READLINK, and objects that replace others leave it so.
-use Rattle.std.proofs.Common.{◌≡◌, ◌==◌, ℕ, ◌≤◌, true, false, cond, List, length, Option, Some, None, option_map, unwrap_or, IfOk, refl, sym, ◌∙◌, ap}
+use Rattle.std.proofs.Common.{◌≡◌, ◌==◌, ℕ, ◌≤◌, true, false, cond, List, length, Some, IfOk, refl, sym, ◌∙◌, ap}
 use Rattle.std.specs.FinMap.{get}
-use Rattle.nfs_wire.specs.declared.attributes.SetAttributes.{SetAttributes}
-use Rattle.nfs_wire.specs.declared.attributes.Time.{Time}
 use Rattle.nfs_machine.proofs.Resolved.{resolved-lives}
 use Rattle.nfs_machine.proofs.Sums.{get-inserted}
-use Rattle.nfs_machine.specs.AttributeSteps.{sized, with_attributes}
 use Rattle.nfs_machine.specs.Checks.{◌>>=◌, object_of, text_in}
-use Rattle.nfs_machine.specs.DataSteps.{readlink_result}
 use Rattle.nfs_machine.specs.Resolve.{Resolved, BadHandle, Stale, Names, resolve}
 use Rattle.nfs_machine.specs.Shown.{with_object}
 use Rattle.nfs_machine.specs.State.{Content, Regular, Directory, Link, BlockDevice, CharacterDevice, Socket, Fifo, Living, State}
@@ -22,22 +18,8 @@ texts-put m number o fit here n x text at is =
       | false ↦ λ e. fit n x text e is
     ] (sym (get-inserted m.objects number o n) ∙ at)
 
--- attributes leave the text of a link
-pub attributes-text : (o : Living) (now : Time) (a : SetAttributes) (text : List ℕ) → (with_attributes o now a).content ≡ Link text → o.content ≡ Link text
-attributes-text o now a text is = same o.content a.size is
-  where
-    same : (c : Content) (size : Option ℕ) → unwrap_or (option_map (sized c) size) c ≡ Link text → c ≡ Link text
-    same c None e = e
-    same (Regular bytes) (Some size) e = cc
-    same (Directory entries last) (Some size) e = e
-    same (Link t) (Some size) e = e
-    same (BlockDevice device) (Some size) e = e
-    same (CharacterDevice device) (Some size) e = e
-    same Socket (Some size) e = e
-    same Fifo (Some size) e = e
-
 -- what READLINK answers is within it
-pub texts-read : (m : State) (ctx : Ctx) (object : List ℕ) → TextsFit m → IfOk (readlink_result m ctx object) (λ text. length text ≤ 4096)
+pub texts-read : (m : State) (ctx : Ctx) (object : List ℕ) → TextsFit m → IfOk (object_of (resolve m ctx object) >>= λ link. text_in link.1.content) (λ text. length text ≤ 4096)
 texts-read m ctx object fit = at (resolve m ctx object) refl
   where
     of : (o : Living) (c : Content) → ((text : List ℕ) → c ≡ Link text → length text ≤ 4096) → IfOk (text_in c) (λ text. length text ≤ 4096)

@@ -1,5 +1,5 @@
 -- A page that is answered is one of the directory that the handle names.
-use Rattle.std.proofs.Common.{◌≡◌, ℕ, Bool, true, false, List, [], ◌∷◌, map, Result, Ok, Err, IfOk, refl, sym, subst, arith}
+use Rattle.std.proofs.Common.{◌≡◌, ℕ, Bool, true, false, List, [], ◌∷◌, map, Result, Ok, Err, IfOk, refl, sym, subst, arith, ◌||◌, ◌==◌}
 use Rattle.nfs_wire.specs.declared.calls.ReaddirArguments.{ReaddirArguments}
 use Rattle.nfs_wire.specs.declared.calls.ReaddirplusArguments.{ReaddirplusArguments}
 use Rattle.nfs_wire.specs.declared.calls.Verifier.{Verifier}
@@ -9,10 +9,13 @@ use Rattle.nfs_wire.specs.declared.replies.ReaddirplusReply.{ReaddirplusReply}
 use Rattle.nfs_wire.specs.declared.status.NfsStatus.{NfsStatus}
 use Rattle.nfs_wire.specs.declared.status.NfsStatus.TheVariants as status
 use Rattle.side_wire.specs.declared.message.Message.{Message}
+use Rattle.nfs_machine.specs.Bytes.{same_bytes}
+use Rattle.nfs_machine.specs.DataSteps.{verifier_of}
 use Rattle.nfs_machine.proofs.Resolved.{resolved-lives}
 use Rattle.nfs_machine.specs.Checks.{◌>>=◌, entries_in, holding, object_of, permitted}
 use Rattle.nfs_machine.specs.Pages.{Pages, all_entries, behind, fits, fits_full}
-use Rattle.nfs_machine.specs.PageSteps.{PagesOf, ReaddirStep, ReaddirplusStep, entries_left, full_entry, is_good, page_entry, readdir_result, readdirplus_result}
+use Rattle.nfs_machine.proofs.Pages.{PagesOf, ReaddirStep, ReaddirplusStep, readdir_result, readdirplus_result}
+use Rattle.nfs_machine.specs.PageSteps.{entries_left, full_entry, page_entry}
 use Rattle.nfs_machine.specs.Paging.{Lists, Rises}
 use Rattle.nfs_machine.specs.Permission.{Listing, may}
 use Rattle.nfs_machine.specs.Resolve.{Resolved, BadHandle, Stale, Names, resolve}
@@ -36,7 +39,7 @@ module _ (m : State) (ctx : Ctx) (w : WellFormed m) (directory : List ℕ) (cook
   abbrev Rest : ℕ → Living → List Entry × ℕ → Result (List Entry) NfsStatus
   Rest number o entries = do
     _ ← permitted ctx o Listing
-    _ ← holding (is_good ctx cookie verifier) status.BadCookie
+    _ ← holding ((cookie == 0) || same_bytes verifier.bytes (verifier_of ctx).bytes) status.BadCookie
     Ok (behind cookie (all_entries number parent entries.0))
 
   at-directory : (number : ℕ) (o : Living) (c : Content) → resolve m ctx directory ≡ Names number o → o.content ≡ c → PagesOf fit (entries_in c >>= Rest number o) (Ok p) → Lists m ctx directory cookie fit p
@@ -48,7 +51,7 @@ module _ (m : State) (ctx : Ctx) (w : WellFormed m) (directory : List ℕ) (cook
     last = last;
     is_directory = content;
     parent = parent;
-    visit = passed fit p (may ctx.ids o Listing) (is_good ctx cookie verifier) status.Access status.BadCookie (behind cookie (all_entries number parent entries)) is;
+    visit = passed fit p (may ctx.ids o Listing) ((cookie == 0) || same_bytes verifier.bytes (verifier_of ctx).bytes) status.Access status.BadCookie (behind cookie (all_entries number parent entries)) is;
     in_order = (omega arith, (omega arith, rising 2 last entries (w.cookies number o entries last (resolved-lives m ctx directory number o named) content)));
   }
   at-directory number o (Regular bytes) named content is = cc

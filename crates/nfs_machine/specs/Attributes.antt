@@ -21,32 +21,24 @@ abbrev pub block : ℕ
 block = 4096
 
 abbrev pub size_of : Content → ℕ
-size_of (Regular bytes) = length bytes
-size_of (Directory entries last_cookie) = block
-size_of (Link text) = length text
-size_of content = 0
+size_of content = elim content [ Regular bytes ↦ length bytes | Directory entries last_cookie ↦ block | Link text ↦ length text | _ ↦ 0 ]
 
 -- the size, rounded up to whole blocks
 abbrev pub used_of : Content → ℕ
 used_of content = (size_of content + 4095) / block * block
 
 abbrev pub device_of : Content → DeviceNumber
-device_of (BlockDevice device) = device
-device_of (CharacterDevice device) = device
-device_of content = record { major = 0; minor = 0 }
+device_of content = elim content [ BlockDevice device ↦ device | CharacterDevice device ↦ device | _ ↦ record { major = 0; minor = 0 } ]
 
 -- the entries of a directory; of what is none, no entry
 abbrev pub entries_of : Content → List Entry
-entries_of (Directory entries last_cookie) = entries
-entries_of content = []
+entries_of content = elim content [ Directory entries last_cookie ↦ entries | _ ↦ [] ]
 
 abbrev pub is_directory : Content → Bool
-is_directory (Directory entries last_cookie) = true
-is_directory content = false
+is_directory content = elim content [ Directory entries last_cookie ↦ true | _ ↦ false ]
 
 abbrev pub is_living_directory : Option Living → Bool
-is_living_directory None = false
-is_living_directory (Some o) = is_directory o.content
+is_living_directory object = elim object [ None ↦ false | Some o ↦ is_directory o.content ]
 
 -- how many names in a directory lead to the object
 abbrev pub names_in : ℕ → Living → ℕ
@@ -58,8 +50,7 @@ names_of m number = sum_by (names_in number) (values m.objects)
 
 -- of a directory 2 and its subdirectories, of anything else the count of its names
 abbrev pub links_of : State → ℕ → Content → ℕ
-links_of m number (Directory entries last_cookie) = 2 + count_by (λ (e : Entry). is_living_directory (get m.objects e.number)) entries
-links_of m number content = names_of m number
+links_of m number content = elim content [ Directory entries last_cookie ↦ 2 + count_by (λ (e : Entry). is_living_directory (get m.objects e.number)) entries | _ ↦ names_of m number ]
 
 abbrev pub attributes_of : State → ℕ → Living → Attributes
 attributes_of m number o = record {

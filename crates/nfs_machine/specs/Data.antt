@@ -9,10 +9,6 @@ transfer_limit = 65536
 abbrev pub size_limit : ℕ
 size_limit = 1048576
 
--- the longest text of a link, in bytes (3.3.10)
-abbrev pub text_limit : ℕ
-text_limit = 4096
-
 -- a file of this size: cut off, or filled up with zeros
 abbrev pub resized : List ℕ → ℕ → List ℕ
 resized bytes size = take size bytes ++ replicate (size - length bytes) 0
@@ -24,5 +20,4 @@ written bytes offset more = resized bytes offset ++ more ++ drop (offset + lengt
 -- what is read there, and whether the file ends with it
 abbrev pub read_at : List ℕ → ℕ → ℕ → ReadData
 read_at bytes offset count =
-    let found = take (min count transfer_limit) (drop offset bytes) in
-    record { count = length found; eof = nat_le (length bytes) (offset + length found); «data» = found }
+    let found = take (min count transfer_limit) (drop offset bytes) in record { count = length found; eof = nat_le (length bytes) (offset + length found); «data» = found }

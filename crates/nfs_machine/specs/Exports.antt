@@ -22,10 +22,8 @@ admits e host = list_any (λ h. same_bytes h host || same_bytes h every_host) e.
 
 -- the export with a number; numbers are from 1
 abbrev pub export_at : List ExportValue → ℕ → Option ExportValue
-export_at exports zero = None
-export_at exports (suc n) = slice_get exports n
+export_at exports number = elim number [ zero ↦ None | suc n ↦ slice_get exports n ]
 
 -- whether there is such an export and it admits the host
 abbrev pub export_admits : Option ExportValue → List ℕ → Bool
-export_admits None host = false
-export_admits (Some e) host = admits e host
+export_admits export host = elim export [ None ↦ false | Some e ↦ admits e host ]

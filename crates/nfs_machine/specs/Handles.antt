@@ -14,11 +14,7 @@ handle_bytes h = to_be_bytes w32 mark ++ (to_be_bytes w32 h.export ++ (to_be_byt
 -- the handle that these bytes are, if they have the form of one
 abbrev pub handle_of : List ℕ → Option Handle
 handle_of bytes =
+    let long : ℕ → ℕ = λ from. from_be_bytes w64 (take 8 (drop from bytes)) in
     if (length bytes == 32) && (from_be_bytes w32 (take 4 bytes) == mark) then
-    Some (record {
-      export = from_be_bytes w32 (take 4 (drop 4 bytes));
-      start = from_be_bytes w64 (take 8 (drop 8 bytes));
-      fileid = from_be_bytes w64 (take 8 (drop 16 bytes));
-      generation = from_be_bytes w64 (take 8 (drop 24 bytes));
-    })
+    Some (record { export = from_be_bytes w32 (take 4 (drop 4 bytes)); start = long 8; fileid = long 16; generation = long 24 })
     else None

@@ -1,21 +1,19 @@
 -- The step of LINK (RFC 1813, 3.3.15): one name more for an object that is no directory.
 use Rattle.std.specs.Prelude.{◌+◌, ◌^◌, not, Result, Ok, nat_lt, ◌==◌, is_none}
 use Rattle.nfs_wire.specs.declared.calls.LinkArguments.{LinkArguments}
-use Rattle.nfs_wire.specs.declared.replies.NfsReply.{NfsReply}
-use Rattle.nfs_wire.specs.declared.replies.NfsReply.TheVariants as replies
 use Rattle.nfs_wire.specs.declared.status.NfsStatus.{NfsStatus}
 use Rattle.nfs_wire.specs.declared.status.NfsStatus.TheVariants as status
-use Rattle.nfs_machine.specs.Answers.{state_after, answer_of}
-use Rattle.nfs_machine.specs.Attributes.{is_directory}
-use Rattle.nfs_machine.specs.Checks.{◌>>=◌, holding, object_of, entries_in, old_name_checked, changeable, permitted, may_gain_link, entry_of}
+use Rattle.nfs_machine.specs.Attributes.{is_directory, links_of}
+use Rattle.nfs_machine.specs.Checks.{◌>>=◌, holding, object_of, entries_in, plain_name_checked, changeable, permitted, link_limit, entry_of}
 use Rattle.nfs_machine.specs.Making.{with_entry}
 use Rattle.nfs_machine.specs.Permission.{Changing}
 use Rattle.nfs_machine.specs.Resolve.{resolve}
-use Rattle.nfs_machine.specs.Shown.{after_first, shown, touched, wcc, with_content, with_object}
+use Rattle.nfs_machine.specs.Shown.{touched, with_content, with_object}
 use Rattle.nfs_machine.specs.State.{State}
 use Rattle.nfs_machine.specs.Times.{time_of}
 use Rattle.nfs_machine.specs.declared.context.Ctx.{Ctx}
 
+-- LINK, 3.3.15: both handles are of one export; the file's ctime changes with the directory
 abbrev pub link_end : State → Ctx → LinkArguments → Result (Unit {0} × State) NfsStatus
 link_end old ctx a = do
   file ← object_of (resolve old ctx a.file)
@@ -23,22 +21,11 @@ link_end old ctx a = do
   _ ← holding (file.1.export == directory.1.export) status.CrossDevice
   _ ← holding (not (is_directory file.1.content)) status.Invalid
   entries ← entries_in directory.1.content
-  _ ← old_name_checked a.place.name
+  _ ← plain_name_checked status.Invalid status.Invalid a.place.name
   _ ← changeable ctx directory.1
   _ ← permitted ctx directory.1 Changing
   _ ← holding (is_none (entry_of entries.0 a.place.name)) status.Exists
-  _ ← may_gain_link old file.0 file.1.content
+  _ ← holding (nat_lt (links_of old file.0 file.1.content) link_limit) status.TooManyLinks
   _ ← holding (nat_lt (entries.1 + 1) (2 ^ 64)) status.NoSpace
-  Ok (
-    tt,
-    with_object (with_object old directory.0 (with_content directory.1 (time_of ctx.moment) (with_entry entries.0 entries.1 a.place.name file.0)))
-        file.0 (touched file.1 (time_of ctx.moment)),
-  )
-
-abbrev pub link_answer : State → Ctx → LinkArguments → NfsReply
-link_answer old ctx a =
-    let file = resolve old ctx a.file in let new = state_after old (link_end old ctx a) in replies.Link (record {
-      attributes = shown new file;
-      directory = wcc new (after_first file (resolve old ctx a.place.directory));
-      result = answer_of (link_end old ctx a);
-    })
+  let wider = with_content directory.1 (time_of ctx.moment) (with_entry entries.0 entries.1 a.place.name file.0) in
+      Ok (tt, with_object (with_object old directory.0 wider) file.0 (touched file.1 (time_of ctx.moment)))

@@ -1,13 +1,13 @@
 -- Laws of locks, shares and requests that wait (RFC 1813, appendix II).
-use Rattle.std.specs.Prelude.{◌≡◌, ℕ, Bool, false, not, ◌&&◌, List, nat_le, ◌==◌}
+use Rattle.std.specs.Prelude.{◌≡◌, ℕ, Bool, false, not, ◌&&◌, List, nat_le, ◌==◌, Some}
 use Rattle.std.specs.List.{AllByRecursion, list_any}
 use Rattle.side_wire.specs.declared.message.Message.{Message}
 use Rattle.nfs_machine.specs.Exports.{ExportValue}
 use Rattle.nfs_machine.specs.Grants.{IsHeldUp}
-use Rattle.nfs_machine.specs.Locks.{Conflicts, Mode, Range, mode_at, mode_of, modes_conflict, same_owner, shares_conflict}
+use Rattle.nfs_machine.specs.Locks.{Conflicts, Mode, mode_at, modes_conflict, same_owner, shares_conflict}
 use Rattle.nfs_machine.specs.Opening.{opening}
 use Rattle.nfs_machine.specs.Run.{Record, Run, Setting}
-use Rattle.nfs_machine.specs.State.{Lock, Owner, Share, State}
+use Rattle.nfs_machine.specs.State.{Lock, Owner, Share, State, Range}
 use Rattle.nfs_machine.specs.Step.{Step}
 use Rattle.nfs_machine.specs.declared.calls.Call.{Call}
 use Rattle.nfs_machine.specs.declared.calls.Reply.{Reply}
@@ -17,7 +17,7 @@ use Rattle.nfs_machine.specs.declared.moment.Moment.{Moment}
 -- a listed lock that stands in the way: another owner's, with an offset of the range, and one of the two exclusive
 abbrev pub stands_in_way : Range → Mode → Lock → Bool
 stands_in_way r mode l =
-    (l.file == r.file) && not (same_owner r.owner l.owner) && nat_le l.first r.last && nat_le r.first l.last && modes_conflict mode (mode_of l.exclusive)
+    (l.file == r.file) && not (same_owner r.owner l.owner) && nat_le l.first r.last && nat_le r.first l.last && modes_conflict mode (Some l.exclusive)
 
 -- no two owners have an offset in modes that conflict
 abbrev pub NoLocksConflict : List Lock → Type 0

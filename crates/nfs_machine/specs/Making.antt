@@ -1,9 +1,8 @@
 -- How a call makes a new object under a new name (RFC 1813, 3.3.8 to 3.3.11).
-use Rattle.std.specs.Prelude.{◌≡◌, ℕ, ◌+◌, ◌<◌, ◌^◌, ◌%◌, true, false, ◌&&◌, ◌||◌, Bool, List, [], ◌∷◌, ◌++◌, Option, Some, None, unwrap_or, Result, Ok, Err, nat_le, nat_lt, ◌==◌, is_none}
+use Rattle.std.specs.Prelude.{not, length, ◌≡◌, ℕ, ◌+◌, ◌<◌, ◌^◌, ◌%◌, true, false, ◌&&◌, ◌||◌, Bool, List, [], ◌∷◌, ◌++◌, Option, Some, None, unwrap_or, Result, Ok, Err, nat_le, nat_lt, ◌==◌}
 use Rattle.std.specs.FinMap.{get}
-use Rattle.nfs_rpc.specs.declared.credentials.Ids.{Ids}
+use Rattle.std.specs.List.{list_any}
 use Rattle.nfs_wire.specs.declared.attributes.SetAttributes.{SetAttributes}
-use Rattle.nfs_wire.specs.declared.attributes.SetTime.TheVariants.{Leave}
 use Rattle.nfs_wire.specs.declared.calls.Place.{Place}
 use Rattle.nfs_wire.specs.declared.replies.Made.{Made}
 use Rattle.nfs_wire.specs.declared.replies.MadeReply.{MadeReply}
@@ -11,14 +10,14 @@ use Rattle.nfs_wire.specs.declared.replies.NfsReply.{NfsReply}
 use Rattle.nfs_wire.specs.declared.status.NfsStatus.{NfsStatus}
 use Rattle.nfs_wire.specs.declared.status.NfsStatus.TheVariants as status
 use Rattle.side_wire.specs.declared.message.Message.{Message}
-use Rattle.nfs_machine.specs.Answers.{Answers, state_after, answer_of}
-use Rattle.nfs_machine.specs.Attributes.{attributes_of}
-use Rattle.nfs_machine.specs.Checks.{◌>>=◌, holding, object_of, entries_in, new_name_checked, changeable, permitted, entry_of}
+use Rattle.nfs_machine.specs.Answers.{Ends}
+use Rattle.nfs_machine.specs.Attributes.{attributes_of, links_of}
+use Rattle.nfs_machine.specs.Checks.{◌>>=◌, holding, object_of, entries_in, plain_name_checked, changeable, permitted, entry_of, link_limit}
 use Rattle.nfs_machine.specs.Data.{size_limit}
 use Rattle.nfs_machine.specs.Permission.{Changing, is_member}
 use Rattle.nfs_machine.specs.Resolve.{resolve}
 use Rattle.nfs_machine.specs.Shown.{wcc, handle_at, with_content, with_object}
-use Rattle.nfs_machine.specs.State.{Content, Directory, Entry, Living, State}
+use Rattle.nfs_machine.specs.State.{Content, Directory, Link, BlockDevice, CharacterDevice, Entry, Living, State}
 use Rattle.nfs_machine.specs.Times.{is_time, set_time, time_of}
 use Rattle.nfs_machine.specs.declared.context.Ctx.{Ctx}
 
@@ -35,30 +34,31 @@ pub record Fresh (m : State) : Type 0 where
   pub given : spent number generation ≡ true
   pub kept : (n g : ℕ) → m.spent n g ≡ true → spent n g ≡ true
 
--- who may give an object to whom: uid 0 to anybody, others themselves and their groups
-abbrev pub may_give : Ids → SetAttributes → Bool
-may_give ids a = (ids.uid == 0) || ((unwrap_or a.uid ids.uid == ids.uid) && is_member ids (unwrap_or a.gid ids.gid))
-
 -- the attributes that a new object is given, judged (2.5: sattr3)
 abbrev pub given_attributes : Ctx → SetAttributes → Result (Unit {0}) NfsStatus
 given_attributes ctx a = do
   _ ← holding (is_time a.accessed && is_time a.modified) status.Invalid
   _ ← holding (nat_le (unwrap_or a.size 0) size_limit) status.FileTooBig
-  holding (may_give ctx.ids a) status.Permission
+  -- uid 0 gives an object to anybody, others to themselves and their groups
+  holding ((ctx.ids.uid == 0) || ((unwrap_or a.uid ctx.ids.uid == ctx.ids.uid) && is_member ctx.ids (unwrap_or a.gid ctx.ids.gid))) status.Permission
+
+-- what a new object is to be: its mode where none is given, its content, the attributes that are given, and the verifier that it keeps
+abbrev pub Wanted : Type 0
+Wanted = record { mode : ℕ; content : Content; attributes : SetAttributes; verifier : Option (List ℕ) }
 
 -- a new object: what is given, and else the caller's ids, the mode of its kind and the call's moment
-abbrev pub new_object : Ctx → (export generation mode : ℕ) → Content → SetAttributes → Option (List ℕ) → Living
-new_object ctx export generation mode content a verifier = record {
+abbrev pub new_object : Ctx → (export generation : ℕ) → Wanted → Living
+new_object ctx export generation wanted = record {
   export = export;
   generation = generation;
-  content = content;
-  mode = unwrap_or a.mode mode % 4096;
-  uid = unwrap_or a.uid ctx.ids.uid;
-  gid = unwrap_or a.gid ctx.ids.gid;
-  accessed = set_time (time_of ctx.moment) (time_of ctx.moment) a.accessed;
-  modified = set_time (time_of ctx.moment) (time_of ctx.moment) a.modified;
+  content = wanted.content;
+  mode = unwrap_or wanted.attributes.mode wanted.mode % 4096;
+  uid = unwrap_or wanted.attributes.uid ctx.ids.uid;
+  gid = unwrap_or wanted.attributes.gid ctx.ids.gid;
+  accessed = set_time (time_of ctx.moment) (time_of ctx.moment) wanted.attributes.accessed;
+  modified = set_time (time_of ctx.moment) (time_of ctx.moment) wanted.attributes.modified;
   changed = time_of ctx.moment;
-  verifier = verifier;
+  verifier = wanted.verifier;
 }
 
 -- a directory with one more name; its cookie is one above the greatest that was ever used (3.3.16)
@@ -76,50 +76,46 @@ pub data End (old : State) : Type 0 where
   Chosen : (makes : Fresh old → Made × State) → End old
 
 abbrev pub EndsAs : (old : State) → Result (End old) NfsStatus → Result (Made × State) NfsStatus → Type 0
-EndsAs old (Ok (Known answer new)) end = end ≡ Ok (answer, new)
-EndsAs old (Ok (Chosen makes)) end = (fresh : Fresh old) × (end ≡ Ok (makes fresh))
-EndsAs old (Err e) end = end ≡ Err e
+EndsAs old comes_to end = elim comes_to [ Ok (Known answer new) ↦ end ≡ Ok (answer, new) | Ok (Chosen makes) ↦ (fresh : Fresh old) × (end ≡ Ok (makes fresh)) | Err e ↦ end ≡ Err e ]
 
--- what a new object is to be: its mode where none is given, its content, the attributes that are given, and the verifier that it keeps
-pub record Wanted : Type 0 where
-  pub mode : ℕ
-  pub content : Content
-  pub attributes : SetAttributes
-  pub verifier : Option (List ℕ)
+-- what is judged of an object of each kind: a directory brings one link to its parent, which has so many; the text of a link
+-- is neither empty nor holds a NUL, and has at most 4,096 bytes; uid 0 alone makes devices (3.3.9 to 3.3.11)
+abbrev pub kind_checked : Ctx → (links : ℕ) → Content → Result (Unit {0}) NfsStatus
+kind_checked ctx links (Directory entries last_cookie) = holding (nat_lt links link_limit) status.TooManyLinks
+kind_checked ctx links (Link text) = do
+  _ ← holding (nat_le 1 (length text) && not (list_any (λ b. b == 0) text)) status.Invalid
+  holding (nat_le (length text) 4096) status.NameTooLong
+kind_checked ctx links (BlockDevice device) = holding (ctx.ids.uid == 0) status.Permission
+kind_checked ctx links (CharacterDevice device) = holding (ctx.ids.uid == 0) status.Permission
+kind_checked ctx links content = Ok tt
 
-abbrev pub no_attributes : SetAttributes
-no_attributes = record { mode = None; uid = None; gid = None; size = None; accessed = Leave; modified = Leave }
-
--- the object, under a name in a directory
-abbrev pub make_made : (old : State) → Ctx → (name : List ℕ) → Wanted → ℕ → Living → List Entry → ℕ → Fresh old → Made × State
-make_made old ctx name wanted number directory entries last_cookie fresh =
-    let o = new_object ctx directory.export fresh.generation wanted.mode wanted.content wanted.attributes wanted.verifier in
-    let wider = with_content directory (time_of ctx.moment) (with_entry entries last_cookie name fresh.number) in
-    let new = record (with_object (with_object old number wider) fresh.number o) { spent = fresh.spent } in
-    (made new ctx fresh.number o, new)
-
--- the last checks: the attributes that are given, and that the directory has a cookie left for the name
+-- the last checks, of the object's kind, of the attributes that are given, and that the directory has a cookie left for the name; then
+-- the object, under its name in the directory
 abbrev pub make_new : (old : State) → Ctx → (name : List ℕ) → Wanted → ℕ → Living → List Entry → ℕ → Result (End old) NfsStatus
 make_new old ctx name wanted number directory entries last_cookie = do
+  _ ← kind_checked ctx (links_of old number directory.content) wanted.content
   _ ← given_attributes ctx wanted.attributes
   _ ← holding (nat_lt (last_cookie + 1) (2 ^ 64)) status.NoSpace
-  Ok (Chosen (make_made old ctx name wanted number directory entries last_cookie))
+  Ok (Chosen (λ fresh.
+      let o = new_object ctx directory.export fresh.generation wanted in
+      let wider = with_content directory (time_of ctx.moment) (with_entry entries last_cookie name fresh.number) in
+      let new = record (with_object (with_object old number wider) fresh.number o) { spent = fresh.spent } in
+      (made new ctx fresh.number o, new)))
 
--- a call that makes what is wanted under a name that is not there: what the procedure alone judges comes behind the name
-abbrev pub make_end : (old : State) → Ctx → Place → Result Wanted NfsStatus → (ℕ → Living → Result (Unit {0}) NfsStatus) → Result (End old) NfsStatus
-make_end old ctx place wanted own = do
+-- a call that makes what is wanted under a name; where the name is there, it comes to what the procedure makes of the object that it leads to
+abbrev pub make_end : (old : State) → Ctx → Place → Result Wanted NfsStatus → (there : ℕ → Option Living → Result (End old) NfsStatus) → Result (End old) NfsStatus
+make_end old ctx place wanted there = do
   directory ← object_of (resolve old ctx place.directory)
   entries ← entries_in directory.1.content
-  _ ← new_name_checked place.name
+  _ ← plain_name_checked status.Exists status.Exists place.name
   what ← wanted
   _ ← changeable ctx directory.1
   _ ← permitted ctx directory.1 Changing
-  _ ← holding (is_none (entry_of entries.0 place.name)) status.Exists
-  _ ← own directory.0 directory.1
-  make_new old ctx place.name what directory.0 directory.1 entries.0 entries.1
+  elim (entry_of entries.0 place.name) [ Some e ↦ there e.number (get old.objects e.number) | None ↦ make_new old ctx place.name what directory.0 directory.1 entries.0 entries.1 ]
 
--- the answer of a call that may make an object: its directory is shown before and after
-pub record MakeStep (old : State) (ctx : Ctx) (place : Place) (comes_to : Result (End old) NfsStatus) (reply_of : MadeReply → NfsReply) (reply : NfsReply) (messages : List Message) (new : State) : Type 0 where
+-- the step of such a call: its directory is shown before and after
+pub record MakeStep (old : State) (ctx : Ctx) (place : Place) (wanted : Result Wanted NfsStatus) (there : ℕ → Option Living → Result (End old) NfsStatus)
+    (reply_of : MadeReply → NfsReply) (reply : NfsReply) (messages : List Message) (new : State) : Type 0 where
   pub end : Result (Made × State) NfsStatus
-  pub ends : EndsAs old comes_to end
-  pub answers : Answers (reply_of (record { directory = wcc (state_after old end) (resolve old ctx place.directory); result = answer_of end })) (state_after old end) reply messages new
+  pub ends : EndsAs old (make_end old ctx place wanted there) end
+  pub answers : Ends old (λ after result. reply_of (record { directory = wcc after (resolve old ctx place.directory); result = result })) end reply messages new

@@ -19,7 +19,7 @@ use Rattle.nfs_machine.specs.Exports.{ExportValue, admits, every_host, export_at
 use Rattle.nfs_machine.specs.Answers.{Answers}
 use Rattle.nfs_machine.specs.Paths.{parts, pieces, is_dots, begins_with_slash}
 pub use Rattle.nfs_machine.specs.Shown.{handle_at}
-use Rattle.nfs_machine.specs.State.{Entry, Living, Mounted, State}
+use Rattle.nfs_machine.specs.State.{Entry, Living, State}
 use Rattle.nfs_machine.specs.declared.context.Ctx.{Ctx}
 
 -- no directory of any server is called so: INVAL for a path without a leading slash, with NUL, or with a part "." or "..";
@@ -43,18 +43,12 @@ pub record Chosen (exports : List ExportValue) (host : List ℕ) (names : List (
 
 -- the entries of a directory; a walk stops at anything else
 abbrev pub entries_at : Option Living → Result (Living × List Entry) MountStatus
-entries_at None = Err status.NoEntry
-entries_at (Some o) = if is_directory o.content then Ok (o, entries_of o.content) else Err status.NotDirectory
+entries_at living = elim living [ None ↦ Err status.NoEntry | Some o ↦ if is_directory o.content then Ok (o, entries_of o.content) else Err status.NotDirectory ]
 
 -- the directory that names lead to from a number, with its own number; no link is followed
 unfoldable pub walk : (ℕ → Option Living) → ℕ → List (List ℕ) → Result (ℕ × Living) MountStatus
-walk find number [] = do
-  d ← entries_at (find number)
-  Ok (number, d.0)
-walk find number (name ∷ names) = do
-  d ← entries_at (find number)
-  e ← ok_or (entry_of d.1 name) status.NoEntry
-  walk find e.number names
+walk find number [] = entries_at (find number) >>= λ d. Ok (number, d.0)
+walk find number (name ∷ names) = entries_at (find number) >>= λ d. ok_or (entry_of d.1 name) status.NoEntry >>= λ e. walk find e.number names
 
 -- what a path names for a caller: the root of an export has the export's number
 abbrev pub Target : State → Ctx → List ℕ → Result (ℕ × Living) MountStatus → Type 0
@@ -65,62 +59,43 @@ Target m ctx path found =
 abbrev pub NoExport : Ctx → List ℕ → Type 0
 NoExport ctx path = (number : ℕ) (rest : List (List ℕ)) → Leads ctx.exports ctx.host (parts path) number rest → ⊥
 
--- the newest that are kept
-abbrev pub mount_limit : ℕ
-mount_limit = 65536
-
 -- this path of this host, as it was sent
-abbrev pub is_of : List ℕ → List ℕ → Mounted → Bool
-is_of host path x = same_bytes x.host host && same_bytes x.path path
+abbrev pub is_of : List ℕ → List ℕ → MountBody → Bool
+is_of host path x = same_bytes x.hostname host && same_bytes x.directory path
 
-abbrev pub is_mounted : List Mounted → Mounted → Bool
-is_mounted mounts m = list_any (is_of m.host m.path) mounts
+abbrev pub is_mounted : List MountBody → MountBody → Bool
+is_mounted mounts m = list_any (is_of m.hostname m.directory) mounts
 
-abbrev pub newest : List Mounted → List Mounted
-newest mounts = drop (length mounts - mount_limit) mounts
+-- the newest that are kept
+abbrev pub newest : List MountBody → List MountBody
+newest mounts = drop (length mounts - 65536) mounts
 
 -- a pair is added last, unless it is there
-abbrev pub with_mount : State → Mounted → State
+abbrev pub with_mount : State → MountBody → State
 with_mount m mounted = if is_mounted m.mounts mounted then m else record m { mounts = newest (m.mounts ++ mounted ∷ []) }
 
 -- MNT, 5.2.1
 abbrev pub MntAnswers : State → Ctx → List ℕ → Result (List ℕ) MountStatus → State → Type 0
 MntAnswers old ctx path (Ok handle) new =
     (found : ℕ × Living) × Target old ctx path (Ok found) × (handle ≡ handle_at ctx found.0 found.1)
-    × (new ≡ with_mount old (record { host = ctx.host; path = path }))
+    × (new ≡ with_mount old (record { hostname = ctx.host; directory = path }))
 MntAnswers old ctx path (Err e) new =
     ((path_fault path ≡ Some e) ⊎ ((path_fault path ≡ None) × NoExport ctx path × (e ≡ status.Access)) ⊎ Target old ctx path (Err e)) × (new ≡ old)
 
-pub record MntStep (old : State) (ctx : Ctx) (path : List ℕ) (reply : MountReply) (messages : List Message) (new : State) : Type 0 where
-  pub result : Result (List ℕ) MountStatus
-  pub reply_is : reply ≡ replies.Mnt result
-  pub no_message : messages ≡ []
-  pub answers : MntAnswers old ctx path result new
-
--- DUMP, 5.2.2: what is mounted, in the order of mounting
-abbrev pub listed_mounts : List Mounted → List MountBody
-listed_mounts mounts = map (λ (x : Mounted). record { hostname = x.host; directory = x.path }) mounts
-
--- the state without some mounts: UMNT, 5.2.3, takes this path of this host away
-abbrev pub without_mounts : State → (Mounted → Bool) → State
-without_mounts m goes = record m { mounts = filter (λ (x : Mounted). not (goes x)) m.mounts }
-
--- UMNTALL, 5.2.4: every path of this host
-abbrev pub is_by : List ℕ → Mounted → Bool
-is_by host x = same_bytes x.host host
+-- the state without some mounts: UMNT, 5.2.3, takes this path of this host away, and UMNTALL, 5.2.4, every path of it
+abbrev pub without_mounts : State → (MountBody → Bool) → State
+without_mounts m goes = record m { mounts = filter (λ (x : MountBody). not (goes x)) m.mounts }
 
 -- EXPORT, 5.2.5: the exports in the order given, each with the hosts that it admits, and with none where it admits every host
-abbrev pub groups_of : ExportValue → List (List ℕ)
-groups_of e = if list_any (λ h. same_bytes h every_host) e.hosts then [] else e.hosts
-
 abbrev pub listed_exports : List ExportValue → List ExportNode
-listed_exports exports = map (λ (e : ExportValue). record { directory = e.path; groups = groups_of e }) exports
+listed_exports exports = map (λ (e : ExportValue). record { directory = e.path; groups = if list_any (λ h. same_bytes h every_host) e.hosts then [] else e.hosts }) exports
 
 -- what the machine may answer a call of MOUNT, and the state that it goes on to
 unfoldable pub MountStep : State → Ctx → MountCall → MountReply → List Message → State → Type 0
 MountStep old ctx calls.Null reply messages new = Answers replies.Null old reply messages new
-MountStep old ctx (calls.Mnt path) reply messages new = MntStep old ctx path reply messages new
-MountStep old ctx calls.Dump reply messages new = Answers (replies.Dump (listed_mounts old.mounts)) old reply messages new
+MountStep old ctx (calls.Mnt path) reply messages new = (result : Result (List ℕ) MountStatus) × (reply ≡ replies.Mnt result) × (messages ≡ []) × MntAnswers old ctx path result new
+-- DUMP, 5.2.2: what is mounted, in the order of mounting
+MountStep old ctx calls.Dump reply messages new = Answers (replies.Dump old.mounts) old reply messages new
 MountStep old ctx (calls.Unmount path) reply messages new = Answers replies.Unmount (without_mounts old (is_of ctx.host path)) reply messages new
-MountStep old ctx calls.UnmountAll reply messages new = Answers replies.UnmountAll (without_mounts old (is_by ctx.host)) reply messages new
+MountStep old ctx calls.UnmountAll reply messages new = Answers replies.UnmountAll (without_mounts old (λ x. same_bytes x.hostname ctx.host)) reply messages new
 MountStep old ctx calls.Export reply messages new = Answers (replies.Export (listed_exports ctx.exports)) old reply messages new

@@ -1,5 +1,6 @@
 -- The step of NLM version 4: each call has the step of its procedure (RFC 1813, appendix II, 6.2).
-use Rattle.std.specs.Prelude.{◌≡◌, ℕ, false, true, List, [], ◌∷◌, ◌++◌}
+use Rattle.std.specs.Prelude.{◌≡◌, ℕ, false, true, List, [], ◌∷◌, ◌++◌, find, if◌then◌else◌}
+use Rattle.std.specs.List.{list_any}
 use Rattle.side_wire.specs.declared.message.Callback.{Callback}
 use Rattle.side_wire.specs.declared.message.Callback.TheVariants as callbacks
 use Rattle.side_wire.specs.declared.message.Message.{Message}
@@ -10,10 +11,10 @@ use Rattle.side_wire.specs.declared.nlm.NlmReply.TheVariants as replies
 use Rattle.side_wire.specs.declared.nlm.NlmResult.{NlmResult}
 use Rattle.side_wire.specs.declared.nlm.NlmStatus.{NlmStatus}
 use Rattle.side_wire.specs.declared.nlm.NlmStatus.TheVariants as status
-use Rattle.side_wire.specs.declared.nlm.TestResult.{TestResult}
-use Rattle.side_wire.specs.declared.nlm.TestStatus.{TestStatus}
+use Rattle.side_wire.specs.declared.nlm.ShareMode.TheVariants as mode
 use Rattle.nfs_machine.specs.Answers.{Answers}
-use Rattle.nfs_machine.specs.LockSteps.{CancelEnds, Frees, GrantEnds, LockEnds, ShareEnds, TestEnds, UnlockEnds, UnshareEnds}
+use Rattle.nfs_machine.specs.LockSteps.{CancelEnds, Frees, GrantEnds, LockEnds, TestEnds, UnlockEnds, Checked, file_checked, is_answered, share_of, without}
+use Rattle.nfs_machine.specs.Locks.{denies, same_sharer, shares_conflict}
 use Rattle.nfs_machine.specs.State.{State}
 use Rattle.nfs_machine.specs.declared.context.Ctx.{Ctx}
 
@@ -21,43 +22,53 @@ use Rattle.nfs_machine.specs.declared.context.Ctx.{Ctx}
 abbrev pub result_with : List ℕ → NlmStatus → NlmResult
 result_with cookie s = record { cookie = cookie; status = s }
 
-abbrev pub test_with : List ℕ → TestStatus → TestResult
-test_with cookie s = record { cookie = cookie; status = s }
-
 -- a call that is answered in its reply
-pub record Replies {Status : Type 0} (Ends : Status → List Message → State → Type 0) (reply_of : Status → NlmReply) (reply : NlmReply) (messages : List Message) (new : State) : Type 0 where
-  pub status : Status
-  pub ends : Ends status messages new
-  pub reply_is : reply ≡ reply_of status
+abbrev pub Replies : {Status : Type 0} → (Status → List Message → State → Type 0) → (Status → NlmReply) → NlmReply → List Message → State → Type 0
+Replies {Status} Ends reply_of reply messages new = (s : Status) × Ends s messages new × (reply ≡ reply_of s)
 
 -- a MSG call, procedures 6 to 10: its reply is void, and its result goes to the caller's host in a call, behind the messages that the call puts
-pub record Posts {Status : Type 0} (Ends : Status → List Message → State → Type 0) (host : List ℕ) (result_of : Status → Callback) (void : NlmReply) (reply : NlmReply) (messages : List Message) (new : State) : Type 0 where
-  pub status : Status
-  pub granted : List Message
-  pub ends : Ends status granted new
-  pub reply_is : reply ≡ void
-  pub messages_are : messages ≡ granted ++ record { host = host; call = result_of status } ∷ []
+abbrev pub Posts : {Status : Type 0} → (Status → List Message → State → Type 0) → List ℕ → (Status → Callback) → NlmReply → NlmReply → List Message → State → Type 0
+Posts {Status} Ends host result_of void reply messages new =
+    (s : Status) × (granted : List Message) × Ends s granted new × (reply ≡ void) × (messages ≡ granted ++ record { host = host; call = result_of s } ∷ [])
 
 -- what the machine may answer a call of NLM, and the state that it goes on to
 unfoldable pub NlmStep : State → Ctx → NlmCall → NlmReply → List Message → State → Type 0
-NlmStep old ctx calls.Null reply messages new = Answers replies.Null old reply messages new
-NlmStep old ctx (calls.Test a) reply messages new = Replies (TestEnds old ctx a) (λ s. replies.Test (test_with a.cookie s)) reply messages new
-NlmStep old ctx (calls.Lock a) reply messages new = Replies (LockEnds old ctx a false) (λ s. replies.Lock (result_with a.cookie s)) reply messages new
-NlmStep old ctx (calls.Cancel a) reply messages new = Replies (CancelEnds old ctx a) (λ s. replies.Cancel (result_with a.cookie s)) reply messages new
-NlmStep old ctx (calls.Unlock a) reply messages new = Replies (UnlockEnds old ctx a) (λ s. replies.Unlock (result_with a.cookie s)) reply messages new
--- GRANTED, procedure 5, and GRANTED_MSG: this server waits for no lock
-NlmStep old ctx (calls.Granted a) reply messages new = Replies (Answers status.Denied old) (λ s. replies.Granted (result_with a.cookie s)) reply messages new
-NlmStep old ctx (calls.TestMsg a) reply messages new = Posts (TestEnds old ctx a) ctx.host (λ s. callbacks.TestRes (test_with a.cookie s)) replies.TestMsg reply messages new
-NlmStep old ctx (calls.LockMsg a) reply messages new = Posts (LockEnds old ctx a true) ctx.host (λ s. callbacks.LockRes (result_with a.cookie s)) replies.LockMsg reply messages new
-NlmStep old ctx (calls.CancelMsg a) reply messages new = Posts (CancelEnds old ctx a) ctx.host (λ s. callbacks.CancelRes (result_with a.cookie s)) replies.CancelMsg reply messages new
-NlmStep old ctx (calls.UnlockMsg a) reply messages new = Posts (UnlockEnds old ctx a) ctx.host (λ s. callbacks.UnlockRes (result_with a.cookie s)) replies.UnlockMsg reply messages new
-NlmStep old ctx (calls.GrantedMsg a) reply messages new = Posts (Answers status.Denied old) ctx.host (λ s. callbacks.GrantedRes (result_with a.cookie s)) replies.GrantedMsg reply messages new
-NlmStep old ctx (calls.TestRes r) reply messages new = Answers replies.TestRes old reply messages new
-NlmStep old ctx (calls.LockRes r) reply messages new = Answers replies.LockRes old reply messages new
-NlmStep old ctx (calls.CancelRes r) reply messages new = Answers replies.CancelRes old reply messages new
-NlmStep old ctx (calls.UnlockRes r) reply messages new = Answers replies.UnlockRes old reply messages new
-NlmStep old ctx (calls.GrantedRes r) reply messages new = (reply ≡ replies.GrantedRes) × GrantEnds old ctx r messages new
-NlmStep old ctx (calls.Share a) reply messages new = Replies (ShareEnds old ctx a) (λ s. replies.Share (result_with a.cookie s)) reply messages new
-NlmStep old ctx (calls.Unshare a) reply messages new = Replies (UnshareEnds old ctx a) (λ s. replies.Unshare (result_with a.cookie s)) reply messages new
-NlmStep old ctx (calls.NmLock a) reply messages new = Replies (LockEnds old ctx a false) (λ s. replies.NmLock (result_with a.cookie s)) reply messages new
-NlmStep old ctx (calls.FreeAll a) reply messages new = (reply ≡ replies.FreeAll) × Frees old a.name messages new
+-- NULL, procedure 0
+NlmStep old ctx calls.Null = Answers replies.Null old
+-- TEST, procedure 1
+NlmStep old ctx (calls.Test a) = Replies (TestEnds old ctx a) (λ s. replies.Test (record { cookie = a.cookie; status = s }))
+-- LOCK, procedure 2
+NlmStep old ctx (calls.Lock a) = Replies (LockEnds old ctx a false) (λ s. replies.Lock (result_with a.cookie s))
+-- CANCEL, procedure 3
+NlmStep old ctx (calls.Cancel a) = Replies (CancelEnds old ctx a) (λ s. replies.Cancel (result_with a.cookie s))
+-- UNLOCK, procedure 4
+NlmStep old ctx (calls.Unlock a) = Replies (UnlockEnds old ctx a) (λ s. replies.Unlock (result_with a.cookie s))
+-- GRANTED, procedure 5: this server waits for no lock
+NlmStep old ctx (calls.Granted a) = Replies (Answers status.Denied old) (λ s. replies.Granted (result_with a.cookie s))
+-- TEST_MSG, procedure 6, to UNLOCK_MSG, procedure 9
+NlmStep old ctx (calls.TestMsg a) = Posts (TestEnds old ctx a) ctx.host (λ s. callbacks.TestRes (record { cookie = a.cookie; status = s })) replies.TestMsg
+NlmStep old ctx (calls.LockMsg a) = Posts (LockEnds old ctx a true) ctx.host (λ s. callbacks.LockRes (result_with a.cookie s)) replies.LockMsg
+NlmStep old ctx (calls.CancelMsg a) = Posts (CancelEnds old ctx a) ctx.host (λ s. callbacks.CancelRes (result_with a.cookie s)) replies.CancelMsg
+NlmStep old ctx (calls.UnlockMsg a) = Posts (UnlockEnds old ctx a) ctx.host (λ s. callbacks.UnlockRes (result_with a.cookie s)) replies.UnlockMsg
+-- GRANTED_MSG, procedure 10: the same
+NlmStep old ctx (calls.GrantedMsg a) = Posts (Answers status.Denied old) ctx.host (λ s. callbacks.GrantedRes (result_with a.cookie s)) replies.GrantedMsg
+-- TEST_RES, procedure 11, to UNLOCK_RES, procedure 14: answers to what this server never asks
+NlmStep old ctx (calls.TestRes r) = Answers replies.TestRes old
+NlmStep old ctx (calls.LockRes r) = Answers replies.LockRes old
+NlmStep old ctx (calls.CancelRes r) = Answers replies.CancelRes old
+NlmStep old ctx (calls.UnlockRes r) = Answers replies.UnlockRes old
+-- GRANTED_RES, procedure 15
+NlmStep old ctx (calls.GrantedRes r) = λ reply messages new. let goes = is_answered ctx.host r.cookie in (reply ≡ replies.GrantedRes) × GrantEnds old (find goes old.granted) goes r.status messages new
+-- SHARE, procedure 20: a share that conflicts is denied, and any other takes the place of the sharer's own of the file; access that
+-- DenyWrite denies is access to write
+NlmStep old ctx (calls.Share a) = Replies (Checked (λ fault. fault.0) old (file_checked old ctx a.share.file true (denies mode.DenyWrite a.share.access)) (λ file.
+    let share = share_of file a.share in let conflicts = list_any (shares_conflict share) old.shares in
+    Answers (if conflicts then status.Denied else status.Granted) (if conflicts then old else record old { shares = without (same_sharer share) old.shares ++ share ∷ [] })))
+    (λ s. replies.Share (result_with a.cookie s))
+-- UNSHARE, procedure 21: the sharer has no share of the file any more
+NlmStep old ctx (calls.Unshare a) = Replies (Checked (λ fault. fault.0) old (file_checked old ctx a.share.file true false) (λ file.
+    Answers status.Granted (record old { shares = without (same_sharer (share_of file a.share)) old.shares }))) (λ s. replies.Unshare (result_with a.cookie s))
+-- NM_LOCK, procedure 22
+NlmStep old ctx (calls.NmLock a) = Replies (LockEnds old ctx a false) (λ s. replies.NmLock (result_with a.cookie s))
+-- FREE_ALL, procedure 23
+NlmStep old ctx (calls.FreeAll a) = λ reply messages new. (reply ≡ replies.FreeAll) × Frees old a.name messages new

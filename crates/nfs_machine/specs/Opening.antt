@@ -19,13 +19,10 @@ opening_roots number [] time = empty
 opening_roots number (e ∷ exports) time = insert (opening_roots (number + 1) exports time) number (opening_root number time)
 
 -- generation 0 is never given; the roots have generation 1
-abbrev pub opening_last : ℕ → ℕ → ℕ
-opening_last exports number = if nat_le 1 number && nat_le number exports then 1 else 0
-
 abbrev pub opening : List ExportValue → Moment → State
 opening exports moment = record {
   objects = opening_roots 1 exports (time_of moment);
-  spent = λ number generation. nat_le generation (opening_last (length exports) number);
+  spent = λ number generation. nat_le generation (if nat_le 1 number && nat_le number (length exports) then 1 else 0);
   mounts = [];
   locks = [];
   shares = [];

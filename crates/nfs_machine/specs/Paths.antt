@@ -6,25 +6,20 @@ abbrev pub slash : ℕ
 slash = 47
 
 abbrev pub in_front : ℕ → List (List ℕ) → List (List ℕ)
-in_front b [] = (b ∷ []) ∷ []
-in_front b (part ∷ parts) = (b ∷ part) ∷ parts
+in_front b parts = elim parts [ [] ↦ (b ∷ []) ∷ [] | part ∷ others ↦ (b ∷ part) ∷ others ]
 
 -- the pieces of a text between its slashes, the empty ones too
 abbrev pub pieces : List ℕ → List (List ℕ)
 pieces [] = [] ∷ []
 pieces (b ∷ text) = if b == slash then [] ∷ pieces text else in_front b (pieces text)
 
-abbrev pub is_empty : List ℕ → Bool
-is_empty text = length text == 0
-
 -- the names that a path walks
 abbrev pub parts : List ℕ → List (List ℕ)
-parts path = filter (λ piece. not (is_empty piece)) (pieces path)
+parts path = filter (λ piece. not (length piece == 0)) (pieces path)
 
 -- "." or ".."
 abbrev pub is_dots : List ℕ → Bool
 is_dots name = same_bytes name (46 ∷ []) || same_bytes name (46 ∷ 46 ∷ [])
 
 abbrev pub begins_with_slash : List ℕ → Bool
-begins_with_slash [] = false
-begins_with_slash (b ∷ text) = b == slash
+begins_with_slash path = elim path [ [] ↦ false | b ∷ text ↦ b == slash ]

@@ -33,12 +33,8 @@ writes bits = bits / 2 % 2 == 1
 abbrev pub runs : ℕ → Bool
 runs bits = bits % 2 == 1
 
-abbrev pub class_may : Right → Bool → ℕ → Bool
-class_may Reading owner bits = owner || reads bits || runs bits
-class_may Writing owner bits = owner || writes bits
-class_may Searching owner bits = runs bits
-class_may Listing owner bits = reads bits
-class_may Changing owner bits = writes bits && runs bits
-
+-- uid 0 may do all, others what the bits of their class let them
 abbrev pub may : Ids → Living → Right → Bool
-may ids o right = (ids.uid == 0) || class_may right (ids.uid == o.uid) (class_bits ids o)
+may ids o right =
+    let bits = class_bits ids o in let owner = ids.uid == o.uid in
+    (ids.uid == 0) || elim right [ Reading ↦ owner || reads bits || runs bits | Writing ↦ owner || writes bits | Searching ↦ runs bits | Listing ↦ reads bits | Changing ↦ writes bits && runs bits ]

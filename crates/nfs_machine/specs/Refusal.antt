@@ -1,14 +1,12 @@
 -- What a call is answered that cannot be executed for want of memory; it changes nothing (RFC 1813, 2.6: NFS3ERR_JUKEBOX; RFC 5531, 9: SYSTEM_ERR).
-use Rattle.std.specs.Prelude.{ℕ, Bool, false, List, Err, Option, Some, None, is_some, option_map}
+use Rattle.std.specs.Prelude.{ℕ, List, Err, Option, Some, None}
 use Rattle.nfs_wire.specs.declared.attributes.Wcc.{Wcc}
 use Rattle.nfs_wire.specs.declared.calls.NfsCall.{NfsCall}
 use Rattle.nfs_wire.specs.declared.calls.NfsCall.TheVariants as nfs
 use Rattle.nfs_wire.specs.declared.replies.NfsReply.{NfsReply}
 use Rattle.nfs_wire.specs.declared.replies.NfsReply.TheVariants as nfs_replies
 use Rattle.nfs_wire.specs.declared.status.NfsStatus.TheVariants as nfs_status
-use Rattle.side_wire.specs.declared.mount.MountCall.{MountCall}
 use Rattle.side_wire.specs.declared.mount.MountCall.TheVariants as mount
-use Rattle.side_wire.specs.declared.mount.MountReply.{MountReply}
 use Rattle.side_wire.specs.declared.mount.MountReply.TheVariants as mount_replies
 use Rattle.side_wire.specs.declared.mount.MountStatus.TheVariants as mount_status
 use Rattle.side_wire.specs.declared.nlm.NlmCall.{NlmCall}
@@ -22,13 +20,7 @@ use Rattle.nfs_machine.specs.declared.calls.Call.{Call}
 use Rattle.nfs_machine.specs.declared.calls.Call.TheVariants as calls
 use Rattle.nfs_machine.specs.declared.calls.Refusal.{Refusal}
 use Rattle.nfs_machine.specs.declared.calls.Refusal.TheVariants as refusals
-use Rattle.nfs_machine.specs.declared.calls.Reply.{Reply}
 use Rattle.nfs_machine.specs.declared.calls.Reply.TheVariants as replies
-
--- by a status, where the procedure has one
-abbrev pub refusal_by : Option Reply → Refusal
-refusal_by (Some reply) = refusals.Reply reply
-refusal_by None = refusals.SystemError
 
 -- nothing is shown of an object
 abbrev pub nothing : Wcc
@@ -58,10 +50,6 @@ nfs_refusal (nfs.Fsinfo object) = Some (nfs_replies.Fsinfo (record { attributes 
 nfs_refusal (nfs.Pathconf object) = Some (nfs_replies.Pathconf (record { attributes = None; result = Err nfs_status.Jukebox }))
 nfs_refusal (nfs.Commit a) = Some (nfs_replies.Commit (record { wcc = nothing; result = Err nfs_status.Jukebox }))
 
-abbrev pub mount_refusal : MountCall → Option MountReply
-mount_refusal (mount.Mnt path) = Some (mount_replies.Mnt (Err mount_status.ServerFault))
-mount_refusal call = None
-
 -- NLM4_DENIED_NOLOCKS (RFC 1813, 6.1.4), with the call's cookie
 abbrev pub no_locks : List ℕ → NlmResult
 no_locks cookie = record { cookie = cookie; status = nlm_status.DeniedNoLocks }
@@ -77,12 +65,9 @@ nlm_refusal (nlm.Unshare a) = Some (nlm_replies.Unshare (no_locks a.cookie))
 nlm_refusal (nlm.NmLock a) = Some (nlm_replies.NmLock (no_locks a.cookie))
 nlm_refusal call = None
 
--- a refusal that gives the caller its cookie back
-abbrev pub returns_cookie : Call → Bool
-returns_cookie (calls.Nlm call) = is_some (nlm_refusal call)
-returns_cookie call = false
-
+-- by a status, where the procedure has one
 unfoldable pub refusal_of : Call → Refusal
-refusal_of (calls.Nfs call) = refusal_by (option_map (λ r. replies.Nfs r) (nfs_refusal call))
-refusal_of (calls.Mount call) = refusal_by (option_map (λ r. replies.Mount r) (mount_refusal call))
-refusal_of (calls.Nlm call) = refusal_by (option_map (λ r. replies.Nlm r) (nlm_refusal call))
+refusal_of (calls.Nfs call) = elim (nfs_refusal call) [ None ↦ refusals.SystemError | Some r ↦ refusals.Reply (replies.Nfs r) ]
+refusal_of (calls.Mount (mount.Mnt path)) = refusals.Reply (replies.Mount (mount_replies.Mnt (Err mount_status.ServerFault)))
+refusal_of (calls.Mount call) = refusals.SystemError
+refusal_of (calls.Nlm call) = elim (nlm_refusal call) [ None ↦ refusals.SystemError | Some r ↦ refusals.Reply (replies.Nlm r) ]

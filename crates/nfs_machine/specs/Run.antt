@@ -1,9 +1,11 @@
 -- Records of what was executed, and runs of the machine over them.
-use Rattle.std.specs.Prelude.{◌≡◌, ℕ, List, [], ◌∷◌, ◌++◌, Ok}
+use Rattle.std.specs.Prelude.{◌≡◌, ℕ, List, [], ◌∷◌, Ok}
+use Rattle.nfs_rpc.specs.declared.credentials.Ids.{Ids}
 use Rattle.nfs_rpc.specs.Early.{call_of}
 use Rattle.nfs_rpc.specs.Messages.{CallHeader}
 use Rattle.nfs_rpc.specs.declared.programs.Program.{Program}
 use Rattle.nfs_rpc.specs.declared.programs.Program.TheVariants as programs
+use Rattle.nfs_xdr.specs.Programs.{IsFrontedBy}
 use Rattle.nfs_wire.specs.Calls.{procedure_of, SpellsArguments}
 use Rattle.side_wire.specs.Mount.{mount_procedure_of, SpellsMountArguments}
 use Rattle.side_wire.specs.Nlm.{nlm_procedure_of, SpellsNlmArguments}
@@ -30,41 +32,22 @@ pub record Arrival : Type 0 where
   pub bytes : List ℕ
   pub moment : Moment
 
--- the program that a call is for, and the number of its procedure
-abbrev pub program_of : Call → Program
-program_of (calls.Nfs call) = programs.Nfs
-program_of (calls.Mount call) = programs.Mount
-program_of (calls.Nlm call) = programs.Nlm
+-- the call is of this procedure of this program, and a front of the bytes spells its arguments; what follows that is ignored
+abbrev pub IsCall : Program → (procedure : ℕ) → List ℕ → Call → Type 0
+IsCall program procedure bytes (calls.Nfs call) = (program ≡ programs.Nfs) × (procedure_of call ≡ procedure) × IsFrontedBy SpellsArguments call bytes
+IsCall program procedure bytes (calls.Mount call) = (program ≡ programs.Mount) × (mount_procedure_of call ≡ procedure) × IsFrontedBy SpellsMountArguments call bytes
+IsCall program procedure bytes (calls.Nlm call) = (program ≡ programs.Nlm) × (nlm_procedure_of call ≡ procedure) × IsFrontedBy SpellsNlmArguments call bytes
 
-abbrev pub number_of : Call → ℕ
-number_of (calls.Nfs call) = procedure_of call
-number_of (calls.Mount call) = mount_procedure_of call
-number_of (calls.Nlm call) = nlm_procedure_of call
-
-abbrev pub Spelled : Call → List ℕ → Type 0
-Spelled (calls.Nfs call) bytes = SpellsArguments call bytes
-Spelled (calls.Mount call) bytes = SpellsMountArguments call bytes
-Spelled (calls.Nlm call) bytes = SpellsNlmArguments call bytes
-
--- the header's program and procedure are the call's, and a front of its arguments spells the call's; bytes after them are ignored
-pub record IsCall (header : CallHeader) (call : Call) : Type 0 where
-  pub program : program_of call ≡ header.program
-  pub procedure : number_of call ≡ header.procedure
-  pub front : List ℕ
-  pub rest : List ℕ
-  pub arguments : header.arguments ≡ front ++ rest
-  pub spelled : Spelled call front
-
-abbrev pub ctx_of : Setting → Arrival → CallHeader → Ctx
-ctx_of setting arrival header =
-    record { host = arrival.host; ids = header.ids; moment = arrival.moment; start = setting.start; exports = setting.exports; limits = setting.limits }
+-- what a call of this host is made under, with these ids and at this moment
+abbrev pub context_of : Setting → (host : List ℕ) → Ids → Moment → Ctx
+context_of setting host ids moment = record { host = host; ids = ids; moment = moment; start = setting.start; exports = setting.exports; limits = setting.limits }
 
 -- what the arrival asks: this call, under this context
 pub record Asks (setting : Setting) (arrival : Arrival) (ctx : Ctx) (call : Call) : Type 0 where
   pub header : CallHeader
   pub read : call_of arrival.bytes ≡ Ok header
-  pub is_call : IsCall header call
-  pub made_under : ctx ≡ ctx_of setting arrival header
+  pub is_call : IsCall header.program header.procedure header.arguments call
+  pub made_under : ctx ≡ context_of setting arrival.host header.ids arrival.moment
 
 -- a call that was executed, with what it was answered and the messages that it put
 pub record Record : Type 0 where

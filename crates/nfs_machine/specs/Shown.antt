@@ -18,21 +18,18 @@ attributes_at m number = option_map (attributes_of m number) (get m.objects numb
 
 -- the attributes of what a handle named, in the state after the call: always shown where it named something
 abbrev pub shown : State → Resolved → Option Attributes
-shown new (Names number object) = attributes_at new number
-shown new resolved = None
+shown new resolved = elim resolved [ Names number object ↦ attributes_at new number | _ ↦ None ]
 
 abbrev pub weak : Living → WeakAttributes
 weak o = record { size = size_of o.content; modified = o.modified; changed = o.changed }
 
 -- what a handle named, before the call and after it
 abbrev pub wcc : State → Resolved → Wcc
-wcc new (Names number object) = record { before = Some (weak object); after = attributes_at new number }
-wcc new resolved = record { before = None; after = None }
+wcc new resolved = record { before = elim resolved [ Names number object ↦ Some (weak object) | _ ↦ None ]; after = shown new resolved }
 
 -- a handle is not looked at where the one before it names nothing
 abbrev pub after_first : (first second : Resolved) → Resolved
-after_first (Names number object) second = second
-after_first first second = BadHandle
+after_first first second = elim first [ Names number object ↦ second | _ ↦ BadHandle ]
 
 -- the handle of an object
 abbrev pub handle_at : Ctx → ℕ → Living → List ℕ
@@ -52,5 +49,4 @@ with_object m number o = record m { objects = insert m.objects number o }
 
 -- the same where the object may stay as it is
 abbrev pub replaced : State → ℕ → Option Living → State
-replaced m number None = m
-replaced m number (Some o) = with_object m number o
+replaced m number object = elim object [ None ↦ m | Some o ↦ with_object m number o ]

@@ -1,5 +1,5 @@
 -- Laws of replies of MOUNT and NLM (RFC 1813, appendices I and II).
-use Rattle.std.specs.Prelude.{◌≡◌, ℕ, Bool, true, false, List, [], is_err}
+use Rattle.std.specs.Prelude.{◌≡◌, ℕ, Bool, true, false, List, [], is_err, None}
 use Rattle.std.specs.List.{AllByRecursion}
 use Rattle.side_wire.specs.Messages.{HasCallbackForm, HasLockForm, HasTestArgumentsForm}
 use Rattle.side_wire.specs.Mount.{HasMountForm, IsDirpath, IsHostName}
@@ -18,22 +18,23 @@ use Rattle.side_wire.specs.declared.nlm.NlmStatus.TheVariants as status
 use Rattle.side_wire.specs.declared.nlm.TestStatus.{TestStatus}
 use Rattle.side_wire.specs.declared.nlm.TestStatus.TheVariants as tested
 use Rattle.nfs_machine.specs.Exports.{ExportValue}
-use Rattle.nfs_machine.specs.Locks.{Unlocked, mode_at}
+use Rattle.nfs_machine.specs.Locks.{mode_at}
 use Rattle.nfs_machine.specs.MountSteps.{MountStep}
 use Rattle.nfs_machine.specs.NlmSteps.{NlmStep}
 use Rattle.nfs_machine.specs.Opening.{opening}
 use Rattle.nfs_machine.specs.Run.{Arrival, Asks, Record, Run, Setting}
-use Rattle.nfs_machine.specs.State.{Lock, Mounted, Owner, Request, State}
+use Rattle.nfs_machine.specs.State.{Lock, Owner, Request, State}
 use Rattle.nfs_machine.specs.Step.{Step}
 use Rattle.nfs_machine.specs.declared.calls.Call.{Call}
 use Rattle.nfs_machine.specs.declared.calls.Call.TheVariants as calls
 use Rattle.nfs_machine.specs.declared.calls.Reply.{Reply}
 use Rattle.nfs_machine.specs.declared.context.Ctx.{Ctx}
 use Rattle.nfs_machine.specs.declared.moment.Moment.{Moment}
+use Rattle.side_wire.specs.declared.mount.lists.MountBody.{MountBody}
 
 -- what is mounted, and what is exported, are within the bounds of MOUNT (5.1.4)
 abbrev pub MountsFit : State → Type 0
-MountsFit m = AllByRecursion (λ (x : Mounted). IsHostName x.host × IsDirpath x.path) m.mounts
+MountsFit m = AllByRecursion (λ (x : MountBody). IsHostName x.hostname × IsDirpath x.directory) m.mounts
 
 abbrev pub ExportsFit : List ExportValue → Type 0
 ExportsFit exports = AllByRecursion (λ (e : ExportValue). IsDirpath e.path × AllByRecursion IsHostName e.hosts) exports
@@ -77,7 +78,7 @@ CallFits call = Unit {0}
 
 -- so is each owner (oh) that has something
 abbrev pub OwnersFit : List Lock → Type 0
-OwnersFit locks = (file : ℕ) (owner : Owner) (offset : ℕ) → (mode_at locks file owner offset ≡ Unlocked → ⊥) → IsNetobj owner.owner
+OwnersFit locks = (file : ℕ) (owner : Owner) (offset : ℕ) → (mode_at locks file owner offset ≡ None → ⊥) → IsNetobj owner.owner
 
 -- a reply of NLM has a spelling
 abbrev pub NlmRepliesHaveForm : Type 0

@@ -5,6 +5,9 @@ use Rattle.std.specs.FinMap.{FinMap}
 use Rattle.nfs_wire.specs.declared.attributes.DeviceNumber.{DeviceNumber}
 use Rattle.nfs_wire.specs.declared.attributes.Time.{Time}
 use Rattle.side_wire.specs.declared.message.NlmLock.{NlmLock}
+use Rattle.side_wire.specs.declared.nlm.ShareAccess.{ShareAccess}
+use Rattle.side_wire.specs.declared.nlm.ShareMode.{ShareMode}
+use Rattle.side_wire.specs.declared.mount.lists.MountBody.{MountBody}
 
 -- a name in a directory: the object that it leads to, and its cookie
 pub record Entry : Type 0 where
@@ -37,33 +40,31 @@ pub record Living : Type 0 where
   -- of an exclusive CREATE
   pub verifier : Option (List ℕ)
 
--- a host that mounted a path, as it sent it
-pub record Mounted : Type 0 where
-  pub host : List ℕ
-  pub path : List ℕ
-
 -- who holds a lock
 pub record Owner : Type 0 where
   pub caller_name : List ℕ
   pub owner : List ℕ
   pub process : ℤ
 
-pub record Lock : Type 0 where
+-- a range of a file, for an owner
+pub record Range : Type 0 where
   pub file : ℕ
   pub owner : Owner
   pub first : ℕ
   pub last : ℕ
+
+pub record Lock : Type 0 where
+  pub range : Range
+  pub open range use *
   pub exclusive : Bool
 
--- a share reservation: which access its owner has, and which it denies to others
+-- a share reservation: the access that its owner has, and the mode that denies others theirs
 pub record Share : Type 0 where
   pub file : ℕ
   pub caller_name : List ℕ
   pub owner : List ℕ
-  pub denies_reading : Bool
-  pub denies_writing : Bool
-  pub reads : Bool
-  pub writes : Bool
+  pub mode : ShareMode
+  pub access : ShareAccess
 
 -- a request for a lock, with the number that its grant has: it waits, or is held and not yet answered
 pub record Request : Type 0 where
@@ -80,8 +81,8 @@ pub record State : Type 0 where
   pub objects : FinMap nat_cmp Living
   -- which numbers and generations were given, and are never given again
   pub spent : ℕ → ℕ → Bool
-  -- in order of adding, each pair once
-  pub mounts : List Mounted
+  -- the hosts with the paths that they mounted, as they sent them, in order of adding, each pair once
+  pub mounts : List MountBody
   pub locks : List Lock
   pub shares : List Share
   -- in order of arrival

@@ -11,9 +11,6 @@ time_of moment = record { seconds = moment.seconds; nanoseconds = moment.nanosec
 abbrev pub is_earlier : Time → Time → Bool
 is_earlier a b = nat_lt a.seconds b.seconds || ((a.seconds == b.seconds) && nat_lt a.nanoseconds b.nanoseconds)
 
-abbrev pub same_time : Time → Time → Bool
-same_time a b = (a.seconds == b.seconds) && (a.nanoseconds == b.nanoseconds)
-
 -- one nanosecond later; the greatest time stays
 abbrev pub next : Time → Time
 next t =
@@ -26,20 +23,15 @@ touch changed now = if is_earlier (next changed) now then now else next changed
 
 -- nanoseconds are below a second (3.3.2)
 abbrev pub is_time : SetTime → Bool
-is_time (ToClient t) = nat_le t.nanoseconds 999999999
-is_time set = true
+is_time set = elim set [ ToClient t ↦ nat_le t.nanoseconds 999999999 | other ↦ true ]
 
 -- whose time is set
 abbrev pub is_client_time : SetTime → Bool
-is_client_time (ToClient t) = true
-is_client_time set = false
+is_client_time set = elim set [ ToClient t ↦ true | other ↦ false ]
 
 abbrev pub is_server_time : SetTime → Bool
-is_server_time ToServer = true
-is_server_time set = false
+is_server_time set = elim set [ ToServer ↦ true | other ↦ false ]
 
 -- a time that is set now (2.5: set_atime, set_mtime)
 abbrev pub set_time : Time → Time → SetTime → Time
-set_time old now Leave = old
-set_time old now ToServer = now
-set_time old now (ToClient t) = t
+set_time old now set = elim set [ Leave ↦ old | ToServer ↦ now | ToClient t ↦ t ]

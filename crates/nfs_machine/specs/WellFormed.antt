@@ -4,7 +4,6 @@ use Rattle.std.specs.List.{AllByRecursion}
 use Rattle.std.specs.FinMap.{get}
 use Rattle.nfs_machine.specs.Attributes.{entries_of, is_directory, is_living_directory, names_in, names_of}
 use Rattle.nfs_machine.specs.Bytes.{same_bytes}
-use Rattle.nfs_machine.specs.Data.{text_limit}
 use Rattle.nfs_machine.specs.State.{Directory, Link, Entry, Living, State}
 
 -- each name once
@@ -31,7 +30,7 @@ pub record IsDirectoryOf (m : State) (directory : Living) : Type 0 where
 
 -- the text of each link is within its bound (3.3.10)
 abbrev pub TextsFit : State → Type 0
-TextsFit m = (n : ℕ) (o : Living) (text : List ℕ) → get m.objects n ≡ Some o → o.content ≡ Link text → length text ≤ text_limit
+TextsFit m = (n : ℕ) (o : Living) (text : List ℕ) → get m.objects n ≡ Some o → o.content ≡ Link text → length text ≤ 4096
 
 pub record WellFormed (m : State) : Type 0 where
   pub names : (n : ℕ) (o : Living) → get m.objects n ≡ Some o → IsDirectoryOf m o

@@ -2,7 +2,7 @@
 use Rattle.std.specs.Prelude.{replicate, ◌≡◌, ℕ, List, [], ◌∷◌, Option, Some, None, Result, Ok, Err, codes}
 use Rattle.std.proofs.Common.{lit<}
 use Rattle.nfs_wire.specs.declared.attributes.SetAttributes.{SetAttributes}
-use Rattle.nfs_wire.specs.declared.attributes.SetTime.TheVariants.{ToClient}
+use Rattle.nfs_wire.specs.declared.attributes.SetTime.TheVariants.{Leave, ToClient}
 use Rattle.nfs_wire.specs.declared.attributes.Time.{Time}
 use Rattle.nfs_wire.specs.declared.calls.CreateHow.{CreateHow}
 use Rattle.nfs_wire.specs.declared.calls.CreateHow.TheVariants.{Unchecked, Guarded, Exclusive}
@@ -10,7 +10,7 @@ use Rattle.nfs_wire.specs.declared.calls.Verifier.{Verifier}
 use Rattle.nfs_wire.specs.declared.status.NfsStatus.{NfsStatus}
 use Rattle.nfs_wire.specs.declared.status.NfsStatus.TheVariants as status
 use Rattle.nfs_machine.specs.Checks.{bytes_in}
-use Rattle.nfs_machine.specs.Making.{given_attributes, new_object, no_attributes, with_entry}
+use Rattle.nfs_machine.specs.Making.{Wanted, given_attributes, new_object, with_entry}
 use Rattle.nfs_machine.specs.NameSteps.{create_over}
 use Rattle.nfs_machine.specs.Opening.{opening_root}
 use Rattle.nfs_machine.specs.Shown.{with_content}
@@ -26,6 +26,10 @@ moment = record { seconds = 1000; nanoseconds = 0; in_range = lit< tt }
 -- a caller with this uid, and the group of the same number
 abbrev pub called_as : ℕ → Ctx
 called_as uid = record { host = codes "10.0.0.1"; ids = user uid uid; moment = moment; start = 7; exports = open_export ∷ []; limits = record { total_bytes = 0 } }
+
+-- nothing is given
+abbrev pub no_attributes : SetAttributes
+no_attributes = record { mode = None; uid = None; gid = None; size = None; accessed = Leave; modified = Leave }
 
 abbrev pub sized : ℕ → SetAttributes
 sized size = record no_attributes { size = Some size }
@@ -56,11 +60,15 @@ pub record WorkedAttributes : Type 0 where
   pub own_group : given_attributes (called_as 9) (record no_attributes { gid = Some 9 }) ≡ Ok tt
   pub by_root : given_attributes (called_as 0) (record no_attributes { uid = Some 8; gid = Some 8 }) ≡ Ok tt
 
+-- an empty file of mode 0644, where these are given
+abbrev pub empty_file : SetAttributes → Wanted
+empty_file given = record { mode = 420; content = Regular []; attributes = given; verifier = None }
+
 -- a new file, and its directory with the new name
 pub record WorkedNewFile : Type 0 where
-  pub plain : new_object (called_as 9) 1 4 420 (Regular []) no_attributes None ≡ file [] (time 1000 0) None
-  pub mode : (new_object (called_as 9) 1 4 420 (Regular []) (record no_attributes { mode = Some 4480 }) None).mode ≡ 384
-  pub time_given : (new_object (called_as 9) 1 4 420 (Regular []) (record no_attributes { modified = ToClient (time 5 6) }) None).modified ≡ time 5 6
+  pub plain : new_object (called_as 9) 1 4 (empty_file no_attributes) ≡ file [] (time 1000 0) None
+  pub mode : (new_object (called_as 9) 1 4 (empty_file (record no_attributes { mode = Some 4480 }))).mode ≡ 384
+  pub time_given : (new_object (called_as 9) 1 4 (empty_file (record no_attributes { modified = ToClient (time 5 6) }))).modified ≡ time 5 6
   pub directory : with_content (opening_root 1 (time 1000 0)) (time 1000 0) (with_entry [] 2 (codes "x") 2) ≡ record (opening_root 1 (time 1000 0)) {
     content = Directory (record { name = codes "x"; number = 2; cookie = 3 } ∷ []) 3;
     modified = time 1000 1;

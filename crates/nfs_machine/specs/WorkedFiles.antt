@@ -3,7 +3,7 @@ use Rattle.std.specs.Prelude.{◌≡◌, ℕ, true, false, List, [], ◌∷◌, 
 use Rattle.nfs_wire.specs.declared.attributes.Time.{Time}
 use Rattle.nfs_wire.specs.declared.replies.ReadData.{ReadData}
 use Rattle.nfs_wire.specs.declared.status.NfsStatus.TheVariants as status
-use Rattle.nfs_machine.specs.Checks.{name_checked, new_name_checked}
+use Rattle.nfs_machine.specs.Checks.{name_checked, plain_name_checked}
 use Rattle.nfs_machine.specs.Data.{read_at, resized, written}
 use Rattle.nfs_machine.specs.Times.{touch}
 
@@ -32,9 +32,9 @@ pub record WorkedNames : Type 0 where
   pub nul : name_checked (97 ∷ 0 ∷ []) ≡ Err status.Access
   pub long_first : name_checked (replicate 256 47) ≡ Err status.NameTooLong
   pub dot : name_checked (codes ".") ≡ Ok tt
-  pub new_dot : new_name_checked (codes ".") ≡ Err status.Exists
-  pub new_dots : new_name_checked (codes "..") ≡ Err status.Exists
-  pub three_dots : new_name_checked (codes "...") ≡ Ok tt
+  pub new_dot : plain_name_checked status.Exists status.Exists (codes ".") ≡ Err status.Exists
+  pub new_dots : plain_name_checked status.Exists status.Exists (codes "..") ≡ Err status.Exists
+  pub three_dots : plain_name_checked status.Exists status.Exists (codes "...") ≡ Ok tt
 
 abbrev pub hello : List ℕ
 hello = codes "hello"

@@ -9,7 +9,6 @@ use Rattle.side_wire.specs.declared.nlm.NlmCall.TheVariants as nlm
 use Rattle.side_wire.specs.declared.nlm.NlmReply.TheVariants as nlm_replies
 use Rattle.side_wire.specs.declared.nlm.NlmStatus.TheVariants as status
 use Rattle.side_wire.specs.declared.nlm.UnlockArguments.{UnlockArguments}
-use Rattle.nfs_machine.specs.Grants.{with_locks}
 use Rattle.nfs_machine.specs.MountSteps.{MountStep}
 use Rattle.nfs_machine.specs.NlmSteps.{NlmStep, result_with}
 use Rattle.nfs_machine.specs.State.{Owner, Request, State}
@@ -27,13 +26,13 @@ locking o offset length block = record { cookie = 1 ∷ []; block = block; exclu
 
 -- A has bytes 0 to 99, and gives back 40 to 59
 abbrev pub with_whole : State
-with_whole = with_locks written whole
+with_whole = record written { locks = whole }
 
 abbrev pub giving_back : UnlockArguments
 giving_back = record { cookie = 2 ∷ []; lock = on_x a 40 20 }
 
 abbrev pub with_split : State
-with_split = with_locks written split
+with_split = record written { locks = split }
 
 -- then B waits for byte 30
 abbrev pub waiting : Request

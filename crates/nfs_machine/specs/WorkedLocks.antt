@@ -1,5 +1,5 @@
 -- Locks and shares worked through by hand (RFC 1813, appendix II), and lists of MOUNT (appendix I, 5.2.2 to 5.2.5).
-use Rattle.std.specs.Prelude.{◌≡◌, ℕ, ◌-◌, ◌^◌, Bool, true, false, List, [], ◌∷◌, Ok, Err, codes, pos}
+use Rattle.std.specs.Prelude.{◌≡◌, ℕ, ◌-◌, ◌^◌, Bool, true, false, List, [], ◌∷◌, Ok, Err, is_ok, codes, pos, None, Some}
 use Rattle.std.specs.List.{list_any}
 use Rattle.side_wire.specs.declared.message.NlmLock.{NlmLock}
 use Rattle.side_wire.specs.declared.mount.MountStatus.TheVariants as mount_status
@@ -10,13 +10,26 @@ use Rattle.side_wire.specs.declared.nlm.ShareAccess.TheVariants as access
 use Rattle.side_wire.specs.declared.nlm.ShareMode.{ShareMode}
 use Rattle.side_wire.specs.declared.nlm.ShareMode.TheVariants as mode
 use Rattle.side_wire.specs.declared.nlm.TestStatus.TheVariants as tested
+use Rattle.nfs_machine.specs.Checks.{bytes_in, holding}
 use Rattle.nfs_machine.specs.Grants.{grant_cookie}
-use Rattle.nfs_machine.specs.LockSteps.{Tests, is_grant_number, length_shown, regular, share_of, without_share}
-use Rattle.nfs_machine.specs.Locks.{Exclusive, Lists, Range, Shared, Unlocked, fits_offsets, last_of, modes_conflict, modes_with, range_of, shares_conflict}
-use Rattle.nfs_machine.specs.MountSteps.{Chosen, is_by, is_of, listed_exports, listed_mounts, walk, without_mounts}
+use Rattle.nfs_machine.specs.LockSteps.{Fault, Tests, is_grant_number, length_shown, share_of, without}
+use Rattle.nfs_machine.specs.Locks.{Lists, denies, fits_offsets, modes_conflict, modes_with, range_of, same_sharer, shares_conflict, Mode}
+use Rattle.nfs_machine.specs.MountSteps.{Chosen, is_of, listed_exports, walk, without_mounts, with_mount}
 use Rattle.nfs_machine.specs.Paths.{parts}
-use Rattle.nfs_machine.specs.State.{Regular, Directory, Socket, Lock, Mounted, Owner, Share, State}
+use Rattle.nfs_machine.specs.State.{Regular, Directory, Socket, Lock, Owner, Share, State, Range}
 use Rattle.nfs_machine.specs.Worked.{exports, find}
+use Rattle.nfs_machine.specs.Bytes.{same_bytes}
+use Rattle.side_wire.specs.declared.mount.lists.MountBody.{MountBody}
+
+-- the modes of an owner at an offset
+abbrev pub Unlocked : Mode
+Unlocked = None
+
+abbrev pub Shared : Mode
+Shared = Some false
+
+abbrev pub Exclusive : Mode
+Exclusive = Some true
 
 -- the owners A and B
 abbrev pub a : Owner
@@ -33,7 +46,7 @@ abbrev pub on_file : Owner → ℕ → ℕ → Range
 on_file o offset length = range_of 5 (asked o offset length)
 
 abbrev pub lock : Owner → ℕ → ℕ → Bool → Lock
-lock o first last exclusive = record { file = 5; owner = o; first = first; last = last; exclusive = exclusive }
+lock o first last exclusive = record { range = record { file = 5; owner = o; first = first; last = last }; exclusive = exclusive }
 
 -- A has 0 to 99 exclusively
 abbrev pub whole : List Lock
@@ -51,8 +64,8 @@ abbrev pub holder : ℕ → ℕ → LockHolder
 holder offset length = record { exclusive = true; process = pos 1; owner = 1 ∷ []; offset = offset; length = length }
 
 pub record WorkedRanges : Type 0 where
-  pub end_of_100 : last_of (asked a 0 100) ≡ 99
-  pub to_end : last_of (asked a 200 0) ≡ 2 ^ 64 - 1
+  pub end_of_100 : (range_of 5 (asked a 0 100)).last ≡ 99
+  pub to_end : (range_of 5 (asked a 200 0)).last ≡ 2 ^ 64 - 1
   pub last_byte : fits_offsets (asked a (2 ^ 64 - 1) 1) ≡ true
   pub above : fits_offsets (asked a (2 ^ 64 - 1) 2) ≡ false
   pub all_but_one : fits_offsets (asked a 1 (2 ^ 64 - 1)) ≡ true
@@ -83,9 +96,9 @@ pub record WorkedTests : Type 0 where
   pub at_the_end : (m : State) → Tests (record m { locks = to_the_end }) (on_file b (2 ^ 64 - 1) 1) Exclusive (tested.Denied (holder 200 0))
   -- A's own locks don't stand in its way
   pub own : (m : State) → Tests (record m { locks = split }) (on_file a 0 0) Exclusive tested.Granted
-  pub file : regular (Regular []) ≡ Ok tt
-  pub directory : regular (Directory [] 2) ≡ Err (status.Failed, tested.Failed)
-  pub socket : regular Socket ≡ Err (status.Failed, tested.Failed)
+  pub file : holding {E = Fault} (is_ok (bytes_in (Regular []))) (status.Failed, tested.Failed) ≡ Ok tt
+  pub directory : holding {E = Fault} (is_ok (bytes_in (Directory [] 2))) (status.Failed, tested.Failed) ≡ Err (status.Failed, tested.Failed)
+  pub socket : holding {E = Fault} (is_ok (bytes_in Socket)) (status.Failed, tested.Failed) ≡ Err (status.Failed, tested.Failed)
 
 abbrev pub share : Owner → ShareMode → ShareAccess → Share
 share o denied taken = share_of 5 (record { caller_name = o.caller_name; file = []; owner = o.owner; mode = denied; access = taken })
@@ -103,8 +116,13 @@ pub record WorkedShares : Type 0 where
   pub reading_is_not : list_any (shares_conflict reading_too) (reading ∷ []) ≡ false
   pub denying_readers : list_any (shares_conflict (share a mode.DenyRead access.Read)) (reading ∷ reading_too ∷ []) ≡ true
   pub other_file : shares_conflict (record (share b mode.DenyNone access.Write) { file = 6 }) reading ≡ false
-  pub unshare_of_none : (m : State) → (without_share (record m { shares = reading ∷ reading_too ∷ [] }) (share (record a { caller_name = codes "c3" }) mode.DenyNone access.Neither)).shares ≡ reading ∷ reading_too ∷ []
-  pub unshare : (m : State) → (without_share (record m { shares = reading ∷ reading_too ∷ [] }) reading).shares ≡ reading_too ∷ []
+  -- access that a mode denies, and access that it does not
+  pub both : denies mode.DenyReadWrite access.Write ≡ true
+  pub one_of_two : denies mode.DenyRead access.ReadWrite ≡ true
+  pub the_other : denies mode.DenyRead access.Write ≡ false
+  pub neither : denies mode.DenyReadWrite access.Neither ≡ false
+  pub unshare_of_none : without (same_sharer (share (record a { caller_name = codes "c3" }) mode.DenyNone access.Neither)) (reading ∷ reading_too ∷ []) ≡ reading ∷ reading_too ∷ []
+  pub unshare : without (same_sharer reading) (reading ∷ reading_too ∷ []) ≡ reading_too ∷ []
 
 -- numbers of grants, and the cookies that they are
 pub record WorkedGrants : Type 0 where
@@ -114,20 +132,22 @@ pub record WorkedGrants : Type 0 where
   pub too_great : is_grant_number 0 (2 ^ 64) ≡ false
   pub cookie : grant_cookie 69 ≡ 0 ∷ 0 ∷ 0 ∷ 0 ∷ 0 ∷ 0 ∷ 0 ∷ 69 ∷ []
 
-abbrev pub mounted : List ℕ → List ℕ → Mounted
-mounted host path = record { host = host; path = path }
+abbrev pub mounted : List ℕ → List ℕ → MountBody
+mounted host path = record { hostname = host; directory = path }
 
-abbrev pub three_mounts : List Mounted
+abbrev pub three_mounts : List MountBody
 three_mounts = mounted (codes "h1") (codes "/a") ∷ mounted (codes "h2") (codes "/a") ∷ mounted (codes "h1") (codes "//a/") ∷ []
 
 -- of exports `/a` for `*` and `/a/b` for 10.0.0.2
 pub record WorkedMounts : Type 0 where
-  pub dump : listed_mounts three_mounts
+  -- MNT adds a path of a host once
+  pub dump : (m : State)
+      → (with_mount (with_mount (with_mount (with_mount (record m { mounts = [] }) (mounted (codes "h1") (codes "/a"))) (mounted (codes "h2") (codes "/a"))) (mounted (codes "h1") (codes "/a"))) (mounted (codes "h1") (codes "//a/"))).mounts
       ≡ record { hostname = codes "h1"; directory = codes "/a" } ∷ record { hostname = codes "h2"; directory = codes "/a" } ∷ record { hostname = codes "h1"; directory = codes "//a/" } ∷ []
   -- UMNT compares the path as it was sent
   pub umnt : (m : State) → (without_mounts (record m { mounts = three_mounts }) (is_of (codes "h1") (codes "/a"))).mounts ≡ mounted (codes "h2") (codes "/a") ∷ mounted (codes "h1") (codes "//a/") ∷ []
   pub umnt_of_none : (m : State) → (without_mounts (record m { mounts = three_mounts }) (is_of (codes "h2") (codes "//a/"))).mounts ≡ three_mounts
-  pub umntall : (m : State) → (without_mounts (record m { mounts = three_mounts }) (is_by (codes "h1"))).mounts ≡ mounted (codes "h2") (codes "/a") ∷ []
+  pub umntall : (m : State) → (without_mounts (record m { mounts = three_mounts }) (λ x. same_bytes x.hostname (codes "h1"))).mounts ≡ mounted (codes "h2") (codes "/a") ∷ []
   pub export : listed_exports exports ≡ record { directory = codes "/a"; groups = [] } ∷ record { directory = codes "/a/b"; groups = codes "10.0.0.2" ∷ [] } ∷ []
   -- by 10.0.0.2 the root of export 2; by another host what `b` is below export 1
   pub lower : Chosen exports (codes "10.0.0.2") (parts (codes "/a/b")) 2 []

@@ -1,68 +1,69 @@
 -- Calls on names worked through by hand: MKDIR, SYMLINK, MKNOD, REMOVE, RMDIR, RENAME and LINK (RFC 1813, 3.3.9 to 3.3.15).
-use Rattle.std.specs.Prelude.{◌≡◌, ℕ, ℤ, true, false, List, [], ◌∷◌, ◌++◌, Option, Some, None, Result, Ok, Err, codes, replicate, is_none}
+use Rattle.std.specs.Prelude.{◌≡◌, ℕ, ℤ, true, false, List, [], ◌∷◌, ◌++◌, Option, Some, None, Result, Ok, Err, codes, replicate, is_none, nat_lt}
 use Rattle.std.specs.FinMap.{get}
 use Rattle.nfs_wire.specs.declared.attributes.DeviceNumber.{DeviceNumber}
 use Rattle.nfs_wire.specs.declared.calls.Ordinary.TheVariants as ordinary
-use Rattle.nfs_wire.specs.declared.calls.Special.TheVariants.{BlockDevice, CharacterDevice, Socket, Fifo, Other}
+use Rattle.nfs_wire.specs.declared.calls.Special.TheVariants.{BlockDevice, Fifo, Other}
 use Rattle.nfs_wire.specs.declared.status.NfsStatus.{NfsStatus}
-use Rattle.nfs_wire.specs.declared.status.NfsStatus.TheVariants as status
-use Rattle.nfs_machine.specs.Attributes.{is_directory, links_of, names_in}
-use Rattle.nfs_machine.specs.Checks.{may_gain_link, new_name_checked, old_name_checked, entry_of}
-use Rattle.nfs_machine.specs.MakeSteps.{may_make, text_checked, wanted_directory, wanted_link, wanted_special}
-use Rattle.nfs_machine.specs.Making.{Wanted, given_attributes, new_object, no_attributes}
+use Rattle.nfs_machine.specs.Attributes.{is_directory, links_of, names_in, names_of}
+use Rattle.nfs_machine.specs.Checks.{holding, link_limit, plain_name_checked, entry_of}
+use Rattle.nfs_machine.specs.MakeSteps.{wanted_of, wanted_special}
+use Rattle.nfs_machine.specs.Making.{Wanted, given_attributes, kind_checked, new_object}
 use Rattle.nfs_machine.specs.Refusal.{nothing}
-use Rattle.nfs_machine.specs.RemoveSteps.{Named, directory_name_checked, empty_directory, losing_name, not_directory, without, without_object}
-use Rattle.nfs_machine.specs.RenameSteps.{IsWithin, Move, RenameEnds, brings_link, entries_left, is_compatible, moved_end, plan_over}
+use Rattle.nfs_machine.specs.RemoveSteps.{empty_directory, losing_name, not_directory, without, without_object}
+use Rattle.nfs_machine.specs.RenameSteps.{IsWithin, RenameEnds, is_compatible, move_plan}
+use Rattle.nfs_wire.specs.declared.calls.RenameArguments.{RenameArguments}
+use Rattle.nfs_wire.specs.declared.status.NfsStatus.TheVariants as status
 use Rattle.nfs_machine.specs.Resolve.{Stale, Names}
-use Rattle.nfs_machine.specs.Shown.{after_first, touched, wcc, with_object}
+use Rattle.nfs_machine.specs.Shown.{after_first, touched, wcc, with_content, with_object}
 use Rattle.nfs_machine.specs.State.{Content, Regular, Directory, Link, Entry, Living, Lock, State}
 use Rattle.nfs_machine.specs.State as state
 use Rattle.nfs_machine.specs.Worked.{object}
-use Rattle.nfs_machine.specs.WorkedCreate.{called_as, sized}
+use Rattle.nfs_machine.specs.WorkedCreate.{called_as, no_attributes, sized}
 use Rattle.nfs_machine.specs.WorkedFiles.{time}
 
 -- "." and ".." are there in every directory, and never go or move
 pub record WorkedSpecialNames : Type 0 where
-  pub made_above : new_name_checked (codes "..") ≡ Err status.Exists
-  pub made_long : new_name_checked (replicate 256 120) ≡ Err status.NameTooLong
-  pub made_empty : new_name_checked [] ≡ Err status.Access
-  pub old_self : old_name_checked (codes ".") ≡ Err status.Invalid
-  pub old_above : old_name_checked (codes "..") ≡ Err status.Invalid
-  pub old_plain : old_name_checked (codes "x") ≡ Ok tt
-  pub old_longest : old_name_checked (replicate 255 120) ≡ Ok tt
-  pub old_long : old_name_checked (replicate 256 120) ≡ Err status.NameTooLong
-  pub old_slash : old_name_checked (codes "a/b") ≡ Err status.Access
-  pub rmdir_self : directory_name_checked (codes ".") ≡ Err status.Invalid
-  pub rmdir_above : directory_name_checked (codes "..") ≡ Err status.Exists
-  pub rmdir_plain : directory_name_checked (codes "x") ≡ Ok tt
-  pub rmdir_long : directory_name_checked (replicate 256 120) ≡ Err status.NameTooLong
+  pub made_above : plain_name_checked status.Exists status.Exists (codes "..") ≡ Err status.Exists
+  pub made_long : plain_name_checked status.Exists status.Exists (replicate 256 120) ≡ Err status.NameTooLong
+  pub made_empty : plain_name_checked status.Exists status.Exists [] ≡ Err status.Access
+  pub old_self : plain_name_checked status.Invalid status.Invalid (codes ".") ≡ Err status.Invalid
+  pub old_above : plain_name_checked status.Invalid status.Invalid (codes "..") ≡ Err status.Invalid
+  pub old_plain : plain_name_checked status.Invalid status.Invalid (codes "x") ≡ Ok tt
+  pub old_longest : plain_name_checked status.Invalid status.Invalid (replicate 255 120) ≡ Ok tt
+  pub old_long : plain_name_checked status.Invalid status.Invalid (replicate 256 120) ≡ Err status.NameTooLong
+  pub old_slash : plain_name_checked status.Invalid status.Invalid (codes "a/b") ≡ Err status.Access
+  pub rmdir_self : plain_name_checked status.Invalid status.Exists (codes ".") ≡ Err status.Invalid
+  pub rmdir_above : plain_name_checked status.Invalid status.Exists (codes "..") ≡ Err status.Exists
+  pub rmdir_plain : plain_name_checked status.Invalid status.Exists (codes "x") ≡ Ok tt
+  pub rmdir_long : plain_name_checked status.Invalid status.Exists (replicate 256 120) ≡ Err status.NameTooLong
 
 abbrev pub disk : DeviceNumber
 disk = record { major = 8; minor = 1 }
 
 -- the object that uid 9 makes where this is wanted
 abbrev pub made_by : Wanted → Living
-made_by wanted = new_object (called_as 9) 1 4 wanted.mode wanted.content wanted.attributes wanted.verifier
+made_by wanted = new_object (called_as 9) 1 4 wanted
 
 -- what MKDIR, SYMLINK and MKNOD make, and what they refuse
 pub record WorkedMakes : Type 0 where
   pub regular : wanted_special (Other ordinary.Regular) ≡ Err status.BadType
   pub directory : wanted_special (Other ordinary.Directory) ≡ Err status.BadType
   pub link : wanted_special (Other ordinary.Link) ≡ Err status.BadType
-  pub block_by_user : may_make (called_as 1) (BlockDevice no_attributes disk) ≡ Err status.Permission
-  pub character_by_user : may_make (called_as 1) (CharacterDevice no_attributes disk) ≡ Err status.Permission
-  pub block_by_root : may_make (called_as 0) (BlockDevice no_attributes disk) ≡ Ok tt
-  pub fifo_by_user : may_make (called_as 1) (Fifo no_attributes) ≡ Ok tt
-  pub socket_by_user : may_make (called_as 1) (Socket no_attributes) ≡ Ok tt
+  pub block_by_user : kind_checked (called_as 1) 2 (state.BlockDevice disk) ≡ Err status.Permission
+  pub character_by_user : kind_checked (called_as 1) 2 (state.CharacterDevice disk) ≡ Err status.Permission
+  pub block_by_root : kind_checked (called_as 0) 2 (state.BlockDevice disk) ≡ Ok tt
+  pub fifo_by_user : kind_checked (called_as 1) 2 state.Fifo ≡ Ok tt
+  pub socket_by_user : kind_checked (called_as 1) 2 state.Socket ≡ Ok tt
   pub fifo : wanted_special (Fifo no_attributes) ≡ Ok (record { mode = 420; content = state.Fifo; attributes = no_attributes; verifier = None })
   pub device : wanted_special (BlockDevice no_attributes disk) ≡ Ok (record { mode = 420; content = state.BlockDevice disk; attributes = no_attributes; verifier = None })
-  pub empty_text : text_checked [] ≡ Err status.Invalid
-  pub nul_in_text : text_checked (97 ∷ 0 ∷ []) ≡ Err status.Invalid
-  pub plain_text : text_checked (codes "../a") ≡ Ok tt
-  pub longest_text : text_checked (replicate 4096 97) ≡ Ok tt
-  pub longer_text : text_checked (replicate 4097 97) ≡ Err status.NameTooLong
-  pub longer_with_nul : text_checked (replicate 4097 97 ++ 0 ∷ []) ≡ Err status.Invalid
-  pub new_directory : made_by (wanted_directory no_attributes) ≡ record (object 493 (Directory [] 2)) {
+  pub empty_text : kind_checked (called_as 9) 2 (Link []) ≡ Err status.Invalid
+  pub nul_in_text : kind_checked (called_as 9) 2 (Link (97 ∷ 0 ∷ [])) ≡ Err status.Invalid
+  pub plain_text : kind_checked (called_as 9) 2 (Link (codes "../a")) ≡ Ok tt
+  pub longest_text : kind_checked (called_as 9) 2 (Link (replicate 4096 97)) ≡ Ok tt
+  pub longer_text : kind_checked (called_as 9) 2 (Link (replicate 4097 97)) ≡ Err status.NameTooLong
+  pub longer_with_nul : kind_checked (called_as 9) 2 (Link (replicate 4097 97 ++ 0 ∷ [])) ≡ Err status.Invalid
+  pub new_directory : made_by (wanted_of 493 (Directory [] 2) no_attributes) ≡ record (object 493 (Directory [] 2)) {
     generation = 4;
     uid = 9;
     gid = 9;
@@ -70,9 +71,9 @@ pub record WorkedMakes : Type 0 where
     modified = time 1000 0;
     changed = time 1000 0;
   }
-  pub link_mode : (made_by (wanted_link (codes "a") no_attributes)).mode ≡ 511
+  pub link_mode : (made_by (wanted_of 511 (Link (codes "a")) no_attributes)).mode ≡ 511
   -- a size is for regular files alone
-  pub no_size : given_attributes (called_as 9) (wanted_directory (sized 1048577)).attributes ≡ Ok tt
+  pub no_size : given_attributes (called_as 9) (wanted_of 493 (Directory [] 2) (sized 1048577)).attributes ≡ Ok tt
 
 abbrev pub first_entry : Entry
 first_entry = record { name = codes "a"; number = 4; cookie = 3 }
@@ -85,7 +86,7 @@ both_entries = first_entry ∷ second_entry ∷ []
 
 -- a lock of one byte of a file
 abbrev pub lock_of : ℤ → ℕ → Lock
-lock_of process file = record { file = file; owner = record { caller_name = codes "c"; owner = codes "o"; process = process }; first = 0; last = 0; exclusive = true }
+lock_of process file = record { range = record { file = file; owner = record { caller_name = codes "c"; owner = codes "o"; process = process }; first = 0; last = 0 }; exclusive = true }
 
 -- what REMOVE and RMDIR take away, and what becomes of an object
 pub record WorkedRemovals : Type 0 where
@@ -106,8 +107,10 @@ pub record WorkedRemovals : Type 0 where
 
 -- the links of a directory or a file
 pub record WorkedLinks : Type 0 where
-  pub most : (m : State) (number : ℕ) (content : Content) → links_of m number content ≡ 31999 → may_gain_link m number content ≡ Ok tt
-  pub full : (m : State) (number : ℕ) (content : Content) → links_of m number content ≡ 32000 → may_gain_link m number content ≡ Err status.TooManyLinks
+  pub last_below : kind_checked (called_as 9) 31999 (Directory [] 2) ≡ Ok tt
+  pub one_too_many : kind_checked (called_as 9) 32000 (Directory [] 2) ≡ Err status.TooManyLinks
+  pub most : (m : State) (number : ℕ) (content : Content) → links_of m number content ≡ 31999 → holding (nat_lt (links_of m number content) link_limit) status.TooManyLinks ≡ Ok tt
+  pub full : (m : State) (number : ℕ) (content : Content) → links_of m number content ≡ 32000 → holding (nat_lt (links_of m number content) link_limit) status.TooManyLinks ≡ Err status.TooManyLinks
   -- a directory has 2, and one for each directory in it
   pub empty : (m : State) → links_of m 1 (Directory [] 7) ≡ 2
   pub one_below : (m : State) (a b : Living) → get m.objects 4 ≡ Some a → get m.objects 5 ≡ Some b → is_directory a.content ≡ true → is_directory b.content ≡ false
@@ -122,22 +125,26 @@ pub record WorkedLinks : Type 0 where
   pub not_read : (m : State) (o : Living) → wcc m (after_first Stale (Names 2 o)) ≡ nothing
   pub read : (o : Living) → after_first (Names 4 o) Stale ≡ Stale
 
--- "a" of directory 2, with this content
-abbrev pub moved_name : Content → Named
-moved_name content =
-    record { place = 2; directory = object 511 (Directory both_entries 7); entries = both_entries; last_cookie = 7; name = codes "a"; number = 4; object = object 511 content }
+-- "a" of a directory becomes "b" of another, or of the same
+abbrev pub a_to_b : RenameArguments
+a_to_b = record { from = record { directory = []; name = codes "a" }; to = record { directory = []; name = codes "b" } }
 
--- it comes to "b" of a directory, where this stands
-abbrev pub move_to : Content → (target last_cookie : ℕ) → Option (ℕ × Living) → Move
-move_to content target last_cookie replaced = record {
-  from = moved_name content;
-  target = target;
-  directory = object 511 (Directory both_entries last_cookie);
-  entries = both_entries;
-  last_cookie = last_cookie;
-  name = codes "b";
-  replaced = replaced;
-}
+-- "a" of directory 2, an object of this content, comes to "b" of a directory, where this stands
+abbrev pub move_to : State → Content → (target last_cookie : ℕ) → Option (ℕ × Living) → Result (Option (ℕ × ℕ) × Result (Unit {0} × State) NfsStatus) NfsStatus
+move_to m content target last_cookie replaced =
+    move_plan m (time 1000 0) a_to_b (2, object 511 (Directory both_entries 7)) (target, object 511 (Directory both_entries last_cookie))
+    (both_entries, 7) (both_entries, last_cookie) (4, object 511 content) replaced
+
+abbrev pub moved_entry : Entry
+moved_entry = record { name = codes "b"; number = 4; cookie = 8 }
+
+abbrev pub directory_with : List Entry → ℕ → Living
+directory_with entries last_cookie = with_content (object 511 (Directory both_entries 7)) (time 1000 0) (Directory entries last_cookie)
+
+-- the state then: the object has the name "b" of its new directory, behind the names that stay there
+abbrev pub moved_to : State → Content → (target : ℕ) → List Entry → State
+moved_to m content target left =
+    with_object (with_object (with_object m 2 (directory_with (second_entry ∷ []) 7)) target (directory_with (left ++ moved_entry ∷ []) 8)) 4 (touched (object 511 content) (time 1000 0))
 
 abbrev pub empty_place : Option (ℕ × Living)
 empty_place = Some (5, object 511 (Directory [] 2))
@@ -149,18 +156,21 @@ pub record WorkedRenames : Type 0 where
   pub directory_over_file : is_compatible (Directory [] 2) (Regular []) ≡ false
   pub file_over_directory : is_compatible (Regular []) (Directory [] 2) ≡ false
   pub file_over_link : is_compatible (Regular []) (Link (codes "x")) ≡ true
-  pub same_object : plan_over (move_to (Regular []) 2 7 (Some (4, object 511 (Regular [])))) (Some (4, object 511 (Regular []))) ≡ Ok None
-  pub over_file : plan_over (move_to (Directory [] 2) 2 7 (Some (5, object 420 (Regular [])))) (Some (5, object 420 (Regular []))) ≡ Err status.Exists
-  pub over_nothing : plan_over (move_to (Directory [] 2) 2 7 None) None ≡ Ok (Some (move_to (Directory [] 2) 2 7 None))
+  pub same_object : (m : State) → move_to m (Regular []) 2 7 (Some (4, object 511 (Regular []))) ≡ Ok (None, Ok (tt, m))
+  pub over_file : (m : State) → move_to m (Directory [] 2) 2 7 (Some (5, object 420 (Regular []))) ≡ Err status.Exists
+  pub over_nothing : (m : State) → move_to m (Directory [] 2) 2 7 None ≡ Ok (Some (4, 2), Ok (tt, moved_to m (Directory [] 2) 2 []))
   -- what the target keeps: its other names, and in the old name's directory not that one
-  pub left_in_other : entries_left (move_to (Regular []) 3 7 None) ≡ first_entry ∷ []
-  pub left_in_same : entries_left (move_to (Regular []) 2 7 None) ≡ []
-  pub link_to_other : brings_link (move_to (Directory [] 2) 3 7 None) ≡ true
-  pub link_to_same : brings_link (move_to (Directory [] 2) 2 7 None) ≡ false
-  pub link_over_directory : brings_link (move_to (Directory [] 2) 3 7 empty_place) ≡ false
-  pub link_of_file : brings_link (move_to (Regular []) 3 7 None) ≡ false
-  pub last_cookie : (m : State) → moved_end m (called_as 0) (move_to (Regular []) 3 18446744073709551615 None) ≡ Err status.NoSpace
+  pub left_in_other : (m : State) → move_to m (Regular []) 3 7 None ≡ Ok (None, Ok (tt, moved_to m (Regular []) 3 (first_entry ∷ [])))
+  pub left_in_same : (m : State) → move_to m (Regular []) 2 7 None ≡ Ok (None, Ok (tt, moved_to m (Regular []) 2 []))
+  -- a move that brings a link is refused where the target has all its links; the others go on
+  pub link_to_other : (m : State) → links_of m 3 (Directory both_entries 7) ≡ 32000 → move_to m (Directory [] 2) 3 7 None ≡ Ok (Some (4, 3), Err status.TooManyLinks)
+  pub link_to_same : (m : State) → links_of m 2 (Directory both_entries 7) ≡ 32000 → move_to m (Directory [] 2) 2 7 None ≡ Ok (Some (4, 2), Ok (tt, moved_to m (Directory [] 2) 2 []))
+  pub link_over_directory : (m : State) → links_of m 3 (Directory both_entries 7) ≡ 32000
+      → move_to m (Directory [] 2) 3 7 empty_place
+      ≡ Ok (Some (4, 3), Ok (tt, losing_name (moved_to m (Directory [] 2) 3 (first_entry ∷ [])) (names_of m 5) (time 1000 0) 5 (object 511 (Directory [] 2))))
+  pub link_of_file : (m : State) → links_of m 3 (Directory both_entries 7) ≡ 32000 → move_to m (Regular []) 3 7 None ≡ Ok (None, Ok (tt, moved_to m (Regular []) 3 (first_entry ∷ [])))
+  pub last_cookie : (m : State) → move_to m (Regular []) 3 18446744073709551615 None ≡ Ok (None, Err status.NoSpace)
   -- a directory into itself
-  pub into_itself : (m : State) (end : Result (Unit {0} × State) NfsStatus) → RenameEnds m (called_as 0) (Ok (Some (move_to (Directory [] 2) 4 7 None))) end → end ≡ Err status.Invalid
+  pub into_itself : (m : State) (end : Result (Unit {0} × State) NfsStatus) → RenameEnds m (move_to m (Directory [] 2) 4 7 None) end → end ≡ Err status.Invalid
   -- and below: a name of the directory 4 leads to the directory 6
   pub below : (m : State) (directory : Living) → get m.objects 4 ≡ Some directory → directory.content ≡ Directory (record first_entry { number = 6 } ∷ []) 3 → IsWithin m 4 6

@@ -3,10 +3,8 @@ use Rattle.std.specs.Prelude.{◌≡◌, ℕ, Bool, true, false, List, [], ◌�
 use Rattle.nfs_wire.specs.declared.calls.Verifier.{Verifier}
 use Rattle.nfs_wire.specs.declared.status.NfsStatus.TheVariants as status
 use Rattle.nfs_machine.specs.Pages.{Pages, all_entries, behind, entry_size, fits, fits_full, full_entry_size}
-use Rattle.nfs_machine.specs.PageSteps.{is_good}
 use Rattle.nfs_machine.specs.Paging.{InOrder, ReadsOn, Visit}
 use Rattle.nfs_machine.specs.State.{Entry}
-use Rattle.nfs_machine.specs.WorkedCreate.{called_as}
 
 abbrev pub entry : List ℕ → ℕ → ℕ → Entry
 entry name number cookie = record { name = name; number = number; cookie = cookie }
@@ -93,7 +91,7 @@ zeros = record { bytes = replicate 8 0 }
 abbrev pub seven : Verifier
 seven = record { bytes = 0 ∷ 0 ∷ 0 ∷ 0 ∷ 0 ∷ 0 ∷ 0 ∷ 7 ∷ [] }
 
--- what entries take, the most that a page has, and which cookies are good where the start number is 7
+-- what entries take, and the most that a page has
 pub record WorkedSizes : Type 0 where
   pub short_name : entry_size a ≡ 28
   pub four : entry_size (entry (codes "abcd") 3 3) ≡ 28
@@ -101,6 +99,3 @@ pub record WorkedSizes : Type 0 where
   pub longest : full_entry_size (entry (replicate 255 97) 3 3) ≡ 408
   pub most : fits 4294967295 (replicate 2336 a) ≡ true
   pub more : fits 4294967295 (replicate 2337 a) ≡ false
-  pub first : is_good (called_as 0) 0 zeros ≡ true
-  pub other : is_good (called_as 0) 4 zeros ≡ false
-  pub good : is_good (called_as 0) 4 seven ≡ true

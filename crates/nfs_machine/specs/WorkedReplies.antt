@@ -6,18 +6,24 @@ use Rattle.nfs_wire.specs.declared.attributes.FileType.TheVariants as types
 use Rattle.nfs_wire.specs.declared.attributes.WeakAttributes.{WeakAttributes}
 use Rattle.nfs_wire.specs.declared.calls.SetattrArguments.{SetattrArguments}
 use Rattle.nfs_wire.specs.declared.attributes.Time.{Time}
+use Rattle.nfs_wire.specs.declared.calls.NfsCall.{NfsCall}
+use Rattle.nfs_wire.specs.declared.calls.NfsCall.TheVariants as calls
+use Rattle.nfs_wire.specs.declared.replies.NfsReply.{NfsReply}
 use Rattle.nfs_wire.specs.declared.replies.NfsReply.TheVariants as replies
 use Rattle.nfs_wire.specs.declared.status.NfsStatus.TheVariants as status
-use Rattle.nfs_machine.specs.AttributeSteps.{access_answer, setattr_answer}
 use Rattle.nfs_machine.specs.Attributes.{names_of}
-use Rattle.nfs_machine.specs.DataSteps.{commit_answer, readlink_result}
-use Rattle.nfs_machine.specs.FileSystemSteps.{file_system, fsinfo_answer, fsstat_answer, path_limits, pathconf_answer}
+use Rattle.nfs_machine.specs.FileSystemSteps.{file_system, path_limits}
 use Rattle.nfs_machine.specs.Handles.{handle_bytes}
+use Rattle.nfs_machine.specs.NfsSteps.{NfsStep}
 use Rattle.nfs_machine.specs.Opening.{opening_root}
+use Rattle.nfs_machine.specs.Shown.{with_object}
 use Rattle.nfs_machine.specs.State.{Living, State}
 use Rattle.nfs_machine.specs.Worked.{root_bytes}
 use Rattle.nfs_machine.specs.WorkedCreate.{called_as, file}
 use Rattle.nfs_machine.specs.WorkedFiles.{time}
+use Rattle.nfs_machine.specs.Pages.{all_entries}
+use Rattle.nfs_machine.specs.PageSteps.{entries_left}
+use Rattle.nfs_machine.specs.WorkedPages.{seven, zeros}
 use Rattle.nfs_machine.specs.WorkedSetting.{with_mode}
 use Rattle.nfs_machine.specs.declared.context.Ctx.{Ctx}
 
@@ -84,28 +90,35 @@ file_before = record { size = 3; modified = time 1000 1; changed = time 1000 1 }
 abbrev pub with_room : ℕ → Ctx
 with_room bytes = record (called_as 0) { limits = record { total_bytes = bytes } }
 
+-- a call that is answered so, puts no message and changes nothing
+abbrev pub IsAnswered : State → Ctx → NfsCall → NfsReply → Type 0
+IsAnswered m ctx call reply = NfsStep m ctx call reply [] m
+
 -- what is answered in a state with the file
 pub record WorkedFileReplies : Type 0 where
-  pub guarded : (m : State) → HasFile m → setattr_answer m (called_as 0) (setting_mode (time 1000 0)) ≡ replies.Setattr (record {
+  pub guarded : (m : State) → HasFile m → IsAnswered m (called_as 0) (calls.Setattr (setting_mode (time 1000 0))) (replies.Setattr (record {
     wcc = record { before = Some file_before; after = Some (file_shown 420 (time 1000 1)) };
     result = Err status.NotSynchronized;
-  })
-  pub set : (m : State) → HasFile m → setattr_answer m (called_as 0) (setting_mode (time 1000 1)) ≡ replies.Setattr (record {
+  }))
+  pub set : (m : State) → HasFile m → NfsStep m (called_as 0) (calls.Setattr (setting_mode (time 1000 1))) (replies.Setattr (record {
     wcc = record { before = Some file_before; after = Some (file_shown 384 (time 1000 2)) };
     result = Ok tt;
-  })
-  pub access : (m : State) → HasFile m → access_answer m (called_as 5) (record { object = file_bytes; rights = 63 }) ≡ replies.Access (record { attributes = Some (file_shown 420 (time 1000 1)); result = Ok 1 })
-  pub no_link : (m : State) → HasFile m → readlink_result m (called_as 0) file_bytes ≡ Err status.Invalid
-  pub committed : (m : State) → HasFile m → commit_answer m (called_as 5) (record { file = file_bytes; offset = 0; count = 0 }) ≡ replies.Commit (record {
+  })) [] (with_object m 2 (record known_file { mode = 384; changed = time 1000 2 }))
+  pub access : (m : State) → HasFile m
+      → IsAnswered m (called_as 5) (calls.Access (record { object = file_bytes; rights = 63 })) (replies.Access (record { attributes = Some (file_shown 420 (time 1000 1)); result = Ok 1 }))
+  pub no_link : (m : State) → HasFile m
+      → IsAnswered m (called_as 0) (calls.Readlink file_bytes) (replies.Readlink (record { attributes = Some (file_shown 420 (time 1000 1)); result = Err status.Invalid }))
+  pub committed : (m : State) → HasFile m → IsAnswered m (called_as 5) (calls.Commit (record { file = file_bytes; offset = 0; count = 0 })) (replies.Commit (record {
     wcc = record { before = Some file_before; after = Some (file_shown 420 (time 1000 1)) };
     result = Ok (record { bytes = 0 ∷ 0 ∷ 0 ∷ 0 ∷ 0 ∷ 0 ∷ 0 ∷ 7 ∷ [] });
-  })
-  pub limits : (m : State) → HasFile m → pathconf_answer m (called_as 0) file_bytes ≡ replies.Pathconf (record { attributes = Some (file_shown 420 (time 1000 1)); result = Ok path_limits })
-  pub bad_handle : (m : State) → fsinfo_answer m (called_as 0) (take 31 file_bytes) ≡ replies.Fsinfo (record { attributes = None; result = Err status.BadHandle })
+  }))
+  pub limits : (m : State) → HasFile m
+      → IsAnswered m (called_as 0) (calls.Pathconf file_bytes) (replies.Pathconf (record { attributes = Some (file_shown 420 (time 1000 1)); result = Ok path_limits }))
+  pub bad_handle : (m : State) → IsAnswered m (called_as 0) (calls.Fsinfo (take 31 file_bytes)) (replies.Fsinfo (record { attributes = None; result = Err status.BadHandle }))
 
 -- and in the state of a fresh export
 pub record WorkedRootReplies : Type 0 where
-  pub space : (m : State) → HasRoot m → fsstat_answer m (with_room 1099511627776) root_bytes ≡ replies.Fsstat (record {
+  pub space : (m : State) → HasRoot m → IsAnswered m (with_room 1099511627776) (calls.Fsstat root_bytes) (replies.Fsstat (record {
     attributes = Some root_shown;
     result = Ok (record {
       total_bytes = 1099511627776;
@@ -116,9 +129,13 @@ pub record WorkedRootReplies : Type 0 where
       available_files = 4294967294;
       unchanged_for = 0;
     });
-  })
-  pub system : (m : State) → HasRoot m → fsinfo_answer m (called_as 0) root_bytes ≡ replies.Fsinfo (record { attributes = Some root_shown; result = Ok file_system })
-  pub no_file : (m : State) → HasRoot m → commit_answer m (called_as 0) (record { file = root_bytes; offset = 0; count = 0 }) ≡ replies.Commit (record {
+  }))
+  pub system : (m : State) → HasRoot m → IsAnswered m (called_as 0) (calls.Fsinfo root_bytes) (replies.Fsinfo (record { attributes = Some root_shown; result = Ok file_system }))
+  pub no_file : (m : State) → HasRoot m → IsAnswered m (called_as 0) (calls.Commit (record { file = root_bytes; offset = 0; count = 0 })) (replies.Commit (record {
     wcc = record { before = Some (record { size = 4096; modified = time 1000 0; changed = time 1000 0 }); after = Some root_shown };
     result = Err status.Invalid;
-  })
+  }))
+  -- which cookies are good where the start number is 7: what is left of the root behind them
+  pub first_cookie : (m : State) → HasRoot m → entries_left m (called_as 0) root_bytes 0 zeros 1 ≡ Ok (all_entries 1 1 [])
+  pub other_cookie : (m : State) → HasRoot m → entries_left m (called_as 0) root_bytes 4 zeros 1 ≡ Err status.BadCookie
+  pub good_cookie : (m : State) → HasRoot m → entries_left m (called_as 0) root_bytes 4 seven 1 ≡ Ok []

@@ -1,5 +1,5 @@
 -- A run worked through by hand: a file is made and written (RFC 1813, 3.3.7 and 3.3.8); and steps from where it ends.
-use Rattle.std.specs.Prelude.{◌≡◌, ℕ, Bool, true, false, ◌&&◌, ◌||◌, List, [], ◌∷◌, ◌++◌, Some, Ok, Err, codes, ◌==◌}
+use Rattle.std.specs.Prelude.{◌≡◌, ℕ, Bool, true, false, ◌&&◌, ◌||◌, List, [], ◌∷◌, ◌++◌, map, Some, Ok, Err, codes, ◌==◌}
 use Rattle.std.specs.FinMap.{get, insert}
 use Rattle.std.specs.List.{AllByRecursion}
 use Rattle.nfs_xdr.specs.Writing.{write}
@@ -19,13 +19,12 @@ use Rattle.nfs_wire.specs.declared.replies.NfsReply.{NfsReply}
 use Rattle.nfs_wire.specs.declared.replies.NfsReply.TheVariants as nfs_replies
 use Rattle.nfs_wire.specs.declared.status.NfsStatus.TheVariants as status
 use Rattle.side_wire.specs.Mount.{IsHostName}
-use Rattle.nfs_machine.specs.DataSteps.{write_answer}
 use Rattle.nfs_machine.specs.Handles.{handle_bytes}
-use Rattle.nfs_machine.specs.Making.{made, no_attributes}
-use Rattle.nfs_machine.specs.NameSteps.{new_file}
+use Rattle.nfs_machine.specs.Making.{made, new_object}
+use Rattle.nfs_machine.specs.NameSteps.{wanted_file}
 use Rattle.nfs_machine.specs.NfsSteps.{NfsStep}
 use Rattle.nfs_machine.specs.Opening.{opening}
-use Rattle.nfs_machine.specs.PageSteps.{readdir_result, readdirplus_result}
+use Rattle.nfs_machine.specs.PageSteps.{full_entry, page_entry}
 use Rattle.nfs_machine.specs.Readings.{Reading, StaysThrough, Turn}
 use Rattle.nfs_machine.specs.RemoveSteps.{without_object}
 use Rattle.nfs_machine.specs.Resolve.{resolve}
@@ -35,7 +34,7 @@ use Rattle.nfs_machine.specs.State.{Directory, Regular, Entry, Living, State}
 use Rattle.nfs_machine.specs.Times.{is_earlier}
 use Rattle.nfs_machine.specs.WellFormed.{WellFormed}
 use Rattle.nfs_machine.specs.Worked.{open_export, root_bytes, user}
-use Rattle.nfs_machine.specs.WorkedCreate.{called_as, moment}
+use Rattle.nfs_machine.specs.WorkedCreate.{called_as, moment, no_attributes}
 use Rattle.nfs_machine.specs.WorkedFiles.{time}
 use Rattle.nfs_machine.specs.WorkedPages.{seven, zeros}
 use Rattle.nfs_machine.specs.WorkedReplies.{root}
@@ -80,7 +79,7 @@ abbrev pub root_with_x : Living
 root_with_x = with_content root (time 1000 0) (Directory (x_entry ∷ []) 3)
 
 abbrev pub x : Living
-x = new_file nobody (Unchecked no_attributes) 1 1
+x = new_object nobody 1 1 (wanted_file (Unchecked no_attributes))
 
 abbrev pub with_x : State
 with_x = record opened { objects = insert (insert opened.objects 1 root_with_x) 5 x; spent = λ n g. ((n == 5) && (g == 1)) || opened.spent n g }
@@ -101,8 +100,11 @@ x_written = with_content x (time 1000 0) (Regular (codes "hi"))
 abbrev pub written : State
 written = with_object with_x 5 x_written
 
+abbrev pub wrote_reply : NfsReply
+wrote_reply = nfs_replies.Write (record { wcc = wcc written (resolve with_x nobody x_bytes); result = Ok (record { count = 2; committed = FileSync; verifier = seven }) })
+
 abbrev pub records : List Record
-records = executed (nfs.Create making) made_reply ∷ executed (nfs.Write writing) (write_answer with_x nobody writing) ∷ []
+records = executed (nfs.Create making) made_reply ∷ executed (nfs.Write writing) wrote_reply ∷ []
 
 -- The run, of hosts whose names are within their bound. The root lives under its handle from the beginning to the end, and was changed.
 pub record WorkedRun : Type 0 where
@@ -133,10 +135,10 @@ abbrev pub miscounted : WriteArguments
 miscounted = record writing { count = 3 }
 
 abbrev pub listed_reply : NfsReply
-listed_reply = nfs_replies.Readdir (record { attributes = shown written (resolve written nobody root_bytes); result = readdir_result nobody (Ok (all_three, true)) })
+listed_reply = nfs_replies.Readdir (record { attributes = shown written (resolve written nobody root_bytes); result = Ok (record { verifier = seven; entries = map page_entry all_three; eof = true }) })
 
 abbrev pub listed_full_reply : NfsReply
-listed_full_reply = nfs_replies.Readdirplus (record { attributes = shown written (resolve written nobody root_bytes); result = readdirplus_result written nobody (Ok (all_three, true)) })
+listed_full_reply = nfs_replies.Readdirplus (record { attributes = shown written (resolve written nobody root_bytes); result = Ok (record { verifier = seven; entries = map (full_entry written nobody) all_three; eof = true }) })
 
 abbrev pub removed_reply : NfsReply
 removed_reply = nfs_replies.Remove (record { directory = wcc removed (resolve written nobody root_bytes); result = Ok tt })
@@ -162,14 +164,14 @@ abbrev pub first_two : List Entry
 first_two = record { name = codes "."; number = 1; cookie = 1 } ∷ record { name = codes ".."; number = 1; cookie = 2 } ∷ []
 
 abbrev pub page_reply : State → List Entry → Bool → NfsReply
-page_reply m page eof = nfs_replies.Readdir (record { attributes = shown m (resolve m nobody root_bytes); result = readdir_result nobody (Ok (page, eof)) })
+page_reply m page eof = nfs_replies.Readdir (record { attributes = shown m (resolve m nobody root_bytes); result = Ok (record { verifier = seven; entries = map page_entry page; eof = eof }) })
 
 abbrev pub first_turn : Turn
 first_turn = record { between = []; ctx = nobody; call = nfs.Readdir first_listing; reply = page_reply with_x first_two false; page = first_two; eof = false }
 
 abbrev pub second_turn : Turn
 second_turn = record {
-  between = executed (nfs.Write writing) (write_answer with_x nobody writing) ∷ [];
+  between = executed (nfs.Write writing) wrote_reply ∷ [];
   ctx = nobody;
   call = nfs.Readdir second_listing;
   reply = page_reply written (x_entry ∷ []) true;

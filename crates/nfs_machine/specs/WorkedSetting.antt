@@ -10,11 +10,10 @@ use Rattle.nfs_wire.specs.declared.status.NfsStatus.TheVariants as status
 use Rattle.nfs_machine.specs.AttributeSteps.{granted, set_object}
 use Rattle.nfs_machine.specs.Checks.{bytes_in, text_in}
 use Rattle.nfs_machine.specs.FileSystemSteps.{space_left, file_system, path_limits}
-use Rattle.nfs_machine.specs.NameSteps.{no_attributes}
 use Rattle.nfs_machine.specs.Opening.{opening_root}
 use Rattle.nfs_machine.specs.State.{Content, Regular, Directory, Link, Fifo, Living}
 use Rattle.nfs_machine.specs.Worked.{member, object, user}
-use Rattle.nfs_machine.specs.WorkedCreate.{called_as, file, sized}
+use Rattle.nfs_machine.specs.WorkedCreate.{called_as, file, sized, no_attributes}
 use Rattle.nfs_machine.specs.WorkedFiles.{hello, time}
 use Rattle.nfs_machine.specs.declared.context.Ctx.{Ctx}
 

@@ -1,14 +1,16 @@
 -- Requests that wait, worked through by hand (RFC 1813, appendix II, 6.2: procedures 2, 4 and 5).
 use Rattle.std.specs.Prelude.{ℕ, true, false, List, [], ◌∷◌, ◌++◌, codes, pos}
+use Rattle.side_wire.specs.declared.nlm.NlmCall.TheVariants as nlm
+use Rattle.side_wire.specs.declared.nlm.NlmReply.TheVariants as nlm_replies
 use Rattle.side_wire.specs.declared.nlm.NlmResult.{NlmResult}
 use Rattle.side_wire.specs.declared.nlm.NlmStatus.{NlmStatus}
 use Rattle.side_wire.specs.declared.nlm.NlmStatus.TheVariants as nlm_status
 use Rattle.nfs_machine.specs.Grants.{ChangesLocks, grant_cookie, grant_message}
-use Rattle.nfs_machine.specs.LockSteps.{Frees, GrantEnds}
-use Rattle.nfs_machine.specs.Locks.{Unlocked}
+use Rattle.nfs_machine.specs.LockSteps.{Frees}
+use Rattle.nfs_machine.specs.NlmSteps.{NlmStep}
 use Rattle.nfs_machine.specs.State.{Lock, Owner, Request, State}
 use Rattle.nfs_machine.specs.WorkedRun.{nobody}
-use Rattle.nfs_machine.specs.WorkedLocks.{a, asked, b, lock, on_file}
+use Rattle.nfs_machine.specs.WorkedLocks.{a, asked, b, lock, on_file, Unlocked}
 
 abbrev pub c : Owner
 c = record { caller_name = codes "c3"; owner = 3 ∷ []; process = pos 3 }
@@ -55,8 +57,8 @@ pub record WorkedFreed : Type 0 where
       (record m { locks = both_shared; shares = []; waiting = []; granted = waiting a 5 ∷ waiting b 69 ∷ [] })
   pub first_alone : (m : State) → Frees (held_by_c m (alone a 5) (alone b 69)) (codes "c3") (grant_message (alone a 5) ∷ []) (held_by_a m)
   -- A's host does not take it, so B has them; a second answer changes nothing
-  pub refused : (m : State) → GrantEnds (held_by_a m) (record nobody { host = codes "c1" }) (answer nlm_status.Denied) (grant_message (alone b 69) ∷ []) (held_by_b m)
-  pub again : (m : State) → GrantEnds (held_by_b m) (record nobody { host = codes "c1" }) (answer nlm_status.Denied) [] (held_by_b m)
-  pub taken : (m : State) → GrantEnds (held_by_a m) (record nobody { host = codes "c1" }) (answer nlm_status.Granted) [] (record (held_by_a m) { granted = [] })
+  pub refused : (m : State) → NlmStep (held_by_a m) (record nobody { host = codes "c1" }) (nlm.GrantedRes (answer nlm_status.Denied)) nlm_replies.GrantedRes (grant_message (alone b 69) ∷ []) (held_by_b m)
+  pub again : (m : State) → NlmStep (held_by_b m) (record nobody { host = codes "c1" }) (nlm.GrantedRes (answer nlm_status.Denied)) nlm_replies.GrantedRes [] (held_by_b m)
+  pub taken : (m : State) → NlmStep (held_by_a m) (record nobody { host = codes "c1" }) (nlm.GrantedRes (answer nlm_status.Granted)) nlm_replies.GrantedRes [] (record (held_by_a m) { granted = [] })
   -- another host's answer is of no grant
-  pub of_other : (m : State) → GrantEnds (held_by_a m) (record nobody { host = codes "c2" }) (answer nlm_status.Denied) [] (held_by_a m)
+  pub of_other : (m : State) → NlmStep (held_by_a m) (record nobody { host = codes "c2" }) (nlm.GrantedRes (answer nlm_status.Denied)) nlm_replies.GrantedRes [] (held_by_a m)

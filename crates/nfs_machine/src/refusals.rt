@@ -1,7 +1,10 @@
 //! What a call is answered for want of memory (RFC 1813, section 2.6: NFS3ERR_JUKEBOX; RFC 5531, section 9: SYSTEM_ERR).
 
-ghost use Rattle.std.specs.Prelude.{◌≡◌, true, is_some, IfOk, OnErr};
-ghost use Rattle.nfs_machine.specs.Refusal.{mount_refusal, nfs_refusal, nlm_refusal, no_locks, refusal_by, refusal_of, returns_cookie};
+ghost use Rattle.std.specs.Prelude.{◌≡◌, true, is_some, IfOk, OnErr, MatchOption};
+ghost use Rattle.side_wire.specs.declared.nlm.NlmCall.{NlmCall as NlmCallValue};
+ghost use Rattle.nfs_machine.specs.declared.calls.Call.TheVariants as calls;
+ghost use Rattle.nfs_machine.specs.declared.calls.Refusal.TheVariants as refusals;
+ghost use Rattle.nfs_machine.specs.Refusal.{nfs_refusal, nlm_refusal, no_locks, refusal_of};
 
 use crate::calls::{Call, Refusal, Reply};
 use bytes::Bytes;
@@ -31,11 +34,11 @@ impl Call {
     #[tactic(auto, unfolding(crate::specs::Refusal::refusal_of))]
     pub fn refusal(&self) -> Result<Refusal, AllocError>
         ensures ok { IfOk result (λ refusal. refusal ≡ refusal_of self.now) }
-        ensures err { OnErr result (returns_cookie self.now ≡ true) }
+        ensures err { OnErr result ((call : NlmCallValue) × (self.now ≡ calls.Nlm call) × (is_some (nlm_refusal call) ≡ true)) }
     {
         match self {
             Call::Nfs(call) => Ok(refusal_by(nfs_refusal(call).map(Reply::Nfs))),
-            Call::Mount(call) => Ok(refusal_by(mount_refusal(call).map(Reply::Mount))),
+            Call::Mount(call) => Ok(mount_refusal(call)),
             Call::Nlm(call) => Ok(refusal_by(nlm_refusal(call)?.map(Reply::Nlm))),
         }
     }
@@ -43,7 +46,7 @@ impl Call {
 
 /// The refusal by a status, or by SYSTEM_ERR where the procedure has none.
 fn refusal_by(reply: Option<Reply>) -> Refusal
-    ensures { result ≡ refusal_by reply }
+    ensures { MatchOption reply (result ≡ refusals.SystemError) (λ r. result ≡ refusals.Reply r) }
 {
     match reply {
         Some(reply) => Refusal::Reply(reply),
@@ -142,16 +145,19 @@ fn nfs_refusal(call: &NfsCall) -> Option<NfsReply>
     }
 }
 
-fn mount_refusal(call: &MountCall) -> Option<MountReply>
-    ensures { result ≡ mount_refusal call.now }
+#[tactic(auto, unfolding(crate::specs::Refusal::refusal_of))]
+fn mount_refusal(call: &MountCall) -> Refusal
+    ensures { result ≡ refusal_of (calls.Mount call.now) }
 {
     match call {
-        MountCall::Mnt(_) => Some(MountReply::Mnt(Err(MountStatus::ServerFault))),
+        MountCall::Mnt(_) => Refusal::Reply(Reply::Mount(MountReply::Mnt(Err(
+            MountStatus::ServerFault,
+        )))),
         MountCall::Null
         | MountCall::Dump
         | MountCall::Unmount(_)
         | MountCall::UnmountAll
-        | MountCall::Export => None,
+        | MountCall::Export => Refusal::SystemError,
     }
 }
 

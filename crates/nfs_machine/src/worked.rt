@@ -118,7 +118,7 @@ pub fn worked_full_pages()
     ensures { WorkedFullPages }
 {}
 
-/// What entries take of a page, and which cookies go on.
+/// What entries take of a page.
 pub fn worked_sizes()
     ensures { WorkedSizes }
 {}
@@ -128,7 +128,7 @@ pub fn worked_file_replies()
     ensures { WorkedFileReplies }
 {}
 
-/// Whole replies about the root of a fresh export.
+/// Whole replies about the root of a fresh export, and which cookies go on.
 pub fn worked_root_replies()
     ensures { WorkedRootReplies }
 {}

@@ -33,13 +33,13 @@ module _ (ctx : Ctx) (view : ViewValue) (path : List ℕ) where
   pub fault_refused : (e : MountStatus) → path_fault path ≡ Some e → HoldsUnchanged (Mount (calls.Mnt path)) ctx view (answers.Mount (replies.Mnt (Err e)))
   unfolding MountStep
   fault_refused e fault =
-      record { step = λ s m stands sound roots fits. record { result = Err e; reply_is = refl; no_message = refl; answers = (inl fault, refl) } }
+      record { step = λ s m stands sound roots fits. (Err e, refl, refl, (inl fault, refl)) }
 
   module _ (sane : path_fault path ≡ None) where
     pub no_export_refused : NoExport ctx path → HoldsUnchanged (Mount (calls.Mnt path)) ctx view (answers.Mount (replies.Mnt (Err Access)))
     unfolding MountStep
     no_export_refused none =
-        record { step = λ s m stands sound roots fits. record { result = Err Access; reply_is = refl; no_message = refl; answers = (inr (inl (sane, none, refl)), refl) } }
+        record { step = λ s m stands sound roots fits. (Err Access, refl, refl, (inr (inl (sane, none, refl)), refl)) }
 
     module _ (root : ℕ) (rest : List (List ℕ)) (chosen : Chosen ctx.exports ctx.host (parts path) root rest) where
       agrees : (s : Store) (m : State) → Represents s m → Fits view s → Agrees view (get m.objects)
@@ -49,12 +49,7 @@ module _ (ctx : Ctx) (view : ViewValue) (path : List ℕ) where
           → HoldsUnchanged (Mount (calls.Mnt path)) ctx view (answers.Mount (replies.Mnt (Err e)))
       unfolding MountStep
       walk_refused e walks = record {
-        step = λ s m stands sound roots fits. record {
-          result = Err e;
-          reply_is = refl;
-          no_message = refl;
-          answers = (inr (inr (sane, root, rest, chosen, sym (walks (get m.objects) (agrees s m stands fits)))), refl);
-        };
+        step = λ s m stands sound roots fits. (Err e, refl, refl, (inr (inr (sane, root, rest, chosen, sym (walks (get m.objects) (agrees s m stands fits)))), refl));
       }
 
       pub named : (number : ℕ) (inode : inodes.Inode) → Ends view root rest number inode → IsNamed ctx view path number inode
@@ -67,33 +62,33 @@ module _ (ctx : Ctx) (view : ViewValue) (path : List ℕ) where
     pub listed_answered : Adds known ctx.host path None → HoldsUnchanged (Mount (calls.Mnt path)) ctx view (answers.Mount (replies.Mnt (Ok handle)))
     unfolding MountStep
     listed_answered listed = record {
-      step = λ s m stands sound roots fits. record {
-        result = Ok handle;
-        reply_is = refl;
-        no_message = refl;
-        answers = (
+      step = λ s m stands sound roots fits. (
+        Ok handle,
+        refl,
+        refl,
+        (
           (number, living_of_inode inode),
           named.target s m stands sound roots fits,
           is,
           sym (ap (λ b. cond b m (record m { mounts = newest (m.mounts ++ mounted ctx.host path ∷ []) })) (ap (λ l. is_mounted l (mounted ctx.host path)) (mounts-seen s m view known stands fits seen) ∙ listed)),
-        );
-      };
+        ),
+      );
     }
 
     pub added_answered : (table : List tables.Mount) → Adds known ctx.host path (Some table) → StoresMounts (Mount (calls.Mnt path)) ctx view table (answers.Mount (replies.Mnt (Ok handle)))
     unfolding MountStep
     added_answered table adds = record {
       seen = subst (λ o. IsSome o) (sym seen) refl;
-      step = λ s m stands sound roots fits. record {
-        result = Ok handle;
-        reply_is = refl;
-        no_message = refl;
-        answers = (
+      step = λ s m stands sound roots fits. (
+        Ok handle,
+        refl,
+        refl,
+        (
           (number, living_of_inode inode),
           named.target s m stands sound roots fits,
           is,
           ap (λ l. record m { mounts = l }) (adds.1 ∙ ap (λ l. newest (l ++ mounted ctx.host path ∷ [])) (sym (mounts-seen s m view known stands fits seen)))
               ∙ sym (ap (λ b. cond b m (record m { mounts = newest (m.mounts ++ mounted ctx.host path ∷ []) })) (ap (λ l. is_mounted l (mounted ctx.host path)) (mounts-seen s m view known stands fits seen) ∙ adds.0)),
-        );
-      };
+        ),
+      );
     }

@@ -3,7 +3,11 @@ use Rattle.std.proofs.Common.{◌≡◌, ◌==◌, ℕ, ◌+◌, ◌≤◌, Bool
 use Rattle.std.proofs.lemmas.Bool.Decides.{nat_tests}
 use Rattle.std.proofs.lemmas.Map.Views.{any-filter_same}
 use Rattle.std.specs.List.{filter, list_any}
-use Rattle.nfs_machine.specs.Paths.{in_front, is_dots, is_empty, parts, pieces, slash}
+use Rattle.nfs_machine.specs.Paths.{in_front, is_dots, parts, pieces, slash}
+
+-- no name stands in an empty piece
+abbrev is_empty : List ℕ → Bool
+is_empty text = length text == 0
 
 pub any_dots : (path : List ℕ) → list_any is_dots (parts path) ≡ list_any is_dots (pieces path)
 any_dots path = any-filter_same is_dots (λ piece. not (is_empty piece)) true dots (pieces path)

@@ -18,10 +18,10 @@ use Rattle.nfs_wire.specs.declared.status.NfsStatus.TheVariants as status
 use Rattle.nfs_machine.proofs.Changes.{apart}
 use Rattle.nfs_machine.specs.Answers.{answer_of, state_after}
 use Rattle.nfs_machine.specs.Attributes.{attributes_of, is_directory, links_of}
-use Rattle.nfs_machine.specs.Checks.{◌>>=◌, holding, object_of, entries_in, bytes_in, new_name_checked, changeable, permitted, entry_of, is_read_only}
+use Rattle.nfs_machine.specs.Checks.{◌>>=◌, holding, object_of, entries_in, bytes_in, plain_name_checked, changeable, permitted, entry_of}
 use Rattle.nfs_machine.specs.Exports.{ExportValue, export_at}
-use Rattle.nfs_machine.specs.NameSteps.{End, Known, Chosen, EndsAs, Fresh, attributes_given, create_existing, create_over, given_attributes, made, new_file, with_entry, wanted_file}
-use Rattle.nfs_machine.specs.Making.{make_made, make_new}
+use Rattle.nfs_machine.specs.NameSteps.{End, Known, Chosen, EndsAs, Fresh, create_existing, create_over, given_attributes, made, new_object, with_entry, wanted_file}
+use Rattle.nfs_machine.specs.Making.{make_new}
 use Rattle.nfs_machine.specs.NfsSteps.{NfsStep}
 use Rattle.nfs_machine.specs.Permission.{Changing}
 use Rattle.nfs_machine.specs.Resolve.{Resolved, resolve}
@@ -135,7 +135,7 @@ checks-passed named changed permit (contents.CharacterDevice device) d is = cc
 checks-passed named changed permit contents.Socket d is = cc
 checks-passed named changed permit contents.Fifo d is = cc
 
-exported-where : (o : Option ExportValue) → holding (not (is_read_only o)) status.ReadOnly ≡ Ok tt → (e : ExportValue) × (o ≡ Some e)
+exported-where : (o : Option ExportValue) → holding (not (elim o [ None ↦ true | Some e ↦ e.read_only ])) status.ReadOnly ≡ Ok tt → (e : ExportValue) × (o ≡ Some e)
 exported-where None e = cc
 exported-where (Some x) e = (x, refl)
 
@@ -171,7 +171,7 @@ module _ (ctx : Ctx) (view : ViewValue) (a : CreateArguments) where
   end_by m r = do
     directory ← object_of r
     entries ← entries_in directory.1.content
-    _ ← new_name_checked a.place.name
+    _ ← plain_name_checked status.Exists status.Exists a.place.name
     _ ← changeable ctx directory.1
     _ ← permitted ctx directory.1 Changing
     end_in m entries directory.0 directory.1
@@ -212,7 +212,7 @@ module _ (ctx : Ctx) (view : ViewValue) (a : CreateArguments) where
 
     ends-here : (m : State) → end_by m (machine.Names number (living_of_inode i)) ≡ then m (directory_checked ctx i a.place.name)
     ends-here m =
-        directory-same (new_name_checked a.place.name) (changeable ctx (living_of_inode i)) (permitted ctx (living_of_inode i) Changing)
+        directory-same (plain_name_checked status.Exists status.Exists a.place.name) (changeable ctx (living_of_inode i)) (permitted ctx (living_of_inode i) Changing)
         (λ entries. end_in m entries number (living_of_inode i)) i.content
 
     -- a reply is a step where the directory is shown, and the end is the machine's
@@ -295,7 +295,7 @@ module _ (ctx : Ctx) (view : ViewValue) (a : CreateArguments) where
                 both_ways (is_directory (content_of i.content)) file (ap (λ c. is_directory (content_of c)) passed.0))
               where
                 passed : (i.content ≡ contents.Directory d) × (changeable ctx (living_of_inode i) ≡ Ok tt)
-                passed = checks-passed (new_name_checked a.place.name) (changeable ctx (living_of_inode i)) (permitted ctx (living_of_inode i) Changing) i.content d checked
+                passed = checks-passed (plain_name_checked status.Exists status.Exists a.place.name) (changeable ctx (living_of_inode i)) (permitted ctx (living_of_inode i) Changing) i.content d checked
 
             pub resized_rewrites : (reply : MadeReply) (told : Made) → ShowsWcc number i i reply.directory → reply.result ≡ Ok told → ShowsMade ctx n new told
                 → Rewrites (calls.Nfs (nfs.Create a)) ctx view n new (answers.Nfs (replies.Create reply))
@@ -322,21 +322,29 @@ module _ (ctx : Ctx) (view : ViewValue) (a : CreateArguments) where
 
       -- the name is not there
       module _ (absent : entry_of d.entries a.place.name ≡ None) where
-        new-there : (m : State) → then m (Ok d) ≡ (new_judged ctx a.how d.last_cookie >>= λ _. Ok (Chosen (make_made m ctx a.place.name (wanted_file a.how) number (living_of_inode i) d.entries d.last_cookie)))
+        -- what the machine makes with the number and the generation that it chooses
+        abbrev makes_new : (m : State) → Fresh m → Made × State
+        makes_new m fresh =
+            let o = new_object ctx i.export fresh.generation (wanted_file a.how) in
+            let wider = with_content (living_of_inode i) (time_of ctx.moment) (with_entry d.entries d.last_cookie a.place.name fresh.number) in
+            let new = record (with_object (with_object m number wider) fresh.number o) { spent = fresh.spent } in
+            (made new ctx fresh.number o, new)
+
+        new-there : (m : State) → then m (Ok d) ≡ (new_judged ctx a.how d.last_cookie >>= λ _. Ok (Chosen (makes_new m)))
         new-there m =
             ap (λ (o : Option Entry). elim o [
               | Some e ↦ create_existing m ctx a.how e.number (get m.objects e.number)
               | None ↦ make_new m ctx a.place.name (wanted_file a.how) number (living_of_inode i) d.entries d.last_cookie
             ]) absent
-            ∙ judged-then (given_attributes ctx (attributes_given a.how)) (holding (nat_lt (d.last_cookie + 1) (2 ^ 64)) status.NoSpace) (Chosen (make_made m ctx a.place.name (wanted_file a.how) number (living_of_inode i) d.entries d.last_cookie))
+            ∙ judged-then (given_attributes ctx (wanted_file a.how).attributes) (holding (nat_lt (d.last_cookie + 1) (2 ^ 64)) status.NoSpace) (Chosen (makes_new m))
 
         pub new_refused_holds : (e : NfsStatus) (reply : MadeReply) → Err e ≡ new_judged ctx a.how d.last_cookie → ShowsWcc number i i reply.directory → reply.result ≡ Err e → Holds reply
         new_refused_holds e reply is shows result = unchanged_holds (Ok d) reply (λ m. Err e) checked shows (λ m. refl) (λ s m stands sound fits.
-            (subst (λ x. EndsAs m x (Err e)) (sym (new-there m ∙ ap (λ r. r >>= λ _. Ok (Chosen (make_made m ctx a.place.name (wanted_file a.how) number (living_of_inode i) d.entries d.last_cookie))) (sym is))) refl, result))
+            (subst (λ x. EndsAs m x (Err e)) (sym (new-there m ∙ ap (λ r. r >>= λ _. Ok (Chosen (makes_new m))) (sym is))) refl, result))
 
         module _ (wider object : Inode) (reserved : Reserved) (judged : Ok tt ≡ new_judged ctx a.how d.last_cookie) (first : slice_get view.reserved 0 ≡ Some reserved)
             (number_fits : reserved.number < 2 ^ 64) (generation_fits : reserved.generation < 2 ^ 64)
-            (living : living_of_inode object ≡ new_file ctx a.how i.export reserved.generation) (links : object.links ≡ 1)
+            (living : living_of_inode object ≡ new_object ctx i.export reserved.generation (wanted_file a.how)) (links : object.links ≡ 1)
             (wider_is : wider ≡ record i {
               content = contents.Directory (with_name d a.place.name reserved.number);
               modified = touch i.changed (time_of ctx.moment);
@@ -356,7 +364,7 @@ module _ (ctx : Ctx) (view : ViewValue) (a : CreateArguments) where
 
           is_creation : IsCreation ctx view creation
           is_creation =
-              let passed = checks-passed (new_name_checked a.place.name) (changeable ctx (living_of_inode i)) (permitted ctx (living_of_inode i) Changing) i.content d checked in
+              let passed = checks-passed (plain_name_checked status.Exists status.Exists a.place.name) (changeable ctx (living_of_inode i)) (permitted ctx (living_of_inode i) Changing) i.content d checked in
               let exported = exported-where (export_at ctx.exports i.export) passed.1 in
               record {
                 old = i;
@@ -403,10 +411,10 @@ module _ (ctx : Ctx) (view : ViewValue) (a : CreateArguments) where
             state_with w o = record (with_object (with_object m number w) reserved.number o) { spent = m1.spent }
 
             -- the machine's file and directory are these
-            machine-done : done ≡ Ok (make_made m ctx a.place.name (wanted_file a.how) number (living_of_inode i) d.entries d.last_cookie chosen)
+            machine-done : done ≡ Ok (makes_new m chosen)
             unfolding chosen
             machine-done =
-                let file : living_of_inode object ≡ new_file ctx a.how i.export object.generation = living ∙ ap (new_file ctx a.how i.export) (sym generation) in
+                let file : living_of_inode object ≡ new_object ctx i.export object.generation (wanted_file a.how) = living ∙ ap (λ g. new_object ctx i.export g (wanted_file a.how)) (sym generation) in
                 let place : living_of_inode wider ≡ with_content (living_of_inode i) (time_of ctx.moment) (with_entry d.entries d.last_cookie a.place.name reserved.number) = ap living_of_inode wider_is in
                 ap (λ (w : Living). Ok (made (state_with w (living_of_inode object)) ctx reserved.number (living_of_inode object), state_with w (living_of_inode object))) place
                 ∙ ap (λ (o : Living). Ok (
@@ -415,7 +423,7 @@ module _ (ctx : Ctx) (view : ViewValue) (a : CreateArguments) where
                 )) file
 
             ends-done : EndsAs m (then m (Ok d)) done
-            ends-done = subst (λ x. EndsAs m x done) (sym (new-there m ∙ ap (λ r. r >>= λ _. Ok (Chosen (make_made m ctx a.place.name (wanted_file a.how) number (living_of_inode i) d.entries d.last_cookie))) (sym judged))) (chosen, machine-done)
+            ends-done = subst (λ x. EndsAs m x done) (sym (new-there m ∙ ap (λ r. r >>= λ _. Ok (Chosen (makes_new m))) (sym judged))) (chosen, machine-done)
 
             created-step : (reply : MadeReply) (told : Made) → ShowsWcc number i wider reply.directory → reply.result ≡ Ok told → ShowsMade ctx reserved.number object told
                 → NfsStep m ctx (nfs.Create a) (replies.Create reply) [] m1

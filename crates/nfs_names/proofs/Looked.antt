@@ -1,5 +1,5 @@
 -- LOOKUP's answer is a step in every sound store that the view fits: the name leads there where the directory's inode says.
-use Rattle.std.proofs.Common.{◌≡◌, ℕ, true, List, [], Option, Some, None, option_map, IsSomeAnd, Result, Ok, Err, refl, sym, ap, ◌∙◌, subst}
+use Rattle.std.proofs.Common.{◌≡◌, ℕ, true, List, [], Option, Some, None, option_map, IsSomeAnd, Result, Ok, Err, ok_or, refl, sym, ap, ◌∙◌, subst}
 use Rattle.std.specs.FinMap.{get}
 use Rattle.nfs_wire.specs.declared.attributes.Attributes.{Attributes}
 use Rattle.nfs_wire.specs.declared.calls.NfsCall.TheVariants as nfs
@@ -10,7 +10,7 @@ use Rattle.nfs_wire.specs.declared.status.NfsStatus.{NfsStatus}
 use Rattle.nfs_wire.specs.declared.status.NfsStatus.TheVariants as status
 use Rattle.nfs_machine.specs.Attributes.{attributes_of, is_directory}
 use Rattle.nfs_machine.specs.Checks.{◌>>=◌, object_of, entries_in, name_checked, permitted}
-use Rattle.nfs_machine.specs.NameSteps.{found_of, leads_to, lookup_result}
+use Rattle.nfs_machine.specs.NameSteps.{leads_to, lookup_result}
 use Rattle.nfs_machine.specs.NfsSteps.{NfsStep}
 use Rattle.nfs_machine.specs.Permission.{Searching}
 use Rattle.nfs_machine.specs.Resolve.{Resolved, resolve}
@@ -94,6 +94,10 @@ reply-same {shown = shown} {r = r} same alike = ap (λ x. replies.Lookup (record
 found-same : (found : Found) (object : List ℕ) (attributes : Option Attributes) → found.object ≡ object → found.attributes ≡ attributes → found ≡ record { object = object; attributes = attributes }
 found-same found object attributes same alike = ap (λ x. record found { object = x }) same ∙ ap (λ x. record found { object = object; attributes = x }) alike
 
+-- what is answered of the number that a name leads to
+abbrev found_of : State → Ctx → ℕ → Option Living → Result Found NfsStatus
+found_of m ctx number object = ok_or object status.NoEntry >>= λ o. Ok (record { object = handle_at ctx number o; attributes = Some (attributes_of m number o) })
+
 module _ (ctx : Ctx) (view : ViewValue) (place : Place) where
   abbrev Answers : Option Attributes → Result Found NfsStatus → Type 0
   Answers directory result = HoldsUnchanged (calls.Nfs (nfs.Lookup place)) ctx view (answers.Nfs (replies.Lookup (record { directory = directory; result = result })))
@@ -114,12 +118,11 @@ module _ (ctx : Ctx) (view : ViewValue) (place : Place) where
       → NfsStep m ctx (nfs.Lookup place) (replies.Lookup (record { directory = directory; result = result })) [] m
   unfolding NfsStep
   step m parent r is parents directory result d e =
-      let whole : result ≡ lookup_result m ctx place parent = e ∙ ap (result_of m parent) (sym is) in
-      record {
-        parent = parent;
-        is_parent = λ n o names kind. parents n o (sym is ∙ names) kind;
-        answers = record { reply_is = reply-same (d ∙ ap (shown m) (sym is)) whole; no_message = refl; state_is = refl };
-      }
+      let whole : result ≡ lookup_result m ctx place parent = e ∙ ap (result_of m parent) (sym is) in (
+        parent,
+        (λ n o names kind. parents n o (sym is ∙ names) kind),
+        record { reply_is = reply-same (d ∙ ap (shown m) (sym is)) whole; no_message = refl; state_is = refl },
+      )
 
   pub bad_handle_holds : BadHandle ≡ found_at ctx view.entries place.directory → Answers None (Err status.BadHandle)
   bad_handle_holds found = record {

@@ -6,8 +6,8 @@ use Rattle.nfs_wire.specs.declared.calls.NfsCall.{NfsCall}
 use Rattle.nfs_wire.specs.declared.calls.NfsCall.TheVariants as calls
 use Rattle.nfs_wire.specs.declared.status.NfsStatus.{NfsStatus}
 use Rattle.nfs_wire.specs.declared.status.NfsStatus.TheVariants as status
-use Rattle.nfs_machine.specs.Checks.{◌>>=◌, holding, name_checked, new_name_checked, changeable, permitted, entry_of}
-use Rattle.nfs_machine.specs.NameSteps.{attributes_given, given_attributes, leads_to}
+use Rattle.nfs_machine.specs.Checks.{◌>>=◌, holding, name_checked, plain_name_checked, changeable, permitted, entry_of}
+use Rattle.nfs_machine.specs.NameSteps.{given_attributes, leads_to, wanted_file}
 use Rattle.nfs_machine.specs.Permission.{Searching, Changing}
 use Rattle.nfs_machine.specs.State.{Entry}
 use Rattle.nfs_machine.specs.declared.context.Ctx.{Ctx}
@@ -48,7 +48,7 @@ lookup_wanted ctx entries name (Unread address) = (address, Exclusive) ∷ []
 abbrev pub directory_checked : Ctx → Inode → List ℕ → Result Directory NfsStatus
 directory_checked ctx i name = do
   directory ← directory_in i.content
-  _ ← new_name_checked name
+  _ ← plain_name_checked status.Exists status.Exists name
   _ ← changeable ctx (living_of_inode i)
   _ ← permitted ctx (living_of_inode i) Changing
   Ok directory
@@ -56,7 +56,7 @@ directory_checked ctx i name = do
 -- a new file, judged: what it is given, and that the directory has a cookie for it
 abbrev pub new_judged : Ctx → CreateHow → ℕ → Result (Unit {0}) NfsStatus
 new_judged ctx how last_cookie = do
-  _ ← given_attributes ctx (attributes_given how)
+  _ ← given_attributes ctx (wanted_file how).attributes
   holding (nat_lt (last_cookie + 1) (2 ^ 64)) status.NoSpace
 
 abbrev pub new_wanted : List Reserved → Result (Unit {0}) NfsStatus → Wanted

@@ -2,7 +2,7 @@
 use Rattle.std.specs.Prelude.{◌≡◌, ℕ, false, List, [], map, Option, Some, None, option_map, unwrap_or, nat_le}
 use Rattle.std.specs.FinMap.{get}
 use Rattle.nfs_wire.specs.declared.calls.Verifier.{Verifier}
-use Rattle.nfs_machine.specs.State.{Living, Mounted, State}
+use Rattle.nfs_machine.specs.State.{Living, State}
 use Rattle.nfs_machine.specs.State as machine
 use Rattle.nfs_objects.specs.declared.address.Addr.TheVariants as addresses
 use Rattle.nfs_objects.specs.declared.object.Content.{Content}
@@ -12,6 +12,7 @@ use Rattle.nfs_objects.specs.declared.object.Mount.{Mount}
 use Rattle.nfs_objects.specs.declared.object.Object.{Object}
 use Rattle.nfs_objects.specs.declared.object.Object.TheVariants as objects
 use Rattle.nfs_objects.specs.Store.{Store}
+use Rattle.side_wire.specs.declared.mount.lists.MountBody.{MountBody}
 
 -- the machine's content; it does not keep the parent of a directory, which follows from the names
 abbrev pub content_of : Content → machine.Content
@@ -53,11 +54,11 @@ abbrev pub living_of : Option Object → Option Living
 living_of o = option_map living_of_inode (inode_of o)
 
 -- a host that mounted a path
-abbrev pub mounted : List ℕ → List ℕ → Mounted
-mounted host path = record { host = host; path = path }
+abbrev pub mounted : List ℕ → List ℕ → MountBody
+mounted host path = record { hostname = host; directory = path }
 
 -- what the machine sees of a mount
-abbrev pub mounted_of : Mount → Mounted
+abbrev pub mounted_of : Mount → MountBody
 mounted_of m = mounted m.host m.path
 
 -- the table of mounts that stands there
@@ -67,7 +68,7 @@ table_of (Some (objects.Inode i)) = None
 table_of (Some (objects.Mounts table)) = Some table
 
 -- an absent table is empty
-abbrev pub mounts_of : Option Object → List Mounted
+abbrev pub mounts_of : Option Object → List MountBody
 mounts_of o = unwrap_or (option_map (map mounted_of) (table_of o)) []
 
 -- The store stands for the state: what is at each number lives, the table has the mounts, and spent are the generations

@@ -6,10 +6,10 @@ use Rattle.std.specs.declared.vec.Vec.{Vec}
 use Rattle.nfs_rpc.specs.declared.faults.Early.{Early}
 use Rattle.nfs_rpc.specs.declared.credentials.Ids.{Ids}
 use Rattle.nfs_machine.specs.Refusal.{refusal_of}
-use Rattle.nfs_machine.specs.Run.{Arrival, Record, Setting, ctx_of}
+use Rattle.nfs_machine.specs.Run.{Arrival, Record, Setting, context_of}
 use Rattle.nfs_machine.specs.declared.moment.Moment.{Moment}
 use Rattle.nfs_server.specs.Asked.{IsAsked}
-use Rattle.nfs_server.specs.Executed.{MakesStep, context_of}
+use Rattle.nfs_server.specs.Executed.{MakesStep}
 use Rattle.nfs_server.specs.Plain.{PlainValue}
 use Rattle.nfs_server.specs.Served.{IsAnswered, answer_bytes}
 use Rattle.nfs_server.specs.Serving.{EarlyOf, early_bytes, refusal_bytes, success}
@@ -31,7 +31,7 @@ module _ (host bytes : List ℕ) (moment : Moment) (asked : Asked) (is : IsAsked
   abbrev arrival : Arrival
   arrival = record { host = host; bytes = bytes; moment = moment }
 
-  context_is : (setting : Setting) → context_of setting host asked.ids moment ≡ ctx_of setting arrival is.header
+  context_is : (setting : Setting) → context_of setting host asked.ids moment ≡ context_of setting host is.header.ids moment
   context_is setting = ap (λ (ids : Ids). context_of setting host ids moment) (sym is.ids)
 
   pub refused_answered : (old new : PlainValue) (answer : List ℕ) → new ≡ old → answer ≡ refusal_bytes asked.xid (refusal_of asked.call) → IsAnswered arrival old new answer

@@ -12,7 +12,9 @@ use Rattle.nfs_mount.specs.Calls.{is_mount_call}
 use Rattle.nfs_names.specs.Calls.{is_name_call}
 use Rattle.side_wire.specs.declared.mount.MountCall.{MountCall}
 use Rattle.side_wire.specs.declared.mount.MountCall.TheVariants as mount
-use Rattle.nfs_machine.specs.Run.{program_of}
+use Rattle.nfs_rpc.specs.declared.programs.Program.TheVariants as programs
+use Rattle.nfs_machine.specs.Run.{IsCall}
+use Rattle.nfs_machine.specs.declared.calls.Call.{Call}
 use Rattle.nfs_machine.specs.declared.calls.Call.TheVariants as calls
 use Rattle.nfs_server.specs.Asked.{IsAsked}
 use Rattle.nfs_server.specs.Built.{IsBuilt}
@@ -36,11 +38,18 @@ record-built : (bytes : List ℕ) → IfOk (call_of bytes) HasBuilt
 unfolding call_of
 record-built bytes = search (chained, heading-built) depth 10
 
+of-built : (program : Program) (procedure : ℕ) (bytes : List ℕ) (call : Call) → IsCall program procedure bytes call → is_built program procedure ≡ true → IsBuilt call
+of-built program procedure bytes (calls.Nfs call) (of, number, spelled) built =
+    subst (λ (n : ℕ). is_built programs.Nfs n ≡ true) (sym number) (subst (λ (p : Program). is_built p procedure ≡ true) of built)
+of-built program procedure bytes (calls.Mount call) (of, number, spelled) built =
+    subst (λ (n : ℕ). is_built programs.Mount n ≡ true) (sym number) (subst (λ (p : Program). is_built p procedure ≡ true) of built)
+of-built program procedure bytes (calls.Nlm call) (of, number, spelled) built =
+    subst (λ (n : ℕ). is_built programs.Nlm n ≡ true) (sym number) (subst (λ (p : Program). is_built p procedure ≡ true) of built)
+
 pub asked-built : (bytes : List ℕ) (asked : Asked) → IsAsked bytes asked → IsBuilt asked.call
 asked-built bytes asked is =
     let header : HasBuilt is.header = subst (λ (r : Result CallHeader Early). IfOk r HasBuilt) is.read (record-built bytes) in
-    let program : is_built (program_of asked.call) is.header.procedure ≡ true = subst (λ (p : Program). is_built p is.header.procedure ≡ true) (sym is.is_call.program) header in
-    subst (λ (n : ℕ). is_built (program_of asked.call) n ≡ true) (sym is.is_call.procedure) program
+    of-built is.header.program is.header.procedure is.header.arguments asked.call is.is_call header
 
 -- a call of NFS that is built and is not on names is one on attributes and data
 pub built-data : (call : NfsCall) → IsBuilt (calls.Nfs call) → is_name_call call ≡ false → is_data_call call ≡ true

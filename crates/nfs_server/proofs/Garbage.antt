@@ -5,10 +5,10 @@ use Rattle.nfs_rpc.specs.Messages.{CallHeader}
 use Rattle.nfs_rpc.specs.declared.faults.Early.TheVariants as early
 use Rattle.nfs_rpc.specs.declared.faults.Fault.TheVariants as faults
 use Rattle.nfs_machine.specs.declared.calls.Call.{Call}
-use Rattle.nfs_server.specs.Asked.{IsSpelled}
+use Rattle.nfs_machine.specs.Run.{IsCall}
 use Rattle.nfs_server.specs.Serving.{EarlyOf}
 
-pub garbage_early : (bytes : List ℕ) (header : CallHeader) → call_of bytes ≡ Ok header → ((call : Call) → IsSpelled header.program header.procedure header.arguments call → ⊥)
+pub garbage_early : (bytes : List ℕ) (header : CallHeader) → call_of bytes ≡ Ok header → ((call : Call) → IsCall header.program header.procedure header.arguments call → ⊥)
     → EarlyOf bytes (early.Answer header.xid faults.GarbageArguments)
 garbage_early bytes header read none =
-    inr (header, read, λ call is. none call (record { of = is.program; number = is.procedure; front = is.front; rest = is.rest; whole = is.arguments; spelled = is.spelled }), refl)
+    inr (header, read, none, refl)

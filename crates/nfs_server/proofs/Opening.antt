@@ -1,5 +1,5 @@
 -- The slots that a server starts with stand for the machine's opening state: the roots live, and nothing else.
-use Rattle.std.proofs.Common.{◌≡◌, ℕ, zero, suc, ◌+◌, ◌<◌, ◌≤◌, inl, inr, nat_le, List, [], ◌∷◌, ◌++◌, length, length-append, map, Option, Some, None, refl, sym, ◌∙◌, ap, subst, arith}
+use Rattle.std.proofs.Common.{◌≡◌, ℕ, zero, suc, ◌+◌, ◌<◌, ◌≤◌, inl, inr, nat_le, ◌&&◌, if◌then◌else◌, List, [], ◌∷◌, ◌++◌, length, length-append, map, Option, Some, None, refl, sym, ◌∙◌, ap, subst, arith}
 use Rattle.std.proofs.lemmas.Bool.Decides.{nat_tests}
 use Rattle.std.proofs.lemmas.Option.{slice_get_past, slice_get_within}
 use Rattle.std.specs.List.{slice_get}
@@ -11,7 +11,7 @@ use Rattle.nfs_machine.specs.Exports.{ExportValue, export_at, export_value}
 use Rattle.nfs_machine.specs.declared.context.Limits.{Limits}
 use Rattle.nfs_machine.specs.declared.exports.Export.{Export}
 use Rattle.std.proofs.lemmas.List.{length-map}
-use Rattle.nfs_machine.specs.Opening.{opening, opening_last, opening_root, opening_roots, time_of}
+use Rattle.nfs_machine.specs.Opening.{opening, opening_root, opening_roots, time_of}
 use Rattle.nfs_machine.specs.WellFormed.{IsParent}
 use Rattle.nfs_machine.specs.declared.moment.Moment.{Moment}
 use Rattle.nfs_objects.specs.Sound.{RootLives}
@@ -89,12 +89,16 @@ module _ (es : List ExportValue) (moment : Moment) where
             ∙ sym (ap (λ (s : Option SlotValue). living_of (object_in s)) (slot_none time (length es) (suc n) h))
       ]
 
-  lasts : (n : ℕ) → opening_last (length es) n ≡ last_in (slice_get slots n)
+  -- the last generation that a number was given
+  abbrev last_given : ℕ → ℕ
+  last_given n = if nat_le 1 n && nat_le n (length es) then 1 else 0
+
+  lasts : (n : ℕ) → last_given n ≡ last_in (slice_get slots n)
   lasts zero = sym (ap last_in (slot_zero time (length es)))
   lasts (suc n) =
       elim (le_or (suc n) (length es)) [
-        | inl h ↦ (let e : opening_last (length es) (suc n) ≡ 1 = grind (arith, nat_tests) in e) ∙ sym (ap last_in (slot_root time (length es) (suc n) (omega arith) h))
-        | inr h ↦ (let e : opening_last (length es) (suc n) ≡ 0 = grind (arith, nat_tests) in e) ∙ sym (ap last_in (slot_none time (length es) (suc n) h))
+        | inl h ↦ (let e : last_given (suc n) ≡ 1 = grind (arith, nat_tests) in e) ∙ sym (ap last_in (slot_root time (length es) (suc n) (omega arith) h))
+        | inr h ↦ (let e : last_given (suc n) ≡ 0 = grind (arith, nat_tests) in e) ∙ sym (ap last_in (slot_none time (length es) (suc n) h))
       ]
 
   is_root : (n : ℕ) (i : Inode) → object_in (slice_get slots n) ≡ Some (objects.Inode i) → root_of n time ≡ i

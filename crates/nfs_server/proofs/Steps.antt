@@ -36,7 +36,8 @@ use Rattle.nfs_server.specs.Built.{IsBuilt}
 use Rattle.nfs_server.specs.Executed.{MakesStep}
 use Rattle.nfs_server.proofs.Sizes.{mount_refused_size, mounted_size}
 use Rattle.std.specs.Prelude.{Option, Some, None, IfSome, option_map}
-use Rattle.nfs_machine.specs.Refusal.{nfs_refusal, refusal_by, refusal_of}
+use Rattle.nfs_machine.specs.Refusal.{nfs_refusal, refusal_of}
+use Rattle.nfs_machine.specs.declared.calls.Refusal.TheVariants as refusals
 use Rattle.nfs_machine.specs.Run.{Setting}
 use Rattle.nfs_objects.specs.declared.address.Addr.{Addr}
 use Rattle.nfs_objects.specs.declared.object.Object.{Object}
@@ -53,7 +54,7 @@ result_form old ctx path (Err e) new answers = (tt, omega (arith, mount_refused_
 mount_form : (old : State) (ctx : Ctx) (call : MountCall) (reply : MountReply) (messages : List Message) (new : State) → IsBuilt (calls.Mount call) → MountStep old ctx call reply messages new → HasForm (replies.Mount reply)
 unfolding MountStep appended
 mount_form old ctx mount.Null reply messages new built step = subst (λ (r : MountReply). HasForm (replies.Mount r)) (sym step.reply_is) (tt, omega arith)
-mount_form old ctx (mount.Mnt path) reply messages new built step = subst (λ (r : MountReply). HasForm (replies.Mount r)) (sym step.reply_is) (result_form old ctx path step.result new step.answers)
+mount_form old ctx (mount.Mnt path) reply messages new built step = subst (λ (r : MountReply). HasForm (replies.Mount r)) (sym step.1) (result_form old ctx path step.0 new step.3)
 mount_form old ctx call reply messages new built step = cc
 
 nlm_form : (old : State) (ctx : Ctx) (call : NlmCall) (reply : NlmReply) (messages : List Message) (new : State) → IsBuilt (calls.Nlm call) → NlmStep old ctx call reply messages new → HasForm (replies.Nlm reply)
@@ -108,7 +109,7 @@ pub store_made : (slots middle first : List SlotValue) (mounts before : Option O
 store_made slots middle first mounts before setting old writes all made room is same =
     made ∙ ap (λ (s : Store). with_writes s writes) (room before ∙ ap store_of is) ∙ ap (with_writes (store_of old)) same
 
-by_status : (call : NfsCall) (r : Option NfsReply) → nfs_refusal call ≡ r → RefusalHasForm (refusal_by (option_map (λ r. replies.Nfs r) r))
+by_status : (call : NfsCall) (r : Option NfsReply) → nfs_refusal call ≡ r → RefusalHasForm (elim r [ None ↦ refusals.SystemError | Some reply ↦ refusals.Reply (replies.Nfs reply) ])
 by_status call None is = tt
 by_status call (Some reply) is = subst (λ (r : Option NfsReply). IfSome r IsShort) is (refusals_short call)
 

@@ -3,7 +3,7 @@ use Rattle.std.specs.Prelude.{◌≡◌, ℕ, List, ◌++◌, Result, Ok, Err}
 use Rattle.nfs_rpc.specs.Early.{call_of}
 use Rattle.nfs_rpc.specs.Messages.{CallHeader}
 use Rattle.nfs_rpc.specs.declared.programs.Program.{Program}
-use Rattle.nfs_machine.specs.Run.{IsCall, Spelled, number_of, program_of}
+use Rattle.nfs_machine.specs.Run.{IsCall}
 use Rattle.nfs_machine.specs.declared.calls.Call.{Call}
 use Rattle.nfs_server.specs.Serving.{EarlyOf}
 use Rattle.nfs_server.specs.declared.asking.Asked.{Asked}
@@ -12,26 +12,17 @@ use Rattle.nfs_server.specs.declared.asking.Unasked.TheVariants as unasked
 use Rattle.nfs_server.specs.declared.asking.Unread.{Unread}
 use Rattle.nfs_server.specs.declared.asking.Unread.TheVariants as unread
 
--- a front of the bytes spells the arguments of the call, which is one of the program's procedure
-pub record IsSpelled (program : Program) (procedure : ℕ) (bytes : List ℕ) (call : Call) : Type 0 where
-  pub of : program_of call ≡ program
-  pub number : number_of call ≡ procedure
-  pub front : List ℕ
-  pub rest : List ℕ
-  pub whole : bytes ≡ front ++ rest
-  pub spelled : Spelled call front
-
 -- garbage is what spells no call of the procedure
 abbrev pub ReadsArguments : Program → ℕ → List ℕ → Result Call Unread → Type 0
-ReadsArguments program procedure bytes (Ok call) = IsSpelled program procedure bytes call
-ReadsArguments program procedure bytes (Err unread.Garbage) = (call : Call) → IsSpelled program procedure bytes call → ⊥
+ReadsArguments program procedure bytes (Ok call) = IsCall program procedure bytes call
+ReadsArguments program procedure bytes (Err unread.Garbage) = (call : Call) → IsCall program procedure bytes call → ⊥
 ReadsArguments program procedure bytes (Err unread.Memory) = Unit {0}
 
 -- the record is a call with this header
 pub record IsAsked (bytes : List ℕ) (asked : Asked) : Type 0 where
   pub header : CallHeader
   pub read : call_of bytes ≡ Ok header
-  pub is_call : IsCall header asked.call
+  pub is_call : IsCall header.program header.procedure header.arguments asked.call
   pub xid : header.xid ≡ asked.xid
   pub ids : header.ids ≡ asked.ids
 

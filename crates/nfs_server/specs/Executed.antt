@@ -15,11 +15,6 @@ use Rattle.nfs_objects.specs.Values.{DoneValue}
 use Rattle.nfs_server.specs.Plain.{PlainValue, StandsFor}
 use Rattle.nfs_server.specs.Serving.{success}
 
--- what a call from this host is made under
-abbrev pub context_of : Setting → List ℕ → Ids → Moment → Ctx
-context_of setting host ids moment =
-    record { host = host; ids = ids; moment = moment; start = setting.start; exports = setting.exports; limits = setting.limits }
-
 -- the call came to its end on a view that fits the store
 pub record RunsTo (call : Call) (ctx : Ctx) (s : Store) (done : DoneValue) : Type 0 where
   pub call_is : done.call ≡ call

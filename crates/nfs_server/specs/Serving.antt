@@ -27,7 +27,7 @@ use Rattle.nfs_machine.specs.declared.moment.Moment.{Moment}
 abbrev pub EarlyOf : List ℕ → Early → Type 0
 EarlyOf bytes fault =
     (call_of bytes ≡ Err fault)
-    ⊎ ((header : CallHeader) × (call_of bytes ≡ Ok header) × ((call : Call) → IsCall header call → ⊥) × (fault ≡ early.Answer header.xid faults.GarbageArguments))
+    ⊎ ((header : CallHeader) × (call_of bytes ≡ Ok header) × ((call : Call) → IsCall header.program header.procedure header.arguments call → ⊥) × (fault ≡ early.Answer header.xid faults.GarbageArguments))
 
 abbrev pub results_of : Reply → List ℕ
 results_of (replies.Nfs reply) = result_bytes reply

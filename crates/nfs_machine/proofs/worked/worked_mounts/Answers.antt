@@ -7,7 +7,7 @@ use Rattle.nfs_machine.proofs.worked.worked_mounts.Goals as goal
 pub returns : goal.returns
 unfolding walk
 returns c = record {
-  dump = refl;
+  dump = λ m. refl;
   umnt = λ m. refl;
   umnt_of_none = λ m. refl;
   umntall = λ m. refl;

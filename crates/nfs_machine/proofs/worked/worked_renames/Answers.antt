@@ -1,7 +1,11 @@
-use Rattle.std.proofs.Common.{◌≡◌, ◌==◌, inl, inr, refl, ap, arith}
+use Rattle.std.proofs.Common.{◌≡◌, ◌==◌, inl, inr, refl, ap, arith, Ok, Some, [], ◌∷◌}
+use Rattle.std.specs.Prelude.{nat_lt}
+use Rattle.nfs_wire.specs.declared.status.NfsStatus.TheVariants as status
+use Rattle.nfs_machine.specs.WorkedNames.{first_entry, moved_to}
+use Rattle.nfs_machine.specs.Checks.{◌>>=◌, holding, link_limit}
 use Rattle.nfs_machine.specs.Attributes.{entries_of, names_in}
 use Rattle.nfs_machine.specs.RenameSteps.{below, itself}
-use Rattle.nfs_machine.specs.State.{Entry}
+use Rattle.nfs_machine.specs.State.{Entry, Directory}
 use Rattle.std.specs.List.{count_by}
 use Rattle.nfs_machine.proofs.worked.worked_renames.Goals as goal
 
@@ -12,19 +16,19 @@ returns c = record {
   directory_over_file = refl;
   file_over_directory = refl;
   file_over_link = refl;
-  same_object = refl;
-  over_file = refl;
-  over_nothing = refl;
-  left_in_other = refl;
-  left_in_same = refl;
-  link_to_other = refl;
-  link_to_same = refl;
-  link_over_directory = refl;
-  link_of_file = refl;
+  same_object = λ m. refl;
+  over_file = λ m. refl;
+  over_nothing = λ m. refl;
+  left_in_other = λ m. refl;
+  left_in_same = λ m. refl;
+  link_to_other = λ m full. ap (λ k. Ok (Some (4, 3), holding (nat_lt k link_limit) status.TooManyLinks >>= λ _. Ok (tt, moved_to m (Directory [] 2) 3 (first_entry ∷ [])))) full;
+  link_to_same = λ m full. refl;
+  link_over_directory = λ m full. refl;
+  link_of_file = λ m full. refl;
   last_cookie = λ m. refl;
   into_itself = λ m end ends. elim ends [
     | inl into ↦ into.1
-    | inr out ↦ absurd (out.0 (refl, itself 4))
+    | inr out ↦ absurd (out.0 (itself 4))
   ];
   below = λ m directory lives content.
       let one : names_in 6 directory ≡ 1 = ap (λ d. count_by (λ (e : Entry). e.number == 6) (entries_of d)) content in

@@ -1,8 +1,7 @@
 use Rattle.std.proofs.Common.{refl}
 use Rattle.nfs_machine.proofs.Modes.{listed_locks_tell}
 use Rattle.nfs_machine.proofs.Ranges.{at-30, part-of-it, at-99, at-the-end}
-use Rattle.nfs_machine.specs.Locks.{Exclusive}
-use Rattle.nfs_machine.specs.WorkedLocks.{a, b, on_file, split}
+use Rattle.nfs_machine.specs.WorkedLocks.{a, b, on_file, split, Exclusive}
 use Rattle.nfs_machine.proofs.worked.worked_tests.Goals as goal
 
 pub returns : goal.returns

@@ -1,11 +1,11 @@
 use Rattle.std.proofs.Common.{arith}
-use Rattle.nfs_machine.specs.NameSteps.{attributes_given, given_attributes}
+use Rattle.nfs_machine.specs.NameSteps.{given_attributes, wanted_file}
 use Rattle.nfs_names.proofs.Creating.{has-cookie, new_creates}
 use Rattle.nfs_names.proofs.create.create_file.Goals as goal
 
 pub with_name-requires-clause-room : goal.with_name-requires-clause-room
 with_name-requires-clause-room c =
-    has-cookie (given_attributes c.args.ctx.now (attributes_given c.args.arguments.now.how)) c.args.directory.now.last_cookie c.requires.judged
+    has-cookie (given_attributes c.args.ctx.now (wanted_file c.args.arguments.now.how).attributes) c.args.directory.now.last_cookie c.requires.judged
 
 pub store_new-requires : goal.store_new-requires
 store_new-requires c =
