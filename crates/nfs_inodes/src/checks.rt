@@ -24,11 +24,11 @@ pub fn bytes_in(content: &Content) -> Result<&Bytes, NfsStatus>
     }
 }
 
-/// The inode may be changed: its export is not read only.
+/// The inode may be changed: its export is there and not read only.
 ///
 /// # Errors
 ///
-/// `ReadOnly` where it is.
+/// `ReadOnly` where it may not.
 pub fn changeable(ctx: &Ctx, inode: &Inode) -> Result<(), NfsStatus>
     ensures { result ≡ changeable ctx.now (living_of_inode inode.now) }
 {

@@ -13,6 +13,7 @@ pub mod Kept
 mod LockingWorked
 mod Listed
 mod Listing
+mod MakingWorked
 pub mod Modes
 pub mod Moves
 pub mod Opened
@@ -21,6 +22,7 @@ mod Paging
 mod Pieces
 mod Results
 mod Posted
+mod PostedRefusals
 mod Ranges
 mod Readings
 mod Replies

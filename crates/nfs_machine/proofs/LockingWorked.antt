@@ -1,5 +1,5 @@
 -- The steps of MOUNT and NLM that are worked through: the lists of locks at every offset, and what the handle names.
-use Rattle.std.proofs.Common.{◌≡◌, ◌==◌, ℕ, ◌+◌, ◌<◌, ◌≤◌, Bool, true, false, not, ◌&&◌, ◌||◌, cond, [], ◌∷◌, Option, Some, None, Result, Ok, Err, is_ok, nat_le, inl, inr, refl, sym, ◌∙◌, ap, subst, arith}
+use Rattle.std.proofs.Common.{◌≡◌, ◌==◌, ℕ, ◌+◌, ◌<◌, ◌≤◌, Bool, true, false, not, ◌&&◌, ◌||◌, cond, ◌-◌, ◌^◌, codes, [], ◌∷◌, Option, Some, None, Result, Ok, Err, is_ok, nat_le, inl, inr, refl, sym, ◌∙◌, ap, subst, arith}
 use Rattle.std.proofs.Math.Bool.{and-false}
 use Rattle.std.proofs.lemmas.Bool.{and_parts, le-leb, leb-true, lt-leb}
 use Rattle.std.proofs.lemmas.List.Sums.{sum_by-cons}
@@ -13,18 +13,21 @@ use Rattle.nfs_machine.specs.LockSteps.{Fault}
 use Rattle.side_wire.specs.declared.mount.MountStatus.{MountStatus}
 use Rattle.side_wire.specs.declared.mount.MountStatus.TheVariants as mount_status
 use Rattle.nfs_machine.specs.MountSteps.{MountStep, entries_at, walk, ◌>>=◌ as ◌>>=m◌}
-use Rattle.nfs_machine.specs.Resolve.{Resolved, Names, resolve}
+use Rattle.nfs_machine.specs.Resolve.{Resolved, Names, living_at, resolve}
+use Rattle.nfs_machine.specs.declared.context.Ctx.{Ctx}
+use Rattle.side_wire.specs.declared.nlm.ShareAccess.TheVariants as access
+use Rattle.side_wire.specs.declared.nlm.ShareMode.TheVariants as mode
 use Rattle.nfs_machine.specs.State.{Living, Lock, Owner, Range}
-use Rattle.nfs_machine.specs.Worked.{open_export, root_bytes}
-use Rattle.nfs_machine.specs.WorkedLocks.{a, b, lock, on_file, split, whole, Unlocked, Exclusive}
-use Rattle.nfs_machine.specs.WorkedLocking.{WorkedLocking, giving_back, locking, with_split, with_waiting, with_whole}
+use Rattle.nfs_machine.specs.Worked.{open_export, root_bytes, root_handle}
+use Rattle.nfs_machine.specs.WorkedLocks.{a, b, holder, lock, on_file, split, whole, Unlocked, Exclusive}
+use Rattle.nfs_machine.specs.WorkedLocking.{WorkedChecks, WorkedLocking, cancelling, giving_back, locking, on_x, read_only, sharing, testing, with_reader, with_readers, with_split, with_waiting, with_whole}
 use Rattle.nfs_machine.specs.WorkedRun.{nobody, root_with_x, written, x_bytes, x_written}
 use Rattle.nfs_machine.specs.NlmSteps.{NlmStep}
-use Rattle.nfs_machine.proofs.Checked.{LockOf, UnlockOf}
+use Rattle.nfs_machine.proofs.Checked.{CancelOf, LockOf, ShareOf, TestOf, UnlockOf, UnshareOf}
 use Rattle.nfs_machine.proofs.Modes.{listed_locks_tell, holds, mode_by}
 use Rattle.nfs_machine.proofs.Opened.{le_or}
-use Rattle.nfs_machine.proofs.Ranges.{locked}
-use Rattle.nfs_machine.proofs.RunWorked.{root-written, x-lives, x-named}
+use Rattle.nfs_machine.proofs.Ranges.{at-30, locked}
+use Rattle.nfs_machine.proofs.RunWorked.{root-named, root-written, x-lives, x-named}
 
 -- ---- 0 to 99 without 40 to 59
 module _ (offset : ℕ) where
@@ -98,12 +101,17 @@ given-back = record { modes_are = modes; once = once }
         omega (arith, nil, two, sum_by-cons f (lock a 0 39 true) (lock a 60 99 true ∷ []), sum_by-cons f (lock a 60 99 true) [])
 
 -- ---- NLM
+abbrev file_by : Ctx → (fits writes : Bool) → Resolved → Result ℕ Fault
+file_by ctx fits writes r =
+    elim r as (λ r. Result (ℕ × Living) Fault) [ Names number object ↦ Ok (number, object) | other ↦ Err (status.StaleHandle, tested.StaleHandle) ]
+    >>= λ file. holding (is_ok (bytes_in file.1.content)) (status.Failed, tested.Failed) >>= λ _. holding fits (status.FileTooBig, tested.FileTooBig)
+    >>= λ _. holding (not writes || is_writable ctx file.1) (status.ReadOnly, tested.ReadOnly) >>= λ _. Ok file.0
+
+abbrev range_under : Ctx → Bool → NlmLock → Resolved → Result Range Fault
+range_under ctx writes l r = file_by ctx (fits_offsets l) writes r >>= λ file. Ok (range_of file l)
+
 abbrev range_by : Bool → NlmLock → Resolved → Result Range Fault
-range_by writes l r =
-    (elim r as (λ r. Result (ℕ × Living) Fault) [ Names number object ↦ Ok (number, object) | other ↦ Err (status.StaleHandle, tested.StaleHandle) ]
-    >>= λ file. holding (is_ok (bytes_in file.1.content)) (status.Failed, tested.Failed) >>= λ _. holding (fits_offsets l) (status.FileTooBig, tested.FileTooBig)
-    >>= λ _. holding (not writes || is_writable nobody file.1) (status.ReadOnly, tested.ReadOnly) >>= λ _. Ok file.0)
-    >>= λ file. Ok (range_of file l)
+range_by = range_under nobody
 
 -- where a path without parts leads
 abbrev found_by : Option Living → Result (ℕ × Living) MountStatus
@@ -111,6 +119,25 @@ found_by o = entries_at o >>=m λ d. Ok (1, d.0)
 
 is-x : resolve written nobody x_bytes ≡ Names 5 x_written
 is-x = x-named written x_written refl refl x-lives
+
+-- the same under a read-only export
+is-x-read : resolve written read_only x_bytes ≡ Names 5 x_written
+is-x-read = ap (λ (l : Option Living). living_at l (record root_handle { fileid = 5 })) x-lives
+
+is-root : resolve written nobody root_bytes ≡ Names 1 root_with_x
+is-root = root-named written root_with_x refl refl root-written
+
+pub worked-checks : WorkedChecks
+worked-checks = record {
+  good = ap (range_by true (on_x a 0 100)) is-x;
+  last_byte = ap (range_by true (on_x a (2 ^ 64 - 1) 1)) is-x;
+  no_handle = refl;
+  other_start = refl;
+  directory = ap (range_by true (on_x a (2 ^ 64 - 1) 2)) is-root;
+  above = ap (range_under read_only true (on_x a (2 ^ 64 - 1) 2)) is-x-read;
+  exclusive = ap (range_under read_only true (on_x a 0 1)) is-x-read;
+  shared = ap (range_under read_only false (on_x a 0 1)) is-x-read;
+}
 
 held : Conflicts split (on_file b 30 1) Exclusive
 held = record { other = a; offset = 30; is_other = refl; is_inside = refl; conflict = refl }
@@ -134,6 +161,75 @@ worked-locking = record {
     status.Blocked,
     subst (λ r. LockOf with_split nobody (locking b 30 1 true) false (range_by true ((locking b 30 1 true)).lock r) status.Blocked [] with_waiting) (sym is-x)
         (inr (held, inl ((5, refl, refl, record { reply_is = refl; no_message = refl; state_is = refl })))),
+    refl,
+  );
+  waits_once = (
+    status.Blocked,
+    subst (λ r. LockOf with_waiting nobody (locking b 30 1 true) false (range_by true ((locking b 30 1 true)).lock r) status.Blocked [] with_waiting) (sym is-x)
+        (inr (held, record { reply_is = refl; no_message = refl; state_is = refl })),
+    refl,
+  );
+  cancels = (
+    status.Granted,
+    subst (λ r. CancelOf with_waiting cancelling (range_by false cancelling.lock r) status.Granted [] (record with_waiting { waiting = [] })) (sym is-x)
+        (record { reply_is = refl; no_message = refl; state_is = refl }),
+    refl,
+  );
+  cancels_none = (
+    status.Denied,
+    subst (λ r. CancelOf with_split cancelling (range_by false cancelling.lock r) status.Denied [] with_split) (sym is-x)
+        (record { reply_is = refl; no_message = refl; state_is = refl }),
+    refl,
+  );
+  tests = (
+    tested.Denied (holder 0 40),
+    subst (λ r. TestOf with_split true (range_by false testing.lock r) (tested.Denied (holder 0 40)) [] with_split) (sym is-x) (at-30 written, refl, refl),
+    refl,
+  );
+  posts = (
+    status.Granted,
+    [],
+    subst (λ r. LockOf written nobody (locking a 0 100 true) true (range_by true ((locking a 0 100 true)).lock r) status.Granted [] with_whole) (sym is-x)
+        (inl (listed_locks_tell [] (on_file a 0 100) Exclusive refl, refl, (whole, locked, (tt, refl)))),
+    refl,
+    refl,
+  );
+  posts_denied = (
+    status.Denied,
+    [],
+    subst (λ r. LockOf with_split nobody (locking b 30 1 false) true (range_by true ((locking b 30 1 false)).lock r) status.Denied [] with_split) (sym is-x)
+        (inr (held, record { reply_is = refl; no_message = refl; state_is = refl })),
+    refl,
+    refl,
+  );
+  shares = (
+    status.Granted,
+    subst (λ r. ShareOf written (sharing a mode.DenyWrite access.Read).share (file_by nobody true false r) status.Granted [] with_reader) (sym is-x)
+        (record { reply_is = refl; no_message = refl; state_is = refl }),
+    refl,
+  );
+  share_denied = (
+    status.Denied,
+    subst (λ r. ShareOf with_reader (sharing b mode.DenyNone access.Write).share (file_by nobody true true r) status.Denied [] with_reader) (sym is-x)
+        (record { reply_is = refl; no_message = refl; state_is = refl }),
+    refl,
+  );
+  shares_too = (
+    status.Granted,
+    subst (λ r. ShareOf with_reader (sharing b mode.DenyNone access.Read).share (file_by nobody true false r) status.Granted [] with_readers) (sym is-x)
+        (record { reply_is = refl; no_message = refl; state_is = refl }),
+    refl,
+  );
+  own_denied = (
+    status.Denied,
+    subst (λ r. ShareOf with_readers (sharing a mode.DenyRead access.Read).share (file_by nobody true false r) status.Denied [] with_readers) (sym is-x)
+        (record { reply_is = refl; no_message = refl; state_is = refl }),
+    refl,
+  );
+  unshares_none = (
+    status.Granted,
+    subst (λ r. UnshareOf with_readers (sharing (record a { caller_name = codes "c3" }) mode.DenyNone access.Neither).share (file_by nobody true false r) status.Granted [] with_readers) (sym is-x)
+        (record { reply_is = refl; no_message = refl; state_is = refl }),
     refl,
   );
   denied = (

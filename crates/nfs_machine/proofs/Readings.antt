@@ -1,6 +1,5 @@
 -- The pages of a reading in a run are visits of one directory, so the reading is whole.
-use Rattle.std.proofs.Common.{◌≡◌, ◌==◌, ℕ, Bool, List, [], ◌∷◌, ◌++◌, map, Option, Some, Result, Ok, Err, codes, refl, sym, ◌∙◌, ap, subst}
-use Rattle.std.proofs.lemmas.List.Elements.{Contains-append_right}
+use Rattle.std.proofs.Common.{◌≡◌, ◌==◌, ℕ, Bool, List, [], ◌∷◌, ◌++◌, map, Option, Some, Result, Ok, Err, refl, sym, ◌∙◌, ap, subst}
 use Rattle.std.specs.List.{Contains, count_by}
 use Rattle.nfs_wire.specs.declared.calls.NfsCall.{NfsCall}
 use Rattle.nfs_wire.specs.declared.calls.NfsCall.TheVariants as nfs
@@ -11,15 +10,15 @@ use Rattle.nfs_wire.specs.declared.replies.NfsReply.{NfsReply}
 use Rattle.nfs_wire.specs.declared.status.NfsStatus.{NfsStatus}
 use Rattle.side_wire.specs.declared.message.Message.{Message}
 use Rattle.nfs_machine.proofs.Paging.{whole}
-use Rattle.nfs_machine.proofs.Runs.{run-append}
+use Rattle.nfs_machine.proofs.Kept.{runs_keep_form}
 use Rattle.nfs_machine.proofs.Visits.{lists}
 use Rattle.nfs_machine.specs.NfsSteps.{NfsStep}
 use Rattle.nfs_machine.specs.Pages.{all_entries, fits, fits_full}
 use Rattle.nfs_machine.proofs.Pages.{PagesOf, readdir_result, readdirplus_result}
-use Rattle.nfs_machine.specs.PageSteps.{entries_left, full_entry, page_entry}
+use Rattle.nfs_machine.specs.PageSteps.{IsParentOf, entries_left, full_entry, page_entry}
 use Rattle.nfs_machine.specs.Paging.{InOrder, Lists, ReadsOn, Rises, Stays, Visit, last_cookie, shown_by}
 use Rattle.nfs_machine.specs.Readings.{Has, IsTurn, Reading, ReadingsAreWhole, StaysThrough, Turn, all_shown, entry_shown, full_shown, lists_from, names_shown, page_shown}
-use Rattle.nfs_machine.specs.Run.{Record, Run, Setting}
+use Rattle.nfs_machine.specs.Run.{Setting}
 use Rattle.nfs_machine.specs.State.{Entry, State}
 use Rattle.nfs_machine.specs.WellFormed.{WellFormed}
 use Rattle.nfs_machine.specs.declared.context.Ctx.{Ctx}
@@ -42,23 +41,23 @@ pub record Listed (m : State) (ctx : Ctx) (directory : List ℕ) (cookie : ℕ) 
   pub is : Lists m ctx directory cookie fit page
 
 module _ (m : State) (ctx : Ctx) (w : WellFormed m) (shown : List Entry × Bool) where
-  of-names : (a : ReaddirArguments) (parent : ℕ) (page : Result (List Entry × Bool) NfsStatus) → PagesOf (fits a.count) (entries_left m ctx a.directory a.cookie a.verifier parent) page
+  of-names : (a : ReaddirArguments) (parent : ℕ) → IsParentOf m ctx a.directory parent → (page : Result (List Entry × Bool) NfsStatus) → PagesOf (fits a.count) (entries_left m ctx a.directory a.cookie a.verifier parent) page
       → names_shown (readdir_result ctx page) ≡ Some shown → Listed m ctx a.directory a.cookie shown
-  of-names a parent (Ok p) is shows =
+  of-names a parent is_parent (Ok p) is shows =
       let back : Some p ≡ Some shown = ap (λ es. Some (es, p.1)) (sym (names-back p.0)) ∙ shows in
       let same : p ≡ shown = cc in
-      subst (Listed m ctx a.directory a.cookie) same (record { fit = fits a.count; is = lists m ctx w a.directory a.cookie a.verifier parent (fits a.count) p is })
-  of-names a parent (Err e) is shows = cc
+      subst (Listed m ctx a.directory a.cookie) same (record { fit = fits a.count; is = lists m ctx w a.directory a.cookie a.verifier parent is_parent (fits a.count) p is })
+  of-names a parent is_parent (Err e) is shows = cc
 
-  of-full : (a : ReaddirplusArguments) (parent : ℕ) (page : Result (List Entry × Bool) NfsStatus)
+  of-full : (a : ReaddirplusArguments) (parent : ℕ) → IsParentOf m ctx a.directory parent → (page : Result (List Entry × Bool) NfsStatus)
       → PagesOf (fits_full a.directory_count a.most) (entries_left m ctx a.directory a.cookie a.verifier parent) page → full_shown (readdirplus_result m ctx page) ≡ Some shown
       → Listed m ctx a.directory a.cookie shown
-  of-full a parent (Ok p) is shows =
+  of-full a parent is_parent (Ok p) is shows =
       let back : Some p ≡ Some shown = ap (λ es. Some (es, p.1)) (sym (full-back m ctx p.0)) ∙ shows in
       let same : p ≡ shown = cc in
       subst (Listed m ctx a.directory a.cookie) same
-      (record { fit = fits_full a.directory_count a.most; is = lists m ctx w a.directory a.cookie a.verifier parent (fits_full a.directory_count a.most) p is })
-  of-full a parent (Err e) is shows = cc
+      (record { fit = fits_full a.directory_count a.most; is = lists m ctx w a.directory a.cookie a.verifier parent is_parent (fits_full a.directory_count a.most) p is })
+  of-full a parent is_parent (Err e) is shows = cc
 
   of-step : (call : NfsCall) (reply : NfsReply) (messages : List Message) (new : State) (directory : List ℕ) (cookie : ℕ) → NfsStep m ctx call reply messages new
       → lists_from call ≡ Some (directory, cookie) → page_shown reply ≡ Some shown → Listed m ctx directory cookie shown
@@ -66,11 +65,11 @@ module _ (m : State) (ctx : Ctx) (w : WellFormed m) (shown : List Entry × Bool)
   of-step (nfs.Readdir a) reply messages new directory cookie step from shows =
       let shows' = ap page_shown (sym step.answers.reply_is) ∙ shows in
       let same = parts a.directory directory a.cookie cookie from in
-      subst (λ x. Listed m ctx x cookie shown) same.0 (subst (λ x. Listed m ctx a.directory x shown) same.1 (of-names a step.parent step.page step.is_page shows'))
+      subst (λ x. Listed m ctx x cookie shown) same.0 (subst (λ x. Listed m ctx a.directory x shown) same.1 (of-names a step.parent step.is_parent step.page step.is_page shows'))
   of-step (nfs.Readdirplus a) reply messages new directory cookie step from shows =
       let shows' = ap page_shown (sym step.answers.reply_is) ∙ shows in
       let same = parts a.directory directory a.cookie cookie from in
-      subst (λ x. Listed m ctx x cookie shown) same.0 (subst (λ x. Listed m ctx a.directory x shown) same.1 (of-full a step.parent step.page step.is_page shows'))
+      subst (λ x. Listed m ctx x cookie shown) same.0 (subst (λ x. Listed m ctx a.directory x shown) same.1 (of-full a step.parent step.is_parent step.page step.is_page shows'))
   of-step call reply messages new directory cookie step from shows = cc
 
 -- what a turn shows
@@ -91,21 +90,13 @@ visit-of m ctx directory cookie page l = record { entries = all_entries l.is.num
 
 has-it : (m : State) (ctx : Ctx) (directory : List ℕ) (cookie : ℕ) (page : List Entry × Bool) (l : Listed m ctx directory cookie page) (e : Entry) → Has m ctx directory e
     → Contains (all_entries l.is.number l.is.parent l.is.entries) e
-has-it m ctx directory cookie page l e has =
-    Contains-append_right (record { name = codes "."; number = l.is.number; cookie = 1 } ∷ record { name = codes ".."; number = l.is.parent; cookie = 2 } ∷ []) l.is.entries e
-    (has l.is.number l.is.object l.is.entries l.is.last l.is.is_named l.is.is_directory)
+has-it m ctx directory cookie page l e has = has l.is.number l.is.object l.is.entries l.is.last l.is.parent l.is.is_named l.is.is_directory l.is.is_parent
 
-abbrev Good : Setting → State → Type 0
-Good setting old = (records : List Record) (m : State) → Run setting old records m → WellFormed m
-
-later-good : (setting : Setting) (old mid : State) (between : List Record) → Run setting old between mid → Good setting old → Good setting mid
-later-good setting old mid between run good records m more = good (between ++ records) m (run-append setting old mid m between records run more)
-
-visits-of : (setting : Setting) (old : State) (directory : List ℕ) (cookie : ℕ) (turns : List Turn) → Good setting old → (reading : Reading setting old directory cookie turns)
+visits-of : (setting : Setting) (old : State) (directory : List ℕ) (cookie : ℕ) (turns : List Turn) → WellFormed old → (reading : Reading setting old directory cookie turns)
     → Visits setting old directory cookie turns reading
-visits-of setting old directory cookie [] good reading = absurd reading
-visits-of setting old directory cookie (t ∷ []) good (mid, turn, ends) =
-    let l = turn-lists setting old directory cookie t mid turn (good t.between mid turn.run) in
+visits-of setting old directory cookie [] formed reading = absurd reading
+visits-of setting old directory cookie (t ∷ []) formed (mid, turn, ends) =
+    let l = turn-lists setting old directory cookie t mid turn (runs_keep_form setting old mid t.between turn.run formed) in
     record {
       visits = record { entries = all_entries l.is.number l.is.parent l.is.entries; fit = l.fit; page = t.page; eof = t.eof } ∷ [];
       order = (l.is.in_order, tt);
@@ -113,9 +104,10 @@ visits-of setting old directory cookie (t ∷ []) good (mid, turn, ends) =
       shown = refl;
       stays = λ e has. (has-it mid t.ctx directory cookie (t.page, t.eof) l e has, tt);
     }
-visits-of setting old directory cookie (t ∷ u ∷ turns) good (mid, turn, goes, rest) =
-    let l = turn-lists setting old directory cookie t mid turn (good t.between mid turn.run) in
-    let more = visits-of setting mid directory (last_cookie cookie t.page) (u ∷ turns) (later-good setting old mid t.between turn.run good) rest in
+visits-of setting old directory cookie (t ∷ u ∷ turns) formed (mid, turn, goes, rest) =
+    let then = runs_keep_form setting old mid t.between turn.run formed in
+    let l = turn-lists setting old directory cookie t mid turn then in
+    let more = visits-of setting mid directory (last_cookie cookie t.page) (u ∷ turns) then rest in
     joined l more.visits more.order more.on more.shown more.stays
   where
     joined : (l : Listed mid t.ctx directory cookie (t.page, t.eof)) (visits : List Visit) → InOrder visits → ReadsOn (last_cookie cookie t.page) visits
@@ -131,8 +123,8 @@ visits-of setting old directory cookie (t ∷ u ∷ turns) good (mid, turn, goes
     }
 
 pub readings-whole : ReadingsAreWhole
-readings-whole setting old directory turns good reading =
-    let v = visits-of setting old directory 0 turns good reading in
+readings-whole setting old directory turns formed reading =
+    let v = visits-of setting old directory 0 turns formed reading in
     let all = whole v.visits v.order v.on in
     record {
       rises = subst (Rises 0) v.shown all.rises;

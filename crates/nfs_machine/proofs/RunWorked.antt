@@ -1,6 +1,6 @@
 -- The run and the steps that are worked through: what lives at each number is told by the maps, and the rest computes.
 use Rattle.std.proofs.Common.{◌≡◌, ◌==◌, ℕ, ◌≤◌, ◌^◌, Bool, true, false, ◌||◌, ◌&&◌, cond, nat_le, List, [], ◌∷◌, ◌++◌, Option, Some, None, option_map, Result, Ok, codes, inl, refl, sym, ◌∙◌, ap, subst, arith}
-use Rattle.std.specs.Prelude.{ok_or}
+use Rattle.std.specs.Prelude.{◌+◌, is_none, nat_lt, not, ok_or}
 use Rattle.std.proofs.lemmas.Bool.{leb-true, or_right}
 use Rattle.std.specs.FinMap.{get, insert, get-empty}
 use Rattle.std.specs.List.{Contains}
@@ -21,10 +21,11 @@ use Rattle.nfs_wire.specs.declared.status.NfsStatus.{NfsStatus}
 use Rattle.nfs_wire.specs.declared.status.NfsStatus.TheVariants as status
 use Rattle.nfs_machine.specs.Bytes.{same_bytes}
 use Rattle.nfs_machine.specs.Answers.{answer_of, state_after}
-use Rattle.nfs_machine.specs.Attributes.{names_in, names_of}
-use Rattle.nfs_machine.specs.Checks.{◌>>=◌, changeable, entries_in, entry_of, holding, object_of, permitted, plain_name_checked}
+use Rattle.nfs_machine.specs.Attributes.{is_directory, links_of, names_in, names_of}
+use Rattle.nfs_machine.specs.Checks.{◌>>=◌, changeable, entries_in, entry_of, holding, link_limit, object_of, permitted, plain_name_checked}
 use Rattle.nfs_machine.specs.DataSteps.{write_object, verifier_of}
-use Rattle.nfs_machine.specs.Making.{End, EndsAs, Fresh, made, make_new}
+use Rattle.nfs_machine.specs.LinkSteps.{link_end}
+use Rattle.nfs_machine.specs.Making.{End, EndsAs, Fresh, made, make_new, with_entry}
 use Rattle.nfs_machine.specs.NameSteps.{create_existing, wanted_file}
 use Rattle.nfs_machine.specs.NfsSteps.{NfsStep}
 use Rattle.nfs_machine.specs.Pages.{all_entries, behind, fits, fits_full}
@@ -32,8 +33,8 @@ use Rattle.nfs_machine.specs.Permission.{Changing, Listing}
 use Rattle.nfs_machine.specs.RemoveSteps.{losing_name, not_directory, object_under, without}
 use Rattle.nfs_machine.specs.Resolve.{Resolved, Stale, Names, living_at, resolve}
 use Rattle.nfs_machine.specs.Readings.{Has}
-use Rattle.nfs_machine.specs.Run.{Asks, Executes, Record, Run}
-use Rattle.nfs_machine.specs.Shown.{replaced, wcc, with_content, with_object}
+use Rattle.nfs_machine.specs.Run.{Asks, Executes}
+use Rattle.nfs_machine.specs.Shown.{replaced, touched, wcc, with_content, with_object}
 use Rattle.nfs_machine.specs.State.{Directory, Entry, Living, State}
 use Rattle.nfs_machine.specs.WellFormed.{IsParent, WellFormed}
 use Rattle.nfs_machine.specs.Worked.{root_bytes, root_handle}
@@ -41,7 +42,7 @@ use Rattle.nfs_machine.specs.WorkedCreate.{moment}
 use Rattle.nfs_machine.specs.WorkedFiles.{time}
 use Rattle.nfs_machine.specs.WorkedPages.{seven, zeros}
 use Rattle.nfs_machine.specs.WorkedReplies.{root}
-use Rattle.nfs_machine.specs.WorkedRun.{wrote_reply, WorkedRun, WorkedSteps, WorkedTurns, all_three, argument_bytes, arrives, executed, first_two, header_of, in_root, listed_full_reply, listed_reply, listing, listing_full, made_reply, making, miscounted, nobody, opened, page_reply, refused_reply, removed, removed_reply, root_after, root_with_x, setting, with_x, writing, written, x, x_bytes, x_entry, x_written}
+use Rattle.nfs_machine.specs.WorkedRun.{wrote_reply, WorkedLinking, WorkedRun, WorkedSteps, WorkedTurns, all_three, argument_bytes, arrives, executed, first_two, header_of, in_root, listed_full_reply, listed_reply, listing, linking, listing_full, made_reply, making, miscounted, nobody, opened, page_reply, refused_reply, removed, removed_reply, root_after, root_with_x, setting, with_x, writing, written, x, x_bytes, x_entry, x_written}
 use Rattle.nfs_machine.specs.declared.calls.Call.TheVariants as calls
 use Rattle.nfs_machine.proofs.Moves.{remove_end}
 use Rattle.nfs_machine.proofs.Opened.{only_roots, opening_formed}
@@ -50,10 +51,10 @@ use Rattle.nfs_machine.proofs.Pages.{PagesOf, fits-shrinks, page-ends, page-stop
 use Rattle.nfs_machine.proofs.Sums.{get-inserted, sum-insert_new, sum-insert_old, sum-none}
 
 -- ---- what lives where
-root-opened : get opened.objects 1 ≡ Some root
+pub root-opened : get opened.objects 1 ≡ Some root
 root-opened = get-inserted _ 1 root 1
 
-none-opened : get opened.objects 5 ≡ None
+pub none-opened : get opened.objects 5 ≡ None
 none-opened = get-inserted _ 1 root 5 ∙ get-empty nat_cmp 5
 
 root-made : get with_x.objects 1 ≡ Some root_with_x
@@ -68,7 +69,7 @@ root-written = get-inserted with_x.objects 5 x_written 1 ∙ root-made
 pub x-lives : get written.objects 5 ≡ Some x_written
 x-lives = get-inserted with_x.objects 5 x_written 5
 
-root-named : (m : State) (o : Living) → o.generation ≡ 1 → o.export ≡ 1 → get m.objects 1 ≡ Some o → resolve m nobody root_bytes ≡ Names 1 o
+pub root-named : (m : State) (o : Living) → o.generation ≡ 1 → o.export ≡ 1 → get m.objects 1 ≡ Some o → resolve m nobody root_bytes ≡ Names 1 o
 root-named m o generation export at =
     ap (λ (l : Option Living). living_at l root_handle) at ∙ ap (λ k. cond ((k == 1) && (o.export == 1)) (Names 1 o) Stale) generation ∙ ap (λ k. cond (k == 1) (Names 1 o) Stale) export
 
@@ -101,7 +102,7 @@ writing-read : call_of (arrives (nfs.Write writing)).bytes ≡ Ok (header_of (nf
 unfolding call_of read appended with_word with_hyper with_padded with_arm
 writing-read = refl
 
-within : (m n : ℕ) → nat_le m n ≡ true → m ≤ n
+pub within : (m n : ℕ) → nat_le m n ≡ true → m ≤ n
 within = leb-true
 
 making-form : HasSpelling (arguments_type 8) (arguments_of (nfs.Create making))
@@ -111,7 +112,7 @@ writing-form : HasSpelling (arguments_type 7) (arguments_of (nfs.Write writing))
 writing-form = ((within 32 64 refl, within 33 (2 ^ 32) refl), (within 1 (2 ^ 64) refl, (within 3 (2 ^ 32) refl, ((within 3 (2 ^ 32) refl, refl), (within 2 4294967295 refl, within 3 (2 ^ 32) refl)))))
 
 -- ---- CREATE
-fresh : Fresh opened
+unfoldable pub fresh : Fresh opened
 fresh = record {
   number = 5;
   generation = 1;
@@ -269,6 +270,39 @@ worked-run = record {
 pub worked-steps : WorkedSteps
 worked-steps = record { listed = lists; listed_full = lists-full; removes = takes; refuses = refused }
 
+-- ---- LINK
+abbrev link_names : State → List ℕ → (file directory : ℕ × Living) → (entries : List Entry × ℕ) → (links : ℕ) → Result (Unit {0} × State) NfsStatus
+link_names m name file directory entries links =
+    holding (is_none (entry_of entries.0 name)) status.Exists >>= λ _. holding (nat_lt links link_limit) status.TooManyLinks >>= λ _. holding (nat_lt (entries.1 + 1) (2 ^ 64)) status.NoSpace >>= λ _.
+    let wider = with_content directory.1 (time 1000 0) (with_entry entries.0 entries.1 name file.0) in
+    Ok (tt, with_object (with_object m directory.0 wider) file.0 (touched file.1 (time 1000 0)))
+
+abbrev link_by : State → List ℕ → (file directory : Resolved) → Result (Unit {0} × State) NfsStatus
+link_by m name f d =
+    object_of f >>= λ file. object_of d >>= λ directory. holding (file.1.export == directory.1.export) status.CrossDevice >>= λ _. holding (not (is_directory file.1.content)) status.Invalid
+    >>= λ _. entries_in directory.1.content >>= λ entries. plain_name_checked status.Invalid status.Invalid name >>= λ _. changeable nobody directory.1 >>= λ _. permitted nobody directory.1 Changing
+    >>= λ _. link_names m name file directory entries (links_of m file.0 file.1.content)
+
+module _ (m : State) (of_root : get m.objects 1 ≡ Some root_with_x) (of_x : get m.objects 5 ≡ Some x_written) where
+  linked-by : (name : List ℕ) → link_end m nobody (linking name) ≡ link_by m name (Names 5 x_written) (Names 1 root_with_x)
+  linked-by name =
+      ap (λ f. link_by m name f (resolve m nobody root_bytes)) (x-named m x_written refl refl of_x)
+      ∙ ap (λ d. link_by m name (Names 5 x_written) d) (root-named m root_with_x refl refl of_root)
+
+  pub worked-linking : WorkedLinking m
+  worked-linking = record {
+    last = λ most. linked-by (codes "y") ∙ ap (λ links. link_names m (codes "y") (5, x_written) (1, root_with_x) (x_entry ∷ [], 3) links) most;
+    full = λ many. linked-by (codes "y") ∙ ap (λ links. link_names m (codes "y") (5, x_written) (1, root_with_x) (x_entry ∷ [], 3) links) many;
+    there = linked-by (codes "x");
+    self = linked-by (codes ".");
+    directory =
+        ap (λ f. link_by m (codes "y") f (resolve m nobody root_bytes)) (root-named m root_with_x refl refl of_root)
+        ∙ ap (λ d. link_by m (codes "y") (Names 1 root_with_x) d) (root-named m root_with_x refl refl of_root);
+    into_file =
+        ap (λ f. link_by m (codes "y") f (resolve m nobody x_bytes)) (x-named m x_written refl refl of_x)
+        ∙ ap (λ d. link_by m (codes "y") (Names 5 x_written) d) (x-named m x_written refl refl of_x);
+  }
+
 -- ---- a reading of the root
 -- a page of it, where "x" is its only name
 lists-page : (m : State) → get m.objects 1 ≡ Some root_with_x → (cookie : ℕ) (verifier : Verifier) (count : ℕ) (page : List Entry) (eof : Bool)
@@ -286,18 +320,23 @@ lists-page m lives cookie verifier count page eof is_page =
 
 -- "x" is one of its names
 has-x : (m : State) → get m.objects 1 ≡ Some root_with_x → Has m nobody root_bytes x_entry
-has-x m lives number object entries last names content =
+has-x m lives number object entries last parent names content is_parent =
     let same : root_with_x ≡ object = (let named = root-named m root_with_x refl refl lives in cc) in
     let whole : x_entry ∷ [] ≡ entries = (let shows : Directory (x_entry ∷ []) 3 ≡ Directory entries last = ap (λ (o : Living). o.content) same ∙ content in cc) in
-    subst (λ es. Contains es x_entry) whole (0, within 1 1 refl, refl)
+    subst (λ es. Contains (all_entries number parent es) x_entry) whole (2, within 3 3 refl, refl)
 
--- what a run from there comes to
-made-formed : (records : List Record) (m : State) → Run setting with_x records m → WellFormed m
-made-formed records m run = runs_keep_form setting with_x m records run (runs_keep_form setting opened with_x (executed (nfs.Create making) made_reply ∷ []) (with_x, executes-create, refl) (opening_formed setting.exports moment))
+-- and so is "."
+has-self : (m : State) → get m.objects 1 ≡ Some root_with_x → Has m nobody root_bytes (record { name = codes "."; number = 1; cookie = 1 })
+has-self m lives number object entries last parent names content is_parent =
+    let own : 1 ≡ number = (let named = root-named m root_with_x refl refl lives in cc) in
+    subst (λ k. Contains (all_entries k parent entries) (record { name = codes "."; number = 1; cookie = 1 })) own (0, omega arith, refl)
+
+with-x-formed : WellFormed with_x
+with-x-formed = runs_keep_form setting opened with_x (executed (nfs.Create making) made_reply ∷ []) (with_x, executes-create, refl) (opening_formed setting.exports moment)
 
 pub worked-turns : WorkedTurns
 worked-turns = record {
-  formed = made-formed;
+  formed = with-x-formed;
   reading = (
     with_x,
     record { run = refl; step = lists-page with_x root-made 0 zeros 160 first_two false first-page; from = refl; shows = refl },
@@ -309,6 +348,7 @@ worked-turns = record {
     ),
   );
   stays = (has-x with_x root-made, has-x written root-written);
+  self_stays = (has-self with_x root-made, has-self written root-written);
 }
   where
     first-page : PagesOf (fits 160) (entries_from 0 zeros (Names 1 root_with_x)) (Ok (first_two, false))

@@ -194,7 +194,7 @@ held-unchanged old ctx a by_message file true true s messages new step e = (step
 held-unchanged old ctx a by_message file true false s messages new (inl waits) e = (let no : false ≡ true = sym (ap refuses waits.3.reply_is) ∙ e in cc)
 held-unchanged old ctx a by_message file true false s messages new (inr none) e = (none.1.state_is, none.1.no_message)
 
-lock-unchanged : (old : State) (ctx : Ctx) (a : LockArguments) (by_message : Bool) (r : Result Range Fault) (s : NlmStatus) (messages : List Message) (new : State)
+pub lock-unchanged : (old : State) (ctx : Ctx) (a : LockArguments) (by_message : Bool) (r : Result Range Fault) (s : NlmStatus) (messages : List Message) (new : State)
     → LockOf old ctx a by_message r s messages new → refuses s ≡ true → Nothing old messages new
 lock-unchanged old ctx a by_message (Err fault) s messages new step e = (step.state_is, step.no_message)
 lock-unchanged old ctx a by_message (Ok r) s messages new (inl free) e = not-granted s free.1 e
@@ -208,7 +208,7 @@ none-left p (x ∷ xs) e =
       | false ↦ λ e. ap (λ l. x ∷ l) (none-left p xs e)
     ] e
 
-cancel-unchanged : (old : State) (a : CancelArguments) (r : Result Range Fault) (s : NlmStatus) (messages : List Message) (new : State) → CancelOf old a r s messages new → refuses s ≡ true → Nothing old messages new
+pub cancel-unchanged : (old : State) (a : CancelArguments) (r : Result Range Fault) (s : NlmStatus) (messages : List Message) (new : State) → CancelOf old a r s messages new → refuses s ≡ true → Nothing old messages new
 cancel-unchanged old a (Err fault) s messages new step e = (step.state_is, step.no_message)
 cancel-unchanged old a (Ok r) s messages new step e =
     elim (list_any (is_request r a.exclusive a.lock) old.waiting) as (λ b. list_any (is_request r a.exclusive a.lock) old.waiting ≡ b → s ≡ cond b status.Granted status.Denied → Nothing old messages new) [
@@ -216,7 +216,7 @@ cancel-unchanged old a (Ok r) s messages new step e =
       | false ↦ λ is t. (step.state_is ∙ ap (λ w. record old { waiting = w }) (none-left (is_request r a.exclusive a.lock) old.waiting is), step.no_message)
     ] refl step.reply_is
 
-unlock-unchanged : (old : State) (r : Result Range Fault) (s : NlmStatus) (messages : List Message) (new : State) → UnlockOf old r s messages new → refuses s ≡ true → Nothing old messages new
+pub unlock-unchanged : (old : State) (r : Result Range Fault) (s : NlmStatus) (messages : List Message) (new : State) → UnlockOf old r s messages new → refuses s ≡ true → Nothing old messages new
 unlock-unchanged old (Err fault) s messages new step e = (step.state_is, step.no_message)
 unlock-unchanged old (Ok r) s messages new step e = not-granted s step.0 e
 

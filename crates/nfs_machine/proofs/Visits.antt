@@ -1,5 +1,5 @@
 -- A page that is answered is one of the directory that the handle names.
-use Rattle.std.proofs.Common.{◌≡◌, ℕ, Bool, true, false, List, [], ◌∷◌, map, Result, Ok, Err, IfOk, refl, sym, subst, arith, ◌||◌, ◌==◌}
+use Rattle.std.proofs.Common.{◌≡◌, ℕ, Bool, true, false, List, [], ◌∷◌, map, Result, Ok, Err, IfOk, refl, sym, ap, subst, arith, ◌||◌, ◌==◌}
 use Rattle.nfs_wire.specs.declared.calls.ReaddirArguments.{ReaddirArguments}
 use Rattle.nfs_wire.specs.declared.calls.ReaddirplusArguments.{ReaddirplusArguments}
 use Rattle.nfs_wire.specs.declared.calls.Verifier.{Verifier}
@@ -9,13 +9,14 @@ use Rattle.nfs_wire.specs.declared.replies.ReaddirplusReply.{ReaddirplusReply}
 use Rattle.nfs_wire.specs.declared.status.NfsStatus.{NfsStatus}
 use Rattle.nfs_wire.specs.declared.status.NfsStatus.TheVariants as status
 use Rattle.side_wire.specs.declared.message.Message.{Message}
+use Rattle.nfs_machine.specs.Attributes.{is_directory}
 use Rattle.nfs_machine.specs.Bytes.{same_bytes}
 use Rattle.nfs_machine.specs.DataSteps.{verifier_of}
 use Rattle.nfs_machine.proofs.Resolved.{resolved-lives}
 use Rattle.nfs_machine.specs.Checks.{◌>>=◌, entries_in, holding, object_of, permitted}
 use Rattle.nfs_machine.specs.Pages.{Pages, all_entries, behind, fits, fits_full}
 use Rattle.nfs_machine.proofs.Pages.{PagesOf, ReaddirStep, ReaddirplusStep, readdir_result, readdirplus_result}
-use Rattle.nfs_machine.specs.PageSteps.{entries_left, full_entry, page_entry}
+use Rattle.nfs_machine.specs.PageSteps.{IsParentOf, entries_left, full_entry, page_entry}
 use Rattle.nfs_machine.specs.Paging.{Lists, Rises}
 use Rattle.nfs_machine.specs.Permission.{Listing, may}
 use Rattle.nfs_machine.specs.Resolve.{Resolved, BadHandle, Stale, Names, resolve}
@@ -35,7 +36,7 @@ module _ (fit : List Entry → Bool) (p : List Entry × Bool) where
   passed true false e f es is = cc
   passed false c e f es is = cc
 
-module _ (m : State) (ctx : Ctx) (w : WellFormed m) (directory : List ℕ) (cookie : ℕ) (verifier : Verifier) (parent : ℕ) (fit : List Entry → Bool) (p : List Entry × Bool) where
+module _ (m : State) (ctx : Ctx) (w : WellFormed m) (directory : List ℕ) (cookie : ℕ) (verifier : Verifier) (parent : ℕ) (is_parent : IsParentOf m ctx directory parent) (fit : List Entry → Bool) (p : List Entry × Bool) where
   abbrev Rest : ℕ → Living → List Entry × ℕ → Result (List Entry) NfsStatus
   Rest number o entries = do
     _ ← permitted ctx o Listing
@@ -51,6 +52,7 @@ module _ (m : State) (ctx : Ctx) (w : WellFormed m) (directory : List ℕ) (cook
     last = last;
     is_directory = content;
     parent = parent;
+    is_parent = is_parent number o named (ap is_directory content);
     visit = passed fit p (may ctx.ids o Listing) ((cookie == 0) || same_bytes verifier.bytes (verifier_of ctx).bytes) status.Access status.BadCookie (behind cookie (all_entries number parent entries)) is;
     in_order = (omega arith, (omega arith, rising 2 last entries (w.cookies number o entries last (resolved-lives m ctx directory number o named) content)));
   }
@@ -81,7 +83,7 @@ readdir-lists old ctx a r messages new w step = subst P (sym same) (told step.pa
 
     told : (page : Result (List Entry × Bool) NfsStatus) → PagesOf (fits a.count) (entries_left old ctx a.directory a.cookie a.verifier step.parent) page
         → P (record { attributes = shown old (resolve old ctx a.directory); result = readdir_result ctx page })
-    told (Ok p) is = (p, lists old ctx w a.directory a.cookie a.verifier step.parent (fits a.count) p is, refl, refl)
+    told (Ok p) is = (p, lists old ctx w a.directory a.cookie a.verifier step.parent step.is_parent (fits a.count) p is, refl, refl)
     told (Err e) is = tt
 
 pub readdirplus-lists : (old : State) (ctx : Ctx) (a : ReaddirplusArguments) (r : ReaddirplusReply) (messages : List Message) (new : State) → WellFormed old
@@ -97,5 +99,5 @@ readdirplus-lists old ctx a r messages new w step = subst P (sym same) (told ste
 
     told : (page : Result (List Entry × Bool) NfsStatus) → PagesOf (fits_full a.directory_count a.most) (entries_left old ctx a.directory a.cookie a.verifier step.parent) page
         → P (record { attributes = shown old (resolve old ctx a.directory); result = readdirplus_result old ctx page })
-    told (Ok p) is = (p, lists old ctx w a.directory a.cookie a.verifier step.parent (fits_full a.directory_count a.most) p is, refl, refl)
+    told (Ok p) is = (p, lists old ctx w a.directory a.cookie a.verifier step.parent step.is_parent (fits_full a.directory_count a.most) p is, refl, refl)
     told (Err e) is = tt

@@ -1,4 +1,5 @@
--- What a call comes to: an answer and the state after it, or the status of its first failed check, and then nothing changes.
+-- What a call comes to: an answer and the state after it, or the status of its first failed check
+-- (RFC 1813, 2.6), and then nothing changes.
 use Rattle.std.specs.Prelude.{◌≡◌, ℕ, List, [], Option, Result, Ok, Err}
 use Rattle.nfs_wire.specs.declared.attributes.Attributes.{Attributes}
 use Rattle.nfs_wire.specs.declared.replies.NfsReply.{NfsReply}

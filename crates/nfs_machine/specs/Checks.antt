@@ -1,5 +1,6 @@
--- The checks that procedures of NFS share. Each names the status of a call that fails it (RFC 1813, 2.6), and a
--- procedure makes them in this order: handles, kinds, names, a read-only export, permission, and then its own.
+-- The checks that procedures of NFS share. Each names the status of a call that fails it (RFC 1813, 2.6). Where its own
+-- definition sets no other order, a procedure makes them in this one: handles, that two handles are of one export, kinds,
+-- names, a read-only export, permission, and then its own.
 use Rattle.std.specs.Prelude.{ℕ, Bool, true, not, ◌&&◌, ◌||◌, List, length, Option, Some, None, Result, Ok, Err, nat_le, codes, find, if◌then◌else◌, ◌==◌}
 use Rattle.std.specs.List.{list_any}
 use Rattle.nfs_wire.specs.declared.status.NfsStatus.{NfsStatus}

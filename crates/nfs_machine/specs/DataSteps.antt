@@ -23,10 +23,11 @@ read_object ctx file a = do
   _ ← permitted ctx file Reading
   Ok (read_at bytes a.offset a.count)
 
--- WRITE, 3.3.7: at most so many bytes as one call carries; the verifier is the start number, as 3.3.21 asks
+-- the start number is the verifier of WRITE and COMMIT (3.3.7 and 3.3.21), and that of the cookies of pages (3.3.16 and 3.3.17)
 abbrev pub verifier_of : Ctx → Verifier
 verifier_of ctx = record { bytes = to_be_bytes w64 ctx.start }
 
+-- WRITE, 3.3.7: at most so many bytes as one call carries
 abbrev pub write_count : WriteArguments → ℕ
 write_count a = min a.count transfer_limit
 

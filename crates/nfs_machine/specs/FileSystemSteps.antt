@@ -7,7 +7,8 @@ use Rattle.nfs_machine.specs.Attributes.{block, used_of}
 use Rattle.nfs_machine.specs.Data.{transfer_limit, size_limit}
 use Rattle.nfs_machine.specs.State.{Living}
 
--- FSSTAT, 3.3.18: what the living objects of an export leave of a total, and of the 4,294,967,295 that it has at most
+-- FSSTAT, 3.3.18: what the living objects of an export leave of a total of bytes, and of the 4,294,967,295 files that it tells of; never
+-- below 0
 abbrev pub space_left : (total : ℕ) → List Living → (export : ℕ) → Space
 space_left total objects export =
     let bytes = total - sum_by (λ (o : Living). if o.export == export then used_of o.content else 0) objects in

@@ -45,6 +45,7 @@ pub mod WorkedCreate
 pub mod WorkedFiles
 pub mod WorkedLocking
 pub mod WorkedLocks
+pub mod WorkedMaking
 pub mod WorkedPages
 pub mod WorkedReplies
 pub mod WorkedRun

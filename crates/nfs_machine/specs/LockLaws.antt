@@ -37,10 +37,11 @@ AllHeldUp m = AllByRecursion (IsHeldUp m.locks) m.waiting
 abbrev pub ListedLocksTell : Type 0
 ListedLocksTell = (locks : List Lock) (r : Range) (mode : Mode) → list_any (stands_in_way r mode) locks ≡ false → Conflicts locks r mode → ⊥
 
--- a server starts with no lock, no share and no request that waits
+-- where a server starts, nothing conflicts
 abbrev pub OpeningIsApart : Type 0
 OpeningIsApart = (exports : List ExportValue) (moment : Moment) → NoConflict (opening exports moment)
 
+-- and nothing waits there that conflicts with nothing
 abbrev pub OpeningWaitsForNone : Type 0
 OpeningWaitsForNone = (exports : List ExportValue) (moment : Moment) → AllHeldUp (opening exports moment)
 

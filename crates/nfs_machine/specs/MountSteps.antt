@@ -1,4 +1,4 @@
--- The steps of MOUNT version 3, one definition for each procedure (RFC 1813, appendix I, 5.2).
+-- The step of MOUNT version 3, with one clause of MountStep for each procedure (RFC 1813, appendix I, 5.2).
 use Rattle.std.specs.Prelude.{◌≡◌, ℕ, ◌≤◌, ◌-◌, Bool, true, not, ◌&&◌, ◌||◌, List, [], ◌∷◌, ◌++◌, length, drop, Option, Some, None, Result, Ok, Err, ok_or, nat_lt, if◌then◌else◌, filter, find, map, ◌⊎◌, ◌==◌}
 use Rattle.std.specs.List.{list_any}
 use Rattle.std.specs.FinMap.{get}

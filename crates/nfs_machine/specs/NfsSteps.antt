@@ -72,9 +72,9 @@ NfsStep old ctx (calls.Mkdir a) = MakeStep old ctx a.place (Ok (wanted_of 493 (D
 NfsStep old ctx (calls.Symlink a) = MakeStep old ctx a.place (Ok (wanted_of 511 (Link a.text) a.attributes)) (λ number object. Err status.Exists) replies.Symlink
 -- MKNOD, 3.3.11
 NfsStep old ctx (calls.Mknod a) = MakeStep old ctx a.place (wanted_special a.what) (λ number object. Err status.Exists) replies.Mknod
--- REMOVE, 3.3.12
+-- REMOVE, 3.3.12: "." and ".." can't be taken away
 NfsStep old ctx (calls.Remove place) = TakeStep old ctx place (plain_name_checked status.Invalid status.Invalid) not_directory replies.Remove
--- RMDIR, 3.3.13
+-- RMDIR, 3.3.13: "." can't be taken away, and ".." is there always
 NfsStep old ctx (calls.Rmdir place) = TakeStep old ctx place (plain_name_checked status.Invalid status.Exists) empty_directory replies.Rmdir
 -- RENAME, 3.3.14
 NfsStep old ctx (calls.Rename a) = λ reply messages new. let from = resolve old ctx a.from.directory in let to = after_first from (resolve old ctx a.to.directory) in

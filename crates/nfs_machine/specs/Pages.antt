@@ -21,12 +21,12 @@ entry_size e = 24 + (length e.name + 3) / 4 * 4
 abbrev pub full_entry_size : Entry → ℕ
 full_entry_size e = 128 + entry_size e
 
--- whether a result of READDIR with these entries has at most so many bytes; the directory's attributes (88), the verifier (8), the
--- end of the list (4) and eof (4) are among them
+-- whether READDIR3resok with these entries has at most so many bytes, and at most those of one transfer. It is the result without its
+-- status (4); the directory's attributes (88), the verifier (8), the end of the list (4) and eof (4) are in it
 abbrev pub fits : (count : ℕ) → List Entry → Bool
 fits count front = nat_le (104 + sum_by entry_size front) (min count transfer_limit)
 
--- the same of READDIRPLUS, where numbers, names and cookies have a bound of their own
+-- the same of READDIRPLUS3resok, where numbers, names and cookies have a bound of their own besides
 abbrev pub fits_full : (directory_count most : ℕ) → List Entry → Bool
 fits_full directory_count most front = nat_le (104 + sum_by full_entry_size front) (min most transfer_limit) && nat_le (sum_by entry_size front) directory_count
 

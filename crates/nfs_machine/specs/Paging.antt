@@ -15,7 +15,7 @@ use Rattle.nfs_machine.specs.Pages.{Pages, all_entries, behind, fits, fits_full}
 use Rattle.nfs_machine.specs.PageSteps.{full_entry, page_entry}
 use Rattle.nfs_machine.specs.Resolve.{Names, resolve}
 use Rattle.nfs_machine.specs.State.{Directory, Entry, Living, State}
-use Rattle.nfs_machine.specs.WellFormed.{WellFormed}
+use Rattle.nfs_machine.specs.WellFormed.{IsParent, WellFormed}
 use Rattle.nfs_machine.specs.declared.context.Ctx.{Ctx}
 
 -- a call that was answered by a page: the entries that the directory had then and what fitted; the page, and its eof
@@ -91,6 +91,7 @@ pub record Lists (m : State) (ctx : Ctx) (directory : List ℕ) (cookie : ℕ) (
   pub last : ℕ
   pub is_directory : object.content ≡ Directory entries last
   pub parent : ℕ
+  pub is_parent : IsParent m number parent
   pub visit : IsVisit cookie (record { entries = all_entries number parent entries; fit = fit; page = page.0; eof = page.1 })
   pub in_order : Rises 0 (all_entries number parent entries)
 

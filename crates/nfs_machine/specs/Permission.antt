@@ -7,7 +7,7 @@ use Rattle.nfs_machine.specs.State.{Living}
 pub data Right : Type 0 where
   -- of a file: by its owner always; else r, or x (a program is read to be run)
   Reading : Right
-  -- of a file: by its owner always; else w
+  -- of an object of any kind, to set its content or times: by its owner always; else w
   Writing : Right
   -- of a directory: x
   Searching : Right

@@ -11,11 +11,12 @@ use Rattle.nfs_wire.specs.declared.replies.Page.{Page}
 use Rattle.nfs_wire.specs.declared.replies.PagePlus.{PagePlus}
 use Rattle.nfs_wire.specs.declared.status.NfsStatus.{NfsStatus}
 use Rattle.nfs_machine.specs.NfsSteps.{NfsStep}
+use Rattle.nfs_machine.specs.Pages.{all_entries}
 use Rattle.nfs_machine.specs.Paging.{Rises, last_cookie}
 use Rattle.nfs_machine.specs.Resolve.{Names, resolve}
 use Rattle.nfs_machine.specs.Run.{Record, Run, Setting}
 use Rattle.nfs_machine.specs.State.{Directory, Entry, Living, State}
-use Rattle.nfs_machine.specs.WellFormed.{WellFormed}
+use Rattle.nfs_machine.specs.WellFormed.{IsParent, WellFormed}
 use Rattle.nfs_machine.specs.declared.context.Ctx.{Ctx}
 
 -- the directory that a call lists, by its handle, and the cookie that it goes on from
@@ -68,10 +69,11 @@ abbrev pub all_shown : List Turn → List Entry
 all_shown [] = []
 all_shown (t ∷ turns) = t.page ++ all_shown turns
 
--- the directory that a handle names has the entry
+-- the directory that a handle names has the entry, or it is "." or ".."
 abbrev pub Has : State → Ctx → List ℕ → Entry → Type 0
 Has m ctx directory e =
-    (number : ℕ) (object : Living) (entries : List Entry) (last : ℕ) → resolve m ctx directory ≡ Names number object → object.content ≡ Directory entries last → Contains entries e
+    (number : ℕ) (object : Living) (entries : List Entry) (last parent : ℕ) → resolve m ctx directory ≡ Names number object → object.content ≡ Directory entries last → IsParent m number parent
+    → Contains (all_entries number parent entries) e
 
 -- it has it at each page
 abbrev pub StaysThrough : (setting : Setting) (old : State) (directory : List ℕ) (cookie : ℕ) (turns : List Turn) → Reading setting old directory cookie turns → Entry → Type 0
@@ -85,8 +87,7 @@ pub record ShowsWhole (setting : Setting) (old : State) (directory : List ℕ) (
   pub shows : (e : Entry) → StaysThrough setting old directory 0 turns reading e → Contains (all_shown turns) e
   pub once : (e : Entry) → StaysThrough setting old directory 0 turns reading e → count_by (λ (x : Entry). x.cookie == e.cookie) (all_shown turns) ≡ 1
 
--- A directory that is read in pages from cookie 0 to its end shows no cookie twice and each entry that stayed once, in a
--- run all of whose states are well-formed.
+-- A directory that is read in pages from cookie 0 to its end, from a well-formed state on, shows no cookie twice and each entry
+-- that stayed once.
 abbrev pub ReadingsAreWhole : Type 0
-ReadingsAreWhole = (setting : Setting) (old : State) (directory : List ℕ) (turns : List Turn) → ((records : List Record) (m : State) → Run setting old records m → WellFormed m)
-    → (reading : Reading setting old directory 0 turns) → ShowsWhole setting old directory turns reading
+ReadingsAreWhole = (setting : Setting) (old : State) (directory : List ℕ) (turns : List Turn) → WellFormed old → (reading : Reading setting old directory 0 turns) → ShowsWhole setting old directory turns reading

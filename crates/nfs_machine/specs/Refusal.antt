@@ -1,4 +1,5 @@
--- What a call is answered that cannot be executed for want of memory; it changes nothing (RFC 1813, 2.6: NFS3ERR_JUKEBOX; RFC 5531, 9: SYSTEM_ERR).
+-- What a call is answered that cannot be executed for want of memory; it changes nothing (RFC 1813, 2.6: NFS3ERR_JUKEBOX;
+-- 5.1.5: MNT3ERR_SERVERFAULT; 6.1.4: NLM4_DENIED_NOLOCKS; RFC 5531, 9: SYSTEM_ERR).
 use Rattle.std.specs.Prelude.{ℕ, List, Err, Option, Some, None}
 use Rattle.nfs_wire.specs.declared.attributes.Wcc.{Wcc}
 use Rattle.nfs_wire.specs.declared.calls.NfsCall.{NfsCall}

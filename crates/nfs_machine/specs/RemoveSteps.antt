@@ -59,6 +59,6 @@ TakeStep old ctx place name_checked content_checked reply_of =
 abbrev pub not_directory : Content → Result (Unit {0}) NfsStatus
 not_directory content = holding (not (is_directory content)) status.IsDirectory
 
--- RMDIR, 3.3.13: of a directory with no entry; "." can't be taken away, and ".." is there always
+-- RMDIR, 3.3.13: of a directory with no entry
 abbrev pub empty_directory : Content → Result (Unit {0}) NfsStatus
 empty_directory content = entries_in content >>= λ entries. holding (length entries.0 == 0) status.NotEmpty

@@ -1,4 +1,4 @@
--- Records of what was executed, and runs of the machine over them.
+-- Records of what was executed, and runs of the machine over them (RFC 5531, 9: calls).
 use Rattle.std.specs.Prelude.{◌≡◌, ℕ, List, [], ◌∷◌, Ok}
 use Rattle.nfs_rpc.specs.declared.credentials.Ids.{Ids}
 use Rattle.nfs_rpc.specs.Early.{call_of}

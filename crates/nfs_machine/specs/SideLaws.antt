@@ -1,9 +1,11 @@
 -- Laws of replies of MOUNT and NLM (RFC 1813, appendices I and II).
-use Rattle.std.specs.Prelude.{◌≡◌, ℕ, Bool, true, false, List, [], is_err, None}
+use Rattle.std.specs.Prelude.{◌≡◌, ◌++◌, ◌∷◌, ℕ, Bool, true, false, List, [], is_err, None}
 use Rattle.std.specs.List.{AllByRecursion}
 use Rattle.side_wire.specs.Messages.{HasCallbackForm, HasLockForm, HasTestArgumentsForm}
 use Rattle.side_wire.specs.Mount.{HasMountForm, IsDirpath, IsHostName}
 use Rattle.side_wire.specs.Nlm.{HasNlmForm, IsNetobj}
+use Rattle.side_wire.specs.declared.message.Callback.{Callback}
+use Rattle.side_wire.specs.declared.message.Callback.TheVariants as callbacks
 use Rattle.side_wire.specs.declared.message.Message.{Message}
 use Rattle.side_wire.specs.declared.mount.MountCall.{MountCall}
 use Rattle.side_wire.specs.declared.mount.MountCall.TheVariants as mount
@@ -143,7 +145,21 @@ is_nlm_refusal (nlm_replies.Unshare r) = refuses r.status
 is_nlm_refusal (nlm_replies.NmLock r) = refuses r.status
 is_nlm_refusal reply = false
 
--- a call of NLM that is refused changes nothing and puts no message
+-- a call of NLM that is refused in its reply changes nothing and puts no message
 abbrev pub NlmRefusalsChangeNothing : Type 0
 NlmRefusalsChangeNothing = (old : State) (ctx : Ctx) (call : NlmCall) (reply : NlmReply) (messages : List Message) (new : State)
     → NlmStep old ctx call reply messages new → is_nlm_refusal reply ≡ true → (new ≡ old) × (messages ≡ [])
+
+-- a result in a message of the server's own, by which nothing was granted, and nothing waits
+abbrev pub is_posted_refusal : Callback → Bool
+is_posted_refusal (callbacks.TestRes r) = test_refuses r.status
+is_posted_refusal (callbacks.LockRes r) = refuses r.status
+is_posted_refusal (callbacks.CancelRes r) = refuses r.status
+is_posted_refusal (callbacks.UnlockRes r) = refuses r.status
+is_posted_refusal (callbacks.GrantedRes r) = refuses r.status
+is_posted_refusal call = false
+
+-- a call of NLM that is refused in a message, as the MSG calls are, changes nothing and puts no other
+abbrev pub PostedRefusalsChangeNothing : Type 0
+PostedRefusalsChangeNothing = (old : State) (ctx : Ctx) (call : NlmCall) (reply : NlmReply) (earlier : List Message) (posted : Message) (new : State)
+    → NlmStep old ctx call reply (earlier ++ posted ∷ []) new → is_posted_refusal posted.call ≡ true → (new ≡ old) × (earlier ≡ [])

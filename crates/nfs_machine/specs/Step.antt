@@ -1,4 +1,4 @@
--- One step of the machine: the call goes to its program.
+-- One step of the machine: the call goes to its program (RFC 1813, 3.3: NFS; 5.2: MOUNT; 6.2: NLM).
 use Rattle.std.specs.Prelude.{List}
 use Rattle.side_wire.specs.declared.message.Message.{Message}
 use Rattle.nfs_machine.specs.MountSteps.{MountStep}

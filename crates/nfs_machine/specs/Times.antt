@@ -21,7 +21,7 @@ next t =
 abbrev pub touch : Time → Time → Time
 touch changed now = if is_earlier (next changed) now then now else next changed
 
--- nanoseconds are below a second (3.3.2)
+-- nanoseconds are below a second (2.5: nfstime3); that a greater number is refused is this server's own rule
 abbrev pub is_time : SetTime → Bool
 is_time set = elim set [ ToClient t ↦ nat_le t.nanoseconds 999999999 | other ↦ true ]
 

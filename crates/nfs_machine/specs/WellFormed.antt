@@ -23,7 +23,7 @@ pub record Leads (m : State) (directory : Living) (e : Entry) : Type 0 where
   pub export : object.export ≡ directory.export
   pub no_root : (e.number == directory.export) ≡ false
 
--- of a directory: "." and ".." have the cookies 1 and 2
+-- of a directory: each name once, and each leads to a living object of its export
 pub record IsDirectoryOf (m : State) (directory : Living) : Type 0 where
   pub once : NamesOnce (entries_of directory.content)
   pub leads : AllByRecursion (Leads m directory) (entries_of directory.content)
@@ -34,6 +34,7 @@ TextsFit m = (n : ℕ) (o : Living) (text : List ℕ) → get m.objects n ≡ So
 
 pub record WellFormed (m : State) : Type 0 where
   pub names : (n : ℕ) (o : Living) → get m.objects n ≡ Some o → IsDirectoryOf m o
+  -- "." and ".." have the cookies 1 and 2, and the names of a directory those above
   pub cookies : (n : ℕ) (o : Living) (entries : List Entry) (last : ℕ) → get m.objects n ≡ Some o → o.content ≡ Directory entries last → CookiesRise 2 entries last
   -- what is no root has a name, and a directory has one
   pub named : (n : ℕ) (o : Living) → get m.objects n ≡ Some o → (n == o.export) ≡ false → 1 ≤ names_of m n

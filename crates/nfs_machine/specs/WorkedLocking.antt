@@ -1,5 +1,5 @@
 -- Whole steps of MOUNT and NLM worked through by hand (RFC 1813, appendices I and II), from the state in which the file "x" was made and written.
-use Rattle.std.specs.Prelude.{Bool, true, false, ℕ, ◌||◌, [], ◌∷◌, Ok, Err, codes, pos, ◌==◌}
+use Rattle.std.specs.Prelude.{◌≡◌, ◌-◌, ◌^◌, Bool, true, false, ℕ, ◌||◌, [], ◌∷◌, take, Ok, Err, codes, pos, ◌==◌}
 use Rattle.side_wire.specs.declared.message.NlmLock.{NlmLock}
 use Rattle.side_wire.specs.declared.mount.MountCall.TheVariants as mount
 use Rattle.side_wire.specs.declared.mount.MountReply.TheVariants as mount_replies
@@ -8,12 +8,25 @@ use Rattle.side_wire.specs.declared.nlm.LockArguments.{LockArguments}
 use Rattle.side_wire.specs.declared.nlm.NlmCall.TheVariants as nlm
 use Rattle.side_wire.specs.declared.nlm.NlmReply.TheVariants as nlm_replies
 use Rattle.side_wire.specs.declared.nlm.NlmStatus.TheVariants as status
+use Rattle.side_wire.specs.declared.message.Callback.TheVariants as callbacks
+use Rattle.side_wire.specs.declared.nlm.CancelArguments.{CancelArguments}
+use Rattle.side_wire.specs.declared.nlm.ShareAccess.{ShareAccess}
+use Rattle.side_wire.specs.declared.nlm.ShareAccess.TheVariants as access
+use Rattle.side_wire.specs.declared.nlm.ShareArguments.{ShareArguments}
+use Rattle.side_wire.specs.declared.nlm.ShareMode.{ShareMode}
+use Rattle.side_wire.specs.declared.nlm.ShareMode.TheVariants as mode
+use Rattle.side_wire.specs.declared.nlm.TestArguments.{TestArguments}
+use Rattle.side_wire.specs.declared.nlm.TestStatus.TheVariants as tested
 use Rattle.side_wire.specs.declared.nlm.UnlockArguments.{UnlockArguments}
+use Rattle.nfs_machine.specs.Handles.{handle_bytes}
+use Rattle.nfs_machine.specs.Locks.{range_of}
+use Rattle.nfs_machine.specs.LockSteps.{range_checked}
 use Rattle.nfs_machine.specs.MountSteps.{MountStep}
 use Rattle.nfs_machine.specs.NlmSteps.{NlmStep, result_with}
 use Rattle.nfs_machine.specs.State.{Owner, Request, State}
-use Rattle.nfs_machine.specs.Worked.{root_bytes}
-use Rattle.nfs_machine.specs.WorkedLocks.{a, asked, b, mounted, split, whole}
+use Rattle.nfs_machine.specs.Worked.{open_export, root_bytes}
+use Rattle.nfs_machine.specs.declared.context.Ctx.{Ctx}
+use Rattle.nfs_machine.specs.WorkedLocks.{a, asked, b, holder, mounted, reading, reading_too, split, whole}
 use Rattle.nfs_machine.specs.WorkedRun.{nobody, written, x_bytes}
 
 -- a lock of the file
@@ -41,10 +54,56 @@ waiting = record { number = 5; file = 5; host = codes "10.0.0.1"; exclusive = tr
 abbrev pub with_waiting : State
 with_waiting = record with_split { waiting = waiting ∷ []; spent_grants = λ n. (n == 5) || written.spent_grants n }
 
+-- B cancels that
+abbrev pub cancelling : CancelArguments
+cancelling = record { cookie = 3 ∷ []; block = true; exclusive = true; lock = on_x b 30 1 }
+
+abbrev pub testing : TestArguments
+testing = record { cookie = 4 ∷ []; exclusive = true; lock = on_x b 30 1 }
+
+-- a share of the file, where A reads and denies writing, and B reads too
+abbrev pub sharing : Owner → ShareMode → ShareAccess → ShareArguments
+sharing o mode access = record { cookie = 5 ∷ []; share = record { caller_name = o.caller_name; file = x_bytes; owner = o.owner; mode = mode; access = access }; reclaim = false }
+
+abbrev pub with_reader : State
+with_reader = record written { shares = reading ∷ [] }
+
+abbrev pub with_readers : State
+with_readers = record written { shares = reading ∷ reading_too ∷ [] }
+
+-- the export is read only
+abbrev pub read_only : Ctx
+read_only = record nobody { exports = record open_export { read_only = true } ∷ [] }
+
+-- which file and range a call names: each check before the next
+pub record WorkedChecks : Type 0 where
+  pub good : range_checked written nobody true (on_x a 0 100) ≡ Ok (range_of 5 (on_x a 0 100))
+  pub last_byte : range_checked written nobody true (on_x a (2 ^ 64 - 1) 1) ≡ Ok (range_of 5 (on_x a (2 ^ 64 - 1) 1))
+  pub no_handle : range_checked written nobody true (record (on_x a 0 1) { file = take 31 x_bytes }) ≡ Err (status.StaleHandle, tested.StaleHandle)
+  pub other_start : range_checked written nobody true (record (on_x a 0 1) { file = handle_bytes (record { export = 1; start = 8; fileid = 5; generation = 1 }) }) ≡ Err (status.StaleHandle, tested.StaleHandle)
+  pub directory : range_checked written nobody true (record (on_x a (2 ^ 64 - 1) 2) { file = root_bytes }) ≡ Err (status.Failed, tested.Failed)
+  pub above : range_checked written read_only true (on_x a (2 ^ 64 - 1) 2) ≡ Err (status.FileTooBig, tested.FileTooBig)
+  pub exclusive : range_checked written read_only true (on_x a 0 1) ≡ Err (status.ReadOnly, tested.ReadOnly)
+  pub shared : range_checked written read_only false (on_x a 0 1) ≡ Ok (range_of 5 (on_x a 0 1))
+
 pub record WorkedLocking : Type 0 where
   pub locks : NlmStep written nobody (nlm.Lock (locking a 0 100 true)) (nlm_replies.Lock (result_with (1 ∷ []) status.Granted)) [] with_whole
   pub unlocks : NlmStep with_whole nobody (nlm.Unlock giving_back) (nlm_replies.Unlock (result_with (2 ∷ []) status.Granted)) [] with_split
   pub waits : NlmStep with_split nobody (nlm.Lock (locking b 30 1 true)) (nlm_replies.Lock (result_with (1 ∷ []) status.Blocked)) [] with_waiting
+  -- the same once more: it waits once
+  pub waits_once : NlmStep with_waiting nobody (nlm.Lock (locking b 30 1 true)) (nlm_replies.Lock (result_with (1 ∷ []) status.Blocked)) [] with_waiting
+  pub cancels : NlmStep with_waiting nobody (nlm.Cancel cancelling) (nlm_replies.Cancel (result_with (3 ∷ []) status.Granted)) [] (record with_waiting { waiting = [] })
+  pub cancels_none : NlmStep with_split nobody (nlm.Cancel cancelling) (nlm_replies.Cancel (result_with (3 ∷ []) status.Denied)) [] with_split
+  pub tests : NlmStep with_split nobody (nlm.Test testing) (nlm_replies.Test (record { cookie = 4 ∷ []; status = tested.Denied (holder 0 40) })) [] with_split
+  -- a MSG form has its result in a call of the server's own
+  pub posts : NlmStep written nobody (nlm.LockMsg (locking a 0 100 true)) nlm_replies.LockMsg (record { host = codes "10.0.0.1"; call = callbacks.LockRes (result_with (1 ∷ []) status.Granted) } ∷ []) with_whole
+  pub posts_denied : NlmStep with_split nobody (nlm.LockMsg (locking b 30 1 false)) nlm_replies.LockMsg (record { host = codes "10.0.0.1"; call = callbacks.LockRes (result_with (1 ∷ []) status.Denied) } ∷ []) with_split
+  pub shares : NlmStep written nobody (nlm.Share (sharing a mode.DenyWrite access.Read)) (nlm_replies.Share (result_with (5 ∷ []) status.Granted)) [] with_reader
+  pub share_denied : NlmStep with_reader nobody (nlm.Share (sharing b mode.DenyNone access.Write)) (nlm_replies.Share (result_with (5 ∷ []) status.Denied)) [] with_reader
+  pub shares_too : NlmStep with_reader nobody (nlm.Share (sharing b mode.DenyNone access.Read)) (nlm_replies.Share (result_with (5 ∷ []) status.Granted)) [] with_readers
+  -- the first share of A stays
+  pub own_denied : NlmStep with_readers nobody (nlm.Share (sharing a mode.DenyRead access.Read)) (nlm_replies.Share (result_with (5 ∷ []) status.Denied)) [] with_readers
+  pub unshares_none : NlmStep with_readers nobody (nlm.Unshare (sharing (record a { caller_name = codes "c3" }) mode.DenyNone access.Neither)) (nlm_replies.Unshare (result_with (5 ∷ []) status.Granted)) [] with_readers
   pub denied : NlmStep with_split nobody (nlm.NmLock (locking b 30 1 false)) (nlm_replies.NmLock (result_with (1 ∷ []) status.Denied)) [] with_split
   pub mounts : MountStep written nobody (mount.Mnt (codes "/a")) (mount_replies.Mnt (Ok root_bytes)) [] (record written { mounts = mounted (codes "10.0.0.1") (codes "/a") ∷ [] })
   pub not_mounted : MountStep written nobody (mount.Mnt (codes "a")) (mount_replies.Mnt (Err mount_status.Invalid)) [] written

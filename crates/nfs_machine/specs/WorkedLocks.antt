@@ -1,24 +1,24 @@
 -- Locks and shares worked through by hand (RFC 1813, appendix II), and lists of MOUNT (appendix I, 5.2.2 to 5.2.5).
-use Rattle.std.specs.Prelude.{◌≡◌, ℕ, ◌-◌, ◌^◌, Bool, true, false, List, [], ◌∷◌, Ok, Err, is_ok, codes, pos, None, Some}
+use Rattle.std.specs.Prelude.{◌≡◌, ℕ, ◌-◌, ◌^◌, Bool, true, false, List, [], ◌∷◌, Err, codes, pos, None, Some}
 use Rattle.std.specs.List.{list_any}
 use Rattle.side_wire.specs.declared.message.NlmLock.{NlmLock}
 use Rattle.side_wire.specs.declared.mount.MountStatus.TheVariants as mount_status
 use Rattle.side_wire.specs.declared.nlm.LockHolder.{LockHolder}
 use Rattle.side_wire.specs.declared.nlm.ShareAccess.{ShareAccess}
-use Rattle.side_wire.specs.declared.nlm.NlmStatus.TheVariants as status
 use Rattle.side_wire.specs.declared.nlm.ShareAccess.TheVariants as access
 use Rattle.side_wire.specs.declared.nlm.ShareMode.{ShareMode}
 use Rattle.side_wire.specs.declared.nlm.ShareMode.TheVariants as mode
 use Rattle.side_wire.specs.declared.nlm.TestStatus.TheVariants as tested
-use Rattle.nfs_machine.specs.Checks.{bytes_in, holding}
 use Rattle.nfs_machine.specs.Grants.{grant_cookie}
-use Rattle.nfs_machine.specs.LockSteps.{Fault, Tests, is_grant_number, length_shown, share_of, without}
+use Rattle.nfs_machine.specs.LockSteps.{Tests, is_grant_number, length_shown, share_of, without}
 use Rattle.nfs_machine.specs.Locks.{Lists, denies, fits_offsets, modes_conflict, modes_with, range_of, same_sharer, shares_conflict, Mode}
-use Rattle.nfs_machine.specs.MountSteps.{Chosen, is_of, listed_exports, walk, without_mounts, with_mount}
-use Rattle.nfs_machine.specs.Paths.{parts}
-use Rattle.nfs_machine.specs.State.{Regular, Directory, Socket, Lock, Owner, Share, State, Range}
-use Rattle.nfs_machine.specs.Worked.{exports, find}
-use Rattle.nfs_machine.specs.Bytes.{same_bytes}
+use Rattle.nfs_machine.specs.MountSteps.{MountStep, is_of, listed_exports, walk, without_mounts, with_mount}
+use Rattle.nfs_machine.specs.State.{Lock, Owner, Share, State, Range}
+use Rattle.nfs_machine.specs.Worked.{called_by, exports, find}
+use Rattle.nfs_machine.specs.declared.context.Limits.{Limits}
+use Rattle.nfs_machine.specs.declared.moment.Moment.{Moment}
+use Rattle.side_wire.specs.declared.mount.MountCall.TheVariants as mount
+use Rattle.side_wire.specs.declared.mount.MountReply.TheVariants as mount_replies
 use Rattle.side_wire.specs.declared.mount.lists.MountBody.{MountBody}
 
 -- the modes of an owner at an offset
@@ -87,7 +87,7 @@ pub record WorkedRanges : Type 0 where
   pub shared_beside_shared : modes_conflict Shared Shared ≡ false
   pub shared_beside_exclusive : modes_conflict Shared Exclusive ≡ true
 
--- exclusive TESTs of one byte by B
+-- exclusive TESTs
 pub record WorkedTests : Type 0 where
   pub at_30 : (m : State) → Tests (record m { locks = split }) (on_file b 30 1) Exclusive (tested.Denied (holder 0 40))
   pub part_of_it : (m : State) → Tests (record m { locks = split }) (on_file b 30 1) Exclusive (tested.Denied (holder 30 5))
@@ -96,9 +96,6 @@ pub record WorkedTests : Type 0 where
   pub at_the_end : (m : State) → Tests (record m { locks = to_the_end }) (on_file b (2 ^ 64 - 1) 1) Exclusive (tested.Denied (holder 200 0))
   -- A's own locks don't stand in its way
   pub own : (m : State) → Tests (record m { locks = split }) (on_file a 0 0) Exclusive tested.Granted
-  pub file : holding {E = Fault} (is_ok (bytes_in (Regular []))) (status.Failed, tested.Failed) ≡ Ok tt
-  pub directory : holding {E = Fault} (is_ok (bytes_in (Directory [] 2))) (status.Failed, tested.Failed) ≡ Err (status.Failed, tested.Failed)
-  pub socket : holding {E = Fault} (is_ok (bytes_in Socket)) (status.Failed, tested.Failed) ≡ Err (status.Failed, tested.Failed)
 
 abbrev pub share : Owner → ShareMode → ShareAccess → Share
 share o denied taken = share_of 5 (record { caller_name = o.caller_name; file = []; owner = o.owner; mode = denied; access = taken })
@@ -147,9 +144,8 @@ pub record WorkedMounts : Type 0 where
   -- UMNT compares the path as it was sent
   pub umnt : (m : State) → (without_mounts (record m { mounts = three_mounts }) (is_of (codes "h1") (codes "/a"))).mounts ≡ mounted (codes "h2") (codes "/a") ∷ mounted (codes "h1") (codes "//a/") ∷ []
   pub umnt_of_none : (m : State) → (without_mounts (record m { mounts = three_mounts }) (is_of (codes "h2") (codes "//a/"))).mounts ≡ three_mounts
-  pub umntall : (m : State) → (without_mounts (record m { mounts = three_mounts }) (λ x. same_bytes x.hostname (codes "h1"))).mounts ≡ mounted (codes "h2") (codes "/a") ∷ []
+  pub umntall : (m : State) (moment : Moment) (limits : Limits)
+      → MountStep (record m { mounts = three_mounts }) (called_by (codes "h1") 7 moment limits) mount.UnmountAll mount_replies.UnmountAll [] (record m { mounts = mounted (codes "h2") (codes "/a") ∷ [] })
   pub export : listed_exports exports ≡ record { directory = codes "/a"; groups = [] } ∷ record { directory = codes "/a/b"; groups = codes "10.0.0.2" ∷ [] } ∷ []
-  -- by 10.0.0.2 the root of export 2; by another host what `b` is below export 1
-  pub lower : Chosen exports (codes "10.0.0.2") (parts (codes "/a/b")) 2 []
-  pub not_lower : Chosen exports (codes "10.0.0.1") (parts (codes "/a/b")) 1 (codes "b" ∷ [])
+  -- by another host than 10.0.0.2 it is what `b` is below the first (WorkedWalks)
   pub nothing_there : walk find 1 (codes "b" ∷ []) ≡ Err mount_status.NoEntry

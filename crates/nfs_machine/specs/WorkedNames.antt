@@ -1,12 +1,12 @@
 -- Calls on names worked through by hand: MKDIR, SYMLINK, MKNOD, REMOVE, RMDIR, RENAME and LINK (RFC 1813, 3.3.9 to 3.3.15).
-use Rattle.std.specs.Prelude.{◌≡◌, ℕ, ℤ, true, false, List, [], ◌∷◌, ◌++◌, Option, Some, None, Result, Ok, Err, codes, replicate, is_none, nat_lt}
+use Rattle.std.specs.Prelude.{◌≡◌, ℕ, ℤ, true, false, List, [], ◌∷◌, ◌++◌, Option, Some, None, Result, Ok, Err, codes, replicate, is_none}
 use Rattle.std.specs.FinMap.{get}
 use Rattle.nfs_wire.specs.declared.attributes.DeviceNumber.{DeviceNumber}
 use Rattle.nfs_wire.specs.declared.calls.Ordinary.TheVariants as ordinary
 use Rattle.nfs_wire.specs.declared.calls.Special.TheVariants.{BlockDevice, Fifo, Other}
 use Rattle.nfs_wire.specs.declared.status.NfsStatus.{NfsStatus}
 use Rattle.nfs_machine.specs.Attributes.{is_directory, links_of, names_in, names_of}
-use Rattle.nfs_machine.specs.Checks.{holding, link_limit, plain_name_checked, entry_of}
+use Rattle.nfs_machine.specs.Checks.{plain_name_checked, entry_of}
 use Rattle.nfs_machine.specs.MakeSteps.{wanted_of, wanted_special}
 use Rattle.nfs_machine.specs.Making.{Wanted, given_attributes, kind_checked, new_object}
 use Rattle.nfs_machine.specs.Refusal.{nothing}
@@ -109,8 +109,6 @@ pub record WorkedRemovals : Type 0 where
 pub record WorkedLinks : Type 0 where
   pub last_below : kind_checked (called_as 9) 31999 (Directory [] 2) ≡ Ok tt
   pub one_too_many : kind_checked (called_as 9) 32000 (Directory [] 2) ≡ Err status.TooManyLinks
-  pub most : (m : State) (number : ℕ) (content : Content) → links_of m number content ≡ 31999 → holding (nat_lt (links_of m number content) link_limit) status.TooManyLinks ≡ Ok tt
-  pub full : (m : State) (number : ℕ) (content : Content) → links_of m number content ≡ 32000 → holding (nat_lt (links_of m number content) link_limit) status.TooManyLinks ≡ Err status.TooManyLinks
   -- a directory has 2, and one for each directory in it
   pub empty : (m : State) → links_of m 1 (Directory [] 7) ≡ 2
   pub one_below : (m : State) (a b : Living) → get m.objects 4 ≡ Some a → get m.objects 5 ≡ Some b → is_directory a.content ≡ true → is_directory b.content ≡ false
@@ -129,11 +127,14 @@ pub record WorkedLinks : Type 0 where
 abbrev pub a_to_b : RenameArguments
 a_to_b = record { from = record { directory = []; name = codes "a" }; to = record { directory = []; name = codes "b" } }
 
--- "a" of directory 2, an object of this content, comes to "b" of a directory, where this stands
+-- "a" of directory 2, an object of this content, comes to "b" of a directory, where this stands; both directories have these entries
+abbrev pub move_among : List Entry → State → Content → (target last_cookie : ℕ) → Option (ℕ × Living) → Result (Option (ℕ × ℕ) × Result (Unit {0} × State) NfsStatus) NfsStatus
+move_among entries m content target last_cookie replaced =
+    move_plan m (time 1000 0) a_to_b (2, object 511 (Directory entries 7)) (target, object 511 (Directory entries last_cookie))
+    (entries, 7) (entries, last_cookie) (4, object 511 content) replaced
+
 abbrev pub move_to : State → Content → (target last_cookie : ℕ) → Option (ℕ × Living) → Result (Option (ℕ × ℕ) × Result (Unit {0} × State) NfsStatus) NfsStatus
-move_to m content target last_cookie replaced =
-    move_plan m (time 1000 0) a_to_b (2, object 511 (Directory both_entries 7)) (target, object 511 (Directory both_entries last_cookie))
-    (both_entries, 7) (both_entries, last_cookie) (4, object 511 content) replaced
+move_to = move_among both_entries
 
 abbrev pub moved_entry : Entry
 moved_entry = record { name = codes "b"; number = 4; cookie = 8 }
@@ -142,9 +143,12 @@ abbrev pub directory_with : List Entry → ℕ → Living
 directory_with entries last_cookie = with_content (object 511 (Directory both_entries 7)) (time 1000 0) (Directory entries last_cookie)
 
 -- the state then: the object has the name "b" of its new directory, behind the names that stay there
+abbrev pub moved_among : List Entry → State → Content → (target : ℕ) → List Entry → State
+moved_among source m content target left =
+    with_object (with_object (with_object m 2 (directory_with source 7)) target (directory_with (left ++ moved_entry ∷ []) 8)) 4 (touched (object 511 content) (time 1000 0))
+
 abbrev pub moved_to : State → Content → (target : ℕ) → List Entry → State
-moved_to m content target left =
-    with_object (with_object (with_object m 2 (directory_with (second_entry ∷ []) 7)) target (directory_with (left ++ moved_entry ∷ []) 8)) 4 (touched (object 511 content) (time 1000 0))
+moved_to = moved_among (second_entry ∷ [])
 
 abbrev pub empty_place : Option (ℕ × Living)
 empty_place = Some (5, object 511 (Directory [] 2))
@@ -162,13 +166,18 @@ pub record WorkedRenames : Type 0 where
   -- what the target keeps: its other names, and in the old name's directory not that one
   pub left_in_other : (m : State) → move_to m (Regular []) 3 7 None ≡ Ok (None, Ok (tt, moved_to m (Regular []) 3 (first_entry ∷ [])))
   pub left_in_same : (m : State) → move_to m (Regular []) 2 7 None ≡ Ok (None, Ok (tt, moved_to m (Regular []) 2 []))
-  -- a move that brings a link is refused where the target has all its links; the others go on
-  pub link_to_other : (m : State) → links_of m 3 (Directory both_entries 7) ≡ 32000 → move_to m (Directory [] 2) 3 7 None ≡ Ok (Some (4, 3), Err status.TooManyLinks)
-  pub link_to_same : (m : State) → links_of m 2 (Directory both_entries 7) ≡ 32000 → move_to m (Directory [] 2) 2 7 None ≡ Ok (Some (4, 2), Ok (tt, moved_to m (Directory [] 2) 2 []))
-  pub link_over_directory : (m : State) → links_of m 3 (Directory both_entries 7) ≡ 32000
-      → move_to m (Directory [] 2) 3 7 empty_place
-      ≡ Ok (Some (4, 3), Ok (tt, losing_name (moved_to m (Directory [] 2) 3 (first_entry ∷ [])) (names_of m 5) (time 1000 0) 5 (object 511 (Directory [] 2))))
-  pub link_of_file : (m : State) → links_of m 3 (Directory both_entries 7) ≡ 32000 → move_to m (Regular []) 3 7 None ≡ Ok (None, Ok (tt, moved_to m (Regular []) 3 (first_entry ∷ [])))
+  -- a move that brings a link is refused where the target has all its links; the others go on, whatever links it has
+  pub last_link : (m : State) (entries : List Entry) → links_of m 3 (Directory entries 7) ≡ 31999
+      → move_among entries m (Directory [] 2) 3 7 None ≡ Ok (Some (4, 3), Ok (tt, moved_among (without entries (codes "a")) m (Directory [] 2) 3 (without entries (codes "b"))))
+  pub link_to_other : (m : State) (entries : List Entry) → links_of m 3 (Directory entries 7) ≡ 32000 → move_among entries m (Directory [] 2) 3 7 None ≡ Ok (Some (4, 3), Err status.TooManyLinks)
+  pub link_to_same : (m : State) (entries : List Entry)
+      → move_among entries m (Directory [] 2) 2 7 None
+      ≡ Ok (Some (4, 2), Ok (tt, moved_among (without entries (codes "a")) m (Directory [] 2) 2 (without (without entries (codes "b")) (codes "a"))))
+  pub link_over_directory : (m : State) (entries : List Entry)
+      → move_among entries m (Directory [] 2) 3 7 empty_place
+      ≡ Ok (Some (4, 3), Ok (tt, losing_name (moved_among (without entries (codes "a")) m (Directory [] 2) 3 (without entries (codes "b"))) (names_of m 5) (time 1000 0) 5 (object 511 (Directory [] 2))))
+  pub link_of_file : (m : State) (entries : List Entry)
+      → move_among entries m (Regular []) 3 7 None ≡ Ok (None, Ok (tt, moved_among (without entries (codes "a")) m (Regular []) 3 (without entries (codes "b"))))
   pub last_cookie : (m : State) → move_to m (Regular []) 3 18446744073709551615 None ≡ Ok (None, Err status.NoSpace)
   -- a directory into itself
   pub into_itself : (m : State) (end : Result (Unit {0} × State) NfsStatus) → RenameEnds m (move_to m (Directory [] 2) 4 7 None) end → end ≡ Err status.Invalid

@@ -8,6 +8,7 @@ use Rattle.nfs_rpc.specs.declared.programs.Program.TheVariants as programs
 use Rattle.nfs_wire.specs.Calls.{arguments_of, arguments_type, procedure_of}
 use Rattle.nfs_wire.specs.declared.calls.CreateArguments.{CreateArguments}
 use Rattle.nfs_wire.specs.declared.calls.CreateHow.TheVariants.{Unchecked}
+use Rattle.nfs_wire.specs.declared.calls.LinkArguments.{LinkArguments}
 use Rattle.nfs_wire.specs.declared.calls.NfsCall.{NfsCall}
 use Rattle.nfs_wire.specs.declared.calls.NfsCall.TheVariants as nfs
 use Rattle.nfs_wire.specs.declared.calls.Place.{Place}
@@ -19,7 +20,9 @@ use Rattle.nfs_wire.specs.declared.replies.NfsReply.{NfsReply}
 use Rattle.nfs_wire.specs.declared.replies.NfsReply.TheVariants as nfs_replies
 use Rattle.nfs_wire.specs.declared.status.NfsStatus.TheVariants as status
 use Rattle.side_wire.specs.Mount.{IsHostName}
+use Rattle.nfs_machine.specs.Attributes.{names_of}
 use Rattle.nfs_machine.specs.Handles.{handle_bytes}
+use Rattle.nfs_machine.specs.LinkSteps.{link_end}
 use Rattle.nfs_machine.specs.Making.{made, new_object}
 use Rattle.nfs_machine.specs.NameSteps.{wanted_file}
 use Rattle.nfs_machine.specs.NfsSteps.{NfsStep}
@@ -29,7 +32,7 @@ use Rattle.nfs_machine.specs.Readings.{Reading, StaysThrough, Turn}
 use Rattle.nfs_machine.specs.RemoveSteps.{without_object}
 use Rattle.nfs_machine.specs.Resolve.{resolve}
 use Rattle.nfs_machine.specs.Run.{Arrival, Record, Run, Setting}
-use Rattle.nfs_machine.specs.Shown.{shown, wcc, with_content, with_object}
+use Rattle.nfs_machine.specs.Shown.{shown, touched, wcc, with_content, with_object}
 use Rattle.nfs_machine.specs.State.{Directory, Regular, Entry, Living, State}
 use Rattle.nfs_machine.specs.Times.{is_earlier}
 use Rattle.nfs_machine.specs.WellFormed.{WellFormed}
@@ -152,6 +155,26 @@ pub record WorkedSteps : Type 0 where
   pub removes : NfsStep written nobody (nfs.Remove (in_root (codes "x"))) removed_reply [] removed
   pub refuses : NfsStep with_x nobody (nfs.Write miscounted) refused_reply [] with_x
 
+-- LINK of "x" under another name
+abbrev pub linking : List ℕ → LinkArguments
+linking name = record { file = x_bytes; place = in_root name }
+
+abbrev pub linked : State → State
+linked m = with_object (with_object m 1 (with_content root_with_x (time 1000 0) (Directory (x_entry ∷ record { name = codes "y"; number = 5; cookie = 4 } ∷ []) 4))) 5 (touched x_written (time 1000 0))
+
+-- what it comes to where the file has so many names
+pub record WorkedLinking (m : State) : Type 0 where
+  pub last : names_of m 5 ≡ 31999 → link_end m nobody (linking (codes "y")) ≡ Ok (tt, linked m)
+  pub full : names_of m 5 ≡ 32000 → link_end m nobody (linking (codes "y")) ≡ Err status.TooManyLinks
+  -- a name that is there comes before that
+  pub there : link_end m nobody (linking (codes "x")) ≡ Err status.Exists
+  pub self : link_end m nobody (linking (codes ".")) ≡ Err status.Invalid
+  pub directory : link_end m nobody (record (linking (codes "y")) { file = root_bytes }) ≡ Err status.Invalid
+  pub into_file : link_end m nobody (record (linking (codes "y")) { place = record { directory = x_bytes; name = codes "y" } }) ≡ Err status.NotDirectory
+
+abbrev pub WorkedLinkings : Type 0
+WorkedLinkings = (m : State) → get m.objects 1 ≡ Some root_with_x → get m.objects 5 ≡ Some x_written → WorkedLinking m
+
 -- A reading of the root in two pages, with the WRITE between them: the first from the state in which "x" was made, with room for
 -- two entries, and the second from its last cookie on. "x" stays.
 abbrev pub first_listing : ReaddirArguments
@@ -183,6 +206,8 @@ abbrev pub turns : List Turn
 turns = first_turn ∷ second_turn ∷ []
 
 pub record WorkedTurns : Type 0 where
-  pub formed : (records : List Record) (m : State) → Run setting with_x records m → WellFormed m
+  pub formed : WellFormed with_x
   pub reading : Reading setting with_x root_bytes 0 turns
   pub stays : StaysThrough setting with_x root_bytes 0 turns reading x_entry
+  -- and so does "."
+  pub self_stays : StaysThrough setting with_x root_bytes 0 turns reading (record { name = codes "."; number = 1; cookie = 1 })

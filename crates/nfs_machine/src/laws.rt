@@ -4,7 +4,7 @@ ghost use Rattle.nfs_machine.specs.Laws.{ArrivalsAskOnce, HandlesAreRead, Handle
 ghost use Rattle.nfs_machine.specs.LockLaws.{ListedLocksTell, OpeningIsApart, OpeningWaitsForNone, RunsKeepApart, RunsKeepWaiting, StepsKeepApart, StepsKeepWaiting};
 ghost use Rattle.nfs_machine.specs.Paging.{FullPagesFit, FullPagesList, PagesAreOne, PagesAreWhole, PagesExist, PagesFit, PagesList};
 ghost use Rattle.nfs_machine.specs.Readings.{ReadingsAreWhole};
-ghost use Rattle.nfs_machine.specs.SideLaws.{LocksStayFit, MountRefusalsChangeNothing, MountRepliesHaveForm, MountsStayFit, NlmMessagesHaveForm, NlmRefusalsChangeNothing, NlmRepliesHaveForm, OpeningFits, RunsStayFit, SpelledCallsFit};
+ghost use Rattle.nfs_machine.specs.SideLaws.{LocksStayFit, MountRefusalsChangeNothing, MountRepliesHaveForm, MountsStayFit, NlmMessagesHaveForm, NlmRefusalsChangeNothing, NlmRepliesHaveForm, OpeningFits, PostedRefusalsChangeNothing, RunsStayFit, SpelledCallsFit};
 ghost use Rattle.nfs_machine.specs.TimeLaws.{RunsNeverFall, StepsTouchOnce, TimesNeverFall, TimesRise};
 
 use side_wire::{mount, nlm};
@@ -96,7 +96,7 @@ pub fn pages_list_directories()
 {}
 
 /// A directory that is read page by page in a run, by READDIR or READDIRPLUS, from cookie 0 to its end, with any records
-/// between, shows no cookie twice and each entry that stayed once, if all states of the run are well-formed.
+/// between, shows no cookie twice and each entry that stayed once, "." and ".." among them; the state before is well-formed.
 ///
 /// Such a reading is `worked_turns`.
 pub fn readings_are_whole()
@@ -170,12 +170,14 @@ pub fn bounds_are_kept()
     ensures runs { RunsStayFit }
 {}
 
-/// A call of MOUNT or NLM that is refused changes nothing and puts no message.
+/// A call of MOUNT or NLM that is refused in its reply changes nothing and puts no message; one of NLM that is refused in a
+/// message, as the MSG calls are, changes nothing and puts no other.
 ///
 /// Such calls are in `worked_locking`.
 pub fn side_refusals_change_nothing()
     ensures mount { MountRefusalsChangeNothing }
     ensures nlm { NlmRefusalsChangeNothing }
+    ensures posted { PostedRefusalsChangeNothing }
 {}
 
 /// A lock conflicts with nothing where no listed lock stands in its way.

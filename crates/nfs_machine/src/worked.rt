@@ -3,14 +3,15 @@
 ghost use Rattle.nfs_machine.specs.Worked.{WorkedExports, WorkedHandles, WorkedPaths, WorkedRights, WorkedWalks};
 ghost use Rattle.nfs_machine.specs.WorkedFiles.{WorkedContent, WorkedNames, WorkedTimes};
 ghost use Rattle.nfs_machine.specs.WorkedCreate.{WorkedAttributes, WorkedExisting, WorkedNewFile};
-ghost use Rattle.nfs_machine.specs.WorkedLocking.{WorkedLocking};
+ghost use Rattle.nfs_machine.specs.WorkedLocking.{WorkedChecks, WorkedLocking};
 ghost use Rattle.nfs_machine.specs.WorkedLocks.{WorkedGrants, WorkedMounts, WorkedRanges, WorkedShares, WorkedTests};
 ghost use Rattle.nfs_machine.specs.WorkedPages.{WorkedFullPages, WorkedPages, WorkedReading, WorkedSizes};
 ghost use Rattle.nfs_machine.specs.WorkedReplies.{WorkedFileReplies, WorkedRootReplies};
-ghost use Rattle.nfs_machine.specs.WorkedRun.{WorkedRun, WorkedSteps, WorkedTurns};
+ghost use Rattle.nfs_machine.specs.WorkedRun.{WorkedLinkings, WorkedRun, WorkedSteps, WorkedTurns};
 ghost use Rattle.nfs_machine.specs.WorkedSetting.{WorkedAccess, WorkedGuard, WorkedKinds, WorkedLimits, WorkedSetting, WorkedSpace};
 ghost use Rattle.nfs_machine.specs.WorkedSettling.{WorkedFreed, WorkedSettling};
 ghost use Rattle.nfs_machine.specs.WorkedWrites.{WorkedWrites};
+ghost use Rattle.nfs_machine.specs.WorkedMaking.{WorkedMaking, WorkedTaking};
 ghost use Rattle.nfs_machine.specs.WorkedNames.{WorkedLinks, WorkedMakes, WorkedRemovals, WorkedRenames, WorkedSpecialNames};
 
 /// Which paths are at fault, and which parts a path has.
@@ -148,6 +149,16 @@ pub fn worked_removals()
     ensures { WorkedRemovals }
 {}
 
+/// What MKDIR, SYMLINK, MKNOD and CREATE make in a root, and why they don't.
+pub fn worked_making()
+    ensures { WorkedMaking }
+{}
+
+/// What REMOVE and RMDIR don't take away.
+pub fn worked_taking()
+    ensures { WorkedTaking }
+{}
+
 /// How many links an object may have, and which names are free.
 pub fn worked_links()
     ensures { WorkedLinks }
@@ -178,7 +189,7 @@ pub fn worked_grants()
     ensures { WorkedGrants }
 {}
 
-/// What DUMP and EXPORT list, what UMNT and UMNTALL take away, and where MNT leads with one export below another.
+/// What DUMP and EXPORT list, what UMNT and UMNTALL take away, and a path under which MNT finds nothing.
 pub fn worked_mounts()
     ensures { WorkedMounts }
 {}
@@ -203,12 +214,23 @@ pub fn worked_steps()
     ensures { WorkedSteps }
 {}
 
+/// What LINK comes to where a file has almost all names that it can have, and all of them.
+pub fn worked_linkings()
+    ensures { WorkedLinkings }
+{}
+
 /// A reading of a directory in two pages, with a WRITE between them.
 pub fn worked_turns()
     ensures { WorkedTurns }
 {}
 
-/// A LOCK, an UNLOCK of a part of it, a LOCK that waits and an NM_LOCK that is denied; MNT, and one that is refused.
+/// Which file and range a call of NLM names, and which status each check has.
+pub fn worked_checks()
+    ensures { WorkedChecks }
+{}
+
+/// A LOCK, an UNLOCK of a part of it, a LOCK that waits, once, and is cancelled, a TEST and an NM_LOCK that are denied, LOCK_MSG,
+/// shares; MNT, and one that is refused.
 pub fn worked_locking()
     ensures { WorkedLocking }
 {}

@@ -13,7 +13,7 @@ pub enum Fault {
     ProgramUnavailable,
     /// PROG_MISMATCH: the program is there in the versions from low to high.
     ProgramMismatch { low: u32, high: u32 },
-    /// PROC_UNAVAIL: the program has no such procedure.
+    /// PROC_UNAVAIL: the program has no such procedure, or it is not built.
     ProcedureUnavailable,
     /// GARBAGE_ARGS: the arguments can't be read.
     GarbageArguments,

@@ -49,7 +49,7 @@ impl Program {
         }
     }
 
-    /// Whether it has the procedure.
+    /// Whether the procedure is built.
     pub fn has_procedure(self, procedure: u32) -> bool
         ensures { result ≡ is_built self procedure }
     {

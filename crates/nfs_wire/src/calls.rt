@@ -159,7 +159,7 @@ pub struct ReaddirArguments {
     /// The entry behind which the page begins; 0 at the start.
     pub cookie: u64,
     pub verifier: Verifier,
-    /// The most bytes that the result may have.
+    /// The most bytes of READDIR3resok, which is the result without its status (4 bytes).
     pub count: u32,
 }
 
@@ -173,7 +173,7 @@ pub struct ReaddirplusArguments {
     pub verifier: Verifier,
     /// The most bytes of numbers, names and cookies.
     pub directory_count: u32,
-    /// The most bytes that the result may have.
+    /// The most bytes of READDIRPLUS3resok, which is the result without its status (4 bytes).
     pub most: u32,
 }
 

@@ -1,7 +1,8 @@
-use Rattle.std.proofs.Common.{◌≡◌, ◌==◌, inl, inr, refl, ap, arith, Ok, Some, [], ◌∷◌}
+use Rattle.std.proofs.Common.{◌≡◌, ◌==◌, inl, inr, refl, ap, arith, Ok, Some, [], codes}
 use Rattle.std.specs.Prelude.{nat_lt}
 use Rattle.nfs_wire.specs.declared.status.NfsStatus.TheVariants as status
-use Rattle.nfs_machine.specs.WorkedNames.{first_entry, moved_to}
+use Rattle.nfs_machine.specs.RemoveSteps.{without}
+use Rattle.nfs_machine.specs.WorkedNames.{moved_among}
 use Rattle.nfs_machine.specs.Checks.{◌>>=◌, holding, link_limit}
 use Rattle.nfs_machine.specs.Attributes.{entries_of, names_in}
 use Rattle.nfs_machine.specs.RenameSteps.{below, itself}
@@ -21,10 +22,13 @@ returns c = record {
   over_nothing = λ m. refl;
   left_in_other = λ m. refl;
   left_in_same = λ m. refl;
-  link_to_other = λ m full. ap (λ k. Ok (Some (4, 3), holding (nat_lt k link_limit) status.TooManyLinks >>= λ _. Ok (tt, moved_to m (Directory [] 2) 3 (first_entry ∷ [])))) full;
-  link_to_same = λ m full. refl;
-  link_over_directory = λ m full. refl;
-  link_of_file = λ m full. refl;
+  last_link = λ m entries most.
+      ap (λ k. Ok (Some (4, 3), holding (nat_lt k link_limit) status.TooManyLinks >>= λ _. Ok (tt, moved_among (without entries (codes "a")) m (Directory [] 2) 3 (without entries (codes "b"))))) most;
+  link_to_other = λ m entries full.
+      ap (λ k. Ok (Some (4, 3), holding (nat_lt k link_limit) status.TooManyLinks >>= λ _. Ok (tt, moved_among (without entries (codes "a")) m (Directory [] 2) 3 (without entries (codes "b"))))) full;
+  link_to_same = λ m entries. refl;
+  link_over_directory = λ m entries. refl;
+  link_of_file = λ m entries. refl;
   last_cookie = λ m. refl;
   into_itself = λ m end ends. elim ends [
     | inl into ↦ into.1

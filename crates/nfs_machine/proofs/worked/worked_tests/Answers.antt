@@ -12,7 +12,4 @@ returns c = record {
   at_99 = at-99;
   at_the_end = at-the-end;
   own = λ m. listed_locks_tell split (on_file a 0 0) Exclusive refl;
-  file = refl;
-  directory = refl;
-  socket = refl;
 }

@@ -1,0 +1,132 @@
+-- The steps of calls that make or take away a name that are worked through: what the root's handle names, and the rest computes.
+use Rattle.std.proofs.Common.{◌≡◌, ℕ, ◌+◌, List, [], ◌∷◌, Option, Some, None, option_map, Result, Ok, Err, codes, refl, sym, ◌∙◌, ap, subst}
+use Rattle.std.specs.Prelude.{ok_or}
+use Rattle.std.specs.FinMap.{get, insert}
+use Rattle.std.specs.List.{count_by}
+use Rattle.nfs_wire.specs.declared.calls.Special.TheVariants as special
+use Rattle.nfs_wire.specs.declared.replies.MadeReply.{MadeReply}
+use Rattle.nfs_wire.specs.declared.replies.NfsReply.{NfsReply}
+use Rattle.nfs_wire.specs.declared.replies.NfsReply.TheVariants as nfs_replies
+use Rattle.nfs_wire.specs.declared.replies.RemovedReply.{RemovedReply}
+use Rattle.nfs_wire.specs.declared.status.NfsStatus.{NfsStatus}
+use Rattle.nfs_wire.specs.declared.status.NfsStatus.TheVariants as status
+use Rattle.nfs_machine.specs.Answers.{answer_of, state_after}
+use Rattle.nfs_machine.specs.Attributes.{is_living_directory, names_of}
+use Rattle.nfs_machine.specs.Checks.{◌>>=◌, changeable, entries_in, entry_of, object_of, permitted, plain_name_checked}
+use Rattle.nfs_machine.specs.Making.{End, EndsAs, MakeStep, Wanted, made, make_new}
+use Rattle.nfs_machine.specs.MakeSteps.{wanted_of, wanted_special}
+use Rattle.nfs_machine.specs.NameSteps.{create_existing}
+use Rattle.nfs_machine.specs.NfsSteps.{NfsStep}
+use Rattle.nfs_machine.specs.Permission.{Changing}
+use Rattle.nfs_machine.specs.RemoveSteps.{TakeStep, losing_name, object_under, without}
+use Rattle.nfs_machine.specs.RemoveSteps as removing
+use Rattle.nfs_machine.specs.Resolve.{Resolved, Names, resolve}
+use Rattle.nfs_machine.specs.Shown.{wcc, with_content, with_object}
+use Rattle.nfs_machine.specs.State.{Content, Directory, Fifo, Link, Entry, Living, State}
+use Rattle.nfs_machine.specs.Worked.{root_bytes}
+use Rattle.nfs_machine.specs.WorkedCreate.{no_attributes}
+use Rattle.nfs_machine.specs.WorkedFiles.{time}
+use Rattle.nfs_machine.specs.WorkedMaking.{WorkedMaking, WorkedTaking, d_entry, empty_directory, exclusive, guarded, made_as, new, not_made, not_removed, root_with_d, with_new}
+use Rattle.nfs_machine.specs.WorkedReplies.{root}
+use Rattle.nfs_machine.specs.WorkedRun.{in_root, nobody, opened, root_with_x, written, x_entry}
+use Rattle.nfs_machine.proofs.RunWorked.{fresh, root-named, root-opened, root-written, x-lives}
+use Rattle.nfs_machine.proofs.Sums.{get-inserted}
+
+root-with-d : (o : Living) → get (with_new o).objects 1 ≡ Some root_with_d
+root-with-d o = get-inserted (insert opened.objects 1 root_with_d) 5 o 1 ∙ get-inserted opened.objects 1 root_with_d 1
+
+d-lives : (o : Living) → get (with_new o).objects 5 ≡ Some o
+d-lives o = get-inserted (insert opened.objects 1 root_with_d) 5 o 5
+
+-- ---- what is made under a name of the root
+module _ (old : State) (name : List ℕ) (wanted : Result Wanted NfsStatus) (there : ℕ → Option Living → Result (End old) NfsStatus) where
+  abbrev make_under : Wanted → ℕ → Living → List Entry → ℕ → Option Entry → Result (End old) NfsStatus
+  make_under what number directory entries last e = elim e [ Some e ↦ there e.number (get old.objects e.number) | None ↦ make_new old nobody name what number directory entries last ]
+
+  abbrev make_by : Resolved → Result (End old) NfsStatus
+  make_by r =
+      object_of r >>= λ directory. entries_in directory.1.content >>= λ entries. plain_name_checked status.Exists status.Exists name >>= λ _. wanted >>= λ what. changeable nobody directory.1
+      >>= λ _. permitted nobody directory.1 Changing >>= λ _. make_under what directory.0 directory.1 entries.0 entries.1 (entry_of entries.0 name)
+
+  not-made : (o : Living) (reply_of : MadeReply → NfsReply) (e : NfsStatus) → resolve old nobody root_bytes ≡ Names 1 o → make_by (Names 1 o) ≡ Err e
+      → MakeStep old nobody (in_root name) wanted there reply_of (reply_of (not_made old e)) [] old
+  not-made o reply_of e named comes = record {
+    end = Err e;
+    ends = subst (λ r. EndsAs old (make_by r) (Err e)) (sym named) (subst (λ c. EndsAs old c (Err e)) (sym comes) refl);
+    answers = record { reply_is = refl; no_message = refl; state_is = refl };
+  }
+
+is-opened : resolve opened nobody root_bytes ≡ Names 1 root
+is-opened = root-named opened root refl refl root-opened
+
+is-written : resolve written nobody root_bytes ≡ Names 1 root_with_x
+is-written = root-named written root_with_x refl refl root-written
+
+is-made : (o : Living) → resolve (with_new o) nobody root_bytes ≡ Names 1 root_with_d
+is-made o = root-named (with_new o) root_with_d refl refl (root-with-d o)
+
+is-new : (name : List ℕ) (wanted : Result Wanted NfsStatus) (there : ℕ → Option Living → Result (End opened) NfsStatus) (o : Living) (reply_of : MadeReply → NfsReply)
+    → EndsAs opened (make_by opened name wanted there (Names 1 root)) (Ok (made (with_new o) nobody 5 o, with_new o))
+    → MakeStep opened nobody (in_root name) wanted there reply_of (reply_of (made_as o)) [] (with_new o)
+is-new name wanted there o reply_of ends = record {
+  end = Ok (made (with_new o) nobody 5 o, with_new o);
+  ends = subst (λ r. EndsAs opened (make_by opened name wanted there r) (Ok (made (with_new o) nobody 5 o, with_new o))) (sym is-opened) ends;
+  answers = record { reply_is = refl; no_message = refl; state_is = refl };
+}
+
+pub worked-making : WorkedMaking
+unfolding NfsStep fresh
+worked-making = record {
+  directory = is-new (codes "d") (Ok (wanted_of 493 (Directory [] 2) no_attributes)) (λ number object. Err status.Exists) empty_directory nfs_replies.Mkdir (fresh, refl);
+  links = ap (λ (l : Option Living). 2 + count_by (λ (e : Entry). is_living_directory l) (d_entry ∷ [])) (d-lives empty_directory);
+  above = not-made _ _ _ _ _ _ _ is-opened refl;
+  link = is-new (codes "d") (Ok (wanted_of 511 (Link (codes "x")) no_attributes)) (λ number object. Err status.Exists) (new 511 (Link (codes "x"))) nfs_replies.Symlink (fresh, refl);
+  empty_link = not-made _ _ _ _ _ _ _ is-opened refl;
+  long_link = not-made _ _ _ _ _ _ _ is-opened refl;
+  fifo = is-new (codes "d") (wanted_special (special.Fifo no_attributes)) (λ number object. Err status.Exists) (new 420 Fifo) nfs_replies.Mknod (fresh, refl);
+  device = not-made _ _ _ _ _ _ _ is-opened refl;
+  regular = not-made _ _ _ _ _ _ _ is-opened refl;
+  long_name = not-made _ _ _ _ _ _ _ is-opened refl;
+  no_name = not-made _ _ _ _ _ _ _ is-opened refl;
+  there = not-made _ _ _ _ _ _ _ is-written (ap (λ (l : Option Living). create_existing written nobody (guarded (codes "x")).how 5 l) x-lives);
+  over_directory = not-made _ _ _ _ _ _ _ (is-made empty_directory)
+      (ap (λ (l : Option Living). create_existing (with_new empty_directory) nobody (exclusive (codes "d")).how 5 l) (d-lives empty_directory));
+}
+
+-- ---- what is taken away
+module _ (old : State) (name : List ℕ) (name_checked : List ℕ → Result (Unit {0}) NfsStatus) (content_checked : Content → Result (Unit {0}) NfsStatus) where
+  abbrev take_object : (directory : ℕ × Living) → (entries : List Entry × ℕ) → Option (ℕ × Living) → Result (Unit {0} × State) NfsStatus
+  take_object directory entries found =
+      ok_or found status.NoEntry >>= λ object. content_checked object.1.content >>= λ _.
+      let left = with_object old directory.0 (with_content directory.1 (time 1000 0) (Directory (without entries.0 name) entries.1)) in
+      Ok (tt, losing_name left (names_of old object.0) (time 1000 0) object.0 object.1)
+
+  abbrev take_by : Resolved → Result (Unit {0} × State) NfsStatus
+  take_by r =
+      object_of r >>= λ directory. entries_in directory.1.content >>= λ entries. name_checked name >>= λ _. changeable nobody directory.1 >>= λ _. permitted nobody directory.1 Changing
+      >>= λ _. take_object directory entries (object_under old (entry_of entries.0 name))
+
+  not-taken : (o : Living) (reply_of : RemovedReply → NfsReply) (e : NfsStatus) → resolve old nobody root_bytes ≡ Names 1 o → take_by (Names 1 o) ≡ Err e
+      → TakeStep old nobody (in_root name) name_checked content_checked reply_of (reply_of (not_removed old e)) [] old
+  not-taken o reply_of e named comes =
+      let end = ap take_by named ∙ comes in record {
+        reply_is = sym (ap (λ end. reply_of (record { directory = wcc (state_after old end) (resolve old nobody root_bytes); result = answer_of end })) end);
+        no_message = refl;
+        state_is = sym (ap (state_after old) end);
+      }
+
+pub worked-taking : WorkedTaking
+unfolding NfsStep
+worked-taking = record {
+  self = not-taken opened (codes ".") (plain_name_checked status.Invalid status.Exists) removing.empty_directory root nfs_replies.Rmdir status.Invalid is-opened refl;
+  above = not-taken opened (codes "..") (plain_name_checked status.Invalid status.Exists) removing.empty_directory root nfs_replies.Rmdir status.Exists is-opened refl;
+  nothing = not-taken opened (codes "d") (plain_name_checked status.Invalid status.Exists) removing.empty_directory root nfs_replies.Rmdir status.NoEntry is-opened refl;
+  file =
+      not-taken written (codes "x") (plain_name_checked status.Invalid status.Exists) removing.empty_directory root_with_x nfs_replies.Rmdir status.NotDirectory is-written
+      (ap (λ (l : Option Living). take_object written (codes "x") (plain_name_checked status.Invalid status.Exists) removing.empty_directory (1, root_with_x) (x_entry ∷ [], 3) (option_map (λ (o : Living). (5, o)) l)) x-lives);
+  remove_self = not-taken opened (codes ".") (plain_name_checked status.Invalid status.Invalid) removing.not_directory root nfs_replies.Remove status.Invalid is-opened refl;
+  remove_above = not-taken opened (codes "..") (plain_name_checked status.Invalid status.Invalid) removing.not_directory root nfs_replies.Remove status.Invalid is-opened refl;
+  directory =
+      not-taken (with_new empty_directory) (codes "d") (plain_name_checked status.Invalid status.Invalid) removing.not_directory root_with_d nfs_replies.Remove status.IsDirectory (is-made empty_directory)
+      (ap (λ (l : Option Living). take_object (with_new empty_directory) (codes "d") (plain_name_checked status.Invalid status.Invalid) removing.not_directory (1, root_with_d) (d_entry ∷ [], 3) (option_map (λ (o : Living). (5, o)) l)) (d-lives empty_directory));
+}
