@@ -28,6 +28,3 @@ pub use plain::Plain;
 pub use serve::{Served, StreamFault, serve_plain, served_is_a_run};
 pub use started::serve_options;
 pub use stdio::serve_stdio;
-
-#[cfg(test)]
-mod tests;

@@ -15,10 +15,10 @@ mod permission;
 mod starts;
 mod streams;
 
-use crate::*;
 use bytes::Bytes;
 use nfs_machine::{ExportText, Exports, Limits, Moment};
 use nfs_rpc::stream::Counted;
+use nfs_server::{FixedClock, Options, Plain, Served, StreamFault, serve_options, serve_plain};
 use std::alloc::{AllocError, Global};
 use std::io::{Read, Write};
 use std::process::Abort;

@@ -5,7 +5,7 @@ use std::io::{Error, ErrorKind, Read, Result, Write};
 
 /// A reader that fails after some calls.
 #[derive(Drop)]
-pub struct Failing<R> {
+pub(super) struct Failing<R> {
     pub reader: R,
     /// How many calls come before the one that fails.
     pub good: u64,
@@ -23,14 +23,14 @@ impl<R: Read> Read for Failing<R> {
 
 /// What a writer does in the place of a write.
 #[derive(Clone, Copy)]
-pub enum Trouble {
+pub(super) enum Trouble {
     Fails,
     TakesNothing,
 }
 
 /// A writer that takes some bytes at a call, and has trouble after some calls.
 #[derive(Drop)]
-pub struct Choppy {
+pub(super) struct Choppy {
     pub written: Vec<u8>,
     /// How many bytes a call takes at most.
     pub most: usize,
@@ -41,7 +41,7 @@ pub struct Choppy {
 
 impl Choppy {
     /// A writer that takes all bytes of each of its first calls.
-    pub fn failing_after(alloc: Global, good: u64, trouble: Trouble) -> Choppy {
+    pub(super) fn failing_after(alloc: Global, good: u64, trouble: Trouble) -> Choppy {
         Choppy {
             written: Vec::new(alloc),
             most: usize::MAX,
@@ -72,7 +72,7 @@ impl Write for Choppy {
 
 /// A writer that sends nothing on.
 #[derive(Drop)]
-pub struct Unflushed {
+pub(super) struct Unflushed {
     pub written: Vec<u8>,
 }
 
@@ -88,7 +88,7 @@ impl Write for Unflushed {
 
 /// A writer that knows how many bytes it had at each flush.
 #[derive(Drop)]
-pub struct Flushed {
+pub(super) struct Flushed {
     pub written: Vec<u8>,
     pub flushes: Vec<usize>,
 }

@@ -6,70 +6,70 @@
 
 use super::*;
 
-pub const LOOKUP: u32 = 3;
+pub(super) const LOOKUP: u32 = 3;
 
-pub const READ: u32 = 6;
+pub(super) const READ: u32 = 6;
 
-pub const WRITE: u32 = 7;
+pub(super) const WRITE: u32 = 7;
 
-pub const CREATE: u32 = 8;
+pub(super) const CREATE: u32 = 8;
 
-pub const NFS3_OK: u32 = 0;
+pub(super) const NFS3_OK: u32 = 0;
 
-pub const NFS3ERR_PERM: u32 = 1;
+pub(super) const NFS3ERR_PERM: u32 = 1;
 
-pub const NFS3ERR_NOENT: u32 = 2;
+pub(super) const NFS3ERR_NOENT: u32 = 2;
 
-pub const NFS3ERR_ACCES: u32 = 13;
+pub(super) const NFS3ERR_ACCES: u32 = 13;
 
-pub const NFS3ERR_EXIST: u32 = 17;
+pub(super) const NFS3ERR_EXIST: u32 = 17;
 
-pub const NFS3ERR_NOTDIR: u32 = 20;
+pub(super) const NFS3ERR_NOTDIR: u32 = 20;
 
-pub const NFS3ERR_INVAL: u32 = 22;
+pub(super) const NFS3ERR_INVAL: u32 = 22;
 
-pub const NFS3ERR_FBIG: u32 = 27;
+pub(super) const NFS3ERR_FBIG: u32 = 27;
 
-pub const NFS3ERR_ROFS: u32 = 30;
+pub(super) const NFS3ERR_ROFS: u32 = 30;
 
-pub const NFS3ERR_NAMETOOLONG: u32 = 63;
+pub(super) const NFS3ERR_NAMETOOLONG: u32 = 63;
 
-pub const NFS3ERR_STALE: u32 = 70;
+pub(super) const NFS3ERR_STALE: u32 = 70;
 
-pub const NFS3ERR_BADHANDLE: u32 = 10001;
+pub(super) const NFS3ERR_BADHANDLE: u32 = 10001;
 
 /// Handles with their length: 32 bytes with mark, export 1, start 7, fileid and generation.
-pub const ROOT: [u32; 9] = [32, 0x4e464433, 1, 0, 7, 0, 1, 0, 1];
+pub(super) const ROOT: [u32; 9] = [32, 0x4e464433, 1, 0, 7, 0, 1, 0, 1];
 
-pub const FILE: [u32; 9] = [32, 0x4e464433, 1, 0, 7, 0, 2, 0, 1];
+pub(super) const FILE: [u32; 9] = [32, 0x4e464433, 1, 0, 7, 0, 2, 0, 1];
 
 /// What begins the answer to a CREATE of the file: NFS3_OK, and its handle, which is there.
-pub const MADE: [u32; 11] = [0, 1, 32, 0x4e464433, 1, 0, 7, 0, 2, 0, 1];
+pub(super) const MADE: [u32; 11] = [0, 1, 32, 0x4e464433, 1, 0, 7, 0, 2, 0, 1];
 
 /// Generation 2 of the root.
-pub const STALE: [u32; 9] = [32, 0x4e464433, 1, 0, 7, 0, 1, 0, 2];
+pub(super) const STALE: [u32; 9] = [32, 0x4e464433, 1, 0, 7, 0, 1, 0, 2];
 
 /// The first 31 bytes of the root's handle.
-pub const CUT: [u32; 9] = [31, 0x4e464433, 1, 0, 7, 0, 1, 0, 0];
+pub(super) const CUT: [u32; 9] = [31, 0x4e464433, 1, 0, 7, 0, 1, 0, 0];
 
 /// The name `x`, with its length.
-pub const X: [u32; 2] = [1, 0x78000000];
+pub(super) const X: [u32; 2] = [1, 0x78000000];
 
 /// How a file is made, with no attributes given (RFC 1813, 3.3.8).
-pub const UNCHECKED: [u32; 7] = [0, 0, 0, 0, 0, 0, 0];
+pub(super) const UNCHECKED: [u32; 7] = [0, 0, 0, 0, 0, 0, 0];
 
-pub const GUARDED: [u32; 7] = [1, 0, 0, 0, 0, 0, 0];
+pub(super) const GUARDED: [u32; 7] = [1, 0, 0, 0, 0, 0, 0];
 
 /// AUTH_SYS of user 0 and group 0.
-pub const USER_0: [u32; 7] = [1, 20, 0, 0, 0, 0, 0];
+pub(super) const USER_0: [u32; 7] = [1, 20, 0, 0, 0, 0, 0];
 
 /// AUTH_SYS of a user and one group (RFC 5531, appendix A).
-pub fn user(uid: u32, gid: u32) -> [u32; 7] {
+pub(super) fn user(uid: u32, gid: u32) -> [u32; 7] {
     [1, 20, 0, 0, uid, gid, 0]
 }
 
 /// The root as it is after a call, with the nanoseconds of its last change: `post_op_attr`.
-pub fn root_after(changed: u32) -> [u32; 22] {
+pub(super) fn root_after(changed: u32) -> [u32; 22] {
     [
         1, 2, 0o777, 2, 0, 0, 0, 0x1000, 0, 0x1000, 0, 0, 0, 1, 0, 1, 1000, 0, 1000, changed, 1000,
         changed,
@@ -77,13 +77,13 @@ pub fn root_after(changed: u32) -> [u32; 22] {
 }
 
 /// The root as it was before a call: `pre_op_attr`.
-pub fn root_before(changed: u32) -> [u32; 7] {
+pub(super) fn root_before(changed: u32) -> [u32; 7] {
     [1, 0, 0x1000, 1000, changed, 1000, changed]
 }
 
 /// What is told of the file 2.
 #[derive(Clone, Copy)]
-pub struct Shown {
+pub(super) struct Shown {
     pub mode: u32,
     pub uid: u32,
     pub gid: u32,
@@ -95,7 +95,7 @@ pub struct Shown {
 }
 
 /// A new file of user 0.
-pub const NEW: Shown = Shown {
+pub(super) const NEW: Shown = Shown {
     mode: 0o644,
     uid: 0,
     gid: 0,
@@ -105,7 +105,7 @@ pub const NEW: Shown = Shown {
 };
 
 /// The file after `hello` was written to it.
-pub const HELLO: Shown = Shown {
+pub(super) const HELLO: Shown = Shown {
     size: 5,
     used: 0x1000,
     changed: 1,
@@ -114,7 +114,7 @@ pub const HELLO: Shown = Shown {
 
 impl Shown {
     /// The file as it is after a call: `post_op_attr`.
-    pub fn after(self) -> [u32; 22] {
+    pub(super) fn after(self) -> [u32; 22] {
         [
             1,
             1,
@@ -142,14 +142,14 @@ impl Shown {
     }
 
     /// The file as it was before a call: `pre_op_attr`.
-    pub fn before(self) -> [u32; 7] {
+    pub(super) fn before(self) -> [u32; 7] {
         [1, 0, self.size, 1000, self.changed, 1000, self.changed]
     }
 }
 
 /// The calls that a new server is sent, and the replies that it must give.
 #[derive(Drop)]
-pub struct Script {
+pub(super) struct Script {
     calls: Vec<u8>,
     replies: Vec<u8>,
     /// The transaction id of the last call.
@@ -157,7 +157,7 @@ pub struct Script {
 }
 
 impl Script {
-    pub fn new(alloc: Global) -> Script {
+    pub(super) fn new(alloc: Global) -> Script {
         Script {
             calls: Vec::new(alloc),
             replies: Vec::new(alloc),
@@ -166,7 +166,7 @@ impl Script {
     }
 
     /// The file `x` is made for user 0.
-    pub fn on_new(alloc: Global) -> Result<Script, AllocError> {
+    pub(super) fn on_new(alloc: Global) -> Result<Script, AllocError> {
         let mut script = Script::new(alloc);
         script.call(CREATE, &ROOT, &X, &GUARDED)?;
         script.answer(&MADE, &NEW.after(), &root_before(0), &root_after(1))?;
@@ -174,7 +174,7 @@ impl Script {
     }
 
     /// The file `x` is made for user 0, and `hello` is written to it.
-    pub fn on_hello(alloc: Global) -> Result<Script, AllocError> {
+    pub(super) fn on_hello(alloc: Global) -> Result<Script, AllocError> {
         let mut script = Script::on_new(alloc)?;
         let data = [5, 0x68656c6c, 0x6f000000];
         script.call(WRITE, &FILE, &[0, 0, 5, 2], &data)?;
@@ -183,7 +183,7 @@ impl Script {
     }
 
     /// Adds a call by user 0: a handle, and two further parts of the arguments.
-    pub fn call(
+    pub(super) fn call(
         &mut self,
         procedure: u32,
         handle: &[u32],
@@ -194,7 +194,7 @@ impl Script {
     }
 
     /// Adds a call with this credential.
-    pub fn call_by(
+    pub(super) fn call_by(
         &mut self,
         credential: &[u32],
         procedure: u32,
@@ -214,7 +214,7 @@ impl Script {
     }
 
     /// Adds the reply to the last call, with its results in four parts.
-    pub fn answer(
+    pub(super) fn answer(
         &mut self,
         first: &[u32],
         second: &[u32],
@@ -231,12 +231,12 @@ impl Script {
     }
 
     /// A new server replies so to these calls.
-    pub fn is_followed(&self, rt: &(impl Abort + AllocGlobal)) -> Result<(), Fail> {
+    pub(super) fn is_followed(&self, rt: &(impl Abort + AllocGlobal)) -> Result<(), Fail> {
         self.is_followed_as(rt, b"rw")
     }
 
     /// A new server whose export has this mode replies so to these calls.
-    pub fn is_followed_as(
+    pub(super) fn is_followed_as(
         &self,
         rt: &(impl Abort + AllocGlobal),
         mode: &'static [u8],
@@ -249,7 +249,7 @@ impl Script {
 }
 
 /// Adds these words.
-pub fn add_words(bytes: &mut Vec<u8>, words: &[u32]) -> Result<(), AllocError> {
+pub(super) fn add_words(bytes: &mut Vec<u8>, words: &[u32]) -> Result<(), AllocError> {
     for word in words {
         bytes.extend_from_slice(&word.to_be_bytes())?;
     }
@@ -257,7 +257,7 @@ pub fn add_words(bytes: &mut Vec<u8>, words: &[u32]) -> Result<(), AllocError> {
 }
 
 /// Adds a record of one fragment (RFC 5531, section 11).
-pub fn add_record(bytes: &mut Vec<u8>, body: &[u8]) -> Result<(), AllocError> {
+pub(super) fn add_record(bytes: &mut Vec<u8>, body: &[u8]) -> Result<(), AllocError> {
     let Ok(length) = u32::try_from(body.len()) else {
         return Err(AllocError);
     };
