@@ -5,7 +5,7 @@ use Rattle.std.specs.Cmp.{unsigned_Decides}
 use Rattle.std.specs.FinMap.{get}
 use Rattle.nfs_wire.specs.declared.attributes.Time.{Time}
 use Rattle.nfs_machine.specs.Attributes.{entries_of, names_of}
-use Rattle.nfs_machine.specs.Laws.{GivesOnce, LivesAs}
+use Rattle.nfs_machine.specs.Laws.{GivesOnce, KeepsCookies, KeepsEntries, LivesAs}
 use Rattle.nfs_machine.specs.RemoveSteps.{losing_name, without_object}
 use Rattle.nfs_machine.specs.Shown.{touched, with_content, with_object}
 use Rattle.nfs_machine.specs.State.{Directory, Link, Entry, Living, State}
@@ -13,13 +13,15 @@ use Rattle.nfs_machine.specs.TimeLaws.{TouchesOnce}
 use Rattle.nfs_machine.specs.Times.{touch}
 use Rattle.nfs_machine.specs.WellFormed.{TextsFit, WellFormed}
 use Rattle.nfs_machine.proofs.Changes.{differs-insert, differs-other, differs-remove, differs-there}
+use Rattle.nfs_machine.proofs.Cookies.{kept-same}
 use Rattle.nfs_machine.proofs.Loose.{Loose, also, fastened, loose-come, loose-touched, none_loose, tightened}
 
--- an object in the place of another: under the same handle, changed at this time, and with no new text
+-- an object in the place of another: under the same handle, changed at this time, with no new text, and with entries that keep their cookies
 pub record Turns (now : Time) (was is : Living) : Type 0 where
   pub generation : is.generation ≡ was.generation
   pub text : (t : List ℕ) → is.content ≡ Link t → was.content ≡ Link t
   pub changed : is.changed ≡ touch was.changed now
+  pub entries : KeepsEntries (entries_of was.content) (entries_of is.content)
 
 -- all that lives lived, and is as it was, or in its place
 pub record Continues (now : Time) (old new : State) : Type 0 where
@@ -46,6 +48,15 @@ module _ (now : Time) where
       elim p.2 [
         | inl stays ↦ inl (stays ∙ same)
         | inr t ↦ inr (t.changed ∙ ap (λ (x : Living). touch x.changed now) same)
+      ]
+
+  pub cookies-continued : (old new : State) → Continues now old new → KeepsCookies old new
+  cookies-continued old new c n was is at there =
+      let p = c.lived n is there in
+      let same : p.0 ≡ was = (let both : Some p.0 ≡ Some was = sym p.1 ∙ at in cc) in
+      elim p.2 [
+        | inl stays ↦ subst (λ (x : Living). KeepsEntries (entries_of was.content) (entries_of x.content)) (sym (stays ∙ same)) (kept-same (entries_of was.content))
+        | inr t ↦ subst (λ (x : Living). KeepsEntries (entries_of x.content) (entries_of is.content)) same t.entries
       ]
 
   pub texts-continued : (old new : State) → Continues now old new → TextsFit old → TextsFit new
@@ -83,11 +94,11 @@ module _ (now : Time) (old mid : State) (c : Continues now old mid) (number : �
 
   -- its time of change alone
   pub continues-touched : Continues now old (with_object mid number (touched was now))
-  continues-touched = continues-over (touched was now) (record { generation = refl; text = λ t e. e; changed = refl })
+  continues-touched = continues-over (touched was now) (record { generation = refl; text = λ t e. e; changed = refl; entries = kept-same (entries_of was.content) })
 
   -- a directory with other entries
-  pub continues-with : (entries : List Entry) (last : ℕ) → Continues now old (with_object mid number (with_content was now (Directory entries last)))
-  continues-with entries last = continues-over (with_content was now (Directory entries last)) (record { generation = refl; text = λ t e. cc; changed = refl })
+  pub continues-with : (entries : List Entry) (last : ℕ) → KeepsEntries (entries_of was.content) entries → Continues now old (with_object mid number (with_content was now (Directory entries last)))
+  continues-with entries last keeps = continues-over (with_content was now (Directory entries last)) (record { generation = refl; text = λ t e. cc; changed = refl; entries = keeps })
 
   pub continues-losing : (names : ℕ) → Continues now old (losing_name mid names now number was)
   continues-losing names =

@@ -1,5 +1,5 @@
 -- What each procedure that changes names or objects leaves: handles are given once, and what is true of every state stays true.
-use Rattle.std.proofs.Common.{◌≡◌, ◌==◌, ℕ, ◌+◌, ◌≤◌, ◌^◌, Bool, true, false, not, ◌&&◌, ◌||◌, cond, List, [], Option, Some, None, Result, Ok, Err, IfOk, IfSome, find, length, take, nat_le, nat_lt, ◌⊎◌, inl, inr, refl, sym, ◌∙◌, ap, subst, leb-true}
+use Rattle.std.proofs.Common.{◌≡◌, ◌==◌, ℕ, ◌+◌, ◌<◌, ◌≤◌, ◌^◌, Bool, true, false, not, ◌&&◌, ◌||◌, cond, List, [], Option, Some, None, Result, Ok, Err, IfOk, IfSome, find, length, take, nat_le, nat_lt, ◌⊎◌, inl, inr, refl, sym, ◌∙◌, ap, subst, leb-true}
 use Rattle.std.specs.List.{list_any}
 use Rattle.std.specs.Cmp.{unsigned_Decides}
 use Rattle.std.specs.FinMap.{get}
@@ -23,7 +23,7 @@ use Rattle.nfs_machine.specs.Checks.{◌>>=◌, holding, object_of, entries_in, 
 use Rattle.nfs_machine.specs.Data.{size_limit, resized, written}
 use Rattle.nfs_machine.specs.DataSteps.{write_count, write_object}
 use Rattle.nfs_machine.specs.Grants.{IsHeldUp}
-use Rattle.nfs_machine.specs.Laws.{GivesOnce, LivesAs}
+use Rattle.nfs_machine.specs.Laws.{GivesOnce, KeepsCookies, KeepsEntries, LivesAs}
 use Rattle.nfs_machine.specs.Making.{Fresh, End, Known, Chosen, EndsAs, Wanted, given_attributes, make_end, make_new, new_object, with_entry, kind_checked}
 use Rattle.nfs_machine.specs.NameSteps.{create_existing, create_over, wanted_file}
 use Rattle.nfs_machine.specs.Permission.{Changing, Writing}
@@ -37,7 +37,8 @@ use Rattle.nfs_machine.specs.Times.{time_of, touch}
 use Rattle.nfs_machine.specs.WellFormed.{WellFormed}
 use Rattle.nfs_machine.specs.declared.context.Ctx.{Ctx}
 use Rattle.nfs_machine.proofs.Changes.{differs-insert, differs-other, differs-there}
-use Rattle.nfs_machine.proofs.Continued.{Continues, Turns, continues-itself, continues-over, continues-with, gives-continued, lived-as, texts-continued, touches-continued}
+use Rattle.nfs_machine.proofs.Continued.{Continues, Turns, continues-itself, continues-over, continues-with, cookies-continued, gives-continued, lived-as, texts-continued, touches-continued}
+use Rattle.nfs_machine.proofs.Cookies.{kept-added, kept-of, kept-same}
 use Rattle.nfs_machine.proofs.Entered.{MakesEntry, well_formed-made}
 use Rattle.nfs_machine.proofs.Facts.{chained-is, is-directory, is-regular, resolved-lives, write_end}
 use Rattle.nfs_machine.proofs.Loose.{well_formed-alike}
@@ -56,6 +57,7 @@ pub record LocksFollow (old new : State) : Type 0 where
 pub record Follows (now : Time) (old new : State) : Type 0 where
   pub gives : GivesOnce old new
   pub touches : TouchesOnce now old new
+  pub cookies : KeepsCookies old new
   pub formed : WellFormed old → WellFormed new
   pub locks : LocksFollow old new
   -- what is mounted, held and waited for stays within its bounds
@@ -98,7 +100,7 @@ mounts-losing m names now number o =
 
 pub follows-itself : (now : Time) (m : State) → Follows now m m
 follows-itself now m =
-    record { gives = gives-continued now m m (continues-itself now m); touches = touches-continued now m m (continues-itself now m); formed = λ w. w; locks = record { apart = λ h. h; waits = λ h. h }; mounts = refl; bounds = λ h. h }
+    record { gives = gives-continued now m m (continues-itself now m); touches = touches-continued now m m (continues-itself now m); cookies = cookies-continued now m m (continues-itself now m); formed = λ w. w; locks = record { apart = λ h. h; waits = λ h. h }; mounts = refl; bounds = λ h. h }
 
 pub follows-after : {A : Type 0} (now : Time) (old : State) (end : Result (A × State) NfsStatus) → IfOk end (λ e. Follows now old e.1) → Follows now old (state_after old end)
 follows-after now old (Ok end) f = f
@@ -119,6 +121,7 @@ follows-altered now m number was is lives alters =
     let c = continues-over now m m (continues-itself now m) number was lives is alters.turns in record {
       gives = gives-continued now m (with_object m number is) c;
       touches = touches-continued now m (with_object m number is) c;
+      cookies = cookies-continued now m (with_object m number is) c;
       formed = λ w.
           well_formed-alike m (with_object m number is) (replaced-alike m number was is lives alters.keeps) (replaced-names m number was is lives alters.keeps) (λ n g e. e)
           (texts-continued now m (with_object m number is) c w.texts) w;
@@ -134,7 +137,7 @@ follows-replaced now m number was (Some o) lives alters = follows-altered now m 
 alters-regular : (o : Living) (now : Time) (bytes : List ℕ) → is_directory o.content ≡ false → Alters now o (with_content o now (Regular bytes))
 alters-regular o now bytes plain = record {
   keeps = record { export = refl; generation = refl; kind = sym plain; content = λ e. (let no : true ≡ false = sym e ∙ plain in cc) };
-  turns = record { generation = refl; text = λ t e. cc; changed = refl };
+  turns = record { generation = refl; text = λ t e. cc; changed = refl; entries = λ name e f before after number. cc };
 }
 
 module _ (m : State) (ctx : Ctx) where
@@ -195,15 +198,21 @@ module _ (m : State) (ctx : Ctx) where
       abbrev new : State
       new = record (with_object (with_object m number wider) fresh.number o) { spent = fresh.spent }
 
+      keeps : KeepsEntries (entries_of directory.content) (entries_of (with_entry entries last name fresh.number))
+      keeps = kept-of directory.content entries _ last content (kept-added entries entries _ (kept-same entries) (λ e there same. cc))
+
       wide : Continues (time_of ctx.moment) m (with_object m number wider)
-      wide = continues-with (time_of ctx.moment) m m (continues-itself (time_of ctx.moment) m) number directory lives _ _
+      wide = continues-with (time_of ctx.moment) m m (continues-itself (time_of ctx.moment) m) number directory lives _ _ keeps
 
       other : (n : ℕ) → (n == fresh.number) ≡ false → get new.objects n ≡ get (with_object m number wider).objects n
       other n e = differs-other (with_object m number wider).objects new.objects fresh.number (Some o) (differs-insert (with_object m number wider).objects fresh.number o) n e
 
-      handles : (n g : ℕ) → LivesAs new n g → LivesAs m n g ⊎ ((m.spent n g ≡ false) × (new.spent n g ≡ true))
+      abbrev Given : ℕ → ℕ → Type 0
+      Given n g = LivesAs m n g ⊎ ((m.spent n g ≡ false) × (new.spent n g ≡ true) × (n < 2 ^ 64) × (g < 2 ^ 64))
+
+      handles : (n g : ℕ) → LivesAs new n g → Given n g
       handles n g l =
-          elim (n == fresh.number) as (λ b. (n == fresh.number) ≡ b → LivesAs m n g ⊎ ((m.spent n g ≡ false) × (new.spent n g ≡ true))) [
+          elim (n == fresh.number) as (λ b. (n == fresh.number) ≡ b → Given n g) [
             | true ↦ λ e.
                 let is : n ≡ fresh.number = (unsigned_Decides n fresh.number).0 e in
                 let there : get new.objects fresh.number ≡ Some o = differs-there (with_object m number wider).objects new.objects fresh.number (Some o) (differs-insert (with_object m number wider).objects fresh.number o) in
@@ -213,6 +222,8 @@ module _ (m : State) (ctx : Ctx) where
                 inr (
                   subst (λ k. m.spent k g ≡ false) (sym is) (subst (λ k. m.spent fresh.number k ≡ false) generation fresh.never_given),
                   subst (λ k. fresh.spent k g ≡ true) (sym is) (subst (λ k. fresh.spent fresh.number k ≡ true) generation fresh.given),
+                  subst (λ k. k < 2 ^ 64) (sym is) fresh.number_fits,
+                  subst (λ k. k < 2 ^ 64) generation fresh.generation_fits,
                 )
             | false ↦ λ e.
                 inl (lived-as (time_of ctx.moment) m (with_object m number wider) wide n g (record { object = l.object; lives = sym (other n e) ∙ l.lives; generation_is = l.generation_is }))
@@ -224,6 +235,13 @@ module _ (m : State) (ctx : Ctx) where
           elim (n == fresh.number) as (λ b. (n == fresh.number) ≡ b → (is ≡ was) ⊎ (is.changed ≡ touch was.changed (time_of ctx.moment))) [
             | true ↦ λ e. (let none : get m.objects n ≡ None = ap (get m.objects) ((unsigned_Decides n fresh.number).0 e) ∙ fresh.free in cc)
             | false ↦ λ e. touches-continued (time_of ctx.moment) m (with_object m number wider) wide n was is at (sym (other n e) ∙ there)
+          ] refl
+
+      cookies : KeepsCookies m new
+      cookies n was is at there =
+          elim (n == fresh.number) as (λ b. (n == fresh.number) ≡ b → KeepsEntries (entries_of was.content) (entries_of is.content)) [
+            | true ↦ λ e. (let none : get m.objects n ≡ None = ap (get m.objects) ((unsigned_Decides n fresh.number).0 e) ∙ fresh.free in cc)
+            | false ↦ λ e. cookies-continued (time_of ctx.moment) m (with_object m number wider) wide n was is at (sym (other n e) ∙ there)
           ] refl
 
       gives : GivesOnce m new
@@ -255,7 +273,7 @@ module _ (m : State) (ctx : Ctx) where
           (texts-put (with_object m number wider) fresh.number o (texts-continued (time_of ctx.moment) m (with_object m number wider) wide w.texts) text)
 
       made-follows : Follows (time_of ctx.moment) m new
-      made-follows = record { gives = gives; touches = touches; formed = formed; locks = record { apart = λ h. h; waits = λ h. h }; mounts = refl; bounds = λ h. h }
+      made-follows = record { gives = gives; touches = touches; cookies = cookies; formed = formed; locks = record { apart = λ h. h; waits = λ h. h }; mounts = refl; bounds = λ h. h }
 
   new-follows : (name : List ℕ) (wanted : Wanted) (number : ℕ) (directory : Living) (entries : List Entry) (last : ℕ) → get m.objects number ≡ Some directory → directory.content ≡ Directory entries last
       → find (λ (x : Entry). same_bytes x.name name) entries ≡ None → Plain wanted → IfOk (make_new m ctx name wanted number directory entries last) EndFollows

@@ -27,7 +27,7 @@ use Rattle.nfs_machine.specs.Permission.{Changing}
 use Rattle.nfs_machine.specs.Answers.{Answers, state_after}
 use Rattle.nfs_machine.specs.Attributes.{links_of, names_of, is_directory}
 use Rattle.nfs_machine.specs.Checks.{holding, link_limit, ◌>>=◌, object_of, entries_in, entry_of, changeable, permitted, plain_name_checked}
-use Rattle.nfs_machine.specs.Laws.{GivesOnce, LivesAs, NeverGivenAgain, RunsKeepForm, StepsGiveOnce, StepsKeepForm}
+use Rattle.nfs_machine.specs.Laws.{GivesOnce, KeepsCookies, LivesAs, NeverGivenAgain, RunsKeepForm, StepsGiveOnce, StepsKeepCookies, StepsKeepForm}
 use Rattle.nfs_machine.specs.LinkSteps.{link_end}
 use Rattle.nfs_machine.specs.LockLaws.{RunsKeepApart, RunsKeepWaiting, StepsKeepApart, StepsKeepWaiting, AllHeldUp, NoConflict}
 use Rattle.nfs_machine.specs.MakeSteps.{wanted_special}
@@ -49,7 +49,7 @@ use Rattle.nfs_machine.specs.declared.calls.Call.TheVariants as calls
 use Rattle.nfs_machine.specs.declared.calls.Reply.{Reply}
 use Rattle.nfs_machine.specs.declared.calls.Reply.TheVariants as replies
 use Rattle.nfs_machine.specs.declared.context.Ctx.{Ctx}
-use Rattle.nfs_machine.proofs.Continued.{gives-continued, touches-continued}
+use Rattle.nfs_machine.proofs.Continued.{cookies-continued, gives-continued, touches-continued}
 use Rattle.nfs_machine.proofs.Facts.{chained-is, holds, is-directory, leads-found, resolved-lives, setattr_end, write_end}
 use Rattle.nfs_machine.proofs.Follows.{EndFollows, Follows, LocksFollow, Plain, bounds-losing, ends-follow, follows-after, follows-itself, locks-losing, make-follows, mounts-losing, write-follows, file-plain, existing-follows}
 use Rattle.nfs_machine.proofs.Locking.{nlm-touches}
@@ -112,6 +112,7 @@ module _ (old : State) (ctx : Ctx) where
   moved-follows now move is out = record {
     gives = gives-continued now old (with_moved old now move) (continues-moved old now move is);
     touches = touches-continued now old (with_moved old now move) (continues-moved old now move is);
+    cookies = cookies-continued now old (with_moved old now move) (continues-moved old now move is);
     formed = λ w. well_formed-moved old now move is w out;
     locks = moved-locks now move move.replaced;
     mounts = moved-mounts now move move.replaced;
@@ -223,11 +224,12 @@ nfs-follows old ctx (nfs.Commit a) reply messages new step = stays (time_of ctx.
 record Keeps (now : Time) (old new : State) : Type 0 where
   pub gives : GivesOnce old new
   pub touches : TouchesOnce now old new
+  pub cookies : KeepsCookies old new
   pub formed : WellFormed old → WellFormed new
   pub locks : LocksFollow old new
 
 keeps : (now : Time) (old new : State) → Follows now old new → Keeps now old new
-keeps now old new f = record { gives = f.gives; touches = f.touches; formed = f.formed; locks = f.locks }
+keeps now old new f = record { gives = f.gives; touches = f.touches; cookies = f.cookies; formed = f.formed; locks = f.locks }
 
 unchanged : (now : Time) (old new : State) → new ≡ old → Keeps now old new
 unchanged now old new same = keeps now old new (stays now old new same)
@@ -237,6 +239,7 @@ with-mounts : (now : Time) (m : State) (mounts : List MountBody) → Keeps now m
 with-mounts now m mounts = record {
   gives = gives-continued now m (record m { mounts = mounts }) (record { kept = λ n g e. e; lived = λ n o at. (o, at, inl refl) });
   touches = touches-continued now m (record m { mounts = mounts }) (record { kept = λ n g e. e; lived = λ n o at. (o, at, inl refl) });
+  cookies = cookies-continued now m (record m { mounts = mounts }) (record { kept = λ n g e. e; lived = λ n o at. (o, at, inl refl) });
   formed = λ w. well_formed-alike m (record m { mounts = mounts }) (λ n. alike_itself (get m.objects n)) (λ n. refl) (λ n g e. e) w.texts w;
   locks = record { apart = λ h. h; waits = λ h. h };
 }
@@ -271,6 +274,7 @@ untouched now old new objects spent apart waits =
     (subst (λ (x : ℕ → ℕ → Bool). Keeps now old (record new { objects = old.objects; spent = x })) (sym spent) (record {
       gives = gives-continued now old (record new { objects = old.objects; spent = old.spent }) (record { kept = λ n g e. e; lived = λ n o at. (o, at, inl refl) });
       touches = touches-continued now old (record new { objects = old.objects; spent = old.spent }) (record { kept = λ n g e. e; lived = λ n o at. (o, at, inl refl) });
+      cookies = cookies-continued now old (record new { objects = old.objects; spent = old.spent }) (record { kept = λ n g e. e; lived = λ n o at. (o, at, inl refl) });
       formed = λ w. well_formed-alike old (record new { objects = old.objects; spent = old.spent }) (λ n. alike_itself (get old.objects n)) (λ n. refl) (λ n g e. e) w.texts w;
       locks = record { apart = apart; waits = waits };
     }))
@@ -289,6 +293,9 @@ steps_give_once old ctx call reply messages new step = (step-keeps old ctx call 
 
 pub steps_touch_once : StepsTouchOnce
 steps_touch_once old ctx call reply messages new step = (step-keeps old ctx call reply messages new step).touches
+
+pub steps_keep_cookies : StepsKeepCookies
+steps_keep_cookies old ctx call reply messages new step = (step-keeps old ctx call reply messages new step).cookies
 
 pub never_given_again : NeverGivenAgain
 never_given_again setting first last [] n g run spent l = subst (λ m. LivesAs m n g) run l

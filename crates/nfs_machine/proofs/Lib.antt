@@ -4,6 +4,7 @@ mod Bounds
 pub mod Checked
 mod Chosen
 pub mod Continued
+mod Cookies
 pub mod Entered
 pub mod Facts
 mod Faults
@@ -24,6 +25,8 @@ mod Results
 mod Posted
 mod PostedRefusals
 mod Ranges
+mod NameStays
+mod Numbered
 mod Readings
 mod Replies
 pub mod Resolved

@@ -19,9 +19,9 @@ use Rattle.side_wire.specs.declared.nlm.ShareAccess.TheVariants as access
 use Rattle.side_wire.specs.declared.nlm.ShareMode.TheVariants as mode
 use Rattle.nfs_machine.specs.State.{Living, Lock, Owner, Range}
 use Rattle.nfs_machine.specs.Worked.{open_export, root_bytes, root_handle}
-use Rattle.nfs_machine.specs.WorkedLocks.{a, b, holder, lock, on_file, split, whole, Unlocked, Exclusive}
-use Rattle.nfs_machine.specs.WorkedLocking.{WorkedChecks, WorkedLocking, cancelling, giving_back, locking, on_x, read_only, sharing, testing, with_reader, with_readers, with_split, with_waiting, with_whole}
-use Rattle.nfs_machine.specs.WorkedRun.{nobody, root_with_x, written, x_bytes, x_written}
+use Rattle.nfs_machine.specs.WorkedLocks.{a, b, holder, lock, on_file, reading_too, split, whole, Unlocked, Exclusive}
+use Rattle.nfs_machine.specs.WorkedLocking.{WorkedChecks, WorkedLocking, cancelling, giving_back, locking, on_x, sharing, testing, with_reader, with_readers, with_split, with_waiting, with_whole}
+use Rattle.nfs_machine.specs.WorkedRun.{nobody, read_only, root_with_x, written, x_bytes, x_written}
 use Rattle.nfs_machine.specs.NlmSteps.{NlmStep}
 use Rattle.nfs_machine.proofs.Checked.{CancelOf, LockOf, ShareOf, TestOf, UnlockOf, UnshareOf}
 use Rattle.nfs_machine.proofs.Modes.{listed_locks_tell, holds, mode_by}
@@ -229,6 +229,12 @@ worked-locking = record {
   unshares_none = (
     status.Granted,
     subst (λ r. UnshareOf with_readers (sharing (record a { caller_name = codes "c3" }) mode.DenyNone access.Neither).share (file_by nobody true false r) status.Granted [] with_readers) (sym is-x)
+        (record { reply_is = refl; no_message = refl; state_is = refl }),
+    refl,
+  );
+  unshares = (
+    status.Granted,
+    subst (λ r. UnshareOf with_readers (sharing a mode.DenyWrite access.Read).share (file_by nobody true false r) status.Granted [] (record written { shares = reading_too ∷ [] })) (sym is-x)
         (record { reply_is = refl; no_message = refl; state_is = refl }),
     refl,
   );

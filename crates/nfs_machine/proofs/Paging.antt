@@ -65,7 +65,7 @@ above-all b (x ∷ es) e h at =
       | inr more ↦ (let later = above-all x.cookie es e h.1 more in omega (arith, later, h))
     ]
 
-first : (x : Entry) (xs : List Entry) → Contains (x ∷ xs) x
+pub first : (x : Entry) (xs : List Entry) → Contains (x ∷ xs) x
 first x xs = (0, omega arith, refl)
 
 -- what has a greater cookie is behind it

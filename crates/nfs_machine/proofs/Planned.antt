@@ -1,16 +1,20 @@
 -- What the checks of RENAME tell of a name that moves; and that handles stay.
-use Rattle.std.proofs.Common.{◌≡◌, ◌==◌, ℕ, true, false, Option, Some, None, refl, sym, ◌∙◌, subst}
+use Rattle.std.proofs.Common.{◌≡◌, ◌==◌, ℕ, true, false, cond, Option, Some, None, option_map, refl, sym, ◌∙◌, ap, subst}
+use Rattle.std.specs.Cmp.{unsigned_Decides}
 use Rattle.std.specs.FinMap.{get}
 use Rattle.nfs_wire.specs.declared.attributes.Time.{Time}
-use Rattle.nfs_machine.specs.Attributes.{names_of}
+use Rattle.nfs_machine.specs.Attributes.{entries_of, names_of}
 use Rattle.nfs_machine.specs.Checks.{entry_of}
+use Rattle.nfs_machine.specs.Laws.{KeepsEntries}
+use Rattle.nfs_machine.specs.Making.{with_entry}
 use Rattle.nfs_machine.specs.RemoveSteps.{without, object_under}
 use Rattle.nfs_machine.specs.RenameSteps.{is_compatible}
 use Rattle.nfs_machine.specs.Shown.{touched, with_object}
-use Rattle.nfs_machine.specs.State.{Directory, Living, State}
+use Rattle.nfs_machine.specs.State.{Directory, Entry, Living, State}
 use Rattle.nfs_machine.proofs.Continued.{Continues, continues-itself, continues-losing, continues-touched, continues-with}
-use Rattle.nfs_machine.proofs.Moves.{Move, with_moved, with_names_moved, without_replaced}
-use Rattle.nfs_machine.proofs.Taken.{IsNamed, under-entry}
+use Rattle.nfs_machine.proofs.Cookies.{kept-added, kept-of, kept-same, kept-without}
+use Rattle.nfs_machine.proofs.Moves.{Move, entries_left, with_moved, with_names_moved, without_replaced}
+use Rattle.nfs_machine.proofs.Taken.{IsNamed, kept-taken, under-entry}
 
 -- what the checks of a RENAME tell where a name moves
 pub record IsMove (m : State) (move : Move) : Type 0 where
@@ -57,10 +61,30 @@ module _ (m : State) (move : Move) (begun : IsBegun m move) where
   }
 
 module _ (m : State) (now : Time) (move : Move) (is : IsMove m move) where
+  -- the name that it has then led to another object, or to nothing
+  elsewhere : (e : Entry) → entry_of move.entries move.name ≡ Some e → move.from.number ≡ e.number → ⊥
+  elsewhere e found same =
+      let lives : get m.objects e.number ≡ Some move.from.object = ap (get m.objects) (sym same) ∙ is.from.object in
+      let over : move.replaced ≡ Some (e.number, move.from.object) = is.over ∙ ap (object_under m) found ∙ ap (option_map (λ (o : Living). (e.number, o))) lives in
+      let no : true ≡ false = sym ((unsigned_Decides e.number move.from.number).1 (sym same)) ∙ is.other (e.number, move.from.object) over in
+      cc
+
+  left : KeepsEntries move.entries (entries_left move)
+  left =
+      let others = kept-without move.entries move.entries move.name (kept-same move.entries) in
+      elim (move.target == move.from.place) as (λ b. KeepsEntries move.entries (cond b (without (without move.entries move.name) move.from.name) (without move.entries move.name))) [
+        | true ↦ kept-without move.entries (without move.entries move.name) move.from.name others
+        | false ↦ others
+      ]
+
+  keeps : KeepsEntries (entries_of move.directory.content) (entries_of (with_entry (entries_left move) move.last_cookie move.name move.from.number))
+  keeps = kept-of move.directory.content move.entries _ move.last_cookie is.content (kept-added move.entries (entries_left move) _ left elsewhere)
+
   names-moved : Continues now m (with_names_moved m now move)
   names-moved =
-      continues-with now m _ (continues-with now m m (continues-itself now m) move.from.place move.from.directory is.from.lives (without move.from.entries move.from.name) move.from.last_cookie)
-      move.target move.directory is.lives _ _
+      continues-with now m _
+      (continues-with now m m (continues-itself now m) move.from.place move.from.directory is.from.lives (without move.from.entries move.from.name) move.from.last_cookie (kept-taken m move.from is.from))
+      move.target move.directory is.lives _ _ keeps
 
   object-moved : Continues now m (with_object (with_names_moved m now move) move.from.number (touched move.from.object now))
   object-moved = continues-touched now m (with_names_moved m now move) names-moved move.from.number move.from.object is.from.object

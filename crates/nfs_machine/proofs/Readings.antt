@@ -1,6 +1,10 @@
 -- The pages of a reading in a run are visits of one directory, so the reading is whole.
-use Rattle.std.proofs.Common.{◌≡◌, ◌==◌, ℕ, Bool, List, [], ◌∷◌, ◌++◌, map, Option, Some, Result, Ok, Err, refl, sym, ◌∙◌, ap, subst}
-use Rattle.std.specs.List.{Contains, count_by}
+use Rattle.std.proofs.Common.{◌≡◌, ◌==◌, ℕ, Bool, List, [], ◌∷◌, ◌++◌, map, Option, Some, Result, Ok, Err, codes, false, refl, sym, ◌∙◌, ap, subst, arith}
+use Rattle.std.proofs.lemmas.Bool.{ne_eqb}
+use Rattle.std.proofs.lemmas.List.Elements.{Contains-append_right}
+use Rattle.std.specs.Cmp.Lexicographic.{bytes_decides}
+use Rattle.std.specs.FinMap.{get}
+use Rattle.std.specs.List.{AllByRecursion, Contains, count_by}
 use Rattle.nfs_wire.specs.declared.calls.NfsCall.{NfsCall}
 use Rattle.nfs_wire.specs.declared.calls.NfsCall.TheVariants as nfs
 use Rattle.nfs_wire.specs.declared.calls.ReaddirArguments.{ReaddirArguments}
@@ -9,19 +13,26 @@ use Rattle.nfs_wire.specs.declared.entries.FullEntry.{FullEntry}
 use Rattle.nfs_wire.specs.declared.replies.NfsReply.{NfsReply}
 use Rattle.nfs_wire.specs.declared.status.NfsStatus.{NfsStatus}
 use Rattle.side_wire.specs.declared.message.Message.{Message}
+use Rattle.nfs_machine.proofs.NameStays.{EntryAt, IsOnly, all-map, count-same, entered, first-of, found-above, found-in, found-name, kept-through, only, shown-all}
 use Rattle.nfs_machine.proofs.Paging.{whole}
+use Rattle.nfs_machine.proofs.Resolved.{resolved-lives, resolved-number}
 use Rattle.nfs_machine.proofs.Kept.{runs_keep_form}
 use Rattle.nfs_machine.proofs.Visits.{lists}
+use Rattle.nfs_machine.specs.Attributes.{entries_of}
+use Rattle.nfs_machine.specs.Bytes.{same_bytes}
+use Rattle.nfs_machine.specs.Checks.{entry_of}
+use Rattle.nfs_machine.specs.Handles.{handle_of}
 use Rattle.nfs_machine.specs.NfsSteps.{NfsStep}
 use Rattle.nfs_machine.specs.Pages.{all_entries, fits, fits_full}
 use Rattle.nfs_machine.proofs.Pages.{PagesOf, readdir_result, readdirplus_result}
 use Rattle.nfs_machine.specs.PageSteps.{IsParentOf, entries_left, full_entry, page_entry}
 use Rattle.nfs_machine.specs.Paging.{InOrder, Lists, ReadsOn, Rises, Stays, Visit, last_cookie, shown_by}
-use Rattle.nfs_machine.specs.Readings.{Has, IsTurn, Reading, ReadingsAreWhole, StaysThrough, Turn, all_shown, entry_shown, full_shown, lists_from, names_shown, page_shown}
+use Rattle.nfs_machine.specs.Readings.{Has, IsTurn, Reading, ReadingsAreWhole, StaysThrough, ThroughReading, Turn, all_shown, entry_shown, full_shown, lists_from, named_in, names_shown, page_shown}
 use Rattle.nfs_machine.specs.Run.{Setting}
-use Rattle.nfs_machine.specs.State.{Entry, State}
-use Rattle.nfs_machine.specs.WellFormed.{WellFormed}
+use Rattle.nfs_machine.specs.State.{Entry, Living, State}
+use Rattle.nfs_machine.specs.WellFormed.{NamesOnce, WellFormed}
 use Rattle.nfs_machine.specs.declared.context.Ctx.{Ctx}
+use Rattle.nfs_machine.specs.declared.handle.Handle.{Handle}
 
 -- an entry is read off its page
 names-back : (es : List Entry) → map entry_shown (map page_entry es) ≡ es
@@ -77,6 +88,17 @@ turn-lists : (setting : Setting) (old : State) (directory : List ℕ) (cookie : 
     → Listed mid t.ctx directory cookie (t.page, t.eof)
 turn-lists setting old directory cookie t mid turn w = of-step mid t.ctx w (t.page, t.eof) t.call t.reply [] mid directory cookie turn.step turn.from turn.shows
 
+-- a name but "." and "..", and the entry that it has in the directory of a handle
+pub record IsName (directory : List ℕ) (h : Handle) (name : List ℕ) (target : ℕ) (e : Entry) : Type 0 where
+  pub handle : handle_of directory ≡ Some h
+  pub no_self : same_bytes (codes ".") name ≡ false
+  pub not_above : same_bytes (codes "..") name ≡ false
+  pub leads : e.number ≡ target
+
+-- the entry is there, and no other has the name
+abbrev pub HasAlone : List ℕ → Entry → Visit → Type 0
+HasAlone name e v = Contains v.entries e × AllByRecursion (IsOnly name e) v.entries
+
 -- the visits of a reading
 pub record Visits (setting : Setting) (old : State) (directory : List ℕ) (cookie : ℕ) (turns : List Turn) (reading : Reading setting old directory cookie turns) : Type 0 where
   pub visits : List Visit
@@ -84,43 +106,79 @@ pub record Visits (setting : Setting) (old : State) (directory : List ℕ) (cook
   pub on : ReadsOn cookie visits
   pub shown : shown_by visits ≡ all_shown turns
   pub stays : (e : Entry) → StaysThrough setting old directory cookie turns reading e → Stays visits e
+  pub named : (h : Handle) (name : List ℕ) (target : ℕ) (e : Entry) → IsName directory h name target e → EntryAt old h.fileid name e
+      → ThroughReading (λ m. named_in m h.fileid name ≡ Some target) setting old directory cookie turns reading → AllByRecursion (HasAlone name e) visits
 
-visit-of : (m : State) (ctx : Ctx) (directory : List ℕ) (cookie : ℕ) (page : List Entry × Bool) → Listed m ctx directory cookie page → Visit
+abbrev visit-of : (m : State) (ctx : Ctx) (directory : List ℕ) (cookie : ℕ) (page : List Entry × Bool) → Listed m ctx directory cookie page → Visit
 visit-of m ctx directory cookie page l = record { entries = all_entries l.is.number l.is.parent l.is.entries; fit = l.fit; page = page.0; eof = page.1 }
 
 has-it : (m : State) (ctx : Ctx) (directory : List ℕ) (cookie : ℕ) (page : List Entry × Bool) (l : Listed m ctx directory cookie page) (e : Entry) → Has m ctx directory e
     → Contains (all_entries l.is.number l.is.parent l.is.entries) e
 has-it m ctx directory cookie page l e has = has l.is.number l.is.object l.is.entries l.is.last l.is.parent l.is.is_named l.is.is_directory l.is.is_parent
 
+alone : (m : State) (ctx : Ctx) (directory : List ℕ) (cookie : ℕ) (page : List Entry × Bool) (l : Listed m ctx directory cookie page) (h : Handle) (name : List ℕ) (target : ℕ) (e : Entry) → WellFormed m
+    → IsName directory h name target e → EntryAt m h.fileid name e → HasAlone name e (visit-of m ctx directory cookie page l)
+alone m ctx directory cookie page l h name target e formed is at =
+    let lives : get m.objects l.is.number ≡ Some l.is.object = resolved-lives m ctx directory l.is.number l.is.object l.is.is_named in
+    let number : l.is.number ≡ h.fileid = resolved-number m ctx directory h l.is.number l.is.object is.handle l.is.is_named in
+    let there : Some at.object ≡ Some l.is.object = sym at.lives ∙ ap (get m.objects) (sym number) ∙ lives in
+    let same : at.object ≡ l.is.object = cc in
+    let content : entries_of at.object.content ≡ l.is.entries = ap (λ (o : Living). entries_of o.content) same ∙ ap entries_of l.is.is_directory in
+    let found : entry_of l.is.entries name ≡ Some e = ap (λ es. entry_of es name) (sym content) ∙ at.found in
+    let once : NamesOnce l.is.entries = subst NamesOnce (ap entries_of l.is.is_directory) (formed.names l.is.number l.is.object lives).once in
+    let rises : Rises 2 l.is.entries = l.is.in_order.1.1 in
+    let above = found-above 2 l.is.entries name e rises found in (
+      Contains-append_right (record { name = codes "."; number = l.is.number; cookie = 1 } ∷ record { name = codes ".."; number = l.is.parent; cookie = 2 } ∷ []) l.is.entries e (found-in l.is.entries name e found),
+      (
+        is.no_self ∙ sym (ne_eqb 1 e.cookie (λ one. omega (arith, above, one))),
+        (is.not_above ∙ sym (ne_eqb 2 e.cookie (λ two. omega (arith, above, two))), only 2 l.is.entries name e rises once found),
+      ),
+    )
+
 visits-of : (setting : Setting) (old : State) (directory : List ℕ) (cookie : ℕ) (turns : List Turn) → WellFormed old → (reading : Reading setting old directory cookie turns)
     → Visits setting old directory cookie turns reading
 visits-of setting old directory cookie [] formed reading = absurd reading
 visits-of setting old directory cookie (t ∷ []) formed (mid, turn, ends) =
-    let l = turn-lists setting old directory cookie t mid turn (runs_keep_form setting old mid t.between turn.run formed) in
+    let then = runs_keep_form setting old mid t.between turn.run formed in
+    let l = turn-lists setting old directory cookie t mid turn then in
     record {
       visits = record { entries = all_entries l.is.number l.is.parent l.is.entries; fit = l.fit; page = t.page; eof = t.eof } ∷ [];
       order = (l.is.in_order, tt);
       on = (l.is.visit, ends);
       shown = refl;
       stays = λ e has. (has-it mid t.ctx directory cookie (t.page, t.eof) l e has, tt);
+      named = λ h name target e is at through.
+          (alone mid t.ctx directory cookie (t.page, t.eof) l h name target e then is (kept-through h.fileid name target e is.leads setting old t.between mid turn.run through at), tt);
     }
 visits-of setting old directory cookie (t ∷ u ∷ turns) formed (mid, turn, goes, rest) =
     let then = runs_keep_form setting old mid t.between turn.run formed in
     let l = turn-lists setting old directory cookie t mid turn then in
     let more = visits-of setting mid directory (last_cookie cookie t.page) (u ∷ turns) then rest in
-    joined l more.visits more.order more.on more.shown more.stays
+    joined l then more.visits more.order more.on more.shown more.stays more.named
   where
-    joined : (l : Listed mid t.ctx directory cookie (t.page, t.eof)) (visits : List Visit) → InOrder visits → ReadsOn (last_cookie cookie t.page) visits
+    joined : (l : Listed mid t.ctx directory cookie (t.page, t.eof)) → WellFormed mid → (visits : List Visit) → InOrder visits → ReadsOn (last_cookie cookie t.page) visits
         → shown_by visits ≡ all_shown (u ∷ turns) → ((e : Entry) → StaysThrough setting mid directory (last_cookie cookie t.page) (u ∷ turns) rest e → Stays visits e)
+        → ((h : Handle) (name : List ℕ) (target : ℕ) (e : Entry) → IsName directory h name target e → EntryAt mid h.fileid name e
+        → ThroughReading (λ m. named_in m h.fileid name ≡ Some target) setting mid directory (last_cookie cookie t.page) (u ∷ turns) rest → AllByRecursion (HasAlone name e) visits)
         → Visits setting old directory cookie (t ∷ u ∷ turns) (mid, turn, goes, rest)
-    joined l [] order on shown stays = absurd on
-    joined l (v ∷ visits) order on shown stays = record {
+    joined l then [] order on shown stays named = absurd on
+    joined l then (v ∷ visits) order on shown stays named = record {
       visits = record { entries = all_entries l.is.number l.is.parent l.is.entries; fit = l.fit; page = t.page; eof = t.eof } ∷ v ∷ visits;
       order = (l.is.in_order, order);
       on = (l.is.visit, goes, on);
       shown = ap (λ es. t.page ++ es) shown;
       stays = λ e has. (has-it mid t.ctx directory cookie (t.page, t.eof) l e has.0, stays e has.1);
+      named = λ h name target e is at through.
+          let still = kept-through h.fileid name target e is.leads setting old t.between mid turn.run through.0 at in
+          (alone mid t.ctx directory cookie (t.page, t.eof) l h name target e then is still, named h name target e is still through.1);
     }
+
+-- where a reading begins, the name leads to the object
+begins : (setting : Setting) (old : State) (directory : List ℕ) (cookie : ℕ) (turns : List Turn) (reading : Reading setting old directory cookie turns) (number : ℕ) (name : List ℕ) (target : ℕ)
+    → ThroughReading (λ m. named_in m number name ≡ Some target) setting old directory cookie turns reading → named_in old number name ≡ Some target
+begins setting old directory cookie [] reading number name target through = absurd reading
+begins setting old directory cookie (t ∷ []) reading number name target through = first-of number name target setting old t.between reading.0 reading.1.run through
+begins setting old directory cookie (t ∷ u ∷ turns) reading number name target through = first-of number name target setting old t.between reading.0 reading.1.run through.0
 
 pub readings-whole : ReadingsAreWhole
 readings-whole setting old directory turns formed reading =
@@ -130,4 +188,17 @@ readings-whole setting old directory turns formed reading =
       rises = subst (Rises 0) v.shown all.rises;
       shows = λ e stays. subst (λ es. Contains es e) v.shown (all.shows e (v.stays e stays));
       once = λ e stays. subst (λ es. count_by (λ (x : Entry). x.cookie == e.cookie) es ≡ 1) v.shown (all.once e (v.stays e stays));
+      names = λ h name target handle no_self not_above through.
+          let e = entered old h.fileid name target (begins setting old directory 0 turns reading h.fileid name target through) in
+          let alone = v.named h name target e.entry (record { handle = handle; no_self = no_self; not_above = not_above; leads = e.leads }) e.at through in
+          let stays : Stays v.visits e.entry = all-map (HasAlone name e.entry) (λ (x : Visit). Contains x.entries e.entry) (λ x has. has.0) v.visits alone in
+          let only = shown-all (IsOnly name e.entry) 0 v.visits v.on (all-map (HasAlone name e.entry) (λ (x : Visit). AllByRecursion (IsOnly name e.entry) x.entries) (λ x has. has.1) v.visits alone) in
+          record {
+            entry = e.entry;
+            shows = subst (λ es. Contains es e.entry) v.shown (all.shows e.entry stays);
+            named = (bytes_decides e.entry.name name).0 (found-name (entries_of e.at.object.content) name e.entry e.at.found);
+            leads = e.leads;
+            once = subst (λ es. count_by (λ (x : Entry). same_bytes x.name name) es ≡ 1) v.shown
+                (count-same (λ (x : Entry). same_bytes x.name name) (λ (x : Entry). x.cookie == e.entry.cookie) (shown_by v.visits) only ∙ all.once e.entry stays);
+          };
     }

@@ -1,5 +1,5 @@
 -- A handle that names an object names what lives at its number.
-use Rattle.std.proofs.Common.{◌≡◌, ◌==◌, ℕ, ◌&&◌, true, false, cond, List, Option, Some, None, refl}
+use Rattle.std.proofs.Common.{◌≡◌, ◌==◌, ℕ, ◌&&◌, true, false, cond, List, Option, Some, None, refl, sym, ◌∙◌, ap}
 use Rattle.std.specs.FinMap.{get}
 use Rattle.nfs_machine.specs.Exports.{export_admits, export_at}
 use Rattle.nfs_machine.specs.Handles.{handle_of}
@@ -24,6 +24,22 @@ module _ (find : ℕ → Option Living) (number : ℕ) (o : Living) where
         | true ↦ λ same. living (find h.fileid) h refl same
         | false ↦ λ same. cc
       ] is
+
+-- the number is that of the handle
+pub resolved-number : (m : State) (ctx : Ctx) (bytes : List ℕ) (h : Handle) (number : ℕ) (o : Living) → handle_of bytes ≡ Some h → resolve m ctx bytes ≡ Names number o → number ≡ h.fileid
+resolved-number m ctx bytes h number o handle is = admitted (sym (ap (named (get m.objects) ctx) handle) ∙ is)
+  where
+    same : (x : Option Living) → living_at x h ≡ Names number o → number ≡ h.fileid
+    same None at = cc
+    same (Some object) at =
+        elim ((object.generation == h.generation) && (object.export == h.export)) as (λ t. cond t (Names h.fileid object) Stale ≡ Names number o → number ≡ h.fileid) [ true ↦ λ e. cc | false ↦ λ e. cc ] at
+
+    admitted : named (get m.objects) ctx (Some h) ≡ Names number o → number ≡ h.fileid
+    admitted at =
+        elim ((h.start == ctx.start) && export_admits (export_at ctx.exports h.export) ctx.host) as (λ t. cond t (living_at (get m.objects h.fileid) h) Stale ≡ Names number o → number ≡ h.fileid) [
+          | true ↦ λ e. same (get m.objects h.fileid) e
+          | false ↦ λ e. cc
+        ] at
 
 pub resolved-lives : (m : State) (ctx : Ctx) (bytes : List ℕ) (number : ℕ) (o : Living) → resolve m ctx bytes ≡ Names number o → get m.objects number ≡ Some o
 resolved-lives m ctx bytes number o is = found (get m.objects) number o ctx (handle_of bytes) is

@@ -1,5 +1,5 @@
 -- The run and the steps that are worked through: what lives at each number is told by the maps, and the rest computes.
-use Rattle.std.proofs.Common.{◌≡◌, ◌==◌, ℕ, ◌≤◌, ◌^◌, Bool, true, false, ◌||◌, ◌&&◌, cond, nat_le, List, [], ◌∷◌, ◌++◌, Option, Some, None, option_map, Result, Ok, codes, inl, refl, sym, ◌∙◌, ap, subst, arith}
+use Rattle.std.proofs.Common.{◌≡◌, ◌==◌, ℕ, ◌≤◌, ◌^◌, Bool, true, false, ◌||◌, ◌&&◌, cond, nat_le, List, [], ◌∷◌, ◌++◌, Option, Some, None, option_map, replicate, Result, Ok, codes, inl, refl, sym, ◌∙◌, ap, subst, arith}
 use Rattle.std.specs.Prelude.{◌+◌, is_none, nat_lt, not, ok_or}
 use Rattle.std.proofs.lemmas.Bool.{leb-true, or_right}
 use Rattle.std.specs.FinMap.{get, insert, get-empty}
@@ -13,15 +13,18 @@ use Rattle.nfs_rpc.specs.Early.{call_of}
 use Rattle.nfs_wire.specs.Calls.{arguments_of, arguments_type, procedure_of}
 use Rattle.nfs_wire.specs.declared.calls.NfsCall.{NfsCall}
 use Rattle.nfs_wire.specs.declared.calls.NfsCall.TheVariants as nfs
+use Rattle.nfs_wire.specs.declared.calls.RenameArguments.{RenameArguments}
 use Rattle.nfs_wire.specs.declared.calls.Verifier.{Verifier}
 use Rattle.nfs_wire.specs.declared.calls.WriteArguments.{WriteArguments}
+use Rattle.nfs_wire.specs.declared.entries.FullEntry.{FullEntry}
+use Rattle.nfs_wire.specs.declared.replies.NfsReply.{NfsReply}
 use Rattle.nfs_wire.specs.declared.replies.NfsReply.TheVariants as nfs_replies
 use Rattle.nfs_wire.specs.declared.replies.Written.{Written}
 use Rattle.nfs_wire.specs.declared.status.NfsStatus.{NfsStatus}
 use Rattle.nfs_wire.specs.declared.status.NfsStatus.TheVariants as status
 use Rattle.nfs_machine.specs.Bytes.{same_bytes}
 use Rattle.nfs_machine.specs.Answers.{answer_of, state_after}
-use Rattle.nfs_machine.specs.Attributes.{is_directory, links_of, names_in, names_of}
+use Rattle.nfs_machine.specs.Attributes.{attributes_of, entries_of, is_directory, links_of, names_in, names_of}
 use Rattle.nfs_machine.specs.Checks.{◌>>=◌, changeable, entries_in, entry_of, holding, link_limit, object_of, permitted, plain_name_checked}
 use Rattle.nfs_machine.specs.DataSteps.{write_object, verifier_of}
 use Rattle.nfs_machine.specs.LinkSteps.{link_end}
@@ -29,12 +32,14 @@ use Rattle.nfs_machine.specs.Making.{End, EndsAs, Fresh, made, make_new, with_en
 use Rattle.nfs_machine.specs.NameSteps.{create_existing, wanted_file}
 use Rattle.nfs_machine.specs.NfsSteps.{NfsStep}
 use Rattle.nfs_machine.specs.Pages.{all_entries, behind, fits, fits_full}
+use Rattle.nfs_machine.specs.PageSteps.{page_entry}
 use Rattle.nfs_machine.specs.Permission.{Changing, Listing}
 use Rattle.nfs_machine.specs.RemoveSteps.{losing_name, not_directory, object_under, without}
+use Rattle.nfs_machine.specs.RenameSteps.{move_plan, rename_plan}
 use Rattle.nfs_machine.specs.Resolve.{Resolved, Stale, Names, living_at, resolve}
-use Rattle.nfs_machine.specs.Readings.{Has}
+use Rattle.nfs_machine.specs.Readings.{Has, named_in}
 use Rattle.nfs_machine.specs.Run.{Asks, Executes}
-use Rattle.nfs_machine.specs.Shown.{replaced, touched, wcc, with_content, with_object}
+use Rattle.nfs_machine.specs.Shown.{handle_at, replaced, shown, touched, wcc, with_content, with_object}
 use Rattle.nfs_machine.specs.State.{Directory, Entry, Living, State}
 use Rattle.nfs_machine.specs.WellFormed.{IsParent, WellFormed}
 use Rattle.nfs_machine.specs.Worked.{root_bytes, root_handle}
@@ -42,8 +47,9 @@ use Rattle.nfs_machine.specs.WorkedCreate.{moment}
 use Rattle.nfs_machine.specs.WorkedFiles.{time}
 use Rattle.nfs_machine.specs.WorkedPages.{seven, zeros}
 use Rattle.nfs_machine.specs.WorkedReplies.{root}
-use Rattle.nfs_machine.specs.WorkedRun.{wrote_reply, WorkedLinking, WorkedRun, WorkedSteps, WorkedTurns, all_three, argument_bytes, arrives, executed, first_two, header_of, in_root, listed_full_reply, listed_reply, listing, linking, listing_full, made_reply, making, miscounted, nobody, opened, page_reply, refused_reply, removed, removed_reply, root_after, root_with_x, setting, with_x, writing, written, x, x_bytes, x_entry, x_written}
+use Rattle.nfs_machine.specs.WorkedRun.{wrote_reply, WorkedLeaving, WorkedLinking, WorkedRenaming, WorkedRun, WorkedSteps, WorkedTurns, all_three, argument_bytes, arrives, executed, first_two, header_of, in_root, listed_full_reply, listed_reply, listing, linking, listing_full, made_reply, making, miscounted, nobody, opened, left, page_reply, read_only, refused_reply, renaming, removed, removed_reply, root_after, root_with, root_with_both, root_with_x, setting, with_x, writing, written, x, x_bytes, x_entry, x_written, y_entry}
 use Rattle.nfs_machine.specs.declared.calls.Call.TheVariants as calls
+use Rattle.nfs_machine.specs.declared.context.Ctx.{Ctx}
 use Rattle.nfs_machine.proofs.Moves.{remove_end}
 use Rattle.nfs_machine.proofs.Opened.{only_roots, opening_formed}
 use Rattle.nfs_machine.proofs.Kept.{runs_keep_form}
@@ -190,6 +196,15 @@ lists =
     }
 
 -- ---- READDIRPLUS
+abbrev shown-entry : Entry → Option Living → FullEntry
+shown-entry e o = record { entry = page_entry e; attributes = option_map (attributes_of written e.number) o; object = option_map (handle_at nobody e.number) o }
+
+abbrev shown-reply : Option Living → Option Living → NfsReply
+shown-reply r f = nfs_replies.Readdirplus (record {
+  attributes = shown written (resolve written nobody root_bytes);
+  result = Ok (record { verifier = verifier_of nobody; entries = shown-entry (record { name = codes "."; number = 1; cookie = 1 }) r ∷ shown-entry (record { name = codes ".."; number = 1; cookie = 2 }) r ∷ shown-entry x_entry f ∷ []; eof = true });
+})
+
 lists-full : NfsStep written nobody (nfs.Readdirplus listing_full) listed_full_reply [] written
 unfolding NfsStep
 lists-full =
@@ -198,8 +213,11 @@ lists-full =
       is_parent = λ number d is kind. root-parent written root-written number d (sym named ∙ is);
       page = Ok (all_three, true);
       is_page = subst (λ r. PagesOf (fits_full 65536 65536) (entries_by r) (Ok (all_three, true))) (sym named) (page-ends (fits_full 65536 65536) all_three refl);
-      answers = record { reply_is = refl; no_message = refl; state_is = refl };
+      answers = record { reply_is = shown_by root-written x-lives; no_message = refl; state_is = refl };
     }
+  where
+    shown_by : get written.objects 1 ≡ Some root_with_x → get written.objects 5 ≡ Some x_written → listed_full_reply ≡ shown-reply (get written.objects 1) (get written.objects 5)
+    shown_by r f = sym (ap (λ l. shown-reply l (get written.objects 5)) r ∙ ap (λ l. shown-reply (Some root_with_x) l) f)
 
 -- ---- REMOVE
 names-x : names_of written 5 ≡ 1
@@ -271,11 +289,14 @@ pub worked-steps : WorkedSteps
 worked-steps = record { listed = lists; listed_full = lists-full; removes = takes; refuses = refused }
 
 -- ---- LINK
-abbrev link_names : State → List ℕ → (file directory : ℕ × Living) → (entries : List Entry × ℕ) → (links : ℕ) → Result (Unit {0} × State) NfsStatus
-link_names m name file directory entries links =
-    holding (is_none (entry_of entries.0 name)) status.Exists >>= λ _. holding (nat_lt links link_limit) status.TooManyLinks >>= λ _. holding (nat_lt (entries.1 + 1) (2 ^ 64)) status.NoSpace >>= λ _.
+abbrev link_found : State → List ℕ → (file directory : ℕ × Living) → (entries : List Entry × ℕ) → (links : ℕ) → Option Entry → Result (Unit {0} × State) NfsStatus
+link_found m name file directory entries links found =
+    holding (is_none found) status.Exists >>= λ _. holding (nat_lt links link_limit) status.TooManyLinks >>= λ _. holding (nat_lt (entries.1 + 1) (2 ^ 64)) status.NoSpace >>= λ _.
     let wider = with_content directory.1 (time 1000 0) (with_entry entries.0 entries.1 name file.0) in
     Ok (tt, with_object (with_object m directory.0 wider) file.0 (touched file.1 (time 1000 0)))
+
+abbrev link_names : State → List ℕ → (file directory : ℕ × Living) → (entries : List Entry × ℕ) → (links : ℕ) → Result (Unit {0} × State) NfsStatus
+link_names m name file directory entries links = link_found m name file directory entries links (entry_of entries.0 name)
 
 abbrev link_by : State → List ℕ → (file directory : Resolved) → Result (Unit {0} × State) NfsStatus
 link_by m name f d =
@@ -283,25 +304,123 @@ link_by m name f d =
     >>= λ _. entries_in directory.1.content >>= λ entries. plain_name_checked status.Invalid status.Invalid name >>= λ _. changeable nobody directory.1 >>= λ _. permitted nobody directory.1 Changing
     >>= λ _. link_names m name file directory entries (links_of m file.0 file.1.content)
 
-module _ (m : State) (of_root : get m.objects 1 ≡ Some root_with_x) (of_x : get m.objects 5 ≡ Some x_written) where
-  linked-by : (name : List ℕ) → link_end m nobody (linking name) ≡ link_by m name (Names 5 x_written) (Names 1 root_with_x)
+module _ (m : State) (entries : List Entry) (of_root : get m.objects 1 ≡ Some (root_with entries)) (of_x : get m.objects 5 ≡ Some x_written) where
+  linked-by : (name : List ℕ) → link_end m nobody (linking name) ≡ link_by m name (Names 5 x_written) (Names 1 (root_with entries))
   linked-by name =
       ap (λ f. link_by m name f (resolve m nobody root_bytes)) (x-named m x_written refl refl of_x)
-      ∙ ap (λ d. link_by m name (Names 5 x_written) d) (root-named m root_with_x refl refl of_root)
+      ∙ ap (λ d. link_by m name (Names 5 x_written) d) (root-named m (root_with entries) refl refl of_root)
 
-  pub worked-linking : WorkedLinking m
+  -- where the name is found so
+  linked-where : (name : List ℕ) (found : Option Entry) → entry_of entries name ≡ found → (links : ℕ)
+      → link_names m name (5, x_written) (1, root_with entries) (entries, 40000) links ≡ link_found m name (5, x_written) (1, root_with entries) (entries, 40000) links found
+  linked-where name found is links = ap (link_found m name (5, x_written) (1, root_with entries) (entries, 40000) links) is
+
+  free-name : entry_of entries (codes "y") ≡ None → link_end m nobody (linking (codes "y")) ≡ link_found m (codes "y") (5, x_written) (1, root_with entries) (entries, 40000) (names_of m 5) None
+  free-name none = linked-by (codes "y") ∙ linked-where (codes "y") None none (names_of m 5)
+
+  pub worked-linking : WorkedLinking m entries
   worked-linking = record {
-    last = λ most. linked-by (codes "y") ∙ ap (λ links. link_names m (codes "y") (5, x_written) (1, root_with_x) (x_entry ∷ [], 3) links) most;
-    full = λ many. linked-by (codes "y") ∙ ap (λ links. link_names m (codes "y") (5, x_written) (1, root_with_x) (x_entry ∷ [], 3) links) many;
-    there = linked-by (codes "x");
+    last = λ none most. free-name none ∙ ap (λ links. link_found m (codes "y") (5, x_written) (1, root_with entries) (entries, 40000) links None) most;
+    full = λ none many. free-name none ∙ ap (λ links. link_found m (codes "y") (5, x_written) (1, root_with entries) (entries, 40000) links None) many;
+    there = λ e found. linked-by (codes "x") ∙ linked-where (codes "x") (Some e) found (names_of m 5);
     self = linked-by (codes ".");
     directory =
-        ap (λ f. link_by m (codes "y") f (resolve m nobody root_bytes)) (root-named m root_with_x refl refl of_root)
-        ∙ ap (λ d. link_by m (codes "y") (Names 1 root_with_x) d) (root-named m root_with_x refl refl of_root);
+        ap (λ f. link_by m (codes "y") f (resolve m nobody root_bytes)) (root-named m (root_with entries) refl refl of_root)
+        ∙ ap (λ d. link_by m (codes "y") (Names 1 (root_with entries)) d) (root-named m (root_with entries) refl refl of_root);
     into_file =
         ap (λ f. link_by m (codes "y") f (resolve m nobody x_bytes)) (x-named m x_written refl refl of_x)
         ∙ ap (λ d. link_by m (codes "y") (Names 5 x_written) d) (x-named m x_written refl refl of_x);
   }
+
+-- ---- RENAME
+module _ (m : State) (ctx : Ctx) (a : RenameArguments) where
+  abbrev move_found : (from to : ℕ × Living) → (from_entries to_entries : List Entry × ℕ) → (moved replaced : Option (ℕ × Living)) → Result (Option (ℕ × ℕ) × Result (Unit {0} × State) NfsStatus) NfsStatus
+  move_found from to from_entries to_entries moved replaced =
+      ok_or moved status.NoEntry >>= λ moved. move_plan m (time 1000 0) a from to from_entries to_entries moved replaced
+
+  abbrev move_by : (from to : Resolved) → Result (Option (ℕ × ℕ) × Result (Unit {0} × State) NfsStatus) NfsStatus
+  move_by f t =
+      object_of f >>= λ from. object_of t >>= λ to. holding (from.1.export == to.1.export) status.CrossDevice >>= λ _. entries_in from.1.content >>= λ from_entries. entries_in to.1.content >>= λ to_entries.
+      plain_name_checked status.Invalid status.Invalid a.from.name >>= λ _. plain_name_checked status.Invalid status.Invalid a.to.name >>= λ _. changeable ctx from.1 >>= λ _. permitted ctx from.1 Changing >>= λ _.
+      permitted ctx to.1 Changing >>= λ _. move_found from to from_entries to_entries (object_under m (entry_of from_entries.0 a.from.name)) (object_under m (entry_of to_entries.0 a.to.name))
+
+module _ (m : State) (entries : List Entry) (of_root : get m.objects 1 ≡ Some (root_with entries)) (of_x : get m.objects 5 ≡ Some x_written) where
+  of-nobody : resolve m nobody root_bytes ≡ Names 1 (root_with entries)
+  of-nobody = root-named m (root_with entries) refl refl of_root
+
+  of-read : resolve m read_only root_bytes ≡ Names 1 (root_with entries)
+  of-read = ap (λ (l : Option Living). living_at l root_handle) of_root
+
+  of-file : resolve m nobody x_bytes ≡ Names 5 x_written
+  of-file = x-named m x_written refl refl of_x
+
+  in-root : (a : RenameArguments) → a.from.directory ≡ root_bytes → a.to.directory ≡ root_bytes → rename_plan m nobody a ≡ move_by m nobody a (Names 1 (root_with entries)) (Names 1 (root_with entries))
+  in-root a from to =
+      ap (λ f. move_by m nobody a f (resolve m nobody a.to.directory)) (ap (resolve m nobody) from ∙ of-nobody)
+      ∙ ap (move_by m nobody a (Names 1 (root_with entries))) (ap (resolve m nobody) to ∙ of-nobody)
+
+  under-read : (a : RenameArguments) → a.from.directory ≡ root_bytes → a.to.directory ≡ root_bytes → rename_plan m read_only a ≡ move_by m read_only a (Names 1 (root_with entries)) (Names 1 (root_with entries))
+  under-read a from to =
+      ap (λ f. move_by m read_only a f (resolve m read_only a.to.directory)) (ap (resolve m read_only) from ∙ of-read)
+      ∙ ap (move_by m read_only a (Names 1 (root_with entries))) (ap (resolve m read_only) to ∙ of-read)
+
+  abbrev x_to_y : RenameArguments
+  x_to_y = renaming (codes "x") (codes "y")
+
+  abbrev found_so : (moved replaced : Option (ℕ × Living)) → Result (Option (ℕ × ℕ) × Result (Unit {0} × State) NfsStatus) NfsStatus
+  found_so = move_found m nobody x_to_y (1, root_with entries) (1, root_with entries) (entries, 40000) (entries, 40000)
+
+  -- where both names are found so
+  where-found : (from to : Option Entry) → entry_of entries (codes "x") ≡ from → entry_of entries (codes "y") ≡ to → rename_plan m nobody x_to_y ≡ found_so (object_under m from) (object_under m to)
+  where-found from to is_from is_to =
+      in-root x_to_y refl refl ∙ ap (λ e. found_so (object_under m e) (object_under m (entry_of entries (codes "y")))) is_from ∙ ap (λ e. found_so (object_under m from) (object_under m e)) is_to
+
+  pub worked-renaming : WorkedRenaming m entries
+  worked-renaming = record {
+    self = under-read (renaming (codes ".") (replicate 256 120)) refl refl;
+    above = in-root (renaming (codes "x") (codes "..")) refl refl;
+    long = in-root (renaming (codes "x") (replicate 256 120)) refl refl;
+    fixed = under-read x_to_y refl refl;
+    nothing = λ none. where-found None (entry_of entries (codes "y")) none refl;
+    from_file =
+        ap (λ f. move_by m nobody (record { from = record { directory = x_bytes; name = codes "x" }; to = in_root (codes "y") }) f (resolve m nobody root_bytes)) of-file
+        ∙ ap (move_by m nobody (record { from = record { directory = x_bytes; name = codes "x" }; to = in_root (codes "y") }) (Names 5 x_written)) of-nobody;
+    into_file =
+        ap (λ f. move_by m nobody (record { from = in_root (codes "x"); to = record { directory = x_bytes; name = codes "y" } }) f (resolve m nobody x_bytes)) of-nobody
+        ∙ ap (move_by m nobody (record { from = in_root (codes "x"); to = record { directory = x_bytes; name = codes "y" } }) (Names 1 (root_with entries))) of-file;
+    moves = λ cookie found none.
+        where-found (Some (record { name = codes "x"; number = 5; cookie = cookie })) None found none
+        ∙ ap (λ (l : Option Living). found_so (option_map (λ (o : Living). (5, o)) l) None) of_x;
+    both = λ cookie other found too.
+        where-found (Some (record { name = codes "x"; number = 5; cookie = cookie })) (Some (record { name = codes "y"; number = 5; cookie = other })) found too
+        ∙ ap (λ (l : Option Living). found_so (option_map (λ (o : Living). (5, o)) l) (option_map (λ (o : Living). (5, o)) l)) of_x;
+  }
+
+-- ---- REMOVE of one of two names
+abbrev leave_object : State → ℕ × Living → List Entry × ℕ → Option (ℕ × Living) → Result (Unit {0} × State) NfsStatus
+leave_object m directory entries found =
+    ok_or found status.NoEntry >>= λ o. not_directory o.1.content >>= λ _.
+    let left = with_object m directory.0 (with_content directory.1 (time 1000 0) (Directory (without entries.0 (codes "x")) entries.1)) in
+    Ok (tt, losing_name left (names_of m o.0) (time 1000 0) o.0 o.1)
+
+abbrev leave_by : State → Resolved → Result (Unit {0} × State) NfsStatus
+leave_by m r =
+    object_of r >>= λ directory. entries_in directory.1.content >>= λ entries. plain_name_checked status.Invalid status.Invalid (codes "x") >>= λ _. changeable nobody directory.1 >>= λ _. permitted nobody directory.1 Changing
+    >>= λ _. leave_object m directory entries (object_under m (entry_of entries.0 (codes "x")))
+
+pub worked-leaving : WorkedLeaving
+unfolding NfsStep
+worked-leaving m of_root of_x two = record {
+  reply_is = sym (ap (λ end. nfs_replies.Remove (record { directory = wcc (state_after m end) (resolve m nobody root_bytes); result = answer_of end })) taken);
+  no_message = refl;
+  state_is = sym (ap (state_after m) taken);
+}
+  where
+    taken : remove_end m nobody (in_root (codes "x")) ≡ Ok (tt, left m)
+    taken =
+        ap (leave_by m) (root-named m root_with_both refl refl of_root)
+        ∙ ap (λ (l : Option Living). leave_object m (1, root_with_both) (x_entry ∷ y_entry ∷ [], 4) (option_map (λ (o : Living). (5, o)) l)) of_x
+        ∙ ap (λ k. Ok (tt, losing_name (with_object m 1 (with_content root_with_both (time 1000 0) (Directory (y_entry ∷ []) 4))) k (time 1000 0) 5 x_written)) two
 
 -- ---- a reading of the root
 -- a page of it, where "x" is its only name
@@ -331,6 +450,10 @@ has-self m lives number object entries last parent names content is_parent =
     let own : 1 ≡ number = (let named = root-named m root_with_x refl refl lives in cc) in
     subst (λ k. Contains (all_entries k parent entries) (record { name = codes "."; number = 1; cookie = 1 })) own (0, omega arith, refl)
 
+leads-x : (m : State) → get m.objects 1 ≡ Some root_with_x → named_in m 1 (codes "x") ≡ Some 5
+leads-x m lives =
+    ap (λ (l : Option Living). elim l as (λ (_ : Option Living). Option ℕ) [ None ↦ None | Some o ↦ option_map (λ (e : Entry). e.number) (entry_of (entries_of o.content) (codes "x")) ]) lives
+
 with-x-formed : WellFormed with_x
 with-x-formed = runs_keep_form setting opened with_x (executed (nfs.Create making) made_reply ∷ []) (with_x, executes-create, refl) (opening_formed setting.exports moment)
 
@@ -348,6 +471,7 @@ worked-turns = record {
     ),
   );
   stays = (has-x with_x root-made, has-x written root-written);
+  name_stays = (leads-x with_x root-made, (leads-x with_x root-made, leads-x written root-written));
   self_stays = (has-self with_x root-made, has-self written root-written);
 }
   where

@@ -1,16 +1,18 @@
 -- SETATTR leaves names as they are.
-use Rattle.std.proofs.Common.{◌≡◌, ℕ, true, ◌&&◌, List, Option, Some, None, Result, Ok, IfOk, refl}
+use Rattle.std.proofs.Common.{◌≡◌, ℕ, true, ◌&&◌, List, [], Option, Some, None, Result, Ok, IfOk, refl}
 use Rattle.nfs_wire.specs.declared.attributes.Time.{Time}
 use Rattle.nfs_wire.specs.declared.calls.SetattrArguments.{SetattrArguments}
 use Rattle.nfs_wire.specs.declared.status.NfsStatus.{NfsStatus}
 use Rattle.nfs_wire.specs.declared.status.NfsStatus.TheVariants as status
 use Rattle.nfs_machine.specs.Data.{resized}
+use Rattle.nfs_machine.proofs.Cookies.{kept-same}
 use Rattle.nfs_machine.proofs.Facts.{chained-is, resolved-lives, setattr_end}
 use Rattle.nfs_machine.proofs.Follows.{Alters, Follows, follows-altered, of-ok}
 use Rattle.nfs_machine.proofs.Short.{chained}
 use Rattle.nfs_machine.specs.AttributeSteps.{set_object}
-use Rattle.nfs_machine.specs.Attributes.{is_directory}
+use Rattle.nfs_machine.specs.Attributes.{entries_of, is_directory}
 use Rattle.nfs_machine.specs.Checks.{◌>>=◌, bytes_in, changeable, holding, object_of}
+use Rattle.nfs_machine.specs.Laws.{KeepsEntries}
 use Rattle.nfs_machine.specs.Resolve.{resolve}
 use Rattle.nfs_machine.specs.State.{Content, Regular, Directory, Link, BlockDevice, CharacterDevice, Socket, Fifo, Living, State}
 use Rattle.nfs_machine.specs.Times.{is_time, time_of, touch}
@@ -24,10 +26,11 @@ record Sized (was is : Content) : Type 0 where
   kind : is_directory is ≡ is_directory was
   content : is_directory was ≡ true → is ≡ was
   text : (t : List ℕ) → is ≡ Link t → was ≡ Link t
+  entries : KeepsEntries (entries_of was) (entries_of is)
 
 sized-keeps : (c : Content) (size : Option ℕ) → IfOk (sized c size) (Sized c)
-sized-keeps c None = record { kind = refl; content = λ is. refl; text = λ t e. e }
-sized-keeps (Regular bytes) (Some size) = record { kind = refl; content = λ is. cc; text = λ t e. cc }
+sized-keeps c None = record { kind = refl; content = λ is. refl; text = λ t e. e; entries = kept-same (entries_of c) }
+sized-keeps (Regular bytes) (Some size) = record { kind = refl; content = λ is. cc; text = λ t e. cc; entries = kept-same [] }
 sized-keeps (Directory entries last) (Some size) = tt
 sized-keeps (Link text) (Some size) = tt
 sized-keeps (BlockDevice device) (Some size) = tt
@@ -40,7 +43,7 @@ set-alter : (o : Living) (now : Time) (content : Content) (mode uid gid : ℕ) (
     → Alters now o (record o { content = content; mode = mode; uid = uid; gid = gid; accessed = accessed; modified = modified; changed = touch o.changed now; verifier = None })
 set-alter o now content mode uid gid accessed modified is = record {
   keeps = record { export = refl; generation = refl; kind = is.kind; content = is.content };
-  turns = record { generation = refl; text = is.text; changed = refl };
+  turns = record { generation = refl; text = is.text; changed = refl; entries = is.entries };
 }
 
 set-alters : (ctx : Ctx) (o : Living) (a : SetattrArguments) → IfOk (set_object ctx o a) (Alters (time_of ctx.moment) o)

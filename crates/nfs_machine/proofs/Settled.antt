@@ -240,6 +240,7 @@ worked-freed = record {
       ((a-in-the-way, tt), refl, refl),
     ),
   );
+  all_of_it = λ m. ([], freed, [], (tt, refl, refl));
   refused = λ m. (refl, ([], none-of a true, (held_by_b m, grants-first (record m { shares = []; granted = [] }) (alone b 69) [] b true refl refl refl, (tt, refl))));
   again = λ m. (refl, (refl, refl));
   taken = λ m. (refl, (refl, refl));

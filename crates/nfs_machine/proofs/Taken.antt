@@ -12,6 +12,7 @@ use Rattle.nfs_wire.specs.declared.status.NfsStatus.TheVariants as status
 use Rattle.nfs_machine.specs.Attributes.{entries_of, is_directory, names_of, links_of}
 use Rattle.nfs_machine.specs.Bytes.{same_bytes}
 use Rattle.nfs_machine.specs.Checks.{holding, object_of, entries_in, plain_name_checked, changeable, permitted, entry_of, link_limit}
+use Rattle.nfs_machine.specs.Laws.{KeepsEntries}
 use Rattle.nfs_machine.specs.LinkSteps.{link_end}
 use Rattle.nfs_machine.specs.Making.{with_entry}
 use Rattle.nfs_machine.specs.Permission.{Changing}
@@ -23,7 +24,8 @@ use Rattle.nfs_machine.specs.Times.{time_of}
 use Rattle.nfs_machine.specs.WellFormed.{WellFormed}
 use Rattle.nfs_machine.specs.declared.context.Ctx.{Ctx}
 use Rattle.nfs_machine.proofs.Changes.{apart, differs-insert, differs-other, itself}
-use Rattle.nfs_machine.proofs.Continued.{Continues, continues-itself, continues-losing, continues-touched, continues-with, gives-continued, texts-continued, touches-continued, well_formed-losing}
+use Rattle.nfs_machine.proofs.Continued.{Continues, continues-itself, continues-losing, continues-touched, continues-with, cookies-continued, gives-continued, texts-continued, touches-continued, well_formed-losing}
+use Rattle.nfs_machine.proofs.Cookies.{kept-added, kept-of, kept-same, kept-without}
 use Rattle.nfs_machine.proofs.Facts.{absent, chained-is, directory-empty, holds, is-directory, leads-found, plain-empty, resolved-lives}
 use Rattle.nfs_machine.proofs.Follows.{Follows, bounds-losing, locks-losing, mounts-losing}
 use Rattle.nfs_machine.proofs.Loose.{AddsName, Loose, Swaps, TakesName, also, loose-added, loose-taken, loose-touched, loosened, names_of-taken, none_loose, tightened}
@@ -53,6 +55,10 @@ pub is-under : (m : State) (directory : ℕ × Living) (entries : List Entry × 
 is-under m directory entries name o lives content is =
     let e = under-entry m (entry_of entries.0 name) o is in
     record { lives = lives; content = content; entry = e.0; found = e.1; number = e.2; object = e.3 }
+
+-- the names beside it keep their cookies
+pub kept-taken : (m : State) (n : Named) → IsNamed m n → KeepsEntries (entries_of n.directory.content) (without n.entries n.name)
+kept-taken m n named = kept-of n.directory.content n.entries (without n.entries n.name) n.last_cookie named.content (kept-without n.entries n.entries n.name (kept-same n.entries))
 
 -- a directory in the place of another: its entries alone differ
 pub narrower-swaps : (m : State) (n : Named) (now : Time) (entries : List Entry) (last : ℕ) → IsNamed m n
@@ -107,12 +113,13 @@ module _ (m : State) (now : Time) (n : Named) (named : IsNamed m n) where
 
     continues-taken : Continues now m (with_name_taken m now n)
     continues-taken =
-        continues-losing now m mid (continues-with now m m (continues-itself now m) n.place n.directory named.lives (without n.entries n.name) n.last_cookie) n.number n.object named.object (names_of m n.number)
+        continues-losing now m mid (continues-with now m m (continues-itself now m) n.place n.directory named.lives (without n.entries n.name) n.last_cookie (kept-taken m n named)) n.number n.object named.object (names_of m n.number)
 
     pub taken-follows : Follows now m (with_name_taken m now n)
     taken-follows = record {
       gives = gives-continued now m (with_name_taken m now n) continues-taken;
       touches = touches-continued now m (with_name_taken m now n) continues-taken;
+      cookies = cookies-continued now m (with_name_taken m now n) continues-taken;
       formed = λ w.
           let l = loosened none_loose m w in
           well_formed-losing mid n.number n.object object-there (loose-mid none_loose l) (names_of m n.number) now empty (one-less none_loose l)
@@ -187,8 +194,11 @@ module _ (m : State) (now : Time) (number : ℕ) (object : Living) (place : ℕ)
     nameless = λ e. (let no : true ≡ false = sym e ∙ plain in cc);
   }
 
+  keeps : KeepsEntries (entries_of directory.content) (entries_of (with_entry entries last name number))
+  keeps = kept-of directory.content entries _ last content (kept-added entries entries _ (kept-same entries) (λ e found same. cc))
+
   continues-linked : Continues now m (with_object added number (touched object now))
-  continues-linked = continues-touched now m added (continues-with now m m (continues-itself now m) place directory lives _ _) number object there
+  continues-linked = continues-touched now m added (continues-with now m m (continues-itself now m) place directory lives _ _ keeps) number object there
 
   formed : WellFormed m → WellFormed (with_object added number (touched object now))
   formed w =
@@ -202,6 +212,7 @@ module _ (m : State) (now : Time) (number : ℕ) (object : Living) (place : ℕ)
   linked-follows = record {
     gives = gives-continued now m (with_object added number (touched object now)) continues-linked;
     touches = touches-continued now m (with_object added number (touched object now)) continues-linked;
+    cookies = cookies-continued now m (with_object added number (touched object now)) continues-linked;
     formed = formed;
     locks = record { apart = λ h. h; waits = λ h. h };
     mounts = refl;

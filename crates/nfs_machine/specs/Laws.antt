@@ -7,13 +7,15 @@ use Rattle.nfs_wire.specs.declared.calls.NfsCall.{NfsCall}
 use Rattle.nfs_wire.specs.declared.replies.NfsReply.{NfsReply}
 use Rattle.nfs_wire.specs.declared.replies.NfsReply.TheVariants as replies
 use Rattle.side_wire.specs.declared.message.Message.{Message}
+use Rattle.nfs_machine.specs.Attributes.{entries_of}
+use Rattle.nfs_machine.specs.Checks.{entry_of}
 use Rattle.nfs_machine.specs.Exports.{ExportValue}
 use Rattle.nfs_machine.specs.Handles.{handle_bytes, handle_of}
 use Rattle.nfs_machine.specs.NfsSteps.{NfsStep}
 use Rattle.nfs_machine.specs.Opening.{opening}
 use Rattle.nfs_machine.specs.Refusal.{nfs_refusal}
 use Rattle.nfs_machine.specs.Run.{Arrival, Asks, Executes, Record, Run, Setting}
-use Rattle.nfs_machine.specs.State.{Living, State}
+use Rattle.nfs_machine.specs.State.{Entry, Living, State}
 use Rattle.nfs_machine.specs.Step.{Step}
 use Rattle.nfs_machine.specs.WellFormed.{WellFormed}
 use Rattle.nfs_machine.specs.declared.calls.Call.{Call}
@@ -106,7 +108,7 @@ pub record LivesAs (m : State) (number generation : ℕ) : Type 0 where
 pub record GivesOnce (old new : State) : Type 0 where
   pub kept : (number generation : ℕ) → old.spent number generation ≡ true → new.spent number generation ≡ true
   pub handles : (number generation : ℕ) → LivesAs new number generation
-      → LivesAs old number generation ⊎ ((old.spent number generation ≡ false) × (new.spent number generation ≡ true))
+      → LivesAs old number generation ⊎ ((old.spent number generation ≡ false) × (new.spent number generation ≡ true) × (number < 2 ^ 64) × (generation < 2 ^ 64))
 
 -- each step gives a handle at most once
 abbrev pub StepsGiveOnce : Type 0
@@ -116,6 +118,31 @@ StepsGiveOnce = (old : State) (ctx : Ctx) (call : Call) (reply : Reply) (message
 abbrev pub NeverGivenAgain : Type 0
 NeverGivenAgain = (setting : Setting) (first last : State) (records : List Record) (number generation : ℕ)
     → Run setting first records last → first.spent number generation ≡ true → LivesAs last number generation → LivesAs first number generation
+
+-- the number and the generation of what lives fit the bytes of its handle
+abbrev pub NumbersFit : State → Type 0
+NumbersFit m = (number generation : ℕ) → LivesAs m number generation → (number < 2 ^ 64) × (generation < 2 ^ 64)
+
+abbrev pub OpeningNumbersFit : Type 0
+OpeningNumbersFit = (exports : List ExportValue) (moment : Moment) → length exports < 2 ^ 32 → NumbersFit (opening exports moment)
+
+abbrev pub StepsKeepNumbers : Type 0
+StepsKeepNumbers = (old : State) (ctx : Ctx) (call : Call) (reply : Reply) (messages : List Message) (new : State) → Step old ctx call reply messages new → NumbersFit old → NumbersFit new
+
+abbrev pub RunsKeepNumbers : Type 0
+RunsKeepNumbers = (setting : Setting) (first last : State) (records : List Record) → Run setting first records last → NumbersFit first → NumbersFit last
+
+-- a name that leads to the same object before and after is the same entry: it keeps its cookie (RFC 1813, 3.3.16)
+abbrev pub KeepsEntries : (before after : List Entry) → Type 0
+KeepsEntries before after = (name : List ℕ) (e f : Entry) → entry_of before name ≡ Some e → entry_of after name ≡ Some f → f.number ≡ e.number → f ≡ e
+
+-- in each directory that lives on
+abbrev pub KeepsCookies : (old new : State) → Type 0
+KeepsCookies old new = (number : ℕ) (was is : Living) → get old.objects number ≡ Some was → get new.objects number ≡ Some is → KeepsEntries (entries_of was.content) (entries_of is.content)
+
+-- each step does so
+abbrev pub StepsKeepCookies : Type 0
+StepsKeepCookies = (old : State) (ctx : Ctx) (call : Call) (reply : Reply) (messages : List Message) (new : State) → Step old ctx call reply messages new → KeepsCookies old new
 
 -- what is true of every state: a server starts so, each step keeps it, and so each run
 abbrev pub OpeningIsFormed : Type 0

@@ -90,6 +90,13 @@ exports = open_export ∷ lower_export ∷ []
 abbrev pub called_by : List ℕ → ℕ → Moment → Limits → Ctx
 called_by host start moment limits = record { host = host; ids = user 0 0; moment = moment; start = start; exports = exports; limits = limits }
 
+-- the root of the second export
+abbrev pub lower_root : Living
+lower_root = record (object 511 (Directory [] 2)) { export = 2 }
+
+abbrev pub lower_handle : Handle
+lower_handle = record { export = 2; start = 7; fileid = 2; generation = 1 }
+
 -- what handles name (RFC 1813, 2.6)
 pub record WorkedHandles : Type 0 where
   pub bytes : handle_bytes root_handle ≡ root_bytes
@@ -103,7 +110,10 @@ pub record WorkedHandles : Type 0 where
   pub other_start : (moment : Moment) (limits : Limits) → named find (called_by (codes "10.0.0.1") 8 moment limits) (handle_of root_bytes) ≡ Stale
   pub gone : (moment : Moment) (limits : Limits) → named find (called_by (codes "10.0.0.1") 7 moment limits) (Some (record root_handle { fileid = 4 })) ≡ Stale
   pub other_generation : (moment : Moment) (limits : Limits) → named find (called_by (codes "10.0.0.1") 7 moment limits) (Some (record root_handle { generation = 2 })) ≡ Stale
-  pub not_admitted : (moment : Moment) (limits : Limits) → named find (called_by (codes "10.0.0.1") 7 moment limits) (Some (record root_handle { export = 2 })) ≡ Stale
+  pub admitted : (moment : Moment) (limits : Limits) → named (λ number. Some lower_root) (called_by (codes "10.0.0.2") 7 moment limits) (Some lower_handle) ≡ Names 2 lower_root
+  pub not_admitted : (moment : Moment) (limits : Limits) → named (λ number. Some lower_root) (called_by (codes "10.0.0.1") 7 moment limits) (Some lower_handle) ≡ Stale
+  -- an object of the other export
+  pub other_export : (moment : Moment) (limits : Limits) → named (λ number. Some lower_root) (called_by (codes "10.0.0.2") 7 moment limits) (Some (record lower_handle { export = 1 })) ≡ Stale
 
 -- where paths lead (RFC 1813, 5.2.1)
 pub record WorkedWalks : Type 0 where

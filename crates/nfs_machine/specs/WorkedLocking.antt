@@ -24,10 +24,9 @@ use Rattle.nfs_machine.specs.LockSteps.{range_checked}
 use Rattle.nfs_machine.specs.MountSteps.{MountStep}
 use Rattle.nfs_machine.specs.NlmSteps.{NlmStep, result_with}
 use Rattle.nfs_machine.specs.State.{Owner, Request, State}
-use Rattle.nfs_machine.specs.Worked.{open_export, root_bytes}
-use Rattle.nfs_machine.specs.declared.context.Ctx.{Ctx}
+use Rattle.nfs_machine.specs.Worked.{root_bytes}
 use Rattle.nfs_machine.specs.WorkedLocks.{a, asked, b, holder, mounted, reading, reading_too, split, whole}
-use Rattle.nfs_machine.specs.WorkedRun.{nobody, written, x_bytes}
+use Rattle.nfs_machine.specs.WorkedRun.{nobody, read_only, written, x_bytes}
 
 -- a lock of the file
 abbrev pub on_x : Owner → ℕ → ℕ → NlmLock
@@ -71,10 +70,6 @@ with_reader = record written { shares = reading ∷ [] }
 abbrev pub with_readers : State
 with_readers = record written { shares = reading ∷ reading_too ∷ [] }
 
--- the export is read only
-abbrev pub read_only : Ctx
-read_only = record nobody { exports = record open_export { read_only = true } ∷ [] }
-
 -- which file and range a call names: each check before the next
 pub record WorkedChecks : Type 0 where
   pub good : range_checked written nobody true (on_x a 0 100) ≡ Ok (range_of 5 (on_x a 0 100))
@@ -104,6 +99,7 @@ pub record WorkedLocking : Type 0 where
   -- the first share of A stays
   pub own_denied : NlmStep with_readers nobody (nlm.Share (sharing a mode.DenyRead access.Read)) (nlm_replies.Share (result_with (5 ∷ []) status.Denied)) [] with_readers
   pub unshares_none : NlmStep with_readers nobody (nlm.Unshare (sharing (record a { caller_name = codes "c3" }) mode.DenyNone access.Neither)) (nlm_replies.Unshare (result_with (5 ∷ []) status.Granted)) [] with_readers
+  pub unshares : NlmStep with_readers nobody (nlm.Unshare (sharing a mode.DenyWrite access.Read)) (nlm_replies.Unshare (result_with (5 ∷ []) status.Granted)) [] (record written { shares = reading_too ∷ [] })
   pub denied : NlmStep with_split nobody (nlm.NmLock (locking b 30 1 false)) (nlm_replies.NmLock (result_with (1 ∷ []) status.Denied)) [] with_split
   pub mounts : MountStep written nobody (mount.Mnt (codes "/a")) (mount_replies.Mnt (Ok root_bytes)) [] (record written { mounts = mounted (codes "10.0.0.1") (codes "/a") ∷ [] })
   pub not_mounted : MountStep written nobody (mount.Mnt (codes "a")) (mount_replies.Mnt (Err mount_status.Invalid)) [] written

@@ -1,6 +1,7 @@
 -- Locks and shares worked through by hand (RFC 1813, appendix II), and lists of MOUNT (appendix I, 5.2.2 to 5.2.5).
 use Rattle.std.specs.Prelude.{◌≡◌, ℕ, ◌-◌, ◌^◌, Bool, true, false, List, [], ◌∷◌, Err, codes, pos, None, Some}
 use Rattle.std.specs.List.{list_any}
+use Rattle.side_wire.specs.declared.message.Callback.TheVariants as callbacks
 use Rattle.side_wire.specs.declared.message.NlmLock.{NlmLock}
 use Rattle.side_wire.specs.declared.mount.MountStatus.TheVariants as mount_status
 use Rattle.side_wire.specs.declared.nlm.LockHolder.{LockHolder}
@@ -8,13 +9,14 @@ use Rattle.side_wire.specs.declared.nlm.ShareAccess.{ShareAccess}
 use Rattle.side_wire.specs.declared.nlm.ShareAccess.TheVariants as access
 use Rattle.side_wire.specs.declared.nlm.ShareMode.{ShareMode}
 use Rattle.side_wire.specs.declared.nlm.ShareMode.TheVariants as mode
+use Rattle.side_wire.specs.declared.nlm.TestArguments.{TestArguments}
 use Rattle.side_wire.specs.declared.nlm.TestStatus.TheVariants as tested
-use Rattle.nfs_machine.specs.Grants.{grant_cookie}
+use Rattle.nfs_machine.specs.Grants.{grant_cookie, grant_message}
 use Rattle.nfs_machine.specs.LockSteps.{Tests, is_grant_number, length_shown, share_of, without}
 use Rattle.nfs_machine.specs.Locks.{Lists, denies, fits_offsets, modes_conflict, modes_with, range_of, same_sharer, shares_conflict, Mode}
-use Rattle.nfs_machine.specs.MountSteps.{MountStep, is_of, listed_exports, walk, without_mounts, with_mount}
-use Rattle.nfs_machine.specs.State.{Lock, Owner, Share, State, Range}
-use Rattle.nfs_machine.specs.Worked.{called_by, exports, find}
+use Rattle.nfs_machine.specs.MountSteps.{MountStep, walk, with_mount}
+use Rattle.nfs_machine.specs.State.{Lock, Owner, Request, Share, State, Range}
+use Rattle.nfs_machine.specs.Worked.{called_by, find}
 use Rattle.nfs_machine.specs.declared.context.Limits.{Limits}
 use Rattle.nfs_machine.specs.declared.moment.Moment.{Moment}
 use Rattle.side_wire.specs.declared.mount.MountCall.TheVariants as mount
@@ -80,6 +82,10 @@ pub record WorkedRanges : Type 0 where
   pub at_60 : modes_with whole (on_file a 40 20) Unlocked 5 a 60 ≡ Exclusive
   pub at_100 : modes_with whole (on_file a 40 20) Unlocked 5 a 100 ≡ Unlocked
   pub of_other : modes_with whole (on_file a 40 20) Unlocked 5 b 30 ≡ Unlocked
+  -- an owner is a caller, an owner within it and a process
+  pub of_other_process : modes_with whole (on_file a 40 20) Unlocked 5 (record a { process = pos 2 }) 30 ≡ Unlocked
+  pub of_other_owner : modes_with whole (on_file a 40 20) Unlocked 5 (record a { owner = 2 ∷ [] }) 30 ≡ Unlocked
+  pub of_other_caller : modes_with whole (on_file a 40 20) Unlocked 5 (record a { caller_name = codes "c2" }) 30 ≡ Unlocked
   pub of_other_file : modes_with whole (on_file a 40 20) Unlocked 6 a 30 ≡ Unlocked
   -- a shared lock of 10 bytes from 50 on inside the exclusive one
   pub shared_at_55 : modes_with whole (on_file a 50 10) Shared 5 a 55 ≡ Shared
@@ -119,15 +125,32 @@ pub record WorkedShares : Type 0 where
   pub the_other : denies mode.DenyRead access.Write ≡ false
   pub neither : denies mode.DenyReadWrite access.Neither ≡ false
   pub unshare_of_none : without (same_sharer (share (record a { caller_name = codes "c3" }) mode.DenyNone access.Neither)) (reading ∷ reading_too ∷ []) ≡ reading ∷ reading_too ∷ []
+  -- an owner of shares is a caller and an owner within it
+  pub of_other_owner : same_sharer reading (share (record a { owner = 2 ∷ [] }) mode.DenyWrite access.Read) ≡ false
+  pub of_any_process : same_sharer reading (share (record a { process = pos 2 }) mode.DenyNone access.Write) ≡ true
   pub unshare : without (same_sharer reading) (reading ∷ reading_too ∷ []) ≡ reading_too ∷ []
 
--- numbers of grants, and the cookies that they are
+-- B asked for bytes 30 to 39 from the host h2, exclusively
+abbrev pub granted_request : Bool → Request
+granted_request by_message = record { number = 69; file = 5; host = codes "h2"; exclusive = true; asked = asked b 30 10; by_message = by_message }
+
+abbrev pub grant_arguments : TestArguments
+grant_arguments = record {
+  cookie = 0 ∷ 0 ∷ 0 ∷ 0 ∷ 0 ∷ 0 ∷ 0 ∷ 69 ∷ [];
+  exclusive = true;
+  lock = record { caller_name = codes "c2"; file = []; owner = 2 ∷ []; process = pos 2; offset = 30; length = 10 };
+}
+
+-- numbers of grants, the cookies that they are, and the messages
 pub record WorkedGrants : Type 0 where
   pub same_remainder : is_grant_number 5 69 ≡ true
   pub other_remainder : is_grant_number 5 70 ≡ false
   pub own_number : is_grant_number 5 5 ≡ true
   pub too_great : is_grant_number 0 (2 ^ 64) ≡ false
   pub cookie : grant_cookie 69 ≡ 0 ∷ 0 ∷ 0 ∷ 0 ∷ 0 ∷ 0 ∷ 0 ∷ 69 ∷ []
+  -- the message goes to the host that asked, and repeats what it asked for
+  pub told : grant_message (granted_request false) ≡ record { host = codes "h2"; call = callbacks.Granted grant_arguments }
+  pub told_by_message : grant_message (granted_request true) ≡ record { host = codes "h2"; call = callbacks.GrantedMsg grant_arguments }
 
 abbrev pub mounted : List ℕ → List ℕ → MountBody
 mounted host path = record { hostname = host; directory = path }
@@ -141,11 +164,18 @@ pub record WorkedMounts : Type 0 where
   pub dump : (m : State)
       → (with_mount (with_mount (with_mount (with_mount (record m { mounts = [] }) (mounted (codes "h1") (codes "/a"))) (mounted (codes "h2") (codes "/a"))) (mounted (codes "h1") (codes "/a"))) (mounted (codes "h1") (codes "//a/"))).mounts
       ≡ record { hostname = codes "h1"; directory = codes "/a" } ∷ record { hostname = codes "h2"; directory = codes "/a" } ∷ record { hostname = codes "h1"; directory = codes "//a/" } ∷ []
+  pub dumps : (m : State) (moment : Moment) (limits : Limits)
+      → MountStep (record m { mounts = three_mounts }) (called_by (codes "h2") 7 moment limits) mount.Dump (mount_replies.Dump three_mounts) [] (record m { mounts = three_mounts })
   -- UMNT compares the path as it was sent
-  pub umnt : (m : State) → (without_mounts (record m { mounts = three_mounts }) (is_of (codes "h1") (codes "/a"))).mounts ≡ mounted (codes "h2") (codes "/a") ∷ mounted (codes "h1") (codes "//a/") ∷ []
-  pub umnt_of_none : (m : State) → (without_mounts (record m { mounts = three_mounts }) (is_of (codes "h2") (codes "//a/"))).mounts ≡ three_mounts
+  pub umnt : (m : State) (moment : Moment) (limits : Limits)
+      → MountStep (record m { mounts = three_mounts }) (called_by (codes "h1") 7 moment limits) (mount.Unmount (codes "/a")) mount_replies.Unmount []
+      (record m { mounts = mounted (codes "h2") (codes "/a") ∷ mounted (codes "h1") (codes "//a/") ∷ [] })
+  pub umnt_of_none : (m : State) (moment : Moment) (limits : Limits)
+      → MountStep (record m { mounts = three_mounts }) (called_by (codes "h2") 7 moment limits) (mount.Unmount (codes "//a/")) mount_replies.Unmount [] (record m { mounts = three_mounts })
   pub umntall : (m : State) (moment : Moment) (limits : Limits)
       → MountStep (record m { mounts = three_mounts }) (called_by (codes "h1") 7 moment limits) mount.UnmountAll mount_replies.UnmountAll [] (record m { mounts = mounted (codes "h2") (codes "/a") ∷ [] })
-  pub export : listed_exports exports ≡ record { directory = codes "/a"; groups = [] } ∷ record { directory = codes "/a/b"; groups = codes "10.0.0.2" ∷ [] } ∷ []
+  pub export : (m : State) (moment : Moment) (limits : Limits)
+      → MountStep m (called_by (codes "h1") 7 moment limits) mount.Export
+      (mount_replies.Export (record { directory = codes "/a"; groups = [] } ∷ record { directory = codes "/a/b"; groups = codes "10.0.0.2" ∷ [] } ∷ [])) [] m
   -- by another host than 10.0.0.2 it is what `b` is below the first (WorkedWalks)
   pub nothing_there : walk find 1 (codes "b" ∷ []) ≡ Err mount_status.NoEntry

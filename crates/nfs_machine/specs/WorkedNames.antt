@@ -5,6 +5,9 @@ use Rattle.nfs_wire.specs.declared.attributes.DeviceNumber.{DeviceNumber}
 use Rattle.nfs_wire.specs.declared.calls.Ordinary.TheVariants as ordinary
 use Rattle.nfs_wire.specs.declared.calls.Special.TheVariants.{BlockDevice, Fifo, Other}
 use Rattle.nfs_wire.specs.declared.status.NfsStatus.{NfsStatus}
+use Rattle.side_wire.specs.declared.message.NlmLock.{NlmLock}
+use Rattle.side_wire.specs.declared.nlm.ShareAccess.TheVariants as access
+use Rattle.side_wire.specs.declared.nlm.ShareMode.TheVariants as mode
 use Rattle.nfs_machine.specs.Attributes.{is_directory, links_of, names_in, names_of}
 use Rattle.nfs_machine.specs.Checks.{plain_name_checked, entry_of}
 use Rattle.nfs_machine.specs.MakeSteps.{wanted_of, wanted_special}
@@ -16,7 +19,7 @@ use Rattle.nfs_wire.specs.declared.calls.RenameArguments.{RenameArguments}
 use Rattle.nfs_wire.specs.declared.status.NfsStatus.TheVariants as status
 use Rattle.nfs_machine.specs.Resolve.{Stale, Names}
 use Rattle.nfs_machine.specs.Shown.{after_first, touched, wcc, with_content, with_object}
-use Rattle.nfs_machine.specs.State.{Content, Regular, Directory, Link, Entry, Living, Lock, State}
+use Rattle.nfs_machine.specs.State.{Content, Regular, Directory, Link, Entry, Living, Lock, Request, Share, State}
 use Rattle.nfs_machine.specs.State as state
 use Rattle.nfs_machine.specs.Worked.{object}
 use Rattle.nfs_machine.specs.WorkedCreate.{called_as, no_attributes, sized}
@@ -88,6 +91,13 @@ both_entries = first_entry ∷ second_entry ∷ []
 abbrev pub lock_of : ℤ → ℕ → Lock
 lock_of process file = record { range = record { file = file; owner = record { caller_name = codes "c"; owner = codes "o"; process = process }; first = 0; last = 0 }; exclusive = true }
 
+-- a share of it, and a request for a lock of it
+abbrev pub share_of : ℕ → Share
+share_of file = record { file = file; caller_name = codes "c"; owner = codes "o"; mode = mode.DenyNone; access = access.Read }
+
+abbrev pub request_of : NlmLock → ℕ → Request
+request_of lock file = record { number = 1; file = file; host = codes "h"; exclusive = true; asked = lock; by_message = false }
+
 -- what REMOVE and RMDIR take away, and what becomes of an object
 pub record WorkedRemovals : Type 0 where
   pub remove_directory : not_directory (Directory [] 2) ≡ Err status.IsDirectory
@@ -104,6 +114,10 @@ pub record WorkedRemovals : Type 0 where
   pub other_name : (m : State) (o : Living) → losing_name m 2 (time 1000 0) 4 o ≡ with_object m 4 (touched o (time 1000 0))
   pub changed : (touched (object 420 (Regular [])) (time 1000 0)) ≡ record (object 420 (Regular [])) { changed = time 1000 0 }
   pub locks_go : (m : State) (process : ℤ) → (without_object (record m { locks = lock_of process 4 ∷ lock_of process 5 ∷ [] }) 4).locks ≡ lock_of process 5 ∷ []
+  -- and its shares, and what waits for a lock of it or was granted
+  pub shares_go : (m : State) → (without_object (record m { shares = share_of 4 ∷ share_of 5 ∷ [] }) 4).shares ≡ share_of 5 ∷ []
+  pub waiting_go : (m : State) (lock : NlmLock) → (without_object (record m { waiting = request_of lock 4 ∷ request_of lock 5 ∷ [] }) 4).waiting ≡ request_of lock 5 ∷ []
+  pub grants_go : (m : State) (lock : NlmLock) → (without_object (record m { granted = request_of lock 4 ∷ request_of lock 5 ∷ [] }) 4).granted ≡ request_of lock 5 ∷ []
 
 -- the links of a directory or a file
 pub record WorkedLinks : Type 0 where
@@ -127,28 +141,29 @@ pub record WorkedLinks : Type 0 where
 abbrev pub a_to_b : RenameArguments
 a_to_b = record { from = record { directory = []; name = codes "a" }; to = record { directory = []; name = codes "b" } }
 
--- "a" of directory 2, an object of this content, comes to "b" of a directory, where this stands; both directories have these entries
-abbrev pub move_among : List Entry → State → Content → (target last_cookie : ℕ) → Option (ℕ × Living) → Result (Option (ℕ × ℕ) × Result (Unit {0} × State) NfsStatus) NfsStatus
-move_among entries m content target last_cookie replaced =
-    move_plan m (time 1000 0) a_to_b (2, object 511 (Directory entries 7)) (target, object 511 (Directory entries last_cookie))
-    (entries, 7) (entries, last_cookie) (4, object 511 content) replaced
-
-abbrev pub move_to : State → Content → (target last_cookie : ℕ) → Option (ℕ × Living) → Result (Option (ℕ × ℕ) × Result (Unit {0} × State) NfsStatus) NfsStatus
-move_to = move_among both_entries
-
-abbrev pub moved_entry : Entry
-moved_entry = record { name = codes "b"; number = 4; cookie = 8 }
+-- "a" of directory 2, an object of this content, comes to "b" of a directory, where this stands; the directories have these entries
+abbrev pub move_among : (entries others : List Entry) → State → Content → (target last_cookie : ℕ) → Option (ℕ × Living) → Result (Option (ℕ × ℕ) × Result (Unit {0} × State) NfsStatus) NfsStatus
+move_among entries others m content target last_cookie replaced =
+    move_plan m (time 1000 0) a_to_b (2, object 511 (Directory entries 7)) (target, object 511 (Directory others last_cookie)) (entries, 7) (others, last_cookie) (4, object 511 content) replaced
 
 abbrev pub directory_with : List Entry → ℕ → Living
-directory_with entries last_cookie = with_content (object 511 (Directory both_entries 7)) (time 1000 0) (Directory entries last_cookie)
+directory_with entries last_cookie = with_content (object 511 (Directory [] 7)) (time 1000 0) (Directory entries last_cookie)
 
--- the state then: the object has the name "b" of its new directory, behind the names that stay there
-abbrev pub moved_among : List Entry → State → Content → (target : ℕ) → List Entry → State
-moved_among source m content target left =
-    with_object (with_object (with_object m 2 (directory_with source 7)) target (directory_with (left ++ moved_entry ∷ []) 8)) 4 (touched (object 511 content) (time 1000 0))
+-- the state then: the object has the name "b" of its new directory, with this cookie, behind the names that stay there
+abbrev pub moved_among : List Entry → State → Content → (target : ℕ) → List Entry → (cookie : ℕ) → State
+moved_among source m content target left cookie =
+    with_object (with_object (with_object m 2 (directory_with source 7)) target (directory_with (left ++ record { name = codes "b"; number = 4; cookie = cookie } ∷ []) cookie)) 4
+    (touched (object 511 content) (time 1000 0))
 
-abbrev pub moved_to : State → Content → (target : ℕ) → List Entry → State
-moved_to = moved_among (second_entry ∷ [])
+-- beside "a" there is "c", and in another directory "d"
+abbrev pub third_entry : Entry
+third_entry = record { name = codes "c"; number = 6; cookie = 7 }
+
+abbrev pub beside : List Entry
+beside = first_entry ∷ third_entry ∷ []
+
+abbrev pub fourth_entry : Entry
+fourth_entry = record { name = codes "d"; number = 7; cookie = 5 }
 
 abbrev pub empty_place : Option (ℕ × Living)
 empty_place = Some (5, object 511 (Directory [] 2))
@@ -160,26 +175,31 @@ pub record WorkedRenames : Type 0 where
   pub directory_over_file : is_compatible (Directory [] 2) (Regular []) ≡ false
   pub file_over_directory : is_compatible (Regular []) (Directory [] 2) ≡ false
   pub file_over_link : is_compatible (Regular []) (Link (codes "x")) ≡ true
-  pub same_object : (m : State) → move_to m (Regular []) 2 7 (Some (4, object 511 (Regular []))) ≡ Ok (None, Ok (tt, m))
-  pub over_file : (m : State) → move_to m (Directory [] 2) 2 7 (Some (5, object 420 (Regular []))) ≡ Err status.Exists
-  pub over_nothing : (m : State) → move_to m (Directory [] 2) 2 7 None ≡ Ok (Some (4, 2), Ok (tt, moved_to m (Directory [] 2) 2 []))
+  -- two names of one object
+  pub same_object : (m : State) (entries others : List Entry) → move_among entries others m (Regular []) 2 7 (Some (4, object 511 (Regular []))) ≡ Ok (None, Ok (tt, m))
+  pub over_file : (m : State) → move_among both_entries both_entries m (Directory [] 2) 2 7 (Some (5, object 420 (Regular []))) ≡ Err status.Exists
+  pub over_nothing : (m : State) → move_among beside beside m (Directory [] 2) 2 7 None ≡ Ok (Some (4, 2), Ok (tt, moved_among (third_entry ∷ []) m (Directory [] 2) 2 (third_entry ∷ []) 8))
   -- what the target keeps: its other names, and in the old name's directory not that one
-  pub left_in_other : (m : State) → move_to m (Regular []) 3 7 None ≡ Ok (None, Ok (tt, moved_to m (Regular []) 3 (first_entry ∷ [])))
-  pub left_in_same : (m : State) → move_to m (Regular []) 2 7 None ≡ Ok (None, Ok (tt, moved_to m (Regular []) 2 []))
+  pub left_in_other : (m : State)
+      → move_among beside (fourth_entry ∷ []) m (Regular []) 3 7 None ≡ Ok (None, Ok (tt, moved_among (third_entry ∷ []) m (Regular []) 3 (fourth_entry ∷ []) 8))
+  pub left_in_same : (m : State) → move_among beside beside m (Regular []) 2 7 None ≡ Ok (None, Ok (tt, moved_among (third_entry ∷ []) m (Regular []) 2 (third_entry ∷ []) 8))
   -- a move that brings a link is refused where the target has all its links; the others go on, whatever links it has
-  pub last_link : (m : State) (entries : List Entry) → links_of m 3 (Directory entries 7) ≡ 31999
-      → move_among entries m (Directory [] 2) 3 7 None ≡ Ok (Some (4, 3), Ok (tt, moved_among (without entries (codes "a")) m (Directory [] 2) 3 (without entries (codes "b"))))
-  pub link_to_other : (m : State) (entries : List Entry) → links_of m 3 (Directory entries 7) ≡ 32000 → move_among entries m (Directory [] 2) 3 7 None ≡ Ok (Some (4, 3), Err status.TooManyLinks)
+  pub last_link : (m : State) (entries others : List Entry) → links_of m 3 (Directory others 40000) ≡ 31999
+      → move_among entries others m (Directory [] 2) 3 40000 None
+      ≡ Ok (Some (4, 3), Ok (tt, moved_among (without entries (codes "a")) m (Directory [] 2) 3 (without others (codes "b")) 40001))
+  pub link_to_other : (m : State) (entries others : List Entry) → links_of m 3 (Directory others 40000) ≡ 32000
+      → move_among entries others m (Directory [] 2) 3 40000 None ≡ Ok (Some (4, 3), Err status.TooManyLinks)
   pub link_to_same : (m : State) (entries : List Entry)
-      → move_among entries m (Directory [] 2) 2 7 None
-      ≡ Ok (Some (4, 2), Ok (tt, moved_among (without entries (codes "a")) m (Directory [] 2) 2 (without (without entries (codes "b")) (codes "a"))))
-  pub link_over_directory : (m : State) (entries : List Entry)
-      → move_among entries m (Directory [] 2) 3 7 empty_place
-      ≡ Ok (Some (4, 3), Ok (tt, losing_name (moved_among (without entries (codes "a")) m (Directory [] 2) 3 (without entries (codes "b"))) (names_of m 5) (time 1000 0) 5 (object 511 (Directory [] 2))))
-  pub link_of_file : (m : State) (entries : List Entry)
-      → move_among entries m (Regular []) 3 7 None ≡ Ok (None, Ok (tt, moved_among (without entries (codes "a")) m (Regular []) 3 (without entries (codes "b"))))
-  pub last_cookie : (m : State) → move_to m (Regular []) 3 18446744073709551615 None ≡ Ok (None, Err status.NoSpace)
+      → move_among entries entries m (Directory [] 2) 2 7 None
+      ≡ Ok (Some (4, 2), Ok (tt, moved_among (without entries (codes "a")) m (Directory [] 2) 2 (without (without entries (codes "b")) (codes "a")) 8))
+  pub link_over_directory : (m : State) (entries others : List Entry)
+      → move_among entries others m (Directory [] 2) 3 40000 empty_place
+      ≡ Ok (Some (4, 3), Ok (tt, losing_name (moved_among (without entries (codes "a")) m (Directory [] 2) 3 (without others (codes "b")) 40001) (names_of m 5) (time 1000 0) 5 (object 511 (Directory [] 2))))
+  pub link_of_file : (m : State) (entries others : List Entry)
+      → move_among entries others m (Regular []) 3 40000 None ≡ Ok (None, Ok (tt, moved_among (without entries (codes "a")) m (Regular []) 3 (without others (codes "b")) 40001))
+  pub last_cookie : (m : State) → move_among beside (fourth_entry ∷ []) m (Regular []) 3 18446744073709551615 None ≡ Ok (None, Err status.NoSpace)
   -- a directory into itself
-  pub into_itself : (m : State) (end : Result (Unit {0} × State) NfsStatus) → RenameEnds m (move_to m (Directory [] 2) 4 7 None) end → end ≡ Err status.Invalid
+  pub into_itself : (m : State) (end : Result (Unit {0} × State) NfsStatus)
+      → RenameEnds m (move_among beside (fourth_entry ∷ []) m (Directory (fourth_entry ∷ []) 7) 4 7 None) end → end ≡ Err status.Invalid
   -- and below: a name of the directory 4 leads to the directory 6
   pub below : (m : State) (directory : Living) → get m.objects 4 ≡ Some directory → directory.content ≡ Directory (record first_entry { number = 6 } ∷ []) 3 → IsWithin m 4 6

@@ -1,5 +1,5 @@
 -- A run worked through by hand: a file is made and written (RFC 1813, 3.3.7 and 3.3.8); and steps from where it ends.
-use Rattle.std.specs.Prelude.{◌≡◌, ℕ, Bool, true, false, ◌&&◌, ◌||◌, List, [], ◌∷◌, ◌++◌, map, Some, Ok, Err, codes, ◌==◌}
+use Rattle.std.specs.Prelude.{◌≡◌, ℕ, Bool, true, false, ◌&&◌, ◌||◌, List, [], ◌∷◌, ◌++◌, map, None, Some, replicate, Ok, Err, codes, ◌==◌}
 use Rattle.std.specs.FinMap.{get, insert}
 use Rattle.std.specs.List.{AllByRecursion}
 use Rattle.nfs_xdr.specs.Writing.{write}
@@ -14,22 +14,26 @@ use Rattle.nfs_wire.specs.declared.calls.NfsCall.TheVariants as nfs
 use Rattle.nfs_wire.specs.declared.calls.Place.{Place}
 use Rattle.nfs_wire.specs.declared.calls.ReaddirArguments.{ReaddirArguments}
 use Rattle.nfs_wire.specs.declared.calls.ReaddirplusArguments.{ReaddirplusArguments}
+use Rattle.nfs_wire.specs.declared.calls.RenameArguments.{RenameArguments}
 use Rattle.nfs_wire.specs.declared.calls.Stability.TheVariants.{FileSync}
 use Rattle.nfs_wire.specs.declared.calls.WriteArguments.{WriteArguments}
+use Rattle.nfs_wire.specs.declared.entries.FullEntry.{FullEntry}
 use Rattle.nfs_wire.specs.declared.replies.NfsReply.{NfsReply}
 use Rattle.nfs_wire.specs.declared.replies.NfsReply.TheVariants as nfs_replies
 use Rattle.nfs_wire.specs.declared.status.NfsStatus.TheVariants as status
 use Rattle.side_wire.specs.Mount.{IsHostName}
-use Rattle.nfs_machine.specs.Attributes.{names_of}
+use Rattle.nfs_machine.specs.Attributes.{attributes_of, names_of}
+use Rattle.nfs_machine.specs.Checks.{entry_of}
 use Rattle.nfs_machine.specs.Handles.{handle_bytes}
 use Rattle.nfs_machine.specs.LinkSteps.{link_end}
 use Rattle.nfs_machine.specs.Making.{made, new_object}
 use Rattle.nfs_machine.specs.NameSteps.{wanted_file}
 use Rattle.nfs_machine.specs.NfsSteps.{NfsStep}
 use Rattle.nfs_machine.specs.Opening.{opening}
-use Rattle.nfs_machine.specs.PageSteps.{full_entry, page_entry}
-use Rattle.nfs_machine.specs.Readings.{Reading, StaysThrough, Turn}
-use Rattle.nfs_machine.specs.RemoveSteps.{without_object}
+use Rattle.nfs_machine.specs.PageSteps.{page_entry}
+use Rattle.nfs_machine.specs.Readings.{Reading, StaysThrough, ThroughReading, Turn, named_in}
+use Rattle.nfs_machine.specs.RemoveSteps.{without, without_object}
+use Rattle.nfs_machine.specs.RenameSteps.{rename_plan}
 use Rattle.nfs_machine.specs.Resolve.{resolve}
 use Rattle.nfs_machine.specs.Run.{Arrival, Record, Run, Setting}
 use Rattle.nfs_machine.specs.Shown.{shown, touched, wcc, with_content, with_object}
@@ -140,8 +144,16 @@ miscounted = record writing { count = 3 }
 abbrev pub listed_reply : NfsReply
 listed_reply = nfs_replies.Readdir (record { attributes = shown written (resolve written nobody root_bytes); result = Ok (record { verifier = seven; entries = map page_entry all_three; eof = true }) })
 
+-- with what each name leads to: the root twice, and the file
+abbrev pub full : Entry → Living → List ℕ → FullEntry
+full e o handle = record { entry = page_entry e; attributes = Some (attributes_of written e.number o); object = Some handle }
+
+abbrev pub full_three : List FullEntry
+full_three =
+    full (record { name = codes "."; number = 1; cookie = 1 }) root_with_x root_bytes ∷ full (record { name = codes ".."; number = 1; cookie = 2 }) root_with_x root_bytes ∷ full x_entry x_written x_bytes ∷ []
+
 abbrev pub listed_full_reply : NfsReply
-listed_full_reply = nfs_replies.Readdirplus (record { attributes = shown written (resolve written nobody root_bytes); result = Ok (record { verifier = seven; entries = map (full_entry written nobody) all_three; eof = true }) })
+listed_full_reply = nfs_replies.Readdirplus (record { attributes = shown written (resolve written nobody root_bytes); result = Ok (record { verifier = seven; entries = full_three; eof = true }) })
 
 abbrev pub removed_reply : NfsReply
 removed_reply = nfs_replies.Remove (record { directory = wcc removed (resolve written nobody root_bytes); result = Ok tt })
@@ -159,21 +171,74 @@ pub record WorkedSteps : Type 0 where
 abbrev pub linking : List ℕ → LinkArguments
 linking name = record { file = x_bytes; place = in_root name }
 
-abbrev pub linked : State → State
-linked m = with_object (with_object m 1 (with_content root_with_x (time 1000 0) (Directory (x_entry ∷ record { name = codes "y"; number = 5; cookie = 4 } ∷ []) 4))) 5 (touched x_written (time 1000 0))
+-- the root with any entries, up to the cookie 40,000
+abbrev pub root_with : List Entry → Living
+root_with entries = with_content root (time 1000 0) (Directory entries 40000)
+
+abbrev pub linked : State → List Entry → State
+linked m entries =
+    with_object (with_object m 1 (with_content (root_with entries) (time 1000 0) (Directory (entries ++ record { name = codes "y"; number = 5; cookie = 40001 } ∷ []) 40001))) 5 (touched x_written (time 1000 0))
 
 -- what it comes to where the file has so many names
-pub record WorkedLinking (m : State) : Type 0 where
-  pub last : names_of m 5 ≡ 31999 → link_end m nobody (linking (codes "y")) ≡ Ok (tt, linked m)
-  pub full : names_of m 5 ≡ 32000 → link_end m nobody (linking (codes "y")) ≡ Err status.TooManyLinks
+pub record WorkedLinking (m : State) (entries : List Entry) : Type 0 where
+  pub last : entry_of entries (codes "y") ≡ None → names_of m 5 ≡ 31999 → link_end m nobody (linking (codes "y")) ≡ Ok (tt, linked m entries)
+  pub full : entry_of entries (codes "y") ≡ None → names_of m 5 ≡ 32000 → link_end m nobody (linking (codes "y")) ≡ Err status.TooManyLinks
   -- a name that is there comes before that
-  pub there : link_end m nobody (linking (codes "x")) ≡ Err status.Exists
+  pub there : (e : Entry) → entry_of entries (codes "x") ≡ Some e → link_end m nobody (linking (codes "x")) ≡ Err status.Exists
   pub self : link_end m nobody (linking (codes ".")) ≡ Err status.Invalid
   pub directory : link_end m nobody (record (linking (codes "y")) { file = root_bytes }) ≡ Err status.Invalid
   pub into_file : link_end m nobody (record (linking (codes "y")) { place = record { directory = x_bytes; name = codes "y" } }) ≡ Err status.NotDirectory
 
 abbrev pub WorkedLinkings : Type 0
-WorkedLinkings = (m : State) → get m.objects 1 ≡ Some root_with_x → get m.objects 5 ≡ Some x_written → WorkedLinking m
+WorkedLinkings = (m : State) (entries : List Entry) → get m.objects 1 ≡ Some (root_with entries) → get m.objects 5 ≡ Some x_written → WorkedLinking m entries
+
+-- RENAME of a name of the root to another
+abbrev pub renaming : (from to : List ℕ) → RenameArguments
+renaming from to = record { from = in_root from; to = in_root to }
+
+-- the export is read only
+abbrev pub read_only : Ctx
+read_only = record nobody { exports = record open_export { read_only = true } ∷ [] }
+
+-- the root, which is both directories, changes once
+abbrev pub renamed : State → List Entry → State
+renamed m entries =
+    let source = with_object m 1 (with_content (root_with entries) (time 1000 0) (Directory (without entries (codes "x")) 40000)) in
+    let left = without (without entries (codes "y")) (codes "x") in
+    with_object (with_object source 1 (with_content (root_with entries) (time 1000 0) (Directory (left ++ record { name = codes "y"; number = 5; cookie = 40001 } ∷ []) 40001))) 5 (touched x_written (time 1000 0))
+
+-- what it comes to: the checks in their order, a move to a name that is free, and two names of one file
+pub record WorkedRenaming (m : State) (entries : List Entry) : Type 0 where
+  pub self : rename_plan m read_only (renaming (codes ".") (replicate 256 120)) ≡ Err status.Invalid
+  pub above : rename_plan m nobody (renaming (codes "x") (codes "..")) ≡ Err status.Invalid
+  pub long : rename_plan m nobody (renaming (codes "x") (replicate 256 120)) ≡ Err status.NameTooLong
+  pub fixed : rename_plan m read_only (renaming (codes "x") (codes "y")) ≡ Err status.ReadOnly
+  pub nothing : entry_of entries (codes "x") ≡ None → rename_plan m nobody (renaming (codes "x") (codes "y")) ≡ Err status.NoEntry
+  pub from_file : rename_plan m nobody (record { from = record { directory = x_bytes; name = codes "x" }; to = in_root (codes "y") }) ≡ Err status.NotDirectory
+  pub into_file : rename_plan m nobody (record { from = in_root (codes "x"); to = record { directory = x_bytes; name = codes "y" } }) ≡ Err status.NotDirectory
+  pub moves : (cookie : ℕ) → entry_of entries (codes "x") ≡ Some (record { name = codes "x"; number = 5; cookie = cookie }) → entry_of entries (codes "y") ≡ None
+      → rename_plan m nobody (renaming (codes "x") (codes "y")) ≡ Ok (None, Ok (tt, renamed m entries))
+  pub both : (cookie other : ℕ) → entry_of entries (codes "x") ≡ Some (record { name = codes "x"; number = 5; cookie = cookie })
+      → entry_of entries (codes "y") ≡ Some (record { name = codes "y"; number = 5; cookie = other }) → rename_plan m nobody (renaming (codes "x") (codes "y")) ≡ Ok (None, Ok (tt, m))
+
+abbrev pub WorkedRenamings : Type 0
+WorkedRenamings = (m : State) (entries : List Entry) → get m.objects 1 ≡ Some (root_with entries) → get m.objects 5 ≡ Some x_written → WorkedRenaming m entries
+
+-- "x" is taken away where it is the first of the file's two names: "y" keeps its cookie, and the file lives on
+abbrev pub y_entry : Entry
+y_entry = record { name = codes "y"; number = 5; cookie = 4 }
+
+abbrev pub root_with_both : Living
+root_with_both = with_content root (time 1000 0) (Directory (x_entry ∷ y_entry ∷ []) 4)
+
+abbrev pub left : State → State
+left m = with_object (with_object m 1 (with_content root_with_both (time 1000 0) (Directory (y_entry ∷ []) 4))) 5 (touched x_written (time 1000 0))
+
+abbrev pub left_reply : State → NfsReply
+left_reply m = nfs_replies.Remove (record { directory = wcc (left m) (resolve m nobody root_bytes); result = Ok tt })
+
+abbrev pub WorkedLeaving : Type 0
+WorkedLeaving = (m : State) → get m.objects 1 ≡ Some root_with_both → get m.objects 5 ≡ Some x_written → names_of m 5 ≡ 2 → NfsStep m nobody (nfs.Remove (in_root (codes "x"))) (left_reply m) [] (left m)
 
 -- A reading of the root in two pages, with the WRITE between them: the first from the state in which "x" was made, with room for
 -- two entries, and the second from its last cookie on. "x" stays.
@@ -209,5 +274,6 @@ pub record WorkedTurns : Type 0 where
   pub formed : WellFormed with_x
   pub reading : Reading setting with_x root_bytes 0 turns
   pub stays : StaysThrough setting with_x root_bytes 0 turns reading x_entry
+  pub name_stays : ThroughReading (λ m. named_in m 1 (codes "x") ≡ Some 5) setting with_x root_bytes 0 turns reading
   -- and so does "."
   pub self_stays : StaysThrough setting with_x root_bytes 0 turns reading (record { name = codes "."; number = 1; cookie = 1 })

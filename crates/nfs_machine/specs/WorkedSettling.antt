@@ -5,12 +5,14 @@ use Rattle.side_wire.specs.declared.nlm.NlmReply.TheVariants as nlm_replies
 use Rattle.side_wire.specs.declared.nlm.NlmResult.{NlmResult}
 use Rattle.side_wire.specs.declared.nlm.NlmStatus.{NlmStatus}
 use Rattle.side_wire.specs.declared.nlm.NlmStatus.TheVariants as nlm_status
+use Rattle.side_wire.specs.declared.nlm.ShareAccess.TheVariants as access
+use Rattle.side_wire.specs.declared.nlm.ShareMode.TheVariants as mode
 use Rattle.nfs_machine.specs.Grants.{ChangesLocks, grant_cookie, grant_message}
 use Rattle.nfs_machine.specs.LockSteps.{Frees}
 use Rattle.nfs_machine.specs.NlmSteps.{NlmStep}
 use Rattle.nfs_machine.specs.State.{Lock, Owner, Request, State}
 use Rattle.nfs_machine.specs.WorkedRun.{nobody}
-use Rattle.nfs_machine.specs.WorkedLocks.{a, asked, b, lock, on_file, Unlocked}
+use Rattle.nfs_machine.specs.WorkedLocks.{a, asked, b, lock, on_file, reading, share, Unlocked}
 
 abbrev pub c : Owner
 c = record { caller_name = codes "c3"; owner = 3 ∷ []; process = pos 3 }
@@ -47,6 +49,15 @@ held_by_a m = record m { locks = lock a 0 19 true ∷ []; shares = []; waiting =
 abbrev pub held_by_b : State → State
 held_by_b m = record m { locks = lock b 0 19 true ∷ []; shares = []; waiting = []; granted = alone b 69 ∷ [] }
 
+-- C has them with a share of the file and a grant that is not answered, another process of its caller waits, and A has a share and such a grant
+abbrev pub held_by_freed : State → State
+held_by_freed m = record m {
+  locks = lock c 0 19 true ∷ [];
+  shares = share c mode.DenyNone access.Read ∷ reading ∷ [];
+  waiting = alone (record c { process = pos 4 }) 70 ∷ [];
+  granted = alone c 6 ∷ alone a 9 ∷ [];
+}
+
 -- A's host answers its grant
 abbrev pub answer : NlmStatus → NlmResult
 answer s = record { cookie = grant_cookie 5; status = s }
@@ -56,6 +67,8 @@ pub record WorkedFreed : Type 0 where
   pub shared : (m : State) → Frees (held_by_c m (waiting a 5) (waiting b 69)) (codes "c3") (grant_message (waiting a 5) ∷ grant_message (waiting b 69) ∷ [])
       (record m { locks = both_shared; shares = []; waiting = []; granted = waiting a 5 ∷ waiting b 69 ∷ [] })
   pub first_alone : (m : State) → Frees (held_by_c m (alone a 5) (alone b 69)) (codes "c3") (grant_message (alone a 5) ∷ []) (held_by_a m)
+  -- all that it has goes: its share, its pending grant, and what its other process waits for; A's stay
+  pub all_of_it : (m : State) → Frees (held_by_freed m) (codes "c3") [] (record m { locks = []; shares = reading ∷ []; waiting = []; granted = alone a 9 ∷ [] })
   -- A's host does not take it, so B has them; a second answer changes nothing
   pub refused : (m : State) → NlmStep (held_by_a m) (record nobody { host = codes "c1" }) (nlm.GrantedRes (answer nlm_status.Denied)) nlm_replies.GrantedRes (grant_message (alone b 69) ∷ []) (held_by_b m)
   pub again : (m : State) → NlmStep (held_by_b m) (record nobody { host = codes "c1" }) (nlm.GrantedRes (answer nlm_status.Denied)) nlm_replies.GrantedRes [] (held_by_b m)

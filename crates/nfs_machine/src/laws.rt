@@ -1,6 +1,6 @@
 //! The laws of the machine.
 
-ghost use Rattle.nfs_machine.specs.Laws.{ArrivalsAskOnce, HandlesAreRead, HandlesAreWritten, NeverGivenAgain, OpeningIsFormed, RefusalsAreShort, RefusalsChangeNothing, RepliesAreShort, RunsGoOn, RunsJoin, RunsKeepForm, StepsGiveOnce, StepsKeepForm};
+ghost use Rattle.nfs_machine.specs.Laws.{ArrivalsAskOnce, HandlesAreRead, HandlesAreWritten, NeverGivenAgain, OpeningIsFormed, OpeningNumbersFit, RefusalsAreShort, RefusalsChangeNothing, RepliesAreShort, RunsGoOn, RunsJoin, RunsKeepForm, RunsKeepNumbers, StepsGiveOnce, StepsKeepCookies, StepsKeepForm, StepsKeepNumbers};
 ghost use Rattle.nfs_machine.specs.LockLaws.{ListedLocksTell, OpeningIsApart, OpeningWaitsForNone, RunsKeepApart, RunsKeepWaiting, StepsKeepApart, StepsKeepWaiting};
 ghost use Rattle.nfs_machine.specs.Paging.{FullPagesFit, FullPagesList, PagesAreOne, PagesAreWhole, PagesExist, PagesFit, PagesList};
 ghost use Rattle.nfs_machine.specs.Readings.{ReadingsAreWhole};
@@ -95,8 +95,17 @@ pub fn pages_list_directories()
     ensures full { FullPagesList }
 {}
 
+/// An entry keeps its cookie: where a name of a directory leads to the same object before a step and after it, it is the
+/// same entry (RFC 1813, 3.3.16).
+///
+/// Such a step is `worked_leaving`.
+pub fn entries_keep_cookies()
+    ensures { StepsKeepCookies }
+{}
+
 /// A directory that is read page by page in a run, by READDIR or READDIRPLUS, from cookie 0 to its end, with any records
-/// between, shows no cookie twice and each entry that stayed once, "." and ".." among them; the state before is well-formed.
+/// between, shows no cookie twice, each entry that stayed once, "." and ".." among them, and once each name that led to the
+/// same object all the time; the state before is well-formed.
 ///
 /// Such a reading is `worked_turns`.
 pub fn readings_are_whole()
@@ -117,6 +126,16 @@ pub fn refusals_change_nothing()
 pub fn handles_are_given_once()
     ensures steps { StepsGiveOnce }
     ensures runs { NeverGivenAgain }
+{}
+
+/// The number and the generation of what lives fit the bytes of its handle, as `handles_go_both_ways` asks of them. That the
+/// export and the start number fit too is no part of this law.
+///
+/// Such a run is `worked_run`.
+pub fn numbers_fit()
+    ensures opening { OpeningNumbersFit }
+    ensures steps { StepsKeepNumbers }
+    ensures runs { RunsKeepNumbers }
 {}
 
 /// What is true of the state that a server starts with stays true: names lead to living objects of their export, the directories of an export form

@@ -7,7 +7,7 @@ ghost use Rattle.nfs_machine.specs.WorkedLocking.{WorkedChecks, WorkedLocking};
 ghost use Rattle.nfs_machine.specs.WorkedLocks.{WorkedGrants, WorkedMounts, WorkedRanges, WorkedShares, WorkedTests};
 ghost use Rattle.nfs_machine.specs.WorkedPages.{WorkedFullPages, WorkedPages, WorkedReading, WorkedSizes};
 ghost use Rattle.nfs_machine.specs.WorkedReplies.{WorkedFileReplies, WorkedRootReplies};
-ghost use Rattle.nfs_machine.specs.WorkedRun.{WorkedLinkings, WorkedRun, WorkedSteps, WorkedTurns};
+ghost use Rattle.nfs_machine.specs.WorkedRun.{WorkedLeaving, WorkedLinkings, WorkedRenamings, WorkedRun, WorkedSteps, WorkedTurns};
 ghost use Rattle.nfs_machine.specs.WorkedSetting.{WorkedAccess, WorkedGuard, WorkedKinds, WorkedLimits, WorkedSetting, WorkedSpace};
 ghost use Rattle.nfs_machine.specs.WorkedSettling.{WorkedFreed, WorkedSettling};
 ghost use Rattle.nfs_machine.specs.WorkedWrites.{WorkedWrites};
@@ -212,6 +212,16 @@ pub fn worked_run()
 /// Where the run ends, a directory is listed and a file removed; and a WRITE that is refused.
 pub fn worked_steps()
     ensures { WorkedSteps }
+{}
+
+/// The checks of RENAME in their order, a move, and two names of one file.
+pub fn worked_renamings()
+    ensures { WorkedRenamings }
+{}
+
+/// A REMOVE of the first of two names of a file: the other keeps its cookie.
+pub fn worked_leaving()
+    ensures { WorkedLeaving }
 {}
 
 /// What LINK comes to where a file has almost all names that it can have, and all of them.

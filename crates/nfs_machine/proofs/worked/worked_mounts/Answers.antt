@@ -6,9 +6,10 @@ pub returns : goal.returns
 unfolding walk MountStep
 returns c = record {
   dump = λ m. refl;
-  umnt = λ m. refl;
-  umnt_of_none = λ m. refl;
+  dumps = λ m moment limits. record { reply_is = refl; no_message = refl; state_is = refl };
+  umnt = λ m moment limits. record { reply_is = refl; no_message = refl; state_is = refl };
+  umnt_of_none = λ m moment limits. record { reply_is = refl; no_message = refl; state_is = refl };
   umntall = λ m moment limits. record { reply_is = refl; no_message = refl; state_is = refl };
-  export = refl;
+  export = λ m moment limits. record { reply_is = refl; no_message = refl; state_is = refl };
   nothing_there = refl;
 }
