@@ -19,7 +19,8 @@ pub(crate) fn attempt(
     ctx: &Ctx,
     view: &View,
 ) -> Result<Outcome, AllocError>
-    ensures attempts { IfOk result (λ outcome. Attempts (Call.Nfs (NfsCall.Getattr object.now)) ctx.now view.now outcome) }
+    ensures attempts { IfOk result
+        (λ outcome. Attempts (Call.Nfs (NfsCall.Getattr object.now)) ctx.now view.now outcome) }
     ensures asks { IfOk result (AsksFor (wanted ctx.now view.now.entries (NfsCall.Getattr object.now))) }
 {
     match resolve(ctx, view, object.as_slice()) {
@@ -40,8 +41,10 @@ fn answer(
     view: &View,
     answered: Result<Attributes, NfsStatus>,
 ) -> Result<Outcome, AllocError>
-    requires { HoldsUnchanged (Call.Nfs (NfsCall.Getattr object.now)) ctx.now view.now (Reply.Nfs (NfsReply.Getattr answered)) }
-    ensures attempts { IfOk result (λ outcome. Attempts (Call.Nfs (NfsCall.Getattr object.now)) ctx.now view.now outcome) }
+    requires { HoldsUnchanged (Call.Nfs (NfsCall.Getattr object.now)) ctx.now view.now
+        (Reply.Nfs (NfsReply.Getattr answered)) }
+    ensures attempts { IfOk result
+        (λ outcome. Attempts (Call.Nfs (NfsCall.Getattr object.now)) ctx.now view.now outcome) }
     ensures done { IfOk result (AsksFor []) }
 {
     let call = Call::Nfs(NfsCall::Getattr(object.clone()?));

@@ -3,8 +3,8 @@
 //! An attempt is a function of its arguments: it reads the view and nothing else, and comes to the addresses that it
 //! still needs, or to a `Done`. Its contract is the promise that a `Done` keeps by its type, which is that the answer
 //! is a step of the machine in every sound store that the view fits, and exactly what is asked for. So far the
-//! procedures are NULL, GETATTR, READ and WRITE. It stands on `nfs_objects` for views and ends, on `nfs_inodes` for what handles name and
-//! what is shown of inodes, and on `nfs_machine` for the steps.
+//! procedures are NULL, GETATTR, READ and WRITE. It stands on `nfs_objects` for views and ends, on `nfs_inodes` for
+//! what handles name and what is shown of inodes, and on `nfs_machine` for the steps.
 #![tactic(auto)]
 
 ghost use Rattle.std.specs.Prelude.{◌≡◌, true, IfOk};

@@ -18,7 +18,8 @@ pub(crate) fn attempt(
     ctx: &Ctx,
     view: &View,
 ) -> Result<Outcome, AllocError>
-    ensures attempts { IfOk result (λ outcome. Attempts (Call.Nfs (NfsCall.Read arguments.now)) ctx.now view.now outcome) }
+    ensures attempts { IfOk result
+        (λ outcome. Attempts (Call.Nfs (NfsCall.Read arguments.now)) ctx.now view.now outcome) }
     ensures asks { IfOk result (AsksFor (wanted ctx.now view.now.entries (NfsCall.Read arguments.now))) }
 {
     match resolve(ctx, view, arguments.file.as_slice()) {
@@ -59,8 +60,10 @@ fn answer(
     view: &View,
     reply: ReadReply,
 ) -> Result<Outcome, AllocError>
-    requires { HoldsUnchanged (Call.Nfs (NfsCall.Read arguments.now)) ctx.now view.now (Reply.Nfs (NfsReply.Read reply)) }
-    ensures attempts { IfOk result (λ outcome. Attempts (Call.Nfs (NfsCall.Read arguments.now)) ctx.now view.now outcome) }
+    requires { HoldsUnchanged (Call.Nfs (NfsCall.Read arguments.now)) ctx.now view.now
+        (Reply.Nfs (NfsReply.Read reply)) }
+    ensures attempts { IfOk result
+        (λ outcome. Attempts (Call.Nfs (NfsCall.Read arguments.now)) ctx.now view.now outcome) }
     ensures done { IfOk result (AsksFor []) }
 {
     let call = Call::Nfs(NfsCall::Read(arguments.clone()?));

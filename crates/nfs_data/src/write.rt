@@ -19,7 +19,8 @@ pub(crate) fn attempt(
     ctx: &Ctx,
     view: &View,
 ) -> Result<Outcome, AllocError>
-    ensures attempts { IfOk result (λ outcome. Attempts (Call.Nfs (NfsCall.Write arguments.now)) ctx.now view.now outcome) }
+    ensures attempts { IfOk result
+        (λ outcome. Attempts (Call.Nfs (NfsCall.Write arguments.now)) ctx.now view.now outcome) }
     ensures asks { IfOk result (AsksFor (wanted ctx.now view.now.entries (NfsCall.Write arguments.now))) }
 {
     match resolve(ctx, view, arguments.file.as_slice()) {
@@ -59,7 +60,8 @@ fn write_to(
     inode: &Inode,
 ) -> Result<Outcome, AllocError>
     requires { Names number inode.now ≡ found_at ctx.now view.now.entries arguments.now.file }
-    ensures attempts { IfOk result (λ outcome. Attempts (Call.Nfs (NfsCall.Write arguments.now)) ctx.now view.now outcome) }
+    ensures attempts { IfOk result
+        (λ outcome. Attempts (Call.Nfs (NfsCall.Write arguments.now)) ctx.now view.now outcome) }
     ensures done { IfOk result (AsksFor []) }
 {
     match write(alloc, ctx, inode, arguments)? {
@@ -97,8 +99,10 @@ fn store(
     inode: Inode,
     reply: WriteReply,
 ) -> Result<Outcome, AllocError>
-    requires { Rewrites (Call.Nfs (NfsCall.Write arguments.now)) ctx.now view.now number inode (Reply.Nfs (NfsReply.Write reply)) }
-    ensures attempts { IfOk result (λ outcome. Attempts (Call.Nfs (NfsCall.Write arguments.now)) ctx.now view.now outcome) }
+    requires { Rewrites (Call.Nfs (NfsCall.Write arguments.now)) ctx.now view.now number inode
+        (Reply.Nfs (NfsReply.Write reply)) }
+    ensures attempts { IfOk result
+        (λ outcome. Attempts (Call.Nfs (NfsCall.Write arguments.now)) ctx.now view.now outcome) }
     ensures done { IfOk result (AsksFor []) }
 {
     let call = Call::Nfs(NfsCall::Write(arguments.clone()?));
@@ -114,8 +118,10 @@ fn answer(
     view: &View,
     reply: WriteReply,
 ) -> Result<Outcome, AllocError>
-    requires { HoldsUnchanged (Call.Nfs (NfsCall.Write arguments.now)) ctx.now view.now (Reply.Nfs (NfsReply.Write reply)) }
-    ensures attempts { IfOk result (λ outcome. Attempts (Call.Nfs (NfsCall.Write arguments.now)) ctx.now view.now outcome) }
+    requires { HoldsUnchanged (Call.Nfs (NfsCall.Write arguments.now)) ctx.now view.now
+        (Reply.Nfs (NfsReply.Write reply)) }
+    ensures attempts { IfOk result
+        (λ outcome. Attempts (Call.Nfs (NfsCall.Write arguments.now)) ctx.now view.now outcome) }
     ensures done { IfOk result (AsksFor []) }
 {
     let call = Call::Nfs(NfsCall::Write(arguments.clone()?));

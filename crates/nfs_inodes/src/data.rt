@@ -28,8 +28,8 @@ pub const SIZE_LIMIT: u64 = 1_048_576;
 ///
 /// # Errors
 ///
-/// `AllocError` where the memory to share the content was refused. The status within is `Invalid` for what is no regular
-/// file, and `Access` for a caller who may not read it.
+/// `AllocError` where the memory to share the content was refused. The status within is `Invalid` for what is no
+/// regular file, and `Access` for a caller who may not read it.
 pub fn read(
     ctx: &Ctx,
     inode: &Inode,
@@ -49,7 +49,8 @@ fn readable<'a>(
     inode: &'a Inode,
     arguments: &ReadArguments,
 ) -> Result<&'a Bytes, NfsStatus>
-    ensures { lent result ≡ checked_bytes (read_object ctx.now (living_of_inode inode.now) arguments.now) (living_of_inode inode.now) }
+    ensures { lent result ≡ checked_bytes (read_object ctx.now (living_of_inode inode.now) arguments.now)
+        (living_of_inode inode.now) }
 {
     let bytes = bytes_in(&inode.content)?;
     permitted(ctx, inode, Right::Reading)?;
@@ -82,7 +83,8 @@ pub fn write(
     inode: &Inode,
     arguments: &WriteArguments,
 ) -> Result<Result<(Written, Option<Inode>), NfsStatus>, AllocError>
-    ensures value { IfOk result (λ end. seen_end end ≡ write_object ctx.now (living_of_inode inode.now) arguments.now) }
+    ensures value { IfOk result
+        (λ end. seen_end end ≡ write_object ctx.now (living_of_inode inode.now) arguments.now) }
     ensures keeps { IfOk result (λ end. IfOk end (λ e. IfSome e.1 (KeepsPlace inode.now))) }
 {
     let bytes = match writable(ctx, inode, arguments) {
@@ -110,7 +112,8 @@ fn writable<'a>(
     inode: &'a Inode,
     arguments: &WriteArguments,
 ) -> Result<&'a Bytes, NfsStatus>
-    ensures { lent result ≡ checked_bytes (write_object ctx.now (living_of_inode inode.now) arguments.now) (living_of_inode inode.now) }
+    ensures { lent result ≡ checked_bytes (write_object ctx.now (living_of_inode inode.now) arguments.now)
+        (living_of_inode inode.now) }
 {
     let bytes = bytes_in(&inode.content)?;
     if arguments.count as usize != arguments.data.len() {
@@ -139,7 +142,8 @@ fn ends_within(offset: u64, count: u32) -> bool
     offset <= SIZE_LIMIT && offset + u64::from(count) <= SIZE_LIMIT
 }
 
-/// The start number of the server, which a caller compares to see whether it was started again (RFC 1813, 3.3.7 and 3.3.21).
+/// The start number of the server, which a caller compares to see whether it was started again (RFC 1813, 3.3.7 and
+/// 3.3.21).
 pub fn verifier(ctx: &Ctx) -> Verifier
     ensures { result ≡ verifier_of ctx.now }
 {

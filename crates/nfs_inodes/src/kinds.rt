@@ -12,7 +12,8 @@ use nfs_wire::NfsStatus;
 ///
 /// `NotDirectory` where it is none.
 pub fn directory(inode: &Inode) -> Result<&Directory, NfsStatus>
-    ensures { MatchResult result (λ directory. directory_in inode.now.content ≡ Ok directory.now) (λ status. directory_in inode.now.content ≡ Err status) }
+    ensures { MatchResult result (λ directory. directory_in inode.now.content ≡ Ok directory.now)
+        (λ status. directory_in inode.now.content ≡ Err status) }
 {
     match &inode.content {
         Content::Directory(directory) => Ok(directory),

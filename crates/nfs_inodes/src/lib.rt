@@ -1,12 +1,12 @@
-//! Inodes as the procedures see them: from a handle to its inode, what is shown of it, who may do what with it, names, and
-//! what a file's bytes become.
+//! Inodes as the procedures see them: from a handle to its inode, what is shown of it, who may do what with it,
+//! names, and what a file's bytes become.
 //!
-//! `resolve` tells what a handle names as far as a view shows (`found_at`); the lemmas of `proofs/Meant` tie that to what it names
-//! in every state whose store the view fits. `attributes` are the machine's of the inode's object, with the count of links that the
-//! inode keeps; `may` and the checks that procedures share (`directory`,
-//! `name_checked`, `new_name_checked`, `permitted`, `changeable`) answer as the machine does, and `read`, `write`, `new_file`
-//! and `create_over` come to what the machine's READ, WRITE and CREATE make of the object. It stands on `nfs_objects` for views
-//! and inodes.
+//! `resolve` tells what a handle names as far as a view shows (`found_at`); the lemmas of `proofs/Meant` tie that to
+//! what it names in every state whose store the view fits. `attributes` are the machine's of the inode's object, with
+//! the count of links that the inode keeps; `may` and the checks that procedures share (`directory`, `name_checked`,
+//! `new_name_checked`, `permitted`, `changeable`) answer as the machine does, and `read`, `write`, `new_file` and
+//! `create_over` come to what the machine's READ, WRITE and CREATE make of the object. It stands on `nfs_objects` for
+//! views and inodes.
 #![tactic(auto)]
 
 pub mod checks;

@@ -1,6 +1,7 @@
 //! New objects and their names, and CREATE over what is there (RFC 1813, 3.3.8).
 
-ghost use Rattle.std.specs.Prelude.{◌≡◌, ◌==◌, ◌||◌, ◌&&◌, ◌+◌, ◌<◌, ◌^◌, false, IfOk, IfSome, None, Some, find, replicate, unwrap_or};
+ghost use Rattle.std.specs.Prelude.{◌≡◌, ◌==◌, ◌||◌, ◌&&◌, ◌+◌, ◌<◌, ◌^◌, false, IfOk};
+ghost use Rattle.std.specs.Prelude.{IfSome, None, Some, find, replicate, unwrap_or};
 ghost use Rattle.nfs_machine.specs.Bytes.{same_bytes};
 ghost use Rattle.nfs_machine.specs.Checks.{bytes_in};
 ghost use Rattle.nfs_machine.specs.Permission.{is_member};
@@ -48,7 +49,9 @@ pub fn given_attributes(ctx: &Ctx, given: &SetAttributes) -> Result<(), NfsStatu
 
 /// Whether a caller may give an object to these ids: the user 0 to anybody, others to themselves and their groups.
 fn may_give(ids: &Ids, given: &SetAttributes) -> bool
-    ensures { result ≡ ((ids.now.uid == 0) || ((unwrap_or given.now.uid ids.now.uid == ids.now.uid) && is_member ids.now (unwrap_or given.now.gid ids.now.gid))) }
+    ensures { result ≡ ((ids.now.uid == 0) ||
+        ((unwrap_or given.now.uid ids.now.uid == ids.now.uid) && is_member ids.now
+        (unwrap_or given.now.gid ids.now.gid))) }
 {
     let uid = given.uid.unwrap_or(ids.uid);
     let gid = given.gid.unwrap_or(ids.gid);
@@ -67,7 +70,8 @@ pub fn new_file(
     export: u32,
     generation: u64,
 ) -> Result<Inode, AllocError>
-    ensures living { IfOk result (λ file. living_of_inode file ≡ new_object ctx.now export generation (wanted_file how.now)) }
+    ensures living { IfOk result
+        (λ file. living_of_inode file ≡ new_object ctx.now export generation (wanted_file how.now)) }
     ensures links { IfOk result (λ file. file.links ≡ 1) }
 {
     let given = attributes_given(how);
@@ -84,7 +88,8 @@ pub fn new_file(
     Ok(file)
 }
 
-/// A new object with one link and no verifier: what is given, and else the caller's ids, the mode of its kind and the call's moment.
+/// A new object with one link and no verifier: what is given, and else the caller's ids, the mode of its kind and the
+/// call's moment.
 pub fn new_object(
     ctx: &Ctx,
     export: u32,
@@ -93,7 +98,8 @@ pub fn new_object(
     content: Content,
     given: &SetAttributes,
 ) -> Inode
-    ensures living { living_of_inode result ≡ new_object ctx.now export generation (record { mode = mode; content = content_of content; attributes = given.now; verifier = None }) }
+    ensures living { living_of_inode result ≡ new_object ctx.now export generation
+        (record { mode = mode; content = content_of content; attributes = given.now; verifier = None }) }
     ensures links { result.links ≡ 1 }
 {
     let now = now(ctx);
@@ -147,8 +153,8 @@ fn zeros(alloc: Global, size: usize) -> Result<Bytes, AllocError>
     Ok(Bytes::from_vec(zeros)?)
 }
 
-/// The inode of a directory with one more name, which leads to this number. Its cookie is one above all that the directory
-/// ever used (RFC 1813, 3.3.16).
+/// The inode of a directory with one more name, which leads to this number. Its cookie is one above all that the
+/// directory ever used (RFC 1813, 3.3.16).
 ///
 /// # Errors
 ///
@@ -190,7 +196,9 @@ pub fn create_over(
     how: &CreateHow,
     inode: &Inode,
 ) -> Result<Result<Option<Inode>, NfsStatus>, AllocError>
-    ensures value { IfOk result (λ after. seen_after after ≡ create_over ctx.now how.now (living_of_inode inode.now) (bytes_in (content_of inode.now.content))) }
+    ensures value { IfOk result
+        (λ after. seen_after after ≡ create_over ctx.now how.now (living_of_inode inode.now)
+        (bytes_in (content_of inode.now.content))) }
     ensures keeps { IfOk result (λ after. IfOk after (λ a. IfSome a (KeepsPlace inode.now))) }
 {
     let bytes = match bytes_in(&inode.content) {
@@ -221,8 +229,11 @@ fn resize(
     bytes: &Bytes,
     size: u64,
 ) -> Result<Result<Option<Inode>, NfsStatus>, AllocError>
-    ensures value { IfOk result (λ after. seen_after after ≡ file_resized ctx.now (living_of_inode inode.now) bytes.now size) }
-    ensures keeps { IfOk result (λ after. IfOk after (λ a. IfSome a (λ new. KeepsPlace (record inode.now { content = Content.Regular bytes.now }) new))) }
+    ensures value { IfOk result
+        (λ after. seen_after after ≡ file_resized ctx.now (living_of_inode inode.now) bytes.now size) }
+    ensures keeps { IfOk result
+        (λ after. IfOk after
+        (λ a. IfSome a (λ new. KeepsPlace (record inode.now { content = Content.Regular bytes.now }) new))) }
 {
     if let Err(status) = permitted(ctx, inode, Right::Writing) {
         return Ok(Err(status));
@@ -236,7 +247,8 @@ fn resize(
 
 /// Whether a file was made by an exclusive CREATE with this verifier.
 fn is_verifier(kept: &Option<Verifier>, given: &Verifier) -> bool
-    ensures { result ≡ elim (verifier_of kept.now) [ None ↦ false | Some kept ↦ same_bytes kept given.now.bytes ] }
+    ensures { result ≡ elim
+        (verifier_of kept.now) [ None ↦ false | Some kept ↦ same_bytes kept given.now.bytes ] }
 {
     match kept {
         Some(kept) => kept.bytes == given.bytes,

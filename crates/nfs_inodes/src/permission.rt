@@ -3,7 +3,8 @@
 ghost use Rattle.std.specs.Prelude.{◌≡◌, ◌==◌, ◌||◌, ◌&&◌};
 ghost use Rattle.std.specs.List.{list_any};
 ghost use Rattle.nfs_machine.specs.Checks.{permitted};
-ghost use Rattle.nfs_machine.specs.Permission.{Reading, Writing, Searching, Listing, Changing, class_bits, is_member, may, reads, runs, writes};
+ghost use Rattle.nfs_machine.specs.Permission.{Reading, Writing, Searching, Listing, Changing, class_bits, is_member};
+ghost use Rattle.nfs_machine.specs.Permission.{may, reads, runs, writes};
 ghost use Rattle.nfs_objects.specs.Stands.{living_of_inode};
 ghost use Rattle.nfs_inodes.specs.Rights.{right_of};
 
@@ -77,7 +78,14 @@ fn is_among(groups: &[u32], gid: u32) -> bool
 }
 
 fn class_may(right: Right, is_owner: bool, bits: u32) -> bool
-    ensures { result ≡ elim (right_of right) [ Reading ↦ is_owner || reads bits || runs bits | Writing ↦ is_owner || writes bits | Searching ↦ runs bits | Listing ↦ reads bits | Changing ↦ writes bits && runs bits ] }
+    ensures { result ≡ elim
+        (right_of right) [
+          | Reading ↦ is_owner || reads bits || runs bits
+          | Writing ↦ is_owner || writes bits
+          | Searching ↦ runs bits
+          | Listing ↦ reads bits
+          | Changing ↦ writes bits && runs bits
+        ] }
 {
     match right {
         Right::Reading => is_owner || reads(bits) || runs(bits),

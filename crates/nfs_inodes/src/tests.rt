@@ -1,5 +1,5 @@
-//! Inodes of a server that was started with number 7: the sizes of each kind, the classes of permission, and handles. The values are
-//! worked out by hand from RFC 1813, 2.5 and 4.4.
+//! Inodes of a server that was started with number 7: the sizes of each kind, the classes of permission, and handles.
+//! The values are worked out by hand from RFC 1813, 2.5 and 4.4.
 
 use super::*;
 use bytes::Bytes;

@@ -1,11 +1,13 @@
 -- The attributes that a reply shows of an object, some of them derived from the whole state (RFC 1813, 2.5: fattr3).
-use Rattle.std.specs.Prelude.{ℕ, ◌+◌, ◌*◌, ◌/◌, Bool, true, false, List, [], length, count_by, sum_by, Option, Some, None, ◌==◌}
+use Rattle.std.specs.Prelude.{ℕ, ◌+◌, ◌*◌, ◌/◌, Bool, true, false, List, [], length, count_by, sum_by}
+use Rattle.std.specs.Prelude.{Option, Some, None, ◌==◌}
 use Rattle.std.specs.FinMap.{get, values}
 use Rattle.nfs_wire.specs.declared.attributes.Attributes.{Attributes}
 use Rattle.nfs_wire.specs.declared.attributes.DeviceNumber.{DeviceNumber}
 use Rattle.nfs_wire.specs.declared.attributes.FileType.{FileType}
 use Rattle.nfs_wire.specs.declared.attributes.FileType.TheVariants as types
-use Rattle.nfs_machine.specs.State.{Content, Regular, Directory, Link, BlockDevice, CharacterDevice, Socket, Fifo, Entry, Living, State}
+use Rattle.nfs_machine.specs.State.{Content, Regular, Directory, Link, BlockDevice, CharacterDevice, Socket, Fifo}
+use Rattle.nfs_machine.specs.State.{Entry, Living, State}
 
 abbrev pub type_of : Content → FileType
 type_of (Regular bytes) = types.Regular
@@ -21,14 +23,23 @@ abbrev pub block : ℕ
 block = 4096
 
 abbrev pub size_of : Content → ℕ
-size_of content = elim content [ Regular bytes ↦ length bytes | Directory entries last_cookie ↦ block | Link text ↦ length text | _ ↦ 0 ]
+size_of content = elim content [
+  | Regular bytes ↦ length bytes
+  | Directory entries last_cookie ↦ block
+  | Link text ↦ length text
+  | _ ↦ 0
+]
 
 -- the size, rounded up to whole blocks
 abbrev pub used_of : Content → ℕ
 used_of content = (size_of content + 4095) / block * block
 
 abbrev pub device_of : Content → DeviceNumber
-device_of content = elim content [ BlockDevice device ↦ device | CharacterDevice device ↦ device | _ ↦ record { major = 0; minor = 0 } ]
+device_of content = elim content [
+  | BlockDevice device ↦ device
+  | CharacterDevice device ↦ device
+  | _ ↦ record { major = 0; minor = 0 }
+]
 
 -- the entries of a directory; of what is none, no entry
 abbrev pub entries_of : Content → List Entry
@@ -50,7 +61,11 @@ names_of m number = sum_by (names_in number) (values m.objects)
 
 -- of a directory 2 and its subdirectories, of anything else the count of its names
 abbrev pub links_of : State → ℕ → Content → ℕ
-links_of m number content = elim content [ Directory entries last_cookie ↦ 2 + count_by (λ (e : Entry). is_living_directory (get m.objects e.number)) entries | _ ↦ names_of m number ]
+links_of m number content = elim content [
+  | Directory entries last_cookie ↦ 2 +
+      count_by (λ (e : Entry). is_living_directory (get m.objects e.number)) entries
+  | _ ↦ names_of m number
+]
 
 abbrev pub attributes_of : State → ℕ → Living → Attributes
 attributes_of m number o = record {

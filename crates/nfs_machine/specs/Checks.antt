@@ -1,7 +1,8 @@
 -- The checks that procedures of NFS share. Each names the status of a call that fails it (RFC 1813, 2.6). Where its own
--- definition sets no other order, a procedure makes them in this one: handles, that two handles are of one export, kinds,
--- names, a read-only export, permission, and then its own.
-use Rattle.std.specs.Prelude.{ℕ, Bool, true, not, ◌&&◌, ◌||◌, List, length, Option, Some, None, Result, Ok, Err, nat_le, codes, find, if◌then◌else◌, ◌==◌}
+-- definition sets no other order, a procedure makes them in this one: handles, that two handles are of one export,
+-- kinds, names, a read-only export, permission, and then its own.
+use Rattle.std.specs.Prelude.{ℕ, Bool, true, not, ◌&&◌, ◌||◌, List, length, Option, Some, None, Result, Ok}
+use Rattle.std.specs.Prelude.{Err, nat_le, codes, find, if◌then◌else◌, ◌==◌}
 use Rattle.std.specs.List.{list_any}
 use Rattle.nfs_wire.specs.declared.status.NfsStatus.{NfsStatus}
 use Rattle.nfs_wire.specs.declared.status.NfsStatus.TheVariants as status
@@ -22,11 +23,18 @@ holding b e = if b then Ok tt else Err e
 
 -- the object that a handle names, with its number
 abbrev pub object_of : Resolved → Result (ℕ × Living) NfsStatus
-object_of resolved = elim resolved [ BadHandle ↦ Err status.BadHandle | Stale ↦ Err status.Stale | Names number object ↦ Ok (number, object) ]
+object_of resolved = elim resolved [
+  | BadHandle ↦ Err status.BadHandle
+  | Stale ↦ Err status.Stale
+  | Names number object ↦ Ok (number, object)
+]
 
 -- the entries of a directory, and the greatest cookie that it ever used
 abbrev pub entries_in : Content → Result (List Entry × ℕ) NfsStatus
-entries_in content = elim content [ Directory entries last_cookie ↦ Ok (entries, last_cookie) | other ↦ Err status.NotDirectory ]
+entries_in content = elim content [
+  | Directory entries last_cookie ↦ Ok (entries, last_cookie)
+  | other ↦ Err status.NotDirectory
+]
 
 -- the bytes of a regular file
 abbrev pub bytes_in : Content → Result (List ℕ) NfsStatus
@@ -44,7 +52,8 @@ name_checked name = do
 
 -- a name that a call makes, takes away or moves: "." and ".." are there in every directory, and each has its status
 abbrev pub plain_name_checked : (self above : NfsStatus) → List ℕ → Result (Unit {0}) NfsStatus
-plain_name_checked self above name = name_checked name >>= λ _. if same_bytes (codes ".") name then Err self else (if same_bytes (codes "..") name then Err above else Ok tt)
+plain_name_checked self above name = name_checked name >>= λ _. if same_bytes (codes ".") name then Err self else
+    (if same_bytes (codes "..") name then Err above else Ok tt)
 
 -- the object may be changed: its export is there and not read only
 abbrev pub is_writable : Ctx → Living → Bool

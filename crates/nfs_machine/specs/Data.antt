@@ -2,7 +2,8 @@
 use Rattle.std.specs.Prelude.{ℕ, ◌+◌, ◌-◌, List, ◌++◌, length, take, drop, replicate, min, nat_le}
 use Rattle.nfs_wire.specs.declared.replies.ReadData.{ReadData}
 
--- the most that one READ or WRITE carries (3.3.19: rtmax, wtmax), and the size of the largest file (maxfilesize), in bytes
+-- the most that one READ or WRITE carries (3.3.19: rtmax, wtmax), and the size of the largest file (maxfilesize), in
+-- bytes
 abbrev pub transfer_limit : ℕ
 transfer_limit = 65536
 
@@ -20,4 +21,6 @@ written bytes offset more = resized bytes offset ++ more ++ drop (offset + lengt
 -- what is read there, and whether the file ends with it
 abbrev pub read_at : List ℕ → ℕ → ℕ → ReadData
 read_at bytes offset count =
-    let found = take (min count transfer_limit) (drop offset bytes) in record { count = length found; eof = nat_le (length bytes) (offset + length found); «data» = found }
+    let found = take (min count transfer_limit)
+    (drop offset bytes) in
+    record { count = length found; eof = nat_le (length bytes) (offset + length found); «data» = found }

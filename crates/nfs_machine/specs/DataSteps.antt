@@ -1,5 +1,6 @@
 -- What READ and WRITE come to at the object that a handle names (RFC 1813, 3.3.6 and 3.3.7).
-use Rattle.std.specs.Prelude.{ℕ, ◌+◌, Option, Some, None, Result, Ok, length, take, min, nat_le, ◌||◌, ◌==◌, if◌then◌else◌}
+use Rattle.std.specs.Prelude.{ℕ, ◌+◌, Option, Some, None, Result, Ok, length, take, min, nat_le, ◌||◌}
+use Rattle.std.specs.Prelude.{◌==◌, if◌then◌else◌}
 use Rattle.std.specs.Int.{w64, to_be_bytes}
 use Rattle.nfs_wire.specs.declared.calls.ReadArguments.{ReadArguments}
 use Rattle.nfs_wire.specs.declared.calls.Verifier.{Verifier}
@@ -23,7 +24,8 @@ read_object ctx file a = do
   _ ← permitted ctx file Reading
   Ok (read_at bytes a.offset a.count)
 
--- the start number is the verifier of WRITE and COMMIT (3.3.7 and 3.3.21), and that of the cookies of pages (3.3.16 and 3.3.17)
+-- the start number is the verifier of WRITE and COMMIT (3.3.7 and 3.3.21), and that of the cookies of pages (3.3.16
+-- and 3.3.17)
 abbrev pub verifier_of : Ctx → Verifier
 verifier_of ctx = record { bytes = to_be_bytes w64 ctx.start }
 
@@ -39,5 +41,9 @@ write_object ctx file a = do
   _ ← changeable ctx file
   _ ← permitted ctx file Writing
   _ ← holding ((write_count a == 0) || nat_le (a.offset + write_count a) size_limit) status.FileTooBig
-  let after = with_content file (time_of ctx.moment) (Regular (written bytes a.offset (take (write_count a) a.«data»))) in
-      Ok (record { count = write_count a; committed = a.stable; verifier = verifier_of ctx }, if write_count a == 0 then None else Some after)
+  let after = with_content file (time_of ctx.moment)
+      (Regular (written bytes a.offset (take (write_count a) a.«data»))) in
+      Ok (
+        record { count = write_count a; committed = a.stable; verifier = verifier_of ctx },
+        if write_count a == 0 then None else Some after,
+      )

@@ -1,5 +1,6 @@
 -- Which lists of exports a server is started with, and what is told of the others.
-use Rattle.std.specs.Prelude.{ℕ, ◌+◌, Bool, not, ◌&&◌, ◌||◌, List, [], ◌∷◌, ◌++◌, length, drop, Option, Some, None, nat_le, nat_lt, codes, if◌then◌else◌, ◌==◌}
+use Rattle.std.specs.Prelude.{ℕ, ◌+◌, Bool, not, ◌&&◌, ◌||◌, List, [], ◌∷◌, ◌++◌, length}
+use Rattle.std.specs.Prelude.{drop, Option, Some, None, nat_le, nat_lt, codes, if◌then◌else◌, ◌==◌}
 use Rattle.std.specs.List.{list_any, list_all}
 use Rattle.std.specs.Option.{option_or}
 use Rattle.nfs_machine.specs.Bytes.{same_bytes}
@@ -24,7 +25,8 @@ is_export_part part = has_length 255 part && not (list_any (λ b. b == 44) part)
 -- "/", or parts that are each led by a slash
 abbrev pub is_export_path : List ℕ → Bool
 is_export_path path =
-    nat_le (length path) 1024 && begins_with_slash path && (same_bytes path (slash ∷ []) || list_all is_export_part (pieces (drop 1 path)))
+    nat_le (length path) 1024 && begins_with_slash path &&
+    (same_bytes path (slash ∷ []) || list_all is_export_part (pieces (drop 1 path)))
 
 abbrev pub is_export_mode : List ℕ → Bool
 is_export_mode mode = same_bytes mode (codes "rw") || same_bytes mode (codes "ro")
@@ -39,7 +41,8 @@ fault_of earlier text =
     if not (is_export_path text.path) then Some (BadPath number)
     else (if not (is_export_mode text.mode) then Some (BadMode number)
     else (if not (are_export_hosts text.hosts.items) then Some (NoHost number)
-    else (if list_any (λ (e : ExportText). same_bytes e.path text.path) earlier then Some (DoublePath number) else None)))
+    else (if list_any (λ (e : ExportText). same_bytes e.path text.path) earlier then Some
+    (DoublePath number) else None)))
 
 abbrev pub first_fault : List ExportText → List ExportText → Option ExportError
 first_fault earlier [] = None

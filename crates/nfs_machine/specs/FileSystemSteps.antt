@@ -7,13 +7,21 @@ use Rattle.nfs_machine.specs.Attributes.{block, used_of}
 use Rattle.nfs_machine.specs.Data.{transfer_limit, size_limit}
 use Rattle.nfs_machine.specs.State.{Living}
 
--- FSSTAT, 3.3.18: what the living objects of an export leave of a total of bytes, and of the 4,294,967,295 files that it tells of; never
--- below 0
+-- FSSTAT, 3.3.18: what the living objects of an export leave of a total of bytes, and of the 4,294,967,295 files that
+-- it tells of; never below 0
 abbrev pub space_left : (total : ℕ) → List Living → (export : ℕ) → Space
 space_left total objects export =
     let bytes = total - sum_by (λ (o : Living). if o.export == export then used_of o.content else 0) objects in
     let files = 4294967295 - count_by (λ (o : Living). o.export == export) objects in
-    record { total_bytes = total; free_bytes = bytes; available_bytes = bytes; total_files = 4294967295; free_files = files; available_files = files; unchanged_for = 0 }
+    record {
+      total_bytes = total;
+      free_bytes = bytes;
+      available_bytes = bytes;
+      total_files = 4294967295;
+      free_files = files;
+      available_files = files;
+      unchanged_for = 0;
+    }
 
 -- FSINFO, 3.3.19
 abbrev pub file_system : FileSystem
@@ -33,4 +41,11 @@ file_system = record {
 
 -- PATHCONF, 3.3.20: names are compared as bytes, and one that is too long is refused
 abbrev pub path_limits : PathLimits
-path_limits = record { most_links = 32000; longest_name = 255; no_truncation = true; chown_restricted = true; case_insensitive = false; case_preserving = true }
+path_limits = record {
+  most_links = 32000;
+  longest_name = 255;
+  no_truncation = true;
+  chown_restricted = true;
+  case_insensitive = false;
+  case_preserving = true;
+}

@@ -1,4 +1,5 @@
--- Requests that wait for a lock, and what becomes of them where held locks change (RFC 1813, appendix II, 6.2: procedures 2, 5 and 10).
+-- Requests that wait for a lock, and what becomes of them where held locks change (RFC 1813, appendix II, 6.2:
+-- procedures 2, 5 and 10).
 use Rattle.std.specs.Prelude.{◌≡◌, ℕ, ◌<◌, List, [], ◌∷◌, ◌++◌, if◌then◌else◌, Some}
 use Rattle.std.specs.Int.{w64, to_be_bytes}
 use Rattle.std.specs.List.{AllByRecursion}
@@ -20,7 +21,11 @@ grant_cookie number = to_be_bytes w64 number
 
 -- GRANTED, or GRANTED_MSG where LOCK_MSG asked; exclusive and lock are as they were asked
 abbrev pub grant_message : Request → Message
-grant_message r = record { host = r.host; call = (if r.by_message then callbacks.GrantedMsg else callbacks.Granted) (record { cookie = grant_cookie r.number; exclusive = r.exclusive; lock = r.asked }) }
+grant_message r = record {
+  host = r.host;
+  call = (if r.by_message then callbacks.GrantedMsg else callbacks.Granted)
+      (record { cookie = grant_cookie r.number; exclusive = r.exclusive; lock = r.asked });
+}
 
 -- the earliest request of a file that conflicts with nothing is held and waits for its answer
 pub record Grants (old : State) (file : ℕ) (message : Message) (new : State) : Type 0 where
@@ -34,19 +39,25 @@ pub record Grants (old : State) (file : ℕ) (message : Message) (new : State) :
   pub locks : List Lock
   pub lists : Lists locks (modes_with old.locks (requested request) (Some request.exclusive))
   pub message_is : message ≡ grant_message request
-  pub state_is : new ≡ record old { locks = locks; waiting = earlier ++ later; granted = old.granted ++ request ∷ [] }
+  pub state_is : new ≡
+      record old { locks = locks; waiting = earlier ++ later; granted = old.granted ++ request ∷ [] }
 
 -- requests of a file are granted one after the other, each with its message, until none of those that wait can be
 abbrev pub Settles : State → ℕ → List Message → State → Type 0
-Settles old file [] new = AllByRecursion (λ (r : Request). r.file ≡ file → IsHeldUp old.locks r) old.waiting × (new ≡ old)
-Settles old file (message ∷ messages) new = (mid : State) × Grants old file message mid × Settles mid file messages new
+Settles old file [] new = AllByRecursion (λ (r : Request). r.file ≡ file → IsHeldUp old.locks r) old.waiting ×
+    (new ≡ old)
+Settles old file (message ∷ messages) new = (mid : State) × Grants old file message mid ×
+    Settles mid file messages new
 
 -- Files settle one after the other, in order of fileid, until no request that waits can be granted
 abbrev pub SettleInOrder : State → List ℕ → List Message → State → Type 0
-SettleInOrder old [] messages new = AllByRecursion (IsHeldUp old.locks) old.waiting × (messages ≡ []) × (new ≡ old)
+SettleInOrder old [] messages new = AllByRecursion (IsHeldUp old.locks) old.waiting × (messages ≡ []) ×
+    (new ≡ old)
 SettleInOrder old (file ∷ files) messages new =
-    AllByRecursion (λ other. file < other) files × (mid : State) × (first rest : List Message) × (messages ≡ first ++ rest) × Settles old file first mid × SettleInOrder mid files rest new
+    AllByRecursion (λ other. file < other) files × (mid : State) × (first rest : List Message) ×
+    (messages ≡ first ++ rest) × Settles old file first mid × SettleInOrder mid files rest new
 
 -- the range's owner gets this mode on it, and then what waits for the file is tried
 abbrev pub ChangesLocks : State → Range → Mode → List Message → State → Type 0
-ChangesLocks old r mode messages new = (locks : List Lock) × Lists locks (modes_with old.locks r mode) × Settles (record old { locks = locks }) r.file messages new
+ChangesLocks old r mode messages new = (locks : List Lock) × Lists locks (modes_with old.locks r mode) ×
+    Settles (record old { locks = locks }) r.file messages new

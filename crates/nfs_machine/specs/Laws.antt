@@ -1,5 +1,6 @@
 -- Laws of the machine.
-use Rattle.std.specs.Prelude.{◌≡◌, ℕ, Bool, true, false, ◌<◌, ◌≤◌, ◌^◌, List, [], ◌∷◌, ◌++◌, length, Some, is_err, IfSome, ◌⊎◌}
+use Rattle.std.specs.Prelude.{◌≡◌, ℕ, Bool, true, false, ◌<◌, ◌≤◌, ◌^◌, List, [], ◌∷◌}
+use Rattle.std.specs.Prelude.{◌++◌, length, Some, is_err, IfSome, ◌⊎◌}
 use Rattle.std.specs.FinMap.{get}
 use Rattle.std.specs.List.{All}
 use Rattle.nfs_wire.specs.Replies.{HasNfsForm, result_bytes}
@@ -47,7 +48,8 @@ HandlesAreRead = (h : Handle) → FitsBytes h → handle_of (handle_bytes h) ≡
 
 -- bytes that are read as a handle are its bytes
 abbrev pub HandlesAreWritten : Type 0
-HandlesAreWritten = (bytes : List ℕ) (h : Handle) → All (λ b. b < 256) bytes → handle_of bytes ≡ Some h → bytes ≡ handle_bytes h
+HandlesAreWritten = (bytes : List ℕ) (h : Handle) → All (λ b. b < 256) bytes → handle_of bytes ≡ Some h →
+    bytes ≡ handle_bytes h
 
 -- an arrival asks at most one call, under one context
 abbrev pub ArrivalsAskOnce : Type 0
@@ -95,7 +97,8 @@ is_refusal (replies.Commit r) = is_err r.result
 
 -- a call that is refused changes nothing and puts no message
 abbrev pub RefusalsChangeNothing : Type 0
-RefusalsChangeNothing = (old : State) (ctx : Ctx) (call : NfsCall) (reply : NfsReply) (messages : List Message) (new : State)
+RefusalsChangeNothing = (old : State) (ctx : Ctx) (call : NfsCall) (reply : NfsReply) (messages : List Message)
+    (new : State)
     → NfsStep old ctx call reply messages new → is_refusal reply ≡ true → (new ≡ old) × (messages ≡ [])
 
 -- an object lives under a number, with a generation: what its handle says of it
@@ -104,52 +107,66 @@ pub record LivesAs (m : State) (number generation : ℕ) : Type 0 where
   pub lives : get m.objects number ≡ Some object
   pub generation_is : object.generation ≡ generation
 
--- what was given stays given; and what lives now lived before under the same handle, or has one that was not given before, and is now
+-- what was given stays given; and what lives now lived before under the same handle, or has one that was not given
+-- before, and is now
 pub record GivesOnce (old new : State) : Type 0 where
   pub kept : (number generation : ℕ) → old.spent number generation ≡ true → new.spent number generation ≡ true
   pub handles : (number generation : ℕ) → LivesAs new number generation
-      → LivesAs old number generation ⊎ ((old.spent number generation ≡ false) × (new.spent number generation ≡ true) × (number < 2 ^ 64) × (generation < 2 ^ 64))
+      → LivesAs old number generation ⊎
+      ((old.spent number generation ≡ false) × (new.spent number generation ≡ true) × (number < 2 ^ 64) ×
+      (generation < 2 ^ 64))
 
 -- each step gives a handle at most once
 abbrev pub StepsGiveOnce : Type 0
-StepsGiveOnce = (old : State) (ctx : Ctx) (call : Call) (reply : Reply) (messages : List Message) (new : State) → Step old ctx call reply messages new → GivesOnce old new
+StepsGiveOnce = (old : State) (ctx : Ctx) (call : Call) (reply : Reply) (messages : List Message) (new : State) →
+    Step old ctx call reply messages new → GivesOnce old new
 
--- a handle that was given is never given again: what lives under it at the end of a run lived under it when the run began
+-- a handle that was given is never given again: what lives under it at the end of a run lived under it when the run
+-- began
 abbrev pub NeverGivenAgain : Type 0
 NeverGivenAgain = (setting : Setting) (first last : State) (records : List Record) (number generation : ℕ)
-    → Run setting first records last → first.spent number generation ≡ true → LivesAs last number generation → LivesAs first number generation
+    → Run setting first records last → first.spent number generation ≡ true → LivesAs last number generation →
+    LivesAs first number generation
 
 -- the number and the generation of what lives fit the bytes of its handle
 abbrev pub NumbersFit : State → Type 0
 NumbersFit m = (number generation : ℕ) → LivesAs m number generation → (number < 2 ^ 64) × (generation < 2 ^ 64)
 
 abbrev pub OpeningNumbersFit : Type 0
-OpeningNumbersFit = (exports : List ExportValue) (moment : Moment) → length exports < 2 ^ 32 → NumbersFit (opening exports moment)
+OpeningNumbersFit = (exports : List ExportValue) (moment : Moment) → length exports < 2 ^ 32 →
+    NumbersFit (opening exports moment)
 
 abbrev pub StepsKeepNumbers : Type 0
-StepsKeepNumbers = (old : State) (ctx : Ctx) (call : Call) (reply : Reply) (messages : List Message) (new : State) → Step old ctx call reply messages new → NumbersFit old → NumbersFit new
+StepsKeepNumbers = (old : State) (ctx : Ctx) (call : Call) (reply : Reply) (messages : List Message) (new : State) →
+    Step old ctx call reply messages new → NumbersFit old → NumbersFit new
 
 abbrev pub RunsKeepNumbers : Type 0
-RunsKeepNumbers = (setting : Setting) (first last : State) (records : List Record) → Run setting first records last → NumbersFit first → NumbersFit last
+RunsKeepNumbers = (setting : Setting) (first last : State) (records : List Record) →
+    Run setting first records last → NumbersFit first → NumbersFit last
 
 -- a name that leads to the same object before and after is the same entry: it keeps its cookie (RFC 1813, 3.3.16)
 abbrev pub KeepsEntries : (before after : List Entry) → Type 0
-KeepsEntries before after = (name : List ℕ) (e f : Entry) → entry_of before name ≡ Some e → entry_of after name ≡ Some f → f.number ≡ e.number → f ≡ e
+KeepsEntries before after = (name : List ℕ) (e f : Entry) → entry_of before name ≡ Some e →
+    entry_of after name ≡ Some f → f.number ≡ e.number → f ≡ e
 
 -- in each directory that lives on
 abbrev pub KeepsCookies : (old new : State) → Type 0
-KeepsCookies old new = (number : ℕ) (was is : Living) → get old.objects number ≡ Some was → get new.objects number ≡ Some is → KeepsEntries (entries_of was.content) (entries_of is.content)
+KeepsCookies old new = (number : ℕ) (was is : Living) → get old.objects number ≡ Some was →
+    get new.objects number ≡ Some is → KeepsEntries (entries_of was.content) (entries_of is.content)
 
 -- each step does so
 abbrev pub StepsKeepCookies : Type 0
-StepsKeepCookies = (old : State) (ctx : Ctx) (call : Call) (reply : Reply) (messages : List Message) (new : State) → Step old ctx call reply messages new → KeepsCookies old new
+StepsKeepCookies = (old : State) (ctx : Ctx) (call : Call) (reply : Reply) (messages : List Message) (new : State) →
+    Step old ctx call reply messages new → KeepsCookies old new
 
 -- what is true of every state: a server starts so, each step keeps it, and so each run
 abbrev pub OpeningIsFormed : Type 0
 OpeningIsFormed = (exports : List ExportValue) (moment : Moment) → WellFormed (opening exports moment)
 
 abbrev pub StepsKeepForm : Type 0
-StepsKeepForm = (old : State) (ctx : Ctx) (call : Call) (reply : Reply) (messages : List Message) (new : State) → Step old ctx call reply messages new → WellFormed old → WellFormed new
+StepsKeepForm = (old : State) (ctx : Ctx) (call : Call) (reply : Reply) (messages : List Message) (new : State) →
+    Step old ctx call reply messages new → WellFormed old → WellFormed new
 
 abbrev pub RunsKeepForm : Type 0
-RunsKeepForm = (setting : Setting) (first last : State) (records : List Record) → Run setting first records last → WellFormed first → WellFormed last
+RunsKeepForm = (setting : Setting) (first last : State) (records : List Record) → Run setting first records last →
+    WellFormed first → WellFormed last

@@ -4,7 +4,8 @@ use Rattle.nfs_wire.specs.declared.calls.LinkArguments.{LinkArguments}
 use Rattle.nfs_wire.specs.declared.status.NfsStatus.{NfsStatus}
 use Rattle.nfs_wire.specs.declared.status.NfsStatus.TheVariants as status
 use Rattle.nfs_machine.specs.Attributes.{is_directory, links_of}
-use Rattle.nfs_machine.specs.Checks.{◌>>=◌, holding, object_of, entries_in, plain_name_checked, changeable, permitted, link_limit, entry_of}
+use Rattle.nfs_machine.specs.Checks.{◌>>=◌, holding, object_of, entries_in, plain_name_checked, changeable}
+use Rattle.nfs_machine.specs.Checks.{permitted, link_limit, entry_of}
 use Rattle.nfs_machine.specs.Making.{with_entry}
 use Rattle.nfs_machine.specs.Permission.{Changing}
 use Rattle.nfs_machine.specs.Resolve.{resolve}

@@ -17,14 +17,18 @@ use Rattle.nfs_machine.specs.declared.moment.Moment.{Moment}
 -- a listed lock that stands in the way: another owner's, with an offset of the range, and one of the two exclusive
 abbrev pub stands_in_way : Range → Mode → Lock → Bool
 stands_in_way r mode l =
-    (l.file == r.file) && not (same_owner r.owner l.owner) && nat_le l.first r.last && nat_le r.first l.last && modes_conflict mode (Some l.exclusive)
+    (l.file == r.file) && not
+    (same_owner r.owner l.owner) && nat_le l.first r.last && nat_le r.first l.last && modes_conflict mode
+    (Some l.exclusive)
 
 -- no two owners have an offset in modes that conflict
 abbrev pub NoLocksConflict : List Lock → Type 0
-NoLocksConflict locks = (file : ℕ) (a b : Owner) (offset : ℕ) → same_owner a b ≡ false → modes_conflict (mode_at locks file a offset) (mode_at locks file b offset) ≡ false
+NoLocksConflict locks = (file : ℕ) (a b : Owner) (offset : ℕ) → same_owner a b ≡ false →
+    modes_conflict (mode_at locks file a offset) (mode_at locks file b offset) ≡ false
 
 abbrev pub NoSharesConflict : List Share → Type 0
-NoSharesConflict shares = AllByRecursion (λ (a : Share). AllByRecursion (λ (b : Share). shares_conflict a b ≡ false) shares) shares
+NoSharesConflict shares = AllByRecursion
+    (λ (a : Share). AllByRecursion (λ (b : Share). shares_conflict a b ≡ false) shares) shares
 
 abbrev pub NoConflict : State → Type 0
 NoConflict m = NoLocksConflict m.locks × NoSharesConflict m.shares
@@ -35,7 +39,8 @@ AllHeldUp m = AllByRecursion (IsHeldUp m.locks) m.waiting
 
 -- where no listed lock stands in the way, nothing conflicts
 abbrev pub ListedLocksTell : Type 0
-ListedLocksTell = (locks : List Lock) (r : Range) (mode : Mode) → list_any (stands_in_way r mode) locks ≡ false → Conflicts locks r mode → ⊥
+ListedLocksTell = (locks : List Lock) (r : Range) (mode : Mode) → list_any (stands_in_way r mode) locks ≡ false →
+    Conflicts locks r mode → ⊥
 
 -- where a server starts, nothing conflicts
 abbrev pub OpeningIsApart : Type 0
@@ -47,14 +52,18 @@ OpeningWaitsForNone = (exports : List ExportValue) (moment : Moment) → AllHeld
 
 -- no two owners come to conflict, by locks or by shares: each step keeps that, and so each run
 abbrev pub StepsKeepApart : Type 0
-StepsKeepApart = (old : State) (ctx : Ctx) (call : Call) (reply : Reply) (messages : List Message) (new : State) → Step old ctx call reply messages new → NoConflict old → NoConflict new
+StepsKeepApart = (old : State) (ctx : Ctx) (call : Call) (reply : Reply) (messages : List Message) (new : State) →
+    Step old ctx call reply messages new → NoConflict old → NoConflict new
 
 abbrev pub RunsKeepApart : Type 0
-RunsKeepApart = (setting : Setting) (first last : State) (records : List Record) → Run setting first records last → NoConflict first → NoConflict last
+RunsKeepApart = (setting : Setting) (first last : State) (records : List Record) → Run setting first records last →
+    NoConflict first → NoConflict last
 
 -- each request that waits conflicts with what is held of its file: each step keeps that, and so each run
 abbrev pub StepsKeepWaiting : Type 0
-StepsKeepWaiting = (old : State) (ctx : Ctx) (call : Call) (reply : Reply) (messages : List Message) (new : State) → Step old ctx call reply messages new → AllHeldUp old → AllHeldUp new
+StepsKeepWaiting = (old : State) (ctx : Ctx) (call : Call) (reply : Reply) (messages : List Message) (new : State) →
+    Step old ctx call reply messages new → AllHeldUp old → AllHeldUp new
 
 abbrev pub RunsKeepWaiting : Type 0
-RunsKeepWaiting = (setting : Setting) (first last : State) (records : List Record) → Run setting first records last → AllHeldUp first → AllHeldUp last
+RunsKeepWaiting = (setting : Setting) (first last : State) (records : List Record) →
+    Run setting first records last → AllHeldUp first → AllHeldUp last

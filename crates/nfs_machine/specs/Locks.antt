@@ -1,5 +1,7 @@
 -- Locks on ranges of files and share reservations: who has what, and what conflicts (RFC 1813, appendix II, 6.1.4).
-use Rattle.std.specs.Prelude.{◌≡◌, ℕ, ◌+◌, ◌-◌, ◌^◌, ◌≤◌, Bool, true, false, not, ◌&&◌, ◌||◌, List, Option, Some, option_map, nat_le, if◌then◌else◌, count_by, find, ◌==◌}
+use Rattle.std.specs.Prelude.{◌≡◌, ℕ, ◌+◌, ◌-◌, ◌^◌, ◌≤◌, Bool, true, false, not, ◌&&◌}
+use Rattle.std.specs.Prelude.{◌||◌, List, Option, Some, option_map, nat_le, if◌then◌else◌, count_by, find}
+use Rattle.std.specs.Prelude.{◌==◌}
 use Rattle.std.specs.Ordering.{int_eq}
 use Rattle.side_wire.specs.declared.message.NlmLock.{NlmLock}
 use Rattle.side_wire.specs.declared.nlm.ShareAccess.{ShareAccess}
@@ -26,12 +28,16 @@ is_in r file owner offset = (r.file == file) && same_owner r.owner owner && is_w
 
 -- the mode of an owner at an offset of a file: that of the listed lock that contains it
 abbrev pub mode_at : List Lock → ℕ → Owner → ℕ → Mode
-mode_at locks file owner offset = option_map (λ (l : Lock). l.exclusive) (find (λ (l : Lock). is_in l.range file owner offset) locks)
+mode_at locks file owner offset = option_map (λ (l : Lock). l.exclusive)
+    (find (λ (l : Lock). is_in l.range file owner offset) locks)
 
--- the locks have these modes and no offset of an owner twice; in which ranges and in which order they are listed is free
+-- the locks have these modes and no offset of an owner twice; in which ranges and in which order they are listed is
+-- free
 pub record Lists (locks : List Lock) (modes : ℕ → Owner → ℕ → Mode) : Type 0 where
-  pub modes_are : (file : ℕ) (owner : Owner) (offset : ℕ) → mode_at locks file owner offset ≡ modes file owner offset
-  pub once : (file : ℕ) (owner : Owner) (offset : ℕ) → count_by (λ (l : Lock). is_in l.range file owner offset) locks ≤ 1
+  pub modes_are : (file : ℕ) (owner : Owner) (offset : ℕ) →
+      mode_at locks file owner offset ≡ modes file owner offset
+  pub once : (file : ℕ) (owner : Owner) (offset : ℕ) →
+      count_by (λ (l : Lock). is_in l.range file owner offset) locks ≤ 1
 
 -- offsets have 64 bits (6.3.1)
 abbrev pub fits_offsets : NlmLock → Bool
@@ -40,7 +46,12 @@ fits_offsets l = nat_le (l.offset + l.length) (2 ^ 64)
 -- the range of a file that a call names; a length of 0 runs to the last offset of all (6.1.4)
 abbrev pub range_of : ℕ → NlmLock → Range
 range_of file l = let last = if l.length == 0 then 2 ^ 64 - 1 else l.offset + l.length - 1 in
-    record { file = file; owner = record { caller_name = l.caller_name; owner = l.owner; process = l.process }; first = l.offset; last = last }
+    record {
+      file = file;
+      owner = record { caller_name = l.caller_name; owner = l.owner; process = l.process };
+      first = l.offset;
+      last = last;
+    }
 
 -- the modes where the range's owner gets this mode on it, and all else is as before
 abbrev pub modes_with : List Lock → Range → Mode → ℕ → Owner → ℕ → Mode

@@ -10,7 +10,8 @@ use Rattle.nfs_machine.specs.State.{Content, BlockDevice, CharacterDevice, Socke
 
 -- an object of this mode where none is given; a size is for regular files alone
 abbrev pub wanted_of : (mode : ℕ) → Content → SetAttributes → Wanted
-wanted_of mode content given = record { mode = mode; content = content; attributes = record given { size = None }; verifier = None }
+wanted_of mode content given = record
+    { mode = mode; content = content; attributes = record given { size = None }; verifier = None }
 
 -- MKNOD, 3.3.11: a device, a socket or a FIFO of mode 0644; no other type is made
 abbrev pub wanted_special : Special → Result Wanted NfsStatus

@@ -1,5 +1,7 @@
 -- The step of MOUNT version 3, with one clause of MountStep for each procedure (RFC 1813, appendix I, 5.2).
-use Rattle.std.specs.Prelude.{◌≡◌, ℕ, ◌≤◌, ◌-◌, Bool, true, not, ◌&&◌, ◌||◌, List, [], ◌∷◌, ◌++◌, length, drop, Option, Some, None, Result, Ok, Err, ok_or, nat_lt, if◌then◌else◌, filter, find, map, ◌⊎◌, ◌==◌}
+use Rattle.std.specs.Prelude.{◌≡◌, ℕ, ◌≤◌, ◌-◌, Bool, true, not, ◌&&◌, ◌||◌, List, []}
+use Rattle.std.specs.Prelude.{◌∷◌, ◌++◌, length, drop, Option, Some, None, Result, Ok, Err, ok_or, nat_lt}
+use Rattle.std.specs.Prelude.{if◌then◌else◌, filter, find, map, ◌⊎◌, ◌==◌}
 use Rattle.std.specs.List.{list_any}
 use Rattle.std.specs.FinMap.{get}
 use Rattle.side_wire.specs.declared.message.Message.{Message}
@@ -22,42 +24,52 @@ pub use Rattle.nfs_machine.specs.Shown.{handle_at}
 use Rattle.nfs_machine.specs.State.{Entry, Living, State}
 use Rattle.nfs_machine.specs.declared.context.Ctx.{Ctx}
 
--- no directory of any server is called so: INVAL for a path without a leading slash, with NUL, or with a part "." or "..";
--- then NAMETOOLONG for a part above 255 bytes
+-- no directory of any server is called so: INVAL for a path without a leading slash, with NUL, or with a part "." or
+-- ".."; then NAMETOOLONG for a part above 255 bytes
 abbrev pub path_fault : List ℕ → Option MountStatus
 path_fault path =
-    if not (begins_with_slash path) || list_any (λ b. b == 0) path || list_any is_dots (pieces path) then Some status.Invalid
+    if not (begins_with_slash path) || list_any (λ b. b == 0) path || list_any is_dots
+    (pieces path) then Some status.Invalid
     else (if list_any (λ part. nat_lt 255 (length part)) (pieces path) then Some status.NameTooLong else None)
 
 -- the export admits the host, and its parts begin the names, which go on with rest
-pub record Leads (exports : List ExportValue) (host : List ℕ) (names : List (List ℕ)) (number : ℕ) (rest : List (List ℕ)) : Type 0 where
+pub record Leads (exports : List ExportValue) (host : List ℕ) (names : List (List ℕ)) (number : ℕ)
+    (rest : List (List ℕ)) : Type 0 where
   pub export : ExportValue
   pub stands : export_at exports number ≡ Some export
   pub admitted : admits export host ≡ true
   pub begins : names ≡ parts export.path ++ rest
 
 -- of the exports that lead there, the one with the longest path: the least is left to walk
-pub record Chosen (exports : List ExportValue) (host : List ℕ) (names : List (List ℕ)) (number : ℕ) (rest : List (List ℕ)) : Type 0 where
+pub record Chosen (exports : List ExportValue) (host : List ℕ) (names : List (List ℕ)) (number : ℕ)
+    (rest : List (List ℕ)) : Type 0 where
   pub leads : Leads exports host names number rest
-  pub longest : (other : ℕ) (more : List (List ℕ)) → Leads exports host names other more → length rest ≤ length more
+  pub longest : (other : ℕ) (more : List (List ℕ)) → Leads exports host names other more →
+      length rest ≤ length more
 
 -- the entries of a directory; a walk stops at anything else
 abbrev pub entries_at : Option Living → Result (Living × List Entry) MountStatus
-entries_at living = elim living [ None ↦ Err status.NoEntry | Some o ↦ if is_directory o.content then Ok (o, entries_of o.content) else Err status.NotDirectory ]
+entries_at living = elim living [
+  | None ↦ Err status.NoEntry
+  | Some o ↦ if is_directory o.content then Ok (o, entries_of o.content) else Err status.NotDirectory
+]
 
 -- the directory that names lead to from a number, with its own number; no link is followed
 unfoldable pub walk : (ℕ → Option Living) → ℕ → List (List ℕ) → Result (ℕ × Living) MountStatus
 walk find number [] = entries_at (find number) >>= λ d. Ok (number, d.0)
-walk find number (name ∷ names) = entries_at (find number) >>= λ d. ok_or (entry_of d.1 name) status.NoEntry >>= λ e. walk find e.number names
+walk find number (name ∷ names) = entries_at (find number) >>= λ d. ok_or
+    (entry_of d.1 name) status.NoEntry >>= λ e. walk find e.number names
 
 -- what a path names for a caller: the root of an export has the export's number
 abbrev pub Target : State → Ctx → List ℕ → Result (ℕ × Living) MountStatus → Type 0
 Target m ctx path found =
-    (path_fault path ≡ None) × (number : ℕ) × (rest : List (List ℕ)) × Chosen ctx.exports ctx.host (parts path) number rest × (found ≡ walk (get m.objects) number rest)
+    (path_fault path ≡ None) × (number : ℕ) × (rest : List (List ℕ)) ×
+    Chosen ctx.exports ctx.host (parts path) number rest × (found ≡ walk (get m.objects) number rest)
 
 -- no export that admits the caller leads there
 abbrev pub NoExport : Ctx → List ℕ → Type 0
-NoExport ctx path = (number : ℕ) (rest : List (List ℕ)) → Leads ctx.exports ctx.host (parts path) number rest → ⊥
+NoExport ctx path = (number : ℕ) (rest : List (List ℕ)) → Leads ctx.exports ctx.host (parts path) number rest →
+    ⊥
 
 -- this path of this host, as it was sent
 abbrev pub is_of : List ℕ → List ℕ → MountBody → Bool
@@ -72,7 +84,8 @@ newest mounts = drop (length mounts - 65536) mounts
 
 -- a pair is added last, unless it is there
 abbrev pub with_mount : State → MountBody → State
-with_mount m mounted = if is_mounted m.mounts mounted then m else record m { mounts = newest (m.mounts ++ mounted ∷ []) }
+with_mount m mounted = if is_mounted m.mounts mounted then m else record m
+    { mounts = newest (m.mounts ++ mounted ∷ []) }
 
 -- MNT, 5.2.1
 abbrev pub MntAnswers : State → Ctx → List ℕ → Result (List ℕ) MountStatus → State → Type 0
@@ -80,22 +93,30 @@ MntAnswers old ctx path (Ok handle) new =
     (found : ℕ × Living) × Target old ctx path (Ok found) × (handle ≡ handle_at ctx found.0 found.1)
     × (new ≡ with_mount old (record { hostname = ctx.host; directory = path }))
 MntAnswers old ctx path (Err e) new =
-    ((path_fault path ≡ Some e) ⊎ ((path_fault path ≡ None) × NoExport ctx path × (e ≡ status.Access)) ⊎ Target old ctx path (Err e)) × (new ≡ old)
+    ((path_fault path ≡ Some e) ⊎ ((path_fault path ≡ None) × NoExport ctx path × (e ≡ status.Access)) ⊎
+    Target old ctx path (Err e)) × (new ≡ old)
 
 -- the state without some mounts: UMNT, 5.2.3, takes this path of this host away, and UMNTALL, 5.2.4, every path of it
 abbrev pub without_mounts : State → (MountBody → Bool) → State
 without_mounts m goes = record m { mounts = filter (λ (x : MountBody). not (goes x)) m.mounts }
 
--- EXPORT, 5.2.5: the exports in the order given, each with the hosts that it admits, and with none where it admits every host
+-- EXPORT, 5.2.5: the exports in the order given, each with the hosts that it admits, and with none where it admits
+-- every host
 abbrev pub listed_exports : List ExportValue → List ExportNode
-listed_exports exports = map (λ (e : ExportValue). record { directory = e.path; groups = if list_any (λ h. same_bytes h every_host) e.hosts then [] else e.hosts }) exports
+listed_exports exports = map
+    (λ (e : ExportValue). record
+    { directory = e.path; groups = if list_any (λ h. same_bytes h every_host) e.hosts then [] else e.hosts }) exports
 
 -- what the machine may answer a call of MOUNT, and the state that it goes on to
 unfoldable pub MountStep : State → Ctx → MountCall → MountReply → List Message → State → Type 0
 MountStep old ctx calls.Null reply messages new = Answers replies.Null old reply messages new
-MountStep old ctx (calls.Mnt path) reply messages new = (result : Result (List ℕ) MountStatus) × (reply ≡ replies.Mnt result) × (messages ≡ []) × MntAnswers old ctx path result new
+MountStep old ctx (calls.Mnt path) reply messages new = (result : Result (List ℕ) MountStatus) ×
+    (reply ≡ replies.Mnt result) × (messages ≡ []) × MntAnswers old ctx path result new
 -- DUMP, 5.2.2: what is mounted, in the order of mounting
 MountStep old ctx calls.Dump reply messages new = Answers (replies.Dump old.mounts) old reply messages new
-MountStep old ctx (calls.Unmount path) reply messages new = Answers replies.Unmount (without_mounts old (is_of ctx.host path)) reply messages new
-MountStep old ctx calls.UnmountAll reply messages new = Answers replies.UnmountAll (without_mounts old (λ x. same_bytes x.hostname ctx.host)) reply messages new
-MountStep old ctx calls.Export reply messages new = Answers (replies.Export (listed_exports ctx.exports)) old reply messages new
+MountStep old ctx (calls.Unmount path) reply messages new = Answers replies.Unmount
+    (without_mounts old (is_of ctx.host path)) reply messages new
+MountStep old ctx calls.UnmountAll reply messages new = Answers replies.UnmountAll
+    (without_mounts old (λ x. same_bytes x.hostname ctx.host)) reply messages new
+MountStep old ctx calls.Export reply messages new = Answers
+    (replies.Export (listed_exports ctx.exports)) old reply messages new

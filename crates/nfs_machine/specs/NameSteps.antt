@@ -1,5 +1,6 @@
 -- The steps of LOOKUP and CREATE (RFC 1813, 3.3.3 and 3.3.8).
-use Rattle.std.specs.Prelude.{ℕ, false, List, Option, Some, None, option_map, unwrap_or, Result, Ok, Err, ok_or, nat_le, replicate, if◌then◌else◌}
+use Rattle.std.specs.Prelude.{ℕ, false, List, Option, Some, None, option_map, unwrap_or, Result, Ok, Err, ok_or}
+use Rattle.std.specs.Prelude.{nat_le, replicate, if◌then◌else◌}
 use Rattle.std.specs.FinMap.{get}
 use Rattle.nfs_wire.specs.declared.attributes.SetAttributes.{SetAttributes}
 use Rattle.nfs_wire.specs.declared.attributes.SetTime.TheVariants.{Leave}
@@ -11,9 +12,11 @@ use Rattle.nfs_wire.specs.declared.status.NfsStatus.{NfsStatus}
 use Rattle.nfs_wire.specs.declared.status.NfsStatus.TheVariants as status
 use Rattle.nfs_machine.specs.Attributes.{attributes_of}
 use Rattle.nfs_machine.specs.Bytes.{same_bytes}
-use Rattle.nfs_machine.specs.Checks.{◌>>=◌, holding, object_of, entries_in, bytes_in, name_checked, permitted, entry_of}
+use Rattle.nfs_machine.specs.Checks.{◌>>=◌, holding, object_of, entries_in, bytes_in, name_checked, permitted}
+use Rattle.nfs_machine.specs.Checks.{entry_of}
 use Rattle.nfs_machine.specs.Data.{size_limit, resized}
-pub use Rattle.nfs_machine.specs.Making.{Fresh, given_attributes, new_object, with_entry, made, End, Known, Chosen, EndsAs}
+pub use Rattle.nfs_machine.specs.Making.{Fresh, given_attributes, new_object, with_entry, made, End, Known, Chosen}
+pub use Rattle.nfs_machine.specs.Making.{EndsAs}
 use Rattle.nfs_machine.specs.Making.{Wanted}
 use Rattle.nfs_machine.specs.Pages.{all_entries}
 use Rattle.nfs_machine.specs.Permission.{Writing, Searching}
@@ -25,7 +28,8 @@ use Rattle.nfs_machine.specs.declared.context.Ctx.{Ctx}
 
 -- LOOKUP, 3.3.3: a name leads to an entry's object, "." to the directory itself and ".." to its parent
 abbrev pub leads_to : (number parent : ℕ) → List Entry → List ℕ → Result ℕ NfsStatus
-leads_to number parent entries name = ok_or (option_map (λ (e : Entry). e.number) (entry_of (all_entries number parent entries) name)) status.NoEntry
+leads_to number parent entries name = ok_or
+    (option_map (λ (e : Entry). e.number) (entry_of (all_entries number parent entries) name)) status.NoEntry
 
 abbrev pub lookup_result : State → Ctx → Place → ℕ → Result Found NfsStatus
 lookup_result m ctx place parent = do
@@ -38,9 +42,11 @@ lookup_result m ctx place parent = do
   Ok (record { object = handle_at ctx number o; attributes = Some (attributes_of m number o) })
 
 -- CREATE, 3.3.8
--- What is there under the name. Only a regular file can be answered: UNCHECKED answers it, cut or filled up to the size that is
--- given; EXCLUSIVE answers the file that it made itself, by its verifier. Where it changes, the file after it
-abbrev pub create_over : Ctx → CreateHow → Living → Result (List ℕ) NfsStatus → Result (Option Living) NfsStatus
+-- What is there under the name. Only a regular file can be answered: UNCHECKED answers it, cut or filled up to the
+-- size that is given; EXCLUSIVE answers the file that it made itself, by its verifier. Where it changes, the file
+-- after it
+abbrev pub create_over : Ctx → CreateHow → Living → Result (List ℕ) NfsStatus →
+    Result (Option Living) NfsStatus
 create_over ctx how file (Err e) = Err status.Exists
 create_over ctx (Unchecked a) file (Ok bytes) = elim a.size [
   | None ↦ Ok None
@@ -50,17 +56,30 @@ create_over ctx (Unchecked a) file (Ok bytes) = elim a.size [
     Ok (Some (with_content file (time_of ctx.moment) (Regular (resized bytes size))))
 ]
 create_over ctx (Guarded a) file (Ok bytes) = Err status.Exists
-create_over ctx (Exclusive verifier) file (Ok bytes) = if elim file.verifier [ None ↦ false | Some kept ↦ same_bytes kept verifier.bytes ] then Ok None else Err status.Exists
+create_over ctx (Exclusive verifier) file
+    (Ok bytes) = if elim file.verifier [ None ↦ false | Some kept ↦ same_bytes kept verifier.bytes ] then Ok None
+    else Err status.Exists
 
-abbrev pub create_existing : (old : State) → Ctx → CreateHow → ℕ → Option Living → Result (End old) NfsStatus
+abbrev pub create_existing : (old : State) → Ctx → CreateHow → ℕ → Option Living →
+    Result (End old) NfsStatus
 create_existing old ctx how number None = Err status.Exists
 create_existing old ctx how number (Some o) = do
   after ← create_over ctx how o (bytes_in o.content)
   Ok (Known (made (replaced old number after) ctx number (unwrap_or after o)) (replaced old number after))
 
--- a new file of mode 0644, filled with zeros up to the size that is given; EXCLUSIVE gives no attribute, but a verifier that the file keeps
+-- a new file of mode 0644, filled with zeros up to the size that is given; EXCLUSIVE gives no attribute, but a
+-- verifier that the file keeps
 abbrev pub wanted_file : CreateHow → Wanted
 wanted_file how =
-    let nothing : SetAttributes = record { mode = None; uid = None; gid = None; size = None; accessed = Leave; modified = Leave } in
-    let given : SetAttributes × Option (List ℕ) = elim how [ Unchecked a ↦ (a, None) | Guarded a ↦ (a, None) | Exclusive verifier ↦ (nothing, Some verifier.bytes) ] in
-    record { mode = 420; content = Regular (replicate (unwrap_or given.0.size 0) 0); attributes = given.0; verifier = given.1 }
+    let nothing : SetAttributes = record
+    { mode = None; uid = None; gid = None; size = None; accessed = Leave; modified = Leave } in
+    let given : SetAttributes ×
+    Option (List ℕ) = elim how
+    [ Unchecked a ↦ (a, None) | Guarded a ↦ (a, None) | Exclusive verifier ↦ (nothing, Some verifier.bytes) ]
+    in
+    record {
+      mode = 420;
+      content = Regular (replicate (unwrap_or given.0.size 0) 0);
+      attributes = given.0;
+      verifier = given.1;
+    }

@@ -13,7 +13,8 @@ use Rattle.side_wire.specs.declared.nlm.NlmStatus.{NlmStatus}
 use Rattle.side_wire.specs.declared.nlm.NlmStatus.TheVariants as status
 use Rattle.side_wire.specs.declared.nlm.ShareMode.TheVariants as mode
 use Rattle.nfs_machine.specs.Answers.{Answers}
-use Rattle.nfs_machine.specs.LockSteps.{CancelEnds, Frees, GrantEnds, LockEnds, TestEnds, UnlockEnds, Checked, file_checked, is_answered, share_of, without}
+use Rattle.nfs_machine.specs.LockSteps.{CancelEnds, Frees, GrantEnds, LockEnds, TestEnds, UnlockEnds, Checked}
+use Rattle.nfs_machine.specs.LockSteps.{file_checked, is_answered, share_of, without}
 use Rattle.nfs_machine.specs.Locks.{denies, same_sharer, shares_conflict}
 use Rattle.nfs_machine.specs.State.{State}
 use Rattle.nfs_machine.specs.declared.context.Ctx.{Ctx}
@@ -23,20 +24,25 @@ abbrev pub result_with : List ℕ → NlmStatus → NlmResult
 result_with cookie s = record { cookie = cookie; status = s }
 
 -- a call that is answered in its reply
-abbrev pub Replies : {Status : Type 0} → (Status → List Message → State → Type 0) → (Status → NlmReply) → NlmReply → List Message → State → Type 0
+abbrev pub Replies : {Status : Type 0} → (Status → List Message → State → Type 0) → (Status → NlmReply) →
+    NlmReply → List Message → State → Type 0
 Replies {Status} Ends reply_of reply messages new = (s : Status) × Ends s messages new × (reply ≡ reply_of s)
 
--- a MSG call, procedures 6 to 10: its reply is void, and its result goes to the caller's host in a call, behind the messages that the call puts
-abbrev pub Posts : {Status : Type 0} → (Status → List Message → State → Type 0) → List ℕ → (Status → Callback) → NlmReply → NlmReply → List Message → State → Type 0
+-- a MSG call, procedures 6 to 10: its reply is void, and its result goes to the caller's host in a call, behind the
+-- messages that the call puts
+abbrev pub Posts : {Status : Type 0} → (Status → List Message → State → Type 0) → List ℕ →
+    (Status → Callback) → NlmReply → NlmReply → List Message → State → Type 0
 Posts {Status} Ends host result_of void reply messages new =
-    (s : Status) × (granted : List Message) × Ends s granted new × (reply ≡ void) × (messages ≡ granted ++ record { host = host; call = result_of s } ∷ [])
+    (s : Status) × (granted : List Message) × Ends s granted new × (reply ≡ void) ×
+    (messages ≡ granted ++ record { host = host; call = result_of s } ∷ [])
 
 -- what the machine may answer a call of NLM, and the state that it goes on to
 unfoldable pub NlmStep : State → Ctx → NlmCall → NlmReply → List Message → State → Type 0
 -- NULL, procedure 0
 NlmStep old ctx calls.Null = Answers replies.Null old
 -- TEST, procedure 1
-NlmStep old ctx (calls.Test a) = Replies (TestEnds old ctx a) (λ s. replies.Test (record { cookie = a.cookie; status = s }))
+NlmStep old ctx (calls.Test a) = Replies (TestEnds old ctx a)
+    (λ s. replies.Test (record { cookie = a.cookie; status = s }))
 -- LOCK, procedure 2
 NlmStep old ctx (calls.Lock a) = Replies (LockEnds old ctx a false) (λ s. replies.Lock (result_with a.cookie s))
 -- CANCEL, procedure 3
@@ -46,28 +52,39 @@ NlmStep old ctx (calls.Unlock a) = Replies (UnlockEnds old ctx a) (λ s. replies
 -- GRANTED, procedure 5: this server waits for no lock
 NlmStep old ctx (calls.Granted a) = Replies (Answers status.Denied old) (λ s. replies.Granted (result_with a.cookie s))
 -- TEST_MSG, procedure 6, to UNLOCK_MSG, procedure 9
-NlmStep old ctx (calls.TestMsg a) = Posts (TestEnds old ctx a) ctx.host (λ s. callbacks.TestRes (record { cookie = a.cookie; status = s })) replies.TestMsg
-NlmStep old ctx (calls.LockMsg a) = Posts (LockEnds old ctx a true) ctx.host (λ s. callbacks.LockRes (result_with a.cookie s)) replies.LockMsg
-NlmStep old ctx (calls.CancelMsg a) = Posts (CancelEnds old ctx a) ctx.host (λ s. callbacks.CancelRes (result_with a.cookie s)) replies.CancelMsg
-NlmStep old ctx (calls.UnlockMsg a) = Posts (UnlockEnds old ctx a) ctx.host (λ s. callbacks.UnlockRes (result_with a.cookie s)) replies.UnlockMsg
+NlmStep old ctx (calls.TestMsg a) = Posts (TestEnds old ctx a) ctx.host
+    (λ s. callbacks.TestRes (record { cookie = a.cookie; status = s })) replies.TestMsg
+NlmStep old ctx (calls.LockMsg a) = Posts (LockEnds old ctx a true) ctx.host
+    (λ s. callbacks.LockRes (result_with a.cookie s)) replies.LockMsg
+NlmStep old ctx (calls.CancelMsg a) = Posts (CancelEnds old ctx a) ctx.host
+    (λ s. callbacks.CancelRes (result_with a.cookie s)) replies.CancelMsg
+NlmStep old ctx (calls.UnlockMsg a) = Posts (UnlockEnds old ctx a) ctx.host
+    (λ s. callbacks.UnlockRes (result_with a.cookie s)) replies.UnlockMsg
 -- GRANTED_MSG, procedure 10: the same
-NlmStep old ctx (calls.GrantedMsg a) = Posts (Answers status.Denied old) ctx.host (λ s. callbacks.GrantedRes (result_with a.cookie s)) replies.GrantedMsg
+NlmStep old ctx (calls.GrantedMsg a) = Posts (Answers status.Denied old) ctx.host
+    (λ s. callbacks.GrantedRes (result_with a.cookie s)) replies.GrantedMsg
 -- TEST_RES, procedure 11, to UNLOCK_RES, procedure 14: answers to what this server never asks
 NlmStep old ctx (calls.TestRes r) = Answers replies.TestRes old
 NlmStep old ctx (calls.LockRes r) = Answers replies.LockRes old
 NlmStep old ctx (calls.CancelRes r) = Answers replies.CancelRes old
 NlmStep old ctx (calls.UnlockRes r) = Answers replies.UnlockRes old
 -- GRANTED_RES, procedure 15
-NlmStep old ctx (calls.GrantedRes r) = λ reply messages new. let goes = is_answered ctx.host r.cookie in (reply ≡ replies.GrantedRes) × GrantEnds old (find goes old.granted) goes r.status messages new
--- SHARE, procedure 20: a share that conflicts is denied, and any other takes the place of the sharer's own of the file; access that
--- DenyWrite denies is access to write
-NlmStep old ctx (calls.Share a) = Replies (Checked (λ fault. fault.0) old (file_checked old ctx a.share.file true (denies mode.DenyWrite a.share.access)) (λ file.
+NlmStep old ctx (calls.GrantedRes r) = λ reply messages new. let goes = is_answered ctx.host r.cookie in
+    (reply ≡ replies.GrantedRes) × GrantEnds old (find goes old.granted) goes r.status messages new
+-- SHARE, procedure 20: a share that conflicts is denied, and any other takes the place of the sharer's own of the
+-- file; access that DenyWrite denies is access to write
+NlmStep old ctx (calls.Share a) = Replies
+    (Checked (λ fault. fault.0) old (file_checked old ctx a.share.file true (denies mode.DenyWrite a.share.access))
+    (λ file.
     let share = share_of file a.share in let conflicts = list_any (shares_conflict share) old.shares in
-    Answers (if conflicts then status.Denied else status.Granted) (if conflicts then old else record old { shares = without (same_sharer share) old.shares ++ share ∷ [] })))
+    Answers (if conflicts then status.Denied else status.Granted)
+    (if conflicts then old else record old { shares = without (same_sharer share) old.shares ++ share ∷ [] })))
     (λ s. replies.Share (result_with a.cookie s))
 -- UNSHARE, procedure 21: the sharer has no share of the file any more
-NlmStep old ctx (calls.Unshare a) = Replies (Checked (λ fault. fault.0) old (file_checked old ctx a.share.file true false) (λ file.
-    Answers status.Granted (record old { shares = without (same_sharer (share_of file a.share)) old.shares }))) (λ s. replies.Unshare (result_with a.cookie s))
+NlmStep old ctx (calls.Unshare a) = Replies
+    (Checked (λ fault. fault.0) old (file_checked old ctx a.share.file true false) (λ file.
+    Answers status.Granted (record old { shares = without (same_sharer (share_of file a.share)) old.shares })))
+    (λ s. replies.Unshare (result_with a.cookie s))
 -- NM_LOCK, procedure 22
 NlmStep old ctx (calls.NmLock a) = Replies (LockEnds old ctx a false) (λ s. replies.NmLock (result_with a.cookie s))
 -- FREE_ALL, procedure 23

@@ -1,5 +1,6 @@
 -- The state that a server starts with: a root for each export and nothing else.
-use Rattle.std.specs.Prelude.{ℕ, ◌+◌, false, ◌&&◌, List, [], ◌∷◌, length, None, nat_le, if◌then◌else◌}
+use Rattle.std.specs.Prelude.{ℕ, ◌+◌, false, ◌&&◌, List, [], ◌∷◌, length, None, nat_le}
+use Rattle.std.specs.Prelude.{if◌then◌else◌}
 use Rattle.std.specs.Ordering.{nat_cmp}
 use Rattle.std.specs.FinMap.{FinMap, empty, insert}
 use Rattle.nfs_wire.specs.declared.attributes.Time.{Time}
@@ -11,12 +12,24 @@ use Rattle.nfs_machine.specs.declared.moment.Moment.{Moment}
 -- mode 0777; "." and ".." have the cookies 1 and 2
 abbrev pub opening_root : ℕ → Time → Living
 opening_root number time =
-    record { export = number; generation = 1; content = Directory [] 2; mode = 511; uid = 0; gid = 0; accessed = time; modified = time; changed = time; verifier = None }
+    record {
+      export = number;
+      generation = 1;
+      content = Directory [] 2;
+      mode = 511;
+      uid = 0;
+      gid = 0;
+      accessed = time;
+      modified = time;
+      changed = time;
+      verifier = None;
+    }
 
 -- the roots of these exports, the first of which has this number
 abbrev pub opening_roots : ℕ → List ExportValue → Time → FinMap nat_cmp Living
 opening_roots number [] time = empty
-opening_roots number (e ∷ exports) time = insert (opening_roots (number + 1) exports time) number (opening_root number time)
+opening_roots number (e ∷ exports) time = insert (opening_roots (number + 1) exports time) number
+    (opening_root number time)
 
 -- generation 0 is never given; the roots have generation 1
 abbrev pub opening : List ExportValue → Moment → State

@@ -23,7 +23,8 @@ use Rattle.nfs_machine.specs.WellFormed.{IsParent}
 use Rattle.nfs_machine.specs.declared.context.Ctx.{Ctx}
 
 -- the entries that are left of a directory with this parent
-abbrev pub entries_left : State → Ctx → (directory : List ℕ) → (cookie : ℕ) → Verifier → (parent : ℕ) → Result (List Entry) NfsStatus
+abbrev pub entries_left : State → Ctx → (directory : List ℕ) → (cookie : ℕ) → Verifier →
+    (parent : ℕ) → Result (List Entry) NfsStatus
 entries_left m ctx directory cookie verifier parent = do
   d ← object_of (resolve m ctx directory)
   entries ← entries_in d.1.content
@@ -34,16 +35,22 @@ entries_left m ctx directory cookie verifier parent = do
 
 -- where the handle names a directory, it is named in this one
 abbrev pub IsParentOf : State → Ctx → (directory : List ℕ) → (parent : ℕ) → Type 0
-IsParentOf m ctx directory parent = (number : ℕ) (d : Living) → resolve m ctx directory ≡ Names number d → is_directory d.content ≡ true → IsParent m number parent
+IsParentOf m ctx directory parent = (number : ℕ) (d : Living) → resolve m ctx directory ≡ Names number d →
+    is_directory d.content ≡ true → IsParent m number parent
 
 -- a call that is answered by a page of a directory: the entries behind a cookie, as many as fit
-pub record PageStep (old : State) (ctx : Ctx) (directory : List ℕ) (cookie : ℕ) (verifier : Verifier) (fit : List Entry → Bool)
-    (reply_of : Option Attributes → Result (List Entry × Bool) NfsStatus → NfsReply) (reply : NfsReply) (messages : List Message) (new : State) : Type 0 where
+pub record PageStep (old : State) (ctx : Ctx) (directory : List ℕ) (cookie : ℕ) (verifier : Verifier)
+    (fit : List Entry → Bool)
+    (reply_of : Option Attributes → Result (List Entry × Bool) NfsStatus → NfsReply) (reply : NfsReply)
+    (messages : List Message) (new : State) : Type 0 where
   pub parent : ℕ
   pub is_parent : IsParentOf old ctx directory parent
   pub page : Result (List Entry × Bool) NfsStatus
   -- of the entries that are left, with its eof
-  pub is_page : elim (entries_left old ctx directory cookie verifier parent) as (λ left. Type 0) [ Ok entries ↦ Pages fit entries page | Err e ↦ page ≡ Err e ]
+  pub is_page : elim (entries_left old ctx directory cookie verifier parent) as (λ left. Type 0) [
+    | Ok entries ↦ Pages fit entries page
+    | Err e ↦ page ≡ Err e
+  ]
   pub answers : Answers (reply_of (shown old (resolve old ctx directory)) page) old reply messages new
 
 -- an entry as READDIR lists it, 3.3.16
@@ -52,4 +59,8 @@ page_entry e = record { fileid = e.number; name = e.name; cookie = e.cookie }
 
 -- an entry as READDIRPLUS lists it, 3.3.17: with attributes and handle of what each name leads to
 abbrev pub full_entry : State → Ctx → Entry → FullEntry
-full_entry m ctx e = record { entry = page_entry e; attributes = attributes_at m e.number; object = option_map (handle_at ctx e.number) (get m.objects e.number) }
+full_entry m ctx e = record {
+  entry = page_entry e;
+  attributes = attributes_at m e.number;
+  object = option_map (handle_at ctx e.number) (get m.objects e.number);
+}

@@ -1,5 +1,6 @@
 -- A directory read page by page, each page behind the last entry of the one before (RFC 1813, 3.3.16 and 3.3.17).
-use Rattle.std.specs.Prelude.{◌≡◌, ℕ, ◌+◌, ◌<◌, ◌≤◌, Bool, true, false, List, [], ◌∷◌, ◌++◌, length, map, Result, Ok, IfOk, count_by, ◌==◌}
+use Rattle.std.specs.Prelude.{◌≡◌, ℕ, ◌+◌, ◌<◌, ◌≤◌, Bool, true, false, List, [], ◌∷◌}
+use Rattle.std.specs.Prelude.{◌++◌, length, map, Result, Ok, IfOk, count_by, ◌==◌}
 use Rattle.std.specs.List.{AllByRecursion, Contains}
 use Rattle.nfs_wire.specs.Replies.{result_bytes}
 use Rattle.nfs_wire.specs.declared.calls.NfsCall.TheVariants as calls
@@ -37,7 +38,8 @@ IsVisit cookie v = Pages v.fit (behind cookie v.entries) (Ok (v.page, v.eof))
 abbrev pub ReadsOn : ℕ → List Visit → Type 0
 ReadsOn cookie [] = ⊥
 ReadsOn cookie (v ∷ []) = IsVisit cookie v × (v.eof ≡ true)
-ReadsOn cookie (v ∷ w ∷ visits) = IsVisit cookie v × (v.eof ≡ false) × ReadsOn (last_cookie cookie v.page) (w ∷ visits)
+ReadsOn cookie (v ∷ w ∷ visits) = IsVisit cookie v × (v.eof ≡ false) ×
+    ReadsOn (last_cookie cookie v.page) (w ∷ visits)
 
 -- all entries that the pages show
 abbrev pub shown_by : List Visit → List Entry
@@ -68,22 +70,28 @@ PagesAreWhole = (visits : List Visit) → InOrder visits → ReadsOn 0 visits �
 
 -- of the same entries there is one page, or there is none
 abbrev pub PagesAreOne : Type 0
-PagesAreOne = (fit : List Entry → Bool) (entries : List Entry) (one other : Result (List Entry × Bool) NfsStatus) → Pages fit entries one → Pages fit entries other → one ≡ other
+PagesAreOne = (fit : List Entry → Bool) (entries : List Entry) (one other : Result (List Entry × Bool) NfsStatus) →
+    Pages fit entries one → Pages fit entries other → one ≡ other
 
 abbrev pub PagesExist : Type 0
-PagesExist = (fit : List Entry → Bool) (entries : List Entry) → (page : Result (List Entry × Bool) NfsStatus) × Pages fit entries page
+PagesExist = (fit : List Entry → Bool) (entries : List Entry) → (page : Result (List Entry × Bool) NfsStatus) ×
+    Pages fit entries page
 
 -- a page is no longer than the caller asks; its count leaves out the status
 abbrev pub PagesFit : Type 0
 PagesFit = (old : State) (ctx : Ctx) (a : ReaddirArguments) (r : ReaddirReply) (messages : List Message) (new : State)
-    → NfsStep old ctx (calls.Readdir a) (replies.Readdir r) messages new → IfOk r.result (λ page. length (result_bytes (replies.Readdir r)) ≤ 4 + a.count)
+    → NfsStep old ctx (calls.Readdir a) (replies.Readdir r) messages new →
+    IfOk r.result (λ page. length (result_bytes (replies.Readdir r)) ≤ 4 + a.count)
 
 abbrev pub FullPagesFit : Type 0
-FullPagesFit = (old : State) (ctx : Ctx) (a : ReaddirplusArguments) (r : ReaddirplusReply) (messages : List Message) (new : State)
-    → NfsStep old ctx (calls.Readdirplus a) (replies.Readdirplus r) messages new → IfOk r.result (λ page. length (result_bytes (replies.Readdirplus r)) ≤ 4 + a.most)
+FullPagesFit = (old : State) (ctx : Ctx) (a : ReaddirplusArguments) (r : ReaddirplusReply) (messages : List Message)
+    (new : State)
+    → NfsStep old ctx (calls.Readdirplus a) (replies.Readdirplus r) messages new →
+    IfOk r.result (λ page. length (result_bytes (replies.Readdirplus r)) ≤ 4 + a.most)
 
 -- the page is one of the directory that a handle names, whose entries stand in order
-pub record Lists (m : State) (ctx : Ctx) (directory : List ℕ) (cookie : ℕ) (fit : List Entry → Bool) (page : List Entry × Bool) : Type 0 where
+pub record Lists (m : State) (ctx : Ctx) (directory : List ℕ) (cookie : ℕ) (fit : List Entry → Bool)
+    (page : List Entry × Bool) : Type 0 where
   pub number : ℕ
   pub object : Living
   pub is_named : resolve m ctx directory ≡ Names number object
@@ -92,16 +100,23 @@ pub record Lists (m : State) (ctx : Ctx) (directory : List ℕ) (cookie : ℕ) (
   pub is_directory : object.content ≡ Directory entries last
   pub parent : ℕ
   pub is_parent : IsParent m number parent
-  pub visit : IsVisit cookie (record { entries = all_entries number parent entries; fit = fit; page = page.0; eof = page.1 })
+  pub visit : IsVisit cookie
+      (record { entries = all_entries number parent entries; fit = fit; page = page.0; eof = page.1 })
   pub in_order : Rises 0 (all_entries number parent entries)
 
 -- what READDIR and READDIRPLUS answer in a state that a run comes to
 abbrev pub PagesList : Type 0
-PagesList = (old : State) (ctx : Ctx) (a : ReaddirArguments) (r : ReaddirReply) (messages : List Message) (new : State) → WellFormed old
+PagesList = (old : State) (ctx : Ctx) (a : ReaddirArguments) (r : ReaddirReply) (messages : List Message)
+    (new : State) → WellFormed old
     → NfsStep old ctx (calls.Readdir a) (replies.Readdir r) messages new
-    → IfOk r.result (λ shown. (page : List Entry × Bool) × Lists old ctx a.directory a.cookie (fits a.count) page × (shown.entries ≡ map page_entry page.0) × (shown.eof ≡ page.1))
+    → IfOk r.result (λ shown. (page : List Entry × Bool) ×
+    Lists old ctx a.directory a.cookie (fits a.count) page × (shown.entries ≡ map page_entry page.0) ×
+    (shown.eof ≡ page.1))
 
 abbrev pub FullPagesList : Type 0
-FullPagesList = (old : State) (ctx : Ctx) (a : ReaddirplusArguments) (r : ReaddirplusReply) (messages : List Message) (new : State) → WellFormed old
+FullPagesList = (old : State) (ctx : Ctx) (a : ReaddirplusArguments) (r : ReaddirplusReply) (messages : List Message)
+    (new : State) → WellFormed old
     → NfsStep old ctx (calls.Readdirplus a) (replies.Readdirplus r) messages new
-    → IfOk r.result (λ shown. (page : List Entry × Bool) × Lists old ctx a.directory a.cookie (fits_full a.directory_count a.most) page × (shown.entries ≡ map (full_entry old ctx) page.0) × (shown.eof ≡ page.1))
+    → IfOk r.result (λ shown. (page : List Entry × Bool) ×
+    Lists old ctx a.directory a.cookie (fits_full a.directory_count a.most) page ×
+    (shown.entries ≡ map (full_entry old ctx) page.0) × (shown.eof ≡ page.1))

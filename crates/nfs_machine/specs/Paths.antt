@@ -1,5 +1,6 @@
 -- Paths of exports and of MNT (RFC 1813, 5.2.1): parts between slashes.
-use Rattle.std.specs.Prelude.{ℕ, Bool, false, not, ◌||◌, List, [], ◌∷◌, length, filter, if◌then◌else◌, ◌==◌}
+use Rattle.std.specs.Prelude.{ℕ, Bool, false, not, ◌||◌, List, [], ◌∷◌, length, filter}
+use Rattle.std.specs.Prelude.{if◌then◌else◌, ◌==◌}
 use Rattle.nfs_machine.specs.Bytes.{same_bytes}
 
 abbrev pub slash : ℕ

@@ -22,7 +22,8 @@ is_member ids gid = (ids.gid == gid) || list_any (λ g. g == gid) ids.gids
 
 -- the three bits of the caller's class: owner, else group, else other
 abbrev pub class_bits : Ids → Living → ℕ
-class_bits ids o = if ids.uid == o.uid then o.mode / 64 % 8 else (if is_member ids o.gid then o.mode / 8 % 8 else o.mode % 8)
+class_bits ids o = if ids.uid == o.uid then o.mode / 64 % 8 else
+    (if is_member ids o.gid then o.mode / 8 % 8 else o.mode % 8)
 
 abbrev pub reads : ℕ → Bool
 reads bits = bits / 4 % 2 == 1
@@ -37,4 +38,10 @@ runs bits = bits % 2 == 1
 abbrev pub may : Ids → Living → Right → Bool
 may ids o right =
     let bits = class_bits ids o in let owner = ids.uid == o.uid in
-    (ids.uid == 0) || elim right [ Reading ↦ owner || reads bits || runs bits | Writing ↦ owner || writes bits | Searching ↦ runs bits | Listing ↦ reads bits | Changing ↦ writes bits && runs bits ]
+    (ids.uid == 0) || elim right [
+      | Reading ↦ owner || reads bits || runs bits
+      | Writing ↦ owner || writes bits
+      | Searching ↦ runs bits
+      | Listing ↦ reads bits
+      | Changing ↦ writes bits && runs bits
+    ]

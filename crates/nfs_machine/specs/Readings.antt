@@ -1,5 +1,6 @@
 -- A directory read page by page in a run, with any other records between (RFC 1813, 3.3.16 and 3.3.17).
-use Rattle.std.specs.Prelude.{◌≡◌, ℕ, Bool, true, false, List, [], ◌∷◌, ◌++◌, map, Option, Some, None, option_map, Result, Ok, Err, count_by, codes, ◌==◌}
+use Rattle.std.specs.Prelude.{◌≡◌, ℕ, Bool, true, false, List, [], ◌∷◌, ◌++◌, map, Option, Some}
+use Rattle.std.specs.Prelude.{None, option_map, Result, Ok, Err, count_by, codes, ◌==◌}
 use Rattle.std.specs.FinMap.{get}
 use Rattle.std.specs.List.{Contains}
 use Rattle.nfs_wire.specs.declared.calls.NfsCall.{NfsCall}
@@ -57,8 +58,10 @@ pub record Turn : Type 0 where
   pub page : List Entry
   pub eof : Bool
 
--- From a state, the records before it lead to the state in which its call is executed. It leaves that as it is and puts no message.
-pub record IsTurn (setting : Setting) (old : State) (directory : List ℕ) (cookie : ℕ) (t : Turn) (mid : State) : Type 0 where
+-- From a state, the records before it lead to the state in which its call is executed. It leaves that as it is and
+-- puts no message.
+pub record IsTurn (setting : Setting) (old : State) (directory : List ℕ) (cookie : ℕ) (t : Turn)
+    (mid : State) : Type 0 where
   pub run : Run setting old t.between mid
   pub step : NfsStep mid t.ctx t.call t.reply [] mid
   pub from : lists_from t.call ≡ Some (directory, cookie)
@@ -67,9 +70,11 @@ pub record IsTurn (setting : Setting) (old : State) (directory : List ℕ) (cook
 -- pages from a cookie on, each from the last cookie of the one before, up to the one that says that the directory ends
 abbrev pub Reading : Setting → State → List ℕ → ℕ → List Turn → Type 0
 Reading setting old directory cookie [] = ⊥
-Reading setting old directory cookie (t ∷ []) = (mid : State) × IsTurn setting old directory cookie t mid × (t.eof ≡ true)
+Reading setting old directory cookie (t ∷ []) = (mid : State) × IsTurn setting old directory cookie t mid ×
+    (t.eof ≡ true)
 Reading setting old directory cookie (t ∷ u ∷ turns) =
-    (mid : State) × IsTurn setting old directory cookie t mid × (t.eof ≡ false) × Reading setting mid directory (last_cookie cookie t.page) (u ∷ turns)
+    (mid : State) × IsTurn setting old directory cookie t mid × (t.eof ≡ false) ×
+    Reading setting mid directory (last_cookie cookie t.page) (u ∷ turns)
 
 abbrev pub all_shown : List Turn → List Entry
 all_shown [] = []
@@ -78,31 +83,43 @@ all_shown (t ∷ turns) = t.page ++ all_shown turns
 -- the directory that a handle names has the entry, or it is "." or ".."
 abbrev pub Has : State → Ctx → List ℕ → Entry → Type 0
 Has m ctx directory e =
-    (number : ℕ) (object : Living) (entries : List Entry) (last parent : ℕ) → resolve m ctx directory ≡ Names number object → object.content ≡ Directory entries last → IsParent m number parent
+    (number : ℕ) (object : Living) (entries : List Entry) (last parent : ℕ) →
+    resolve m ctx directory ≡ Names number object → object.content ≡ Directory entries last →
+    IsParent m number parent
     → Contains (all_entries number parent entries) e
 
 -- it has it at each page
-abbrev pub StaysThrough : (setting : Setting) (old : State) (directory : List ℕ) (cookie : ℕ) (turns : List Turn) → Reading setting old directory cookie turns → Entry → Type 0
+abbrev pub StaysThrough : (setting : Setting) (old : State) (directory : List ℕ) (cookie : ℕ)
+    (turns : List Turn) → Reading setting old directory cookie turns → Entry → Type 0
 StaysThrough setting old directory cookie [] reading e = ⊥
 StaysThrough setting old directory cookie (t ∷ []) reading e = Has reading.0 t.ctx directory e
 StaysThrough setting old directory cookie (t ∷ u ∷ turns) reading e =
-    Has reading.0 t.ctx directory e × StaysThrough setting reading.0 directory (last_cookie cookie t.page) (u ∷ turns) reading.3 e
+    Has reading.0 t.ctx directory e ×
+    StaysThrough setting reading.0 directory (last_cookie cookie t.page) (u ∷ turns) reading.3 e
 
 -- the object that a name of a directory leads to
 abbrev pub named_in : State → (directory : ℕ) → (name : List ℕ) → Option ℕ
-named_in m directory name = elim (get m.objects directory) [ None ↦ None | Some o ↦ option_map (λ (e : Entry). e.number) (entry_of (entries_of o.content) name) ]
+named_in m directory name = elim (get m.objects directory) [
+  | None ↦ None
+  | Some o ↦ option_map (λ (e : Entry). e.number) (entry_of (entries_of o.content) name)
+]
 
 -- in each state of a run, the first and the last among them
-abbrev pub Throughout : (State → Type 0) → (setting : Setting) (old : State) (records : List Record) (new : State) → Run setting old records new → Type 0
+abbrev pub Throughout : (State → Type 0) →
+    (setting : Setting) (old : State) (records : List Record) (new : State) → Run setting old records new → Type 0
 Throughout P setting old [] new run = P old
 Throughout P setting old (r ∷ records) new run = P old × Throughout P setting run.0 records new run.2
 
 -- in each state from the one in which a reading begins to that of its last page
-abbrev pub ThroughReading : (State → Type 0) → (setting : Setting) (old : State) (directory : List ℕ) (cookie : ℕ) (turns : List Turn) → Reading setting old directory cookie turns → Type 0
+abbrev pub ThroughReading : (State → Type 0) →
+    (setting : Setting) (old : State) (directory : List ℕ) (cookie : ℕ) (turns : List Turn) →
+    Reading setting old directory cookie turns → Type 0
 ThroughReading P setting old directory cookie [] reading = ⊥
-ThroughReading P setting old directory cookie (t ∷ []) reading = Throughout P setting old t.between reading.0 reading.1.run
+ThroughReading P setting old directory cookie
+    (t ∷ []) reading = Throughout P setting old t.between reading.0 reading.1.run
 ThroughReading P setting old directory cookie (t ∷ u ∷ turns) reading =
-    Throughout P setting old t.between reading.0 reading.1.run × ThroughReading P setting reading.0 directory (last_cookie cookie t.page) (u ∷ turns) reading.3
+    Throughout P setting old t.between reading.0 reading.1.run ×
+    ThroughReading P setting reading.0 directory (last_cookie cookie t.page) (u ∷ turns) reading.3
 
 -- the name is shown once, as that of this object
 pub record ShowsName (shown : List Entry) (name : List ℕ) (target : ℕ) : Type 0 where
@@ -112,15 +129,20 @@ pub record ShowsName (shown : List Entry) (name : List ℕ) (target : ℕ) : Typ
   pub leads : entry.number ≡ target
   pub once : count_by (λ (x : Entry). same_bytes x.name name) shown ≡ 1
 
-pub record ShowsWhole (setting : Setting) (old : State) (directory : List ℕ) (turns : List Turn) (reading : Reading setting old directory 0 turns) : Type 0 where
+pub record ShowsWhole (setting : Setting) (old : State) (directory : List ℕ) (turns : List Turn)
+    (reading : Reading setting old directory 0 turns) : Type 0 where
   pub rises : Rises 0 (all_shown turns)
   pub shows : (e : Entry) → StaysThrough setting old directory 0 turns reading e → Contains (all_shown turns) e
-  pub once : (e : Entry) → StaysThrough setting old directory 0 turns reading e → count_by (λ (x : Entry). x.cookie == e.cookie) (all_shown turns) ≡ 1
+  pub once : (e : Entry) → StaysThrough setting old directory 0 turns reading e →
+      count_by (λ (x : Entry). x.cookie == e.cookie) (all_shown turns) ≡ 1
   -- a name that leads to one object all the time, whatever its cookies; "." and ".." are above
-  pub names : (h : Handle) (name : List ℕ) (target : ℕ) → handle_of directory ≡ Some h → same_bytes (codes ".") name ≡ false → same_bytes (codes "..") name ≡ false
-      → ThroughReading (λ m. named_in m h.fileid name ≡ Some target) setting old directory 0 turns reading → ShowsName (all_shown turns) name target
+  pub names : (h : Handle) (name : List ℕ) (target : ℕ) → handle_of directory ≡ Some h →
+      same_bytes (codes ".") name ≡ false → same_bytes (codes "..") name ≡ false
+      → ThroughReading (λ m. named_in m h.fileid name ≡ Some target) setting old directory 0 turns reading →
+      ShowsName (all_shown turns) name target
 
--- A directory that is read in pages from cookie 0 to its end, from a well-formed state on, shows no cookie twice, and each entry
--- and each name that stayed once.
+-- A directory that is read in pages from cookie 0 to its end, from a well-formed state on, shows no cookie twice, and
+-- each entry and each name that stayed once.
 abbrev pub ReadingsAreWhole : Type 0
-ReadingsAreWhole = (setting : Setting) (old : State) (directory : List ℕ) (turns : List Turn) → WellFormed old → (reading : Reading setting old directory 0 turns) → ShowsWhole setting old directory turns reading
+ReadingsAreWhole = (setting : Setting) (old : State) (directory : List ℕ) (turns : List Turn) → WellFormed old →
+    (reading : Reading setting old directory 0 turns) → ShowsWhole setting old directory turns reading

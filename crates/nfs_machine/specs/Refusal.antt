@@ -1,5 +1,5 @@
--- What a call is answered that cannot be executed for want of memory; it changes nothing (RFC 1813, 2.6: NFS3ERR_JUKEBOX;
--- 5.1.5: MNT3ERR_SERVERFAULT; 6.1.4: NLM4_DENIED_NOLOCKS; RFC 5531, 9: SYSTEM_ERR).
+-- What a call is answered that cannot be executed for want of memory; it changes nothing (RFC 1813, 2.6:
+-- NFS3ERR_JUKEBOX; 5.1.5: MNT3ERR_SERVERFAULT; 6.1.4: NLM4_DENIED_NOLOCKS; RFC 5531, 9: SYSTEM_ERR).
 use Rattle.std.specs.Prelude.{ℕ, List, Err, Option, Some, None}
 use Rattle.nfs_wire.specs.declared.attributes.Wcc.{Wcc}
 use Rattle.nfs_wire.specs.declared.calls.NfsCall.{NfsCall}
@@ -31,24 +31,35 @@ abbrev pub nfs_refusal : NfsCall → Option NfsReply
 nfs_refusal nfs.Null = None
 nfs_refusal (nfs.Getattr object) = Some (nfs_replies.Getattr (Err nfs_status.Jukebox))
 nfs_refusal (nfs.Setattr a) = Some (nfs_replies.Setattr (record { wcc = nothing; result = Err nfs_status.Jukebox }))
-nfs_refusal (nfs.Lookup place) = Some (nfs_replies.Lookup (record { directory = None; result = Err nfs_status.Jukebox }))
+nfs_refusal (nfs.Lookup place) = Some
+    (nfs_replies.Lookup (record { directory = None; result = Err nfs_status.Jukebox }))
 nfs_refusal (nfs.Access a) = Some (nfs_replies.Access (record { attributes = None; result = Err nfs_status.Jukebox }))
-nfs_refusal (nfs.Readlink object) = Some (nfs_replies.Readlink (record { attributes = None; result = Err nfs_status.Jukebox }))
+nfs_refusal (nfs.Readlink object) = Some
+    (nfs_replies.Readlink (record { attributes = None; result = Err nfs_status.Jukebox }))
 nfs_refusal (nfs.Read a) = Some (nfs_replies.Read (record { attributes = None; result = Err nfs_status.Jukebox }))
 nfs_refusal (nfs.Write a) = Some (nfs_replies.Write (record { wcc = nothing; result = Err nfs_status.Jukebox }))
 nfs_refusal (nfs.Create a) = Some (nfs_replies.Create (record { directory = nothing; result = Err nfs_status.Jukebox }))
 nfs_refusal (nfs.Mkdir a) = Some (nfs_replies.Mkdir (record { directory = nothing; result = Err nfs_status.Jukebox }))
-nfs_refusal (nfs.Symlink a) = Some (nfs_replies.Symlink (record { directory = nothing; result = Err nfs_status.Jukebox }))
+nfs_refusal (nfs.Symlink a) = Some
+    (nfs_replies.Symlink (record { directory = nothing; result = Err nfs_status.Jukebox }))
 nfs_refusal (nfs.Mknod a) = Some (nfs_replies.Mknod (record { directory = nothing; result = Err nfs_status.Jukebox }))
-nfs_refusal (nfs.Remove place) = Some (nfs_replies.Remove (record { directory = nothing; result = Err nfs_status.Jukebox }))
-nfs_refusal (nfs.Rmdir place) = Some (nfs_replies.Rmdir (record { directory = nothing; result = Err nfs_status.Jukebox }))
-nfs_refusal (nfs.Rename a) = Some (nfs_replies.Rename (record { from = nothing; to = nothing; result = Err nfs_status.Jukebox }))
-nfs_refusal (nfs.Link a) = Some (nfs_replies.Link (record { attributes = None; directory = nothing; result = Err nfs_status.Jukebox }))
+nfs_refusal (nfs.Remove place) = Some
+    (nfs_replies.Remove (record { directory = nothing; result = Err nfs_status.Jukebox }))
+nfs_refusal (nfs.Rmdir place) = Some
+    (nfs_replies.Rmdir (record { directory = nothing; result = Err nfs_status.Jukebox }))
+nfs_refusal (nfs.Rename a) = Some
+    (nfs_replies.Rename (record { from = nothing; to = nothing; result = Err nfs_status.Jukebox }))
+nfs_refusal (nfs.Link a) = Some
+    (nfs_replies.Link (record { attributes = None; directory = nothing; result = Err nfs_status.Jukebox }))
 nfs_refusal (nfs.Readdir a) = Some (nfs_replies.Readdir (record { attributes = None; result = Err nfs_status.Jukebox }))
-nfs_refusal (nfs.Readdirplus a) = Some (nfs_replies.Readdirplus (record { attributes = None; result = Err nfs_status.Jukebox }))
-nfs_refusal (nfs.Fsstat object) = Some (nfs_replies.Fsstat (record { attributes = None; result = Err nfs_status.Jukebox }))
-nfs_refusal (nfs.Fsinfo object) = Some (nfs_replies.Fsinfo (record { attributes = None; result = Err nfs_status.Jukebox }))
-nfs_refusal (nfs.Pathconf object) = Some (nfs_replies.Pathconf (record { attributes = None; result = Err nfs_status.Jukebox }))
+nfs_refusal (nfs.Readdirplus a) = Some
+    (nfs_replies.Readdirplus (record { attributes = None; result = Err nfs_status.Jukebox }))
+nfs_refusal (nfs.Fsstat object) = Some
+    (nfs_replies.Fsstat (record { attributes = None; result = Err nfs_status.Jukebox }))
+nfs_refusal (nfs.Fsinfo object) = Some
+    (nfs_replies.Fsinfo (record { attributes = None; result = Err nfs_status.Jukebox }))
+nfs_refusal (nfs.Pathconf object) = Some
+    (nfs_replies.Pathconf (record { attributes = None; result = Err nfs_status.Jukebox }))
 nfs_refusal (nfs.Commit a) = Some (nfs_replies.Commit (record { wcc = nothing; result = Err nfs_status.Jukebox }))
 
 -- NLM4_DENIED_NOLOCKS (RFC 1813, 6.1.4), with the call's cookie
@@ -68,7 +79,14 @@ nlm_refusal call = None
 
 -- by a status, where the procedure has one
 unfoldable pub refusal_of : Call → Refusal
-refusal_of (calls.Nfs call) = elim (nfs_refusal call) [ None ↦ refusals.SystemError | Some r ↦ refusals.Reply (replies.Nfs r) ]
-refusal_of (calls.Mount (mount.Mnt path)) = refusals.Reply (replies.Mount (mount_replies.Mnt (Err mount_status.ServerFault)))
+refusal_of (calls.Nfs call) = elim (nfs_refusal call) [
+  | None ↦ refusals.SystemError
+  | Some r ↦ refusals.Reply (replies.Nfs r)
+]
+refusal_of (calls.Mount (mount.Mnt path)) = refusals.Reply
+    (replies.Mount (mount_replies.Mnt (Err mount_status.ServerFault)))
 refusal_of (calls.Mount call) = refusals.SystemError
-refusal_of (calls.Nlm call) = elim (nlm_refusal call) [ None ↦ refusals.SystemError | Some r ↦ refusals.Reply (replies.Nlm r) ]
+refusal_of (calls.Nlm call) = elim (nlm_refusal call) [
+  | None ↦ refusals.SystemError
+  | Some r ↦ refusals.Reply (replies.Nlm r)
+]

@@ -1,5 +1,6 @@
 -- The steps of REMOVE and RMDIR (RFC 1813, 3.3.12 and 3.3.13), and what becomes of an object that loses a name.
-use Rattle.std.specs.Prelude.{ℕ, not, List, length, Result, Ok, ok_or, filter, nat_le, if◌then◌else◌, ◌==◌, Option, None, Some, option_map}
+use Rattle.std.specs.Prelude.{ℕ, not, List, length, Result, Ok, ok_or, filter, nat_le, if◌then◌else◌}
+use Rattle.std.specs.Prelude.{◌==◌, Option, None, Some, option_map}
 use Rattle.std.specs.FinMap.{get, remove}
 use Rattle.nfs_wire.specs.declared.attributes.Time.{Time}
 use Rattle.nfs_wire.specs.declared.calls.Place.{Place}
@@ -11,7 +12,8 @@ use Rattle.side_wire.specs.declared.message.Message.{Message}
 use Rattle.nfs_machine.specs.Answers.{Ends}
 use Rattle.nfs_machine.specs.Attributes.{is_directory, names_of}
 use Rattle.nfs_machine.specs.Bytes.{same_bytes}
-use Rattle.nfs_machine.specs.Checks.{◌>>=◌, holding, object_of, entries_in, changeable, permitted, entry_of, name_checked}
+use Rattle.nfs_machine.specs.Checks.{◌>>=◌, holding, object_of, entries_in, changeable, permitted, entry_of}
+use Rattle.nfs_machine.specs.Checks.{name_checked}
 use Rattle.nfs_machine.specs.Permission.{Changing}
 use Rattle.nfs_machine.specs.Resolve.{resolve}
 use Rattle.nfs_machine.specs.Shown.{wcc, touched, with_content, with_object}
@@ -21,7 +23,10 @@ use Rattle.nfs_machine.specs.declared.context.Ctx.{Ctx}
 
 -- the object that an entry leads to, with its number
 abbrev pub object_under : State → Option Entry → Option (ℕ × Living)
-object_under m entry = elim entry [ None ↦ None | Some e ↦ option_map (λ o. (e.number, o)) (get m.objects e.number) ]
+object_under m entry = elim entry [
+  | None ↦ None
+  | Some e ↦ option_map (λ o. (e.number, o)) (get m.objects e.number)
+]
 
 -- the entries without a name
 abbrev pub without : List Entry → List ℕ → List Entry
@@ -39,12 +44,17 @@ without_object m number = record m {
 
 -- an object of so many names loses one: it goes with its last, and else its ctime changes
 abbrev pub losing_name : State → (names : ℕ) → Time → ℕ → Living → State
-losing_name m names now number o = if nat_le names 1 then without_object m number else with_object m number (touched o now)
+losing_name m names now number o = if nat_le names 1 then without_object m number else with_object m number
+    (touched o now)
 
--- the step of a call that takes a name away: how the name is judged, and the object that it leads to; its directory is shown before and after
-abbrev pub TakeStep : State → Ctx → Place → (List ℕ → Result (Unit {0}) NfsStatus) → (Content → Result (Unit {0}) NfsStatus) → (RemovedReply → NfsReply) → NfsReply → List Message → State → Type 0
+-- the step of a call that takes a name away: how the name is judged, and the object that it leads to; its directory
+-- is shown before and after
+abbrev pub TakeStep : State → Ctx → Place → (List ℕ → Result (Unit {0}) NfsStatus) →
+    (Content → Result (Unit {0}) NfsStatus) → (RemovedReply → NfsReply) → NfsReply → List Message →
+    State → Type 0
 TakeStep old ctx place name_checked content_checked reply_of =
-    Ends old (λ after result. reply_of (record { directory = wcc after (resolve old ctx place.directory); result = result })) (do
+    Ends old (λ after result. reply_of
+    (record { directory = wcc after (resolve old ctx place.directory); result = result })) (do
       directory ← object_of (resolve old ctx place.directory)
       entries ← entries_in directory.1.content
       _ ← name_checked place.name
@@ -52,7 +62,8 @@ TakeStep old ctx place name_checked content_checked reply_of =
       _ ← permitted ctx directory.1 Changing
       object ← ok_or (object_under old (entry_of entries.0 place.name)) status.NoEntry
       _ ← content_checked object.1.content
-      let left = with_object old directory.0 (with_content directory.1 (time_of ctx.moment) (Directory (without entries.0 place.name) entries.1))
+      let left = with_object old directory.0
+          (with_content directory.1 (time_of ctx.moment) (Directory (without entries.0 place.name) entries.1))
       Ok (tt, losing_name left (names_of old object.0) (time_of ctx.moment) object.0 object.1))
 
 -- REMOVE, 3.3.12: of any object but a directory

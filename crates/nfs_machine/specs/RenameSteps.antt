@@ -1,5 +1,7 @@
 -- What RENAME comes to (RFC 1813, 3.3.14).
-use Rattle.std.specs.Prelude.{◌≡◌, ℕ, ◌+◌, ◌≤◌, ◌^◌, Bool, true, false, not, ◌&&◌, ◌||◌, List, length, Option, Some, None, is_some, Result, Ok, Err, ok_or, nat_lt, if◌then◌else◌, ◌==◌, ◌⊎◌}
+use Rattle.std.specs.Prelude.{◌≡◌, ℕ, ◌+◌, ◌≤◌, ◌^◌, Bool, true, false, not, ◌&&◌}
+use Rattle.std.specs.Prelude.{◌||◌, List, length, Option, Some, None, is_some, Result, Ok, Err, ok_or, nat_lt}
+use Rattle.std.specs.Prelude.{if◌then◌else◌, ◌==◌, ◌⊎◌}
 use Rattle.std.specs.FinMap.{get}
 use Rattle.std.specs.Option.{option_map_or}
 use Rattle.nfs_wire.specs.declared.attributes.Time.{Time}
@@ -7,7 +9,8 @@ use Rattle.nfs_wire.specs.declared.calls.RenameArguments.{RenameArguments}
 use Rattle.nfs_wire.specs.declared.status.NfsStatus.{NfsStatus}
 use Rattle.nfs_wire.specs.declared.status.NfsStatus.TheVariants as status
 use Rattle.nfs_machine.specs.Attributes.{entries_of, is_directory, links_of, names_in, names_of}
-use Rattle.nfs_machine.specs.Checks.{◌>>=◌, holding, object_of, entries_in, entry_of, plain_name_checked, changeable, permitted, link_limit}
+use Rattle.nfs_machine.specs.Checks.{◌>>=◌, holding, object_of, entries_in, entry_of, plain_name_checked}
+use Rattle.nfs_machine.specs.Checks.{changeable, permitted, link_limit}
 use Rattle.nfs_machine.specs.Making.{with_entry}
 use Rattle.nfs_machine.specs.Permission.{Changing}
 use Rattle.nfs_machine.specs.RemoveSteps.{losing_name, object_under, without}
@@ -20,15 +23,18 @@ use Rattle.nfs_machine.specs.declared.context.Ctx.{Ctx}
 -- the lower number is the upper one, or names of directories lead down to it
 pub data IsWithin (m : State) : ℕ → ℕ → Type 0 where
   itself : (number : ℕ) → IsWithin m number number
-  below : (upper middle lower : ℕ) (directory : Living) → IsWithin m upper middle → get m.objects middle ≡ Some directory → 1 ≤ names_in lower directory → IsWithin m upper lower
+  below : (upper middle lower : ℕ) (directory : Living) → IsWithin m upper middle →
+      get m.objects middle ≡ Some directory → 1 ≤ names_in lower directory → IsWithin m upper lower
 
 -- what may be replaced by what moves: both are directories, and the one that goes has no entry, or neither is one
 abbrev pub is_compatible : (moved replaced : Content) → Bool
-is_compatible moved replaced = (is_directory moved && is_directory replaced && (length (entries_of replaced) == 0)) || (not (is_directory moved) && not (is_directory replaced))
+is_compatible moved replaced = (is_directory moved && is_directory replaced && (length (entries_of replaced) == 0)) ||
+    (not (is_directory moved) && not (is_directory replaced))
 
--- The rest of a RENAME of an object that moves, where the name that it is to have leads to another, to itself or to nothing: its
--- end, and where a directory moves, its number and that of the directory that it comes to.
-abbrev pub move_plan : State → Time → RenameArguments → (from to : ℕ × Living) → (from_entries to_entries : List Entry × ℕ) → (moved : ℕ × Living) → (replaced : Option (ℕ × Living))
+-- The rest of a RENAME of an object that moves, where the name that it is to have leads to another, to itself or to
+-- nothing: its end, and where a directory moves, its number and that of the directory that it comes to.
+abbrev pub move_plan : State → Time → RenameArguments → (from to : ℕ × Living) →
+    (from_entries to_entries : List Entry × ℕ) → (moved : ℕ × Living) → (replaced : Option (ℕ × Living))
     → Result (Option (ℕ × ℕ) × Result (Unit {0} × State) NfsStatus) NfsStatus
 move_plan old now a from to from_entries to_entries moved replaced =
     -- where both names lead to one object, nothing moves
@@ -36,13 +42,16 @@ move_plan old now a from to from_entries to_entries moved replaced =
       _ ← holding (option_map_or (λ o. is_compatible moved.1.content o.1.content) replaced true) status.Exists
       let end = do
         -- a directory brings a link to a parent that is new to it, but where it takes the place of another directory
-        _ ← holding (not (is_directory moved.1.content) || (to.0 == from.0) || is_some replaced || nat_lt (links_of old to.0 to.1.content) link_limit) status.TooManyLinks
+        _ ← holding (not (is_directory moved.1.content) || (to.0 == from.0) || is_some replaced || nat_lt
+            (links_of old to.0 to.1.content) link_limit) status.TooManyLinks
         -- the target has a cookie left for the name
         _ ← holding (nat_lt (to_entries.1 + 1) (2 ^ 64)) status.NoSpace
         -- the target's entries that stay: the name was another's, or, in one directory, the old name leaves it
-        let left = if to.0 == from.0 then without (without to_entries.0 a.to.name) a.from.name else without to_entries.0 a.to.name
+        let left = if to.0 == from.0 then without
+            (without to_entries.0 a.to.name) a.from.name else without to_entries.0 a.to.name
         -- both directories after it; one directory changes once
-        let source = with_object old from.0 (with_content from.1 now (Directory (without from_entries.0 a.from.name) from_entries.1))
+        let source = with_object old from.0
+            (with_content from.1 now (Directory (without from_entries.0 a.from.name) from_entries.1))
         let target = with_object source to.0 (with_content to.1 now (with_entry left to_entries.1 a.to.name moved.0))
         let new = with_object target moved.0 (touched moved.1 now)
         -- what had the name loses it
@@ -50,7 +59,8 @@ move_plan old now a from to from_entries to_entries moved replaced =
       Ok (if is_directory moved.1.content then Some (moved.0, to.0) else None, end)
 
 -- its checks in order, up to that the name leads to something
-abbrev pub rename_plan : State → Ctx → RenameArguments → Result (Option (ℕ × ℕ) × Result (Unit {0} × State) NfsStatus) NfsStatus
+abbrev pub rename_plan : State → Ctx → RenameArguments →
+    Result (Option (ℕ × ℕ) × Result (Unit {0} × State) NfsStatus) NfsStatus
 rename_plan old ctx a = do
   from ← object_of (resolve old ctx a.from.directory)
   to ← object_of (resolve old ctx a.to.directory)
@@ -63,10 +73,14 @@ rename_plan old ctx a = do
   _ ← permitted ctx from.1 Changing
   _ ← permitted ctx to.1 Changing
   moved ← ok_or (object_under old (entry_of from_entries.0 a.from.name)) status.NoEntry
-  move_plan old (time_of ctx.moment) a from to from_entries to_entries moved (object_under old (entry_of to_entries.0 a.to.name))
+  move_plan old (time_of ctx.moment) a from to from_entries to_entries moved
+      (object_under old (entry_of to_entries.0 a.to.name))
 
 -- what a RENAME with this rest comes to: a directory never goes into itself, or below
-abbrev pub RenameEnds : State → Result (Option (ℕ × ℕ) × Result (Unit {0} × State) NfsStatus) NfsStatus → Result (Unit {0} × State) NfsStatus → Type 0
+abbrev pub RenameEnds : State → Result (Option (ℕ × ℕ) × Result (Unit {0} × State) NfsStatus) NfsStatus →
+    Result (Unit {0} × State) NfsStatus → Type 0
 RenameEnds old (Err e) end = end ≡ Err e
 RenameEnds old (Ok (None, planned)) end = end ≡ planned
-RenameEnds old (Ok (Some (moved, target), planned)) end = (IsWithin old moved target × (end ≡ Err status.Invalid)) ⊎ ((IsWithin old moved target → ⊥) × (end ≡ planned))
+RenameEnds old (Ok (Some (moved, target), planned)) end =
+    (IsWithin old moved target × (end ≡ Err status.Invalid)) ⊎
+    ((IsWithin old moved target → ⊥) × (end ≡ planned))

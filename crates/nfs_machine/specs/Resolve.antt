@@ -15,12 +15,20 @@ pub data Resolved : Type 0 where
   Names : (number : ℕ) (object : Living) → Resolved
 
 abbrev pub living_at : Option Living → Handle → Resolved
-living_at living h = elim living [ None ↦ Stale | Some object ↦ if (object.generation == h.generation) && (object.export == h.export) then Names h.fileid object else Stale ]
+living_at living h = elim living [
+  | None ↦ Stale
+  | Some object ↦ if (object.generation == h.generation) &&
+      (object.export == h.export) then Names h.fileid object else Stale
+]
 
 -- what a handle names among the objects that a look-up finds
 abbrev pub named : (ℕ → Option Living) → Ctx → Option Handle → Resolved
 named find ctx handle =
-    elim handle [ None ↦ BadHandle | Some h ↦ if (h.start == ctx.start) && export_admits (export_at ctx.exports h.export) ctx.host then living_at (find h.fileid) h else Stale ]
+    elim handle [
+      | None ↦ BadHandle
+      | Some h ↦ if (h.start == ctx.start) && export_admits (export_at ctx.exports h.export) ctx.host then living_at
+          (find h.fileid) h else Stale
+    ]
 
 abbrev pub resolve : State → Ctx → List ℕ → Resolved
 resolve m ctx bytes = named (get m.objects) ctx (handle_of bytes)

@@ -32,15 +32,26 @@ pub record Arrival : Type 0 where
   pub bytes : List ℕ
   pub moment : Moment
 
--- the call is of this procedure of this program, and a front of the bytes spells its arguments; what follows that is ignored
+-- the call is of this procedure of this program, and a front of the bytes spells its arguments; what follows that is
+-- ignored
 abbrev pub IsCall : Program → (procedure : ℕ) → List ℕ → Call → Type 0
-IsCall program procedure bytes (calls.Nfs call) = (program ≡ programs.Nfs) × (procedure_of call ≡ procedure) × IsFrontedBy SpellsArguments call bytes
-IsCall program procedure bytes (calls.Mount call) = (program ≡ programs.Mount) × (mount_procedure_of call ≡ procedure) × IsFrontedBy SpellsMountArguments call bytes
-IsCall program procedure bytes (calls.Nlm call) = (program ≡ programs.Nlm) × (nlm_procedure_of call ≡ procedure) × IsFrontedBy SpellsNlmArguments call bytes
+IsCall program procedure bytes (calls.Nfs call) = (program ≡ programs.Nfs) × (procedure_of call ≡ procedure) ×
+    IsFrontedBy SpellsArguments call bytes
+IsCall program procedure bytes (calls.Mount call) = (program ≡ programs.Mount) ×
+    (mount_procedure_of call ≡ procedure) × IsFrontedBy SpellsMountArguments call bytes
+IsCall program procedure bytes (calls.Nlm call) = (program ≡ programs.Nlm) × (nlm_procedure_of call ≡ procedure) ×
+    IsFrontedBy SpellsNlmArguments call bytes
 
 -- what a call of this host is made under, with these ids and at this moment
 abbrev pub context_of : Setting → (host : List ℕ) → Ids → Moment → Ctx
-context_of setting host ids moment = record { host = host; ids = ids; moment = moment; start = setting.start; exports = setting.exports; limits = setting.limits }
+context_of setting host ids moment = record {
+  host = host;
+  ids = ids;
+  moment = moment;
+  start = setting.start;
+  exports = setting.exports;
+  limits = setting.limits;
+}
 
 -- what the arrival asks: this call, under this context
 pub record Asks (setting : Setting) (arrival : Arrival) (ctx : Ctx) (call : Call) : Type 0 where

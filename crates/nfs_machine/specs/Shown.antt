@@ -1,4 +1,5 @@
--- What replies show of the objects that a call named, and how the state changes at one object (RFC 1813, 2.5: post_op_attr, wcc_data).
+-- What replies show of the objects that a call named, and how the state changes at one object (RFC 1813, 2.5:
+-- post_op_attr, wcc_data).
 use Rattle.std.specs.Prelude.{ℕ, List, Option, Some, None, option_map}
 use Rattle.std.specs.FinMap.{get, insert}
 use Rattle.nfs_wire.specs.declared.attributes.Attributes.{Attributes}
@@ -25,7 +26,8 @@ weak o = record { size = size_of o.content; modified = o.modified; changed = o.c
 
 -- what a handle named, before the call and after it
 abbrev pub wcc : State → Resolved → Wcc
-wcc new resolved = record { before = elim resolved [ Names number object ↦ Some (weak object) | _ ↦ None ]; after = shown new resolved }
+wcc new resolved = record
+    { before = elim resolved [ Names number object ↦ Some (weak object) | _ ↦ None ]; after = shown new resolved }
 
 -- a handle is not looked at where the one before it names nothing
 abbrev pub after_first : (first second : Resolved) → Resolved
@@ -33,11 +35,13 @@ after_first first second = elim first [ Names number object ↦ second | _ ↦ B
 
 -- the handle of an object
 abbrev pub handle_at : Ctx → ℕ → Living → List ℕ
-handle_at ctx number o = handle_bytes (record { export = o.export; start = ctx.start; fileid = number; generation = o.generation })
+handle_at ctx number o = handle_bytes
+    (record { export = o.export; start = ctx.start; fileid = number; generation = o.generation })
 
 -- the object with other content from now on (2.5: mtime, ctime)
 abbrev pub with_content : Living → Time → Content → Living
-with_content o now content = record o { content = content; modified = touch o.changed now; changed = touch o.changed now }
+with_content o now content = record o
+    { content = content; modified = touch o.changed now; changed = touch o.changed now }
 
 -- the object with another time of change alone (2.5: ctime)
 abbrev pub touched : Living → Time → Living

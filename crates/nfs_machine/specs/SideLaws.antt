@@ -39,7 +39,8 @@ abbrev pub MountsFit : State → Type 0
 MountsFit m = AllByRecursion (λ (x : MountBody). IsHostName x.hostname × IsDirpath x.directory) m.mounts
 
 abbrev pub ExportsFit : List ExportValue → Type 0
-ExportsFit exports = AllByRecursion (λ (e : ExportValue). IsDirpath e.path × AllByRecursion IsHostName e.hosts) exports
+ExportsFit exports = AllByRecursion
+    (λ (e : ExportValue). IsDirpath e.path × AllByRecursion IsHostName e.hosts) exports
 
 -- the path that a call names is
 abbrev pub PathFits : MountCall → Type 0
@@ -48,7 +49,8 @@ PathFits call = Unit {0}
 
 -- a reply of MOUNT has a spelling
 abbrev pub MountRepliesHaveForm : Type 0
-MountRepliesHaveForm = (old : State) (ctx : Ctx) (call : MountCall) (reply : MountReply) (messages : List Message) (new : State)
+MountRepliesHaveForm = (old : State) (ctx : Ctx) (call : MountCall) (reply : MountReply) (messages : List Message)
+    (new : State)
     → MountsFit old → ExportsFit ctx.exports → MountStep old ctx call reply messages new → HasMountForm reply
 
 -- a reply of MOUNT with a status other than MNT3_OK
@@ -58,8 +60,10 @@ is_mount_refusal reply = false
 
 -- a call of MOUNT that is refused changes nothing and puts no message
 abbrev pub MountRefusalsChangeNothing : Type 0
-MountRefusalsChangeNothing = (old : State) (ctx : Ctx) (call : MountCall) (reply : MountReply) (messages : List Message) (new : State)
-    → MountStep old ctx call reply messages new → is_mount_refusal reply ≡ true → (new ≡ old) × (messages ≡ [])
+MountRefusalsChangeNothing = (old : State) (ctx : Ctx) (call : MountCall) (reply : MountReply) (messages : List Message)
+    (new : State)
+    → MountStep old ctx call reply messages new → is_mount_refusal reply ≡ true → (new ≡ old) ×
+    (messages ≡ [])
 
 -- the byte strings of a call are within their bounds
 abbrev pub CallFits : NlmCall → Type 0
@@ -80,11 +84,13 @@ CallFits call = Unit {0}
 
 -- so is each owner (oh) that has something
 abbrev pub OwnersFit : List Lock → Type 0
-OwnersFit locks = (file : ℕ) (owner : Owner) (offset : ℕ) → (mode_at locks file owner offset ≡ None → ⊥) → IsNetobj owner.owner
+OwnersFit locks = (file : ℕ) (owner : Owner) (offset : ℕ) → (mode_at locks file owner offset ≡ None → ⊥) →
+    IsNetobj owner.owner
 
 -- a reply of NLM has a spelling
 abbrev pub NlmRepliesHaveForm : Type 0
-NlmRepliesHaveForm = (old : State) (ctx : Ctx) (call : NlmCall) (reply : NlmReply) (messages : List Message) (new : State)
+NlmRepliesHaveForm = (old : State) (ctx : Ctx) (call : NlmCall) (reply : NlmReply) (messages : List Message)
+    (new : State)
     → OwnersFit old.locks → CallFits call → NlmStep old ctx call reply messages new → HasNlmForm reply
 
 -- so are those of requests that wait
@@ -97,7 +103,8 @@ PutsForms messages new = AllByRecursion (λ (x : Message). HasCallbackForm x.cal
 
 -- the messages of NLM have spellings
 abbrev pub NlmMessagesHaveForm : Type 0
-NlmMessagesHaveForm = (old : State) (ctx : Ctx) (call : NlmCall) (reply : NlmReply) (messages : List Message) (new : State)
+NlmMessagesHaveForm = (old : State) (ctx : Ctx) (call : NlmCall) (reply : NlmReply) (messages : List Message)
+    (new : State)
     → LocksFit old → CallFits call → NlmStep old ctx call reply messages new → PutsForms messages new
 
 -- what a call of any program names is within its bounds, and so is the host that asks MOUNT
@@ -108,21 +115,27 @@ AskedFits ctx (calls.Nlm call) = CallFits call
 
 -- a call that an arrival spells names nothing else
 abbrev pub SpelledCallsFit : Type 0
-SpelledCallsFit = (setting : Setting) (arrival : Arrival) (ctx : Ctx) (call : Call) → IsHostName arrival.host → Asks setting arrival ctx call → AskedFits ctx call
+SpelledCallsFit = (setting : Setting) (arrival : Arrival) (ctx : Ctx) (call : Call) → IsHostName arrival.host →
+    Asks setting arrival ctx call → AskedFits ctx call
 
--- what is mounted, held and waited for stays within the bounds: a server starts so, each step of any program keeps it, and so each run
+-- what is mounted, held and waited for stays within the bounds: a server starts so, each step of any program keeps
+-- it, and so each run
 abbrev pub OpeningFits : Type 0
-OpeningFits = (exports : List ExportValue) (moment : Moment) → MountsFit (opening exports moment) × LocksFit (opening exports moment)
+OpeningFits = (exports : List ExportValue) (moment : Moment) → MountsFit (opening exports moment) ×
+    LocksFit (opening exports moment)
 
 abbrev pub MountsStayFit : Type 0
-MountsStayFit = (old : State) (ctx : Ctx) (call : Call) (reply : Reply) (messages : List Message) (new : State) → Step old ctx call reply messages new → AskedFits ctx call → MountsFit old → MountsFit new
+MountsStayFit = (old : State) (ctx : Ctx) (call : Call) (reply : Reply) (messages : List Message) (new : State) →
+    Step old ctx call reply messages new → AskedFits ctx call → MountsFit old → MountsFit new
 
 abbrev pub LocksStayFit : Type 0
-LocksStayFit = (old : State) (ctx : Ctx) (call : Call) (reply : Reply) (messages : List Message) (new : State) → Step old ctx call reply messages new → AskedFits ctx call → LocksFit old → LocksFit new
+LocksStayFit = (old : State) (ctx : Ctx) (call : Call) (reply : Reply) (messages : List Message) (new : State) →
+    Step old ctx call reply messages new → AskedFits ctx call → LocksFit old → LocksFit new
 
 abbrev pub RunsStayFit : Type 0
 RunsStayFit = (setting : Setting) (first last : State) (records : List Record)
-    → Run setting first records last → AllByRecursion (λ (r : Record). IsHostName r.arrival.host) records → MountsFit first × LocksFit first → MountsFit last × LocksFit last
+    → Run setting first records last → AllByRecursion (λ (r : Record). IsHostName r.arrival.host) records →
+    MountsFit first × LocksFit first → MountsFit last × LocksFit last
 
 -- a status by which nothing was granted, and nothing waits
 abbrev pub refuses : NlmStatus → Bool
@@ -147,7 +160,8 @@ is_nlm_refusal reply = false
 
 -- a call of NLM that is refused in its reply changes nothing and puts no message
 abbrev pub NlmRefusalsChangeNothing : Type 0
-NlmRefusalsChangeNothing = (old : State) (ctx : Ctx) (call : NlmCall) (reply : NlmReply) (messages : List Message) (new : State)
+NlmRefusalsChangeNothing = (old : State) (ctx : Ctx) (call : NlmCall) (reply : NlmReply) (messages : List Message)
+    (new : State)
     → NlmStep old ctx call reply messages new → is_nlm_refusal reply ≡ true → (new ≡ old) × (messages ≡ [])
 
 -- a result in a message of the server's own, by which nothing was granted, and nothing waits
@@ -161,5 +175,7 @@ is_posted_refusal call = false
 
 -- a call of NLM that is refused in a message, as the MSG calls are, changes nothing and puts no other
 abbrev pub PostedRefusalsChangeNothing : Type 0
-PostedRefusalsChangeNothing = (old : State) (ctx : Ctx) (call : NlmCall) (reply : NlmReply) (earlier : List Message) (posted : Message) (new : State)
-    → NlmStep old ctx call reply (earlier ++ posted ∷ []) new → is_posted_refusal posted.call ≡ true → (new ≡ old) × (earlier ≡ [])
+PostedRefusalsChangeNothing = (old : State) (ctx : Ctx) (call : NlmCall) (reply : NlmReply) (earlier : List Message)
+    (posted : Message) (new : State)
+    → NlmStep old ctx call reply (earlier ++ posted ∷ []) new → is_posted_refusal posted.call ≡ true →
+    (new ≡ old) × (earlier ≡ [])

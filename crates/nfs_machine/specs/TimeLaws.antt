@@ -17,18 +17,24 @@ TimesNeverFall = (changed now : Time) → is_earlier (touch changed now) changed
 
 -- and it rises, but at the greatest time
 abbrev pub TimesRise : Type 0
-TimesRise = (changed now : Time) → (changed.seconds < 4294967295) ⊎ (changed.nanoseconds < 999999999) → is_earlier changed (touch changed now) ≡ true
+TimesRise = (changed now : Time) → (changed.seconds < 4294967295) ⊎
+    (changed.nanoseconds < 999999999) → is_earlier changed (touch changed now) ≡ true
 
--- what lives at a number before and after is the same object as it was, or was changed at this time, and counts as changed once
+-- what lives at a number before and after is the same object as it was, or was changed at this time, and counts as
+-- changed once
 abbrev pub TouchesOnce : Time → State → State → Type 0
-TouchesOnce now old new = (number : ℕ) (was is : Living) → get old.objects number ≡ Some was → get new.objects number ≡ Some is → (is ≡ was) ⊎ (is.changed ≡ touch was.changed now)
+TouchesOnce now old new = (number : ℕ) (was is : Living) → get old.objects number ≡ Some was →
+    get new.objects number ≡ Some is → (is ≡ was) ⊎ (is.changed ≡ touch was.changed now)
 
 -- each step does so, at the moment of its call
 abbrev pub StepsTouchOnce : Type 0
-StepsTouchOnce = (old : State) (ctx : Ctx) (call : Call) (reply : Reply) (messages : List Message) (new : State) → Step old ctx call reply messages new → TouchesOnce (time_of ctx.moment) old new
+StepsTouchOnce = (old : State) (ctx : Ctx) (call : Call) (reply : Reply) (messages : List Message) (new : State) →
+    Step old ctx call reply messages new → TouchesOnce (time_of ctx.moment) old new
 
 -- what lives under a handle when a run begins and when it ends was not changed later then than it is now
 abbrev pub RunsNeverFall : Type 0
 RunsNeverFall = (setting : Setting) (first last : State) (records : List Record) (number : ℕ) (was is : Living)
-    → Run setting first records last → first.spent number was.generation ≡ true → get first.objects number ≡ Some was → get last.objects number ≡ Some is → is.generation ≡ was.generation
+    → Run setting first records last → first.spent number was.generation ≡ true →
+    get first.objects number ≡ Some was → get last.objects number ≡ Some is →
+    is.generation ≡ was.generation
     → is_earlier is.changed was.changed ≡ false

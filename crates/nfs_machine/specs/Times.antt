@@ -1,5 +1,6 @@
 -- Times of changes (RFC 1813, 2.5: mtime and ctime).
-use Rattle.std.specs.Prelude.{◌+◌, Bool, true, false, ◌&&◌, ◌||◌, nat_lt, nat_le, if◌then◌else◌, ◌==◌}
+use Rattle.std.specs.Prelude.{◌+◌, Bool, true, false, ◌&&◌, ◌||◌, nat_lt, nat_le, if◌then◌else◌}
+use Rattle.std.specs.Prelude.{◌==◌}
 use Rattle.nfs_wire.specs.declared.attributes.SetTime.{SetTime}
 use Rattle.nfs_wire.specs.declared.attributes.SetTime.TheVariants.{Leave, ToServer, ToClient}
 use Rattle.nfs_wire.specs.declared.attributes.Time.{Time}

@@ -1,5 +1,6 @@
 -- Worked values of the definitions: what each says in a case that a reader can follow by hand.
-use Rattle.std.specs.Prelude.{◌≡◌, ℕ, true, false, List, [], ◌∷◌, ◌++◌, replicate, drop, take, Option, Some, None, Ok, Err, codes, if◌then◌else◌, ◌==◌}
+use Rattle.std.specs.Prelude.{◌≡◌, ℕ, true, false, List, [], ◌∷◌, ◌++◌, replicate, drop, take}
+use Rattle.std.specs.Prelude.{Option, Some, None, Ok, Err, codes, if◌then◌else◌, ◌==◌}
 use Rattle.nfs_rpc.specs.declared.credentials.Ids.{Ids}
 use Rattle.nfs_wire.specs.declared.attributes.Time.{Time}
 use Rattle.side_wire.specs.declared.mount.MountStatus.TheVariants as status
@@ -37,7 +38,18 @@ epoch = record { seconds = 0; nanoseconds = 0 }
 
 -- an object of user 100 and group 200 in export 1
 abbrev pub object : ℕ → Content → Living
-object mode content = record { export = 1; generation = 1; content = content; mode = mode; uid = 100; gid = 200; accessed = epoch; modified = epoch; changed = epoch; verifier = None }
+object mode content = record {
+  export = 1;
+  generation = 1;
+  content = content;
+  mode = mode;
+  uid = 100;
+  gid = 200;
+  accessed = epoch;
+  modified = epoch;
+  changed = epoch;
+  verifier = None;
+}
 
 abbrev pub user : ℕ → ℕ → Ids
 user uid gid = record { uid = uid; gid = gid; gids = [] }
@@ -69,13 +81,18 @@ root_handle = record { export = 1; start = 7; fileid = 1; generation = 1 }
 
 abbrev pub root_bytes : List ℕ
 root_bytes =
-    78 ∷ 70 ∷ 68 ∷ 51 ∷ 0 ∷ 0 ∷ 0 ∷ 1 ∷ 0 ∷ 0 ∷ 0 ∷ 0 ∷ 0 ∷ 0 ∷ 0 ∷ 7 ∷ 0 ∷ 0 ∷ 0 ∷ 0 ∷ 0 ∷ 0 ∷ 0 ∷ 1 ∷ 0 ∷ 0 ∷ 0 ∷ 0 ∷ 0 ∷ 0 ∷ 0 ∷ 1 ∷ []
+    78 ∷ 70 ∷ 68 ∷ 51 ∷ 0 ∷ 0 ∷ 0 ∷ 1 ∷ 0 ∷ 0 ∷ 0 ∷ 0 ∷ 0 ∷ 0 ∷ 0 ∷ 7 ∷ 0 ∷ 0 ∷
+    0 ∷ 0 ∷ 0 ∷ 0 ∷ 0 ∷ 1 ∷ 0 ∷ 0 ∷ 0 ∷ 0 ∷ 0 ∷ 0 ∷ 0 ∷ 1 ∷ []
 
 -- a root with the directory "sub" and the file "file"
 abbrev pub find : ℕ → Option Living
 find number =
-    if number == 1 then Some (object 511 (Directory (record { name = codes "sub"; number = 2; cookie = 3 } ∷ record { name = codes "file"; number = 3; cookie = 4 } ∷ []) 4))
-    else (if number == 2 then Some (object 511 (Directory [] 2)) else (if number == 3 then Some (object 420 (Regular [])) else None))
+    if number == 1 then Some
+    (object 511 (Directory
+    (record { name = codes "sub"; number = 2; cookie = 3 } ∷
+    record { name = codes "file"; number = 3; cookie = 4 } ∷ []) 4))
+    else (if number == 2 then Some (object 511 (Directory [] 2)) else
+    (if number == 3 then Some (object 420 (Regular [])) else None))
 
 abbrev pub open_export : ExportValue
 open_export = record { path = codes "/a"; read_only = false; hosts = codes "*" ∷ [] }
@@ -88,7 +105,8 @@ abbrev pub exports : List ExportValue
 exports = open_export ∷ lower_export ∷ []
 
 abbrev pub called_by : List ℕ → ℕ → Moment → Limits → Ctx
-called_by host start moment limits = record { host = host; ids = user 0 0; moment = moment; start = start; exports = exports; limits = limits }
+called_by host start moment limits = record
+    { host = host; ids = user 0 0; moment = moment; start = start; exports = exports; limits = limits }
 
 -- the root of the second export
 abbrev pub lower_root : Living
@@ -104,16 +122,25 @@ pub record WorkedHandles : Type 0 where
   pub cut : handle_of (take 31 root_bytes) ≡ None
   pub longer : handle_of (root_bytes ++ 0 ∷ []) ≡ None
   pub other_mark : handle_of (0 ∷ drop 1 root_bytes) ≡ None
-  pub bad : (moment : Moment) (limits : Limits) → named find (called_by (codes "10.0.0.1") 7 moment limits) (handle_of (take 31 root_bytes)) ≡ BadHandle
+  pub bad : (moment : Moment) (limits : Limits) →
+      named find (called_by (codes "10.0.0.1") 7 moment limits) (handle_of (take 31 root_bytes)) ≡ BadHandle
   pub living : (moment : Moment) (limits : Limits) (root : Living) → find 1 ≡ Some root
       → named find (called_by (codes "10.0.0.1") 7 moment limits) (handle_of root_bytes) ≡ Names 1 root
-  pub other_start : (moment : Moment) (limits : Limits) → named find (called_by (codes "10.0.0.1") 8 moment limits) (handle_of root_bytes) ≡ Stale
-  pub gone : (moment : Moment) (limits : Limits) → named find (called_by (codes "10.0.0.1") 7 moment limits) (Some (record root_handle { fileid = 4 })) ≡ Stale
-  pub other_generation : (moment : Moment) (limits : Limits) → named find (called_by (codes "10.0.0.1") 7 moment limits) (Some (record root_handle { generation = 2 })) ≡ Stale
-  pub admitted : (moment : Moment) (limits : Limits) → named (λ number. Some lower_root) (called_by (codes "10.0.0.2") 7 moment limits) (Some lower_handle) ≡ Names 2 lower_root
-  pub not_admitted : (moment : Moment) (limits : Limits) → named (λ number. Some lower_root) (called_by (codes "10.0.0.1") 7 moment limits) (Some lower_handle) ≡ Stale
+  pub other_start : (moment : Moment) (limits : Limits) →
+      named find (called_by (codes "10.0.0.1") 8 moment limits) (handle_of root_bytes) ≡ Stale
+  pub gone : (moment : Moment) (limits : Limits) →
+      named find (called_by (codes "10.0.0.1") 7 moment limits) (Some (record root_handle { fileid = 4 })) ≡ Stale
+  pub other_generation : (moment : Moment) (limits : Limits) →
+      named find (called_by (codes "10.0.0.1") 7 moment limits) (Some (record root_handle { generation = 2 })) ≡ Stale
+  pub admitted : (moment : Moment) (limits : Limits) →
+      named (λ number. Some lower_root) (called_by (codes "10.0.0.2") 7 moment limits)
+      (Some lower_handle) ≡ Names 2 lower_root
+  pub not_admitted : (moment : Moment) (limits : Limits) →
+      named (λ number. Some lower_root) (called_by (codes "10.0.0.1") 7 moment limits) (Some lower_handle) ≡ Stale
   -- an object of the other export
-  pub other_export : (moment : Moment) (limits : Limits) → named (λ number. Some lower_root) (called_by (codes "10.0.0.2") 7 moment limits) (Some (record lower_handle { export = 1 })) ≡ Stale
+  pub other_export : (moment : Moment) (limits : Limits) →
+      named (λ number. Some lower_root) (called_by (codes "10.0.0.2") 7 moment limits)
+      (Some (record lower_handle { export = 1 })) ≡ Stale
 
 -- where paths lead (RFC 1813, 5.2.1)
 pub record WorkedWalks : Type 0 where

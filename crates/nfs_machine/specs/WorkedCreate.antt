@@ -1,5 +1,6 @@
 -- CREATE worked through by hand: what a new file is, and what becomes of one that is there (RFC 1813, 3.3.8).
-use Rattle.std.specs.Prelude.{replicate, ◌≡◌, ℕ, List, [], ◌∷◌, Option, Some, None, Result, Ok, Err, codes}
+use Rattle.std.specs.Prelude.{replicate, ◌≡◌, ℕ, List, [], ◌∷◌, Option, Some, None, Result, Ok, Err}
+use Rattle.std.specs.Prelude.{codes}
 use Rattle.std.proofs.Common.{lit<}
 use Rattle.nfs_wire.specs.declared.attributes.SetAttributes.{SetAttributes}
 use Rattle.nfs_wire.specs.declared.attributes.SetTime.TheVariants.{Leave, ToClient}
@@ -25,7 +26,14 @@ moment = record { seconds = 1000; nanoseconds = 0; in_range = lit< tt }
 
 -- a caller with this uid, and the group of the same number
 abbrev pub called_as : ℕ → Ctx
-called_as uid = record { host = codes "10.0.0.1"; ids = user uid uid; moment = moment; start = 7; exports = open_export ∷ []; limits = record { total_bytes = 0 } }
+called_as uid = record {
+  host = codes "10.0.0.1";
+  ids = user uid uid;
+  moment = moment;
+  start = 7;
+  exports = open_export ∷ [];
+  limits = record { total_bytes = 0 };
+}
 
 -- nothing is given
 abbrev pub no_attributes : SetAttributes
@@ -54,7 +62,8 @@ pub record WorkedAttributes : Type 0 where
   pub none : given_attributes (called_as 9) no_attributes ≡ Ok tt
   pub too_big : given_attributes (called_as 9) (sized 1048577) ≡ Err status.FileTooBig
   pub biggest : given_attributes (called_as 9) (sized 1048576) ≡ Ok tt
-  pub bad_time : given_attributes (called_as 9) (record (sized 1048577) { accessed = ToClient (time 0 1000000000) }) ≡ Err status.Invalid
+  pub bad_time : given_attributes (called_as 9)
+      (record (sized 1048577) { accessed = ToClient (time 0 1000000000) }) ≡ Err status.Invalid
   pub foreign : given_attributes (called_as 9) (record no_attributes { uid = Some 8 }) ≡ Err status.Permission
   pub foreign_group : given_attributes (called_as 9) (record no_attributes { gid = Some 8 }) ≡ Err status.Permission
   pub own_group : given_attributes (called_as 9) (record no_attributes { gid = Some 9 }) ≡ Ok tt
@@ -68,12 +77,14 @@ empty_file given = record { mode = 420; content = Regular []; attributes = given
 pub record WorkedNewFile : Type 0 where
   pub plain : new_object (called_as 9) 1 4 (empty_file no_attributes) ≡ file [] (time 1000 0) None
   pub mode : (new_object (called_as 9) 1 4 (empty_file (record no_attributes { mode = Some 4480 }))).mode ≡ 384
-  pub time_given : (new_object (called_as 9) 1 4 (empty_file (record no_attributes { modified = ToClient (time 5 6) }))).modified ≡ time 5 6
-  pub directory : with_content (opening_root 1 (time 1000 0)) (time 1000 0) (with_entry [] 2 (codes "x") 2) ≡ record (opening_root 1 (time 1000 0)) {
-    content = Directory (record { name = codes "x"; number = 2; cookie = 3 } ∷ []) 3;
-    modified = time 1000 1;
-    changed = time 1000 1;
-  }
+  pub time_given : (new_object (called_as 9) 1 4
+      (empty_file (record no_attributes { modified = ToClient (time 5 6) }))).modified ≡ time 5 6
+  pub directory : with_content (opening_root 1 (time 1000 0)) (time 1000 0) (with_entry [] 2 (codes "x") 2) ≡ record
+      (opening_root 1 (time 1000 0)) {
+        content = Directory (record { name = codes "x"; number = 2; cookie = 3 } ∷ []) 3;
+        modified = time 1000 1;
+        changed = time 1000 1;
+      }
 
 abbrev pub over : ℕ → CreateHow → Living → Result (Option Living) NfsStatus
 over uid how o = create_over (called_as uid) how o (bytes_in o.content)
@@ -86,8 +97,10 @@ made_by = record { bytes = 1 ∷ 2 ∷ 3 ∷ 4 ∷ 5 ∷ 6 ∷ 7 ∷ 8 ∷ [] }
 pub record WorkedExisting : Type 0 where
   pub guarded : over 9 (Guarded no_attributes) (file [] (time 1000 0) None) ≡ Err status.Exists
   pub unchecked : over 9 (Unchecked no_attributes) (file (codes "hello") (time 1000 0) None) ≡ Ok None
-  pub cut : over 9 (Unchecked (sized 0)) (file (codes "hello") (time 1000 0) None) ≡ Ok (Some (file [] (time 1000 1) None))
-  pub grown : over 9 (Unchecked (sized 2)) (file [] (time 1000 0) None) ≡ Ok (Some (file (0 ∷ 0 ∷ []) (time 1000 1) None))
+  pub cut : over 9 (Unchecked (sized 0)) (file (codes "hello") (time 1000 0) None) ≡ Ok
+      (Some (file [] (time 1000 1) None))
+  pub grown : over 9 (Unchecked (sized 2)) (file [] (time 1000 0) None) ≡ Ok
+      (Some (file (0 ∷ 0 ∷ []) (time 1000 1) None))
   pub not_permitted : over 5 (Unchecked (sized 0)) (file [] (time 1000 0) None) ≡ Err status.Access
   pub looked_up : over 5 (Unchecked no_attributes) (file [] (time 1000 0) None) ≡ Ok None
   pub too_big : over 9 (Unchecked (sized 1048577)) (file [] (time 1000 0) None) ≡ Err status.FileTooBig

@@ -1,5 +1,6 @@
 -- Worked values of what names, times and data are held to: cases that a reader can follow by hand.
-use Rattle.std.specs.Prelude.{◌≡◌, ℕ, true, false, List, [], ◌∷◌, ◌++◌, length, replicate, Ok, Err, codes}
+use Rattle.std.specs.Prelude.{◌≡◌, ℕ, true, false, List, [], ◌∷◌, ◌++◌, length, replicate, Ok, Err}
+use Rattle.std.specs.Prelude.{codes}
 use Rattle.nfs_wire.specs.declared.attributes.Time.{Time}
 use Rattle.nfs_wire.specs.declared.replies.ReadData.{ReadData}
 use Rattle.nfs_wire.specs.declared.status.NfsStatus.TheVariants as status

@@ -1,5 +1,7 @@
--- Whole steps of MOUNT and NLM worked through by hand (RFC 1813, appendices I and II), from the state in which the file "x" was made and written.
-use Rattle.std.specs.Prelude.{◌≡◌, ◌-◌, ◌^◌, Bool, true, false, ℕ, ◌||◌, [], ◌∷◌, take, Ok, Err, codes, pos, ◌==◌}
+-- Whole steps of MOUNT and NLM worked through by hand (RFC 1813, appendices I and II), from the state in which the
+-- file "x" was made and written.
+use Rattle.std.specs.Prelude.{◌≡◌, ◌-◌, ◌^◌, Bool, true, false, ℕ, ◌||◌, [], ◌∷◌, take, Ok}
+use Rattle.std.specs.Prelude.{Err, codes, pos, ◌==◌}
 use Rattle.side_wire.specs.declared.message.NlmLock.{NlmLock}
 use Rattle.side_wire.specs.declared.mount.MountCall.TheVariants as mount
 use Rattle.side_wire.specs.declared.mount.MountReply.TheVariants as mount_replies
@@ -34,7 +36,8 @@ on_x o offset length = record (asked o offset length) { file = x_bytes }
 
 -- a LOCK or NM_LOCK that asks for it exclusively, and waits or not
 abbrev pub locking : Owner → ℕ → ℕ → Bool → LockArguments
-locking o offset length block = record { cookie = 1 ∷ []; block = block; exclusive = true; lock = on_x o offset length; reclaim = false; state = pos 0 }
+locking o offset length block = record
+    { cookie = 1 ∷ []; block = block; exclusive = true; lock = on_x o offset length; reclaim = false; state = pos 0 }
 
 -- A has bytes 0 to 99, and gives back 40 to 59
 abbrev pub with_whole : State
@@ -48,7 +51,14 @@ with_split = record written { locks = split }
 
 -- then B waits for byte 30
 abbrev pub waiting : Request
-waiting = record { number = 5; file = 5; host = codes "10.0.0.1"; exclusive = true; asked = on_x b 30 1; by_message = false }
+waiting = record {
+  number = 5;
+  file = 5;
+  host = codes "10.0.0.1";
+  exclusive = true;
+  asked = on_x b 30 1;
+  by_message = false;
+}
 
 abbrev pub with_waiting : State
 with_waiting = record with_split { waiting = waiting ∷ []; spent_grants = λ n. (n == 5) || written.spent_grants n }
@@ -62,7 +72,12 @@ testing = record { cookie = 4 ∷ []; exclusive = true; lock = on_x b 30 1 }
 
 -- a share of the file, where A reads and denies writing, and B reads too
 abbrev pub sharing : Owner → ShareMode → ShareAccess → ShareArguments
-sharing o mode access = record { cookie = 5 ∷ []; share = record { caller_name = o.caller_name; file = x_bytes; owner = o.owner; mode = mode; access = access }; reclaim = false }
+sharing o mode access = record {
+  cookie = 5 ∷ [];
+  share = record
+      { caller_name = o.caller_name; file = x_bytes; owner = o.owner; mode = mode; access = access };
+  reclaim = false;
+}
 
 abbrev pub with_reader : State
 with_reader = record written { shares = reading ∷ [] }
@@ -74,32 +89,58 @@ with_readers = record written { shares = reading ∷ reading_too ∷ [] }
 pub record WorkedChecks : Type 0 where
   pub good : range_checked written nobody true (on_x a 0 100) ≡ Ok (range_of 5 (on_x a 0 100))
   pub last_byte : range_checked written nobody true (on_x a (2 ^ 64 - 1) 1) ≡ Ok (range_of 5 (on_x a (2 ^ 64 - 1) 1))
-  pub no_handle : range_checked written nobody true (record (on_x a 0 1) { file = take 31 x_bytes }) ≡ Err (status.StaleHandle, tested.StaleHandle)
-  pub other_start : range_checked written nobody true (record (on_x a 0 1) { file = handle_bytes (record { export = 1; start = 8; fileid = 5; generation = 1 }) }) ≡ Err (status.StaleHandle, tested.StaleHandle)
-  pub directory : range_checked written nobody true (record (on_x a (2 ^ 64 - 1) 2) { file = root_bytes }) ≡ Err (status.Failed, tested.Failed)
-  pub above : range_checked written read_only true (on_x a (2 ^ 64 - 1) 2) ≡ Err (status.FileTooBig, tested.FileTooBig)
+  pub no_handle : range_checked written nobody true (record (on_x a 0 1) { file = take 31 x_bytes }) ≡ Err
+      (status.StaleHandle, tested.StaleHandle)
+  pub other_start : range_checked written nobody true
+      (record (on_x a 0 1) { file = handle_bytes (record { export = 1; start = 8; fileid = 5; generation = 1 }) }) ≡
+      Err (status.StaleHandle, tested.StaleHandle)
+  pub directory : range_checked written nobody true (record (on_x a (2 ^ 64 - 1) 2) { file = root_bytes }) ≡ Err
+      (status.Failed, tested.Failed)
+  pub above : range_checked written read_only true (on_x a (2 ^ 64 - 1) 2) ≡ Err
+      (status.FileTooBig, tested.FileTooBig)
   pub exclusive : range_checked written read_only true (on_x a 0 1) ≡ Err (status.ReadOnly, tested.ReadOnly)
   pub shared : range_checked written read_only false (on_x a 0 1) ≡ Ok (range_of 5 (on_x a 0 1))
 
 pub record WorkedLocking : Type 0 where
-  pub locks : NlmStep written nobody (nlm.Lock (locking a 0 100 true)) (nlm_replies.Lock (result_with (1 ∷ []) status.Granted)) [] with_whole
-  pub unlocks : NlmStep with_whole nobody (nlm.Unlock giving_back) (nlm_replies.Unlock (result_with (2 ∷ []) status.Granted)) [] with_split
-  pub waits : NlmStep with_split nobody (nlm.Lock (locking b 30 1 true)) (nlm_replies.Lock (result_with (1 ∷ []) status.Blocked)) [] with_waiting
+  pub locks : NlmStep written nobody (nlm.Lock (locking a 0 100 true))
+      (nlm_replies.Lock (result_with (1 ∷ []) status.Granted)) [] with_whole
+  pub unlocks : NlmStep with_whole nobody (nlm.Unlock giving_back)
+      (nlm_replies.Unlock (result_with (2 ∷ []) status.Granted)) [] with_split
+  pub waits : NlmStep with_split nobody (nlm.Lock (locking b 30 1 true))
+      (nlm_replies.Lock (result_with (1 ∷ []) status.Blocked)) [] with_waiting
   -- the same once more: it waits once
-  pub waits_once : NlmStep with_waiting nobody (nlm.Lock (locking b 30 1 true)) (nlm_replies.Lock (result_with (1 ∷ []) status.Blocked)) [] with_waiting
-  pub cancels : NlmStep with_waiting nobody (nlm.Cancel cancelling) (nlm_replies.Cancel (result_with (3 ∷ []) status.Granted)) [] (record with_waiting { waiting = [] })
-  pub cancels_none : NlmStep with_split nobody (nlm.Cancel cancelling) (nlm_replies.Cancel (result_with (3 ∷ []) status.Denied)) [] with_split
-  pub tests : NlmStep with_split nobody (nlm.Test testing) (nlm_replies.Test (record { cookie = 4 ∷ []; status = tested.Denied (holder 0 40) })) [] with_split
+  pub waits_once : NlmStep with_waiting nobody (nlm.Lock (locking b 30 1 true))
+      (nlm_replies.Lock (result_with (1 ∷ []) status.Blocked)) [] with_waiting
+  pub cancels : NlmStep with_waiting nobody (nlm.Cancel cancelling)
+      (nlm_replies.Cancel (result_with (3 ∷ []) status.Granted)) [] (record with_waiting { waiting = [] })
+  pub cancels_none : NlmStep with_split nobody (nlm.Cancel cancelling)
+      (nlm_replies.Cancel (result_with (3 ∷ []) status.Denied)) [] with_split
+  pub tests : NlmStep with_split nobody (nlm.Test testing)
+      (nlm_replies.Test (record { cookie = 4 ∷ []; status = tested.Denied (holder 0 40) })) [] with_split
   -- a MSG form has its result in a call of the server's own
-  pub posts : NlmStep written nobody (nlm.LockMsg (locking a 0 100 true)) nlm_replies.LockMsg (record { host = codes "10.0.0.1"; call = callbacks.LockRes (result_with (1 ∷ []) status.Granted) } ∷ []) with_whole
-  pub posts_denied : NlmStep with_split nobody (nlm.LockMsg (locking b 30 1 false)) nlm_replies.LockMsg (record { host = codes "10.0.0.1"; call = callbacks.LockRes (result_with (1 ∷ []) status.Denied) } ∷ []) with_split
-  pub shares : NlmStep written nobody (nlm.Share (sharing a mode.DenyWrite access.Read)) (nlm_replies.Share (result_with (5 ∷ []) status.Granted)) [] with_reader
-  pub share_denied : NlmStep with_reader nobody (nlm.Share (sharing b mode.DenyNone access.Write)) (nlm_replies.Share (result_with (5 ∷ []) status.Denied)) [] with_reader
-  pub shares_too : NlmStep with_reader nobody (nlm.Share (sharing b mode.DenyNone access.Read)) (nlm_replies.Share (result_with (5 ∷ []) status.Granted)) [] with_readers
+  pub posts : NlmStep written nobody (nlm.LockMsg (locking a 0 100 true)) nlm_replies.LockMsg
+      (record { host = codes "10.0.0.1"; call = callbacks.LockRes (result_with (1 ∷ []) status.Granted) } ∷ [])
+      with_whole
+  pub posts_denied : NlmStep with_split nobody (nlm.LockMsg (locking b 30 1 false)) nlm_replies.LockMsg
+      (record { host = codes "10.0.0.1"; call = callbacks.LockRes (result_with (1 ∷ []) status.Denied) } ∷ [])
+      with_split
+  pub shares : NlmStep written nobody (nlm.Share (sharing a mode.DenyWrite access.Read))
+      (nlm_replies.Share (result_with (5 ∷ []) status.Granted)) [] with_reader
+  pub share_denied : NlmStep with_reader nobody (nlm.Share (sharing b mode.DenyNone access.Write))
+      (nlm_replies.Share (result_with (5 ∷ []) status.Denied)) [] with_reader
+  pub shares_too : NlmStep with_reader nobody (nlm.Share (sharing b mode.DenyNone access.Read))
+      (nlm_replies.Share (result_with (5 ∷ []) status.Granted)) [] with_readers
   -- the first share of A stays
-  pub own_denied : NlmStep with_readers nobody (nlm.Share (sharing a mode.DenyRead access.Read)) (nlm_replies.Share (result_with (5 ∷ []) status.Denied)) [] with_readers
-  pub unshares_none : NlmStep with_readers nobody (nlm.Unshare (sharing (record a { caller_name = codes "c3" }) mode.DenyNone access.Neither)) (nlm_replies.Unshare (result_with (5 ∷ []) status.Granted)) [] with_readers
-  pub unshares : NlmStep with_readers nobody (nlm.Unshare (sharing a mode.DenyWrite access.Read)) (nlm_replies.Unshare (result_with (5 ∷ []) status.Granted)) [] (record written { shares = reading_too ∷ [] })
-  pub denied : NlmStep with_split nobody (nlm.NmLock (locking b 30 1 false)) (nlm_replies.NmLock (result_with (1 ∷ []) status.Denied)) [] with_split
-  pub mounts : MountStep written nobody (mount.Mnt (codes "/a")) (mount_replies.Mnt (Ok root_bytes)) [] (record written { mounts = mounted (codes "10.0.0.1") (codes "/a") ∷ [] })
-  pub not_mounted : MountStep written nobody (mount.Mnt (codes "a")) (mount_replies.Mnt (Err mount_status.Invalid)) [] written
+  pub own_denied : NlmStep with_readers nobody (nlm.Share (sharing a mode.DenyRead access.Read))
+      (nlm_replies.Share (result_with (5 ∷ []) status.Denied)) [] with_readers
+  pub unshares_none : NlmStep with_readers nobody
+      (nlm.Unshare (sharing (record a { caller_name = codes "c3" }) mode.DenyNone access.Neither))
+      (nlm_replies.Unshare (result_with (5 ∷ []) status.Granted)) [] with_readers
+  pub unshares : NlmStep with_readers nobody (nlm.Unshare (sharing a mode.DenyWrite access.Read))
+      (nlm_replies.Unshare (result_with (5 ∷ []) status.Granted)) [] (record written { shares = reading_too ∷ [] })
+  pub denied : NlmStep with_split nobody (nlm.NmLock (locking b 30 1 false))
+      (nlm_replies.NmLock (result_with (1 ∷ []) status.Denied)) [] with_split
+  pub mounts : MountStep written nobody (mount.Mnt (codes "/a")) (mount_replies.Mnt (Ok root_bytes)) []
+      (record written { mounts = mounted (codes "10.0.0.1") (codes "/a") ∷ [] })
+  pub not_mounted : MountStep written nobody (mount.Mnt (codes "a"))
+      (mount_replies.Mnt (Err mount_status.Invalid)) [] written

@@ -1,5 +1,6 @@
 -- Locks and shares worked through by hand (RFC 1813, appendix II), and lists of MOUNT (appendix I, 5.2.2 to 5.2.5).
-use Rattle.std.specs.Prelude.{◌≡◌, ℕ, ◌-◌, ◌^◌, Bool, true, false, List, [], ◌∷◌, Err, codes, pos, None, Some}
+use Rattle.std.specs.Prelude.{◌≡◌, ℕ, ◌-◌, ◌^◌, Bool, true, false, List, [], ◌∷◌, Err, codes}
+use Rattle.std.specs.Prelude.{pos, None, Some}
 use Rattle.std.specs.List.{list_any}
 use Rattle.side_wire.specs.declared.message.Callback.TheVariants as callbacks
 use Rattle.side_wire.specs.declared.message.NlmLock.{NlmLock}
@@ -13,7 +14,8 @@ use Rattle.side_wire.specs.declared.nlm.TestArguments.{TestArguments}
 use Rattle.side_wire.specs.declared.nlm.TestStatus.TheVariants as tested
 use Rattle.nfs_machine.specs.Grants.{grant_cookie, grant_message}
 use Rattle.nfs_machine.specs.LockSteps.{Tests, is_grant_number, length_shown, share_of, without}
-use Rattle.nfs_machine.specs.Locks.{Lists, denies, fits_offsets, modes_conflict, modes_with, range_of, same_sharer, shares_conflict, Mode}
+use Rattle.nfs_machine.specs.Locks.{Lists, denies, fits_offsets, modes_conflict, modes_with, range_of, same_sharer}
+use Rattle.nfs_machine.specs.Locks.{shares_conflict, Mode}
 use Rattle.nfs_machine.specs.MountSteps.{MountStep, walk, with_mount}
 use Rattle.nfs_machine.specs.State.{Lock, Owner, Request, Share, State, Range}
 use Rattle.nfs_machine.specs.Worked.{called_by, find}
@@ -42,13 +44,15 @@ b = record { caller_name = codes "c2"; owner = 2 ∷ []; process = pos 2 }
 
 -- a lock as a caller names it, and the range that it is on file 5
 abbrev pub asked : Owner → ℕ → ℕ → NlmLock
-asked o offset length = record { caller_name = o.caller_name; file = []; owner = o.owner; process = o.process; offset = offset; length = length }
+asked o offset length = record
+    { caller_name = o.caller_name; file = []; owner = o.owner; process = o.process; offset = offset; length = length }
 
 abbrev pub on_file : Owner → ℕ → ℕ → Range
 on_file o offset length = range_of 5 (asked o offset length)
 
 abbrev pub lock : Owner → ℕ → ℕ → Bool → Lock
-lock o first last exclusive = record { range = record { file = 5; owner = o; first = first; last = last }; exclusive = exclusive }
+lock o first last exclusive = record
+    { range = record { file = 5; owner = o; first = first; last = last }; exclusive = exclusive }
 
 -- A has 0 to 99 exclusively
 abbrev pub whole : List Lock
@@ -85,7 +89,8 @@ pub record WorkedRanges : Type 0 where
   -- an owner is a caller, an owner within it and a process
   pub of_other_process : modes_with whole (on_file a 40 20) Unlocked 5 (record a { process = pos 2 }) 30 ≡ Unlocked
   pub of_other_owner : modes_with whole (on_file a 40 20) Unlocked 5 (record a { owner = 2 ∷ [] }) 30 ≡ Unlocked
-  pub of_other_caller : modes_with whole (on_file a 40 20) Unlocked 5 (record a { caller_name = codes "c2" }) 30 ≡ Unlocked
+  pub of_other_caller : modes_with whole (on_file a 40 20) Unlocked 5
+      (record a { caller_name = codes "c2" }) 30 ≡ Unlocked
   pub of_other_file : modes_with whole (on_file a 40 20) Unlocked 6 a 30 ≡ Unlocked
   -- a shared lock of 10 bytes from 50 on inside the exclusive one
   pub shared_at_55 : modes_with whole (on_file a 50 10) Shared 5 a 55 ≡ Shared
@@ -95,16 +100,21 @@ pub record WorkedRanges : Type 0 where
 
 -- exclusive TESTs
 pub record WorkedTests : Type 0 where
-  pub at_30 : (m : State) → Tests (record m { locks = split }) (on_file b 30 1) Exclusive (tested.Denied (holder 0 40))
-  pub part_of_it : (m : State) → Tests (record m { locks = split }) (on_file b 30 1) Exclusive (tested.Denied (holder 30 5))
+  pub at_30 : (m : State) →
+      Tests (record m { locks = split }) (on_file b 30 1) Exclusive (tested.Denied (holder 0 40))
+  pub part_of_it : (m : State) →
+      Tests (record m { locks = split }) (on_file b 30 1) Exclusive (tested.Denied (holder 30 5))
   pub at_50 : (m : State) → Tests (record m { locks = split }) (on_file b 50 1) Exclusive tested.Granted
-  pub at_99 : (m : State) → Tests (record m { locks = split }) (on_file b 99 1) Exclusive (tested.Denied (holder 60 40))
-  pub at_the_end : (m : State) → Tests (record m { locks = to_the_end }) (on_file b (2 ^ 64 - 1) 1) Exclusive (tested.Denied (holder 200 0))
+  pub at_99 : (m : State) →
+      Tests (record m { locks = split }) (on_file b 99 1) Exclusive (tested.Denied (holder 60 40))
+  pub at_the_end : (m : State) →
+      Tests (record m { locks = to_the_end }) (on_file b (2 ^ 64 - 1) 1) Exclusive (tested.Denied (holder 200 0))
   -- A's own locks don't stand in its way
   pub own : (m : State) → Tests (record m { locks = split }) (on_file a 0 0) Exclusive tested.Granted
 
 abbrev pub share : Owner → ShareMode → ShareAccess → Share
-share o denied taken = share_of 5 (record { caller_name = o.caller_name; file = []; owner = o.owner; mode = denied; access = taken })
+share o denied taken = share_of 5
+    (record { caller_name = o.caller_name; file = []; owner = o.owner; mode = denied; access = taken })
 
 -- A denies writing and reads
 abbrev pub reading : Share
@@ -117,14 +127,17 @@ reading_too = share b mode.DenyNone access.Read
 pub record WorkedShares : Type 0 where
   pub writing_is_denied : list_any (shares_conflict (share b mode.DenyNone access.Write)) (reading ∷ []) ≡ true
   pub reading_is_not : list_any (shares_conflict reading_too) (reading ∷ []) ≡ false
-  pub denying_readers : list_any (shares_conflict (share a mode.DenyRead access.Read)) (reading ∷ reading_too ∷ []) ≡ true
+  pub denying_readers : list_any (shares_conflict (share a mode.DenyRead access.Read))
+      (reading ∷ reading_too ∷ []) ≡ true
   pub other_file : shares_conflict (record (share b mode.DenyNone access.Write) { file = 6 }) reading ≡ false
   -- access that a mode denies, and access that it does not
   pub both : denies mode.DenyReadWrite access.Write ≡ true
   pub one_of_two : denies mode.DenyRead access.ReadWrite ≡ true
   pub the_other : denies mode.DenyRead access.Write ≡ false
   pub neither : denies mode.DenyReadWrite access.Neither ≡ false
-  pub unshare_of_none : without (same_sharer (share (record a { caller_name = codes "c3" }) mode.DenyNone access.Neither)) (reading ∷ reading_too ∷ []) ≡ reading ∷ reading_too ∷ []
+  pub unshare_of_none : without
+      (same_sharer (share (record a { caller_name = codes "c3" }) mode.DenyNone access.Neither))
+      (reading ∷ reading_too ∷ []) ≡ reading ∷ reading_too ∷ []
   -- an owner of shares is a caller and an owner within it
   pub of_other_owner : same_sharer reading (share (record a { owner = 2 ∷ [] }) mode.DenyWrite access.Read) ≡ false
   pub of_any_process : same_sharer reading (share (record a { process = pos 2 }) mode.DenyNone access.Write) ≡ true
@@ -132,7 +145,8 @@ pub record WorkedShares : Type 0 where
 
 -- B asked for bytes 30 to 39 from the host h2, exclusively
 abbrev pub granted_request : Bool → Request
-granted_request by_message = record { number = 69; file = 5; host = codes "h2"; exclusive = true; asked = asked b 30 10; by_message = by_message }
+granted_request by_message = record
+    { number = 69; file = 5; host = codes "h2"; exclusive = true; asked = asked b 30 10; by_message = by_message }
 
 abbrev pub grant_arguments : TestArguments
 grant_arguments = record {
@@ -149,33 +163,48 @@ pub record WorkedGrants : Type 0 where
   pub too_great : is_grant_number 0 (2 ^ 64) ≡ false
   pub cookie : grant_cookie 69 ≡ 0 ∷ 0 ∷ 0 ∷ 0 ∷ 0 ∷ 0 ∷ 0 ∷ 69 ∷ []
   -- the message goes to the host that asked, and repeats what it asked for
-  pub told : grant_message (granted_request false) ≡ record { host = codes "h2"; call = callbacks.Granted grant_arguments }
-  pub told_by_message : grant_message (granted_request true) ≡ record { host = codes "h2"; call = callbacks.GrantedMsg grant_arguments }
+  pub told : grant_message
+      (granted_request false) ≡ record { host = codes "h2"; call = callbacks.Granted grant_arguments }
+  pub told_by_message : grant_message
+      (granted_request true) ≡ record { host = codes "h2"; call = callbacks.GrantedMsg grant_arguments }
 
 abbrev pub mounted : List ℕ → List ℕ → MountBody
 mounted host path = record { hostname = host; directory = path }
 
 abbrev pub three_mounts : List MountBody
-three_mounts = mounted (codes "h1") (codes "/a") ∷ mounted (codes "h2") (codes "/a") ∷ mounted (codes "h1") (codes "//a/") ∷ []
+three_mounts = mounted (codes "h1") (codes "/a") ∷ mounted (codes "h2") (codes "/a") ∷
+    mounted (codes "h1") (codes "//a/") ∷ []
 
 -- of exports `/a` for `*` and `/a/b` for 10.0.0.2
 pub record WorkedMounts : Type 0 where
   -- MNT adds a path of a host once
   pub dump : (m : State)
-      → (with_mount (with_mount (with_mount (with_mount (record m { mounts = [] }) (mounted (codes "h1") (codes "/a"))) (mounted (codes "h2") (codes "/a"))) (mounted (codes "h1") (codes "/a"))) (mounted (codes "h1") (codes "//a/"))).mounts
-      ≡ record { hostname = codes "h1"; directory = codes "/a" } ∷ record { hostname = codes "h2"; directory = codes "/a" } ∷ record { hostname = codes "h1"; directory = codes "//a/" } ∷ []
+      → (with_mount (with_mount
+      (with_mount (with_mount (record m { mounts = [] }) (mounted (codes "h1") (codes "/a")))
+      (mounted (codes "h2") (codes "/a"))) (mounted (codes "h1") (codes "/a")))
+      (mounted (codes "h1") (codes "//a/"))).mounts
+      ≡ record { hostname = codes "h1"; directory = codes "/a" } ∷
+      record { hostname = codes "h2"; directory = codes "/a" } ∷
+      record { hostname = codes "h1"; directory = codes "//a/" } ∷ []
   pub dumps : (m : State) (moment : Moment) (limits : Limits)
-      → MountStep (record m { mounts = three_mounts }) (called_by (codes "h2") 7 moment limits) mount.Dump (mount_replies.Dump three_mounts) [] (record m { mounts = three_mounts })
+      → MountStep (record m { mounts = three_mounts }) (called_by (codes "h2") 7 moment limits) mount.Dump
+      (mount_replies.Dump three_mounts) [] (record m { mounts = three_mounts })
   -- UMNT compares the path as it was sent
   pub umnt : (m : State) (moment : Moment) (limits : Limits)
-      → MountStep (record m { mounts = three_mounts }) (called_by (codes "h1") 7 moment limits) (mount.Unmount (codes "/a")) mount_replies.Unmount []
+      → MountStep (record m { mounts = three_mounts }) (called_by (codes "h1") 7 moment limits)
+      (mount.Unmount (codes "/a")) mount_replies.Unmount []
       (record m { mounts = mounted (codes "h2") (codes "/a") ∷ mounted (codes "h1") (codes "//a/") ∷ [] })
   pub umnt_of_none : (m : State) (moment : Moment) (limits : Limits)
-      → MountStep (record m { mounts = three_mounts }) (called_by (codes "h2") 7 moment limits) (mount.Unmount (codes "//a/")) mount_replies.Unmount [] (record m { mounts = three_mounts })
+      → MountStep (record m { mounts = three_mounts }) (called_by (codes "h2") 7 moment limits)
+      (mount.Unmount (codes "//a/")) mount_replies.Unmount [] (record m { mounts = three_mounts })
   pub umntall : (m : State) (moment : Moment) (limits : Limits)
-      → MountStep (record m { mounts = three_mounts }) (called_by (codes "h1") 7 moment limits) mount.UnmountAll mount_replies.UnmountAll [] (record m { mounts = mounted (codes "h2") (codes "/a") ∷ [] })
+      → MountStep (record m { mounts = three_mounts })
+      (called_by (codes "h1") 7 moment limits) mount.UnmountAll mount_replies.UnmountAll []
+      (record m { mounts = mounted (codes "h2") (codes "/a") ∷ [] })
   pub export : (m : State) (moment : Moment) (limits : Limits)
       → MountStep m (called_by (codes "h1") 7 moment limits) mount.Export
-      (mount_replies.Export (record { directory = codes "/a"; groups = [] } ∷ record { directory = codes "/a/b"; groups = codes "10.0.0.2" ∷ [] } ∷ [])) [] m
+      (mount_replies.Export
+      (record { directory = codes "/a"; groups = [] } ∷
+      record { directory = codes "/a/b"; groups = codes "10.0.0.2" ∷ [] } ∷ [])) [] m
   -- by another host than 10.0.0.2 it is what `b` is below the first (WorkedWalks)
   pub nothing_there : walk find 1 (codes "b" ∷ []) ≡ Err mount_status.NoEntry

@@ -1,5 +1,7 @@
--- Calls on names worked through by hand: MKDIR, SYMLINK, MKNOD, REMOVE, RMDIR, RENAME and LINK (RFC 1813, 3.3.9 to 3.3.15).
-use Rattle.std.specs.Prelude.{◌≡◌, ℕ, ℤ, true, false, List, [], ◌∷◌, ◌++◌, Option, Some, None, Result, Ok, Err, codes, replicate, is_none}
+-- Calls on names worked through by hand: MKDIR, SYMLINK, MKNOD, REMOVE, RMDIR, RENAME and LINK (RFC 1813, 3.3.9 to
+-- 3.3.15).
+use Rattle.std.specs.Prelude.{◌≡◌, ℕ, ℤ, true, false, List, [], ◌∷◌, ◌++◌, Option, Some, None}
+use Rattle.std.specs.Prelude.{Result, Ok, Err, codes, replicate, is_none}
 use Rattle.std.specs.FinMap.{get}
 use Rattle.nfs_wire.specs.declared.attributes.DeviceNumber.{DeviceNumber}
 use Rattle.nfs_wire.specs.declared.calls.Ordinary.TheVariants as ordinary
@@ -58,8 +60,10 @@ pub record WorkedMakes : Type 0 where
   pub block_by_root : kind_checked (called_as 0) 2 (state.BlockDevice disk) ≡ Ok tt
   pub fifo_by_user : kind_checked (called_as 1) 2 state.Fifo ≡ Ok tt
   pub socket_by_user : kind_checked (called_as 1) 2 state.Socket ≡ Ok tt
-  pub fifo : wanted_special (Fifo no_attributes) ≡ Ok (record { mode = 420; content = state.Fifo; attributes = no_attributes; verifier = None })
-  pub device : wanted_special (BlockDevice no_attributes disk) ≡ Ok (record { mode = 420; content = state.BlockDevice disk; attributes = no_attributes; verifier = None })
+  pub fifo : wanted_special (Fifo no_attributes) ≡ Ok
+      (record { mode = 420; content = state.Fifo; attributes = no_attributes; verifier = None })
+  pub device : wanted_special (BlockDevice no_attributes disk) ≡ Ok
+      (record { mode = 420; content = state.BlockDevice disk; attributes = no_attributes; verifier = None })
   pub empty_text : kind_checked (called_as 9) 2 (Link []) ≡ Err status.Invalid
   pub nul_in_text : kind_checked (called_as 9) 2 (Link (97 ∷ 0 ∷ [])) ≡ Err status.Invalid
   pub plain_text : kind_checked (called_as 9) 2 (Link (codes "../a")) ≡ Ok tt
@@ -89,14 +93,24 @@ both_entries = first_entry ∷ second_entry ∷ []
 
 -- a lock of one byte of a file
 abbrev pub lock_of : ℤ → ℕ → Lock
-lock_of process file = record { range = record { file = file; owner = record { caller_name = codes "c"; owner = codes "o"; process = process }; first = 0; last = 0 }; exclusive = true }
+lock_of process file = record {
+  range = record {
+    file = file;
+    owner = record { caller_name = codes "c"; owner = codes "o"; process = process };
+    first = 0;
+    last = 0;
+  };
+  exclusive = true;
+}
 
 -- a share of it, and a request for a lock of it
 abbrev pub share_of : ℕ → Share
-share_of file = record { file = file; caller_name = codes "c"; owner = codes "o"; mode = mode.DenyNone; access = access.Read }
+share_of file = record
+    { file = file; caller_name = codes "c"; owner = codes "o"; mode = mode.DenyNone; access = access.Read }
 
 abbrev pub request_of : NlmLock → ℕ → Request
-request_of lock file = record { number = 1; file = file; host = codes "h"; exclusive = true; asked = lock; by_message = false }
+request_of lock file = record
+    { number = 1; file = file; host = codes "h"; exclusive = true; asked = lock; by_message = false }
 
 -- what REMOVE and RMDIR take away, and what becomes of an object
 pub record WorkedRemovals : Type 0 where
@@ -111,13 +125,22 @@ pub record WorkedRemovals : Type 0 where
   pub none_taken : without both_entries (codes "c") ≡ both_entries
   -- an object goes with its last name, and its locks with it
   pub last_name : (m : State) (o : Living) → losing_name m 1 (time 1000 0) 4 o ≡ without_object m 4
-  pub other_name : (m : State) (o : Living) → losing_name m 2 (time 1000 0) 4 o ≡ with_object m 4 (touched o (time 1000 0))
-  pub changed : (touched (object 420 (Regular [])) (time 1000 0)) ≡ record (object 420 (Regular [])) { changed = time 1000 0 }
-  pub locks_go : (m : State) (process : ℤ) → (without_object (record m { locks = lock_of process 4 ∷ lock_of process 5 ∷ [] }) 4).locks ≡ lock_of process 5 ∷ []
+  pub other_name : (m : State) (o : Living) →
+      losing_name m 2 (time 1000 0) 4 o ≡ with_object m 4 (touched o (time 1000 0))
+  pub changed : (touched (object 420 (Regular [])) (time 1000 0)) ≡ record
+      (object 420 (Regular [])) { changed = time 1000 0 }
+  pub locks_go : (m : State) (process : ℤ) →
+      (without_object (record m { locks = lock_of process 4 ∷ lock_of process 5 ∷ [] }) 4).locks ≡
+      lock_of process 5 ∷ []
   -- and its shares, and what waits for a lock of it or was granted
-  pub shares_go : (m : State) → (without_object (record m { shares = share_of 4 ∷ share_of 5 ∷ [] }) 4).shares ≡ share_of 5 ∷ []
-  pub waiting_go : (m : State) (lock : NlmLock) → (without_object (record m { waiting = request_of lock 4 ∷ request_of lock 5 ∷ [] }) 4).waiting ≡ request_of lock 5 ∷ []
-  pub grants_go : (m : State) (lock : NlmLock) → (without_object (record m { granted = request_of lock 4 ∷ request_of lock 5 ∷ [] }) 4).granted ≡ request_of lock 5 ∷ []
+  pub shares_go : (m : State) →
+      (without_object (record m { shares = share_of 4 ∷ share_of 5 ∷ [] }) 4).shares ≡ share_of 5 ∷ []
+  pub waiting_go : (m : State) (lock : NlmLock) →
+      (without_object (record m { waiting = request_of lock 4 ∷ request_of lock 5 ∷ [] }) 4).waiting ≡
+      request_of lock 5 ∷ []
+  pub grants_go : (m : State) (lock : NlmLock) →
+      (without_object (record m { granted = request_of lock 4 ∷ request_of lock 5 ∷ [] }) 4).granted ≡
+      request_of lock 5 ∷ []
 
 -- the links of a directory or a file
 pub record WorkedLinks : Type 0 where
@@ -125,12 +148,15 @@ pub record WorkedLinks : Type 0 where
   pub one_too_many : kind_checked (called_as 9) 32000 (Directory [] 2) ≡ Err status.TooManyLinks
   -- a directory has 2, and one for each directory in it
   pub empty : (m : State) → links_of m 1 (Directory [] 7) ≡ 2
-  pub one_below : (m : State) (a b : Living) → get m.objects 4 ≡ Some a → get m.objects 5 ≡ Some b → is_directory a.content ≡ true → is_directory b.content ≡ false
+  pub one_below : (m : State) (a b : Living) → get m.objects 4 ≡ Some a → get m.objects 5 ≡ Some b →
+      is_directory a.content ≡ true → is_directory b.content ≡ false
       → links_of m 1 (Directory both_entries 7) ≡ 3
-  pub two_below : (m : State) (a b : Living) → get m.objects 4 ≡ Some a → get m.objects 5 ≡ Some b → is_directory a.content ≡ true → is_directory b.content ≡ true
+  pub two_below : (m : State) (a b : Living) → get m.objects 4 ≡ Some a → get m.objects 5 ≡ Some b →
+      is_directory a.content ≡ true → is_directory b.content ≡ true
       → links_of m 1 (Directory both_entries 7) ≡ 4
   -- both names of one directory may lead to one file
-  pub two_names : names_in 4 (object 511 (Directory (first_entry ∷ record second_entry { number = 4 } ∷ []) 7)) ≡ 2
+  pub two_names : names_in 4
+      (object 511 (Directory (first_entry ∷ record second_entry { number = 4 } ∷ []) 7)) ≡ 2
   pub taken_name : is_none (entry_of both_entries (codes "b")) ≡ false
   pub free_name : is_none (entry_of both_entries (codes "c")) ≡ true
   -- of two handles, the second is not looked at where the first names nothing
@@ -141,18 +167,24 @@ pub record WorkedLinks : Type 0 where
 abbrev pub a_to_b : RenameArguments
 a_to_b = record { from = record { directory = []; name = codes "a" }; to = record { directory = []; name = codes "b" } }
 
--- "a" of directory 2, an object of this content, comes to "b" of a directory, where this stands; the directories have these entries
-abbrev pub move_among : (entries others : List Entry) → State → Content → (target last_cookie : ℕ) → Option (ℕ × Living) → Result (Option (ℕ × ℕ) × Result (Unit {0} × State) NfsStatus) NfsStatus
+-- "a" of directory 2, an object of this content, comes to "b" of a directory, where this stands; the directories have
+-- these entries
+abbrev pub move_among : (entries others : List Entry) → State → Content → (target last_cookie : ℕ) →
+    Option (ℕ × Living) → Result (Option (ℕ × ℕ) × Result (Unit {0} × State) NfsStatus) NfsStatus
 move_among entries others m content target last_cookie replaced =
-    move_plan m (time 1000 0) a_to_b (2, object 511 (Directory entries 7)) (target, object 511 (Directory others last_cookie)) (entries, 7) (others, last_cookie) (4, object 511 content) replaced
+    move_plan m (time 1000 0) a_to_b (2, object 511 (Directory entries 7))
+    (target, object 511 (Directory others last_cookie)) (entries, 7) (others, last_cookie)
+    (4, object 511 content) replaced
 
 abbrev pub directory_with : List Entry → ℕ → Living
-directory_with entries last_cookie = with_content (object 511 (Directory [] 7)) (time 1000 0) (Directory entries last_cookie)
+directory_with entries last_cookie = with_content (object 511 (Directory [] 7)) (time 1000 0)
+    (Directory entries last_cookie)
 
 -- the state then: the object has the name "b" of its new directory, with this cookie, behind the names that stay there
 abbrev pub moved_among : List Entry → State → Content → (target : ℕ) → List Entry → (cookie : ℕ) → State
 moved_among source m content target left cookie =
-    with_object (with_object (with_object m 2 (directory_with source 7)) target (directory_with (left ++ record { name = codes "b"; number = 4; cookie = cookie } ∷ []) cookie)) 4
+    with_object (with_object (with_object m 2 (directory_with source 7)) target
+    (directory_with (left ++ record { name = codes "b"; number = 4; cookie = cookie } ∷ []) cookie)) 4
     (touched (object 511 content) (time 1000 0))
 
 -- beside "a" there is "c", and in another directory "d"
@@ -176,30 +208,61 @@ pub record WorkedRenames : Type 0 where
   pub file_over_directory : is_compatible (Regular []) (Directory [] 2) ≡ false
   pub file_over_link : is_compatible (Regular []) (Link (codes "x")) ≡ true
   -- two names of one object
-  pub same_object : (m : State) (entries others : List Entry) → move_among entries others m (Regular []) 2 7 (Some (4, object 511 (Regular []))) ≡ Ok (None, Ok (tt, m))
-  pub over_file : (m : State) → move_among both_entries both_entries m (Directory [] 2) 2 7 (Some (5, object 420 (Regular []))) ≡ Err status.Exists
-  pub over_nothing : (m : State) → move_among beside beside m (Directory [] 2) 2 7 None ≡ Ok (Some (4, 2), Ok (tt, moved_among (third_entry ∷ []) m (Directory [] 2) 2 (third_entry ∷ []) 8))
+  pub same_object : (m : State) (entries others : List Entry) →
+      move_among entries others m (Regular []) 2 7 (Some (4, object 511 (Regular []))) ≡ Ok (None, Ok (tt, m))
+  pub over_file : (m : State) →
+      move_among both_entries both_entries m (Directory [] 2) 2 7
+      (Some (5, object 420 (Regular []))) ≡ Err status.Exists
+  pub over_nothing : (m : State) →
+      move_among beside beside m (Directory [] 2) 2 7 None ≡ Ok
+      (Some (4, 2), Ok (tt, moved_among (third_entry ∷ []) m (Directory [] 2) 2 (third_entry ∷ []) 8))
   -- what the target keeps: its other names, and in the old name's directory not that one
   pub left_in_other : (m : State)
-      → move_among beside (fourth_entry ∷ []) m (Regular []) 3 7 None ≡ Ok (None, Ok (tt, moved_among (third_entry ∷ []) m (Regular []) 3 (fourth_entry ∷ []) 8))
-  pub left_in_same : (m : State) → move_among beside beside m (Regular []) 2 7 None ≡ Ok (None, Ok (tt, moved_among (third_entry ∷ []) m (Regular []) 2 (third_entry ∷ []) 8))
+      → move_among beside (fourth_entry ∷ []) m (Regular []) 3 7 None ≡ Ok
+      (None, Ok (tt, moved_among (third_entry ∷ []) m (Regular []) 3 (fourth_entry ∷ []) 8))
+  pub left_in_same : (m : State) →
+      move_among beside beside m (Regular []) 2 7 None ≡ Ok
+      (None, Ok (tt, moved_among (third_entry ∷ []) m (Regular []) 2 (third_entry ∷ []) 8))
   -- a move that brings a link is refused where the target has all its links; the others go on, whatever links it has
   pub last_link : (m : State) (entries others : List Entry) → links_of m 3 (Directory others 40000) ≡ 31999
       → move_among entries others m (Directory [] 2) 3 40000 None
-      ≡ Ok (Some (4, 3), Ok (tt, moved_among (without entries (codes "a")) m (Directory [] 2) 3 (without others (codes "b")) 40001))
+      ≡ Ok (
+        Some (4, 3),
+        Ok
+            (tt, moved_among (without entries (codes "a")) m (Directory [] 2) 3 (without others (codes "b")) 40001),
+      )
   pub link_to_other : (m : State) (entries others : List Entry) → links_of m 3 (Directory others 40000) ≡ 32000
       → move_among entries others m (Directory [] 2) 3 40000 None ≡ Ok (Some (4, 3), Err status.TooManyLinks)
   pub link_to_same : (m : State) (entries : List Entry)
       → move_among entries entries m (Directory [] 2) 2 7 None
-      ≡ Ok (Some (4, 2), Ok (tt, moved_among (without entries (codes "a")) m (Directory [] 2) 2 (without (without entries (codes "b")) (codes "a")) 8))
+      ≡ Ok (
+        Some (4, 2),
+        Ok (
+          tt,
+          moved_among (without entries (codes "a")) m (Directory [] 2) 2
+              (without (without entries (codes "b")) (codes "a")) 8,
+        ),
+      )
   pub link_over_directory : (m : State) (entries others : List Entry)
       → move_among entries others m (Directory [] 2) 3 40000 empty_place
-      ≡ Ok (Some (4, 3), Ok (tt, losing_name (moved_among (without entries (codes "a")) m (Directory [] 2) 3 (without others (codes "b")) 40001) (names_of m 5) (time 1000 0) 5 (object 511 (Directory [] 2))))
+      ≡ Ok (
+        Some (4, 3),
+        Ok (
+          tt,
+          losing_name (moved_among (without entries (codes "a")) m (Directory [] 2) 3
+              (without others (codes "b")) 40001) (names_of m 5) (time 1000 0) 5 (object 511 (Directory [] 2)),
+        ),
+      )
   pub link_of_file : (m : State) (entries others : List Entry)
-      → move_among entries others m (Regular []) 3 40000 None ≡ Ok (None, Ok (tt, moved_among (without entries (codes "a")) m (Regular []) 3 (without others (codes "b")) 40001))
-  pub last_cookie : (m : State) → move_among beside (fourth_entry ∷ []) m (Regular []) 3 18446744073709551615 None ≡ Ok (None, Err status.NoSpace)
+      → move_among entries others m (Regular []) 3 40000 None ≡ Ok
+      (None, Ok (tt, moved_among (without entries (codes "a")) m (Regular []) 3 (without others (codes "b")) 40001))
+  pub last_cookie : (m : State) →
+      move_among beside (fourth_entry ∷ []) m (Regular []) 3 18446744073709551615 None ≡ Ok
+      (None, Err status.NoSpace)
   -- a directory into itself
   pub into_itself : (m : State) (end : Result (Unit {0} × State) NfsStatus)
-      → RenameEnds m (move_among beside (fourth_entry ∷ []) m (Directory (fourth_entry ∷ []) 7) 4 7 None) end → end ≡ Err status.Invalid
+      → RenameEnds m (move_among beside (fourth_entry ∷ []) m (Directory (fourth_entry ∷ []) 7) 4 7 None) end →
+      end ≡ Err status.Invalid
   -- and below: a name of the directory 4 leads to the directory 6
-  pub below : (m : State) (directory : Living) → get m.objects 4 ≡ Some directory → directory.content ≡ Directory (record first_entry { number = 6 } ∷ []) 3 → IsWithin m 4 6
+  pub below : (m : State) (directory : Living) → get m.objects 4 ≡ Some directory →
+      directory.content ≡ Directory (record first_entry { number = 6 } ∷ []) 3 → IsWithin m 4 6

@@ -96,46 +96,65 @@ IsAnswered m ctx call reply = NfsStep m ctx call reply [] m
 
 -- what is answered in a state with the file
 pub record WorkedFileReplies : Type 0 where
-  pub guarded : (m : State) → HasFile m → IsAnswered m (called_as 0) (calls.Setattr (setting_mode (time 1000 0))) (replies.Setattr (record {
-    wcc = record { before = Some file_before; after = Some (file_shown 420 (time 1000 1)) };
-    result = Err status.NotSynchronized;
-  }))
-  pub set : (m : State) → HasFile m → NfsStep m (called_as 0) (calls.Setattr (setting_mode (time 1000 1))) (replies.Setattr (record {
-    wcc = record { before = Some file_before; after = Some (file_shown 384 (time 1000 2)) };
-    result = Ok tt;
-  })) [] (with_object m 2 (record known_file { mode = 384; changed = time 1000 2 }))
+  pub guarded : (m : State) → HasFile m →
+      IsAnswered m (called_as 0) (calls.Setattr (setting_mode (time 1000 0))) (replies.Setattr (record {
+        wcc = record { before = Some file_before; after = Some (file_shown 420 (time 1000 1)) };
+        result = Err status.NotSynchronized;
+      }))
+  pub set : (m : State) → HasFile m →
+      NfsStep m (called_as 0) (calls.Setattr (setting_mode (time 1000 1))) (replies.Setattr (record {
+        wcc = record { before = Some file_before; after = Some (file_shown 384 (time 1000 2)) };
+        result = Ok tt;
+      })) [] (with_object m 2 (record known_file { mode = 384; changed = time 1000 2 }))
   pub access : (m : State) → HasFile m
-      → IsAnswered m (called_as 5) (calls.Access (record { object = file_bytes; rights = 63 })) (replies.Access (record { attributes = Some (file_shown 420 (time 1000 1)); result = Ok 1 }))
+      → IsAnswered m (called_as 5) (calls.Access (record { object = file_bytes; rights = 63 }))
+      (replies.Access (record { attributes = Some (file_shown 420 (time 1000 1)); result = Ok 1 }))
   pub no_link : (m : State) → HasFile m
-      → IsAnswered m (called_as 0) (calls.Readlink file_bytes) (replies.Readlink (record { attributes = Some (file_shown 420 (time 1000 1)); result = Err status.Invalid }))
-  pub committed : (m : State) → HasFile m → IsAnswered m (called_as 5) (calls.Commit (record { file = file_bytes; offset = 0; count = 0 })) (replies.Commit (record {
-    wcc = record { before = Some file_before; after = Some (file_shown 420 (time 1000 1)) };
-    result = Ok (record { bytes = 0 ∷ 0 ∷ 0 ∷ 0 ∷ 0 ∷ 0 ∷ 0 ∷ 7 ∷ [] });
-  }))
+      → IsAnswered m (called_as 0) (calls.Readlink file_bytes)
+      (replies.Readlink (record { attributes = Some (file_shown 420 (time 1000 1)); result = Err status.Invalid }))
+  pub committed : (m : State) → HasFile m →
+      IsAnswered m (called_as 5) (calls.Commit (record { file = file_bytes; offset = 0; count = 0 }))
+      (replies.Commit (record {
+        wcc = record { before = Some file_before; after = Some (file_shown 420 (time 1000 1)) };
+        result = Ok (record { bytes = 0 ∷ 0 ∷ 0 ∷ 0 ∷ 0 ∷ 0 ∷ 0 ∷ 7 ∷ [] });
+      }))
   pub limits : (m : State) → HasFile m
-      → IsAnswered m (called_as 0) (calls.Pathconf file_bytes) (replies.Pathconf (record { attributes = Some (file_shown 420 (time 1000 1)); result = Ok path_limits }))
-  pub bad_handle : (m : State) → IsAnswered m (called_as 0) (calls.Fsinfo (take 31 file_bytes)) (replies.Fsinfo (record { attributes = None; result = Err status.BadHandle }))
+      → IsAnswered m (called_as 0) (calls.Pathconf file_bytes)
+      (replies.Pathconf (record { attributes = Some (file_shown 420 (time 1000 1)); result = Ok path_limits }))
+  pub bad_handle : (m : State) →
+      IsAnswered m (called_as 0) (calls.Fsinfo (take 31 file_bytes))
+      (replies.Fsinfo (record { attributes = None; result = Err status.BadHandle }))
 
 -- and in the state of a fresh export
 pub record WorkedRootReplies : Type 0 where
-  pub space : (m : State) → HasRoot m → IsAnswered m (with_room 1099511627776) (calls.Fsstat root_bytes) (replies.Fsstat (record {
-    attributes = Some root_shown;
-    result = Ok (record {
-      total_bytes = 1099511627776;
-      free_bytes = 1099511623680;
-      available_bytes = 1099511623680;
-      total_files = 4294967295;
-      free_files = 4294967294;
-      available_files = 4294967294;
-      unchanged_for = 0;
-    });
-  }))
-  pub system : (m : State) → HasRoot m → IsAnswered m (called_as 0) (calls.Fsinfo root_bytes) (replies.Fsinfo (record { attributes = Some root_shown; result = Ok file_system }))
-  pub no_file : (m : State) → HasRoot m → IsAnswered m (called_as 0) (calls.Commit (record { file = root_bytes; offset = 0; count = 0 })) (replies.Commit (record {
-    wcc = record { before = Some (record { size = 4096; modified = time 1000 0; changed = time 1000 0 }); after = Some root_shown };
-    result = Err status.Invalid;
-  }))
+  pub space : (m : State) → HasRoot m →
+      IsAnswered m (with_room 1099511627776) (calls.Fsstat root_bytes) (replies.Fsstat (record {
+        attributes = Some root_shown;
+        result = Ok (record {
+          total_bytes = 1099511627776;
+          free_bytes = 1099511623680;
+          available_bytes = 1099511623680;
+          total_files = 4294967295;
+          free_files = 4294967294;
+          available_files = 4294967294;
+          unchanged_for = 0;
+        });
+      }))
+  pub system : (m : State) → HasRoot m →
+      IsAnswered m (called_as 0) (calls.Fsinfo root_bytes)
+      (replies.Fsinfo (record { attributes = Some root_shown; result = Ok file_system }))
+  pub no_file : (m : State) → HasRoot m →
+      IsAnswered m (called_as 0) (calls.Commit (record { file = root_bytes; offset = 0; count = 0 }))
+      (replies.Commit (record {
+        wcc = record {
+          before = Some (record { size = 4096; modified = time 1000 0; changed = time 1000 0 });
+          after = Some root_shown;
+        };
+        result = Err status.Invalid;
+      }))
   -- which cookies are good where the start number is 7: what is left of the root behind them
-  pub first_cookie : (m : State) → HasRoot m → entries_left m (called_as 0) root_bytes 0 zeros 1 ≡ Ok (all_entries 1 1 [])
-  pub other_cookie : (m : State) → HasRoot m → entries_left m (called_as 0) root_bytes 4 zeros 1 ≡ Err status.BadCookie
+  pub first_cookie : (m : State) → HasRoot m →
+      entries_left m (called_as 0) root_bytes 0 zeros 1 ≡ Ok (all_entries 1 1 [])
+  pub other_cookie : (m : State) → HasRoot m →
+      entries_left m (called_as 0) root_bytes 4 zeros 1 ≡ Err status.BadCookie
   pub good_cookie : (m : State) → HasRoot m → entries_left m (called_as 0) root_bytes 4 seven 1 ≡ Ok []

@@ -1,5 +1,6 @@
 -- A run worked through by hand: a file is made and written (RFC 1813, 3.3.7 and 3.3.8); and steps from where it ends.
-use Rattle.std.specs.Prelude.{◌≡◌, ℕ, Bool, true, false, ◌&&◌, ◌||◌, List, [], ◌∷◌, ◌++◌, map, None, Some, replicate, Ok, Err, codes, ◌==◌}
+use Rattle.std.specs.Prelude.{◌≡◌, ℕ, Bool, true, false, ◌&&◌, ◌||◌, List, [], ◌∷◌, ◌++◌}
+use Rattle.std.specs.Prelude.{map, None, Some, replicate, Ok, Err, codes, ◌==◌}
 use Rattle.std.specs.FinMap.{get, insert}
 use Rattle.std.specs.List.{AllByRecursion}
 use Rattle.nfs_xdr.specs.Writing.{write}
@@ -57,10 +58,21 @@ argument_bytes call = write (arguments_type (procedure_of call)) (arguments_of c
 
 abbrev pub arrives : NfsCall → Arrival
 arrives call =
-    record { host = codes "10.0.0.1"; bytes = words (9 ∷ 0 ∷ 2 ∷ 100003 ∷ 3 ∷ procedure_of call ∷ 0 ∷ 0 ∷ 0 ∷ 0 ∷ []) ++ argument_bytes call; moment = moment }
+    record {
+      host = codes "10.0.0.1";
+      bytes = words (9 ∷ 0 ∷ 2 ∷ 100003 ∷ 3 ∷ procedure_of call ∷ 0 ∷ 0 ∷ 0 ∷ 0 ∷ []) ++
+          argument_bytes call;
+      moment = moment;
+    }
 
 abbrev pub header_of : NfsCall → CallHeader
-header_of call = record { xid = 9; program = programs.Nfs; procedure = procedure_of call; ids = user 65534 65534; arguments = argument_bytes call }
+header_of call = record {
+  xid = 9;
+  program = programs.Nfs;
+  procedure = procedure_of call;
+  ids = user 65534 65534;
+  arguments = argument_bytes call;
+}
 
 abbrev pub nobody : Ctx
 nobody = called_as 65534
@@ -89,10 +101,14 @@ abbrev pub x : Living
 x = new_object nobody 1 1 (wanted_file (Unchecked no_attributes))
 
 abbrev pub with_x : State
-with_x = record opened { objects = insert (insert opened.objects 1 root_with_x) 5 x; spent = λ n g. ((n == 5) && (g == 1)) || opened.spent n g }
+with_x = record opened {
+  objects = insert (insert opened.objects 1 root_with_x) 5 x;
+  spent = λ n g. ((n == 5) && (g == 1)) || opened.spent n g;
+}
 
 abbrev pub made_reply : NfsReply
-made_reply = nfs_replies.Create (record { directory = wcc with_x (resolve opened nobody root_bytes); result = Ok (made with_x nobody 5 x) })
+made_reply = nfs_replies.Create
+    (record { directory = wcc with_x (resolve opened nobody root_bytes); result = Ok (made with_x nobody 5 x) })
 
 -- "hi" is written into it
 abbrev pub x_bytes : List ℕ
@@ -108,12 +124,17 @@ abbrev pub written : State
 written = with_object with_x 5 x_written
 
 abbrev pub wrote_reply : NfsReply
-wrote_reply = nfs_replies.Write (record { wcc = wcc written (resolve with_x nobody x_bytes); result = Ok (record { count = 2; committed = FileSync; verifier = seven }) })
+wrote_reply = nfs_replies.Write
+    (record {
+      wcc = wcc written (resolve with_x nobody x_bytes);
+      result = Ok (record { count = 2; committed = FileSync; verifier = seven });
+    })
 
 abbrev pub records : List Record
 records = executed (nfs.Create making) made_reply ∷ executed (nfs.Write writing) wrote_reply ∷ []
 
--- The run, of hosts whose names are within their bound. The root lives under its handle from the beginning to the end, and was changed.
+-- The run, of hosts whose names are within their bound. The root lives under its handle from the beginning to the
+-- end, and was changed.
 pub record WorkedRun : Type 0 where
   pub run : Run setting opened records written
   pub hosts : AllByRecursion (λ (r : Record). IsHostName r.arrival.host) records
@@ -127,7 +148,8 @@ abbrev pub listing : ReaddirArguments
 listing = record { directory = root_bytes; cookie = 0; verifier = zeros; count = 65536 }
 
 abbrev pub all_three : List Entry
-all_three = record { name = codes "."; number = 1; cookie = 1 } ∷ record { name = codes ".."; number = 1; cookie = 2 } ∷ x_entry ∷ []
+all_three = record { name = codes "."; number = 1; cookie = 1 } ∷
+    record { name = codes ".."; number = 1; cookie = 2 } ∷ x_entry ∷ []
 
 abbrev pub listing_full : ReaddirplusArguments
 listing_full = record { directory = root_bytes; cookie = 0; verifier = zeros; directory_count = 65536; most = 65536 }
@@ -142,24 +164,37 @@ abbrev pub miscounted : WriteArguments
 miscounted = record writing { count = 3 }
 
 abbrev pub listed_reply : NfsReply
-listed_reply = nfs_replies.Readdir (record { attributes = shown written (resolve written nobody root_bytes); result = Ok (record { verifier = seven; entries = map page_entry all_three; eof = true }) })
+listed_reply = nfs_replies.Readdir
+    (record {
+      attributes = shown written (resolve written nobody root_bytes);
+      result = Ok (record { verifier = seven; entries = map page_entry all_three; eof = true });
+    })
 
 -- with what each name leads to: the root twice, and the file
 abbrev pub full : Entry → Living → List ℕ → FullEntry
-full e o handle = record { entry = page_entry e; attributes = Some (attributes_of written e.number o); object = Some handle }
+full e o handle = record
+    { entry = page_entry e; attributes = Some (attributes_of written e.number o); object = Some handle }
 
 abbrev pub full_three : List FullEntry
 full_three =
-    full (record { name = codes "."; number = 1; cookie = 1 }) root_with_x root_bytes ∷ full (record { name = codes ".."; number = 1; cookie = 2 }) root_with_x root_bytes ∷ full x_entry x_written x_bytes ∷ []
+    full (record { name = codes "."; number = 1; cookie = 1 }) root_with_x root_bytes ∷
+    full (record { name = codes ".."; number = 1; cookie = 2 }) root_with_x root_bytes ∷
+    full x_entry x_written x_bytes ∷ []
 
 abbrev pub listed_full_reply : NfsReply
-listed_full_reply = nfs_replies.Readdirplus (record { attributes = shown written (resolve written nobody root_bytes); result = Ok (record { verifier = seven; entries = full_three; eof = true }) })
+listed_full_reply = nfs_replies.Readdirplus
+    (record {
+      attributes = shown written (resolve written nobody root_bytes);
+      result = Ok (record { verifier = seven; entries = full_three; eof = true });
+    })
 
 abbrev pub removed_reply : NfsReply
-removed_reply = nfs_replies.Remove (record { directory = wcc removed (resolve written nobody root_bytes); result = Ok tt })
+removed_reply = nfs_replies.Remove
+    (record { directory = wcc removed (resolve written nobody root_bytes); result = Ok tt })
 
 abbrev pub refused_reply : NfsReply
-refused_reply = nfs_replies.Write (record { wcc = wcc with_x (resolve with_x nobody x_bytes); result = Err status.Invalid })
+refused_reply = nfs_replies.Write
+    (record { wcc = wcc with_x (resolve with_x nobody x_bytes); result = Err status.Invalid })
 
 pub record WorkedSteps : Type 0 where
   pub listed : NfsStep written nobody (nfs.Readdir listing) listed_reply [] written
@@ -177,20 +212,29 @@ root_with entries = with_content root (time 1000 0) (Directory entries 40000)
 
 abbrev pub linked : State → List Entry → State
 linked m entries =
-    with_object (with_object m 1 (with_content (root_with entries) (time 1000 0) (Directory (entries ++ record { name = codes "y"; number = 5; cookie = 40001 } ∷ []) 40001))) 5 (touched x_written (time 1000 0))
+    with_object (with_object m 1
+    (with_content (root_with entries) (time 1000 0)
+    (Directory (entries ++ record { name = codes "y"; number = 5; cookie = 40001 } ∷ []) 40001))) 5
+    (touched x_written (time 1000 0))
 
 -- what it comes to where the file has so many names
 pub record WorkedLinking (m : State) (entries : List Entry) : Type 0 where
-  pub last : entry_of entries (codes "y") ≡ None → names_of m 5 ≡ 31999 → link_end m nobody (linking (codes "y")) ≡ Ok (tt, linked m entries)
-  pub full : entry_of entries (codes "y") ≡ None → names_of m 5 ≡ 32000 → link_end m nobody (linking (codes "y")) ≡ Err status.TooManyLinks
+  pub last : entry_of entries (codes "y") ≡ None → names_of m 5 ≡ 31999 →
+      link_end m nobody (linking (codes "y")) ≡ Ok (tt, linked m entries)
+  pub full : entry_of entries (codes "y") ≡ None → names_of m 5 ≡ 32000 →
+      link_end m nobody (linking (codes "y")) ≡ Err status.TooManyLinks
   -- a name that is there comes before that
-  pub there : (e : Entry) → entry_of entries (codes "x") ≡ Some e → link_end m nobody (linking (codes "x")) ≡ Err status.Exists
+  pub there : (e : Entry) → entry_of entries (codes "x") ≡ Some e →
+      link_end m nobody (linking (codes "x")) ≡ Err status.Exists
   pub self : link_end m nobody (linking (codes ".")) ≡ Err status.Invalid
   pub directory : link_end m nobody (record (linking (codes "y")) { file = root_bytes }) ≡ Err status.Invalid
-  pub into_file : link_end m nobody (record (linking (codes "y")) { place = record { directory = x_bytes; name = codes "y" } }) ≡ Err status.NotDirectory
+  pub into_file : link_end m nobody
+      (record (linking (codes "y")) { place = record { directory = x_bytes; name = codes "y" } }) ≡
+      Err status.NotDirectory
 
 abbrev pub WorkedLinkings : Type 0
-WorkedLinkings = (m : State) (entries : List Entry) → get m.objects 1 ≡ Some (root_with entries) → get m.objects 5 ≡ Some x_written → WorkedLinking m entries
+WorkedLinkings = (m : State) (entries : List Entry) → get m.objects 1 ≡ Some (root_with entries) →
+    get m.objects 5 ≡ Some x_written → WorkedLinking m entries
 
 -- RENAME of a name of the root to another
 abbrev pub renaming : (from to : List ℕ) → RenameArguments
@@ -203,9 +247,13 @@ read_only = record nobody { exports = record open_export { read_only = true } �
 -- the root, which is both directories, changes once
 abbrev pub renamed : State → List Entry → State
 renamed m entries =
-    let source = with_object m 1 (with_content (root_with entries) (time 1000 0) (Directory (without entries (codes "x")) 40000)) in
+    let source = with_object m 1
+    (with_content (root_with entries) (time 1000 0) (Directory (without entries (codes "x")) 40000)) in
     let left = without (without entries (codes "y")) (codes "x") in
-    with_object (with_object source 1 (with_content (root_with entries) (time 1000 0) (Directory (left ++ record { name = codes "y"; number = 5; cookie = 40001 } ∷ []) 40001))) 5 (touched x_written (time 1000 0))
+    with_object (with_object source 1
+    (with_content (root_with entries) (time 1000 0)
+    (Directory (left ++ record { name = codes "y"; number = 5; cookie = 40001 } ∷ []) 40001))) 5
+    (touched x_written (time 1000 0))
 
 -- what it comes to: the checks in their order, a move to a name that is free, and two names of one file
 pub record WorkedRenaming (m : State) (entries : List Entry) : Type 0 where
@@ -213,16 +261,26 @@ pub record WorkedRenaming (m : State) (entries : List Entry) : Type 0 where
   pub above : rename_plan m nobody (renaming (codes "x") (codes "..")) ≡ Err status.Invalid
   pub long : rename_plan m nobody (renaming (codes "x") (replicate 256 120)) ≡ Err status.NameTooLong
   pub fixed : rename_plan m read_only (renaming (codes "x") (codes "y")) ≡ Err status.ReadOnly
-  pub nothing : entry_of entries (codes "x") ≡ None → rename_plan m nobody (renaming (codes "x") (codes "y")) ≡ Err status.NoEntry
-  pub from_file : rename_plan m nobody (record { from = record { directory = x_bytes; name = codes "x" }; to = in_root (codes "y") }) ≡ Err status.NotDirectory
-  pub into_file : rename_plan m nobody (record { from = in_root (codes "x"); to = record { directory = x_bytes; name = codes "y" } }) ≡ Err status.NotDirectory
-  pub moves : (cookie : ℕ) → entry_of entries (codes "x") ≡ Some (record { name = codes "x"; number = 5; cookie = cookie }) → entry_of entries (codes "y") ≡ None
+  pub nothing : entry_of entries (codes "x") ≡ None →
+      rename_plan m nobody (renaming (codes "x") (codes "y")) ≡ Err status.NoEntry
+  pub from_file : rename_plan m nobody
+      (record { from = record { directory = x_bytes; name = codes "x" }; to = in_root (codes "y") }) ≡
+      Err status.NotDirectory
+  pub into_file : rename_plan m nobody
+      (record { from = in_root (codes "x"); to = record { directory = x_bytes; name = codes "y" } }) ≡
+      Err status.NotDirectory
+  pub moves : (cookie : ℕ) →
+      entry_of entries (codes "x") ≡ Some (record { name = codes "x"; number = 5; cookie = cookie }) →
+      entry_of entries (codes "y") ≡ None
       → rename_plan m nobody (renaming (codes "x") (codes "y")) ≡ Ok (None, Ok (tt, renamed m entries))
-  pub both : (cookie other : ℕ) → entry_of entries (codes "x") ≡ Some (record { name = codes "x"; number = 5; cookie = cookie })
-      → entry_of entries (codes "y") ≡ Some (record { name = codes "y"; number = 5; cookie = other }) → rename_plan m nobody (renaming (codes "x") (codes "y")) ≡ Ok (None, Ok (tt, m))
+  pub both : (cookie other : ℕ) →
+      entry_of entries (codes "x") ≡ Some (record { name = codes "x"; number = 5; cookie = cookie })
+      → entry_of entries (codes "y") ≡ Some (record { name = codes "y"; number = 5; cookie = other }) →
+      rename_plan m nobody (renaming (codes "x") (codes "y")) ≡ Ok (None, Ok (tt, m))
 
 abbrev pub WorkedRenamings : Type 0
-WorkedRenamings = (m : State) (entries : List Entry) → get m.objects 1 ≡ Some (root_with entries) → get m.objects 5 ≡ Some x_written → WorkedRenaming m entries
+WorkedRenamings = (m : State) (entries : List Entry) → get m.objects 1 ≡ Some (root_with entries) →
+    get m.objects 5 ≡ Some x_written → WorkedRenaming m entries
 
 -- "x" is taken away where it is the first of the file's two names: "y" keeps its cookie, and the file lives on
 abbrev pub y_entry : Entry
@@ -232,16 +290,18 @@ abbrev pub root_with_both : Living
 root_with_both = with_content root (time 1000 0) (Directory (x_entry ∷ y_entry ∷ []) 4)
 
 abbrev pub left : State → State
-left m = with_object (with_object m 1 (with_content root_with_both (time 1000 0) (Directory (y_entry ∷ []) 4))) 5 (touched x_written (time 1000 0))
+left m = with_object (with_object m 1 (with_content root_with_both (time 1000 0) (Directory (y_entry ∷ []) 4))) 5
+    (touched x_written (time 1000 0))
 
 abbrev pub left_reply : State → NfsReply
 left_reply m = nfs_replies.Remove (record { directory = wcc (left m) (resolve m nobody root_bytes); result = Ok tt })
 
 abbrev pub WorkedLeaving : Type 0
-WorkedLeaving = (m : State) → get m.objects 1 ≡ Some root_with_both → get m.objects 5 ≡ Some x_written → names_of m 5 ≡ 2 → NfsStep m nobody (nfs.Remove (in_root (codes "x"))) (left_reply m) [] (left m)
+WorkedLeaving = (m : State) → get m.objects 1 ≡ Some root_with_both → get m.objects 5 ≡ Some x_written →
+    names_of m 5 ≡ 2 → NfsStep m nobody (nfs.Remove (in_root (codes "x"))) (left_reply m) [] (left m)
 
--- A reading of the root in two pages, with the WRITE between them: the first from the state in which "x" was made, with room for
--- two entries, and the second from its last cookie on. "x" stays.
+-- A reading of the root in two pages, with the WRITE between them: the first from the state in which "x" was made,
+-- with room for two entries, and the second from its last cookie on. "x" stays.
 abbrev pub first_listing : ReaddirArguments
 first_listing = record { directory = root_bytes; cookie = 0; verifier = zeros; count = 160 }
 
@@ -249,13 +309,25 @@ abbrev pub second_listing : ReaddirArguments
 second_listing = record { directory = root_bytes; cookie = 2; verifier = seven; count = 65536 }
 
 abbrev pub first_two : List Entry
-first_two = record { name = codes "."; number = 1; cookie = 1 } ∷ record { name = codes ".."; number = 1; cookie = 2 } ∷ []
+first_two = record { name = codes "."; number = 1; cookie = 1 } ∷
+    record { name = codes ".."; number = 1; cookie = 2 } ∷ []
 
 abbrev pub page_reply : State → List Entry → Bool → NfsReply
-page_reply m page eof = nfs_replies.Readdir (record { attributes = shown m (resolve m nobody root_bytes); result = Ok (record { verifier = seven; entries = map page_entry page; eof = eof }) })
+page_reply m page eof = nfs_replies.Readdir
+    (record {
+      attributes = shown m (resolve m nobody root_bytes);
+      result = Ok (record { verifier = seven; entries = map page_entry page; eof = eof });
+    })
 
 abbrev pub first_turn : Turn
-first_turn = record { between = []; ctx = nobody; call = nfs.Readdir first_listing; reply = page_reply with_x first_two false; page = first_two; eof = false }
+first_turn = record {
+  between = [];
+  ctx = nobody;
+  call = nfs.Readdir first_listing;
+  reply = page_reply with_x first_two false;
+  page = first_two;
+  eof = false;
+}
 
 abbrev pub second_turn : Turn
 second_turn = record {
@@ -276,4 +348,5 @@ pub record WorkedTurns : Type 0 where
   pub stays : StaysThrough setting with_x root_bytes 0 turns reading x_entry
   pub name_stays : ThroughReading (λ m. named_in m 1 (codes "x") ≡ Some 5) setting with_x root_bytes 0 turns reading
   -- and so does "."
-  pub self_stays : StaysThrough setting with_x root_bytes 0 turns reading (record { name = codes "."; number = 1; cookie = 1 })
+  pub self_stays : StaysThrough setting with_x root_bytes 0 turns reading
+      (record { name = codes "."; number = 1; cookie = 1 })

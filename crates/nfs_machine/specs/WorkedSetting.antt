@@ -1,5 +1,6 @@
 -- SETATTR, ACCESS, FSSTAT, FSINFO and PATHCONF worked through by hand (RFC 1813, 3.3.2, 3.3.4 and 3.3.18 to 3.3.20).
-use Rattle.std.specs.Prelude.{◌≡◌, ℕ, true, false, [], ◌∷◌, replicate, Option, Some, None, Result, Ok, Err, codes}
+use Rattle.std.specs.Prelude.{◌≡◌, ℕ, true, false, [], ◌∷◌, replicate, Option, Some, None, Result, Ok}
+use Rattle.std.specs.Prelude.{Err, codes}
 use Rattle.nfs_rpc.specs.declared.credentials.Ids.{Ids}
 use Rattle.nfs_wire.specs.declared.attributes.SetAttributes.{SetAttributes}
 use Rattle.nfs_wire.specs.declared.attributes.SetTime.TheVariants.{ToServer, ToClient}
@@ -22,7 +23,8 @@ by ids = record (called_as 0) { ids = ids }
 
 -- the same where the export is read only
 abbrev pub unwritable : Ctx → Ctx
-unwritable ctx = record ctx { exports = record { path = codes "/a"; read_only = true; hosts = codes "*" ∷ [] } ∷ [] }
+unwritable ctx = record ctx
+    { exports = record { path = codes "/a"; read_only = true; hosts = codes "*" ∷ [] } ∷ [] }
 
 abbrev pub setting : SetAttributes → Option Time → SetattrArguments
 setting a guard = record { object = []; attributes = a; guard = guard }
@@ -39,37 +41,54 @@ set_by uid a o = set_object (called_as uid) o (setting a None)
 
 -- the guard, and times
 pub record WorkedGuard : Type 0 where
-  pub changed_since : set_object (called_as 0) known (setting (with_mode 384) (Some (time 1000 0))) ≡ Err status.NotSynchronized
-  pub as_known : set_object (called_as 0) known (setting (with_mode 384) (Some (time 1000 1))) ≡ Ok (record known { mode = 384; changed = time 1000 2 })
-  pub other_second : set_object (called_as 0) known (setting (with_mode 384) (Some (time 999 1))) ≡ Err status.NotSynchronized
-  pub bad_guard : set_object (called_as 0) known (setting (with_mode 384) (Some (time 1000 1000000000))) ≡ Err status.NotSynchronized
+  pub changed_since : set_object (called_as 0) known
+      (setting (with_mode 384) (Some (time 1000 0))) ≡ Err status.NotSynchronized
+  pub as_known : set_object (called_as 0) known (setting (with_mode 384) (Some (time 1000 1))) ≡ Ok
+      (record known { mode = 384; changed = time 1000 2 })
+  pub other_second : set_object (called_as 0) known
+      (setting (with_mode 384) (Some (time 999 1))) ≡ Err status.NotSynchronized
+  pub bad_guard : set_object (called_as 0) known
+      (setting (with_mode 384) (Some (time 1000 1000000000))) ≡ Err status.NotSynchronized
   pub unguarded : set_by 9 no_attributes known ≡ Ok (record known { changed = time 1000 2 })
-  pub size : set_by 9 (sized 2) known ≡ Ok (record known { content = Regular (codes "he"); modified = time 1000 2; changed = time 1000 2 })
-  pub size_and_time : set_by 9 (record (sized 5) { modified = ToClient (time 5 6) }) known ≡ Ok (record known { modified = time 5 6; changed = time 1000 2 })
-  pub server_time : set_by 9 (record no_attributes { accessed = ToServer; modified = ToServer }) known ≡ Ok (record known { modified = time 1000 0; changed = time 1000 2 })
+  pub size : set_by 9 (sized 2) known ≡ Ok
+      (record known { content = Regular (codes "he"); modified = time 1000 2; changed = time 1000 2 })
+  pub size_and_time : set_by 9 (record (sized 5) { modified = ToClient (time 5 6) }) known ≡ Ok
+      (record known { modified = time 5 6; changed = time 1000 2 })
+  pub server_time : set_by 9 (record no_attributes { accessed = ToServer; modified = ToServer }) known ≡ Ok
+      (record known { modified = time 1000 0; changed = time 1000 2 })
   pub twelve_bits : set_by 9 (with_mode 4480) known ≡ Ok (record known { mode = 384; changed = time 1000 2 })
-  pub verifier : set_by 9 no_attributes (record known { verifier = Some (codes "12345678") }) ≡ Ok (record known { changed = time 1000 2 })
+  pub verifier : set_by 9 no_attributes (record known { verifier = Some (codes "12345678") }) ≡ Ok
+      (record known { changed = time 1000 2 })
 
 -- the first check that fails decides
 pub record WorkedSetting : Type 0 where
-  pub read_only : set_object (unwritable (called_as 0)) known (setting (with_mode 384) (Some (time 1000 0))) ≡ Err status.ReadOnly
-  pub guard_first : set_object (called_as 0) known (setting (record no_attributes { modified = ToClient (time 0 1000000000) }) (Some (time 1000 0))) ≡ Err status.NotSynchronized
-  pub bad_time : set_by 5 (record (sized 1048577) { modified = ToClient (time 0 1000000000) }) known ≡ Err status.Invalid
+  pub read_only : set_object (unwritable (called_as 0)) known
+      (setting (with_mode 384) (Some (time 1000 0))) ≡ Err status.ReadOnly
+  pub guard_first : set_object (called_as 0) known
+      (setting (record no_attributes { modified = ToClient (time 0 1000000000) }) (Some (time 1000 0))) ≡
+      Err status.NotSynchronized
+  pub bad_time : set_by 5
+      (record (sized 1048577) { modified = ToClient (time 0 1000000000) }) known ≡ Err status.Invalid
   pub directory : set_by 5 (sized 1048577) (opening_root 1 (time 1000 0)) ≡ Err status.Invalid
   pub too_big : set_by 5 (record (sized 1048577) { mode = Some 384 }) known ≡ Err status.FileTooBig
   pub mode : set_by 5 (record (sized 2) { mode = Some 384 }) known ≡ Err status.Permission
   pub client_time : set_by 5 (record no_attributes { accessed = ToClient (time 5 6) }) known ≡ Err status.Permission
   pub given_away : set_by 9 (record no_attributes { uid = Some 8 }) known ≡ Err status.Permission
-  pub kept : set_by 9 (record no_attributes { uid = Some 9; gid = Some 9 }) known ≡ Ok (record known { changed = time 1000 2 })
+  pub kept : set_by 9 (record no_attributes { uid = Some 9; gid = Some 9 }) known ≡ Ok
+      (record known { changed = time 1000 2 })
   pub taken : set_by 5 (record no_attributes { uid = Some 5 }) known ≡ Err status.Permission
   pub not_taken : set_by 5 (record no_attributes { uid = Some 9 }) known ≡ Err status.Permission
   pub foreign_group : set_by 9 (record no_attributes { gid = Some 8 }) known ≡ Err status.Permission
-  pub further_group : set_object (by (record member { uid = 9 })) known (setting (record no_attributes { gid = Some 200 }) None) ≡ Ok (record known { gid = 200; changed = time 1000 2 })
-  pub by_root : set_by 0 (record no_attributes { uid = Some 8; gid = Some 8 }) known ≡ Ok (record known { uid = 8; gid = 8; changed = time 1000 2 })
+  pub further_group : set_object (by (record member { uid = 9 })) known
+      (setting (record no_attributes { gid = Some 200 }) None) ≡ Ok
+      (record known { gid = 200; changed = time 1000 2 })
+  pub by_root : set_by 0 (record no_attributes { uid = Some 8; gid = Some 8 }) known ≡ Ok
+      (record known { uid = 8; gid = 8; changed = time 1000 2 })
   pub not_writable : set_by 5 (sized 2) known ≡ Err status.Access
   pub not_writable_time : set_by 5 (record no_attributes { modified = ToServer }) known ≡ Err status.Access
   -- mode 0622
-  pub writable : set_by 5 (sized 5) (record known { mode = 402 }) ≡ Ok (record known { mode = 402; modified = time 1000 2; changed = time 1000 2 })
+  pub writable : set_by 5 (sized 5) (record known { mode = 402 }) ≡ Ok
+      (record known { mode = 402; modified = time 1000 2; changed = time 1000 2 })
 
 -- rights that are granted, of all that are known: READ 1, LOOKUP 2, MODIFY 4, EXTEND 8, DELETE 16, EXECUTE 32
 abbrev pub rights : Ids → ℕ → Content → ℕ
@@ -117,17 +136,19 @@ pub record WorkedSpace : Type 0 where
     available_files = 4294967294;
     unchanged_for = 0;
   }
-  pub one_file : space_left 1099511627776 (root_at 1 ∷ file (replicate 65536 0) (time 1000 0) None ∷ root_at 2 ∷ []) 1 ≡ record {
-    total_bytes = 1099511627776;
-    free_bytes = 1099511558144;
-    available_bytes = 1099511558144;
-    total_files = 4294967295;
-    free_files = 4294967293;
-    available_files = 4294967293;
-    unchanged_for = 0;
-  }
+  pub one_file : space_left 1099511627776
+      (root_at 1 ∷ file (replicate 65536 0) (time 1000 0) None ∷ root_at 2 ∷ []) 1 ≡ record {
+        total_bytes = 1099511627776;
+        free_bytes = 1099511558144;
+        available_bytes = 1099511558144;
+        total_files = 4294967295;
+        free_files = 4294967293;
+        available_files = 4294967293;
+        unchanged_for = 0;
+      }
   -- a block for one byte, and none for an empty file
-  pub one_byte : (space_left 10000 (root_at 1 ∷ file (codes "x") (time 1000 0) None ∷ file [] (time 1000 0) None ∷ []) 1).free_bytes ≡ 1808
+  pub one_byte : (space_left 10000
+      (root_at 1 ∷ file (codes "x") (time 1000 0) None ∷ file [] (time 1000 0) None ∷ []) 1).free_bytes ≡ 1808
   pub full : (space_left 10 (root_at 1 ∷ []) 1).free_bytes ≡ 0
 
 -- what FSINFO and PATHCONF say

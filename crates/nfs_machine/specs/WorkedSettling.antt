@@ -19,7 +19,8 @@ c = record { caller_name = codes "c3"; owner = 3 ∷ []; process = pos 3 }
 
 -- a shared lock of the first 20 bytes that waits under a number
 abbrev pub waiting : Owner → ℕ → Request
-waiting o number = record { number = number; file = 5; host = o.caller_name; exclusive = false; asked = asked o 0 20; by_message = false }
+waiting o number = record
+    { number = number; file = 5; host = o.caller_name; exclusive = false; asked = asked o 0 20; by_message = false }
 
 abbrev pub two_held : List Lock
 two_held = lock a 0 9 true ∷ lock c 10 19 true ∷ []
@@ -27,11 +28,12 @@ two_held = lock a 0 9 true ∷ lock c 10 19 true ∷ []
 abbrev pub both_shared : List Lock
 both_shared = lock a 0 19 false ∷ lock b 0 19 false ∷ []
 
--- A has 0 to 9 and C 10 to 19, exclusively. B and then A wait for a shared lock of both. When C gives its lock back, A is granted
--- first, since A's own lock is in B's way, and then B.
+-- A has 0 to 9 and C 10 to 19, exclusively. B and then A wait for a shared lock of both. When C gives its lock back,
+-- A is granted first, since A's own lock is in B's way, and then B.
 abbrev pub WorkedSettling : Type 0
 WorkedSettling = (m : State)
-    → ChangesLocks (record m { locks = two_held; waiting = waiting b 5 ∷ waiting a 69 ∷ [] }) (on_file c 10 10) Unlocked
+    → ChangesLocks (record m { locks = two_held; waiting = waiting b 5 ∷ waiting a 69 ∷ [] })
+    (on_file c 10 10) Unlocked
     (grant_message (waiting a 69) ∷ grant_message (waiting b 5) ∷ [])
     (record m { locks = both_shared; waiting = []; granted = (m.granted ++ waiting a 69 ∷ []) ++ waiting b 5 ∷ [] })
 
@@ -40,16 +42,19 @@ abbrev pub alone : Owner → ℕ → Request
 alone o number = record (waiting o number) { exclusive = true }
 
 abbrev pub held_by_c : State → Request → Request → State
-held_by_c m first second = record m { locks = lock c 0 19 true ∷ []; shares = []; waiting = first ∷ second ∷ []; granted = [] }
+held_by_c m first second = record m
+    { locks = lock c 0 19 true ∷ []; shares = []; waiting = first ∷ second ∷ []; granted = [] }
 
 -- A has them alone, and B waits
 abbrev pub held_by_a : State → State
-held_by_a m = record m { locks = lock a 0 19 true ∷ []; shares = []; waiting = alone b 69 ∷ []; granted = alone a 5 ∷ [] }
+held_by_a m = record m
+    { locks = lock a 0 19 true ∷ []; shares = []; waiting = alone b 69 ∷ []; granted = alone a 5 ∷ [] }
 
 abbrev pub held_by_b : State → State
 held_by_b m = record m { locks = lock b 0 19 true ∷ []; shares = []; waiting = []; granted = alone b 69 ∷ [] }
 
--- C has them with a share of the file and a grant that is not answered, another process of its caller waits, and A has a share and such a grant
+-- C has them with a share of the file and a grant that is not answered, another process of its caller waits, and A
+-- has a share and such a grant
 abbrev pub held_by_freed : State → State
 held_by_freed m = record m {
   locks = lock c 0 19 true ∷ [];
@@ -64,14 +69,28 @@ answer s = record { cookie = grant_cookie 5; status = s }
 
 pub record WorkedFreed : Type 0 where
   -- FREE_ALL of C's caller: both share, in order of asking; or A alone has them
-  pub shared : (m : State) → Frees (held_by_c m (waiting a 5) (waiting b 69)) (codes "c3") (grant_message (waiting a 5) ∷ grant_message (waiting b 69) ∷ [])
+  pub shared : (m : State) →
+      Frees (held_by_c m (waiting a 5) (waiting b 69)) (codes "c3")
+      (grant_message (waiting a 5) ∷ grant_message (waiting b 69) ∷ [])
       (record m { locks = both_shared; shares = []; waiting = []; granted = waiting a 5 ∷ waiting b 69 ∷ [] })
-  pub first_alone : (m : State) → Frees (held_by_c m (alone a 5) (alone b 69)) (codes "c3") (grant_message (alone a 5) ∷ []) (held_by_a m)
+  pub first_alone : (m : State) →
+      Frees (held_by_c m (alone a 5) (alone b 69)) (codes "c3") (grant_message (alone a 5) ∷ []) (held_by_a m)
   -- all that it has goes: its share, its pending grant, and what its other process waits for; A's stay
-  pub all_of_it : (m : State) → Frees (held_by_freed m) (codes "c3") [] (record m { locks = []; shares = reading ∷ []; waiting = []; granted = alone a 9 ∷ [] })
+  pub all_of_it : (m : State) →
+      Frees (held_by_freed m) (codes "c3") []
+      (record m { locks = []; shares = reading ∷ []; waiting = []; granted = alone a 9 ∷ [] })
   -- A's host does not take it, so B has them; a second answer changes nothing
-  pub refused : (m : State) → NlmStep (held_by_a m) (record nobody { host = codes "c1" }) (nlm.GrantedRes (answer nlm_status.Denied)) nlm_replies.GrantedRes (grant_message (alone b 69) ∷ []) (held_by_b m)
-  pub again : (m : State) → NlmStep (held_by_b m) (record nobody { host = codes "c1" }) (nlm.GrantedRes (answer nlm_status.Denied)) nlm_replies.GrantedRes [] (held_by_b m)
-  pub taken : (m : State) → NlmStep (held_by_a m) (record nobody { host = codes "c1" }) (nlm.GrantedRes (answer nlm_status.Granted)) nlm_replies.GrantedRes [] (record (held_by_a m) { granted = [] })
+  pub refused : (m : State) →
+      NlmStep (held_by_a m) (record nobody { host = codes "c1" })
+      (nlm.GrantedRes (answer nlm_status.Denied)) nlm_replies.GrantedRes (grant_message (alone b 69) ∷ [])
+      (held_by_b m)
+  pub again : (m : State) →
+      NlmStep (held_by_b m) (record nobody { host = codes "c1" })
+      (nlm.GrantedRes (answer nlm_status.Denied)) nlm_replies.GrantedRes [] (held_by_b m)
+  pub taken : (m : State) →
+      NlmStep (held_by_a m) (record nobody { host = codes "c1" })
+      (nlm.GrantedRes (answer nlm_status.Granted)) nlm_replies.GrantedRes [] (record (held_by_a m) { granted = [] })
   -- another host's answer is of no grant
-  pub of_other : (m : State) → NlmStep (held_by_a m) (record nobody { host = codes "c2" }) (nlm.GrantedRes (answer nlm_status.Denied)) nlm_replies.GrantedRes [] (held_by_a m)
+  pub of_other : (m : State) →
+      NlmStep (held_by_a m) (record nobody { host = codes "c2" })
+      (nlm.GrantedRes (answer nlm_status.Denied)) nlm_replies.GrantedRes [] (held_by_a m)

@@ -1,5 +1,6 @@
 -- WRITE worked through by hand (RFC 1813, 3.3.7).
-use Rattle.std.specs.Prelude.{◌≡◌, ℕ, ◌-◌, ◌^◌, List, [], ◌∷◌, ◌++◌, Some, None, Ok, Err, codes}
+use Rattle.std.specs.Prelude.{◌≡◌, ℕ, ◌-◌, ◌^◌, List, [], ◌∷◌, ◌++◌, Some, None, Ok, Err}
+use Rattle.std.specs.Prelude.{codes}
 use Rattle.nfs_wire.specs.declared.calls.Stability.TheVariants.{FileSync}
 use Rattle.nfs_wire.specs.declared.calls.WriteArguments.{WriteArguments}
 use Rattle.nfs_wire.specs.declared.replies.Written.{Written}
@@ -22,7 +23,15 @@ answered count = record { count = count; committed = FileSync; verifier = seven 
 -- into a file of uid 9 and mode 0644 that holds "hello"
 pub record WorkedWrites : Type 0 where
   pub behind_end : write_object (called_as 9) known (writing 8 1 (codes "!"))
-      ≡ Ok (answered 1, Some (record known { content = Regular (hello ++ 0 ∷ 0 ∷ 0 ∷ 33 ∷ []); modified = time 1000 2; changed = time 1000 2 }))
+      ≡ Ok (
+        answered 1,
+        Some
+            (record known {
+              content = Regular (hello ++ 0 ∷ 0 ∷ 0 ∷ 33 ∷ []);
+              modified = time 1000 2;
+              changed = time 1000 2;
+            }),
+      )
   pub space : used_of (Regular (hello ++ 0 ∷ 0 ∷ 0 ∷ 33 ∷ [])) ≡ 4096
   pub no_space : used_of (Regular []) ≡ 0
   pub last_offset : write_object (called_as 9) known (writing (2 ^ 64 - 1) 1 (codes "!")) ≡ Err status.FileTooBig
@@ -34,4 +43,5 @@ pub record WorkedWrites : Type 0 where
   pub read_only : write_object (unwritable (called_as 5)) known (writing 0 1 (codes "!")) ≡ Err status.ReadOnly
   pub miscounted_first : write_object (unwritable (called_as 5)) known (writing 0 2 (codes "!")) ≡ Err status.Invalid
   pub not_permitted : write_object (called_as 5) known (writing (2 ^ 64 - 1) 1 (codes "!")) ≡ Err status.Access
-  pub directory : write_object (called_as 9) (opening_root 1 (time 1000 0)) (writing 0 2 (codes "!")) ≡ Err status.Invalid
+  pub directory : write_object (called_as 9) (opening_root 1 (time 1000 0))
+      (writing 0 2 (codes "!")) ≡ Err status.Invalid

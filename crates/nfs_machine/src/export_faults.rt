@@ -3,7 +3,8 @@
 ghost use Rattle.std.specs.Prelude.{◌≡◌, ◌<◌, length, MatchResult};
 ghost use Rattle.std.specs.List.{list_all};
 ghost use Rattle.nfs_machine.specs.Paths.{pieces};
-ghost use Rattle.nfs_machine.specs.ExportFaults.{are_export_hosts, export_fault, fault_of, has_length, is_export_mode, is_export_part, is_export_path};
+ghost use Rattle.nfs_machine.specs.ExportFaults.{are_export_hosts, export_fault, fault_of, has_length};
+ghost use Rattle.nfs_machine.specs.ExportFaults.{is_export_mode, is_export_part, is_export_path};
 
 use crate::exports::{ExportError, ExportText};
 use crate::paths::split_piece;
@@ -37,7 +38,8 @@ pub(crate) fn check_list(list: &[ExportText]) -> Result<(), ExportError>
 /// Finds what is wrong with the export that follows these.
 fn check_export(earlier: &[ExportText], text: &ExportText) -> Result<(), ExportError>
     requires { length earlier.now < MAX_EXPORTS }
-    ensures { MatchResult result (λ _. fault_of earlier.now text.now ≡ None) (λ e. fault_of earlier.now text.now ≡ Some e) }
+    ensures { MatchResult result (λ _. fault_of earlier.now text.now ≡ None)
+        (λ e. fault_of earlier.now text.now ≡ Some e) }
 {
     let number = earlier.len() as u32 + 1;
     if !is_export_path(&text.path) {

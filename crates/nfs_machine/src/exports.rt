@@ -93,8 +93,8 @@ impl Exports {
     /// # Errors
     ///
     /// `TooMany` above 64; else what is wrong with the first export at fault, where of several faults of one export the
-    /// first of `BadPath`, `BadMode`, `NoHost`, `DoublePath` is told. `Memory` where nothing is wrong and the list's memory
-    /// was refused.
+    /// first of `BadPath`, `BadMode`, `NoHost`, `DoublePath` is told. `Memory` where nothing is wrong and the list's
+    /// memory was refused.
     pub fn new(alloc: Global, list: Vec<ExportText>) -> Result<Exports, ExportError>
         ensures at_fault { IfSome (export_fault list.items) (λ fault. result ≡ Err fault) }
         ensures faultless { export_fault list.items ≡ None → MatchResult result

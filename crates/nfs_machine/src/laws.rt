@@ -1,10 +1,18 @@
 //! The laws of the machine.
 
-ghost use Rattle.nfs_machine.specs.Laws.{ArrivalsAskOnce, HandlesAreRead, HandlesAreWritten, NeverGivenAgain, OpeningIsFormed, OpeningNumbersFit, RefusalsAreShort, RefusalsChangeNothing, RepliesAreShort, RunsGoOn, RunsJoin, RunsKeepForm, RunsKeepNumbers, StepsGiveOnce, StepsKeepCookies, StepsKeepForm, StepsKeepNumbers};
-ghost use Rattle.nfs_machine.specs.LockLaws.{ListedLocksTell, OpeningIsApart, OpeningWaitsForNone, RunsKeepApart, RunsKeepWaiting, StepsKeepApart, StepsKeepWaiting};
-ghost use Rattle.nfs_machine.specs.Paging.{FullPagesFit, FullPagesList, PagesAreOne, PagesAreWhole, PagesExist, PagesFit, PagesList};
+ghost use Rattle.nfs_machine.specs.Laws.{ArrivalsAskOnce, HandlesAreRead, HandlesAreWritten, NeverGivenAgain};
+ghost use Rattle.nfs_machine.specs.Laws.{OpeningIsFormed, OpeningNumbersFit, RefusalsAreShort, RefusalsChangeNothing};
+ghost use Rattle.nfs_machine.specs.Laws.{RepliesAreShort, RunsGoOn, RunsJoin, RunsKeepForm, RunsKeepNumbers};
+ghost use Rattle.nfs_machine.specs.Laws.{StepsGiveOnce, StepsKeepCookies, StepsKeepForm, StepsKeepNumbers};
+ghost use Rattle.nfs_machine.specs.LockLaws.{ListedLocksTell, OpeningIsApart, OpeningWaitsForNone, RunsKeepApart};
+ghost use Rattle.nfs_machine.specs.LockLaws.{RunsKeepWaiting, StepsKeepApart, StepsKeepWaiting};
+ghost use Rattle.nfs_machine.specs.Paging.{FullPagesFit, FullPagesList, PagesAreOne, PagesAreWhole, PagesExist};
+ghost use Rattle.nfs_machine.specs.Paging.{PagesFit, PagesList};
 ghost use Rattle.nfs_machine.specs.Readings.{ReadingsAreWhole};
-ghost use Rattle.nfs_machine.specs.SideLaws.{LocksStayFit, MountRefusalsChangeNothing, MountRepliesHaveForm, MountsStayFit, NlmMessagesHaveForm, NlmRefusalsChangeNothing, NlmRepliesHaveForm, OpeningFits, PostedRefusalsChangeNothing, RunsStayFit, SpelledCallsFit};
+ghost use Rattle.nfs_machine.specs.SideLaws.{LocksStayFit, MountRefusalsChangeNothing, MountRepliesHaveForm};
+ghost use Rattle.nfs_machine.specs.SideLaws.{MountsStayFit, NlmMessagesHaveForm, NlmRefusalsChangeNothing};
+ghost use Rattle.nfs_machine.specs.SideLaws.{NlmRepliesHaveForm, OpeningFits, PostedRefusalsChangeNothing};
+ghost use Rattle.nfs_machine.specs.SideLaws.{RunsStayFit, SpelledCallsFit};
 ghost use Rattle.nfs_machine.specs.TimeLaws.{RunsNeverFall, StepsTouchOnce, TimesNeverFall, TimesRise};
 
 use side_wire::{mount, nlm};
@@ -75,10 +83,12 @@ pub fn pages_fit()
     ensures full { FullPagesFit }
 {}
 
-/// The time of a change is never before that of the change before it, and is later but at the greatest time. A step leaves
-/// an object as it is, or changes its time of change so, once; and in a run that of what lives under a handle never falls.
+/// The time of a change is never before that of the change before it, and is later but at the greatest time. A step
+/// leaves an object as it is, or changes its time of change so, once; and in a run that of what lives under a handle
+/// never falls.
 ///
-/// Times are worked through in `worked_times`. In `worked_run` the root lives under its handle to the end, and was changed.
+/// Times are worked through in `worked_times`. In `worked_run` the root lives under its handle to the end, and was
+/// changed.
 pub fn times_of_changes_rise()
     ensures never_fall { TimesNeverFall }
     ensures rise { TimesRise }
@@ -95,17 +105,17 @@ pub fn pages_list_directories()
     ensures full { FullPagesList }
 {}
 
-/// An entry keeps its cookie: where a name of a directory leads to the same object before a step and after it, it is the
-/// same entry (RFC 1813, 3.3.16).
+/// An entry keeps its cookie: where a name of a directory leads to the same object before a step and after it, it is
+/// the same entry (RFC 1813, 3.3.16).
 ///
 /// Such a step is `worked_leaving`.
 pub fn entries_keep_cookies()
     ensures { StepsKeepCookies }
 {}
 
-/// A directory that is read page by page in a run, by READDIR or READDIRPLUS, from cookie 0 to its end, with any records
-/// between, shows no cookie twice, each entry that stayed once, "." and ".." among them, and once each name that led to the
-/// same object all the time; the state before is well-formed.
+/// A directory that is read page by page in a run, by READDIR or READDIRPLUS, from cookie 0 to its end, with any
+/// records between, shows no cookie twice, each entry that stayed once, "." and ".." among them, and once each name
+/// that led to the same object all the time; the state before is well-formed.
 ///
 /// Such a reading is `worked_turns`.
 pub fn readings_are_whole()
@@ -128,8 +138,8 @@ pub fn handles_are_given_once()
     ensures runs { NeverGivenAgain }
 {}
 
-/// The number and the generation of what lives fit the bytes of its handle, as `handles_go_both_ways` asks of them. That the
-/// export and the start number fit too is no part of this law.
+/// The number and the generation of what lives fit the bytes of its handle, as `handles_go_both_ways` asks of them.
+/// That the export and the start number fit too is no part of this law.
 ///
 /// Such a run is `worked_run`.
 pub fn numbers_fit()
@@ -138,8 +148,8 @@ pub fn numbers_fit()
     ensures runs { RunsKeepNumbers }
 {}
 
-/// What is true of the state that a server starts with stays true: names lead to living objects of their export, the directories of an export form
-/// one tree, cookies rise, and the texts of links are within their bound.
+/// What is true of the state that a server starts with stays true: names lead to living objects of their export, the
+/// directories of an export form one tree, cookies rise, and the texts of links are within their bound.
 ///
 /// Such a run is `worked_run`.
 pub fn states_stay_well_formed()
@@ -166,8 +176,8 @@ pub fn waiting_requests_conflict()
     ensures runs { RunsKeepWaiting }
 {}
 
-/// A reply of MOUNT or NLM has a spelling, and so has each message, where the byte strings of the call and of what is exported,
-/// mounted, held and waited for are within the bounds of the two programs.
+/// A reply of MOUNT or NLM has a spelling, and so has each message, where the byte strings of the call and of what is
+/// exported, mounted, held and waited for are within the bounds of the two programs.
 ///
 /// Such steps are in `worked_locking`, from a state that `bounds_are_kept` speaks of.
 pub fn side_replies_have_forms()
@@ -176,9 +186,9 @@ pub fn side_replies_have_forms()
     ensures messages { NlmMessagesHaveForm }
 {}
 
-/// What is mounted, held and waited for is always within those bounds: a server starts so, each call of any program leaves it
-/// so, and so does a run. The byte strings of a call are within them, since it is spelled; that the name of a host that
-/// calls is, has to be given.
+/// What is mounted, held and waited for is always within those bounds: a server starts so, each call of any program
+/// leaves it so, and so does a run. The byte strings of a call are within them, since it is spelled; that the name of
+/// a host that calls is, has to be given.
 ///
 /// Such a run is `worked_run`, and such steps are in `worked_locking`.
 pub fn bounds_are_kept()
@@ -189,8 +199,8 @@ pub fn bounds_are_kept()
     ensures runs { RunsStayFit }
 {}
 
-/// A call of MOUNT or NLM that is refused in its reply changes nothing and puts no message; one of NLM that is refused in a
-/// message, as the MSG calls are, changes nothing and puts no other.
+/// A call of MOUNT or NLM that is refused in its reply changes nothing and puts no message; one of NLM that is
+/// refused in a message, as the MSG calls are, changes nothing and puts no other.
 ///
 /// Such calls are in `worked_locking`.
 pub fn side_refusals_change_nothing()

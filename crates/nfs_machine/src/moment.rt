@@ -17,7 +17,8 @@ impl Moment {
     /// The moment of this second and nanosecond; None where there are 1,000,000,000 nanoseconds or more.
     pub fn new(seconds: u32, nanoseconds: u32) -> Option<Moment>
         ensures in_range { IsSome result ↔ (nanoseconds < 1000000000) }
-        ensures value { IfSome result (λ moment. (moment.seconds ≡ seconds) × (moment.nanoseconds ≡ nanoseconds)) }
+        ensures value { IfSome result
+            (λ moment. (moment.seconds ≡ seconds) × (moment.nanoseconds ≡ nanoseconds)) }
     {
         if nanoseconds < NANOSECONDS {
             Some(Moment {

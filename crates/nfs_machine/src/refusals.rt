@@ -1,4 +1,5 @@
-//! What a call is answered for want of memory (RFC 1813, section 2.6: NFS3ERR_JUKEBOX; RFC 5531, section 9: SYSTEM_ERR).
+//! What a call is answered for want of memory (RFC 1813, section 2.6: NFS3ERR_JUKEBOX; RFC 5531, section 9:
+//! SYSTEM_ERR).
 
 ghost use Rattle.std.specs.Prelude.{◌≡◌, true, is_some, IfOk, OnErr, MatchOption};
 ghost use Rattle.side_wire.specs.declared.nlm.NlmCall.{NlmCall as NlmCallValue};
@@ -34,7 +35,8 @@ impl Call {
     #[tactic(auto, unfolding(crate::specs::Refusal::refusal_of))]
     pub fn refusal(&self) -> Result<Refusal, AllocError>
         ensures ok { IfOk result (λ refusal. refusal ≡ refusal_of self.now) }
-        ensures err { OnErr result ((call : NlmCallValue) × (self.now ≡ calls.Nlm call) × (is_some (nlm_refusal call) ≡ true)) }
+        ensures err { OnErr result
+            ((call : NlmCallValue) × (self.now ≡ calls.Nlm call) × (is_some (nlm_refusal call) ≡ true)) }
     {
         match self {
             Call::Nfs(call) => Ok(refusal_by(nfs_refusal(call).map(Reply::Nfs))),

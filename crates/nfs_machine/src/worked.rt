@@ -7,12 +7,15 @@ ghost use Rattle.nfs_machine.specs.WorkedLocking.{WorkedChecks, WorkedLocking};
 ghost use Rattle.nfs_machine.specs.WorkedLocks.{WorkedGrants, WorkedMounts, WorkedRanges, WorkedShares, WorkedTests};
 ghost use Rattle.nfs_machine.specs.WorkedPages.{WorkedFullPages, WorkedPages, WorkedReading, WorkedSizes};
 ghost use Rattle.nfs_machine.specs.WorkedReplies.{WorkedFileReplies, WorkedRootReplies};
-ghost use Rattle.nfs_machine.specs.WorkedRun.{WorkedLeaving, WorkedLinkings, WorkedRenamings, WorkedRun, WorkedSteps, WorkedTurns};
-ghost use Rattle.nfs_machine.specs.WorkedSetting.{WorkedAccess, WorkedGuard, WorkedKinds, WorkedLimits, WorkedSetting, WorkedSpace};
+ghost use Rattle.nfs_machine.specs.WorkedRun.{WorkedLeaving, WorkedLinkings, WorkedRenamings, WorkedRun, WorkedSteps};
+ghost use Rattle.nfs_machine.specs.WorkedRun.{WorkedTurns};
+ghost use Rattle.nfs_machine.specs.WorkedSetting.{WorkedAccess, WorkedGuard, WorkedKinds, WorkedLimits};
+ghost use Rattle.nfs_machine.specs.WorkedSetting.{WorkedSetting, WorkedSpace};
 ghost use Rattle.nfs_machine.specs.WorkedSettling.{WorkedFreed, WorkedSettling};
 ghost use Rattle.nfs_machine.specs.WorkedWrites.{WorkedWrites};
 ghost use Rattle.nfs_machine.specs.WorkedMaking.{WorkedMaking, WorkedTaking};
-ghost use Rattle.nfs_machine.specs.WorkedNames.{WorkedLinks, WorkedMakes, WorkedRemovals, WorkedRenames, WorkedSpecialNames};
+ghost use Rattle.nfs_machine.specs.WorkedNames.{WorkedLinks, WorkedMakes, WorkedRemovals, WorkedRenames};
+ghost use Rattle.nfs_machine.specs.WorkedNames.{WorkedSpecialNames};
 
 /// Which paths are at fault, and which parts a path has.
 pub fn worked_paths()
@@ -239,8 +242,8 @@ pub fn worked_checks()
     ensures { WorkedChecks }
 {}
 
-/// A LOCK, an UNLOCK of a part of it, a LOCK that waits, once, and is cancelled, a TEST and an NM_LOCK that are denied, LOCK_MSG,
-/// shares; MNT, and one that is refused.
+/// A LOCK, an UNLOCK of a part of it, a LOCK that waits, once, and is cancelled, a TEST and an NM_LOCK that are
+/// denied, LOCK_MSG, shares; MNT, and one that is refused.
 pub fn worked_locking()
     ensures { WorkedLocking }
 {}

@@ -30,8 +30,8 @@ abbrev pub reads : ℕ → List (List ℕ) → List Addr
 reads number [] = Inode number ∷ Mounts ∷ []
 reads number (name ∷ names) = Inode number ∷ []
 
--- the path is sane, an export is chosen, its walk comes to a number as far as the view shows, and what it reads next and the view has not
--- is asked for
+-- the path is sane, an export is chosen, its walk comes to a number as far as the view shows, and what it reads next
+-- and the view has not is asked for
 pub record AsksForWalk (ctx : Ctx) (view : ViewValue) (path : List ℕ) (asked : List (Addr × Mode)) : Type 0 where
   pub sane : path_fault path ≡ None
   pub root : ℕ

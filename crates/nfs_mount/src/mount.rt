@@ -21,7 +21,8 @@ use std::alloc::{AllocError, Global};
 /// MNT of a path: the handle of the directory that it names, and the path is listed for the caller's host. A path that
 /// is no path of any directory, or that no export leads to, is refused before an address is asked for.
 pub fn mnt(alloc: Global, path: &Bytes, ctx: &Ctx, view: &View) -> Result<Outcome, AllocError>
-    ensures attempts { IfOk result (λ outcome. Attempts (Call.Mount (MountCall.Mnt path.now)) ctx.now view.now outcome) }
+    ensures attempts { IfOk result
+        (λ outcome. Attempts (Call.Mount (MountCall.Mnt path.now)) ctx.now view.now outcome) }
     ensures asks { IfOk result (MntAsks ctx.now view.now path.now) }
 {
     if let Some(fault) = path_fault(path) {
@@ -43,7 +44,8 @@ fn enter(
 ) -> Result<Outcome, AllocError>
     requires fault { path_fault path.now ≡ None }
     requires chosen { Chosen ctx.now.exports ctx.now.host (parts path.now) choice.number choice.rest }
-    ensures attempts { IfOk result (λ outcome. Attempts (Call.Mount (MountCall.Mnt path.now)) ctx.now view.now outcome) }
+    ensures attempts { IfOk result
+        (λ outcome. Attempts (Call.Mount (MountCall.Mnt path.now)) ctx.now view.now outcome) }
     ensures asks { IfOk result (MntAsks ctx.now view.now path.now) }
 {
     match walk(view, choice.number, choice.rest) {
@@ -61,7 +63,8 @@ enum Walked<'a> {
     Found(u64, &'a Inode),
     /// The names lead to no directory.
     Refused(MountStatus),
-    /// What stands at this number decides, and the view has not shown it; and whether no name is left to walk from there.
+    /// What stands at this number decides, and the view has not shown it; and whether no name is left to walk from
+    /// there.
     Unread(u64, bool),
 }
 
@@ -100,7 +103,8 @@ fn grant(
     inode: &Inode,
 ) -> Result<Outcome, AllocError>
     requires { IsNamed ctx.now view.now path.now number inode.now }
-    ensures attempts { IfOk result (λ outcome. Attempts (Call.Mount (MountCall.Mnt path.now)) ctx.now view.now outcome) }
+    ensures attempts { IfOk result
+        (λ outcome. Attempts (Call.Mount (MountCall.Mnt path.now)) ctx.now view.now outcome) }
     ensures asks { IfOk result (IsDoneOrNeeds (lacking view.now (Addr.Mounts ∷ []))) }
 {
     let Some(known) = view.find(Addr::Mounts) else {
@@ -130,9 +134,13 @@ fn refuse(
     view: &View,
     status: MountStatus,
 ) -> Result<Outcome, AllocError>
-    requires { HoldsUnchanged (Call.Mount (MountCall.Mnt path.now)) ctx.now view.now (Reply.Mount (MountReply.Mnt (Err status))) }
-    ensures attempts { IfOk result (λ outcome. Attempts (Call.Mount (MountCall.Mnt path.now)) ctx.now view.now outcome) }
-    ensures done { IfOk result (IsDone (only_answered (Call.Mount (MountCall.Mnt path.now)) ctx.now view.now (Reply.Mount (MountReply.Mnt (Err status))))) }
+    requires { HoldsUnchanged (Call.Mount (MountCall.Mnt path.now)) ctx.now view.now
+        (Reply.Mount (MountReply.Mnt (Err status))) }
+    ensures attempts { IfOk result
+        (λ outcome. Attempts (Call.Mount (MountCall.Mnt path.now)) ctx.now view.now outcome) }
+    ensures done { IfOk result
+        (IsDone (only_answered (Call.Mount (MountCall.Mnt path.now)) ctx.now view.now
+        (Reply.Mount (MountReply.Mnt (Err status))))) }
 {
     let call = Call::Mount(MountCall::Mnt(path.clone()?));
     unchanged(

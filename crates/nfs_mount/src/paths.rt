@@ -68,8 +68,8 @@ impl<'a> Iterator for Names<'a> {
     }
 }
 
-/// What is wrong with a path that no directory can have, whatever the exports: INVAL without a leading slash, with a NUL
-/// or a name `.` or `..`; else NAMETOOLONG with a name above 255 bytes. It takes no memory.
+/// What is wrong with a path that no directory can have, whatever the exports: INVAL without a leading slash, with a
+/// NUL or a name `.` or `..`; else NAMETOOLONG with a name above 255 bytes. It takes no memory.
 #[tactic(auto, using(crate::proofs::Parts::any_dots, crate::proofs::Parts::any_long))]
 pub fn path_fault(path: &[u8]) -> Option<MountStatus>
     ensures { result ≡ path_fault path.now }
@@ -111,7 +111,8 @@ fn has_long_name(path: &[u8]) -> bool
 /// The names that a path goes on with below an export; None where the export's names do not begin the path's. It takes
 /// no memory.
 pub fn names_below<'a>(path: &'a [u8], export: &[u8]) -> Option<Names<'a>>
-    ensures { MatchOption result (BeginsNot (parts export.now) (parts path.now)) (λ rest. parts path.now ≡ parts export.now ++ rest) }
+    ensures { MatchOption result (BeginsNot (parts export.now) (parts path.now))
+        (λ rest. parts path.now ≡ parts export.now ++ rest) }
 {
     let mut rest = Names::of(path);
     for own in Names::of(export) {

@@ -29,7 +29,8 @@ pub(crate) fn attempt(
     ctx: &Ctx,
     view: &View,
 ) -> Result<Outcome, AllocError>
-    ensures attempts { IfOk result (λ outcome. Attempts (Call.Nfs (NfsCall.Create arguments.now)) ctx.now view.now outcome) }
+    ensures attempts { IfOk result
+        (λ outcome. Attempts (Call.Nfs (NfsCall.Create arguments.now)) ctx.now view.now outcome) }
     ensures asks { IfOk result (AsksAs (wanted ctx.now view.now (NfsCall.Create arguments.now))) }
 {
     match resolve(ctx, view, arguments.place.directory.as_slice()) {
@@ -56,7 +57,8 @@ fn create_in(
     inode: &Inode,
 ) -> Result<Outcome, AllocError>
     requires { Names number inode.now ≡ found_at ctx.now view.now.entries arguments.now.place.directory }
-    ensures attempts { IfOk result (λ outcome. Attempts (Call.Nfs (NfsCall.Create arguments.now)) ctx.now view.now outcome) }
+    ensures attempts { IfOk result
+        (λ outcome. Attempts (Call.Nfs (NfsCall.Create arguments.now)) ctx.now view.now outcome) }
     ensures asks { IfOk result (AsksAs (wanted ctx.now view.now (NfsCall.Create arguments.now))) }
 {
     let name = arguments.place.name.as_slice();
@@ -110,9 +112,12 @@ fn create_over_entry(
 ) -> Result<Outcome, AllocError>
     requires names { Names number inode.now ≡ found_at ctx.now view.now.entries arguments.now.place.directory }
     requires checked { directory_checked ctx.now inode.now arguments.now.place.name ≡ Ok directory.now }
-    requires leads { option_map (λ e. e.number) (entry_of directory.now.entries arguments.now.place.name) ≡ Some entry }
-    ensures attempts { IfOk result (λ outcome. Attempts (Call.Nfs (NfsCall.Create arguments.now)) ctx.now view.now outcome) }
-    ensures asks { IfOk result (AsksFor (unless_known (Addr.Inode entry) (seen_at view.now.entries (Addr.Inode entry)))) }
+    requires leads { option_map (λ e. e.number)
+        (entry_of directory.now.entries arguments.now.place.name) ≡ Some entry }
+    ensures attempts { IfOk result
+        (λ outcome. Attempts (Call.Nfs (NfsCall.Create arguments.now)) ctx.now view.now outcome) }
+    ensures asks { IfOk result
+        (AsksFor (unless_known (Addr.Inode entry) (seen_at view.now.entries (Addr.Inode entry)))) }
 {
     let Some(known) = view.find(Addr::Inode(entry)) else {
         return needed(alloc, Addr::Inode(entry));
@@ -155,8 +160,10 @@ fn create_new(
     requires names { Names number inode.now ≡ found_at ctx.now view.now.entries arguments.now.place.directory }
     requires checked { directory_checked ctx.now inode.now arguments.now.place.name ≡ Ok directory.now }
     requires absent { entry_of directory.now.entries arguments.now.place.name ≡ None }
-    ensures attempts { IfOk result (λ outcome. Attempts (Call.Nfs (NfsCall.Create arguments.now)) ctx.now view.now outcome) }
-    ensures asks { IfOk result (AsksAs (new_wanted view.now.reserved (new_judged ctx.now arguments.now.how directory.now.last_cookie))) }
+    ensures attempts { IfOk result
+        (λ outcome. Attempts (Call.Nfs (NfsCall.Create arguments.now)) ctx.now view.now outcome) }
+    ensures asks { IfOk result
+        (AsksAs (new_wanted view.now.reserved (new_judged ctx.now arguments.now.how directory.now.last_cookie))) }
 {
     match new_judged(ctx, &arguments.how, directory.last_cookie) {
         Ok(()) => {}
@@ -198,7 +205,8 @@ fn create_file(
     requires absent { entry_of directory.now.entries arguments.now.place.name ≡ None }
     requires judged { Ok tt ≡ new_judged ctx.now arguments.now.how directory.now.last_cookie }
     requires first { slice_get view.now.reserved 0 ≡ Some (record { number = fresh; generation = generation }) }
-    ensures attempts { IfOk result (λ outcome. Attempts (Call.Nfs (NfsCall.Create arguments.now)) ctx.now view.now outcome) }
+    ensures attempts { IfOk result
+        (λ outcome. Attempts (Call.Nfs (NfsCall.Create arguments.now)) ctx.now view.now outcome) }
     ensures done { IfOk result (AsksFor []) }
 {
     let object = new_file(alloc, ctx, &arguments.how, inode.export, generation)?;
@@ -280,8 +288,10 @@ fn store(
     file: Inode,
     reply: MadeReply,
 ) -> Result<Outcome, AllocError>
-    requires { Rewrites (Call.Nfs (NfsCall.Create arguments.now)) ctx.now view.now number file (Reply.Nfs (NfsReply.Create reply)) }
-    ensures attempts { IfOk result (λ outcome. Attempts (Call.Nfs (NfsCall.Create arguments.now)) ctx.now view.now outcome) }
+    requires { Rewrites (Call.Nfs (NfsCall.Create arguments.now)) ctx.now view.now number file
+        (Reply.Nfs (NfsReply.Create reply)) }
+    ensures attempts { IfOk result
+        (λ outcome. Attempts (Call.Nfs (NfsCall.Create arguments.now)) ctx.now view.now outcome) }
     ensures done { IfOk result (AsksFor []) }
 {
     let call = call(arguments)?;
@@ -298,8 +308,10 @@ fn store_new(
     creation: Creation,
     reply: MadeReply,
 ) -> Result<Outcome, AllocError>
-    requires { Creates (Call.Nfs (NfsCall.Create arguments.now)) ctx.now view.now creation (Reply.Nfs (NfsReply.Create reply)) }
-    ensures attempts { IfOk result (λ outcome. Attempts (Call.Nfs (NfsCall.Create arguments.now)) ctx.now view.now outcome) }
+    requires { Creates (Call.Nfs (NfsCall.Create arguments.now)) ctx.now view.now creation
+        (Reply.Nfs (NfsReply.Create reply)) }
+    ensures attempts { IfOk result
+        (λ outcome. Attempts (Call.Nfs (NfsCall.Create arguments.now)) ctx.now view.now outcome) }
     ensures done { IfOk result (AsksFor []) }
 {
     let call = call(arguments)?;
@@ -315,8 +327,10 @@ fn answer(
     view: &View,
     reply: MadeReply,
 ) -> Result<Outcome, AllocError>
-    requires { HoldsUnchanged (Call.Nfs (NfsCall.Create arguments.now)) ctx.now view.now (Reply.Nfs (NfsReply.Create reply)) }
-    ensures attempts { IfOk result (λ outcome. Attempts (Call.Nfs (NfsCall.Create arguments.now)) ctx.now view.now outcome) }
+    requires { HoldsUnchanged (Call.Nfs (NfsCall.Create arguments.now)) ctx.now view.now
+        (Reply.Nfs (NfsReply.Create reply)) }
+    ensures attempts { IfOk result
+        (λ outcome. Attempts (Call.Nfs (NfsCall.Create arguments.now)) ctx.now view.now outcome) }
     ensures done { IfOk result (AsksFor []) }
 {
     let call = call(arguments)?;

@@ -24,7 +24,8 @@ pub(crate) fn attempt(
     ctx: &Ctx,
     view: &View,
 ) -> Result<Outcome, AllocError>
-    ensures attempts { IfOk result (λ outcome. Attempts (Call.Nfs (NfsCall.Lookup place.now)) ctx.now view.now outcome) }
+    ensures attempts { IfOk result
+        (λ outcome. Attempts (Call.Nfs (NfsCall.Lookup place.now)) ctx.now view.now outcome) }
     ensures asks { IfOk result (AsksAs (wanted ctx.now view.now (NfsCall.Lookup place.now))) }
 {
     match resolve(ctx, view, place.directory.as_slice()) {
@@ -45,8 +46,10 @@ fn attempt_in(
     inode: &Inode,
 ) -> Result<Outcome, AllocError>
     requires { Names number inode.now ≡ found_at ctx.now view.now.entries place.now.directory }
-    ensures attempts { IfOk result (λ outcome. Attempts (Call.Nfs (NfsCall.Lookup place.now)) ctx.now view.now outcome) }
-    ensures asks { IfOk result (AsksFor (object_wanted view.now.entries (looked_up ctx.now number inode.now place.now.name))) }
+    ensures attempts { IfOk result
+        (λ outcome. Attempts (Call.Nfs (NfsCall.Lookup place.now)) ctx.now view.now outcome) }
+    ensures asks { IfOk result
+        (AsksFor (object_wanted view.now.entries (looked_up ctx.now number inode.now place.now.name))) }
 {
     let shown = Some(attributes(number, inode));
     let number = match look_up(ctx, number, inode, place.name.as_slice()) {
@@ -95,8 +98,10 @@ fn answer(
     directory: Option<Attributes>,
     answered: Result<Object, NfsStatus>,
 ) -> Result<Outcome, AllocError>
-    requires { HoldsUnchanged (Call.Nfs (NfsCall.Lookup place.now)) ctx.now view.now (Reply.Nfs (NfsReply.Lookup (record { directory = directory; result = answered }))) }
-    ensures attempts { IfOk result (λ outcome. Attempts (Call.Nfs (NfsCall.Lookup place.now)) ctx.now view.now outcome) }
+    requires { HoldsUnchanged (Call.Nfs (NfsCall.Lookup place.now)) ctx.now view.now
+        (Reply.Nfs (NfsReply.Lookup (record { directory = directory; result = answered }))) }
+    ensures attempts { IfOk result
+        (λ outcome. Attempts (Call.Nfs (NfsCall.Lookup place.now)) ctx.now view.now outcome) }
     ensures done { IfOk result (AsksFor []) }
 {
     let call = Call::Nfs(NfsCall::Lookup(place.clone()?));

@@ -2,7 +2,8 @@
 
 ghost use Rattle.std.specs.Prelude.{◌≡◌, [], ◌∷◌, IfOk, Some};
 ghost use Rattle.nfs_objects.specs.Attempt.{Attempts, IsDone, IsNeed};
-ghost use Rattle.nfs_objects.specs.Endings.{Creates, HoldsUnchanged, Rewrites, creation_stored, inode_stored, only_answered};
+ghost use Rattle.nfs_objects.specs.Endings.{Creates, HoldsUnchanged, Rewrites, creation_stored, inode_stored};
+ghost use Rattle.nfs_objects.specs.Endings.{only_answered};
 ghost use Rattle.nfs_objects.specs.Promise.{IsPromised};
 ghost use Rattle.nfs_objects.specs.Values.{done_value, write_value};
 

@@ -69,7 +69,8 @@ pub struct Inode {
 impl Inode {
     /// What it contains, where it is a directory.
     pub fn directory(&self) -> Option<&Directory>
-        ensures { MatchOption result (is_directory (content_of self.now.content) ≡ false) (λ directory. self.now.content ≡ Content.Directory directory.now) }
+        ensures { MatchOption result (is_directory (content_of self.now.content) ≡ false)
+            (λ directory. self.now.content ≡ Content.Directory directory.now) }
     {
         match &self.content {
             Content::Directory(directory) => Some(directory),
@@ -157,7 +158,8 @@ impl MountTable {
         host: &Bytes,
         path: &Bytes,
     ) -> Result<MountTable, AllocError>
-        ensures { IfOk result (λ table. map mounted_of table ≡ newest (map mounted_of self.now ++ mounted host.now path.now ∷ [])) }
+        ensures { IfOk result
+            (λ table. map mounted_of table ≡ newest (map mounted_of self.now ++ mounted host.now path.now ∷ [])) }
     {
         let surplus = (self.list.len() + 1).saturating_sub(MOUNT_LIMIT);
         let mut list = copy_mounts(alloc, &self.list[surplus..])?;

@@ -1,6 +1,7 @@
 //! What a call has read of the store.
 
-ghost use Rattle.std.specs.Prelude.{◌≡◌, [], ◌∷◌, ◌++◌, map, IfOk, OnErr, OnOk, option_map, slice_get, length, ◌==◌};
+ghost use Rattle.std.specs.Prelude.{◌≡◌, [], ◌∷◌, ◌++◌, map, IfOk, OnErr, OnOk, option_map};
+ghost use Rattle.std.specs.Prelude.{slice_get, length, ◌==◌};
 ghost use Rattle.std.specs.Arc.{arc_value};
 ghost use Rattle.nfs_objects.specs.Values.{seen_at, pointed, entry_value};
 
@@ -86,7 +87,11 @@ impl View {
 
     /// Adds what is known of an address. An error changes nothing.
     pub fn add(&mut self, address: Addr, object: Option<Arc<Object>>) -> Result<(), AllocError>
-        ensures ok { OnOk result (self.new ≡ record { entries = self.old.entries ++ (address, option_map arc_value object) ∷ []; reserved = self.old.reserved }) }
+        ensures ok { OnOk result
+            (self.new ≡ record {
+              entries = self.old.entries ++ (address, option_map arc_value object) ∷ [];
+              reserved = self.old.reserved;
+            }) }
         ensures err { OnErr result (self.new ≡ self.old) }
     {
         self.entries.push(Entry { address, object })?;
@@ -95,7 +100,11 @@ impl View {
 
     /// Adds a number that may be given, whose address is empty. An error changes nothing.
     pub fn add_reserved(&mut self, reserved: Reserved) -> Result<(), AllocError>
-        ensures ok { OnOk result (self.new ≡ record { entries = self.old.entries ++ (Addr.Inode reserved.number, None) ∷ []; reserved = self.old.reserved ++ reserved ∷ [] }) }
+        ensures ok { OnOk result
+            (self.new ≡ record {
+              entries = self.old.entries ++ (Addr.Inode reserved.number, None) ∷ [];
+              reserved = self.old.reserved ++ reserved ∷ [];
+            }) }
         ensures err { OnErr result (self.new ≡ self.old) }
     {
         self.reserved.push(reserved)?;

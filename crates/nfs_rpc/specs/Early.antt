@@ -1,10 +1,12 @@
 -- What a record is before its arguments are read: no call that can be answered, a call at fault, or a call.
-use Rattle.std.specs.Prelude.{ℕ, Bool, true, false, ◌==◌, if◌then◌else◌, List, [], Option, Some, None, Result, Ok, Err}
+use Rattle.std.specs.Prelude.{ℕ, Bool, true, false, ◌==◌, if◌then◌else◌, List, [], Option, Some, None}
+use Rattle.std.specs.Prelude.{Result, Ok, Err}
 use Rattle.nfs_xdr.specs.declared.XdrError.{XdrError}
 use Rattle.nfs_xdr.specs.Types.{Value}
 use Rattle.nfs_xdr.specs.Reading.{read}
 use Rattle.nfs_rpc.specs.declared.credentials.Ids.{Ids}
-use Rattle.nfs_rpc.specs.declared.faults.Fault.TheVariants.{RpcMismatch, BadCredential, ProgramUnavailable, ProgramMismatch, ProcedureUnavailable}
+use Rattle.nfs_rpc.specs.declared.faults.Fault.TheVariants.{RpcMismatch, BadCredential, ProgramUnavailable}
+use Rattle.nfs_rpc.specs.declared.faults.Fault.TheVariants.{ProgramMismatch, ProcedureUnavailable}
 use Rattle.nfs_rpc.specs.declared.faults.Early.{Early}
 use Rattle.nfs_rpc.specs.declared.faults.Early.TheVariants.{Drop, Answer}
 use Rattle.nfs_rpc.specs.Programs.{program_of, program_version, is_built}
@@ -42,11 +44,13 @@ ids_of flavor body =
 
 -- The checks of a call in order. Each names how the record ends where it fails.
 -- What the heading names: first who calls, then the program, its version, its procedure
-abbrev pub heading_of : (xid number version procedure flavor : ℕ) → (body arguments : List ℕ) → Result CallHeader Early
+abbrev pub heading_of : (xid number version procedure flavor : ℕ) → (body arguments : List ℕ) →
+    Result CallHeader Early
 heading_of xid number version procedure flavor body arguments = do
   ids ← known (ids_of flavor body) (Answer xid BadCredential)
   program ← known (program_of number) (Answer xid ProgramUnavailable)
-  _ ← holding (version == program_version program) (Answer xid (ProgramMismatch (program_version program) (program_version program)))
+  _ ← holding (version == program_version program)
+      (Answer xid (ProgramMismatch (program_version program) (program_version program)))
   _ ← holding (is_built program procedure) (Answer xid ProcedureUnavailable)
   Ok (record { xid = xid; program = program; procedure = procedure; ids = ids; arguments = arguments })
 

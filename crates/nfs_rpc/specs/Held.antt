@@ -1,5 +1,6 @@
 -- What a `Records` keeps of the stream, and how bytes lead from one place in a fragment to the next.
-use Rattle.std.specs.Prelude.{◌≡◌, ℕ, ◌+◌, ◌^◌, ◌<◌, ◌≤◌, List, [], ◌++◌, length, Option, Some, None}
+use Rattle.std.specs.Prelude.{◌≡◌, ℕ, ◌+◌, ◌^◌, ◌<◌, ◌≤◌, List, [], ◌++◌, length}
+use Rattle.std.specs.Prelude.{Option, Some, None}
 use Rattle.nfs_rpc.specs.Records.{RecordsValue, IsMarked, IsStream, LeadTo}
 use Rattle.nfs_rpc.specs.declared.marking.Records.TheInside.{Inside}
 use Rattle.nfs_rpc.specs.declared.marking.Place.{Place}
@@ -45,4 +46,5 @@ Advances piece content content' place place' (Some left) =
 -- taking a piece in adds these records, whatever came before
 abbrev pub Adds : List ℕ → List ℕ → List ℕ → Place → Place → List (List ℕ) → Type 0
 Adds piece content content' place place' records =
-    (bytes : List ℕ) → LeadTo bytes content place → (rest : List ℕ) × IsStream (bytes ++ piece) records rest × LeadTo rest content' place'
+    (bytes : List ℕ) → LeadTo bytes content place → (rest : List ℕ) × IsStream (bytes ++ piece) records rest ×
+    LeadTo rest content' place'

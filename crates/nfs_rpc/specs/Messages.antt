@@ -7,7 +7,9 @@ use Rattle.nfs_rpc.specs.declared.programs.Program.{Program}
 use Rattle.nfs_rpc.specs.declared.credentials.Ids.{Ids}
 use Rattle.nfs_rpc.specs.declared.credentials.TheConstants.{GIDS_LIMIT}
 use Rattle.nfs_rpc.specs.declared.faults.Fault.{Fault}
-use Rattle.nfs_rpc.specs.declared.faults.Fault.TheVariants.{RpcMismatch, BadCredential, ProgramUnavailable, ProgramMismatch, ProcedureUnavailable, GarbageArguments, SystemError}
+use Rattle.nfs_rpc.specs.declared.faults.Fault.TheVariants.{RpcMismatch, BadCredential, ProgramUnavailable}
+use Rattle.nfs_rpc.specs.declared.faults.Fault.TheVariants.{ProgramMismatch, ProcedureUnavailable, GarbageArguments}
+use Rattle.nfs_rpc.specs.declared.faults.Fault.TheVariants.{SystemError}
 use Rattle.nfs_rpc.specs.declared.faults.Answer.{Answer}
 use Rattle.nfs_rpc.specs.declared.faults.Answer.TheVariants.{Success, Failure}
 

@@ -1,5 +1,6 @@
 -- Record marking (RFC 5531, section 11): a stream carries records, each in one or more fragments.
-use Rattle.std.specs.Prelude.{◌≡◌, ℕ, ◌+◌, ◌%◌, ◌^◌, ◌<◌, ◌≤◌, Bool, true, false, List, [], ◌∷◌, ◌++◌, length}
+use Rattle.std.specs.Prelude.{◌≡◌, ℕ, ◌+◌, ◌%◌, ◌^◌, ◌<◌, ◌≤◌, Bool, true, false, List}
+use Rattle.std.specs.Prelude.{[], ◌∷◌, ◌++◌, length}
 use Rattle.std.specs.Int.{w32, to_be_bytes, bytes_high_first}
 use Rattle.std.specs.List.{concat, flat_map}
 use Rattle.nfs_rpc.specs.declared.marking.Place.{Place}
@@ -31,7 +32,8 @@ BeginsNone bytes = (content front back : List ℕ) → bytes ≡ front ++ back �
 abbrev pub IsStream : List ℕ → List (List ℕ) → List ℕ → Type 0
 IsStream stream [] rest = (rest ≡ stream) × BeginsNone rest
 IsStream stream (content ∷ records) rest =
-    (front : List ℕ) × (back : List ℕ) × (stream ≡ front ++ back) × IsMarked content front × IsStream back records rest
+    (front : List ℕ) × (back : List ℕ) × (stream ≡ front ++ back) × IsMarked content front ×
+    IsStream back records rest
 
 -- after earlier fragments of a record there stands a header that brings it above the limit
 pub record BeginsTooLarge (bytes : List ℕ) : Type 0 where
@@ -45,7 +47,8 @@ pub record BeginsTooLarge (bytes : List ℕ) : Type 0 where
 
 -- after whole records there stands a record with such a header
 abbrev pub IsTooLarge : List ℕ → Type 0
-IsTooLarge stream = (records : List (List ℕ)) × (rest : List ℕ) × IsStream stream records rest × BeginsTooLarge rest
+IsTooLarge stream = (records : List (List ℕ)) × (rest : List ℕ) × IsStream stream records rest ×
+    BeginsTooLarge rest
 
 -- what a clause sees of a `Records`: the whole records that it has not given yet, and of the record after them
 -- the bodies that have come, joined, and where in a fragment it stands
@@ -65,7 +68,8 @@ pub record EndsInBody (last : Bool) (missing : ℕ) (content bytes : List ℕ) :
   pub earlier : List (List ℕ)
   pub body : List ℕ
   pub joined : content ≡ concat earlier ++ body
-  pub whole : bytes ≡ flat_map (fragment false) earlier ++ (to_be_bytes w32 (mark last + (length body + missing)) ++ body)
+  pub whole : bytes ≡ flat_map (fragment false) earlier ++
+      (to_be_bytes w32 (mark last + (length body + missing)) ++ body)
 
 -- the bytes, of which nothing but the joined bodies is kept, lead to this place
 abbrev pub LeadTo : List ℕ → List ℕ → Place → Type 0

@@ -86,7 +86,8 @@ pub fn read_call(message: &Record) -> Result<RpcCall<'_>, Early>
 
 /// Who calls what, or the first fault of a heading.
 fn caller_and_program(heading: &Heading<'_>) -> Result<(Ids, Program), Fault>
-    ensures { NamesCall heading.now.program heading.now.version heading.now.procedure heading.now.credential.flavor heading.now.credential.body.now result }
+    ensures { NamesCall heading.now.program heading.now.version heading.now.procedure heading.now.credential.flavor
+        heading.now.credential.body.now result }
 {
     let ids = ids_of(heading.credential).ok_or(Fault::BadCredential)?;
     let program = Program::from_number(heading.program).ok_or(Fault::ProgramUnavailable)?;
@@ -161,7 +162,15 @@ fn read_opening(reader: &mut SharedReader<'_>) -> Result<Opening, XdrError>
 
 #[tactic(auto, unfolding(nfs_xdr::specs::Reading::read))]
 fn read_heading<'a>(reader: &mut SharedReader<'a>) -> Result<Heading<'a>, XdrError>
-    ensures { ReadsExactly spec.Heading (λ h. (h.program, (h.version, (h.procedure, ((h.credential.flavor, h.credential.body.now), (h.verifier.flavor, h.verifier.body.now)))))) reader.entry.now reader.exit.now result }
+    ensures { ReadsExactly spec.Heading
+        (λ h. (
+          h.program,
+          (
+            h.version,
+            (h.procedure, ((h.credential.flavor, h.credential.body.now), (h.verifier.flavor, h.verifier.body.now))),
+          ),
+        ))
+        reader.entry.now reader.exit.now result }
 {
     Ok(Heading {
         program: reader.u32()?,

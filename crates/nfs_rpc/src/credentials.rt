@@ -1,6 +1,7 @@
 //! Who calls.
 
-ghost use Rattle.std.specs.Prelude.{◌≡◌, ◌<◌, ◌≤◌, ◌==◌, IsTrue, ◌↔◌, Contains, [], ◌++◌, ◌∷◌, length};
+ghost use Rattle.std.specs.Prelude.{◌≡◌, ◌<◌, ◌≤◌, ◌==◌, IsTrue, ◌↔◌, Contains, []};
+ghost use Rattle.std.specs.Prelude.{◌++◌, ◌∷◌, length};
 
 use std::marker::Model;
 

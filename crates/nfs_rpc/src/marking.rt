@@ -3,7 +3,8 @@
 ghost use Rattle.nfs_rpc.specs.Held.{IsPlace, IsNext, LeadsOn, Advances, Adds};
 ghost use Rattle.std.specs.Option.{option_copied};
 ghost use Rattle.nfs_rpc.specs.Records.{Holds, IsTooLarge, StreamsSplitOnce, TooLargeStays};
-ghost use Rattle.std.specs.Prelude.{◌≡◌, ℕ, ◌<◌, ◌≤◌, ◌+◌, ◌^◌, List, [], ◌∷◌, ◌++◌, length, IfOk, OnOk, IfSome, OnErr, IsErrOf, IfNone};
+ghost use Rattle.std.specs.Prelude.{◌≡◌, ℕ, ◌<◌, ◌≤◌, ◌+◌, ◌^◌, List, [], ◌∷◌};
+ghost use Rattle.std.specs.Prelude.{◌++◌, length, IfOk, OnOk, IfSome, OnErr, IsErrOf, IfNone};
 
 use bytes::Bytes;
 use std::alloc::{AllocError, Global};
@@ -165,7 +166,8 @@ fn advance<'p>(
     piece: &'p [u8],
 ) -> Result<Option<&'p [u8]>, AllocError>
     requires { IsPlace place.old (length content.old.items) }
-    ensures ok { IfOk result (λ r. Advances piece.entry.now content.old.items content.new.items place.old place.new (option_copied r)) }
+    ensures ok { IfOk result
+        (λ r. Advances piece.entry.now content.old.items content.new.items place.old place.new (option_copied r)) }
     ensures sound { IsPlace place.new (length content.new.items) }
     ensures grown { (more : List ℕ) × (content.new.items ≡ content.old.items ++ more) }
 {
@@ -266,7 +268,8 @@ impl Records {
         // What has come is the stream and the piece.
         ensures ok { OnOk result ((stream : List ℕ) (given : List (List ℕ)) → Holds self.old stream given
             → Holds self.new (stream ++ piece.now) given × ¬ IsTooLarge (stream ++ piece.now)) }
-        ensures too_large { IsErrOf result RecordError.TooLarge → (stream : List ℕ) (given : List (List ℕ)) → Holds self.old stream given
+        ensures too_large { IsErrOf result RecordError.TooLarge → (stream : List ℕ) (given : List (List ℕ)) →
+            Holds self.old stream given
             → Holds self.new (stream ++ piece.now) given × IsTooLarge (stream ++ piece.now) }
 
         ensures memory { IsErrOf result RecordError.Memory → self.new ≡ self.old }
@@ -294,7 +297,8 @@ impl Records {
     /// The next whole record of the stream. It takes no memory.
     pub fn next(&mut self) -> Option<Record>
         ensures some { IfSome result (λ r. self.old ≡ record self.new { queued = r ∷ self.new.queued }) }
-        ensures gives { IfSome result (λ r. (stream : List ℕ) (given : List (List ℕ)) → Holds self.old stream given
+        ensures gives { IfSome result
+            (λ r. (stream : List ℕ) (given : List (List ℕ)) → Holds self.old stream given
             → Holds self.new stream (given ++ r ∷ [])) }
         ensures none { IfNone result ((self.old.queued ≡ []) × (self.new ≡ self.old)) }
     {

@@ -1,6 +1,7 @@
 //! Replies, and records that go out.
 
-ghost use Rattle.std.specs.Prelude.{◌≡◌, ◌+◌, ◌^◌, ◌<◌, ◌≤◌, true, [], ◌∷◌, ◌++◌, length, drop, OnOk, IfOk, IfErr};
+ghost use Rattle.std.specs.Prelude.{◌≡◌, ◌+◌, ◌^◌, ◌<◌, ◌≤◌, true, [], ◌∷◌, ◌++◌};
+ghost use Rattle.std.specs.Prelude.{length, drop, OnOk, IfOk, IfErr};
 ghost use Rattle.std.specs.Int.{w32, to_be_bytes};
 ghost use Rattle.nfs_xdr.specs.declared.XdrError.TheVariants.{Memory};
 ghost use Rattle.nfs_rpc.specs.Messages.{words, fault_body, reply_of};

@@ -1,5 +1,6 @@
 -- What the server's clocks give.
-use Rattle.std.specs.Prelude.{◌≡◌, ◌+◌, ◌*◌, ◌^◌, ◌<◌, ◌≤◌, ℕ, Option, Some, None, nat_lt, if◌then◌else◌}
+use Rattle.std.specs.Prelude.{◌≡◌, ◌+◌, ◌*◌, ◌^◌, ◌<◌, ◌≤◌, ℕ, Option, Some, None}
+use Rattle.std.specs.Prelude.{nat_lt, if◌then◌else◌}
 use Rattle.std.specs.Duration.{as_nanos}
 use Rattle.std.specs.declared.time.Duration.{Duration}
 use Rattle.nfs_machine.specs.declared.moment.Moment.{Moment}
@@ -35,7 +36,8 @@ abbrev pub number_after : Option Duration → ℕ
 number_after None = 0
 number_after (Some since) = number_of (as_nanos since)
 
--- The moment that is so long after 1970 began. It is the last one again where that is not known, or where its seconds are no u32.
+-- The moment that is so long after 1970 began. It is the last one again where that is not known, or where its seconds
+-- are no u32.
 abbrev pub IsMomentAfter : Option Duration → Moment → Moment → Type 0
 IsMomentAfter None last moment = moment ≡ last
 IsMomentAfter (Some since) last moment =

@@ -14,7 +14,9 @@ use Rattle.nfs_server.specs.declared.serve.StreamFault.TheVariants.{Read, Write,
 
 -- These records came from the host, one after the other and each at the clock's next moment. From this state, which the
 -- store stood for, the bytes are their answers, what was executed is a run, and the store stands for its end.
-pub record Answered {Clock : Type 0} (gives : Clock → Moment → Clock → Type 0) (host : List ℕ) (contents : List (List ℕ)) (clock later : Clock) (old new : PlainValue) (answers : List ℕ) (m : State) : Type 0 where
+pub record Answered {Clock : Type 0} (gives : Clock → Moment → Clock → Type 0) (host : List ℕ)
+    (contents : List (List ℕ)) (clock later : Clock) (old new : PlainValue) (answers : List ℕ)
+    (m : State) : Type 0 where
   pub arrivals : List Arrival
   pub records : List Record
   pub after : State
@@ -25,22 +27,28 @@ pub record Answered {Clock : Type 0} (gives : Clock → Moment → Clock → Typ
   pub stands : StandsFor new after
 
 -- so from every state that the store stood for; what the server was started with stays
-pub record AreAnswered {Clock : Type 0} (gives : Clock → Moment → Clock → Type 0) (host : List ℕ) (contents : List (List ℕ)) (clock later : Clock) (old new : PlainValue) (answers : List ℕ) : Type 0 where
+pub record AreAnswered {Clock : Type 0} (gives : Clock → Moment → Clock → Type 0) (host : List ℕ)
+    (contents : List (List ℕ)) (clock later : Clock) (old new : PlainValue) (answers : List ℕ) : Type 0 where
   pub setting : new.setting ≡ old.setting
   pub each : (m : State) → StandsFor old m → Answered gives host contents clock later old new answers m
 
 -- the records were answered, and their answers were written
-pub record Goes {Clock : Type 0} (gives : Clock → Moment → Clock → Type 0) (host : List ℕ) (contents : List (List ℕ)) (clock later : Clock) (old new : PlainValue) (before after : Option (List ℕ)) : Type 0 where
+pub record Goes {Clock : Type 0} (gives : Clock → Moment → Clock → Type 0) (host : List ℕ)
+    (contents : List (List ℕ)) (clock later : Clock) (old new : PlainValue)
+    (before after : Option (List ℕ)) : Type 0 where
   pub answers : List ℕ
   pub written : Appends before after answers
   pub answered : AreAnswered gives host contents clock later old new answers
 
 -- none of these records is left, and nothing more was done
-abbrev pub Stays : {Clock : Type 0} → List (List ℕ) → (clock later : Clock) (old new : PlainValue) (before after : Option (List ℕ)) → Type 0
-Stays contents clock later old new before after = (contents ≡ []) × (later ≡ clock) × (new ≡ old) × (after ≡ before)
+abbrev pub Stays : {Clock : Type 0} → List (List ℕ) →
+    (clock later : Clock) (old new : PlainValue) (before after : Option (List ℕ)) → Type 0
+Stays contents clock later old new before after = (contents ≡ []) × (later ≡ clock) × (new ≡ old) ×
+    (after ≡ before)
 
 -- the first of these records came at the clock's next moment, and has no answer
-pub record IsUnanswered {Clock : Type 0} (gives : Clock → Moment → Clock → Type 0) (contents : List (List ℕ)) (clock later : Clock) (old new : PlainValue) (before after : Option (List ℕ)) : Type 0 where
+pub record IsUnanswered {Clock : Type 0} (gives : Clock → Moment → Clock → Type 0) (contents : List (List ℕ))
+    (clock later : Clock) (old new : PlainValue) (before after : Option (List ℕ)) : Type 0 where
   pub hand : List ℕ
   pub behind : List (List ℕ)
   pub whole : contents ≡ hand ∷ behind
@@ -50,7 +58,9 @@ pub record IsUnanswered {Clock : Type 0} (gives : Clock → Moment → Clock →
   pub unwritten : after ≡ before
 
 -- the first of these records is answered, and a beginning of its answer was written
-pub record IsCut {Clock : Type 0} (gives : Clock → Moment → Clock → Type 0) (host : List ℕ) (contents : List (List ℕ)) (clock later : Clock) (old new : PlainValue) (before after : Option (List ℕ)) : Type 0 where
+pub record IsCut {Clock : Type 0} (gives : Clock → Moment → Clock → Type 0) (host : List ℕ)
+    (contents : List (List ℕ)) (clock later : Clock) (old new : PlainValue)
+    (before after : Option (List ℕ)) : Type 0 where
   pub hand : List ℕ
   pub behind : List (List ℕ)
   pub whole : contents ≡ hand ∷ behind
@@ -59,16 +69,21 @@ pub record IsCut {Clock : Type 0} (gives : Clock → Moment → Clock → Type 0
   pub written : Appends before after sent
   pub answered : AreAnswered gives host (hand ∷ []) clock later old new (sent ++ unsent)
 
--- What was done at a fault with the records that had come. Read and TooLarge: none is left. Write: the first one's answer is cut.
--- Memory: none is left, or the first one has no answer.
-abbrev pub Ends : {Clock : Type 0} → (Clock → Moment → Clock → Type 0) → List ℕ → StreamFault → List (List ℕ) → (clock later : Clock) (old new : PlainValue) (before after : Option (List ℕ)) → Type 0
+-- What was done at a fault with the records that had come. Read and TooLarge: none is left. Write: the first one's
+-- answer is cut. Memory: none is left, or the first one has no answer.
+abbrev pub Ends : {Clock : Type 0} → (Clock → Moment → Clock → Type 0) → List ℕ → StreamFault →
+    List (List ℕ) → (clock later : Clock) (old new : PlainValue) (before after : Option (List ℕ)) → Type 0
 Ends gives host Read contents clock later old new before after = Stays contents clock later old new before after
 Ends gives host TooLarge contents clock later old new before after = Stays contents clock later old new before after
-Ends gives host Write contents clock later old new before after = IsCut gives host contents clock later old new before after
-Ends gives host Memory contents clock later old new before after = Stays contents clock later old new before after ⊎ IsUnanswered gives contents clock later old new before after
+Ends gives host Write contents clock later old new before after = IsCut gives host contents clock later old new before
+    after
+Ends gives host Memory contents clock later old new before after = Stays contents clock later old new before after ⊎
+    IsUnanswered gives contents clock later old new before after
 
 -- the first of the records were answered, and their answers were written; at the next one serving ended by the fault
-pub record Stops {Clock : Type 0} (gives : Clock → Moment → Clock → Type 0) (host : List ℕ) (fault : StreamFault) (contents : List (List ℕ)) (clock later : Clock) (old new : PlainValue) (before after : Option (List ℕ)) : Type 0 where
+pub record Stops {Clock : Type 0} (gives : Clock → Moment → Clock → Type 0) (host : List ℕ)
+    (fault : StreamFault) (contents : List (List ℕ)) (clock later : Clock) (old new : PlainValue)
+    (before after : Option (List ℕ)) : Type 0 where
   pub first : List (List ℕ)
   pub others : List (List ℕ)
   pub mid : Clock
@@ -79,7 +94,8 @@ pub record Stops {Clock : Type 0} (gives : Clock → Moment → Clock → Type 0
   pub ends : Ends gives host fault others mid later between new sent after
 
 -- all records of the input were served; bytes after the last whole record are left (RFC 5531, section 11)
-pub record ServesAll {Clock : Type 0} (gives : Clock → Moment → Clock → Type 0) (host input : List ℕ) (clock later : Clock) (old new : PlainValue) (before after : Option (List ℕ)) : Type 0 where
+pub record ServesAll {Clock : Type 0} (gives : Clock → Moment → Clock → Type 0) (host input : List ℕ)
+    (clock later : Clock) (old new : PlainValue) (before after : Option (List ℕ)) : Type 0 where
   pub contents : List (List ℕ)
   pub rest : List ℕ
   pub split : IsStream input contents rest
@@ -93,7 +109,8 @@ IsFaultOf Read fed = IsTooLarge fed → ⊥
 IsFaultOf _ fed = Unit {0}
 
 -- a front of the input was taken in, and of its records the first were served
-pub record ServesFront {Clock : Type 0} (gives : Clock → Moment → Clock → Type 0) (host input : List ℕ) (fault : StreamFault) (clock later : Clock) (old new : PlainValue) (before after : Option (List ℕ)) : Type 0 where
+pub record ServesFront {Clock : Type 0} (gives : Clock → Moment → Clock → Type 0) (host input : List ℕ)
+    (fault : StreamFault) (clock later : Clock) (old new : PlainValue) (before after : Option (List ℕ)) : Type 0 where
   pub fed : List ℕ
   pub ahead : List ℕ
   pub contents : List (List ℕ)
@@ -106,7 +123,8 @@ pub record ServesFront {Clock : Type 0} (gives : Clock → Moment → Clock → 
 -- the record is answered so, from every state that the store stood for
 pub record IsAnswered (arrival : Arrival) (old new : PlainValue) (answer : List ℕ) : Type 0 where
   pub setting : new.setting ≡ old.setting
-  pub each : (m : State) → StandsFor old m → (records : List Record) × (after : State) × Answers old.setting m arrival answer records after × StandsFor new after
+  pub each : (m : State) → StandsFor old m → (records : List Record) × (after : State) ×
+      Answers old.setting m arrival answer records after × StandsFor new after
 
 -- the bytes of an answer; nothing for what is dropped
 abbrev pub answer_bytes : Option (Vec ℕ Global) → List ℕ
@@ -115,4 +133,5 @@ answer_bytes (Some bytes) = bytes.items
 
 -- what was served is a run of the machine
 abbrev pub ServedIsRun : Type 0
-ServedIsRun = (setting : Setting) (old new : State) (arrivals : List Arrival) (written : List ℕ) (records : List Record) → Serves setting old arrivals written records new → Run setting old records new
+ServedIsRun = (setting : Setting) (old new : State) (arrivals : List Arrival) (written : List ℕ)
+    (records : List Record) → Serves setting old arrivals written records new → Run setting old records new

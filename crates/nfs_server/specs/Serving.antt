@@ -27,7 +27,9 @@ use Rattle.nfs_machine.specs.declared.moment.Moment.{Moment}
 abbrev pub EarlyOf : List ℕ → Early → Type 0
 EarlyOf bytes fault =
     (call_of bytes ≡ Err fault)
-    ⊎ ((header : CallHeader) × (call_of bytes ≡ Ok header) × ((call : Call) → IsCall header.program header.procedure header.arguments call → ⊥) × (fault ≡ early.Answer header.xid faults.GarbageArguments))
+    ⊎ ((header : CallHeader) × (call_of bytes ≡ Ok header) ×
+    ((call : Call) → IsCall header.program header.procedure header.arguments call → ⊥) ×
+    (fault ≡ early.Answer header.xid faults.GarbageArguments))
 
 abbrev pub results_of : Reply → List ℕ
 results_of (replies.Nfs reply) = result_bytes reply
@@ -51,7 +53,8 @@ refusal_bytes xid (refusals.Reply reply) = success xid reply
 refusal_bytes xid refusals.SystemError = failure xid faults.SystemError
 
 -- a record with a fault is answered by it, and changes nothing
-pub record IsEarly (old : State) (arrival : Arrival) (answer : List ℕ) (records : List Record) (new : State) : Type 0 where
+pub record IsEarly (old : State) (arrival : Arrival) (answer : List ℕ) (records : List Record)
+    (new : State) : Type 0 where
   pub fault : Early
   pub is : EarlyOf arrival.bytes fault
   pub answered : answer ≡ early_bytes fault
@@ -59,7 +62,8 @@ pub record IsEarly (old : State) (arrival : Arrival) (answer : List ℕ) (record
   pub unchanged : new ≡ old
 
 -- a call that memory was wanting for is answered by its refusal, and changes nothing
-pub record IsRefused (setting : Setting) (old : State) (arrival : Arrival) (answer : List ℕ) (records : List Record) (new : State) : Type 0 where
+pub record IsRefused (setting : Setting) (old : State) (arrival : Arrival) (answer : List ℕ) (records : List Record)
+    (new : State) : Type 0 where
   pub ctx : Ctx
   pub call : Call
   pub asks : Asks setting arrival ctx call
@@ -68,7 +72,8 @@ pub record IsRefused (setting : Setting) (old : State) (arrival : Arrival) (answ
   pub unchanged : new ≡ old
 
 -- a call that was executed is one further record, a step of the machine, and is answered by its reply
-pub record IsExecuted (setting : Setting) (old : State) (arrival : Arrival) (answer : List ℕ) (records : List Record) (new : State) : Type 0 where
+pub record IsExecuted (setting : Setting) (old : State) (arrival : Arrival) (answer : List ℕ) (records : List Record)
+    (new : State) : Type 0 where
   pub done : Record
   pub own : done.arrival ≡ arrival
   pub executes : Executes setting old done new
@@ -77,20 +82,24 @@ pub record IsExecuted (setting : Setting) (old : State) (arrival : Arrival) (ans
 
 abbrev pub Answers : Setting → State → Arrival → List ℕ → List Record → State → Type 0
 Answers setting old arrival answer records new =
-    IsEarly old arrival answer records new ⊎ IsRefused setting old arrival answer records new ⊎ IsExecuted setting old arrival answer records new
+    IsEarly old arrival answer records new ⊎ IsRefused setting old arrival answer records new ⊎
+    IsExecuted setting old arrival answer records new
 
 -- The arrivals are answered one after the other, and the records are those of the executed ones.
 abbrev pub Serves : Setting → State → List Arrival → List ℕ → List Record → State → Type 0
 Serves setting old [] written records new = (written ≡ []) × (records ≡ []) × (new ≡ old)
 Serves setting old (arrival ∷ arrivals) written records new =
     (answer : List ℕ) × (others : List ℕ) × (first : List Record) × (later : List Record) × (mid : State)
-    × (written ≡ answer ++ others) × (records ≡ first ++ later) × Answers setting old arrival answer first mid × Serves setting mid arrivals others later new
+    × (written ≡ answer ++ others) × (records ≡ first ++ later) × Answers setting old arrival answer first mid ×
+    Serves setting mid arrivals others later new
 
 -- the arrivals have the moments that a clock gives, one after the other
-abbrev pub Ticks : {Clock : Type 0} → (Clock → Moment → Clock → Type 0) → Clock → List Arrival → Clock → Type 0
+abbrev pub Ticks : {Clock : Type 0} → (Clock → Moment → Clock → Type 0) → Clock → List Arrival → Clock →
+    Type 0
 Ticks gives old [] new = new ≡ old
 Ticks gives old (arrival ∷ arrivals) new = (mid : _) × gives old arrival.moment mid × Ticks gives mid arrivals new
 
 -- these records came from this host
 abbrev pub AreFrom : List ℕ → List (List ℕ) → List Arrival → Type 0
-AreFrom host records arrivals = (map (λ (a : Arrival). a.bytes) arrivals ≡ records) × AllByRecursion (λ (a : Arrival). a.host ≡ host) arrivals
+AreFrom host records arrivals = (map (λ (a : Arrival). a.bytes) arrivals ≡ records) ×
+    AllByRecursion (λ (a : Arrival). a.host ≡ host) arrivals

@@ -14,10 +14,15 @@ use Rattle.nfs_server.specs.declared.serve.StreamFault.{StreamFault}
 -- what the options say, with this start number where they name none
 abbrev pub setting_of : Options → ℕ → Setting
 setting_of options otherwise =
-    record { start = unwrap_or options.start otherwise; exports = options.exports; limits = record { total_bytes = options.bytes } }
+    record {
+      start = unwrap_or options.start otherwise;
+      exports = options.exports;
+      limits = record { total_bytes = options.bytes };
+    }
 
 -- the clock's first moment made the opening state, which the store stood for, and so it went on from there
-pub record FromStart {Clock : Type 0} (gives : Clock → Moment → Clock → Type 0) (setting : Setting) (clock : Clock) (GoesOn : Clock → PlainValue → PlainValue → Type 0) : Type 0 where
+pub record FromStart {Clock : Type 0} (gives : Clock → Moment → Clock → Type 0) (setting : Setting)
+    (clock : Clock) (GoesOn : Clock → PlainValue → PlainValue → Type 0) : Type 0 where
   pub moment : Moment
   pub started : Clock
   pub opened : PlainValue
@@ -28,14 +33,20 @@ pub record FromStart {Clock : Type 0} (gives : Clock → Moment → Clock → Ty
   pub on : GoesOn started opened left
 
 -- all records of the input were served
-abbrev pub ServesFromStart : {Clock : Type 0} → (Clock → Moment → Clock → Type 0) → Setting → (host : List ℕ) (unread : Option (List ℕ)) (clock later : Clock) (before after : Option (List ℕ)) → Type 0
+abbrev pub ServesFromStart : {Clock : Type 0} → (Clock → Moment → Clock → Type 0) → Setting →
+    (host : List ℕ) (unread : Option (List ℕ)) (clock later : Clock) (before after : Option (List ℕ)) → Type 0
 ServesFromStart gives setting host unread clock later before after = (input : List ℕ) → unread ≡ Some input
-    → FromStart gives setting clock (λ started opened left. ServesAll gives host input started later opened left before after)
+    → FromStart gives setting clock
+    (λ started opened left. ServesAll gives host input started later opened left before after)
 
--- The program ends early: by want of memory, where nothing was written, or by a fault of the stream, which the streams tell, where a
--- front of the input was taken in and the first of its records were served.
-abbrev pub FailsFromStart : {Clock : Type 0} → (Clock → Moment → Clock → Type 0) → Setting → (host : List ℕ) (unread : Option (List ℕ)) (clock later : Clock) (before after : Option (List ℕ)) → (StreamFault → Type 0) → Exit → Type 0
+-- The program ends early: by want of memory, where nothing was written, or by a fault of the stream, which the
+-- streams tell, where a front of the input was taken in and the first of its records were served.
+abbrev pub FailsFromStart : {Clock : Type 0} → (Clock → Moment → Clock → Type 0) → Setting →
+    (host : List ℕ) (unread : Option (List ℕ)) (clock later : Clock) (before after : Option (List ℕ)) →
+    (StreamFault → Type 0) → Exit → Type 0
 FailsFromStart gives setting host unread clock later before after IsTold exit =
     ((exit ≡ Memory) × (after ≡ before))
-    ⊎ ((fault : StreamFault) × (exit ≡ exit_of fault) × IsTold fault × ((input : List ℕ) → unread ≡ Some input
-    → FromStart gives setting clock (λ started opened left. ServesFront gives host input fault started later opened left before after)))
+    ⊎ ((fault : StreamFault) × (exit ≡ exit_of fault) × IsTold fault ×
+    ((input : List ℕ) → unread ≡ Some input
+    → FromStart gives setting clock
+    (λ started opened left. ServesFront gives host input fault started later opened left before after)))

@@ -1,9 +1,12 @@
 //! The command line: which options there are, and what they ask for.
 
-ghost use Rattle.std.specs.Prelude.{◌≡◌, ◌==◌, [], false, IfErr, IfOk, MatchResult, map, slice_get, unwrap_or};
+ghost use Rattle.std.specs.Prelude.{◌≡◌, ◌==◌, [], false, IfErr, IfOk, MatchResult, map, slice_get};
+ghost use Rattle.std.specs.Prelude.{unwrap_or};
 ghost use Rattle.std.specs.List.{slice_split};
 ghost use Rattle.clap.specs.Words.{app_of, found_of, rows_of, rule_of};
-ghost use Rattle.nfs_server.specs.CommandLine.{Configures, IsHost, IsHostRefusal, IsParsedFrom, IsReadingFault, IsRefusal, IsValueRefusal, Reads, Refuses, export_parts, flag_rule, host_of, nfsd, number_rule, option_rule, parts_of};
+ghost use Rattle.nfs_server.specs.CommandLine.{Configures, IsHost, IsHostRefusal, IsParsedFrom, IsReadingFault};
+ghost use Rattle.nfs_server.specs.CommandLine.{IsRefusal, IsValueRefusal, Reads, Refuses, export_parts, flag_rule};
+ghost use Rattle.nfs_server.specs.CommandLine.{host_of, nfsd, number_rule, option_rule, parts_of};
 
 use crate::exit::Exit;
 use crate::options::Options;

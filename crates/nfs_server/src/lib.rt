@@ -1,8 +1,8 @@
 //! The server: a store for one caller, and streams of records served from it.
 //!
 //! What `serve_plain` writes is, byte for byte, the answers of a run of the machine over the records of its input, in
-//! order. It stands on `nfs_rpc` for records and headers, on `nfs_wire` and `side_wire` for arguments and results, and on
-//! `nfs_data`, `nfs_names` and `nfs_mount` for what each call comes to.
+//! order. It stands on `nfs_rpc` for records and headers, on `nfs_wire` and `side_wire` for arguments and results,
+//! and on `nfs_data`, `nfs_names` and `nfs_mount` for what each call comes to.
 #![tactic(auto)]
 
 mod answers;

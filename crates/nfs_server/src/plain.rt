@@ -76,7 +76,8 @@ impl Plain {
         limits: Limits,
         moment: Moment,
     ) -> Result<Plain, AllocError>
-        ensures setting { IfOk result (λ plain. plain.setting ≡ record { start = start; exports = exports; limits = limits }) }
+        ensures setting { IfOk result
+            (λ plain. plain.setting ≡ record { start = start; exports = exports; limits = limits }) }
         ensures opening { IfOk result (λ plain. StandsFor plain (opening exports moment)) }
     {
         let time = Time {
@@ -108,7 +109,9 @@ impl Plain {
         moment: Moment,
     ) -> Result<Option<Vec<u8>>, AllocError>
         requires { (1 ≤ length host.now) × (length host.now ≤ 255) }
-        ensures ok { IfOk result (λ answer. IsAnswered (record { host = host.now; bytes = message; moment = moment }) self.old self.new (answer_bytes answer)) }
+        ensures ok { IfOk result
+            (λ answer. IsAnswered (record { host = host.now; bytes = message; moment = moment }) self.old self.new
+            (answer_bytes answer)) }
         ensures err { OnErr result (self.new ≡ self.old) }
     {
         match read_record(&message) {
@@ -128,7 +131,9 @@ impl Plain {
         moment: Moment,
     ) -> Result<Option<Vec<u8>>, AllocError>
         requires { IsAsked message.now asked.now }
-        ensures ok { IfOk result (λ answer. IsAnswered (record { host = host.now; bytes = message.now; moment = moment }) self.old self.new (answer_bytes answer)) }
+        ensures ok { IfOk result
+            (λ answer. IsAnswered (record { host = host.now; bytes = message.now; moment = moment }) self.old self.new
+            (answer_bytes answer)) }
         ensures err { OnErr result (self.new ≡ self.old) }
     {
         match self.execute(alloc, host, asked, moment) {
@@ -146,7 +151,10 @@ impl Plain {
         moment: Moment,
     ) -> Result<Vec<u8>, AllocError>
         requires { IsBuilt asked.now.call }
-        ensures ok { IfOk result (λ answer. MakesStep (context_of self.old.setting host.now asked.now.ids moment) asked.now.call asked.now.xid self.old self.new answer.items) }
+        ensures ok { IfOk result
+            (λ answer. MakesStep
+            (context_of self.old.setting host.now asked.now.ids moment) asked.now.call asked.now.xid self.old self.new
+            answer.items) }
         ensures err { OnErr result (self.new ≡ self.old) }
     {
         let ctx = self.context(host, asked.ids, moment)?;
@@ -225,7 +233,8 @@ impl Plain {
         }
     }
 
-    /// Makes the answer, a copy of the writes and room for them; then it makes the writes, which cannot fail. An error changes nothing.
+    /// Makes the answer, a copy of the writes and room for them; then it makes the writes, which cannot fail. An
+    /// error changes nothing.
     fn commit(&mut self, alloc: Global, xid: u32, done: Done) -> Result<Vec<u8>, AllocError>
         requires fits { Fits done.view (store_of self.old) }
         requires exports { done.ctx.exports ≡ self.old.setting.exports }

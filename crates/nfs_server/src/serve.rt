@@ -1,6 +1,7 @@
 //! Serving a stream of records, one after the other.
 
-ghost use Rattle.std.specs.Prelude.{◌≡◌, ℕ, ◌+◌, ◌-◌, ◌^◌, ◌<◌, ◌≤◌, ◌⊎◌, List, [], ◌∷◌, ◌++◌, length, Some, IfOk, IfErr, OnOk, OnErr, IsErrOf};
+ghost use Rattle.std.specs.Prelude.{◌≡◌, ℕ, ◌+◌, ◌-◌, ◌^◌, ◌<◌, ◌≤◌, ◌⊎◌, List};
+ghost use Rattle.std.specs.Prelude.{[], ◌∷◌, ◌++◌, length, Some, IfOk, IfErr, OnOk, OnErr, IsErrOf};
 ghost use Rattle.std.specs.Io.KnownBytes.{Appends, Consumes, Keeps};
 ghost use Rattle.nfs_rpc.specs.Records.{Holds};
 ghost use Rattle.nfs_rpc.specs.Streams.{one_more};
@@ -56,8 +57,8 @@ enum Taken {
 /// # Errors
 ///
 /// `Read`, `TooLarge`: every whole record before the fault has its answer. `Write`: so has every record up to the one
-/// in hand, whose answer may be written in part. `Memory`: every record before the one in hand, or before the piece that
-/// was not taken in.
+/// in hand, whose answer may be written in part. `Memory`: every record before the one in hand, or before the piece
+/// that was not taken in.
 pub fn serve_plain<C: Moments, R: Source, W: Sink>(
     alloc: Global,
     plain: &mut Plain,
@@ -73,9 +74,11 @@ pub fn serve_plain<C: Moments, R: Source, W: Sink>(
     ensures fault { IfErr result (λ e. (input : List ℕ) → R.unread reader.old ≡ Some input
         → ServesFront C.gives host.now input e clock.old clock.new plain.old plain.new (W.written writer.old) (W.written writer.new)) }
     // A fault of a stream is one that the stream counted, or there was no end of it.
-    ensures read { IsErrOf result StreamFault.Read → (R.Counts.failures reader.new ≡ one_more (R.Counts.failures reader.old))
+    ensures read { IsErrOf result StreamFault.Read →
+        (R.Counts.failures reader.new ≡ one_more (R.Counts.failures reader.old))
         ⊎ ((input : List ℕ) → R.unread reader.old ≡ Some input → 2 ^ 64 - 1 ≤ length input) }
-    ensures write { IsErrOf result StreamFault.Write → W.Counts.failures writer.new ≡ one_more (W.Counts.failures writer.old) }
+    ensures write { IsErrOf result StreamFault.Write →
+        W.Counts.failures writer.new ≡ one_more (W.Counts.failures writer.old) }
 {
     let mut records = Records::new(alloc);
     let Ok(mut buffer) = Vec::from_elem(alloc, 0, BUFFER_SIZE) else {
@@ -116,9 +119,11 @@ fn serve_pieces<C: Moments, R: Source, W: Sink>(
         → ServesAll C.gives host.now input clock.old clock.new plain.old plain.new (W.written writer.old) (W.written writer.new)) }
     ensures fault { IfErr result (λ e. (input : List ℕ) → R.unread reader.old ≡ Some input
         → ServesFront C.gives host.now input e clock.old clock.new plain.old plain.new (W.written writer.old) (W.written writer.new)) }
-    ensures read { IsErrOf result StreamFault.Read → (R.Counts.failures reader.new ≡ one_more (R.Counts.failures reader.old))
+    ensures read { IsErrOf result StreamFault.Read →
+        (R.Counts.failures reader.new ≡ one_more (R.Counts.failures reader.old))
         ⊎ ((input : List ℕ) → R.unread reader.old ≡ Some input → 2 ^ 64 - 1 ≤ length input) }
-    ensures write { IsErrOf result StreamFault.Write → W.Counts.failures writer.new ≡ one_more (W.Counts.failures writer.old) }
+    ensures write { IsErrOf result StreamFault.Write →
+        W.Counts.failures writer.new ≡ one_more (W.Counts.failures writer.old) }
 {
     'pieces: for _reads in 0..u64::MAX {
         let taken = take_piece(reader, records, buffer)?;
@@ -140,10 +145,13 @@ fn take_piece<R: Source>(
     buffer: &mut [u8],
 ) -> Result<Taken, StreamFault>
     requires { 0 < length buffer.old }
-    ensures taken { IfOk result (λ taken. Takes taken records.old records.new (R.unread reader.old) (R.unread reader.new)) }
+    ensures taken { IfOk result
+        (λ taken. Takes taken records.old records.new (R.unread reader.old) (R.unread reader.new)) }
     ensures ok { OnOk result (R.Counts.failures reader.new ≡ R.Counts.failures reader.old) }
     ensures err { OnErr result (records.new ≡ records.old) }
-    ensures fault { IfErr result (λ e. ((e ≡ StreamFault.Read) × (R.Counts.failures reader.new ≡ one_more (R.Counts.failures reader.old))) ⊎ (e ≡ StreamFault.Memory)) }
+    ensures fault { IfErr result
+        (λ e. ((e ≡ StreamFault.Read) × (R.Counts.failures reader.new ≡ one_more (R.Counts.failures reader.old)))
+        ⊎ (e ≡ StreamFault.Memory)) }
 {
     let Ok(count) = reader.read(buffer) else {
         return Err(StreamFault::Read);
@@ -168,12 +176,20 @@ fn serve_records<C: Moments, W: Sink>(
     records: &mut Records,
 ) -> Result<(), StreamFault>
     requires { (1 ≤ length host.now) × (length host.now ≤ 255) }
-    ensures goes { OnOk result (Goes C.gives host.now records.old.queued clock.old clock.new plain.old plain.new (W.written writer.old) (W.written writer.new)) }
+    ensures goes { OnOk result
+        (Goes C.gives host.now records.old.queued clock.old clock.new plain.old plain.new (W.written writer.old)
+        (W.written writer.new)) }
     ensures all { OnOk result (records.new.queued ≡ []) }
-    ensures holds { OnOk result ((stream : List ℕ) (given : List (List ℕ)) → Holds records.old stream given → Holds records.new stream (given ++ records.old.queued)) }
+    ensures holds { OnOk result
+        ((stream : List ℕ) (given : List (List ℕ)) → Holds records.old stream given →
+        Holds records.new stream (given ++ records.old.queued)) }
     ensures ok { OnOk result (W.Counts.failures writer.new ≡ W.Counts.failures writer.old) }
-    ensures stops { IfErr result (λ e. Stops C.gives host.now e records.old.queued clock.old clock.new plain.old plain.new (W.written writer.old) (W.written writer.new)) }
-    ensures fault { IfErr result (λ e. ((e ≡ StreamFault.Write) × (W.Counts.failures writer.new ≡ one_more (W.Counts.failures writer.old))) ⊎ (e ≡ StreamFault.Memory)) }
+    ensures stops { IfErr result
+        (λ e. Stops C.gives host.now e records.old.queued clock.old clock.new plain.old plain.new
+        (W.written writer.old) (W.written writer.new)) }
+    ensures fault { IfErr result
+        (λ e. ((e ≡ StreamFault.Write) × (W.Counts.failures writer.new ≡ one_more (W.Counts.failures writer.old)))
+        ⊎ (e ≡ StreamFault.Memory)) }
 {
     'records: while let Some(record) = records.next() {
         serve_record(alloc, plain, host, clock, writer, record)?;
@@ -191,10 +207,16 @@ fn serve_record<C: Moments, W: Sink>(
     message: Record,
 ) -> Result<(), StreamFault>
     requires { (1 ≤ length host.now) × (length host.now ≤ 255) }
-    ensures goes { OnOk result (Goes C.gives host.now (message ∷ []) clock.old clock.new plain.old plain.new (W.written writer.old) (W.written writer.new)) }
+    ensures goes { OnOk result
+        (Goes C.gives host.now (message ∷ []) clock.old clock.new plain.old plain.new (W.written writer.old)
+        (W.written writer.new)) }
     ensures ok { OnOk result (W.Counts.failures writer.new ≡ W.Counts.failures writer.old) }
-    ensures ends { IfErr result (λ e. Ends C.gives host.now e (message ∷ []) clock.old clock.new plain.old plain.new (W.written writer.old) (W.written writer.new)) }
-    ensures fault { IfErr result (λ e. ((e ≡ StreamFault.Write) × (W.Counts.failures writer.new ≡ one_more (W.Counts.failures writer.old))) ⊎ (e ≡ StreamFault.Memory)) }
+    ensures ends { IfErr result
+        (λ e. Ends C.gives host.now e (message ∷ []) clock.old clock.new plain.old plain.new (W.written writer.old)
+        (W.written writer.new)) }
+    ensures fault { IfErr result
+        (λ e. ((e ≡ StreamFault.Write) × (W.Counts.failures writer.new ≡ one_more (W.Counts.failures writer.old)))
+        ⊎ (e ≡ StreamFault.Memory)) }
 {
     let moment = clock.moment();
     match plain.answer(alloc, host, message, moment) {
@@ -208,8 +230,11 @@ fn serve_record<C: Moments, W: Sink>(
 fn send<W: Sink>(writer: &mut W, answer: &[u8]) -> Result<(), StreamFault>
     ensures written { OnOk result (Appends (W.written writer.old) (W.written writer.new) answer.now) }
     ensures ok { OnOk result (W.Counts.failures writer.new ≡ W.Counts.failures writer.old) }
-    ensures part { OnErr result ((sent : List ℕ) × (unsent : List ℕ) × (answer.now ≡ sent ++ unsent) × Appends (W.written writer.old) (W.written writer.new) sent) }
-    ensures fault { IfErr result (λ e. (e ≡ StreamFault.Write) × (W.Counts.failures writer.new ≡ one_more (W.Counts.failures writer.old))) }
+    ensures part { OnErr result
+        ((sent : List ℕ) × (unsent : List ℕ) × (answer.now ≡ sent ++ unsent) ×
+        Appends (W.written writer.old) (W.written writer.new) sent) }
+    ensures fault { IfErr result
+        (λ e. (e ≡ StreamFault.Write) × (W.Counts.failures writer.new ≡ one_more (W.Counts.failures writer.old))) }
 {
     write_all(writer, answer)?;
     writer.flush().map_err(|_| StreamFault::Write)
@@ -219,8 +244,11 @@ fn send<W: Sink>(writer: &mut W, answer: &[u8]) -> Result<(), StreamFault>
 fn write_all<W: Sink>(writer: &mut W, bytes: &[u8]) -> Result<(), StreamFault>
     ensures written { OnOk result (Appends (W.written writer.old) (W.written writer.new) bytes.now) }
     ensures ok { OnOk result (W.Counts.failures writer.new ≡ W.Counts.failures writer.old) }
-    ensures part { OnErr result ((sent : List ℕ) × (unsent : List ℕ) × (bytes.now ≡ sent ++ unsent) × Appends (W.written writer.old) (W.written writer.new) sent) }
-    ensures fault { IfErr result (λ e. (e ≡ StreamFault.Write) × (W.Counts.failures writer.new ≡ one_more (W.Counts.failures writer.old))) }
+    ensures part { OnErr result
+        ((sent : List ℕ) × (unsent : List ℕ) × (bytes.now ≡ sent ++ unsent) ×
+        Appends (W.written writer.old) (W.written writer.new) sent) }
+    ensures fault { IfErr result
+        (λ e. (e ≡ StreamFault.Write) × (W.Counts.failures writer.new ≡ one_more (W.Counts.failures writer.old))) }
 {
     let mut rest = bytes;
     'writes: while !rest.is_empty() {

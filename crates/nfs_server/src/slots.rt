@@ -1,6 +1,8 @@
 //! Slots for objects, by number.
 
-ghost use Rattle.std.specs.Prelude.{◌≡◌, ℕ, ◌^◌, ◌<◌, ◌≤◌, [], ◌∷◌, ◌++◌, length, take, replicate, slice_get, slice_set, slice_index_or, option_map, None, IfOk, OnOk, OnErr};
+ghost use Rattle.std.specs.Prelude.{◌≡◌, ℕ, ◌^◌, ◌<◌, ◌≤◌, [], ◌∷◌, ◌++◌, length};
+ghost use Rattle.std.specs.Prelude.{take, replicate, slice_get, slice_set, slice_index_or, option_map, None, IfOk};
+ghost use Rattle.std.specs.Prelude.{OnOk, OnErr};
 ghost use Rattle.std.specs.Arc.{arc_value};
 ghost use Rattle.nfs_server.specs.Slots.{slot_value, empty_slot, object_in, generation_in, put_in};
 
@@ -85,7 +87,8 @@ impl Slots {
     /// Puts an object at a number, or takes away what stands there.
     pub(crate) fn put(&mut self, number: u64, object: Option<Arc<Object>>)
         requires { number < length self.old }
-        ensures { self.new ≡ slice_set self.old number (put_in (slice_index_or self.old number empty_slot) (option_map arc_value object)) }
+        ensures { self.new ≡ slice_set self.old number
+            (put_in (slice_index_or self.old number empty_slot) (option_map arc_value object)) }
     {
         let slot = &mut self.list[number as usize];
         slot.last = slot.last.max(generation(&object));

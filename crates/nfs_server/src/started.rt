@@ -1,6 +1,7 @@
 //! The program from its start to the end of its input.
 
-ghost use Rattle.std.specs.Prelude.{◌≡◌, ℕ, ◌-◌, ◌^◌, ◌≤◌, ◌⊎◌, List, length, Some, IfErr, OnOk};
+ghost use Rattle.std.specs.Prelude.{◌≡◌, ℕ, ◌-◌, ◌^◌, ◌≤◌, ◌⊎◌, List, length, Some};
+ghost use Rattle.std.specs.Prelude.{IfErr, OnOk};
 ghost use Rattle.nfs_rpc.specs.Streams.{one_more};
 ghost use Rattle.nfs_server.specs.Started.{FailsFromStart, ServesFromStart, setting_of};
 
@@ -26,9 +27,13 @@ pub fn serve_options<C: Moments, R: Source, W: Sink>(
     reader: &mut R,
     writer: &mut W,
 ) -> Result<(), Exit>
-    ensures ok { OnOk result (ServesFromStart C.gives (setting_of options start) options.host (R.unread reader.old) clock.old clock.new (W.written writer.old) (W.written writer.new)) }
+    ensures ok { OnOk result
+        (ServesFromStart C.gives (setting_of options start) options.host (R.unread reader.old) clock.old clock.new
+        (W.written writer.old) (W.written writer.new)) }
     // A fault of a stream is one that the stream counted, or there was no end of it.
-    ensures fault { IfErr result (FailsFromStart C.gives (setting_of options start) options.host (R.unread reader.old) clock.old clock.new (W.written writer.old) (W.written writer.new)
+    ensures fault { IfErr result
+        (FailsFromStart C.gives (setting_of options start) options.host (R.unread reader.old) clock.old clock.new
+        (W.written writer.old) (W.written writer.new)
         (λ fault. (fault ≡ StreamFault.Read → (R.Counts.failures reader.new ≡ one_more (R.Counts.failures reader.old))
         ⊎ ((input : List ℕ) → R.unread reader.old ≡ Some input → 2 ^ 64 - 1 ≤ length input))
         × (fault ≡ StreamFault.Write → W.Counts.failures writer.new ≡ one_more (W.Counts.failures writer.old)))) }

@@ -4,9 +4,17 @@ use Rattle.std.specs.Prelude.{ℕ, ◌<◌, Result, List, [], ◌∷◌, length,
 use Rattle.nfs_xdr.specs.declared.XdrError.{XdrError}
 use Rattle.nfs_xdr.specs.Programs as program
 use Rattle.nfs_xdr.specs.Types.{Xdr, Void, Value}
-use Rattle.nfs_wire.specs.Arguments.{nfs_fh3, diropargs3, setattr3args, access3args, read3args, write3args, create3args, mkdir3args, symlink3args, mknod3args, rename3args, link3args, readdir3args, readdirplus3args, commit3args, place_value, setattr_value, access_value, read_value, write_value, create_value, mkdir_value, symlink_value, mknod_value, rename_value, link_value, readdir_value, readdirplus_value, commit_value}
+use Rattle.nfs_wire.specs.Arguments.{nfs_fh3, diropargs3, setattr3args, access3args, read3args, write3args}
+use Rattle.nfs_wire.specs.Arguments.{create3args, mkdir3args, symlink3args, mknod3args, rename3args, link3args}
+use Rattle.nfs_wire.specs.Arguments.{readdir3args, readdirplus3args, commit3args, place_value, setattr_value}
+use Rattle.nfs_wire.specs.Arguments.{access_value, read_value, write_value, create_value, mkdir_value, symlink_value}
+use Rattle.nfs_wire.specs.Arguments.{mknod_value, rename_value, link_value, readdir_value, readdirplus_value}
+use Rattle.nfs_wire.specs.Arguments.{commit_value}
 use Rattle.nfs_wire.specs.declared.calls.NfsCall.{NfsCall}
-use Rattle.nfs_wire.specs.declared.calls.NfsCall.TheVariants.{Null, Getattr, Setattr, Lookup, Access, Readlink, Read, Write, Create, Mkdir, Symlink, Mknod, Remove, Rmdir, Rename, Link, Readdir, Readdirplus, Fsstat, Fsinfo, Pathconf, Commit}
+use Rattle.nfs_wire.specs.declared.calls.NfsCall.TheVariants.{Null, Getattr, Setattr, Lookup, Access, Readlink, Read}
+use Rattle.nfs_wire.specs.declared.calls.NfsCall.TheVariants.{Write, Create, Mkdir, Symlink, Mknod, Remove, Rmdir}
+use Rattle.nfs_wire.specs.declared.calls.NfsCall.TheVariants.{Rename, Link, Readdir, Readdirplus, Fsstat, Fsinfo}
+use Rattle.nfs_wire.specs.declared.calls.NfsCall.TheVariants.{Pathconf, Commit}
 
 -- the arguments of each procedure, in the order of their numbers (RFC 1813, 3.3)
 abbrev pub arguments : List Xdr

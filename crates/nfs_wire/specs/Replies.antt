@@ -4,13 +4,19 @@ use Rattle.std.specs.Prelude.{◌≤◌, ◌<◌, ◌^◌, ℕ, List, length, If
 use Rattle.std.specs.List.{All}
 use Rattle.nfs_xdr.specs.Types.{Xdr, Void, Value}
 use Rattle.nfs_xdr.specs.Writing.{write}
-use Rattle.nfs_wire.specs.Results.{getattr_result, setattr_result, lookup_result, access_result, readlink_result, read_result, written_result, made_result, removed_result, renamed_result, linked_result, readdir_result, readdirplus_result, fsstat_result, fsinfo_result, pathconf_result, commit_result}
+use Rattle.nfs_wire.specs.Results.{getattr_result, setattr_result, lookup_result, access_result, readlink_result}
+use Rattle.nfs_wire.specs.Results.{read_result, written_result, made_result, removed_result, renamed_result}
+use Rattle.nfs_wire.specs.Results.{linked_result, readdir_result, readdirplus_result, fsstat_result, fsinfo_result}
+use Rattle.nfs_wire.specs.Results.{pathconf_result, commit_result}
 use Rattle.nfs_wire.specs.declared.entries.FullEntry.{FullEntry}
 use Rattle.nfs_wire.specs.declared.entries.PageEntry.{PageEntry}
 use Rattle.nfs_wire.specs.declared.replies.LookupReply.{LookupReply}
 use Rattle.nfs_wire.specs.declared.replies.MadeReply.{MadeReply}
 use Rattle.nfs_wire.specs.declared.replies.NfsReply.{NfsReply}
-use Rattle.nfs_wire.specs.declared.replies.NfsReply.TheVariants.{Null, Getattr, Setattr, Lookup, Access, Readlink, Read, Write, Create, Mkdir, Symlink, Mknod, Remove, Rmdir, Rename, Link, Readdir, Readdirplus, Fsstat, Fsinfo, Pathconf, Commit}
+use Rattle.nfs_wire.specs.declared.replies.NfsReply.TheVariants.{Null, Getattr, Setattr, Lookup, Access, Readlink}
+use Rattle.nfs_wire.specs.declared.replies.NfsReply.TheVariants.{Read, Write, Create, Mkdir, Symlink, Mknod, Remove}
+use Rattle.nfs_wire.specs.declared.replies.NfsReply.TheVariants.{Rmdir, Rename, Link, Readdir, Readdirplus, Fsstat}
+use Rattle.nfs_wire.specs.declared.replies.NfsReply.TheVariants.{Fsinfo, Pathconf, Commit}
 use Rattle.nfs_wire.specs.declared.replies.ReadReply.{ReadReply}
 use Rattle.nfs_wire.specs.declared.replies.ReaddirReply.{ReaddirReply}
 use Rattle.nfs_wire.specs.declared.replies.ReaddirplusReply.{ReaddirplusReply}
@@ -78,7 +84,8 @@ HasReaddirForm r = IfOk r.result (λ page. All HasEntryForm page.entries)
 abbrev pub HasReaddirplusForm : ReaddirplusReply → Type 0
 HasReaddirplusForm r = IfOk r.result (λ page. All HasFullEntryForm page.entries)
 
--- A reply whose result has a spelling: its handles are within their bound, and the lengths of its other byte strings fit a word.
+-- A reply whose result has a spelling: its handles are within their bound, and the lengths of its other byte strings
+-- fit a word.
 abbrev pub HasNfsForm : NfsReply → Type 0
 HasNfsForm (Lookup r) = HasLookupForm r
 HasNfsForm (Readlink r) = HasReadlinkForm r

@@ -3,7 +3,13 @@ use Rattle.std.specs.Prelude.{ℕ, Bool, List, [], ◌∷◌, ◌==◌}
 use Rattle.std.specs.List.{list_any}
 use Rattle.nfs_xdr.specs.Types.{Xdr, Enum}
 use Rattle.nfs_wire.specs.declared.status.NfsStatus.{NfsStatus}
-use Rattle.nfs_wire.specs.declared.status.NfsStatus.TheVariants.{Permission, NoEntry, Io, NoDevice, Access, Exists, CrossDevice, UnsupportedDevice, NotDirectory, IsDirectory, Invalid, FileTooBig, NoSpace, ReadOnly, TooManyLinks, NameTooLong, NotEmpty, Quota, Stale, Remote, BadHandle, NotSynchronized, BadCookie, NotSupported, TooSmall, ServerFault, BadType, Jukebox}
+use Rattle.nfs_wire.specs.declared.status.NfsStatus.TheVariants.{Permission, NoEntry, Io, NoDevice, Access, Exists}
+use Rattle.nfs_wire.specs.declared.status.NfsStatus.TheVariants.{CrossDevice, UnsupportedDevice, NotDirectory}
+use Rattle.nfs_wire.specs.declared.status.NfsStatus.TheVariants.{IsDirectory, Invalid, FileTooBig, NoSpace, ReadOnly}
+use Rattle.nfs_wire.specs.declared.status.NfsStatus.TheVariants.{TooManyLinks, NameTooLong, NotEmpty, Quota, Stale}
+use Rattle.nfs_wire.specs.declared.status.NfsStatus.TheVariants.{Remote, BadHandle, NotSynchronized, BadCookie}
+use Rattle.nfs_wire.specs.declared.status.NfsStatus.TheVariants.{NotSupported, TooSmall, ServerFault, BadType}
+use Rattle.nfs_wire.specs.declared.status.NfsStatus.TheVariants.{Jukebox}
 
 -- the number of a status other than NFS3_OK (nfsstat3, RFC 1813, 2.5)
 abbrev pub status_number : NfsStatus → ℕ
@@ -39,7 +45,8 @@ status_number Jukebox = 10008
 -- the numbers of nfsstat3 (RFC 1813, 2.5), NFS3_OK first
 abbrev pub statuses : List ℕ
 statuses =
-    0 ∷ 1 ∷ 2 ∷ 5 ∷ 6 ∷ 13 ∷ 17 ∷ 18 ∷ 19 ∷ 20 ∷ 21 ∷ 22 ∷ 27 ∷ 28 ∷ 30 ∷ 31 ∷ 63 ∷ 66 ∷ 69 ∷ 70 ∷ 71 ∷ 10001 ∷ 10002 ∷ 10003 ∷ 10004 ∷ 10005 ∷ 10006 ∷ 10007 ∷ 10008 ∷ []
+    0 ∷ 1 ∷ 2 ∷ 5 ∷ 6 ∷ 13 ∷ 17 ∷ 18 ∷ 19 ∷ 20 ∷ 21 ∷ 22 ∷ 27 ∷ 28 ∷ 30 ∷ 31 ∷ 63 ∷
+    66 ∷ 69 ∷ 70 ∷ 71 ∷ 10001 ∷ 10002 ∷ 10003 ∷ 10004 ∷ 10005 ∷ 10006 ∷ 10007 ∷ 10008 ∷ []
 
 abbrev pub is_status : ℕ → Bool
 is_status n = list_any (λ status. n == status) statuses

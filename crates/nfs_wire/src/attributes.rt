@@ -4,7 +4,10 @@ ghost use Rattle.std.specs.Prelude.{◌≡◌};
 ghost use Rattle.nfs_xdr.specs.Reading.{ReadsFront};
 ghost use Rattle.nfs_xdr.specs.Types.{Word, Hyper, Optional, HasSpelling};
 ghost use Rattle.nfs_xdr.specs.Writing.{WritesFront};
-ghost use Rattle.nfs_wire.specs.Attributes.{ftype3, specdata3, nfstime3, fattr3, set_time, sattr3, wcc_attr, wcc_data, pre_op_attr, post_op_attr, type_number, device_value, time_value, attributes_value, set_time_value, set_attributes_value, weak_value, before_value, after_value, wcc_value};
+ghost use Rattle.nfs_wire.specs.Attributes.{ftype3, specdata3, nfstime3, fattr3, set_time, sattr3, wcc_attr};
+ghost use Rattle.nfs_wire.specs.Attributes.{wcc_data, pre_op_attr, post_op_attr, type_number, device_value};
+ghost use Rattle.nfs_wire.specs.Attributes.{time_value, attributes_value, set_time_value, set_attributes_value};
+ghost use Rattle.nfs_wire.specs.Attributes.{weak_value, before_value, after_value, wcc_value};
 
 use nfs_xdr::{SharedReader, Writer, XdrError};
 

@@ -241,8 +241,8 @@ pub struct CommitReply {
     pub result: Result<Verifier, NfsStatus>,
 }
 
-/// The results of a call of NFS version 3. What is shown both when a call was done and when it was refused stands beside
-/// the result.
+/// The results of a call of NFS version 3. What is shown both when a call was done and when it was refused stands
+/// beside the result.
 #[derive(Debug, Drop, PartialEq, Eq)]
 pub enum NfsReply {
     /// Procedure 0 (RFC 1813, 3.3.0).
@@ -297,7 +297,8 @@ pub fn write_result(writer: &mut Writer, reply: &NfsReply) -> Result<(), XdrErro
     requires { HasNfsForm reply.now }
     ensures written { OnOk result (writer.new ≡ writer.old ++ result_bytes reply.now) }
     // Those bytes are the one spelling of the result with zeros as padding.
-    ensures spelled { OnOk result (IsItsSpelling (result_of reply.now).0 (result_of reply.now).1 (result_bytes reply.now)) }
+    ensures spelled { OnOk result
+        (IsItsSpelling (result_of reply.now).0 (result_of reply.now).1 (result_bytes reply.now)) }
     ensures err { IfErr result (λ e. e ≡ Memory) }
 {
     append_result(writer, reply)

@@ -1,9 +1,13 @@
--- Reading from left to right, as a function on lists: a value and the bytes behind it, or the first fault. It is what code is compared with; what is right is `Spells`.
-use Rattle.std.specs.Prelude.{◌≡◌, ◌≢◌, ◌≤◌, ℕ, zero, suc, ◌+◌, ◌-◌, Bool, true, false, List, [], ◌∷◌, length, take, drop, Option, Some, None, Result, Ok, Err, nat_lt, ◌==◌, if◌then◌else◌, ℤ}
+-- Reading from left to right, as a function on lists: a value and the bytes behind it, or the first fault. It is what
+-- code is compared with; what is right is `Spells`.
+use Rattle.std.specs.Prelude.{◌≡◌, ◌≢◌, ◌≤◌, ℕ, zero, suc, ◌+◌, ◌-◌, Bool, true, false}
+use Rattle.std.specs.Prelude.{List, [], ◌∷◌, length, take, drop, Option, Some, None, Result, Ok, Err, nat_lt}
+use Rattle.std.specs.Prelude.{◌==◌, if◌then◌else◌, ℤ}
 use Rattle.std.specs.Int.{Width, w32, w64, byte_len, from_be_bytes, cast_signed}
 use Rattle.nfs_xdr.specs.declared.XdrError.{XdrError}
 use Rattle.nfs_xdr.specs.declared.XdrError.TheVariants.{Short, TooLong, BadValue, Memory}
-use Rattle.nfs_xdr.specs.Types.{Xdr, Void, Word, Int, Hyper, Flag, Enum, Fixed, Opaque, Pair, Array, Optional, Entries, Union, Value, padding}
+use Rattle.nfs_xdr.specs.Types.{Xdr, Void, Word, Int, Hyper, Flag, Enum, Fixed, Opaque, Pair, Array, Optional}
+use Rattle.nfs_xdr.specs.Types.{Entries, Union, Value, padding}
 
 -- what the next step makes of a value; a fault stays
 infixl 10 ◌>>=◌
@@ -13,7 +17,8 @@ abbrev pub ◌>>=◌ : {A B : Type 0} → Result A XdrError → (A → Result B 
 
 -- an unsigned number of this width (RFC 4506, 4.2 and 4.5)
 abbrev pub number_at : Width → List ℕ → Result (ℕ × List ℕ) XdrError
-number_at w bytes = if nat_lt (length bytes) (byte_len w) then Err Short else Ok (from_be_bytes w (take (byte_len w) bytes), drop (byte_len w) bytes)
+number_at w bytes = if nat_lt (length bytes) (byte_len w) then Err Short else Ok
+    (from_be_bytes w (take (byte_len w) bytes), drop (byte_len w) bytes)
 
 -- the word as an int (4.1)
 abbrev pub signed_of : ℕ × List ℕ → Result (ℤ × List ℕ) XdrError
@@ -29,7 +34,8 @@ known_of known n = if known n.0 then Ok n else Err BadValue
 
 -- so many bytes, with their padding (4.9)
 abbrev pub bytes_at : ℕ → List ℕ → Result (List ℕ × List ℕ) XdrError
-bytes_at size bytes = if nat_lt (length bytes) (size + padding size) then Err Short else Ok (take size bytes, drop (size + padding size) bytes)
+bytes_at size bytes = if nat_lt (length bytes) (size + padding size) then Err Short else Ok
+    (take size bytes, drop (size + padding size) bytes)
 
 -- as many bytes as the word says, if that is within the bound (4.10)
 abbrev pub opaque_of : ℕ → ℕ × List ℕ → Result (List ℕ × List ℕ) XdrError
@@ -40,7 +46,8 @@ abbrev pub some_of : {A : Type 0} → A × List ℕ → Result (Option A × List
 some_of x = Ok (Some x.0, x.1)
 
 -- so many elements, one after another (4.13)
-unfoldable pub read_all : {A : Type 0} → (List ℕ → Result (A × List ℕ) XdrError) → ℕ → List ℕ → Result (List A × List ℕ) XdrError
+unfoldable pub read_all : {A : Type 0} → (List ℕ → Result (A × List ℕ) XdrError) → ℕ → List ℕ →
+    Result (List A × List ℕ) XdrError
 read_all element zero bytes = Ok ([], bytes)
 read_all element (suc n) bytes = do
   x ← element bytes
@@ -48,7 +55,8 @@ read_all element (suc n) bytes = do
   Ok (x.0 ∷ xs.0, xs.1)
 
 -- entries up to the FALSE, of which there are fewer than this (4.19)
-unfoldable pub read_entries : {A : Type 0} → (List ℕ → Result (A × List ℕ) XdrError) → ℕ → List ℕ → Result (List A × List ℕ) XdrError
+unfoldable pub read_entries : {A : Type 0} → (List ℕ → Result (A × List ℕ) XdrError) → ℕ → List ℕ →
+    Result (List A × List ℕ) XdrError
 read_entries entry zero bytes = Err Short
 read_entries entry (suc n) bytes = do
   more ← number_at w32 bytes >>= flag_of
@@ -58,7 +66,9 @@ read_entries entry (suc n) bytes = do
     Ok (x.0 ∷ xs.0, xs.1)) else Ok ([], more.1)
 
 -- the arm that the discriminant names, if it is known (4.15)
-unfoldable pub arm_of : (known : ℕ → Bool) (arm : ℕ → Xdr) → ((tag : ℕ) → List ℕ → Result (Value (arm tag) × List ℕ) XdrError) → ℕ × List ℕ → Result (((tag : ℕ) × Value (arm tag)) × List ℕ) XdrError
+unfoldable pub arm_of : (known : ℕ → Bool) (arm : ℕ → Xdr) →
+    ((tag : ℕ) → List ℕ → Result (Value (arm tag) × List ℕ) XdrError) → ℕ ×
+    List ℕ → Result (((tag : ℕ) × Value (arm tag)) × List ℕ) XdrError
 arm_of known arm inner n = if known n.0 then (inner n.0 n.1 >>= (λ v. Ok ((n.0, v.0), v.1))) else Err BadValue
 
 -- a value of the type, and the bytes behind it
@@ -85,22 +95,26 @@ read (Entries a) bytes = read_entries (read a) (length bytes) bytes
 read (Union known arm) bytes = number_at w32 bytes >>= arm_of known arm (λ tag. read (arm tag))
 
 -- What is read of the item at the front, seen by view, and how many bytes it takes.
-abbrev pub ReadsAt : {X : Type 0} → (t : Xdr) → (X → Value t) → (X → ℕ) → List ℕ → Result X XdrError → Type 0
+abbrev pub ReadsAt : {X : Type 0} → (t : Xdr) → (X → Value t) → (X → ℕ) → List ℕ →
+    Result X XdrError → Type 0
 ReadsAt t view size bytes (Ok x) = (size x ≤ length bytes) × (read t bytes ≡ Ok (view x, drop (size x) bytes))
 ReadsAt t view size bytes (Err e) = read t bytes ≡ Err e
 
 -- What a reader answers, seen by view, and leaves: what reading gives, or a refusal that leaves it where it stood.
-abbrev pub Reads : {X : Type 0} → (t : Xdr) → (X → Value t) → List ℕ → List ℕ → Result X XdrError → Type 0
+abbrev pub Reads : {X : Type 0} → (t : Xdr) → (X → Value t) → List ℕ → List ℕ → Result X XdrError →
+    Type 0
 Reads t view old new (Ok x) = read t old ≡ Ok (view x, new)
 Reads t view old new (Err e) = (read t old ≡ Err e) × (new ≡ old)
 
 -- The same of a reader that shares what it reads, for which there may be no memory.
-abbrev pub ReadsShared : {X : Type 0} → (t : Xdr) → (X → Value t) → List ℕ → List ℕ → Result X XdrError → Type 0
+abbrev pub ReadsShared : {X : Type 0} → (t : Xdr) → (X → Value t) → List ℕ → List ℕ →
+    Result X XdrError → Type 0
 ReadsShared t view old new (Ok x) = read t old ≡ Ok (view x, new)
 ReadsShared t view old new (Err e) = (e ≢ Memory → read t old ≡ Err e) × (new ≡ old)
 
 -- The same of a reader made of items. Where the reader stands after a refusal is not said.
-abbrev pub ReadsFront : {X : Type 0} → (t : Xdr) → (X → Value t) → List ℕ → List ℕ → Result X XdrError → Type 0
+abbrev pub ReadsFront : {X : Type 0} → (t : Xdr) → (X → Value t) → List ℕ → List ℕ →
+    Result X XdrError → Type 0
 ReadsFront t view old new (Ok x) = read t old ≡ Ok (view x, new)
 ReadsFront t view old new (Err e) = e ≢ Memory → read t old ≡ Err e
 

@@ -3,7 +3,8 @@ use Rattle.std.specs.Prelude.{◌≡◌, ℕ, List, [], ◌++◌, length, replic
 use Rattle.std.specs.Int.{w32, w64, to_be_bytes, cast_unsigned}
 use Rattle.nfs_xdr.specs.declared.XdrError.{XdrError}
 use Rattle.nfs_xdr.specs.declared.XdrError.TheVariants.{Memory}
-use Rattle.nfs_xdr.specs.Types.{HasSpelling, Xdr, Void, Word, Int, Hyper, Flag, Enum, Fixed, Opaque, Pair, Array, Optional, Entries, Union, Value, padding, flag_number}
+use Rattle.nfs_xdr.specs.Types.{HasSpelling, Xdr, Void, Word, Int, Hyper, Flag, Enum, Fixed, Opaque, Pair, Array}
+use Rattle.nfs_xdr.specs.Types.{Optional, Entries, Union, Value, padding, flag_number}
 
 -- bytes and their padding
 abbrev pub padded : List ℕ → List ℕ
@@ -20,7 +21,8 @@ unfoldable pub with_padded : List ℕ → List ℕ → List ℕ
 with_padded bytes old = old ++ padded bytes
 
 -- the same with a discriminant and its arm, each by how it is appended
-unfoldable pub with_arm : (arm : ℕ → Xdr) → ((tag : ℕ) → Value (arm tag) → List ℕ → List ℕ) → (tag : ℕ) × Value (arm tag) → List ℕ → List ℕ
+unfoldable pub with_arm : (arm : ℕ → Xdr) → ((tag : ℕ) → Value (arm tag) → List ℕ → List ℕ) →
+    (tag : ℕ) × Value (arm tag) → List ℕ → List ℕ
 with_arm arm inner v old = inner v.0 v.1 (with_word v.0 old)
 
 -- the bytes so far, and the value's bytes at their end

@@ -1,7 +1,8 @@
 //! Laws of spelling, for every type. Each is the contract of a function that does nothing; a proof
 //! that needs one calls it, or cites the lemma behind it.
 
-ghost use Rattle.nfs_xdr.specs.Laws.{SpellingIsUnique, ReadingFindsSpelling, SpellingIsRead, RefusalMeansUnspelled, SpelledHasSpelling, WritingSpells, WritingAppends};
+ghost use Rattle.nfs_xdr.specs.Laws.{SpellingIsUnique, ReadingFindsSpelling, SpellingIsRead, RefusalMeansUnspelled};
+ghost use Rattle.nfs_xdr.specs.Laws.{SpelledHasSpelling, WritingSpells, WritingAppends};
 
 /// Two fronts of one list that spell values of one type are one front, and spell one value.
 pub fn spelling_is_unique()

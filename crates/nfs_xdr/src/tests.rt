@@ -32,7 +32,9 @@ struct File {
 
 #[tactic(auto, using(crate::proofs::Unions::unions), unfolding(crate::specs::Reading::read))]
 fn read_kind(reader: &mut SharedReader<'_>) -> Result<Kind, XdrError>
-    ensures { ReadsFront kind (λ k. elim k as (λ _. Value kind) [ Text ↦ (0, tt) | Data s ↦ (1, s) | Exec s ↦ (2, s) ]) reader.old reader.new result }
+    ensures { ReadsFront kind
+        (λ k. elim k as (λ _. Value kind) [ Text ↦ (0, tt) | Data s ↦ (1, s) | Exec s ↦ (2, s) ]) reader.old
+        reader.new result }
 {
     match reader.u32()? {
         0 => Ok(Kind::Text),
@@ -44,7 +46,14 @@ fn read_kind(reader: &mut SharedReader<'_>) -> Result<Kind, XdrError>
 
 #[tactic(auto, unfolding(crate::specs::Reading::read))]
 fn read_file(reader: &mut SharedReader<'_>) -> Result<File, XdrError>
-    ensures { ReadsFront file (λ f. (f.name, (elim f.kind as (λ _. Value kind) [ Text ↦ (0, tt) | Data s ↦ (1, s) | Exec s ↦ (2, s) ], (f.owner, f.content)))) reader.old reader.new result }
+    ensures { ReadsFront file
+        (λ f. (
+          f.name,
+          (
+            elim f.kind as (λ _. Value kind) [ Text ↦ (0, tt) | Data s ↦ (1, s) | Exec s ↦ (2, s) ],
+            (f.owner, f.content),
+          ),
+        )) reader.old reader.new result }
 {
     let name = reader.opaque(255)?;
     let kind = read_kind(reader)?;
@@ -85,7 +94,8 @@ fn write_program(
     requires interpretor { length interpretor.now < 2 ^ 32 }
     requires owner { length owner.now < 2 ^ 32 }
     requires content { length content.now < 2 ^ 32 }
-    ensures { WritesFront file (name.now, ((2, interpretor.now), (owner.now, content.now))) writer.old writer.new result }
+    ensures { WritesFront file
+        (name.now, ((2, interpretor.now), (owner.now, content.now))) writer.old writer.new result }
 {
     writer.opaque(name)?;
     writer.u32(2)?;

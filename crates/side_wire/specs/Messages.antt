@@ -2,11 +2,13 @@
 use Rattle.std.specs.Prelude.{◌≡◌, ℕ, List, [], ◌++◌}
 use Rattle.nfs_xdr.specs.Types.{Xdr, Word, Opaque, Pair, Value, Spells}
 use Rattle.nfs_xdr.specs.Writing.{write}
-use Rattle.side_wire.specs.Nlm.{nlm_arguments, nlm_procedure_of, nlm_arguments_of, test_result, plain_result, IsNetobj, HasTestResultForm, HasResultForm}
+use Rattle.side_wire.specs.Nlm.{nlm_arguments, nlm_procedure_of, nlm_arguments_of, test_result, plain_result}
+use Rattle.side_wire.specs.Nlm.{IsNetobj, HasTestResultForm, HasResultForm}
 use Rattle.side_wire.specs.NlmTypes.{nlm4_testargs, nlm4_res, test_value, result_value}
 use Rattle.nfs_xdr.specs.Programs.{type_at}
 use Rattle.side_wire.specs.declared.message.Callback.{Callback}
-use Rattle.side_wire.specs.declared.message.Callback.TheVariants.{Granted, GrantedMsg, TestRes, LockRes, CancelRes, UnlockRes, GrantedRes}
+use Rattle.side_wire.specs.declared.message.Callback.TheVariants.{Granted, GrantedMsg, TestRes, LockRes, CancelRes}
+use Rattle.side_wire.specs.declared.message.Callback.TheVariants.{UnlockRes, GrantedRes}
 use Rattle.side_wire.specs.declared.message.Message.{Message}
 use Rattle.side_wire.specs.declared.message.NlmLock.{NlmLock}
 use Rattle.side_wire.specs.declared.nlm.NlmCall.{NlmCall}
@@ -32,7 +34,8 @@ opaque_auth = Pair Word (Opaque 400)
 abbrev pub auth_none : Value opaque_auth
 auth_none = (0, [])
 
--- what stands before a call's arguments (rpc_msg and call_body, RFC 5531, 9): xid, mtype, rpcvers, prog, vers, proc, cred, verf
+-- what stands before a call's arguments (rpc_msg and call_body, RFC 5531, 9): xid, mtype, rpcvers, prog, vers, proc,
+-- cred, verf
 abbrev pub call_header : Xdr
 call_header =
     Pair Word (Pair Word (Pair Word (Pair Word (Pair Word (Pair Word (Pair opaque_auth opaque_auth))))))
@@ -54,12 +57,15 @@ callback_arguments (GrantedRes r) = plain_result r
 -- they are those of the call that it is
 abbrev pub CallbacksAreCalls : Type 0
 CallbacksAreCalls =
-    (c : Callback) → callback_arguments c ≡ (type_at nlm_arguments (nlm_procedure_of (call_of c)), nlm_arguments_of (call_of c))
+    (c : Callback) → callback_arguments c ≡
+    (type_at nlm_arguments (nlm_procedure_of (call_of c)), nlm_arguments_of (call_of c))
 
 -- the type and the value of a callback with its header
 abbrev pub message_of : ℕ → Callback → (t : Xdr) × Value t
-message_of xid c =
-    (Pair call_header (callback_arguments c).0, (header_value xid (nlm_procedure_of (call_of c)), (callback_arguments c).1))
+message_of xid c = (
+  Pair call_header (callback_arguments c).0,
+  (header_value xid (nlm_procedure_of (call_of c)), (callback_arguments c).1),
+)
 
 -- the bytes of a message's call
 abbrev pub message_bytes : ℕ → Message → List ℕ

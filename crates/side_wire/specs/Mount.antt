@@ -1,6 +1,8 @@
 -- Which bytes spell the arguments and results of MOUNT version 3 (RFC 1813, appendix I).
--- A procedure has one line in each of `mount_arguments`, `mount_procedure_of`, `mount_arguments_of`, `mount_result_of` and `HasMountForm`.
-use Rattle.std.specs.Prelude.{ℕ, ◌<◌, ◌≤◌, Bool, List, [], ◌∷◌, length, Result, Ok, Err, IfOk, ◌==◌, if◌then◌else◌, map, pos}
+-- A procedure has one line in each of `mount_arguments`, `mount_procedure_of`, `mount_arguments_of`,
+-- `mount_result_of` and `HasMountForm`.
+use Rattle.std.specs.Prelude.{ℕ, ◌<◌, ◌≤◌, Bool, List, [], ◌∷◌, length, Result, Ok, Err, IfOk}
+use Rattle.std.specs.Prelude.{◌==◌, if◌then◌else◌, map, pos}
 use Rattle.std.specs.List.{All, list_any}
 use Rattle.nfs_xdr.specs.declared.XdrError.{XdrError}
 use Rattle.nfs_xdr.specs.Types.{Xdr, Void, Int, Opaque, Pair, Array, Entries, Union, Value}
@@ -11,7 +13,8 @@ use Rattle.side_wire.specs.declared.mount.MountCall.TheVariants as call
 use Rattle.side_wire.specs.declared.mount.MountReply.{MountReply}
 use Rattle.side_wire.specs.declared.mount.MountReply.TheVariants as reply
 use Rattle.side_wire.specs.declared.mount.MountStatus.{MountStatus}
-use Rattle.side_wire.specs.declared.mount.MountStatus.TheVariants.{Permission, NoEntry, Io, Access, NotDirectory, Invalid, NameTooLong, NotSupported, ServerFault}
+use Rattle.side_wire.specs.declared.mount.MountStatus.TheVariants.{Permission, NoEntry, Io, Access, NotDirectory}
+use Rattle.side_wire.specs.declared.mount.MountStatus.TheVariants.{Invalid, NameTooLong, NotSupported, ServerFault}
 use Rattle.side_wire.specs.declared.mount.lists.ExportNode.{ExportNode}
 use Rattle.side_wire.specs.declared.mount.lists.MountBody.{MountBody}
 

@@ -1,10 +1,14 @@
 -- Which bytes spell the arguments and results of NLM version 4 (RFC 1813, appendix II).
--- A procedure has one line in each of `nlm_arguments`, `nlm_procedure_of`, `nlm_arguments_of`, `nlm_result_of` and `HasNlmForm`.
+-- A procedure has one line in each of `nlm_arguments`, `nlm_procedure_of`, `nlm_arguments_of`, `nlm_result_of` and
+-- `HasNlmForm`.
 use Rattle.std.specs.Prelude.{◌≢◌, ℕ, ◌<◌, ◌≤◌, List, [], ◌∷◌, length, Result}
 use Rattle.nfs_xdr.specs.declared.XdrError.{XdrError}
 use Rattle.nfs_xdr.specs.Types.{Xdr, Void, Value}
 use Rattle.nfs_xdr.specs.Writing.{write}
-use Rattle.side_wire.specs.NlmTypes.{nlm4_testargs, nlm4_lockargs, nlm4_cancargs, nlm4_unlockargs, nlm4_testres, nlm4_res, nlm4_shareres, nlm4_shareargs, nlm4_notify, test_value, lock_arguments_value, cancel_value, unlock_value, test_result_value, result_value, share_result_value, share_arguments_value, free_all_value}
+use Rattle.side_wire.specs.NlmTypes.{nlm4_testargs, nlm4_lockargs, nlm4_cancargs, nlm4_unlockargs, nlm4_testres}
+use Rattle.side_wire.specs.NlmTypes.{nlm4_res, nlm4_shareres, nlm4_shareargs, nlm4_notify, test_value}
+use Rattle.side_wire.specs.NlmTypes.{lock_arguments_value, cancel_value, unlock_value, test_result_value}
+use Rattle.side_wire.specs.NlmTypes.{result_value, share_result_value, share_arguments_value, free_all_value}
 use Rattle.nfs_xdr.specs.Programs.{type_at, SpellsCall, ReadsCall}
 use Rattle.side_wire.specs.declared.nlm.NlmCall.{NlmCall}
 use Rattle.side_wire.specs.declared.nlm.NlmCall.TheVariants as call

@@ -1,5 +1,5 @@
--- The XDR types of NLM version 4 (RFC 1813, 6.1.4), and the value of each. The bounds of its strings and opaque items are this
--- server's own.
+-- The XDR types of NLM version 4 (RFC 1813, 6.1.4), and the value of each. The bounds of its strings and opaque items
+-- are this server's own.
 use Rattle.std.specs.Prelude.{ℕ, nat_le, ◌==◌, if◌then◌else◌, pos}
 use Rattle.nfs_xdr.specs.Types.{Xdr, Void, Int, Hyper, Flag, Enum, Opaque, Pair, Union, Value}
 use Rattle.side_wire.specs.declared.message.NlmLock.{NlmLock}

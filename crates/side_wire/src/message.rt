@@ -5,7 +5,9 @@ ghost use Rattle.nfs_xdr.specs.Laws.{IsItsSpelling};
 ghost use Rattle.nfs_xdr.specs.Types.{HasSpelling};
 ghost use Rattle.nfs_xdr.specs.Writing.{WritesFront};
 ghost use Rattle.nfs_xdr.specs.declared.XdrError.TheVariants.{Memory};
-ghost use Rattle.side_wire.specs.Messages.{call_of, call_header, header_value, callback_arguments, message_of, message_bytes, CallbacksAreCalls, HasLockForm, HasTestArgumentsForm, HasCallbackForm, SpellsResult, IsNoResult};
+ghost use Rattle.side_wire.specs.Messages.{call_of, call_header, header_value, callback_arguments, message_of};
+ghost use Rattle.side_wire.specs.Messages.{message_bytes, CallbacksAreCalls, HasLockForm, HasTestArgumentsForm};
+ghost use Rattle.side_wire.specs.Messages.{HasCallbackForm, SpellsResult, IsNoResult};
 ghost use Rattle.side_wire.specs.Nlm.{nlm_procedure_of};
 ghost use Rattle.side_wire.specs.NlmTypes.{nlm4_lock, lock_value, nlm4_testargs, test_value};
 ghost use Rattle.nfs_xdr.specs.Programs.{IsFrontedBy};
@@ -79,13 +81,16 @@ pub fn write_message(writer: &mut Writer, xid: u32, message: &Message) -> Result
     requires { HasCallbackForm message.now.call }
     ensures written { OnOk result (writer.new ≡ writer.old ++ message_bytes xid message.now) }
     // Those bytes are the one spelling of header and arguments with zeros as padding.
-    ensures spelled { OnOk result (IsItsSpelling (message_of xid message.now.call).0 (message_of xid message.now.call).1 (message_bytes xid message.now)) }
+    ensures spelled { OnOk result
+        (IsItsSpelling (message_of xid message.now.call).0 (message_of xid message.now.call).1
+        (message_bytes xid message.now)) }
     ensures err { IfErr result (λ e. e ≡ Memory) }
 {
     append_call(writer, xid, &message.call)
 }
 
-/// The arguments of a message are spelled as those of a call of NLM of its procedure, so a reader of such calls finds it.
+/// The arguments of a message are spelled as those of a call of NLM of its procedure, so a reader of such calls finds
+/// it.
 pub fn callbacks_are_calls()
     ensures { CallbacksAreCalls }
 {}

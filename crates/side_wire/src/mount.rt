@@ -6,7 +6,8 @@ ghost use Rattle.nfs_xdr.specs.Reading.{ReadsFront};
 ghost use Rattle.nfs_xdr.specs.declared.XdrError.TheVariants.{Memory};
 ghost use Rattle.nfs_xdr.specs.Programs.{IsFrontedBy, IsGarbage, SpellsOneCall};
 ghost use Rattle.nfs_xdr.specs.Writing.{WritesResult};
-ghost use Rattle.side_wire.specs.Mount.{mount_procedure_of, SpellsMountArguments, dirpath, mount_result_of, mount_result_bytes, HasMountForm, ReadsMountCall};
+ghost use Rattle.side_wire.specs.Mount.{mount_procedure_of, SpellsMountArguments, dirpath, mount_result_of};
+ghost use Rattle.side_wire.specs.Mount.{mount_result_bytes, HasMountForm, ReadsMountCall};
 
 mod lists;
 mod results;
@@ -81,7 +82,8 @@ pub fn read_args(
     ensures procedure { IfOk result (λ call. mount_procedure_of call ≡ procedure) }
     ensures found { IfOk result (λ call. IsFrontedBy SpellsMountArguments call arguments.entry) }
     // Garbage is what no front spells, as arguments of that procedure.
-    ensures garbage { IsErrOf result ArgumentsError.Garbage → IsGarbage mount_procedure_of SpellsMountArguments procedure arguments.entry }
+    ensures garbage { IsErrOf result ArgumentsError.Garbage →
+        IsGarbage mount_procedure_of SpellsMountArguments procedure arguments.entry }
 {
     are_bytes(arguments.as_slice());
     Ok(read_call(procedure, &mut arguments)?)
@@ -93,7 +95,8 @@ pub fn write_result(writer: &mut Writer, reply: &MountReply) -> Result<(), XdrEr
     requires { HasMountForm reply.now }
     ensures written { OnOk result (writer.new ≡ writer.old ++ mount_result_bytes reply.now) }
     // Those bytes are the one spelling of the result with zeros as padding.
-    ensures spelled { OnOk result (IsItsSpelling (mount_result_of reply.now).0 (mount_result_of reply.now).1 (mount_result_bytes reply.now)) }
+    ensures spelled { OnOk result
+        (IsItsSpelling (mount_result_of reply.now).0 (mount_result_of reply.now).1 (mount_result_bytes reply.now)) }
     ensures err { IfErr result (λ e. e ≡ Memory) }
 {
     append_result(writer, reply)

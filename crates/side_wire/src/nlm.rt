@@ -5,7 +5,8 @@ ghost use Rattle.nfs_xdr.specs.Laws.{IsItsSpelling};
 ghost use Rattle.nfs_xdr.specs.declared.XdrError.TheVariants.{Memory};
 ghost use Rattle.nfs_xdr.specs.Programs.{IsFrontedBy, IsGarbage, SpellsOneCall};
 ghost use Rattle.nfs_xdr.specs.Writing.{WritesResult};
-ghost use Rattle.side_wire.specs.Nlm.{nlm_procedure_of, SpellsNlmArguments, nlm_result_of, nlm_result_bytes, HasNlmForm, ReadsNlmCall};
+ghost use Rattle.side_wire.specs.Nlm.{nlm_procedure_of, SpellsNlmArguments, nlm_result_of, nlm_result_bytes};
+ghost use Rattle.side_wire.specs.Nlm.{HasNlmForm, ReadsNlmCall};
 
 pub(crate) mod items;
 mod procedures;
@@ -261,7 +262,8 @@ pub fn read_args(procedure: u32, mut arguments: SharedReader<'_>) -> Result<NlmC
     ensures procedure { IfOk result (λ call. nlm_procedure_of call ≡ procedure) }
     ensures found { IfOk result (λ call. IsFrontedBy SpellsNlmArguments call arguments.entry) }
     // Garbage is what no front spells, as arguments of that procedure.
-    ensures garbage { IsErrOf result ArgumentsError.Garbage → IsGarbage nlm_procedure_of SpellsNlmArguments procedure arguments.entry }
+    ensures garbage { IsErrOf result ArgumentsError.Garbage →
+        IsGarbage nlm_procedure_of SpellsNlmArguments procedure arguments.entry }
 {
     are_bytes(arguments.as_slice());
     Ok(read_call(procedure, &mut arguments)?)
@@ -273,7 +275,8 @@ pub fn write_result(writer: &mut Writer, reply: &NlmReply) -> Result<(), XdrErro
     requires { HasNlmForm reply.now }
     ensures written { OnOk result (writer.new ≡ writer.old ++ nlm_result_bytes reply.now) }
     // Those bytes are the one spelling of the result with zeros as padding.
-    ensures spelled { OnOk result (IsItsSpelling (nlm_result_of reply.now).0 (nlm_result_of reply.now).1 (nlm_result_bytes reply.now)) }
+    ensures spelled { OnOk result
+        (IsItsSpelling (nlm_result_of reply.now).0 (nlm_result_of reply.now).1 (nlm_result_bytes reply.now)) }
     ensures err { IfErr result (λ e. e ≡ Memory) }
 {
     append_result(writer, reply)

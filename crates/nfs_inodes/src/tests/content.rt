@@ -1,5 +1,5 @@
-//! Content that is cut off, filled up or replaced, and what is compared before and after. The values are worked out by hand from
-//! RFC 1813, 2.5 and 3.3.2.
+//! Content that is cut off, filled up or replaced, and what is compared before and after. The values are worked out
+//! by hand from RFC 1813, 2.5 and 3.3.2.
 
 use super::*;
 

@@ -1,5 +1,5 @@
-//! What a new object is given, and what CREATE makes of what is there. The values are worked out by hand from RFC 1813, 2.5 and
-//! 3.3.8.
+//! What a new object is given, and what CREATE makes of what is there. The values are worked out by hand from RFC
+//! 1813, 2.5 and 3.3.8.
 
 use super::*;
 use nfs_wire::{CreateHow, SetAttributes, SetTime};

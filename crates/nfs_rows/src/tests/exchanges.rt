@@ -1,8 +1,9 @@
 //! What a new server is sent and what it must answer, put together from words as RFC 5531, sections 9 and 11, and
 //! RFC 1813, 2.5, 2.6 and 3.3, say.
 //!
-//! Every moment is (1000, 0), so a change of an object makes its times 1 ns later than they were. The first new object of
-//! a server has the number 2 and the generation 1, since the root has the number 1: RFC 1813 leaves the choice open.
+//! Every moment is (1000, 0), so a change of an object makes its times 1 ns later than they were. The first new
+//! object of a server has the number 2 and the generation 1, since the root has the number 1: RFC 1813 leaves the
+//! choice open.
 
 use super::*;
 

@@ -5,8 +5,8 @@ use super::{
     Options, exports, host, serve_options, spelled,
 };
 
-/// What is written for this input where the options name this start number, and 7 is taken where they name none; and the
-/// exit status of what the program ends by.
+/// What is written for this input where the options name this start number, and 7 is taken where they name none; and
+/// the exit status of what the program ends by.
 fn started(
     alloc: Global,
     named: Option<u64>,

@@ -5,7 +5,8 @@ ghost use Rattle.nfs_xdr.specs.Writing.{WritesFront};
 ghost use Rattle.nfs_wire.specs.Arguments.{stable_how, stability_number};
 ghost use Rattle.nfs_wire.specs.Replies.{HasReadlinkForm, HasReadForm};
 ghost use Rattle.nfs_xdr.specs.Writing.{WritesResult};
-ghost use Rattle.nfs_wire.specs.Results.{getattr_result, setattr_result, access_result, readlink_result, read_result, written_result, commit_result};
+ghost use Rattle.nfs_wire.specs.Results.{getattr_result, setattr_result, access_result, readlink_result, read_result};
+ghost use Rattle.nfs_wire.specs.Results.{written_result, commit_result};
 
 use super::items::write_verifier;
 use crate::attributes::{Attributes, write_attributes, write_optional_attributes, write_wcc};

@@ -6,7 +6,10 @@ ghost use Rattle.nfs_xdr.specs.Types.{Entries, HasSpelling};
 ghost use Rattle.nfs_xdr.specs.Writing.{WritesFront};
 ghost use Rattle.nfs_wire.specs.Replies.{HasEntryForm, HasFullEntryForm, HasReaddirForm, HasReaddirplusForm};
 ghost use Rattle.nfs_xdr.specs.Writing.{WritesResult};
-ghost use Rattle.nfs_wire.specs.Results.{entry3, entry_value, entryplus3, full_entry_value, space3, space_value, file_system3, file_system_value, path_limits3, path_limits_value, readdir_result, readdirplus_result, fsstat_result, fsinfo_result, pathconf_result};
+ghost use Rattle.nfs_wire.specs.Results.{entry3, entry_value, entryplus3, full_entry_value, space3, space_value};
+ghost use Rattle.nfs_wire.specs.Results.{file_system3, file_system_value, path_limits3, path_limits_value};
+ghost use Rattle.nfs_wire.specs.Results.{readdir_result, readdirplus_result, fsstat_result, fsinfo_result};
+ghost use Rattle.nfs_wire.specs.Results.{pathconf_result};
 
 use super::items::{write_optional_handle, write_verifier};
 use crate::attributes::{write_optional_attributes, write_time};
@@ -141,8 +144,8 @@ fn write_entry(writer: &mut Writer, entry: &PageEntry) -> Result<(), XdrError>
     writer.u64(entry.cookie)
 }
 
-/// Writes the entries of a page with attributes and handles (`dirlistplus3`, RFC 1813, 3.3.17), each behind a TRUE, and a
-/// FALSE at the end.
+/// Writes the entries of a page with attributes and handles (`dirlistplus3`, RFC 1813, 3.3.17), each behind a TRUE,
+/// and a FALSE at the end.
 #[tactic(auto, unfolding(nfs_xdr::specs::Writing::appended))]
 fn write_full_entries(writer: &mut Writer, entries: &[FullEntry]) -> Result<(), XdrError>
     requires { All HasFullEntryForm entries.now }

@@ -40,7 +40,8 @@ fn nothing() -> SetAttributes {
 /// The words of these attributes.
 const NOTHING: [u32; 6] = [0; 6];
 
-/// Whether the words, with a byte behind them, are read as the arguments of the call, and every shorter front is garbage.
+/// Whether the words, with a byte behind them, are read as the arguments of the call, and every shorter front is
+/// garbage.
 fn is_read(
     rt: &HostRuntime,
     procedure: u32,

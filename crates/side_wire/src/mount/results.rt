@@ -3,7 +3,9 @@
 ghost use Rattle.std.specs.Prelude.{◌≡◌, ◌≤◌, length, map, IfOk, Ok};
 ghost use Rattle.std.specs.List.{All};
 ghost use Rattle.nfs_xdr.specs.Writing.{WritesResult};
-ghost use Rattle.side_wire.specs.Mount.{mount_status_number, mnt_result, dump_result, export_result, groups, mountbody, mountbody_value, exportnode, exportnode_value, IsHostName, HasMountBodyForm, HasExportNodeForm};
+ghost use Rattle.side_wire.specs.Mount.{mount_status_number, mnt_result, dump_result, export_result, groups};
+ghost use Rattle.side_wire.specs.Mount.{mountbody, mountbody_value, exportnode, exportnode_value, IsHostName};
+ghost use Rattle.side_wire.specs.Mount.{HasMountBodyForm, HasExportNodeForm};
 
 use super::{ExportNode, MountBody, MountStatus};
 use bytes::Bytes;
