@@ -1,0 +1,106 @@
+#!/usr/bin/env python3
+"""Tells in words what nfsd answered: a line for each reply, beside the call that it answers.
+
+usage: nfsd --stdio .. < CALLS | bench/show.py CALLS
+"""
+import struct
+import sys
+
+ACCEPTED = ["SUCCESS", "PROG_UNAVAIL", "PROG_MISMATCH", "PROC_UNAVAIL", "GARBAGE_ARGS", "SYSTEM_ERR"]
+KINDS = [None, "file", "directory", "block device", "character device", "link", "socket", "FIFO"]
+NAMES = {(100003, 0): "NULL", (100003, 1): "GETATTR", (100003, 3): "LOOKUP", (100003, 6): "READ", (100003, 7): "WRITE",
+         (100003, 8): "CREATE", (100005, 0): "NULL of MOUNT", (100005, 1): "MNT", (100021, 0): "NULL of NLM"}
+
+
+class Words:
+    """The items of a message in turn (RFC 4506)."""
+
+    def __init__(self, message):
+        self.rest = message
+
+    def take(self, form):
+        found = struct.unpack_from(">" + form, self.rest)
+        self.rest = self.rest[struct.calcsize(">" + form):]
+        return found if len(found) > 1 else found[0]
+
+    def opaque(self):
+        size = self.take("I")
+        found, self.rest = self.rest[:size], self.rest[size + -size % 4:]
+        return found
+
+    def attributes(self):
+        """fattr3 (RFC 1813, 2.6)."""
+        kind, mode, links, uid, gid, size, _ = self.take("5I2Q")
+        self.take("2I2Q4I")
+        seconds, nanoseconds = self.take("2I")
+        plural = "link" if links == 1 else "links"
+        return (f"{KINDS[kind]}, mode {mode:04o}, {links} {plural}, uid {uid}, gid {gid}, {size} bytes, "
+                f"changed at {seconds}.{nanoseconds:09}")
+
+    def optional(self):
+        return self.attributes() if self.take("I") else "attributes not shown"
+
+    def wcc(self):
+        if self.take("I"):
+            self.take("Q4I")
+        return self.optional()
+
+
+def records(stream):
+    """The records of a stream, each of one fragment or more (RFC 5531, section 11)."""
+    record = b""
+    while len(stream) >= 4:
+        header = struct.unpack_from(">I", stream)[0]
+        size = header & 0x7FFFFFFF
+        record, stream = record + stream[4:4 + size], stream[4 + size:]
+        if header >> 31:
+            yield record
+            record = b""
+
+
+def result(name, words):
+    """What stands behind the accepted status, for a result that is OK."""
+    if name.startswith("NULL"):
+        return ""
+    status = words.take("I")
+    if status:
+        return f"status {status}"
+    if name == "GETATTR":
+        return f"OK: {words.attributes()}"
+    if name == "MNT":
+        return f"OK: the handle of the root is {words.opaque().hex()}"
+    if name == "LOOKUP":
+        return f"OK: handle {words.opaque().hex()}, {words.optional()}"
+    if name == "CREATE":
+        words.take("I")
+        return f"OK: handle {words.opaque().hex()}, {words.optional()}"
+    if name == "READ":
+        shown = words.optional()
+        _, eof = words.take("2I")
+        return f"OK: {words.opaque()!r}{', the end of the file' if eof else ''}; {shown}"
+    if name == "WRITE":
+        shown = words.wcc()
+        return f"OK: {words.take('I')} bytes are written; {shown}"
+    return "OK"
+
+
+def main():
+    with open(sys.argv[1], "rb") as stored:
+        calls = {xid: (program, procedure) for xid, _, _, program, _, procedure
+                 in (struct.unpack_from(">6I", call) for call in records(stored.read()))}
+    for reply in records(sys.stdin.buffer.read()):
+        words = Words(reply)
+        xid, _, denied = words.take("3I")
+        name = NAMES.get(calls.get(xid), "a call")
+        if denied:
+            print(f"{xid} {name}: denied")
+            continue
+        words.take("I")
+        words.opaque()
+        accepted = ACCEPTED[words.take("I")]
+        told = result(name, words) if accepted == "SUCCESS" else ""
+        print(f"{xid} {name}: {accepted}{'; ' + told if told else ''}")
+
+
+if __name__ == "__main__":
+    main()
