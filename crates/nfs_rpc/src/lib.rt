@@ -23,6 +23,3 @@ pub use marking::{
 };
 pub use programs::Program;
 pub use replies::{finish_record, start_record, write_reply};
-
-#[cfg(test)]
-mod tests;

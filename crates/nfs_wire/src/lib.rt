@@ -19,8 +19,6 @@ mod clones;
 pub mod entries;
 pub mod replies;
 pub mod status;
-#[cfg(test)]
-mod tests;
 
 pub use arguments::ArgumentsError;
 pub use attributes::{

@@ -5,6 +5,5 @@ pub mod Again
 pub mod Written
 pub mod NoMemory
 pub mod Spelling
-pub mod Arrays
 pub mod Entries
 pub mod ProgramLaws

@@ -2,5 +2,4 @@ pub mod Types
 pub mod Reading
 pub mod Writing
 pub mod Laws
-pub mod Example
 pub mod Programs

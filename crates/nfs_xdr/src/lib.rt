@@ -9,7 +9,7 @@
 //! `specs/Programs`, and its laws in `proofs/ProgramLaws`.
 //!
 //! A message is read or written by a plain function with `?`, whose clause is `ReadsFront` or
-//! `WritesFront`; the tests have an example, a union and loops among them.
+//! `WritesFront`; `wire_tests` has an example, a union and loops among them.
 #![tactic(auto)]
 
 ghost use Rattle.std.specs.Prelude.{◌≡◌};
@@ -67,6 +67,3 @@ impl<T: Drop> From<AllocFailed<T>> for XdrError {
         XdrError::Memory
     }
 }
-
-#[cfg(test)]
-mod tests;

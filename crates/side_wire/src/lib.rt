@@ -17,8 +17,6 @@ mod clones;
 pub mod message;
 pub mod mount;
 pub mod nlm;
-#[cfg(test)]
-mod tests;
 
 pub use arguments::ArgumentsError;
 pub use message::{

@@ -330,6 +330,3 @@ fn write_denied(writer: &mut Writer, holder: &LockHolder) -> Result<(), XdrError
     writer.u64(holder.offset)?;
     writer.u64(holder.length)
 }
-
-#[cfg(test)]
-mod tests;

@@ -1,36 +1,25 @@
-//! The bytes of RFC 1813, appendices I and II, and of the header of RFC 5531, worked out by hand.
+//! MOUNT version 3 and NLM version 4 (RFC 1813, appendices I and II), and the calls that the server makes.
 
 ghost use Rattle.side_wire.specs.Messages.{HasLockForm};
-ghost use Rattle.side_wire.specs.Nlm.{IsNetobj};
+ghost use Rattle.side_wire.specs.Nlm.{HasResultForm, IsNetobj};
 
 mod messages;
 mod mount;
 mod nlm;
 
-use crate::{LockHolder, NlmLock};
 use bytes::Bytes;
-use std::test::Fail;
+use side_wire::{LockHolder, NlmLock, NlmResult, NlmStatus};
 
-/// Words as bytes, and further bytes behind them.
-pub(crate) fn bytes_of(rt: &HostRuntime, words: &[u32], behind: &[u8]) -> Result<Vec<u8>, Fail> {
-    let mut bytes = Vec::new(rt.alloc());
-    for word in words {
-        bytes.extend_from_slice(&word.to_be_bytes())?;
-    }
-    bytes.extend_from_slice(behind)?;
-    Ok(bytes)
-}
-
-pub(crate) fn cookie() -> Bytes
+fn cookie() -> Bytes
     ensures { IsNetobj result }
 {
     Bytes::from_static(b"ab")
 }
 
 /// The words of this cookie.
-pub(crate) const COOKIE: [u32; 2] = [2, 0x6162_0000];
+const COOKIE: [u32; 2] = [2, 0x6162_0000];
 
-pub(crate) fn lock() -> NlmLock
+fn lock() -> NlmLock
     ensures { HasLockForm result }
 {
     NlmLock {
@@ -44,7 +33,7 @@ pub(crate) fn lock() -> NlmLock
 }
 
 /// The words of this lock.
-pub(crate) const LOCK: [u32; 11] = [
+const LOCK: [u32; 11] = [
     4,
     0x686f_7374,
     3,
@@ -58,7 +47,7 @@ pub(crate) const LOCK: [u32; 11] = [
     10,
 ];
 
-pub(crate) fn holder() -> LockHolder
+fn holder() -> LockHolder
     ensures { IsNetobj result.owner }
 {
     LockHolder {
@@ -71,4 +60,14 @@ pub(crate) fn holder() -> LockHolder
 }
 
 /// The words of this holder.
-pub(crate) const HOLDER: [u32; 8] = [1, 7, 1, 0x6f00_0000, 3, 4, 0, 5];
+const HOLDER: [u32; 8] = [1, 7, 1, 0x6f00_0000, 3, 4, 0, 5];
+
+/// The result of a call with that cookie.
+fn result(status: NlmStatus) -> NlmResult
+    ensures { HasResultForm result }
+{
+    NlmResult {
+        cookie: cookie(),
+        status,
+    }
+}

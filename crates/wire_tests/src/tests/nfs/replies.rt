@@ -4,15 +4,17 @@ ghost use Rattle.std.specs.Prelude.{IfOk};
 ghost use Rattle.std.specs.List.{All};
 ghost use Rattle.nfs_wire.specs.Replies.{HasNfsForm, HasMadeForm, HasEntryForm, HasFullEntryForm};
 
-use super::{DIRECTORY, bytes_of, directory, seconds, written};
-use crate::{
+use super::{DIRECTORY, directory, seconds};
+use crate::tests::{behind_a_byte, bytes_of, has_written, joined};
+use bytes::Bytes;
+use nfs_wire::{
     AccessReply, Attributes, CommitReply, DeviceNumber, FileSystem, FileType, Found, FsinfoReply,
     FsstatReply, FullEntry, FullNames, LinkedReply, LookupReply, Made, MadeReply, Names, NfsReply,
     NfsStatus, Page, PageEntry, PagePlus, PathLimits, PathconfReply, ReadData, ReadReply,
     ReaddirReply, ReaddirplusReply, ReadlinkReply, RemovedReply, RenamedReply, SetattrReply, Space,
-    Stability, Time, Verifier, Wcc, WeakAttributes, WriteReply, Written,
+    Stability, Time, Verifier, Wcc, WeakAttributes, WriteReply, Written, write_result,
 };
-use bytes::Bytes;
+use std::alloc::{AllocError, Global};
 use std::test::Fail;
 
 const VERIFIER: Verifier = Verifier {
@@ -25,47 +27,45 @@ const UNKNOWN: Wcc = Wcc {
     after: None,
 };
 
-/// Whether these words are written of the reply.
-fn is_written(rt: &HostRuntime, reply: NfsReply, words: &[u32]) -> Result<bool, Fail>
+/// Whether these bytes are written of the reply. It owns the reply, since a test that keeps one is slow to prove.
+fn are_written(alloc: Global, reply: NfsReply, bytes: &[u8]) -> Result<bool, Fail>
     requires { HasNfsForm reply }
 {
-    let written = written(rt, reply)?;
-    let expected = bytes_of(rt, words, &[])?;
-    ends_in(rt, written.as_slice(), expected.as_slice())
+    let mut writer = behind_a_byte(alloc)?;
+    write_result(&mut writer, &reply)?;
+    Ok(has_written(writer, bytes))
+}
+
+/// Whether these words are written of the reply.
+fn is_written(alloc: Global, reply: NfsReply, words: &[u32]) -> Result<bool, Fail>
+    requires { HasNfsForm reply }
+{
+    let expected = bytes_of(alloc, words, &[])?;
+    are_written(alloc, reply, expected.as_slice())
 }
 
 /// Whether these words are written of the reply, with the attributes of the directory between them.
 fn is_written_around(
-    rt: &HostRuntime,
+    alloc: Global,
     reply: NfsReply,
     front: &[u32],
     back: &[u32],
 ) -> Result<bool, Fail>
     requires { HasNfsForm reply }
 {
-    let written = written(rt, reply)?;
-    let back = bytes_of(rt, back, &[])?;
-    let attributes = bytes_of(rt, &DIRECTORY, back.as_slice())?;
-    let expected = bytes_of(rt, front, attributes.as_slice())?;
-    ends_in(rt, written.as_slice(), expected.as_slice())
-}
-
-/// Whether what was written is these bytes, behind what stood there.
-fn ends_in(rt: &HostRuntime, written: &[u8], bytes: &[u8]) -> Result<bool, Fail> {
-    let mut expected = bytes_of(rt, &[], &[255])?;
-    expected.extend_from_slice(bytes)?;
-    Ok(written == expected.as_slice())
+    let expected = joined(alloc, front, &DIRECTORY, back)?;
+    are_written(alloc, reply, expected.as_slice())
 }
 
 #[test]
 fn null_has_no_result(rt: HostRuntime) -> Result<(), Fail> {
-    assert!(rt; is_written(&rt, NfsReply::Null, &[])?);
+    assert!(rt; is_written(rt.alloc(), NfsReply::Null, &[])?);
     Ok(())
 }
 
 #[test]
 fn attributes_are_written(rt: HostRuntime) -> Result<(), Fail> {
-    assert!(rt; is_written_around(&rt, NfsReply::Getattr(Ok(directory())), &[0], &[])?);
+    assert!(rt; is_written_around(rt.alloc(), NfsReply::Getattr(Ok(directory())), &[0], &[])?);
     Ok(())
 }
 
@@ -108,7 +108,7 @@ fn attributes_of_a_device_are_written(rt: HostRuntime) -> Result<(), Fail> {
         0x3e8,
         0,
     ];
-    assert!(rt; is_written(&rt, NfsReply::Getattr(Ok(device)), &words)?);
+    assert!(rt; is_written(rt.alloc(), NfsReply::Getattr(Ok(device)), &words)?);
     Ok(())
 }
 
@@ -121,7 +121,7 @@ fn refusals_are_written(rt: HostRuntime) -> Result<(), Fail> {
         (NfsStatus::BadHandle, 10001),
         (NfsStatus::Jukebox, 10008),
     ] {
-        assert!(rt; is_written(&rt, NfsReply::Getattr(Err(status)), &[number])?);
+        assert!(rt; is_written(rt.alloc(), NfsReply::Getattr(Err(status)), &[number])?);
     }
     Ok(())
 }
@@ -142,7 +142,7 @@ fn setattr_is_written(rt: HostRuntime) -> Result<(), Fail> {
     };
     assert!(rt;
         is_written_around(
-            &rt,
+            rt.alloc(),
             NfsReply::Setattr(done),
             &[0, 1, 1, 2, 3, 0, 4, 0, 1],
             &[],
@@ -155,7 +155,7 @@ fn setattr_is_written(rt: HostRuntime) -> Result<(), Fail> {
         },
         result: Err(NfsStatus::NotSynchronized),
     };
-    assert!(rt; is_written_around(&rt, NfsReply::Setattr(refused), &[10002, 0, 1], &[])?);
+    assert!(rt; is_written_around(rt.alloc(), NfsReply::Setattr(refused), &[10002, 0, 1], &[])?);
     Ok(())
 }
 
@@ -170,7 +170,7 @@ fn lookup_is_written(rt: HostRuntime) -> Result<(), Fail> {
     };
     assert!(rt;
         is_written_around(
-            &rt,
+            rt.alloc(),
             NfsReply::Lookup(done),
             &[0, 5, 0x6162_6364, 0x6500_0000, 1],
             &[0],
@@ -185,7 +185,7 @@ fn refused_lookup_is_written(rt: HostRuntime) -> Result<(), Fail> {
         directory: Some(directory()),
         result: Err(NfsStatus::NoEntry),
     };
-    assert!(rt; is_written_around(&rt, NfsReply::Lookup(refused), &[2, 1], &[])?);
+    assert!(rt; is_written_around(rt.alloc(), NfsReply::Lookup(refused), &[2, 1], &[])?);
     Ok(())
 }
 
@@ -195,12 +195,12 @@ fn access_is_written(rt: HostRuntime) -> Result<(), Fail> {
         attributes: Some(directory()),
         result: Ok(0x1f),
     };
-    assert!(rt; is_written_around(&rt, NfsReply::Access(done), &[0, 1], &[0x1f])?);
+    assert!(rt; is_written_around(rt.alloc(), NfsReply::Access(done), &[0, 1], &[0x1f])?);
     let refused = AccessReply {
         attributes: None,
         result: Err(NfsStatus::Stale),
     };
-    assert!(rt; is_written(&rt, NfsReply::Access(refused), &[70, 0])?);
+    assert!(rt; is_written(rt.alloc(), NfsReply::Access(refused), &[70, 0])?);
     Ok(())
 }
 
@@ -210,12 +210,19 @@ fn readlink_is_written(rt: HostRuntime) -> Result<(), Fail> {
         attributes: Some(directory()),
         result: Ok(Bytes::from_static(b"a/b")),
     };
-    assert!(rt; is_written_around(&rt, NfsReply::Readlink(done), &[0, 1], &[3, 0x612f_6200])?);
+    assert!(rt;
+        is_written_around(
+            rt.alloc(),
+            NfsReply::Readlink(done),
+            &[0, 1],
+            &[3, 0x612f_6200]
+        )?
+    );
     let refused = ReadlinkReply {
         attributes: Some(directory()),
         result: Err(NfsStatus::Invalid),
     };
-    assert!(rt; is_written_around(&rt, NfsReply::Readlink(refused), &[22, 1], &[])?);
+    assert!(rt; is_written_around(rt.alloc(), NfsReply::Readlink(refused), &[22, 1], &[])?);
     Ok(())
 }
 
@@ -231,7 +238,7 @@ fn read_is_written(rt: HostRuntime) -> Result<(), Fail> {
     };
     assert!(rt;
         is_written_around(
-            &rt,
+            rt.alloc(),
             NfsReply::Read(done),
             &[0, 1],
             &[5, 1, 5, 0x6865_6c6c, 0x6f00_0000],
@@ -241,7 +248,7 @@ fn read_is_written(rt: HostRuntime) -> Result<(), Fail> {
         attributes: None,
         result: Err(NfsStatus::BadHandle),
     };
-    assert!(rt; is_written(&rt, NfsReply::Read(refused), &[10001, 0])?);
+    assert!(rt; is_written(rt.alloc(), NfsReply::Read(refused), &[10001, 0])?);
     Ok(())
 }
 
@@ -262,7 +269,7 @@ fn write_is_written(rt: HostRuntime) -> Result<(), Fail> {
         };
         assert!(rt;
             is_written(
-                &rt,
+                rt.alloc(),
                 NfsReply::Write(done),
                 &[0, 0, 0, 5, number, 0x0102_0304, 0x0506_0708],
             )?
@@ -272,7 +279,7 @@ fn write_is_written(rt: HostRuntime) -> Result<(), Fail> {
         wcc: UNKNOWN,
         result: Err(NfsStatus::FileTooBig),
     };
-    assert!(rt; is_written(&rt, NfsReply::Write(refused), &[27, 0, 0])?);
+    assert!(rt; is_written(rt.alloc(), NfsReply::Write(refused), &[27, 0, 0])?);
     Ok(())
 }
 
@@ -291,16 +298,16 @@ fn made() -> MadeReply
 #[test]
 fn create_and_mkdir_are_written(rt: HostRuntime) -> Result<(), Fail> {
     let front = [0, 1, 4, 0x6162_6364, 1];
-    assert!(rt; is_written_around(&rt, NfsReply::Create(made()), &front, &[0, 0])?);
-    assert!(rt; is_written_around(&rt, NfsReply::Mkdir(made()), &front, &[0, 0])?);
+    assert!(rt; is_written_around(rt.alloc(), NfsReply::Create(made()), &front, &[0, 0])?);
+    assert!(rt; is_written_around(rt.alloc(), NfsReply::Mkdir(made()), &front, &[0, 0])?);
     Ok(())
 }
 
 #[test]
 fn symlink_and_mknod_are_written(rt: HostRuntime) -> Result<(), Fail> {
     let front = [0, 1, 4, 0x6162_6364, 1];
-    assert!(rt; is_written_around(&rt, NfsReply::Symlink(made()), &front, &[0, 0])?);
-    assert!(rt; is_written_around(&rt, NfsReply::Mknod(made()), &front, &[0, 0])?);
+    assert!(rt; is_written_around(rt.alloc(), NfsReply::Symlink(made()), &front, &[0, 0])?);
+    assert!(rt; is_written_around(rt.alloc(), NfsReply::Mknod(made()), &front, &[0, 0])?);
     Ok(())
 }
 
@@ -313,12 +320,12 @@ fn what_was_made_may_be_unknown(rt: HostRuntime) -> Result<(), Fail> {
             attributes: None,
         }),
     };
-    assert!(rt; is_written(&rt, NfsReply::Create(done), &[0, 0, 0, 0, 0])?);
+    assert!(rt; is_written(rt.alloc(), NfsReply::Create(done), &[0, 0, 0, 0, 0])?);
     let refused = MadeReply {
         directory: UNKNOWN,
         result: Err(NfsStatus::BadType),
     };
-    assert!(rt; is_written(&rt, NfsReply::Mknod(refused), &[10007, 0, 0])?);
+    assert!(rt; is_written(rt.alloc(), NfsReply::Mknod(refused), &[10007, 0, 0])?);
     Ok(())
 }
 
@@ -328,7 +335,7 @@ fn remove_and_rmdir_are_written(rt: HostRuntime) -> Result<(), Fail> {
         directory: UNKNOWN,
         result: Ok(()),
     };
-    assert!(rt; is_written(&rt, NfsReply::Remove(done), &[0, 0, 0])?);
+    assert!(rt; is_written(rt.alloc(), NfsReply::Remove(done), &[0, 0, 0])?);
     let refused = RemovedReply {
         directory: Wcc {
             after: Some(directory()),
@@ -336,7 +343,7 @@ fn remove_and_rmdir_are_written(rt: HostRuntime) -> Result<(), Fail> {
         },
         result: Err(NfsStatus::NotEmpty),
     };
-    assert!(rt; is_written_around(&rt, NfsReply::Rmdir(refused), &[66, 0, 1], &[])?);
+    assert!(rt; is_written_around(rt.alloc(), NfsReply::Rmdir(refused), &[66, 0, 1], &[])?);
     Ok(())
 }
 
@@ -351,13 +358,13 @@ fn rename_is_written(rt: HostRuntime) -> Result<(), Fail> {
         to: UNKNOWN,
         result: Ok(()),
     };
-    assert!(rt; is_written_around(&rt, NfsReply::Rename(done), &[0, 0, 1], &[0, 0])?);
+    assert!(rt; is_written_around(rt.alloc(), NfsReply::Rename(done), &[0, 0, 1], &[0, 0])?);
     let refused = RenamedReply {
         from,
         to: UNKNOWN,
         result: Err(NfsStatus::CrossDevice),
     };
-    assert!(rt; is_written_around(&rt, NfsReply::Rename(refused), &[18, 0, 1], &[0, 0])?);
+    assert!(rt; is_written_around(rt.alloc(), NfsReply::Rename(refused), &[18, 0, 1], &[0, 0])?);
     Ok(())
 }
 
@@ -368,20 +375,20 @@ fn link_is_written(rt: HostRuntime) -> Result<(), Fail> {
         directory: UNKNOWN,
         result: Ok(()),
     };
-    assert!(rt; is_written_around(&rt, NfsReply::Link(done), &[0, 1], &[0, 0])?);
+    assert!(rt; is_written_around(rt.alloc(), NfsReply::Link(done), &[0, 1], &[0, 0])?);
     let refused = LinkedReply {
         attributes: None,
         directory: UNKNOWN,
         result: Err(NfsStatus::TooManyLinks),
     };
-    assert!(rt; is_written(&rt, NfsReply::Link(refused), &[31, 0, 0, 0])?);
+    assert!(rt; is_written(rt.alloc(), NfsReply::Link(refused), &[31, 0, 0, 0])?);
     Ok(())
 }
 
-fn names(rt: &HostRuntime) -> Result<Names, Fail>
+fn names(alloc: Global) -> Result<Names, AllocError>
     ensures { IfOk result (λ names. All HasEntryForm names) }
 {
-    let mut names = Vec::new(rt.alloc());
+    let mut names = Vec::new(alloc);
     names.push(PageEntry {
         fileid: 1,
         name: Bytes::from_static(b"."),
@@ -401,7 +408,7 @@ fn readdir_is_written(rt: HostRuntime) -> Result<(), Fail> {
         attributes: Some(directory()),
         result: Ok(Page {
             verifier: VERIFIER,
-            entries: names(&rt)?,
+            entries: names(rt.alloc())?,
             eof: true,
         }),
     };
@@ -425,7 +432,7 @@ fn readdir_is_written(rt: HostRuntime) -> Result<(), Fail> {
         0,
         1,
     ];
-    assert!(rt; is_written_around(&rt, NfsReply::Readdir(done), &[0, 1], &back)?);
+    assert!(rt; is_written_around(rt.alloc(), NfsReply::Readdir(done), &[0, 1], &back)?);
     Ok(())
 }
 
@@ -435,7 +442,7 @@ fn refused_readdir_is_written(rt: HostRuntime) -> Result<(), Fail> {
         attributes: None,
         result: Err(NfsStatus::BadCookie),
     };
-    assert!(rt; is_written(&rt, NfsReply::Readdir(refused), &[10003, 0])?);
+    assert!(rt; is_written(rt.alloc(), NfsReply::Readdir(refused), &[10003, 0])?);
     Ok(())
 }
 
@@ -451,7 +458,7 @@ fn a_page_may_be_empty(rt: HostRuntime) -> Result<(), Fail> {
     };
     assert!(rt;
         is_written(
-            &rt,
+            rt.alloc(),
             NfsReply::Readdir(done),
             &[0, 0, 0x0102_0304, 0x0506_0708, 0, 0],
         )?
@@ -459,10 +466,10 @@ fn a_page_may_be_empty(rt: HostRuntime) -> Result<(), Fail> {
     Ok(())
 }
 
-fn full_names(rt: &HostRuntime) -> Result<FullNames, Fail>
+fn full_names(alloc: Global) -> Result<FullNames, AllocError>
     ensures { IfOk result (λ names. All HasFullEntryForm names) }
 {
-    let mut list = Vec::new(rt.alloc());
+    let mut list = Vec::new(alloc);
     list.push(FullEntry {
         entry: PageEntry {
             fileid: 1,
@@ -490,7 +497,7 @@ fn readdirplus_is_written(rt: HostRuntime) -> Result<(), Fail> {
         attributes: None,
         result: Ok(PagePlus {
             verifier: VERIFIER,
-            entries: full_names(&rt)?,
+            entries: full_names(rt.alloc())?,
             eof: true,
         }),
     };
@@ -519,7 +526,7 @@ fn readdirplus_is_written(rt: HostRuntime) -> Result<(), Fail> {
         3,
         1,
     ];
-    assert!(rt; is_written_around(&rt, NfsReply::Readdirplus(done), &front, &[0, 0, 1])?);
+    assert!(rt; is_written_around(rt.alloc(), NfsReply::Readdirplus(done), &front, &[0, 0, 1])?);
     Ok(())
 }
 
@@ -529,7 +536,7 @@ fn refused_readdirplus_is_written(rt: HostRuntime) -> Result<(), Fail> {
         attributes: Some(directory()),
         result: Err(NfsStatus::TooSmall),
     };
-    assert!(rt; is_written_around(&rt, NfsReply::Readdirplus(refused), &[10005, 1], &[])?);
+    assert!(rt; is_written_around(rt.alloc(), NfsReply::Readdirplus(refused), &[10005, 1], &[])?);
     Ok(())
 }
 
@@ -550,7 +557,7 @@ fn fsstat_is_written(rt: HostRuntime) -> Result<(), Fail> {
     };
     assert!(rt;
         is_written_around(
-            &rt,
+            rt.alloc(),
             NfsReply::Fsstat(done),
             &[0, 1],
             &[0x100, 0, 0, 2, 0, 3, 0, 4, 0, 5, 0, 6, 7],
@@ -560,7 +567,7 @@ fn fsstat_is_written(rt: HostRuntime) -> Result<(), Fail> {
         attributes: None,
         result: Err(NfsStatus::Stale),
     };
-    assert!(rt; is_written(&rt, NfsReply::Fsstat(refused), &[70, 0])?);
+    assert!(rt; is_written(rt.alloc(), NfsReply::Fsstat(refused), &[70, 0])?);
     Ok(())
 }
 
@@ -587,7 +594,7 @@ fn fsinfo_is_written(rt: HostRuntime) -> Result<(), Fail> {
     };
     assert!(rt;
         is_written_around(
-            &rt,
+            rt.alloc(),
             NfsReply::Fsinfo(done),
             &[0, 1],
             &[1, 2, 3, 4, 5, 6, 7, 8, 9, 0, 1, 27],
@@ -597,7 +604,7 @@ fn fsinfo_is_written(rt: HostRuntime) -> Result<(), Fail> {
         attributes: None,
         result: Err(NfsStatus::Stale),
     };
-    assert!(rt; is_written(&rt, NfsReply::Fsinfo(refused), &[70, 0])?);
+    assert!(rt; is_written(rt.alloc(), NfsReply::Fsinfo(refused), &[70, 0])?);
     Ok(())
 }
 
@@ -617,7 +624,7 @@ fn pathconf_is_written(rt: HostRuntime) -> Result<(), Fail> {
     };
     assert!(rt;
         is_written_around(
-            &rt,
+            rt.alloc(),
             NfsReply::Pathconf(done),
             &[0, 1],
             &[32000, 255, 1, 1, 0, 1],
@@ -627,7 +634,7 @@ fn pathconf_is_written(rt: HostRuntime) -> Result<(), Fail> {
         attributes: None,
         result: Err(NfsStatus::Stale),
     };
-    assert!(rt; is_written(&rt, NfsReply::Pathconf(refused), &[70, 0])?);
+    assert!(rt; is_written(rt.alloc(), NfsReply::Pathconf(refused), &[70, 0])?);
     Ok(())
 }
 
@@ -639,7 +646,7 @@ fn commit_is_written(rt: HostRuntime) -> Result<(), Fail> {
     };
     assert!(rt;
         is_written(
-            &rt,
+            rt.alloc(),
             NfsReply::Commit(done),
             &[0, 0, 0, 0x0102_0304, 0x0506_0708],
         )?
@@ -648,6 +655,6 @@ fn commit_is_written(rt: HostRuntime) -> Result<(), Fail> {
         wcc: UNKNOWN,
         result: Err(NfsStatus::Invalid),
     };
-    assert!(rt; is_written(&rt, NfsReply::Commit(refused), &[22, 0, 0])?);
+    assert!(rt; is_written(rt.alloc(), NfsReply::Commit(refused), &[22, 0, 0])?);
     Ok(())
 }

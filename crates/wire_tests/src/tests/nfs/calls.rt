@@ -1,14 +1,17 @@
 //! Arguments.
 
-use super::{HANDLE, bytes_of, read};
-use crate::{
+use super::HANDLE;
+use crate::tests::{bytes_of, record};
+use bytes::Bytes;
+use nfs_wire::{
     AccessArguments, ArgumentsError, CommitArguments, CreateArguments, CreateHow, DeviceNumber,
     LinkArguments, MkdirArguments, MknodArguments, NfsCall, Ordinary, Place, ReadArguments,
     ReaddirArguments, ReaddirplusArguments, RenameArguments, SetAttributes, SetTime,
     SetattrArguments, Special, Stability, SymlinkArguments, Time, Verifier, WriteArguments,
-    one_call_is_spelled,
+    one_call_is_spelled, read_args,
 };
-use bytes::Bytes;
+use nfs_xdr::SharedReader;
+use std::alloc::Global;
 use std::test::Fail;
 
 /// The name `file` in the directory `abcd`, as words.
@@ -40,72 +43,82 @@ fn nothing() -> SetAttributes {
 /// The words of these attributes.
 const NOTHING: [u32; 6] = [0; 6];
 
+/// What is read of these bytes, as arguments of the procedure.
+fn read(
+    alloc: Global,
+    procedure: u32,
+    bytes: &[u8],
+) -> Result<Result<NfsCall, ArgumentsError>, Fail> {
+    let record = record(alloc, bytes)?;
+    Ok(read_args(procedure, SharedReader::new(&record)))
+}
+
 /// Whether the words, with a byte behind them, are read as the arguments of the call, and every shorter front is
 /// garbage.
 fn is_read(
-    rt: &HostRuntime,
+    alloc: Global,
     procedure: u32,
     front: &[u32],
     words: &[u32],
     call: NfsCall,
 ) -> Result<bool, Fail> {
-    is_read_before(rt, procedure, front, words, &[7], call)
+    is_read_before(alloc, procedure, front, words, &[7], call)
 }
 
 /// The same with these bytes behind them.
 fn is_read_before(
-    rt: &HostRuntime,
+    alloc: Global,
     procedure: u32,
     front: &[u32],
     words: &[u32],
     behind: &[u8],
     call: NfsCall,
 ) -> Result<bool, Fail> {
-    let back = bytes_of(rt, words, behind)?;
-    let arguments = bytes_of(rt, front, back.as_slice())?;
+    let back = bytes_of(alloc, words, behind)?;
+    let arguments = bytes_of(alloc, front, back.as_slice())?;
     for length in 0..arguments.len().saturating_sub(behind.len()) {
-        if read(rt, procedure, &arguments.as_slice()[..length])? != Err(ArgumentsError::Garbage) {
+        if !are_garbage(alloc, procedure, &arguments.as_slice()[..length])? {
             return Ok(false);
         }
     }
-    Ok(read(rt, procedure, arguments.as_slice())? == Ok(call))
+    Ok(read(alloc, procedure, arguments.as_slice())? == Ok(call))
+}
+
+/// Whether the bytes are no arguments of the procedure.
+fn are_garbage(alloc: Global, procedure: u32, bytes: &[u8]) -> Result<bool, Fail> {
+    Ok(read(alloc, procedure, bytes)? == Err(ArgumentsError::Garbage))
 }
 
 /// Whether the words are no arguments of the procedure.
-fn is_garbage(
-    rt: &HostRuntime,
-    procedure: u32,
-    front: &[u32],
-    words: &[u32],
-) -> Result<bool, Fail> {
-    let behind = bytes_of(rt, words, &[])?;
-    let arguments = bytes_of(rt, front, behind.as_slice())?;
-    Ok(read(rt, procedure, arguments.as_slice())? == Err(ArgumentsError::Garbage))
+fn is_garbage(alloc: Global, procedure: u32, front: &[u32], words: &[u32]) -> Result<bool, Fail> {
+    let behind = bytes_of(alloc, words, &[])?;
+    let arguments = bytes_of(alloc, front, behind.as_slice())?;
+    are_garbage(alloc, procedure, arguments.as_slice())
 }
 
 /// Whether the bytes are read as a call of NULL.
-fn is_null(rt: &HostRuntime, bytes: &[u8]) -> Result<bool, Fail> {
-    Ok(read(rt, 0, bytes)? == Ok(NfsCall::Null))
+fn is_null(alloc: Global, bytes: &[u8]) -> Result<bool, Fail> {
+    Ok(read(alloc, 0, bytes)? == Ok(NfsCall::Null))
 }
 
 #[test]
 fn null_has_no_arguments(rt: HostRuntime) -> Result<(), Fail> {
-    assert!(rt; is_null(&rt, &[])?);
-    assert!(rt; is_null(&rt, &[1, 2, 3])?);
+    assert!(rt; is_null(rt.alloc(), &[])?);
+    assert!(rt; is_null(rt.alloc(), &[1, 2, 3])?);
     one_call_is_spelled();
     Ok(())
 }
 
 #[test]
 fn a_procedure_that_is_not_is_garbage(rt: HostRuntime) -> Result<(), Fail> {
-    assert!(rt; is_garbage(&rt, 22, &HANDLE, &[])?);
-    assert!(rt; is_garbage(&rt, u32::MAX, &HANDLE, &[])?);
+    assert!(rt; is_garbage(rt.alloc(), 22, &HANDLE, &[])?);
+    assert!(rt; is_garbage(rt.alloc(), u32::MAX, &HANDLE, &[])?);
     Ok(())
 }
 
 #[test]
 fn getattr_is_read(rt: HostRuntime) -> Result<(), Fail> {
-    assert!(rt; is_read(&rt, 1, &HANDLE, &[], NfsCall::Getattr(handle()))?);
+    assert!(rt; is_read(rt.alloc(), 1, &HANDLE, &[], NfsCall::Getattr(handle()))?);
     Ok(())
 }
 
@@ -114,7 +127,7 @@ fn a_handle_has_at_most_64_bytes(rt: HostRuntime) -> Result<(), Fail> {
     let handle = Bytes::copy_from_slice(rt.alloc(), &[7; 64])?;
     assert!(rt;
         is_read_before(
-            &rt,
+            rt.alloc(),
             1,
             &[64],
             &[0x0707_0707; 16],
@@ -122,7 +135,7 @@ fn a_handle_has_at_most_64_bytes(rt: HostRuntime) -> Result<(), Fail> {
             NfsCall::Getattr(handle)
         )?
     );
-    assert!(rt; is_garbage(&rt, 1, &[65], &[0x0707_0707; 17])?);
+    assert!(rt; is_garbage(rt.alloc(), 1, &[65], &[0x0707_0707; 17])?);
     Ok(())
 }
 
@@ -131,7 +144,7 @@ fn padding_is_any_bytes(rt: HostRuntime) -> Result<(), Fail> {
     let handle = Bytes::from_static(b"abcde");
     assert!(rt;
         is_read_before(
-            &rt,
+            rt.alloc(),
             1,
             &[5],
             &[0x6162_6364, 0x6501_ff80],
@@ -139,7 +152,7 @@ fn padding_is_any_bytes(rt: HostRuntime) -> Result<(), Fail> {
             NfsCall::Getattr(handle)
         )?
     );
-    assert!(rt; is_garbage(&rt, 1, &[u32::MAX], &[])?);
+    assert!(rt; is_garbage(rt.alloc(), 1, &[u32::MAX], &[])?);
     Ok(())
 }
 
@@ -163,7 +176,7 @@ fn setattr_is_read(rt: HostRuntime) -> Result<(), Fail> {
             nanoseconds: 9,
         }),
     };
-    assert!(rt; is_read(&rt, 2, &HANDLE, &words, NfsCall::Setattr(call))?);
+    assert!(rt; is_read(rt.alloc(), 2, &HANDLE, &words, NfsCall::Setattr(call))?);
     Ok(())
 }
 
@@ -180,7 +193,7 @@ fn setattr_to_the_servers_time_is_read(rt: HostRuntime) -> Result<(), Fail> {
     };
     assert!(rt;
         is_read(
-            &rt,
+            rt.alloc(),
             2,
             &HANDLE,
             &[0, 1, 7, 0, 0, 1, 0, 0],
@@ -192,15 +205,15 @@ fn setattr_to_the_servers_time_is_read(rt: HostRuntime) -> Result<(), Fail> {
 
 #[test]
 fn setattr_with_other_numbers_is_garbage(rt: HostRuntime) -> Result<(), Fail> {
-    assert!(rt; is_garbage(&rt, 2, &HANDLE, &[2, 0, 0, 0, 0, 0, 0, 0])?);
-    assert!(rt; is_garbage(&rt, 2, &HANDLE, &[0, 0, 0, 0, 3, 0, 0, 0])?);
-    assert!(rt; is_garbage(&rt, 2, &HANDLE, &[0, 0, 0, 0, 0, 0, 2, 0, 0])?);
+    assert!(rt; is_garbage(rt.alloc(), 2, &HANDLE, &[2, 0, 0, 0, 0, 0, 0, 0])?);
+    assert!(rt; is_garbage(rt.alloc(), 2, &HANDLE, &[0, 0, 0, 0, 3, 0, 0, 0])?);
+    assert!(rt; is_garbage(rt.alloc(), 2, &HANDLE, &[0, 0, 0, 0, 0, 0, 2, 0, 0])?);
     Ok(())
 }
 
 #[test]
 fn lookup_is_read(rt: HostRuntime) -> Result<(), Fail> {
-    assert!(rt; is_read(&rt, 3, &PLACE, &[], NfsCall::Lookup(place()))?);
+    assert!(rt; is_read(rt.alloc(), 3, &PLACE, &[], NfsCall::Lookup(place()))?);
     Ok(())
 }
 
@@ -212,8 +225,8 @@ fn a_name_has_any_length(rt: HostRuntime) -> Result<(), Fail> {
         directory: handle(),
         name: Bytes::copy_from_slice(rt.alloc(), &[b'n'; 256])?,
     };
-    assert!(rt; is_read_before(&rt, 3, &HANDLE, &words, &[], NfsCall::Lookup(place))?);
-    assert!(rt; is_garbage(&rt, 3, &HANDLE, &[u32::MAX, 0])?);
+    assert!(rt; is_read_before(rt.alloc(), 3, &HANDLE, &words, &[], NfsCall::Lookup(place))?);
+    assert!(rt; is_garbage(rt.alloc(), 3, &HANDLE, &[u32::MAX, 0])?);
     Ok(())
 }
 
@@ -223,13 +236,13 @@ fn access_is_read(rt: HostRuntime) -> Result<(), Fail> {
         object: handle(),
         rights: 0x3f,
     };
-    assert!(rt; is_read(&rt, 4, &HANDLE, &[0x3f], NfsCall::Access(call))?);
+    assert!(rt; is_read(rt.alloc(), 4, &HANDLE, &[0x3f], NfsCall::Access(call))?);
     Ok(())
 }
 
 #[test]
 fn readlink_is_read(rt: HostRuntime) -> Result<(), Fail> {
-    assert!(rt; is_read(&rt, 5, &HANDLE, &[], NfsCall::Readlink(handle()))?);
+    assert!(rt; is_read(rt.alloc(), 5, &HANDLE, &[], NfsCall::Readlink(handle()))?);
     Ok(())
 }
 
@@ -240,7 +253,7 @@ fn read_is_read(rt: HostRuntime) -> Result<(), Fail> {
         offset: 0x1_0000_0002,
         count: 3,
     };
-    assert!(rt; is_read(&rt, 6, &HANDLE, &[1, 2, 3], NfsCall::Read(call))?);
+    assert!(rt; is_read(rt.alloc(), 6, &HANDLE, &[1, 2, 3], NfsCall::Read(call))?);
     Ok(())
 }
 
@@ -259,7 +272,7 @@ fn write_is_read(rt: HostRuntime) -> Result<(), Fail> {
     let words = [0, 9, 3, 2, 5, 0x6865_6c6c, 0x6f00_0000];
     assert!(rt;
         is_read(
-            &rt,
+            rt.alloc(),
             7,
             &HANDLE,
             &words,
@@ -274,7 +287,7 @@ fn write_is_read_with_any_padding(rt: HostRuntime) -> Result<(), Fail> {
     let words = [0, 9, 3, 0, 5, 0x6865_6c6c, 0x6f01_ff80];
     assert!(rt;
         is_read(
-            &rt,
+            rt.alloc(),
             7,
             &HANDLE,
             &words,
@@ -284,7 +297,7 @@ fn write_is_read_with_any_padding(rt: HostRuntime) -> Result<(), Fail> {
     let words = [0, 9, 3, 1, 5, 0x6865_6c6c, 0x6fff_ffff];
     assert!(rt;
         is_read(
-            &rt,
+            rt.alloc(),
             7,
             &HANDLE,
             &words,
@@ -296,7 +309,7 @@ fn write_is_read_with_any_padding(rt: HostRuntime) -> Result<(), Fail> {
 
 #[test]
 fn write_with_another_stability_is_garbage(rt: HostRuntime) -> Result<(), Fail> {
-    assert!(rt; is_garbage(&rt, 7, &HANDLE, &[0, 9, 3, 3, 0])?);
+    assert!(rt; is_garbage(rt.alloc(), 7, &HANDLE, &[0, 9, 3, 3, 0])?);
     Ok(())
 }
 
@@ -313,9 +326,17 @@ fn create_is_read(rt: HostRuntime) -> Result<(), Fail> {
         mode: Some(0o600),
         ..nothing()
     });
-    assert!(rt; is_read(&rt, 8, &PLACE, &[0, 1, 0o600, 0, 0, 0, 0, 0], create(how),)?);
+    assert!(rt;
+        is_read(
+            rt.alloc(),
+            8,
+            &PLACE,
+            &[0, 1, 0o600, 0, 0, 0, 0, 0],
+            create(how),
+        )?
+    );
     let how = CreateHow::Guarded(nothing());
-    assert!(rt; is_read(&rt, 8, &PLACE, &[1, 0, 0, 0, 0, 0, 0], create(how))?);
+    assert!(rt; is_read(rt.alloc(), 8, &PLACE, &[1, 0, 0, 0, 0, 0, 0], create(how))?);
     Ok(())
 }
 
@@ -324,8 +345,16 @@ fn exclusive_create_is_read(rt: HostRuntime) -> Result<(), Fail> {
     let how = CreateHow::Exclusive(Verifier {
         bytes: [1, 2, 3, 4, 5, 6, 7, 255],
     });
-    assert!(rt; is_read(&rt, 8, &PLACE, &[2, 0x0102_0304, 0x0506_07ff], create(how),)?);
-    assert!(rt; is_garbage(&rt, 8, &PLACE, &[3, 0, 0, 0, 0, 0, 0])?);
+    assert!(rt;
+        is_read(
+            rt.alloc(),
+            8,
+            &PLACE,
+            &[2, 0x0102_0304, 0x0506_07ff],
+            create(how),
+        )?
+    );
+    assert!(rt; is_garbage(rt.alloc(), 8, &PLACE, &[3, 0, 0, 0, 0, 0, 0])?);
     Ok(())
 }
 
@@ -335,7 +364,7 @@ fn mkdir_is_read(rt: HostRuntime) -> Result<(), Fail> {
         place: place(),
         attributes: nothing(),
     };
-    assert!(rt; is_read(&rt, 9, &PLACE, &NOTHING, NfsCall::Mkdir(call))?);
+    assert!(rt; is_read(rt.alloc(), 9, &PLACE, &NOTHING, NfsCall::Mkdir(call))?);
     Ok(())
 }
 
@@ -348,7 +377,7 @@ fn symlink_is_read(rt: HostRuntime) -> Result<(), Fail> {
     };
     assert!(rt;
         is_read(
-            &rt,
+            rt.alloc(),
             10,
             &PLACE,
             &[0, 0, 0, 0, 0, 0, 3, 0x612f_6200],
@@ -374,7 +403,7 @@ fn mknod_of_devices_is_read(rt: HostRuntime) -> Result<(), Fail> {
     let block = Special::BlockDevice(nothing(), number);
     assert!(rt;
         is_read(
-            &rt,
+            rt.alloc(),
             11,
             &PLACE,
             &[3, 0, 0, 0, 0, 0, 0, 4, 64],
@@ -384,7 +413,7 @@ fn mknod_of_devices_is_read(rt: HostRuntime) -> Result<(), Fail> {
     let character = Special::CharacterDevice(nothing(), number);
     assert!(rt;
         is_read(
-            &rt,
+            rt.alloc(),
             11,
             &PLACE,
             &[4, 0, 0, 0, 0, 0, 0, 4, 64],
@@ -397,9 +426,17 @@ fn mknod_of_devices_is_read(rt: HostRuntime) -> Result<(), Fail> {
 #[test]
 fn mknod_of_a_socket_or_pipe_is_read(rt: HostRuntime) -> Result<(), Fail> {
     let socket = Special::Socket(nothing());
-    assert!(rt; is_read(&rt, 11, &PLACE, &[6, 0, 0, 0, 0, 0, 0], mknod(socket))?);
+    assert!(rt;
+        is_read(
+            rt.alloc(),
+            11,
+            &PLACE,
+            &[6, 0, 0, 0, 0, 0, 0],
+            mknod(socket)
+        )?
+    );
     let fifo = Special::Fifo(nothing());
-    assert!(rt; is_read(&rt, 11, &PLACE, &[7, 0, 0, 0, 0, 0, 0], mknod(fifo))?);
+    assert!(rt; is_read(rt.alloc(), 11, &PLACE, &[7, 0, 0, 0, 0, 0, 0], mknod(fifo))?);
     Ok(())
 }
 
@@ -410,17 +447,25 @@ fn mknod_of_other_types_is_read(rt: HostRuntime) -> Result<(), Fail> {
         (2, Ordinary::Directory),
         (5, Ordinary::Link),
     ] {
-        assert!(rt; is_read(&rt, 11, &PLACE, &[number], mknod(Special::Other(kind)),)?);
+        assert!(rt;
+            is_read(
+                rt.alloc(),
+                11,
+                &PLACE,
+                &[number],
+                mknod(Special::Other(kind)),
+            )?
+        );
     }
-    assert!(rt; is_garbage(&rt, 11, &PLACE, &[0, 0, 0, 0, 0, 0, 0, 0, 0])?);
-    assert!(rt; is_garbage(&rt, 11, &PLACE, &[8, 0, 0, 0, 0, 0, 0, 0, 0])?);
+    assert!(rt; is_garbage(rt.alloc(), 11, &PLACE, &[0, 0, 0, 0, 0, 0, 0, 0, 0])?);
+    assert!(rt; is_garbage(rt.alloc(), 11, &PLACE, &[8, 0, 0, 0, 0, 0, 0, 0, 0])?);
     Ok(())
 }
 
 #[test]
 fn remove_and_rmdir_are_read(rt: HostRuntime) -> Result<(), Fail> {
-    assert!(rt; is_read(&rt, 12, &PLACE, &[], NfsCall::Remove(place()))?);
-    assert!(rt; is_read(&rt, 13, &PLACE, &[], NfsCall::Rmdir(place()))?);
+    assert!(rt; is_read(rt.alloc(), 12, &PLACE, &[], NfsCall::Remove(place()))?);
+    assert!(rt; is_read(rt.alloc(), 13, &PLACE, &[], NfsCall::Rmdir(place()))?);
     Ok(())
 }
 
@@ -435,7 +480,7 @@ fn rename_is_read(rt: HostRuntime) -> Result<(), Fail> {
     };
     assert!(rt;
         is_read(
-            &rt,
+            rt.alloc(),
             14,
             &PLACE,
             &[4, 0x6566_6768, 1, 0x7800_0000],
@@ -451,7 +496,15 @@ fn link_is_read(rt: HostRuntime) -> Result<(), Fail> {
         file: Bytes::from_static(b"efgh"),
         place: place(),
     };
-    assert!(rt; is_read(&rt, 15, &[4, 0x6566_6768], &PLACE, NfsCall::Link(call))?);
+    assert!(rt;
+        is_read(
+            rt.alloc(),
+            15,
+            &[4, 0x6566_6768],
+            &PLACE,
+            NfsCall::Link(call)
+        )?
+    );
     Ok(())
 }
 
@@ -467,7 +520,7 @@ fn readdir_is_read(rt: HostRuntime) -> Result<(), Fail> {
     };
     assert!(rt;
         is_read(
-            &rt,
+            rt.alloc(),
             16,
             &HANDLE,
             &[3, 4, 1, 2, 4096],
@@ -488,7 +541,7 @@ fn readdirplus_is_read(rt: HostRuntime) -> Result<(), Fail> {
     };
     assert!(rt;
         is_read(
-            &rt,
+            rt.alloc(),
             17,
             &HANDLE,
             &[0, 3, u32::MAX, u32::MAX, 512, 8192],
@@ -500,9 +553,9 @@ fn readdirplus_is_read(rt: HostRuntime) -> Result<(), Fail> {
 
 #[test]
 fn calls_on_the_file_system_are_read(rt: HostRuntime) -> Result<(), Fail> {
-    assert!(rt; is_read(&rt, 18, &HANDLE, &[], NfsCall::Fsstat(handle()))?);
-    assert!(rt; is_read(&rt, 19, &HANDLE, &[], NfsCall::Fsinfo(handle()))?);
-    assert!(rt; is_read(&rt, 20, &HANDLE, &[], NfsCall::Pathconf(handle()))?);
+    assert!(rt; is_read(rt.alloc(), 18, &HANDLE, &[], NfsCall::Fsstat(handle()))?);
+    assert!(rt; is_read(rt.alloc(), 19, &HANDLE, &[], NfsCall::Fsinfo(handle()))?);
+    assert!(rt; is_read(rt.alloc(), 20, &HANDLE, &[], NfsCall::Pathconf(handle()))?);
     Ok(())
 }
 
@@ -513,6 +566,6 @@ fn commit_is_read(rt: HostRuntime) -> Result<(), Fail> {
         offset: 5,
         count: 6,
     };
-    assert!(rt; is_read(&rt, 21, &HANDLE, &[0, 5, 6], NfsCall::Commit(call))?);
+    assert!(rt; is_read(rt.alloc(), 21, &HANDLE, &[0, 5, 6], NfsCall::Commit(call))?);
     Ok(())
 }

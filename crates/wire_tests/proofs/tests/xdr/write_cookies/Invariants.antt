@@ -2,7 +2,7 @@ use Rattle.std.proofs.Common.{◌≡◌, take}
 use Rattle.std.specs.Prelude.{fold}
 use Rattle.nfs_xdr.specs.Types.{Word}
 use Rattle.nfs_xdr.specs.Writing.{appended, with_word}
-use Rattle.nfs_xdr.proofs.tests.write_cookies.Given as goal
+use Rattle.wire_tests.proofs.tests.xdr.write_cookies.Given as goal
 
 abbrev pub invariant-loop-cookie : goal.invariant-loop-cookie
 invariant-loop-cookie l =

@@ -1,15 +1,19 @@
-//! The example of RFC 4506 section 7, and the edges of each item. The example's reader and writer show
-//! how a message is read and written; `read_gids` shows a loop.
+//! The example of RFC 4506, section 7, and the edges of each item. The example's reader and writer show how a message
+//! is read and written; `read_gids` and `write_cookies` show loops.
 
 ghost use Rattle.std.specs.Prelude.{◌≡◌, ◌≤◌, ◌<◌, ◌^◌, length};
-ghost use Rattle.nfs_xdr.specs.declared.tests.Kind.TheVariants.{Text, Data, Exec};
-ghost use Rattle.nfs_xdr.specs.Example.{kind, file};
 ghost use Rattle.nfs_xdr.specs.Reading.{ReadsFront};
 ghost use Rattle.nfs_xdr.specs.Types.{Word, Array, Entries, Value};
 ghost use Rattle.nfs_xdr.specs.Writing.{WritesFront};
+ghost use Rattle.wire_tests.specs.declared.tests.xdr.Kind.TheVariants.{Text, Data, Exec};
+ghost use Rattle.wire_tests.specs.Example.{kind, file};
 
-use super::*;
+use super::record;
 use bytes::Bytes;
+use nfs_xdr::{
+    Reader, SharedReader, Writer, XdrError, reading_finds_spelling, refusal_means_unspelled,
+    spelled_has_spelling, spelling_is_read, spelling_is_unique, writing_appends, writing_spells,
+};
 use std::alloc::Global;
 use std::test::Fail;
 
@@ -30,11 +34,11 @@ struct File {
     content: Bytes,
 }
 
-#[tactic(auto, using(crate::proofs::Unions::unions), unfolding(crate::specs::Reading::read))]
+#[tactic(auto, using(nfs_xdr::proofs::Unions::unions), unfolding(nfs_xdr::specs::Reading::read))]
 fn read_kind(reader: &mut SharedReader<'_>) -> Result<Kind, XdrError>
     ensures { ReadsFront kind
-        (λ k. elim k as (λ _. Value kind) [ Text ↦ (0, tt) | Data s ↦ (1, s) | Exec s ↦ (2, s) ]) reader.old
-        reader.new result }
+        (λ k. elim k as (λ _. Value kind) [ Text ↦ (0, tt) | Data s ↦ (1, s) | Exec s ↦ (2, s) ])
+        reader.old reader.new result }
 {
     match reader.u32()? {
         0 => Ok(Kind::Text),
@@ -44,7 +48,7 @@ fn read_kind(reader: &mut SharedReader<'_>) -> Result<Kind, XdrError>
     }
 }
 
-#[tactic(auto, unfolding(crate::specs::Reading::read))]
+#[tactic(auto, unfolding(nfs_xdr::specs::Reading::read))]
 fn read_file(reader: &mut SharedReader<'_>) -> Result<File, XdrError>
     ensures { ReadsFront file
         (λ f. (
@@ -53,7 +57,8 @@ fn read_file(reader: &mut SharedReader<'_>) -> Result<File, XdrError>
             elim f.kind as (λ _. Value kind) [ Text ↦ (0, tt) | Data s ↦ (1, s) | Exec s ↦ (2, s) ],
             (f.owner, f.content),
           ),
-        )) reader.old reader.new result }
+        ))
+        reader.old reader.new result }
 {
     let name = reader.opaque(255)?;
     let kind = read_kind(reader)?;
@@ -67,7 +72,7 @@ fn read_file(reader: &mut SharedReader<'_>) -> Result<File, XdrError>
     })
 }
 
-#[tactic(auto, unfolding(crate::specs::Reading::read))]
+#[tactic(auto, unfolding(nfs_xdr::specs::Reading::read))]
 fn read_gids(alloc: Global, reader: &mut Reader<'_>) -> Result<Vec<u32>, XdrError>
     ensures { ReadsFront (Array 16 Word) (λ gids. gids.items) reader.old reader.new result }
 {
@@ -82,7 +87,7 @@ fn read_gids(alloc: Global, reader: &mut Reader<'_>) -> Result<Vec<u32>, XdrErro
     Ok(gids)
 }
 
-#[tactic(auto, using(crate::proofs::Unions::unions), unfolding(crate::specs::Writing::appended))]
+#[tactic(auto, using(nfs_xdr::proofs::Unions::unions), unfolding(nfs_xdr::specs::Writing::appended))]
 fn write_program(
     writer: &mut Writer,
     name: &[u8],
@@ -94,8 +99,8 @@ fn write_program(
     requires interpretor { length interpretor.now < 2 ^ 32 }
     requires owner { length owner.now < 2 ^ 32 }
     requires content { length content.now < 2 ^ 32 }
-    ensures { WritesFront file
-        (name.now, ((2, interpretor.now), (owner.now, content.now))) writer.old writer.new result }
+    ensures { WritesFront file (name.now, ((2, interpretor.now), (owner.now, content.now)))
+        writer.old writer.new result }
 {
     writer.opaque(name)?;
     writer.u32(2)?;
@@ -104,7 +109,7 @@ fn write_program(
     writer.opaque(content)
 }
 
-#[tactic(auto, unfolding(crate::specs::Writing::appended))]
+#[tactic(auto, unfolding(nfs_xdr::specs::Writing::appended))]
 fn write_cookies(writer: &mut Writer, cookies: &[u32]) -> Result<(), XdrError>
     ensures { WritesFront (Entries Word) cookies.now writer.old writer.new result }
 {
@@ -122,18 +127,22 @@ const SILLYPROG: [u8; 48] = [
     b'i', b't', b')', 0, 0,
 ];
 
+/// Whether it is the RFC's example.
+fn is_the_example(file: &File) -> bool {
+    let Kind::Exec(interpretor) = &file.kind else {
+        return false;
+    };
+    file.name.as_slice() == b"sillyprog".as_slice()
+        && interpretor.as_slice() == b"lisp".as_slice()
+        && file.owner.as_slice() == b"john".as_slice()
+        && file.content.as_slice() == b"(quit)".as_slice()
+}
+
 #[test]
 fn reads_the_example(rt: HostRuntime) -> Result<(), Fail> {
-    let record = Bytes::copy_from_slice(rt.alloc(), &SILLYPROG)?;
+    let record = record(rt.alloc(), &SILLYPROG)?;
     let mut reader = SharedReader::new(&record);
-    let file = read_file(&mut reader)?;
-    assert_eq!(rt; file.name.as_slice(), b"sillyprog".as_slice());
-    let Kind::Exec(interpretor) = &file.kind else {
-        panic!(&rt; "the kind is EXEC");
-    };
-    assert_eq!(rt; interpretor.as_slice(), b"lisp".as_slice());
-    assert_eq!(rt; file.owner.as_slice(), b"john".as_slice());
-    assert_eq!(rt; file.content.as_slice(), b"(quit)".as_slice());
+    assert!(rt; is_the_example(&read_file(&mut reader)?));
     assert!(rt; reader.is_empty());
     Ok(())
 }
@@ -146,31 +155,37 @@ fn writes_the_example(rt: HostRuntime) -> Result<(), Fail> {
     Ok(())
 }
 
+/// A word, an int, a hyper, two bools, three bytes of a fixed size, five of any size, and a byte behind them.
+const ITEMS: [u8; 41] = [
+    0x80, 0, 0, 1, 0xff, 0xff, 0xff, 0xfe, 1, 2, 3, 4, 5, 6, 7, 8, 0, 0, 0, 1, 0, 0, 0, 0, 10, 11,
+    12, 9, 0, 0, 0, 5, 1, 2, 3, 4, 5, 9, 9, 9, 42,
+];
+
 #[test]
 fn reads_each_item(rt: HostRuntime) -> Result<(), Fail> {
-    let bytes = [
-        0x80, 0, 0, 1, 0xff, 0xff, 0xff, 0xfe, 1, 2, 3, 4, 5, 6, 7, 8, 0, 0, 0, 1, 0, 0, 0, 0, 10,
-        11, 12, 9, 0, 0, 0, 5, 1, 2, 3, 4, 5, 9, 9, 9, 42,
-    ];
-    let mut reader = Reader::new(&bytes);
+    let mut reader = Reader::new(&ITEMS);
     assert_eq!(rt; reader.fork().len(), 41);
-    assert_eq!(rt; reader.u32()?, 0x8000_0001);
-    assert_eq!(rt; reader.i32()?, -2);
-    assert_eq!(rt; reader.u64()?, 0x0102_0304_0506_0708);
-    assert!(rt; reader.bool()?);
-    assert!(rt; !reader.bool()?);
-    assert_eq!(rt; reader.fixed(3)?, [10, 11, 12].as_slice());
-    assert_eq!(rt; reader.opaque(5)?, [1, 2, 3, 4, 5].as_slice());
+    assert_eq!(rt; reader.u32(), Ok(0x8000_0001));
+    assert_eq!(rt; reader.i32(), Ok(-2));
+    assert_eq!(rt; reader.u64(), Ok(0x0102_0304_0506_0708));
+    assert_eq!(rt; reader.bool(), Ok(true));
+    assert_eq!(rt; reader.bool(), Ok(false));
+    assert_eq!(rt; reader.fixed(3), Ok([10, 11, 12].as_slice()));
+    assert_eq!(rt; reader.opaque(5), Ok([1, 2, 3, 4, 5].as_slice()));
     assert!(rt; !reader.is_empty());
+    Ok(())
+}
 
-    let record = Bytes::copy_from_slice(rt.alloc(), &bytes)?;
+#[test]
+fn shares_each_item(rt: HostRuntime) -> Result<(), Fail> {
+    let record = record(rt.alloc(), &ITEMS)?;
     let mut reader = SharedReader::new(&record);
     assert_eq!(rt; reader.fork().len(), 41);
-    assert_eq!(rt; reader.u32()?, 0x8000_0001);
-    assert_eq!(rt; reader.i32()?, -2);
-    assert_eq!(rt; reader.u64()?, 0x0102_0304_0506_0708);
-    assert!(rt; reader.bool()?);
-    assert!(rt; !reader.bool()?);
+    assert_eq!(rt; reader.u32(), Ok(0x8000_0001));
+    assert_eq!(rt; reader.i32(), Ok(-2));
+    assert_eq!(rt; reader.u64(), Ok(0x0102_0304_0506_0708));
+    assert_eq!(rt; reader.bool(), Ok(true));
+    assert_eq!(rt; reader.bool(), Ok(false));
     assert_eq!(rt; reader.fixed(3)?.as_slice(), [10, 11, 12].as_slice());
     assert_eq!(rt; reader.opaque(5)?.as_slice(), [1, 2, 3, 4, 5].as_slice());
     assert_eq!(rt; reader.as_slice(), [42].as_slice());
@@ -190,14 +205,17 @@ fn writes_each_item(rt: HostRuntime) -> Result<(), Fail> {
     writer.fixed(&[10, 11, 12])?;
     writer.opaque(&[1, 2, 3, 4, 5])?;
     assert_eq!(rt; writer.len(), 40);
-    let written = writer.into_vec();
     let bytes = [
         0x80, 0, 0, 1, 0xff, 0xff, 0xff, 0xfe, 1, 2, 3, 4, 5, 6, 7, 8, 0, 0, 0, 1, 0, 0, 0, 0, 10,
         11, 12, 0, 0, 0, 0, 5, 1, 2, 3, 4, 5, 0, 0, 0,
     ];
-    assert_eq!(rt; written.as_slice(), bytes.as_slice());
+    assert_eq!(rt; writer.into_vec().as_slice(), bytes.as_slice());
+    Ok(())
+}
 
-    let mut writer = Writer::from_vec(written);
+#[test]
+fn goes_on_behind_what_is_kept(rt: HostRuntime) -> Result<(), Fail> {
+    let mut writer = Writer::from_vec(vec![in rt.alloc(); 0x80, 0, 0, 1, 9, 9]?);
     writer.truncate(4);
     write_cookies(&mut writer, &[7])?;
     let entries = [0x80, 0, 0, 1, 0, 0, 0, 1, 0, 0, 0, 7, 0, 0, 0, 0];
@@ -215,7 +233,10 @@ fn refuses_and_stays(rt: HostRuntime) {
     assert_eq!(rt; reader.fixed(usize::MAX), Err(XdrError::Short));
     assert_eq!(rt; reader.bool(), Err(XdrError::BadValue));
     assert_eq!(rt; reader.len(), 7);
+}
 
+#[test]
+fn refuses_the_longest_length(rt: HostRuntime) {
     let huge = [0xff, 0xff, 0xff, 0xff];
     let mut reader = Reader::new(&huge);
     assert_eq!(rt; reader.opaque(usize::MAX), Err(XdrError::Short));
@@ -229,10 +250,8 @@ fn reads_an_array_up_to_its_bound(rt: HostRuntime) -> Result<(), Fail> {
     let read = read_gids(rt.alloc(), &mut Reader::new(&gids))?;
     assert_eq!(rt; read.as_slice(), [7, 256].as_slice());
     let many = [0, 0, 0, 17];
-    assert_eq!(rt;
-        read_gids(rt.alloc(), &mut Reader::new(&many)).err(),
-        Some(XdrError::TooLong)
-    );
+    let refused = read_gids(rt.alloc(), &mut Reader::new(&many)).err();
+    assert_eq!(rt; refused, Some(XdrError::TooLong));
     Ok(())
 }
 

@@ -4,32 +4,34 @@ ghost use Rattle.std.specs.Prelude.{IfOk};
 ghost use Rattle.std.specs.List.{All};
 ghost use Rattle.side_wire.specs.Mount.{HasMountForm, HasMountBodyForm, HasExportNodeForm, IsHostName};
 
-use super::bytes_of;
-use crate::{
+use crate::tests::{behind_a_byte, bytes_of, has_written, record};
+use bytes::Bytes;
+use nfs_xdr::SharedReader;
+use side_wire::{
     ArgumentsError, ExportList, ExportNode, Groups, MountBody, MountCall, MountList, MountReply,
     MountStatus, mount,
 };
-use bytes::Bytes;
-use nfs_xdr::{SharedReader, Writer};
+use std::alloc::{AllocError, Global};
 use std::test::Fail;
 
+/// What is read of these bytes, as arguments of the procedure.
 fn read(
-    rt: &HostRuntime,
+    alloc: Global,
     procedure: u32,
     bytes: &[u8],
 ) -> Result<Result<MountCall, ArgumentsError>, Fail> {
-    let record = Bytes::copy_from_slice(rt.alloc(), bytes)?;
+    let record = record(alloc, bytes)?;
     Ok(mount::read_args(procedure, SharedReader::new(&record)))
 }
 
 /// Whether the bytes are no arguments of the procedure.
-fn is_garbage(rt: &HostRuntime, procedure: u32, bytes: &[u8]) -> Result<bool, Fail> {
-    Ok(matches!(read(rt, procedure, bytes)?, Err(ArgumentsError::Garbage)))
+fn is_garbage(alloc: Global, procedure: u32, bytes: &[u8]) -> Result<bool, Fail> {
+    Ok(matches!(read(alloc, procedure, bytes)?, Err(ArgumentsError::Garbage)))
 }
 
 /// Whether the bytes are read as the call of the procedure, with this path or with none.
-fn is_call(rt: &HostRuntime, procedure: u32, bytes: &[u8], path: &[u8]) -> Result<bool, Fail> {
-    Ok(match read(rt, procedure, bytes)? {
+fn is_call(alloc: Global, procedure: u32, bytes: &[u8], path: &[u8]) -> Result<bool, Fail> {
+    Ok(match read(alloc, procedure, bytes)? {
         Ok(MountCall::Null) => procedure == 0 && path.is_empty(),
         Ok(MountCall::Mnt(read)) => procedure == 1 && read.as_slice() == path,
         Ok(MountCall::Dump) => procedure == 2 && path.is_empty(),
@@ -40,22 +42,20 @@ fn is_call(rt: &HostRuntime, procedure: u32, bytes: &[u8], path: &[u8]) -> Resul
     })
 }
 
-/// Whether these bytes are written of the reply, behind what stands there.
-fn is_written(rt: &HostRuntime, reply: &MountReply, bytes: &[u8]) -> Result<bool, Fail>
-    requires { HasMountForm reply.now }
+/// Whether these bytes are written of the reply.
+fn is_written(alloc: Global, reply: MountReply, bytes: &[u8]) -> Result<bool, Fail>
+    requires { HasMountForm reply }
 {
-    let mut expected = bytes_of(rt, &[], &[255])?;
-    let mut writer = Writer::from_vec(expected.clone()?);
-    expected.extend_from_slice(bytes)?;
-    mount::write_result(&mut writer, reply)?;
-    Ok(writer.into_vec().as_slice() == expected.as_slice())
+    let mut writer = behind_a_byte(alloc)?;
+    mount::write_result(&mut writer, &reply)?;
+    Ok(has_written(writer, bytes))
 }
 
 #[test]
 fn four_procedures_have_no_arguments(rt: HostRuntime) -> Result<(), Fail> {
     for procedure in [0, 2, 4, 5] {
-        assert!(rt; is_call(&rt, procedure, &[], &[])?);
-        assert!(rt; is_call(&rt, procedure, &[1, 2, 3, 4, 5], &[])?);
+        assert!(rt; is_call(rt.alloc(), procedure, &[], &[])?);
+        assert!(rt; is_call(rt.alloc(), procedure, &[1, 2, 3, 4, 5], &[])?);
     }
     mount::one_call_is_spelled();
     Ok(())
@@ -64,20 +64,20 @@ fn four_procedures_have_no_arguments(rt: HostRuntime) -> Result<(), Fail> {
 #[test]
 fn a_path_is_read_with_any_padding(rt: HostRuntime) -> Result<(), Fail> {
     for behind in [[0, 0, 0, 9], [1, 2, 3, 4]] {
-        let mut arguments = bytes_of(&rt, &[5], b"/data")?;
+        let mut arguments = bytes_of(rt.alloc(), &[5], b"/data")?;
         arguments.extend_from_slice(&behind)?;
-        assert!(rt; is_call(&rt, 1, arguments.as_slice(), b"/data")?);
-        assert!(rt; is_call(&rt, 3, arguments.as_slice(), b"/data")?);
+        assert!(rt; is_call(rt.alloc(), 1, arguments.as_slice(), b"/data")?);
+        assert!(rt; is_call(rt.alloc(), 3, arguments.as_slice(), b"/data")?);
     }
     Ok(())
 }
 
 #[test]
 fn a_path_that_is_cut_is_garbage(rt: HostRuntime) -> Result<(), Fail> {
-    let arguments = bytes_of(&rt, &[5], b"/data\0\0\0")?;
+    let arguments = bytes_of(rt.alloc(), &[5], b"/data\0\0\0")?;
     for length in 0..arguments.len() {
-        assert!(rt; is_garbage(&rt, 1, &arguments.as_slice()[..length])?);
-        assert!(rt; is_garbage(&rt, 3, &arguments.as_slice()[..length])?);
+        assert!(rt; is_garbage(rt.alloc(), 1, &arguments.as_slice()[..length])?);
+        assert!(rt; is_garbage(rt.alloc(), 3, &arguments.as_slice()[..length])?);
     }
     Ok(())
 }
@@ -85,40 +85,40 @@ fn a_path_that_is_cut_is_garbage(rt: HostRuntime) -> Result<(), Fail> {
 #[test]
 fn a_path_has_at_most_1024_bytes(rt: HostRuntime) -> Result<(), Fail> {
     let path = [b'/'; 1024];
-    let at_bound = bytes_of(&rt, &[1024], &path)?;
-    assert!(rt; is_call(&rt, 1, at_bound.as_slice(), &path)?);
-    assert!(rt; is_call(&rt, 3, at_bound.as_slice(), &path)?);
+    let at_bound = bytes_of(rt.alloc(), &[1024], &path)?;
+    assert!(rt; is_call(rt.alloc(), 1, at_bound.as_slice(), &path)?);
+    assert!(rt; is_call(rt.alloc(), 3, at_bound.as_slice(), &path)?);
     Ok(())
 }
 
 #[test]
 fn a_path_above_1024_bytes_is_garbage(rt: HostRuntime) -> Result<(), Fail> {
-    let above = bytes_of(&rt, &[1025], &[b'/'; 1028])?;
-    assert!(rt; is_garbage(&rt, 1, above.as_slice())?);
-    assert!(rt; is_garbage(&rt, 3, above.as_slice())?);
+    let above = bytes_of(rt.alloc(), &[1025], &[b'/'; 1028])?;
+    assert!(rt; is_garbage(rt.alloc(), 1, above.as_slice())?);
+    assert!(rt; is_garbage(rt.alloc(), 3, above.as_slice())?);
     Ok(())
 }
 
 #[test]
 fn a_procedure_that_is_not_is_garbage(rt: HostRuntime) -> Result<(), Fail> {
-    assert!(rt; is_garbage(&rt, 6, &[])?);
-    assert!(rt; is_garbage(&rt, u32::MAX, &[0, 0, 0, 0])?);
+    assert!(rt; is_garbage(rt.alloc(), 6, &[])?);
+    assert!(rt; is_garbage(rt.alloc(), u32::MAX, &[0, 0, 0, 0])?);
     Ok(())
 }
 
 #[test]
 fn three_procedures_have_no_result(rt: HostRuntime) -> Result<(), Fail> {
-    assert!(rt; is_written(&rt, &MountReply::Null, &[])?);
-    assert!(rt; is_written(&rt, &MountReply::Unmount, &[])?);
-    assert!(rt; is_written(&rt, &MountReply::UnmountAll, &[])?);
+    assert!(rt; is_written(rt.alloc(), MountReply::Null, &[])?);
+    assert!(rt; is_written(rt.alloc(), MountReply::Unmount, &[])?);
+    assert!(rt; is_written(rt.alloc(), MountReply::UnmountAll, &[])?);
     Ok(())
 }
 
 #[test]
 fn a_handle_is_written(rt: HostRuntime) -> Result<(), Fail> {
-    let expected = bytes_of(&rt, &[0, 6, 0x6162_6364, 0x6566_0000, 1, 1], &[])?;
+    let expected = bytes_of(rt.alloc(), &[0, 6, 0x6162_6364, 0x6566_0000, 1, 1], &[])?;
     let handle = Bytes::from_static(b"abcdef");
-    assert!(rt; is_written(&rt, &MountReply::Mnt(Ok(handle)), expected.as_slice())?);
+    assert!(rt; is_written(rt.alloc(), MountReply::Mnt(Ok(handle)), expected.as_slice())?);
     Ok(())
 }
 
@@ -135,8 +135,14 @@ fn refusals_are_written(rt: HostRuntime) -> Result<(), Fail> {
         (MountStatus::NotSupported, 10004),
         (MountStatus::ServerFault, 10006),
     ] {
-        let expected = bytes_of(&rt, &[number], &[])?;
-        assert!(rt; is_written(&rt, &MountReply::Mnt(Err(status)), expected.as_slice())?);
+        let expected = bytes_of(rt.alloc(), &[number], &[])?;
+        assert!(rt;
+            is_written(
+                rt.alloc(),
+                MountReply::Mnt(Err(status)),
+                expected.as_slice()
+            )?
+        );
     }
     Ok(())
 }
@@ -144,14 +150,14 @@ fn refusals_are_written(rt: HostRuntime) -> Result<(), Fail> {
 #[test]
 fn no_mounts_are_written(rt: HostRuntime) -> Result<(), Fail> {
     let none = MountList::from_vec(Vec::new(rt.alloc()));
-    assert!(rt; is_written(&rt, &MountReply::Dump(none), &[0, 0, 0, 0])?);
+    assert!(rt; is_written(rt.alloc(), MountReply::Dump(none), &[0, 0, 0, 0])?);
     Ok(())
 }
 
-fn mounts(rt: &HostRuntime) -> Result<MountList, Fail>
+fn mounts(alloc: Global) -> Result<MountList, AllocError>
     ensures { IfOk result (λ mounts. All HasMountBodyForm mounts) }
 {
-    let mut mounts = Vec::new(rt.alloc());
+    let mut mounts = Vec::new(alloc);
     mounts.push(MountBody {
         hostname: Bytes::from_static(b"::1"),
         directory: Bytes::from_static(b"/abc"),
@@ -178,38 +184,44 @@ fn mounts_are_written_in_their_order(rt: HostRuntime) -> Result<(), Fail> {
         0x2f00_0000,
         0,
     ];
-    let expected = bytes_of(&rt, &words, &[])?;
-    assert!(rt; is_written(&rt, &MountReply::Dump(mounts(&rt)?), expected.as_slice())?);
+    let expected = bytes_of(rt.alloc(), &words, &[])?;
+    assert!(rt;
+        is_written(
+            rt.alloc(),
+            MountReply::Dump(mounts(rt.alloc())?),
+            expected.as_slice()
+        )?
+    );
     Ok(())
 }
 
 #[test]
 fn no_exports_are_written(rt: HostRuntime) -> Result<(), Fail> {
     let none = ExportList::from_vec(Vec::new(rt.alloc()));
-    assert!(rt; is_written(&rt, &MountReply::Export(none), &[0, 0, 0, 0])?);
+    assert!(rt; is_written(rt.alloc(), MountReply::Export(none), &[0, 0, 0, 0])?);
     Ok(())
 }
 
-fn hosts(rt: &HostRuntime) -> Result<Groups, Fail>
+fn hosts(alloc: Global) -> Result<Groups, AllocError>
     ensures { IfOk result (λ hosts. All IsHostName hosts) }
 {
-    let mut hosts = Vec::new(rt.alloc());
+    let mut hosts = Vec::new(alloc);
     hosts.push(Bytes::from_static(b"::1"))?;
     hosts.push(Bytes::from_static(b"host"))?;
     Ok(Groups::from_vec(hosts))
 }
 
-fn exports(rt: &HostRuntime) -> Result<ExportList, Fail>
+fn exports(alloc: Global) -> Result<ExportList, AllocError>
     ensures { IfOk result (λ exports. All HasExportNodeForm exports) }
 {
-    let mut exports = Vec::new(rt.alloc());
+    let mut exports = Vec::new(alloc);
     exports.push(ExportNode {
         directory: Bytes::from_static(b"/abc"),
-        groups: Groups::from_vec(Vec::new(rt.alloc())),
+        groups: Groups::from_vec(Vec::new(alloc)),
     })?;
     exports.push(ExportNode {
         directory: Bytes::from_static(b"/"),
-        groups: hosts(rt)?,
+        groups: hosts(alloc)?,
     })?;
     Ok(ExportList::from_vec(exports))
 }
@@ -233,8 +245,14 @@ fn exports_are_written_with_their_hosts(rt: HostRuntime) -> Result<(), Fail> {
         0,
         0,
     ];
-    let expected = bytes_of(&rt, &words, &[])?;
-    assert!(rt; is_written(&rt, &MountReply::Export(exports(&rt)?), expected.as_slice())?);
+    let expected = bytes_of(rt.alloc(), &words, &[])?;
+    assert!(rt;
+        is_written(
+            rt.alloc(),
+            MountReply::Export(exports(rt.alloc())?),
+            expected.as_slice()
+        )?
+    );
     Ok(())
 }
 
@@ -247,15 +265,15 @@ fn a_call_is_copied(rt: HostRuntime) -> Result<(), Fail> {
 
 #[test]
 fn a_reply_is_copied(rt: HostRuntime) -> Result<(), Fail> {
-    let reply = MountReply::Export(exports(&rt)?);
+    let reply = MountReply::Export(exports(rt.alloc())?);
     assert!(rt; reply.clone().is_ok());
     Ok(())
 }
 
 #[test]
 fn exports_are_equal_and_taken_apart(rt: HostRuntime) -> Result<(), Fail> {
-    let list = exports(&rt)?;
-    assert!(rt; list == exports(&rt)?);
+    let list = exports(rt.alloc())?;
+    assert!(rt; list == exports(rt.alloc())?);
     let nodes = list.into_vec();
     assert!(rt; nodes.len() == 2);
     Ok(())
@@ -263,8 +281,8 @@ fn exports_are_equal_and_taken_apart(rt: HostRuntime) -> Result<(), Fail> {
 
 #[test]
 fn mounts_are_equal_and_taken_apart(rt: HostRuntime) -> Result<(), Fail> {
-    let list = mounts(&rt)?;
-    assert!(rt; list == mounts(&rt)?);
+    let list = mounts(rt.alloc())?;
+    assert!(rt; list == mounts(rt.alloc())?);
     let bodies = list.into_vec();
     assert!(rt; bodies.len() == 2);
     Ok(())
@@ -272,7 +290,7 @@ fn mounts_are_equal_and_taken_apart(rt: HostRuntime) -> Result<(), Fail> {
 
 #[test]
 fn hosts_are_taken_apart(rt: HostRuntime) -> Result<(), Fail> {
-    let hosts = hosts(&rt)?.into_vec();
+    let hosts = hosts(rt.alloc())?.into_vec();
     assert!(rt; hosts.len() == 2);
     Ok(())
 }

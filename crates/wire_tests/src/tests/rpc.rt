@@ -1,0 +1,340 @@
+//! Records, headers of calls and replies (RFC 5531, sections 8 to 11).
+
+ghost use Rattle.std.specs.Prelude.{◌<◌};
+
+use super::{bytes_of, joined, record};
+use bytes::Bytes;
+use nfs_rpc::{
+    Answer, Early, Fault, Gids, Program, RecordError, Records, finish_record, read_call,
+    start_record, write_reply,
+};
+use std::alloc::{AllocError, Global};
+use std::test::Fail;
+
+/// NULL of NFS without a credential, in 40 bytes.
+const NULL: [u32; 10] = [1, 0, 2, 100003, 3, 0, 0, 0, 0, 0];
+
+#[test]
+fn a_call_is_read(rt: HostRuntime) -> Result<(), Fail> {
+    let null = bytes_of(rt.alloc(), &NULL, &[])?;
+    let record = record(rt.alloc(), null.as_slice())?;
+    let Ok(call) = read_call(&record) else {
+        return Err(Fail::from("a call"));
+    };
+    assert_eq!(rt; call.xid, 1);
+    assert_eq!(rt; call.program, Program::Nfs);
+    assert_eq!(rt; call.program.number(), 100003);
+    assert_eq!(rt; call.procedure, 0);
+    assert_eq!(rt; (call.ids.uid, call.ids.gid), (65534, 65534));
+    assert!(rt; call.ids.gids.is_empty());
+    assert!(rt; call.arguments.is_empty());
+    Ok(())
+}
+
+/// What a stream that came as one piece or byte by byte gives: these bytes as a record, so many times.
+fn gives(records: &mut Records, bytes: &[u8], times: u32) -> bool {
+    for _ in 0..times {
+        match records.next() {
+            Some(record) => {
+                if record.as_slice() != bytes {
+                    return false;
+                }
+            }
+            None => return false,
+        }
+    }
+    records.next().is_none()
+}
+
+#[test]
+fn a_record_ends_with_its_last_fragment(rt: HostRuntime) -> Result<(), Fail> {
+    let null = bytes_of(rt.alloc(), &NULL, &[])?;
+    let mut records = Records::new(rt.alloc());
+    records.feed(&[0x80, 0, 0, 40])?;
+    assert!(rt; gives(&mut records, &[], 0));
+    records.feed(null.as_slice())?;
+    assert!(rt; gives(&mut records, null.as_slice(), 1));
+    Ok(())
+}
+
+/// NULL with one byte, none, and 39 bytes in its three fragments; then in one fragment.
+fn two_nulls(alloc: Global) -> Result<Vec<u8>, AllocError> {
+    let mut stream = bytes_of(alloc, &[1], &[0, 0, 0, 0, 0, 0x80, 0, 0, 0x27, 0, 0, 1])?;
+    stream.extend_from_slice(&bytes_of(alloc, &NULL[1..], &[0x80, 0, 0, 0x28])?)?;
+    stream.extend_from_slice(&bytes_of(alloc, &NULL, &[])?)?;
+    Ok(stream)
+}
+
+#[test]
+fn fragments_are_joined(rt: HostRuntime) -> Result<(), Fail> {
+    let null = bytes_of(rt.alloc(), &NULL, &[])?;
+    let mut records = Records::new(rt.alloc());
+    records.feed(&two_nulls(rt.alloc())?)?;
+    assert!(rt; gives(&mut records, null.as_slice(), 2));
+    Ok(())
+}
+
+#[test]
+fn a_stream_may_come_byte_by_byte(rt: HostRuntime) -> Result<(), Fail> {
+    let null = bytes_of(rt.alloc(), &NULL, &[])?;
+    let mut records = Records::new(rt.alloc());
+    for byte in &two_nulls(rt.alloc())? {
+        records.feed(&[*byte])?;
+    }
+    assert!(rt; gives(&mut records, null.as_slice(), 2));
+    Ok(())
+}
+
+#[test]
+fn a_record_of_73728_bytes_is_given(rt: HostRuntime) -> Result<(), Fail> {
+    let mut records = Records::new(rt.alloc());
+    records.feed(&[0x80, 1, 0x20, 0])?;
+    records.feed(&vec![in rt.alloc(); 7; 73728]?)?;
+    let record = records.next().ok_or("a record")?;
+    assert_eq!(rt; record.len(), 73728);
+    Ok(())
+}
+
+/// A record, then a header of 73,729 bytes: the record is given, and nothing is taken from then on.
+#[test]
+fn a_header_above_the_limit_is_refused(rt: HostRuntime) -> Result<(), Fail> {
+    let mut records = Records::new(rt.alloc());
+    let fed = records.feed(&[0x80, 0, 0, 4, 0, 0, 0, 5, 0x80, 1, 0x20, 1]);
+    assert_eq!(rt; fed, Err(RecordError::TooLarge));
+    assert!(rt; gives(&mut records, &[0, 0, 0, 5], 1));
+    assert_eq!(rt; records.feed(&[0]), Err(RecordError::TooLarge));
+    Ok(())
+}
+
+/// 73,728 bytes in an earlier fragment, and one more in the next.
+#[test]
+fn fragments_above_the_limit_are_refused(rt: HostRuntime) -> Result<(), Fail> {
+    let mut records = Records::new(rt.alloc());
+    records.feed(&[0, 1, 0x20, 0])?;
+    records.feed(&vec![in rt.alloc(); 7; 73728]?)?;
+    records.feed(&[0, 0, 0])?;
+    assert_eq!(rt; records.feed(&[1]), Err(RecordError::TooLarge));
+    Ok(())
+}
+
+/// Feeds a piece, and once more where memory is refused.
+fn feed_again(records: &mut Records, piece: &[u8]) -> Result<(), RecordError> {
+    match records.feed(piece) {
+        Err(RecordError::Memory) => records.feed(piece),
+        fed => fed,
+    }
+}
+
+/// Whichever allocation is refused, what was fed is fed again, and the records are the same.
+#[test]
+fn what_memory_was_refused_for_is_fed_again(rt: HostRuntime) -> Result<(), Fail> {
+    let mut records = Records::new(rt.alloc());
+    feed_again(&mut records, &[0x80, 0, 0, 2, 7, 8, 0, 0, 0, 1, 9])?;
+    feed_again(&mut records, &[0x80, 0, 0, 1, 10, 0x80, 0, 0, 1, 11, 0x80])?;
+    feed_again(&mut records, &[0, 0, 1, 12])?;
+    let want: [&[u8]; 4] = [&[7, 8], &[9, 10], &[11], &[12]];
+    for bytes in want {
+        let record = records.next().ok_or("a record")?;
+        assert_eq!(rt; record.as_slice(), bytes);
+    }
+    Ok(())
+}
+
+/// How a record of these words ends early.
+fn early_of(alloc: Global, words: &[u32]) -> Result<Option<Early>, Fail> {
+    let record = Bytes::from_vec(bytes_of(alloc, words, &[])?)?;
+    Ok(read_call(&record).err())
+}
+
+/// Whether a record of these words, with 4 as xid, is a call at this fault.
+fn is_at_fault(alloc: Global, words: &[u32], fault: Fault) -> Result<bool, Fail> {
+    Ok(early_of(alloc, words)? == Some(Early::Answer { xid: 4, fault }))
+}
+
+/// Whether a record of these words is dropped.
+fn is_dropped(alloc: Global, words: &[u32]) -> Result<bool, Fail> {
+    Ok(early_of(alloc, words)? == Some(Early::Drop))
+}
+
+#[test]
+fn another_program_is_unavailable(rt: HostRuntime) -> Result<(), Fail> {
+    let words = [4, 0, 2, 100000, 3, 0, 0, 0, 0, 0];
+    assert!(rt; is_at_fault(rt.alloc(), &words, Fault::ProgramUnavailable)?);
+    Ok(())
+}
+
+/// NFS and MOUNT are served in version 3 and NLM in version 4, and a version comes before a procedure.
+#[test]
+fn another_version_of_a_program_is_a_mismatch(rt: HostRuntime) -> Result<(), Fail> {
+    for (program, version, procedure, served) in [
+        (100003, 2, 0, 3),
+        (100005, 1, 0, 3),
+        (100021, 3, 0, 4),
+        (100003, 2, 99, 3),
+    ] {
+        let words = [4, 0, 2, program, version, procedure, 0, 0, 0, 0];
+        let fault = Fault::ProgramMismatch {
+            low: served,
+            high: served,
+        };
+        assert!(rt;
+            is_at_fault(rt.alloc(), &words, fault)?,
+            "program {program}"
+        );
+    }
+    Ok(())
+}
+
+#[test]
+fn another_procedure_is_unavailable(rt: HostRuntime) -> Result<(), Fail> {
+    for (program, version, procedure) in [(100003, 3, 22), (100005, 3, 6), (100021, 4, 24)] {
+        let words = [4, 0, 2, program, version, procedure, 0, 0, 0, 0];
+        assert!(rt; is_at_fault(rt.alloc(), &words, Fault::ProcedureUnavailable)?);
+    }
+    Ok(())
+}
+
+/// Whatever follows it, and where nothing does.
+#[test]
+fn another_version_of_rpc_is_a_mismatch(rt: HostRuntime) -> Result<(), Fail> {
+    let words = [4, 0, 3, 100000, 9, 99, 6, 0, 0, 0];
+    assert!(rt; is_at_fault(rt.alloc(), &words, Fault::RpcMismatch)?);
+    assert!(rt; is_at_fault(rt.alloc(), &words[..3], Fault::RpcMismatch)?);
+    Ok(())
+}
+
+/// Also where program and version are wrong too.
+#[test]
+fn a_credential_of_another_flavor_is_bad(rt: HostRuntime) -> Result<(), Fail> {
+    let words = [4, 0, 2, 100003, 3, 0, 6, 0, 0, 0];
+    assert!(rt; is_at_fault(rt.alloc(), &words, Fault::BadCredential)?);
+    let words = [4, 0, 2, 100000, 9, 99, 6, 0, 0, 0];
+    assert!(rt; is_at_fault(rt.alloc(), &words, Fault::BadCredential)?);
+    Ok(())
+}
+
+#[test]
+fn what_is_cut_or_no_call_is_dropped(rt: HostRuntime) -> Result<(), Fail> {
+    assert!(rt; is_dropped(rt.alloc(), &[4, 0])?);
+    assert!(rt; is_dropped(rt.alloc(), &[4, 0, 2, 100003, 3, 0, 0, 0, 0])?);
+    assert!(rt; is_dropped(rt.alloc(), &[4, 1, 2, 100003, 3, 0, 0, 0, 0, 0])?);
+    assert!(rt; is_dropped(rt.alloc(), &[4, 1, 3])?);
+    Ok(())
+}
+
+/// A credential and a verifier of 401 bytes.
+#[test]
+fn a_body_above_400_bytes_is_dropped(rt: HostRuntime) -> Result<(), Fail> {
+    assert!(rt; is_dropped(rt.alloc(), &[4, 0, 2, 100003, 3, 0, 6, 401, 0, 0])?);
+    assert!(rt; is_dropped(rt.alloc(), &[4, 0, 2, 100003, 3, 0, 6, 0, 0, 401])?);
+    Ok(())
+}
+
+/// NULL of NFS by a user with so many further groups, with so many words behind them, and an argument of one word.
+fn sys_call(alloc: Global, groups: u32, more: u32) -> Result<Bytes, Fail>
+    requires { (groups < 100) × (more < 100) }
+{
+    let mut bytes = joined(
+        alloc,
+        &[5, 0, 2, 100003, 3, 0, 1, 4 * (7 + groups + more)],
+        &[77, 5, 0x686f_7374, 0x3100_0000],
+        &[1000, 100, groups],
+    )?;
+    for group in 0..groups {
+        bytes.extend_from_slice(&(200 + group).to_be_bytes())?;
+    }
+    for _ in 0..more {
+        bytes.extend_from_slice(&[0xff; 4])?;
+    }
+    bytes.extend_from_slice(&[0, 0, 0, 9, 0, 0, 0, 0, 0, 0, 0, 42])?;
+    Ok(Bytes::from_vec(bytes)?)
+}
+
+/// Whether the record is that call, with so many further groups.
+fn is_sys_call(record: &Bytes, groups: usize) -> bool {
+    match read_call(record) {
+        Ok(mut call) => {
+            (call.ids.uid, call.ids.gid) == (1000, 100)
+                && call.ids.gids.len() == groups
+                && call.ids.gids.contains(202) == (groups > 2)
+                && call.arguments.u32() == Ok(42)
+                && call.arguments.is_empty()
+        }
+        Err(_) => false,
+    }
+}
+
+#[test]
+fn a_user_has_at_most_16_groups(rt: HostRuntime) -> Result<(), Fail> {
+    assert!(rt; is_sys_call(&sys_call(rt.alloc(), 0, 0)?, 0));
+    assert!(rt; is_sys_call(&sys_call(rt.alloc(), 3, 2)?, 3));
+    assert!(rt; is_sys_call(&sys_call(rt.alloc(), 16, 0)?, 16));
+    let early = read_call(&sys_call(rt.alloc(), 17, 0)?).err();
+    let fault = Fault::BadCredential;
+    assert_eq!(rt; early, Some(Early::Answer { xid: 5, fault }));
+    Ok(())
+}
+
+#[test]
+fn a_users_credential_has_at_most_400_bytes(rt: HostRuntime) -> Result<(), Fail> {
+    let early = read_call(&sys_call(rt.alloc(), 94, 0)?).err();
+    assert_eq!(rt; early, Some(Early::Drop));
+    Ok(())
+}
+
+#[test]
+fn groups(rt: HostRuntime) {
+    let mut some = Gids::new();
+    let mut others = Gids::new();
+    assert_eq!(rt; some, others);
+    some.push(10);
+    some.push(20);
+    others.push(10);
+    assert_ne!(rt; some, others);
+    assert!(rt; some.contains(20));
+    assert!(rt; !some.contains(0));
+    let copy = some;
+    assert_eq!(rt; copy, some);
+}
+
+/// Whether the record of an answer to the call with 4 as xid is these words.
+fn is_answered(alloc: Global, answer: Answer, words: &[u32]) -> Result<bool, Fail> {
+    let mut writer = start_record(alloc, 32)?;
+    write_reply(&mut writer, 4, answer)?;
+    if writer.len() < 4 || writer.len() > 1000 {
+        return Ok(false);
+    }
+    let expected = bytes_of(alloc, words, &[])?;
+    Ok(finish_record(writer).as_slice() == expected.as_slice())
+}
+
+#[test]
+fn accepted_calls_are_answered(rt: HostRuntime) -> Result<(), Fail> {
+    for (answer, status) in [
+        (Answer::Success, 0),
+        (Answer::Failure(Fault::ProgramUnavailable), 1),
+        (Answer::Failure(Fault::ProcedureUnavailable), 3),
+        (Answer::Failure(Fault::GarbageArguments), 4),
+        (Answer::Failure(Fault::SystemError), 5),
+    ] {
+        assert!(rt; is_answered(rt.alloc(), answer, &[0x80000018, 4, 1, 0, 0, 0, status])?);
+    }
+    Ok(())
+}
+
+#[test]
+fn a_mismatch_is_answered_with_the_versions(rt: HostRuntime) -> Result<(), Fail> {
+    let answer = Answer::Failure(Fault::ProgramMismatch { low: 3, high: 4 });
+    let words = [0x80000020, 4, 1, 0, 0, 0, 2, 3, 4];
+    assert!(rt; is_answered(rt.alloc(), answer, &words)?);
+    Ok(())
+}
+
+#[test]
+fn denied_calls_are_answered(rt: HostRuntime) -> Result<(), Fail> {
+    let answer = Answer::Failure(Fault::RpcMismatch);
+    assert!(rt; is_answered(rt.alloc(), answer, &[0x80000018, 4, 1, 1, 0, 2, 2])?);
+    let answer = Answer::Failure(Fault::BadCredential);
+    assert!(rt; is_answered(rt.alloc(), answer, &[0x80000014, 4, 1, 1, 1, 1])?);
+    Ok(())
+}
