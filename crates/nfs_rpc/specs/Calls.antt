@@ -14,8 +14,8 @@ use Rattle.nfs_rpc.specs.Early.{call_of, heading_of}
 
 -- What a reader that takes no memory answers, seen by view, and leaves: what reading gives. Where it stands after a
 -- refusal is not said.
-abbrev pub ReadsExactly : {X : Type 0} → (t : Xdr) → (X → Value t) → List ℕ → List ℕ →
-    Result X XdrError → Type 0
+abbrev pub ReadsExactly : {X : Type 0} → (t : Xdr) →
+    (X → Value t) → List ℕ → List ℕ → Result X XdrError → Type 0
 ReadsExactly t view old new (Ok x) = read t old ≡ Ok (view x, new)
 ReadsExactly t view old new (Err e) = read t old ≡ Err e
 
@@ -31,7 +31,7 @@ IsCallOf bytes (Err early) = call_of bytes ≡ Err early
 -- what a heading names, whatever the xid and the arguments
 abbrev pub NamesCall : (number version procedure flavor : ℕ) → List ℕ → Result (Ids × Program) Fault → Type 0
 NamesCall number version procedure flavor body (Ok found) = (xid : ℕ) (arguments : List ℕ)
-    → heading_of xid number version procedure flavor body arguments ≡ Ok
-    (record { xid = xid; program = found.1; procedure = procedure; ids = found.0; arguments = arguments })
+    → heading_of xid number version procedure flavor body arguments
+    ≡ Ok (record { xid = xid; program = found.1; procedure = procedure; ids = found.0; arguments = arguments })
 NamesCall number version procedure flavor body (Err fault) = (xid : ℕ) (arguments : List ℕ)
     → heading_of xid number version procedure flavor body arguments ≡ Err (Answer xid fault)

@@ -46,5 +46,5 @@ Advances piece content content' place place' (Some left) =
 -- taking a piece in adds these records, whatever came before
 abbrev pub Adds : List ℕ → List ℕ → List ℕ → Place → Place → List (List ℕ) → Type 0
 Adds piece content content' place place' records =
-    (bytes : List ℕ) → LeadTo bytes content place → (rest : List ℕ) × IsStream (bytes ++ piece) records rest ×
-    LeadTo rest content' place'
+    (bytes : List ℕ) → LeadTo bytes content place →
+    (rest : List ℕ) × IsStream (bytes ++ piece) records rest × LeadTo rest content' place'

@@ -47,8 +47,8 @@ pub record BeginsTooLarge (bytes : List ℕ) : Type 0 where
 
 -- after whole records there stands a record with such a header
 abbrev pub IsTooLarge : List ℕ → Type 0
-IsTooLarge stream = (records : List (List ℕ)) × (rest : List ℕ) × IsStream stream records rest ×
-    BeginsTooLarge rest
+IsTooLarge stream =
+    (records : List (List ℕ)) × (rest : List ℕ) × IsStream stream records rest × BeginsTooLarge rest
 
 -- what a clause sees of a `Records`: the whole records that it has not given yet, and of the record after them
 -- the bodies that have come, joined, and where in a fragment it stands
@@ -68,8 +68,8 @@ pub record EndsInBody (last : Bool) (missing : ℕ) (content bytes : List ℕ) :
   pub earlier : List (List ℕ)
   pub body : List ℕ
   pub joined : content ≡ concat earlier ++ body
-  pub whole : bytes ≡ flat_map (fragment false) earlier ++
-      (to_be_bytes w32 (mark last + (length body + missing)) ++ body)
+  pub whole : bytes
+      ≡ flat_map (fragment false) earlier ++ (to_be_bytes w32 (mark last + (length body + missing)) ++ body)
 
 -- the bytes, of which nothing but the joined bodies is kept, lead to this place
 abbrev pub LeadTo : List ℕ → List ℕ → Place → Type 0

@@ -5,7 +5,7 @@ ghost use Rattle.nfs_xdr.specs.Reading.{read};
 ghost use Rattle.nfs_rpc.specs.Messages as spec;
 ghost use Rattle.nfs_rpc.specs.Calls.{IsCallOf, NamesCall, ReadsExactly};
 ghost use Rattle.nfs_rpc.specs.Early.{ids_of, sys_ids};
-ghost use Rattle.nfs_xdr.specs.Types.{Word, Array};
+ghost use Rattle.nfs_xdr.specs.Types.{Word, Array, ◌&◌};
 ghost use Rattle.std.specs.Result.{result_ok};
 
 use crate::numbers::{AUTH_LIMIT, AUTH_NONE, AUTH_SYS, CALL, MACHINE_LIMIT, RPC_VERSION};
@@ -86,8 +86,8 @@ pub fn read_call(message: &Record) -> Result<RpcCall<'_>, Early>
 
 /// Who calls what, or the first fault of a heading.
 fn caller_and_program(heading: &Heading<'_>) -> Result<(Ids, Program), Fault>
-    ensures { NamesCall heading.now.program heading.now.version heading.now.procedure heading.now.credential.flavor
-        heading.now.credential.body.now result }
+    ensures { NamesCall heading.now.program heading.now.version heading.now.procedure
+        heading.now.credential.flavor heading.now.credential.body.now result }
 {
     let ids = ids_of(heading.credential).ok_or(Fault::BadCredential)?;
     let program = Program::from_number(heading.program).ok_or(Fault::ProgramUnavailable)?;
@@ -163,13 +163,8 @@ fn read_opening(reader: &mut SharedReader<'_>) -> Result<Opening, XdrError>
 #[tactic(auto, unfolding(nfs_xdr::specs::Reading::read))]
 fn read_heading<'a>(reader: &mut SharedReader<'a>) -> Result<Heading<'a>, XdrError>
     ensures { ReadsExactly spec.Heading
-        (λ h. (
-          h.program,
-          (
-            h.version,
-            (h.procedure, ((h.credential.flavor, h.credential.body.now), (h.verifier.flavor, h.verifier.body.now))),
-          ),
-        ))
+        (λ h. h.program & h.version & h.procedure
+        & (h.credential.flavor, h.credential.body.now) & (h.verifier.flavor, h.verifier.body.now))
         reader.entry.now reader.exit.now result }
 {
     Ok(Heading {

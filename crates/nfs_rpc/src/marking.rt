@@ -268,10 +268,9 @@ impl Records {
         // What has come is the stream and the piece.
         ensures ok { OnOk result ((stream : List ℕ) (given : List (List ℕ)) → Holds self.old stream given
             → Holds self.new (stream ++ piece.now) given × ¬ IsTooLarge (stream ++ piece.now)) }
-        ensures too_large { IsErrOf result RecordError.TooLarge → (stream : List ℕ) (given : List (List ℕ)) →
-            Holds self.old stream given
+        ensures too_large { IsErrOf result RecordError.TooLarge
+            → (stream : List ℕ) (given : List (List ℕ)) → Holds self.old stream given
             → Holds self.new (stream ++ piece.now) given × IsTooLarge (stream ++ piece.now) }
-
         ensures memory { IsErrOf result RecordError.Memory → self.new ≡ self.old }
     {
         let size = self.content.len();
@@ -297,8 +296,8 @@ impl Records {
     /// The next whole record of the stream. It takes no memory.
     pub fn next(&mut self) -> Option<Record>
         ensures some { IfSome result (λ r. self.old ≡ record self.new { queued = r ∷ self.new.queued }) }
-        ensures gives { IfSome result
-            (λ r. (stream : List ℕ) (given : List (List ℕ)) → Holds self.old stream given
+        ensures gives { IfSome result (λ r.
+            (stream : List ℕ) (given : List (List ℕ)) → Holds self.old stream given
             → Holds self.new stream (given ++ r ∷ [])) }
         ensures none { IfNone result ((self.old.queued ≡ []) × (self.new ≡ self.old)) }
     {

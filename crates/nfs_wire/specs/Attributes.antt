@@ -1,6 +1,6 @@
 -- The attributes of a file (RFC 1813, section 2.5): their XDR types, and the value of each.
 use Rattle.std.specs.Prelude.{ℕ, ◌&&◌, nat_le, ◌==◌, if◌then◌else◌, Option, Some, None}
-use Rattle.nfs_xdr.specs.Types.{Xdr, Void, Word, Hyper, Enum, Pair, Optional, Union, Value}
+use Rattle.nfs_xdr.specs.Types.{Xdr, Void, Word, Hyper, Enum, Pair, Optional, Union, Value, ◌&◌}
 use Rattle.nfs_wire.specs.declared.attributes.Attributes.{Attributes}
 use Rattle.nfs_wire.specs.declared.attributes.DeviceNumber.{DeviceNumber}
 use Rattle.nfs_wire.specs.declared.attributes.FileType.{FileType}
@@ -61,37 +61,13 @@ time_value time = (time.seconds, time.nanoseconds)
 -- fattr3 (RFC 1813, 2.5): type, mode, nlink, uid, gid, size, used, rdev, fsid, fileid, atime, mtime, ctime
 abbrev pub fattr3 : Xdr
 fattr3 =
-    Pair ftype3 (Pair mode3
-    (Pair Word (Pair uid3
-    (Pair gid3 (Pair size3
-    (Pair size3 (Pair specdata3 (Pair Hyper (Pair fileid3 (Pair nfstime3 (Pair nfstime3 nfstime3)))))))))))
+    Pair ftype3 (Pair mode3 (Pair Word (Pair uid3 (Pair gid3 (Pair size3 (Pair size3 (Pair specdata3
+    (Pair Hyper (Pair fileid3 (Pair nfstime3 (Pair nfstime3 nfstime3)))))))))))
 
 abbrev pub attributes_value : Attributes → Value fattr3
-attributes_value a = (
-  type_number a.kind,
-  (
-    a.mode,
-    (
-      a.links,
-      (
-        a.uid,
-        (
-          a.gid,
-          (
-            a.size,
-            (
-              a.used,
-              (
-                device_value a.device,
-                (a.fsid, (a.fileid, (time_value a.accessed, (time_value a.modified, time_value a.changed)))),
-              ),
-            ),
-          ),
-        ),
-      ),
-    ),
-  ),
-)
+attributes_value a =
+    type_number a.kind & a.mode & a.links & a.uid & a.gid & a.size & a.used & device_value a.device &
+    a.fsid & a.fileid & time_value a.accessed & time_value a.modified & time_value a.changed
 
 -- post_op_attr (RFC 1813, 2.5): a union on a bool, as optional data is
 abbrev pub post_op_attr : Xdr
@@ -123,8 +99,8 @@ wcc_data = Pair pre_op_attr post_op_attr
 abbrev pub wcc_value : Wcc → Value wcc_data
 wcc_value wcc = (before_value wcc.before, after_value wcc.after)
 
--- the arm of time_how (RFC 1813, 2.5): DONT_CHANGE 0 and SET_TO_SERVER_TIME 1 have none, SET_TO_CLIENT_TIME 2 has a
--- time
+-- the arm of time_how (RFC 1813, 2.5): DONT_CHANGE 0 and SET_TO_SERVER_TIME 1 have none, SET_TO_CLIENT_TIME 2 has
+-- a time
 abbrev pub set_time_arm : ℕ → Xdr
 set_time_arm how = if how == 2 then nfstime3 else Void
 

@@ -1,6 +1,6 @@
 -- The XDR types of the results of calls (RFC 1813, sections 2.5 and 3.3), and the value of each.
 use Rattle.std.specs.Prelude.{ℕ, Result, Ok, Err, ◌==◌, if◌then◌else◌, map}
-use Rattle.nfs_xdr.specs.Types.{Xdr, Void, Word, Flag, Opaque, Pair, Optional, Entries, Union, Value}
+use Rattle.nfs_xdr.specs.Types.{Xdr, Void, Word, Flag, Opaque, Pair, Optional, Entries, Union, Value, ◌&◌}
 use Rattle.nfs_wire.specs.Arguments.{unbounded, nfs_fh3, filename3, nfspath3, cookie3, count3, verf3, stable_how}
 use Rattle.nfs_wire.specs.Arguments.{verifier_value, stability_number}
 use Rattle.nfs_wire.specs.Attributes.{fattr3, size3, fileid3, nfstime3, post_op_attr, wcc_data, attributes_value}
@@ -88,13 +88,15 @@ lookup_result r =
 -- ACCESS3res (RFC 1813, 3.3.4): obj_attributes, access; obj_attributes
 abbrev pub access_result : AccessReply → (t : Xdr) × Value t
 access_result r =
-    result_as (Pair post_op_attr Word) post_op_attr (λ rights. (after_value r.attributes, rights))
+    result_as (Pair post_op_attr Word) post_op_attr
+    (λ rights. (after_value r.attributes, rights))
     (after_value r.attributes) r.result
 
 -- READLINK3res (RFC 1813, 3.3.5): symlink_attributes, data; symlink_attributes
 abbrev pub readlink_result : ReadlinkReply → (t : Xdr) × Value t
 readlink_result r =
-    result_as (Pair post_op_attr nfspath3) post_op_attr (λ text. (after_value r.attributes, text))
+    result_as (Pair post_op_attr nfspath3) post_op_attr
+    (λ text. (after_value r.attributes, text))
     (after_value r.attributes) r.result
 
 -- READ3res (RFC 1813, 3.3.6): file_attributes, count, eof, data; file_attributes
@@ -109,7 +111,7 @@ abbrev pub written_result : WriteReply → (t : Xdr) × Value t
 written_result r =
     result_as (Pair wcc_data (Pair count3 (Pair stable_how verf3))) wcc_data
     (λ (written : Written).
-    (wcc_value r.wcc, (written.count, (stability_number written.committed, verifier_value written.verifier))))
+    wcc_value r.wcc & written.count & stability_number written.committed & verifier_value written.verifier)
     (wcc_value r.wcc) r.result
 
 -- CREATE3res, MKDIR3res, SYMLINK3res and MKNOD3res (RFC 1813, 3.3.8 to 3.3.11): obj, obj_attributes, dir_wcc; dir_wcc
@@ -126,7 +128,8 @@ removed_result r = result_as wcc_data wcc_data (λ _. wcc_value r.directory) (wc
 -- RENAME3res (RFC 1813, 3.3.14): fromdir_wcc, todir_wcc; the same
 abbrev pub renamed_result : RenamedReply → (t : Xdr) × Value t
 renamed_result r =
-    result_as (Pair wcc_data wcc_data) (Pair wcc_data wcc_data) (λ _. (wcc_value r.from, wcc_value r.to))
+    result_as (Pair wcc_data wcc_data) (Pair wcc_data wcc_data)
+    (λ _. (wcc_value r.from, wcc_value r.to))
     (wcc_value r.from, wcc_value r.to) r.result
 
 -- LINK3res (RFC 1813, 3.3.15): file_attributes, linkdir_wcc; the same
@@ -147,10 +150,9 @@ entry_value entry = (entry.fileid, (entry.name, entry.cookie))
 abbrev pub readdir_result : ReaddirReply → (t : Xdr) × Value t
 readdir_result r =
     result_as (Pair post_op_attr (Pair verf3 (Pair (Entries entry3) Flag))) post_op_attr
-    (λ (page : Page). (
-      after_value r.attributes,
-      (verifier_value page.verifier, (map entry_value page.entries, page.eof)),
-    )) (after_value r.attributes) r.result
+    (λ (page : Page).
+    after_value r.attributes & verifier_value page.verifier & map entry_value page.entries & page.eof)
+    (after_value r.attributes) r.result
 
 -- entryplus3 (RFC 1813, 3.3.17) but for nextentry: fileid, name, cookie, name_attributes, name_handle
 abbrev pub entryplus3 : Xdr
@@ -165,7 +167,7 @@ abbrev pub readdirplus_result : ReaddirplusReply → (t : Xdr) × Value t
 readdirplus_result r =
     result_as (Pair post_op_attr (Pair verf3 (Pair (Entries entryplus3) Flag))) post_op_attr
     (λ (page : PagePlus).
-    (after_value r.attributes, (verifier_value page.verifier, (map full_entry_value page.entries, page.eof))))
+    after_value r.attributes & verifier_value page.verifier & map full_entry_value page.entries & page.eof)
     (after_value r.attributes) r.result
 
 -- tbytes, fbytes, abytes, tfiles, ffiles, afiles, invarsec (RFC 1813, 3.3.18)
@@ -173,18 +175,15 @@ abbrev pub space3 : Xdr
 space3 = Pair size3 (Pair size3 (Pair size3 (Pair size3 (Pair size3 (Pair size3 Word)))))
 
 abbrev pub space_value : Space → Value space3
-space_value s = (
-  s.total_bytes,
-  (
-    s.free_bytes,
-    (s.available_bytes, (s.total_files, (s.free_files, (s.available_files, s.unchanged_for)))),
-  ),
-)
+space_value s =
+    s.total_bytes & s.free_bytes & s.available_bytes & s.total_files & s.free_files & s.available_files &
+    s.unchanged_for
 
 -- FSSTAT3res (RFC 1813, 3.3.18): obj_attributes and the rest; obj_attributes
 abbrev pub fsstat_result : FsstatReply → (t : Xdr) × Value t
 fsstat_result r =
-    result_as (Pair post_op_attr space3) post_op_attr (λ space. (after_value r.attributes, space_value space))
+    result_as (Pair post_op_attr space3) post_op_attr
+    (λ space. (after_value r.attributes, space_value space))
     (after_value r.attributes) r.result
 
 -- rtmax, rtpref, rtmult, wtmax, wtpref, wtmult, dtpref, maxfilesize, time_delta, properties (RFC 1813, 3.3.19)
@@ -193,31 +192,16 @@ file_system3 =
     Pair Word (Pair Word (Pair Word (Pair Word (Pair Word (Pair Word (Pair Word (Pair size3 (Pair nfstime3 Word))))))))
 
 abbrev pub file_system_value : FileSystem → Value file_system3
-file_system_value f = (
-  f.read_most,
-  (
-    f.read_preferred,
-    (
-      f.read_multiple,
-      (
-        f.write_most,
-        (
-          f.write_preferred,
-          (
-            f.write_multiple,
-            (f.directory_preferred, (f.largest_file, (time_value f.time_step, f.properties))),
-          ),
-        ),
-      ),
-    ),
-  ),
-)
+file_system_value f =
+    f.read_most & f.read_preferred & f.read_multiple & f.write_most & f.write_preferred & f.write_multiple &
+    f.directory_preferred & f.largest_file & time_value f.time_step & f.properties
 
 -- FSINFO3res (RFC 1813, 3.3.19): obj_attributes and the rest; obj_attributes
 abbrev pub fsinfo_result : FsinfoReply → (t : Xdr) × Value t
 fsinfo_result r =
     result_as (Pair post_op_attr file_system3) post_op_attr
-    (λ system. (after_value r.attributes, file_system_value system)) (after_value r.attributes) r.result
+    (λ system. (after_value r.attributes, file_system_value system))
+    (after_value r.attributes) r.result
 
 -- linkmax, name_max, no_trunc, chown_restricted, case_insensitive, case_preserving (RFC 1813, 3.3.20)
 abbrev pub path_limits3 : Xdr
@@ -231,10 +215,12 @@ path_limits_value p =
 abbrev pub pathconf_result : PathconfReply → (t : Xdr) × Value t
 pathconf_result r =
     result_as (Pair post_op_attr path_limits3) post_op_attr
-    (λ limits. (after_value r.attributes, path_limits_value limits)) (after_value r.attributes) r.result
+    (λ limits. (after_value r.attributes, path_limits_value limits))
+    (after_value r.attributes) r.result
 
 -- COMMIT3res (RFC 1813, 3.3.21): file_wcc, verf; file_wcc
 abbrev pub commit_result : CommitReply → (t : Xdr) × Value t
 commit_result r =
-    result_as (Pair wcc_data verf3) wcc_data (λ verifier. (wcc_value r.wcc, verifier_value verifier))
+    result_as (Pair wcc_data verf3) wcc_data
+    (λ verifier. (wcc_value r.wcc, verifier_value verifier))
     (wcc_value r.wcc) r.result

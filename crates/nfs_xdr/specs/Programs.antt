@@ -24,22 +24,21 @@ IsFrontedBy spells call bytes =
 -- no front of the bytes spells the arguments of a call of this procedure
 abbrev pub IsGarbage : {C : Type 0} → (C → ℕ) → (C → List ℕ → Type 0) → ℕ → List ℕ → Type 0
 IsGarbage {C} procedure_of spells procedure bytes =
-    (call : C) (front rest : List ℕ) → procedure_of call ≡ procedure → bytes ≡ front ++ rest →
-    spells call front → ⊥
+    (call : C) (front rest : List ℕ) → procedure_of call ≡ procedure →
+    bytes ≡ front ++ rest → spells call front → ⊥
 
 -- one list of bytes spells at its front at most one call of a procedure
 abbrev pub SpellsOneCall : {C : Type 0} → (C → ℕ) → (C → List ℕ → Type 0) → Type 0
 SpellsOneCall {C} procedure_of spells =
     (bytes front rest front' rest' : List ℕ) (call call' : C) → procedure_of call ≡ procedure_of call' →
-    bytes ≡ front ++ rest → spells call front → bytes ≡ front' ++ rest' → spells call' front' →
-    call ≡ call'
+    bytes ≡ front ++ rest → spells call front →
+    bytes ≡ front' ++ rest' → spells call' front' → call ≡ call'
 
 -- What reading a call answers and leaves: the call whose arguments reading gives, or the error that it gives.
 -- A procedure that the program has not is always refused.
-abbrev pub ReadsCall : {C : Type 0} →
-    (is_procedure : ℕ → Type 0) (types : List Xdr) (procedure_of : C → ℕ) →
-    ((call : C) → Value (type_at types (procedure_of call))) → ℕ → List ℕ → List ℕ →
-    Result C XdrError → Type 0
+abbrev pub ReadsCall : {C : Type 0} → (is_procedure : ℕ → Type 0) →
+    (types : List Xdr) (procedure_of : C → ℕ) → ((call : C) → Value (type_at types (procedure_of call))) →
+    ℕ → List ℕ → List ℕ → Result C XdrError → Type 0
 ReadsCall is_procedure types procedure_of arguments_of procedure old new (Ok call) =
     (procedure_of call ≡ procedure) × (read (type_at types (procedure_of call)) old ≡ Ok (arguments_of call, new))
 ReadsCall is_procedure types procedure_of arguments_of procedure old new (Err e) =

@@ -17,8 +17,9 @@ abbrev pub ◌>>=◌ : {A B : Type 0} → Result A XdrError → (A → Result B 
 
 -- an unsigned number of this width (RFC 4506, 4.2 and 4.5)
 abbrev pub number_at : Width → List ℕ → Result (ℕ × List ℕ) XdrError
-number_at w bytes = if nat_lt (length bytes) (byte_len w) then Err Short else Ok
-    (from_be_bytes w (take (byte_len w) bytes), drop (byte_len w) bytes)
+number_at w bytes =
+    if nat_lt (length bytes) (byte_len w) then Err Short
+    else Ok (from_be_bytes w (take (byte_len w) bytes), drop (byte_len w) bytes)
 
 -- the word as an int (4.1)
 abbrev pub signed_of : ℕ × List ℕ → Result (ℤ × List ℕ) XdrError
@@ -34,8 +35,9 @@ known_of known n = if known n.0 then Ok n else Err BadValue
 
 -- so many bytes, with their padding (4.9)
 abbrev pub bytes_at : ℕ → List ℕ → Result (List ℕ × List ℕ) XdrError
-bytes_at size bytes = if nat_lt (length bytes) (size + padding size) then Err Short else Ok
-    (take size bytes, drop (size + padding size) bytes)
+bytes_at size bytes =
+    if nat_lt (length bytes) (size + padding size) then Err Short
+    else Ok (take size bytes, drop (size + padding size) bytes)
 
 -- as many bytes as the word says, if that is within the bound (4.10)
 abbrev pub opaque_of : ℕ → ℕ × List ℕ → Result (List ℕ × List ℕ) XdrError
@@ -67,8 +69,8 @@ read_entries entry (suc n) bytes = do
 
 -- the arm that the discriminant names, if it is known (4.15)
 unfoldable pub arm_of : (known : ℕ → Bool) (arm : ℕ → Xdr) →
-    ((tag : ℕ) → List ℕ → Result (Value (arm tag) × List ℕ) XdrError) → ℕ ×
-    List ℕ → Result (((tag : ℕ) × Value (arm tag)) × List ℕ) XdrError
+    ((tag : ℕ) → List ℕ → Result (Value (arm tag) × List ℕ) XdrError) →
+    ℕ × List ℕ → Result (((tag : ℕ) × Value (arm tag)) × List ℕ) XdrError
 arm_of known arm inner n = if known n.0 then (inner n.0 n.1 >>= (λ v. Ok ((n.0, v.0), v.1))) else Err BadValue
 
 -- a value of the type, and the bytes behind it
@@ -95,26 +97,26 @@ read (Entries a) bytes = read_entries (read a) (length bytes) bytes
 read (Union known arm) bytes = number_at w32 bytes >>= arm_of known arm (λ tag. read (arm tag))
 
 -- What is read of the item at the front, seen by view, and how many bytes it takes.
-abbrev pub ReadsAt : {X : Type 0} → (t : Xdr) → (X → Value t) → (X → ℕ) → List ℕ →
-    Result X XdrError → Type 0
+abbrev pub ReadsAt : {X : Type 0} → (t : Xdr) →
+    (X → Value t) → (X → ℕ) → List ℕ → Result X XdrError → Type 0
 ReadsAt t view size bytes (Ok x) = (size x ≤ length bytes) × (read t bytes ≡ Ok (view x, drop (size x) bytes))
 ReadsAt t view size bytes (Err e) = read t bytes ≡ Err e
 
 -- What a reader answers, seen by view, and leaves: what reading gives, or a refusal that leaves it where it stood.
-abbrev pub Reads : {X : Type 0} → (t : Xdr) → (X → Value t) → List ℕ → List ℕ → Result X XdrError →
-    Type 0
+abbrev pub Reads : {X : Type 0} → (t : Xdr) →
+    (X → Value t) → List ℕ → List ℕ → Result X XdrError → Type 0
 Reads t view old new (Ok x) = read t old ≡ Ok (view x, new)
 Reads t view old new (Err e) = (read t old ≡ Err e) × (new ≡ old)
 
 -- The same of a reader that shares what it reads, for which there may be no memory.
-abbrev pub ReadsShared : {X : Type 0} → (t : Xdr) → (X → Value t) → List ℕ → List ℕ →
-    Result X XdrError → Type 0
+abbrev pub ReadsShared : {X : Type 0} → (t : Xdr) →
+    (X → Value t) → List ℕ → List ℕ → Result X XdrError → Type 0
 ReadsShared t view old new (Ok x) = read t old ≡ Ok (view x, new)
 ReadsShared t view old new (Err e) = (e ≢ Memory → read t old ≡ Err e) × (new ≡ old)
 
 -- The same of a reader made of items. Where the reader stands after a refusal is not said.
-abbrev pub ReadsFront : {X : Type 0} → (t : Xdr) → (X → Value t) → List ℕ → List ℕ →
-    Result X XdrError → Type 0
+abbrev pub ReadsFront : {X : Type 0} → (t : Xdr) →
+    (X → Value t) → List ℕ → List ℕ → Result X XdrError → Type 0
 ReadsFront t view old new (Ok x) = read t old ≡ Ok (view x, new)
 ReadsFront t view old new (Err e) = e ≢ Memory → read t old ≡ Err e
 

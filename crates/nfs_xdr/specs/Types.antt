@@ -48,6 +48,11 @@ Value (Optional a) = Option (Value a)
 Value (Entries a) = List (Value a)
 Value (Union known arm) = (tag : ℕ) × Value (arm tag)
 
+-- the value of a `Pair`
+infixr 4 ◌&◌
+abbrev pub ◌&◌ : {A B : Type 0} → A → B → A × B
+first & second = (first, second)
+
 -- how many bytes of padding follow this many bytes (RFC 4506, section 3)
 abbrev pub padding : ℕ → ℕ
 padding n = (4 - n % 4) % 4
@@ -74,14 +79,15 @@ pub record IsPadded (pads : List ℕ → Type 0) (value bytes : List ℕ) : Type
 -- elements one after another, each spelled (4.12)
 abbrev pub SpellsAll : {A : Type 0} → (A → List ℕ → Type 0) → List A → List ℕ → Type 0
 SpellsAll spells [] bytes = bytes ≡ []
-SpellsAll spells (v ∷ vs) bytes = (front : List ℕ) × (back : List ℕ) × (bytes ≡ front ++ back) ×
-    spells v front × SpellsAll spells vs back
+SpellsAll spells (v ∷ vs) bytes =
+    (front : List ℕ) × (back : List ℕ) × (bytes ≡ front ++ back) × spells v front × SpellsAll spells vs back
 
 -- each entry behind a TRUE, and a FALSE at the end (4.19)
 abbrev pub SpellsEntries : {A : Type 0} → (A → List ℕ → Type 0) → List A → List ℕ → Type 0
 SpellsEntries spells [] bytes = bytes ≡ to_be_bytes w32 0
-SpellsEntries spells (v ∷ vs) bytes = (front : List ℕ) × (back : List ℕ) ×
-    (bytes ≡ to_be_bytes w32 1 ++ (front ++ back)) × spells v front × SpellsEntries spells vs back
+SpellsEntries spells (v ∷ vs) bytes =
+    (front : List ℕ) × (back : List ℕ) × (bytes ≡ to_be_bytes w32 1 ++ (front ++ back)) ×
+    spells v front × SpellsEntries spells vs back
 
 -- the bytes spell the value of the type, with such padding
 abbrev pub SpellsBy : (pads : List ℕ → Type 0) → (t : Xdr) → Value t → List ℕ → Type 0
@@ -92,17 +98,21 @@ SpellsBy pads Hyper n bytes = (n < 2 ^ 64) × (bytes ≡ to_be_bytes w64 n)
 SpellsBy pads Flag b bytes = bytes ≡ to_be_bytes w32 (flag_number b)
 SpellsBy pads (Enum known) n bytes = (n < 2 ^ 32) × (known n ≡ true) × (bytes ≡ to_be_bytes w32 n)
 SpellsBy pads (Fixed size) value bytes = (length value ≡ size) × IsPadded pads value bytes
-SpellsBy pads (Opaque max) value bytes = (length value ≤ max) × (length value < 2 ^ 32) ×
+SpellsBy pads (Opaque max) value bytes =
+    (length value ≤ max) × (length value < 2 ^ 32) ×
     ((rest : List ℕ) × (bytes ≡ to_be_bytes w32 (length value) ++ rest) × IsPadded pads value rest)
-SpellsBy pads (Pair a b) v bytes = (front : List ℕ) × (back : List ℕ) × (bytes ≡ front ++ back) ×
+SpellsBy pads (Pair a b) v bytes =
+    (front : List ℕ) × (back : List ℕ) × (bytes ≡ front ++ back) ×
     SpellsBy pads a v.0 front × SpellsBy pads b v.1 back
-SpellsBy pads (Array max a) vs bytes = (length vs ≤ max) × (length vs < 2 ^ 32) ×
+SpellsBy pads (Array max a) vs bytes =
+    (length vs ≤ max) × (length vs < 2 ^ 32) ×
     ((rest : List ℕ) × (bytes ≡ to_be_bytes w32 (length vs) ++ rest) × SpellsAll (SpellsBy pads a) vs rest)
 SpellsBy pads (Optional a) None bytes = bytes ≡ to_be_bytes w32 0
-SpellsBy pads (Optional a) (Some v) bytes = (rest : List ℕ) × (bytes ≡ to_be_bytes w32 1 ++ rest) ×
-    SpellsBy pads a v rest
+SpellsBy pads (Optional a) (Some v) bytes =
+    (rest : List ℕ) × (bytes ≡ to_be_bytes w32 1 ++ rest) × SpellsBy pads a v rest
 SpellsBy pads (Entries a) vs bytes = SpellsEntries (SpellsBy pads a) vs bytes
-SpellsBy pads (Union known arm) v bytes = (v.0 < 2 ^ 32) × (known v.0 ≡ true) ×
+SpellsBy pads (Union known arm) v bytes =
+    (v.0 < 2 ^ 32) × (known v.0 ≡ true) ×
     ((rest : List ℕ) × (bytes ≡ to_be_bytes w32 v.0 ++ rest) × SpellsBy pads (arm v.0) v.1 rest)
 
 -- The bytes spell the value of the type. Padding may be any bytes.

@@ -3,7 +3,7 @@
 ghost use Rattle.std.specs.Prelude.{◌≡◌, ◌+◌, ◌≤◌, ◌<◌, ◌^◌, ◌==◌, ◌++◌, length};
 ghost use Rattle.std.specs.Prelude.{vec_len, vec_capacity, take, [], IfOk, IfErr};
 ghost use Rattle.nfs_xdr.specs.declared.XdrError.TheVariants.{Memory};
-ghost use Rattle.nfs_xdr.specs.Writing.{Writes, padded};
+ghost use Rattle.nfs_xdr.specs.Writing.{Writes, with_padded};
 ghost use Rattle.nfs_xdr.specs.Types.{Word, Int, Hyper, Flag, Fixed, Opaque, padding};
 ghost use Rattle.std.specs.Int.{w32, to_be_bytes};
 
@@ -126,7 +126,7 @@ impl Writer {
     }
 
     /// Opaque data of a fixed size (RFC 4506 section 4.9).
-    #[tactic(auto, unfolding(crate::specs::Writing::appended, crate::specs::Writing::with_padded))]
+    #[tactic(auto, unfolding(crate::specs::Writing::appended))]
     pub fn fixed(&mut self, bytes: &[u8]) -> Result<(), XdrError>
         ensures { Writes (Fixed (length bytes.now)) bytes.now self.old self.new result }
     {
@@ -137,7 +137,7 @@ impl Writer {
     }
 
     /// Opaque data or a string (RFC 4506 sections 4.10 and 4.11).
-    #[tactic(auto, unfolding(crate::specs::Writing::appended, crate::specs::Writing::with_word, crate::specs::Writing::with_padded))]
+    #[tactic(auto, unfolding(crate::specs::Writing::appended, crate::specs::Writing::with_word))]
     pub fn opaque(&mut self, bytes: &[u8]) -> Result<(), XdrError>
         requires { length bytes.now < 2 ^ 32 }
         ensures { Writes (Opaque (length bytes.now)) bytes.now self.old self.new result }
@@ -172,9 +172,10 @@ fn append(buffer: &mut Vec<u8>, bytes: &[u8])
 }
 
 /// Appends bytes and their padding, for which there is room.
+#[tactic(auto, unfolding(crate::specs::Writing::with_padded))]
 fn append_padded(buffer: &mut Vec<u8>, bytes: &[u8])
     requires { vec_len buffer.old + (length bytes.now + padding (length bytes.now)) ≤ vec_capacity buffer.old }
-    ensures { buffer.new.items ≡ buffer.old.items ++ padded bytes.now }
+    ensures { buffer.new.items ≡ with_padded bytes.now buffer.old.items }
 {
     append(buffer, bytes);
     append(buffer, &[0; items::WORD][..items::padding(bytes.len())]);

@@ -5,6 +5,7 @@ use Rattle.nfs_xdr.specs.Writing.{appended}
 use Rattle.side_wire.specs.Mount.{mount_arguments, IsMountProcedure, mount_procedure_of, mount_arguments_of, SpellsMountArguments, mountres3, mount_arm, mount_status_number, nothing, mount_outcome}
 use Rattle.nfs_xdr.specs.Programs.{SpellsOneCall}
 use Rattle.nfs_xdr.proofs.ProgramLaws.{Makers, made, spells_one_call}
+use Rattle.nfs_xdr.proofs.Unions.{with_arm_is}
 use Rattle.side_wire.specs.declared.mount.MountCall.{MountCall}
 use Rattle.side_wire.specs.declared.mount.MountCall.TheVariants.{Null, Mnt, Dump, Unmount, UnmountAll, Export}
 use Rattle.side_wire.specs.declared.mount.MountStatus.{MountStatus}
@@ -46,4 +47,4 @@ pub refused_form : (status : MountStatus) → HasSpelling mountres3 (mount_outco
 refused_form Permission = (lit< tt, refl, tt)
 refused_form _ = (lit< tt, refl, tt)
 
-pub ruleset refusals = (appended_nothing, refused_form)
+pub ruleset refusals = (appended_nothing, refused_form, with_arm_is)

@@ -3,7 +3,7 @@ use Rattle.std.proofs.Common.{◌≡◌, ℕ, zero, suc, ◌<◌, ◌≤◌, Boo
 use Rattle.nfs_xdr.specs.declared.XdrError.{XdrError}
 use Rattle.nfs_xdr.specs.Types.{Xdr, Value}
 use Rattle.nfs_xdr.specs.Reading.{arm_of}
-use Rattle.nfs_xdr.proofs.Unions.{read_at, ReadAt}
+use Rattle.nfs_xdr.proofs.Unions.{read_at, ReadAt, unions}
 use Rattle.side_wire.specs.NlmTypes.{nlm4_lock, nlm4_holder, nlm4_testrply, test_arm, nlm4_testres, nlm4_res, nlm4_testargs, nlm4_lockargs, nlm4_cancargs, nlm4_unlockargs, nlm4_share, nlm4_shareargs, nlm4_notify, nlm_status_number, test_status_value, test_result_value, result_value, mode_number, access_number, share_value, share_arguments_value}
 use Rattle.side_wire.specs.Nlm.{nlm_arguments, IsNlmProcedure, nlm_procedure_of, nlm_arguments_of, SpellsNlmArguments}
 use Rattle.nfs_xdr.specs.Programs.{type_at, SpellsOneCall}
@@ -39,7 +39,8 @@ module _ (known : ℕ → Bool) (arm : ℕ → Xdr) (inner : (tag : ℕ) → Lis
   pub arm_of_is_further : (n : ℕ) (rest : List ℕ) → ReadAt known arm inner n rest 8 × ReadAt known arm inner n rest 9
   arm_of_is_further n rest = (read_at_tag n rest 8, read_at_tag n rest 9)
 
-pub ruleset further_arms = (arm_of_is_further)
+-- for `using` on a function that reads a union of ten arms
+pub ruleset ten_arms = (unions, arm_of_is_further)
 
 -- each call is of a procedure that there is
 first : (n : ℕ) → n < 16 → IsNlmProcedure n

@@ -34,8 +34,8 @@ opaque_auth = Pair Word (Opaque 400)
 abbrev pub auth_none : Value opaque_auth
 auth_none = (0, [])
 
--- what stands before a call's arguments (rpc_msg and call_body, RFC 5531, 9): xid, mtype, rpcvers, prog, vers, proc,
--- cred, verf
+-- what stands before a call's arguments (rpc_msg and call_body, RFC 5531, 9): xid, mtype, rpcvers, prog, vers,
+-- proc, cred, verf
 abbrev pub call_header : Xdr
 call_header =
     Pair Word (Pair Word (Pair Word (Pair Word (Pair Word (Pair Word (Pair opaque_auth opaque_auth))))))
@@ -57,8 +57,8 @@ callback_arguments (GrantedRes r) = plain_result r
 -- they are those of the call that it is
 abbrev pub CallbacksAreCalls : Type 0
 CallbacksAreCalls =
-    (c : Callback) → callback_arguments c ≡
-    (type_at nlm_arguments (nlm_procedure_of (call_of c)), nlm_arguments_of (call_of c))
+    (c : Callback) → callback_arguments c
+    ≡ (type_at nlm_arguments (nlm_procedure_of (call_of c)), nlm_arguments_of (call_of c))
 
 -- the type and the value of a callback with its header
 abbrev pub message_of : ℕ → Callback → (t : Xdr) × Value t

@@ -81,16 +81,15 @@ pub fn write_message(writer: &mut Writer, xid: u32, message: &Message) -> Result
     requires { HasCallbackForm message.now.call }
     ensures written { OnOk result (writer.new ≡ writer.old ++ message_bytes xid message.now) }
     // Those bytes are the one spelling of header and arguments with zeros as padding.
-    ensures spelled { OnOk result
-        (IsItsSpelling (message_of xid message.now.call).0 (message_of xid message.now.call).1
-        (message_bytes xid message.now)) }
+    ensures spelled { OnOk result (IsItsSpelling
+        (message_of xid message.now.call).0 (message_of xid message.now.call).1 (message_bytes xid message.now)) }
     ensures err { IfErr result (λ e. e ≡ Memory) }
 {
     append_call(writer, xid, &message.call)
 }
 
-/// The arguments of a message are spelled as those of a call of NLM of its procedure, so a reader of such calls finds
-/// it.
+/// The arguments of a message are spelled as those of a call of NLM of its procedure, so a reader of such calls
+/// finds it.
 pub fn callbacks_are_calls()
     ensures { CallbacksAreCalls }
 {}

@@ -15,7 +15,7 @@ use nfs_xdr::{Writer, XdrError};
 const AUTH_SYS: i32 = 1;
 
 /// The result of MNT (`mountres3`, RFC 1813, 5.2.1).
-#[tactic(auto, using(crate::proofs::MountLaws::refusals), unfolding(nfs_xdr::specs::Writing::appended, nfs_xdr::specs::Writing::with_arm))]
+#[tactic(auto, using(crate::proofs::MountLaws::refusals), unfolding(nfs_xdr::specs::Writing::appended))]
 pub(super) fn write_mnt(
     writer: &mut Writer,
     mounted: &Result<Bytes, MountStatus>,

@@ -227,7 +227,7 @@ fn read_status(reader: &mut SharedReader<'_>) -> Result<NlmStatus, XdrError>
 }
 
 /// What became of a TEST (`nlm4_testrply`).
-#[tactic(auto, using(nfs_xdr::proofs::Unions::unions, crate::proofs::NlmLaws::further_arms), unfolding(nfs_xdr::specs::Reading::read))]
+#[tactic(auto, using(crate::proofs::NlmLaws::ten_arms), unfolding(nfs_xdr::specs::Reading::read))]
 fn read_test_status(reader: &mut SharedReader<'_>) -> Result<TestStatus, XdrError>
     ensures { ReadsFront nlm4_testrply test_status_value reader.old reader.new result }
 {
