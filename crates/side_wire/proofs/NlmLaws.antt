@@ -1,10 +1,15 @@
 -- NLM's tables are those of a program, so its laws are those of every program.
-use Rattle.std.proofs.Common.{◌≡◌, ℕ, zero, suc, ◌<◌, ◌≤◌, Bool, List, Result, refl, arith, lit<, subst, ap}
+use Rattle.std.proofs.Common.{◌≡◌, ℕ, zero, suc, ◌<◌, ◌≤◌, Bool, List, Result, refl, arith, lit<}
+use Rattle.std.proofs.Common.{subst, ap}
 use Rattle.nfs_xdr.specs.declared.XdrError.{XdrError}
-use Rattle.nfs_xdr.specs.Types.{Xdr, Value}
+use Rattle.nfs_xdr.specs.Types.{Xdr, Value, ◌&◌}
 use Rattle.nfs_xdr.specs.Reading.{arm_of}
 use Rattle.nfs_xdr.proofs.Unions.{read_at, ReadAt, unions}
-use Rattle.side_wire.specs.NlmTypes.{nlm4_lock, nlm4_holder, nlm4_testrply, test_arm, nlm4_testres, nlm4_res, nlm4_testargs, nlm4_lockargs, nlm4_cancargs, nlm4_unlockargs, nlm4_share, nlm4_shareargs, nlm4_notify, nlm_status_number, test_status_value, test_result_value, result_value, mode_number, access_number, share_value, share_arguments_value}
+use Rattle.side_wire.specs.NlmTypes.{nlm4_lock, nlm4_holder, nlm4_testrply, test_arm, nlm4_testres, nlm4_res}
+use Rattle.side_wire.specs.NlmTypes.{nlm4_testargs, nlm4_lockargs, nlm4_cancargs, nlm4_unlockargs, nlm4_share}
+use Rattle.side_wire.specs.NlmTypes.{nlm4_shareargs, nlm4_notify, nlm_status_number, test_status_value}
+use Rattle.side_wire.specs.NlmTypes.{test_result_value, result_value, mode_number, access_number, share_value}
+use Rattle.side_wire.specs.NlmTypes.{share_arguments_value}
 use Rattle.side_wire.specs.Nlm.{nlm_arguments, IsNlmProcedure, nlm_procedure_of, nlm_arguments_of, SpellsNlmArguments}
 use Rattle.nfs_xdr.specs.Programs.{type_at, SpellsOneCall}
 use Rattle.nfs_xdr.proofs.ProgramLaws.{Makers, made, spells_one_call}
@@ -28,15 +33,22 @@ use Rattle.side_wire.specs.declared.nlm.TestResult.{TestResult}
 use Rattle.side_wire.specs.declared.nlm.TestStatus.{TestStatus}
 use Rattle.side_wire.specs.declared.nlm.TestStatus.TheVariants as tested
 use Rattle.side_wire.specs.declared.nlm.UnlockArguments.{UnlockArguments}
-use Rattle.side_wire.specs.declared.nlm.NlmCall.TheVariants.{Null, Test, Lock, Cancel, Unlock, Granted, TestMsg, LockMsg, CancelMsg, UnlockMsg, GrantedMsg, TestRes, LockRes, CancelRes, UnlockRes, GrantedRes, Share, Unshare, NmLock, FreeAll}
+use Rattle.side_wire.specs.declared.nlm.NlmCall.TheVariants.{Null, Test, Lock, Cancel, Unlock, Granted, TestMsg}
+use Rattle.side_wire.specs.declared.nlm.NlmCall.TheVariants.{LockMsg, CancelMsg, UnlockMsg, GrantedMsg, TestRes}
+use Rattle.side_wire.specs.declared.nlm.NlmCall.TheVariants.{LockRes, CancelRes, UnlockRes, GrantedRes, Share}
+use Rattle.side_wire.specs.declared.nlm.NlmCall.TheVariants.{Unshare, NmLock, FreeAll}
 
-module _ (known : ℕ → Bool) (arm : ℕ → Xdr) (inner : (tag : ℕ) → List ℕ → Result (Value (arm tag) × List ℕ) XdrError) where
+module _ (known : ℕ → Bool) (arm : ℕ → Xdr)
+    (inner : (tag : ℕ) → List ℕ → Result (Value (arm tag) × List ℕ) XdrError) where
   read_at_tag : (n : ℕ) (rest : List ℕ) (tag : ℕ) → ReadAt known arm inner n rest tag
   unfolding arm_of
-  read_at_tag n rest tag e = let P : ℕ → Type 0 = λ t. arm_of known arm inner (n, rest) ≡ read_at known arm inner t rest in subst P e refl
+  read_at_tag n rest tag e =
+      let P : ℕ → Type 0 = λ t. arm_of known arm inner (n, rest) ≡ read_at known arm inner t rest in
+      subst P e refl
 
   -- what is read at the discriminants 8 and 9 of a union
-  pub arm_of_is_further : (n : ℕ) (rest : List ℕ) → ReadAt known arm inner n rest 8 × ReadAt known arm inner n rest 9
+  pub arm_of_is_further : (n : ℕ) (rest : List ℕ)
+      → ReadAt known arm inner n rest 8 × ReadAt known arm inner n rest 9
   arm_of_is_further n rest = (read_at_tag n rest 8, read_at_tag n rest 9)
 
 -- for `using` on a function that reads a union of ten arms
@@ -44,12 +56,22 @@ pub ruleset ten_arms = (unions, arm_of_is_further)
 
 -- each call is of a procedure that there is
 first : (n : ℕ) → n < 16 → IsNlmProcedure n
-first n h =
-    (omega (arith, h), (λ e. omega (arith, h, e)), (λ e. omega (arith, h, e)), (λ e. omega (arith, h, e)), (λ e. omega (arith, h, e)))
+first n h = (
+  omega (arith, h),
+  (λ e. omega (arith, h, e)),
+  (λ e. omega (arith, h, e)),
+  (λ e. omega (arith, h, e)),
+  (λ e. omega (arith, h, e)),
+)
 
 last : (n : ℕ) → 20 ≤ n → n < 24 → IsNlmProcedure n
-last n low high =
-    (high, (λ e. omega (arith, low, e)), (λ e. omega (arith, low, e)), (λ e. omega (arith, low, e)), (λ e. omega (arith, low, e)))
+last n low high = (
+  high,
+  (λ e. omega (arith, low, e)),
+  (λ e. omega (arith, low, e)),
+  (λ e. omega (arith, low, e)),
+  (λ e. omega (arith, low, e)),
+)
 
 pub nlm_procedure_of-is : (call : NlmCall) → IsNlmProcedure (nlm_procedure_of call)
 nlm_procedure_of-is Null = first 0 (lit< tt)
@@ -76,7 +98,14 @@ nlm_procedure_of-is (FreeAll a) = last 23 (omega arith) (lit< tt)
 -- the arguments of each call are made again of their value
 abbrev lock_of : Value nlm4_lock → NlmLock
 lock_of v =
-    record { caller_name = v.0; file = v.1.0; owner = v.1.1.0; process = v.1.1.1.0; offset = v.1.1.1.1.0; length = v.1.1.1.1.1 }
+    record {
+      caller_name = v.0;
+      file = v.1.0;
+      owner = v.1.1.0;
+      process = v.1.1.1.0;
+      offset = v.1.1.1.1.0;
+      length = v.1.1.1.1.1;
+    }
 
 abbrev holder_of : Value nlm4_holder → LockHolder
 holder_of v =
@@ -87,7 +116,14 @@ test_of v = record { cookie = v.0; exclusive = v.1.0; lock = lock_of v.1.1 }
 
 abbrev lock_arguments_of : Value nlm4_lockargs → LockArguments
 lock_arguments_of v =
-    record { cookie = v.0; block = v.1.0; exclusive = v.1.1.0; lock = lock_of v.1.1.1.0; reclaim = v.1.1.1.1.0; state = v.1.1.1.1.1 }
+    record {
+      cookie = v.0;
+      block = v.1.0;
+      exclusive = v.1.1.0;
+      lock = lock_of v.1.1.1.0;
+      reclaim = v.1.1.1.1.0;
+      state = v.1.1.1.1.1;
+    }
 
 abbrev cancel_of : Value nlm4_cancargs → CancelArguments
 cancel_of v = record { cookie = v.0; block = v.1.0; exclusive = v.1.1.0; lock = lock_of v.1.1.1 }
@@ -202,7 +238,13 @@ free_all_of v = record { name = v.0; state = v.1 }
 -- each procedure's call, made of the value of its arguments
 makers : Makers NlmCall nlm_arguments
 makers =
-    ((λ _. Null), ((λ v. Test (test_of v)), ((λ v. Lock (lock_arguments_of v)), ((λ v. Cancel (cancel_of v)), ((λ v. Unlock (unlock_of v)), ((λ v. Granted (test_of v)), ((λ v. TestMsg (test_of v)), ((λ v. LockMsg (lock_arguments_of v)), ((λ v. CancelMsg (cancel_of v)), ((λ v. UnlockMsg (unlock_of v)), ((λ v. GrantedMsg (test_of v)), ((λ v. TestRes (test_result_of v)), ((λ v. LockRes (result_of v)), ((λ v. CancelRes (result_of v)), ((λ v. UnlockRes (result_of v)), ((λ v. GrantedRes (result_of v)), ((λ _. Null), ((λ _. Null), ((λ _. Null), ((λ _. Null), ((λ v. Share (share_arguments_of v)), ((λ v. Unshare (share_arguments_of v)), ((λ v. NmLock (lock_arguments_of v)), ((λ v. FreeAll (free_all_of v)), tt))))))))))))))))))))))))
+    (λ _. Null) & (λ v. Test (test_of v)) & (λ v. Lock (lock_arguments_of v)) & (λ v. Cancel (cancel_of v)) &
+    (λ v. Unlock (unlock_of v)) & (λ v. Granted (test_of v)) & (λ v. TestMsg (test_of v)) &
+    (λ v. LockMsg (lock_arguments_of v)) & (λ v. CancelMsg (cancel_of v)) & (λ v. UnlockMsg (unlock_of v)) &
+    (λ v. GrantedMsg (test_of v)) & (λ v. TestRes (test_result_of v)) & (λ v. LockRes (result_of v)) &
+    (λ v. CancelRes (result_of v)) & (λ v. UnlockRes (result_of v)) & (λ v. GrantedRes (result_of v)) &
+    (λ _. Null) & (λ _. Null) & (λ _. Null) & (λ _. Null) & (λ v. Share (share_arguments_of v)) &
+    (λ v. Unshare (share_arguments_of v)) & (λ v. NmLock (lock_arguments_of v)) & (λ v. FreeAll (free_all_of v)) & tt
 
 call_of : (n : ℕ) → Value (type_at nlm_arguments n) → NlmCall
 call_of n value = made Null nlm_arguments makers n value

@@ -1,7 +1,7 @@
 //! Items of NLM (RFC 1813, 6.1.4), read and written.
 
 ghost use Rattle.nfs_xdr.specs.Reading.{ReadsFront};
-ghost use Rattle.nfs_xdr.specs.Types.{HasSpelling};
+ghost use Rattle.nfs_xdr.specs.Types.{Flag, Int, Pair, HasSpelling};
 ghost use Rattle.nfs_xdr.specs.Writing.{WritesFront};
 ghost use Rattle.nfs_xdr.specs.Writing.{WritesResult};
 ghost use Rattle.side_wire.specs.declared.nlm.TestStatus.TheVariants.{Denied};
@@ -23,6 +23,13 @@ use crate::message::NlmLock;
 use bytes::Bytes;
 use nfs_xdr::{SharedReader, Writer, XdrError};
 
+/// Whether a lock is claimed again, and the caller's state.
+#[derive(Clone, Copy)]
+struct Claim {
+    reclaim: bool,
+    state: i32,
+}
+
 /// The arguments of TEST and GRANTED (`nlm4_testargs`).
 #[tactic(auto, unfolding(nfs_xdr::specs::Reading::read))]
 pub(super) fn read_test_arguments(reader: &mut SharedReader<'_>) -> Result<TestArguments, XdrError>
@@ -40,11 +47,27 @@ pub(super) fn read_test_arguments(reader: &mut SharedReader<'_>) -> Result<TestA
 pub(super) fn read_lock_arguments(reader: &mut SharedReader<'_>) -> Result<LockArguments, XdrError>
     ensures { ReadsFront nlm4_lockargs lock_arguments_value reader.old reader.new result }
 {
+    let cookie = read_netobj(reader)?;
+    let block = reader.bool()?;
+    let exclusive = reader.bool()?;
+    let lock = read_lock(reader)?;
+    let Claim { reclaim, state } = read_claim(reader)?;
     Ok(LockArguments {
-        cookie: read_netobj(reader)?,
-        block: reader.bool()?,
-        exclusive: reader.bool()?,
-        lock: read_lock(reader)?,
+        cookie,
+        block,
+        exclusive,
+        lock,
+        reclaim,
+        state,
+    })
+}
+
+/// The last two arguments of LOCK and NM_LOCK (`nlm4_lockargs`).
+#[tactic(auto, unfolding(nfs_xdr::specs::Reading::read))]
+fn read_claim(reader: &mut SharedReader<'_>) -> Result<Claim, XdrError>
+    ensures { ReadsFront (Pair Flag Int) (λ claim. (claim.reclaim, claim.state)) reader.old reader.new result }
+{
+    Ok(Claim {
         reclaim: reader.bool()?,
         state: reader.i32()?,
     })

@@ -177,7 +177,7 @@ fn reads_each_item(rt: HostRuntime) -> Result<(), Fail> {
 }
 
 #[test]
-fn shares_each_item(rt: HostRuntime) -> Result<(), Fail> {
+fn reads_each_number_of_a_record(rt: HostRuntime) -> Result<(), Fail> {
     let record = record(rt.alloc(), &ITEMS)?;
     let mut reader = SharedReader::new(&record);
     assert_eq!(rt; reader.fork().len(), 41);
@@ -186,10 +186,25 @@ fn shares_each_item(rt: HostRuntime) -> Result<(), Fail> {
     assert_eq!(rt; reader.u64(), Ok(0x0102_0304_0506_0708));
     assert_eq!(rt; reader.bool(), Ok(true));
     assert_eq!(rt; reader.bool(), Ok(false));
-    assert_eq!(rt; reader.fixed(3)?.as_slice(), [10, 11, 12].as_slice());
-    assert_eq!(rt; reader.opaque(5)?.as_slice(), [1, 2, 3, 4, 5].as_slice());
+    Ok(())
+}
+
+/// Whether these bytes were shared.
+fn is_shared(shared: Result<Bytes, XdrError>, bytes: &[u8]) -> bool {
+    match shared {
+        Ok(shared) => shared.as_slice() == bytes,
+        Err(_) => false,
+    }
+}
+
+#[test]
+fn shares_bytes_of_a_record(rt: HostRuntime) -> Result<(), Fail> {
+    let record = record(rt.alloc(), &ITEMS[24..])?;
+    let mut reader = SharedReader::new(&record);
+    assert!(rt; is_shared(reader.fixed(3), &[10, 11, 12]));
+    assert!(rt; is_shared(reader.opaque(5), &[1, 2, 3, 4, 5]));
     assert_eq!(rt; reader.as_slice(), [42].as_slice());
-    assert_eq!(rt; reader.rest()?.as_slice(), [42].as_slice());
+    assert!(rt; is_shared(reader.rest(), &[42]));
     Ok(())
 }
 

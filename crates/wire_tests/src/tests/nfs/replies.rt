@@ -31,8 +31,15 @@ const UNKNOWN: Wcc = Wcc {
 fn are_written(alloc: Global, reply: NfsReply, bytes: &[u8]) -> Result<bool, Fail>
     requires { HasNfsForm reply }
 {
+    is_result(alloc, &reply, bytes)
+}
+
+/// The same of a reply that is lent.
+fn is_result(alloc: Global, reply: &NfsReply, bytes: &[u8]) -> Result<bool, Fail>
+    requires { HasNfsForm reply.now }
+{
     let mut writer = behind_a_byte(alloc)?;
-    write_result(&mut writer, &reply)?;
+    write_result(&mut writer, reply)?;
     Ok(has_written(writer, bytes))
 }
 

@@ -25,9 +25,22 @@ fn is_written(
     requires { HasCallbackForm call }
 {
     let header = [0x1234_5678, 0, 2, 100021, 4, procedure, 0, 0, 0, 0];
-    let expected = joined(alloc, &header, front, back)?;
+    is_message(alloc, &message(call), &header, front, back)
+}
+
+/// Whether the words in three parts are written of the message.
+fn is_message(
+    alloc: Global,
+    message: &Message,
+    header: &[u32],
+    front: &[u32],
+    back: &[u32],
+) -> Result<bool, Fail>
+    requires { HasCallbackForm message.now.call }
+{
+    let expected = joined(alloc, header, front, back)?;
     let mut writer = behind_a_byte(alloc)?;
-    write_message(&mut writer, 0x1234_5678, &message(call))?;
+    write_message(&mut writer, 0x1234_5678, message)?;
     Ok(has_written(writer, expected.as_slice()))
 }
 
@@ -170,9 +183,13 @@ fn an_answers_cookie_has_at_most_1024_bytes(rt: HostRuntime) -> Result<(), Fail>
     Ok(())
 }
 
+/// Whether the message can be copied.
+fn is_copied(message: Message) -> bool {
+    message.clone().is_ok()
+}
+
 #[test]
 fn a_message_is_copied(rt: HostRuntime) -> Result<(), Fail> {
-    let message = message(Callback::Granted(arguments()));
-    assert!(rt; message.clone().is_ok());
+    assert!(rt; is_copied(message(Callback::Granted(arguments()))));
     Ok(())
 }

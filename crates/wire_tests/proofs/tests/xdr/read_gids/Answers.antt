@@ -11,10 +11,12 @@ loop-i-init c = search rules
 
 pub loop-i-preserved : goal.loop-i-preserved
 loop-i-preserved c =
-    rw c.in_ok-push.ensures.items (read_all-more (read Word) c.loop-i._i _ _ _ _ _ c.loop-i.invariant c.in_ok-u32.ensures)
+    let further = read_all-more (read Word) c.loop-i._i _ _ _ _ _ c.loop-i.invariant c.in_ok-u32.ensures in
+    rw c.in_ok-push.ensures.items further
 
 pub returns-in_err-u32 : goal.returns-in_err-u32
 unfolding read
 returns-in_err-u32 c =
-    let stops = read_all-stops (read Word) c.loop-i._i c.in_ok-count.count _ _ _ _ c.loop-i-test.true c.loop-i.invariant c.in_err-u32.ensures.0 in
+    let stops = read_all-stops (read Word) c.loop-i._i c.in_ok-count.count _ _ _ _ c.loop-i-test.true
+    c.loop-i.invariant c.in_err-u32.ensures.0 in
     grind (arith, common_steps, stops)

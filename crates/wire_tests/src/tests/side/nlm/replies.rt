@@ -13,9 +13,16 @@ use std::test::Fail;
 fn is_written(alloc: Global, reply: NlmReply, front: &[u32], back: &[u32]) -> Result<bool, Fail>
     requires { HasNlmForm reply }
 {
+    is_result(alloc, &reply, front, back)
+}
+
+/// The same of a reply that is lent.
+fn is_result(alloc: Global, reply: &NlmReply, front: &[u32], back: &[u32]) -> Result<bool, Fail>
+    requires { HasNlmForm reply.now }
+{
     let expected = joined(alloc, front, back, &[])?;
     let mut writer = behind_a_byte(alloc)?;
-    nlm::write_result(&mut writer, &reply)?;
+    nlm::write_result(&mut writer, reply)?;
     Ok(has_written(writer, expected.as_slice()))
 }
 
