@@ -23,8 +23,8 @@ pub record Asks (view : ViewValue) (addresses : List (Addr × Mode)) : Type 0 wh
   pub once : EachOnce addresses
   pub lacking : AllByRecursion (λ a. (seen_at view.entries a.0 ≡ None) × (a.1 ≡ Exclusive)) addresses
 
--- it asks for something, and only for what the view has not; what is done is the call, under this context and on this
--- view
+-- it asks for something, and only for what the view has not; what is done is the call, under this context and on
+-- this view
 abbrev pub Attempts : Call → Ctx → ViewValue → Outcome → Type 0
 Attempts call ctx view (Need addresses) = Asks view addresses.items
 Attempts call ctx view (Fresh count) = (view.reserved ≡ []) × (0 < count)

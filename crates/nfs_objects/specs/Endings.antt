@@ -25,13 +25,13 @@ use Rattle.nfs_objects.specs.declared.object.Object.TheVariants as objects
 
 -- in every sound store that the view fits, the reply is a step that changes nothing
 pub record HoldsUnchanged (call : Call) (ctx : Ctx) (view : ViewValue) (reply : Reply) : Type 0 where
-  pub step : (s : Store) (m : State) → Represents s m → Sound s m → RootsLive ctx.exports m → Fits view s →
-      Step m ctx call reply [] m
+  pub step : (s : Store) (m : State) → Represents s m → Sound s m → RootsLive ctx.exports m → Fits view s
+      → Step m ctx call reply [] m
 
 -- the end of a call that is answered, and no more
 abbrev pub only_answered : Call → Ctx → ViewValue → Reply → DoneValue
-only_answered call ctx view reply = record
-    { call = call; ctx = ctx; view = view; writes = []; messages = []; reply = reply }
+only_answered call ctx view reply =
+    record { call = call; ctx = ctx; view = view; writes = []; messages = []; reply = reply }
 
 -- one inode in the place of another: its handle and its links stay, and a directory all that it contains
 pub record KeepsPlace (old new : Inode) : Type 0 where
@@ -43,8 +43,8 @@ pub record KeepsPlace (old new : Inode) : Type 0 where
 
 -- the view shows an inode there whose place this one keeps, and in every sound store that the view fits, the reply is
 -- a step after which this one lives there
-pub record Rewrites (call : Call) (ctx : Ctx) (view : ViewValue) (number : ℕ) (inode : Inode)
-    (reply : Reply) : Type 0 where
+pub record Rewrites (call : Call) (ctx : Ctx) (view : ViewValue)
+    (number : ℕ) (inode : Inode) (reply : Reply) : Type 0 where
   pub old : Inode
   pub seen : seen_at view.entries (addresses.Inode number) ≡ Some (Some (objects.Inode old))
   pub keeps : KeepsPlace old inode
@@ -66,8 +66,8 @@ inode_stored call ctx view number inode reply =
 -- the new object and its directory live at their numbers, and the generations of the new number are spent up to the
 -- object's
 abbrev pub with_created : State → Creation → State
-with_created m c = record
-    (with_object (with_object m c.place (living_of_inode c.directory)) c.number (living_of_inode c.object)) {
+with_created m c =
+    record (with_object (with_object m c.place (living_of_inode c.directory)) c.number (living_of_inode c.object)) {
       spent = λ n g. m.spent n g || ((n == c.number) && nat_le g c.object.generation);
     }
 
@@ -107,8 +107,8 @@ pub record IsCreation (ctx : Ctx) (view : ViewValue) (c : Creation) : Type 0 whe
 -- in every sound store that the view fits, the reply is a step after which the directory and the object live so
 pub record Creates (call : Call) (ctx : Ctx) (view : ViewValue) (c : Creation) (reply : Reply) : Type 0 where
   pub is : IsCreation ctx view c
-  pub step : (s : Store) (m : State) → Represents s m → Sound s m → RootsLive ctx.exports m → Fits view s →
-      Step m ctx call reply [] (with_created m c)
+  pub step : (s : Store) (m : State) → Represents s m → Sound s m → RootsLive ctx.exports m → Fits view s
+      → Step m ctx call reply [] (with_created m c)
 
 -- the end of a call that is answered, and after which the directory and the new object stand at their numbers
 abbrev pub creation_stored : Call → Ctx → ViewValue → Creation → Reply → DoneValue
@@ -116,8 +116,8 @@ creation_stored call ctx view c reply = record {
   call = call;
   ctx = ctx;
   view = view;
-  writes = (addresses.Inode c.place, Some (objects.Inode c.directory)) ∷
-      (addresses.Inode c.number, Some (objects.Inode c.object)) ∷ [];
+  writes = (addresses.Inode c.place, Some (objects.Inode c.directory))
+      ∷ (addresses.Inode c.number, Some (objects.Inode c.object)) ∷ [];
   messages = [];
   reply = reply;
 }

@@ -20,7 +20,7 @@ pub record IsStep (d : DoneValue) (s : Store) (m : State) : Type 0 where
 -- the promise that the type of `Done` keeps
 pub record IsPromised (d : DoneValue) : Type 0 where
   -- whatever the store, if it is sound, has the roots, and the view fits it
-  pub kept : (s : Store) (m : State) → Represents s m → Sound s m → RootsLive d.ctx.exports m →
-      Fits d.view s → IsStep d s m
+  pub kept : (s : Store) (m : State) → Represents s m → Sound s m → RootsLive d.ctx.exports m
+      → Fits d.view s → IsStep d s m
   -- only what was read is written; the numbers that a view that fits may give were read
   pub writes : (s : Store) → Fits d.view s → AllByRecursion (λ w. IsSome (seen_at d.view.entries w.0)) d.writes

@@ -24,8 +24,8 @@ pub data Round : Type 0 where
 
 abbrev pub with_round : ViewValue → Round → ViewValue
 with_round v (Read entries) = record { entries = v.entries ++ entries; reserved = v.reserved }
-with_round v (Given r) = record
-    { entries = v.entries ++ (addresses.Inode r.number, None) ∷ []; reserved = v.reserved ++ r ∷ [] }
+with_round v (Given r) =
+    record { entries = v.entries ++ (addresses.Inode r.number, None) ∷ []; reserved = v.reserved ++ r ∷ [] }
 
 -- the view after rounds, of which the last stands first
 abbrev pub view_after : List Round → ViewValue
@@ -55,8 +55,8 @@ empty_wanted s Number = 1
 -- whatever is given, the view and all that is asked for lie among the addresses of the store and at most 256 others
 abbrev pub AsksFew : (ViewValue → Wanted) → Type 0
 AsksFew wanted = (rounds : List Round) (s : Store) → Grows wanted rounds → Fits (view_after rounds) s
-    → empty_count s (map (λ e. e.0) (view_after rounds).entries) +
-    empty_wanted s (wanted (view_after rounds)) ≤ 256
+    → empty_count s (map (λ e. e.0) (view_after rounds).entries) + empty_wanted s (wanted (view_after rounds))
+    ≤ 256
 
 -- what an outcome asks for
 abbrev pub asked_by : Outcome → Wanted
@@ -67,13 +67,13 @@ asked_by (Done done) = Addresses []
 -- each round gives what an outcome asks for that may come of the view after those before it
 abbrev pub GrowsBy : (ViewValue → Outcome → Type 0) → List Round → Type 0
 GrowsBy comes [] = Unit {0}
-GrowsBy comes (round ∷ earlier) = (outcome : Outcome) × comes (view_after earlier) outcome ×
-    Gives (asked_by outcome) round × GrowsBy comes earlier
+GrowsBy comes (round ∷ earlier) = (outcome : Outcome) × comes (view_after earlier) outcome
+    × Gives (asked_by outcome) round × GrowsBy comes earlier
 
 -- The same in every sound store that the view fits: a call may follow many names, and what bounds it is that each
 -- leads to what stands in the store.
 abbrev pub AsksFewOfSound : List ExportValue → (ViewValue → Outcome → Type 0) → Type 0
-AsksFewOfSound exports comes = (rounds : List Round) (outcome : Outcome) (s : Store) (m : State) →
-    GrowsBy comes rounds → comes (view_after rounds) outcome
+AsksFewOfSound exports comes = (rounds : List Round) (outcome : Outcome) (s : Store) (m : State)
+    → GrowsBy comes rounds → comes (view_after rounds) outcome
     → Represents s m → Sound s m → RootsLive exports m → Fits (view_after rounds) s
     → empty_count s (map (λ e. e.0) (view_after rounds).entries) + empty_wanted s (asked_by outcome) ≤ 256

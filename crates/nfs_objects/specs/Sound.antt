@@ -15,11 +15,11 @@ use Rattle.nfs_objects.specs.Store.{Store}
 
 pub record Sound (s : Store) (m : State) : Type 0 where
   -- the count of links that an inode keeps is the count that it has
-  pub links : (n : ℕ) (i : Inode) → s.at (addresses.Inode n) ≡ Some (objects.Inode i) →
-      i.links ≡ links_of m n (content_of i.content)
+  pub links : (n : ℕ) (i : Inode) → s.at (addresses.Inode n) ≡ Some (objects.Inode i)
+      → i.links ≡ links_of m n (content_of i.content)
   -- the parent that a directory keeps is its parent
-  pub parents : (n : ℕ) (i : Inode) (d : Directory) → s.at (addresses.Inode n) ≡ Some (objects.Inode i) →
-      i.content ≡ contents.Directory d → IsParent m n d.parent
+  pub parents : (n : ℕ) (i : Inode) (d : Directory) → s.at (addresses.Inode n) ≡ Some (objects.Inode i)
+      → i.content ≡ contents.Directory d → IsParent m n d.parent
   -- names lead to living objects, and directories form one tree
   pub well_formed : WellFormed m
 
