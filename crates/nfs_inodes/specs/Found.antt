@@ -42,8 +42,9 @@ found_known h (Some known) = found_inode h (inode_of known)
 abbrev pub found_by : Ctx → List (Addr × Option Object) → Option Handle → FoundValue
 found_by ctx entries None = BadHandle
 found_by ctx entries (Some h) =
-    if (h.start == ctx.start) && export_admits (export_at ctx.exports h.export) ctx.host then found_known h
-    (seen_at entries (addresses.Inode h.fileid)) else Stale
+    if (h.start == ctx.start) && export_admits (export_at ctx.exports h.export) ctx.host
+    then found_known h (seen_at entries (addresses.Inode h.fileid))
+    else Stale
 
 -- what these bytes name for the caller
 abbrev pub found_at : Ctx → List (Addr × Option Object) → List ℕ → FoundValue

@@ -49,8 +49,8 @@ fn readable<'a>(
     inode: &'a Inode,
     arguments: &ReadArguments,
 ) -> Result<&'a Bytes, NfsStatus>
-    ensures { lent result ≡ checked_bytes (read_object ctx.now (living_of_inode inode.now) arguments.now)
-        (living_of_inode inode.now) }
+    ensures { lent result
+        ≡ checked_bytes (read_object ctx.now (living_of_inode inode.now) arguments.now) (living_of_inode inode.now) }
 {
     let bytes = bytes_in(&inode.content)?;
     permitted(ctx, inode, Right::Reading)?;
@@ -112,8 +112,8 @@ fn writable<'a>(
     inode: &'a Inode,
     arguments: &WriteArguments,
 ) -> Result<&'a Bytes, NfsStatus>
-    ensures { lent result ≡ checked_bytes (write_object ctx.now (living_of_inode inode.now) arguments.now)
-        (living_of_inode inode.now) }
+    ensures { lent result
+        ≡ checked_bytes (write_object ctx.now (living_of_inode inode.now) arguments.now) (living_of_inode inode.now) }
 {
     let bytes = bytes_in(&inode.content)?;
     if arguments.count as usize != arguments.data.len() {

@@ -49,9 +49,9 @@ pub fn given_attributes(ctx: &Ctx, given: &SetAttributes) -> Result<(), NfsStatu
 
 /// Whether a caller may give an object to these ids: the user 0 to anybody, others to themselves and their groups.
 fn may_give(ids: &Ids, given: &SetAttributes) -> bool
-    ensures { result ≡ ((ids.now.uid == 0) ||
-        ((unwrap_or given.now.uid ids.now.uid == ids.now.uid) && is_member ids.now
-        (unwrap_or given.now.gid ids.now.gid))) }
+    ensures { result ≡ ((ids.now.uid == 0)
+        || ((unwrap_or given.now.uid ids.now.uid == ids.now.uid)
+        && is_member ids.now (unwrap_or given.now.gid ids.now.gid))) }
 {
     let uid = given.uid.unwrap_or(ids.uid);
     let gid = given.gid.unwrap_or(ids.gid);
@@ -196,9 +196,8 @@ pub fn create_over(
     how: &CreateHow,
     inode: &Inode,
 ) -> Result<Result<Option<Inode>, NfsStatus>, AllocError>
-    ensures value { IfOk result
-        (λ after. seen_after after ≡ create_over ctx.now how.now (living_of_inode inode.now)
-        (bytes_in (content_of inode.now.content))) }
+    ensures value { IfOk result (λ after. seen_after after
+        ≡ create_over ctx.now how.now (living_of_inode inode.now) (bytes_in (content_of inode.now.content))) }
     ensures keeps { IfOk result (λ after. IfOk after (λ a. IfSome a (KeepsPlace inode.now))) }
 {
     let bytes = match bytes_in(&inode.content) {
@@ -229,11 +228,10 @@ fn resize(
     bytes: &Bytes,
     size: u64,
 ) -> Result<Result<Option<Inode>, NfsStatus>, AllocError>
-    ensures value { IfOk result
-        (λ after. seen_after after ≡ file_resized ctx.now (living_of_inode inode.now) bytes.now size) }
-    ensures keeps { IfOk result
-        (λ after. IfOk after
-        (λ a. IfSome a (λ new. KeepsPlace (record inode.now { content = Content.Regular bytes.now }) new))) }
+    ensures value { IfOk result (λ after. seen_after after
+        ≡ file_resized ctx.now (living_of_inode inode.now) bytes.now size) }
+    ensures keeps { IfOk result (λ after. IfOk after (λ a. IfSome a
+        (λ new. KeepsPlace (record inode.now { content = Content.Regular bytes.now }) new))) }
 {
     if let Err(status) = permitted(ctx, inode, Right::Writing) {
         return Ok(Err(status));
@@ -247,8 +245,8 @@ fn resize(
 
 /// Whether a file was made by an exclusive CREATE with this verifier.
 fn is_verifier(kept: &Option<Verifier>, given: &Verifier) -> bool
-    ensures { result ≡ elim
-        (verifier_of kept.now) [ None ↦ false | Some kept ↦ same_bytes kept given.now.bytes ] }
+    ensures { result
+        ≡ elim (verifier_of kept.now) [ None ↦ false | Some kept ↦ same_bytes kept given.now.bytes ] }
 {
     match kept {
         Some(kept) => kept.bytes == given.bytes,

@@ -66,8 +66,8 @@ pub fn leads_to(number: u64, directory: &Directory, name: &[u8]) -> Result<u64, 
 }
 
 fn is_spelled(name: &[u8]) -> bool
-    ensures { result ≡ (nat_le 1 (length name.now) && not
-        (list_any (λ byte. (byte == slash) || (byte == 0)) name.now)) }
+    ensures { result ≡ (nat_le 1 (length name.now)
+        && not (list_any (λ byte. (byte == slash) || (byte == 0)) name.now)) }
 {
     !name.is_empty() && !has_separator(name)
 }

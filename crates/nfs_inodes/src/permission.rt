@@ -78,14 +78,13 @@ fn is_among(groups: &[u32], gid: u32) -> bool
 }
 
 fn class_may(right: Right, is_owner: bool, bits: u32) -> bool
-    ensures { result ≡ elim
-        (right_of right) [
-          | Reading ↦ is_owner || reads bits || runs bits
-          | Writing ↦ is_owner || writes bits
-          | Searching ↦ runs bits
-          | Listing ↦ reads bits
-          | Changing ↦ writes bits && runs bits
-        ] }
+    ensures { result ≡ elim (right_of right) [
+      | Reading ↦ is_owner || reads bits || runs bits
+      | Writing ↦ is_owner || writes bits
+      | Searching ↦ runs bits
+      | Listing ↦ reads bits
+      | Changing ↦ writes bits && runs bits
+    ] }
 {
     match right {
         Right::Reading => is_owner || reads(bits) || runs(bits),
