@@ -27,8 +27,8 @@ use Rattle.nfs_objects.specs.declared.view.Reserved.{Reserved}
 use Rattle.nfs_inodes.specs.Found.{FoundValue, BadHandle, Stale, Names, Unread, found_at}
 use Rattle.nfs_inodes.specs.Kinds.{directory_in}
 
--- the number that a name leads to in the inode of this number, or the status of the first check that fails (RFC 1813,
--- 3.3.3)
+-- the number that a name leads to in the inode of this number, or the status of the first check that fails
+-- (RFC 1813, 3.3.3)
 abbrev pub looked_up : Ctx → ℕ → Inode → List ℕ → Result ℕ NfsStatus
 looked_up ctx number i name = do
   directory ← directory_in i.content
@@ -68,13 +68,13 @@ new_wanted reserved (Err status) = Addresses []
 
 -- what the name leads to, or a number for the new file
 abbrev pub entry_wanted : Ctx → ViewValue → CreateHow → ℕ → Option Entry → Wanted
-entry_wanted ctx view how last_cookie (Some e) = Addresses
-    (unless_known (addresses.Inode e.number) (seen_at view.entries (addresses.Inode e.number)))
+entry_wanted ctx view how last_cookie (Some e) =
+    Addresses (unless_known (addresses.Inode e.number) (seen_at view.entries (addresses.Inode e.number)))
 entry_wanted ctx view how last_cookie None = new_wanted view.reserved (new_judged ctx how last_cookie)
 
 abbrev pub checked_wanted : Ctx → ViewValue → CreateArguments → Result Directory NfsStatus → Wanted
-checked_wanted ctx view a (Ok directory) = entry_wanted ctx view a.how directory.last_cookie
-    (entry_of directory.entries a.place.name)
+checked_wanted ctx view a (Ok directory) =
+    entry_wanted ctx view a.how directory.last_cookie (entry_of directory.entries a.place.name)
 checked_wanted ctx view a (Err status) = Addresses []
 
 abbrev pub create_wanted : Ctx → ViewValue → CreateArguments → FoundValue → Wanted
@@ -84,7 +84,7 @@ create_wanted ctx view a (Names number i) = checked_wanted ctx view a (directory
 create_wanted ctx view a (Unread address) = Addresses ((address, Exclusive) ∷ [])
 
 abbrev pub wanted : Ctx → ViewValue → NfsCall → Wanted
-wanted ctx view (calls.Lookup place) = Addresses
-    (lookup_wanted ctx view.entries place.name (found_at ctx view.entries place.directory))
+wanted ctx view (calls.Lookup place) =
+    Addresses (lookup_wanted ctx view.entries place.name (found_at ctx view.entries place.directory))
 wanted ctx view (calls.Create a) = create_wanted ctx view a (found_at ctx view.entries a.place.directory)
 wanted ctx view call = Addresses []

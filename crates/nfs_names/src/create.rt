@@ -112,8 +112,8 @@ fn create_over_entry(
 ) -> Result<Outcome, AllocError>
     requires names { Names number inode.now ≡ found_at ctx.now view.now.entries arguments.now.place.directory }
     requires checked { directory_checked ctx.now inode.now arguments.now.place.name ≡ Ok directory.now }
-    requires leads { option_map (λ e. e.number)
-        (entry_of directory.now.entries arguments.now.place.name) ≡ Some entry }
+    requires leads { option_map (λ e. e.number) (entry_of directory.now.entries arguments.now.place.name)
+        ≡ Some entry }
     ensures attempts { IfOk result
         (λ outcome. Attempts (Call.Nfs (NfsCall.Create arguments.now)) ctx.now view.now outcome) }
     ensures asks { IfOk result
@@ -343,6 +343,3 @@ fn call(arguments: &CreateArguments) -> Result<Call, AllocError>
 {
     Ok(Call::Nfs(NfsCall::Create(arguments.clone()?)))
 }
-
-#[cfg(test)]
-mod tests;
