@@ -32,6 +32,3 @@ pub use names::{MAX_NAME, leads_to, name_checked, new_name_checked};
 pub use permission::{Right, may, permitted};
 pub use shown::{attributes, wcc, weak};
 pub use times::{is_time, now, set_time, touch};
-
-#[cfg(test)]
-mod tests;

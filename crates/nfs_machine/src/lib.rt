@@ -23,6 +23,3 @@ pub use context::{Ctx, Limits};
 pub use exports::{Export, ExportError, ExportText, Exports};
 pub use handle::Handle;
 pub use moment::{Moment, Moments};
-
-#[cfg(test)]
-mod tests;

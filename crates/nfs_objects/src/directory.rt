@@ -147,6 +147,3 @@ impl Clone for Directory {
         })
     }
 }
-
-#[cfg(test)]
-mod tests;

@@ -208,6 +208,3 @@ pub fn mount_table(known: &Option<Arc<Object>>) -> Option<&MountTable>
         Object::Mounts(table) => Some(table),
     }
 }
-
-#[cfg(test)]
-mod tests;

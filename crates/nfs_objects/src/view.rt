@@ -155,6 +155,3 @@ pub fn share(object: &Option<Arc<Object>>) -> Result<Option<Arc<Object>>, AllocE
         None => Ok(None),
     }
 }
-
-#[cfg(test)]
-mod tests;
