@@ -1,14 +1,14 @@
 -- Exports that lead to a path (RFC 1813, 5.2.1).
-use Rattle.std.specs.Prelude.{◌≡◌, ℕ, true, List, ◌++◌, length, Option, Some, None, nat_lt}
-use Rattle.std.specs.Prelude.{if◌then◌else◌}
+use Rattle.std.specs.Prelude.{◌≡◌, ℕ, true, List, ◌++◌, length}
+use Rattle.std.specs.Prelude.{Option, Some, None, nat_lt, if◌then◌else◌}
 use Rattle.nfs_machine.specs.Exports.{ExportValue, admits}
 use Rattle.nfs_machine.specs.Paths.{parts}
 use Rattle.nfs_mount.specs.declared.choice.Choice.{Choice}
 
 -- the export does not admit the host, or its names do not begin these
 abbrev pub LeadsNot : ExportValue → List ℕ → List (List ℕ) → Type 0
-LeadsNot export host names = (rest : List (List ℕ)) → admits export host ≡ true →
-    names ≡ parts export.path ++ rest → ⊥
+LeadsNot export host names =
+    (rest : List (List ℕ)) → admits export host ≡ true → names ≡ parts export.path ++ rest → ⊥
 
 -- the choice is this export with this number: it admits the host, its names begin these, and the rest is left
 pub record IsLead (number : ℕ) (export : ExportValue) (host : List ℕ) (names : List (List ℕ))

@@ -1,6 +1,6 @@
 -- Calls that change the table of mounts (RFC 1813, 5.2.1: MNT adds to it).
-use Rattle.std.specs.Prelude.{◌≡◌, ℕ, true, false, List, [], ◌∷◌, ◌++◌, map, Option, Some, None}
-use Rattle.std.specs.Prelude.{IsSome}
+use Rattle.std.specs.Prelude.{◌≡◌, ℕ, true, false, List, [], ◌∷◌, ◌++◌, map}
+use Rattle.std.specs.Prelude.{Option, Some, None, IsSome}
 use Rattle.nfs_machine.specs.MountSteps.{is_mounted, newest}
 use Rattle.nfs_machine.specs.State.{State}
 use Rattle.nfs_machine.specs.Step.{Step}
@@ -27,8 +27,8 @@ pub record StoresMounts (call : Call) (ctx : Ctx) (view : ViewValue) (table : Li
 abbrev pub Adds : Option Object → List ℕ → List ℕ → Option (List Mount) → Type 0
 Adds known host path None = is_mounted (mounts_of known) (mounted host path) ≡ true
 Adds known host path (Some table) =
-    (is_mounted (mounts_of known) (mounted host path) ≡ false) ×
-    (map mounted_of table ≡ newest (mounts_of known ++ mounted host path ∷ []))
+    (is_mounted (mounts_of known) (mounted host path) ≡ false)
+    × (map mounted_of table ≡ newest (mounts_of known ++ mounted host path ∷ []))
 
 -- the end of a call that is answered, and after which the mounts are these
 abbrev pub mounts_stored : Call → Ctx → ViewValue → List Mount → Reply → DoneValue

@@ -18,13 +18,14 @@ use Rattle.nfs_mount.specs.declared.mount.Walked.TheVariants.{Found, Refused, Un
 
 -- what lives at the numbers that the view shows is what it shows there
 abbrev pub Agrees : ViewValue → (ℕ → Option Living) → Type 0
-Agrees view find = (n : ℕ) (known : Option Object) → seen_at view.entries (addresses.Inode n) ≡ Some known →
-    find n ≡ living_of known
+Agrees view find =
+    (n : ℕ) (known : Option Object) → seen_at view.entries (addresses.Inode n) ≡ Some known
+    → find n ≡ living_of known
 
 -- whatever lives where the view shows nothing, the walk of these names goes on at this number with these left
 abbrev pub ComesTo : ViewValue → ℕ → List (List ℕ) → ℕ → List (List ℕ) → Type 0
-ComesTo view root names number left = (find : ℕ → Option Living) → Agrees view find →
-    walk find root names ≡ walk find number left
+ComesTo view root names number left =
+    (find : ℕ → Option Living) → Agrees view find → walk find root names ≡ walk find number left
 
 -- the walk ends at a directory that the view shows
 pub record Ends (view : ViewValue) (root : ℕ) (names : List (List ℕ)) (number : ℕ) (inode : Inode) : Type 0 where
@@ -33,8 +34,8 @@ pub record Ends (view : ViewValue) (root : ℕ) (names : List (List ℕ)) (numbe
   pub directory : is_directory (content_of inode.content) ≡ true
 
 -- the walk stands at a number that the view has not shown, and this tells whether no name is left
-pub record Stops (view : ViewValue) (root : ℕ) (names : List (List ℕ)) (number : ℕ)
-    (is_last : Bool) : Type 0 where
+pub record Stops (view : ViewValue) (root : ℕ) (names : List (List ℕ))
+    (number : ℕ) (is_last : Bool) : Type 0 where
   pub left : List (List ℕ)
   pub comes : ComesTo view root names number left
   pub unread : seen_at view.entries (addresses.Inode number) ≡ None
@@ -42,11 +43,11 @@ pub record Stops (view : ViewValue) (root : ℕ) (names : List (List ℕ)) (numb
 
 abbrev pub Walks : ViewValue → ℕ → List (List ℕ) → Walked → Type 0
 Walks view root names (Found number inode) = Ends view root names number inode.now
-Walks view root names (Refused status) = (find : ℕ → Option Living) → Agrees view find →
-    walk find root names ≡ Err status
+Walks view root names (Refused status) =
+    (find : ℕ → Option Living) → Agrees view find → walk find root names ≡ Err status
 Walks view root names (Unread number is_last) = Stops view root names number is_last
 
 -- in every sound store that the view fits, the path names this inode with this number
 pub record IsNamed (ctx : Ctx) (view : ViewValue) (path : List ℕ) (number : ℕ) (inode : Inode) : Type 0 where
-  pub target : (s : Store) (m : State) → Represents s m → Sound s m → RootsLive ctx.exports m → Fits view s →
-      Target m ctx path (Ok (number, living_of_inode inode))
+  pub target : (s : Store) (m : State) → Represents s m → Sound s m → RootsLive ctx.exports m → Fits view s
+      → Target m ctx path (Ok (number, living_of_inode inode))

@@ -15,8 +15,8 @@ use Rattle.nfs_server.specs.declared.asking.Unread.TheVariants as unread
 -- garbage is what spells no call of the procedure
 abbrev pub ReadsArguments : Program → ℕ → List ℕ → Result Call Unread → Type 0
 ReadsArguments program procedure bytes (Ok call) = IsCall program procedure bytes call
-ReadsArguments program procedure bytes (Err unread.Garbage) = (call : Call) → IsCall program procedure bytes call →
-    ⊥
+ReadsArguments program procedure bytes (Err unread.Garbage) =
+    (call : Call) → IsCall program procedure bytes call → ⊥
 ReadsArguments program procedure bytes (Err unread.Memory) = Unit {0}
 
 -- the record is a call with this header

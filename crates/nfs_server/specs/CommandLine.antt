@@ -41,8 +41,8 @@ nfsd =
     let clock = number_rule (codes "clock") (Signed (pos 0) (pos 4294967295)) in
     let host = option_rule (codes "host") in
     let bytes = number_rule (codes "bytes") (Unsigned 0 18446744073709551615) in
-    with_rule (with_rule
-    (with_rule (with_rule (with_rule (with_rule (new_app (codes "nfsd")) stdio) export) start) clock) host) bytes
+    with_rule (with_rule (with_rule (with_rule (with_rule (with_rule
+    (new_app (codes "nfsd")) stdio) export) start) clock) host) bytes
 
 -- ---- what a value spells
 
@@ -65,8 +65,9 @@ ReadsNumber bits (Some text) number =
 -- a flag is set, or not, as its text says; where it isn't used it has none, or "false"
 abbrev pub ReadsFlag : Option Text → Bool → Type 0
 ReadsFlag text is_set =
-    (text ≡ Some (codes "true") → is_set ≡ true) × (text ≡ Some (codes "false") → is_set ≡ false) ×
-    (text ≡ None → is_set ≡ false)
+    (text ≡ Some (codes "true") → is_set ≡ true)
+    × (text ≡ Some (codes "false") → is_set ≡ false)
+    × (text ≡ None → is_set ≡ false)
 
 -- a host has 1 to 255 bytes
 abbrev pub IsHost : Text → Type 0
@@ -84,17 +85,18 @@ exports_of rows = unwrap_or (all_of (codes "export") rows) []
 pub record Reads (rows : List Row) (options : Options) : Type 0 where
   pub start : ReadsNumber 64 (one_of (codes "start") rows) options.start
   pub clock : ReadsNumber 32 (one_of (codes "clock") rows) options.clock
-  pub bytes : (number : Option ℕ) × ReadsNumber 64 (one_of (codes "bytes") rows) number ×
-      (options.bytes ≡ unwrap_or number 1099511627776)
+  pub bytes : (number : Option ℕ) × ReadsNumber 64 (one_of (codes "bytes") rows) number
+      × (options.bytes ≡ unwrap_or number 1099511627776)
   pub host : options.host ≡ host_of rows
   pub exports : (list : List ExportText)
-      × (map parts_of list ≡ map export_parts (exports_of rows)) × (export_fault list ≡ None) ×
-      (options.exports ≡ map export_of list)
+      × (map parts_of list ≡ map export_parts (exports_of rows)) × (export_fault list ≡ None)
+      × (options.exports ≡ map export_of list)
 
 -- the exports of the rows are at fault
 abbrev pub AreRefused : List Row → ExportError → Type 0
-AreRefused rows e = (list : List ExportText) × (map parts_of list ≡ map export_parts (exports_of rows)) ×
-    (export_fault list ≡ Some e)
+AreRefused rows e =
+    (list : List ExportText) × (map parts_of list ≡ map export_parts (exports_of rows))
+    × (export_fault list ≡ Some e)
 
 -- why rows that are taken give no options
 abbrev pub IsRefusal : List Row → Exit → Type 0
@@ -136,12 +138,13 @@ IsHostRefusal rows _ = ⊥
 
 -- why the words are refused: the first that is at fault of the command line, the transport and the exports
 abbrev pub Refuses : List Text → Exit → Type 0
-Refuses words (CommandLine e) = IsAmong (kind_of e) (fault_of nfsd words)
-    ⊎ ((fault_of nfsd words ≡ []) × (IsHost (host_of (matches_of nfsd words)) → ⊥) ×
-    (kind_of e ≡ ValueValidation))
+Refuses words (CommandLine e) =
+    IsAmong (kind_of e) (fault_of nfsd words)
+    ⊎ ((fault_of nfsd words ≡ []) × (IsHost (host_of (matches_of nfsd words)) → ⊥)
+    × (kind_of e ≡ ValueValidation))
 Refuses words NoTransport = IsTaken words × ReadsFlag (one_of (codes "stdio") (matches_of nfsd words)) false
 Refuses words (Exports e) =
-    IsTaken words × ReadsFlag (one_of (codes "stdio") (matches_of nfsd words)) true ×
-    AreRefused (matches_of nfsd words) e
+    IsTaken words × ReadsFlag (one_of (codes "stdio") (matches_of nfsd words)) true
+    × AreRefused (matches_of nfsd words) e
 Refuses words Memory = Unit {0}
 Refuses words StandardStream = ⊥

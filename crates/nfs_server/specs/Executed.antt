@@ -27,5 +27,5 @@ pub record MakesStep (ctx : Ctx) (call : Call) (xid : ℕ) (old new : PlainValue
   pub reply : Reply
   pub messages : List Message
   pub answered : answer ≡ success xid reply
-  pub each : (m : State) → StandsFor old m → (after : State) × Step m ctx call reply messages after ×
-      StandsFor new after
+  pub each : (m : State) → StandsFor old m
+      → (after : State) × Step m ctx call reply messages after × StandsFor new after

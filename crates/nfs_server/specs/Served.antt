@@ -1,9 +1,11 @@
 -- What serving the records of a stream comes to.
-use Rattle.std.specs.Prelude.{◌≡◌, ◌⊎◌, ℕ, List, [], ◌∷◌, ◌++◌, Option, Some, None}
+use Rattle.std.specs.Prelude.{◌≡◌, ◌⊎◌, ◌≤◌, ◌-◌, ◌^◌, ℕ}
+use Rattle.std.specs.Prelude.{List, [], ◌∷◌, ◌++◌, length, Option, Some, None}
 use Rattle.std.specs.Io.KnownBytes.{Appends}
 use Rattle.std.specs.declared.vec.Vec.{Vec}
 use Rattle.std.specs.declared.alloc.Global.{Global}
 use Rattle.nfs_rpc.specs.Records.{IsStream, IsTooLarge}
+use Rattle.nfs_rpc.specs.Streams.{one_more}
 use Rattle.nfs_machine.specs.Run.{Setting, Arrival, Record, Run}
 use Rattle.nfs_machine.specs.State.{State}
 use Rattle.nfs_machine.specs.declared.moment.Moment.{Moment}
@@ -43,8 +45,8 @@ pub record Goes {Clock : Type 0} (gives : Clock → Moment → Clock → Type 0)
 -- none of these records is left, and nothing more was done
 abbrev pub Stays : {Clock : Type 0} → List (List ℕ) →
     (clock later : Clock) (old new : PlainValue) (before after : Option (List ℕ)) → Type 0
-Stays contents clock later old new before after = (contents ≡ []) × (later ≡ clock) × (new ≡ old) ×
-    (after ≡ before)
+Stays contents clock later old new before after =
+    (contents ≡ []) × (later ≡ clock) × (new ≡ old) × (after ≡ before)
 
 -- the first of these records came at the clock's next moment, and has no answer
 pub record IsUnanswered {Clock : Type 0} (gives : Clock → Moment → Clock → Type 0) (contents : List (List ℕ))
@@ -75,10 +77,10 @@ abbrev pub Ends : {Clock : Type 0} → (Clock → Moment → Clock → Type 0) �
     List (List ℕ) → (clock later : Clock) (old new : PlainValue) (before after : Option (List ℕ)) → Type 0
 Ends gives host Read contents clock later old new before after = Stays contents clock later old new before after
 Ends gives host TooLarge contents clock later old new before after = Stays contents clock later old new before after
-Ends gives host Write contents clock later old new before after = IsCut gives host contents clock later old new before
-    after
-Ends gives host Memory contents clock later old new before after = Stays contents clock later old new before after ⊎
-    IsUnanswered gives contents clock later old new before after
+Ends gives host Write contents clock later old new before after =
+    IsCut gives host contents clock later old new before after
+Ends gives host Memory contents clock later old new before after =
+    Stays contents clock later old new before after ⊎ IsUnanswered gives contents clock later old new before after
 
 -- the first of the records were answered, and their answers were written; at the next one serving ended by the fault
 pub record Stops {Clock : Type 0} (gives : Clock → Moment → Clock → Type 0) (host : List ℕ)
@@ -108,6 +110,11 @@ IsFaultOf TooLarge fed = IsTooLarge fed
 IsFaultOf Read fed = IsTooLarge fed → ⊥
 IsFaultOf _ fed = Unit {0}
 
+-- one more read failed, as the source counted, or the input has no end
+abbrev pub FailsToRead : (failures later : ℕ) → Option (List ℕ) → Type 0
+FailsToRead failures later unread =
+    (later ≡ one_more failures) ⊎ ((input : List ℕ) → unread ≡ Some input → 2 ^ 64 - 1 ≤ length input)
+
 -- a front of the input was taken in, and of its records the first were served
 pub record ServesFront {Clock : Type 0} (gives : Clock → Moment → Clock → Type 0) (host input : List ℕ)
     (fault : StreamFault) (clock later : Clock) (old new : PlainValue) (before after : Option (List ℕ)) : Type 0 where
@@ -123,8 +130,8 @@ pub record ServesFront {Clock : Type 0} (gives : Clock → Moment → Clock → 
 -- the record is answered so, from every state that the store stood for
 pub record IsAnswered (arrival : Arrival) (old new : PlainValue) (answer : List ℕ) : Type 0 where
   pub setting : new.setting ≡ old.setting
-  pub each : (m : State) → StandsFor old m → (records : List Record) × (after : State) ×
-      Answers old.setting m arrival answer records after × StandsFor new after
+  pub each : (m : State) → StandsFor old m → (records : List Record) × (after : State)
+      × Answers old.setting m arrival answer records after × StandsFor new after
 
 -- the bytes of an answer; nothing for what is dropped
 abbrev pub answer_bytes : Option (Vec ℕ Global) → List ℕ
@@ -133,5 +140,6 @@ answer_bytes (Some bytes) = bytes.items
 
 -- what was served is a run of the machine
 abbrev pub ServedIsRun : Type 0
-ServedIsRun = (setting : Setting) (old new : State) (arrivals : List Arrival) (written : List ℕ)
-    (records : List Record) → Serves setting old arrivals written records new → Run setting old records new
+ServedIsRun =
+    (setting : Setting) (old new : State) (arrivals : List Arrival) (written : List ℕ) (records : List Record)
+    → Serves setting old arrivals written records new → Run setting old records new

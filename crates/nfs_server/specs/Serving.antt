@@ -27,9 +27,9 @@ use Rattle.nfs_machine.specs.declared.moment.Moment.{Moment}
 abbrev pub EarlyOf : List ℕ → Early → Type 0
 EarlyOf bytes fault =
     (call_of bytes ≡ Err fault)
-    ⊎ ((header : CallHeader) × (call_of bytes ≡ Ok header) ×
-    ((call : Call) → IsCall header.program header.procedure header.arguments call → ⊥) ×
-    (fault ≡ early.Answer header.xid faults.GarbageArguments))
+    ⊎ ((header : CallHeader) × (call_of bytes ≡ Ok header)
+    × ((call : Call) → IsCall header.program header.procedure header.arguments call → ⊥)
+    × (fault ≡ early.Answer header.xid faults.GarbageArguments))
 
 abbrev pub results_of : Reply → List ℕ
 results_of (replies.Nfs reply) = result_bytes reply
@@ -82,24 +82,26 @@ pub record IsExecuted (setting : Setting) (old : State) (arrival : Arrival) (ans
 
 abbrev pub Answers : Setting → State → Arrival → List ℕ → List Record → State → Type 0
 Answers setting old arrival answer records new =
-    IsEarly old arrival answer records new ⊎ IsRefused setting old arrival answer records new ⊎
-    IsExecuted setting old arrival answer records new
+    IsEarly old arrival answer records new
+    ⊎ IsRefused setting old arrival answer records new
+    ⊎ IsExecuted setting old arrival answer records new
 
 -- The arrivals are answered one after the other, and the records are those of the executed ones.
 abbrev pub Serves : Setting → State → List Arrival → List ℕ → List Record → State → Type 0
 Serves setting old [] written records new = (written ≡ []) × (records ≡ []) × (new ≡ old)
 Serves setting old (arrival ∷ arrivals) written records new =
     (answer : List ℕ) × (others : List ℕ) × (first : List Record) × (later : List Record) × (mid : State)
-    × (written ≡ answer ++ others) × (records ≡ first ++ later) × Answers setting old arrival answer first mid ×
-    Serves setting mid arrivals others later new
+    × (written ≡ answer ++ others) × (records ≡ first ++ later)
+    × Answers setting old arrival answer first mid × Serves setting mid arrivals others later new
 
 -- the arrivals have the moments that a clock gives, one after the other
-abbrev pub Ticks : {Clock : Type 0} → (Clock → Moment → Clock → Type 0) → Clock → List Arrival → Clock →
-    Type 0
+abbrev pub Ticks : {Clock : Type 0}
+    → (Clock → Moment → Clock → Type 0) → Clock → List Arrival → Clock → Type 0
 Ticks gives old [] new = new ≡ old
 Ticks gives old (arrival ∷ arrivals) new = (mid : _) × gives old arrival.moment mid × Ticks gives mid arrivals new
 
 -- these records came from this host
 abbrev pub AreFrom : List ℕ → List (List ℕ) → List Arrival → Type 0
-AreFrom host records arrivals = (map (λ (a : Arrival). a.bytes) arrivals ≡ records) ×
-    AllByRecursion (λ (a : Arrival). a.host ≡ host) arrivals
+AreFrom host records arrivals =
+    (map (λ (a : Arrival). a.bytes) arrivals ≡ records)
+    × AllByRecursion (λ (a : Arrival). a.host ≡ host) arrivals

@@ -35,8 +35,8 @@ pub record FromStart {Clock : Type 0} (gives : Clock → Moment → Clock → Ty
 -- all records of the input were served
 abbrev pub ServesFromStart : {Clock : Type 0} → (Clock → Moment → Clock → Type 0) → Setting →
     (host : List ℕ) (unread : Option (List ℕ)) (clock later : Clock) (before after : Option (List ℕ)) → Type 0
-ServesFromStart gives setting host unread clock later before after = (input : List ℕ) → unread ≡ Some input
-    → FromStart gives setting clock
+ServesFromStart gives setting host unread clock later before after =
+    (input : List ℕ) → unread ≡ Some input → FromStart gives setting clock
     (λ started opened left. ServesAll gives host input started later opened left before after)
 
 -- The program ends early: by want of memory, where nothing was written, or by a fault of the stream, which the
@@ -46,7 +46,6 @@ abbrev pub FailsFromStart : {Clock : Type 0} → (Clock → Moment → Clock →
     (StreamFault → Type 0) → Exit → Type 0
 FailsFromStart gives setting host unread clock later before after IsTold exit =
     ((exit ≡ Memory) × (after ≡ before))
-    ⊎ ((fault : StreamFault) × (exit ≡ exit_of fault) × IsTold fault ×
-    ((input : List ℕ) → unread ≡ Some input
-    → FromStart gives setting clock
+    ⊎ ((fault : StreamFault) × (exit ≡ exit_of fault) × IsTold fault
+    × ((input : List ℕ) → unread ≡ Some input → FromStart gives setting clock
     (λ started opened left. ServesFront gives host input fault started later opened left before after)))

@@ -7,18 +7,19 @@ use Rattle.nfs_server.specs.declared.serve.Taken.TheVariants.{End, Piece, Refuse
 
 -- the piece follows the stream
 abbrev pub Follows : RecordsValue → RecordsValue → List ℕ → Type 0
-Follows old new piece = (stream : List ℕ) (given : List (List ℕ)) → Holds old stream given →
-    Holds new (stream ++ piece) given
+Follows old new piece =
+    (stream : List ℕ) (given : List (List ℕ)) → Holds old stream given → Holds new (stream ++ piece) given
 
 abbrev pub TakesIn : Taken → RecordsValue → RecordsValue → List ℕ → Option (List ℕ) → Type 0
 TakesIn End old new piece left = (piece ≡ []) × (new ≡ old) × IsAtEnd left
 TakesIn Piece old new piece left =
-    (0 < length piece) × Follows old new piece ×
-    ((stream : List ℕ) (given : List (List ℕ)) → Holds old stream given → IsTooLarge (stream ++ piece) →
-    ⊥)
+    (0 < length piece) × Follows old new piece
+    × ((stream : List ℕ) (given : List (List ℕ)) → Holds old stream given
+    → IsTooLarge (stream ++ piece) → ⊥)
 TakesIn Refused old new piece left =
-    (0 < length piece) × Follows old new piece ×
-    ((stream : List ℕ) (given : List (List ℕ)) → Holds old stream given → IsTooLarge (stream ++ piece))
+    (0 < length piece) × Follows old new piece
+    × ((stream : List ℕ) (given : List (List ℕ)) → Holds old stream given
+    → IsTooLarge (stream ++ piece))
 
 -- a piece of the input was taken in, or its end was met
 pub record Takes (taken : Taken) (old new : RecordsValue) (before left : Option (List ℕ)) : Type 0 where

@@ -146,6 +146,3 @@ fn number_at(since_1970: Duration) -> u64
 {
     u64::try_from(since_1970.as_nanos()).unwrap_or(0)
 }
-
-#[cfg(test)]
-mod tests;

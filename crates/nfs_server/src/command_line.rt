@@ -1,12 +1,13 @@
 //! The command line: which options there are, and what they ask for.
 
-ghost use Rattle.std.specs.Prelude.{◌≡◌, ◌==◌, [], false, IfErr, IfOk, MatchResult, map, slice_get};
-ghost use Rattle.std.specs.Prelude.{unwrap_or};
+ghost use Rattle.std.specs.Prelude.{◌≡◌, ◌==◌, [], false, map, slice_get, unwrap_or};
+ghost use Rattle.std.specs.Prelude.{IfErr, IfOk, MatchResult};
 ghost use Rattle.std.specs.List.{slice_split};
 ghost use Rattle.clap.specs.Words.{app_of, found_of, rows_of, rule_of};
-ghost use Rattle.nfs_server.specs.CommandLine.{Configures, IsHost, IsHostRefusal, IsParsedFrom, IsReadingFault};
-ghost use Rattle.nfs_server.specs.CommandLine.{IsRefusal, IsValueRefusal, Reads, Refuses, export_parts, flag_rule};
-ghost use Rattle.nfs_server.specs.CommandLine.{host_of, nfsd, number_rule, option_rule, parts_of};
+ghost use Rattle.nfs_server.specs.CommandLine.{Configures, Reads, Refuses, IsHost, IsParsedFrom};
+ghost use Rattle.nfs_server.specs.CommandLine.{IsHostRefusal, IsReadingFault, IsRefusal, IsValueRefusal};
+ghost use Rattle.nfs_server.specs.CommandLine.{export_parts, host_of, nfsd, parts_of};
+ghost use Rattle.nfs_server.specs.CommandLine.{flag_rule, number_rule, option_rule};
 
 use crate::exit::Exit;
 use crate::options::Options;
@@ -75,52 +76,47 @@ fn number<'a>(
 fn command<'a>(alloc: Global) -> Result<Command<'a>, AllocError>
     ensures { IfOk result (λ command. app_of command ≡ nfsd) }
 {
-    let stdio = flag(
-        alloc,
-        "stdio",
-        "Serve records from standard input to standard output",
-    );
-    let export = option(
-        alloc,
-        "export",
-        "PATH,MODE,HOST[,HOST..]",
-        "Export PATH, for writing too (rw) or not (ro), to these hosts, or to all (*)",
-    );
-    let start = number(
-        alloc,
-        "start",
-        "N",
-        value_parser!(u64),
-        "The start number in handles [default: the machine's time in nanoseconds]",
-    );
-    let clock = number(
-        alloc,
-        "clock",
-        "S",
-        value_parser!(u32),
-        "Make every moment second S since 1970 [default: the machine's clock]",
-    );
-    let host = option(
-        alloc,
-        "host",
-        "TEXT",
-        "The peer's host, 1 to 255 bytes [default: 127.0.0.1]",
-    );
-    let bytes = number(
-        alloc,
-        "bytes",
-        "N",
-        value_parser!(u64),
-        "The total that FSSTAT tells, in bytes [default: 1099511627776]",
-    );
     Command::new(alloc, "nfsd")
         .about("Serve files by NFS version 3")
-        .arg(stdio)?
-        .arg(export.required(true))?
-        .arg(start)?
-        .arg(clock)?
-        .arg(host)?
-        .arg(bytes)
+        .arg(flag(
+            alloc,
+            "stdio",
+            "Serve records from standard input to standard output",
+        ))?
+        .arg(option(
+            alloc,
+            "export",
+            "PATH,MODE,HOST[,HOST..]",
+            "Export PATH, for writing too (rw) or not (ro), to these hosts, or to all (*)",
+        )
+        .required(true))?
+        .arg(number(
+            alloc,
+            "start",
+            "N",
+            value_parser!(u64),
+            "The start number in handles [default: the machine's time in nanoseconds]",
+        ))?
+        .arg(number(
+            alloc,
+            "clock",
+            "S",
+            value_parser!(u32),
+            "Make every moment second S since 1970 [default: the machine's clock]",
+        ))?
+        .arg(option(
+            alloc,
+            "host",
+            "TEXT",
+            "The peer's host, 1 to 255 bytes [default: 127.0.0.1]",
+        ))?
+        .arg(number(
+            alloc,
+            "bytes",
+            "N",
+            value_parser!(u64),
+            "The total that FSSTAT tells, in bytes [default: 1099511627776]",
+        ))
 }
 
 /// The words of the program's command line, of which the first is its name.
@@ -253,6 +249,3 @@ fn hosts(alloc: Global, texts: &[&str]) -> Result<Vec<Bytes>, AllocError>
     }
     Ok(hosts)
 }
-
-#[cfg(test)]
-mod tests;

@@ -102,6 +102,3 @@ impl From<ExportError> for Exit {
         }
     }
 }
-
-#[cfg(test)]
-mod tests;

@@ -110,12 +110,16 @@ impl Plain {
     ) -> Result<Option<Vec<u8>>, AllocError>
         requires { (1 ≤ length host.now) × (length host.now ≤ 255) }
         ensures ok { IfOk result
-            (λ answer. IsAnswered (record { host = host.now; bytes = message; moment = moment }) self.old self.new
-            (answer_bytes answer)) }
+            (λ answer. IsAnswered (record { host = host.now; bytes = message; moment = moment })
+            self.old self.new (answer_bytes answer)) }
         ensures err { OnErr result (self.new ≡ self.old) }
     {
         match read_record(&message) {
-            Ok(asked) => self.answer_call(alloc, host, &message, &asked, moment),
+            Ok(asked) => {
+                let answer = self.answer_call(alloc, host, &message, &asked, moment);
+                drop(asked);
+                answer
+            }
             Err(Unasked::Early(fault)) => answers::early(alloc, fault),
             Err(Unasked::Memory) => Err(AllocError),
         }
@@ -132,8 +136,8 @@ impl Plain {
     ) -> Result<Option<Vec<u8>>, AllocError>
         requires { IsAsked message.now asked.now }
         ensures ok { IfOk result
-            (λ answer. IsAnswered (record { host = host.now; bytes = message.now; moment = moment }) self.old self.new
-            (answer_bytes answer)) }
+            (λ answer. IsAnswered (record { host = host.now; bytes = message.now; moment = moment })
+            self.old self.new (answer_bytes answer)) }
         ensures err { OnErr result (self.new ≡ self.old) }
     {
         match self.execute(alloc, host, asked, moment) {
@@ -152,9 +156,8 @@ impl Plain {
     ) -> Result<Vec<u8>, AllocError>
         requires { IsBuilt asked.now.call }
         ensures ok { IfOk result
-            (λ answer. MakesStep
-            (context_of self.old.setting host.now asked.now.ids moment) asked.now.call asked.now.xid self.old self.new
-            answer.items) }
+            (λ answer. MakesStep (context_of self.old.setting host.now asked.now.ids moment)
+            asked.now.call asked.now.xid self.old self.new answer.items) }
         ensures err { OnErr result (self.new ≡ self.old) }
     {
         let ctx = self.context(host, asked.ids, moment)?;
@@ -257,8 +260,10 @@ fn refuse(alloc: Global, asked: &Asked) -> Result<Option<Vec<u8>>, AllocError>
     requires { IsBuilt asked.now.call }
     ensures { IfOk result (λ answer. answer_bytes answer ≡ refusal_bytes asked.now.xid (refusal_of asked.now.call)) }
 {
-    let answer = answers::refuse(alloc, asked.xid, &asked.call.refusal()?)?;
-    Ok(Some(answer))
+    let refusal = asked.call.refusal()?;
+    let answer = answers::refuse(alloc, asked.xid, &refusal);
+    drop(refusal);
+    Ok(Some(answer?))
 }
 
 /// The slots of so many roots, made at this time, behind an empty one.

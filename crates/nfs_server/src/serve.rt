@@ -1,11 +1,11 @@
 //! Serving a stream of records, one after the other.
 
-ghost use Rattle.std.specs.Prelude.{◌≡◌, ℕ, ◌+◌, ◌-◌, ◌^◌, ◌<◌, ◌≤◌, ◌⊎◌, List};
-ghost use Rattle.std.specs.Prelude.{[], ◌∷◌, ◌++◌, length, Some, IfOk, IfErr, OnOk, OnErr, IsErrOf};
+ghost use Rattle.std.specs.Prelude.{◌≡◌, ℕ, ◌+◌, ◌<◌, ◌≤◌, ◌⊎◌};
+ghost use Rattle.std.specs.Prelude.{List, [], ◌∷◌, ◌++◌, length, Some, IfOk, IfErr, OnOk, OnErr, IsErrOf};
 ghost use Rattle.std.specs.Io.KnownBytes.{Appends, Consumes, Keeps};
 ghost use Rattle.nfs_rpc.specs.Records.{Holds};
 ghost use Rattle.nfs_rpc.specs.Streams.{one_more};
-ghost use Rattle.nfs_server.specs.Served.{Ends, Goes, Stops, ServedIsRun, ServesAll, ServesFront};
+ghost use Rattle.nfs_server.specs.Served.{Ends, FailsToRead, Goes, Stops, ServedIsRun, ServesAll, ServesFront};
 ghost use Rattle.nfs_server.specs.Taken.{Takes};
 
 use crate::plain::Plain;
@@ -70,15 +70,16 @@ pub fn serve_plain<C: Moments, R: Source, W: Sink>(
     requires { (1 ≤ length host.now) × (length host.now ≤ 255) }
     // Answers are those of a run of the machine, from every state that the store stands for.
     ensures ok { IfOk result (λ _. (input : List ℕ) → R.unread reader.old ≡ Some input
-        → ServesAll C.gives host.now input clock.old clock.new plain.old plain.new (W.written writer.old) (W.written writer.new)) }
+        → ServesAll C.gives host.now input clock.old clock.new plain.old plain.new
+        (W.written writer.old) (W.written writer.new)) }
     ensures fault { IfErr result (λ e. (input : List ℕ) → R.unread reader.old ≡ Some input
-        → ServesFront C.gives host.now input e clock.old clock.new plain.old plain.new (W.written writer.old) (W.written writer.new)) }
+        → ServesFront C.gives host.now input e clock.old clock.new plain.old plain.new
+        (W.written writer.old) (W.written writer.new)) }
     // A fault of a stream is one that the stream counted, or there was no end of it.
-    ensures read { IsErrOf result StreamFault.Read →
-        (R.Counts.failures reader.new ≡ one_more (R.Counts.failures reader.old))
-        ⊎ ((input : List ℕ) → R.unread reader.old ≡ Some input → 2 ^ 64 - 1 ≤ length input) }
-    ensures write { IsErrOf result StreamFault.Write →
-        W.Counts.failures writer.new ≡ one_more (W.Counts.failures writer.old) }
+    ensures read { IsErrOf result StreamFault.Read
+        → FailsToRead (R.Counts.failures reader.old) (R.Counts.failures reader.new) (R.unread reader.old) }
+    ensures write { IsErrOf result StreamFault.Write
+        → W.Counts.failures writer.new ≡ one_more (W.Counts.failures writer.old) }
 {
     let mut records = Records::new(alloc);
     let Ok(mut buffer) = Vec::from_elem(alloc, 0, BUFFER_SIZE) else {
@@ -116,14 +117,15 @@ fn serve_pieces<C: Moments, R: Source, W: Sink>(
     requires buffer { 0 < length buffer.old }
     requires records { Holds records.old [] [] }
     ensures ok { IfOk result (λ _. (input : List ℕ) → R.unread reader.old ≡ Some input
-        → ServesAll C.gives host.now input clock.old clock.new plain.old plain.new (W.written writer.old) (W.written writer.new)) }
+        → ServesAll C.gives host.now input clock.old clock.new plain.old plain.new
+        (W.written writer.old) (W.written writer.new)) }
     ensures fault { IfErr result (λ e. (input : List ℕ) → R.unread reader.old ≡ Some input
-        → ServesFront C.gives host.now input e clock.old clock.new plain.old plain.new (W.written writer.old) (W.written writer.new)) }
-    ensures read { IsErrOf result StreamFault.Read →
-        (R.Counts.failures reader.new ≡ one_more (R.Counts.failures reader.old))
-        ⊎ ((input : List ℕ) → R.unread reader.old ≡ Some input → 2 ^ 64 - 1 ≤ length input) }
-    ensures write { IsErrOf result StreamFault.Write →
-        W.Counts.failures writer.new ≡ one_more (W.Counts.failures writer.old) }
+        → ServesFront C.gives host.now input e clock.old clock.new plain.old plain.new
+        (W.written writer.old) (W.written writer.new)) }
+    ensures read { IsErrOf result StreamFault.Read
+        → FailsToRead (R.Counts.failures reader.old) (R.Counts.failures reader.new) (R.unread reader.old) }
+    ensures write { IsErrOf result StreamFault.Write
+        → W.Counts.failures writer.new ≡ one_more (W.Counts.failures writer.old) }
 {
     'pieces: for _reads in 0..u64::MAX {
         let taken = take_piece(reader, records, buffer)?;
@@ -149,8 +151,8 @@ fn take_piece<R: Source>(
         (λ taken. Takes taken records.old records.new (R.unread reader.old) (R.unread reader.new)) }
     ensures ok { OnOk result (R.Counts.failures reader.new ≡ R.Counts.failures reader.old) }
     ensures err { OnErr result (records.new ≡ records.old) }
-    ensures fault { IfErr result
-        (λ e. ((e ≡ StreamFault.Read) × (R.Counts.failures reader.new ≡ one_more (R.Counts.failures reader.old)))
+    ensures fault { IfErr result (λ e.
+        ((e ≡ StreamFault.Read) × (R.Counts.failures reader.new ≡ one_more (R.Counts.failures reader.old)))
         ⊎ (e ≡ StreamFault.Memory)) }
 {
     let Ok(count) = reader.read(buffer) else {
@@ -177,18 +179,17 @@ fn serve_records<C: Moments, W: Sink>(
 ) -> Result<(), StreamFault>
     requires { (1 ≤ length host.now) × (length host.now ≤ 255) }
     ensures goes { OnOk result
-        (Goes C.gives host.now records.old.queued clock.old clock.new plain.old plain.new (W.written writer.old)
-        (W.written writer.new)) }
+        (Goes C.gives host.now records.old.queued clock.old clock.new plain.old plain.new
+        (W.written writer.old) (W.written writer.new)) }
     ensures all { OnOk result (records.new.queued ≡ []) }
-    ensures holds { OnOk result
-        ((stream : List ℕ) (given : List (List ℕ)) → Holds records.old stream given →
-        Holds records.new stream (given ++ records.old.queued)) }
+    ensures holds { OnOk result ((stream : List ℕ) (given : List (List ℕ)) → Holds records.old stream given
+        → Holds records.new stream (given ++ records.old.queued)) }
     ensures ok { OnOk result (W.Counts.failures writer.new ≡ W.Counts.failures writer.old) }
     ensures stops { IfErr result
         (λ e. Stops C.gives host.now e records.old.queued clock.old clock.new plain.old plain.new
         (W.written writer.old) (W.written writer.new)) }
-    ensures fault { IfErr result
-        (λ e. ((e ≡ StreamFault.Write) × (W.Counts.failures writer.new ≡ one_more (W.Counts.failures writer.old)))
+    ensures fault { IfErr result (λ e.
+        ((e ≡ StreamFault.Write) × (W.Counts.failures writer.new ≡ one_more (W.Counts.failures writer.old)))
         ⊎ (e ≡ StreamFault.Memory)) }
 {
     'records: while let Some(record) = records.next() {
@@ -208,14 +209,14 @@ fn serve_record<C: Moments, W: Sink>(
 ) -> Result<(), StreamFault>
     requires { (1 ≤ length host.now) × (length host.now ≤ 255) }
     ensures goes { OnOk result
-        (Goes C.gives host.now (message ∷ []) clock.old clock.new plain.old plain.new (W.written writer.old)
-        (W.written writer.new)) }
+        (Goes C.gives host.now (message ∷ []) clock.old clock.new plain.old plain.new
+        (W.written writer.old) (W.written writer.new)) }
     ensures ok { OnOk result (W.Counts.failures writer.new ≡ W.Counts.failures writer.old) }
     ensures ends { IfErr result
-        (λ e. Ends C.gives host.now e (message ∷ []) clock.old clock.new plain.old plain.new (W.written writer.old)
-        (W.written writer.new)) }
-    ensures fault { IfErr result
-        (λ e. ((e ≡ StreamFault.Write) × (W.Counts.failures writer.new ≡ one_more (W.Counts.failures writer.old)))
+        (λ e. Ends C.gives host.now e (message ∷ []) clock.old clock.new plain.old plain.new
+        (W.written writer.old) (W.written writer.new)) }
+    ensures fault { IfErr result (λ e.
+        ((e ≡ StreamFault.Write) × (W.Counts.failures writer.new ≡ one_more (W.Counts.failures writer.old)))
         ⊎ (e ≡ StreamFault.Memory)) }
 {
     let moment = clock.moment();
@@ -230,11 +231,10 @@ fn serve_record<C: Moments, W: Sink>(
 fn send<W: Sink>(writer: &mut W, answer: &[u8]) -> Result<(), StreamFault>
     ensures written { OnOk result (Appends (W.written writer.old) (W.written writer.new) answer.now) }
     ensures ok { OnOk result (W.Counts.failures writer.new ≡ W.Counts.failures writer.old) }
-    ensures part { OnErr result
-        ((sent : List ℕ) × (unsent : List ℕ) × (answer.now ≡ sent ++ unsent) ×
-        Appends (W.written writer.old) (W.written writer.new) sent) }
-    ensures fault { IfErr result
-        (λ e. (e ≡ StreamFault.Write) × (W.Counts.failures writer.new ≡ one_more (W.Counts.failures writer.old))) }
+    ensures part { OnErr result ((sent : List ℕ) × (unsent : List ℕ) × (answer.now ≡ sent ++ unsent)
+        × Appends (W.written writer.old) (W.written writer.new) sent) }
+    ensures fault { IfErr result (λ e.
+        (e ≡ StreamFault.Write) × (W.Counts.failures writer.new ≡ one_more (W.Counts.failures writer.old))) }
 {
     write_all(writer, answer)?;
     writer.flush().map_err(|_| StreamFault::Write)
@@ -244,11 +244,10 @@ fn send<W: Sink>(writer: &mut W, answer: &[u8]) -> Result<(), StreamFault>
 fn write_all<W: Sink>(writer: &mut W, bytes: &[u8]) -> Result<(), StreamFault>
     ensures written { OnOk result (Appends (W.written writer.old) (W.written writer.new) bytes.now) }
     ensures ok { OnOk result (W.Counts.failures writer.new ≡ W.Counts.failures writer.old) }
-    ensures part { OnErr result
-        ((sent : List ℕ) × (unsent : List ℕ) × (bytes.now ≡ sent ++ unsent) ×
-        Appends (W.written writer.old) (W.written writer.new) sent) }
-    ensures fault { IfErr result
-        (λ e. (e ≡ StreamFault.Write) × (W.Counts.failures writer.new ≡ one_more (W.Counts.failures writer.old))) }
+    ensures part { OnErr result ((sent : List ℕ) × (unsent : List ℕ) × (bytes.now ≡ sent ++ unsent)
+        × Appends (W.written writer.old) (W.written writer.new) sent) }
+    ensures fault { IfErr result (λ e.
+        (e ≡ StreamFault.Write) × (W.Counts.failures writer.new ≡ one_more (W.Counts.failures writer.old))) }
 {
     let mut rest = bytes;
     'writes: while !rest.is_empty() {

@@ -1,8 +1,8 @@
 //! Slots for objects, by number.
 
 ghost use Rattle.std.specs.Prelude.{◌≡◌, ℕ, ◌^◌, ◌<◌, ◌≤◌, [], ◌∷◌, ◌++◌, length};
-ghost use Rattle.std.specs.Prelude.{take, replicate, slice_get, slice_set, slice_index_or, option_map, None, IfOk};
-ghost use Rattle.std.specs.Prelude.{OnOk, OnErr};
+ghost use Rattle.std.specs.Prelude.{take, replicate, slice_get, slice_set, slice_index_or};
+ghost use Rattle.std.specs.Prelude.{option_map, None, IfOk, OnOk, OnErr};
 ghost use Rattle.std.specs.Arc.{arc_value};
 ghost use Rattle.nfs_server.specs.Slots.{slot_value, empty_slot, object_in, generation_in, put_in};
 

@@ -1,7 +1,7 @@
 //! Writes to the store: first room for all of them, then the writes, which cannot fail.
 
-ghost use Rattle.std.specs.Prelude.{◌≡◌, ℕ, ◌++◌, Option, length, replicate, map, option_map, IfOk, OnOk};
-ghost use Rattle.std.specs.Prelude.{OnErr};
+ghost use Rattle.std.specs.Prelude.{◌≡◌, ℕ, ◌++◌, Option, length, replicate, map, option_map};
+ghost use Rattle.std.specs.Prelude.{IfOk, OnOk, OnErr};
 ghost use Rattle.std.specs.Arc.{arc_value};
 ghost use Rattle.std.specs.List.{AllByRecursion};
 ghost use Rattle.nfs_objects.specs.Store.{with_write, with_writes};
@@ -63,8 +63,8 @@ fn make_one(slots: &mut Slots, address: Addr) -> Result<(), AllocError>
 /// Makes the writes, one after the other.
 pub(crate) fn install(slots: &mut Slots, mounts: &mut Option<Arc<Object>>, writes: Vec<Write>)
     requires { AllByRecursion (λ w. HasRoom slots.old w.0) (map write_value writes.items) }
-    ensures { store_in slots.new (option_map arc_value mounts.new) ≡ with_writes
-        (store_in slots.old (option_map arc_value mounts.old)) (map write_value writes.items) }
+    ensures { store_in slots.new (option_map arc_value mounts.new)
+        ≡ with_writes (store_in slots.old (option_map arc_value mounts.old)) (map write_value writes.items) }
 {
     let mut writes = writes.into_iter();
     'writes: while let Some(write) = writes.next() {
@@ -75,8 +75,9 @@ pub(crate) fn install(slots: &mut Slots, mounts: &mut Option<Arc<Object>>, write
 /// Makes one write.
 fn put(slots: &mut Slots, mounts: &mut Option<Arc<Object>>, write: Write)
     requires { HasRoom slots.old write.address }
-    ensures store { store_in slots.new (option_map arc_value mounts.new) ≡ with_write
-        (store_in slots.old (option_map arc_value mounts.old)) write.address (option_map arc_value write.object) }
+    ensures store { store_in slots.new (option_map arc_value mounts.new)
+        ≡ with_write (store_in slots.old (option_map arc_value mounts.old)) write.address
+        (option_map arc_value write.object) }
     ensures len { length slots.new ≡ length slots.old }
 {
     match write.address {

@@ -12,19 +12,19 @@ use Rattle.nfs_server.proofs.command_line.command.Goals as goal
 pub returns : goal.returns
 unfolding nfsd
 returns c =
-    let stdio : rule_of c.flag-stdio.result ≡ flag_rule (codes "stdio") = search rules in
+    let stdio : rule_of c.flag.result ≡ flag_rule (codes "stdio") = search rules in
     let export : rule_of c.required.result ≡ record (option_rule (codes "export")) { required = true } =
-    ap rule_of c.required.ensures ∙ ap (λ (r : Rule). record r { required = true }) c.option-export.ensures.rule in
-    let start : rule_of c.number-start.result ≡ number_rule (codes "start") (Unsigned 0 18446744073709551615) =
-    c.number-start.ensures.rule ∙ ap (number_rule (codes "start")) c.value_parser.ensures in
-    let clock : rule_of c.number-clock.result ≡ number_rule (codes "clock") (Signed (pos 0) (pos 4294967295)) =
-    c.number-clock.ensures.rule ∙ ap (number_rule (codes "clock")) c.value_parser-2.ensures in
-    let host : rule_of c.option-host.result ≡ option_rule (codes "host") = search rules in
-    let bytes : rule_of c.number-bytes.result ≡ number_rule (codes "bytes") (Unsigned 0 18446744073709551615) =
-    c.number-bytes.ensures.rule ∙ ap (number_rule (codes "bytes")) c.value_parser-3.ensures in
+    ap rule_of c.required.ensures ∙ ap (λ (r : Rule). record r { required = true }) c.option.ensures.rule in
+    let start : rule_of c.number.result ≡ number_rule (codes "start") (Unsigned 0 18446744073709551615) =
+    c.number.ensures.rule ∙ ap (number_rule (codes "start")) c.value_parser.ensures in
+    let clock : rule_of c.number-2.result ≡ number_rule (codes "clock") (Signed (pos 0) (pos 4294967295)) =
+    c.number-2.ensures.rule ∙ ap (number_rule (codes "clock")) c.value_parser-2.ensures in
+    let host : rule_of c.option-2.result ≡ option_rule (codes "host") = search rules in
+    let bytes : rule_of c.number-3.result ≡ number_rule (codes "bytes") (Unsigned 0 18446744073709551615) =
+    c.number-3.ensures.rule ∙ ap (number_rule (codes "bytes")) c.value_parser-3.ensures in
     let with_stdio = c.in_ok-arg.ensures.shape (search rules) ∙ ap₂ with_rule (ap app_of_fields c.about.ensures ∙ c.new.ensures.app) stdio in
     let with_export =
-    c.in_ok-arg-2.ensures.shape (ap (λ (a : Arg). a.global) c.required.ensures ∙ c.option-export.ensures.local) ∙ ap₂ with_rule with_stdio export in
+    c.in_ok-arg-2.ensures.shape (ap (λ (a : Arg). a.global) c.required.ensures ∙ c.option.ensures.local) ∙ ap₂ with_rule with_stdio export in
     let with_start = c.in_ok-arg-3.ensures.shape (search rules) ∙ ap₂ with_rule with_export start in
     let with_clock = c.in_ok-arg-4.ensures.shape (search rules) ∙ ap₂ with_rule with_start clock in
     let with_host = c.in_ok-arg-5.ensures.shape (search rules) ∙ ap₂ with_rule with_clock host in

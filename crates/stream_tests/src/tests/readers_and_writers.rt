@@ -1,6 +1,5 @@
 //! Readers and writers that do not go on as the simplest do.
 
-use std::alloc::Global;
 use std::io::{Error, ErrorKind, Read, Result, Write};
 
 /// A reader that fails after some calls.
@@ -37,18 +36,6 @@ pub(super) struct Choppy {
     /// How many calls come before the trouble.
     pub good: u64,
     pub trouble: Trouble,
-}
-
-impl Choppy {
-    /// A writer that takes all bytes of each of its first calls.
-    pub(super) fn failing_after(alloc: Global, good: u64, trouble: Trouble) -> Choppy {
-        Choppy {
-            written: Vec::new(alloc),
-            most: usize::MAX,
-            good,
-            trouble,
-        }
-    }
 }
 
 impl Write for Choppy {

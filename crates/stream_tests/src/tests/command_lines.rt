@@ -1,23 +1,22 @@
-use super::{arguments, configure};
-use crate::exit::Exit;
-use crate::options::Options;
+//! Command lines: what they ask for, and what is said of one that is refused.
+
+use nfs_server::{Exit, Options, arguments, configure};
 use std::alloc::Global;
 use std::env::FillError;
-use std::io;
 use std::process::Abort;
 use std::rt::Env;
 use std::test::Fail;
 
 const SERVE: [&str; 4] = ["nfsd", "--stdio", "--export", "/data,rw,*"];
 
-// The words, with more behind them.
+/// The words, with more behind them.
 fn with<'a>(alloc: Global, words: &[&'a str], more: &[&'a str]) -> Result<Vec<&'a str>, Fail> {
     let mut all = words.to_vec(alloc)?;
     all.extend_from_slice(more)?;
     Ok(all)
 }
 
-// Whether the words are refused with this status, by a text that begins so.
+/// Whether the words are refused with this status, by a text that begins so.
 fn is_refused(alloc: Global, words: &[&str], status: u8, beginning: &str) -> Result<bool, Fail> {
     match configure(alloc, words) {
         Ok(_) => Ok(false),
@@ -203,7 +202,7 @@ fn the_first_fault_is_told(rt: HostRuntime) -> Result<(), Fail> {
     Ok(())
 }
 
-// With an allocation refused, only this is told; and else the options.
+/// With an allocation refused, only this is told; and else the options.
 #[test]
 fn want_of_memory_is_told(rt: HostRuntime) {
     let words = [
@@ -220,7 +219,7 @@ fn want_of_memory_is_told(rt: HostRuntime) {
     }
 }
 
-// Arguments of one byte each.
+/// Arguments of one byte each.
 #[derive(Drop)]
 struct Letters {
     bytes: [u8; 3],

@@ -1,6 +1,6 @@
 //! CREATE in the root (RFC 1813, 3.3.8).
 
-use super::exchanges::*;
+use super::scripts::*;
 use super::*;
 
 /// UNCHECKED with size 0.

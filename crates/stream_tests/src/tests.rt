@@ -3,17 +3,20 @@
 
 ghost use Rattle.std.specs.Prelude.{◌≤◌, length};
 
-mod answered;
-mod creates;
+mod clocks;
+mod command_lines;
+mod create;
 mod credentials;
-mod exchanges;
-mod faults;
-mod files;
-mod lookups;
-mod memory;
+mod exit_lines;
+mod from_options;
+mod lookup;
 mod permission;
-mod starts;
-mod streams;
+mod read_and_write;
+mod readers_and_writers;
+mod record_answers;
+mod scripts;
+mod stream_faults;
+mod want_of_memory;
 
 use bytes::Bytes;
 use nfs_machine::{ExportText, Exports, Limits, Moment};

@@ -1,6 +1,6 @@
 //! READ and WRITE of files (RFC 1813, 3.3.6 and 3.3.7).
 
-use super::exchanges::*;
+use super::scripts::*;
 use super::*;
 
 /// `hello` as opaque data, with its length.

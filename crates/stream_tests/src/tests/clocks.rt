@@ -1,11 +1,13 @@
-use super::{FixedClock, MachineClock, ServerClock, start_number};
+//! What the server's clock makes of the machine's, which a contract cannot speak of.
+
 use nfs_machine::Moments;
+use nfs_server::{ServerClock, start_number};
 use std::cell::Cell;
 use std::io;
 use std::rt::Clock;
 use std::time::Duration;
 
-// A clock that gives the time that was set, or none.
+/// A clock that gives the time that was set, or none.
 #[derive(Drop)]
 struct SetClock {
     time: Cell<Option<Duration>>,
@@ -31,18 +33,9 @@ fn set(time: Option<Duration>) -> SetClock {
 }
 
 #[test]
-fn a_fixed_clock_stands_still(rt: HostRuntime) {
-    let mut clock = FixedClock { seconds: 1000 };
-    for _ in 0..2 {
-        let moment = clock.moment();
-        assert_eq!(rt; (moment.seconds, moment.nanoseconds), (1000, 0));
-    }
-}
-
-#[test]
 fn the_machine_s_clock_falls_back_on_the_last_moment(rt: HostRuntime) {
     let times = set(None);
-    let mut clock = MachineClock::new(&times);
+    let mut clock = ServerClock::new(&times, None);
     let given = [
         (None, (0, 0)),
         (Some(Duration::new(1000, 5)), (1000, 5)),
@@ -64,17 +57,6 @@ fn the_machine_s_clock_falls_back_on_the_last_moment(rt: HostRuntime) {
             "at {time:?}"
         );
     }
-}
-
-#[test]
-fn the_server_s_clock_is_one_of_the_two(rt: HostRuntime) {
-    let times = set(Some(Duration::new(5, 6)));
-    let mut fixed = ServerClock::new(&times, Some(1000));
-    let moment = fixed.moment();
-    assert_eq!(rt; (moment.seconds, moment.nanoseconds), (1000, 0));
-    let mut machine = ServerClock::new(&times, None);
-    let moment = machine.moment();
-    assert_eq!(rt; (moment.seconds, moment.nanoseconds), (5, 6));
 }
 
 #[test]

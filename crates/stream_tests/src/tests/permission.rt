@@ -1,6 +1,6 @@
 //! Who may read and write a file of user 100 and group 200, which this user made with a mode (RFC 1813, 4.4).
 
-use super::exchanges::*;
+use super::scripts::*;
 use super::*;
 
 /// A new file of this mode.

@@ -1,6 +1,6 @@
 //! GETATTR of the root with credentials at their bounds (RFC 5531, section 8.2 and appendix A).
 
-use super::exchanges::*;
+use super::scripts::*;
 use super::*;
 
 /// GETATTR of the root with this credential, and NULL behind it.

@@ -1,6 +1,6 @@
 //! Records and their answers.
 
-use super::streams::Flushed;
+use super::readers_and_writers::Flushed;
 use super::*;
 
 #[test]
