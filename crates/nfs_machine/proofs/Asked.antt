@@ -6,7 +6,7 @@ use Rattle.nfs_wire.specs.Calls.{SpellsOneCall}
 use Rattle.nfs_xdr.specs.Programs as program
 use Rattle.side_wire.specs.Mount.{mount_procedure_of, SpellsMountArguments}
 use Rattle.side_wire.specs.Nlm.{nlm_procedure_of, SpellsNlmArguments}
-use Rattle.nfs_machine.specs.Run.{Arrival, Asks, IsCall, Setting, context_of}
+use Rattle.nfs_machine.specs.Run.{Arrival, FromHost, Asks, IsCall, Setting, context_of}
 use Rattle.nfs_machine.specs.declared.calls.Call.{Call}
 use Rattle.nfs_machine.specs.declared.calls.Call.TheVariants as calls
 use Rattle.nfs_machine.specs.declared.context.Ctx.{Ctx}
@@ -29,10 +29,10 @@ one_call nfs mount nlm of procedure bytes (calls.Nlm k) (calls.Mount k') a b = l
 pub asked_once : SpellsOneCall → program.SpellsOneCall mount_procedure_of SpellsMountArguments → program.SpellsOneCall nlm_procedure_of SpellsNlmArguments
     → (setting : Setting) (arrival : Arrival) (ctx ctx' : Ctx) (call call' : Call)
     → Asks setting arrival ctx call → Asks setting arrival ctx' call' → (ctx ≡ ctx') × (call ≡ call')
-asked_once nfs mount nlm setting arrival ctx ctx' call call' a b =
+asked_once nfs mount nlm setting (FromHost received) ctx ctx' call call' a b =
     let read = sym a.read ∙ b.read in
     let same : a.header ≡ b.header = cc in
     let P : CallHeader → Type 0 = λ (h : CallHeader). IsCall h.program h.procedure h.arguments call in (
-      a.made_under ∙ (ap (λ (h : CallHeader). context_of setting arrival.host h.ids arrival.moment) same ∙ sym b.made_under),
+      a.made_under ∙ (ap (λ (h : CallHeader). context_of setting received.host h.ids received.moment) same ∙ sym b.made_under),
       one_call nfs mount nlm b.header.program b.header.procedure b.header.arguments call call' (subst P same a.is_call) b.is_call,
     )

@@ -16,7 +16,7 @@ use Rattle.side_wire.specs.declared.nlm.NlmCall.{NlmCall}
 use Rattle.side_wire.specs.declared.nlm.NlmCall.TheVariants as nlm
 use Rattle.nfs_rpc.specs.declared.programs.Program.{Program}
 use Rattle.nfs_machine.specs.MountSteps.{MntAnswers, MountStep, is_mounted, newest}
-use Rattle.nfs_machine.specs.Run.{IsCall}
+use Rattle.nfs_machine.specs.Run.{FromHost, IsCall}
 use Rattle.nfs_machine.specs.SideLaws.{AskedFits, CallFits, LocksFit, LocksStayFit, MountsFit, MountsStayFit, OpeningFits, PathFits, RunsStayFit, SpelledCallsFit}
 use Rattle.nfs_machine.specs.State.{State}
 use Rattle.nfs_machine.specs.declared.calls.Call.{Call}
@@ -69,7 +69,7 @@ spelled ctx program procedure bytes (calls.Mount call) host is = (host, spelled-
 spelled ctx program procedure bytes (calls.Nlm call) host is = spelled-call call is.2.0 is.2.3
 
 pub spelled_calls_fit : SpelledCallsFit
-spelled_calls_fit setting arrival ctx call host asks =
+spelled_calls_fit setting (FromHost received) ctx call host asks =
     spelled ctx asks.header.program asks.header.procedure asks.header.arguments call (subst IsHostName (sym (ap (λ (c : Ctx). c.host) asks.made_under)) host) asks.is_call
 
 -- ---- MOUNT leaves locks as they are
@@ -95,7 +95,7 @@ same-mounts old new same fit = subst (λ (mounts : List MountBody). AllByRecursi
 pub mounts_stay_fit : MountsStayFit
 mounts_stay_fit old ctx (calls.Nfs call) (replies.Nfs reply) messages new step asked fit = same-mounts old new (nfs-follows old ctx call reply messages new step).mounts fit
 mounts_stay_fit old ctx (calls.Mount call) (replies.Mount reply) messages new step asked fit = mount_fits old ctx call reply messages new fit asked.0 asked.1 step
-mounts_stay_fit old ctx (calls.Nlm call) (replies.Nlm reply) messages new step asked fit = same-mounts old new (nlm-touches old ctx call reply messages new step).mounts fit
+mounts_stay_fit old ctx (calls.Nlm call) (replies.Nlm reply) messages new step asked fit = same-mounts old new (ap (λ k. k.0) (nlm-touches old ctx call reply messages new step).mounts) fit
 mounts_stay_fit old ctx call reply messages new step asked fit = absurd step
 
 pub locks_stay_fit : LocksStayFit

@@ -11,7 +11,7 @@ use Rattle.nfs_machine.specs.Shown.{touched, with_content, with_object}
 use Rattle.nfs_machine.specs.State.{Directory, Link, Entry, Living, State}
 use Rattle.nfs_machine.specs.TimeLaws.{TouchesOnce}
 use Rattle.nfs_machine.specs.Times.{touch}
-use Rattle.nfs_machine.specs.WellFormed.{TextsFit, WellFormed}
+use Rattle.nfs_machine.specs.WellFormed.{TextsFit, WellFormed, is_root}
 use Rattle.nfs_machine.proofs.Changes.{differs-insert, differs-other, differs-remove, differs-there}
 use Rattle.nfs_machine.proofs.Cookies.{kept-same}
 use Rattle.nfs_machine.proofs.Loose.{Loose, also, fastened, loose-come, loose-touched, none_loose, tightened}
@@ -108,7 +108,7 @@ module _ (now : Time) (old mid : State) (c : Continues now old mid) (number : �
       ]
 
 -- an object that contains no name and lost one goes with its last, or stays
-module _ (mid : State) (number : ℕ) (object : Living) (at : get mid.objects number ≡ Some object) (l : Loose (also number none_loose) mid) where
+module _ (mid : State) (number : ℕ) (object : Living) (at : get mid.objects number ≡ Some object) (l : Loose (also number none_loose) mid) (no_root : is_root mid number ≡ false) where
   gone : entries_of object.content ≡ [] → names_of mid number ≡ 0 → TextsFit (without_object mid number) → WellFormed (without_object mid number)
   gone empty none texts =
       tightened (without_object mid number) texts
@@ -120,7 +120,9 @@ module _ (mid : State) (number : ℕ) (object : Living) (at : get mid.objects nu
         was_empty = empty;
         is_empty = tt;
         is_new = tt;
+        no_root = no_root;
         spent = λ n g e. e;
+        keeps = record { exports = refl; last = refl };
       }) none_loose l)
       (λ o there. (let nothing : get (without_object mid number).objects number ≡ None = differs-there mid.objects (without_object mid number).objects number None (differs-remove mid.objects number) in cc)))
 

@@ -7,14 +7,16 @@ use Rattle.std.specs.List.{AllByRecursion, count_by, sum_by}
 use Rattle.std.specs.Ordering.{nat_cmp}
 use Rattle.nfs_machine.specs.Attributes.{entries_of, is_directory, is_living_directory, links_of, names_in, names_of}
 use Rattle.nfs_machine.specs.Bytes.{same_bytes}
+use Rattle.nfs_machine.specs.Laws.{KeepsExports}
 use Rattle.nfs_machine.specs.RenameSteps.{IsWithin}
 use Rattle.nfs_machine.specs.State.{Directory, Entry, Living, State}
 use Rattle.nfs_machine.specs.WellFormed.{IsParent, Leads, TextsFit, WellFormed}
 use Rattle.nfs_machine.proofs.Changes.{Differs, apart, differs-insert, differs-other, differs-there, flipped, itself}
+use Rattle.nfs_machine.proofs.Exported.{exported-on, free-no_root}
 use Rattle.nfs_machine.proofs.Loose.{AddsName, Comes, Loose, Swaps, also, loose-added, loose-come, loosened, names_in-added, names_of-added, names_of-come, none_loose, swapped, tightened}
 use Rattle.nfs_machine.proofs.Loose as swaps
 use Rattle.nfs_machine.proofs.Sums.{get-inserted, sum-none}
-use Rattle.nfs_machine.proofs.WellFormed.{LivesOn, counts-on, is_subdirectory, links-by, links-same, parent-on}
+use Rattle.nfs_machine.proofs.WellFormed.{LivesOn, counts-on, is_subdirectory, links-by, links-same, parent-on, root-same}
 use Rattle.nfs_machine.proofs.Within.{deepened, depth, within-empty}
 
 -- a new object under a new name of a directory: what the directory and the object are then, in a state in which nothing else changes
@@ -25,7 +27,6 @@ pub record MakesEntry (old new : State) (place number : ℕ) (directory wider ma
   pub content : directory.content ≡ Directory entries last
   pub absent : find (λ (e : Entry). same_bytes e.name name) entries ≡ None
   pub free : get old.objects number ≡ None
-  pub no_root : (number == directory.export) ≡ false
   pub objects : new.objects ≡ insert (insert old.objects place wider) number made
   -- the name takes the cookie one above the greatest ever used
   pub wider_content : wider.content ≡ Directory (entries ++ record { name = name; number = number; cookie = last + 1 } ∷ []) (last + 1)
@@ -37,6 +38,7 @@ pub record MakesEntry (old new : State) (place number : ℕ) (directory wider ma
   pub made_cookies : (last : ℕ) → made.content ≡ Directory [] last → 2 ≤ last
   pub given : new.spent number made.generation ≡ true
   pub spent : (n g : ℕ) → old.spent n g ≡ true → new.spent n g ≡ true
+  pub keeps : KeepsExports old new
 
 module _ (old new : State) (place number : ℕ) (directory wider made : Living) (name : List ℕ) (makes : MakesEntry old new place number directory wider made name) where
   -- what lived before has another number
@@ -72,6 +74,7 @@ module _ (old new : State) (place number : ℕ) (directory wider made : Living) 
     generation = makes.wider_generation;
     kind = ap is_directory makes.wider_content ∙ sym (ap is_directory makes.content);
     spent = λ n g e. e;
+    keeps = record { exports = refl; last = refl };
   }
 
   -- what lived before lives on
@@ -97,8 +100,10 @@ module _ (old new : State) (place number : ℕ) (directory wider made : Living) 
       nameless = unnamed;
       was_empty = tt;
       is_empty = makes.made_entries;
-      is_new = record { cookies = makes.made_cookies; given = makes.given };
+      is_new = record { cookies = makes.made_cookies; given = makes.given; exported = exported-on old new makes.keeps directory made makes.made_export (w.exported place directory makes.lives) };
+      no_root = free-no_root old w.exports number makes.free;
       spent = makes.spent;
+      keeps = record { exports = makes.keeps.exports; last = makes.keeps.last };
     }
 
     adds : AddsName mid new place number directory wider made name
@@ -111,7 +116,7 @@ module _ (old new : State) (place number : ℕ) (directory wider made : Living) 
       wider_content = makes.wider_content;
       lives = made-there;
       export = makes.made_export;
-      no_root = makes.no_root;
+      no_root = root-same old new makes.keeps.exports number ∙ free-no_root old w.exports number makes.free;
       nameless = λ kind. names_of-come old mid number None (Some made) comes number ∙ unnamed;
     }
 
@@ -152,9 +157,8 @@ module _ (old new : State) (place number : ℕ) (directory wider made : Living) 
     -- a directory keeps its parent, and the new object's is the directory of its name
     pub parent-kept : (n parent : ℕ) → IsParent old n parent → IsParent new n parent
     parent-kept n parent p =
-        let o = swapped mid new place directory wider widens (λ (x y : Living). (y.export ≡ x.export) × (names_in n x ≤ names_in n y)) (λ x. (refl, omega arith)) (makes.wider_export, omega (arith, names_in-wider n))
-        parent p.directory (stays parent p.directory p.lives) in
-        parent-on old new n parent p o.0 o.1 o.2.0 o.2.1
+        let o = swapped mid new place directory wider widens (λ (x y : Living). names_in n x ≤ names_in n y) (λ x. omega arith) (omega (arith, names_in-wider n)) parent p.directory (stays parent p.directory p.lives) in
+        parent-on old new n parent p o.0 o.1 makes.keeps.exports o.2
 
     pub parent-made : IsParent new number place
     parent-made = record {

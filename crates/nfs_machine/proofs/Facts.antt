@@ -16,7 +16,7 @@ use Rattle.nfs_machine.specs.Attributes.{entries_of, is_directory}
 use Rattle.nfs_machine.specs.Bytes.{same_bytes}
 use Rattle.nfs_machine.specs.Checks.{◌>>=◌, holding, object_of, entries_in, bytes_in, entry_of}
 use Rattle.nfs_machine.specs.RemoveSteps.{empty_directory, not_directory}
-use Rattle.nfs_machine.specs.Exports.{export_admits, export_at}
+use Rattle.nfs_machine.specs.Exports.{LivingExport, export_admits, export_at}
 use Rattle.nfs_machine.specs.Handles.{handle_of}
 use Rattle.nfs_machine.specs.Resolve.{Stale, Names, living_at, named, resolve}
 use Rattle.nfs_machine.specs.State.{Content, Regular, Directory, Link, BlockDevice, CharacterDevice, Socket, Fifo, Entry, Living, State}
@@ -26,10 +26,10 @@ use Rattle.nfs_machine.proofs.WellFormed.{no_entries}
 
 -- what SETATTR and WRITE come to
 abbrev pub setattr_end : State → Ctx → SetattrArguments → Result (Unit {0} × State) NfsStatus
-setattr_end old ctx a = object_of (resolve old ctx a.object) >>= λ o. set_object ctx o.1 a >>= λ after. Ok (tt, with_object old o.0 after)
+setattr_end old ctx a = object_of (resolve old ctx a.object) >>= λ o. set_object old.exports ctx o.1 a >>= λ after. Ok (tt, with_object old o.0 after)
 
 abbrev pub write_end : State → Ctx → WriteArguments → Result (Written × State) NfsStatus
-write_end old ctx a = object_of (resolve old ctx a.file) >>= λ o. write_object ctx o.1 a >>= λ x. Ok (x.0, replaced old o.0 x.1)
+write_end old ctx a = object_of (resolve old ctx a.file) >>= λ o. write_object old.exports ctx o.1 a >>= λ x. Ok (x.0, replaced old o.0 x.1)
 
 -- what holds after each value that a check gives holds of the chain
 pub chained-is : {A B : Type 0} (P : B → Type 0) (r : Result A NfsStatus) (f : A → Result B NfsStatus) → ((x : A) → r ≡ Ok x → IfOk (f x) P) → IfOk (r >>= f) P
@@ -48,17 +48,17 @@ lives-at find h (Some o) x at is =
       | false ↦ λ e. cc
     ] is
 
-named-lives : (find : ℕ → Option Living) (ctx : Ctx) (h : Option Handle) (x : ℕ × Living) → object_of (named find ctx h) ≡ Ok x → find x.0 ≡ Some x.1
-named-lives find ctx None x is = cc
-named-lives find ctx (Some h) x is =
-    elim ((h.start == ctx.start) && export_admits (export_at ctx.exports h.export) ctx.host) as (λ b. object_of (cond b (living_at (find h.fileid) h) Stale) ≡ Ok x → find x.0 ≡ Some x.1) [
+named-lives : (find : ℕ → Option Living) (exports : List LivingExport) (ctx : Ctx) (h : Option Handle) (x : ℕ × Living) → object_of (named find exports ctx h) ≡ Ok x → find x.0 ≡ Some x.1
+named-lives find exports ctx None x is = cc
+named-lives find exports ctx (Some h) x is =
+    elim ((h.start == ctx.start) && export_admits (export_at exports h.export) ctx.host) as (λ b. object_of (cond b (living_at (find h.fileid) h) Stale) ≡ Ok x → find x.0 ≡ Some x.1) [
       | true ↦ λ e. lives-at find h (find h.fileid) x refl e
       | false ↦ λ e. cc
     ] is
 
 -- what a handle names lives
 pub resolved-lives : (m : State) (ctx : Ctx) (bytes : List ℕ) (x : ℕ × Living) → object_of (resolve m ctx bytes) ≡ Ok x → get m.objects x.0 ≡ Some x.1
-resolved-lives m ctx bytes x is = named-lives (get m.objects) ctx (handle_of bytes) x is
+resolved-lives m ctx bytes x is = named-lives (get m.objects) m.exports ctx (handle_of bytes) x is
 
 pub is-directory : (c : Content) (x : List Entry × ℕ) → entries_in c ≡ Ok x → c ≡ Directory x.0 x.1
 is-directory (Directory entries last) x is = (let same : (entries, last) ≡ x = cc in ap (λ (y : List Entry × ℕ). Directory y.0 y.1) same)

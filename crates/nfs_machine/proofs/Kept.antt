@@ -1,5 +1,5 @@
 -- What each step keeps, and so each run: a handle is given once, and what is true of every state stays true.
-use Rattle.std.proofs.Common.{◌≡◌, ℕ, ◌+◌, ◌≤◌, ◌^◌, Bool, true, false, not, ◌||◌, cond, List, [], ◌∷◌, ◌++◌, Option, Some, None, Result, Ok, Err, IfOk, filter, nat_lt, inl, inr, refl, sym, ◌∙◌, subst, arith, ◌==◌}
+use Rattle.std.proofs.Common.{◌≡◌, ℕ, ◌+◌, ◌≤◌, ◌^◌, Bool, true, false, not, ◌||◌, cond, List, [], ◌∷◌, ◌++◌, Option, Some, None, Result, Ok, Err, IfOk, filter, nat_lt, inl, inr, refl, sym, ◌∙◌, subst, arith, ◌==◌, ap}
 use Rattle.std.specs.FinMap.{FinMap, get}
 use Rattle.std.specs.Ordering.{nat_cmp}
 use Rattle.nfs_wire.specs.declared.attributes.Time.{Time}
@@ -27,7 +27,7 @@ use Rattle.nfs_machine.specs.Permission.{Changing}
 use Rattle.nfs_machine.specs.Answers.{Answers, state_after}
 use Rattle.nfs_machine.specs.Attributes.{links_of, names_of, is_directory}
 use Rattle.nfs_machine.specs.Checks.{holding, link_limit, ◌>>=◌, object_of, entries_in, entry_of, changeable, permitted, plain_name_checked}
-use Rattle.nfs_machine.specs.Laws.{GivesOnce, KeepsCookies, LivesAs, NeverGivenAgain, RunsKeepForm, StepsGiveOnce, StepsKeepCookies, StepsKeepForm}
+use Rattle.nfs_machine.specs.Laws.{GivesOnce, KeepsCookies, KeepsExports, LivesAs, NeverGivenAgain, RunsKeepForm, StepsGiveOnce, StepsKeepCookies, StepsKeepExports, StepsKeepForm}
 use Rattle.nfs_machine.specs.LinkSteps.{link_end}
 use Rattle.nfs_machine.specs.LockLaws.{RunsKeepApart, RunsKeepWaiting, StepsKeepApart, StepsKeepWaiting, AllHeldUp, NoConflict}
 use Rattle.nfs_machine.specs.MakeSteps.{wanted_special}
@@ -51,7 +51,7 @@ use Rattle.nfs_machine.specs.declared.calls.Reply.TheVariants as replies
 use Rattle.nfs_machine.specs.declared.context.Ctx.{Ctx}
 use Rattle.nfs_machine.proofs.Continued.{cookies-continued, gives-continued, touches-continued}
 use Rattle.nfs_machine.proofs.Facts.{chained-is, holds, is-directory, leads-found, resolved-lives, setattr_end, write_end}
-use Rattle.nfs_machine.proofs.Follows.{EndFollows, Follows, LocksFollow, Plain, bounds-losing, ends-follow, follows-after, follows-itself, locks-losing, make-follows, mounts-losing, write-follows, file-plain, existing-follows}
+use Rattle.nfs_machine.proofs.Follows.{EndFollows, Follows, LocksFollow, Plain, bounds-losing, ends-follow, exports-losing, follows-after, follows-itself, locks-losing, make-follows, mounts-losing, write-follows, file-plain, existing-follows}
 use Rattle.nfs_machine.proofs.Locking.{nlm-touches}
 use Rattle.nfs_machine.proofs.Loose.{well_formed-alike}
 use Rattle.nfs_machine.proofs.Moves.{GoesIntoItself, Move, named_as, remove_end, rmdir_end, with_moved, with_names_moved, without_replaced}
@@ -98,6 +98,13 @@ module _ (old : State) (ctx : Ctx) where
       let l = locks-losing (with_object (with_names_moved old now move) move.from.number (touched move.from.object now)) (names_of old o.0) now o.0 o.1 in
       record { apart = l.apart; waits = l.waits }
 
+  moved-exports : (now : Time) (move : Move) (replaced : Option (ℕ × Living))
+      → KeepsExports old (without_replaced old (with_object (with_names_moved old now move) move.from.number (touched move.from.object now)) now replaced)
+  moved-exports now move None = record { exports = refl; last = refl }
+  moved-exports now move (Some o) =
+      let k = exports-losing (with_object (with_names_moved old now move) move.from.number (touched move.from.object now)) (names_of old o.0) now o.0 o.1 in
+      record { exports = k.exports; last = k.last }
+
   moved-mounts : (now : Time) (move : Move) (replaced : Option (ℕ × Living))
       → (without_replaced old (with_object (with_names_moved old now move) move.from.number (touched move.from.object now)) now replaced).mounts ≡ old.mounts
   moved-mounts now move None = refl
@@ -115,6 +122,7 @@ module _ (old : State) (ctx : Ctx) where
     cookies = cookies-continued now old (with_moved old now move) (continues-moved old now move is);
     formed = λ w. well_formed-moved old now move is w out;
     locks = moved-locks now move move.replaced;
+    exports = moved-exports now move move.replaced;
     mounts = moved-mounts now move move.replaced;
     bounds = moved-bounds now move move.replaced;
   }
@@ -171,7 +179,7 @@ module _ (old : State) (ctx : Ctx) where
       chained-is IsPlan (entries_in to.1.content) _ (λ to_entries is_to.
       chained-is IsPlan (plain_name_checked status.Invalid status.Invalid a.from.name) _ (λ x2 e2.
       chained-is IsPlan (plain_name_checked status.Invalid status.Invalid a.to.name) _ (λ x3 e3.
-      chained-is IsPlan (changeable ctx from.1) _ (λ x4 e4.
+      chained-is IsPlan (changeable old.exports from.1) _ (λ x4 e4.
       chained-is IsPlan (permitted ctx from.1 Changing) _ (λ x5 e5.
       chained-is IsPlan (permitted ctx to.1 Changing) _ (λ x6 e6.
       chained-is IsPlan (ok_or (object_under old (entry_of from_entries.0 a.from.name)) status.NoEntry) _ (λ moved e7.
@@ -227,9 +235,10 @@ record Keeps (now : Time) (old new : State) : Type 0 where
   pub cookies : KeepsCookies old new
   pub formed : WellFormed old → WellFormed new
   pub locks : LocksFollow old new
+  pub exports : KeepsExports old new
 
 keeps : (now : Time) (old new : State) → Follows now old new → Keeps now old new
-keeps now old new f = record { gives = f.gives; touches = f.touches; cookies = f.cookies; formed = f.formed; locks = f.locks }
+keeps now old new f = record { gives = f.gives; touches = f.touches; cookies = f.cookies; formed = f.formed; locks = f.locks; exports = f.exports }
 
 unchanged : (now : Time) (old new : State) → new ≡ old → Keeps now old new
 unchanged now old new same = keeps now old new (stays now old new same)
@@ -240,8 +249,9 @@ with-mounts now m mounts = record {
   gives = gives-continued now m (record m { mounts = mounts }) (record { kept = λ n g e. e; lived = λ n o at. (o, at, inl refl) });
   touches = touches-continued now m (record m { mounts = mounts }) (record { kept = λ n g e. e; lived = λ n o at. (o, at, inl refl) });
   cookies = cookies-continued now m (record m { mounts = mounts }) (record { kept = λ n g e. e; lived = λ n o at. (o, at, inl refl) });
-  formed = λ w. well_formed-alike m (record m { mounts = mounts }) (λ n. alike_itself (get m.objects n)) (λ n. refl) (λ n g e. e) w.texts w;
+  formed = λ w. well_formed-alike m (record m { mounts = mounts }) (λ n. alike_itself (get m.objects n)) (λ n. refl) (λ n g e. e) (record { exports = refl; last = refl }) w.texts w;
   locks = record { apart = λ h. h; waits = λ h. h };
+  exports = record { exports = refl; last = refl };
 }
 
 mounted : (now : Time) (m : State) (x : MountBody) → Keeps now m (with_mount m x)
@@ -268,19 +278,20 @@ mount-keeps old ctx mount.UnmountAll reply messages new step = subst (Keeps (tim
 mount-keeps old ctx mount.Export reply messages new step = unchanged (time_of ctx.moment) old new step.state_is
 
 -- so does NLM
-untouched : (now : Time) (old new : State) → new.objects ≡ old.objects → new.spent ≡ old.spent → (NoConflict old → NoConflict new) → (AllHeldUp old → AllHeldUp new) → Keeps now old new
-untouched now old new objects spent apart waits =
+untouched : (now : Time) (old new : State) → new.objects ≡ old.objects → new.spent ≡ old.spent → KeepsExports old new → (NoConflict old → NoConflict new) → (AllHeldUp old → AllHeldUp new) → Keeps now old new
+untouched now old new objects spent exports apart waits =
     subst (λ (x : FinMap nat_cmp Living). Keeps now old (record new { objects = x })) (sym objects)
     (subst (λ (x : ℕ → ℕ → Bool). Keeps now old (record new { objects = old.objects; spent = x })) (sym spent) (record {
       gives = gives-continued now old (record new { objects = old.objects; spent = old.spent }) (record { kept = λ n g e. e; lived = λ n o at. (o, at, inl refl) });
       touches = touches-continued now old (record new { objects = old.objects; spent = old.spent }) (record { kept = λ n g e. e; lived = λ n o at. (o, at, inl refl) });
       cookies = cookies-continued now old (record new { objects = old.objects; spent = old.spent }) (record { kept = λ n g e. e; lived = λ n o at. (o, at, inl refl) });
-      formed = λ w. well_formed-alike old (record new { objects = old.objects; spent = old.spent }) (λ n. alike_itself (get old.objects n)) (λ n. refl) (λ n g e. e) w.texts w;
+      formed = λ w. well_formed-alike old (record new { objects = old.objects; spent = old.spent }) (λ n. alike_itself (get old.objects n)) (λ n. refl) (λ n g e. e) (record { exports = exports.exports; last = exports.last }) w.texts w;
       locks = record { apart = apart; waits = waits };
+      exports = record { exports = exports.exports; last = exports.last };
     }))
 
 nlm-keeps : (old : State) (ctx : Ctx) (call : NlmCall) (reply : NlmReply) (messages : List Message) (new : State) → NlmStep old ctx call reply messages new → Keeps (time_of ctx.moment) old new
-nlm-keeps old ctx call reply messages new step = (let same = nlm-touches old ctx call reply messages new step in untouched (time_of ctx.moment) old new same.objects same.spent same.apart (nlm-waits old ctx call reply messages new step))
+nlm-keeps old ctx call reply messages new step = (let same = nlm-touches old ctx call reply messages new step in untouched (time_of ctx.moment) old new same.objects same.spent (record { exports = ap (λ k. k.1) same.mounts; last = ap (λ k. k.2) same.mounts }) same.apart (nlm-waits old ctx call reply messages new step))
 
 step-keeps : (old : State) (ctx : Ctx) (call : Call) (reply : Reply) (messages : List Message) (new : State) → Step old ctx call reply messages new → Keeps (time_of ctx.moment) old new
 step-keeps old ctx (calls.Nfs call) (replies.Nfs reply) messages new step = keeps (time_of ctx.moment) old new (nfs-follows old ctx call reply messages new step)
@@ -290,6 +301,9 @@ step-keeps old ctx call reply messages new step = absurd step
 
 pub steps_give_once : StepsGiveOnce
 steps_give_once old ctx call reply messages new step = (step-keeps old ctx call reply messages new step).gives
+
+pub steps_keep_exports : StepsKeepExports
+steps_keep_exports old ctx call reply messages new step = (step-keeps old ctx call reply messages new step).exports
 
 pub steps_touch_once : StepsTouchOnce
 steps_touch_once old ctx call reply messages new step = (step-keeps old ctx call reply messages new step).touches

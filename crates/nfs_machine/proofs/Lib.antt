@@ -6,6 +6,8 @@ mod Chosen
 pub mod Continued
 mod Cookies
 pub mod Entered
+pub mod Exported
+mod ExportsWorked
 pub mod Facts
 mod Faults
 pub mod Follows
@@ -18,6 +20,7 @@ mod MakingWorked
 pub mod Modes
 pub mod Moves
 pub mod Opened
+pub mod Ordered
 pub mod Pages
 mod Paging
 mod Pieces

@@ -12,6 +12,8 @@ use Rattle.side_wire.specs.declared.nlm.NlmStatus.{NlmStatus}
 use Rattle.side_wire.specs.declared.nlm.NlmStatus.TheVariants as status
 use Rattle.side_wire.specs.declared.nlm.ShareMode.TheVariants as mode
 use Rattle.side_wire.specs.declared.nlm.TestStatus.{TestStatus}
+use Rattle.side_wire.specs.declared.mount.lists.MountBody.{MountBody}
+use Rattle.nfs_machine.specs.Exports.{LivingExport}
 use Rattle.nfs_machine.specs.LockLaws.{NoConflict}
 use Rattle.nfs_machine.specs.Grants.{ChangesLocks, Grants, SettleInOrder, Settles, requested}
 use Rattle.nfs_machine.specs.Bytes.{same_bytes}
@@ -23,20 +25,24 @@ use Rattle.nfs_machine.specs.declared.context.Ctx.{Ctx}
 use Rattle.nfs_machine.proofs.Checked.{CancelOf, LockOf, ShareOf, Shares, TestOf, UnlockOf, UnshareOf, freed_of}
 use Rattle.nfs_machine.proofs.Modes.{apart-with, apart-without, shares-left, shares-with, unlocking-free}
 
+-- what stands beside objects and locks: the mounts and the exports
+abbrev pub beside : State → List MountBody × List LivingExport × ℕ
+beside m = (m.mounts, m.exports, m.last_export)
+
 pub record Untouched (old new : State) : Type 0 where
   pub objects : new.objects ≡ old.objects
   pub spent : new.spent ≡ old.spent
-  pub mounts : new.mounts ≡ old.mounts
+  pub mounts : beside new ≡ beside old
   pub apart : NoConflict old → NoConflict new
 
 same : (old new : State) → new ≡ old → Untouched old new
-same old new e = record { objects = ap (λ (m : State). m.objects) e; spent = ap (λ (m : State). m.spent) e; mounts = ap (λ (m : State). m.mounts) e; apart = λ h. subst NoConflict (sym e) h }
+same old new e = record { objects = ap (λ (m : State). m.objects) e; spent = ap (λ (m : State). m.spent) e; mounts = ap beside e; apart = λ h. subst NoConflict (sym e) h }
 
 then : (a b c : State) → Untouched a b → Untouched b c → Untouched a c
 then a b c x y = record { objects = y.objects ∙ x.objects; spent = y.spent ∙ x.spent; mounts = y.mounts ∙ x.mounts; apart = λ h. y.apart (x.apart h) }
 
 -- from a state with the same objects
-from : (old after new : State) → after.objects ≡ old.objects → after.spent ≡ old.spent → after.mounts ≡ old.mounts → (NoConflict old → NoConflict after) → new ≡ after → Untouched old new
+from : (old after new : State) → after.objects ≡ old.objects → after.spent ≡ old.spent → beside after ≡ beside old → (NoConflict old → NoConflict after) → new ≡ after → Untouched old new
 from old after new objects spent mounts apart e = then old after new (record { objects = objects; spent = spent; mounts = mounts; apart = apart }) (same after new e)
 
 granted : (old : State) (file : ℕ) (message : Message) (new : State) → Grants old file message new → Untouched old new

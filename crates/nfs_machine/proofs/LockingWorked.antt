@@ -1,5 +1,5 @@
 -- The steps of MOUNT and NLM that are worked through: the lists of locks at every offset, and what the handle names.
-use Rattle.std.proofs.Common.{◌≡◌, ◌==◌, ℕ, ◌+◌, ◌<◌, ◌≤◌, Bool, true, false, not, ◌&&◌, ◌||◌, cond, ◌-◌, ◌^◌, codes, [], ◌∷◌, Option, Some, None, Result, Ok, Err, is_ok, nat_le, inl, inr, refl, sym, ◌∙◌, ap, subst, arith}
+use Rattle.std.proofs.Common.{◌≡◌, ◌==◌, ℕ, ◌+◌, ◌<◌, ◌≤◌, Bool, true, false, not, ◌&&◌, ◌||◌, cond, ◌-◌, ◌^◌, codes, [], ◌∷◌, Option, Some, None, Result, Ok, Err, is_ok, nat_le, inl, inr, refl, sym, ◌∙◌, ap, subst, arith, List}
 use Rattle.std.proofs.Math.Bool.{and-false}
 use Rattle.std.proofs.lemmas.Bool.{and_parts, le-leb, leb-true, lt-leb}
 use Rattle.std.proofs.lemmas.List.Sums.{sum_by-cons}
@@ -13,6 +13,9 @@ use Rattle.nfs_machine.specs.LockSteps.{Fault}
 use Rattle.side_wire.specs.declared.mount.MountStatus.{MountStatus}
 use Rattle.side_wire.specs.declared.mount.MountStatus.TheVariants as mount_status
 use Rattle.nfs_machine.specs.MountSteps.{MountStep, entries_at, walk, ◌>>=◌ as ◌>>=m◌}
+use Rattle.nfs_machine.specs.Exports.{LivingExport}
+use Rattle.nfs_machine.specs.WorkedCreate.{writable}
+use Rattle.nfs_machine.specs.WorkedSetting.{unwritable}
 use Rattle.nfs_machine.specs.Resolve.{Resolved, Names, living_at, resolve}
 use Rattle.nfs_machine.specs.declared.context.Ctx.{Ctx}
 use Rattle.side_wire.specs.declared.nlm.ShareAccess.TheVariants as access
@@ -101,31 +104,31 @@ given-back = record { modes_are = modes; once = once }
         omega (arith, nil, two, sum_by-cons f (lock a 0 39 true) (lock a 60 99 true ∷ []), sum_by-cons f (lock a 60 99 true) [])
 
 -- ---- NLM
-abbrev file_by : Ctx → (fits writes : Bool) → Resolved → Result ℕ Fault
-file_by ctx fits writes r =
+abbrev file_by : List LivingExport → (fits writes : Bool) → Resolved → Result ℕ Fault
+file_by exports fits writes r =
     elim r as (λ r. Result (ℕ × Living) Fault) [ Names number object ↦ Ok (number, object) | other ↦ Err (status.StaleHandle, tested.StaleHandle) ]
     >>= λ file. holding (is_ok (bytes_in file.1.content)) (status.Failed, tested.Failed) >>= λ _. holding fits (status.FileTooBig, tested.FileTooBig)
-    >>= λ _. holding (not writes || is_writable ctx file.1) (status.ReadOnly, tested.ReadOnly) >>= λ _. Ok file.0
+    >>= λ _. holding (not writes || is_writable exports file.1) (status.ReadOnly, tested.ReadOnly) >>= λ _. Ok file.0
 
-abbrev range_under : Ctx → Bool → NlmLock → Resolved → Result Range Fault
-range_under ctx writes l r = file_by ctx (fits_offsets l) writes r >>= λ file. Ok (range_of file l)
+abbrev range_under : List LivingExport → Bool → NlmLock → Resolved → Result Range Fault
+range_under exports writes l r = file_by exports (fits_offsets l) writes r >>= λ file. Ok (range_of file l)
 
 abbrev range_by : Bool → NlmLock → Resolved → Result Range Fault
-range_by = range_under nobody
+range_by = range_under writable
 
 -- where a path without parts leads
 abbrev found_by : Option Living → Result (ℕ × Living) MountStatus
 found_by o = entries_at o >>=m λ d. Ok (1, d.0)
 
 is-x : resolve written nobody x_bytes ≡ Names 5 x_written
-is-x = x-named written x_written refl refl x-lives
+is-x = x-named written refl x_written refl refl x-lives
 
 -- the same under a read-only export
-is-x-read : resolve written read_only x_bytes ≡ Names 5 x_written
+is-x-read : resolve (read_only written) nobody x_bytes ≡ Names 5 x_written
 is-x-read = ap (λ (l : Option Living). living_at l (record root_handle { fileid = 5 })) x-lives
 
 is-root : resolve written nobody root_bytes ≡ Names 1 root_with_x
-is-root = root-named written root_with_x refl refl root-written
+is-root = root-named written refl root_with_x refl refl root-written
 
 pub worked-checks : WorkedChecks
 worked-checks = record {
@@ -134,9 +137,9 @@ worked-checks = record {
   no_handle = refl;
   other_start = refl;
   directory = ap (range_by true (on_x a (2 ^ 64 - 1) 2)) is-root;
-  above = ap (range_under read_only true (on_x a (2 ^ 64 - 1) 2)) is-x-read;
-  exclusive = ap (range_under read_only true (on_x a 0 1)) is-x-read;
-  shared = ap (range_under read_only false (on_x a 0 1)) is-x-read;
+  above = ap (range_under unwritable true (on_x a (2 ^ 64 - 1) 2)) is-x-read;
+  exclusive = ap (range_under unwritable true (on_x a 0 1)) is-x-read;
+  shared = ap (range_under unwritable false (on_x a 0 1)) is-x-read;
 }
 
 held : Conflicts split (on_file b 30 1) Exclusive
@@ -204,37 +207,37 @@ worked-locking = record {
   );
   shares = (
     status.Granted,
-    subst (λ r. ShareOf written (sharing a mode.DenyWrite access.Read).share (file_by nobody true false r) status.Granted [] with_reader) (sym is-x)
+    subst (λ r. ShareOf written (sharing a mode.DenyWrite access.Read).share (file_by writable true false r) status.Granted [] with_reader) (sym is-x)
         (record { reply_is = refl; no_message = refl; state_is = refl }),
     refl,
   );
   share_denied = (
     status.Denied,
-    subst (λ r. ShareOf with_reader (sharing b mode.DenyNone access.Write).share (file_by nobody true true r) status.Denied [] with_reader) (sym is-x)
+    subst (λ r. ShareOf with_reader (sharing b mode.DenyNone access.Write).share (file_by writable true true r) status.Denied [] with_reader) (sym is-x)
         (record { reply_is = refl; no_message = refl; state_is = refl }),
     refl,
   );
   shares_too = (
     status.Granted,
-    subst (λ r. ShareOf with_reader (sharing b mode.DenyNone access.Read).share (file_by nobody true false r) status.Granted [] with_readers) (sym is-x)
+    subst (λ r. ShareOf with_reader (sharing b mode.DenyNone access.Read).share (file_by writable true false r) status.Granted [] with_readers) (sym is-x)
         (record { reply_is = refl; no_message = refl; state_is = refl }),
     refl,
   );
   own_denied = (
     status.Denied,
-    subst (λ r. ShareOf with_readers (sharing a mode.DenyRead access.Read).share (file_by nobody true false r) status.Denied [] with_readers) (sym is-x)
+    subst (λ r. ShareOf with_readers (sharing a mode.DenyRead access.Read).share (file_by writable true false r) status.Denied [] with_readers) (sym is-x)
         (record { reply_is = refl; no_message = refl; state_is = refl }),
     refl,
   );
   unshares_none = (
     status.Granted,
-    subst (λ r. UnshareOf with_readers (sharing (record a { caller_name = codes "c3" }) mode.DenyNone access.Neither).share (file_by nobody true false r) status.Granted [] with_readers) (sym is-x)
+    subst (λ r. UnshareOf with_readers (sharing (record a { caller_name = codes "c3" }) mode.DenyNone access.Neither).share (file_by writable true false r) status.Granted [] with_readers) (sym is-x)
         (record { reply_is = refl; no_message = refl; state_is = refl }),
     refl,
   );
   unshares = (
     status.Granted,
-    subst (λ r. UnshareOf with_readers (sharing a mode.DenyWrite access.Read).share (file_by nobody true false r) status.Granted [] (record written { shares = reading_too ∷ [] })) (sym is-x)
+    subst (λ r. UnshareOf with_readers (sharing a mode.DenyWrite access.Read).share (file_by writable true false r) status.Granted [] (record written { shares = reading_too ∷ [] })) (sym is-x)
         (record { reply_is = refl; no_message = refl; state_is = refl }),
     refl,
   );
@@ -254,7 +257,7 @@ worked-locking = record {
         refl,
         1,
         [],
-        record { leads = record { export = open_export; stands = refl; admitted = refl; begins = refl }; longest = λ other more leads. omega arith },
+        record { leads = record { export = record { number = 1; root = 1; value = open_export }; stands = refl; admitted = refl; begins = refl }; longest = λ other more leads. omega arith },
         sym (ap found_by root-written),
       ),
       refl,

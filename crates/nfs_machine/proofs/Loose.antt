@@ -3,6 +3,7 @@ use Rattle.std.proofs.Common.{◌≡◌, ◌==◌, ℕ, ◌+◌, ◌<◌, ◌≤
 use Rattle.std.proofs.lemmas.Bool.{or_parts}
 use Rattle.std.proofs.lemmas.List.Sums.{sum_by-append}
 use Rattle.std.specs.Cmp.{unsigned_Decides}
+use Rattle.std.specs.Prelude.{IsSome}
 use Rattle.std.specs.FinMap.{get}
 use Rattle.std.specs.List.{AllByRecursion, count_by, sum_by}
 use Rattle.nfs_wire.specs.declared.attributes.Time.{Time}
@@ -11,15 +12,20 @@ use Rattle.nfs_machine.specs.Bytes.{same_bytes}
 use Rattle.nfs_machine.specs.RemoveSteps.{without}
 use Rattle.nfs_machine.specs.Shown.{touched, with_object}
 use Rattle.nfs_machine.specs.State.{Directory, Entry, Living, State}
-use Rattle.nfs_machine.specs.WellFormed.{CookiesRise, IsDirectoryOf, Leads, NamesOnce, TextsFit, WellFormed}
+use Rattle.nfs_machine.specs.Exports.{export_at}
+use Rattle.nfs_machine.specs.Laws.{KeepsExports}
+use Rattle.nfs_machine.specs.WellFormed.{CookiesRise, ExportsStand, IsDirectoryOf, Leads, NamesOnce, TextsFit, WellFormed, is_root}
+use Rattle.nfs_machine.proofs.Exported.{exported-on, stand-on}
 use Rattle.nfs_machine.proofs.Changes.{Differs, all-filter, apart, cookies-filter, count-without, differs-other, differs-there, flipped, itself, once-filter, sum-differs, weight}
-use Rattle.nfs_machine.proofs.WellFormed.{Alike, Deep, KeepsNames, LivesOn, all_last, before, deep-on, keeps_entries, leads-on, lives-alike, names-on, replaced-alike, replaced-names}
+use Rattle.nfs_machine.proofs.WellFormed.{Alike, Deep, KeepsNames, LivesOn, all_last, before, deep-on, keeps_entries, leads-on, lives-alike, names-on, replaced-alike, replaced-names, root-same}
 
 -- a well-formed state, but that the objects of these numbers may have no name; texts of links are no part of it
 pub record Loose (loose : ℕ → Bool) (m : State) : Type 0 where
+  pub exports : ExportsStand m
+  pub exported : (n : ℕ) (o : Living) → get m.objects n ≡ Some o → IsSome (export_at m.exports o.export)
   pub names : (n : ℕ) (o : Living) → get m.objects n ≡ Some o → IsDirectoryOf m o
   pub cookies : (n : ℕ) (o : Living) (entries : List Entry) (last : ℕ) → get m.objects n ≡ Some o → o.content ≡ Directory entries last → CookiesRise 2 entries last
-  pub named : (n : ℕ) (o : Living) → get m.objects n ≡ Some o → (n == o.export) ≡ false → loose n ≡ false → 1 ≤ names_of m n
+  pub named : (n : ℕ) (o : Living) → get m.objects n ≡ Some o → is_root m n ≡ false → loose n ≡ false → 1 ≤ names_of m n
   pub one_name : (n : ℕ) (o : Living) → get m.objects n ≡ Some o → is_directory o.content ≡ true → names_of m n ≤ 1
   pub depth : ℕ → ℕ
   pub deeper : (n : ℕ) (o : Living) → get m.objects n ≡ Some o → AllByRecursion (Deep m depth n) (entries_of o.content)
@@ -33,15 +39,17 @@ abbrev pub none_loose : ℕ → Bool
 none_loose n = false
 
 pub loosened : (loose : ℕ → Bool) (m : State) → WellFormed m → Loose loose m
-loosened loose m w = record { names = w.names; cookies = w.cookies; named = λ n o at other more. w.named n o at other; one_name = w.one_name; depth = w.depth; deeper = w.deeper; given = w.given }
+loosened loose m w = record { exports = w.exports; exported = w.exported; names = w.names; cookies = w.cookies; named = λ n o at other more. w.named n o at other; one_name = w.one_name; depth = w.depth; deeper = w.deeper; given = w.given }
 
 pub tightened : (m : State) → TextsFit m → Loose none_loose m → WellFormed m
 tightened m texts l =
-    record { names = l.names; cookies = l.cookies; named = λ n o at other. l.named n o at other refl; one_name = l.one_name; depth = l.depth; deeper = l.deeper; given = l.given; texts = texts }
+    record { exports = l.exports; exported = l.exported; names = l.names; cookies = l.cookies; named = λ n o at other. l.named n o at other refl; one_name = l.one_name; depth = l.depth; deeper = l.deeper; given = l.given; texts = texts }
 
 -- a number where what lives has a name is not loose
 pub fastened : (number : ℕ) (loose : ℕ → Bool) (m : State) → Loose (also number loose) m → ((o : Living) → get m.objects number ≡ Some o → 1 ≤ names_of m number) → Loose loose m
 fastened number loose m l has = record {
+  exports = l.exports;
+  exported = l.exported;
   names = l.names;
   cookies = l.cookies;
   named = λ n o at other firm. elim (n == number) as (λ b. (n == number) ≡ b → 1 ≤ names_of m n) [
@@ -55,24 +63,26 @@ fastened number loose m l has = record {
 }
 
 -- ---- objects that keep their names
-module _ (old new : State) (alike : (n : ℕ) → Alike (get old.objects n) (get new.objects n)) (names : (n : ℕ) → names_of new n ≡ names_of old n) (spent : (n g : ℕ) → old.spent n g ≡ true → new.spent n g ≡ true) where
+module _ (old new : State) (alike : (n : ℕ) → Alike (get old.objects n) (get new.objects n)) (names : (n : ℕ) → names_of new n ≡ names_of old n) (spent : (n g : ℕ) → old.spent n g ≡ true → new.spent n g ≡ true) (keeps : KeepsExports old new) where
   on-alike : (n : ℕ) (o : Living) → get old.objects n ≡ Some o → 1 ≤ names_of old n → LivesOn new n o
   on-alike n o at some = lives-alike old new alike n o at
 
   pub loose-alike : (loose : ℕ → Bool) → Loose loose old → Loose loose new
   loose-alike loose l = record {
+    exports = stand-on old new keeps (λ n o at root. lives-alike old new alike n o at) l.exports;
+    exported = λ n o at. (let b = before old new alike n o at in exported-on old new keeps b.0 o b.2.export (l.exported n b.0 b.1));
     names = λ n o at.
         let b = before old new alike n o at in
         let d = l.names n b.0 b.1 in
         let same = keeps_entries b.0 o b.2 in
-        record { once = subst NamesOnce (sym same) d.once; leads = subst (AllByRecursion (Leads new o)) (sym same) (leads-on old new on-alike n b.0 b.1 o b.2.export d.leads) };
+        record { once = subst NamesOnce (sym same) d.once; leads = subst (AllByRecursion (Leads new o)) (sym same) (leads-on old new on-alike n b.0 b.1 keeps.exports o b.2.export d.leads) };
     cookies = λ n o entries last at is.
         let b = before old new alike n o at in
         let kind : is_directory b.0.content ≡ true = sym b.2.kind ∙ ap is_directory is in
         l.cookies n b.0 entries last b.1 (sym (b.2.content kind) ∙ is);
     named = λ n o at other firm.
         let b = before old new alike n o at in
-        subst (λ k. 1 ≤ k) (sym (names n)) (l.named n b.0 b.1 (subst (λ x. (n == x) ≡ false) b.2.export other) firm);
+        subst (λ k. 1 ≤ k) (sym (names n)) (l.named n b.0 b.1 (sym (root-same old new keeps.exports n) ∙ other) firm);
     one_name = λ n o at kind.
         let b = before old new alike n o at in
         subst (λ k. k ≤ 1) (sym (names n)) (l.one_name n b.0 b.1 (sym b.2.kind ∙ kind));
@@ -90,7 +100,7 @@ module _ (old new : State) (alike : (n : ℕ) → Alike (get old.objects n) (get
 
 module _ (m : State) (number : ℕ) (was : Living) (at : get m.objects number ≡ Some was) (loose : ℕ → Bool) (l : Loose loose m) where
   pub loose-replaced : (is : Living) → KeepsNames was is → Loose loose (with_object m number is)
-  loose-replaced is keeps = loose-alike m (with_object m number is) (replaced-alike m number was is at keeps) (replaced-names m number was is at keeps) (λ n g e. e) loose l
+  loose-replaced is keeps = loose-alike m (with_object m number is) (replaced-alike m number was is at keeps) (replaced-names m number was is at keeps) (λ n g e. e) (record { exports = refl; last = refl }) loose l
 
   pub loose-touched : (now : Time) → Loose loose (with_object m number (touched was now))
   loose-touched now = loose-replaced (touched was now) (record { export = refl; generation = refl; kind = refl; content = λ e. refl })
@@ -103,6 +113,7 @@ pub record Swaps (old new : State) (place : ℕ) (was is : Living) : Type 0 wher
   pub generation : is.generation ≡ was.generation
   pub kind : is_directory is.content ≡ is_directory was.content
   pub spent : (n g : ℕ) → old.spent n g ≡ true → new.spent n g ≡ true
+  pub keeps : KeepsExports old new
 
 module _ (old new : State) (place : ℕ) (was is : Living) (s : Swaps old new place was is) where
   is-lives : get new.objects place ≡ Some is
@@ -149,7 +160,7 @@ module _ (old new : State) (place : ℕ) (was is : Living) (s : Swaps old new pl
     once-was = subst NamesOnce (ap entries_of content) (l.names place was s.lives).once
 
     leads-was : AllByRecursion (Leads new is) entries
-    leads-was = subst (AllByRecursion (Leads new is)) (ap entries_of content) (leads-on old new on place was s.lives is s.export (l.names place was s.lives).leads)
+    leads-was = subst (AllByRecursion (Leads new is)) (ap entries_of content) (leads-on old new on place was s.lives s.keeps.exports is s.export (l.names place was s.lives).leads)
 
     deep-was : (depth : ℕ → ℕ) → ((n : ℕ) (o : Living) → get old.objects n ≡ Some o → AllByRecursion (Deep old depth n) (entries_of o.content)) → AllByRecursion (Deep new depth place) entries
     deep-was depth deeper =
@@ -163,7 +174,7 @@ module _ (old new : State) (place : ℕ) (was is : Living) (s : Swaps old new pl
     pub once : NamesOnce entries
     pub leads : AllByRecursion (Leads new is) entries
     pub cookies : CookiesRise 2 entries last
-    pub named : (n : ℕ) (o : Living) → get old.objects n ≡ Some o → (n == o.export) ≡ false → loose n ≡ false → 1 ≤ names_of new n
+    pub named : (n : ℕ) (o : Living) → get old.objects n ≡ Some o → is_root old n ≡ false → loose n ≡ false → 1 ≤ names_of new n
     pub one_name : (n : ℕ) (o : Living) → get old.objects n ≡ Some o → is_directory o.content ≡ true → names_of new n ≤ 1
     pub depth : ℕ → ℕ
     pub deeper : (n : ℕ) (o : Living) → get old.objects n ≡ Some o → AllByRecursion (Deep old depth n) (entries_of o.content)
@@ -171,11 +182,16 @@ module _ (old new : State) (place : ℕ) (was is : Living) (s : Swaps old new pl
 
   loose-swapped : (loose more : ℕ → Bool) → Loose loose old → Fits more → Loose more new
   loose-swapped loose more l f = record {
+    exports = stand-on old new s.keeps (λ n o at root. lives-on n o at) l.exports;
+    exported = λ n o at. elim (now-lives n o at) [
+      | inl here ↦ exported-on old new s.keeps was o (sym (ap (λ (x : Living). x.export) here.1) ∙ s.export) (l.exported place was s.lives)
+      | inr there ↦ exported-on old new s.keeps o o refl (l.exported n o there)
+    ];
     names = λ n o at. elim (now-lives n o at) [
       | inl here ↦
           subst (IsDirectoryOf new) here.1
           (record { once = subst NamesOnce (sym (ap entries_of f.content)) f.once; leads = subst (AllByRecursion (Leads new is)) (sym (ap entries_of f.content)) f.leads })
-      | inr there ↦ names-on old new on n o there (l.names n o there)
+      | inr there ↦ names-on old new on n o there s.keeps.exports (l.names n o there)
     ];
     cookies = λ n o entries last at c. elim (now-lives n o at) [
       | inl here ↦
@@ -184,12 +200,10 @@ module _ (old new : State) (place : ℕ) (was is : Living) (s : Swaps old new pl
           subst (λ es. CookiesRise 2 es last) (ap entries_of both) (subst (λ k. CookiesRise 2 f.entries k) k f.cookies)
       | inr there ↦ l.cookies n o entries last there c
     ];
-    named = λ n o at other firm. elim (now-lives n o at) [
-      | inl here ↦
-          let own : (n == is.export) ≡ false = subst (λ (x : Living). (n == x.export) ≡ false) (sym here.1) other in
-          f.named n was (ap (get old.objects) here.0 ∙ s.lives) (subst (λ k. (n == k) ≡ false) s.export own) firm
-      | inr there ↦ f.named n o there other firm
-    ];
+    named = λ n o at other firm. (let own : is_root old n ≡ false = sym (root-same old new s.keeps.exports n) ∙ other in elim (now-lives n o at) [
+      | inl here ↦ f.named n was (ap (get old.objects) here.0 ∙ s.lives) own firm
+      | inr there ↦ f.named n o there own firm
+    ]);
     one_name = λ n o at kind. elim (now-lives n o at) [
       | inl here ↦ f.one_name n was (ap (get old.objects) here.0 ∙ s.lives) (sym s.kind ∙ ap (λ (x : Living). is_directory x.content) here.1 ∙ kind)
       | inr there ↦ f.one_name n o there kind
@@ -261,6 +275,7 @@ Empty o = entries_of o.content ≡ []
 pub record IsNew (m : State) (number : ℕ) (o : Living) : Type 0 where
   pub cookies : (last : ℕ) → o.content ≡ Directory [] last → 2 ≤ last
   pub given : m.spent number o.generation ≡ true
+  pub exported : IsSome (export_at m.exports o.export)
 
 pub record Comes (old new : State) (number : ℕ) (was is : Option Living) : Type 0 where
   pub lives : get old.objects number ≡ was
@@ -269,7 +284,9 @@ pub record Comes (old new : State) (number : ℕ) (was is : Option Living) : Typ
   pub was_empty : IfSome was Empty
   pub is_empty : IfSome is Empty
   pub is_new : IfSome is (IsNew new number)
+  pub no_root : is_root old number ≡ false
   pub spent : (n g : ℕ) → old.spent n g ≡ true → new.spent n g ≡ true
+  pub keeps : KeepsExports old new
 
 names_in-empty : (n : ℕ) (x : Option Living) → IfSome x Empty → weight (names_in n) x ≡ 0
 names_in-empty n None empty = refl
@@ -288,6 +305,12 @@ module _ (old new : State) (number : ℕ) (was is : Option Living) (c : Comes ol
       let other : (n == number) ≡ false = apart n number (λ same. (let none : names_of old n ≡ 0 = subst (λ k. names_of old k ≡ 0) (sym same) c.nameless in absurd (omega (arith, some, none)))) in
       record { object = o; lives = differs-other old.objects new.objects number is c.objects n other ∙ at; export = refl; kind = refl }
 
+  -- so does a root
+  on-root : (n : ℕ) (o : Living) → get old.objects n ≡ Some o → is_root old n ≡ true → LivesOn new n o
+  on-root n o at root =
+      let other : (n == number) ≡ false = apart n number (λ same. (let no : true ≡ false = sym root ∙ subst (λ k. is_root old k ≡ false) (sym same) c.no_root in cc)) in
+      record { object = o; lives = differs-other old.objects new.objects number is c.objects n other ∙ at; export = refl; kind = refl }
+
   -- what lives now came, or lived before
   come : (n : ℕ) (o : Living) → get new.objects n ≡ Some o → ((n ≡ number) × Empty o × IsNew new number o) ⊎ (get old.objects n ≡ Some o)
   come n o at =
@@ -301,9 +324,14 @@ module _ (old new : State) (number : ℕ) (was is : Option Living) (c : Comes ol
 
   pub loose-come : (loose : ℕ → Bool) → Loose (also number loose) old → Loose (also number loose) new
   loose-come loose l = record {
+    exports = stand-on old new c.keeps on-root l.exports;
+    exported = λ n o at. elim (come n o at) [
+      | inl here ↦ here.2.exported
+      | inr there ↦ exported-on old new c.keeps o o refl (l.exported n o there)
+    ];
     names = λ n o at. elim (come n o at) [
       | inl here ↦ record { once = subst NamesOnce (sym here.1) tt; leads = subst (AllByRecursion (Leads new o)) (sym here.1) tt }
-      | inr there ↦ names-on old new on-come n o there (l.names n o there)
+      | inr there ↦ names-on old new on-come n o there c.keeps.exports (l.names n o there)
     ];
     cookies = λ n o entries last at e. elim (come n o at) [
       | inl here ↦
@@ -313,7 +341,7 @@ module _ (old new : State) (number : ℕ) (was is : Option Living) (c : Comes ol
     ];
     named = λ n o at other firm. elim (come n o at) [
       | inl here ↦ (let no : true ≡ false = sym ((unsigned_Decides n number).1 here.0) ∙ (or_parts (n == number) (loose n) firm).0 in cc)
-      | inr there ↦ omega (arith, names_of-come n, l.named n o there other firm)
+      | inr there ↦ omega (arith, names_of-come n, l.named n o there (sym (root-same old new c.keeps.exports n) ∙ other) firm)
     ];
     one_name = λ n o at kind. elim (come n o at) [
       | inl here ↦ (let none : names_of old n ≡ 0 = subst (λ k. names_of old k ≡ 0) (sym here.0) c.nameless in omega (arith, names_of-come n, none))
@@ -357,7 +385,7 @@ pub record AddsName (old new : State) (place number : ℕ) (directory wider obje
   pub wider_content : wider.content ≡ Directory (entries ++ record { name = name; number = number; cookie = last + 1 } ∷ []) (last + 1)
   pub lives : get old.objects number ≡ Some object
   pub export : object.export ≡ directory.export
-  pub no_root : (number == directory.export) ≡ false
+  pub no_root : is_root old number ≡ false
   -- a directory has no other name
   pub nameless : is_directory object.content ≡ true → names_of old number ≡ 0
 
@@ -390,7 +418,7 @@ module _ (old new : State) (place number : ℕ) (directory wider object : Living
       object = object-on.object;
       lives = object-on.lives;
       export = object-on.export ∙ a.export ∙ sym a.swaps.export;
-      no_root = subst (λ k. (number == k) ≡ false) (sym a.swaps.export) a.no_root;
+      no_root = root-same old new a.swaps.keeps.exports number ∙ a.no_root;
     }
 
     named-added : 1 ≤ names_of new number

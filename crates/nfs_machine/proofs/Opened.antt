@@ -1,18 +1,22 @@
 -- The state that a server starts with: its roots live, one for each export, and nothing else; so it is well formed.
-use Rattle.std.proofs.Common.{◌≡◌, ◌≢◌, ℕ, ◌+◌, ◌<◌, ◌≤◌, ◌&&◌, ◌⊎◌, inl, inr, true, false, cond, nat_le, List, [], ◌∷◌, length, Some, None, refl, sym, ◌∙◌, ap, subst, arith, if◌then◌else◌}
+use Rattle.std.proofs.Common.{◌≡◌, ◌≢◌, ◌==◌, ◌||◌, ℕ, zero, suc, ◌+◌, ◌-◌, ◌<◌, ◌≤◌, ◌&&◌, ◌⊎◌, inl, inr, true, false, cond, nat_le, List, [], ◌∷◌, length, Some, None, refl, sym, ◌∙◌, ap, subst, arith, if◌then◌else◌}
 use Rattle.std.proofs.lemmas.Bool.Decides.{nat_tests}
-use Rattle.std.specs.Cmp.{nat_cmp_total}
+use Rattle.std.specs.Cmp.{nat_cmp_total, unsigned_Decides}
 use Rattle.std.specs.FinMap.{FinMap, get, insert, get-insert, get-empty}
-use Rattle.std.specs.List.{AllByRecursion}
+use Rattle.std.specs.List.{AllByRecursion, list_any, slice_get}
+use Rattle.std.specs.Prelude.{IsSome, is_some}
+use Rattle.std.specs.Option.{option_map}
 use Rattle.std.specs.Ordering.{nat_cmp, eq_by_cmp}
 use Rattle.nfs_wire.specs.declared.attributes.Time.{Time}
 use Rattle.nfs_machine.specs.Attributes.{entries_of, is_living_directory, names_in, names_of}
-use Rattle.nfs_machine.specs.Exports.{ExportValue}
+use Rattle.nfs_machine.specs.Exports.{ExportValue, export_at, numbered_exports, opening_exports}
 use Rattle.nfs_machine.specs.Laws.{OpeningIsFormed}
 use Rattle.nfs_machine.specs.Opening.{opening, opening_root, opening_roots, time_of}
 use Rattle.nfs_machine.specs.State.{Directory, Link, Entry, Living}
-use Rattle.nfs_machine.specs.WellFormed.{CookiesRise, IsDirectoryOf, WellFormed}
+use Rattle.nfs_machine.specs.WellFormed.{AllApart, CookiesRise, ExportsStand, HasRoot, IsDirectoryOf, IsNumbered, WellFormed, is_root}
 use Rattle.nfs_machine.specs.declared.moment.Moment.{Moment}
+use Rattle.nfs_machine.proofs.Exported.{roots_at}
+use Rattle.nfs_machine.proofs.Ordered.{all-numbered, length-numbered, opened-apart, opened-at, with_number}
 use Rattle.nfs_machine.proofs.Sums.{sum-none}
 
 pub le_or : (a b : ℕ) → (a ≤ b) ⊎ (b < a)
@@ -62,7 +66,16 @@ module _ (es : List ExportValue) (moment : Moment) where
           ((let same : opening_root n time ≡ o = cc in same), (let e : last_given n ≡ 1 = grind (arith, nat_tests) in e))
       | inr h ↦ (let none : None ≡ Some o = sym (root_none time es 1 n (inr (omega (arith, h)))) ∙ at in absurd cc)
     ]
-    | inr zero ↦ (let none : None ≡ Some o = sym (root_none time es 1 n (inl zero)) ∙ at in absurd cc)
+    | inr below ↦ (let none : None ≡ Some o = sym (root_none time es 1 n (inl below)) ∙ at in absurd cc)
+  ]
+
+  root_range : (n : ℕ) (o : Living) → get (opening_roots 1 es time) n ≡ Some o → (1 ≤ n) × (n ≤ length es)
+  root_range n o at = elim (le_or 1 n) [
+    | inl low ↦ elim (le_or n (length es)) [
+      | inl h ↦ (low, h)
+      | inr h ↦ (let none : None ≡ Some o = sym (root_none time es 1 n (inr (omega (arith, h)))) ∙ at in absurd cc)
+    ]
+    | inr below ↦ (let none : None ≡ Some o = sym (root_none time es 1 n (inl below)) ∙ at in absurd cc)
   ]
 
   root_cookies : (entries : List Entry) (last : ℕ) → Directory [] 2 ≡ Directory entries last → CookiesRise 2 entries last
@@ -71,12 +84,46 @@ module _ (es : List ExportValue) (moment : Moment) where
       let two : 2 ≡ last = cc in
       subst (λ k. CookiesRise 2 entries k) two (subst (λ (xs : List Entry). CookiesRise 2 xs 2) none (omega arith))
 
+  -- the root of each export lives
+  pub roots_stand : length es ≤ 64 → AllApart (opening_exports es) → ExportsStand (opening es moment)
+  roots_stand few apart = record {
+    few = omega (arith, length-numbered es 1, few);
+    numbered = all-numbered (IsNumbered (length es)) es 1 (λ n e low high. (low, omega (arith, few, high), omega (arith, high)));
+    apart = apart;
+    rooted = all-numbered (HasRoot (opening es moment)) es 1 (λ n e low high. record { root = opening_root n time; lives = root_found time es 1 n low high; own = refl; directory = refl });
+  }
+
+  -- each object is of an export
+  exported : (n : ℕ) → 1 ≤ n → n ≤ length es → IsSome (export_at (opening_exports es) n)
+  exported n low high =
+      let place : n ≡ 1 + (n - 1) = omega (arith, low) in
+      subst (λ k. IsSome (export_at (opening_exports es) k)) (sym place) (ap is_some (opened-at es (n - 1)) ∙ there es (n - 1) (omega (arith, low, high)))
+    where
+      there : (xs : List ExportValue) (i : ℕ) → i < length xs → is_some (option_map (with_number (1 + (n - 1))) (slice_get xs i)) ≡ true
+      there [] i less = absurd (omega (arith, less))
+      there (x ∷ xs) zero less = refl
+      there (x ∷ xs) (suc i) less = there xs i (omega (arith, less))
+
+  -- each root is one
+  is_root-opened : (n : ℕ) → 1 ≤ n → n ≤ length es → is_root (opening es moment) n ≡ true
+  is_root-opened n low high = any es 1 low (omega (arith, high))
+    where
+      any : (xs : List ExportValue) (k : ℕ) → k ≤ n → n < k + length xs → list_any (roots_at n) (numbered_exports k xs) ≡ true
+      any [] k low high = absurd (omega (arith, low, high))
+      any (x ∷ xs) k low high =
+          elim (k == n) as (λ b. (k == n) ≡ b → (b || list_any (roots_at n) (numbered_exports (k + 1) xs)) ≡ true) [
+            | true ↦ λ e. refl
+            | false ↦ λ e. any xs (k + 1) (let other : k ≢ n = λ same. (let no : true ≡ false = sym ((unsigned_Decides k n).1 same) ∙ e in cc) in omega (arith, low, other)) (omega (arith, high))
+          ] refl
+
   -- no names, and so nothing below a root
-  roots_formed : WellFormed (opening es moment)
-  roots_formed = record {
+  pub roots_formed : length es ≤ 64 → AllApart (opening_exports es) → WellFormed (opening es moment)
+  roots_formed few apart = record {
+    exports = roots_stand few apart;
+    exported = λ n o at. (let r = root_range n o at in subst (λ k. IsSome (export_at (opening_exports es) k)) (ap (λ (x : Living). x.export) (only_roots n o at).0) (exported n r.0 r.1));
     names = λ n o at. subst (IsDirectoryOf (opening es moment)) (only_roots n o at).0 (record { once = tt; leads = tt });
     cookies = λ n o entries last at is. root_cookies entries last (ap (λ (x : Living). x.content) (only_roots n o at).0 ∙ is);
-    named = λ n o at other. (let own : n ≡ o.export = ap (λ (x : Living). x.export) (only_roots n o at).0 in absurd (grind (arith, nat_tests)));
+    named = λ n o at other. (let r = root_range n o at in let no : true ≡ false = sym (is_root-opened n r.0 r.1) ∙ other in cc);
     one_name = λ n o at kind.
         let none : names_of (opening es moment) n ≡ 0 = sum-none (names_in n) (opening_roots 1 es time) (λ q v there. subst (λ (x : Living). names_in n x ≡ 0) (only_roots q v there).0 refl) in
         omega arith;
@@ -88,4 +135,4 @@ module _ (es : List ExportValue) (moment : Moment) where
   }
 
 pub opening_formed : OpeningIsFormed
-opening_formed es moment = roots_formed es moment
+opening_formed es moment faultless = (let a = opened-apart es faultless in roots_formed es moment a.0 a.1)

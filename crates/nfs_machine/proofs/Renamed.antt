@@ -14,7 +14,7 @@ use Rattle.nfs_machine.specs.RemoveSteps.{object_under, without}
 use Rattle.nfs_machine.specs.RenameSteps.{IsWithin, itself, below, is_compatible}
 use Rattle.nfs_machine.specs.Shown.{touched, with_content, with_object}
 use Rattle.nfs_machine.specs.State.{Content, Directory, Entry, Living, State}
-use Rattle.nfs_machine.specs.WellFormed.{Leads, TextsFit, WellFormed}
+use Rattle.nfs_machine.specs.WellFormed.{Leads, TextsFit, WellFormed, is_root}
 use Rattle.nfs_machine.proofs.Changes.{apart, count-filter, differs-insert, differs-other, differs-there, find-all, find-filter, find-other, find-taken, flipped, without-absent}
 use Rattle.nfs_machine.proofs.Continued.{texts-continued, well_formed-losing}
 use Rattle.nfs_machine.proofs.Facts.{are_none, no-entry}
@@ -249,8 +249,8 @@ module _ (m : State) (now : Time) (move : Move) (is : IsMove m move) (w : WellFo
   object-export : move.from.object.export ≡ waiting.export
   object-export = sym (ap (λ (o : Living). o.export) same-object) ∙ object-leads.export ∙ is.export ∙ sym waiting-export
 
-  object-no_root : (number == waiting.export) ≡ false
-  object-no_root = subst (λ k. (number == k) ≡ false) (is.export ∙ sym waiting-export) (subst (λ k. (k == move.from.directory.export) ≡ false) is.from.number object-leads.no_root)
+  object-no_root : is_root m number ≡ false
+  object-no_root = subst (λ k. is_root m k ≡ false) is.from.number object-leads.no_root
 
   module _ (loose : ℕ → Bool) (l : Loose loose free) where
     left-loose : Loose (also number loose) left
@@ -265,6 +265,7 @@ module _ (m : State) (now : Time) (move : Move) (is : IsMove m move) (w : WellFo
         generation = sym waiting-generation;
         kind = sym (ap is_directory waiting-content);
         spent = λ n g e. e;
+        keeps = record { exports = refl; last = refl };
       };
       entries = entries_left move;
       last = move.last_cookie;
@@ -383,6 +384,10 @@ module _ (m : State) (now : Time) (move : Move) (is : IsMove m move) (w : WellFo
         let found : find (λ (x : Entry). same_bytes x.name move.from.name) [] ≡ Some is.from.entry = subst (λ es. find (λ (x : Entry). same_bytes x.name move.from.name) es ≡ Some is.from.entry) none is.from.found in
         cc)
 
+    over-no_root : is_root m o.0 ≡ false
+    over-no_root =
+        subst (λ k. is_root m k ≡ false) over.number (entry-leads m w target move.directory move.entries move.last_cookie is.lives is.content move.name over.entry over.found).no_root
+
     over-lives : get step.objects o.0 ≡ Some o.1
     over-lives =
         differs-other (with_names_moved m now move).objects step.objects number (Some (touched move.from.object now)) (differs-insert (with_names_moved m now move).objects number (touched move.from.object now)) o.0 (is.other o some)
@@ -394,7 +399,7 @@ module _ (m : State) (now : Time) (move : Move) (is : IsMove m move) (w : WellFo
     over-formed =
         let l = freed-some o some in
         let one = one-less m now (over_named o) over none_loose (loosened none_loose m w) in
-        well_formed-losing step o.0 o.1 over-lives (step-loose (also o.0 none_loose) l) (names_of m o.0) now empty (omega (arith, one, names_of-step (also o.0 none_loose) l o.0))
+        well_formed-losing step o.0 o.1 over-lives (step-loose (also o.0 none_loose) l) over-no_root (names_of m o.0) now empty (omega (arith, one, names_of-step (also o.0 none_loose) l o.0))
 
   pub well_formed-moved : WellFormed (with_moved m now move)
   well_formed-moved = judged move.replaced refl (texts-continued now m (with_moved m now move) (continues-moved m now move is) w.texts)

@@ -1,7 +1,7 @@
 -- A handle that names an object names what lives at its number.
 use Rattle.std.proofs.Common.{◌≡◌, ◌==◌, ℕ, ◌&&◌, true, false, cond, List, Option, Some, None, refl, sym, ◌∙◌, ap}
 use Rattle.std.specs.FinMap.{get}
-use Rattle.nfs_machine.specs.Exports.{export_admits, export_at}
+use Rattle.nfs_machine.specs.Exports.{LivingExport, export_admits, export_at}
 use Rattle.nfs_machine.specs.Handles.{handle_of}
 use Rattle.nfs_machine.specs.Resolve.{Stale, Names, living_at, named, resolve}
 use Rattle.nfs_machine.specs.State.{Living, State}
@@ -17,29 +17,29 @@ module _ (find : ℕ → Option Living) (number : ℕ) (o : Living) where
         | false ↦ λ same. cc
       ] is
 
-  found : (ctx : Ctx) (h : Option Handle) → named find ctx h ≡ Names number o → find number ≡ Some o
-  found ctx None is = cc
-  found ctx (Some h) is =
-      elim ((h.start == ctx.start) && export_admits (export_at ctx.exports h.export) ctx.host) as (λ t. cond t (living_at (find h.fileid) h) Stale ≡ Names number o → find number ≡ Some o) [
+  found : (exports : List LivingExport) (ctx : Ctx) (h : Option Handle) → named find exports ctx h ≡ Names number o → find number ≡ Some o
+  found exports ctx None is = cc
+  found exports ctx (Some h) is =
+      elim ((h.start == ctx.start) && export_admits (export_at exports h.export) ctx.host) as (λ t. cond t (living_at (find h.fileid) h) Stale ≡ Names number o → find number ≡ Some o) [
         | true ↦ λ same. living (find h.fileid) h refl same
         | false ↦ λ same. cc
       ] is
 
 -- the number is that of the handle
 pub resolved-number : (m : State) (ctx : Ctx) (bytes : List ℕ) (h : Handle) (number : ℕ) (o : Living) → handle_of bytes ≡ Some h → resolve m ctx bytes ≡ Names number o → number ≡ h.fileid
-resolved-number m ctx bytes h number o handle is = admitted (sym (ap (named (get m.objects) ctx) handle) ∙ is)
+resolved-number m ctx bytes h number o handle is = admitted (sym (ap (named (get m.objects) m.exports ctx) handle) ∙ is)
   where
     same : (x : Option Living) → living_at x h ≡ Names number o → number ≡ h.fileid
     same None at = cc
     same (Some object) at =
         elim ((object.generation == h.generation) && (object.export == h.export)) as (λ t. cond t (Names h.fileid object) Stale ≡ Names number o → number ≡ h.fileid) [ true ↦ λ e. cc | false ↦ λ e. cc ] at
 
-    admitted : named (get m.objects) ctx (Some h) ≡ Names number o → number ≡ h.fileid
+    admitted : named (get m.objects) m.exports ctx (Some h) ≡ Names number o → number ≡ h.fileid
     admitted at =
-        elim ((h.start == ctx.start) && export_admits (export_at ctx.exports h.export) ctx.host) as (λ t. cond t (living_at (get m.objects h.fileid) h) Stale ≡ Names number o → number ≡ h.fileid) [
+        elim ((h.start == ctx.start) && export_admits (export_at m.exports h.export) ctx.host) as (λ t. cond t (living_at (get m.objects h.fileid) h) Stale ≡ Names number o → number ≡ h.fileid) [
           | true ↦ λ e. same (get m.objects h.fileid) e
           | false ↦ λ e. cc
         ] at
 
 pub resolved-lives : (m : State) (ctx : Ctx) (bytes : List ℕ) (number : ℕ) (o : Living) → resolve m ctx bytes ≡ Names number o → get m.objects number ≡ Some o
-resolved-lives m ctx bytes number o is = found (get m.objects) number o ctx (handle_of bytes) is
+resolved-lives m ctx bytes number o is = found (get m.objects) number o m.exports ctx (handle_of bytes) is

@@ -108,7 +108,7 @@ module _ (m : State) (ctx : Ctx) where
         chained EndShort (entries_in directory.1.content) _ (λ entries.
         chained EndShort (plain_name_checked status.Exists status.Exists place.name) _ (λ x1.
         chained EndShort wanted _ (λ what.
-        chained EndShort (changeable ctx directory.1) _ (λ x2.
+        chained EndShort (changeable m.exports directory.1) _ (λ x2.
         chained EndShort (permitted ctx directory.1 Changing) _ (λ x3.
         by-name what directory.0 directory.1 entries.0 entries.1 (entry_of entries.0 place.name)))))))
 
@@ -140,7 +140,7 @@ replies_short old ctx (calls.Create a) reply messages new w step =
 replies_short old ctx (calls.Setattr a) reply messages new w step =
     subst IsShort (sym step.reply_is) (record { form = tt; short = omega (arith, setattr-size (wcc (state_after old (setattr_end old ctx a)) (resolve old ctx a.object)) (answer_of (setattr_end old ctx a))) })
 replies_short old ctx (calls.Access a) reply messages new w step =
-    subst IsShort (sym step.reply_is) (record { form = tt; short = omega (arith, access-size (shown old (resolve old ctx a.object)) (object_of (resolve old ctx a.object) >>= λ o. Ok (granted ctx o.1 a.rights))) })
+    subst IsShort (sym step.reply_is) (record { form = tt; short = omega (arith, access-size (shown old (resolve old ctx a.object)) (object_of (resolve old ctx a.object) >>= λ o. Ok (granted old.exports ctx o.1 a.rights))) })
 replies_short old ctx (calls.Readlink object) reply messages new w step = subst IsShort (sym step.reply_is) (record {
   form = text-fits (object_of (resolve old ctx object) >>= λ o. text_in o.1.content) (texts-read old ctx object w.texts);
   short = omega (arith, readlink-size (shown old (resolve old ctx object)) (object_of (resolve old ctx object) >>= λ o. text_in o.1.content) 4096 (texts-read old ctx object w.texts));

@@ -22,7 +22,7 @@ use Rattle.side_wire.specs.declared.nlm.TestStatus.{TestStatus}
 use Rattle.side_wire.specs.declared.nlm.TestStatus.TheVariants as tested
 use Rattle.nfs_machine.specs.Bytes.{same_bytes}
 use Rattle.nfs_machine.specs.Checks.{◌>>=◌, bytes_in, holding, is_writable}
-use Rattle.nfs_machine.specs.Exports.{ExportValue, every_host}
+use Rattle.nfs_machine.specs.Exports.{LivingExport, every_host}
 use Rattle.nfs_machine.specs.Locks.{Mode, denies, fits_offsets, shares_conflict}
 use Rattle.nfs_machine.specs.LockSteps.{Fault, HeldUp, Tests, is_request, file_checked, range_checked, share_of}
 use Rattle.nfs_machine.specs.MountSteps.{MntAnswers, MountStep, is_mounted, is_of, listed_exports, newest, with_mount, without_mounts}
@@ -45,17 +45,17 @@ all-dropped P zero xs all = all
 all-dropped P (suc n) [] all = tt
 all-dropped P (suc n) (x ∷ xs) all = all-dropped P n xs all.1
 
-groups-form : (e : ExportValue) → AllByRecursion IsHostName e.hosts → All IsHostName (if list_any (λ h. same_bytes h every_host) e.hosts then [] else e.hosts)
+groups-form : (e : LivingExport) → AllByRecursion IsHostName e.hosts → All IsHostName (if list_any (λ h. same_bytes h every_host) e.hosts then [] else e.hosts)
 groups-form e fit =
     elim (list_any (λ h. same_bytes h every_host) e.hosts) as (λ b. All IsHostName (cond b [] e.hosts)) [
       | true ↦ All-from_recursion IsHostName [] tt
       | false ↦ All-from_recursion IsHostName e.hosts fit
     ]
 
-exports-form : (exports : List ExportValue) → ExportsFit exports → All HasExportNodeForm (listed_exports exports)
+exports-form : (exports : List LivingExport) → ExportsFit exports → All HasExportNodeForm (listed_exports exports)
 exports-form exports fit =
     All-from_recursion HasExportNodeForm (listed_exports exports)
-    (all-listed (λ (e : ExportValue). IsDirpath e.path × AllByRecursion IsHostName e.hosts) HasExportNodeForm (λ (e : ExportValue). record { directory = e.path; groups = if list_any (λ h. same_bytes h every_host) e.hosts then [] else e.hosts }) exports
+    (all-listed (λ (e : LivingExport). IsDirpath e.path × AllByRecursion IsHostName e.hosts) HasExportNodeForm (λ (e : LivingExport). record { directory = e.path; groups = if list_any (λ h. same_bytes h every_host) e.hosts then [] else e.hosts }) exports
     (λ e h. (h.0, groups-form e h.1)) fit)
 
 mnt-form : (old : State) (ctx : Ctx) (path : List ℕ) (result : Result (List ℕ) MountStatus) (new : State) → MntAnswers old ctx path result new → IfOk result (λ handle. length handle ≤ 64)
@@ -69,7 +69,7 @@ mount_replies_form old ctx (mount.Mnt path) reply messages new fit exports step 
 mount_replies_form old ctx mount.Dump reply messages new fit exports step = subst HasMountForm (sym step.reply_is) (All-from_recursion HasMountBodyForm old.mounts fit)
 mount_replies_form old ctx (mount.Unmount path) reply messages new fit exports step = subst HasMountForm (sym step.reply_is) tt
 mount_replies_form old ctx mount.UnmountAll reply messages new fit exports step = subst HasMountForm (sym step.reply_is) tt
-mount_replies_form old ctx mount.Export reply messages new fit exports step = subst HasMountForm (sym step.reply_is) (exports-form ctx.exports exports)
+mount_replies_form old ctx mount.Export reply messages new fit exports step = subst HasMountForm (sym step.reply_is) (exports-form old.exports exports)
 
 mounted-fit : (m : State) (x : MountBody) → IsHostName x.hostname × IsDirpath x.directory → MountsFit m → MountsFit (with_mount m x)
 mounted-fit m x one fit =
@@ -146,7 +146,7 @@ range-form old ctx writes l =
     (faults-form (named_file (resolve old ctx l.file)) _ (named-form (resolve old ctx l.file))
     (λ file. faults-form (holding (is_ok (bytes_in file.1.content)) (status.Failed, tested.Failed)) _ (held-form (is_ok (bytes_in file.1.content)) (status.Failed, tested.Failed) tt)
     (λ x. faults-form (holding (fits_offsets l) (status.FileTooBig, tested.FileTooBig)) _ (held-form (fits_offsets l) (status.FileTooBig, tested.FileTooBig) tt)
-    (λ y. faults-form (holding (not writes || is_writable ctx file.1) (status.ReadOnly, tested.ReadOnly)) _ (held-form (not writes || is_writable ctx file.1) (status.ReadOnly, tested.ReadOnly) tt) (λ z. tt)))))
+    (λ y. faults-form (holding (not writes || is_writable old.exports file.1) (status.ReadOnly, tested.ReadOnly)) _ (held-form (not writes || is_writable old.exports file.1) (status.ReadOnly, tested.ReadOnly) tt) (λ z. tt)))))
     (λ file. tt)
 
 pub test-form : (old : State) (exclusive : Bool) (r : Result Range Fault) (s : TestStatus) (messages : List Message) (new : State) → FaultsHaveForm r → OwnersFit old.locks → TestOf old exclusive r s messages new → HasTestStatusForm s

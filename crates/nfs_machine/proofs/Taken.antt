@@ -3,6 +3,7 @@ use Rattle.std.proofs.Common.{◌≡◌, ◌==◌, ℕ, ◌+◌, ◌^◌, Bool, 
 use Rattle.std.specs.Prelude.{is_none, ok_or}
 use Rattle.std.specs.Cmp.{unsigned_Decides}
 use Rattle.std.specs.FinMap.{get}
+use Rattle.std.specs.List.{AllByRecursion}
 use Rattle.std.proofs.lemmas.Bool.{not-true}
 use Rattle.nfs_wire.specs.declared.attributes.Time.{Time}
 use Rattle.nfs_wire.specs.declared.calls.LinkArguments.{LinkArguments}
@@ -21,16 +22,16 @@ use Rattle.nfs_machine.specs.Resolve.{resolve}
 use Rattle.nfs_machine.specs.Shown.{touched, with_content, with_object}
 use Rattle.nfs_machine.specs.State.{Content, Directory, Entry, Living, State}
 use Rattle.nfs_machine.specs.Times.{time_of}
-use Rattle.nfs_machine.specs.WellFormed.{WellFormed}
+use Rattle.nfs_machine.specs.WellFormed.{Leads, WellFormed, is_root}
 use Rattle.nfs_machine.specs.declared.context.Ctx.{Ctx}
-use Rattle.nfs_machine.proofs.Changes.{apart, differs-insert, differs-other, itself}
+use Rattle.nfs_machine.proofs.Changes.{apart, differs-insert, differs-other, find-all, itself}
 use Rattle.nfs_machine.proofs.Continued.{Continues, continues-itself, continues-losing, continues-touched, continues-with, cookies-continued, gives-continued, texts-continued, touches-continued, well_formed-losing}
 use Rattle.nfs_machine.proofs.Cookies.{kept-added, kept-of, kept-same, kept-without}
 use Rattle.nfs_machine.proofs.Facts.{absent, chained-is, directory-empty, holds, is-directory, leads-found, plain-empty, resolved-lives}
-use Rattle.nfs_machine.proofs.Follows.{Follows, bounds-losing, locks-losing, mounts-losing}
+use Rattle.nfs_machine.proofs.Follows.{Follows, bounds-losing, exports-losing, locks-losing, mounts-losing}
 use Rattle.nfs_machine.proofs.Loose.{AddsName, Loose, Swaps, TakesName, also, loose-added, loose-taken, loose-touched, loosened, names_of-taken, none_loose, tightened}
 use Rattle.nfs_machine.proofs.Moves.{Named, named_as, remove_end, rmdir_end, take_end, with_name_taken}
-use Rattle.nfs_machine.proofs.Roots.{directory-root}
+use Rattle.nfs_machine.proofs.Exported.{plain-no_root}
 
 -- a name that is in its directory, and leads to what lives there
 pub record IsNamed (m : State) (n : Named) : Type 0 where
@@ -70,6 +71,7 @@ narrower-swaps m n now entries last named = record {
   generation = refl;
   kind = sym (ap is_directory named.content);
   spent = λ n g e. e;
+  keeps = record { exports = refl; last = refl };
 }
 
 module _ (m : State) (now : Time) (n : Named) (named : IsNamed m n) where
@@ -98,6 +100,12 @@ module _ (m : State) (now : Time) (n : Named) (named : IsNamed m n) where
       let one : cond {A = ℕ} (named.entry.number == n.number) 1 0 ≡ 1 = ap (λ k. cond {A = ℕ} (k == n.number) 1 0) named.number ∙ ap (λ b. cond b 1 0) (itself n.number) in
       omega (arith, names_of-taken m mid n.place n.directory narrower n.name named.entry takes loose l n.number, one)
 
+  -- what a name leads to is no root
+  no-root : WellFormed m → is_root m n.number ≡ false
+  no-root w =
+      let leads = subst (AllByRecursion (Leads m n.directory)) (ap entries_of named.content) (w.names n.place n.directory named.lives).leads in
+      subst (λ k. is_root m k ≡ false) named.number (find-all (Leads m n.directory) (λ (x : Entry). same_bytes x.name n.name) n.entries named.entry leads named.found).no_root
+
   module _ (empty : entries_of n.object.content ≡ []) where
     -- it is another than its directory, which has an entry
     elsewhere : (n.number == n.place) ≡ false
@@ -122,9 +130,10 @@ module _ (m : State) (now : Time) (n : Named) (named : IsNamed m n) where
       cookies = cookies-continued now m (with_name_taken m now n) continues-taken;
       formed = λ w.
           let l = loosened none_loose m w in
-          well_formed-losing mid n.number n.object object-there (loose-mid none_loose l) (names_of m n.number) now empty (one-less none_loose l)
+          well_formed-losing mid n.number n.object object-there (loose-mid none_loose l) (no-root w) (names_of m n.number) now empty (one-less none_loose l)
           (texts-continued now m (with_name_taken m now n) continues-taken w.texts);
       locks = (let l = locks-losing mid (names_of m n.number) now n.number n.object in record { apart = l.apart; waits = l.waits });
+      exports = (let k = exports-losing mid (names_of m n.number) now n.number n.object in record { exports = k.exports; last = k.last });
       mounts = mounts-losing mid (names_of m n.number) now n.number n.object;
       bounds = bounds-losing mid (names_of m n.number) now n.number n.object;
     }
@@ -139,7 +148,7 @@ module _ (m : State) (ctx : Ctx) where
       chained-is Leaves (object_of (resolve m ctx place.directory)) _ (λ directory at.
       chained-is Leaves (entries_in directory.1.content) _ (λ entries is.
       chained-is Leaves (name place.name) _ (λ x1 e1.
-      chained-is Leaves (changeable ctx directory.1) _ (λ x2 e2.
+      chained-is Leaves (changeable m.exports directory.1) _ (λ x2 e2.
       chained-is Leaves (permitted ctx directory.1 Changing) _ (λ x3 e3.
       chained-is Leaves (ok_or (object_under m (entry_of entries.0 place.name)) status.NoEntry) _ (λ o e4.
       chained-is Leaves (content o.1.content) _ (λ x5 e5.
@@ -167,13 +176,6 @@ module _ (m : State) (now : Time) (number : ℕ) (object : Living) (place : ℕ)
   kind : is_directory directory.content ≡ true
   kind = ap is_directory content
 
-  no-root : WellFormed m → (number == directory.export) ≡ false
-  no-root w = apart number directory.export (λ same.
-      let root = directory-root m w place directory lives kind in
-      let both : Some object ≡ Some root.0 = sym there ∙ ap (get m.objects) same ∙ root.1 in
-      let is : object ≡ root.0 = cc in
-      let no : true ≡ false = sym root.2 ∙ sym (ap (λ (o : Living). is_directory o.content) is) ∙ plain in cc)
-
   other-place : (number == place) ≡ false
   other-place = apart number place (λ same.
       let both : Some object ≡ Some directory = sym there ∙ ap (get m.objects) same ∙ lives in
@@ -182,7 +184,7 @@ module _ (m : State) (now : Time) (number : ℕ) (object : Living) (place : ℕ)
 
   adds : WellFormed m → AddsName m added place number directory wider object name
   adds w = record {
-    swaps = record { lives = lives; objects = differs-insert m.objects place wider; export = refl; generation = refl; kind = sym kind; spent = λ n g e. e };
+    swaps = record { lives = lives; objects = differs-insert m.objects place wider; export = refl; generation = refl; kind = sym kind; spent = λ n g e. e; keeps = record { exports = refl; last = refl } };
     entries = entries;
     last = last;
     content = content;
@@ -190,7 +192,7 @@ module _ (m : State) (now : Time) (number : ℕ) (object : Living) (place : ℕ)
     wider_content = refl;
     lives = there;
     export = export;
-    no_root = no-root w;
+    no_root = plain-no_root m w.exports number object there plain;
     nameless = λ e. (let no : true ≡ false = sym e ∙ plain in cc);
   }
 
@@ -215,6 +217,7 @@ module _ (m : State) (now : Time) (number : ℕ) (object : Living) (place : ℕ)
     cookies = cookies-continued now m (with_object added number (touched object now)) continues-linked;
     formed = formed;
     locks = record { apart = λ h. h; waits = λ h. h };
+    exports = record { exports = refl; last = refl };
     mounts = refl;
     bounds = λ h. h;
   }
@@ -228,7 +231,7 @@ link-follows m ctx a =
     chained-is P (holding (not (is_directory file.1.content)) status.Invalid) _ (λ x2 e2.
     chained-is P (entries_in directory.1.content) _ (λ entries is.
     chained-is P (plain_name_checked status.Invalid status.Invalid a.place.name) _ (λ x3 e3.
-    chained-is P (changeable ctx directory.1) _ (λ x4 e4.
+    chained-is P (changeable m.exports directory.1) _ (λ x4 e4.
     chained-is P (permitted ctx directory.1 Changing) _ (λ x5 e5.
     chained-is P (holding (is_none (entry_of entries.0 a.place.name)) status.Exists) _ (λ x6 e6.
     chained-is P (holding (nat_lt (links_of m file.0 file.1.content) link_limit) status.TooManyLinks) _ (λ x7 e7.

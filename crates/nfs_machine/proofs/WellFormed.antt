@@ -3,10 +3,11 @@ use Rattle.std.proofs.Common.{◌≡◌, ◌==◌, ℕ, ◌+◌, ◌<◌, ◌≤
 use Rattle.std.proofs.lemmas.List.Sums.{sum_by-cons}
 use Rattle.std.specs.Cmp.{unsigned_Decides}
 use Rattle.std.specs.FinMap.{get, insert}
-use Rattle.std.specs.List.{AllByRecursion, count_by}
+use Rattle.std.specs.List.{AllByRecursion, count_by, list_any}
 use Rattle.nfs_machine.specs.Attributes.{entries_of, is_directory, is_living_directory, links_of, names_in, names_of}
 use Rattle.nfs_machine.specs.State.{Content, Regular, Directory, Link, BlockDevice, CharacterDevice, Socket, Fifo, Entry, Living, State}
-use Rattle.nfs_machine.specs.WellFormed.{IsDirectoryOf, IsParent, Leads}
+use Rattle.nfs_machine.specs.Exports.{LivingExport}
+use Rattle.nfs_machine.specs.WellFormed.{IsDirectoryOf, IsParent, Leads, is_root}
 use Rattle.nfs_machine.proofs.Changes.{part-of_sum}
 use Rattle.nfs_machine.proofs.Sums.{get-inserted, sum-insert_old}
 
@@ -78,6 +79,10 @@ pub record LivesOn (new : State) (n : ℕ) (o : Living) : Type 0 where
   pub export : object.export ≡ o.export
   pub kind : is_directory object.content ≡ is_directory o.content
 
+-- of the same exports the roots are the same
+pub root-same : (old new : State) → new.exports ≡ old.exports → (n : ℕ) → is_root new n ≡ is_root old n
+root-same old new same n = ap (list_any (λ (e : LivingExport). e.root == n)) same
+
 -- directories stand deeper than the one that they are named in
 abbrev pub Deep : State → (ℕ → ℕ) → ℕ → Entry → Type 0
 Deep m depth n e = is_living_directory (get m.objects e.number) ≡ true → depth n < depth e.number
@@ -94,10 +99,10 @@ module _ (old new : State) (on : (n : ℕ) (o : Living) → get old.objects n �
         (λ e both. (both.1, on e.number (both.1).object (both.1).lives both.0))
         (entries_of d.content) (all_both (λ (e : Entry). 1 ≤ names_of old e.number) (Leads old d) (entries_of d.content) (has-names old n d at) leads)
 
-    pub leads-on : (is : Living) → is.export ≡ d.export → AllByRecursion (Leads old d) (entries_of d.content) → AllByRecursion (Leads new is) (entries_of d.content)
-    leads-on is same leads =
+    pub leads-on : new.exports ≡ old.exports → (is : Living) → is.export ≡ d.export → AllByRecursion (Leads old d) (entries_of d.content) → AllByRecursion (Leads new is) (entries_of d.content)
+    leads-on exports is same leads =
         all_map LeadsOn (Leads new is)
-        (λ e l. record { object = (l.1).object; lives = (l.1).lives; export = (l.1).export ∙ (l.0).export ∙ sym same; no_root = subst (λ k. (e.number == k) ≡ false) (sym same) (l.0).no_root })
+        (λ e l. record { object = (l.1).object; lives = (l.1).lives; export = (l.1).export ∙ (l.0).export ∙ sym same; no_root = root-same old new exports e.number ∙ (l.0).no_root })
         (entries_of d.content) (all-on leads)
 
     kinds-on : AllByRecursion (Leads old d) (entries_of d.content) → AllByRecursion (λ (e : Entry). is_subdirectory new e ≡ is_subdirectory old e) (entries_of d.content)
@@ -106,8 +111,8 @@ module _ (old new : State) (on : (n : ℕ) (o : Living) → get old.objects n �
         (λ e l. ap is_living_directory (l.1).lives ∙ (l.1).kind ∙ sym (ap is_living_directory (l.0).lives))
         (entries_of d.content) (all-on leads)
 
-    pub names-on : IsDirectoryOf old d → IsDirectoryOf new d
-    names-on was = record { once = was.once; leads = leads-on d refl was.leads }
+    pub names-on : new.exports ≡ old.exports → IsDirectoryOf old d → IsDirectoryOf new d
+    names-on exports was = record { once = was.once; leads = leads-on exports d refl was.leads }
 
     pub deep-on : (depth : ℕ → ℕ) → AllByRecursion (Leads old d) (entries_of d.content) → AllByRecursion (Deep old depth n) (entries_of d.content) → AllByRecursion (Deep new depth n) (entries_of d.content)
     deep-on depth leads deep =
@@ -125,12 +130,12 @@ module _ (old new : State) (on : (n : ℕ) (o : Living) → get old.objects n �
             omega (arith, here, there, sum_by-cons (λ (x : Entry). cond {A = ℕ} (is_subdirectory new x) 1 0) e es, sum_by-cons (λ (x : Entry). cond {A = ℕ} (is_subdirectory old x) 1 0) e es)
 
 -- ---- a directory keeps its parent, where that one lives on with as many names of it or more
-pub parent-on : (old new : State) (n parent : ℕ) (p : IsParent old n parent) (o : Living) → get new.objects parent ≡ Some o → o.export ≡ p.directory.export → names_in n p.directory ≤ names_in n o → IsParent new n parent
-parent-on old new n parent p o lives export more = record {
+pub parent-on : (old new : State) (n parent : ℕ) (p : IsParent old n parent) (o : Living) → get new.objects parent ≡ Some o → new.exports ≡ old.exports → names_in n p.directory ≤ names_in n o → IsParent new n parent
+parent-on old new n parent p o lives exports more = record {
   directory = o;
   lives = lives;
   named_in = elim p.named_in [
-    | inl root ↦ inl (root.0, root.1 ∙ sym export)
+    | inl root ↦ inl (root.0, root-same old new exports n ∙ root.1)
     | inr named ↦ inr (omega (arith, named, more))
   ];
 }
@@ -193,11 +198,11 @@ module _ (old new : State) (alike : (n : ℕ) → Alike (get old.objects n) (get
   directories-alike n = kinds (get old.objects n) (get new.objects n) (alike n)
 
   -- a directory keeps its place in the tree
-  pub parent-alike : (n parent : ℕ) → IsParent old n parent → IsParent new n parent
-  parent-alike n parent p =
+  pub parent-alike : new.exports ≡ old.exports → (n parent : ℕ) → IsParent old n parent → IsParent new n parent
+  parent-alike exports n parent p =
       let a = after parent p.directory p.lives in
       let same : names_in n a.0 ≡ names_in n p.directory = ap (count_by (λ (e : Entry). e.number == n)) (keeps_entries p.directory a.0 a.2) in
-      parent-on old new n parent p a.0 a.1 a.2.export (omega (arith, same))
+      parent-on old new n parent p a.0 a.1 exports (omega (arith, same))
 
   pub lives-alike : (n : ℕ) (p : Living) → get old.objects n ≡ Some p → LivesOn new n p
   lives-alike n p at = let a = after n p at in record { object = a.0; lives = a.1; export = a.2.export; kind = a.2.kind }

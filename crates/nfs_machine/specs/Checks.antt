@@ -7,7 +7,7 @@ use Rattle.std.specs.List.{list_any}
 use Rattle.nfs_wire.specs.declared.status.NfsStatus.{NfsStatus}
 use Rattle.nfs_wire.specs.declared.status.NfsStatus.TheVariants as status
 use Rattle.nfs_machine.specs.Bytes.{same_bytes}
-use Rattle.nfs_machine.specs.Exports.{export_at}
+use Rattle.nfs_machine.specs.Exports.{LivingExport, export_at}
 use Rattle.nfs_machine.specs.Paths.{slash}
 use Rattle.nfs_machine.specs.Permission.{Right, may}
 use Rattle.nfs_machine.specs.Resolve.{Resolved, BadHandle, Stale, Names}
@@ -56,11 +56,11 @@ plain_name_checked self above name = name_checked name >>= λ _. if same_bytes (
     (if same_bytes (codes "..") name then Err above else Ok tt)
 
 -- the object may be changed: its export is there and not read only
-abbrev pub is_writable : Ctx → Living → Bool
-is_writable ctx o = not (elim (export_at ctx.exports o.export) [ None ↦ true | Some e ↦ e.read_only ])
+abbrev pub is_writable : List LivingExport → Living → Bool
+is_writable exports o = not (elim (export_at exports o.export) [ None ↦ true | Some e ↦ e.read_only ])
 
-abbrev pub changeable : Ctx → Living → Result (Unit {0}) NfsStatus
-changeable ctx o = holding (is_writable ctx o) status.ReadOnly
+abbrev pub changeable : List LivingExport → Living → Result (Unit {0}) NfsStatus
+changeable exports o = holding (is_writable exports o) status.ReadOnly
 
 abbrev pub permitted : Ctx → Living → Right → Result (Unit {0}) NfsStatus
 permitted ctx o right = holding (may ctx.ids o right) status.Access

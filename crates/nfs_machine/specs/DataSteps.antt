@@ -1,5 +1,5 @@
 -- What READ and WRITE come to at the object that a handle names (RFC 1813, 3.3.6 and 3.3.7).
-use Rattle.std.specs.Prelude.{ℕ, ◌+◌, Option, Some, None, Result, Ok, length, take, min, nat_le, ◌||◌}
+use Rattle.std.specs.Prelude.{ℕ, ◌+◌, List, Option, Some, None, Result, Ok, length, take, min, nat_le, ◌||◌}
 use Rattle.std.specs.Prelude.{◌==◌, if◌then◌else◌}
 use Rattle.std.specs.Int.{w64, to_be_bytes}
 use Rattle.nfs_wire.specs.declared.calls.ReadArguments.{ReadArguments}
@@ -11,6 +11,7 @@ use Rattle.nfs_wire.specs.declared.status.NfsStatus.{NfsStatus}
 use Rattle.nfs_wire.specs.declared.status.NfsStatus.TheVariants as status
 use Rattle.nfs_machine.specs.Checks.{◌>>=◌, holding, bytes_in, changeable, permitted}
 use Rattle.nfs_machine.specs.Data.{transfer_limit, size_limit, written, read_at}
+use Rattle.nfs_machine.specs.Exports.{LivingExport}
 use Rattle.nfs_machine.specs.Permission.{Reading, Writing}
 use Rattle.nfs_machine.specs.Shown.{with_content}
 use Rattle.nfs_machine.specs.State.{Regular, Living}
@@ -34,11 +35,12 @@ abbrev pub write_count : WriteArguments → ℕ
 write_count a = min a.count transfer_limit
 
 -- the file after it; where nothing is written it stays
-abbrev pub write_object : Ctx → Living → WriteArguments → Result (Written × Option Living) NfsStatus
-write_object ctx file a = do
+abbrev pub write_object : List LivingExport → Ctx → Living → WriteArguments →
+    Result (Written × Option Living) NfsStatus
+write_object exports ctx file a = do
   bytes ← bytes_in file.content
   _ ← holding (a.count == length a.«data») status.Invalid
-  _ ← changeable ctx file
+  _ ← changeable exports file
   _ ← permitted ctx file Writing
   _ ← holding ((write_count a == 0) || nat_le (a.offset + write_count a) size_limit) status.FileTooBig
   let after = with_content file (time_of ctx.moment)

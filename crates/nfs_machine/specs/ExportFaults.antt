@@ -1,5 +1,5 @@
 -- Which lists of exports a server is started with, and what is told of the others.
-use Rattle.std.specs.Prelude.{ℕ, ◌+◌, Bool, not, ◌&&◌, ◌||◌, List, [], ◌∷◌, ◌++◌, length}
+use Rattle.std.specs.Prelude.{◌≡◌, ℕ, ◌+◌, Bool, not, ◌&&◌, ◌||◌, List, [], ◌∷◌, ◌++◌, length, map}
 use Rattle.std.specs.Prelude.{drop, Option, Some, None, nat_le, nat_lt, codes, if◌then◌else◌, ◌==◌}
 use Rattle.std.specs.List.{list_any, list_all}
 use Rattle.std.specs.Option.{option_or}
@@ -51,3 +51,7 @@ first_fault earlier (text ∷ list) = option_or (fault_of earlier text) (first_f
 -- too many exports, or what is wrong with the first that is at fault
 abbrev pub export_fault : List ExportText → Option ExportError
 export_fault list = if nat_lt 64 (length list) then Some TooMany else first_fault [] list
+
+-- exports that a server may be started with
+abbrev pub AreFaultless : List ExportValue → Type 0
+AreFaultless exports = (list : List ExportText) × (export_fault list ≡ None) × (exports ≡ map export_of list)

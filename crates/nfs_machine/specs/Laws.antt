@@ -10,6 +10,7 @@ use Rattle.nfs_wire.specs.declared.replies.NfsReply.TheVariants as replies
 use Rattle.side_wire.specs.declared.message.Message.{Message}
 use Rattle.nfs_machine.specs.Attributes.{entries_of}
 use Rattle.nfs_machine.specs.Checks.{entry_of}
+use Rattle.nfs_machine.specs.ExportFaults.{AreFaultless}
 use Rattle.nfs_machine.specs.Exports.{ExportValue}
 use Rattle.nfs_machine.specs.Handles.{handle_bytes, handle_of}
 use Rattle.nfs_machine.specs.NfsSteps.{NfsStep}
@@ -159,9 +160,19 @@ abbrev pub StepsKeepCookies : Type 0
 StepsKeepCookies = (old : State) (ctx : Ctx) (call : Call) (reply : Reply) (messages : List Message) (new : State) →
     Step old ctx call reply messages new → KeepsCookies old new
 
+-- no step changes the exports
+pub record KeepsExports (old new : State) : Type 0 where
+  pub exports : new.exports ≡ old.exports
+  pub last : new.last_export ≡ old.last_export
+
+abbrev pub StepsKeepExports : Type 0
+StepsKeepExports = (old : State) (ctx : Ctx) (call : Call) (reply : Reply) (messages : List Message) (new : State) →
+    Step old ctx call reply messages new → KeepsExports old new
+
 -- what is true of every state: a server starts so, each step keeps it, and so each run
 abbrev pub OpeningIsFormed : Type 0
-OpeningIsFormed = (exports : List ExportValue) (moment : Moment) → WellFormed (opening exports moment)
+OpeningIsFormed = (exports : List ExportValue) (moment : Moment) → AreFaultless exports →
+    WellFormed (opening exports moment)
 
 abbrev pub StepsKeepForm : Type 0
 StepsKeepForm = (old : State) (ctx : Ctx) (call : Call) (reply : Reply) (messages : List Message) (new : State) →

@@ -2,6 +2,7 @@ pub mod Answers
 pub mod AttributeSteps
 pub mod Attributes
 pub mod Bytes
+pub mod Changing
 pub mod Checks
 pub mod Data
 pub mod DataSteps
@@ -32,6 +33,7 @@ pub mod Refusal
 pub mod RemoveSteps
 pub mod RenameSteps
 pub mod Resolve
+pub mod RpcReplies
 pub mod Run
 pub mod Shown
 pub mod SideLaws
@@ -41,7 +43,9 @@ pub mod TimeLaws
 pub mod Times
 pub mod WellFormed
 pub mod Worked
+pub mod WorkedChanging
 pub mod WorkedCreate
+pub mod WorkedExports
 pub mod WorkedFiles
 pub mod WorkedLocking
 pub mod WorkedLocks

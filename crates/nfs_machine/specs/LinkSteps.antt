@@ -23,7 +23,7 @@ link_end old ctx a = do
   _ ← holding (not (is_directory file.1.content)) status.Invalid
   entries ← entries_in directory.1.content
   _ ← plain_name_checked status.Invalid status.Invalid a.place.name
-  _ ← changeable ctx directory.1
+  _ ← changeable old.exports directory.1
   _ ← permitted ctx directory.1 Changing
   _ ← holding (is_none (entry_of entries.0 a.place.name)) status.Exists
   _ ← holding (nat_lt (links_of old file.0 file.1.content) link_limit) status.TooManyLinks

@@ -42,7 +42,7 @@ file_checked old ctx handle fits writes = do
   ]
   _ ← holding (is_ok (bytes_in file.1.content)) (status.Failed, tested.Failed)
   _ ← holding fits (status.FileTooBig, tested.FileTooBig)
-  _ ← holding (not writes || is_writable ctx file.1) (status.ReadOnly, tested.ReadOnly)
+  _ ← holding (not writes || is_writable old.exports file.1) (status.ReadOnly, tested.ReadOnly)
   Ok file.0
 
 -- the range of a file that a call names

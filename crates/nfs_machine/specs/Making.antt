@@ -123,7 +123,7 @@ make_end old ctx place wanted there = do
   entries ← entries_in directory.1.content
   _ ← plain_name_checked status.Exists status.Exists place.name
   what ← wanted
-  _ ← changeable ctx directory.1
+  _ ← changeable old.exports directory.1
   _ ← permitted ctx directory.1 Changing
   elim (entry_of entries.0 place.name) [
     | Some e ↦ there e.number (get old.objects e.number)

@@ -17,7 +17,7 @@ use Rattle.nfs_machine.specs.Attributes.{entries_of, is_directory}
 use Rattle.nfs_machine.specs.Bytes.{same_bytes}
 pub use Rattle.nfs_machine.specs.Checks.{◌>>=◌}
 use Rattle.nfs_machine.specs.Checks.{entry_of}
-use Rattle.nfs_machine.specs.Exports.{ExportValue, admits, every_host, export_at}
+use Rattle.nfs_machine.specs.Exports.{LivingExport, admits, every_host, export_at}
 use Rattle.nfs_machine.specs.Answers.{Answers}
 use Rattle.nfs_machine.specs.Paths.{parts, pieces, is_dots, begins_with_slash}
 pub use Rattle.nfs_machine.specs.Shown.{handle_at}
@@ -33,15 +33,15 @@ path_fault path =
     else (if list_any (λ part. nat_lt 255 (length part)) (pieces path) then Some status.NameTooLong else None)
 
 -- the export admits the host, and its parts begin the names, which go on with rest
-pub record Leads (exports : List ExportValue) (host : List ℕ) (names : List (List ℕ)) (number : ℕ)
+pub record Leads (exports : List LivingExport) (host : List ℕ) (names : List (List ℕ)) (number : ℕ)
     (rest : List (List ℕ)) : Type 0 where
-  pub export : ExportValue
+  pub export : LivingExport
   pub stands : export_at exports number ≡ Some export
-  pub admitted : admits export host ≡ true
+  pub admitted : admits export.value host ≡ true
   pub begins : names ≡ parts export.path ++ rest
 
 -- of the exports that lead there, the one with the longest path: the least is left to walk
-pub record Chosen (exports : List ExportValue) (host : List ℕ) (names : List (List ℕ)) (number : ℕ)
+pub record Chosen (exports : List LivingExport) (host : List ℕ) (names : List (List ℕ)) (number : ℕ)
     (rest : List (List ℕ)) : Type 0 where
   pub leads : Leads exports host names number rest
   pub longest : (other : ℕ) (more : List (List ℕ)) → Leads exports host names other more →
@@ -60,16 +60,16 @@ walk find number [] = entries_at (find number) >>= λ d. Ok (number, d.0)
 walk find number (name ∷ names) = entries_at (find number) >>= λ d. ok_or
     (entry_of d.1 name) status.NoEntry >>= λ e. walk find e.number names
 
--- what a path names for a caller: the root of an export has the export's number
+-- what a path names for a caller: the walk begins at the root of the export that is chosen
 abbrev pub Target : State → Ctx → List ℕ → Result (ℕ × Living) MountStatus → Type 0
 Target m ctx path found =
     (path_fault path ≡ None) × (number : ℕ) × (rest : List (List ℕ)) ×
-    Chosen ctx.exports ctx.host (parts path) number rest × (found ≡ walk (get m.objects) number rest)
+    (chosen : Chosen m.exports ctx.host (parts path) number rest) ×
+    (found ≡ walk (get m.objects) chosen.leads.export.root rest)
 
 -- no export that admits the caller leads there
-abbrev pub NoExport : Ctx → List ℕ → Type 0
-NoExport ctx path = (number : ℕ) (rest : List (List ℕ)) → Leads ctx.exports ctx.host (parts path) number rest →
-    ⊥
+abbrev pub NoExport : State → Ctx → List ℕ → Type 0
+NoExport m ctx path = (number : ℕ) (rest : List (List ℕ)) → Leads m.exports ctx.host (parts path) number rest → ⊥
 
 -- this path of this host, as it was sent
 abbrev pub is_of : List ℕ → List ℕ → MountBody → Bool
@@ -93,7 +93,7 @@ MntAnswers old ctx path (Ok handle) new =
     (found : ℕ × Living) × Target old ctx path (Ok found) × (handle ≡ handle_at ctx found.0 found.1)
     × (new ≡ with_mount old (record { hostname = ctx.host; directory = path }))
 MntAnswers old ctx path (Err e) new =
-    ((path_fault path ≡ Some e) ⊎ ((path_fault path ≡ None) × NoExport ctx path × (e ≡ status.Access)) ⊎
+    ((path_fault path ≡ Some e) ⊎ ((path_fault path ≡ None) × NoExport old ctx path × (e ≡ status.Access)) ⊎
     Target old ctx path (Err e)) × (new ≡ old)
 
 -- the state without some mounts: UMNT, 5.2.3, takes this path of this host away, and UMNTALL, 5.2.4, every path of it
@@ -102,9 +102,9 @@ without_mounts m goes = record m { mounts = filter (λ (x : MountBody). not (goe
 
 -- EXPORT, 5.2.5: the exports in the order given, each with the hosts that it admits, and with none where it admits
 -- every host
-abbrev pub listed_exports : List ExportValue → List ExportNode
+abbrev pub listed_exports : List LivingExport → List ExportNode
 listed_exports exports = map
-    (λ (e : ExportValue). record
+    (λ (e : LivingExport). record
     { directory = e.path; groups = if list_any (λ h. same_bytes h every_host) e.hosts then [] else e.hosts }) exports
 
 -- what the machine may answer a call of MOUNT, and the state that it goes on to
@@ -119,4 +119,4 @@ MountStep old ctx (calls.Unmount path) reply messages new = Answers replies.Unmo
 MountStep old ctx calls.UnmountAll reply messages new = Answers replies.UnmountAll
     (without_mounts old (λ x. same_bytes x.hostname ctx.host)) reply messages new
 MountStep old ctx calls.Export reply messages new = Answers
-    (replies.Export (listed_exports ctx.exports)) old reply messages new
+    (replies.Export (listed_exports old.exports)) old reply messages new

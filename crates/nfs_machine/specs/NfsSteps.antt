@@ -37,7 +37,7 @@ NfsStep old ctx (calls.Getattr object) = Answers
 -- SETATTR, 3.3.2
 NfsStep old ctx (calls.Setattr a) = Ends old
     (λ after result. replies.Setattr (record { wcc = wcc after (resolve old ctx a.object); result = result }))
-    (object_of (resolve old ctx a.object) >>= λ o. set_object ctx o.1 a >>= λ after. Ok
+    (object_of (resolve old ctx a.object) >>= λ o. set_object old.exports ctx o.1 a >>= λ after. Ok
     (tt, with_object old o.0 after))
 -- LOOKUP, 3.3.3
 NfsStep old ctx (calls.Lookup place) = λ reply messages new. (parent : ℕ) ×
@@ -50,7 +50,7 @@ NfsStep old ctx (calls.Lookup place) = λ reply messages new. (parent : ℕ) ×
 -- ACCESS, 3.3.4
 NfsStep old ctx (calls.Access a) = Tells old ctx a.object
     (λ attributes result. replies.Access (record { attributes = attributes; result = result }))
-    (λ o. Ok (granted ctx o.1 a.rights))
+    (λ o. Ok (granted old.exports ctx o.1 a.rights))
 -- READLINK, 3.3.5: no permission is asked
 NfsStep old ctx (calls.Readlink object) = Tells old ctx object
     (λ attributes result. replies.Readlink (record { attributes = attributes; result = result }))
@@ -62,7 +62,8 @@ NfsStep old ctx (calls.Read a) = Tells old ctx a.file
 -- WRITE, 3.3.7
 NfsStep old ctx (calls.Write a) = Ends old
     (λ after result. replies.Write (record { wcc = wcc after (resolve old ctx a.file); result = result }))
-    (object_of (resolve old ctx a.file) >>= λ o. write_object ctx o.1 a >>= λ x. Ok (x.0, replaced old o.0 x.1))
+    (object_of (resolve old ctx a.file) >>= λ o. write_object old.exports ctx o.1 a >>= λ x. Ok
+    (x.0, replaced old o.0 x.1))
 -- CREATE, 3.3.8
 NfsStep old ctx (calls.Create a) = MakeStep old ctx a.place (Ok (wanted_file a.how))
     (create_existing old ctx a.how) replies.Create

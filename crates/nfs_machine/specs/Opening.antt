@@ -1,10 +1,10 @@
--- The state that a server starts with: a root for each export and nothing else.
+-- The state that a server starts with: its exports, a root for each, and nothing else.
 use Rattle.std.specs.Prelude.{ℕ, ◌+◌, false, ◌&&◌, List, [], ◌∷◌, length, None, nat_le}
 use Rattle.std.specs.Prelude.{if◌then◌else◌}
 use Rattle.std.specs.Ordering.{nat_cmp}
 use Rattle.std.specs.FinMap.{FinMap, empty, insert}
 use Rattle.nfs_wire.specs.declared.attributes.Time.{Time}
-use Rattle.nfs_machine.specs.Exports.{ExportValue}
+use Rattle.nfs_machine.specs.Exports.{ExportValue, opening_exports}
 use Rattle.nfs_machine.specs.State.{Directory, Living, State}
 pub use Rattle.nfs_machine.specs.Times.{time_of}
 use Rattle.nfs_machine.specs.declared.moment.Moment.{Moment}
@@ -34,6 +34,8 @@ opening_roots number (e ∷ exports) time = insert (opening_roots (number + 1) e
 -- generation 0 is never given; the roots have generation 1
 abbrev pub opening : List ExportValue → Moment → State
 opening exports moment = record {
+  exports = opening_exports exports;
+  last_export = length exports;
   objects = opening_roots 1 exports (time_of moment);
   spent = λ number generation. nat_le generation (if nat_le 1 number && nat_le number (length exports) then 1 else 0);
   mounts = [];

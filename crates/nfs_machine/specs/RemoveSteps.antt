@@ -58,7 +58,7 @@ TakeStep old ctx place name_checked content_checked reply_of =
       directory ← object_of (resolve old ctx place.directory)
       entries ← entries_in directory.1.content
       _ ← name_checked place.name
-      _ ← changeable ctx directory.1
+      _ ← changeable old.exports directory.1
       _ ← permitted ctx directory.1 Changing
       object ← ok_or (object_under old (entry_of entries.0 place.name)) status.NoEntry
       _ ← content_checked object.1.content

@@ -69,7 +69,7 @@ rename_plan old ctx a = do
   to_entries ← entries_in to.1.content
   _ ← plain_name_checked status.Invalid status.Invalid a.from.name
   _ ← plain_name_checked status.Invalid status.Invalid a.to.name
-  _ ← changeable ctx from.1
+  _ ← changeable old.exports from.1
   _ ← permitted ctx from.1 Changing
   _ ← permitted ctx to.1 Changing
   moved ← ok_or (object_under old (entry_of from_entries.0 a.from.name)) status.NoEntry

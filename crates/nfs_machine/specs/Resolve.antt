@@ -1,7 +1,7 @@
 -- What a handle that a caller sends names (RFC 1813, 2.6: NFS3ERR_BADHANDLE, NFS3ERR_STALE).
 use Rattle.std.specs.Prelude.{ℕ, ◌&&◌, List, Option, Some, None, if◌then◌else◌, ◌==◌}
 use Rattle.std.specs.FinMap.{get}
-use Rattle.nfs_machine.specs.Exports.{export_admits, export_at}
+use Rattle.nfs_machine.specs.Exports.{LivingExport, export_admits, export_at}
 use Rattle.nfs_machine.specs.Handles.{handle_of}
 use Rattle.nfs_machine.specs.State.{Living, State}
 use Rattle.nfs_machine.specs.declared.context.Ctx.{Ctx}
@@ -21,14 +21,14 @@ living_at living h = elim living [
       (object.export == h.export) then Names h.fileid object else Stale
 ]
 
--- what a handle names among the objects that a look-up finds
-abbrev pub named : (ℕ → Option Living) → Ctx → Option Handle → Resolved
-named find ctx handle =
+-- what a handle names among the objects that a look-up finds, below these exports
+abbrev pub named : (ℕ → Option Living) → List LivingExport → Ctx → Option Handle → Resolved
+named find exports ctx handle =
     elim handle [
       | None ↦ BadHandle
-      | Some h ↦ if (h.start == ctx.start) && export_admits (export_at ctx.exports h.export) ctx.host then living_at
+      | Some h ↦ if (h.start == ctx.start) && export_admits (export_at exports h.export) ctx.host then living_at
           (find h.fileid) h else Stale
     ]
 
 abbrev pub resolve : State → Ctx → List ℕ → Resolved
-resolve m ctx bytes = named (get m.objects) ctx (handle_of bytes)
+resolve m ctx bytes = named (get m.objects) m.exports ctx (handle_of bytes)

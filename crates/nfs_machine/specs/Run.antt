@@ -27,10 +27,14 @@ pub record Setting : Type 0 where
   pub limits : Limits
 
 -- a record that came in: from whom, its bytes, and when
-pub record Arrival : Type 0 where
+pub record Received : Type 0 where
   pub host : List ℕ
   pub bytes : List ℕ
   pub moment : Moment
+
+-- what comes in
+pub data Arrival : Type 0 where
+  FromHost : (received : Received) → Arrival
 
 -- the call is of this procedure of this program, and a front of the bytes spells its arguments; what follows that is
 -- ignored
@@ -53,12 +57,16 @@ context_of setting host ids moment = record {
   limits = setting.limits;
 }
 
--- what the arrival asks: this call, under this context
-pub record Asks (setting : Setting) (arrival : Arrival) (ctx : Ctx) (call : Call) : Type 0 where
+-- what a record asks: this call, under this context
+pub record ReceivedAsks (setting : Setting) (received : Received) (ctx : Ctx) (call : Call) : Type 0 where
   pub header : CallHeader
-  pub read : call_of arrival.bytes ≡ Ok header
+  pub read : call_of received.bytes ≡ Ok header
   pub is_call : IsCall header.program header.procedure header.arguments call
-  pub made_under : ctx ≡ context_of setting arrival.host header.ids arrival.moment
+  pub made_under : ctx ≡ context_of setting received.host header.ids received.moment
+
+-- what an arrival asks
+abbrev pub Asks : Setting → Arrival → Ctx → Call → Type 0
+Asks setting (FromHost received) ctx call = ReceivedAsks setting received ctx call
 
 -- a call that was executed, with what it was answered and the messages that it put
 pub record Record : Type 0 where

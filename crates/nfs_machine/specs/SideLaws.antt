@@ -19,12 +19,12 @@ use Rattle.side_wire.specs.declared.nlm.NlmStatus.{NlmStatus}
 use Rattle.side_wire.specs.declared.nlm.NlmStatus.TheVariants as status
 use Rattle.side_wire.specs.declared.nlm.TestStatus.{TestStatus}
 use Rattle.side_wire.specs.declared.nlm.TestStatus.TheVariants as tested
-use Rattle.nfs_machine.specs.Exports.{ExportValue}
+use Rattle.nfs_machine.specs.Exports.{ExportValue, LivingExport}
 use Rattle.nfs_machine.specs.Locks.{mode_at}
 use Rattle.nfs_machine.specs.MountSteps.{MountStep}
 use Rattle.nfs_machine.specs.NlmSteps.{NlmStep}
 use Rattle.nfs_machine.specs.Opening.{opening}
-use Rattle.nfs_machine.specs.Run.{Arrival, Asks, Record, Run, Setting}
+use Rattle.nfs_machine.specs.Run.{Arrival, FromHost, Asks, Record, Run, Setting}
 use Rattle.nfs_machine.specs.State.{Lock, Owner, Request, State}
 use Rattle.nfs_machine.specs.Step.{Step}
 use Rattle.nfs_machine.specs.declared.calls.Call.{Call}
@@ -38,9 +38,9 @@ use Rattle.side_wire.specs.declared.mount.lists.MountBody.{MountBody}
 abbrev pub MountsFit : State → Type 0
 MountsFit m = AllByRecursion (λ (x : MountBody). IsHostName x.hostname × IsDirpath x.directory) m.mounts
 
-abbrev pub ExportsFit : List ExportValue → Type 0
+abbrev pub ExportsFit : List LivingExport → Type 0
 ExportsFit exports = AllByRecursion
-    (λ (e : ExportValue). IsDirpath e.path × AllByRecursion IsHostName e.hosts) exports
+    (λ (e : LivingExport). IsDirpath e.path × AllByRecursion IsHostName e.hosts) exports
 
 -- the path that a call names is
 abbrev pub PathFits : MountCall → Type 0
@@ -51,7 +51,7 @@ PathFits call = Unit {0}
 abbrev pub MountRepliesHaveForm : Type 0
 MountRepliesHaveForm = (old : State) (ctx : Ctx) (call : MountCall) (reply : MountReply) (messages : List Message)
     (new : State)
-    → MountsFit old → ExportsFit ctx.exports → MountStep old ctx call reply messages new → HasMountForm reply
+    → MountsFit old → ExportsFit old.exports → MountStep old ctx call reply messages new → HasMountForm reply
 
 -- a reply of MOUNT with a status other than MNT3_OK
 abbrev pub is_mount_refusal : MountReply → Bool
@@ -113,9 +113,13 @@ AskedFits ctx (calls.Nfs call) = Unit {0}
 AskedFits ctx (calls.Mount call) = IsHostName ctx.host × PathFits call
 AskedFits ctx (calls.Nlm call) = CallFits call
 
+-- and so is the host that a record came from
+abbrev pub HostFits : Arrival → Type 0
+HostFits (FromHost received) = IsHostName received.host
+
 -- a call that an arrival spells names nothing else
 abbrev pub SpelledCallsFit : Type 0
-SpelledCallsFit = (setting : Setting) (arrival : Arrival) (ctx : Ctx) (call : Call) → IsHostName arrival.host →
+SpelledCallsFit = (setting : Setting) (arrival : Arrival) (ctx : Ctx) (call : Call) → HostFits arrival →
     Asks setting arrival ctx call → AskedFits ctx call
 
 -- what is mounted, held and waited for stays within the bounds: a server starts so, each step of any program keeps
@@ -134,7 +138,7 @@ LocksStayFit = (old : State) (ctx : Ctx) (call : Call) (reply : Reply) (messages
 
 abbrev pub RunsStayFit : Type 0
 RunsStayFit = (setting : Setting) (first last : State) (records : List Record)
-    → Run setting first records last → AllByRecursion (λ (r : Record). IsHostName r.arrival.host) records →
+    → Run setting first records last → AllByRecursion (λ (r : Record). HostFits r.arrival) records →
     MountsFit first × LocksFit first → MountsFit last × LocksFit last
 
 -- a status by which nothing was granted, and nothing waits

@@ -8,6 +8,7 @@ use Rattle.side_wire.specs.declared.message.NlmLock.{NlmLock}
 use Rattle.side_wire.specs.declared.nlm.ShareAccess.{ShareAccess}
 use Rattle.side_wire.specs.declared.nlm.ShareMode.{ShareMode}
 use Rattle.side_wire.specs.declared.mount.lists.MountBody.{MountBody}
+use Rattle.nfs_machine.specs.Exports.{LivingExport}
 
 -- a name in a directory: the object that it leads to, and its cookie
 pub record Entry : Type 0 where
@@ -77,6 +78,9 @@ pub record Request : Type 0 where
   pub by_message : Bool
 
 pub record State : Type 0 where
+  -- the living exports in the order given, and the greatest number that an export ever had
+  pub exports : List LivingExport
+  pub last_export : ℕ
   -- the living objects by their numbers, which are their fileids
   pub objects : FinMap nat_cmp Living
   -- which numbers and generations were given, and are never given again

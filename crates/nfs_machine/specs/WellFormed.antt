@@ -1,12 +1,47 @@
 -- What is true of every state that a run comes to: names lead to living objects, and directories form one tree in
--- each export.
-use Rattle.std.specs.Prelude.{◌≡◌, ℕ, ◌<◌, ◌≤◌, true, false, List, [], ◌∷◌, length, Some}
+-- each export, below its root.
+use Rattle.std.specs.Prelude.{◌≡◌, ℕ, ◌<◌, ◌≤◌, ◌^◌, Bool, true, false, List, [], ◌∷◌, length, Some, IsSome}
 use Rattle.std.specs.Prelude.{◌==◌, ◌⊎◌}
-use Rattle.std.specs.List.{AllByRecursion}
+use Rattle.std.specs.List.{AllByRecursion, list_any}
 use Rattle.std.specs.FinMap.{get}
 use Rattle.nfs_machine.specs.Attributes.{entries_of, is_directory, is_living_directory, names_in, names_of}
 use Rattle.nfs_machine.specs.Bytes.{same_bytes}
+use Rattle.nfs_machine.specs.Exports.{LivingExport, export_at}
+use Rattle.nfs_machine.specs.Paths.{parts}
 use Rattle.nfs_machine.specs.State.{Directory, Link, Entry, Living, State}
+
+-- a living export names this object as its root
+abbrev pub is_root : State → ℕ → Bool
+is_root m number = list_any (λ (e : LivingExport). e.root == number) m.exports
+
+-- two exports have not the same number, root or path (parts between slashes)
+pub record AreApart (a b : LivingExport) : Type 0 where
+  pub numbers : (a.number == b.number) ≡ false
+  pub roots : (a.root == b.root) ≡ false
+  pub paths : parts a.path ≡ parts b.path → ⊥
+
+-- so is each of them from those behind it
+abbrev pub AllApart : List LivingExport → Type 0
+AllApart [] = Unit {0}
+AllApart (e ∷ exports) = AllByRecursion (AreApart e) exports × AllApart exports
+
+-- the number of an export is from 1, has 32 bits, and is not above the greatest that was ever used
+abbrev pub IsNumbered : ℕ → LivingExport → Type 0
+IsNumbered last e = (1 ≤ e.number) × (e.number < 2 ^ 32) × (e.number ≤ last)
+
+-- the root of an export lives, and is a directory of the export; no name leads to it (Leads)
+pub record HasRoot (m : State) (e : LivingExport) : Type 0 where
+  pub root : Living
+  pub lives : get m.objects e.root ≡ Some root
+  pub own : root.export ≡ e.number
+  pub directory : is_directory root.content ≡ true
+
+-- of the exports: at most 64, each with a number and a root of its own
+pub record ExportsStand (m : State) : Type 0 where
+  pub few : length m.exports ≤ 64
+  pub numbered : AllByRecursion (IsNumbered m.last_export) m.exports
+  pub apart : AllApart m.exports
+  pub rooted : AllByRecursion (HasRoot m) m.exports
 
 -- each name once
 abbrev pub NamesOnce : List Entry → Type 0
@@ -19,13 +54,12 @@ abbrev pub CookiesRise : ℕ → List Entry → ℕ → Type 0
 CookiesRise below [] last = below ≤ last
 CookiesRise below (e ∷ entries) last = (below < e.cookie) × CookiesRise e.cookie entries last
 
--- the name leads to a living object of the directory's export, which is no root: roots have the numbers of their
--- exports
+-- the name leads to a living object of the directory's export, which is no root
 pub record Leads (m : State) (directory : Living) (e : Entry) : Type 0 where
   pub object : Living
   pub lives : get m.objects e.number ≡ Some object
   pub export : object.export ≡ directory.export
-  pub no_root : (e.number == directory.export) ≡ false
+  pub no_root : is_root m e.number ≡ false
 
 -- of a directory: each name once, and each leads to a living object of its export
 pub record IsDirectoryOf (m : State) (directory : Living) : Type 0 where
@@ -38,12 +72,15 @@ TextsFit m = (n : ℕ) (o : Living) (text : List ℕ) → get m.objects n ≡ So
     length text ≤ 4096
 
 pub record WellFormed (m : State) : Type 0 where
+  pub exports : ExportsStand m
+  -- what lives is of a living export
+  pub exported : (n : ℕ) (o : Living) → get m.objects n ≡ Some o → IsSome (export_at m.exports o.export)
   pub names : (n : ℕ) (o : Living) → get m.objects n ≡ Some o → IsDirectoryOf m o
   -- "." and ".." have the cookies 1 and 2, and the names of a directory those above
   pub cookies : (n : ℕ) (o : Living) (entries : List Entry) (last : ℕ) → get m.objects n ≡ Some o →
       o.content ≡ Directory entries last → CookiesRise 2 entries last
   -- what is no root has a name, and a directory has one
-  pub named : (n : ℕ) (o : Living) → get m.objects n ≡ Some o → (n == o.export) ≡ false → 1 ≤ names_of m n
+  pub named : (n : ℕ) (o : Living) → get m.objects n ≡ Some o → is_root m n ≡ false → 1 ≤ names_of m n
   pub one_name : (n : ℕ) (o : Living) → get m.objects n ≡ Some o → is_directory o.content ≡ true →
       names_of m n ≤ 1
   -- no directory is below itself: each is deeper than the one that it is named in
@@ -59,4 +96,4 @@ pub record WellFormed (m : State) : Type 0 where
 pub record IsParent (m : State) (number parent : ℕ) : Type 0 where
   pub directory : Living
   pub lives : get m.objects parent ≡ Some directory
-  pub named_in : (parent ≡ number) × (number ≡ directory.export) ⊎ (1 ≤ names_in number directory)
+  pub named_in : (parent ≡ number) × (is_root m number ≡ true) ⊎ (1 ≤ names_in number directory)

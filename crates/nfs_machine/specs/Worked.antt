@@ -5,7 +5,7 @@ use Rattle.nfs_rpc.specs.declared.credentials.Ids.{Ids}
 use Rattle.nfs_wire.specs.declared.attributes.Time.{Time}
 use Rattle.side_wire.specs.declared.mount.MountStatus.TheVariants as status
 use Rattle.nfs_machine.specs.ExportFaults.{are_export_hosts, is_export_mode, is_export_path}
-use Rattle.nfs_machine.specs.Exports.{ExportValue, admits, export_at}
+use Rattle.nfs_machine.specs.Exports.{ExportValue, LivingExport, admits, export_at, opening_exports}
 use Rattle.nfs_machine.specs.Handles.{handle_bytes, handle_of}
 use Rattle.nfs_machine.specs.MountSteps.{Chosen, path_fault, walk}
 use Rattle.nfs_machine.specs.Paths.{parts, slash}
@@ -104,6 +104,10 @@ lower_export = record { path = codes "/a/b"; read_only = true; hosts = codes "10
 abbrev pub exports : List ExportValue
 exports = open_export ∷ lower_export ∷ []
 
+-- with the numbers 1 and 2
+abbrev pub two_exports : List LivingExport
+two_exports = opening_exports exports
+
 abbrev pub called_by : List ℕ → ℕ → Moment → Limits → Ctx
 called_by host start moment limits = record
     { host = host; ids = user 0 0; moment = moment; start = start; exports = exports; limits = limits }
@@ -123,23 +127,23 @@ pub record WorkedHandles : Type 0 where
   pub longer : handle_of (root_bytes ++ 0 ∷ []) ≡ None
   pub other_mark : handle_of (0 ∷ drop 1 root_bytes) ≡ None
   pub bad : (moment : Moment) (limits : Limits) →
-      named find (called_by (codes "10.0.0.1") 7 moment limits) (handle_of (take 31 root_bytes)) ≡ BadHandle
+      named find two_exports (called_by (codes "10.0.0.1") 7 moment limits) (handle_of (take 31 root_bytes)) ≡ BadHandle
   pub living : (moment : Moment) (limits : Limits) (root : Living) → find 1 ≡ Some root
-      → named find (called_by (codes "10.0.0.1") 7 moment limits) (handle_of root_bytes) ≡ Names 1 root
+      → named find two_exports (called_by (codes "10.0.0.1") 7 moment limits) (handle_of root_bytes) ≡ Names 1 root
   pub other_start : (moment : Moment) (limits : Limits) →
-      named find (called_by (codes "10.0.0.1") 8 moment limits) (handle_of root_bytes) ≡ Stale
+      named find two_exports (called_by (codes "10.0.0.1") 8 moment limits) (handle_of root_bytes) ≡ Stale
   pub gone : (moment : Moment) (limits : Limits) →
-      named find (called_by (codes "10.0.0.1") 7 moment limits) (Some (record root_handle { fileid = 4 })) ≡ Stale
+      named find two_exports (called_by (codes "10.0.0.1") 7 moment limits) (Some (record root_handle { fileid = 4 })) ≡ Stale
   pub other_generation : (moment : Moment) (limits : Limits) →
-      named find (called_by (codes "10.0.0.1") 7 moment limits) (Some (record root_handle { generation = 2 })) ≡ Stale
+      named find two_exports (called_by (codes "10.0.0.1") 7 moment limits) (Some (record root_handle { generation = 2 })) ≡ Stale
   pub admitted : (moment : Moment) (limits : Limits) →
-      named (λ number. Some lower_root) (called_by (codes "10.0.0.2") 7 moment limits)
+      named (λ number. Some lower_root) two_exports (called_by (codes "10.0.0.2") 7 moment limits)
       (Some lower_handle) ≡ Names 2 lower_root
   pub not_admitted : (moment : Moment) (limits : Limits) →
-      named (λ number. Some lower_root) (called_by (codes "10.0.0.1") 7 moment limits) (Some lower_handle) ≡ Stale
+      named (λ number. Some lower_root) two_exports (called_by (codes "10.0.0.1") 7 moment limits) (Some lower_handle) ≡ Stale
   -- an object of the other export
   pub other_export : (moment : Moment) (limits : Limits) →
-      named (λ number. Some lower_root) (called_by (codes "10.0.0.2") 7 moment limits)
+      named (λ number. Some lower_root) two_exports (called_by (codes "10.0.0.2") 7 moment limits)
       (Some (record lower_handle { export = 1 })) ≡ Stale
 
 -- where paths lead (RFC 1813, 5.2.1)
@@ -150,9 +154,9 @@ pub record WorkedWalks : Type 0 where
   pub through_file : walk find 1 (codes "file" ∷ codes "x" ∷ []) ≡ Err status.NotDirectory
   pub nothing : walk find 1 (codes "x" ∷ []) ≡ Err status.NoEntry
   -- the longest export that admits the host is chosen
-  pub admitted : Chosen exports (codes "10.0.0.2") (parts (codes "/a/b")) 2 []
-  pub not_admitted : Chosen exports (codes "10.0.0.1") (parts (codes "/a/b")) 1 (codes "b" ∷ [])
-  pub empty_parts : Chosen exports (codes "10.0.0.1") (parts (codes "//a/")) 1 []
+  pub admitted : Chosen two_exports (codes "10.0.0.2") (parts (codes "/a/b")) 2 []
+  pub not_admitted : Chosen two_exports (codes "10.0.0.1") (parts (codes "/a/b")) 1 (codes "b" ∷ [])
+  pub empty_parts : Chosen two_exports (codes "10.0.0.1") (parts (codes "//a/")) 1 []
 
 -- a slash and the longest name, 256 bytes
 abbrev pub long_part : List ℕ
@@ -183,6 +187,6 @@ pub record WorkedExports : Type 0 where
   pub every_host : admits open_export (codes "10.0.0.1") ≡ true
   pub listed_host : admits lower_export (codes "10.0.0.2") ≡ true
   pub other_host : admits lower_export (codes "10.0.0.1") ≡ false
-  pub first : export_at exports 1 ≡ Some open_export
-  pub zeroth : export_at exports 0 ≡ None
-  pub third : export_at exports 3 ≡ None
+  pub first : export_at two_exports 1 ≡ Some (record { number = 1; root = 1; value = open_export })
+  pub zeroth : export_at two_exports 0 ≡ None
+  pub third : export_at two_exports 3 ≡ None

@@ -11,11 +11,12 @@ use Rattle.nfs_wire.specs.declared.calls.Verifier.{Verifier}
 use Rattle.nfs_wire.specs.declared.status.NfsStatus.{NfsStatus}
 use Rattle.nfs_wire.specs.declared.status.NfsStatus.TheVariants as status
 use Rattle.nfs_machine.specs.Checks.{bytes_in}
+use Rattle.nfs_machine.specs.Exports.{LivingExport, opening_exports}
 use Rattle.nfs_machine.specs.Making.{Wanted, given_attributes, new_object, with_entry}
 use Rattle.nfs_machine.specs.NameSteps.{create_over}
 use Rattle.nfs_machine.specs.Opening.{opening_root}
 use Rattle.nfs_machine.specs.Shown.{with_content}
-use Rattle.nfs_machine.specs.State.{Regular, Directory, Living}
+use Rattle.nfs_machine.specs.State.{Regular, Directory, Living, State}
 use Rattle.nfs_machine.specs.Worked.{open_export, user}
 use Rattle.nfs_machine.specs.WorkedFiles.{time}
 use Rattle.nfs_machine.specs.declared.context.Ctx.{Ctx}
@@ -34,6 +35,13 @@ called_as uid = record {
   exports = open_export ∷ [];
   limits = record { total_bytes = 0 };
 }
+
+-- the exports of that server, and a state with them
+abbrev pub writable : List LivingExport
+writable = opening_exports (open_export ∷ [])
+
+abbrev pub with_writable : State → State
+with_writable m = record m { exports = writable }
 
 -- nothing is given
 abbrev pub no_attributes : SetAttributes

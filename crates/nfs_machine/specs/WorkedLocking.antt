@@ -96,10 +96,10 @@ pub record WorkedChecks : Type 0 where
       Err (status.StaleHandle, tested.StaleHandle)
   pub directory : range_checked written nobody true (record (on_x a (2 ^ 64 - 1) 2) { file = root_bytes }) ≡ Err
       (status.Failed, tested.Failed)
-  pub above : range_checked written read_only true (on_x a (2 ^ 64 - 1) 2) ≡ Err
+  pub above : range_checked (read_only written) nobody true (on_x a (2 ^ 64 - 1) 2) ≡ Err
       (status.FileTooBig, tested.FileTooBig)
-  pub exclusive : range_checked written read_only true (on_x a 0 1) ≡ Err (status.ReadOnly, tested.ReadOnly)
-  pub shared : range_checked written read_only false (on_x a 0 1) ≡ Ok (range_of 5 (on_x a 0 1))
+  pub exclusive : range_checked (read_only written) nobody true (on_x a 0 1) ≡ Err (status.ReadOnly, tested.ReadOnly)
+  pub shared : range_checked (read_only written) nobody false (on_x a 0 1) ≡ Ok (range_of 5 (on_x a 0 1))
 
 pub record WorkedLocking : Type 0 where
   pub locks : NlmStep written nobody (nlm.Lock (locking a 0 100 true))

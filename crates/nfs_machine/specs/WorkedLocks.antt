@@ -18,7 +18,7 @@ use Rattle.nfs_machine.specs.Locks.{Lists, denies, fits_offsets, modes_conflict,
 use Rattle.nfs_machine.specs.Locks.{shares_conflict, Mode}
 use Rattle.nfs_machine.specs.MountSteps.{MountStep, walk, with_mount}
 use Rattle.nfs_machine.specs.State.{Lock, Owner, Request, Share, State, Range}
-use Rattle.nfs_machine.specs.Worked.{called_by, find}
+use Rattle.nfs_machine.specs.Worked.{called_by, find, two_exports}
 use Rattle.nfs_machine.specs.declared.context.Limits.{Limits}
 use Rattle.nfs_machine.specs.declared.moment.Moment.{Moment}
 use Rattle.side_wire.specs.declared.mount.MountCall.TheVariants as mount
@@ -202,9 +202,10 @@ pub record WorkedMounts : Type 0 where
       (called_by (codes "h1") 7 moment limits) mount.UnmountAll mount_replies.UnmountAll []
       (record m { mounts = mounted (codes "h2") (codes "/a") ∷ [] })
   pub export : (m : State) (moment : Moment) (limits : Limits)
-      → MountStep m (called_by (codes "h1") 7 moment limits) mount.Export
+      → MountStep (record m { exports = two_exports }) (called_by (codes "h1") 7 moment limits) mount.Export
       (mount_replies.Export
       (record { directory = codes "/a"; groups = [] } ∷
-      record { directory = codes "/a/b"; groups = codes "10.0.0.2" ∷ [] } ∷ [])) [] m
+      record { directory = codes "/a/b"; groups = codes "10.0.0.2" ∷ [] } ∷ [])) []
+      (record m { exports = two_exports })
   -- by another host than 10.0.0.2 it is what `b` is below the first (WorkedWalks)
   pub nothing_there : walk find 1 (codes "b" ∷ []) ≡ Err mount_status.NoEntry

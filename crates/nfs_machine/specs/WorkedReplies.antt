@@ -19,7 +19,7 @@ use Rattle.nfs_machine.specs.Opening.{opening_root}
 use Rattle.nfs_machine.specs.Shown.{with_object}
 use Rattle.nfs_machine.specs.State.{Living, State}
 use Rattle.nfs_machine.specs.Worked.{root_bytes}
-use Rattle.nfs_machine.specs.WorkedCreate.{called_as, file}
+use Rattle.nfs_machine.specs.WorkedCreate.{called_as, file, with_writable}
 use Rattle.nfs_machine.specs.WorkedFiles.{time}
 use Rattle.nfs_machine.specs.Pages.{all_entries}
 use Rattle.nfs_machine.specs.PageSteps.{entries_left}
@@ -39,7 +39,7 @@ pub record HasFile (m : State) : Type 0 where
   pub lives : get m.objects 2 ≡ Some known_file
   pub named_once : names_of m 2 ≡ 1
 
-pub record HasRoot (m : State) : Type 0 where
+pub record HasRootAlone (m : State) : Type 0 where
   pub lives : get m.objects 1 ≡ Some root
   pub alone : values m.objects ≡ root ∷ []
 
@@ -97,38 +97,38 @@ IsAnswered m ctx call reply = NfsStep m ctx call reply [] m
 -- what is answered in a state with the file
 pub record WorkedFileReplies : Type 0 where
   pub guarded : (m : State) → HasFile m →
-      IsAnswered m (called_as 0) (calls.Setattr (setting_mode (time 1000 0))) (replies.Setattr (record {
+      IsAnswered (with_writable m) (called_as 0) (calls.Setattr (setting_mode (time 1000 0))) (replies.Setattr (record {
         wcc = record { before = Some file_before; after = Some (file_shown 420 (time 1000 1)) };
         result = Err status.NotSynchronized;
       }))
   pub set : (m : State) → HasFile m →
-      NfsStep m (called_as 0) (calls.Setattr (setting_mode (time 1000 1))) (replies.Setattr (record {
+      NfsStep (with_writable m) (called_as 0) (calls.Setattr (setting_mode (time 1000 1))) (replies.Setattr (record {
         wcc = record { before = Some file_before; after = Some (file_shown 384 (time 1000 2)) };
         result = Ok tt;
-      })) [] (with_object m 2 (record known_file { mode = 384; changed = time 1000 2 }))
+      })) [] (with_object (with_writable m) 2 (record known_file { mode = 384; changed = time 1000 2 }))
   pub access : (m : State) → HasFile m
-      → IsAnswered m (called_as 5) (calls.Access (record { object = file_bytes; rights = 63 }))
+      → IsAnswered (with_writable m) (called_as 5) (calls.Access (record { object = file_bytes; rights = 63 }))
       (replies.Access (record { attributes = Some (file_shown 420 (time 1000 1)); result = Ok 1 }))
   pub no_link : (m : State) → HasFile m
-      → IsAnswered m (called_as 0) (calls.Readlink file_bytes)
+      → IsAnswered (with_writable m) (called_as 0) (calls.Readlink file_bytes)
       (replies.Readlink (record { attributes = Some (file_shown 420 (time 1000 1)); result = Err status.Invalid }))
   pub committed : (m : State) → HasFile m →
-      IsAnswered m (called_as 5) (calls.Commit (record { file = file_bytes; offset = 0; count = 0 }))
+      IsAnswered (with_writable m) (called_as 5) (calls.Commit (record { file = file_bytes; offset = 0; count = 0 }))
       (replies.Commit (record {
         wcc = record { before = Some file_before; after = Some (file_shown 420 (time 1000 1)) };
         result = Ok (record { bytes = 0 ∷ 0 ∷ 0 ∷ 0 ∷ 0 ∷ 0 ∷ 0 ∷ 7 ∷ [] });
       }))
   pub limits : (m : State) → HasFile m
-      → IsAnswered m (called_as 0) (calls.Pathconf file_bytes)
+      → IsAnswered (with_writable m) (called_as 0) (calls.Pathconf file_bytes)
       (replies.Pathconf (record { attributes = Some (file_shown 420 (time 1000 1)); result = Ok path_limits }))
   pub bad_handle : (m : State) →
-      IsAnswered m (called_as 0) (calls.Fsinfo (take 31 file_bytes))
+      IsAnswered (with_writable m) (called_as 0) (calls.Fsinfo (take 31 file_bytes))
       (replies.Fsinfo (record { attributes = None; result = Err status.BadHandle }))
 
 -- and in the state of a fresh export
 pub record WorkedRootReplies : Type 0 where
-  pub space : (m : State) → HasRoot m →
-      IsAnswered m (with_room 1099511627776) (calls.Fsstat root_bytes) (replies.Fsstat (record {
+  pub space : (m : State) → HasRootAlone m →
+      IsAnswered (with_writable m) (with_room 1099511627776) (calls.Fsstat root_bytes) (replies.Fsstat (record {
         attributes = Some root_shown;
         result = Ok (record {
           total_bytes = 1099511627776;
@@ -140,11 +140,11 @@ pub record WorkedRootReplies : Type 0 where
           unchanged_for = 0;
         });
       }))
-  pub system : (m : State) → HasRoot m →
-      IsAnswered m (called_as 0) (calls.Fsinfo root_bytes)
+  pub system : (m : State) → HasRootAlone m →
+      IsAnswered (with_writable m) (called_as 0) (calls.Fsinfo root_bytes)
       (replies.Fsinfo (record { attributes = Some root_shown; result = Ok file_system }))
-  pub no_file : (m : State) → HasRoot m →
-      IsAnswered m (called_as 0) (calls.Commit (record { file = root_bytes; offset = 0; count = 0 }))
+  pub no_file : (m : State) → HasRootAlone m →
+      IsAnswered (with_writable m) (called_as 0) (calls.Commit (record { file = root_bytes; offset = 0; count = 0 }))
       (replies.Commit (record {
         wcc = record {
           before = Some (record { size = 4096; modified = time 1000 0; changed = time 1000 0 });
@@ -153,8 +153,8 @@ pub record WorkedRootReplies : Type 0 where
         result = Err status.Invalid;
       }))
   -- which cookies are good where the start number is 7: what is left of the root behind them
-  pub first_cookie : (m : State) → HasRoot m →
-      entries_left m (called_as 0) root_bytes 0 zeros 1 ≡ Ok (all_entries 1 1 [])
-  pub other_cookie : (m : State) → HasRoot m →
-      entries_left m (called_as 0) root_bytes 4 zeros 1 ≡ Err status.BadCookie
-  pub good_cookie : (m : State) → HasRoot m → entries_left m (called_as 0) root_bytes 4 seven 1 ≡ Ok []
+  pub first_cookie : (m : State) → HasRootAlone m →
+      entries_left (with_writable m) (called_as 0) root_bytes 0 zeros 1 ≡ Ok (all_entries 1 1 [])
+  pub other_cookie : (m : State) → HasRootAlone m →
+      entries_left (with_writable m) (called_as 0) root_bytes 4 zeros 1 ≡ Err status.BadCookie
+  pub good_cookie : (m : State) → HasRootAlone m → entries_left (with_writable m) (called_as 0) root_bytes 4 seven 1 ≡ Ok []

@@ -22,7 +22,6 @@ use Rattle.nfs_wire.specs.declared.entries.FullEntry.{FullEntry}
 use Rattle.nfs_wire.specs.declared.replies.NfsReply.{NfsReply}
 use Rattle.nfs_wire.specs.declared.replies.NfsReply.TheVariants as nfs_replies
 use Rattle.nfs_wire.specs.declared.status.NfsStatus.TheVariants as status
-use Rattle.side_wire.specs.Mount.{IsHostName}
 use Rattle.nfs_machine.specs.Attributes.{attributes_of, names_of}
 use Rattle.nfs_machine.specs.Checks.{entry_of}
 use Rattle.nfs_machine.specs.Handles.{handle_bytes}
@@ -36,16 +35,18 @@ use Rattle.nfs_machine.specs.Readings.{Reading, StaysThrough, ThroughReading, Tu
 use Rattle.nfs_machine.specs.RemoveSteps.{without, without_object}
 use Rattle.nfs_machine.specs.RenameSteps.{rename_plan}
 use Rattle.nfs_machine.specs.Resolve.{resolve}
-use Rattle.nfs_machine.specs.Run.{Arrival, Record, Run, Setting}
+use Rattle.nfs_machine.specs.Run.{Arrival, FromHost, Received, Record, Run, Setting}
+use Rattle.nfs_machine.specs.SideLaws.{HostFits}
 use Rattle.nfs_machine.specs.Shown.{shown, touched, wcc, with_content, with_object}
 use Rattle.nfs_machine.specs.State.{Directory, Regular, Entry, Living, State}
 use Rattle.nfs_machine.specs.Times.{is_earlier}
 use Rattle.nfs_machine.specs.WellFormed.{WellFormed}
 use Rattle.nfs_machine.specs.Worked.{open_export, root_bytes, user}
-use Rattle.nfs_machine.specs.WorkedCreate.{called_as, moment, no_attributes}
+use Rattle.nfs_machine.specs.WorkedCreate.{called_as, moment, no_attributes, with_writable}
 use Rattle.nfs_machine.specs.WorkedFiles.{time}
 use Rattle.nfs_machine.specs.WorkedPages.{seven, zeros}
 use Rattle.nfs_machine.specs.WorkedReplies.{root}
+use Rattle.nfs_machine.specs.WorkedSetting.{unwritable}
 use Rattle.nfs_machine.specs.declared.calls.Reply.TheVariants as replies
 use Rattle.nfs_machine.specs.declared.context.Ctx.{Ctx}
 
@@ -56,14 +57,17 @@ setting = record { start = 7; exports = open_export ∷ []; limits = record { to
 abbrev pub argument_bytes : NfsCall → List ℕ
 argument_bytes call = write (arguments_type (procedure_of call)) (arguments_of call)
 
-abbrev pub arrives : NfsCall → Arrival
-arrives call =
+abbrev pub received : NfsCall → Received
+received call =
     record {
       host = codes "10.0.0.1";
       bytes = words (9 ∷ 0 ∷ 2 ∷ 100003 ∷ 3 ∷ procedure_of call ∷ 0 ∷ 0 ∷ 0 ∷ 0 ∷ []) ++
           argument_bytes call;
       moment = moment;
     }
+
+abbrev pub arrives : NfsCall → Arrival
+arrives call = FromHost (received call)
 
 abbrev pub header_of : NfsCall → CallHeader
 header_of call = record {
@@ -137,7 +141,7 @@ records = executed (nfs.Create making) made_reply ∷ executed (nfs.Write writin
 -- end, and was changed.
 pub record WorkedRun : Type 0 where
   pub run : Run setting opened records written
-  pub hosts : AllByRecursion (λ (r : Record). IsHostName r.arrival.host) records
+  pub hosts : AllByRecursion (λ (r : Record). HostFits r.arrival) records
   pub given : opened.spent 1 root.generation ≡ true
   pub first : get opened.objects 1 ≡ Some root
   pub last : get written.objects 1 ≡ Some root_with_x
@@ -234,15 +238,15 @@ pub record WorkedLinking (m : State) (entries : List Entry) : Type 0 where
 
 abbrev pub WorkedLinkings : Type 0
 WorkedLinkings = (m : State) (entries : List Entry) → get m.objects 1 ≡ Some (root_with entries) →
-    get m.objects 5 ≡ Some x_written → WorkedLinking m entries
+    get m.objects 5 ≡ Some x_written → WorkedLinking (with_writable m) entries
 
 -- RENAME of a name of the root to another
 abbrev pub renaming : (from to : List ℕ) → RenameArguments
 renaming from to = record { from = in_root from; to = in_root to }
 
 -- the export is read only
-abbrev pub read_only : Ctx
-read_only = record nobody { exports = record open_export { read_only = true } ∷ [] }
+abbrev pub read_only : State → State
+read_only m = record m { exports = unwritable }
 
 -- the root, which is both directories, changes once
 abbrev pub renamed : State → List Entry → State
@@ -257,10 +261,10 @@ renamed m entries =
 
 -- what it comes to: the checks in their order, a move to a name that is free, and two names of one file
 pub record WorkedRenaming (m : State) (entries : List Entry) : Type 0 where
-  pub self : rename_plan m read_only (renaming (codes ".") (replicate 256 120)) ≡ Err status.Invalid
+  pub self : rename_plan (read_only m) nobody (renaming (codes ".") (replicate 256 120)) ≡ Err status.Invalid
   pub above : rename_plan m nobody (renaming (codes "x") (codes "..")) ≡ Err status.Invalid
   pub long : rename_plan m nobody (renaming (codes "x") (replicate 256 120)) ≡ Err status.NameTooLong
-  pub fixed : rename_plan m read_only (renaming (codes "x") (codes "y")) ≡ Err status.ReadOnly
+  pub fixed : rename_plan (read_only m) nobody (renaming (codes "x") (codes "y")) ≡ Err status.ReadOnly
   pub nothing : entry_of entries (codes "x") ≡ None →
       rename_plan m nobody (renaming (codes "x") (codes "y")) ≡ Err status.NoEntry
   pub from_file : rename_plan m nobody
@@ -280,7 +284,7 @@ pub record WorkedRenaming (m : State) (entries : List Entry) : Type 0 where
 
 abbrev pub WorkedRenamings : Type 0
 WorkedRenamings = (m : State) (entries : List Entry) → get m.objects 1 ≡ Some (root_with entries) →
-    get m.objects 5 ≡ Some x_written → WorkedRenaming m entries
+    get m.objects 5 ≡ Some x_written → WorkedRenaming (with_writable m) entries
 
 -- "x" is taken away where it is the first of the file's two names: "y" keeps its cookie, and the file lives on
 abbrev pub y_entry : Entry
@@ -298,7 +302,8 @@ left_reply m = nfs_replies.Remove (record { directory = wcc (left m) (resolve m 
 
 abbrev pub WorkedLeaving : Type 0
 WorkedLeaving = (m : State) → get m.objects 1 ≡ Some root_with_both → get m.objects 5 ≡ Some x_written →
-    names_of m 5 ≡ 2 → NfsStep m nobody (nfs.Remove (in_root (codes "x"))) (left_reply m) [] (left m)
+    names_of m 5 ≡ 2 → NfsStep (with_writable m) nobody (nfs.Remove (in_root (codes "x")))
+    (left_reply (with_writable m)) [] (left (with_writable m))
 
 -- A reading of the root in two pages, with the WRITE between them: the first from the state in which "x" was made,
 -- with room for two entries, and the second from its last cookie on. "x" stays.

@@ -1,5 +1,5 @@
 -- SETATTR, ACCESS, FSSTAT, FSINFO and PATHCONF worked through by hand (RFC 1813, 3.3.2, 3.3.4 and 3.3.18 to 3.3.20).
-use Rattle.std.specs.Prelude.{◌≡◌, ℕ, true, false, [], ◌∷◌, replicate, Option, Some, None, Result, Ok}
+use Rattle.std.specs.Prelude.{◌≡◌, ℕ, true, false, List, [], ◌∷◌, replicate, Option, Some, None, Result, Ok}
 use Rattle.std.specs.Prelude.{Err, codes}
 use Rattle.nfs_rpc.specs.declared.credentials.Ids.{Ids}
 use Rattle.nfs_wire.specs.declared.attributes.SetAttributes.{SetAttributes}
@@ -10,21 +10,21 @@ use Rattle.nfs_wire.specs.declared.status.NfsStatus.{NfsStatus}
 use Rattle.nfs_wire.specs.declared.status.NfsStatus.TheVariants as status
 use Rattle.nfs_machine.specs.AttributeSteps.{granted, set_object}
 use Rattle.nfs_machine.specs.Checks.{bytes_in, text_in}
+use Rattle.nfs_machine.specs.Exports.{LivingExport, opening_exports}
 use Rattle.nfs_machine.specs.FileSystemSteps.{space_left, file_system, path_limits}
 use Rattle.nfs_machine.specs.Opening.{opening_root}
 use Rattle.nfs_machine.specs.State.{Content, Regular, Directory, Link, Fifo, Living}
-use Rattle.nfs_machine.specs.Worked.{member, object, user}
-use Rattle.nfs_machine.specs.WorkedCreate.{called_as, file, sized, no_attributes}
+use Rattle.nfs_machine.specs.Worked.{member, object, open_export, user}
+use Rattle.nfs_machine.specs.WorkedCreate.{called_as, file, sized, no_attributes, writable}
 use Rattle.nfs_machine.specs.WorkedFiles.{hello, time}
 use Rattle.nfs_machine.specs.declared.context.Ctx.{Ctx}
 
 abbrev pub by : Ids → Ctx
 by ids = record (called_as 0) { ids = ids }
 
--- the same where the export is read only
-abbrev pub unwritable : Ctx → Ctx
-unwritable ctx = record ctx
-    { exports = record { path = codes "/a"; read_only = true; hosts = codes "*" ∷ [] } ∷ [] }
+-- the export is read only
+abbrev pub unwritable : List LivingExport
+unwritable = opening_exports (record open_export { read_only = true } ∷ [])
 
 abbrev pub setting : SetAttributes → Option Time → SetattrArguments
 setting a guard = record { object = []; attributes = a; guard = guard }
@@ -37,17 +37,17 @@ abbrev pub known : Living
 known = file hello (time 1000 1) None
 
 abbrev pub set_by : ℕ → SetAttributes → Living → Result Living NfsStatus
-set_by uid a o = set_object (called_as uid) o (setting a None)
+set_by uid a o = set_object writable (called_as uid) o (setting a None)
 
 -- the guard, and times
 pub record WorkedGuard : Type 0 where
-  pub changed_since : set_object (called_as 0) known
+  pub changed_since : set_object writable (called_as 0) known
       (setting (with_mode 384) (Some (time 1000 0))) ≡ Err status.NotSynchronized
-  pub as_known : set_object (called_as 0) known (setting (with_mode 384) (Some (time 1000 1))) ≡ Ok
+  pub as_known : set_object writable (called_as 0) known (setting (with_mode 384) (Some (time 1000 1))) ≡ Ok
       (record known { mode = 384; changed = time 1000 2 })
-  pub other_second : set_object (called_as 0) known
+  pub other_second : set_object writable (called_as 0) known
       (setting (with_mode 384) (Some (time 999 1))) ≡ Err status.NotSynchronized
-  pub bad_guard : set_object (called_as 0) known
+  pub bad_guard : set_object writable (called_as 0) known
       (setting (with_mode 384) (Some (time 1000 1000000000))) ≡ Err status.NotSynchronized
   pub unguarded : set_by 9 no_attributes known ≡ Ok (record known { changed = time 1000 2 })
   pub size : set_by 9 (sized 2) known ≡ Ok
@@ -62,9 +62,9 @@ pub record WorkedGuard : Type 0 where
 
 -- the first check that fails decides
 pub record WorkedSetting : Type 0 where
-  pub read_only : set_object (unwritable (called_as 0)) known
+  pub read_only : set_object unwritable (called_as 0) known
       (setting (with_mode 384) (Some (time 1000 0))) ≡ Err status.ReadOnly
-  pub guard_first : set_object (called_as 0) known
+  pub guard_first : set_object writable (called_as 0) known
       (setting (record no_attributes { modified = ToClient (time 0 1000000000) }) (Some (time 1000 0))) ≡
       Err status.NotSynchronized
   pub bad_time : set_by 5
@@ -79,7 +79,7 @@ pub record WorkedSetting : Type 0 where
   pub taken : set_by 5 (record no_attributes { uid = Some 5 }) known ≡ Err status.Permission
   pub not_taken : set_by 5 (record no_attributes { uid = Some 9 }) known ≡ Err status.Permission
   pub foreign_group : set_by 9 (record no_attributes { gid = Some 8 }) known ≡ Err status.Permission
-  pub further_group : set_object (by (record member { uid = 9 })) known
+  pub further_group : set_object writable (by (record member { uid = 9 })) known
       (setting (record no_attributes { gid = Some 200 }) None) ≡ Ok
       (record known { gid = 200; changed = time 1000 2 })
   pub by_root : set_by 0 (record no_attributes { uid = Some 8; gid = Some 8 }) known ≡ Ok
@@ -92,7 +92,7 @@ pub record WorkedSetting : Type 0 where
 
 -- rights that are granted, of all that are known: READ 1, LOOKUP 2, MODIFY 4, EXTEND 8, DELETE 16, EXECUTE 32
 abbrev pub rights : Ids → ℕ → Content → ℕ
-rights ids mode content = granted (by ids) (object mode content) 63
+rights ids mode content = granted writable (by ids) (object mode content) 63
 
 pub record WorkedAccess : Type 0 where
   -- mode 0640
@@ -110,10 +110,10 @@ pub record WorkedAccess : Type 0 where
   -- of mode 0050: the owner's class alone counts
   pub closed_directory : rights (user 100 9) 40 (Directory [] 2) ≡ 0
   pub root_directory : rights (user 0 0) 0 (Directory [] 2) ≡ 31
-  pub read_only : granted (unwritable (by (user 0 0))) (object 493 (Directory [] 2)) 63 ≡ 3
-  pub read_only_file : granted (unwritable (by (user 0 0))) (object 493 (Regular [])) 63 ≡ 33
-  pub asked : granted (by (user 100 9)) (object 493 (Directory [] 2)) 18 ≡ 18
-  pub unknown : granted (by (user 100 9)) (object 493 (Directory [] 2)) 4294967264 ≡ 0
+  pub read_only : granted unwritable (by (user 0 0)) (object 493 (Directory [] 2)) 63 ≡ 3
+  pub read_only_file : granted unwritable (by (user 0 0)) (object 493 (Regular [])) 63 ≡ 33
+  pub asked : granted writable (by (user 100 9)) (object 493 (Directory [] 2)) 18 ≡ 18
+  pub unknown : granted writable (by (user 100 9)) (object 493 (Directory [] 2)) 4294967264 ≡ 0
 
 -- kinds that READLINK and COMMIT are refused of
 pub record WorkedKinds : Type 0 where

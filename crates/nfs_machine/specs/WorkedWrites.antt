@@ -9,7 +9,7 @@ use Rattle.nfs_machine.specs.Attributes.{used_of}
 use Rattle.nfs_machine.specs.DataSteps.{write_count, write_object}
 use Rattle.nfs_machine.specs.Opening.{opening_root}
 use Rattle.nfs_machine.specs.State.{Regular}
-use Rattle.nfs_machine.specs.WorkedCreate.{called_as}
+use Rattle.nfs_machine.specs.WorkedCreate.{called_as, writable}
 use Rattle.nfs_machine.specs.WorkedFiles.{hello, time}
 use Rattle.nfs_machine.specs.WorkedPages.{seven}
 use Rattle.nfs_machine.specs.WorkedSetting.{known, unwritable}
@@ -22,7 +22,7 @@ answered count = record { count = count; committed = FileSync; verifier = seven 
 
 -- into a file of uid 9 and mode 0644 that holds "hello"
 pub record WorkedWrites : Type 0 where
-  pub behind_end : write_object (called_as 9) known (writing 8 1 (codes "!"))
+  pub behind_end : write_object writable (called_as 9) known (writing 8 1 (codes "!"))
       ≡ Ok (
         answered 1,
         Some
@@ -34,14 +34,14 @@ pub record WorkedWrites : Type 0 where
       )
   pub space : used_of (Regular (hello ++ 0 ∷ 0 ∷ 0 ∷ 33 ∷ [])) ≡ 4096
   pub no_space : used_of (Regular []) ≡ 0
-  pub last_offset : write_object (called_as 9) known (writing (2 ^ 64 - 1) 1 (codes "!")) ≡ Err status.FileTooBig
-  pub above : write_object (called_as 9) known (writing 1048576 1 (codes "!")) ≡ Err status.FileTooBig
+  pub last_offset : write_object writable (called_as 9) known (writing (2 ^ 64 - 1) 1 (codes "!")) ≡ Err status.FileTooBig
+  pub above : write_object writable (called_as 9) known (writing 1048576 1 (codes "!")) ≡ Err status.FileTooBig
   -- no byte is written at any offset
-  pub none : write_object (called_as 9) known (writing (2 ^ 64 - 1) 0 []) ≡ Ok (answered 0, None)
+  pub none : write_object writable (called_as 9) known (writing (2 ^ 64 - 1) 0 []) ≡ Ok (answered 0, None)
   pub most : write_count (writing 0 65537 []) ≡ 65536
-  pub miscounted : write_object (called_as 9) known (writing 0 2 (codes "!")) ≡ Err status.Invalid
-  pub read_only : write_object (unwritable (called_as 5)) known (writing 0 1 (codes "!")) ≡ Err status.ReadOnly
-  pub miscounted_first : write_object (unwritable (called_as 5)) known (writing 0 2 (codes "!")) ≡ Err status.Invalid
-  pub not_permitted : write_object (called_as 5) known (writing (2 ^ 64 - 1) 1 (codes "!")) ≡ Err status.Access
-  pub directory : write_object (called_as 9) (opening_root 1 (time 1000 0))
+  pub miscounted : write_object writable (called_as 9) known (writing 0 2 (codes "!")) ≡ Err status.Invalid
+  pub read_only : write_object unwritable (called_as 5) known (writing 0 1 (codes "!")) ≡ Err status.ReadOnly
+  pub miscounted_first : write_object unwritable (called_as 5) known (writing 0 2 (codes "!")) ≡ Err status.Invalid
+  pub not_permitted : write_object writable (called_as 5) known (writing (2 ^ 64 - 1) 1 (codes "!")) ≡ Err status.Access
+  pub directory : write_object writable (called_as 9) (opening_root 1 (time 1000 0))
       (writing 0 2 (codes "!")) ≡ Err status.Invalid

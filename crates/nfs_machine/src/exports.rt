@@ -56,11 +56,14 @@ pub struct Exports {
 impl Model for Exports {
     ghost use Rattle.std.specs.Prelude.{List, map};
     ghost use Rattle.std.specs.Arc.{arc_value};
+    ghost use Rattle.nfs_machine.specs.ExportFaults.{AreFaultless};
     ghost use Rattle.nfs_machine.specs.Exports.{ExportValue, export_value};
 
     ghost Value = { List ExportValue };
 
     ghost view = { λ e. map export_value (arc_value e.list).items };
+
+    ghost invariant = { λ e. AreFaultless (map export_value (arc_value e.list).items) };
 }
 
 impl Clone for Exports {
@@ -85,8 +88,8 @@ impl Export {
 }
 
 impl Exports {
-    ghost use Rattle.nfs_machine.specs.Exports.{export_admits, export_at, export_value};
-    ghost use Rattle.nfs_machine.specs.ExportFaults.{export_fault, export_of};
+    ghost use Rattle.nfs_machine.specs.Exports.{LivingExport, export_admits, export_at, export_value, opening_exports};
+    ghost use Rattle.nfs_machine.specs.ExportFaults.{AreFaultless, export_fault, export_of};
 
     /// The exports of these texts.
     ///
@@ -120,14 +123,16 @@ impl Exports {
 
     /// The exports in order.
     pub fn list(&self) -> &[Export]
-        ensures { map export_value result.now ≡ self.now }
+        ensures list { map export_value result.now ≡ self.now }
+        ensures faultless { AreFaultless self.now }
     {
         &self.list
     }
 
-    /// The export with this number, from 1.
+    /// The export that has this number where a server opens with these.
     pub fn get(&self, number: u32) -> Option<&Export>
-        ensures { option_map (λ e. export_value e.now) result ≡ export_at self.now number }
+        ensures { option_map (λ e. export_value e.now) result ≡
+            option_map (λ (e : LivingExport). e.value) (export_at (opening_exports self.now) number) }
     {
         match number as usize {
             0 => None,
@@ -135,9 +140,9 @@ impl Exports {
         }
     }
 
-    /// Whether there is an export with this number, and it admits the host. It takes no memory.
+    /// Whether there is an export that has this number so, and it admits the host. It takes no memory.
     pub fn admits(&self, number: u32, host: &Bytes) -> bool
-        ensures { result ≡ export_admits (export_at self.now number) host.now }
+        ensures { result ≡ export_admits (export_at (opening_exports self.now) number) host.now }
     {
         match self.get(number) {
             Some(export) => export.admits(host),

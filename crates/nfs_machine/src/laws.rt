@@ -3,7 +3,8 @@
 ghost use Rattle.nfs_machine.specs.Laws.{ArrivalsAskOnce, HandlesAreRead, HandlesAreWritten, NeverGivenAgain};
 ghost use Rattle.nfs_machine.specs.Laws.{OpeningIsFormed, OpeningNumbersFit, RefusalsAreShort, RefusalsChangeNothing};
 ghost use Rattle.nfs_machine.specs.Laws.{RepliesAreShort, RunsGoOn, RunsJoin, RunsKeepForm, RunsKeepNumbers};
-ghost use Rattle.nfs_machine.specs.Laws.{StepsGiveOnce, StepsKeepCookies, StepsKeepForm, StepsKeepNumbers};
+ghost use Rattle.nfs_machine.specs.Laws.{StepsGiveOnce, StepsKeepCookies, StepsKeepExports, StepsKeepForm};
+ghost use Rattle.nfs_machine.specs.Laws.{StepsKeepNumbers};
 ghost use Rattle.nfs_machine.specs.LockLaws.{ListedLocksTell, OpeningIsApart, OpeningWaitsForNone, RunsKeepApart};
 ghost use Rattle.nfs_machine.specs.LockLaws.{RunsKeepWaiting, StepsKeepApart, StepsKeepWaiting};
 ghost use Rattle.nfs_machine.specs.Paging.{FullPagesFit, FullPagesList, PagesAreOne, PagesAreWhole, PagesExist};
@@ -148,8 +149,17 @@ pub fn numbers_fit()
     ensures runs { RunsKeepNumbers }
 {}
 
-/// What is true of the state that a server starts with stays true: names lead to living objects of their export, the
-/// directories of an export form one tree, cookies rise, and the texts of links are within their bound.
+/// No step changes the exports.
+///
+/// Such a step is in `worked_steps`.
+pub fn steps_keep_exports()
+    ensures { StepsKeepExports }
+{}
+
+/// What is true of the state that a server starts with stays true: each export has its number and a root of its own,
+/// names lead to living objects of their export and none to a root, the directories of an export form one tree,
+/// cookies rise, and the texts of links are within their bound. The exports that it starts with are faultless, as
+/// those of `Exports::new` are.
 ///
 /// Such a run is `worked_run`.
 pub fn states_stay_well_formed()

@@ -1,6 +1,8 @@
 //! Worked values of the definitions, proved by computing them.
 
 ghost use Rattle.nfs_machine.specs.Worked.{WorkedExports, WorkedHandles, WorkedPaths, WorkedRights, WorkedWalks};
+ghost use Rattle.nfs_machine.specs.WorkedChanging.{WorkedChanging};
+ghost use Rattle.nfs_machine.specs.WorkedExports.{WorkedExporting};
 ghost use Rattle.nfs_machine.specs.WorkedFiles.{WorkedContent, WorkedNames, WorkedTimes};
 ghost use Rattle.nfs_machine.specs.WorkedCreate.{WorkedAttributes, WorkedExisting, WorkedNewFile};
 ghost use Rattle.nfs_machine.specs.WorkedLocking.{WorkedChecks, WorkedLocking};
@@ -40,6 +42,16 @@ pub fn worked_walks()
 /// Which exports a server may be started with, and whom they admit.
 pub fn worked_exports()
     ensures { WorkedExports }
+{}
+
+/// Exports whose numbers are not their places, and whose roots have other numbers than they.
+pub fn worked_exporting()
+    ensures { WorkedExporting }
+{}
+
+/// Which calls change something.
+pub fn worked_changing()
+    ensures { WorkedChanging }
 {}
 
 /// The times of changes.

@@ -20,7 +20,7 @@ use Rattle.nfs_machine.specs.declared.context.Ctx.{Ctx}
 use Rattle.nfs_objects.proofs.Seen.{fits_at}
 use Rattle.nfs_objects.specs.Attempt.{AsksFor, Addresses}
 use Rattle.nfs_objects.specs.Rounds.{AsksFewOfSound, Round, Read, Given, Gives, GrowsBy, asked_by, empty_count, empty_wanted, view_after}
-use Rattle.nfs_objects.specs.Sound.{Sound, RootsLive}
+use Rattle.nfs_objects.specs.Sound.{Sound, HasExports}
 use Rattle.nfs_objects.specs.Stands.{Represents, living_of}
 use Rattle.nfs_objects.specs.Store.{Store}
 use Rattle.nfs_objects.specs.Values.{ViewValue, is_addr, seen_at}
@@ -258,7 +258,7 @@ module _ (s : Store) where
           | None ↦ λ at. absurd (not-come (get m.objects) number (record o { content = Regular [] }) (stands.objects number ∙ ap living_of at) leads-on v agrees unread refl root o names left lives comes)
         ] refl
 
-    module _ (ctx : Ctx) (roots : RootsLive ctx.exports m) (path : List ℕ) where
+    module _ (ctx : Ctx) (roots : HasExports ctx.exports m) (path : List ℕ) where
       walk-bounded : (asked : List (Addr × Mode)) → AsksForWalk ctx v path asked → BoundedAt v asked
       walk-bounded asked walk =
           let root = roots walk.root walk.chosen.leads.export walk.chosen.leads.stands in

@@ -9,7 +9,7 @@ use Rattle.nfs_machine.specs.declared.calls.Call.{Call}
 use Rattle.nfs_machine.specs.declared.calls.Reply.{Reply}
 use Rattle.nfs_machine.specs.declared.context.Ctx.{Ctx}
 use Rattle.nfs_objects.specs.Promise.{IsPromised}
-use Rattle.nfs_objects.specs.Sound.{Sound, RootsLive}
+use Rattle.nfs_objects.specs.Sound.{Sound, HasExports}
 use Rattle.nfs_objects.specs.Stands.{Represents, content_of, mounted_of}
 use Rattle.nfs_objects.specs.Store.{Store, with_write}
 use Rattle.nfs_objects.specs.Values.{ViewValue}
@@ -42,7 +42,7 @@ module _ (s : Store) (m : State) (table : List Mount) where
         well_formed = well_formed-alike m after alike (λ n. refl) (λ n g given. given) sound.well_formed.texts sound.well_formed;
       }
 
-  pub mounts_roots : (exports : List ExportValue) → RootsLive exports m → RootsLive exports (record m { mounts = map mounted_of table })
+  pub mounts_roots : (exports : List ExportValue) → HasExports exports m → HasExports exports (record m { mounts = map mounted_of table })
   mounts_roots exports roots = λ number e at. let r = roots number e at in record { root = r.root; lives = r.lives; own = r.own; directory = r.directory }
 
 pub promised_mounts : (call : Call) (ctx : Ctx) (view : ViewValue) (table : List Mount) (reply : Reply) → StoresMounts call ctx view table reply

@@ -8,7 +8,7 @@ use Rattle.nfs_machine.specs.declared.calls.Call.{Call}
 use Rattle.nfs_machine.specs.declared.calls.Reply.{Reply}
 use Rattle.nfs_machine.specs.declared.context.Ctx.{Ctx}
 use Rattle.nfs_objects.specs.Fits.{Fits}
-use Rattle.nfs_objects.specs.Sound.{Sound, RootsLive}
+use Rattle.nfs_objects.specs.Sound.{Sound, HasExports}
 use Rattle.nfs_objects.specs.Stands.{Represents, mounted, mounted_of, mounts_of}
 use Rattle.nfs_objects.specs.Store.{Store}
 use Rattle.nfs_objects.specs.Values.{DoneValue, ViewValue, seen_at}
@@ -20,7 +20,7 @@ use Rattle.nfs_objects.specs.declared.object.Object.TheVariants as objects
 -- the view shows the table, and in every sound store that it fits, the reply is a step after which the mounts are these
 pub record StoresMounts (call : Call) (ctx : Ctx) (view : ViewValue) (table : List Mount) (reply : Reply) : Type 0 where
   pub seen : IsSome (seen_at view.entries Mounts)
-  pub step : (s : Store) (m : State) → Represents s m → Sound s m → RootsLive ctx.exports m → Fits view s
+  pub step : (s : Store) (m : State) → Represents s m → Sound s m → HasExports ctx.exports m → Fits view s
       → Step m ctx call reply [] (record m { mounts = map mounted_of table })
 
 -- the table with the pair added last, or none where it is listed already

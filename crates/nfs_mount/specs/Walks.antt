@@ -5,7 +5,7 @@ use Rattle.nfs_machine.specs.MountSteps.{Target, walk}
 use Rattle.nfs_machine.specs.State.{Living, State}
 use Rattle.nfs_machine.specs.declared.context.Ctx.{Ctx}
 use Rattle.nfs_objects.specs.Fits.{Fits}
-use Rattle.nfs_objects.specs.Sound.{Sound, RootsLive}
+use Rattle.nfs_objects.specs.Sound.{Sound, HasExports}
 use Rattle.nfs_objects.specs.Stands.{Represents, content_of, living_of, living_of_inode}
 use Rattle.nfs_objects.specs.Store.{Store}
 use Rattle.nfs_objects.specs.Values.{ViewValue, seen_at}
@@ -49,5 +49,5 @@ Walks view root names (Unread number is_last) = Stops view root names number is_
 
 -- in every sound store that the view fits, the path names this inode with this number
 pub record IsNamed (ctx : Ctx) (view : ViewValue) (path : List ℕ) (number : ℕ) (inode : Inode) : Type 0 where
-  pub target : (s : Store) (m : State) → Represents s m → Sound s m → RootsLive ctx.exports m → Fits view s
-      → Target m ctx path (Ok (number, living_of_inode inode))
+  pub target : (s : Store) (m : State) → Represents s m → Sound s m → HasExports ctx.exports m → Fits view s →
+      Target m ctx path (Ok (number, living_of_inode inode))

@@ -38,7 +38,7 @@ use Rattle.nfs_objects.proofs.Seen.{fits_at, is_inode, lives-seen}
 use Rattle.nfs_objects.specs.Endings.{Creates, HoldsUnchanged, IsCreation, KeepsPlace, Rewrites, with_created, with_name}
 use Rattle.nfs_objects.specs.Entries.{leaf_of}
 use Rattle.nfs_objects.specs.Fits.{Fits}
-use Rattle.nfs_objects.specs.Sound.{Sound, RootsLive}
+use Rattle.nfs_objects.specs.Sound.{Sound, HasExports}
 use Rattle.nfs_objects.specs.Stands.{Represents, content_of, inode_of, living_of, living_of_inode}
 use Rattle.nfs_objects.specs.Store.{Store, put_at}
 use Rattle.nfs_objects.specs.Values.{ViewValue, seen_at}
@@ -385,7 +385,7 @@ module _ (ctx : Ctx) (view : ViewValue) (a : CreateArguments) where
                 made_directory = λ x is. absurd (let yes : true ≡ false = sym (ap (λ y. is_directory (content_of y)) is) ∙ no_directory in cc);
               }
 
-          module _ (s : Store) (m : State) (stands : Represents s m) (sound : Sound s m) (roots : RootsLive ctx.exports m) (fits : Fits view s) where
+          module _ (s : Store) (m : State) (stands : Represents s m) (sound : Sound s m) (roots : HasExports ctx.exports m) (fits : Fits view s) where
             abbrev m1 : State
             m1 = with_created m creation
 

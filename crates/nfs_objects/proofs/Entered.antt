@@ -8,7 +8,7 @@ use Rattle.std.specs.Cmp.{nat_eq_equiv, unsigned_Decides}
 use Rattle.std.specs.FinMap.{get, insert}
 use Rattle.std.specs.List.{AllByRecursion}
 use Rattle.nfs_machine.proofs.Changes.{apart}
-use Rattle.nfs_machine.proofs.Entered.{MakesEntry, links-kept, links-made, links-wider, lives-on, parent-kept, parent-made}
+use Rattle.nfs_machine.proofs.Entered.{MakesEntry, links-kept, links-made, links-wider, parent-kept, parent-made}
 use Rattle.nfs_machine.proofs.Kept.{steps_keep_form}
 use Rattle.nfs_machine.specs.Attributes.{entries_of, is_directory, links_of}
 use Rattle.nfs_machine.specs.State.{State}
@@ -22,7 +22,7 @@ use Rattle.nfs_objects.proofs.Seen.{fits_at}
 use Rattle.nfs_objects.specs.Endings.{Creates, IsCreation, creation_stored, new_directory, with_created}
 use Rattle.nfs_objects.specs.Fits.{Fits}
 use Rattle.nfs_objects.specs.Promise.{IsPromised}
-use Rattle.nfs_objects.specs.Sound.{Sound, RootsLive}
+use Rattle.nfs_objects.specs.Sound.{Sound}
 use Rattle.nfs_objects.specs.Stands.{Represents, content_of, living_of, living_of_inode}
 use Rattle.nfs_objects.specs.Store.{Store, with_write}
 use Rattle.nfs_objects.specs.Values.{ViewValue, seen_at}
@@ -94,14 +94,14 @@ no_inode_twice (Some y) e f = cc
 joined_links : (a b c d k : ℕ) → a ≡ b + k → b ≡ c → d ≡ c + k → a ≡ d
 joined_links a b c d k e f g = omega arith
 
-module _ (ctx : Ctx) (view : ViewValue) (c : Creation) (r : IsCreation ctx view c) where
+module _ (view : ViewValue) (c : Creation) (r : IsCreation view c) where
   -- the view shows that nothing stands at the new number, and its generation is above all given
   pub reserved-first : (s : Store) → Fits view s → (seen_at view.entries (addresses.Inode c.number) ≡ Some None) × (s.last c.number < c.object.generation)
   reserved-first s fits =
       all_first (λ (x : Reserved). (seen_at view.entries (addresses.Inode x.number) ≡ Some None) × (s.last x.number < x.generation)) view.reserved
       (record { number = c.number; generation = c.object.generation }) fits.reserved r.first
 
-  module _ (s : Store) (m : State) (stands : Represents s m) (sound : Sound s m) (roots : RootsLive ctx.exports m) (fits : Fits view s) where
+  module _ (s : Store) (m : State) (stands : Represents s m) (sound : Sound s m) (fits : Fits view s) where
     abbrev pub new : State
     new = with_created m c
 
@@ -121,9 +121,6 @@ module _ (ctx : Ctx) (view : ViewValue) (c : Creation) (r : IsCreation ctx view 
     pub never_given : m.spent c.number c.object.generation ≡ false
     never_given = stands.spent c.number c.object.generation ∙ lt-leb c.object.generation (s.last c.number) (reserved-first s fits).1
 
-    no_root : (c.number == r.old.export) ≡ false
-    no_root = apart c.number r.old.export (λ same. (let root = roots r.old.export r.export r.exported in no_inode_twice (get m.objects c.number) free (ap (get m.objects) same ∙ root.lives)))
-
     pub makes : MakesEntry m new c.place c.number (living_of_inode r.old) (living_of_inode c.directory) (living_of_inode c.object) r.name
     makes = record {
       entries = r.place.entries;
@@ -132,7 +129,6 @@ module _ (ctx : Ctx) (view : ViewValue) (c : Creation) (r : IsCreation ctx view 
       content = ap content_of r.content;
       absent = r.absent;
       free = free;
-      no_root = no_root;
       objects = refl;
       wider_content = ap content_of r.wider;
       wider_export = r.wider_export;
@@ -142,6 +138,7 @@ module _ (ctx : Ctx) (view : ViewValue) (c : Creation) (r : IsCreation ctx view 
       made_cookies = λ last is. two_used c.object.content c.place last r.made_directory is;
       given = last_true (m.spent c.number c.object.generation) (c.number == c.number) (nat_le c.object.generation c.object.generation) ((unsigned_Decides c.number c.number).1 refl) (le-leb c.object.generation c.object.generation (omega arith));
       spent = λ n g spent. ap (λ b. b || ((n == c.number) && nat_le g c.object.generation)) spent;
+      keeps = record { exports = refl; last = refl };
     }
 
     spent-up : (n g : ℕ) → (m.spent n g || ((n == c.number) && nat_le g c.object.generation)) ≡ nat_le g (stored.last n)
@@ -233,21 +230,14 @@ module _ (ctx : Ctx) (view : ViewValue) (c : Creation) (r : IsCreation ctx view 
       well_formed = formed;
     }
 
-    pub created_roots : RootsLive ctx.exports new
-    created_roots = λ n e there.
-        let root = roots n e there in
-        let l = lives-on m new c.place c.number (living_of_inode r.old) (living_of_inode c.directory) (living_of_inode c.object) r.name makes n root.root root.lives in
-        record { root = l.object; lives = l.lives; own = l.export ∙ root.own; directory = l.kind ∙ root.directory }
-
 pub promised_created : (call : Call) (ctx : Ctx) (view : ViewValue) (c : Creation) (reply : Reply) → Creates call ctx view c reply → IsPromised (creation_stored call ctx view c reply)
 promised_created call ctx view c reply r = record {
-  kept = λ s m stands sound roots fits. record {
+  kept = λ s m stands sound exports fits. record {
     new = with_created m c;
-    step = r.step s m stands sound roots fits;
-    stands = created_represented ctx view c r.is s m stands sound roots fits;
-    sound = created_sound ctx view c r.is s m stands sound roots fits
-        (steps_keep_form m ctx call reply [] (with_created m c) (r.step s m stands sound roots fits) sound.well_formed);
-    roots = created_roots ctx view c r.is s m stands sound roots fits;
+    step = r.step s m stands sound exports fits;
+    stands = created_represented view c r.is s m stands sound fits;
+    sound = created_sound view c r.is s m stands sound fits
+        (steps_keep_form m ctx call reply [] (with_created m c) (r.step s m stands sound exports fits) sound.well_formed);
   };
-  writes = λ s fits. (subst (λ o. IsSome o) (sym r.is.seen) refl, (subst (λ o. IsSome o) (sym (reserved-first ctx view c r.is s fits).0) refl, tt));
+  writes = λ s fits. (subst (λ o. IsSome o) (sym r.is.seen) refl, (subst (λ o. IsSome o) (sym (reserved-first view c r.is s fits).0) refl, tt));
 }

@@ -6,9 +6,8 @@ use Rattle.std.specs.FinMap.{FinMap, get, insert}
 use Rattle.std.specs.Ordering.{nat_cmp}
 use Rattle.nfs_machine.proofs.Kept.{steps_keep_form}
 use Rattle.nfs_machine.proofs.Sums.{get-inserted}
-use Rattle.nfs_machine.proofs.WellFormed.{Alike, KeepsNames, after, links-alike, links-names, parent-alike, replaced-alike, replaced-names}
+use Rattle.nfs_machine.proofs.WellFormed.{Alike, KeepsNames, links-alike, links-names, parent-alike, replaced-alike, replaced-names}
 use Rattle.nfs_machine.specs.Attributes.{is_directory, links_of, names_of}
-use Rattle.nfs_machine.specs.Exports.{ExportValue}
 use Rattle.nfs_machine.specs.Shown.{with_object}
 use Rattle.nfs_machine.specs.State.{Living, State}
 use Rattle.nfs_machine.specs.State as machine
@@ -19,7 +18,7 @@ use Rattle.nfs_machine.specs.declared.context.Ctx.{Ctx}
 use Rattle.nfs_objects.proofs.Seen.{fits_at}
 use Rattle.nfs_objects.specs.Endings.{KeepsPlace, Rewrites, inode_stored}
 use Rattle.nfs_objects.specs.Promise.{IsPromised}
-use Rattle.nfs_objects.specs.Sound.{Sound, RootsLive}
+use Rattle.nfs_objects.specs.Sound.{Sound}
 use Rattle.nfs_objects.specs.Stands.{Represents, content_of, living_of, living_of_inode}
 use Rattle.nfs_objects.specs.Store.{Store, give, put_at, with_write}
 use Rattle.nfs_objects.specs.Values.{ViewValue}
@@ -116,7 +115,7 @@ module _ (s : Store) (m : State) (number : ℕ) (old new : Inode) (at : s.at (ad
   pub rewritten_sound : Sound s m → WellFormed (with_object m number (living_of_inode new)) → Sound (with_write s (addresses.Inode number) (Some (objects.Inode new))) (with_object m number (living_of_inode new))
   rewritten_sound sound formed = record {
     links = rewritten_links sound;
-    parents = λ n i d there is. parent-alike m (with_object m number (living_of_inode new)) alike n d.parent (elim (found-put s number new n i there) [
+    parents = λ n i d there is. parent-alike m (with_object m number (living_of_inode new)) alike refl n d.parent (elim (found-put s number new n i there) [
       | inl here ↦
           let was : new.content ≡ contents.Directory d = ap (λ (j : Inode). j.content) here.1 ∙ is in
           let kind : is_directory (content_of old.content) ≡ true = sym keeps.kind ∙ ap (λ c. is_directory (content_of c)) was in
@@ -126,24 +125,17 @@ module _ (s : Store) (m : State) (number : ℕ) (old new : Inode) (at : s.at (ad
     well_formed = formed;
   }
 
-  pub rewritten_roots : (exports : List ExportValue) → RootsLive exports m → RootsLive exports (with_object m number (living_of_inode new))
-  rewritten_roots exports roots = λ n e there.
-      let r = roots n e there in
-      let a = after m (with_object m number (living_of_inode new)) alike n r.root r.lives in
-      record { root = a.0; lives = a.1; own = a.2.export ∙ r.own; directory = a.2.kind ∙ r.directory }
-
 pub promised_rewritten : (call : Call) (ctx : Ctx) (view : ViewValue) (number : ℕ) (inode : Inode) (reply : Reply) → Rewrites call ctx view number inode reply
     → IsPromised (inode_stored call ctx view number inode reply)
 promised_rewritten call ctx view number inode reply r = record {
-  kept = λ s m stands sound roots fits.
+  kept = λ s m stands sound exports fits.
       let at = fits_at view.entries s.at (addresses.Inode number) (Some (objects.Inode r.old)) fits.entries r.seen in
       record {
         new = with_object m number (living_of_inode inode);
-        step = r.step s m stands sound roots fits;
+        step = r.step s m stands sound exports fits;
         stands = rewritten_represented s m number r.old inode at r.keeps stands sound;
         sound = rewritten_sound s m number r.old inode at r.keeps stands sound
-            (steps_keep_form m ctx call reply [] (with_object m number (living_of_inode inode)) (r.step s m stands sound roots fits) sound.well_formed);
-        roots = rewritten_roots s m number r.old inode at r.keeps stands ctx.exports roots;
+            (steps_keep_form m ctx call reply [] (with_object m number (living_of_inode inode)) (r.step s m stands sound exports fits) sound.well_formed);
       };
   writes = λ s fits. (subst (λ o. IsSome o) (sym r.seen) refl, tt);
 }

@@ -3,7 +3,6 @@ use Rattle.std.specs.Prelude.{◌≡◌, if◌then◌else◌, ℕ, ◌+◌, true
 use Rattle.std.specs.Prelude.{◌∷◌, ◌++◌, Some, None, find, nat_le, slice_get, ◌==◌}
 use Rattle.nfs_machine.specs.Attributes.{is_directory}
 use Rattle.nfs_machine.specs.Bytes.{same_bytes}
-use Rattle.nfs_machine.specs.Exports.{ExportValue, export_at}
 use Rattle.nfs_machine.specs.Shown.{with_object}
 use Rattle.nfs_machine.specs.State.{Entry, State}
 use Rattle.nfs_machine.specs.Step.{Step}
@@ -12,7 +11,7 @@ use Rattle.nfs_machine.specs.declared.calls.Call.{Call}
 use Rattle.nfs_machine.specs.declared.calls.Reply.{Reply}
 use Rattle.nfs_objects.specs.Entries.{entry}
 use Rattle.nfs_objects.specs.Fits.{Fits}
-use Rattle.nfs_objects.specs.Sound.{Sound, RootsLive}
+use Rattle.nfs_objects.specs.Sound.{Sound, HasExports}
 use Rattle.nfs_objects.specs.Stands.{Represents, content_of, living_of_inode}
 use Rattle.nfs_objects.specs.Store.{Store}
 use Rattle.nfs_objects.specs.Values.{DoneValue, ViewValue, seen_at}
@@ -25,8 +24,8 @@ use Rattle.nfs_objects.specs.declared.object.Object.TheVariants as objects
 
 -- in every sound store that the view fits, the reply is a step that changes nothing
 pub record HoldsUnchanged (call : Call) (ctx : Ctx) (view : ViewValue) (reply : Reply) : Type 0 where
-  pub step : (s : Store) (m : State) → Represents s m → Sound s m → RootsLive ctx.exports m → Fits view s
-      → Step m ctx call reply [] m
+  pub step : (s : Store) (m : State) → Represents s m → Sound s m → HasExports ctx.exports m → Fits view s →
+      Step m ctx call reply [] m
 
 -- the end of a call that is answered, and no more
 abbrev pub only_answered : Call → Ctx → ViewValue → Reply → DoneValue
@@ -48,7 +47,7 @@ pub record Rewrites (call : Call) (ctx : Ctx) (view : ViewValue)
   pub old : Inode
   pub seen : seen_at view.entries (addresses.Inode number) ≡ Some (Some (objects.Inode old))
   pub keeps : KeepsPlace old inode
-  pub step : (s : Store) (m : State) → Represents s m → Sound s m → RootsLive ctx.exports m → Fits view s
+  pub step : (s : Store) (m : State) → Represents s m → Sound s m → HasExports ctx.exports m → Fits view s
       → Step m ctx call reply [] (with_object m number (living_of_inode inode))
 
 -- the end of a call that is answered, and after which this inode stands at the number
@@ -86,16 +85,14 @@ new_directory parent = record { parent = parent; last_cookie = 2; entries = [] }
 
 -- The view shows the directory, which has no such name, and gives the number and the generation. The object has one
 -- link; or it is a new directory, which has two and brings one to the directory that it is in.
-pub record IsCreation (ctx : Ctx) (view : ViewValue) (c : Creation) : Type 0 where
+pub record IsCreation (view : ViewValue) (c : Creation) : Type 0 where
   pub old : Inode
   pub place : Directory
   pub name : List ℕ
-  pub export : ExportValue
   pub seen : seen_at view.entries (addresses.Inode c.place) ≡ Some (Some (objects.Inode old))
   pub first : slice_get view.reserved 0 ≡ Some (record { number = c.number; generation = c.object.generation })
   pub content : old.content ≡ contents.Directory place
   pub absent : find (λ (e : Entry). same_bytes e.name name) place.entries ≡ None
-  pub exported : export_at ctx.exports old.export ≡ Some export
   pub wider : c.directory.content ≡ contents.Directory (with_name place name c.number)
   pub wider_export : c.directory.export ≡ old.export
   pub wider_generation : c.directory.generation ≡ old.generation
@@ -106,9 +103,9 @@ pub record IsCreation (ctx : Ctx) (view : ViewValue) (c : Creation) : Type 0 whe
 
 -- in every sound store that the view fits, the reply is a step after which the directory and the object live so
 pub record Creates (call : Call) (ctx : Ctx) (view : ViewValue) (c : Creation) (reply : Reply) : Type 0 where
-  pub is : IsCreation ctx view c
-  pub step : (s : Store) (m : State) → Represents s m → Sound s m → RootsLive ctx.exports m → Fits view s
-      → Step m ctx call reply [] (with_created m c)
+  pub is : IsCreation view c
+  pub step : (s : Store) (m : State) → Represents s m → Sound s m → HasExports ctx.exports m → Fits view s →
+      Step m ctx call reply [] (with_created m c)
 
 -- the end of a call that is answered, and after which the directory and the new object stand at their numbers
 abbrev pub creation_stored : Call → Ctx → ViewValue → Creation → Reply → DoneValue

@@ -12,7 +12,7 @@ use Rattle.nfs_objects.specs.declared.object.Object.{Object}
 use Rattle.nfs_objects.specs.declared.view.Reserved.{Reserved}
 use Rattle.nfs_objects.specs.Attempt.{Wanted, Addresses, Number}
 use Rattle.nfs_objects.specs.Fits.{Fits}
-use Rattle.nfs_objects.specs.Sound.{Sound, RootsLive}
+use Rattle.nfs_objects.specs.Sound.{Sound, HasExports}
 use Rattle.nfs_objects.specs.Stands.{Represents}
 use Rattle.nfs_objects.specs.Store.{Store}
 use Rattle.nfs_objects.specs.Values.{ViewValue}
@@ -73,7 +73,7 @@ GrowsBy comes (round ∷ earlier) = (outcome : Outcome) × comes (view_after ear
 -- The same in every sound store that the view fits: a call may follow many names, and what bounds it is that each
 -- leads to what stands in the store.
 abbrev pub AsksFewOfSound : List ExportValue → (ViewValue → Outcome → Type 0) → Type 0
-AsksFewOfSound exports comes = (rounds : List Round) (outcome : Outcome) (s : Store) (m : State)
-    → GrowsBy comes rounds → comes (view_after rounds) outcome
-    → Represents s m → Sound s m → RootsLive exports m → Fits (view_after rounds) s
+AsksFewOfSound exports comes = (rounds : List Round) (outcome : Outcome) (s : Store) (m : State) →
+    GrowsBy comes rounds → comes (view_after rounds) outcome
+    → Represents s m → Sound s m → HasExports exports m → Fits (view_after rounds) s
     → empty_count s (map (λ e. e.0) (view_after rounds).entries) + empty_wanted s (asked_by outcome) ≤ 256

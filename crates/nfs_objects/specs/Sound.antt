@@ -1,9 +1,8 @@
 -- What is true of every store that the server makes.
-use Rattle.std.specs.Prelude.{◌≡◌, ℕ, true, List, Some}
-use Rattle.std.specs.FinMap.{get}
-use Rattle.nfs_machine.specs.Attributes.{links_of, is_directory}
-use Rattle.nfs_machine.specs.Exports.{ExportValue, export_at}
-use Rattle.nfs_machine.specs.State.{Living, State}
+use Rattle.std.specs.Prelude.{◌≡◌, ℕ, List, Some}
+use Rattle.nfs_machine.specs.Attributes.{links_of}
+use Rattle.nfs_machine.specs.Exports.{ExportValue, opening_exports}
+use Rattle.nfs_machine.specs.State.{State}
 use Rattle.nfs_machine.specs.WellFormed.{IsParent, WellFormed}
 use Rattle.nfs_objects.specs.declared.address.Addr.TheVariants as addresses
 use Rattle.nfs_objects.specs.declared.directory.Directory.{Directory}
@@ -23,13 +22,6 @@ pub record Sound (s : Store) (m : State) : Type 0 where
   -- names lead to living objects, and directories form one tree
   pub well_formed : WellFormed m
 
--- the root of an export has the export's number, and is a directory
-pub record RootLives (m : State) (number : ℕ) : Type 0 where
-  pub root : Living
-  pub lives : get m.objects number ≡ Some root
-  pub own : root.export ≡ number
-  pub directory : is_directory root.content ≡ true
-
--- each export has its root
-abbrev pub RootsLive : List ExportValue → State → Type 0
-RootsLive exports m = (number : ℕ) (e : ExportValue) → export_at exports number ≡ Some e → RootLives m number
+-- the state's exports are those that a server opens with which is given these
+abbrev pub HasExports : List ExportValue → State → Type 0
+HasExports exports m = m.exports ≡ opening_exports exports

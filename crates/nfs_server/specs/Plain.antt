@@ -5,7 +5,7 @@ use Rattle.nfs_machine.specs.State.{State}
 use Rattle.nfs_objects.specs.declared.address.Addr.{Addr}
 use Rattle.nfs_objects.specs.declared.address.Addr.TheVariants.{Inode, Mounts}
 use Rattle.nfs_objects.specs.declared.object.Object.{Object}
-use Rattle.nfs_objects.specs.Sound.{Sound, RootsLive}
+use Rattle.nfs_objects.specs.Sound.{Sound, HasExports}
 use Rattle.nfs_objects.specs.Stands.{Represents}
 use Rattle.nfs_objects.specs.Store.{Store}
 use Rattle.nfs_server.specs.Slots.{SlotValue, object_in, last_in}
@@ -31,7 +31,7 @@ store_of p = store_in p.slots p.mounts
 pub record StandsFor (p : PlainValue) (m : State) : Type 0 where
   pub represents : Represents (store_of p) m
   pub sound : Sound (store_of p) m
-  pub roots : RootsLive p.setting.exports m
+  pub roots : HasExports p.setting.exports m
 
 -- there is a slot for what stands there
 abbrev pub HasRoom : List SlotValue → Addr → Type 0
