@@ -33,6 +33,7 @@ asked_once nfs mount nlm setting (FromHost received) ctx ctx' call call' a b =
     let read = sym a.read ∙ b.read in
     let same : a.header ≡ b.header = cc in
     let P : CallHeader → Type 0 = λ (h : CallHeader). IsCall h.program h.procedure h.arguments call in (
-      a.made_under ∙ (ap (λ (h : CallHeader). context_of setting received.host h.ids received.moment) same ∙ sym b.made_under),
+      a.made_under ∙ (ap (λ (h : CallHeader). context_of setting received.host h.ids received.moment) same ∙ sym
+          b.made_under),
       one_call nfs mount nlm b.header.program b.header.procedure b.header.arguments call call' (subst P same a.is_call) b.is_call,
     )

@@ -95,7 +95,8 @@ same-mounts old new same fit = subst (λ (mounts : List MountBody). AllByRecursi
 pub mounts_stay_fit : MountsStayFit
 mounts_stay_fit old ctx (calls.Nfs call) (replies.Nfs reply) messages new step asked fit = same-mounts old new (nfs-follows old ctx call reply messages new step).mounts fit
 mounts_stay_fit old ctx (calls.Mount call) (replies.Mount reply) messages new step asked fit = mount_fits old ctx call reply messages new fit asked.0 asked.1 step
-mounts_stay_fit old ctx (calls.Nlm call) (replies.Nlm reply) messages new step asked fit = same-mounts old new (ap (λ k. k.0) (nlm-touches old ctx call reply messages new step).mounts) fit
+mounts_stay_fit old ctx (calls.Nlm call) (replies.Nlm reply) messages new step asked fit = same-mounts old new
+    (ap (λ k. k.0) (nlm-touches old ctx call reply messages new step).mounts) fit
 mounts_stay_fit old ctx call reply messages new step asked fit = absurd step
 
 pub locks_stay_fit : LocksStayFit

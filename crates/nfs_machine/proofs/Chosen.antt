@@ -7,10 +7,14 @@ use Rattle.nfs_machine.specs.Worked.{two_exports, open_export}
 use Rattle.nfs_machine.proofs.Exported.{export-all}
 
 abbrev LeavesOne : List (List ℕ) → LivingExport → Type 0
-LeavesOne more e = admits e.value (codes "10.0.0.1") ≡ true → parts (codes "/a/b") ≡ parts e.path ++ more → 1 ≤ length more
+LeavesOne more e = admits e.value (codes "10.0.0.1") ≡ true → parts (codes "/a/b") ≡ parts e.path ++ more →
+    1 ≤ length more
 
-pub one_left : (number : ℕ) (more : List (List ℕ)) → Leads two_exports (codes "10.0.0.1") (parts (codes "/a/b")) number more → 1 ≤ length more
-one_left number more leads = export-all (LeavesOne more) two_exports number leads.export (upper, (λ admitted begins. cc, tt)) leads.stands leads.admitted leads.begins
+pub one_left : (number : ℕ) (more : List (List ℕ)) →
+    Leads two_exports (codes "10.0.0.1") (parts (codes "/a/b")) number more → 1 ≤ length more
+one_left number more leads = export-all (LeavesOne more) two_exports number leads.export
+    (upper, (λ admitted begins. cc, tt)) leads.stands leads.admitted leads.begins
   where
-    upper : admits open_export (codes "10.0.0.1") ≡ true → parts (codes "/a/b") ≡ parts open_export.path ++ more → 1 ≤ length more
+    upper : admits open_export (codes "10.0.0.1") ≡ true →
+        parts (codes "/a/b") ≡ parts open_export.path ++ more → 1 ≤ length more
     upper admitted begins = (let count = ap length begins in omega arith)

@@ -108,7 +108,8 @@ module _ (now : Time) (old mid : State) (c : Continues now old mid) (number : �
       ]
 
 -- an object that contains no name and lost one goes with its last, or stays
-module _ (mid : State) (number : ℕ) (object : Living) (at : get mid.objects number ≡ Some object) (l : Loose (also number none_loose) mid) (no_root : is_root mid number ≡ false) where
+module _ (mid : State) (number : ℕ) (object : Living) (at : get mid.objects number ≡ Some object)
+    (l : Loose (also number none_loose) mid) (no_root : is_root mid number ≡ false) where
   gone : entries_of object.content ≡ [] → names_of mid number ≡ 0 → TextsFit (without_object mid number) → WellFormed (without_object mid number)
   gone empty none texts =
       tightened (without_object mid number) texts

@@ -16,7 +16,8 @@ use Rattle.nfs_machine.proofs.Exported.{exported-on, free-no_root}
 use Rattle.nfs_machine.proofs.Loose.{AddsName, Comes, Loose, Swaps, also, loose-added, loose-come, loosened, names_in-added, names_of-added, names_of-come, none_loose, swapped, tightened}
 use Rattle.nfs_machine.proofs.Loose as swaps
 use Rattle.nfs_machine.proofs.Sums.{get-inserted, sum-none}
-use Rattle.nfs_machine.proofs.WellFormed.{LivesOn, counts-on, is_subdirectory, links-by, links-same, parent-on, root-same}
+use Rattle.nfs_machine.proofs.WellFormed.{LivesOn, counts-on, is_subdirectory, links-by, links-same, parent-on}
+use Rattle.nfs_machine.proofs.WellFormed.{root-same}
 use Rattle.nfs_machine.proofs.Within.{deepened, depth, within-empty}
 
 -- a new object under a new name of a directory: what the directory and the object are then, in a state in which nothing else changes
@@ -100,7 +101,12 @@ module _ (old new : State) (place number : ℕ) (directory wider made : Living) 
       nameless = unnamed;
       was_empty = tt;
       is_empty = makes.made_entries;
-      is_new = record { cookies = makes.made_cookies; given = makes.given; exported = exported-on old new makes.keeps directory made makes.made_export (w.exported place directory makes.lives) };
+      is_new = record {
+        cookies = makes.made_cookies;
+        given = makes.given;
+        exported = exported-on old new makes.keeps directory made makes.made_export
+            (w.exported place directory makes.lives);
+      };
       no_root = free-no_root old w.exports number makes.free;
       spent = makes.spent;
       keeps = record { exports = makes.keeps.exports; last = makes.keeps.last };
@@ -157,7 +163,9 @@ module _ (old new : State) (place number : ℕ) (directory wider made : Living) 
     -- a directory keeps its parent, and the new object's is the directory of its name
     pub parent-kept : (n parent : ℕ) → IsParent old n parent → IsParent new n parent
     parent-kept n parent p =
-        let o = swapped mid new place directory wider widens (λ (x y : Living). names_in n x ≤ names_in n y) (λ x. omega arith) (omega (arith, names_in-wider n)) parent p.directory (stays parent p.directory p.lives) in
+        let o = swapped mid new place directory wider widens (λ (x y : Living). names_in n x ≤ names_in n y)
+        (λ x. omega arith) (omega (arith, names_in-wider n)) parent p.directory
+        (stays parent p.directory p.lives) in
         parent-on old new n parent p o.0 o.1 makes.keeps.exports o.2
 
     pub parent-made : IsParent new number place

@@ -1,5 +1,6 @@
 -- The exports that are worked through: what lives at each number is told by the map, and the rest computes.
-use Rattle.std.proofs.Common.{◌≡◌, ◌==◌, ℕ, ◌≤◌, true, List, [], ◌∷◌, ◌++◌, length, Option, Some, Result, Ok, codes, inl, inr, refl, sym, ◌∙◌, ap, subst, arith}
+use Rattle.std.proofs.Common.{◌≡◌, ℕ, ◌≤◌, true, List, [], ◌∷◌, ◌++◌, length, Option}
+use Rattle.std.proofs.Common.{Some, Result, Ok, codes, inl, inr, refl, sym, ◌∙◌, ap, subst, arith}
 use Rattle.std.specs.FinMap.{empty, get, insert}
 use Rattle.side_wire.specs.declared.mount.MountStatus.{MountStatus}
 use Rattle.side_wire.specs.declared.mount.MountStatus.TheVariants as mount_status
@@ -7,7 +8,6 @@ use Rattle.std.specs.Prelude.{ok_or}
 use Rattle.nfs_wire.specs.declared.calls.NfsCall.TheVariants as nfs
 use Rattle.nfs_wire.specs.declared.status.NfsStatus.{NfsStatus}
 use Rattle.nfs_wire.specs.declared.status.NfsStatus.TheVariants as status
-use Rattle.nfs_machine.specs.Attributes.{is_directory}
 use Rattle.nfs_machine.specs.Checks.{entries_in, entry_of, holding, object_of, permitted}
 use Rattle.nfs_machine.specs.Checks.{◌>>=◌}
 use Rattle.nfs_machine.specs.Exports.{LivingExport, admits}
@@ -17,10 +17,10 @@ use Rattle.nfs_machine.specs.Pages.{all_entries, behind, fits}
 use Rattle.nfs_machine.specs.Paths.{parts}
 use Rattle.nfs_machine.specs.Permission.{Listing}
 use Rattle.nfs_machine.specs.Resolve.{Resolved, Names, living_at, resolve}
-use Rattle.nfs_machine.specs.State.{Directory, Entry, Living}
+use Rattle.nfs_machine.specs.State.{Entry, Living}
 use Rattle.nfs_machine.specs.WellFormed.{IsParent}
-use Rattle.nfs_machine.specs.WorkedExports.{WorkedExporting, dots, exporting, handle, listing, lower, lower_root, objects, page_of, sub, upper, upper_root}
-use Rattle.nfs_machine.specs.WorkedPages.{zeros}
+use Rattle.nfs_machine.specs.WorkedExports.{WorkedExporting, dots, exporting, handle, listing, lower_root}
+use Rattle.nfs_machine.specs.WorkedExports.{objects, page_of, sub, upper, upper_root}
 use Rattle.nfs_machine.specs.WorkedRun.{nobody}
 use Rattle.nfs_machine.proofs.Exported.{export-all}
 use Rattle.nfs_machine.proofs.Pages.{PagesOf, page-ends}
@@ -30,13 +30,16 @@ root-at : get objects 12 ≡ Some upper_root
 root-at = get-inserted (insert (insert empty 20 lower_root) 7 sub) 12 upper_root 12
 
 sub-at : get objects 7 ≡ Some sub
-sub-at = get-inserted (insert (insert empty 20 lower_root) 7 sub) 12 upper_root 7 ∙ get-inserted (insert empty 20 lower_root) 7 sub 7
+sub-at = get-inserted (insert (insert empty 20 lower_root) 7 sub) 12 upper_root 7 ∙ get-inserted
+    (insert empty 20 lower_root) 7 sub 7
 
 root-named : resolve exporting nobody (handle 7 12) ≡ Names 12 upper_root
-root-named = ap (λ (l : Option Living). living_at l (record { export = 7; start = 7; fileid = 12; generation = 1 })) root-at
+root-named = ap (λ (l : Option Living). living_at l (record { export = 7; start = 7; fileid = 12; generation = 1 }))
+    root-at
 
 sub-named : resolve exporting nobody (handle 7 7) ≡ Names 7 sub
-sub-named = ap (λ (l : Option Living). living_at l (record { export = 7; start = 7; fileid = 7; generation = 1 })) sub-at
+sub-named = ap (λ (l : Option Living). living_at l (record { export = 7; start = 7; fileid = 7; generation = 1 }))
+    sub-at
 
 root-parent : IsParent exporting 12 12
 root-parent = record { directory = upper_root; lives = root-at; named_in = inl (refl, refl) }
@@ -46,34 +49,44 @@ sub-parent = record { directory = upper_root; lives = root-at; named_in = inr (o
 
 abbrev entries_by : (parent : ℕ) → Resolved → Result (List Entry) NfsStatus
 entries_by parent r =
-    object_of r >>= λ d. entries_in d.1.content >>= λ entries. permitted nobody d.1 Listing >>= λ _. holding true status.BadCookie >>= λ _. Ok (behind 0 (all_entries d.0 parent entries.0))
+    object_of r >>= λ d. entries_in d.1.content >>= λ entries. permitted nobody d.1 Listing >>= λ _. holding true
+    status.BadCookie >>= λ _. Ok (behind 0 (all_entries d.0 parent entries.0))
 
 abbrev one_entry : List Entry
 one_entry = record { name = codes "sub"; number = 7; cookie = 3 } ∷ []
 
-parent-of : (number parent : ℕ) (o : Living) → IsParent exporting number parent → (n : ℕ) (d : Living) → Names number o ≡ Names n d → IsParent exporting n parent
-parent-of number parent o is n d both = (let own : number ≡ n = cc in subst (λ k. IsParent exporting k parent) own is)
+parent-of : (number parent : ℕ) (o : Living) → IsParent exporting number parent → (n : ℕ) (d : Living) →
+    Names number o ≡ Names n d → IsParent exporting n parent
+parent-of number parent o is n d both =
+    (let own : number ≡ n = cc in subst (λ k. IsParent exporting k parent) own is)
 
-lists : (directory : List ℕ) (number parent : ℕ) (o : Living) (entries : List Entry) → resolve exporting nobody directory ≡ Names number o → IsParent exporting number parent
+lists : (directory : List ℕ) (number parent : ℕ) (o : Living) (entries : List Entry) →
+    resolve exporting nobody directory ≡ Names number o → IsParent exporting number parent
     → PagesOf (fits 65536) (entries_by parent (Names number o)) (Ok (dots number parent entries, true))
-    → NfsStep exporting nobody (nfs.Readdir (listing directory)) (page_of directory (dots number parent entries)) [] exporting
+    → NfsStep exporting nobody (nfs.Readdir (listing directory))
+    (page_of directory (dots number parent entries)) [] exporting
 unfolding NfsStep
 lists directory number parent o entries named is page = record {
   parent = parent;
   is_parent = λ n d at kind. parent-of number parent o is n d (sym named ∙ at);
   page = Ok (dots number parent entries, true);
-  is_page = subst (λ r. PagesOf (fits 65536) (entries_by parent r) (Ok (dots number parent entries, true))) (sym named) page;
+  is_page = subst (λ r. PagesOf (fits 65536) (entries_by parent r) (Ok (dots number parent entries, true)))
+      (sym named) page;
   answers = record { reply_is = refl; no_message = refl; state_is = refl };
 }
 
 -- the upper export alone leads to `/a/sub`
 abbrev LeavesOne : List (List ℕ) → LivingExport → Type 0
-LeavesOne more e = admits e.value (codes "10.0.0.1") ≡ true → parts (codes "/a/sub") ≡ parts e.path ++ more → 1 ≤ length more
+LeavesOne more e = admits e.value (codes "10.0.0.1") ≡ true → parts (codes "/a/sub") ≡ parts e.path ++ more →
+    1 ≤ length more
 
-longest : (number : ℕ) (more : List (List ℕ)) → Leads exporting.exports (codes "10.0.0.1") (parts (codes "/a/sub")) number more → 1 ≤ length more
-longest number more leads = export-all (LeavesOne more) exporting.exports number leads.export (above, (λ admitted begins. cc, tt)) leads.stands leads.admitted leads.begins
+longest : (number : ℕ) (more : List (List ℕ)) →
+    Leads exporting.exports (codes "10.0.0.1") (parts (codes "/a/sub")) number more → 1 ≤ length more
+longest number more leads = export-all (LeavesOne more) exporting.exports number leads.export
+    (above, (λ admitted begins. cc, tt)) leads.stands leads.admitted leads.begins
   where
-    above : admits upper.value (codes "10.0.0.1") ≡ true → parts (codes "/a/sub") ≡ parts upper.path ++ more → 1 ≤ length more
+    above : admits upper.value (codes "10.0.0.1") ≡ true → parts (codes "/a/sub") ≡ parts upper.path ++ more →
+        1 ≤ length more
     above admitted begins = (let count = ap length begins in omega arith)
 
 -- the walk of "sub" from its root
@@ -81,7 +94,8 @@ abbrev below_by : ℕ → Option Living → Result (ℕ × Living) MountStatus
 below_by number o = entries_at o >>= λ d. Ok (number, d.0)
 
 abbrev step_by : Option Living → Result (ℕ × Living) MountStatus
-step_by o = entries_at o >>= λ d. ok_or (entry_of d.1 (codes "sub")) mount_status.NoEntry >>= λ e. below_by e.number (get objects e.number)
+step_by o = entries_at o >>= λ d. ok_or (entry_of d.1 (codes "sub")) mount_status.NoEntry >>= λ e. below_by e.number
+    (get objects e.number)
 
 found : walk (get objects) 12 (codes "sub" ∷ []) ≡ Ok (7, sub)
 unfolding walk
@@ -102,7 +116,8 @@ worked-exporting = record {
   sub_is_none = refl;
   own_parent = root-parent;
   parent = sub-parent;
-  lists_root = lists (handle 7 12) 12 12 upper_root one_entry root-named root-parent (page-ends (fits 65536) (dots 12 12 one_entry) refl);
+  lists_root = lists (handle 7 12) 12 12 upper_root one_entry root-named root-parent
+      (page-ends (fits 65536) (dots 12 12 one_entry) refl);
   lists_below = lists (handle 7 7) 7 12 sub [] sub-named sub-parent (page-ends (fits 65536) (dots 7 12 []) refl);
   mounts = (
     Ok (handle 7 7),

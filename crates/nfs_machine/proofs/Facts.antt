@@ -26,10 +26,12 @@ use Rattle.nfs_machine.proofs.WellFormed.{no_entries}
 
 -- what SETATTR and WRITE come to
 abbrev pub setattr_end : State → Ctx → SetattrArguments → Result (Unit {0} × State) NfsStatus
-setattr_end old ctx a = object_of (resolve old ctx a.object) >>= λ o. set_object old.exports ctx o.1 a >>= λ after. Ok (tt, with_object old o.0 after)
+setattr_end old ctx a = object_of (resolve old ctx a.object) >>= λ o. set_object old.exports ctx o.1 a >>= λ after. Ok
+    (tt, with_object old o.0 after)
 
 abbrev pub write_end : State → Ctx → WriteArguments → Result (Written × State) NfsStatus
-write_end old ctx a = object_of (resolve old ctx a.file) >>= λ o. write_object old.exports ctx o.1 a >>= λ x. Ok (x.0, replaced old o.0 x.1)
+write_end old ctx a = object_of (resolve old ctx a.file) >>= λ o. write_object old.exports ctx o.1 a >>= λ x. Ok
+    (x.0, replaced old o.0 x.1)
 
 -- what holds after each value that a check gives holds of the chain
 pub chained-is : {A B : Type 0} (P : B → Type 0) (r : Result A NfsStatus) (f : A → Result B NfsStatus) → ((x : A) → r ≡ Ok x → IfOk (f x) P) → IfOk (r >>= f) P
@@ -48,10 +50,12 @@ lives-at find h (Some o) x at is =
       | false ↦ λ e. cc
     ] is
 
-named-lives : (find : ℕ → Option Living) (exports : List LivingExport) (ctx : Ctx) (h : Option Handle) (x : ℕ × Living) → object_of (named find exports ctx h) ≡ Ok x → find x.0 ≡ Some x.1
+named-lives : (find : ℕ → Option Living) (exports : List LivingExport) (ctx : Ctx) (h : Option Handle)
+    (x : ℕ × Living) → object_of (named find exports ctx h) ≡ Ok x → find x.0 ≡ Some x.1
 named-lives find exports ctx None x is = cc
 named-lives find exports ctx (Some h) x is =
-    elim ((h.start == ctx.start) && export_admits (export_at exports h.export) ctx.host) as (λ b. object_of (cond b (living_at (find h.fileid) h) Stale) ≡ Ok x → find x.0 ≡ Some x.1) [
+    elim ((h.start == ctx.start) && export_admits (export_at exports h.export) ctx.host) as
+    (λ b. object_of (cond b (living_at (find h.fileid) h) Stale) ≡ Ok x → find x.0 ≡ Some x.1) [
       | true ↦ λ e. lives-at find h (find h.fileid) x refl e
       | false ↦ λ e. cc
     ] is

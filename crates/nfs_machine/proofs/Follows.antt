@@ -98,16 +98,27 @@ pub mounts-losing : (m : State) (names : ℕ) (now : Time) (number : ℕ) (o : L
 mounts-losing m names now number o =
     elim (nat_le names 1) as (λ b. (cond b (without_object m number) (with_object m number (touched o now))).mounts ≡ m.mounts) [ true ↦ refl | false ↦ refl ]
 
-pub exports-losing : (m : State) (names : ℕ) (now : Time) (number : ℕ) (o : Living) → KeepsExports m (losing_name m names now number o)
+pub exports-losing : (m : State) (names : ℕ) (now : Time) (number : ℕ) (o : Living) →
+    KeepsExports m (losing_name m names now number o)
 exports-losing m names now number o =
-    elim (nat_le names 1) as (λ b. KeepsExports m (cond b (without_object m number) (with_object m number (touched o now)))) [
+    elim (nat_le names 1) as
+    (λ b. KeepsExports m (cond b (without_object m number) (with_object m number (touched o now)))) [
       | true ↦ record { exports = refl; last = refl }
       | false ↦ record { exports = refl; last = refl }
     ]
 
 pub follows-itself : (now : Time) (m : State) → Follows now m m
 follows-itself now m =
-    record { gives = gives-continued now m m (continues-itself now m); touches = touches-continued now m m (continues-itself now m); cookies = cookies-continued now m m (continues-itself now m); formed = λ w. w; locks = record { apart = λ h. h; waits = λ h. h }; exports = record { exports = refl; last = refl }; mounts = refl; bounds = λ h. h }
+    record {
+      gives = gives-continued now m m (continues-itself now m);
+      touches = touches-continued now m m (continues-itself now m);
+      cookies = cookies-continued now m m (continues-itself now m);
+      formed = λ w. w;
+      locks = record { apart = λ h. h; waits = λ h. h };
+      exports = record { exports = refl; last = refl };
+      mounts = refl;
+      bounds = λ h. h;
+    }
 
 pub follows-after : {A : Type 0} (now : Time) (old : State) (end : Result (A × State) NfsStatus) → IfOk end (λ e. Follows now old e.1) → Follows now old (state_after old end)
 follows-after now old (Ok end) f = f
@@ -130,7 +141,8 @@ follows-altered now m number was is lives alters =
       touches = touches-continued now m (with_object m number is) c;
       cookies = cookies-continued now m (with_object m number is) c;
       formed = λ w.
-          well_formed-alike m (with_object m number is) (replaced-alike m number was is lives alters.keeps) (replaced-names m number was is lives alters.keeps) (λ n g e. e) (record { exports = refl; last = refl })
+          well_formed-alike m (with_object m number is) (replaced-alike m number was is lives alters.keeps)
+          (replaced-names m number was is lives alters.keeps) (λ n g e. e) (record { exports = refl; last = refl })
           (texts-continued now m (with_object m number is) c w.texts) w;
       locks = record { apart = λ h. h; waits = λ h. h };
       exports = record { exports = refl; last = refl };
@@ -149,10 +161,15 @@ alters-regular o now bytes plain = record {
 }
 
 module _ (m : State) (ctx : Ctx) where
-  write-alters : (file : Living) (a : WriteArguments) → IfOk (write_object m.exports ctx file a) (λ (e : Written × Option Living). IfSome e.1 (Alters (time_of ctx.moment) file))
+  write-alters : (file : Living) (a : WriteArguments) →
+      IfOk (write_object m.exports ctx file a)
+      (λ (e : Written × Option Living). IfSome e.1 (Alters (time_of ctx.moment) file))
   write-alters file a =
       let P : Written × Option Living → Type 0 = λ (e : Written × Option Living). IfSome e.1 (Alters (time_of ctx.moment) file) in
-      chained-is P (bytes_in file.content) _ (λ bytes is. chained-is P (holding (a.count == length a.«data») status.Invalid) _ (λ x1 e1. chained-is P (changeable m.exports file) _ (λ x2 e2. chained-is P (permitted ctx file Writing) _ (λ x3 e3.
+      chained-is P (bytes_in file.content) _
+      (λ bytes is. chained-is P (holding (a.count == length a.«data») status.Invalid) _
+      (λ x1 e1. chained-is P (changeable m.exports file) _
+      (λ x2 e2. chained-is P (permitted ctx file Writing) _ (λ x3 e3.
       chained-is P (holding ((write_count a == 0) || nat_le (a.offset + write_count a) size_limit) status.FileTooBig) _ (λ x4 e4.
       of (is-regular file.content bytes is) (write_count a == 0) (written bytes a.offset (take (write_count a) a.«data»)))))))
     where
@@ -163,8 +180,11 @@ module _ (m : State) (ctx : Ctx) where
   pub write-follows : (a : WriteArguments) → IfOk (write_end m ctx a) (λ e. Follows (time_of ctx.moment) m e.1)
   write-follows a =
       chained-is (λ (e : Written × State). Follows (time_of ctx.moment) m e.1) (object_of (resolve m ctx a.file)) _ (λ file at.
-      chained-is (λ (e : Written × State). Follows (time_of ctx.moment) m e.1) (write_object m.exports ctx file.1 a) _ (λ end is.
-      follows-replaced (time_of ctx.moment) m file.0 file.1 end.1 (resolved-lives m ctx a.file file at) (of-ok (λ (e : Written × Option Living). IfSome e.1 (Alters (time_of ctx.moment) file.1)) (write_object m.exports ctx file.1 a) end is (write-alters file.1 a))))
+      chained-is (λ (e : Written × State). Follows (time_of ctx.moment) m e.1) (write_object m.exports ctx file.1 a) _
+      (λ end is.
+      follows-replaced (time_of ctx.moment) m file.0 file.1 end.1 (resolved-lives m ctx a.file file at)
+      (of-ok (λ (e : Written × Option Living). IfSome e.1 (Alters (time_of ctx.moment) file.1))
+      (write_object m.exports ctx file.1 a) end is (write-alters file.1 a))))
 
   -- ---- an object is made
   abbrev pub EndFollows : End m → Type 0
@@ -281,7 +301,16 @@ module _ (m : State) (ctx : Ctx) where
           (texts-put (with_object m number wider) fresh.number o (texts-continued (time_of ctx.moment) m (with_object m number wider) wide w.texts) text)
 
       made-follows : Follows (time_of ctx.moment) m new
-      made-follows = record { gives = gives; touches = touches; cookies = cookies; formed = formed; locks = record { apart = λ h. h; waits = λ h. h }; exports = record { exports = refl; last = refl }; mounts = refl; bounds = λ h. h }
+      made-follows = record {
+        gives = gives;
+        touches = touches;
+        cookies = cookies;
+        formed = formed;
+        locks = record { apart = λ h. h; waits = λ h. h };
+        exports = record { exports = refl; last = refl };
+        mounts = refl;
+        bounds = λ h. h;
+      }
 
   new-follows : (name : List ℕ) (wanted : Wanted) (number : ℕ) (directory : Living) (entries : List Entry) (last : ℕ) → get m.objects number ≡ Some directory → directory.content ≡ Directory entries last
       → find (λ (x : Entry). same_bytes x.name name) entries ≡ None → Plain wanted → IfOk (make_new m ctx name wanted number directory entries last) EndFollows

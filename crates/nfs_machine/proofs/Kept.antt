@@ -1,5 +1,7 @@
 -- What each step keeps, and so each run: a handle is given once, and what is true of every state stays true.
-use Rattle.std.proofs.Common.{◌≡◌, ℕ, ◌+◌, ◌≤◌, ◌^◌, Bool, true, false, not, ◌||◌, cond, List, [], ◌∷◌, ◌++◌, Option, Some, None, Result, Ok, Err, IfOk, filter, nat_lt, inl, inr, refl, sym, ◌∙◌, subst, arith, ◌==◌, ap}
+use Rattle.std.proofs.Common.{◌≡◌, ℕ, ◌+◌, ◌≤◌, ◌^◌, Bool, true, false, not, ◌||◌, cond, List}
+use Rattle.std.proofs.Common.{[], ◌∷◌, ◌++◌, Option, Some, None, Result, Ok, Err, IfOk, filter, nat_lt, inl}
+use Rattle.std.proofs.Common.{inr, refl, sym, ◌∙◌, subst, arith, ◌==◌, ap}
 use Rattle.std.specs.FinMap.{FinMap, get}
 use Rattle.std.specs.Ordering.{nat_cmp}
 use Rattle.nfs_wire.specs.declared.attributes.Time.{Time}
@@ -27,7 +29,8 @@ use Rattle.nfs_machine.specs.Permission.{Changing}
 use Rattle.nfs_machine.specs.Answers.{Answers, state_after}
 use Rattle.nfs_machine.specs.Attributes.{links_of, names_of, is_directory}
 use Rattle.nfs_machine.specs.Checks.{holding, link_limit, ◌>>=◌, object_of, entries_in, entry_of, changeable, permitted, plain_name_checked}
-use Rattle.nfs_machine.specs.Laws.{GivesOnce, KeepsCookies, KeepsExports, LivesAs, NeverGivenAgain, RunsKeepForm, StepsGiveOnce, StepsKeepCookies, StepsKeepExports, StepsKeepForm}
+use Rattle.nfs_machine.specs.Laws.{GivesOnce, KeepsCookies, KeepsExports, LivesAs, NeverGivenAgain, RunsKeepForm}
+use Rattle.nfs_machine.specs.Laws.{StepsGiveOnce, StepsKeepCookies, StepsKeepExports, StepsKeepForm}
 use Rattle.nfs_machine.specs.LinkSteps.{link_end}
 use Rattle.nfs_machine.specs.LockLaws.{RunsKeepApart, RunsKeepWaiting, StepsKeepApart, StepsKeepWaiting, AllHeldUp, NoConflict}
 use Rattle.nfs_machine.specs.MakeSteps.{wanted_special}
@@ -51,7 +54,9 @@ use Rattle.nfs_machine.specs.declared.calls.Reply.TheVariants as replies
 use Rattle.nfs_machine.specs.declared.context.Ctx.{Ctx}
 use Rattle.nfs_machine.proofs.Continued.{cookies-continued, gives-continued, touches-continued}
 use Rattle.nfs_machine.proofs.Facts.{chained-is, holds, is-directory, leads-found, resolved-lives, setattr_end, write_end}
-use Rattle.nfs_machine.proofs.Follows.{EndFollows, Follows, LocksFollow, Plain, bounds-losing, ends-follow, exports-losing, follows-after, follows-itself, locks-losing, make-follows, mounts-losing, write-follows, file-plain, existing-follows}
+use Rattle.nfs_machine.proofs.Follows.{EndFollows, Follows, LocksFollow, Plain, bounds-losing, ends-follow}
+use Rattle.nfs_machine.proofs.Follows.{exports-losing, follows-after, follows-itself, locks-losing, make-follows}
+use Rattle.nfs_machine.proofs.Follows.{mounts-losing, write-follows, file-plain, existing-follows}
 use Rattle.nfs_machine.proofs.Locking.{nlm-touches}
 use Rattle.nfs_machine.proofs.Loose.{well_formed-alike}
 use Rattle.nfs_machine.proofs.Moves.{GoesIntoItself, Move, named_as, remove_end, rmdir_end, with_moved, with_names_moved, without_replaced}
@@ -99,10 +104,13 @@ module _ (old : State) (ctx : Ctx) where
       record { apart = l.apart; waits = l.waits }
 
   moved-exports : (now : Time) (move : Move) (replaced : Option (ℕ × Living))
-      → KeepsExports old (without_replaced old (with_object (with_names_moved old now move) move.from.number (touched move.from.object now)) now replaced)
+      → KeepsExports old (without_replaced old
+      (with_object (with_names_moved old now move) move.from.number (touched move.from.object now)) now replaced)
   moved-exports now move None = record { exports = refl; last = refl }
   moved-exports now move (Some o) =
-      let k = exports-losing (with_object (with_names_moved old now move) move.from.number (touched move.from.object now)) (names_of old o.0) now o.0 o.1 in
+      let k = exports-losing
+      (with_object (with_names_moved old now move) move.from.number (touched move.from.object now))
+      (names_of old o.0) now o.0 o.1 in
       record { exports = k.exports; last = k.last }
 
   moved-mounts : (now : Time) (move : Move) (replaced : Option (ℕ × Living))
@@ -238,7 +246,14 @@ record Keeps (now : Time) (old new : State) : Type 0 where
   pub exports : KeepsExports old new
 
 keeps : (now : Time) (old new : State) → Follows now old new → Keeps now old new
-keeps now old new f = record { gives = f.gives; touches = f.touches; cookies = f.cookies; formed = f.formed; locks = f.locks; exports = f.exports }
+keeps now old new f = record {
+  gives = f.gives;
+  touches = f.touches;
+  cookies = f.cookies;
+  formed = f.formed;
+  locks = f.locks;
+  exports = f.exports;
+}
 
 unchanged : (now : Time) (old new : State) → new ≡ old → Keeps now old new
 unchanged now old new same = keeps now old new (stays now old new same)
@@ -249,7 +264,8 @@ with-mounts now m mounts = record {
   gives = gives-continued now m (record m { mounts = mounts }) (record { kept = λ n g e. e; lived = λ n o at. (o, at, inl refl) });
   touches = touches-continued now m (record m { mounts = mounts }) (record { kept = λ n g e. e; lived = λ n o at. (o, at, inl refl) });
   cookies = cookies-continued now m (record m { mounts = mounts }) (record { kept = λ n g e. e; lived = λ n o at. (o, at, inl refl) });
-  formed = λ w. well_formed-alike m (record m { mounts = mounts }) (λ n. alike_itself (get m.objects n)) (λ n. refl) (λ n g e. e) (record { exports = refl; last = refl }) w.texts w;
+  formed = λ w. well_formed-alike m (record m { mounts = mounts }) (λ n. alike_itself (get m.objects n)) (λ n. refl)
+      (λ n g e. e) (record { exports = refl; last = refl }) w.texts w;
   locks = record { apart = λ h. h; waits = λ h. h };
   exports = record { exports = refl; last = refl };
 }
@@ -278,20 +294,28 @@ mount-keeps old ctx mount.UnmountAll reply messages new step = subst (Keeps (tim
 mount-keeps old ctx mount.Export reply messages new step = unchanged (time_of ctx.moment) old new step.state_is
 
 -- so does NLM
-untouched : (now : Time) (old new : State) → new.objects ≡ old.objects → new.spent ≡ old.spent → KeepsExports old new → (NoConflict old → NoConflict new) → (AllHeldUp old → AllHeldUp new) → Keeps now old new
+untouched : (now : Time) (old new : State) → new.objects ≡ old.objects → new.spent ≡ old.spent →
+    KeepsExports old new → (NoConflict old → NoConflict new) → (AllHeldUp old → AllHeldUp new) →
+    Keeps now old new
 untouched now old new objects spent exports apart waits =
     subst (λ (x : FinMap nat_cmp Living). Keeps now old (record new { objects = x })) (sym objects)
     (subst (λ (x : ℕ → ℕ → Bool). Keeps now old (record new { objects = old.objects; spent = x })) (sym spent) (record {
       gives = gives-continued now old (record new { objects = old.objects; spent = old.spent }) (record { kept = λ n g e. e; lived = λ n o at. (o, at, inl refl) });
       touches = touches-continued now old (record new { objects = old.objects; spent = old.spent }) (record { kept = λ n g e. e; lived = λ n o at. (o, at, inl refl) });
       cookies = cookies-continued now old (record new { objects = old.objects; spent = old.spent }) (record { kept = λ n g e. e; lived = λ n o at. (o, at, inl refl) });
-      formed = λ w. well_formed-alike old (record new { objects = old.objects; spent = old.spent }) (λ n. alike_itself (get old.objects n)) (λ n. refl) (λ n g e. e) (record { exports = exports.exports; last = exports.last }) w.texts w;
+      formed = λ w. well_formed-alike old (record new { objects = old.objects; spent = old.spent })
+          (λ n. alike_itself (get old.objects n)) (λ n. refl) (λ n g e. e)
+          (record { exports = exports.exports; last = exports.last }) w.texts w;
       locks = record { apart = apart; waits = waits };
       exports = record { exports = exports.exports; last = exports.last };
     }))
 
 nlm-keeps : (old : State) (ctx : Ctx) (call : NlmCall) (reply : NlmReply) (messages : List Message) (new : State) → NlmStep old ctx call reply messages new → Keeps (time_of ctx.moment) old new
-nlm-keeps old ctx call reply messages new step = (let same = nlm-touches old ctx call reply messages new step in untouched (time_of ctx.moment) old new same.objects same.spent (record { exports = ap (λ k. k.1) same.mounts; last = ap (λ k. k.2) same.mounts }) same.apart (nlm-waits old ctx call reply messages new step))
+nlm-keeps old ctx call reply messages new step =
+    (let same = nlm-touches old ctx call reply messages new step in untouched
+    (time_of ctx.moment) old new same.objects same.spent
+    (record { exports = ap (λ k. k.1) same.mounts; last = ap (λ k. k.2) same.mounts }) same.apart
+    (nlm-waits old ctx call reply messages new step))
 
 step-keeps : (old : State) (ctx : Ctx) (call : Call) (reply : Reply) (messages : List Message) (new : State) → Step old ctx call reply messages new → Keeps (time_of ctx.moment) old new
 step-keeps old ctx (calls.Nfs call) (replies.Nfs reply) messages new step = keeps (time_of ctx.moment) old new (nfs-follows old ctx call reply messages new step)

@@ -36,13 +36,19 @@ pub record Untouched (old new : State) : Type 0 where
   pub apart : NoConflict old → NoConflict new
 
 same : (old new : State) → new ≡ old → Untouched old new
-same old new e = record { objects = ap (λ (m : State). m.objects) e; spent = ap (λ (m : State). m.spent) e; mounts = ap beside e; apart = λ h. subst NoConflict (sym e) h }
+same old new e = record {
+  objects = ap (λ (m : State). m.objects) e;
+  spent = ap (λ (m : State). m.spent) e;
+  mounts = ap beside e;
+  apart = λ h. subst NoConflict (sym e) h;
+}
 
 then : (a b c : State) → Untouched a b → Untouched b c → Untouched a c
 then a b c x y = record { objects = y.objects ∙ x.objects; spent = y.spent ∙ x.spent; mounts = y.mounts ∙ x.mounts; apart = λ h. y.apart (x.apart h) }
 
 -- from a state with the same objects
-from : (old after new : State) → after.objects ≡ old.objects → after.spent ≡ old.spent → beside after ≡ beside old → (NoConflict old → NoConflict after) → new ≡ after → Untouched old new
+from : (old after new : State) → after.objects ≡ old.objects → after.spent ≡ old.spent →
+    beside after ≡ beside old → (NoConflict old → NoConflict after) → new ≡ after → Untouched old new
 from old after new objects spent mounts apart e = then old after new (record { objects = objects; spent = spent; mounts = mounts; apart = apart }) (same after new e)
 
 granted : (old : State) (file : ℕ) (message : Message) (new : State) → Grants old file message new → Untouched old new

@@ -1,5 +1,7 @@
 -- The steps of MOUNT and NLM that are worked through: the lists of locks at every offset, and what the handle names.
-use Rattle.std.proofs.Common.{◌≡◌, ◌==◌, ℕ, ◌+◌, ◌<◌, ◌≤◌, Bool, true, false, not, ◌&&◌, ◌||◌, cond, ◌-◌, ◌^◌, codes, [], ◌∷◌, Option, Some, None, Result, Ok, Err, is_ok, nat_le, inl, inr, refl, sym, ◌∙◌, ap, subst, arith, List}
+use Rattle.std.proofs.Common.{◌≡◌, ◌==◌, ℕ, ◌+◌, ◌<◌, ◌≤◌, Bool, true, false, not, ◌&&◌}
+use Rattle.std.proofs.Common.{◌||◌, cond, ◌-◌, ◌^◌, codes, [], ◌∷◌, Option, Some, None, Result, Ok}
+use Rattle.std.proofs.Common.{Err, is_ok, nat_le, inl, inr, refl, sym, ◌∙◌, ap, subst, arith, List}
 use Rattle.std.proofs.Math.Bool.{and-false}
 use Rattle.std.proofs.lemmas.Bool.{and_parts, le-leb, leb-true, lt-leb}
 use Rattle.std.proofs.lemmas.List.Sums.{sum_by-cons}
@@ -17,7 +19,6 @@ use Rattle.nfs_machine.specs.Exports.{LivingExport}
 use Rattle.nfs_machine.specs.WorkedCreate.{writable}
 use Rattle.nfs_machine.specs.WorkedSetting.{unwritable}
 use Rattle.nfs_machine.specs.Resolve.{Resolved, Names, living_at, resolve}
-use Rattle.nfs_machine.specs.declared.context.Ctx.{Ctx}
 use Rattle.side_wire.specs.declared.nlm.ShareAccess.TheVariants as access
 use Rattle.side_wire.specs.declared.nlm.ShareMode.TheVariants as mode
 use Rattle.nfs_machine.specs.State.{Living, Lock, Owner, Range}
@@ -207,37 +208,44 @@ worked-locking = record {
   );
   shares = (
     status.Granted,
-    subst (λ r. ShareOf written (sharing a mode.DenyWrite access.Read).share (file_by writable true false r) status.Granted [] with_reader) (sym is-x)
+    subst (λ r. ShareOf written (sharing a mode.DenyWrite access.Read).share
+        (file_by writable true false r) status.Granted [] with_reader) (sym is-x)
         (record { reply_is = refl; no_message = refl; state_is = refl }),
     refl,
   );
   share_denied = (
     status.Denied,
-    subst (λ r. ShareOf with_reader (sharing b mode.DenyNone access.Write).share (file_by writable true true r) status.Denied [] with_reader) (sym is-x)
+    subst (λ r. ShareOf with_reader (sharing b mode.DenyNone access.Write).share
+        (file_by writable true true r) status.Denied [] with_reader) (sym is-x)
         (record { reply_is = refl; no_message = refl; state_is = refl }),
     refl,
   );
   shares_too = (
     status.Granted,
-    subst (λ r. ShareOf with_reader (sharing b mode.DenyNone access.Read).share (file_by writable true false r) status.Granted [] with_readers) (sym is-x)
+    subst (λ r. ShareOf with_reader (sharing b mode.DenyNone access.Read).share
+        (file_by writable true false r) status.Granted [] with_readers) (sym is-x)
         (record { reply_is = refl; no_message = refl; state_is = refl }),
     refl,
   );
   own_denied = (
     status.Denied,
-    subst (λ r. ShareOf with_readers (sharing a mode.DenyRead access.Read).share (file_by writable true false r) status.Denied [] with_readers) (sym is-x)
+    subst (λ r. ShareOf with_readers (sharing a mode.DenyRead access.Read).share
+        (file_by writable true false r) status.Denied [] with_readers) (sym is-x)
         (record { reply_is = refl; no_message = refl; state_is = refl }),
     refl,
   );
   unshares_none = (
     status.Granted,
-    subst (λ r. UnshareOf with_readers (sharing (record a { caller_name = codes "c3" }) mode.DenyNone access.Neither).share (file_by writable true false r) status.Granted [] with_readers) (sym is-x)
+    subst (λ r. UnshareOf with_readers
+        (sharing (record a { caller_name = codes "c3" }) mode.DenyNone access.Neither).share
+        (file_by writable true false r) status.Granted [] with_readers) (sym is-x)
         (record { reply_is = refl; no_message = refl; state_is = refl }),
     refl,
   );
   unshares = (
     status.Granted,
-    subst (λ r. UnshareOf with_readers (sharing a mode.DenyWrite access.Read).share (file_by writable true false r) status.Granted [] (record written { shares = reading_too ∷ [] })) (sym is-x)
+    subst (λ r. UnshareOf with_readers (sharing a mode.DenyWrite access.Read).share
+        (file_by writable true false r) status.Granted [] (record written { shares = reading_too ∷ [] })) (sym is-x)
         (record { reply_is = refl; no_message = refl; state_is = refl }),
     refl,
   );
@@ -257,7 +265,15 @@ worked-locking = record {
         refl,
         1,
         [],
-        record { leads = record { export = record { number = 1; root = 1; value = open_export }; stands = refl; admitted = refl; begins = refl }; longest = λ other more leads. omega arith },
+        record {
+          leads = record {
+            export = record { number = 1; root = 1; value = open_export };
+            stands = refl;
+            admitted = refl;
+            begins = refl;
+          };
+          longest = λ other more leads. omega arith;
+        },
         sym (ap found_by root-written),
       ),
       refl,

@@ -14,10 +14,12 @@ use Rattle.nfs_machine.specs.Shown.{touched, with_object}
 use Rattle.nfs_machine.specs.State.{Directory, Entry, Living, State}
 use Rattle.nfs_machine.specs.Exports.{export_at}
 use Rattle.nfs_machine.specs.Laws.{KeepsExports}
-use Rattle.nfs_machine.specs.WellFormed.{CookiesRise, ExportsStand, IsDirectoryOf, Leads, NamesOnce, TextsFit, WellFormed, is_root}
+use Rattle.nfs_machine.specs.WellFormed.{CookiesRise, ExportsStand, IsDirectoryOf, Leads, NamesOnce, TextsFit}
+use Rattle.nfs_machine.specs.WellFormed.{WellFormed, is_root}
 use Rattle.nfs_machine.proofs.Exported.{exported-on, stand-on}
 use Rattle.nfs_machine.proofs.Changes.{Differs, all-filter, apart, cookies-filter, count-without, differs-other, differs-there, flipped, itself, once-filter, sum-differs, weight}
-use Rattle.nfs_machine.proofs.WellFormed.{Alike, Deep, KeepsNames, LivesOn, all_last, before, deep-on, keeps_entries, leads-on, lives-alike, names-on, replaced-alike, replaced-names, root-same}
+use Rattle.nfs_machine.proofs.WellFormed.{Alike, Deep, KeepsNames, LivesOn, all_last, before, deep-on, keeps_entries}
+use Rattle.nfs_machine.proofs.WellFormed.{leads-on, lives-alike, names-on, replaced-alike, replaced-names, root-same}
 
 -- a well-formed state, but that the objects of these numbers may have no name; texts of links are no part of it
 pub record Loose (loose : ℕ → Bool) (m : State) : Type 0 where
@@ -25,7 +27,8 @@ pub record Loose (loose : ℕ → Bool) (m : State) : Type 0 where
   pub exported : (n : ℕ) (o : Living) → get m.objects n ≡ Some o → IsSome (export_at m.exports o.export)
   pub names : (n : ℕ) (o : Living) → get m.objects n ≡ Some o → IsDirectoryOf m o
   pub cookies : (n : ℕ) (o : Living) (entries : List Entry) (last : ℕ) → get m.objects n ≡ Some o → o.content ≡ Directory entries last → CookiesRise 2 entries last
-  pub named : (n : ℕ) (o : Living) → get m.objects n ≡ Some o → is_root m n ≡ false → loose n ≡ false → 1 ≤ names_of m n
+  pub named : (n : ℕ) (o : Living) → get m.objects n ≡ Some o → is_root m n ≡ false → loose n ≡ false →
+      1 ≤ names_of m n
   pub one_name : (n : ℕ) (o : Living) → get m.objects n ≡ Some o → is_directory o.content ≡ true → names_of m n ≤ 1
   pub depth : ℕ → ℕ
   pub deeper : (n : ℕ) (o : Living) → get m.objects n ≡ Some o → AllByRecursion (Deep m depth n) (entries_of o.content)
@@ -39,11 +42,32 @@ abbrev pub none_loose : ℕ → Bool
 none_loose n = false
 
 pub loosened : (loose : ℕ → Bool) (m : State) → WellFormed m → Loose loose m
-loosened loose m w = record { exports = w.exports; exported = w.exported; names = w.names; cookies = w.cookies; named = λ n o at other more. w.named n o at other; one_name = w.one_name; depth = w.depth; deeper = w.deeper; given = w.given }
+loosened loose m w = record {
+  exports = w.exports;
+  exported = w.exported;
+  names = w.names;
+  cookies = w.cookies;
+  named = λ n o at other more. w.named n o at other;
+  one_name = w.one_name;
+  depth = w.depth;
+  deeper = w.deeper;
+  given = w.given;
+}
 
 pub tightened : (m : State) → TextsFit m → Loose none_loose m → WellFormed m
 tightened m texts l =
-    record { exports = l.exports; exported = l.exported; names = l.names; cookies = l.cookies; named = λ n o at other. l.named n o at other refl; one_name = l.one_name; depth = l.depth; deeper = l.deeper; given = l.given; texts = texts }
+    record {
+      exports = l.exports;
+      exported = l.exported;
+      names = l.names;
+      cookies = l.cookies;
+      named = λ n o at other. l.named n o at other refl;
+      one_name = l.one_name;
+      depth = l.depth;
+      deeper = l.deeper;
+      given = l.given;
+      texts = texts;
+    }
 
 -- a number where what lives has a name is not loose
 pub fastened : (number : ℕ) (loose : ℕ → Bool) (m : State) → Loose (also number loose) m → ((o : Living) → get m.objects number ≡ Some o → 1 ≤ names_of m number) → Loose loose m
@@ -63,26 +87,34 @@ fastened number loose m l has = record {
 }
 
 -- ---- objects that keep their names
-module _ (old new : State) (alike : (n : ℕ) → Alike (get old.objects n) (get new.objects n)) (names : (n : ℕ) → names_of new n ≡ names_of old n) (spent : (n g : ℕ) → old.spent n g ≡ true → new.spent n g ≡ true) (keeps : KeepsExports old new) where
+module _ (old new : State) (alike : (n : ℕ) → Alike (get old.objects n) (get new.objects n))
+    (names : (n : ℕ) → names_of new n ≡ names_of old n)
+    (spent : (n g : ℕ) → old.spent n g ≡ true → new.spent n g ≡ true) (keeps : KeepsExports old new) where
   on-alike : (n : ℕ) (o : Living) → get old.objects n ≡ Some o → 1 ≤ names_of old n → LivesOn new n o
   on-alike n o at some = lives-alike old new alike n o at
 
   pub loose-alike : (loose : ℕ → Bool) → Loose loose old → Loose loose new
   loose-alike loose l = record {
     exports = stand-on old new keeps (λ n o at root. lives-alike old new alike n o at) l.exports;
-    exported = λ n o at. (let b = before old new alike n o at in exported-on old new keeps b.0 o b.2.export (l.exported n b.0 b.1));
+    exported = λ n o at.
+        (let b = before old new alike n o at in exported-on old new keeps b.0 o b.2.export (l.exported n b.0 b.1));
     names = λ n o at.
         let b = before old new alike n o at in
         let d = l.names n b.0 b.1 in
         let same = keeps_entries b.0 o b.2 in
-        record { once = subst NamesOnce (sym same) d.once; leads = subst (AllByRecursion (Leads new o)) (sym same) (leads-on old new on-alike n b.0 b.1 keeps.exports o b.2.export d.leads) };
+        record {
+          once = subst NamesOnce (sym same) d.once;
+          leads = subst (AllByRecursion (Leads new o)) (sym same)
+              (leads-on old new on-alike n b.0 b.1 keeps.exports o b.2.export d.leads);
+        };
     cookies = λ n o entries last at is.
         let b = before old new alike n o at in
         let kind : is_directory b.0.content ≡ true = sym b.2.kind ∙ ap is_directory is in
         l.cookies n b.0 entries last b.1 (sym (b.2.content kind) ∙ is);
     named = λ n o at other firm.
         let b = before old new alike n o at in
-        subst (λ k. 1 ≤ k) (sym (names n)) (l.named n b.0 b.1 (sym (root-same old new keeps.exports n) ∙ other) firm);
+        subst (λ k. 1 ≤ k) (sym (names n))
+        (l.named n b.0 b.1 (sym (root-same old new keeps.exports n) ∙ other) firm);
     one_name = λ n o at kind.
         let b = before old new alike n o at in
         subst (λ k. k ≤ 1) (sym (names n)) (l.one_name n b.0 b.1 (sym b.2.kind ∙ kind));
@@ -100,7 +132,8 @@ module _ (old new : State) (alike : (n : ℕ) → Alike (get old.objects n) (get
 
 module _ (m : State) (number : ℕ) (was : Living) (at : get m.objects number ≡ Some was) (loose : ℕ → Bool) (l : Loose loose m) where
   pub loose-replaced : (is : Living) → KeepsNames was is → Loose loose (with_object m number is)
-  loose-replaced is keeps = loose-alike m (with_object m number is) (replaced-alike m number was is at keeps) (replaced-names m number was is at keeps) (λ n g e. e) (record { exports = refl; last = refl }) loose l
+  loose-replaced is keeps = loose-alike m (with_object m number is) (replaced-alike m number was is at keeps)
+      (replaced-names m number was is at keeps) (λ n g e. e) (record { exports = refl; last = refl }) loose l
 
   pub loose-touched : (now : Time) → Loose loose (with_object m number (touched was now))
   loose-touched now = loose-replaced (touched was now) (record { export = refl; generation = refl; kind = refl; content = λ e. refl })
@@ -160,7 +193,8 @@ module _ (old new : State) (place : ℕ) (was is : Living) (s : Swaps old new pl
     once-was = subst NamesOnce (ap entries_of content) (l.names place was s.lives).once
 
     leads-was : AllByRecursion (Leads new is) entries
-    leads-was = subst (AllByRecursion (Leads new is)) (ap entries_of content) (leads-on old new on place was s.lives s.keeps.exports is s.export (l.names place was s.lives).leads)
+    leads-was = subst (AllByRecursion (Leads new is)) (ap entries_of content)
+        (leads-on old new on place was s.lives s.keeps.exports is s.export (l.names place was s.lives).leads)
 
     deep-was : (depth : ℕ → ℕ) → ((n : ℕ) (o : Living) → get old.objects n ≡ Some o → AllByRecursion (Deep old depth n) (entries_of o.content)) → AllByRecursion (Deep new depth place) entries
     deep-was depth deeper =
@@ -174,7 +208,8 @@ module _ (old new : State) (place : ℕ) (was is : Living) (s : Swaps old new pl
     pub once : NamesOnce entries
     pub leads : AllByRecursion (Leads new is) entries
     pub cookies : CookiesRise 2 entries last
-    pub named : (n : ℕ) (o : Living) → get old.objects n ≡ Some o → is_root old n ≡ false → loose n ≡ false → 1 ≤ names_of new n
+    pub named : (n : ℕ) (o : Living) → get old.objects n ≡ Some o → is_root old n ≡ false →
+        loose n ≡ false → 1 ≤ names_of new n
     pub one_name : (n : ℕ) (o : Living) → get old.objects n ≡ Some o → is_directory o.content ≡ true → names_of new n ≤ 1
     pub depth : ℕ → ℕ
     pub deeper : (n : ℕ) (o : Living) → get old.objects n ≡ Some o → AllByRecursion (Deep old depth n) (entries_of o.content)
@@ -184,7 +219,8 @@ module _ (old new : State) (place : ℕ) (was is : Living) (s : Swaps old new pl
   loose-swapped loose more l f = record {
     exports = stand-on old new s.keeps (λ n o at root. lives-on n o at) l.exports;
     exported = λ n o at. elim (now-lives n o at) [
-      | inl here ↦ exported-on old new s.keeps was o (sym (ap (λ (x : Living). x.export) here.1) ∙ s.export) (l.exported place was s.lives)
+      | inl here ↦ exported-on old new s.keeps was o (sym (ap (λ (x : Living). x.export) here.1) ∙ s.export)
+          (l.exported place was s.lives)
       | inr there ↦ exported-on old new s.keeps o o refl (l.exported n o there)
     ];
     names = λ n o at. elim (now-lives n o at) [
@@ -200,10 +236,12 @@ module _ (old new : State) (place : ℕ) (was is : Living) (s : Swaps old new pl
           subst (λ es. CookiesRise 2 es last) (ap entries_of both) (subst (λ k. CookiesRise 2 f.entries k) k f.cookies)
       | inr there ↦ l.cookies n o entries last there c
     ];
-    named = λ n o at other firm. (let own : is_root old n ≡ false = sym (root-same old new s.keeps.exports n) ∙ other in elim (now-lives n o at) [
-      | inl here ↦ f.named n was (ap (get old.objects) here.0 ∙ s.lives) own firm
-      | inr there ↦ f.named n o there own firm
-    ]);
+    named = λ n o at other firm.
+        (let own : is_root old n ≡ false = sym (root-same old new s.keeps.exports n) ∙ other in elim
+        (now-lives n o at) [
+          | inl here ↦ f.named n was (ap (get old.objects) here.0 ∙ s.lives) own firm
+          | inr there ↦ f.named n o there own firm
+        ]);
     one_name = λ n o at kind. elim (now-lives n o at) [
       | inl here ↦ f.one_name n was (ap (get old.objects) here.0 ∙ s.lives) (sym s.kind ∙ ap (λ (x : Living). is_directory x.content) here.1 ∙ kind)
       | inr there ↦ f.one_name n o there kind
@@ -308,8 +346,15 @@ module _ (old new : State) (number : ℕ) (was is : Option Living) (c : Comes ol
   -- so does a root
   on-root : (n : ℕ) (o : Living) → get old.objects n ≡ Some o → is_root old n ≡ true → LivesOn new n o
   on-root n o at root =
-      let other : (n == number) ≡ false = apart n number (λ same. (let no : true ≡ false = sym root ∙ subst (λ k. is_root old k ≡ false) (sym same) c.no_root in cc)) in
-      record { object = o; lives = differs-other old.objects new.objects number is c.objects n other ∙ at; export = refl; kind = refl }
+      let other : (n == number) ≡ false = apart n number
+      (λ same. (let no : true ≡ false = sym root ∙ subst (λ k. is_root old k ≡ false)
+      (sym same) c.no_root in cc)) in
+      record {
+        object = o;
+        lives = differs-other old.objects new.objects number is c.objects n other ∙ at;
+        export = refl;
+        kind = refl;
+      }
 
   -- what lives now came, or lived before
   come : (n : ℕ) (o : Living) → get new.objects n ≡ Some o → ((n ≡ number) × Empty o × IsNew new number o) ⊎ (get old.objects n ≡ Some o)
@@ -341,7 +386,11 @@ module _ (old new : State) (number : ℕ) (was is : Option Living) (c : Comes ol
     ];
     named = λ n o at other firm. elim (come n o at) [
       | inl here ↦ (let no : true ≡ false = sym ((unsigned_Decides n number).1 here.0) ∙ (or_parts (n == number) (loose n) firm).0 in cc)
-      | inr there ↦ omega (arith, names_of-come n, l.named n o there (sym (root-same old new c.keeps.exports n) ∙ other) firm)
+      | inr there ↦ omega (
+        arith,
+        names_of-come n,
+        l.named n o there (sym (root-same old new c.keeps.exports n) ∙ other) firm,
+      )
     ];
     one_name = λ n o at kind. elim (come n o at) [
       | inl here ↦ (let none : names_of old n ≡ 0 = subst (λ k. names_of old k ≡ 0) (sym here.0) c.nameless in omega (arith, names_of-come n, none))

@@ -45,7 +45,8 @@ module _ (old : State) (name : List ℕ) (wanted : Result Wanted NfsStatus) (the
 
   abbrev make_by : Resolved → Result (End old) NfsStatus
   make_by r =
-      object_of r >>= λ directory. entries_in directory.1.content >>= λ entries. plain_name_checked status.Exists status.Exists name >>= λ _. wanted >>= λ what. changeable old.exports directory.1
+      object_of r >>= λ directory. entries_in directory.1.content >>= λ entries. plain_name_checked status.Exists
+      status.Exists name >>= λ _. wanted >>= λ what. changeable old.exports directory.1
       >>= λ _. permitted nobody directory.1 Changing >>= λ _. make_under what directory.0 directory.1 entries.0 entries.1 (entry_of entries.0 name)
 
   not-made : (o : Living) (reply_of : MadeReply → NfsReply) (e : NfsStatus) → resolve old nobody root_bytes ≡ Names 1 o → make_by (Names 1 o) ≡ Err e
@@ -103,7 +104,8 @@ module _ (old : State) (name : List ℕ) (name_checked : List ℕ → Result (Un
 
   abbrev take_by : Resolved → Result (Unit {0} × State) NfsStatus
   take_by r =
-      object_of r >>= λ directory. entries_in directory.1.content >>= λ entries. name_checked name >>= λ _. changeable old.exports directory.1 >>= λ _. permitted nobody directory.1 Changing
+      object_of r >>= λ directory. entries_in directory.1.content >>= λ entries. name_checked name >>= λ _.
+      changeable old.exports directory.1 >>= λ _. permitted nobody directory.1 Changing
       >>= λ _. take_object directory entries (object_under old (entry_of entries.0 name))
 
   not-taken : (o : Living) (reply_of : RemovedReply → NfsReply) (e : NfsStatus) → resolve old nobody root_bytes ≡ Names 1 o → take_by (Names 1 o) ≡ Err e

@@ -1,5 +1,7 @@
 -- The state that a server starts with: its roots live, one for each export, and nothing else; so it is well formed.
-use Rattle.std.proofs.Common.{◌≡◌, ◌≢◌, ◌==◌, ◌||◌, ℕ, zero, suc, ◌+◌, ◌-◌, ◌<◌, ◌≤◌, ◌&&◌, ◌⊎◌, inl, inr, true, false, cond, nat_le, List, [], ◌∷◌, length, Some, None, refl, sym, ◌∙◌, ap, subst, arith, if◌then◌else◌}
+use Rattle.std.proofs.Common.{◌≡◌, ◌≢◌, ◌==◌, ◌||◌, ℕ, zero, suc, ◌+◌, ◌-◌, ◌<◌}
+use Rattle.std.proofs.Common.{◌≤◌, ◌&&◌, ◌⊎◌, inl, inr, true, false, cond, nat_le, List, [], ◌∷◌}
+use Rattle.std.proofs.Common.{length, Some, None, refl, sym, ◌∙◌, ap, subst, arith, if◌then◌else◌}
 use Rattle.std.proofs.lemmas.Bool.Decides.{nat_tests}
 use Rattle.std.specs.Cmp.{nat_cmp_total, unsigned_Decides}
 use Rattle.std.specs.FinMap.{FinMap, get, insert, get-insert, get-empty}
@@ -13,7 +15,8 @@ use Rattle.nfs_machine.specs.Exports.{ExportValue, export_at, numbered_exports, 
 use Rattle.nfs_machine.specs.Laws.{OpeningIsFormed}
 use Rattle.nfs_machine.specs.Opening.{opening, opening_root, opening_roots, time_of}
 use Rattle.nfs_machine.specs.State.{Directory, Link, Entry, Living}
-use Rattle.nfs_machine.specs.WellFormed.{AllApart, CookiesRise, ExportsStand, HasRoot, IsDirectoryOf, IsNumbered, WellFormed, is_root}
+use Rattle.nfs_machine.specs.WellFormed.{AllApart, CookiesRise, ExportsStand, HasRoot, IsDirectoryOf, IsNumbered}
+use Rattle.nfs_machine.specs.WellFormed.{WellFormed, is_root}
 use Rattle.nfs_machine.specs.declared.moment.Moment.{Moment}
 use Rattle.nfs_machine.proofs.Exported.{roots_at}
 use Rattle.nfs_machine.proofs.Ordered.{all-numbered, length-numbered, opened-apart, opened-at, with_number}
@@ -73,7 +76,8 @@ module _ (es : List ExportValue) (moment : Moment) where
   root_range n o at = elim (le_or 1 n) [
     | inl low ↦ elim (le_or n (length es)) [
       | inl h ↦ (low, h)
-      | inr h ↦ (let none : None ≡ Some o = sym (root_none time es 1 n (inr (omega (arith, h)))) ∙ at in absurd cc)
+      | inr h ↦ (let none : None ≡ Some o = sym
+          (root_none time es 1 n (inr (omega (arith, h)))) ∙ at in absurd cc)
     ]
     | inr below ↦ (let none : None ≡ Some o = sym (root_none time es 1 n (inl below)) ∙ at in absurd cc)
   ]
@@ -88,18 +92,23 @@ module _ (es : List ExportValue) (moment : Moment) where
   pub roots_stand : length es ≤ 64 → AllApart (opening_exports es) → ExportsStand (opening es moment)
   roots_stand few apart = record {
     few = omega (arith, length-numbered es 1, few);
-    numbered = all-numbered (IsNumbered (length es)) es 1 (λ n e low high. (low, omega (arith, few, high), omega (arith, high)));
+    numbered = all-numbered (IsNumbered (length es)) es 1
+        (λ n e low high. (low, omega (arith, few, high), omega (arith, high)));
     apart = apart;
-    rooted = all-numbered (HasRoot (opening es moment)) es 1 (λ n e low high. record { root = opening_root n time; lives = root_found time es 1 n low high; own = refl; directory = refl });
+    rooted = all-numbered (HasRoot (opening es moment)) es 1
+        (λ n e low high. record
+        { root = opening_root n time; lives = root_found time es 1 n low high; own = refl; directory = refl });
   }
 
   -- each object is of an export
   exported : (n : ℕ) → 1 ≤ n → n ≤ length es → IsSome (export_at (opening_exports es) n)
   exported n low high =
       let place : n ≡ 1 + (n - 1) = omega (arith, low) in
-      subst (λ k. IsSome (export_at (opening_exports es) k)) (sym place) (ap is_some (opened-at es (n - 1)) ∙ there es (n - 1) (omega (arith, low, high)))
+      subst (λ k. IsSome (export_at (opening_exports es) k)) (sym place)
+      (ap is_some (opened-at es (n - 1)) ∙ there es (n - 1) (omega (arith, low, high)))
     where
-      there : (xs : List ExportValue) (i : ℕ) → i < length xs → is_some (option_map (with_number (1 + (n - 1))) (slice_get xs i)) ≡ true
+      there : (xs : List ExportValue) (i : ℕ) → i < length xs →
+          is_some (option_map (with_number (1 + (n - 1))) (slice_get xs i)) ≡ true
       there [] i less = absurd (omega (arith, less))
       there (x ∷ xs) zero less = refl
       there (x ∷ xs) (suc i) less = there xs i (omega (arith, less))
@@ -108,22 +117,30 @@ module _ (es : List ExportValue) (moment : Moment) where
   is_root-opened : (n : ℕ) → 1 ≤ n → n ≤ length es → is_root (opening es moment) n ≡ true
   is_root-opened n low high = any es 1 low (omega (arith, high))
     where
-      any : (xs : List ExportValue) (k : ℕ) → k ≤ n → n < k + length xs → list_any (roots_at n) (numbered_exports k xs) ≡ true
+      any : (xs : List ExportValue) (k : ℕ) → k ≤ n → n < k + length xs →
+          list_any (roots_at n) (numbered_exports k xs) ≡ true
       any [] k low high = absurd (omega (arith, low, high))
       any (x ∷ xs) k low high =
-          elim (k == n) as (λ b. (k == n) ≡ b → (b || list_any (roots_at n) (numbered_exports (k + 1) xs)) ≡ true) [
+          elim (k == n) as (λ b. (k == n) ≡ b →
+          (b || list_any (roots_at n) (numbered_exports (k + 1) xs)) ≡ true) [
             | true ↦ λ e. refl
-            | false ↦ λ e. any xs (k + 1) (let other : k ≢ n = λ same. (let no : true ≡ false = sym ((unsigned_Decides k n).1 same) ∙ e in cc) in omega (arith, low, other)) (omega (arith, high))
+            | false ↦ λ e. any xs (k + 1)
+                (let other : k ≢ n = λ same.
+                (let no : true ≡ false = sym ((unsigned_Decides k n).1 same) ∙ e in cc) in omega
+                (arith, low, other)) (omega (arith, high))
           ] refl
 
   -- no names, and so nothing below a root
   pub roots_formed : length es ≤ 64 → AllApart (opening_exports es) → WellFormed (opening es moment)
   roots_formed few apart = record {
     exports = roots_stand few apart;
-    exported = λ n o at. (let r = root_range n o at in subst (λ k. IsSome (export_at (opening_exports es) k)) (ap (λ (x : Living). x.export) (only_roots n o at).0) (exported n r.0 r.1));
+    exported = λ n o at.
+        (let r = root_range n o at in subst (λ k. IsSome (export_at (opening_exports es) k))
+        (ap (λ (x : Living). x.export) (only_roots n o at).0) (exported n r.0 r.1));
     names = λ n o at. subst (IsDirectoryOf (opening es moment)) (only_roots n o at).0 (record { once = tt; leads = tt });
     cookies = λ n o entries last at is. root_cookies entries last (ap (λ (x : Living). x.content) (only_roots n o at).0 ∙ is);
-    named = λ n o at other. (let r = root_range n o at in let no : true ≡ false = sym (is_root-opened n r.0 r.1) ∙ other in cc);
+    named = λ n o at other.
+        (let r = root_range n o at in let no : true ≡ false = sym (is_root-opened n r.0 r.1) ∙ other in cc);
     one_name = λ n o at kind.
         let none : names_of (opening es moment) n ≡ 0 = sum-none (names_in n) (opening_roots 1 es time) (λ q v there. subst (λ (x : Living). names_in n x ≡ 0) (only_roots q v there).0 refl) in
         omega arith;

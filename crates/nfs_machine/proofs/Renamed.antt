@@ -386,7 +386,9 @@ module _ (m : State) (now : Time) (move : Move) (is : IsMove m move) (w : WellFo
 
     over-no_root : is_root m o.0 ≡ false
     over-no_root =
-        subst (λ k. is_root m k ≡ false) over.number (entry-leads m w target move.directory move.entries move.last_cookie is.lives is.content move.name over.entry over.found).no_root
+        subst (λ k. is_root m k ≡ false) over.number
+        (entry-leads m w target move.directory move.entries move.last_cookie is.lives is.content move.name
+        over.entry over.found).no_root
 
     over-lives : get step.objects o.0 ≡ Some o.1
     over-lives =
@@ -399,7 +401,8 @@ module _ (m : State) (now : Time) (move : Move) (is : IsMove m move) (w : WellFo
     over-formed =
         let l = freed-some o some in
         let one = one-less m now (over_named o) over none_loose (loosened none_loose m w) in
-        well_formed-losing step o.0 o.1 over-lives (step-loose (also o.0 none_loose) l) over-no_root (names_of m o.0) now empty (omega (arith, one, names_of-step (also o.0 none_loose) l o.0))
+        well_formed-losing step o.0 o.1 over-lives (step-loose (also o.0 none_loose) l) over-no_root
+        (names_of m o.0) now empty (omega (arith, one, names_of-step (also o.0 none_loose) l o.0))
 
   pub well_formed-moved : WellFormed (with_moved m now move)
   well_formed-moved = judged move.replaced refl (texts-continued now m (with_moved m now move) (continues-moved m now move is) w.texts)

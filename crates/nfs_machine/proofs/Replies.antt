@@ -30,7 +30,8 @@ use Rattle.nfs_machine.specs.State.{Entry, Living, State}
 use Rattle.nfs_machine.specs.Worked.{root_bytes}
 use Rattle.nfs_machine.specs.WorkedCreate.{called_as, with_writable}
 use Rattle.nfs_machine.specs.WorkedFiles.{time}
-use Rattle.nfs_machine.specs.WorkedReplies.{IsAnswered, HasFile, HasRootAlone, file_before, file_bytes, file_shown, known_file, root, root_shown, setting_mode, with_room}
+use Rattle.nfs_machine.specs.WorkedReplies.{IsAnswered, HasFile, HasRootAlone, file_before, file_bytes, file_shown}
+use Rattle.nfs_machine.specs.WorkedReplies.{known_file, root, root_shown, setting_mode, with_room}
 use Rattle.nfs_machine.specs.declared.context.Ctx.{Ctx}
 
 -- the replies as functions of what the handle names
@@ -41,7 +42,8 @@ abbrev setattr_by : State → Ctx → SetattrArguments → Resolved → NfsReply
 setattr_by m ctx a r = replies.Setattr (record { wcc = wcc (state_after m (set_by m ctx a r)) r; result = answer_of (set_by m ctx a r) })
 
 abbrev access_by : State → Ctx → ℕ → Resolved → NfsReply
-access_by m ctx asked r = replies.Access (record { attributes = shown m r; result = object_of r >>= λ o. Ok (granted m.exports ctx o.1 asked) })
+access_by m ctx asked r = replies.Access
+    (record { attributes = shown m r; result = object_of r >>= λ o. Ok (granted m.exports ctx o.1 asked) })
 
 abbrev commit_by : State → Ctx → Resolved → NfsReply
 commit_by m ctx r = replies.Commit (record { wcc = wcc m r; result = object_of r >>= λ file. bytes_in file.1.content >>= λ bytes. Ok (verifier_of ctx) })
@@ -63,7 +65,8 @@ module _ (k : State) (has : HasFile k) where
   named uid = ap (λ (x : Option Living). living_at x (record { export = 1; start = 7; fileid = 2; generation = 4 })) has.lives
 
   at : attributes_at (with_writable k) 2 ≡ Some (file_shown 420 (time 1000 1))
-  at = ap (option_map (attributes_of (with_writable k) 2)) has.lives ∙ ap (λ n. Some (record (file_shown 420 (time 1000 1)) { links = n })) has.named_once
+  at = ap (option_map (attributes_of (with_writable k) 2)) has.lives ∙ ap
+      (λ n. Some (record (file_shown 420 (time 1000 1)) { links = n })) has.named_once
 
   abbrev set_file : Living
   set_file = record known_file { mode = 384; changed = time 1000 2 }
@@ -74,48 +77,64 @@ module _ (k : State) (has : HasFile k) where
   set-at : attributes_at after 2 ≡ Some (file_shown 384 (time 1000 2))
   set-at =
       ap (option_map (attributes_of after 2)) (get-inserted (with_writable k).objects 2 set_file 2)
-      ∙ ap (λ n. Some (record (file_shown 384 (time 1000 2)) { links = n })) (replaced-names (with_writable k) 2 known_file set_file has.lives (record { export = refl; generation = refl; kind = refl; content = λ is. refl }) 2 ∙ has.named_once)
+      ∙ ap (λ n. Some (record (file_shown 384 (time 1000 2)) { links = n }))
+      (replaced-names (with_writable k) 2 known_file set_file has.lives
+      (record { export = refl; generation = refl; kind = refl; content = λ is. refl }) 2 ∙ has.named_once)
 
-  pub guarded : IsAnswered (with_writable k) (called_as 0) (calls.Setattr (setting_mode (time 1000 0))) (replies.Setattr (record { wcc = record { before = Some file_before; after = Some (file_shown 420 (time 1000 1)) }; result = Err status.NotSynchronized }))
+  pub guarded : IsAnswered (with_writable k) (called_as 0) (calls.Setattr (setting_mode (time 1000 0)))
+      (replies.Setattr (record {
+        wcc = record { before = Some file_before; after = Some (file_shown 420 (time 1000 1)) };
+        result = Err status.NotSynchronized;
+      }))
   unfolding NfsStep
   guarded = record {
     reply_is = sym (
         ap (setattr_by (with_writable k) (called_as 0) (setting_mode (time 1000 0))) (named 0)
         ∙ ap (λ (x : Option Attributes). replies.Setattr (record { wcc = record { before = Some file_before; after = x }; result = Err status.NotSynchronized })) at);
     no_message = refl;
-    state_is = sym (ap (λ r. state_after (with_writable k) (set_by (with_writable k) (called_as 0) (setting_mode (time 1000 0)) r)) (named 0));
+    state_is = sym (ap (λ r. state_after (with_writable k)
+        (set_by (with_writable k) (called_as 0) (setting_mode (time 1000 0)) r)) (named 0));
   }
 
-  pub set : NfsStep (with_writable k) (called_as 0) (calls.Setattr (setting_mode (time 1000 1))) (replies.Setattr (record { wcc = record { before = Some file_before; after = Some (file_shown 384 (time 1000 2)) }; result = Ok tt })) [] after
+  pub set : NfsStep (with_writable k) (called_as 0) (calls.Setattr (setting_mode (time 1000 1)))
+      (replies.Setattr (record
+      { wcc = record { before = Some file_before; after = Some (file_shown 384 (time 1000 2)) }; result = Ok tt })) []
+      after
   unfolding NfsStep
   set = record {
     reply_is = sym (
         ap (setattr_by (with_writable k) (called_as 0) (setting_mode (time 1000 1))) (named 0)
         ∙ ap (λ (x : Option Attributes). replies.Setattr (record { wcc = record { before = Some file_before; after = x }; result = Ok tt })) set-at);
     no_message = refl;
-    state_is = sym (ap (λ r. state_after (with_writable k) (set_by (with_writable k) (called_as 0) (setting_mode (time 1000 1)) r)) (named 0));
+    state_is = sym (ap (λ r. state_after (with_writable k)
+        (set_by (with_writable k) (called_as 0) (setting_mode (time 1000 1)) r)) (named 0));
   }
 
-  pub access : IsAnswered (with_writable k) (called_as 5) (calls.Access (record { object = file_bytes; rights = 63 })) (replies.Access (record { attributes = Some (file_shown 420 (time 1000 1)); result = Ok 1 }))
+  pub access : IsAnswered (with_writable k) (called_as 5) (calls.Access (record { object = file_bytes; rights = 63 }))
+      (replies.Access (record { attributes = Some (file_shown 420 (time 1000 1)); result = Ok 1 }))
   unfolding NfsStep
   access = record {
-    reply_is = sym (ap (access_by (with_writable k) (called_as 5) 63) (named 5) ∙ ap (λ (x : Option Attributes). replies.Access (record { attributes = x; result = Ok 1 })) at);
+    reply_is = sym (ap (access_by (with_writable k) (called_as 5) 63) (named 5) ∙ ap
+        (λ (x : Option Attributes). replies.Access (record { attributes = x; result = Ok 1 })) at);
     no_message = refl;
     state_is = refl;
   }
 
-  pub no_link : IsAnswered (with_writable k) (called_as 0) (calls.Readlink file_bytes) (replies.Readlink (record { attributes = Some (file_shown 420 (time 1000 1)); result = Err status.Invalid }))
+  pub no_link : IsAnswered (with_writable k) (called_as 0) (calls.Readlink file_bytes)
+      (replies.Readlink (record { attributes = Some (file_shown 420 (time 1000 1)); result = Err status.Invalid }))
   unfolding NfsStep
   no_link = record {
-    reply_is = sym (ap (readlink_by (with_writable k)) (named 0) ∙ ap (λ (x : Option Attributes). replies.Readlink (record { attributes = x; result = Err status.Invalid })) at);
+    reply_is = sym (ap (readlink_by (with_writable k)) (named 0) ∙ ap
+        (λ (x : Option Attributes). replies.Readlink (record { attributes = x; result = Err status.Invalid })) at);
     no_message = refl;
     state_is = refl;
   }
 
-  pub committed : IsAnswered (with_writable k) (called_as 5) (calls.Commit (record { file = file_bytes; offset = 0; count = 0 })) (replies.Commit (record {
-    wcc = record { before = Some file_before; after = Some (file_shown 420 (time 1000 1)) };
-    result = Ok (verifier_of (called_as 5));
-  }))
+  pub committed : IsAnswered (with_writable k) (called_as 5)
+      (calls.Commit (record { file = file_bytes; offset = 0; count = 0 })) (replies.Commit (record {
+        wcc = record { before = Some file_before; after = Some (file_shown 420 (time 1000 1)) };
+        result = Ok (verifier_of (called_as 5));
+      }))
   unfolding NfsStep
   committed = record {
     reply_is = sym (
@@ -125,15 +144,19 @@ module _ (k : State) (has : HasFile k) where
     state_is = refl;
   }
 
-  pub limits : IsAnswered (with_writable k) (called_as 0) (calls.Pathconf file_bytes) (replies.Pathconf (record { attributes = Some (file_shown 420 (time 1000 1)); result = Ok path_limits }))
+  pub limits : IsAnswered (with_writable k) (called_as 0) (calls.Pathconf file_bytes)
+      (replies.Pathconf (record { attributes = Some (file_shown 420 (time 1000 1)); result = Ok path_limits }))
   unfolding NfsStep
   limits = record {
-    reply_is = sym (ap (pathconf_by (with_writable k)) (named 0) ∙ ap (λ (x : Option Attributes). replies.Pathconf (record { attributes = x; result = Ok path_limits })) at);
+    reply_is = sym (ap (pathconf_by (with_writable k)) (named 0) ∙ ap
+        (λ (x : Option Attributes). replies.Pathconf (record { attributes = x; result = Ok path_limits })) at);
     no_message = refl;
     state_is = refl;
   }
 
-pub bad_handle : (m : State) → IsAnswered (with_writable m) (called_as 0) (calls.Fsinfo (take 31 file_bytes)) (replies.Fsinfo (record { attributes = None; result = Err status.BadHandle }))
+pub bad_handle : (m : State) →
+    IsAnswered (with_writable m) (called_as 0) (calls.Fsinfo (take 31 file_bytes))
+    (replies.Fsinfo (record { attributes = None; result = Err status.BadHandle }))
 unfolding NfsStep
 bad_handle m = record { reply_is = refl; no_message = refl; state_is = refl }
 
@@ -147,26 +170,34 @@ module _ (k : State) (has : HasRootAlone k) where
   abbrev fresh : Space
   fresh = space_left 1099511627776 (root ∷ []) 1
 
-  pub space : IsAnswered (with_writable k) (with_room 1099511627776) (calls.Fsstat root_bytes) (replies.Fsstat (record { attributes = Some root_shown; result = Ok fresh }))
+  pub space : IsAnswered (with_writable k) (with_room 1099511627776) (calls.Fsstat root_bytes)
+      (replies.Fsstat (record { attributes = Some root_shown; result = Ok fresh }))
   unfolding NfsStep
   space = record {
     reply_is = sym (
         ap (fsstat_by (with_writable k) 1099511627776 (values (with_writable k).objects)) (root-named 1099511627776)
-        ∙ ap (λ (x : Option Attributes). replies.Fsstat (record { attributes = x; result = Ok (space_left 1099511627776 (values (with_writable k).objects) 1) })) root-at
+        ∙ ap (λ (x : Option Attributes). replies.Fsstat
+        (record { attributes = x; result = Ok (space_left 1099511627776 (values (with_writable k).objects) 1) }))
+        root-at
         ∙ ap (λ (os : List Living). replies.Fsstat (record { attributes = Some root_shown; result = Ok (space_left 1099511627776 os 1) })) has.alone);
     no_message = refl;
     state_is = refl;
   }
 
-  pub system : IsAnswered (with_writable k) (called_as 0) (calls.Fsinfo root_bytes) (replies.Fsinfo (record { attributes = Some root_shown; result = Ok file_system }))
+  pub system : IsAnswered (with_writable k) (called_as 0) (calls.Fsinfo root_bytes)
+      (replies.Fsinfo (record { attributes = Some root_shown; result = Ok file_system }))
   unfolding NfsStep
   system = record {
-    reply_is = sym (ap (fsinfo_by (with_writable k)) (root-named 0) ∙ ap (λ (x : Option Attributes). replies.Fsinfo (record { attributes = x; result = Ok file_system })) root-at);
+    reply_is = sym (ap (fsinfo_by (with_writable k)) (root-named 0) ∙ ap
+        (λ (x : Option Attributes). replies.Fsinfo (record { attributes = x; result = Ok file_system })) root-at);
     no_message = refl;
     state_is = refl;
   }
 
-  pub no_file : IsAnswered (with_writable k) (called_as 0) (calls.Commit (record { file = root_bytes; offset = 0; count = 0 })) (replies.Commit (record { wcc = record { before = Some (weak root); after = Some root_shown }; result = Err status.Invalid }))
+  pub no_file : IsAnswered (with_writable k) (called_as 0)
+      (calls.Commit (record { file = root_bytes; offset = 0; count = 0 }))
+      (replies.Commit (record
+      { wcc = record { before = Some (weak root); after = Some root_shown }; result = Err status.Invalid }))
   unfolding NfsStep
   no_file = record {
     reply_is = sym (

@@ -17,17 +17,20 @@ module _ (find : ℕ → Option Living) (number : ℕ) (o : Living) where
         | false ↦ λ same. cc
       ] is
 
-  found : (exports : List LivingExport) (ctx : Ctx) (h : Option Handle) → named find exports ctx h ≡ Names number o → find number ≡ Some o
+  found : (exports : List LivingExport) (ctx : Ctx) (h : Option Handle) →
+      named find exports ctx h ≡ Names number o → find number ≡ Some o
   found exports ctx None is = cc
   found exports ctx (Some h) is =
-      elim ((h.start == ctx.start) && export_admits (export_at exports h.export) ctx.host) as (λ t. cond t (living_at (find h.fileid) h) Stale ≡ Names number o → find number ≡ Some o) [
+      elim ((h.start == ctx.start) && export_admits (export_at exports h.export) ctx.host) as
+      (λ t. cond t (living_at (find h.fileid) h) Stale ≡ Names number o → find number ≡ Some o) [
         | true ↦ λ same. living (find h.fileid) h refl same
         | false ↦ λ same. cc
       ] is
 
 -- the number is that of the handle
 pub resolved-number : (m : State) (ctx : Ctx) (bytes : List ℕ) (h : Handle) (number : ℕ) (o : Living) → handle_of bytes ≡ Some h → resolve m ctx bytes ≡ Names number o → number ≡ h.fileid
-resolved-number m ctx bytes h number o handle is = admitted (sym (ap (named (get m.objects) m.exports ctx) handle) ∙ is)
+resolved-number m ctx bytes h number o handle is = admitted
+    (sym (ap (named (get m.objects) m.exports ctx) handle) ∙ is)
   where
     same : (x : Option Living) → living_at x h ≡ Names number o → number ≡ h.fileid
     same None at = cc
@@ -36,7 +39,8 @@ resolved-number m ctx bytes h number o handle is = admitted (sym (ap (named (get
 
     admitted : named (get m.objects) m.exports ctx (Some h) ≡ Names number o → number ≡ h.fileid
     admitted at =
-        elim ((h.start == ctx.start) && export_admits (export_at m.exports h.export) ctx.host) as (λ t. cond t (living_at (get m.objects h.fileid) h) Stale ≡ Names number o → number ≡ h.fileid) [
+        elim ((h.start == ctx.start) && export_admits (export_at m.exports h.export) ctx.host) as
+        (λ t. cond t (living_at (get m.objects h.fileid) h) Stale ≡ Names number o → number ≡ h.fileid) [
           | true ↦ λ e. same (get m.objects h.fileid) e
           | false ↦ λ e. cc
         ] at

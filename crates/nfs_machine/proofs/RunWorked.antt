@@ -48,7 +48,13 @@ use Rattle.nfs_machine.specs.WorkedCreate.{moment, with_writable, writable}
 use Rattle.nfs_machine.specs.WorkedFiles.{time}
 use Rattle.nfs_machine.specs.WorkedPages.{seven, zeros}
 use Rattle.nfs_machine.specs.WorkedReplies.{root}
-use Rattle.nfs_machine.specs.WorkedRun.{wrote_reply, received, WorkedLeaving, WorkedLinking, WorkedRenaming, WorkedRun, WorkedSteps, WorkedTurns, all_three, argument_bytes, arrives, executed, first_two, header_of, in_root, listed_full_reply, listed_reply, listing, linking, listing_full, made_reply, making, miscounted, nobody, opened, left, page_reply, read_only, refused_reply, renaming, removed, removed_reply, root_after, root_with, root_with_both, root_with_x, setting, with_x, writing, written, x, x_bytes, x_entry, x_written, y_entry}
+use Rattle.nfs_machine.specs.WorkedRun.{wrote_reply, received, WorkedLeaving, WorkedLinking, WorkedRenaming, WorkedRun}
+use Rattle.nfs_machine.specs.WorkedRun.{WorkedSteps, WorkedTurns, all_three, argument_bytes, arrives, executed}
+use Rattle.nfs_machine.specs.WorkedRun.{first_two, header_of, in_root, listed_full_reply, listed_reply, listing}
+use Rattle.nfs_machine.specs.WorkedRun.{linking, listing_full, made_reply, making, miscounted, nobody, opened, left}
+use Rattle.nfs_machine.specs.WorkedRun.{page_reply, read_only, refused_reply, renaming, removed, removed_reply}
+use Rattle.nfs_machine.specs.WorkedRun.{root_after, root_with, root_with_both, root_with_x, setting, with_x, writing}
+use Rattle.nfs_machine.specs.WorkedRun.{written, x, x_bytes, x_entry, x_written, y_entry}
 use Rattle.nfs_machine.specs.declared.calls.Call.TheVariants as calls
 use Rattle.nfs_machine.specs.declared.context.Ctx.{Ctx}
 use Rattle.nfs_machine.proofs.Moves.{remove_end}
@@ -76,16 +82,26 @@ root-written = get-inserted with_x.objects 5 x_written 1 ∙ root-made
 pub x-lives : get written.objects 5 ≡ Some x_written
 x-lives = get-inserted with_x.objects 5 x_written 5
 
-pub root-named : (m : State) → m.exports ≡ writable → (o : Living) → o.generation ≡ 1 → o.export ≡ 1 → get m.objects 1 ≡ Some o → resolve m nobody root_bytes ≡ Names 1 o
+pub root-named : (m : State) → m.exports ≡ writable → (o : Living) → o.generation ≡ 1 → o.export ≡ 1 →
+    get m.objects 1 ≡ Some o → resolve m nobody root_bytes ≡ Names 1 o
 root-named m exports o generation export at =
-    ap (λ es. named (get m.objects) es nobody (Some root_handle)) exports ∙ ap (λ (l : Option Living). living_at l root_handle) at ∙ ap (λ k. cond ((k == 1) && (o.export == 1)) (Names 1 o) Stale) generation ∙ ap (λ k. cond (k == 1) (Names 1 o) Stale) export
+    ap (λ es. named (get m.objects) es nobody (Some root_handle)) exports ∙ ap
+    (λ (l : Option Living). living_at l root_handle) at ∙ ap
+    (λ k. cond ((k == 1) && (o.export == 1)) (Names 1 o) Stale) generation ∙ ap
+    (λ k. cond (k == 1) (Names 1 o) Stale) export
 
-pub x-named : (m : State) → m.exports ≡ writable → (o : Living) → o.generation ≡ 1 → o.export ≡ 1 → get m.objects 5 ≡ Some o → resolve m nobody x_bytes ≡ Names 5 o
+pub x-named : (m : State) → m.exports ≡ writable → (o : Living) → o.generation ≡ 1 → o.export ≡ 1 →
+    get m.objects 5 ≡ Some o → resolve m nobody x_bytes ≡ Names 5 o
 x-named m exports o generation export at =
-    ap (λ es. named (get m.objects) es nobody (Some (record root_handle { fileid = 5 }))) exports ∙ ap (λ (l : Option Living). living_at l (record root_handle { fileid = 5 })) at ∙ ap (λ k. cond ((k == 1) && (o.export == 1)) (Names 5 o) Stale) generation ∙ ap (λ k. cond (k == 1) (Names 5 o) Stale) export
+    ap (λ es. named (get m.objects) es nobody (Some (record root_handle { fileid = 5 }))) exports ∙ ap
+    (λ (l : Option Living). living_at l (record root_handle { fileid = 5 })) at ∙ ap
+    (λ k. cond ((k == 1) && (o.export == 1)) (Names 5 o) Stale) generation ∙ ap
+    (λ k. cond (k == 1) (Names 5 o) Stale) export
 
 -- ---- the calls arrive
-asked : (call : NfsCall) → call_of (received call).bytes ≡ Ok (header_of call) → HasSpelling (arguments_type (procedure_of call)) (arguments_of call) → Asks setting (arrives call) nobody (calls.Nfs call)
+asked : (call : NfsCall) → call_of (received call).bytes ≡ Ok (header_of call) →
+    HasSpelling (arguments_type (procedure_of call)) (arguments_of call) →
+    Asks setting (arrives call) nobody (calls.Nfs call)
 asked call read form = record {
   header = header_of call;
   read = read;
@@ -140,20 +156,24 @@ create_under number directory entries last e = elim e [
 
 abbrev create_by : Resolved → Result (End opened) NfsStatus
 create_by r =
-    object_of r >>= λ directory. entries_in directory.1.content >>= λ entries. plain_name_checked status.Exists status.Exists making.place.name >>= λ _. changeable writable directory.1 >>= λ _. permitted nobody directory.1 Changing
+    object_of r >>= λ directory. entries_in directory.1.content >>= λ entries. plain_name_checked status.Exists
+    status.Exists making.place.name >>= λ _. changeable writable directory.1 >>= λ _. permitted nobody directory.1
+    Changing
     >>= λ _. create_under directory.0 directory.1 entries.0 entries.1 (entry_of entries.0 making.place.name)
 
 creates : NfsStep opened nobody (nfs.Create making) made_reply [] with_x
 unfolding NfsStep fresh
 creates = record {
   end = Ok (made with_x nobody 5 x, with_x);
-  ends = subst (λ r. EndsAs opened (create_by r) (Ok (made with_x nobody 5 x, with_x))) (sym (root-named opened refl root refl refl root-opened)) (fresh, refl);
+  ends = subst (λ r. EndsAs opened (create_by r) (Ok (made with_x nobody 5 x, with_x)))
+      (sym (root-named opened refl root refl refl root-opened)) (fresh, refl);
   answers = record { reply_is = refl; no_message = refl; state_is = refl };
 }
 
 -- ---- WRITE
 abbrev write_by : WriteArguments → Resolved → Result (Written × State) NfsStatus
-write_by a r = object_of r >>= λ file. write_object writable nobody file.1 a >>= λ end. Ok (end.0, replaced with_x file.0 end.1)
+write_by a r = object_of r >>= λ file. write_object writable nobody file.1 a >>= λ end. Ok
+    (end.0, replaced with_x file.0 end.1)
 
 writes : NfsStep with_x nobody (nfs.Write writing) wrote_reply [] written
 unfolding NfsStep
@@ -182,8 +202,15 @@ abbrev entries_by : Resolved → Result (List Entry) NfsStatus
 entries_by = entries_from 0 zeros
 
 -- the root is its own parent
-root-parent : (m : State) → m.exports ≡ writable → get m.objects 1 ≡ Some root_with_x → (number : ℕ) (d : Living) → Names 1 root_with_x ≡ Names number d → IsParent m number 1
-root-parent m exports lives number d both = (let own : 1 ≡ number = cc in subst (λ k. IsParent m k 1) own (record { directory = root_with_x; lives = lives; named_in = inl (refl, ap (list_any (λ (e : LivingExport). e.root == 1)) exports) }))
+root-parent : (m : State) → m.exports ≡ writable → get m.objects 1 ≡ Some root_with_x →
+    (number : ℕ) (d : Living) → Names 1 root_with_x ≡ Names number d → IsParent m number 1
+root-parent m exports lives number d both =
+    (let own : 1 ≡ number = cc in subst (λ k. IsParent m k 1) own
+    (record {
+      directory = root_with_x;
+      lives = lives;
+      named_in = inl (refl, ap (list_any (λ (e : LivingExport). e.root == 1)) exports);
+    }))
 
 lists : NfsStep written nobody (nfs.Readdir listing) listed_reply [] written
 unfolding NfsStep
@@ -253,7 +280,9 @@ take_under directory entries =
 
 abbrev take_by : Resolved → Result (Unit {0} × State) NfsStatus
 take_by r =
-    object_of r >>= λ directory. entries_in directory.1.content >>= λ entries. plain_name_checked status.Invalid status.Invalid (codes "x") >>= λ _. changeable writable directory.1 >>= λ _. permitted nobody directory.1 Changing
+    object_of r >>= λ directory. entries_in directory.1.content >>= λ entries. plain_name_checked status.Invalid
+    status.Invalid (codes "x") >>= λ _. changeable writable directory.1 >>= λ _. permitted nobody directory.1
+    Changing
     >>= λ _. take_under directory entries
 
 taken : remove_end written nobody (in_root (codes "x")) ≡ Ok (tt, removed)
@@ -302,35 +331,54 @@ link_names m name file directory entries links = link_found m name file director
 abbrev link_by : State → List ℕ → (file directory : Resolved) → Result (Unit {0} × State) NfsStatus
 link_by m name f d =
     object_of f >>= λ file. object_of d >>= λ directory. holding (file.1.export == directory.1.export) status.CrossDevice >>= λ _. holding (not (is_directory file.1.content)) status.Invalid
-    >>= λ _. entries_in directory.1.content >>= λ entries. plain_name_checked status.Invalid status.Invalid name >>= λ _. changeable writable directory.1 >>= λ _. permitted nobody directory.1 Changing
+    >>= λ _. entries_in directory.1.content >>= λ entries. plain_name_checked status.Invalid status.Invalid name >>=
+    λ _. changeable writable directory.1 >>= λ _. permitted nobody directory.1 Changing
     >>= λ _. link_names m name file directory entries (links_of m file.0 file.1.content)
 
-module _ (k : State) (entries : List Entry) (of_root : get k.objects 1 ≡ Some (root_with entries)) (of_x : get k.objects 5 ≡ Some x_written) where
-  linked-by : (name : List ℕ) → link_end (with_writable k) nobody (linking name) ≡ link_by (with_writable k) name (Names 5 x_written) (Names 1 (root_with entries))
+module _ (k : State) (entries : List Entry) (of_root : get k.objects 1 ≡ Some (root_with entries))
+    (of_x : get k.objects 5 ≡ Some x_written) where
+  linked-by : (name : List ℕ) →
+      link_end (with_writable k) nobody (linking name) ≡ link_by (with_writable k) name (Names 5 x_written)
+      (Names 1 (root_with entries))
   linked-by name =
-      ap (λ f. link_by (with_writable k) name f (resolve (with_writable k) nobody root_bytes)) (x-named (with_writable k) refl x_written refl refl of_x)
-      ∙ ap (λ d. link_by (with_writable k) name (Names 5 x_written) d) (root-named (with_writable k) refl (root_with entries) refl refl of_root)
+      ap (λ f. link_by (with_writable k) name f (resolve (with_writable k) nobody root_bytes))
+      (x-named (with_writable k) refl x_written refl refl of_x)
+      ∙ ap (λ d. link_by (with_writable k) name (Names 5 x_written) d)
+      (root-named (with_writable k) refl (root_with entries) refl refl of_root)
 
   -- where the name is found so
   linked-where : (name : List ℕ) (found : Option Entry) → entry_of entries name ≡ found → (links : ℕ)
-      → link_names (with_writable k) name (5, x_written) (1, root_with entries) (entries, 40000) links ≡ link_found (with_writable k) name (5, x_written) (1, root_with entries) (entries, 40000) links found
-  linked-where name found is links = ap (link_found (with_writable k) name (5, x_written) (1, root_with entries) (entries, 40000) links) is
+      → link_names (with_writable k) name (5, x_written) (1, root_with entries) (entries, 40000) links ≡ link_found
+      (with_writable k) name (5, x_written) (1, root_with entries) (entries, 40000) links found
+  linked-where name found is links = ap
+      (link_found (with_writable k) name (5, x_written) (1, root_with entries) (entries, 40000) links) is
 
-  free-name : entry_of entries (codes "y") ≡ None → link_end (with_writable k) nobody (linking (codes "y")) ≡ link_found (with_writable k) (codes "y") (5, x_written) (1, root_with entries) (entries, 40000) (names_of (with_writable k) 5) None
+  free-name : entry_of entries (codes "y") ≡ None →
+      link_end (with_writable k) nobody (linking (codes "y")) ≡ link_found (with_writable k) (codes "y")
+      (5, x_written) (1, root_with entries) (entries, 40000) (names_of (with_writable k) 5) None
   free-name none = linked-by (codes "y") ∙ linked-where (codes "y") None none (names_of (with_writable k) 5)
 
   pub worked-linking : WorkedLinking (with_writable k) entries
   worked-linking = record {
-    last = λ none most. free-name none ∙ ap (λ links. link_found (with_writable k) (codes "y") (5, x_written) (1, root_with entries) (entries, 40000) links None) most;
-    full = λ none many. free-name none ∙ ap (λ links. link_found (with_writable k) (codes "y") (5, x_written) (1, root_with entries) (entries, 40000) links None) many;
-    there = λ e found. linked-by (codes "x") ∙ linked-where (codes "x") (Some e) found (names_of (with_writable k) 5);
+    last = λ none most. free-name none ∙ ap
+        (λ links. link_found (with_writable k) (codes "y") (5, x_written) (1, root_with entries)
+        (entries, 40000) links None) most;
+    full = λ none many. free-name none ∙ ap
+        (λ links. link_found (with_writable k) (codes "y") (5, x_written) (1, root_with entries)
+        (entries, 40000) links None) many;
+    there = λ e found. linked-by (codes "x") ∙ linked-where (codes "x") (Some e) found
+        (names_of (with_writable k) 5);
     self = linked-by (codes ".");
     directory =
-        ap (λ f. link_by (with_writable k) (codes "y") f (resolve (with_writable k) nobody root_bytes)) (root-named (with_writable k) refl (root_with entries) refl refl of_root)
-        ∙ ap (λ d. link_by (with_writable k) (codes "y") (Names 1 (root_with entries)) d) (root-named (with_writable k) refl (root_with entries) refl refl of_root);
+        ap (λ f. link_by (with_writable k) (codes "y") f (resolve (with_writable k) nobody root_bytes))
+        (root-named (with_writable k) refl (root_with entries) refl refl of_root)
+        ∙ ap (λ d. link_by (with_writable k) (codes "y") (Names 1 (root_with entries)) d)
+        (root-named (with_writable k) refl (root_with entries) refl refl of_root);
     into_file =
-        ap (λ f. link_by (with_writable k) (codes "y") f (resolve (with_writable k) nobody x_bytes)) (x-named (with_writable k) refl x_written refl refl of_x)
-        ∙ ap (λ d. link_by (with_writable k) (codes "y") (Names 5 x_written) d) (x-named (with_writable k) refl x_written refl refl of_x);
+        ap (λ f. link_by (with_writable k) (codes "y") f (resolve (with_writable k) nobody x_bytes))
+        (x-named (with_writable k) refl x_written refl refl of_x)
+        ∙ ap (λ d. link_by (with_writable k) (codes "y") (Names 5 x_written) d)
+        (x-named (with_writable k) refl x_written refl refl of_x);
   }
 
 -- ---- RENAME
@@ -342,10 +390,13 @@ module _ (m : State) (ctx : Ctx) (a : RenameArguments) where
   abbrev move_by : (from to : Resolved) → Result (Option (ℕ × ℕ) × Result (Unit {0} × State) NfsStatus) NfsStatus
   move_by f t =
       object_of f >>= λ from. object_of t >>= λ to. holding (from.1.export == to.1.export) status.CrossDevice >>= λ _. entries_in from.1.content >>= λ from_entries. entries_in to.1.content >>= λ to_entries.
-      plain_name_checked status.Invalid status.Invalid a.from.name >>= λ _. plain_name_checked status.Invalid status.Invalid a.to.name >>= λ _. changeable m.exports from.1 >>= λ _. permitted ctx from.1 Changing >>= λ _.
+      plain_name_checked status.Invalid status.Invalid a.from.name >>= λ _. plain_name_checked status.Invalid
+      status.Invalid a.to.name >>= λ _. changeable m.exports from.1 >>= λ _. permitted ctx from.1 Changing >>= λ
+      _.
       permitted ctx to.1 Changing >>= λ _. move_found from to from_entries to_entries (object_under m (entry_of from_entries.0 a.from.name)) (object_under m (entry_of to_entries.0 a.to.name))
 
-module _ (k : State) (entries : List Entry) (of_root : get k.objects 1 ≡ Some (root_with entries)) (of_x : get k.objects 5 ≡ Some x_written) where
+module _ (k : State) (entries : List Entry) (of_root : get k.objects 1 ≡ Some (root_with entries))
+    (of_x : get k.objects 5 ≡ Some x_written) where
   of-nobody : resolve (with_writable k) nobody root_bytes ≡ Names 1 (root_with entries)
   of-nobody = root-named (with_writable k) refl (root_with entries) refl refl of_root
 
@@ -355,26 +406,42 @@ module _ (k : State) (entries : List Entry) (of_root : get k.objects 1 ≡ Some 
   of-file : resolve (with_writable k) nobody x_bytes ≡ Names 5 x_written
   of-file = x-named (with_writable k) refl x_written refl refl of_x
 
-  in-root : (a : RenameArguments) → a.from.directory ≡ root_bytes → a.to.directory ≡ root_bytes → rename_plan (with_writable k) nobody a ≡ move_by (with_writable k) nobody a (Names 1 (root_with entries)) (Names 1 (root_with entries))
+  in-root : (a : RenameArguments) → a.from.directory ≡ root_bytes → a.to.directory ≡ root_bytes →
+      rename_plan (with_writable k) nobody a ≡ move_by (with_writable k) nobody a (Names 1 (root_with entries))
+      (Names 1 (root_with entries))
   in-root a from to =
-      ap (λ f. move_by (with_writable k) nobody a f (resolve (with_writable k) nobody a.to.directory)) (ap (resolve (with_writable k) nobody) from ∙ of-nobody)
-      ∙ ap (move_by (with_writable k) nobody a (Names 1 (root_with entries))) (ap (resolve (with_writable k) nobody) to ∙ of-nobody)
+      ap (λ f. move_by (with_writable k) nobody a f (resolve (with_writable k) nobody a.to.directory))
+      (ap (resolve (with_writable k) nobody) from ∙ of-nobody)
+      ∙ ap (move_by (with_writable k) nobody a (Names 1 (root_with entries)))
+      (ap (resolve (with_writable k) nobody) to ∙ of-nobody)
 
-  under-read : (a : RenameArguments) → a.from.directory ≡ root_bytes → a.to.directory ≡ root_bytes → rename_plan (read_only (with_writable k)) nobody a ≡ move_by (read_only (with_writable k)) nobody a (Names 1 (root_with entries)) (Names 1 (root_with entries))
+  under-read : (a : RenameArguments) → a.from.directory ≡ root_bytes → a.to.directory ≡ root_bytes →
+      rename_plan (read_only (with_writable k)) nobody a ≡ move_by (read_only (with_writable k)) nobody a
+      (Names 1 (root_with entries)) (Names 1 (root_with entries))
   under-read a from to =
-      ap (λ f. move_by (read_only (with_writable k)) nobody a f (resolve (read_only (with_writable k)) nobody a.to.directory)) (ap (resolve (read_only (with_writable k)) nobody) from ∙ of-read)
-      ∙ ap (move_by (read_only (with_writable k)) nobody a (Names 1 (root_with entries))) (ap (resolve (read_only (with_writable k)) nobody) to ∙ of-read)
+      ap (λ f. move_by (read_only (with_writable k)) nobody a f
+      (resolve (read_only (with_writable k)) nobody a.to.directory))
+      (ap (resolve (read_only (with_writable k)) nobody) from ∙ of-read)
+      ∙ ap (move_by (read_only (with_writable k)) nobody a (Names 1 (root_with entries)))
+      (ap (resolve (read_only (with_writable k)) nobody) to ∙ of-read)
 
   abbrev x_to_y : RenameArguments
   x_to_y = renaming (codes "x") (codes "y")
 
   abbrev found_so : (moved replaced : Option (ℕ × Living)) → Result (Option (ℕ × ℕ) × Result (Unit {0} × State) NfsStatus) NfsStatus
-  found_so = move_found (with_writable k) nobody x_to_y (1, root_with entries) (1, root_with entries) (entries, 40000) (entries, 40000)
+  found_so = move_found (with_writable k) nobody x_to_y (1, root_with entries) (1, root_with entries) (entries, 40000)
+      (entries, 40000)
 
   -- where both names are found so
-  where-found : (from to : Option Entry) → entry_of entries (codes "x") ≡ from → entry_of entries (codes "y") ≡ to → rename_plan (with_writable k) nobody x_to_y ≡ found_so (object_under (with_writable k) from) (object_under (with_writable k) to)
+  where-found : (from to : Option Entry) → entry_of entries (codes "x") ≡ from →
+      entry_of entries (codes "y") ≡ to →
+      rename_plan (with_writable k) nobody x_to_y ≡ found_so (object_under (with_writable k) from)
+      (object_under (with_writable k) to)
   where-found from to is_from is_to =
-      in-root x_to_y refl refl ∙ ap (λ e. found_so (object_under (with_writable k) e) (object_under (with_writable k) (entry_of entries (codes "y")))) is_from ∙ ap (λ e. found_so (object_under (with_writable k) from) (object_under (with_writable k) e)) is_to
+      in-root x_to_y refl refl ∙ ap
+      (λ e. found_so (object_under (with_writable k) e)
+      (object_under (with_writable k) (entry_of entries (codes "y")))) is_from ∙ ap
+      (λ e. found_so (object_under (with_writable k) from) (object_under (with_writable k) e)) is_to
 
   pub worked-renaming : WorkedRenaming (with_writable k) entries
   worked-renaming = record {
@@ -384,11 +451,19 @@ module _ (k : State) (entries : List Entry) (of_root : get k.objects 1 ≡ Some 
     fixed = under-read x_to_y refl refl;
     nothing = λ none. where-found None (entry_of entries (codes "y")) none refl;
     from_file =
-        ap (λ f. move_by (with_writable k) nobody (record { from = record { directory = x_bytes; name = codes "x" }; to = in_root (codes "y") }) f (resolve (with_writable k) nobody root_bytes)) of-file
-        ∙ ap (move_by (with_writable k) nobody (record { from = record { directory = x_bytes; name = codes "x" }; to = in_root (codes "y") }) (Names 5 x_written)) of-nobody;
+        ap (λ f. move_by (with_writable k) nobody
+        (record { from = record { directory = x_bytes; name = codes "x" }; to = in_root (codes "y") }) f
+        (resolve (with_writable k) nobody root_bytes)) of-file
+        ∙ ap (move_by (with_writable k) nobody
+        (record { from = record { directory = x_bytes; name = codes "x" }; to = in_root (codes "y") })
+        (Names 5 x_written)) of-nobody;
     into_file =
-        ap (λ f. move_by (with_writable k) nobody (record { from = in_root (codes "x"); to = record { directory = x_bytes; name = codes "y" } }) f (resolve (with_writable k) nobody x_bytes)) of-nobody
-        ∙ ap (move_by (with_writable k) nobody (record { from = in_root (codes "x"); to = record { directory = x_bytes; name = codes "y" } }) (Names 1 (root_with entries))) of-file;
+        ap (λ f. move_by (with_writable k) nobody
+        (record { from = in_root (codes "x"); to = record { directory = x_bytes; name = codes "y" } }) f
+        (resolve (with_writable k) nobody x_bytes)) of-nobody
+        ∙ ap (move_by (with_writable k) nobody
+        (record { from = in_root (codes "x"); to = record { directory = x_bytes; name = codes "y" } })
+        (Names 1 (root_with entries))) of-file;
     moves = λ cookie found none.
         where-found (Some (record { name = codes "x"; number = 5; cookie = cookie })) None found none
         ∙ ap (λ (l : Option Living). found_so (option_map (λ (o : Living). (5, o)) l) None) of_x;
@@ -406,13 +481,19 @@ leave_object m directory entries found =
 
 abbrev leave_by : State → Resolved → Result (Unit {0} × State) NfsStatus
 leave_by m r =
-    object_of r >>= λ directory. entries_in directory.1.content >>= λ entries. plain_name_checked status.Invalid status.Invalid (codes "x") >>= λ _. changeable writable directory.1 >>= λ _. permitted nobody directory.1 Changing
+    object_of r >>= λ directory. entries_in directory.1.content >>= λ entries. plain_name_checked status.Invalid
+    status.Invalid (codes "x") >>= λ _. changeable writable directory.1 >>= λ _. permitted nobody directory.1
+    Changing
     >>= λ _. leave_object m directory entries (object_under m (entry_of entries.0 (codes "x")))
 
 pub worked-leaving : WorkedLeaving
 unfolding NfsStep
 worked-leaving k of_root of_x two = record {
-  reply_is = sym (ap (λ end. nfs_replies.Remove (record { directory = wcc (state_after (with_writable k) end) (resolve (with_writable k) nobody root_bytes); result = answer_of end })) taken);
+  reply_is = sym (ap (λ end. nfs_replies.Remove
+      (record {
+        directory = wcc (state_after (with_writable k) end) (resolve (with_writable k) nobody root_bytes);
+        result = answer_of end;
+      })) taken);
   no_message = refl;
   state_is = sym (ap (state_after (with_writable k)) taken);
 }
@@ -420,12 +501,19 @@ worked-leaving k of_root of_x two = record {
     taken : remove_end (with_writable k) nobody (in_root (codes "x")) ≡ Ok (tt, left (with_writable k))
     taken =
         ap (leave_by (with_writable k)) (root-named (with_writable k) refl root_with_both refl refl of_root)
-        ∙ ap (λ (l : Option Living). leave_object (with_writable k) (1, root_with_both) (x_entry ∷ y_entry ∷ [], 4) (option_map (λ (o : Living). (5, o)) l)) of_x
-        ∙ ap (λ n. Ok (tt, losing_name (with_object (with_writable k) 1 (with_content root_with_both (time 1000 0) (Directory (y_entry ∷ []) 4))) n (time 1000 0) 5 x_written)) two
+        ∙ ap (λ (l : Option Living). leave_object (with_writable k) (1, root_with_both)
+        (x_entry ∷ y_entry ∷ [], 4) (option_map (λ (o : Living). (5, o)) l)) of_x
+        ∙ ap (λ n. Ok (
+          tt,
+          losing_name
+              (with_object (with_writable k) 1 (with_content root_with_both (time 1000 0) (Directory (y_entry ∷ []) 4)))
+              n (time 1000 0) 5 x_written,
+        )) two
 
 -- ---- a reading of the root
 -- a page of it, where "x" is its only name
-lists-page : (m : State) → m.exports ≡ writable → get m.objects 1 ≡ Some root_with_x → (cookie : ℕ) (verifier : Verifier) (count : ℕ) (page : List Entry) (eof : Bool)
+lists-page : (m : State) → m.exports ≡ writable → get m.objects 1 ≡ Some root_with_x →
+    (cookie : ℕ) (verifier : Verifier) (count : ℕ) (page : List Entry) (eof : Bool)
     → PagesOf (fits count) (entries_from cookie verifier (Names 1 root_with_x)) (Ok (page, eof))
     → NfsStep m nobody (nfs.Readdir (record { directory = root_bytes; cookie = cookie; verifier = verifier; count = count })) (page_reply m page eof) [] m
 unfolding NfsStep
@@ -439,14 +527,16 @@ lists-page m exports lives cookie verifier count page eof is_page =
     }
 
 -- "x" is one of its names
-has-x : (m : State) → m.exports ≡ writable → get m.objects 1 ≡ Some root_with_x → Has m nobody root_bytes x_entry
+has-x : (m : State) → m.exports ≡ writable → get m.objects 1 ≡ Some root_with_x →
+    Has m nobody root_bytes x_entry
 has-x m exports lives number object entries last parent names content is_parent =
     let same : root_with_x ≡ object = (let named = root-named m exports root_with_x refl refl lives in cc) in
     let whole : x_entry ∷ [] ≡ entries = (let shows : Directory (x_entry ∷ []) 3 ≡ Directory entries last = ap (λ (o : Living). o.content) same ∙ content in cc) in
     subst (λ es. Contains (all_entries number parent es) x_entry) whole (2, within 3 3 refl, refl)
 
 -- and so is "."
-has-self : (m : State) → m.exports ≡ writable → get m.objects 1 ≡ Some root_with_x → Has m nobody root_bytes (record { name = codes "."; number = 1; cookie = 1 })
+has-self : (m : State) → m.exports ≡ writable → get m.objects 1 ≡ Some root_with_x →
+    Has m nobody root_bytes (record { name = codes "."; number = 1; cookie = 1 })
 has-self m exports lives number object entries last parent names content is_parent =
     let own : 1 ≡ number = (let named = root-named m exports root_with_x refl refl lives in cc) in
     subst (λ k. Contains (all_entries k parent entries) (record { name = codes "."; number = 1; cookie = 1 })) own (0, omega arith, refl)
@@ -456,18 +546,29 @@ leads-x m lives =
     ap (λ (l : Option Living). elim l as (λ (_ : Option Living). Option ℕ) [ None ↦ None | Some o ↦ option_map (λ (e : Entry). e.number) (entry_of (entries_of o.content) (codes "x")) ]) lives
 
 with-x-formed : WellFormed with_x
-with-x-formed = runs_keep_form setting opened with_x (executed (nfs.Create making) made_reply ∷ []) (with_x, executes-create, refl) (roots_formed setting.exports moment (within 1 64 refl) (tt, tt))
+with-x-formed = runs_keep_form setting opened with_x (executed (nfs.Create making) made_reply ∷ [])
+    (with_x, executes-create, refl) (roots_formed setting.exports moment (within 1 64 refl) (tt, tt))
 
 pub worked-turns : WorkedTurns
 worked-turns = record {
   formed = with-x-formed;
   reading = (
     with_x,
-    record { run = refl; step = lists-page with_x refl root-made 0 zeros 160 first_two false first-page; from = refl; shows = refl },
+    record {
+      run = refl;
+      step = lists-page with_x refl root-made 0 zeros 160 first_two false first-page;
+      from = refl;
+      shows = refl;
+    },
     refl,
     (
       written,
-      record { run = (written, executes-write, refl); step = lists-page written refl root-written 2 seven 65536 (x_entry ∷ []) true second-page; from = refl; shows = refl },
+      record {
+        run = (written, executes-write, refl);
+        step = lists-page written refl root-written 2 seven 65536 (x_entry ∷ []) true second-page;
+        from = refl;
+        shows = refl;
+      },
       refl,
     ),
   );

@@ -47,11 +47,14 @@ set-alter o now content mode uid gid accessed modified is = record {
   turns = record { generation = refl; text = is.text; changed = refl; entries = is.entries };
 }
 
-set-alters : (exports : List LivingExport) (ctx : Ctx) (o : Living) (a : SetattrArguments) → IfOk (set_object exports ctx o a) (Alters (time_of ctx.moment) o)
+set-alters : (exports : List LivingExport) (ctx : Ctx) (o : Living) (a : SetattrArguments) →
+    IfOk (set_object exports ctx o a) (Alters (time_of ctx.moment) o)
 set-alters exports ctx o a =
     let set = a.attributes in
     let P : Living → Type 0 = Alters (time_of ctx.moment) o in
-    chained P (changeable exports o) _ (λ x1. chained P (holding _ status.NotSynchronized) _ (λ x2. chained P (holding (is_time set.accessed && is_time set.modified) status.Invalid) _ (λ x3.
+    chained P (changeable exports o) _
+    (λ x1. chained P (holding _ status.NotSynchronized) _
+    (λ x2. chained P (holding (is_time set.accessed && is_time set.modified) status.Invalid) _ (λ x3.
     chained-is P (sized o.content set.size) _ (λ content is.
     let keeps : Sized o.content content = of-ok (Sized o.content) (sized o.content set.size) content is (sized-keeps o.content set.size) in
     search (chained, set-alter, keeps) depth 10))))
@@ -59,5 +62,8 @@ set-alters exports ctx o a =
 pub setattr-follows : (old : State) (ctx : Ctx) (a : SetattrArguments) → IfOk (setattr_end old ctx a) (λ e. Follows (time_of ctx.moment) old e.1)
 setattr-follows old ctx a =
     chained-is (λ (e : Unit {0} × State). Follows (time_of ctx.moment) old e.1) (object_of (resolve old ctx a.object)) _ (λ o at.
-    chained-is (λ (e : Unit {0} × State). Follows (time_of ctx.moment) old e.1) (set_object old.exports ctx o.1 a) _ (λ x is.
-    follows-altered (time_of ctx.moment) old o.0 o.1 x (resolved-lives old ctx a.object o at) (of-ok (Alters (time_of ctx.moment) o.1) (set_object old.exports ctx o.1 a) x is (set-alters old.exports ctx o.1 a))))
+    chained-is (λ (e : Unit {0} × State). Follows (time_of ctx.moment) old e.1) (set_object old.exports ctx o.1 a) _
+    (λ x is.
+    follows-altered (time_of ctx.moment) old o.0 o.1 x (resolved-lives old ctx a.object o at)
+    (of-ok (Alters (time_of ctx.moment) o.1) (set_object old.exports ctx o.1 a) x is
+    (set-alters old.exports ctx o.1 a))))

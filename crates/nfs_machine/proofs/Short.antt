@@ -140,7 +140,15 @@ replies_short old ctx (calls.Create a) reply messages new w step =
 replies_short old ctx (calls.Setattr a) reply messages new w step =
     subst IsShort (sym step.reply_is) (record { form = tt; short = omega (arith, setattr-size (wcc (state_after old (setattr_end old ctx a)) (resolve old ctx a.object)) (answer_of (setattr_end old ctx a))) })
 replies_short old ctx (calls.Access a) reply messages new w step =
-    subst IsShort (sym step.reply_is) (record { form = tt; short = omega (arith, access-size (shown old (resolve old ctx a.object)) (object_of (resolve old ctx a.object) >>= λ o. Ok (granted old.exports ctx o.1 a.rights))) })
+    subst IsShort (sym step.reply_is)
+    (record {
+      form = tt;
+      short = omega (
+        arith,
+        access-size (shown old (resolve old ctx a.object))
+            (object_of (resolve old ctx a.object) >>= λ o. Ok (granted old.exports ctx o.1 a.rights)),
+      );
+    })
 replies_short old ctx (calls.Readlink object) reply messages new w step = subst IsShort (sym step.reply_is) (record {
   form = text-fits (object_of (resolve old ctx object) >>= λ o. text_in o.1.content) (texts-read old ctx object w.texts);
   short = omega (arith, readlink-size (shown old (resolve old ctx object)) (object_of (resolve old ctx object) >>= λ o. text_in o.1.content) 4096 (texts-read old ctx object w.texts));

@@ -45,7 +45,8 @@ all-dropped P zero xs all = all
 all-dropped P (suc n) [] all = tt
 all-dropped P (suc n) (x ∷ xs) all = all-dropped P n xs all.1
 
-groups-form : (e : LivingExport) → AllByRecursion IsHostName e.hosts → All IsHostName (if list_any (λ h. same_bytes h every_host) e.hosts then [] else e.hosts)
+groups-form : (e : LivingExport) → AllByRecursion IsHostName e.hosts →
+    All IsHostName (if list_any (λ h. same_bytes h every_host) e.hosts then [] else e.hosts)
 groups-form e fit =
     elim (list_any (λ h. same_bytes h every_host) e.hosts) as (λ b. All IsHostName (cond b [] e.hosts)) [
       | true ↦ All-from_recursion IsHostName [] tt
@@ -55,7 +56,10 @@ groups-form e fit =
 exports-form : (exports : List LivingExport) → ExportsFit exports → All HasExportNodeForm (listed_exports exports)
 exports-form exports fit =
     All-from_recursion HasExportNodeForm (listed_exports exports)
-    (all-listed (λ (e : LivingExport). IsDirpath e.path × AllByRecursion IsHostName e.hosts) HasExportNodeForm (λ (e : LivingExport). record { directory = e.path; groups = if list_any (λ h. same_bytes h every_host) e.hosts then [] else e.hosts }) exports
+    (all-listed (λ (e : LivingExport). IsDirpath e.path × AllByRecursion IsHostName e.hosts) HasExportNodeForm
+    (λ (e : LivingExport). record
+    { directory = e.path; groups = if list_any (λ h. same_bytes h every_host) e.hosts then [] else e.hosts })
+    exports
     (λ e h. (h.0, groups-form e h.1)) fit)
 
 mnt-form : (old : State) (ctx : Ctx) (path : List ℕ) (result : Result (List ℕ) MountStatus) (new : State) → MntAnswers old ctx path result new → IfOk result (λ handle. length handle ≤ 64)
@@ -69,7 +73,8 @@ mount_replies_form old ctx (mount.Mnt path) reply messages new fit exports step 
 mount_replies_form old ctx mount.Dump reply messages new fit exports step = subst HasMountForm (sym step.reply_is) (All-from_recursion HasMountBodyForm old.mounts fit)
 mount_replies_form old ctx (mount.Unmount path) reply messages new fit exports step = subst HasMountForm (sym step.reply_is) tt
 mount_replies_form old ctx mount.UnmountAll reply messages new fit exports step = subst HasMountForm (sym step.reply_is) tt
-mount_replies_form old ctx mount.Export reply messages new fit exports step = subst HasMountForm (sym step.reply_is) (exports-form old.exports exports)
+mount_replies_form old ctx mount.Export reply messages new fit exports step = subst HasMountForm (sym step.reply_is)
+    (exports-form old.exports exports)
 
 mounted-fit : (m : State) (x : MountBody) → IsHostName x.hostname × IsDirpath x.directory → MountsFit m → MountsFit (with_mount m x)
 mounted-fit m x one fit =
@@ -146,7 +151,8 @@ range-form old ctx writes l =
     (faults-form (named_file (resolve old ctx l.file)) _ (named-form (resolve old ctx l.file))
     (λ file. faults-form (holding (is_ok (bytes_in file.1.content)) (status.Failed, tested.Failed)) _ (held-form (is_ok (bytes_in file.1.content)) (status.Failed, tested.Failed) tt)
     (λ x. faults-form (holding (fits_offsets l) (status.FileTooBig, tested.FileTooBig)) _ (held-form (fits_offsets l) (status.FileTooBig, tested.FileTooBig) tt)
-    (λ y. faults-form (holding (not writes || is_writable old.exports file.1) (status.ReadOnly, tested.ReadOnly)) _ (held-form (not writes || is_writable old.exports file.1) (status.ReadOnly, tested.ReadOnly) tt) (λ z. tt)))))
+    (λ y. faults-form (holding (not writes || is_writable old.exports file.1) (status.ReadOnly, tested.ReadOnly)) _
+    (held-form (not writes || is_writable old.exports file.1) (status.ReadOnly, tested.ReadOnly) tt) (λ z. tt)))))
     (λ file. tt)
 
 pub test-form : (old : State) (exclusive : Bool) (r : Result Range Fault) (s : TestStatus) (messages : List Message) (new : State) → FaultsHaveForm r → OwnersFit old.locks → TestOf old exclusive r s messages new → HasTestStatusForm s

@@ -103,8 +103,11 @@ module _ (m : State) (now : Time) (n : Named) (named : IsNamed m n) where
   -- what a name leads to is no root
   no-root : WellFormed m → is_root m n.number ≡ false
   no-root w =
-      let leads = subst (AllByRecursion (Leads m n.directory)) (ap entries_of named.content) (w.names n.place n.directory named.lives).leads in
-      subst (λ k. is_root m k ≡ false) named.number (find-all (Leads m n.directory) (λ (x : Entry). same_bytes x.name n.name) n.entries named.entry leads named.found).no_root
+      let leads = subst (AllByRecursion (Leads m n.directory)) (ap entries_of named.content)
+      (w.names n.place n.directory named.lives).leads in
+      subst (λ k. is_root m k ≡ false) named.number
+      (find-all (Leads m n.directory)
+      (λ (x : Entry). same_bytes x.name n.name) n.entries named.entry leads named.found).no_root
 
   module _ (empty : entries_of n.object.content ≡ []) where
     -- it is another than its directory, which has an entry
@@ -130,10 +133,12 @@ module _ (m : State) (now : Time) (n : Named) (named : IsNamed m n) where
       cookies = cookies-continued now m (with_name_taken m now n) continues-taken;
       formed = λ w.
           let l = loosened none_loose m w in
-          well_formed-losing mid n.number n.object object-there (loose-mid none_loose l) (no-root w) (names_of m n.number) now empty (one-less none_loose l)
+          well_formed-losing mid n.number n.object object-there (loose-mid none_loose l) (no-root w)
+          (names_of m n.number) now empty (one-less none_loose l)
           (texts-continued now m (with_name_taken m now n) continues-taken w.texts);
       locks = (let l = locks-losing mid (names_of m n.number) now n.number n.object in record { apart = l.apart; waits = l.waits });
-      exports = (let k = exports-losing mid (names_of m n.number) now n.number n.object in record { exports = k.exports; last = k.last });
+      exports = (let k = exports-losing mid
+          (names_of m n.number) now n.number n.object in record { exports = k.exports; last = k.last });
       mounts = mounts-losing mid (names_of m n.number) now n.number n.object;
       bounds = bounds-losing mid (names_of m n.number) now n.number n.object;
     }
@@ -184,7 +189,15 @@ module _ (m : State) (now : Time) (number : ℕ) (object : Living) (place : ℕ)
 
   adds : WellFormed m → AddsName m added place number directory wider object name
   adds w = record {
-    swaps = record { lives = lives; objects = differs-insert m.objects place wider; export = refl; generation = refl; kind = sym kind; spent = λ n g e. e; keeps = record { exports = refl; last = refl } };
+    swaps = record {
+      lives = lives;
+      objects = differs-insert m.objects place wider;
+      export = refl;
+      generation = refl;
+      kind = sym kind;
+      spent = λ n g e. e;
+      keeps = record { exports = refl; last = refl };
+    };
     entries = entries;
     last = last;
     content = content;

@@ -99,10 +99,16 @@ module _ (old new : State) (on : (n : ℕ) (o : Living) → get old.objects n �
         (λ e both. (both.1, on e.number (both.1).object (both.1).lives both.0))
         (entries_of d.content) (all_both (λ (e : Entry). 1 ≤ names_of old e.number) (Leads old d) (entries_of d.content) (has-names old n d at) leads)
 
-    pub leads-on : new.exports ≡ old.exports → (is : Living) → is.export ≡ d.export → AllByRecursion (Leads old d) (entries_of d.content) → AllByRecursion (Leads new is) (entries_of d.content)
+    pub leads-on : new.exports ≡ old.exports → (is : Living) → is.export ≡ d.export →
+        AllByRecursion (Leads old d) (entries_of d.content) → AllByRecursion (Leads new is) (entries_of d.content)
     leads-on exports is same leads =
         all_map LeadsOn (Leads new is)
-        (λ e l. record { object = (l.1).object; lives = (l.1).lives; export = (l.1).export ∙ (l.0).export ∙ sym same; no_root = root-same old new exports e.number ∙ (l.0).no_root })
+        (λ e l. record {
+          object = (l.1).object;
+          lives = (l.1).lives;
+          export = (l.1).export ∙ (l.0).export ∙ sym same;
+          no_root = root-same old new exports e.number ∙ (l.0).no_root;
+        })
         (entries_of d.content) (all-on leads)
 
     kinds-on : AllByRecursion (Leads old d) (entries_of d.content) → AllByRecursion (λ (e : Entry). is_subdirectory new e ≡ is_subdirectory old e) (entries_of d.content)
@@ -130,7 +136,9 @@ module _ (old new : State) (on : (n : ℕ) (o : Living) → get old.objects n �
             omega (arith, here, there, sum_by-cons (λ (x : Entry). cond {A = ℕ} (is_subdirectory new x) 1 0) e es, sum_by-cons (λ (x : Entry). cond {A = ℕ} (is_subdirectory old x) 1 0) e es)
 
 -- ---- a directory keeps its parent, where that one lives on with as many names of it or more
-pub parent-on : (old new : State) (n parent : ℕ) (p : IsParent old n parent) (o : Living) → get new.objects parent ≡ Some o → new.exports ≡ old.exports → names_in n p.directory ≤ names_in n o → IsParent new n parent
+pub parent-on : (old new : State) (n parent : ℕ) (p : IsParent old n parent) (o : Living) →
+    get new.objects parent ≡ Some o → new.exports ≡ old.exports → names_in n p.directory ≤ names_in n o →
+    IsParent new n parent
 parent-on old new n parent p o lives exports more = record {
   directory = o;
   lives = lives;
@@ -198,7 +206,8 @@ module _ (old new : State) (alike : (n : ℕ) → Alike (get old.objects n) (get
   directories-alike n = kinds (get old.objects n) (get new.objects n) (alike n)
 
   -- a directory keeps its place in the tree
-  pub parent-alike : new.exports ≡ old.exports → (n parent : ℕ) → IsParent old n parent → IsParent new n parent
+  pub parent-alike : new.exports ≡ old.exports → (n parent : ℕ) → IsParent old n parent →
+      IsParent new n parent
   parent-alike exports n parent p =
       let a = after parent p.directory p.lives in
       let same : names_in n a.0 ≡ names_in n p.directory = ap (count_by (λ (e : Entry). e.number == n)) (keeps_entries p.directory a.0 a.2) in

@@ -69,7 +69,8 @@ Target m ctx path found =
 
 -- no export that admits the caller leads there
 abbrev pub NoExport : State → Ctx → List ℕ → Type 0
-NoExport m ctx path = (number : ℕ) (rest : List (List ℕ)) → Leads m.exports ctx.host (parts path) number rest → ⊥
+NoExport m ctx path = (number : ℕ) (rest : List (List ℕ)) → Leads m.exports ctx.host (parts path) number rest →
+    ⊥
 
 -- this path of this host, as it was sent
 abbrev pub is_of : List ℕ → List ℕ → MountBody → Bool

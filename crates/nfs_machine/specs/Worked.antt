@@ -127,20 +127,24 @@ pub record WorkedHandles : Type 0 where
   pub longer : handle_of (root_bytes ++ 0 ∷ []) ≡ None
   pub other_mark : handle_of (0 ∷ drop 1 root_bytes) ≡ None
   pub bad : (moment : Moment) (limits : Limits) →
-      named find two_exports (called_by (codes "10.0.0.1") 7 moment limits) (handle_of (take 31 root_bytes)) ≡ BadHandle
+      named find two_exports (called_by (codes "10.0.0.1") 7 moment limits)
+      (handle_of (take 31 root_bytes)) ≡ BadHandle
   pub living : (moment : Moment) (limits : Limits) (root : Living) → find 1 ≡ Some root
       → named find two_exports (called_by (codes "10.0.0.1") 7 moment limits) (handle_of root_bytes) ≡ Names 1 root
   pub other_start : (moment : Moment) (limits : Limits) →
       named find two_exports (called_by (codes "10.0.0.1") 8 moment limits) (handle_of root_bytes) ≡ Stale
   pub gone : (moment : Moment) (limits : Limits) →
-      named find two_exports (called_by (codes "10.0.0.1") 7 moment limits) (Some (record root_handle { fileid = 4 })) ≡ Stale
+      named find two_exports (called_by (codes "10.0.0.1") 7 moment limits)
+      (Some (record root_handle { fileid = 4 })) ≡ Stale
   pub other_generation : (moment : Moment) (limits : Limits) →
-      named find two_exports (called_by (codes "10.0.0.1") 7 moment limits) (Some (record root_handle { generation = 2 })) ≡ Stale
+      named find two_exports (called_by (codes "10.0.0.1") 7 moment limits)
+      (Some (record root_handle { generation = 2 })) ≡ Stale
   pub admitted : (moment : Moment) (limits : Limits) →
       named (λ number. Some lower_root) two_exports (called_by (codes "10.0.0.2") 7 moment limits)
       (Some lower_handle) ≡ Names 2 lower_root
   pub not_admitted : (moment : Moment) (limits : Limits) →
-      named (λ number. Some lower_root) two_exports (called_by (codes "10.0.0.1") 7 moment limits) (Some lower_handle) ≡ Stale
+      named (λ number. Some lower_root) two_exports (called_by (codes "10.0.0.1") 7 moment limits)
+      (Some lower_handle) ≡ Stale
   -- an object of the other export
   pub other_export : (moment : Moment) (limits : Limits) →
       named (λ number. Some lower_root) two_exports (called_by (codes "10.0.0.2") 7 moment limits)

@@ -1,5 +1,5 @@
 -- Which calls change something, by examples (RFC 1813, 4.5).
-use Rattle.std.specs.Prelude.{◌≡◌, ℕ, true, false, List, [], codes}
+use Rattle.std.specs.Prelude.{◌≡◌, true, false, codes}
 use Rattle.nfs_wire.specs.declared.calls.NfsCall.TheVariants as nfs
 use Rattle.side_wire.specs.declared.mount.MountCall.TheVariants as mount
 use Rattle.side_wire.specs.declared.nlm.CancelArguments.{CancelArguments}

@@ -157,4 +157,5 @@ pub record WorkedRootReplies : Type 0 where
       entries_left (with_writable m) (called_as 0) root_bytes 0 zeros 1 ≡ Ok (all_entries 1 1 [])
   pub other_cookie : (m : State) → HasRootAlone m →
       entries_left (with_writable m) (called_as 0) root_bytes 4 zeros 1 ≡ Err status.BadCookie
-  pub good_cookie : (m : State) → HasRootAlone m → entries_left (with_writable m) (called_as 0) root_bytes 4 seven 1 ≡ Ok []
+  pub good_cookie : (m : State) → HasRootAlone m →
+      entries_left (with_writable m) (called_as 0) root_bytes 4 seven 1 ≡ Ok []

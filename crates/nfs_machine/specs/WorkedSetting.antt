@@ -1,5 +1,6 @@
 -- SETATTR, ACCESS, FSSTAT, FSINFO and PATHCONF worked through by hand (RFC 1813, 3.3.2, 3.3.4 and 3.3.18 to 3.3.20).
-use Rattle.std.specs.Prelude.{◌≡◌, ℕ, true, false, List, [], ◌∷◌, replicate, Option, Some, None, Result, Ok}
+use Rattle.std.specs.Prelude.{◌≡◌, ℕ, true, false, List, [], ◌∷◌, replicate, Option, Some, None, Result}
+use Rattle.std.specs.Prelude.{Ok}
 use Rattle.std.specs.Prelude.{Err, codes}
 use Rattle.nfs_rpc.specs.declared.credentials.Ids.{Ids}
 use Rattle.nfs_wire.specs.declared.attributes.SetAttributes.{SetAttributes}

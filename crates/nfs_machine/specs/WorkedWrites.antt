@@ -34,7 +34,8 @@ pub record WorkedWrites : Type 0 where
       )
   pub space : used_of (Regular (hello ++ 0 ∷ 0 ∷ 0 ∷ 33 ∷ [])) ≡ 4096
   pub no_space : used_of (Regular []) ≡ 0
-  pub last_offset : write_object writable (called_as 9) known (writing (2 ^ 64 - 1) 1 (codes "!")) ≡ Err status.FileTooBig
+  pub last_offset : write_object writable (called_as 9) known
+      (writing (2 ^ 64 - 1) 1 (codes "!")) ≡ Err status.FileTooBig
   pub above : write_object writable (called_as 9) known (writing 1048576 1 (codes "!")) ≡ Err status.FileTooBig
   -- no byte is written at any offset
   pub none : write_object writable (called_as 9) known (writing (2 ^ 64 - 1) 0 []) ≡ Ok (answered 0, None)
@@ -42,6 +43,7 @@ pub record WorkedWrites : Type 0 where
   pub miscounted : write_object writable (called_as 9) known (writing 0 2 (codes "!")) ≡ Err status.Invalid
   pub read_only : write_object unwritable (called_as 5) known (writing 0 1 (codes "!")) ≡ Err status.ReadOnly
   pub miscounted_first : write_object unwritable (called_as 5) known (writing 0 2 (codes "!")) ≡ Err status.Invalid
-  pub not_permitted : write_object writable (called_as 5) known (writing (2 ^ 64 - 1) 1 (codes "!")) ≡ Err status.Access
+  pub not_permitted : write_object writable (called_as 5) known
+      (writing (2 ^ 64 - 1) 1 (codes "!")) ≡ Err status.Access
   pub directory : write_object writable (called_as 9) (opening_root 1 (time 1000 0))
       (writing 0 2 (codes "!")) ≡ Err status.Invalid

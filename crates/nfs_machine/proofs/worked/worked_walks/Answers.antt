@@ -12,7 +12,27 @@ returns c = record {
   file = refl;
   through_file = refl;
   nothing = refl;
-  admitted = record { leads = record { export = record { number = 2; root = 2; value = lower_export }; stands = refl; admitted = refl; begins = refl }; longest = λ other more leads. omega arith };
-  not_admitted = record { leads = record { export = record { number = 1; root = 1; value = open_export }; stands = refl; admitted = refl; begins = refl }; longest = one_left };
-  empty_parts = record { leads = record { export = record { number = 1; root = 1; value = open_export }; stands = refl; admitted = refl; begins = refl }; longest = λ other more leads. omega arith };
+  admitted = record {
+    leads = record
+        { export = record { number = 2; root = 2; value = lower_export }; stands = refl; admitted = refl; begins = refl };
+    longest = λ other more leads. omega arith;
+  };
+  not_admitted = record {
+    leads = record {
+      export = record { number = 1; root = 1; value = open_export };
+      stands = refl;
+      admitted = refl;
+      begins = refl;
+    };
+    longest = one_left;
+  };
+  empty_parts = record {
+    leads = record {
+      export = record { number = 1; root = 1; value = open_export };
+      stands = refl;
+      admitted = refl;
+      begins = refl;
+    };
+    longest = λ other more leads. omega arith;
+  };
 }
