@@ -1,6 +1,6 @@
 -- What a handle names, as far as a view shows (RFC 1813, 2.6: NFS3ERR_BADHANDLE, NFS3ERR_STALE).
 use Rattle.std.specs.Prelude.{ℕ, Bool, ◌&&◌, List, Option, Some, None, if◌then◌else◌, ◌==◌}
-use Rattle.nfs_machine.specs.Exports.{export_admits, export_at}
+use Rattle.nfs_machine.specs.Exports.{export_admits, export_at, opening_exports}
 use Rattle.nfs_machine.specs.Handles.{handle_of}
 use Rattle.nfs_machine.specs.declared.context.Ctx.{Ctx}
 use Rattle.nfs_machine.specs.declared.handle.Handle.{Handle}
@@ -42,9 +42,8 @@ found_known h (Some known) = found_inode h (inode_of known)
 abbrev pub found_by : Ctx → List (Addr × Option Object) → Option Handle → FoundValue
 found_by ctx entries None = BadHandle
 found_by ctx entries (Some h) =
-    if (h.start == ctx.start) && export_admits (export_at ctx.exports h.export) ctx.host
-    then found_known h (seen_at entries (addresses.Inode h.fileid))
-    else Stale
+    if (h.start == ctx.start) && export_admits (export_at (opening_exports ctx.exports) h.export) ctx.host
+    then found_known h (seen_at entries (addresses.Inode h.fileid)) else Stale
 
 -- what these bytes name for the caller
 abbrev pub found_at : Ctx → List (Addr × Option Object) → List ℕ → FoundValue

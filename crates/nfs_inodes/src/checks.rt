@@ -2,6 +2,7 @@
 
 ghost use Rattle.std.specs.Prelude.{◌≡◌};
 ghost use Rattle.nfs_machine.specs.Checks.{bytes_in, changeable};
+ghost use Rattle.nfs_machine.specs.Exports.{opening_exports};
 ghost use Rattle.nfs_objects.specs.Stands.{content_of, living_of_inode};
 ghost use Rattle.nfs_inodes.specs.Lent.{lent};
 
@@ -30,7 +31,7 @@ pub fn bytes_in(content: &Content) -> Result<&Bytes, NfsStatus>
 ///
 /// `ReadOnly` where it may not.
 pub fn changeable(ctx: &Ctx, inode: &Inode) -> Result<(), NfsStatus>
-    ensures { result ≡ changeable ctx.now (living_of_inode inode.now) }
+    ensures { result ≡ changeable (opening_exports ctx.now.exports) (living_of_inode inode.now) }
 {
     match ctx.exports.get(inode.export) {
         Some(export) if !export.read_only => Ok(()),

@@ -2,6 +2,7 @@
 
 ghost use Rattle.std.specs.Prelude.{◌≡◌, ◌+◌, IfOk, IfSome, nat_le};
 ghost use Rattle.nfs_machine.specs.Data.{read_at, size_limit};
+ghost use Rattle.nfs_machine.specs.Exports.{opening_exports};
 ghost use Rattle.nfs_machine.specs.DataSteps.{read_object, verifier_of, write_count, write_object};
 ghost use Rattle.nfs_objects.specs.Endings.{KeepsPlace};
 ghost use Rattle.nfs_objects.specs.Stands.{living_of_inode};
@@ -84,7 +85,7 @@ pub fn write(
     arguments: &WriteArguments,
 ) -> Result<Result<(Written, Option<Inode>), NfsStatus>, AllocError>
     ensures value { IfOk result
-        (λ end. seen_end end ≡ write_object ctx.now (living_of_inode inode.now) arguments.now) }
+        (λ end. seen_end end ≡ write_object (opening_exports ctx.now.exports) ctx.now (living_of_inode inode.now) arguments.now) }
     ensures keeps { IfOk result (λ end. IfOk end (λ e. IfSome e.1 (KeepsPlace inode.now))) }
 {
     let bytes = match writable(ctx, inode, arguments) {
@@ -112,8 +113,8 @@ fn writable<'a>(
     inode: &'a Inode,
     arguments: &WriteArguments,
 ) -> Result<&'a Bytes, NfsStatus>
-    ensures { lent result
-        ≡ checked_bytes (write_object ctx.now (living_of_inode inode.now) arguments.now) (living_of_inode inode.now) }
+    ensures { lent result ≡ checked_bytes (write_object (opening_exports ctx.now.exports) ctx.now (living_of_inode inode.now) arguments.now)
+        (living_of_inode inode.now) }
 {
     let bytes = bytes_in(&inode.content)?;
     if arguments.count as usize != arguments.data.len() {

@@ -17,6 +17,7 @@ use Rattle.nfs_machine.specs.WellFormed.{AllApart, AreApart}
 use Rattle.nfs_machine.specs.declared.exports.ExportError.TheVariants.{BadPath, BadMode, NoHost, DoublePath, TooMany}
 use Rattle.nfs_machine.specs.declared.exports.ExportText.{ExportText}
 use Rattle.nfs_machine.proofs.Changes.{apart, itself}
+use Rattle.nfs_machine.proofs.Exported.{export-all, export-number}
 use Rattle.nfs_machine.proofs.WellFormed.{all_map}
 
 -- ---- numbers
@@ -65,6 +66,14 @@ all-numbered P (e ∷ es) k each = (
   each k e (omega arith) (omega arith),
   all-numbered P es (k + 1) (λ n x low high. each n x (omega (arith, low)) (omega (arith, high))),
 )
+
+-- a root has its export's number then
+pub opened-root : (es : List ExportValue) (number : ℕ) (e : LivingExport) →
+    export_at (opening_exports es) number ≡ Some e → e.root ≡ number
+opened-root es number e at =
+    export-all (λ (x : LivingExport). x.root ≡ x.number) (opening_exports es) number e
+    (all-numbered (λ (x : LivingExport). x.root ≡ x.number) es 1 (λ n x low high. refl)) at
+    ∙ export-number (opening_exports es) number e at
 
 -- ---- faults
 abbrev pub DiffersFrom : ExportText → ExportText → Type 0

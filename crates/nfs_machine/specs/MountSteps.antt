@@ -67,10 +67,9 @@ Target m ctx path found =
     (chosen : Chosen m.exports ctx.host (parts path) number rest) ×
     (found ≡ walk (get m.objects) chosen.leads.export.root rest)
 
--- no export that admits the caller leads there
-abbrev pub NoExport : State → Ctx → List ℕ → Type 0
-NoExport m ctx path = (number : ℕ) (rest : List (List ℕ)) → Leads m.exports ctx.host (parts path) number rest →
-    ⊥
+-- no export that admits the host leads there
+abbrev pub NoExport : List LivingExport → (host : List ℕ) → (names : List (List ℕ)) → Type 0
+NoExport exports host names = (number : ℕ) (rest : List (List ℕ)) → Leads exports host names number rest → ⊥
 
 -- this path of this host, as it was sent
 abbrev pub is_of : List ℕ → List ℕ → MountBody → Bool
@@ -94,8 +93,9 @@ MntAnswers old ctx path (Ok handle) new =
     (found : ℕ × Living) × Target old ctx path (Ok found) × (handle ≡ handle_at ctx found.0 found.1)
     × (new ≡ with_mount old (record { hostname = ctx.host; directory = path }))
 MntAnswers old ctx path (Err e) new =
-    ((path_fault path ≡ Some e) ⊎ ((path_fault path ≡ None) × NoExport old ctx path × (e ≡ status.Access)) ⊎
-    Target old ctx path (Err e)) × (new ≡ old)
+    ((path_fault path ≡ Some e)
+    ⊎ ((path_fault path ≡ None) × NoExport old.exports ctx.host (parts path) × (e ≡ status.Access))
+    ⊎ Target old ctx path (Err e)) × (new ≡ old)
 
 -- the state without some mounts: UMNT, 5.2.3, takes this path of this host away, and UMNTALL, 5.2.4, every path of it
 abbrev pub without_mounts : State → (MountBody → Bool) → State

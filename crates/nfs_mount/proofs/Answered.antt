@@ -1,11 +1,14 @@
 -- The answers to MNT are the machine's: what the path names in the view it names in every store that the view fits.
-use Rattle.std.proofs.Common.{◌≡◌, ℕ, cond, List, [], ◌∷◌, ◌++◌, Option, Some, None, IsSome, Ok, Err, inl, inr, refl, sym, ◌∙◌, ap, subst}
+use Rattle.std.proofs.Common.{◌≡◌, ℕ, cond, List, [], ◌∷◌, ◌++◌, Option, Some, None, IsSome, Result, Ok, Err, inl, inr, refl, sym, ◌∙◌, ap, subst}
 use Rattle.std.specs.FinMap.{get}
 use Rattle.side_wire.specs.declared.mount.MountCall.TheVariants as calls
 use Rattle.side_wire.specs.declared.mount.MountReply.TheVariants as replies
 use Rattle.side_wire.specs.declared.mount.MountStatus.{MountStatus}
 use Rattle.side_wire.specs.declared.mount.MountStatus.TheVariants.{Access}
-use Rattle.nfs_machine.specs.MountSteps.{Chosen, MountStep, NoExport, handle_at, is_mounted, newest, path_fault, walk}
+use Rattle.nfs_machine.proofs.Ordered.{opened-root}
+use Rattle.nfs_machine.specs.Exports.{LivingExport, opening_exports}
+use Rattle.nfs_machine.specs.MountSteps.{Chosen, MountStep, NoExport, Target, handle_at, is_mounted, newest, path_fault}
+use Rattle.nfs_machine.specs.MountSteps.{walk}
 use Rattle.nfs_machine.specs.Paths.{parts}
 use Rattle.nfs_machine.specs.State.{Living, State}
 use Rattle.nfs_machine.specs.declared.calls.Call.TheVariants.{Mount}
@@ -14,6 +17,7 @@ use Rattle.nfs_machine.specs.declared.context.Ctx.{Ctx}
 use Rattle.nfs_objects.specs.Endings.{HoldsUnchanged}
 use Rattle.nfs_objects.proofs.Seen.{lives-seen, mounts-seen}
 use Rattle.nfs_objects.specs.Fits.{Fits}
+use Rattle.nfs_objects.specs.Sound.{HasExports}
 use Rattle.nfs_objects.specs.Stands.{Represents, living_of_inode, mounted}
 use Rattle.nfs_objects.specs.Store.{Store}
 use Rattle.nfs_objects.specs.Values.{ViewValue, seen_at}
@@ -27,34 +31,64 @@ use Rattle.nfs_mount.proofs.Walked.{ended}
 
 pub null_answered : (ctx : Ctx) (view : ViewValue) → HoldsUnchanged (Mount calls.Null) ctx view (answers.Mount replies.Null)
 unfolding MountStep
-null_answered ctx view = record { step = λ s m stands sound roots fits. record { reply_is = refl; no_message = refl; state_is = refl } }
+null_answered ctx view = record { step = λ s m stands sound exports fits. record { reply_is = refl; no_message = refl; state_is = refl } }
 
 module _ (ctx : Ctx) (view : ViewValue) (path : List ℕ) where
   pub fault_refused : (e : MountStatus) → path_fault path ≡ Some e → HoldsUnchanged (Mount (calls.Mnt path)) ctx view (answers.Mount (replies.Mnt (Err e)))
   unfolding MountStep
   fault_refused e fault =
-      record { step = λ s m stands sound roots fits. (Err e, refl, refl, (inl fault, refl)) }
+      record { step = λ s m stands sound exports fits. (Err e, refl, refl, (inl fault, refl)) }
 
   module _ (sane : path_fault path ≡ None) where
-    pub no_export_refused : NoExport ctx path → HoldsUnchanged (Mount (calls.Mnt path)) ctx view (answers.Mount (replies.Mnt (Err Access)))
+    pub no_export_refused : NoExport (opening_exports ctx.exports) ctx.host (parts path) → HoldsUnchanged (Mount (calls.Mnt path)) ctx view (answers.Mount (replies.Mnt (Err Access)))
     unfolding MountStep
     no_export_refused none =
-        record { step = λ s m stands sound roots fits. (Err Access, refl, refl, (inr (inl (sane, none, refl)), refl)) }
+        record {
+          step = λ s m stands sound exports fits. (
+            Err Access,
+            refl,
+            refl,
+            (inr (inl (sane, subst (λ es. NoExport es ctx.host (parts path)) (sym exports) none, refl)), refl),
+          );
+        }
 
-    module _ (root : ℕ) (rest : List (List ℕ)) (chosen : Chosen ctx.exports ctx.host (parts path) root rest) where
+    module _ (root : ℕ) (rest : List (List ℕ))
+        (chosen : Chosen (opening_exports ctx.exports) ctx.host (parts path) root rest) where
       agrees : (s : Store) (m : State) → Represents s m → Fits view s → Agrees view (get m.objects)
       agrees s m stands fits = λ n known seen. lives-seen s m view n known stands fits seen
 
-      pub walk_refused : (e : MountStatus) → ((at : ℕ → Option Living) → Agrees view at → walk at root rest ≡ Err e)
+      -- it is chosen in the state, and its root has its number
+      chosen-in : (m : State) → HasExports ctx.exports m →
+          (c : Chosen m.exports ctx.host (parts path) root rest) × (c.leads.export.root ≡ root)
+      chosen-in m exports =
+          subst (λ (es : List LivingExport). (c : Chosen es ctx.host (parts path) root rest) ×
+          (c.leads.export.root ≡ root)) (sym exports)
+          (chosen, opened-root ctx.exports root chosen.leads.export chosen.leads.stands)
+
+      target : (m : State) (found : Result (ℕ × Living) MountStatus) → HasExports ctx.exports m →
+          walk (get m.objects) root rest ≡ found → Target m ctx path found
+      target m found exports walks =
+          let c = chosen-in m exports in
+          (sane, root, rest, c.0, sym walks ∙ ap (λ n. walk (get m.objects) n rest) (sym c.1))
+
+      pub walk_refused : (e : MountStatus) →
+          ((at : ℕ → Option Living) → Agrees view at → walk at root rest ≡ Err e)
           → HoldsUnchanged (Mount (calls.Mnt path)) ctx view (answers.Mount (replies.Mnt (Err e)))
       unfolding MountStep
       walk_refused e walks = record {
-        step = λ s m stands sound roots fits. (Err e, refl, refl, (inr (inr (sane, root, rest, chosen, sym (walks (get m.objects) (agrees s m stands fits)))), refl));
+        step = λ s m stands sound exports fits. (
+          Err e,
+          refl,
+          refl,
+          (inr (inr (target m (Err e) exports (walks (get m.objects) (agrees s m stands fits)))), refl),
+        );
       }
 
-      pub named : (number : ℕ) (inode : inodes.Inode) → Ends view root rest number inode → IsNamed ctx view path number inode
+      pub named : (number : ℕ) (inode : inodes.Inode) → Ends view root rest number inode →
+          IsNamed ctx view path number inode
       named number inode ends = record {
-        target = λ s m stands sound roots fits. (sane, root, rest, chosen, sym (ended view root rest number inode ends (get m.objects) (agrees s m stands fits)));
+        target = λ s m stands sound exports fits. target m (Ok (number, living_of_inode inode)) exports
+            (ended view root rest number inode ends (get m.objects) (agrees s m stands fits));
       }
 
   module _ (number : ℕ) (inode : inodes.Inode) (known : Option Object) (handle : List ℕ) (named : IsNamed ctx view path number inode)
@@ -62,13 +96,13 @@ module _ (ctx : Ctx) (view : ViewValue) (path : List ℕ) where
     pub listed_answered : Adds known ctx.host path None → HoldsUnchanged (Mount (calls.Mnt path)) ctx view (answers.Mount (replies.Mnt (Ok handle)))
     unfolding MountStep
     listed_answered listed = record {
-      step = λ s m stands sound roots fits. (
+      step = λ s m stands sound exports fits. (
         Ok handle,
         refl,
         refl,
         (
           (number, living_of_inode inode),
-          named.target s m stands sound roots fits,
+          named.target s m stands sound exports fits,
           is,
           sym (ap (λ b. cond b m (record m { mounts = newest (m.mounts ++ mounted ctx.host path ∷ []) })) (ap (λ l. is_mounted l (mounted ctx.host path)) (mounts-seen s m view known stands fits seen) ∙ listed)),
         ),
@@ -79,13 +113,13 @@ module _ (ctx : Ctx) (view : ViewValue) (path : List ℕ) where
     unfolding MountStep
     added_answered table adds = record {
       seen = subst (λ o. IsSome o) (sym seen) refl;
-      step = λ s m stands sound roots fits. (
+      step = λ s m stands sound exports fits. (
         Ok handle,
         refl,
         refl,
         (
           (number, living_of_inode inode),
-          named.target s m stands sound roots fits,
+          named.target s m stands sound exports fits,
           is,
           ap (λ l. record m { mounts = l }) (adds.1 ∙ ap (λ l. newest (l ++ mounted ctx.host path ∷ [])) (sym (mounts-seen s m view known stands fits seen)))
               ∙ sym (ap (λ b. cond b m (record m { mounts = newest (m.mounts ++ mounted ctx.host path ∷ []) })) (ap (λ l. is_mounted l (mounted ctx.host path)) (mounts-seen s m view known stands fits seen) ∙ adds.0)),

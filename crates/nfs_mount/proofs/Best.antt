@@ -4,9 +4,11 @@ use Rattle.std.proofs.Common.{◌≡◌, ℕ, zero, suc, ◌+◌, ◌<◌, ◌�
 use Rattle.std.proofs.lemmas.Bool.Decides.{nat_tests}
 use Rattle.std.proofs.lemmas.Bool.{cases_lt}
 use Rattle.std.proofs.lemmas.List.{length-map}
-use Rattle.std.proofs.lemmas.Option.{slice_get-map, slice_get_read, slice_get_within}
+use Rattle.std.proofs.lemmas.Option.{slice_get-map, slice_get_read}
 use Rattle.std.specs.List.{slice_get}
-use Rattle.nfs_machine.specs.Exports.{ExportValue, admits, export_at, export_value}
+use Rattle.nfs_machine.specs.Exports.{ExportValue, LivingExport, admits, export_at, export_value, opening_exports}
+use Rattle.nfs_machine.proofs.Exported.{export-all, export-number}
+use Rattle.nfs_machine.proofs.Ordered.{all-numbered, opened-at, with_number}
 use Rattle.nfs_machine.specs.MountSteps.{Chosen, Leads}
 use Rattle.nfs_machine.specs.Paths.{parts}
 use Rattle.nfs_machine.specs.declared.exports.Export.{Export}
@@ -15,39 +17,56 @@ use Rattle.nfs_mount.specs.Choices.{IsLead, LeadsNot, deeper_of}
 
 -- of the exports with these first numbers, this is the one that leads there and leaves the least, or none does
 abbrev pub IsBestOf : ℕ → List ExportValue → List ℕ → List (List ℕ) → Option Choice → Type 0
-IsBestOf count exports host names None = (number : ℕ) (rest : List (List ℕ)) → number ≤ count → Leads exports host names number rest → ⊥
+IsBestOf count exports host names None = (number : ℕ) (rest : List (List ℕ)) → number ≤ count →
+    Leads (opening_exports exports) host names number rest → ⊥
 IsBestOf count exports host names (Some best) =
-    Leads exports host names best.number best.rest × (best.depth + length best.rest ≡ length names)
-    × ((number : ℕ) (rest : List (List ℕ)) → number ≤ count → Leads exports host names number rest → length best.rest ≤ length rest)
+    Leads (opening_exports exports) host names best.number best.rest × (best.depth + length best.rest ≡ length names)
+    × ((number : ℕ) (rest : List (List ℕ)) → number ≤ count →
+    Leads (opening_exports exports) host names number rest → length best.rest ≤ length rest)
 
 below_or_at : (n i : ℕ) → n ≤ i + 1 → (n ≤ i) ⊎ (n ≡ i + 1)
 below_or_at n i le = elim (cases_lt n (i + 1)) [ inl less ↦ inl (omega arith) | inr more ↦ inr (omega arith) ]
 
 module _ (exports : List ExportValue) (host : List ℕ) (names : List (List ℕ)) where
-  -- what leads there by a number is the export with it
-  leads_by : (i : ℕ) (e : ExportValue) (rest : List (List ℕ)) → slice_get exports i ≡ Some e → Leads exports host names (i + 1) rest
-      → (admits e host ≡ true) × (names ≡ parts e.path ++ rest)
-  leads_by i e rest at leads =
-      let stands : export_at exports (suc i) ≡ Some leads.export = subst (λ n. export_at exports n ≡ Some leads.export) (add-one i) leads.stands in
-      let same : leads.export ≡ e = cc in
-      (subst (λ (x : ExportValue). admits x host ≡ true) same leads.admitted, subst (λ (x : ExportValue). names ≡ parts x.path ++ rest) same leads.begins)
+  -- the export at a place has the number one above it
+  at_number : (i : ℕ) (e : ExportValue) → slice_get exports i ≡ Some e →
+      export_at (opening_exports exports) (i + 1) ≡ Some (with_number (i + 1) e)
+  at_number i e at =
+      let next : 1 + i ≡ i + 1 = omega arith in
+      subst (λ n. export_at (opening_exports exports) n ≡ Some (with_number n e)) next
+      (opened-at exports i ∙ ap (option_map (with_number (1 + i))) at)
 
-  leads_to : (i : ℕ) (e : ExportValue) (c : Choice) → slice_get exports i ≡ Some e → IsLead (i + 1) e host names c → Leads exports host names c.number c.rest
-  leads_to i e c at lead =
-      record { export = e; stands = ap (export_at exports) (lead.number_is ∙ add-one i) ∙ at; admitted = lead.admitted; begins = lead.begins }
+  -- what leads there by a number is the export with it
+  leads_by : (i : ℕ) (e : ExportValue) (rest : List (List ℕ)) → slice_get exports i ≡ Some e →
+      Leads (opening_exports exports) host names (i + 1) rest → (admits e host ≡ true) × (names ≡ parts e.path ++ rest)
+  leads_by i e rest at leads =
+      let both : Some (with_number (i + 1) e) ≡ Some leads.export = sym (at_number i e at) ∙ leads.stands in
+      let same : leads.export ≡ with_number (i + 1) e = cc in (
+        subst (λ (x : LivingExport). admits x.value host ≡ true) same leads.admitted,
+        subst (λ (x : LivingExport). names ≡ parts x.path ++ rest) same leads.begins,
+      )
+
+  leads_to : (i : ℕ) (e : ExportValue) (c : Choice) → slice_get exports i ≡ Some e → IsLead (i + 1) e host names c →
+      Leads (opening_exports exports) host names c.number c.rest
+  leads_to i e c at lead = record {
+    export = with_number (i + 1) e;
+    stands = ap (export_at (opening_exports exports)) lead.number_is ∙ at_number i e at;
+    admitted = lead.admitted;
+    begins = lead.begins;
+  }
 
   sizes : (front rest : List (List ℕ)) → names ≡ front ++ rest → length front + length rest ≡ length names
   sizes front rest e = omega (arith, length-append front rest, ap length e)
 
   -- as the invariant of the best so far, one export later
   module _ (i : ℕ) (e : ExportValue) (at : slice_get exports i ≡ Some e) where
-    upto : (P : List (List ℕ) → Type 0) → ((number : ℕ) (rest : List (List ℕ)) → number ≤ i → Leads exports host names number rest → P rest)
+    upto : (P : List (List ℕ) → Type 0) → ((number : ℕ) (rest : List (List ℕ)) → number ≤ i → Leads (opening_exports exports) host names number rest → P rest)
         → ((rest : List (List ℕ)) → admits e host ≡ true → names ≡ parts e.path ++ rest → P rest)
-        → (number : ℕ) (rest : List (List ℕ)) → number ≤ i + 1 → Leads exports host names number rest → P rest
+        → (number : ℕ) (rest : List (List ℕ)) → number ≤ i + 1 → Leads (opening_exports exports) host names number rest → P rest
     upto P old new number rest le leads =
         elim (below_or_at number i le) [
           | inl less ↦ old number rest less leads
-          | inr same ↦ (let l = leads_by i e rest at (subst (λ n. Leads exports host names n rest) same leads) in new rest l.0 l.1)
+          | inr same ↦ (let l = leads_by i e rest at (subst (λ n. Leads (opening_exports exports) host names n rest) same leads) in new rest l.0 l.1)
         ]
 
     pub best_step : (best other : Option Choice) → IsBestOf i exports host names best
@@ -78,13 +97,18 @@ module _ (exports : List ExportValue) (host : List ℕ) (names : List (List ℕ)
           )
         ] refl
 
-  number_within : (number : ℕ) (rest : List (List ℕ)) → Leads exports host names number rest → number ≤ length exports
-  number_within zero rest leads = omega arith
-  number_within (suc n) rest leads = omega (arith, slice_get_within exports n leads.export leads.stands)
+  number_within : (number : ℕ) (rest : List (List ℕ)) →
+      Leads (opening_exports exports) host names number rest → number ≤ length exports
+  number_within number rest leads =
+      let all = all-numbered (λ (e : LivingExport). e.number ≤ length exports) exports 1
+      (λ n e low high. omega (arith, high)) in
+      let within = export-all (λ (e : LivingExport). e.number ≤ length exports) (opening_exports exports) number
+      leads.export all leads.stands in
+      omega (arith, within, export-number (opening_exports exports) number leads.export leads.stands)
 
   -- the best of all is chosen
   pub best_of_all : (count : ℕ) (best : Option Choice) → length exports ≤ count → IsBestOf count exports host names best
-      → MatchOption best ((number : ℕ) (rest : List (List ℕ)) → Leads exports host names number rest → ⊥) (λ c. Chosen exports host names c.number c.rest)
+      → MatchOption best ((number : ℕ) (rest : List (List ℕ)) → Leads (opening_exports exports) host names number rest → ⊥) (λ c. Chosen (opening_exports exports) host names c.number c.rest)
   best_of_all count None all none = λ number rest leads. none number rest (omega (arith, number_within number rest leads)) leads
   best_of_all count (Some c) all best =
       record { leads = best.0; longest = λ number rest leads. best.2 number rest (omega (arith, number_within number rest leads)) leads }

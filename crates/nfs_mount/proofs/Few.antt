@@ -15,7 +15,10 @@ use Rattle.nfs_machine.specs.Attributes.{entries_of, is_directory}
 use Rattle.nfs_machine.specs.Bytes.{same_bytes}
 use Rattle.nfs_machine.specs.MountSteps.{entries_at, walk, ◌>>=◌}
 use Rattle.nfs_machine.specs.State.{Regular, Entry, Living, State}
-use Rattle.nfs_machine.specs.WellFormed.{Leads}
+use Rattle.nfs_machine.proofs.Exported.{export-all}
+use Rattle.nfs_machine.proofs.Ordered.{opened-root}
+use Rattle.nfs_machine.specs.Exports.{opening_exports}
+use Rattle.nfs_machine.specs.WellFormed.{HasRoot, Leads}
 use Rattle.nfs_machine.specs.declared.context.Ctx.{Ctx}
 use Rattle.nfs_objects.proofs.Seen.{fits_at}
 use Rattle.nfs_objects.specs.Attempt.{AsksFor, Addresses}
@@ -258,11 +261,18 @@ module _ (s : Store) where
           | None ↦ λ at. absurd (not-come (get m.objects) number (record o { content = Regular [] }) (stands.objects number ∙ ap living_of at) leads-on v agrees unread refl root o names left lives comes)
         ] refl
 
-    module _ (ctx : Ctx) (roots : HasExports ctx.exports m) (path : List ℕ) where
+    module _ (ctx : Ctx) (exports : HasExports ctx.exports m) (path : List ℕ) where
       walk-bounded : (asked : List (Addr × Mode)) → AsksForWalk ctx v path asked → BoundedAt v asked
       walk-bounded asked walk =
-          let root = roots walk.root walk.chosen.leads.export walk.chosen.leads.stands in
-          subst (BoundedAt v) (sym walk.asked_is) (reads-bounded v walk.number walk.left (comes-stands walk.root root.root walk.names walk.number walk.left root.lives walk.comes))
+          let es = opening_exports ctx.exports in
+          let e = walk.chosen.leads.export in
+          let rooted : AllByRecursion (HasRoot m) es =
+          subst (AllByRecursion (HasRoot m)) exports sound.well_formed.exports.rooted in
+          let r = export-all (HasRoot m) es walk.root e rooted walk.chosen.leads.stands in
+          let lives : get m.objects walk.root ≡ Some r.root =
+          ap (get m.objects) (sym (opened-root ctx.exports walk.root e walk.chosen.leads.stands)) ∙ r.lives in
+          subst (BoundedAt v) (sym walk.asked_is) (reads-bounded v walk.number walk.left
+          (comes-stands walk.root r.root walk.names walk.number walk.left lives walk.comes))
 
       mnt-asked : (outcome : Outcome) → MntAsks ctx v path outcome → (asked : List (Addr × Mode)) × (asked_by outcome ≡ Addresses asked) × BoundedAt v asked
       mnt-asked (Need wanted) asks = (wanted.items, refl, walk-bounded wanted.items asks)
@@ -270,7 +280,7 @@ module _ (s : Store) where
       mnt-asked (Done done) asks = ([], refl, (omega arith, omega arith))
 
 pub asks_few : (ctx : Ctx) (call : MountCall) → AsksFewOfSound ctx.exports (λ v. MountAsks ctx v call)
-asks_few ctx (calls.Mnt path) rounds outcome s m grows last stands sound roots fits =
-    few s (λ v o. MntAsks ctx v path o) (λ v o f asks. mnt-asked s m stands sound v f ctx roots path o asks) rounds outcome grows last fits.entries
-asks_few ctx call rounds outcome s m grows last stands sound roots fits =
+asks_few ctx (calls.Mnt path) rounds outcome s m grows last stands sound exports fits =
+    few s (λ v o. MntAsks ctx v path o) (λ v o f asks. mnt-asked s m stands sound v f ctx exports path o asks) rounds outcome grows last fits.entries
+asks_few ctx call rounds outcome s m grows last stands sound exports fits =
     few s (λ v o. AsksFor [] o) (λ v o f asks. none-asked s v o asks) rounds outcome grows last fits.entries

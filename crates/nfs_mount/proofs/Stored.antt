@@ -3,13 +3,12 @@ use Rattle.std.proofs.Common.{ℕ, List, map, Some, refl, sym, ◌∙◌}
 use Rattle.std.specs.FinMap.{get}
 use Rattle.nfs_machine.proofs.Loose.{well_formed-alike}
 use Rattle.nfs_machine.proofs.WellFormed.{Alike, alike_itself, links-alike, parent-alike}
-use Rattle.nfs_machine.specs.Exports.{ExportValue}
 use Rattle.nfs_machine.specs.State.{State}
 use Rattle.nfs_machine.specs.declared.calls.Call.{Call}
 use Rattle.nfs_machine.specs.declared.calls.Reply.{Reply}
 use Rattle.nfs_machine.specs.declared.context.Ctx.{Ctx}
 use Rattle.nfs_objects.specs.Promise.{IsPromised}
-use Rattle.nfs_objects.specs.Sound.{Sound, HasExports}
+use Rattle.nfs_objects.specs.Sound.{Sound}
 use Rattle.nfs_objects.specs.Stands.{Represents, content_of, mounted_of}
 use Rattle.nfs_objects.specs.Store.{Store, with_write}
 use Rattle.nfs_objects.specs.Values.{ViewValue}
@@ -38,22 +37,19 @@ module _ (s : Store) (m : State) (table : List Mount) where
   mounts_sound sound =
       let after : State = record m { mounts = map mounted_of table } in record {
         links = λ n i at. sound.links n i at ∙ sym (links-alike m after alike (λ n. refl) n (content_of i.content));
-        parents = λ n i d at is. parent-alike m after alike n d.parent (sound.parents n i d at is);
-        well_formed = well_formed-alike m after alike (λ n. refl) (λ n g given. given) sound.well_formed.texts sound.well_formed;
+        parents = λ n i d at is. parent-alike m after alike refl n d.parent (sound.parents n i d at is);
+        well_formed = well_formed-alike m after alike (λ n. refl) (λ n g given. given)
+            (record { exports = refl; last = refl }) sound.well_formed.texts sound.well_formed;
       }
-
-  pub mounts_roots : (exports : List ExportValue) → HasExports exports m → HasExports exports (record m { mounts = map mounted_of table })
-  mounts_roots exports roots = λ number e at. let r = roots number e at in record { root = r.root; lives = r.lives; own = r.own; directory = r.directory }
 
 pub promised_mounts : (call : Call) (ctx : Ctx) (view : ViewValue) (table : List Mount) (reply : Reply) → StoresMounts call ctx view table reply
     → IsPromised (mounts_stored call ctx view table reply)
 promised_mounts call ctx view table reply stores = record {
-  kept = λ s m stands sound roots fits. record {
+  kept = λ s m stands sound exports fits. record {
     new = record m { mounts = map mounted_of table };
-    step = stores.step s m stands sound roots fits;
+    step = stores.step s m stands sound exports fits;
     stands = mounts_represented s m table stands;
     sound = mounts_sound s m table sound;
-    roots = mounts_roots s m table ctx.exports roots;
   };
   writes = λ s fits. (stores.seen, tt);
 }

@@ -2,6 +2,7 @@
 use Rattle.std.specs.Prelude.{◌≡◌, ℕ, List, [], ◌∷◌, map, filter, is_none, None}
 use Rattle.side_wire.specs.declared.mount.MountCall.{MountCall}
 use Rattle.side_wire.specs.declared.mount.MountCall.TheVariants as calls
+use Rattle.nfs_machine.specs.Exports.{opening_exports}
 use Rattle.nfs_machine.specs.MountSteps.{Chosen, path_fault}
 use Rattle.nfs_machine.specs.Paths.{parts}
 use Rattle.nfs_machine.specs.declared.context.Ctx.{Ctx}
@@ -34,9 +35,10 @@ reads number (name ∷ names) = Inode number ∷ []
 -- and the view has not is asked for
 pub record AsksForWalk (ctx : Ctx) (view : ViewValue) (path : List ℕ) (asked : List (Addr × Mode)) : Type 0 where
   pub sane : path_fault path ≡ None
+  -- the number of the export, which its root has too where a server opens with the context's exports
   pub root : ℕ
   pub names : List (List ℕ)
-  pub chosen : Chosen ctx.exports ctx.host (parts path) root names
+  pub chosen : Chosen (opening_exports ctx.exports) ctx.host (parts path) root names
   pub number : ℕ
   pub left : List (List ℕ)
   pub comes : ComesTo view root names number left

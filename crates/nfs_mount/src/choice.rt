@@ -1,7 +1,7 @@
 //! The export that a path is under for a host (RFC 1813, section 5.2.1).
 
 ghost use Rattle.std.specs.Prelude.{◌≡◌, ◌+◌, ◌^◌, ◌<◌, length, MatchOption};
-ghost use Rattle.nfs_machine.specs.Exports.{export_value};
+ghost use Rattle.nfs_machine.specs.Exports.{export_value, opening_exports};
 ghost use Rattle.nfs_machine.specs.MountSteps.{Chosen, NoExport};
 ghost use Rattle.nfs_machine.specs.Paths.{parts};
 ghost use Rattle.nfs_mount.specs.Choices.{IsLead, LeadsNot, deeper_of};
@@ -24,8 +24,8 @@ pub struct Choice<'a> {
 /// Of the exports that admit the caller and whose names begin the path's, the one with the most names; None where there
 /// is none. It takes no memory.
 pub fn choose<'a>(ctx: &Ctx, path: &'a [u8]) -> Option<Choice<'a>>
-    ensures { MatchOption result (NoExport ctx.now path.now)
-        (λ choice. Chosen ctx.now.exports ctx.now.host (parts path.now) choice.number choice.rest) }
+    ensures { MatchOption result (NoExport (opening_exports ctx.now.exports) ctx.now.host (parts path.now))
+        (λ choice. Chosen (opening_exports ctx.now.exports) ctx.now.host (parts path.now) choice.number choice.rest) }
 {
     let mut best = None;
     for (index, export) in ctx.exports.list().iter().enumerate() {

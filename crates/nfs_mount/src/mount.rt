@@ -1,6 +1,7 @@
 //! MNT (RFC 1813, appendix I, 5.2.1).
 
 ghost use Rattle.std.specs.Prelude.{◌≡◌, [], ◌∷◌, IfOk, Err, None, is_none};
+ghost use Rattle.nfs_machine.specs.Exports.{opening_exports};
 ghost use Rattle.nfs_machine.specs.MountSteps.{Chosen, path_fault};
 ghost use Rattle.nfs_machine.specs.Paths.{parts};
 ghost use Rattle.nfs_objects.specs.Attempt.{Attempts, IsDone, IsNeed};
@@ -43,7 +44,7 @@ fn enter(
     choice: Choice<'_>,
 ) -> Result<Outcome, AllocError>
     requires fault { path_fault path.now ≡ None }
-    requires chosen { Chosen ctx.now.exports ctx.now.host (parts path.now) choice.number choice.rest }
+    requires chosen { Chosen (opening_exports ctx.now.exports) ctx.now.host (parts path.now) choice.number choice.rest }
     ensures attempts { IfOk result
         (λ outcome. Attempts (Call.Mount (MountCall.Mnt path.now)) ctx.now view.now outcome) }
     ensures asks { IfOk result (MntAsks ctx.now view.now path.now) }

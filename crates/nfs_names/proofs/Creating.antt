@@ -385,7 +385,8 @@ module _ (ctx : Ctx) (view : ViewValue) (a : CreateArguments) where
                 made_directory = λ x is. absurd (let yes : true ≡ false = sym (ap (λ y. is_directory (content_of y)) is) ∙ no_directory in cc);
               }
 
-          module _ (s : Store) (m : State) (stands : Represents s m) (sound : Sound s m) (roots : HasExports ctx.exports m) (fits : Fits view s) where
+          module _ (s : Store) (m : State) (stands : Represents s m) (sound : Sound s m)
+              (roots : HasExports ctx.exports m) (fits : Fits view s) where
             abbrev m1 : State
             m1 = with_created m creation
 

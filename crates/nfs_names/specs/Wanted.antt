@@ -9,6 +9,7 @@ use Rattle.nfs_wire.specs.declared.status.NfsStatus.{NfsStatus}
 use Rattle.nfs_wire.specs.declared.status.NfsStatus.TheVariants as status
 use Rattle.nfs_machine.specs.Checks.{◌>>=◌, holding, name_checked, plain_name_checked, changeable, permitted}
 use Rattle.nfs_machine.specs.Checks.{entry_of}
+use Rattle.nfs_machine.specs.Exports.{opening_exports}
 use Rattle.nfs_machine.specs.NameSteps.{given_attributes, leads_to, wanted_file}
 use Rattle.nfs_machine.specs.Permission.{Searching, Changing}
 use Rattle.nfs_machine.specs.State.{Entry}
@@ -52,7 +53,7 @@ abbrev pub directory_checked : Ctx → Inode → List ℕ → Result Directory N
 directory_checked ctx i name = do
   directory ← directory_in i.content
   _ ← plain_name_checked status.Exists status.Exists name
-  _ ← changeable ctx (living_of_inode i)
+  _ ← changeable (opening_exports ctx.exports) (living_of_inode i)
   _ ← permitted ctx (living_of_inode i) Changing
   Ok directory
 

@@ -11,6 +11,7 @@ pub promised_unchanged : (call : Call) (ctx : Ctx) (view : ViewValue) (reply : R
     → IsPromised (record { call = call; ctx = ctx; view = view; writes = []; messages = []; reply = reply })
 promised_unchanged call ctx view reply holds =
     record {
-      kept = λ s m stands sound exports fits. record { new = m; step = holds.step s m stands sound exports fits; stands = stands; sound = sound };
+      kept = λ s m stands sound exports fits. record
+          { new = m; step = holds.step s m stands sound exports fits; stands = stands; sound = sound };
       writes = λ s fits. tt;
     }

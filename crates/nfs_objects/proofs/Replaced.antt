@@ -6,7 +6,8 @@ use Rattle.std.specs.FinMap.{FinMap, get, insert}
 use Rattle.std.specs.Ordering.{nat_cmp}
 use Rattle.nfs_machine.proofs.Kept.{steps_keep_form}
 use Rattle.nfs_machine.proofs.Sums.{get-inserted}
-use Rattle.nfs_machine.proofs.WellFormed.{Alike, KeepsNames, links-alike, links-names, parent-alike, replaced-alike, replaced-names}
+use Rattle.nfs_machine.proofs.WellFormed.{Alike, KeepsNames, links-alike, links-names, parent-alike, replaced-alike}
+use Rattle.nfs_machine.proofs.WellFormed.{replaced-names}
 use Rattle.nfs_machine.specs.Attributes.{is_directory, links_of, names_of}
 use Rattle.nfs_machine.specs.Shown.{with_object}
 use Rattle.nfs_machine.specs.State.{Living, State}
@@ -115,7 +116,8 @@ module _ (s : Store) (m : State) (number : ℕ) (old new : Inode) (at : s.at (ad
   pub rewritten_sound : Sound s m → WellFormed (with_object m number (living_of_inode new)) → Sound (with_write s (addresses.Inode number) (Some (objects.Inode new))) (with_object m number (living_of_inode new))
   rewritten_sound sound formed = record {
     links = rewritten_links sound;
-    parents = λ n i d there is. parent-alike m (with_object m number (living_of_inode new)) alike refl n d.parent (elim (found-put s number new n i there) [
+    parents = λ n i d there is. parent-alike m (with_object m number (living_of_inode new)) alike refl n d.parent
+        (elim (found-put s number new n i there) [
       | inl here ↦
           let was : new.content ≡ contents.Directory d = ap (λ (j : Inode). j.content) here.1 ∙ is in
           let kind : is_directory (content_of old.content) ≡ true = sym keeps.kind ∙ ap (λ c. is_directory (content_of c)) was in
@@ -135,7 +137,8 @@ promised_rewritten call ctx view number inode reply r = record {
         step = r.step s m stands sound exports fits;
         stands = rewritten_represented s m number r.old inode at r.keeps stands sound;
         sound = rewritten_sound s m number r.old inode at r.keeps stands sound
-            (steps_keep_form m ctx call reply [] (with_object m number (living_of_inode inode)) (r.step s m stands sound exports fits) sound.well_formed);
+            (steps_keep_form m ctx call reply [] (with_object m number (living_of_inode inode))
+                (r.step s m stands sound exports fits) sound.well_formed);
       };
   writes = λ s fits. (subst (λ o. IsSome o) (sym r.seen) refl, tt);
 }

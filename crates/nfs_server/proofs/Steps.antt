@@ -76,7 +76,8 @@ step_form old ctx (calls.Nlm call) (replies.Nlm reply) messages new built formed
 module _ (d : DoneValue) (old : PlainValue) (promised : IsPromised d) (fits : Fits d.view (store_of old)) (exports : d.ctx.exports ≡ old.setting.exports) where
   pub reply_form : IsBuilt d.call → Stands old → HasForm d.reply
   reply_form built (m, stands) =
-      let step = promised.kept (store_of old) m stands.represents stands.sound (subst (λ (es : List ExportValue). HasExports es m) (sym exports) stands.roots) fits in
+      let step = promised.kept (store_of old) m stands.represents stands.sound
+          (subst (λ (es : List ExportValue). HasExports es m) (sym exports) stands.roots) fits in
       step_form m d.ctx d.call d.reply d.messages step.new built stands.sound.well_formed step.step
 
   module _ (new : PlainValue) (made : store_of new ≡ with_writes (store_of old) d.writes) (setting : new.setting ≡ old.setting) where
@@ -85,7 +86,8 @@ module _ (d : DoneValue) (old : PlainValue) (promised : IsPromised d) (fits : Fi
 
     stepped : (m : State) → StandsFor old m → Stepped m
     stepped m stands =
-        let step = promised.kept (store_of old) m stands.represents stands.sound (subst (λ (es : List ExportValue). HasExports es m) (sym exports) stands.roots) fits in
+        let step = promised.kept (store_of old) m stands.represents stands.sound
+            (subst (λ (es : List ExportValue). HasExports es m) (sym exports) stands.roots) fits in
         let same : d.ctx.exports ≡ new.setting.exports = exports ∙ sym (ap (λ (s : Setting). s.exports) setting) in (
           step.new,
           step.step,
