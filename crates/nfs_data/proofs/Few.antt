@@ -1,6 +1,6 @@
 -- Each procedure asks for one address at most, that of the object that its handle names.
 use Rattle.std.proofs.Common.{◌≡◌, true, false, cond, [], Option, Some, None, nat_eq, ◌&&◌, refl, sym, ap}
-use Rattle.nfs_machine.specs.Exports.{export_admits, export_at}
+use Rattle.nfs_machine.specs.Exports.{export_admits, export_at, opening_exports}
 use Rattle.nfs_machine.specs.Handles.{handle_of}
 use Rattle.nfs_machine.specs.declared.context.Ctx.{Ctx}
 use Rattle.nfs_machine.specs.declared.handle.Handle.{Handle}
@@ -36,7 +36,7 @@ module _ (h : Handle) where
 few-by : (ctx : Ctx) (h : Option Handle) → AsksFew (λ v. Addresses (lacking (found_by ctx v.entries h)))
 few-by ctx None = few-none
 few-by ctx (Some h) =
-    elim (nat_eq h.start ctx.start && export_admits (export_at ctx.exports h.export) ctx.host)
+    elim (nat_eq h.start ctx.start && export_admits (export_at (opening_exports ctx.exports) h.export) ctx.host)
     as (λ b. AsksFew (λ v. Addresses (lacking (cond b (found_known h (seen_at v.entries (addresses.Inode h.fileid))) Stale)))) [
       | true ↦ few-named h
       | false ↦ few-none

@@ -11,4 +11,5 @@ use Rattle.nfs_objects.specs.Values.{ViewValue}
 
 pub null_holds : (ctx : Ctx) (view : ViewValue) → HoldsUnchanged (calls.Nfs nfs.Null) ctx view (answers.Nfs replies.Null)
 unfolding NfsStep
-null_holds ctx view = record { step = λ s m stands sound roots fits. record { reply_is = refl; no_message = refl; state_is = refl } }
+null_holds ctx view = record
+    { step = λ s m stands sound exports fits. record { reply_is = refl; no_message = refl; state_is = refl } }

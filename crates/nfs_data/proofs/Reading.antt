@@ -40,18 +40,24 @@ module _ (ctx : Ctx) (view : ViewValue) (a : ReadArguments) where
 
   pub bad_handle_holds : BadHandle ≡ found_at ctx view.entries a.file → Answers None (Err status.BadHandle)
   bad_handle_holds found =
-      record { step = λ s m stands sound roots fits. step m _ _ refl (resolve-means s m ctx view a.file BadHandle found stands fits) }
+      record {
+        step = λ s m stands sound exports fits. step m _ _ refl
+            (resolve-means s m ctx view a.file BadHandle found stands exports fits);
+      }
 
   pub stale_holds : Stale ≡ found_at ctx view.entries a.file → Answers None (Err status.Stale)
   stale_holds found =
-      record { step = λ s m stands sound roots fits. step m _ _ refl (resolve-means s m ctx view a.file Stale found stands fits) }
+      record {
+        step = λ s m stands sound exports fits. step m _ _ refl
+            (resolve-means s m ctx view a.file Stale found stands exports fits);
+      }
 
   pub names_holds : (number : ℕ) (i : Inode) (attributes : Attributes) (result : Result ReadData NfsStatus) → Names number i ≡ found_at ctx view.entries a.file
       → Shows number i attributes → result ≡ read_object ctx (living_of_inode i) a → Answers (Some attributes) result
   names_holds number i attributes result found shows is =
       record {
-        step = λ s m stands sound roots fits.
-            let means = resolve-means s m ctx view a.file (Names number i) found stands fits in
+        step = λ s m stands sound exports fits.
+            let means = resolve-means s m ctx view a.file (Names number i) found stands exports fits in
             let reply : ReadReply = record { attributes = Some attributes; result = result } in
             step m _ reply (
             ap (λ o. record reply { attributes = o }) (attributes-seen s m view number i attributes stands sound fits means.1 shows)

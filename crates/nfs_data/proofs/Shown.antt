@@ -38,16 +38,22 @@ module _ (ctx : Ctx) (view : ViewValue) (object : List ℕ) where
 
   pub bad_handle_holds : BadHandle ≡ found_at ctx view.entries object → Answers (Err status.BadHandle)
   bad_handle_holds found =
-      record { step = λ s m stands sound roots fits. step m (Err status.BadHandle) (ap (result_of m) (sym (resolve-means s m ctx view object BadHandle found stands fits))) }
+      record {
+        step = λ s m stands sound exports fits. step m (Err status.BadHandle)
+            (ap (result_of m) (sym (resolve-means s m ctx view object BadHandle found stands exports fits)));
+      }
 
   pub stale_holds : Stale ≡ found_at ctx view.entries object → Answers (Err status.Stale)
   stale_holds found =
-      record { step = λ s m stands sound roots fits. step m (Err status.Stale) (ap (result_of m) (sym (resolve-means s m ctx view object Stale found stands fits))) }
+      record {
+        step = λ s m stands sound exports fits. step m (Err status.Stale)
+            (ap (result_of m) (sym (resolve-means s m ctx view object Stale found stands exports fits)));
+      }
 
   pub names_holds : (number : ℕ) (i : Inode) (shown : Attributes) → Names number i ≡ found_at ctx view.entries object → Shows number i shown → Answers (Ok shown)
   names_holds number i shown found shows =
       record {
-        step = λ s m stands sound roots fits.
-            let means = resolve-means s m ctx view object (Names number i) found stands fits in
+        step = λ s m stands sound exports fits.
+            let means = resolve-means s m ctx view object (Names number i) found stands exports fits in
             step m (Ok shown) (ap (λ a. Ok a) (seen-attributes s m view number i shown sound fits means.1 shows) ∙ ap (result_of m) (sym means.0));
       }

@@ -13,6 +13,7 @@ use Rattle.nfs_wire.specs.declared.status.NfsStatus.TheVariants as status
 use Rattle.nfs_machine.specs.Answers.{answer_of, state_after}
 use Rattle.nfs_machine.specs.Checks.{◌>>=◌, object_of}
 use Rattle.nfs_machine.specs.DataSteps.{write_object}
+use Rattle.nfs_machine.specs.Exports.{opening_exports}
 use Rattle.nfs_machine.specs.NfsSteps.{NfsStep}
 use Rattle.nfs_machine.specs.Resolve.{Resolved, resolve}
 use Rattle.nfs_machine.specs.Resolve as machine
@@ -43,7 +44,8 @@ module _ (ctx : Ctx) (view : ViewValue) (a : WriteArguments) where
 
   -- what WRITE comes to where this is what the handle names, and where this becomes of the file
   abbrev end_at : State → Resolved → Result (Written × State) NfsStatus
-  end_at m r = object_of r >>= λ file. write_object ctx file.1 a >>= λ end. Ok (end.0, replaced m file.0 end.1)
+  end_at m r = object_of r >>= λ file. write_object m.exports ctx file.1 a >>= λ end. Ok
+      (end.0, replaced m file.0 end.1)
 
   abbrev end_by : State → ℕ → Result (Written × Option Living) NfsStatus → Result (Written × State) NfsStatus
   end_by m number written = written >>= λ end. Ok (end.0, replaced m number end.1)
@@ -62,36 +64,50 @@ module _ (ctx : Ctx) (view : ViewValue) (a : WriteArguments) where
 
   pub bad_handle_holds : BadHandle ≡ found_at ctx view.entries a.file → Answers (record { wcc = record { before = None; after = None }; result = Err status.BadHandle })
   bad_handle_holds found =
-      record { step = λ s m stands sound roots fits. step m machine.BadHandle (Err status.BadHandle) _ refl (resolve-means s m ctx view a.file BadHandle found stands fits) refl }
+      record {
+        step = λ s m stands sound exports fits. step m machine.BadHandle (Err status.BadHandle) _ refl
+            (resolve-means s m ctx view a.file BadHandle found stands exports fits) refl;
+      }
 
   pub stale_holds : Stale ≡ found_at ctx view.entries a.file → Answers (record { wcc = record { before = None; after = None }; result = Err status.Stale })
   stale_holds found =
-      record { step = λ s m stands sound roots fits. step m machine.Stale (Err status.Stale) _ refl (resolve-means s m ctx view a.file Stale found stands fits) refl }
+      record {
+        step = λ s m stands sound exports fits. step m machine.Stale (Err status.Stale) _ refl
+            (resolve-means s m ctx view a.file Stale found stands exports fits) refl;
+      }
 
   module _ (number : ℕ) (i : Inode) (after : Attributes) (found : Names number i ≡ found_at ctx view.entries a.file) where
     -- a WRITE that is refused, or writes nothing
-    pub refused_holds : (e : NfsStatus) → Shows number i after → Err e ≡ write_object ctx (living_of_inode i) a → Answers (record { wcc = shown_wcc i after; result = Err e })
+    pub refused_holds : (e : NfsStatus) → Shows number i after →
+        Err e ≡ write_object (opening_exports ctx.exports) ctx (living_of_inode i) a →
+        Answers (record { wcc = shown_wcc i after; result = Err e })
     refused_holds e shows is =
         record {
-          step = λ s m stands sound roots fits.
-              let means = resolve-means s m ctx view a.file (Names number i) found stands fits in
+          step = λ s m stands sound exports fits.
+              let means = resolve-means s m ctx view a.file (Names number i) found stands exports fits in
               step m (machine.Names number (living_of_inode i)) (Err e) (record { wcc = shown_wcc i after; result = Err e })
               (ap (λ o. record { wcc = record { before = Some (weak (living_of_inode i)); after = o }; result = Err e }) (attributes-seen s m view number i after stands sound fits means.1 shows))
-              means.0 (ap (end_by m number) is);
+              means.0 (ap (end_by m number)
+              (is ∙ ap (λ es. write_object es ctx (living_of_inode i) a) (sym exports)));
         }
 
-    pub nothing_holds : (written : Written) → Shows number i after → Ok (written, None) ≡ write_object ctx (living_of_inode i) a → Answers (record { wcc = shown_wcc i after; result = Ok written })
+    pub nothing_holds : (written : Written) → Shows number i after →
+        Ok (written, None) ≡ write_object (opening_exports ctx.exports) ctx (living_of_inode i) a →
+        Answers (record { wcc = shown_wcc i after; result = Ok written })
     nothing_holds written shows is =
         record {
-          step = λ s m stands sound roots fits.
-              let means = resolve-means s m ctx view a.file (Names number i) found stands fits in
+          step = λ s m stands sound exports fits.
+              let means = resolve-means s m ctx view a.file (Names number i) found stands exports fits in
               step m (machine.Names number (living_of_inode i)) (Ok (written, m)) (record { wcc = shown_wcc i after; result = Ok written })
               (ap (λ o. record { wcc = record { before = Some (weak (living_of_inode i)); after = o }; result = Ok written }) (attributes-seen s m view number i after stands sound fits means.1 shows))
-              means.0 (ap (end_by m number) is);
+              means.0 (ap (end_by m number)
+              (is ∙ ap (λ es. write_object es ctx (living_of_inode i) a) (sym exports)));
         }
 
     -- a WRITE after which the file is another
-    pub written_rewrites : (written : Written) (new : Inode) → Shows number new after → KeepsPlace i new → Ok (written, Some (living_of_inode new)) ≡ write_object ctx (living_of_inode i) a
+    pub written_rewrites : (written : Written) (new : Inode) → Shows number new after → KeepsPlace i new →
+        Ok (written, Some (living_of_inode new)) ≡ write_object (opening_exports ctx.exports) ctx
+        (living_of_inode i) a
         → Rewrites (calls.Nfs (nfs.Write a)) ctx view number new (answers.Nfs (replies.Write (record { wcc = shown_wcc i after; result = Ok written })))
     written_rewrites written new shows keeps is =
         let seen = names-seen ctx view.entries a.file number i found in
@@ -99,10 +115,11 @@ module _ (ctx : Ctx) (view : ViewValue) (a : WriteArguments) where
           old = i;
           seen = seen;
           keeps = keeps;
-          step = λ s m stands sound roots fits.
-              let means = resolve-means s m ctx view a.file (Names number i) found stands fits in
+          step = λ s m stands sound exports fits.
+              let means = resolve-means s m ctx view a.file (Names number i) found stands exports fits in
               let at = fits_at view.entries s.at (addresses.Inode number) (Some (objects.Inode i)) fits.entries seen in
               step m (machine.Names number (living_of_inode i)) (end_by m number (Ok (written, Some (living_of_inode new)))) (record { wcc = shown_wcc i after; result = Ok written })
               (ap (λ o. record { wcc = record { before = Some (weak (living_of_inode i)); after = o }; result = Ok written }) (attributes-put s m number i new after at keeps stands sound shows))
-              means.0 (ap (end_by m number) is);
+              means.0 (ap (end_by m number)
+              (is ∙ ap (λ es. write_object es ctx (living_of_inode i) a) (sym exports)));
         }

@@ -2,7 +2,7 @@
 -- the same tests in the same order, on the living object that the inode stands for.
 use Rattle.std.proofs.Common.{◌≡◌, ℕ, true, false, cond, List, Option, Some, None, nat_eq, ◌&&◌, refl, sym, ap, subst}
 use Rattle.std.specs.FinMap.{get}
-use Rattle.nfs_machine.specs.Exports.{export_admits, export_at}
+use Rattle.nfs_machine.specs.Exports.{export_admits, export_at, opening_exports}
 use Rattle.nfs_machine.specs.Handles.{handle_of}
 use Rattle.nfs_machine.specs.Resolve.{Resolved, living_at, named, resolve}
 use Rattle.nfs_machine.specs.Resolve as machine
@@ -11,6 +11,7 @@ use Rattle.nfs_machine.specs.declared.context.Ctx.{Ctx}
 use Rattle.nfs_machine.specs.declared.handle.Handle.{Handle}
 use Rattle.nfs_objects.proofs.Seen.{lives-seen}
 use Rattle.nfs_objects.specs.Fits.{Fits}
+use Rattle.nfs_objects.specs.Sound.{HasExports}
 use Rattle.nfs_objects.specs.Stands.{Represents, inode_of, living_of, living_of_inode}
 use Rattle.nfs_objects.specs.Store.{Store}
 use Rattle.nfs_objects.specs.Values.{ViewValue, seen_at}
@@ -43,25 +44,29 @@ module _ (entries : List (Addr × Option Object)) (h : Handle) where
 
 means_by : (ctx : Ctx) (entries : List (Addr × Option Object)) (find : ℕ → Option Living)
     → ((n : ℕ) (known : Option Object) → seen_at entries (addresses.Inode n) ≡ Some known → find n ≡ living_of known)
-    → (h : Option Handle) → Means entries (found_by ctx entries h) (named find ctx h)
+    → (h : Option Handle) → Means entries (found_by ctx entries h) (named find (opening_exports ctx.exports) ctx h)
 means_by ctx entries find lives None = refl
 means_by ctx entries find lives (Some h) =
-    elim (nat_eq h.start ctx.start && export_admits (export_at ctx.exports h.export) ctx.host)
+    elim (nat_eq h.start ctx.start && export_admits (export_at (opening_exports ctx.exports) h.export) ctx.host)
     as (λ b. Means entries (cond b (found_known h (seen_at entries (addresses.Inode h.fileid))) Stale) (cond b (living_at (find h.fileid) h) machine.Stale)) [
       | true ↦ means_seen entries h find lives (seen_at entries (addresses.Inode h.fileid)) refl
       | false ↦ refl
     ]
 
-pub resolve-found : (s : Store) (m : State) (ctx : Ctx) (view : ViewValue) (bytes : List ℕ) → Represents s m → Fits view s
+pub resolve-found : (s : Store) (m : State) (ctx : Ctx) (view : ViewValue) (bytes : List ℕ) → Represents s m →
+    HasExports ctx.exports m → Fits view s
     → Means view.entries (found_at ctx view.entries bytes) (resolve m ctx bytes)
-resolve-found s m ctx view bytes stands fits =
-    means_by ctx view.entries (get m.objects) (λ n known seen. lives-seen s m view n known stands fits seen) (handle_of bytes)
+resolve-found s m ctx view bytes stands exports fits =
+    subst (λ es. Means view.entries (found_at ctx view.entries bytes) (named (get m.objects) es ctx (handle_of bytes)))
+    (sym exports) (means_by ctx view.entries (get m.objects)
+    (λ n known seen. lives-seen s m view n known stands fits seen) (handle_of bytes))
 
 -- the same where it is known what was found
 pub resolve-means : (s : Store) (m : State) (ctx : Ctx) (view : ViewValue) (bytes : List ℕ) (found : FoundValue) → found ≡ found_at ctx view.entries bytes
-    → Represents s m → Fits view s → Means view.entries found (resolve m ctx bytes)
-resolve-means s m ctx view bytes found is stands fits =
-    subst (λ f. Means view.entries f (resolve m ctx bytes)) (sym is) (resolve-found s m ctx view bytes stands fits)
+    → Represents s m → HasExports ctx.exports m → Fits view s → Means view.entries found (resolve m ctx bytes)
+resolve-means s m ctx view bytes found is stands exports fits =
+    subst (λ f. Means view.entries f (resolve m ctx bytes)) (sym is)
+    (resolve-found s m ctx view bytes stands exports fits)
 
 -- what the view shows of numbers
 abbrev shown_living : Option (Option Object) → Option Living
@@ -73,4 +78,5 @@ pub names-seen : (ctx : Ctx) (entries : List (Addr × Option Object)) (bytes : L
     → seen_at entries (addresses.Inode number) ≡ Some (Some (objects.Inode i))
 names-seen ctx entries bytes number i is =
     let find : ℕ → Option Living = λ n. shown_living (seen_at entries (addresses.Inode n)) in
-    (subst (λ f. Means entries f (named find ctx (handle_of bytes))) (sym is) (means_by ctx entries find (λ n known seen. ap shown_living seen) (handle_of bytes))).1
+    (subst (λ f. Means entries f (named find (opening_exports ctx.exports) ctx (handle_of bytes))) (sym is)
+    (means_by ctx entries find (λ n known seen. ap shown_living seen) (handle_of bytes))).1

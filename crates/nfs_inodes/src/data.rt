@@ -85,7 +85,8 @@ pub fn write(
     arguments: &WriteArguments,
 ) -> Result<Result<(Written, Option<Inode>), NfsStatus>, AllocError>
     ensures value { IfOk result
-        (λ end. seen_end end ≡ write_object (opening_exports ctx.now.exports) ctx.now (living_of_inode inode.now) arguments.now) }
+        (λ end. seen_end end ≡ write_object (opening_exports ctx.now.exports) ctx.now (living_of_inode inode.now)
+        arguments.now) }
     ensures keeps { IfOk result (λ end. IfOk end (λ e. IfSome e.1 (KeepsPlace inode.now))) }
 {
     let bytes = match writable(ctx, inode, arguments) {
@@ -113,7 +114,8 @@ fn writable<'a>(
     inode: &'a Inode,
     arguments: &WriteArguments,
 ) -> Result<&'a Bytes, NfsStatus>
-    ensures { lent result ≡ checked_bytes (write_object (opening_exports ctx.now.exports) ctx.now (living_of_inode inode.now) arguments.now)
+    ensures { lent result ≡ checked_bytes
+        (write_object (opening_exports ctx.now.exports) ctx.now (living_of_inode inode.now) arguments.now)
         (living_of_inode inode.now) }
 {
     let bytes = bytes_in(&inode.content)?;

@@ -72,7 +72,8 @@ module _ (es : List ExportValue) (moment : Moment) where
     | inr below ↦ (let none : None ≡ Some o = sym (root_none time es 1 n (inl below)) ∙ at in absurd cc)
   ]
 
-  root_range : (n : ℕ) (o : Living) → get (opening_roots 1 es time) n ≡ Some o → (1 ≤ n) × (n ≤ length es)
+  pub root_range : (n : ℕ) (o : Living) → get (opening_roots 1 es time) n ≡ Some o → (1 ≤ n) ×
+      (n ≤ length es)
   root_range n o at = elim (le_or 1 n) [
     | inl low ↦ elim (le_or n (length es)) [
       | inl h ↦ (low, h)
@@ -114,7 +115,7 @@ module _ (es : List ExportValue) (moment : Moment) where
       there (x ∷ xs) (suc i) less = there xs i (omega (arith, less))
 
   -- each root is one
-  is_root-opened : (n : ℕ) → 1 ≤ n → n ≤ length es → is_root (opening es moment) n ≡ true
+  pub is_root-opened : (n : ℕ) → 1 ≤ n → n ≤ length es → is_root (opening es moment) n ≡ true
   is_root-opened n low high = any es 1 low (omega (arith, high))
     where
       any : (xs : List ExportValue) (k : ℕ) → k ≤ n → n < k + length xs →

@@ -1,5 +1,6 @@
 -- The answers to MNT are the machine's: what the path names in the view it names in every store that the view fits.
-use Rattle.std.proofs.Common.{◌≡◌, ℕ, cond, List, [], ◌∷◌, ◌++◌, Option, Some, None, IsSome, Result, Ok, Err, inl, inr, refl, sym, ◌∙◌, ap, subst}
+use Rattle.std.proofs.Common.{◌≡◌, ℕ, cond, List, [], ◌∷◌, ◌++◌, Option, Some, None, IsSome, Result}
+use Rattle.std.proofs.Common.{Ok, Err, inl, inr, refl, sym, ◌∙◌, ap, subst}
 use Rattle.std.specs.FinMap.{get}
 use Rattle.side_wire.specs.declared.mount.MountCall.TheVariants as calls
 use Rattle.side_wire.specs.declared.mount.MountReply.TheVariants as replies
@@ -31,7 +32,8 @@ use Rattle.nfs_mount.proofs.Walked.{ended}
 
 pub null_answered : (ctx : Ctx) (view : ViewValue) → HoldsUnchanged (Mount calls.Null) ctx view (answers.Mount replies.Null)
 unfolding MountStep
-null_answered ctx view = record { step = λ s m stands sound exports fits. record { reply_is = refl; no_message = refl; state_is = refl } }
+null_answered ctx view = record
+    { step = λ s m stands sound exports fits. record { reply_is = refl; no_message = refl; state_is = refl } }
 
 module _ (ctx : Ctx) (view : ViewValue) (path : List ℕ) where
   pub fault_refused : (e : MountStatus) → path_fault path ≡ Some e → HoldsUnchanged (Mount (calls.Mnt path)) ctx view (answers.Mount (replies.Mnt (Err e)))
@@ -40,7 +42,8 @@ module _ (ctx : Ctx) (view : ViewValue) (path : List ℕ) where
       record { step = λ s m stands sound exports fits. (Err e, refl, refl, (inl fault, refl)) }
 
   module _ (sane : path_fault path ≡ None) where
-    pub no_export_refused : NoExport (opening_exports ctx.exports) ctx.host (parts path) → HoldsUnchanged (Mount (calls.Mnt path)) ctx view (answers.Mount (replies.Mnt (Err Access)))
+    pub no_export_refused : NoExport (opening_exports ctx.exports) ctx.host (parts path) →
+        HoldsUnchanged (Mount (calls.Mnt path)) ctx view (answers.Mount (replies.Mnt (Err Access)))
     unfolding MountStep
     no_export_refused none =
         record {

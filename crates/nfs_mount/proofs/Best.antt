@@ -38,7 +38,8 @@ module _ (exports : List ExportValue) (host : List ℕ) (names : List (List ℕ)
 
   -- what leads there by a number is the export with it
   leads_by : (i : ℕ) (e : ExportValue) (rest : List (List ℕ)) → slice_get exports i ≡ Some e →
-      Leads (opening_exports exports) host names (i + 1) rest → (admits e host ≡ true) × (names ≡ parts e.path ++ rest)
+      Leads (opening_exports exports) host names (i + 1) rest → (admits e host ≡ true) ×
+      (names ≡ parts e.path ++ rest)
   leads_by i e rest at leads =
       let both : Some (with_number (i + 1) e) ≡ Some leads.export = sym (at_number i e at) ∙ leads.stands in
       let same : leads.export ≡ with_number (i + 1) e = cc in (
@@ -46,7 +47,8 @@ module _ (exports : List ExportValue) (host : List ℕ) (names : List (List ℕ)
         subst (λ (x : LivingExport). names ≡ parts x.path ++ rest) same leads.begins,
       )
 
-  leads_to : (i : ℕ) (e : ExportValue) (c : Choice) → slice_get exports i ≡ Some e → IsLead (i + 1) e host names c →
+  leads_to : (i : ℕ) (e : ExportValue) (c : Choice) → slice_get exports i ≡ Some e →
+      IsLead (i + 1) e host names c →
       Leads (opening_exports exports) host names c.number c.rest
   leads_to i e c at lead = record {
     export = with_number (i + 1) e;
@@ -60,13 +62,17 @@ module _ (exports : List ExportValue) (host : List ℕ) (names : List (List ℕ)
 
   -- as the invariant of the best so far, one export later
   module _ (i : ℕ) (e : ExportValue) (at : slice_get exports i ≡ Some e) where
-    upto : (P : List (List ℕ) → Type 0) → ((number : ℕ) (rest : List (List ℕ)) → number ≤ i → Leads (opening_exports exports) host names number rest → P rest)
+    upto : (P : List (List ℕ) → Type 0) →
+        ((number : ℕ) (rest : List (List ℕ)) → number ≤ i →
+        Leads (opening_exports exports) host names number rest → P rest)
         → ((rest : List (List ℕ)) → admits e host ≡ true → names ≡ parts e.path ++ rest → P rest)
-        → (number : ℕ) (rest : List (List ℕ)) → number ≤ i + 1 → Leads (opening_exports exports) host names number rest → P rest
+        → (number : ℕ) (rest : List (List ℕ)) → number ≤ i + 1 →
+        Leads (opening_exports exports) host names number rest → P rest
     upto P old new number rest le leads =
         elim (below_or_at number i le) [
           | inl less ↦ old number rest less leads
-          | inr same ↦ (let l = leads_by i e rest at (subst (λ n. Leads (opening_exports exports) host names n rest) same leads) in new rest l.0 l.1)
+          | inr same ↦ (let l = leads_by i e rest at
+              (subst (λ n. Leads (opening_exports exports) host names n rest) same leads) in new rest l.0 l.1)
         ]
 
     pub best_step : (best other : Option Choice) → IsBestOf i exports host names best
@@ -108,7 +114,9 @@ module _ (exports : List ExportValue) (host : List ℕ) (names : List (List ℕ)
 
   -- the best of all is chosen
   pub best_of_all : (count : ℕ) (best : Option Choice) → length exports ≤ count → IsBestOf count exports host names best
-      → MatchOption best ((number : ℕ) (rest : List (List ℕ)) → Leads (opening_exports exports) host names number rest → ⊥) (λ c. Chosen (opening_exports exports) host names c.number c.rest)
+      → MatchOption best ((number : ℕ) (rest : List (List ℕ)) →
+      Leads (opening_exports exports) host names number rest → ⊥)
+      (λ c. Chosen (opening_exports exports) host names c.number c.rest)
   best_of_all count None all none = λ number rest leads. none number rest (omega (arith, number_within number rest leads)) leads
   best_of_all count (Some c) all best =
       record { leads = best.0; longest = λ number rest leads. best.2 number rest (omega (arith, number_within number rest leads)) leads }

@@ -281,6 +281,7 @@ module _ (s : Store) where
 
 pub asks_few : (ctx : Ctx) (call : MountCall) → AsksFewOfSound ctx.exports (λ v. MountAsks ctx v call)
 asks_few ctx (calls.Mnt path) rounds outcome s m grows last stands sound exports fits =
-    few s (λ v o. MntAsks ctx v path o) (λ v o f asks. mnt-asked s m stands sound v f ctx exports path o asks) rounds outcome grows last fits.entries
+    few s (λ v o. MntAsks ctx v path o)
+    (λ v o f asks. mnt-asked s m stands sound v f ctx exports path o asks) rounds outcome grows last fits.entries
 asks_few ctx call rounds outcome s m grows last stands sound exports fits =
     few s (λ v o. AsksFor [] o) (λ v o f asks. none-asked s v o asks) rounds outcome grows last fits.entries

@@ -19,7 +19,7 @@ use Rattle.nfs_machine.proofs.Changes.{apart}
 use Rattle.nfs_machine.specs.Answers.{answer_of, state_after}
 use Rattle.nfs_machine.specs.Attributes.{attributes_of, is_directory, links_of}
 use Rattle.nfs_machine.specs.Checks.{◌>>=◌, holding, object_of, entries_in, bytes_in, plain_name_checked, changeable, permitted, entry_of}
-use Rattle.nfs_machine.specs.Exports.{ExportValue, export_at}
+use Rattle.nfs_machine.specs.Exports.{LivingExport, opening_exports}
 use Rattle.nfs_machine.specs.NameSteps.{End, Known, Chosen, EndsAs, Fresh, create_existing, create_over, given_attributes, made, new_object, with_entry, wanted_file}
 use Rattle.nfs_machine.specs.Making.{make_new}
 use Rattle.nfs_machine.specs.NfsSteps.{NfsStep}
@@ -135,10 +135,6 @@ checks-passed named changed permit (contents.CharacterDevice device) d is = cc
 checks-passed named changed permit contents.Socket d is = cc
 checks-passed named changed permit contents.Fifo d is = cc
 
-exported-where : (o : Option ExportValue) → holding (not (elim o [ None ↦ true | Some e ↦ e.read_only ])) status.ReadOnly ≡ Ok tt → (e : ExportValue) × (o ≡ Some e)
-exported-where None e = cc
-exported-where (Some x) e = (x, refl)
-
 judged-then : {B : Type 0} (given room : Result (Unit {0}) NfsStatus) (end : B) → (given >>= λ _. room >>= λ _. Ok end) ≡ ((given >>= λ _. room) >>= λ _. Ok end)
 judged-then given room end = elim given as (λ g. (g >>= λ _. room >>= λ _. Ok end) ≡ ((g >>= λ _. room) >>= λ _. Ok end)) [ Ok u ↦ refl | Err e ↦ refl ]
 
@@ -172,7 +168,7 @@ module _ (ctx : Ctx) (view : ViewValue) (a : CreateArguments) where
     directory ← object_of r
     entries ← entries_in directory.1.content
     _ ← plain_name_checked status.Exists status.Exists a.place.name
-    _ ← changeable ctx directory.1
+    _ ← changeable m.exports directory.1
     _ ← permitted ctx directory.1 Changing
     end_in m entries directory.0 directory.1
 
@@ -195,14 +191,16 @@ module _ (ctx : Ctx) (view : ViewValue) (a : CreateArguments) where
 
   pub bad_handle_holds : BadHandle ≡ found_at ctx view.entries a.place.directory → Holds (nothing status.BadHandle)
   bad_handle_holds found = record {
-    step = λ s m stands sound roots fits.
-        step m m machine.BadHandle (Err status.BadHandle) (nothing status.BadHandle) (resolve-means s m ctx view a.place.directory BadHandle found stands fits) refl refl refl refl;
+    step = λ s m stands sound exports fits.
+        step m m machine.BadHandle (Err status.BadHandle) (nothing status.BadHandle)
+        (resolve-means s m ctx view a.place.directory BadHandle found stands exports fits) refl refl refl refl;
   }
 
   pub stale_holds : Stale ≡ found_at ctx view.entries a.place.directory → Holds (nothing status.Stale)
   stale_holds found = record {
-    step = λ s m stands sound roots fits.
-        step m m machine.Stale (Err status.Stale) (nothing status.Stale) (resolve-means s m ctx view a.place.directory Stale found stands fits) refl refl refl refl;
+    step = λ s m stands sound exports fits.
+        step m m machine.Stale (Err status.Stale) (nothing status.Stale)
+        (resolve-means s m ctx view a.place.directory Stale found stands exports fits) refl refl refl refl;
   }
 
   -- the directory's handle names an inode that the view shows
@@ -210,19 +208,33 @@ module _ (ctx : Ctx) (view : ViewValue) (a : CreateArguments) where
     abbrev then : (m : State) → Result Directory NfsStatus → Result (End m) NfsStatus
     then m checked = checked >>= λ (d : Directory). end_in m (d.entries, d.last_cookie) number (living_of_inode i)
 
-    ends-here : (m : State) → end_by m (machine.Names number (living_of_inode i)) ≡ then m (directory_checked ctx i a.place.name)
-    ends-here m =
-        directory-same (plain_name_checked status.Exists status.Exists a.place.name) (changeable ctx (living_of_inode i)) (permitted ctx (living_of_inode i) Changing)
+    -- the checks of the directory, among these exports
+    abbrev checked_among : List LivingExport → Result Directory NfsStatus
+    checked_among exports =
+        directory_in i.content >>= λ directory.
+        plain_name_checked status.Exists status.Exists a.place.name >>= λ _.
+        changeable exports (living_of_inode i) >>= λ _.
+        permitted ctx (living_of_inode i) Changing >>= λ _. Ok directory
+
+    ends-here : (m : State) → HasExports ctx.exports m →
+        end_by m (machine.Names number (living_of_inode i)) ≡ then m (directory_checked ctx i a.place.name)
+    ends-here m exports =
+        directory-same (plain_name_checked status.Exists status.Exists a.place.name)
+        (changeable m.exports (living_of_inode i)) (permitted ctx (living_of_inode i) Changing)
         (λ entries. end_in m entries number (living_of_inode i)) i.content
+        ∙ ap (λ es. then m (checked_among es)) exports
 
     -- a reply is a step where the directory is shown, and the end is the machine's
     step-here : (s : Store) (m new : State) (checked : Result Directory NfsStatus) (end : Result (Made × State) NfsStatus) (reply : MadeReply) (after : Inode)
-        → Represents s m → Fits view s → directory_checked ctx i a.place.name ≡ checked → EndsAs m (then m checked) end → ShowsWcc number i after reply.directory
+        → Represents s m → HasExports ctx.exports m → Fits view s →
+        directory_checked ctx i a.place.name ≡ checked → EndsAs m (then m checked) end →
+        ShowsWcc number i after reply.directory
         → ((shown : Attributes) → Shows number after shown → Some shown ≡ attributes_at (state_after m end) number)
         → reply.result ≡ answer_of end → new ≡ state_after m end → NfsStep m ctx (nfs.Create a) (replies.Create reply) [] new
-    step-here s m new checked end reply after stands fits is ends shows seen result state =
-        let means = resolve-means s m ctx view a.place.directory (Names number i) names stands fits in
-        step m new (machine.Names number (living_of_inode i)) end reply means.0 (subst (λ x. EndsAs m x end) (sym (ends-here m ∙ ap (then m) is)) ends)
+    step-here s m new checked end reply after stands exports fits is ends shows seen result state =
+        let means = resolve-means s m ctx view a.place.directory (Names number i) names stands exports fits in
+        step m new (machine.Names number (living_of_inode i)) end reply means.0
+        (subst (λ x. EndsAs m x end) (sym (ends-here m exports ∙ ap (then m) is)) ends)
         (wcc-same reply.directory _ _ shows.before_is (some-shown (state_after m end) number after reply.directory.after shows.after_shown seen)) result state
 
     -- nothing changes
@@ -230,10 +242,10 @@ module _ (ctx : Ctx) (view : ViewValue) (a : CreateArguments) where
         → ShowsWcc number i i reply.directory → ((m : State) → m ≡ state_after m (end m))
         → ((s : Store) (m : State) → Represents s m → Sound s m → Fits view s → EndsAs m (then m checked) (end m) × (reply.result ≡ answer_of (end m))) → Holds reply
     unchanged_holds checked reply end is shows same ends = record {
-      step = λ s m stands sound roots fits.
-          let means = resolve-means s m ctx view a.place.directory (Names number i) names stands fits in
+      step = λ s m stands sound exports fits.
+          let means = resolve-means s m ctx view a.place.directory (Names number i) names stands exports fits in
           let e = ends s m stands sound fits in
-          step-here s m m checked (end m) reply i stands fits is e.0 shows
+          step-here s m m checked (end m) reply i stands exports fits is e.0 shows
           (λ shown shows. attributes-seen s m view number i shown stands sound fits means.1 shows ∙ ap (λ x. attributes_at x number) (same m)) e.1 (same m);
     }
 
@@ -294,8 +306,11 @@ module _ (ctx : Ctx) (view : ViewValue) (a : CreateArguments) where
                 let file : is_directory (content_of i.content) ≡ false = subst (λ (x : Inode). is_directory (content_of x.content) ≡ false) same (over-file ctx a.how (living_of_inode o) (living_of_inode new) o.content is) in
                 both_ways (is_directory (content_of i.content)) file (ap (λ c. is_directory (content_of c)) passed.0))
               where
-                passed : (i.content ≡ contents.Directory d) × (changeable ctx (living_of_inode i) ≡ Ok tt)
-                passed = checks-passed (plain_name_checked status.Exists status.Exists a.place.name) (changeable ctx (living_of_inode i)) (permitted ctx (living_of_inode i) Changing) i.content d checked
+                passed : (i.content ≡ contents.Directory d) ×
+                    (changeable (opening_exports ctx.exports) (living_of_inode i) ≡ Ok tt)
+                passed = checks-passed (plain_name_checked status.Exists status.Exists a.place.name)
+                    (changeable (opening_exports ctx.exports) (living_of_inode i))
+                    (permitted ctx (living_of_inode i) Changing) i.content d checked
 
             pub resized_rewrites : (reply : MadeReply) (told : Made) → ShowsWcc number i i reply.directory → reply.result ≡ Ok told → ShowsMade ctx n new told
                 → Rewrites (calls.Nfs (nfs.Create a)) ctx view n new (answers.Nfs (replies.Create reply))
@@ -303,10 +318,10 @@ module _ (ctx : Ctx) (view : ViewValue) (a : CreateArguments) where
               old = o;
               seen = at-name;
               keeps = keeps;
-              step = λ s m stands sound roots fits.
+              step = λ s m stands sound exports fits.
                   let m1 : State = with_object m n (living_of_inode new) in
                   let at = fits_at view.entries s.at (addresses.Inode n) (Some (objects.Inode o)) fits.entries at-name in
-                  let means = resolve-means s m ctx view a.place.directory (Names number i) names stands fits in
+                  let means = resolve-means s m ctx view a.place.directory (Names number i) names stands exports fits in
                   let here : put_at s.at (addresses.Inode n) (Some (objects.Inode new)) (addresses.Inode number) ≡ Some (objects.Inode i) =
                   ap (λ b. cond b (Some (objects.Inode new)) (s.at (addresses.Inode number))) other ∙ fits_at view.entries s.at (addresses.Inode number) (Some (objects.Inode i)) fits.entries means.1 in
                   let put : put_at s.at (addresses.Inode n) (Some (objects.Inode new)) (addresses.Inode n) ≡ Some (objects.Inode new) =
@@ -314,7 +329,8 @@ module _ (ctx : Ctx) (view : ViewValue) (a : CreateArguments) where
                   let linked = rewritten_links s m n o new at keeps stands sound in
                   let lives = (rewritten_represented s m n o new at keeps stands sound).objects number ∙ ap living_of here in
                   let same = made-same told _ _ tells.handle (some-made m1 n new told.attributes tells.attributes (linked n new put)) in
-                  step-here s m m1 (Ok d) (Ok (made m1 ctx n (living_of_inode new), m1)) reply i stands fits checked
+                  step-here s m m1 (Ok d)
+                  (Ok (made m1 ctx n (living_of_inode new), m1)) reply i stands exports fits checked
                   (subst (λ x. EndsAs m x (Ok (made m1 ctx n (living_of_inode new), m1))) (sym (existing s m (Ok (Some (living_of_inode new))) stands fits is)) refl) shows
                   (λ shown sh. ap (λ x. Some x) (shown-attributes m1 number i shown sh (linked number i here)) ∙ ap (λ k. option_map (attributes_of m1 number) k) (sym lives))
                   (result ∙ ap (λ x. Ok x) same) refl;
@@ -362,20 +378,19 @@ module _ (ctx : Ctx) (view : ViewValue) (a : CreateArguments) where
           no_more : (a b : ℕ) (t : Bool) → a ≡ b → t ≡ false → a ≡ b + cond {A = ℕ} t 1 0
           no_more a b t e f = let none : cond {A = ℕ} t 1 0 ≡ 0 = ap (λ x. cond x 1 0) f in omega (arith, e, none)
 
-          is_creation : IsCreation ctx view creation
+          is_creation : IsCreation view creation
           is_creation =
-              let passed = checks-passed (plain_name_checked status.Exists status.Exists a.place.name) (changeable ctx (living_of_inode i)) (permitted ctx (living_of_inode i) Changing) i.content d checked in
-              let exported = exported-where (export_at ctx.exports i.export) passed.1 in
+              let passed = checks-passed (plain_name_checked status.Exists status.Exists a.place.name)
+              (changeable (opening_exports ctx.exports) (living_of_inode i))
+              (permitted ctx (living_of_inode i) Changing) i.content d checked in
               record {
                 old = i;
                 place = d;
                 name = a.place.name;
-                export = exported.0;
                 seen = names-seen ctx view.entries a.place.directory number i names;
                 first = first ∙ ap (λ g. Some (let r : Reserved = record { number = reserved.number; generation = g } in r)) (sym generation);
                 content = passed.0;
                 absent = absent;
-                exported = exported.1;
                 wider = ap (λ (x : Inode). x.content) wider_is;
                 wider_export = ap (λ (x : Inode). x.export) wider_is;
                 wider_generation = ap (λ (x : Inode). x.generation) wider_is;
@@ -386,21 +401,21 @@ module _ (ctx : Ctx) (view : ViewValue) (a : CreateArguments) where
               }
 
           module _ (s : Store) (m : State) (stands : Represents s m) (sound : Sound s m)
-              (roots : HasExports ctx.exports m) (fits : Fits view s) where
+              (exports : HasExports ctx.exports m) (fits : Fits view s) where
             abbrev m1 : State
             m1 = with_created m creation
 
             chosen : Fresh m
             chosen =
-                let makes = makes ctx view creation is_creation s m stands sound roots fits in
+                let makes = makes view creation is_creation s m stands sound fits in
                 record {
                   number = reserved.number;
                   generation = object.generation;
                   spent = m1.spent;
                   number_fits = number_fits;
                   generation_fits = subst (λ g. g < 2 ^ 64) (sym generation) generation_fits;
-                  free = free ctx view creation is_creation s m stands sound roots fits;
-                  never_given = never_given ctx view creation is_creation s m stands sound roots fits;
+                  free = free view creation is_creation s m stands sound fits;
+                  never_given = never_given view creation is_creation s m stands sound fits;
                   given = makes.given;
                   kept = makes.spent;
                 }
@@ -429,18 +444,25 @@ module _ (ctx : Ctx) (view : ViewValue) (a : CreateArguments) where
             created-step : (reply : MadeReply) (told : Made) → ShowsWcc number i wider reply.directory → reply.result ≡ Ok told → ShowsMade ctx reserved.number object told
                 → NfsStep m ctx (nfs.Create a) (replies.Create reply) [] m1
             created-step reply told shows result tells =
-                let here = stored-place ctx view creation is_creation s m stands sound roots fits in
-                let lives = (created_represented ctx view creation is_creation s m stands sound roots fits).objects number ∙ ap living_of here in
-                let same = made-same told _ _ tells.handle (some-made m1 reserved.number object told.attributes tells.attributes (linked-made ctx view creation is_creation s m stands sound roots fits)) in
-                step-here s m m1 (Ok d) done reply wider stands fits checked ends-done shows
-                (λ shown sh. ap (λ x. Some x) (shown-attributes m1 number wider shown sh (linked-wider ctx view creation is_creation s m stands sound roots fits)) ∙ ap (λ k. option_map (attributes_of m1 number) k) (sym lives))
+                let here = stored-place view creation is_creation s m stands sound fits in
+                let lives = (created_represented view creation is_creation s m stands sound fits).objects number ∙ ap
+                living_of here in
+                let same = made-same told _ _ tells.handle
+                (some-made m1 reserved.number object told.attributes tells.attributes
+                (linked-made view creation is_creation s m stands sound fits)) in
+                step-here s m m1 (Ok d) done reply wider stands exports fits checked ends-done shows
+                (λ shown sh. ap (λ x. Some x)
+                (shown-attributes m1 number wider shown sh
+                (linked-wider view creation is_creation s m stands sound fits)) ∙ ap
+                (λ k. option_map (attributes_of m1 number) k) (sym lives))
                 (result ∙ ap (λ x. Ok x) same) refl
 
           pub new_creates : (reply : MadeReply) (told : Made) → ShowsWcc number i wider reply.directory → reply.result ≡ Ok told → ShowsMade ctx reserved.number object told
               → Creates (calls.Nfs (nfs.Create a)) ctx view creation (answers.Nfs (replies.Create reply))
           new_creates reply told shows result tells = record {
             is = is_creation;
-            step = λ s m stands sound roots fits. created-step s m stands sound roots fits reply told shows result tells;
+            step = λ s m stands sound exports fits. created-step s m stands sound exports fits reply told shows result
+                tells;
           }
 
 -- what is asked for where the directory is there, and where the name leads to a number, and where it is new

@@ -6,7 +6,7 @@ use Rattle.nfs_wire.specs.declared.calls.NfsCall.{NfsCall}
 use Rattle.nfs_wire.specs.declared.calls.NfsCall.TheVariants as calls
 use Rattle.nfs_wire.specs.declared.status.NfsStatus.{NfsStatus}
 use Rattle.nfs_machine.specs.Checks.{entry_of}
-use Rattle.nfs_machine.specs.Exports.{export_admits, export_at}
+use Rattle.nfs_machine.specs.Exports.{export_admits, export_at, opening_exports}
 use Rattle.nfs_machine.specs.Handles.{handle_of}
 use Rattle.nfs_machine.specs.State.{Entry}
 use Rattle.nfs_machine.specs.declared.context.Ctx.{Ctx}
@@ -54,7 +54,7 @@ module _ (next : FoundValue → Second) (asked : ViewValue → FoundValue → Wa
   few-by : (ctx : Ctx) (h : Option Handle) → AsksFew (λ v. asked v (found_by ctx v.entries h))
   few-by ctx None = few-of BadHandle bad
   few-by ctx (Some h) =
-      elim (nat_eq h.start ctx.start && export_admits (export_at ctx.exports h.export) ctx.host)
+      elim (nat_eq h.start ctx.start && export_admits (export_at (opening_exports ctx.exports) h.export) ctx.host)
       as (λ b. AsksFew (λ v. asked v (cond b (found_known h (seen_at v.entries (addresses.Inode h.fileid))) Stale))) [
         | true ↦ few-named h
         | false ↦ few-of Stale stale

@@ -126,14 +126,16 @@ module _ (ctx : Ctx) (view : ViewValue) (place : Place) where
 
   pub bad_handle_holds : BadHandle ≡ found_at ctx view.entries place.directory → Answers None (Err status.BadHandle)
   bad_handle_holds found = record {
-    step = λ s m stands sound roots fits.
-        step m 0 machine.BadHandle (resolve-means s m ctx view place.directory BadHandle found stands fits) (λ n o names kind. cc) None (Err status.BadHandle) refl refl;
+    step = λ s m stands sound exports fits.
+        step m 0 machine.BadHandle (resolve-means s m ctx view place.directory BadHandle found stands exports fits)
+        (λ n o names kind. cc) None (Err status.BadHandle) refl refl;
   }
 
   pub stale_holds : Stale ≡ found_at ctx view.entries place.directory → Answers None (Err status.Stale)
   stale_holds found = record {
-    step = λ s m stands sound roots fits.
-        step m 0 machine.Stale (resolve-means s m ctx view place.directory Stale found stands fits) (λ n o names kind. cc) None (Err status.Stale) refl refl;
+    step = λ s m stands sound exports fits.
+        step m 0 machine.Stale (resolve-means s m ctx view place.directory Stale found stands exports fits)
+        (λ n o names kind. cc) None (Err status.Stale) refl refl;
   }
 
   some_shown : (s : Store) (m : State) (n : ℕ) (o : Inode) → Sound s m → Fits view s → seen_at view.entries (addresses.Inode n) ≡ Some (Some (objects.Inode o))
@@ -149,8 +151,8 @@ module _ (ctx : Ctx) (view : ViewValue) (place : Place) where
 
     named_holds : (result : Result Found NfsStatus) → ((s : Store) (m : State) → Represents s m → Sound s m → Fits view s → Looks m result) → Answers (Some directory) result
     named_holds result looks = record {
-      step = λ s m stands sound roots fits.
-          let means = resolve-means s m ctx view place.directory (Names number i) names stands fits in
+      step = λ s m stands sound exports fits.
+          let means = resolve-means s m ctx view place.directory (Names number i) names stands exports fits in
           let at = fits_at view.entries s.at (addresses.Inode number) (Some (objects.Inode i)) fits.entries means.1 in
           let lives = lives-seen s m view number (Some (objects.Inode i)) stands fits means.1 in
           let seen = seen-attributes s m view number i directory sound fits means.1 shows in

@@ -238,8 +238,10 @@ promised_created call ctx view c reply r = record {
     stands = created_represented view c r.is s m stands sound fits;
     sound = created_sound view c r.is s m stands sound fits
         (steps_keep_form m ctx call reply [] (with_created m c)
-            (r.step s m stands sound exports fits) sound.well_formed);
+        (r.step s m stands sound exports fits) sound.well_formed);
   };
-  writes = λ s fits. (subst (λ o. IsSome o) (sym r.is.seen) refl,
-      (subst (λ o. IsSome o) (sym (reserved-first view c r.is s fits).0) refl, tt));
+  writes = λ s fits. (
+    subst (λ o. IsSome o) (sym r.is.seen) refl,
+    (subst (λ o. IsSome o) (sym (reserved-first view c r.is s fits).0) refl, tt),
+  );
 }

@@ -1,5 +1,6 @@
 -- Where one inode is put in the place of another, all else of the store and of the state stays: other objects, names, links, parents, roots.
-use Rattle.std.proofs.Common.{◌≡◌, ◌==◌, ℕ, ◌≤◌, true, false, cond, max, nat_le, List, [], Option, Some, IsSome, ◌⊎◌, inl, inr, refl, sym, ◌∙◌, ap, subst, arith}
+use Rattle.std.proofs.Common.{◌≡◌, ◌==◌, ℕ, ◌≤◌, true, false, cond, max, nat_le, [], Option, Some}
+use Rattle.std.proofs.Common.{IsSome, ◌⊎◌, inl, inr, refl, sym, ◌∙◌, ap, subst, arith}
 use Rattle.std.proofs.lemmas.Bool.Decides.{nat_tests}
 use Rattle.std.specs.Cmp.{nat_eq_equiv, unsigned_Decides}
 use Rattle.std.specs.FinMap.{FinMap, get, insert}
@@ -118,12 +119,14 @@ module _ (s : Store) (m : State) (number : ℕ) (old new : Inode) (at : s.at (ad
     links = rewritten_links sound;
     parents = λ n i d there is. parent-alike m (with_object m number (living_of_inode new)) alike refl n d.parent
         (elim (found-put s number new n i there) [
-      | inl here ↦
-          let was : new.content ≡ contents.Directory d = ap (λ (j : Inode). j.content) here.1 ∙ is in
-          let kind : is_directory (content_of old.content) ≡ true = sym keeps.kind ∙ ap (λ c. is_directory (content_of c)) was in
-          subst (λ k. IsParent m k d.parent) here.0 (sound.parents number old d at (sym (keeps.content kind) ∙ was))
-      | inr other ↦ sound.parents n i d other is
-    ]);
+          | inl here ↦
+              let was : new.content ≡ contents.Directory d = ap (λ (j : Inode). j.content) here.1 ∙ is in
+              let kind : is_directory (content_of old.content) ≡ true = sym keeps.kind ∙ ap
+                  (λ c. is_directory (content_of c)) was in
+              subst (λ k. IsParent m k d.parent) here.0
+                  (sound.parents number old d at (sym (keeps.content kind) ∙ was))
+          | inr other ↦ sound.parents n i d other is
+        ]);
     well_formed = formed;
   }
 
@@ -138,7 +141,7 @@ promised_rewritten call ctx view number inode reply r = record {
         stands = rewritten_represented s m number r.old inode at r.keeps stands sound;
         sound = rewritten_sound s m number r.old inode at r.keeps stands sound
             (steps_keep_form m ctx call reply [] (with_object m number (living_of_inode inode))
-                (r.step s m stands sound exports fits) sound.well_formed);
+            (r.step s m stands sound exports fits) sound.well_formed);
       };
   writes = λ s fits. (subst (λ o. IsSome o) (sym r.seen) refl, tt);
 }

@@ -6,35 +6,43 @@ use Rattle.std.specs.declared.vec.Vec.{Vec}
 use Rattle.nfs_rpc.specs.declared.faults.Early.{Early}
 use Rattle.nfs_rpc.specs.declared.credentials.Ids.{Ids}
 use Rattle.nfs_machine.specs.Refusal.{refusal_of}
-use Rattle.nfs_machine.specs.Run.{Arrival, Record, Setting, context_of}
+use Rattle.nfs_machine.specs.Run.{Arrival, FromHost, Received, Setting, context_of}
 use Rattle.nfs_machine.specs.declared.moment.Moment.{Moment}
 use Rattle.nfs_server.specs.Asked.{IsAsked}
 use Rattle.nfs_server.specs.Executed.{MakesStep}
 use Rattle.nfs_server.specs.Plain.{PlainValue}
 use Rattle.nfs_server.specs.Served.{IsAnswered, answer_bytes}
-use Rattle.nfs_server.specs.Serving.{EarlyOf, early_bytes, refusal_bytes, success}
+use Rattle.nfs_machine.specs.RpcReplies.{FirstFault, fault_message, refusal_message, success_message}
 use Rattle.nfs_server.specs.declared.asking.Asked.{Asked}
 
-pub early_answered : (arrival : Arrival) (p : PlainValue) (fault : Early) (answer : List ℕ) → EarlyOf arrival.bytes fault → answer ≡ early_bytes fault → IsAnswered arrival p p answer
-early_answered arrival p fault answer is answered = record {
+pub early_answered : (received : Received) (p : PlainValue) (fault : Early) (answer : List ℕ) →
+    FirstFault received.bytes fault → answer ≡ fault_message fault → IsAnswered (FromHost received) p p answer
+early_answered received p fault answer is answered = record {
   setting = refl;
   each = λ m stands. ([], m, inl (record { fault = fault; is = is; answered = answered; nothing = refl; unchanged = refl }), stands);
 }
 
 -- the answer of a record with a fault, where there is memory for it
-pub early_result : (arrival : Arrival) (p : PlainValue) (fault : Early) (r : Result (Option (Vec ℕ Global)) AllocError) → EarlyOf arrival.bytes fault → IfOk r (λ answer. answer_bytes answer ≡ early_bytes fault)
-    → IfOk r (λ answer. IsAnswered arrival p p (answer_bytes answer))
-early_result arrival p fault (Ok answer) is answered = early_answered arrival p fault (answer_bytes answer) is answered
-early_result arrival p fault (Err e) is answered = tt
+pub early_result : (received : Received) (p : PlainValue) (fault : Early)
+    (r : Result (Option (Vec ℕ Global)) AllocError) → FirstFault received.bytes fault →
+    IfOk r (λ answer. answer_bytes answer ≡ fault_message fault)
+    → IfOk r (λ answer. IsAnswered (FromHost received) p p (answer_bytes answer))
+early_result received p fault (Ok answer) is answered = early_answered received p fault
+    (answer_bytes answer) is answered
+early_result received p fault (Err e) is answered = tt
 
 module _ (host bytes : List ℕ) (moment : Moment) (asked : Asked) (is : IsAsked bytes asked) where
+  abbrev received : Received
+  received = record { host = host; bytes = bytes; moment = moment }
+
   abbrev arrival : Arrival
-  arrival = record { host = host; bytes = bytes; moment = moment }
+  arrival = FromHost received
 
   context_is : (setting : Setting) → context_of setting host asked.ids moment ≡ context_of setting host is.header.ids moment
   context_is setting = ap (λ (ids : Ids). context_of setting host ids moment) (sym is.ids)
 
-  pub refused_answered : (old new : PlainValue) (answer : List ℕ) → new ≡ old → answer ≡ refusal_bytes asked.xid (refusal_of asked.call) → IsAnswered arrival old new answer
+  pub refused_answered : (old new : PlainValue) (answer : List ℕ) → new ≡ old →
+      answer ≡ refusal_message asked.xid (refusal_of asked.call) → IsAnswered arrival old new answer
   refused_answered old new answer same answered =
       subst (λ (p : PlainValue). IsAnswered arrival old p answer) (sym same)
       (record {
@@ -46,7 +54,7 @@ module _ (host bytes : List ℕ) (moment : Moment) (asked : Asked) (is : IsAsked
             ctx = context_of old.setting host asked.ids moment;
             call = asked.call;
             asks = record { header = is.header; read = is.read; is_call = is.is_call; made_under = context_is old.setting };
-            answered = answered ∙ ap (λ x. refusal_bytes x (refusal_of asked.call)) (sym is.xid);
+            answered = answered ∙ ap (λ x. refusal_message x (refusal_of asked.call)) (sym is.xid);
             nothing = refl;
             unchanged = refl;
           })),
@@ -54,7 +62,8 @@ module _ (host bytes : List ℕ) (moment : Moment) (asked : Asked) (is : IsAsked
         );
       })
 
-  pub refused_result : (old new : PlainValue) (r : Result (Option (Vec ℕ Global)) AllocError) → new ≡ old → IfOk r (λ answer. answer_bytes answer ≡ refusal_bytes asked.xid (refusal_of asked.call))
+  pub refused_result : (old new : PlainValue) (r : Result (Option (Vec ℕ Global)) AllocError) → new ≡ old →
+      IfOk r (λ answer. answer_bytes answer ≡ refusal_message asked.xid (refusal_of asked.call))
       → IfOk r (λ answer. IsAnswered arrival old new (answer_bytes answer))
   refused_result old new (Ok answer) same answered = refused_answered old new (answer_bytes answer) same answered
   refused_result old new (Err e) same answered = tt
@@ -63,20 +72,22 @@ module _ (host bytes : List ℕ) (moment : Moment) (asked : Asked) (is : IsAsked
   executed_answered old new answer made = record {
     setting = made.setting;
     each = λ m stands.
-        let (after, step, then) = made.each m stands in
-        let done : Record = record { arrival = arrival; reply = made.reply; messages = made.messages } in (
-          done ∷ [],
+        let (after, step, then) = made.each m stands in (
+          record { arrival = arrival; reply = made.reply; messages = made.messages } ∷ [],
           after,
           inr (inr (record {
-            done = done;
-            own = refl;
-            executes = record {
-              ctx = context_of old.setting host asked.ids moment;
-              call = asked.call;
-              asks = record { header = is.header; read = is.read; is_call = is.is_call; made_under = context_is old.setting };
-              step = step;
+            ctx = context_of old.setting host asked.ids moment;
+            call = asked.call;
+            asks = record {
+              header = is.header;
+              read = is.read;
+              is_call = is.is_call;
+              made_under = context_is old.setting;
             };
-            answered = made.answered ∙ ap (λ x. success x made.reply) (sym is.xid);
+            reply = made.reply;
+            messages = made.messages;
+            step = step;
+            answered = made.answered ∙ ap (λ x. success_message x made.reply) (sym is.xid);
             one = refl;
           })),
           then,

@@ -1,11 +1,9 @@
 -- Answering one list of records and then another answers both: arrivals, moments, answers and runs follow one another.
 use Rattle.std.proofs.Common.{◌≡◌, ◌≢◌, ℕ, List, [], ◌∷◌, ◌++◌, map, Option, Some, None, ◌⊎◌, inl, inr, refl, sym, ◌∙◌, ap, subst, append_assoc, append-nil}
-use Rattle.std.proofs.lemmas.List.{map-append}
 use Rattle.std.specs.Io.KnownBytes.{Appends}
-use Rattle.nfs_machine.specs.Run.{Setting, Arrival, Record, Run}
+use Rattle.nfs_machine.specs.Run.{Setting, Arrival, FromHost, Record, Run}
 use Rattle.nfs_machine.specs.State.{State}
 use Rattle.nfs_machine.specs.declared.moment.Moment.{Moment}
-use Rattle.nfs_machine.proofs.Modes.{all-joined}
 use Rattle.nfs_machine.proofs.Runs.{run-append}
 use Rattle.nfs_server.specs.Plain.{PlainValue, StandsFor}
 use Rattle.nfs_server.specs.Serving.{AreFrom, Answers, Serves, Ticks}
@@ -15,9 +13,13 @@ use Rattle.nfs_server.specs.declared.serve.StreamFault.TheVariants.{Read, Write,
 
 -- an answer adds one step or none
 answer_run : (setting : Setting) (old new : State) (arrival : Arrival) (answer : List ℕ) (records : List Record) → Answers setting old arrival answer records new → Run setting old records new
-answer_run setting old new arrival answer records (inl early) = subst (λ (rs : List Record). Run setting old rs new) (sym early.nothing) early.unchanged
-answer_run setting old new arrival answer records (inr (inl refused)) = subst (λ (rs : List Record). Run setting old rs new) (sym refused.nothing) refused.unchanged
-answer_run setting old new arrival answer records (inr (inr executed)) = subst (λ (rs : List Record). Run setting old rs new) (sym executed.one) (new, executed.executes, refl)
+answer_run setting old new (FromHost received) answer records (inl early) = subst
+    (λ (rs : List Record). Run setting old rs new) (sym early.nothing) early.unchanged
+answer_run setting old new (FromHost received) answer records (inr (inl refused)) = subst
+    (λ (rs : List Record). Run setting old rs new) (sym refused.nothing) refused.unchanged
+answer_run setting old new (FromHost received) answer records (inr (inr executed)) = subst
+    (λ (rs : List Record). Run setting old rs new) (sym executed.one)
+    (new, record { ctx = executed.ctx; call = executed.call; asks = executed.asks; step = executed.step }, refl)
 
 pub served_run : (setting : Setting) (old new : State) (arrivals : List Arrival) (written : List ℕ) (records : List Record) → Serves setting old arrivals written records new → Run setting old records new
 served_run setting old new [] written records served = subst (λ (rs : List Record). Run setting old rs new) (sym served.1) served.2
@@ -57,11 +59,13 @@ module _ {Clock : Type 0} (gives : Clock → Moment → Clock → Type 0) (host 
   ticks_join first mid last [] later a b = subst (λ (k : Clock). Ticks gives k later last) a b
   ticks_join first mid last (arrival ∷ earlier) later a b = (a.0, a.1, ticks_join a.0 mid last earlier later a.2 b)
 
-  from_join : (c d : List (List ℕ)) (earlier later : List Arrival) → AreFrom host c earlier → AreFrom host d later → AreFrom host (c ++ d) (earlier ++ later)
-  from_join c d earlier later a b = (
-    map-append (λ (x : Arrival). x.bytes) earlier later ∙ ap (λ l. l ++ map (λ (x : Arrival). x.bytes) later) a.0 ∙ ap (λ l. c ++ l) b.0,
-    all-joined (λ (x : Arrival). x.host ≡ host) earlier later a.1 b.1,
-  )
+  from_join : (c d : List (List ℕ)) (earlier later : List Arrival) → AreFrom host c earlier →
+      AreFrom host d later →
+      AreFrom host (c ++ d) (earlier ++ later)
+  from_join [] d [] later a b = b
+  from_join [] d (arrival ∷ earlier) later a b = absurd a
+  from_join (bytes ∷ c) d [] later a b = absurd a
+  from_join (bytes ∷ c) d (arrival ∷ earlier) later a b = (a.0, from_join c d earlier later a.1 b)
 
   module _ (first mid last : Clock) (c d : List (List ℕ)) (old new newest : PlainValue) where
     module _ (w x : List ℕ) (a : AreAnswered gives host c first mid old new w) (b : AreAnswered gives host d mid last new newest x) where
@@ -92,7 +96,16 @@ module _ {Clock : Type 0} (gives : Clock → Moment → Clock → Type 0) (host 
     written = appends_nothing written;
     answered = record {
       setting = refl;
-      each = λ m stands. record { arrivals = []; records = []; after = m; came = (refl, tt); ticked = refl; served = (refl, refl, refl); run = refl; stands = stands };
+      each = λ m stands. record {
+        arrivals = [];
+        records = [];
+        after = m;
+        came = tt;
+        ticked = refl;
+        served = (refl, refl, refl);
+        run = refl;
+        stands = stands;
+      };
     };
   }
 
@@ -148,10 +161,11 @@ module _ {Clock : Type 0} (gives : Clock → Moment → Clock → Type 0) (host 
 
   -- one record is answered, at the clock's next moment
   pub one_answered : (first last : Clock) (moment : Moment) (bytes : List ℕ) (old new : PlainValue) (answer : List ℕ)
-      → gives first moment last → IsAnswered (record { host = host; bytes = bytes; moment = moment }) old new answer
+      → gives first moment last →
+      IsAnswered (FromHost (record { host = host; bytes = bytes; moment = moment })) old new answer
       → AreAnswered gives host (bytes ∷ []) first last old new answer
   one_answered first last moment bytes old new answer ticked a =
-      let arrival : Arrival = record { host = host; bytes = bytes; moment = moment } in
+      let arrival : Arrival = FromHost (record { host = host; bytes = bytes; moment = moment }) in
       record {
         setting = a.setting;
         each = λ m stands.
@@ -161,7 +175,7 @@ module _ {Clock : Type 0} (gives : Clock → Moment → Clock → Type 0) (host 
               arrivals = arrival ∷ [];
               records = records;
               after = after;
-              came = (refl, (refl, tt));
+              came = ((refl, refl), tt);
               ticked = (last, ticked, refl);
               served = serves;
               run = served_run old.setting m after (arrival ∷ []) answer records serves;

@@ -5,16 +5,16 @@ use Rattle.std.proofs.lemmas.Option.{slice_get_past, slice_get_within}
 use Rattle.std.specs.List.{slice_get}
 use Rattle.std.specs.FinMap.{get}
 use Rattle.nfs_wire.specs.declared.attributes.Time.{Time}
-use Rattle.nfs_machine.proofs.Opened.{le_or, opening_formed, root_found, root_none}
+use Rattle.nfs_machine.proofs.Opened.{le_or, opening_formed, root_found, root_none, is_root-opened, root_range}
 use Rattle.nfs_machine.specs.Attributes.{links_of}
-use Rattle.nfs_machine.specs.Exports.{ExportValue, export_at, export_value}
+use Rattle.nfs_machine.specs.ExportFaults.{AreFaultless}
+use Rattle.nfs_machine.specs.Exports.{ExportValue, export_value, opening_exports}
 use Rattle.nfs_machine.specs.declared.context.Limits.{Limits}
 use Rattle.nfs_machine.specs.declared.exports.Export.{Export}
 use Rattle.std.proofs.lemmas.List.{length-map}
 use Rattle.nfs_machine.specs.Opening.{opening, opening_root, opening_roots, time_of}
 use Rattle.nfs_machine.specs.WellFormed.{IsParent}
 use Rattle.nfs_machine.specs.declared.moment.Moment.{Moment}
-use Rattle.nfs_objects.specs.Sound.{RootLives}
 use Rattle.nfs_objects.specs.Stands.{content_of, living_of}
 use Rattle.nfs_objects.specs.declared.directory.Directory.{Directory as DirectoryInode}
 use Rattle.nfs_objects.specs.declared.object.Content.{Content}
@@ -113,19 +113,15 @@ module _ (es : List ExportValue) (moment : Moment) where
       → IsParent (opening es moment) n d.parent
   own_parent n d at is =
       let own : n ≡ d.parent = ap parent_of is in
-      subst (IsParent (opening es moment) n) own (record { directory = opening_root n time; lives = at; named_in = inl (refl, refl) })
+      let within = root_range es moment n (opening_root n time) at in
+      let root = is_root-opened es moment n within.0 within.1 in
+      subst (IsParent (opening es moment) n) own
+      (record { directory = opening_root n time; lives = at; named_in = inl (refl, root) })
 
-  root_lives : (number : ℕ) (e : ExportValue) → export_at es number ≡ Some e → RootLives (opening es moment) number
-  root_lives zero e is = cc
-  root_lives (suc n) e is = record {
-    root = opening_root (suc n) time;
-    lives = root_found time es 1 (suc n) (omega arith) (omega (arith, slice_get_within es n e is));
-    own = refl;
-    directory = refl;
-  }
-
-  pub opening_stands : (p : PlainValue) → p.slots ≡ slots → p.mounts ≡ None → p.setting.exports ≡ es → StandsFor p (opening es moment)
-  opening_stands p is none exports =
+  pub opening_stands : (p : PlainValue) → p.slots ≡ slots → p.mounts ≡ None → p.setting.exports ≡ es →
+      AreFaultless es →
+      StandsFor p (opening es moment)
+  opening_stands p is none exports faultless =
       subst (λ (q : PlainValue). StandsFor q (opening es moment)) (let slots_is = sym is in let mounts_is = sym none in λ i. record { slots = slots_is i; mounts = mounts_is i; setting = p.setting })
       (record {
         represents = record {
@@ -141,13 +137,16 @@ module _ (es : List ExportValue) (moment : Moment) where
         sound = record {
           links = λ n i is. subst (λ (j : Inode). j.links ≡ links_of (opening es moment) n (content_of j.content)) (is_root n i is) refl;
           parents = λ n i d is of. (let r = is_root n i is in own_parent n d (lives n ∙ ap living_of is ∙ ap (λ j. living_of (Some (objects.Inode j))) (sym r)) (ap (λ (j : Inode). j.content) r ∙ of));
-          well_formed = opening_formed es moment;
+          well_formed = opening_formed es moment faultless;
         };
-        roots = λ number e at. root_lives number e (subst (λ (l : List ExportValue). export_at l number ≡ Some e) exports at);
+        exports = ap opening_exports (sym exports);
       })
 
-pub opening_of : (made : List SlotValue) (list : List Export) (es : List ExportValue) (moment : Moment) (start : ℕ) (limits : Limits) → made ≡ root_slots (length list) (time_of moment) → map export_value list ≡ es
+pub opening_of : (made : List SlotValue) (list : List Export) (es : List ExportValue) (moment : Moment) (start : ℕ)
+    (limits : Limits) → made ≡ root_slots (length list) (time_of moment) → map export_value list ≡ es →
+    AreFaultless es
     → StandsFor (record { slots = made; mounts = None; setting = record { start = start; exports = es; limits = limits } }) (opening es moment)
-opening_of made list es moment start limits is exports =
+opening_of made list es moment start limits is exports faultless =
     opening_stands es moment (record { slots = made; mounts = None; setting = record { start = start; exports = es; limits = limits } })
-    (is ∙ ap (λ n. root_slots n (time_of moment)) (sym (length-map list export_value) ∙ ap length exports)) refl refl
+    (is ∙ ap (λ n. root_slots n (time_of moment)) (sym (length-map list export_value) ∙ ap length exports)) refl
+    refl faultless

@@ -13,7 +13,7 @@ use Rattle.side_wire.specs.declared.mount.MountStatus.TheVariants as mount_statu
 use Rattle.nfs_machine.specs.declared.calls.Reply.{Reply}
 use Rattle.nfs_machine.specs.declared.calls.Reply.TheVariants as replies
 use Rattle.nfs_server.specs.Forms.{HasForm}
-use Rattle.nfs_server.specs.Serving.{results_of}
+use Rattle.nfs_machine.specs.RpcReplies.{results_of}
 
 pub mount_refused_size : (s : MountStatus) → length (mount_result_bytes (mount.Mnt (Err s))) ≤ 1000
 unfolding appended with_word with_hyper with_padded with_arm

@@ -15,7 +15,8 @@ use Rattle.nfs_wire.specs.declared.calls.NfsCall.{NfsCall}
 use Rattle.nfs_wire.specs.declared.replies.NfsReply.{NfsReply}
 use Rattle.nfs_machine.proofs.Short.{replies_short, refusals_short}
 use Rattle.nfs_machine.specs.Laws.{IsShort}
-use Rattle.nfs_machine.specs.Exports.{ExportValue}
+use Rattle.nfs_machine.proofs.Kept.{steps_keep_exports}
+use Rattle.nfs_machine.specs.Exports.{ExportValue, opening_exports}
 use Rattle.nfs_machine.specs.MountSteps.{MountStep, MntAnswers}
 use Rattle.nfs_machine.specs.NlmSteps.{NlmStep}
 use Rattle.nfs_machine.specs.State.{State}
@@ -44,7 +45,7 @@ use Rattle.nfs_objects.specs.declared.object.Object.{Object}
 use Rattle.nfs_server.specs.Slots.{SlotValue}
 use Rattle.nfs_server.specs.Forms.{HasForm, RefusalHasForm}
 use Rattle.nfs_server.specs.Plain.{PlainValue, Stands, StandsFor, store_in, store_of}
-use Rattle.nfs_server.specs.Serving.{success}
+use Rattle.nfs_machine.specs.RpcReplies.{success_message}
 
 result_form : (old : State) (ctx : Ctx) (path : List ℕ) (r : Result (List ℕ) MountStatus) (new : State) → MntAnswers old ctx path r new → HasForm (replies.Mount (mount_replies.Mnt r))
 result_form old ctx path (Ok handle) new (found, target, is, then) =
@@ -77,7 +78,7 @@ module _ (d : DoneValue) (old : PlainValue) (promised : IsPromised d) (fits : Fi
   pub reply_form : IsBuilt d.call → Stands old → HasForm d.reply
   reply_form built (m, stands) =
       let step = promised.kept (store_of old) m stands.represents stands.sound
-          (subst (λ (es : List ExportValue). HasExports es m) (sym exports) stands.roots) fits in
+      (subst (λ (es : List ExportValue). HasExports es m) (sym exports) stands.exports) fits in
       step_form m d.ctx d.call d.reply d.messages step.new built stands.sound.well_formed step.step
 
   module _ (new : PlainValue) (made : store_of new ≡ with_writes (store_of old) d.writes) (setting : new.setting ≡ old.setting) where
@@ -87,21 +88,22 @@ module _ (d : DoneValue) (old : PlainValue) (promised : IsPromised d) (fits : Fi
     stepped : (m : State) → StandsFor old m → Stepped m
     stepped m stands =
         let step = promised.kept (store_of old) m stands.represents stands.sound
-            (subst (λ (es : List ExportValue). HasExports es m) (sym exports) stands.roots) fits in
-        let same : d.ctx.exports ≡ new.setting.exports = exports ∙ sym (ap (λ (s : Setting). s.exports) setting) in (
+        (subst (λ (es : List ExportValue). HasExports es m) (sym exports) stands.exports) fits in (
           step.new,
           step.step,
           record {
             represents = subst (λ (s : Store). Represents s step.new) (sym made) step.stands;
             sound = subst (λ (s : Store). Sound s step.new) (sym made) step.sound;
-            roots = subst (λ (es : List ExportValue). HasExports es step.new) same step.roots;
+            exports = (steps_keep_exports m d.ctx d.call d.reply d.messages step.new step.step).exports
+                ∙ stands.exports ∙ ap (λ (s : Setting). opening_exports s.exports) (sym setting);
           },
         )
 
     pub stands_on : Stands old → Stands new
     stands_on (m, stands) = let s = stepped m stands in (s.0, s.2)
 
-    pub makes_step : (xid : ℕ) (answer : List ℕ) → answer ≡ success xid d.reply → MakesStep d.ctx d.call xid old new answer
+    pub makes_step : (xid : ℕ) (answer : List ℕ) → answer ≡ success_message xid d.reply →
+        MakesStep d.ctx d.call xid old new answer
     makes_step xid answer answered = record { setting = setting; reply = d.reply; messages = d.messages; answered = answered; each = stepped }
 
 -- room and then the writes: the store is the old one with the writes

@@ -5,7 +5,7 @@ use Rattle.nfs_rpc.specs.Messages.{CallHeader}
 use Rattle.nfs_rpc.specs.declared.programs.Program.{Program}
 use Rattle.nfs_machine.specs.Run.{IsCall}
 use Rattle.nfs_machine.specs.declared.calls.Call.{Call}
-use Rattle.nfs_server.specs.Serving.{EarlyOf}
+use Rattle.nfs_machine.specs.RpcReplies.{FirstFault}
 use Rattle.nfs_server.specs.declared.asking.Asked.{Asked}
 use Rattle.nfs_server.specs.declared.asking.Unasked.{Unasked}
 use Rattle.nfs_server.specs.declared.asking.Unasked.TheVariants as unasked
@@ -30,5 +30,5 @@ pub record IsAsked (bytes : List ℕ) (asked : Asked) : Type 0 where
 -- a record asks a call, or has a fault
 abbrev pub ReadsRecord : List ℕ → Result Asked Unasked → Type 0
 ReadsRecord bytes (Ok asked) = IsAsked bytes asked
-ReadsRecord bytes (Err (unasked.Early fault)) = EarlyOf bytes fault
+ReadsRecord bytes (Err (unasked.Early fault)) = FirstFault bytes fault
 ReadsRecord bytes (Err unasked.Memory) = Unit {0}

@@ -2,6 +2,7 @@
 use Rattle.std.specs.Prelude.{◌≡◌, ℕ, List}
 use Rattle.side_wire.specs.declared.message.Message.{Message}
 use Rattle.nfs_rpc.specs.declared.credentials.Ids.{Ids}
+use Rattle.nfs_machine.specs.RpcReplies.{success_message}
 use Rattle.nfs_machine.specs.Run.{Setting}
 use Rattle.nfs_machine.specs.State.{State}
 use Rattle.nfs_machine.specs.Step.{Step}
@@ -13,7 +14,6 @@ use Rattle.nfs_objects.specs.Fits.{Fits}
 use Rattle.nfs_objects.specs.Store.{Store}
 use Rattle.nfs_objects.specs.Values.{DoneValue}
 use Rattle.nfs_server.specs.Plain.{PlainValue, StandsFor}
-use Rattle.nfs_server.specs.Serving.{success}
 
 -- the call came to its end on a view that fits the store
 pub record RunsTo (call : Call) (ctx : Ctx) (s : Store) (done : DoneValue) : Type 0 where
@@ -26,6 +26,6 @@ pub record MakesStep (ctx : Ctx) (call : Call) (xid : ℕ) (old new : PlainValue
   pub setting : new.setting ≡ old.setting
   pub reply : Reply
   pub messages : List Message
-  pub answered : answer ≡ success xid reply
-  pub each : (m : State) → StandsFor old m
-      → (after : State) × Step m ctx call reply messages after × StandsFor new after
+  pub answered : answer ≡ success_message xid reply
+  pub each : (m : State) → StandsFor old m → (after : State) × Step m ctx call reply messages after ×
+      StandsFor new after

@@ -27,11 +27,11 @@ store_in slots mounts = record { at = object_at slots mounts; last = λ n. last_
 abbrev pub store_of : PlainValue → Store
 store_of p = store_in p.slots p.mounts
 
--- its store is sound, has the roots, and stands for the state
+-- its store is sound, and stands for the state, whose exports are those that the server was started with
 pub record StandsFor (p : PlainValue) (m : State) : Type 0 where
   pub represents : Represents (store_of p) m
   pub sound : Sound (store_of p) m
-  pub roots : HasExports p.setting.exports m
+  pub exports : HasExports p.setting.exports m
 
 -- there is a slot for what stands there
 abbrev pub HasRoom : List SlotValue → Addr → Type 0

@@ -3,7 +3,8 @@
 ghost use Rattle.std.specs.Prelude.{◌≡◌, ◌++◌, IfOk, OnOk};
 ghost use Rattle.nfs_server.specs.Forms.{HasForm, RefusalHasForm};
 ghost use Rattle.nfs_server.specs.Served.{answer_bytes};
-ghost use Rattle.nfs_server.specs.Serving.{early_bytes, failure, refusal_bytes, results_of, success};
+ghost use Rattle.nfs_machine.specs.RpcReplies.{failure_message, fault_message, refusal_message, results_of};
+ghost use Rattle.nfs_machine.specs.RpcReplies.{success_message};
 
 use nfs_machine::{Refusal, Reply};
 use nfs_rpc::{Answer, Early, Fault, finish_record, start_record, write_reply};
@@ -17,14 +18,14 @@ const CAPACITY: usize = 256;
 /// A call that was carried out is answered by its results.
 pub(crate) fn success(alloc: Global, xid: u32, reply: &Reply) -> Result<Vec<u8>, AllocError>
     requires { HasForm reply.now }
-    ensures { IfOk result (λ bytes. bytes.items ≡ success xid reply.now) }
+    ensures { IfOk result (λ bytes. bytes.items ≡ success_message xid reply.now) }
 {
     write_success(alloc, xid, reply).map_err(|_| AllocError)
 }
 
 fn write_success(alloc: Global, xid: u32, reply: &Reply) -> Result<Vec<u8>, XdrError>
     requires { HasForm reply.now }
-    ensures { IfOk result (λ bytes. bytes.items ≡ success xid reply.now) }
+    ensures { IfOk result (λ bytes. bytes.items ≡ success_message xid reply.now) }
 {
     let mut writer = start_record(alloc, CAPACITY)?;
     write_reply(&mut writer, xid, Answer::Success)?;
@@ -34,7 +35,7 @@ fn write_success(alloc: Global, xid: u32, reply: &Reply) -> Result<Vec<u8>, XdrE
 
 /// A call that was not carried out is answered by its fault.
 pub(crate) fn failure(alloc: Global, xid: u32, fault: Fault) -> Result<Vec<u8>, AllocError>
-    ensures { IfOk result (λ bytes. bytes.items ≡ failure xid fault) }
+    ensures { IfOk result (λ bytes. bytes.items ≡ failure_message xid fault) }
 {
     let mut writer = start_record(alloc, CAPACITY).map_err(|_| AllocError)?;
     write_reply(&mut writer, xid, Answer::Failure(fault)).map_err(|_| AllocError)?;
@@ -43,7 +44,7 @@ pub(crate) fn failure(alloc: Global, xid: u32, fault: Fault) -> Result<Vec<u8>, 
 
 /// A record with a fault is answered by it, or dropped.
 pub(crate) fn early(alloc: Global, early: Early) -> Result<Option<Vec<u8>>, AllocError>
-    ensures { IfOk result (λ answer. answer_bytes answer ≡ early_bytes early) }
+    ensures { IfOk result (λ answer. answer_bytes answer ≡ fault_message early) }
 {
     match early {
         Early::Drop => Ok(None),
@@ -54,7 +55,7 @@ pub(crate) fn early(alloc: Global, early: Early) -> Result<Option<Vec<u8>>, Allo
 /// A call that there was no memory for is answered by its refusal.
 pub(crate) fn refuse(alloc: Global, xid: u32, refusal: &Refusal) -> Result<Vec<u8>, AllocError>
     requires { RefusalHasForm refusal.now }
-    ensures { IfOk result (λ bytes. bytes.items ≡ refusal_bytes xid refusal.now) }
+    ensures { IfOk result (λ bytes. bytes.items ≡ refusal_message xid refusal.now) }
 {
     match refusal {
         Refusal::Reply(reply) => success(alloc, xid, reply),

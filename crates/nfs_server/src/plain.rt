@@ -11,11 +11,11 @@ ghost use Rattle.nfs_machine.specs.Refusal.{refusal_of};
 ghost use Rattle.nfs_server.specs.Asked.{IsAsked};
 ghost use Rattle.nfs_server.specs.Built.{IsBuilt};
 ghost use Rattle.nfs_server.specs.Executed.{MakesStep, RunsTo};
-ghost use Rattle.nfs_machine.specs.Run.{context_of};
+ghost use Rattle.nfs_machine.specs.Run.{FromHost, context_of};
 ghost use Rattle.nfs_server.specs.Plain.{StandsFor, store_of};
 ghost use Rattle.nfs_server.specs.Roots.{root_of, root_slots};
 ghost use Rattle.nfs_server.specs.Served.{IsAnswered, answer_bytes};
-ghost use Rattle.nfs_server.specs.Serving.{refusal_bytes};
+ghost use Rattle.nfs_machine.specs.RpcReplies.{refusal_message};
 
 use crate::answers;
 use crate::asking::{Asked, Unasked, read_record};
@@ -110,7 +110,7 @@ impl Plain {
     ) -> Result<Option<Vec<u8>>, AllocError>
         requires { (1 ≤ length host.now) × (length host.now ≤ 255) }
         ensures ok { IfOk result
-            (λ answer. IsAnswered (record { host = host.now; bytes = message; moment = moment })
+            (λ answer. IsAnswered (FromHost (record { host = host.now; bytes = message; moment = moment }))
             self.old self.new (answer_bytes answer)) }
         ensures err { OnErr result (self.new ≡ self.old) }
     {
@@ -136,7 +136,7 @@ impl Plain {
     ) -> Result<Option<Vec<u8>>, AllocError>
         requires { IsAsked message.now asked.now }
         ensures ok { IfOk result
-            (λ answer. IsAnswered (record { host = host.now; bytes = message.now; moment = moment })
+            (λ answer. IsAnswered (FromHost (record { host = host.now; bytes = message.now; moment = moment }))
             self.old self.new (answer_bytes answer)) }
         ensures err { OnErr result (self.new ≡ self.old) }
     {
@@ -258,7 +258,7 @@ impl Plain {
 /// The answer to a call that there was no memory for.
 fn refuse(alloc: Global, asked: &Asked) -> Result<Option<Vec<u8>>, AllocError>
     requires { IsBuilt asked.now.call }
-    ensures { IfOk result (λ answer. answer_bytes answer ≡ refusal_bytes asked.now.xid (refusal_of asked.now.call)) }
+    ensures { IfOk result (λ answer. answer_bytes answer ≡ refusal_message asked.now.xid (refusal_of asked.now.call)) }
 {
     let refusal = asked.call.refusal()?;
     let answer = answers::refuse(alloc, asked.xid, &refusal);

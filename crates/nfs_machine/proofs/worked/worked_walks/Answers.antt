@@ -14,7 +14,8 @@ returns c = record {
   nothing = refl;
   admitted = record {
     leads = record
-        { export = record { number = 2; root = 2; value = lower_export }; stands = refl; admitted = refl; begins = refl };
+        { export = record { number = 2; root = 2; value = lower_export }; stands = refl; admitted = refl;
+            begins = refl };
     longest = λ other more leads. omega arith;
   };
   not_admitted = record {

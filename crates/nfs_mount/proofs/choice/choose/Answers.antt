@@ -5,10 +5,12 @@ use Rattle.nfs_mount.proofs.choice.choose.Goals as goal
 
 pub loop-index-preserved : goal.loop-index-preserved
 loop-index-preserved c =
-    let at = item_at c.args.ctx.now.exports c.list-export-items.result.now c.loop-index.index c.export-item.result c.list-export-items.ensures c.loop-index-test.true c.export-item.is in
+    let at = item_at c.args.ctx.now.exports c.list-export-items.result.now c.loop-index.index c.export-item.result
+    c.list-export-items.ensures.list c.loop-index-test.true c.export-item.is in
     rw c.deeper-best.ensures (best_step c.args.ctx.now.exports c.args.ctx.now.host (parts c.args.path.now) c.loop-index.index (export_value c.export-item.result) at _ _ c.loop-index.invariant c.lead.ensures)
 
 pub returns : goal.returns
 returns c =
-    let all = all_seen c.args.ctx.now.exports c.list-export-items.result.now c.loop-index.index c.list-export-items.ensures c.loop-index-test.false in
+    let all = all_seen c.args.ctx.now.exports c.list-export-items.result.now c.loop-index.index
+    c.list-export-items.ensures.list c.loop-index-test.false in
     best_of_all c.args.ctx.now.exports c.args.ctx.now.host (parts c.args.path.now) c.loop-index.index c.loop-index.best all c.loop-index.invariant

@@ -3,7 +3,7 @@ use Rattle.nfs_objects.specs.Values.{write_value}
 use Rattle.nfs_objects.specs.declared.done.Write.{Write}
 use Rattle.nfs_server.specs.Forms.{HasForm}
 use Rattle.nfs_server.specs.Plain.{PlainValue, Stands}
-use Rattle.nfs_server.specs.Serving.{success}
+use Rattle.nfs_machine.specs.RpcReplies.{success_message}
 use Rattle.nfs_server.proofs.Rounds.{AllRoom}
 use Rattle.nfs_server.proofs.Steps.{makes_step, reply_form, stands_on, store_made}
 use Rattle.nfs_server.proofs.plain.Plain.commit.Goals as goal
@@ -28,4 +28,5 @@ pub returns-clause-ok : goal.returns-clause-ok
 returns-clause-ok c =
     makes_step _ _ c.promise.ensures c.requires.fits c.requires.exports _
     (store_made _ _ _ _ _ _ _ _ _ c.install.ensures c.in_ok-make_room.ensures.same c.self.view_is (c.in_ok-writes.ensures ∙ c.writes.ensures))
-    (ap (λ (p : PlainValue). p.setting) c.self.view_is) _ _ (c.in_ok-answer.ensures ∙ ap (success c.args.xid) c.reply.ensures)
+    (ap (λ (p : PlainValue). p.setting) c.self.view_is) _ _
+    (c.in_ok-answer.ensures ∙ ap (success_message c.args.xid) c.reply.ensures)
