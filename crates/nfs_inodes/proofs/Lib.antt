@@ -1,2 +1,3 @@
 pub mod Attributed
 pub mod Meant
+pub mod Passed

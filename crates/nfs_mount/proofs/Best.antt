@@ -8,7 +8,7 @@ use Rattle.std.proofs.lemmas.Option.{slice_get-map, slice_get_read}
 use Rattle.std.specs.List.{slice_get}
 use Rattle.nfs_machine.specs.Exports.{ExportValue, LivingExport, admits, export_at, export_value, opening_exports}
 use Rattle.nfs_machine.proofs.Exported.{export-all, export-number}
-use Rattle.nfs_machine.proofs.Ordered.{all-numbered, opened-at, with_number}
+use Rattle.nfs_machine.proofs.Ordered.{all-numbered, opened-at, opened-zero, with_number}
 use Rattle.nfs_machine.specs.MountSteps.{Chosen, Leads}
 use Rattle.nfs_machine.specs.Paths.{parts}
 use Rattle.nfs_machine.specs.declared.exports.Export.{Export}
@@ -120,6 +120,15 @@ module _ (exports : List ExportValue) (host : List ℕ) (names : List (List ℕ)
   best_of_all count None all none = λ number rest leads. none number rest (omega (arith, number_within number rest leads)) leads
   best_of_all count (Some c) all best =
       record { leads = best.0; longest = λ number rest leads. best.2 number rest (omega (arith, number_within number rest leads)) leads }
+
+-- numbers are from 1, so none leads there before the first was seen
+pub none_first : (exports : List ExportValue) (host : List ℕ) (names : List (List ℕ)) (number : ℕ)
+    (rest : List (List ℕ)) → number ≤ 0 → Leads (opening_exports exports) host names number rest → ⊥
+none_first exports host names number rest le leads =
+    let zero : 0 ≡ number = omega (arith, le) in
+    let both : None ≡ Some leads.export =
+    sym (opened-zero exports) ∙ ap (export_at (opening_exports exports)) zero ∙ leads.stands in
+    cc
 
 -- the export at a place of the list
 pub item_at : (exports : List ExportValue) (list : List Export) (i : ℕ) (e : Export) → map export_value list ≡ exports → i < length list → e ≡ get_or list i e

@@ -1,7 +1,10 @@
 use Rattle.nfs_machine.specs.Exports.{export_value}
 use Rattle.nfs_machine.specs.Paths.{parts}
-use Rattle.nfs_mount.proofs.Best.{all_seen, best_of_all, best_step, item_at}
+use Rattle.nfs_mount.proofs.Best.{all_seen, best_of_all, best_step, item_at, none_first}
 use Rattle.nfs_mount.proofs.choice.choose.Goals as goal
+
+pub loop-index-init : goal.loop-index-init
+loop-index-init c = none_first c.args.ctx.now.exports c.args.ctx.now.host (parts c.args.path.now)
 
 pub loop-index-preserved : goal.loop-index-preserved
 loop-index-preserved c =
