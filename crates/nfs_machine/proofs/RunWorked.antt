@@ -507,7 +507,7 @@ worked-leaving k of_root of_x two = record {
           tt,
           losing_name
               (with_object (with_writable k) 1
-                  (with_content root_with_both (time 1000 0) (Directory (y_entry ∷ []) 4)))
+              (with_content root_with_both (time 1000 0) (Directory (y_entry ∷ []) 4)))
               n (time 1000 0) 5 x_written,
         )) two
 

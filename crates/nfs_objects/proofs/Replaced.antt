@@ -122,9 +122,9 @@ module _ (s : Store) (m : State) (number : ℕ) (old new : Inode) (at : s.at (ad
           | inl here ↦
               let was : new.content ≡ contents.Directory d = ap (λ (j : Inode). j.content) here.1 ∙ is in
               let kind : is_directory (content_of old.content) ≡ true = sym keeps.kind ∙ ap
-                  (λ c. is_directory (content_of c)) was in
+              (λ c. is_directory (content_of c)) was in
               subst (λ k. IsParent m k d.parent) here.0
-                  (sound.parents number old d at (sym (keeps.content kind) ∙ was))
+              (sound.parents number old d at (sym (keeps.content kind) ∙ was))
           | inr other ↦ sound.parents n i d other is
         ]);
     well_formed = formed;

@@ -1,7 +1,7 @@
 -- The slots that a server starts with stand for the machine's opening state: the roots live, and nothing else.
 use Rattle.std.proofs.Common.{◌≡◌, ℕ, zero, suc, ◌+◌, ◌<◌, ◌≤◌, inl, inr, nat_le, ◌&&◌, if◌then◌else◌, List, [], ◌∷◌, ◌++◌, length, length-append, map, Option, Some, None, refl, sym, ◌∙◌, ap, subst, arith}
 use Rattle.std.proofs.lemmas.Bool.Decides.{nat_tests}
-use Rattle.std.proofs.lemmas.Option.{slice_get_past, slice_get_within}
+use Rattle.std.proofs.lemmas.Option.{slice_get_past}
 use Rattle.std.specs.List.{slice_get}
 use Rattle.std.specs.FinMap.{get}
 use Rattle.nfs_wire.specs.declared.attributes.Time.{Time}
@@ -101,9 +101,9 @@ module _ (es : List ExportValue) (moment : Moment) where
         | inr h ↦ (let e : last_given (suc n) ≡ 0 = grind (arith, nat_tests) in e) ∙ sym (ap last_in (slot_none time (length es) (suc n) h))
       ]
 
-  is_root : (n : ℕ) (i : Inode) → object_in (slice_get slots n) ≡ Some (objects.Inode i) → root_of n time ≡ i
-  is_root zero i is = let none : None ≡ Some (objects.Inode i) = sym (ap object_in (slot_zero time (length es))) ∙ is in cc
-  is_root (suc n) i is =
+  root-there : (n : ℕ) (i : Inode) → object_in (slice_get slots n) ≡ Some (objects.Inode i) → root_of n time ≡ i
+  root-there zero i is = let none : None ≡ Some (objects.Inode i) = sym (ap object_in (slot_zero time (length es))) ∙ is in cc
+  root-there (suc n) i is =
       elim (le_or (suc n) (length es)) [
         | inl h ↦ (let some : Some (objects.Inode (root_of (suc n) time)) ≡ Some (objects.Inode i) = sym (ap object_in (slot_root time (length es) (suc n) (omega arith) h)) ∙ is in cc)
         | inr h ↦ (let none : None ≡ Some (objects.Inode i) = sym (ap object_in (slot_none time (length es) (suc n) h)) ∙ is in absurd cc)
@@ -135,8 +135,8 @@ module _ (es : List ExportValue) (moment : Moment) where
           no_spent_grants = λ n. refl;
         };
         sound = record {
-          links = λ n i is. subst (λ (j : Inode). j.links ≡ links_of (opening es moment) n (content_of j.content)) (is_root n i is) refl;
-          parents = λ n i d is of. (let r = is_root n i is in own_parent n d (lives n ∙ ap living_of is ∙ ap (λ j. living_of (Some (objects.Inode j))) (sym r)) (ap (λ (j : Inode). j.content) r ∙ of));
+          links = λ n i is. subst (λ (j : Inode). j.links ≡ links_of (opening es moment) n (content_of j.content)) (root-there n i is) refl;
+          parents = λ n i d is of. (let r = root-there n i is in own_parent n d (lives n ∙ ap living_of is ∙ ap (λ j. living_of (Some (objects.Inode j))) (sym r)) (ap (λ (j : Inode). j.content) r ∙ of));
           well_formed = opening_formed es moment faultless;
         };
         exports = ap opening_exports (sym exports);

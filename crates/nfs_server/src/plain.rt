@@ -258,7 +258,8 @@ impl Plain {
 /// The answer to a call that there was no memory for.
 fn refuse(alloc: Global, asked: &Asked) -> Result<Option<Vec<u8>>, AllocError>
     requires { IsBuilt asked.now.call }
-    ensures { IfOk result (λ answer. answer_bytes answer ≡ refusal_message asked.now.xid (refusal_of asked.now.call)) }
+    ensures { IfOk result
+        (λ answer. answer_bytes answer ≡ refusal_message asked.now.xid (refusal_of asked.now.call)) }
 {
     let refusal = asked.call.refusal()?;
     let answer = answers::refuse(alloc, asked.xid, &refusal);

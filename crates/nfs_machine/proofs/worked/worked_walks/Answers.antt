@@ -13,9 +13,12 @@ returns c = record {
   through_file = refl;
   nothing = refl;
   admitted = record {
-    leads = record
-        { export = record { number = 2; root = 2; value = lower_export }; stands = refl; admitted = refl;
-            begins = refl };
+    leads = record {
+      export = record { number = 2; root = 2; value = lower_export };
+      stands = refl;
+      admitted = refl;
+      begins = refl;
+    };
     longest = λ other more leads. omega arith;
   };
   not_admitted = record {
