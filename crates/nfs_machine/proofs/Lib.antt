@@ -55,3 +55,4 @@ mod Settled
 pub mod Within
 pub mod Taken
 pub mod Short
+mod Statuses

@@ -38,6 +38,7 @@ pub mod Run
 pub mod Shown
 pub mod SideLaws
 pub mod State
+pub mod StatusLaws
 pub mod Step
 pub mod TimeLaws
 pub mod Times

@@ -14,6 +14,7 @@ ghost use Rattle.nfs_machine.specs.SideLaws.{LocksStayFit, MountRefusalsChangeNo
 ghost use Rattle.nfs_machine.specs.SideLaws.{MountsStayFit, NlmMessagesHaveForm, NlmRefusalsChangeNothing};
 ghost use Rattle.nfs_machine.specs.SideLaws.{NlmRepliesHaveForm, OpeningFits, PostedRefusalsChangeNothing};
 ghost use Rattle.nfs_machine.specs.SideLaws.{RunsStayFit, SpelledCallsFit};
+ghost use Rattle.nfs_machine.specs.StatusLaws.{MountNeverAnswers, NfsNeverAnswers};
 ghost use Rattle.nfs_machine.specs.TimeLaws.{RunsNeverFall, StepsTouchOnce, TimesNeverFall, TimesRise};
 
 use side_wire::{mount, nlm};
@@ -224,4 +225,14 @@ pub fn side_refusals_change_nothing()
 /// Such locks and ranges are in `worked_tests`.
 pub fn listed_locks_tell()
     ensures { ListedLocksTell }
+{}
+
+/// No call of NFS is answered with NFS3ERR_JUKEBOX, NFS3ERR_SERVERFAULT, NFS3ERR_IO, NFS3ERR_NXIO, NFS3ERR_NODEV,
+/// NFS3ERR_DQUOT, NFS3ERR_REMOTE or NFS3ERR_NOTSUPP, in any state, and no call of MOUNT with MNT3ERR_SERVERFAULT,
+/// MNT3ERR_PERM, MNT3ERR_IO or MNT3ERR_NOTSUPP. So what want of memory answers is no step.
+///
+/// Calls that are refused with other statuses are in `worked_steps`.
+pub fn statuses_never_answered()
+    ensures nfs { NfsNeverAnswers }
+    ensures mount { MountNeverAnswers }
 {}
