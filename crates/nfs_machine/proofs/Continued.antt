@@ -4,7 +4,7 @@ use Rattle.std.proofs.lemmas.Bool.{leb-true, leb-false}
 use Rattle.std.specs.Cmp.{unsigned_Decides}
 use Rattle.std.specs.FinMap.{get}
 use Rattle.nfs_wire.specs.declared.attributes.Time.{Time}
-use Rattle.nfs_machine.specs.Attributes.{entries_of, names_of}
+use Rattle.nfs_machine.specs.Attributes.{entries_of, is_directory, names_of}
 use Rattle.nfs_machine.specs.Laws.{GivesOnce, KeepsCookies, KeepsEntries, LivesAs}
 use Rattle.nfs_machine.specs.RemoveSteps.{losing_name, without_object}
 use Rattle.nfs_machine.specs.Shown.{touched, with_content, with_object}
@@ -19,6 +19,7 @@ use Rattle.nfs_machine.proofs.Loose.{Loose, also, fastened, loose-come, loose-to
 -- an object in the place of another: under the same handle, changed at this time, with no new text, and with entries that keep their cookies
 pub record Turns (now : Time) (was is : Living) : Type 0 where
   pub generation : is.generation ≡ was.generation
+  pub kind : is_directory is.content ≡ is_directory was.content
   pub text : (t : List ℕ) → is.content ≡ Link t → was.content ≡ Link t
   pub changed : is.changed ≡ touch was.changed now
   pub entries : KeepsEntries (entries_of was.content) (entries_of is.content)
@@ -48,6 +49,19 @@ module _ (now : Time) where
       elim p.2 [
         | inl stays ↦ inl (stays ∙ same)
         | inr t ↦ inr (t.changed ∙ ap (λ (x : Living). touch x.changed now) same)
+      ]
+
+  pub kinds-continued : (old new : State) → Continues now old new → (n : ℕ) (was is : Living) →
+      get old.objects n ≡ Some was → get new.objects n ≡ Some is →
+      is_directory is.content ≡ is_directory was.content
+  kinds-continued old new c n was is at there =
+      let p = c.lived n is there in
+      let same : p.0 ≡ was = (let both : Some p.0 ≡ Some was = sym p.1 ∙ at in cc) in
+      let of-was : is_directory p.0.content ≡ is_directory was.content = ap
+      (λ (x : Living). is_directory x.content) same in
+      elim p.2 [
+        | inl stays ↦ ap (λ (x : Living). is_directory x.content) stays ∙ of-was
+        | inr t ↦ t.kind ∙ of-was
       ]
 
   pub cookies-continued : (old new : State) → Continues now old new → KeepsCookies old new
@@ -94,11 +108,21 @@ module _ (now : Time) (old mid : State) (c : Continues now old mid) (number : �
 
   -- its time of change alone
   pub continues-touched : Continues now old (with_object mid number (touched was now))
-  continues-touched = continues-over (touched was now) (record { generation = refl; text = λ t e. e; changed = refl; entries = kept-same (entries_of was.content) })
+  continues-touched = continues-over (touched was now)
+      (record {
+        generation = refl;
+        kind = refl;
+        text = λ t e. e;
+        changed = refl;
+        entries = kept-same (entries_of was.content);
+      })
 
   -- a directory with other entries
-  pub continues-with : (entries : List Entry) (last : ℕ) → KeepsEntries (entries_of was.content) entries → Continues now old (with_object mid number (with_content was now (Directory entries last)))
-  continues-with entries last keeps = continues-over (with_content was now (Directory entries last)) (record { generation = refl; text = λ t e. cc; changed = refl; entries = keeps })
+  pub continues-with : is_directory was.content ≡ true → (entries : List Entry) (last : ℕ) →
+      KeepsEntries (entries_of was.content) entries →
+      Continues now old (with_object mid number (with_content was now (Directory entries last)))
+  continues-with kind entries last keeps = continues-over (with_content was now (Directory entries last))
+      (record { generation = refl; kind = sym kind; text = λ t e. cc; changed = refl; entries = keeps })
 
   pub continues-losing : (names : ℕ) → Continues now old (losing_name mid names now number was)
   continues-losing names =

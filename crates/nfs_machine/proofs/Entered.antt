@@ -148,7 +148,7 @@ module _ (old new : State) (place number : ℕ) (directory wider made : Living) 
     names_of-new : (n : ℕ) → names_of new n ≡ names_of old n + cond (number == n) 1 0
     names_of-new n = omega (arith, names_of-added mid new place number directory wider made name adds n, names_of-come old mid number None (Some made) comes n)
 
-    names_of-kept : (n : ℕ) (o : Living) → get old.objects n ≡ Some o → names_of new n ≡ names_of old n
+    pub names_of-kept : (n : ℕ) (o : Living) → get old.objects n ≡ Some o → names_of new n ≡ names_of old n
     names_of-kept n o at =
         let none : cond {A = ℕ} (number == n) 1 0 ≡ 0 = ap (λ b. cond b 1 0) (flipped n number (lives-apart n o at)) in
         omega (arith, names_of-new n, none)

@@ -37,9 +37,12 @@ use Rattle.nfs_machine.specs.Times.{time_of, touch}
 use Rattle.nfs_machine.specs.WellFormed.{WellFormed}
 use Rattle.nfs_machine.specs.declared.context.Ctx.{Ctx}
 use Rattle.nfs_machine.proofs.Changes.{differs-insert, differs-other, differs-there}
-use Rattle.nfs_machine.proofs.Continued.{Continues, Turns, continues-itself, continues-over, continues-with, cookies-continued, gives-continued, lived-as, texts-continued, touches-continued}
+use Rattle.nfs_machine.proofs.Continued.{Continues, Turns, kinds-continued, continues-itself, continues-over}
+use Rattle.nfs_machine.proofs.Continued.{continues-with, cookies-continued, gives-continued, lived-as}
+use Rattle.nfs_machine.proofs.Continued.{texts-continued, touches-continued}
 use Rattle.nfs_machine.proofs.Cookies.{kept-added, kept-of, kept-same}
-use Rattle.nfs_machine.proofs.Entered.{MakesEntry, well_formed-made}
+use Rattle.nfs_machine.proofs.Counted.{Counts, counts-kept}
+use Rattle.nfs_machine.proofs.Entered.{MakesEntry, names_of-kept, well_formed-made}
 use Rattle.nfs_machine.proofs.Facts.{chained-is, is-directory, is-regular, resolved-lives, write_end}
 use Rattle.nfs_machine.proofs.Loose.{well_formed-alike}
 use Rattle.nfs_machine.proofs.Modes.{all-left, apart-but, but, mode-but, mode-gone, shares-left}
@@ -58,6 +61,7 @@ pub record Follows (now : Time) (old new : State) : Type 0 where
   pub touches : TouchesOnce now old new
   pub cookies : KeepsCookies old new
   pub formed : WellFormed old → WellFormed new
+  pub counts : WellFormed old → Counts now old new
   pub locks : LocksFollow old new
   pub exports : KeepsExports old new
   -- what is mounted, held and waited for stays within its bounds
@@ -114,6 +118,7 @@ follows-itself now m =
       touches = touches-continued now m m (continues-itself now m);
       cookies = cookies-continued now m m (continues-itself now m);
       formed = λ w. w;
+      counts = λ w. counts-kept now m m (continues-itself now m) (λ n. refl);
       locks = record { apart = λ h. h; waits = λ h. h };
       exports = record { exports = refl; last = refl };
       mounts = refl;
@@ -144,6 +149,7 @@ follows-altered now m number was is lives alters =
           well_formed-alike m (with_object m number is) (replaced-alike m number was is lives alters.keeps)
           (replaced-names m number was is lives alters.keeps) (λ n g e. e) (record { exports = refl; last = refl })
           (texts-continued now m (with_object m number is) c w.texts) w;
+      counts = λ w. counts-kept now m (with_object m number is) c (replaced-names m number was is lives alters.keeps);
       locks = record { apart = λ h. h; waits = λ h. h };
       exports = record { exports = refl; last = refl };
       mounts = refl;
@@ -157,7 +163,13 @@ follows-replaced now m number was (Some o) lives alters = follows-altered now m 
 alters-regular : (o : Living) (now : Time) (bytes : List ℕ) → is_directory o.content ≡ false → Alters now o (with_content o now (Regular bytes))
 alters-regular o now bytes plain = record {
   keeps = record { export = refl; generation = refl; kind = sym plain; content = λ e. (let no : true ≡ false = sym e ∙ plain in cc) };
-  turns = record { generation = refl; text = λ t e. cc; changed = refl; entries = λ name e f before after number. cc };
+  turns = record {
+    generation = refl;
+    kind = sym plain;
+    text = λ t e. cc;
+    changed = refl;
+    entries = λ name e f before after number. cc;
+  };
 }
 
 module _ (m : State) (ctx : Ctx) where
@@ -230,7 +242,8 @@ module _ (m : State) (ctx : Ctx) where
       keeps = kept-of directory.content entries _ last content (kept-added entries entries _ (kept-same entries) (λ e there same. cc))
 
       wide : Continues (time_of ctx.moment) m (with_object m number wider)
-      wide = continues-with (time_of ctx.moment) m m (continues-itself (time_of ctx.moment) m) number directory lives _ _ keeps
+      wide = continues-with (time_of ctx.moment) m m (continues-itself (time_of ctx.moment) m) number directory lives
+          (ap is_directory content) _ _ keeps
 
       other : (n : ℕ) → (n == fresh.number) ≡ false → get new.objects n ≡ get (with_object m number wider).objects n
       other n e = differs-other (with_object m number wider).objects new.objects fresh.number (Some o) (differs-insert (with_object m number wider).objects fresh.number o) n e
@@ -300,12 +313,26 @@ module _ (m : State) (ctx : Ctx) where
           well_formed-made m new number fresh.number directory wider o name (makes w) w
           (texts-put (with_object m number wider) fresh.number o (texts-continued (time_of ctx.moment) m (with_object m number wider) wide w.texts) text)
 
+      counts : WellFormed m → Counts (time_of ctx.moment) m new
+      counts w = record {
+        kinds = λ n was is at there. elim (n == fresh.number) as
+            (λ b. (n == fresh.number) ≡ b → is_directory is.content ≡ is_directory was.content) [
+              | true ↦ λ e. (let none : get m.objects n ≡ None = ap (get m.objects)
+                  ((unsigned_Decides n fresh.number).0 e) ∙ fresh.free in cc)
+              | false ↦ λ e. kinds-continued (time_of ctx.moment) m (with_object m number wider) wide n was is at
+                  (sym (other n e) ∙ there)
+            ] refl;
+        names = λ n was is at there. inl
+            (names_of-kept m new number fresh.number directory wider o name (makes w) w n was at);
+      }
+
       made-follows : Follows (time_of ctx.moment) m new
       made-follows = record {
         gives = gives;
         touches = touches;
         cookies = cookies;
         formed = formed;
+        counts = counts;
         locks = record { apart = λ h. h; waits = λ h. h };
         exports = record { exports = refl; last = refl };
         mounts = refl;

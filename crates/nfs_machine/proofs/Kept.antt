@@ -44,7 +44,7 @@ use Rattle.nfs_machine.specs.Shown.{touched, with_object}
 use Rattle.nfs_machine.specs.SideLaws.{LocksFit}
 use Rattle.nfs_machine.specs.State.{Directory, Living, State, Entry}
 use Rattle.nfs_machine.specs.Step.{Step}
-use Rattle.nfs_machine.specs.TimeLaws.{StepsTouchOnce, TouchesOnce}
+use Rattle.nfs_machine.specs.TimeLaws.{StepsShowChanges, StepsTouchOnce, TouchesOnce}
 use Rattle.nfs_machine.specs.Times.{time_of}
 use Rattle.nfs_machine.specs.WellFormed.{WellFormed}
 use Rattle.nfs_machine.specs.declared.calls.Call.{Call}
@@ -53,6 +53,7 @@ use Rattle.nfs_machine.specs.declared.calls.Reply.{Reply}
 use Rattle.nfs_machine.specs.declared.calls.Reply.TheVariants as replies
 use Rattle.nfs_machine.specs.declared.context.Ctx.{Ctx}
 use Rattle.nfs_machine.proofs.Continued.{cookies-continued, gives-continued, touches-continued}
+use Rattle.nfs_machine.proofs.Counted.{Counts, counts-kept, shows-changes}
 use Rattle.nfs_machine.proofs.Facts.{chained-is, holds, is-directory, leads-found, resolved-lives, setattr_end, write_end}
 use Rattle.nfs_machine.proofs.Follows.{EndFollows, Follows, LocksFollow, Plain, bounds-losing, ends-follow}
 use Rattle.nfs_machine.proofs.Follows.{exports-losing, follows-after, follows-itself, locks-losing, make-follows}
@@ -61,7 +62,7 @@ use Rattle.nfs_machine.proofs.Locking.{nlm-touches}
 use Rattle.nfs_machine.proofs.Loose.{well_formed-alike}
 use Rattle.nfs_machine.proofs.Moves.{GoesIntoItself, Move, named_as, remove_end, rmdir_end, with_moved, with_names_moved, without_replaced}
 use Rattle.nfs_machine.proofs.Planned.{IsBegun, IsMove, continues-moved, moves-free, moves-over}
-use Rattle.nfs_machine.proofs.Renamed.{well_formed-moved}
+use Rattle.nfs_machine.proofs.Renamed.{counts-moved, well_formed-moved}
 use Rattle.nfs_machine.proofs.Setting.{setattr-follows}
 use Rattle.nfs_machine.proofs.Taken.{link-follows, remove-follows, rmdir-follows, is-under}
 use Rattle.nfs_machine.proofs.Waiting.{nlm-waits}
@@ -129,6 +130,7 @@ module _ (old : State) (ctx : Ctx) where
     touches = touches-continued now old (with_moved old now move) (continues-moved old now move is);
     cookies = cookies-continued now old (with_moved old now move) (continues-moved old now move is);
     formed = λ w. well_formed-moved old now move is w out;
+    counts = λ w. counts-moved old now move is w out;
     locks = moved-locks now move move.replaced;
     exports = moved-exports now move move.replaced;
     mounts = moved-mounts now move move.replaced;
@@ -242,6 +244,7 @@ record Keeps (now : Time) (old new : State) : Type 0 where
   pub touches : TouchesOnce now old new
   pub cookies : KeepsCookies old new
   pub formed : WellFormed old → WellFormed new
+  pub counts : WellFormed old → Counts now old new
   pub locks : LocksFollow old new
   pub exports : KeepsExports old new
 
@@ -251,6 +254,7 @@ keeps now old new f = record {
   touches = f.touches;
   cookies = f.cookies;
   formed = f.formed;
+  counts = f.counts;
   locks = f.locks;
   exports = f.exports;
 }
@@ -266,6 +270,8 @@ with-mounts now m mounts = record {
   cookies = cookies-continued now m (record m { mounts = mounts }) (record { kept = λ n g e. e; lived = λ n o at. (o, at, inl refl) });
   formed = λ w. well_formed-alike m (record m { mounts = mounts }) (λ n. alike_itself (get m.objects n)) (λ n. refl)
       (λ n g e. e) (record { exports = refl; last = refl }) w.texts w;
+  counts = λ w. counts-kept now m (record m { mounts = mounts })
+      (record { kept = λ n g e. e; lived = λ n o at. (o, at, inl refl) }) (λ n. refl);
   locks = record { apart = λ h. h; waits = λ h. h };
   exports = record { exports = refl; last = refl };
 }
@@ -306,6 +312,8 @@ untouched now old new objects spent exports apart waits =
       formed = λ w. well_formed-alike old (record new { objects = old.objects; spent = old.spent })
           (λ n. alike_itself (get old.objects n)) (λ n. refl) (λ n g e. e)
           (record { exports = exports.exports; last = exports.last }) w.texts w;
+      counts = λ w. counts-kept now old (record new { objects = old.objects; spent = old.spent })
+          (record { kept = λ n g e. e; lived = λ n o at. (o, at, inl refl) }) (λ n. refl);
       locks = record { apart = apart; waits = waits };
       exports = record { exports = exports.exports; last = exports.last };
     }))
@@ -331,6 +339,11 @@ steps_keep_exports old ctx call reply messages new step = (step-keeps old ctx ca
 
 pub steps_touch_once : StepsTouchOnce
 steps_touch_once old ctx call reply messages new step = (step-keeps old ctx call reply messages new step).touches
+
+pub steps_show_changes : StepsShowChanges
+steps_show_changes old ctx call reply messages new w step =
+    let k = step-keeps old ctx call reply messages new step in
+    shows-changes (time_of ctx.moment) old new (k.counts w) w (k.formed w) k.touches
 
 pub steps_keep_cookies : StepsKeepCookies
 steps_keep_cookies old ctx call reply messages new step = (step-keeps old ctx call reply messages new step).cookies

@@ -56,3 +56,4 @@ pub mod Within
 pub mod Taken
 pub mod Short
 mod Statuses
+pub mod Counted

@@ -3,7 +3,7 @@ use Rattle.std.proofs.Common.{◌≡◌, ◌==◌, ℕ, true, false, cond, Optio
 use Rattle.std.specs.Cmp.{unsigned_Decides}
 use Rattle.std.specs.FinMap.{get}
 use Rattle.nfs_wire.specs.declared.attributes.Time.{Time}
-use Rattle.nfs_machine.specs.Attributes.{entries_of, names_of}
+use Rattle.nfs_machine.specs.Attributes.{entries_of, is_directory, names_of}
 use Rattle.nfs_machine.specs.Checks.{entry_of}
 use Rattle.nfs_machine.specs.Laws.{KeepsEntries}
 use Rattle.nfs_machine.specs.Making.{with_entry}
@@ -83,8 +83,10 @@ module _ (m : State) (now : Time) (move : Move) (is : IsMove m move) where
   names-moved : Continues now m (with_names_moved m now move)
   names-moved =
       continues-with now m _
-      (continues-with now m m (continues-itself now m) move.from.place move.from.directory is.from.lives (without move.from.entries move.from.name) move.from.last_cookie (kept-taken m move.from is.from))
-      move.target move.directory is.lives _ _ keeps
+      (continues-with now m m (continues-itself now m) move.from.place move.from.directory is.from.lives
+      (ap is_directory is.from.content) (without move.from.entries move.from.name) move.from.last_cookie
+      (kept-taken m move.from is.from))
+      move.target move.directory is.lives (ap is_directory is.content) _ _ keeps
 
   object-moved : Continues now m (with_object (with_names_moved m now move) move.from.number (touched move.from.object now))
   object-moved = continues-touched now m (with_names_moved m now move) names-moved move.from.number move.from.object is.from.object

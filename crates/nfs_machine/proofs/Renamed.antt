@@ -16,14 +16,16 @@ use Rattle.nfs_machine.specs.Shown.{touched, with_content, with_object}
 use Rattle.nfs_machine.specs.State.{Content, Directory, Entry, Living, State}
 use Rattle.nfs_machine.specs.WellFormed.{Leads, TextsFit, WellFormed, is_root}
 use Rattle.nfs_machine.proofs.Changes.{apart, count-filter, differs-insert, differs-other, differs-there, find-all, find-filter, find-other, find-taken, flipped, without-absent}
-use Rattle.nfs_machine.proofs.Continued.{texts-continued, well_formed-losing}
+use Rattle.nfs_machine.proofs.Continued.{kinds-continued, texts-continued, well_formed-losing}
+use Rattle.nfs_machine.specs.Times.{touch}
+use Rattle.nfs_machine.proofs.Counted.{Counts, changed-losing, names-losing}
 use Rattle.nfs_machine.proofs.Facts.{are_none, no-entry}
 use Rattle.nfs_machine.proofs.Loose.{AddsName, Deepens, Loose, also, loose-added, loose-replaced, loose-touched, loosened, names_of-added, names_of-taken, none_loose, tightened}
 use Rattle.nfs_machine.proofs.Moves.{GoesIntoItself, Move, Named, entries_left, with_moved, with_names_moved, without_replaced}
 use Rattle.nfs_machine.proofs.Planned.{IsMove, continues-moved}
 use Rattle.nfs_machine.proofs.Sums.{get-inserted}
 use Rattle.nfs_machine.proofs.Taken.{IsNamed, loose-mid, one-less, takes, under-entry}
-use Rattle.nfs_machine.proofs.WellFormed.{Deep, no_entries, replaced-names}
+use Rattle.nfs_machine.proofs.WellFormed.{Deep, KeepsNames, no_entries, replaced-names}
 use Rattle.nfs_machine.proofs.Within.{deepened, depth}
 
 -- ---- a directory that has names less
@@ -102,14 +104,18 @@ module _ (m : State) (now : Time) (move : Move) (is : IsMove m move) (w : WellFo
   not-named none =
       none-under m move.directory (entry_of move.entries move.name) (λ e found. entry-leads m w target move.directory move.entries move.last_cookie is.lives is.content move.name e found) (sym is.over ∙ none)
 
+  freed-keeps : move.replaced ≡ None → KeepsNames move.directory freed
+  freed-keeps none = record {
+    export = refl;
+    generation = refl;
+    kind = sym (ap is_directory is.content);
+    content = λ e. ap (λ es. Directory es move.last_cookie)
+        (without-absent move.name move.entries (not-named none)) ∙ sym is.content;
+  }
+
   freed-none : move.replaced ≡ None → Loose none_loose free
-  freed-none none =
-      loose-replaced m target move.directory is.lives none_loose (loosened none_loose m w) freed (record {
-        export = refl;
-        generation = refl;
-        kind = sym (ap is_directory is.content);
-        content = λ e. ap (λ es. Directory es move.last_cookie) (without-absent move.name move.entries (not-named none)) ∙ sym is.content;
-      })
+  freed-none none = loose-replaced m target move.directory is.lives none_loose (loosened none_loose m w) freed
+      (freed-keeps none)
 
   -- what has it
   abbrev over_named : ℕ × Living → Named
@@ -410,3 +416,43 @@ module _ (m : State) (now : Time) (move : Move) (is : IsMove m move) (w : WellFo
       judged : (r : Option (ℕ × Living)) → move.replaced ≡ r → TextsFit (without_replaced m step now r) → WellFormed (without_replaced m step now r)
       judged None e texts = tightened step texts (step-loose none_loose (freed-none e))
       judged (Some o) e texts = over-formed o e texts
+
+  abbrev Told : Option (ℕ × Living) → Type 0
+  Told r = (k : ℕ) (was is' : Living) → get m.objects k ≡ Some was →
+      get (without_replaced m step now r).objects k ≡ Some is' →
+      (names_of (without_replaced m step now r) k ≡ names_of m k) ⊎ (is'.changed ≡ touch was.changed now)
+
+  -- what moves has as many names as before; of what else lives on, no names went
+  pub counts-moved : Counts now m (with_moved m now move)
+  counts-moved = record {
+    kinds = kinds-continued now m (with_moved m now move) (continues-moved m now move is);
+    names = judged move.replaced refl;
+  }
+    where
+      judged : (r : Option (ℕ × Living)) → move.replaced ≡ r → Told r
+      judged None e k was is' at there = inl
+          (names_of-step none_loose (freed-none e) k
+          ∙ replaced-names m target move.directory freed is.lives (freed-keeps e) k)
+      judged (Some o) e k was is' at there = elim (k == o.0) as (λ b. (k == o.0) ≡ b →
+          (names_of (without_replaced m step now (Some o)) k ≡ names_of m k) ⊎
+          (is'.changed ≡ touch was.changed now)) [
+            | true ↦ λ t.
+                let same : k ≡ o.0 = (unsigned_Decides k o.0).0 t in
+                let own : o.1 ≡ was = (let both : Some o.1 ≡ Some was = sym (over o e).object ∙ ap (get m.objects)
+                (sym same) ∙ at in cc) in
+                inr (changed-losing step now o.0 o.1 (over-lives o e) (names_of m o.0) is'
+                (ap (get (without_replaced m step now (Some o)).objects) (sym same) ∙ there)
+                ∙ ap (λ (x : Living). touch x.changed now) own)
+            | false ↦ λ t.
+                let none : cond {A = ℕ} ((over o e).entry.number == k) 1 0 ≡ 0 = ap
+                (λ x. cond {A = ℕ} (x == k) 1 0)
+                (over o e).number ∙ ap (λ b. cond b 1 0) (flipped k o.0 t) in
+                inl (omega (
+                  arith,
+                  none,
+                  names-losing step now o.0 o.1 (over-lives o e) (empty o e) (names_of m o.0) k,
+                  names_of-step (also o.0 none_loose) (freed-some o e) k,
+                  names_of-taken m free target move.directory freed move.name (over o e).entry
+                      (takes m now (over_named o) (over o e)) none_loose (loosened none_loose m w) k,
+                ))
+          ] refl

@@ -44,7 +44,7 @@ set-alter : (o : Living) (now : Time) (content : Content) (mode uid gid : ℕ) (
     → Alters now o (record o { content = content; mode = mode; uid = uid; gid = gid; accessed = accessed; modified = modified; changed = touch o.changed now; verifier = None })
 set-alter o now content mode uid gid accessed modified is = record {
   keeps = record { export = refl; generation = refl; kind = is.kind; content = is.content };
-  turns = record { generation = refl; text = is.text; changed = refl; entries = is.entries };
+  turns = record { generation = refl; kind = is.kind; text = is.text; changed = refl; entries = is.entries };
 }
 
 set-alters : (exports : List LivingExport) (ctx : Ctx) (o : Living) (a : SetattrArguments) →

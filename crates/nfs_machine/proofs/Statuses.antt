@@ -160,7 +160,7 @@ module _ (m : State) (ctx : Ctx) where
       (holding ((guard.seconds == o.changed.seconds) && (guard.nanoseconds == o.changed.nanoseconds))
       status.NotSynchronized) _ (tells-held _ _ refl) (λ x2.
       tells-chain (holding (is_time set.accessed && is_time set.modified) status.Invalid) _ (tells-held _ _ refl)
-          (λ x3.
+      (λ x3.
       tells-chain (content_set o.content set.size) _ (tells-content o.content set.size) (λ content.
       search (tells-chain, tells-held, tells-value) depth 12))))
 
@@ -248,7 +248,7 @@ module _ (m : State) (ctx : Ctx) where
         tells-chain (object_of (resolve m ctx place.directory)) _ (tells-object _) (λ directory.
         tells-chain (entries_in directory.1.content) _ (tells-entries _) (λ entries.
         tells-chain (plain_name_checked status.Exists status.Exists place.name) _
-            (tells-plain status.Exists status.Exists place.name refl refl)
+        (tells-plain status.Exists status.Exists place.name refl refl)
         (λ x1.
         tells-chain wanted _ known (λ what.
         tells-chain (changeable m.exports directory.1) _ (tells-held _ _ refl) (λ x2.
@@ -326,7 +326,7 @@ module _ (m : State) (ctx : Ctx) where
   tells-pages : (fit : List Entry → Bool) (directory : List ℕ) (cookie : ℕ) (verifier : Verifier) (parent : ℕ)
       (page : Result (List Entry × Bool) NfsStatus)
       → (elim (entries_left m ctx directory cookie verifier parent) as
-          (λ (_ : Result (List Entry) NfsStatus). Type 0)
+      (λ (_ : Result (List Entry) NfsStatus). Type 0)
       [ Ok entries ↦ Pages fit entries page | Err e ↦ page ≡ Err e ]) → Tells page
   tells-pages fit directory cookie verifier parent page is =
       tells-page fit (entries_left m ctx directory cookie verifier parent) page
@@ -348,7 +348,7 @@ nfs_never_answers old ctx (calls.Lookup place) reply messages new step = subst W
     (tells-lookup old ctx place step.0).tells
 nfs_never_answers old ctx (calls.Access a) reply messages new step = subst Well (sym step.reply_is)
     (tells-chain (object_of (resolve old ctx a.object)) (λ o. Ok (granted old.exports ctx o.1 a.rights))
-        (tells-object _)
+    (tells-object _)
     (λ o. tells-value _)).tells
 nfs_never_answers old ctx (calls.Readlink object) reply messages new step = subst Well (sym step.reply_is)
     (tells-chain (object_of (resolve old ctx object)) (λ o. text_in o.1.content) (tells-object _)
@@ -396,10 +396,10 @@ nfs_never_answers old ctx (calls.Fsstat object) reply messages new step = subst 
     (λ o. tells-value _)).tells
 nfs_never_answers old ctx (calls.Fsinfo object) reply messages new step = subst Well (sym step.reply_is)
     (tells-chain (object_of (resolve old ctx object)) (λ o. Ok file_system) (tells-object _)
-        (λ o. tells-value _)).tells
+    (λ o. tells-value _)).tells
 nfs_never_answers old ctx (calls.Pathconf object) reply messages new step = subst Well (sym step.reply_is)
     (tells-chain (object_of (resolve old ctx object)) (λ o. Ok path_limits) (tells-object _)
-        (λ o. tells-value _)).tells
+    (λ o. tells-value _)).tells
 nfs_never_answers old ctx (calls.Commit a) reply messages new step = subst Well (sym step.reply_is)
     (tells-chain (object_of (resolve old ctx a.file)) (λ o. bytes_in o.1.content >>= λ bytes. Ok (verifier_of ctx))
     (tells-object _) (λ o. tells-chain (bytes_in o.1.content) _ (tells-bytes _) (λ bytes. tells-value _))).tells
@@ -417,7 +417,7 @@ entries-tell : (living : Option Living) → MountTells (entries_at living)
 entries-tell None = refl
 entries-tell (Some o) = elim (is_directory o.content) as
     (λ b. MountTells {A = Living × List Entry}
-        (cond b (Ok (o, entries_of o.content)) (Err mount_status.NotDirectory))) [
+    (cond b (Ok (o, entries_of o.content)) (Err mount_status.NotDirectory))) [
       | true ↦ tt
       | false ↦ refl
     ]

@@ -1,5 +1,7 @@
 -- What REMOVE, RMDIR and LINK leave: handles are given once, and what is true of every state stays true.
-use Rattle.std.proofs.Common.{◌≡◌, ◌==◌, ℕ, ◌+◌, ◌^◌, Bool, true, false, not, cond, List, [], Some, None, Result, Ok, IfOk, find, nat_lt, refl, sym, ◌∙◌, ap, subst, arith, Option, option_map}
+use Rattle.std.proofs.Common.{◌≡◌, ◌==◌, ℕ, ◌+◌, ◌^◌, Bool, true, false, not, cond, List, []}
+use Rattle.std.proofs.Common.{Some, None, Result, Ok, IfOk, find, nat_lt, refl, sym, ◌∙◌, ap, subst, arith}
+use Rattle.std.proofs.Common.{Option, option_map, ◌⊎◌, inl, inr}
 use Rattle.std.specs.Prelude.{is_none, ok_or}
 use Rattle.std.specs.Cmp.{unsigned_Decides}
 use Rattle.std.specs.FinMap.{get}
@@ -24,12 +26,18 @@ use Rattle.nfs_machine.specs.State.{Content, Directory, Entry, Living, State}
 use Rattle.nfs_machine.specs.Times.{time_of}
 use Rattle.nfs_machine.specs.WellFormed.{Leads, WellFormed, is_root}
 use Rattle.nfs_machine.specs.declared.context.Ctx.{Ctx}
-use Rattle.nfs_machine.proofs.Changes.{apart, differs-insert, differs-other, find-all, itself}
-use Rattle.nfs_machine.proofs.Continued.{Continues, continues-itself, continues-losing, continues-touched, continues-with, cookies-continued, gives-continued, texts-continued, touches-continued, well_formed-losing}
+use Rattle.nfs_machine.proofs.Changes.{apart, differs-insert, differs-other, differs-there, find-all, flipped, itself}
+use Rattle.nfs_machine.proofs.WellFormed.{replaced-names}
+use Rattle.nfs_machine.specs.Times.{touch}
+use Rattle.nfs_machine.proofs.Continued.{Continues, kinds-continued, continues-itself, continues-losing}
+use Rattle.nfs_machine.proofs.Continued.{continues-touched, continues-with, cookies-continued, gives-continued}
+use Rattle.nfs_machine.proofs.Continued.{texts-continued, touches-continued, well_formed-losing}
+use Rattle.nfs_machine.proofs.Counted.{Counts, changed-losing, names-losing}
 use Rattle.nfs_machine.proofs.Cookies.{kept-added, kept-of, kept-same, kept-without}
 use Rattle.nfs_machine.proofs.Facts.{absent, chained-is, directory-empty, holds, is-directory, leads-found, plain-empty, resolved-lives}
 use Rattle.nfs_machine.proofs.Follows.{Follows, bounds-losing, exports-losing, locks-losing, mounts-losing}
-use Rattle.nfs_machine.proofs.Loose.{AddsName, Loose, Swaps, TakesName, also, loose-added, loose-taken, loose-touched, loosened, names_of-taken, none_loose, tightened}
+use Rattle.nfs_machine.proofs.Loose.{AddsName, Loose, Swaps, TakesName, also, loose-added, loose-taken}
+use Rattle.nfs_machine.proofs.Loose.{loose-touched, loosened, names_of-added, names_of-taken, none_loose, tightened}
 use Rattle.nfs_machine.proofs.Moves.{Named, named_as, remove_end, rmdir_end, take_end, with_name_taken}
 use Rattle.nfs_machine.proofs.Exported.{plain-no_root}
 
@@ -124,7 +132,37 @@ module _ (m : State) (now : Time) (n : Named) (named : IsNamed m n) where
 
     continues-taken : Continues now m (with_name_taken m now n)
     continues-taken =
-        continues-losing now m mid (continues-with now m m (continues-itself now m) n.place n.directory named.lives (without n.entries n.name) n.last_cookie (kept-taken m n named)) n.number n.object named.object (names_of m n.number)
+        continues-losing now m mid (continues-with now m m (continues-itself now m) n.place n.directory named.lives
+        (ap is_directory named.content) (without n.entries n.name) n.last_cookie (kept-taken m n named)) n.number
+        n.object named.object (names_of m n.number)
+
+    -- of what else lives on, no names went
+    counts-taken : WellFormed m → Counts now m (with_name_taken m now n)
+    counts-taken w = record {
+      kinds = kinds-continued now m (with_name_taken m now n) continues-taken;
+      names = λ k was is at there. elim (k == n.number) as (λ b. (k == n.number) ≡ b →
+          (names_of (with_name_taken m now n) k ≡ names_of m k) ⊎ (is.changed ≡ touch was.changed now)) [
+            | true ↦ λ e.
+                let same : k ≡ n.number = (unsigned_Decides k n.number).0 e in
+                let own : n.object ≡ was =
+                (let both : Some n.object ≡ Some was = sym named.object ∙ ap (get m.objects)
+                (sym same) ∙ at in cc) in
+                inr (changed-losing mid now n.number n.object object-there (names_of m n.number) is
+                (ap (get (with_name_taken m now n).objects) (sym same) ∙ there)
+                ∙ ap (λ (x : Living). touch x.changed now) own)
+            | false ↦ λ e.
+                let none : cond {A = ℕ} (named.entry.number == k) 1 0 ≡ 0 = ap
+                (λ x. cond {A = ℕ} (x == k) 1 0) named.number
+                ∙ ap (λ b. cond b 1 0) (flipped k n.number e) in
+                inl (omega (
+                  arith,
+                  none,
+                  names-losing mid now n.number n.object object-there empty (names_of m n.number) k,
+                  names_of-taken m mid n.place n.directory narrower n.name named.entry takes none_loose
+                      (loosened none_loose m w) k,
+                ))
+          ] refl;
+    }
 
     pub taken-follows : Follows now m (with_name_taken m now n)
     taken-follows = record {
@@ -139,6 +177,7 @@ module _ (m : State) (now : Time) (n : Named) (named : IsNamed m n) where
       locks = (let l = locks-losing mid (names_of m n.number) now n.number n.object in record { apart = l.apart; waits = l.waits });
       exports = (let k = exports-losing mid
           (names_of m n.number) now n.number n.object in record { exports = k.exports; last = k.last });
+      counts = counts-taken;
       mounts = mounts-losing mid (names_of m n.number) now n.number n.object;
       bounds = bounds-losing mid (names_of m n.number) now n.number n.object;
     }
@@ -213,7 +252,8 @@ module _ (m : State) (now : Time) (number : ℕ) (object : Living) (place : ℕ)
   keeps = kept-of directory.content entries _ last content (kept-added entries entries _ (kept-same entries) (λ e found same. cc))
 
   continues-linked : Continues now m (with_object added number (touched object now))
-  continues-linked = continues-touched now m added (continues-with now m m (continues-itself now m) place directory lives _ _ keeps) number object there
+  continues-linked = continues-touched now m added
+      (continues-with now m m (continues-itself now m) place directory lives kind _ _ keeps) number object there
 
   formed : WellFormed m → WellFormed (with_object added number (touched object now))
   formed w =
@@ -223,6 +263,36 @@ module _ (m : State) (now : Time) (number : ℕ) (object : Living) (place : ℕ)
       tightened (with_object added number (touched object now)) (texts-continued now m (with_object added number (touched object now)) continues-linked w.texts)
       (loose-touched added number object at none_loose wide now)
 
+  -- of what else lives on, no names came
+  counts-linked : WellFormed m → Counts now m (with_object added number (touched object now))
+  counts-linked w =
+      let at : get added.objects number ≡ Some object = differs-other m.objects added.objects place (Some wider)
+      (differs-insert m.objects place wider) number other-place ∙ there in record {
+        kinds = kinds-continued now m (with_object added number (touched object now)) continues-linked;
+        names = λ k was is before after. elim (k == number) as (λ b. (k == number) ≡ b →
+            (names_of (with_object added number (touched object now)) k ≡ names_of m k) ⊎
+            (is.changed ≡ touch was.changed now)) [
+              | true ↦ λ e.
+                  let same : k ≡ number = (unsigned_Decides k number).0 e in
+                  let own : object ≡ was = (let both : Some object ≡ Some was = sym there ∙ ap (get m.objects)
+                  (sym same) ∙ before in cc) in
+                  let new : touched object now ≡ is = (let both : Some (touched object now) ≡ Some is =
+                  sym (differs-there added.objects (with_object added number (touched object now)).objects number
+                  (Some (touched object now)) (differs-insert added.objects number (touched object now)))
+                  ∙ ap (get (with_object added number (touched object now)).objects) (sym same) ∙ after in cc) in
+                  inr (sym (ap (λ (x : Living). x.changed) new) ∙ ap (λ (x : Living). touch x.changed now) own)
+              | false ↦ λ e.
+                  let none : cond {A = ℕ} (number == k) 1 0 ≡ 0 = ap (λ b. cond b 1 0) (flipped k number e) in
+                  inl (omega (
+                    arith,
+                    none,
+                    replaced-names added number object (touched object now) at
+                        (record { export = refl; generation = refl; kind = refl; content = λ e. refl }) k,
+                    names_of-added m added place number directory wider object name (adds w) k,
+                  ))
+            ] refl;
+      }
+
   pub linked-follows : Follows now m (with_object added number (touched object now))
   linked-follows = record {
     gives = gives-continued now m (with_object added number (touched object now)) continues-linked;
@@ -231,6 +301,7 @@ module _ (m : State) (now : Time) (number : ℕ) (object : Living) (place : ℕ)
     formed = formed;
     locks = record { apart = λ h. h; waits = λ h. h };
     exports = record { exports = refl; last = refl };
+    counts = counts-linked;
     mounts = refl;
     bounds = λ h. h;
   }

@@ -72,6 +72,24 @@ pub links-same : (old new : State) (n : ℕ) (c : Content) → names_of new n �
 links-same old new n c names counts =
     links-by new n c ∙ ap (λ k. cond (is_directory c) (2 + k) (names_of new n)) counts ∙ ap (cond (is_directory c) (2 + count_by (is_subdirectory old) (entries_of c))) names ∙ sym (links-by old n c)
 
+-- entries that lead to directories where they did
+pub counts-same : (old new : State) (es : List Entry) →
+    AllByRecursion (λ (e : Entry). is_subdirectory new e ≡ is_subdirectory old e) es →
+    count_by (is_subdirectory new) es ≡ count_by (is_subdirectory old) es
+counts-same old new [] kinds = refl
+counts-same old new (e ∷ es) kinds =
+    let here : cond {A = ℕ} (is_subdirectory new e) 1 0 ≡ cond (is_subdirectory old e) 1 0 = ap
+    (λ b. cond b 1 0) kinds.0 in
+    let there = counts-same old new es kinds.1 in
+    omega (
+      arith,
+      here,
+      there,
+      sum_by-cons (λ (x : Entry). cond {A = ℕ} (is_subdirectory new x) 1 0) e es,
+      sum_by-cons
+          (λ (x : Entry). cond {A = ℕ} (is_subdirectory old x) 1 0) e es,
+    )
+
 -- ---- what lives on: an object of the same export, and a directory where it was one
 pub record LivesOn (new : State) (n : ℕ) (o : Living) : Type 0 where
   pub object : Living
@@ -126,14 +144,7 @@ module _ (old new : State) (on : (n : ℕ) (o : Living) → get old.objects n �
         (entries_of d.content) (all_both (λ (e : Entry). is_subdirectory new e ≡ is_subdirectory old e) (Deep old depth n) (entries_of d.content) (kinds-on leads) deep)
 
     pub counts-on : AllByRecursion (Leads old d) (entries_of d.content) → count_by (is_subdirectory new) (entries_of d.content) ≡ count_by (is_subdirectory old) (entries_of d.content)
-    counts-on leads = same (entries_of d.content) (kinds-on leads)
-      where
-        same : (es : List Entry) → AllByRecursion (λ (e : Entry). is_subdirectory new e ≡ is_subdirectory old e) es → count_by (is_subdirectory new) es ≡ count_by (is_subdirectory old) es
-        same [] kinds = refl
-        same (e ∷ es) kinds =
-            let here : cond {A = ℕ} (is_subdirectory new e) 1 0 ≡ cond (is_subdirectory old e) 1 0 = ap (λ b. cond b 1 0) kinds.0 in
-            let there = same es kinds.1 in
-            omega (arith, here, there, sum_by-cons (λ (x : Entry). cond {A = ℕ} (is_subdirectory new x) 1 0) e es, sum_by-cons (λ (x : Entry). cond {A = ℕ} (is_subdirectory old x) 1 0) e es)
+    counts-on leads = counts-same old new (entries_of d.content) (kinds-on leads)
 
 -- ---- a directory keeps its parent, where that one lives on with as many names of it or more
 pub parent-on : (old new : State) (n parent : ℕ) (p : IsParent old n parent) (o : Living) →

@@ -15,7 +15,8 @@ ghost use Rattle.nfs_machine.specs.SideLaws.{MountsStayFit, NlmMessagesHaveForm,
 ghost use Rattle.nfs_machine.specs.SideLaws.{NlmRepliesHaveForm, OpeningFits, PostedRefusalsChangeNothing};
 ghost use Rattle.nfs_machine.specs.SideLaws.{RunsStayFit, SpelledCallsFit};
 ghost use Rattle.nfs_machine.specs.StatusLaws.{MountNeverAnswers, NfsNeverAnswers};
-ghost use Rattle.nfs_machine.specs.TimeLaws.{RunsNeverFall, StepsTouchOnce, TimesNeverFall, TimesRise};
+ghost use Rattle.nfs_machine.specs.TimeLaws.{RunsNeverFall, StepsShowChanges, StepsTouchOnce, TimesNeverFall};
+ghost use Rattle.nfs_machine.specs.TimeLaws.{TimesRise};
 
 use side_wire::{mount, nlm};
 
@@ -86,8 +87,9 @@ pub fn pages_fit()
 {}
 
 /// The time of a change is never before that of the change before it, and is later but at the greatest time. A step
-/// leaves an object as it is, or changes its time of change so, once; and in a run that of what lives under a handle
-/// never falls.
+/// leaves an object as it is, or changes its time of change so, once; in a well-formed state it changes it so with each
+/// change of the attributes that are shown, the links among them. In a run that of what lives under a handle never
+/// falls.
 ///
 /// Times are worked through in `worked_times`. In `worked_run` the root lives under its handle to the end, and was
 /// changed.
@@ -95,6 +97,7 @@ pub fn times_of_changes_rise()
     ensures never_fall { TimesNeverFall }
     ensures rise { TimesRise }
     ensures steps { StepsTouchOnce }
+    ensures shown { StepsShowChanges }
     ensures runs { RunsNeverFall }
 {}
 

@@ -1,4 +1,4 @@
-use Rattle.nfs_machine.proofs.Kept.{steps_touch_once}
+use Rattle.nfs_machine.proofs.Kept.{steps_show_changes, steps_touch_once}
 use Rattle.nfs_machine.proofs.Rising.{never_fall, rise}
 use Rattle.nfs_machine.proofs.Later.{runs_never_fall}
 use Rattle.nfs_machine.proofs.laws.times_of_changes_rise.Goals as goal
@@ -11,6 +11,9 @@ returns-clause-rise c = rise
 
 pub returns-clause-steps : goal.returns-clause-steps
 returns-clause-steps c = steps_touch_once
+
+pub returns-clause-shown : goal.returns-clause-shown
+returns-clause-shown c = steps_show_changes
 
 pub returns-clause-runs : goal.returns-clause-runs
 returns-clause-runs c = runs_never_fall
