@@ -57,3 +57,4 @@ pub mod Taken
 pub mod Short
 mod Statuses
 pub mod Counted
+mod Given

@@ -10,6 +10,7 @@ pub mod ExportFaults
 pub mod Exports
 pub mod FileSystemSteps
 pub mod Grants
+pub mod HandleLaws
 pub mod Handles
 pub mod Laws
 pub mod LinkSteps

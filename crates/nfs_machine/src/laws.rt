@@ -1,5 +1,6 @@
 //! The laws of the machine.
 
+ghost use Rattle.nfs_machine.specs.HandleLaws.{MntHandlesResolve, NfsHandlesResolve};
 ghost use Rattle.nfs_machine.specs.Laws.{ArrivalsAskOnce, HandlesAreRead, HandlesAreWritten, NeverGivenAgain};
 ghost use Rattle.nfs_machine.specs.Laws.{OpeningIsFormed, OpeningNumbersFit, RefusalsAreShort, RefusalsChangeNothing};
 ghost use Rattle.nfs_machine.specs.Laws.{RepliesAreShort, RunsGoOn, RunsJoin, RunsKeepForm, RunsKeepNumbers};
@@ -239,3 +240,16 @@ pub fn statuses_never_answered()
     ensures nfs { NfsNeverAnswers }
     ensures mount { MountNeverAnswers }
 {}
+
+/// Each handle that LOOKUP, CREATE, MKDIR, SYMLINK, MKNOD or READDIRPLUS answers names, in the state after the call and
+/// for the host that called, the object whose attributes stand beside it; the handle that MNT answers names a living
+/// directory. The state before is well-formed, and its numbers fit the bytes of a handle, as `numbers_fit` says; so
+/// does the start number.
+///
+/// Such handles are in `worked_run` (CREATE), `worked_steps` (READDIRPLUS) and `worked_locking` (MNT).
+pub fn handles_resolve()
+    ensures nfs { NfsHandlesResolve }
+    ensures mount { MntHandlesResolve }
+{
+    handles_go_both_ways();
+}
