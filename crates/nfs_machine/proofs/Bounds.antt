@@ -17,7 +17,8 @@ use Rattle.side_wire.specs.declared.nlm.NlmCall.TheVariants as nlm
 use Rattle.nfs_rpc.specs.declared.programs.Program.{Program}
 use Rattle.nfs_machine.specs.MountSteps.{MntAnswers, MountStep, is_mounted, newest}
 use Rattle.nfs_machine.specs.Run.{FromHost, IsCall}
-use Rattle.nfs_machine.specs.SideLaws.{AskedFits, CallFits, LocksFit, LocksStayFit, MountsFit, MountsStayFit, OpeningFits, PathFits, RunsStayFit, SpelledCallsFit}
+use Rattle.nfs_machine.specs.SideLaws.{AskedFits, CallFits, LocksFit, LocksStayFit, MountsFit, MountsStayFit}
+use Rattle.nfs_machine.specs.SideLaws.{OpeningFits, PathFits, ChainsStayFit, SpelledCallsFit}
 use Rattle.nfs_machine.specs.State.{State}
 use Rattle.nfs_machine.specs.declared.calls.Call.{Call}
 use Rattle.nfs_machine.specs.declared.calls.Call.TheVariants as calls
@@ -108,11 +109,9 @@ locks_stay_fit old ctx call reply messages new step asked fit = absurd step
 pub opening_fits : OpeningFits
 opening_fits exports moment = (tt, ((λ file owner offset has. absurd (has refl)), tt))
 
-pub runs_stay_fit : RunsStayFit
-runs_stay_fit setting first last [] run hosts fit = subst (λ (m : State). MountsFit m × LocksFit m) (sym run) fit
-runs_stay_fit setting first last (r ∷ records) (mid, executes, rest) hosts fit =
-    let asked = spelled_calls_fit setting r.arrival executes.ctx executes.call hosts.0 executes.asks in
-    runs_stay_fit setting mid last records rest hosts.1 (
-      mounts_stay_fit first executes.ctx executes.call r.reply r.messages mid executes.step asked fit.0,
-      locks_stay_fit first executes.ctx executes.call r.reply r.messages mid executes.step asked fit.1,
-    )
+pub chains_stay_fit : ChainsStayFit
+chains_stay_fit first last [] chain asked fit = subst (λ (m : State). MountsFit m × LocksFit m) (sym chain) fit
+chains_stay_fit first last (t ∷ steps) (mid, step, rest) asked fit = chains_stay_fit mid last steps rest asked.1 (
+  mounts_stay_fit first t.ctx t.call t.reply t.messages mid step asked.0 fit.0,
+  locks_stay_fit first t.ctx t.call t.reply t.messages mid step asked.0 fit.1,
+)

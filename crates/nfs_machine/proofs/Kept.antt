@@ -28,11 +28,13 @@ use Rattle.nfs_machine.specs.Resolve.{resolve}
 use Rattle.nfs_machine.specs.Permission.{Changing}
 use Rattle.nfs_machine.specs.Answers.{Answers, state_after}
 use Rattle.nfs_machine.specs.Attributes.{links_of, names_of, is_directory}
+use Rattle.nfs_machine.specs.Chains.{Chain, Transition}
 use Rattle.nfs_machine.specs.Checks.{holding, link_limit, ◌>>=◌, object_of, entries_in, entry_of, changeable, permitted, plain_name_checked}
-use Rattle.nfs_machine.specs.Laws.{GivesOnce, KeepsCookies, KeepsExports, LivesAs, NeverGivenAgain, RunsKeepForm}
+use Rattle.nfs_machine.specs.Laws.{GivesOnce, KeepsCookies, KeepsExports, LivesAs, NeverGivenAgain, ChainsKeepForm}
 use Rattle.nfs_machine.specs.Laws.{StepsGiveOnce, StepsKeepCookies, StepsKeepExports, StepsKeepForm}
 use Rattle.nfs_machine.specs.LinkSteps.{link_end}
-use Rattle.nfs_machine.specs.LockLaws.{RunsKeepApart, RunsKeepWaiting, StepsKeepApart, StepsKeepWaiting, AllHeldUp, NoConflict}
+use Rattle.nfs_machine.specs.LockLaws.{ChainsKeepApart, ChainsKeepWaiting, StepsKeepApart, StepsKeepWaiting}
+use Rattle.nfs_machine.specs.LockLaws.{AllHeldUp, NoConflict}
 use Rattle.nfs_machine.specs.MakeSteps.{wanted_special}
 use Rattle.nfs_machine.specs.Making.{End, MakeStep, Wanted, make_end}
 use Rattle.nfs_machine.specs.MountSteps.{MntAnswers, MountStep, is_mounted, is_of, newest, with_mount, without_mounts}
@@ -348,11 +350,20 @@ steps_show_changes old ctx call reply messages new w step =
 pub steps_keep_cookies : StepsKeepCookies
 steps_keep_cookies old ctx call reply messages new step = (step-keeps old ctx call reply messages new step).cookies
 
+-- what each step keeps, each chain of steps keeps
+pub chain-keeps : (P : State → Type 0) →
+    ((old : State) (ctx : Ctx) (call : Call) (reply : Reply) (messages : List Message) (new : State) →
+    Step old ctx call reply messages new → P old → P new)
+    → (first last : State) (steps : List Transition) → Chain first steps last → P first → P last
+chain-keeps P keep first last [] chain p = subst P (sym chain) p
+chain-keeps P keep first last (t ∷ steps) (mid, step, rest) p =
+    chain-keeps P keep mid last steps rest (keep first t.ctx t.call t.reply t.messages mid step p)
+
 pub never_given_again : NeverGivenAgain
-never_given_again setting first last [] n g run spent l = subst (λ m. LivesAs m n g) run l
-never_given_again setting first last (r ∷ records) n g (mid, executes, rest) spent l =
-    let gives = steps_give_once first executes.ctx executes.call r.reply r.messages mid executes.step in
-    elim (gives.handles n g (never_given_again setting mid last records n g rest (gives.kept n g spent) l)) [
+never_given_again first last [] n g chain spent l = subst (λ m. LivesAs m n g) chain l
+never_given_again first last (t ∷ steps) n g (mid, step, rest) spent l =
+    let gives = steps_give_once first t.ctx t.call t.reply t.messages mid step in
+    elim (gives.handles n g (never_given_again mid last steps n g rest (gives.kept n g spent) l)) [
       | inl before ↦ before
       | inr never ↦ (let no : true ≡ false = sym spent ∙ never.0 in cc)
     ]
@@ -360,10 +371,8 @@ never_given_again setting first last (r ∷ records) n g (mid, executes, rest) s
 pub steps_keep_form : StepsKeepForm
 steps_keep_form old ctx call reply messages new step = (step-keeps old ctx call reply messages new step).formed
 
-pub runs_keep_form : RunsKeepForm
-runs_keep_form setting first last [] run w = subst WellFormed (sym run) w
-runs_keep_form setting first last (r ∷ records) (mid, executes, rest) w =
-    runs_keep_form setting mid last records rest (steps_keep_form first executes.ctx executes.call r.reply r.messages mid executes.step w)
+pub chains_keep_form : ChainsKeepForm
+chains_keep_form = chain-keeps WellFormed steps_keep_form
 
 pub steps_keep_apart : StepsKeepApart
 steps_keep_apart old ctx call reply messages new step = (step-keeps old ctx call reply messages new step).locks.apart
@@ -371,12 +380,8 @@ steps_keep_apart old ctx call reply messages new step = (step-keeps old ctx call
 pub steps_keep_waiting : StepsKeepWaiting
 steps_keep_waiting old ctx call reply messages new step = (step-keeps old ctx call reply messages new step).locks.waits
 
-pub runs_keep_apart : RunsKeepApart
-runs_keep_apart setting first last [] run h = subst NoConflict (sym run) h
-runs_keep_apart setting first last (r ∷ records) (mid, executes, rest) h =
-    runs_keep_apart setting mid last records rest (steps_keep_apart first executes.ctx executes.call r.reply r.messages mid executes.step h)
+pub chains_keep_apart : ChainsKeepApart
+chains_keep_apart = chain-keeps NoConflict steps_keep_apart
 
-pub runs_keep_waiting : RunsKeepWaiting
-runs_keep_waiting setting first last [] run h = subst AllHeldUp (sym run) h
-runs_keep_waiting setting first last (r ∷ records) (mid, executes, rest) h =
-    runs_keep_waiting setting mid last records rest (steps_keep_waiting first executes.ctx executes.call r.reply r.messages mid executes.step h)
+pub chains_keep_waiting : ChainsKeepWaiting
+chains_keep_waiting = chain-keeps AllHeldUp steps_keep_waiting

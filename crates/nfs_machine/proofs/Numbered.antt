@@ -1,10 +1,10 @@
 -- The number and the generation of what lives fit the bytes of its handle.
-use Rattle.std.proofs.Common.{◌≡◌, ◌<◌, ◌^◌, [], ◌∷◌, length, Some, None, inl, inr, sym, ◌∙◌, ap, subst, arith}
+use Rattle.std.proofs.Common.{◌≡◌, ◌<◌, ◌^◌, length, Some, None, inl, inr, sym, ◌∙◌, ap, subst, arith}
 use Rattle.std.specs.FinMap.{get}
-use Rattle.nfs_machine.specs.Laws.{NumbersFit, OpeningNumbersFit, RunsKeepNumbers, StepsKeepNumbers}
+use Rattle.nfs_machine.specs.Laws.{NumbersFit, OpeningNumbersFit, ChainsKeepNumbers, StepsKeepNumbers}
 use Rattle.nfs_machine.specs.Opening.{opening, time_of}
 use Rattle.nfs_machine.specs.State.{Living}
-use Rattle.nfs_machine.proofs.Kept.{steps_give_once}
+use Rattle.nfs_machine.proofs.Kept.{chain-keeps, steps_give_once}
 use Rattle.nfs_machine.proofs.Opened.{le_or, only_roots, root_none}
 
 -- the roots have the numbers of their exports, and generation 1
@@ -25,7 +25,5 @@ steps_keep_numbers old ctx call reply messages new step fit number generation l 
       | inr given ↦ (given.2, given.3)
     ]
 
-pub runs_keep_numbers : RunsKeepNumbers
-runs_keep_numbers setting first last [] run fit = subst NumbersFit (sym run) fit
-runs_keep_numbers setting first last (r ∷ records) (mid, executes, rest) fit =
-    runs_keep_numbers setting mid last records rest (steps_keep_numbers first executes.ctx executes.call r.reply r.messages mid executes.step fit)
+pub chains_keep_numbers : ChainsKeepNumbers
+chains_keep_numbers = chain-keeps NumbersFit steps_keep_numbers

@@ -16,7 +16,8 @@ use Rattle.side_wire.specs.declared.message.Message.{Message}
 use Rattle.nfs_machine.proofs.NameStays.{EntryAt, IsOnly, all-map, count-same, entered, first-of, found-above, found-in, found-name, kept-through, only, shown-all}
 use Rattle.nfs_machine.proofs.Paging.{whole}
 use Rattle.nfs_machine.proofs.Resolved.{resolved-lives, resolved-number}
-use Rattle.nfs_machine.proofs.Kept.{runs_keep_form}
+use Rattle.nfs_machine.proofs.Kept.{chains_keep_form}
+use Rattle.nfs_machine.proofs.Runs.{runs_are_chains}
 use Rattle.nfs_machine.proofs.Visits.{lists}
 use Rattle.nfs_machine.specs.Attributes.{entries_of}
 use Rattle.nfs_machine.specs.Bytes.{same_bytes}
@@ -139,7 +140,8 @@ visits-of : (setting : Setting) (old : State) (directory : List ℕ) (cookie : �
     → Visits setting old directory cookie turns reading
 visits-of setting old directory cookie [] formed reading = absurd reading
 visits-of setting old directory cookie (t ∷ []) formed (mid, turn, ends) =
-    let then = runs_keep_form setting old mid t.between turn.run formed in
+    let c = runs_are_chains setting old mid t.between turn.run in
+    let then = chains_keep_form old mid c.0 c.1 formed in
     let l = turn-lists setting old directory cookie t mid turn then in
     record {
       visits = record { entries = all_entries l.is.number l.is.parent l.is.entries; fit = l.fit; page = t.page; eof = t.eof } ∷ [];
@@ -151,7 +153,8 @@ visits-of setting old directory cookie (t ∷ []) formed (mid, turn, ends) =
           (alone mid t.ctx directory cookie (t.page, t.eof) l h name target e then is (kept-through h.fileid name target e is.leads setting old t.between mid turn.run through at), tt);
     }
 visits-of setting old directory cookie (t ∷ u ∷ turns) formed (mid, turn, goes, rest) =
-    let then = runs_keep_form setting old mid t.between turn.run formed in
+    let c = runs_are_chains setting old mid t.between turn.run in
+    let then = chains_keep_form old mid c.0 c.1 formed in
     let l = turn-lists setting old directory cookie t mid turn then in
     let more = visits-of setting mid directory (last_cookie cookie t.page) (u ∷ turns) then rest in
     joined l then more.visits more.order more.on more.shown more.stays more.named

@@ -59,7 +59,8 @@ use Rattle.nfs_machine.specs.declared.calls.Call.TheVariants as calls
 use Rattle.nfs_machine.specs.declared.context.Ctx.{Ctx}
 use Rattle.nfs_machine.proofs.Moves.{remove_end}
 use Rattle.nfs_machine.proofs.Opened.{only_roots, roots_formed}
-use Rattle.nfs_machine.proofs.Kept.{runs_keep_form}
+use Rattle.nfs_machine.proofs.Kept.{chains_keep_form}
+use Rattle.nfs_machine.proofs.Runs.{runs_are_chains}
 use Rattle.nfs_machine.proofs.Pages.{PagesOf, fits-shrinks, page-ends, page-stops}
 use Rattle.nfs_machine.proofs.Sums.{get-inserted, sum-insert_new, sum-insert_old, sum-none}
 
@@ -547,8 +548,10 @@ leads-x m lives =
     ap (λ (l : Option Living). elim l as (λ (_ : Option Living). Option ℕ) [ None ↦ None | Some o ↦ option_map (λ (e : Entry). e.number) (entry_of (entries_of o.content) (codes "x")) ]) lives
 
 with-x-formed : WellFormed with_x
-with-x-formed = runs_keep_form setting opened with_x (executed (nfs.Create making) made_reply ∷ [])
-    (with_x, executes-create, refl) (roots_formed setting.exports moment (within 1 64 refl) (tt, tt))
+with-x-formed =
+    let c = runs_are_chains setting opened with_x (executed (nfs.Create making) made_reply ∷ [])
+    (with_x, executes-create, refl) in
+    chains_keep_form opened with_x c.0 c.1 (roots_formed setting.exports moment (within 1 64 refl) (tt, tt))
 
 pub worked-turns : WorkedTurns
 worked-turns = record {

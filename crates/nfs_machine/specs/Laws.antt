@@ -9,6 +9,7 @@ use Rattle.nfs_wire.specs.declared.replies.NfsReply.{NfsReply}
 use Rattle.nfs_wire.specs.declared.replies.NfsReply.TheVariants as replies
 use Rattle.side_wire.specs.declared.message.Message.{Message}
 use Rattle.nfs_machine.specs.Attributes.{entries_of}
+use Rattle.nfs_machine.specs.Chains.{Chain, Transition}
 use Rattle.nfs_machine.specs.Checks.{entry_of}
 use Rattle.nfs_machine.specs.ExportFaults.{AreFaultless}
 use Rattle.nfs_machine.specs.Exports.{ExportValue}
@@ -122,11 +123,11 @@ abbrev pub StepsGiveOnce : Type 0
 StepsGiveOnce = (old : State) (ctx : Ctx) (call : Call) (reply : Reply) (messages : List Message) (new : State) →
     Step old ctx call reply messages new → GivesOnce old new
 
--- a handle that was given is never given again: what lives under it at the end of a run lived under it when the run
--- began
+-- a handle that was given is never given again: what lives under it at the end of a chain of steps lived under it when
+-- the chain began
 abbrev pub NeverGivenAgain : Type 0
-NeverGivenAgain = (setting : Setting) (first last : State) (records : List Record) (number generation : ℕ)
-    → Run setting first records last → first.spent number generation ≡ true → LivesAs last number generation →
+NeverGivenAgain = (first last : State) (steps : List Transition) (number generation : ℕ)
+    → Chain first steps last → first.spent number generation ≡ true → LivesAs last number generation →
     LivesAs first number generation
 
 -- the number and the generation of what lives fit the bytes of its handle
@@ -141,9 +142,9 @@ abbrev pub StepsKeepNumbers : Type 0
 StepsKeepNumbers = (old : State) (ctx : Ctx) (call : Call) (reply : Reply) (messages : List Message) (new : State) →
     Step old ctx call reply messages new → NumbersFit old → NumbersFit new
 
-abbrev pub RunsKeepNumbers : Type 0
-RunsKeepNumbers = (setting : Setting) (first last : State) (records : List Record) →
-    Run setting first records last → NumbersFit first → NumbersFit last
+abbrev pub ChainsKeepNumbers : Type 0
+ChainsKeepNumbers = (first last : State) (steps : List Transition) → Chain first steps last → NumbersFit first →
+    NumbersFit last
 
 -- a name that leads to the same object before and after is the same entry: it keeps its cookie (RFC 1813, 3.3.16)
 abbrev pub KeepsEntries : (before after : List Entry) → Type 0
@@ -169,7 +170,7 @@ abbrev pub StepsKeepExports : Type 0
 StepsKeepExports = (old : State) (ctx : Ctx) (call : Call) (reply : Reply) (messages : List Message) (new : State) →
     Step old ctx call reply messages new → KeepsExports old new
 
--- what is true of every state: a server starts so, each step keeps it, and so each run
+-- what is true of every state: a server starts so, each step keeps it, and so each chain of steps
 abbrev pub OpeningIsFormed : Type 0
 OpeningIsFormed = (exports : List ExportValue) (moment : Moment) → AreFaultless exports →
     WellFormed (opening exports moment)
@@ -178,6 +179,6 @@ abbrev pub StepsKeepForm : Type 0
 StepsKeepForm = (old : State) (ctx : Ctx) (call : Call) (reply : Reply) (messages : List Message) (new : State) →
     Step old ctx call reply messages new → WellFormed old → WellFormed new
 
-abbrev pub RunsKeepForm : Type 0
-RunsKeepForm = (setting : Setting) (first last : State) (records : List Record) → Run setting first records last →
-    WellFormed first → WellFormed last
+abbrev pub ChainsKeepForm : Type 0
+ChainsKeepForm = (first last : State) (steps : List Transition) → Chain first steps last → WellFormed first →
+    WellFormed last

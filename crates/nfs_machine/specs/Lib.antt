@@ -2,6 +2,7 @@ pub mod Answers
 pub mod AttributeSteps
 pub mod Attributes
 pub mod Bytes
+pub mod Chains
 pub mod Changing
 pub mod Checks
 pub mod Data

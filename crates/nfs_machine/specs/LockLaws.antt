@@ -2,11 +2,11 @@
 use Rattle.std.specs.Prelude.{◌≡◌, ℕ, Bool, false, not, ◌&&◌, List, nat_le, ◌==◌, Some}
 use Rattle.std.specs.List.{AllByRecursion, list_any}
 use Rattle.side_wire.specs.declared.message.Message.{Message}
+use Rattle.nfs_machine.specs.Chains.{Chain, Transition}
 use Rattle.nfs_machine.specs.Exports.{ExportValue}
 use Rattle.nfs_machine.specs.Grants.{IsHeldUp}
 use Rattle.nfs_machine.specs.Locks.{Conflicts, Mode, mode_at, modes_conflict, same_owner, shares_conflict}
 use Rattle.nfs_machine.specs.Opening.{opening}
-use Rattle.nfs_machine.specs.Run.{Record, Run, Setting}
 use Rattle.nfs_machine.specs.State.{Lock, Owner, Share, State, Range}
 use Rattle.nfs_machine.specs.Step.{Step}
 use Rattle.nfs_machine.specs.declared.calls.Call.{Call}
@@ -50,20 +50,20 @@ OpeningIsApart = (exports : List ExportValue) (moment : Moment) → NoConflict (
 abbrev pub OpeningWaitsForNone : Type 0
 OpeningWaitsForNone = (exports : List ExportValue) (moment : Moment) → AllHeldUp (opening exports moment)
 
--- no two owners come to conflict, by locks or by shares: each step keeps that, and so each run
+-- no two owners come to conflict, by locks or by shares: each step keeps that, and so each chain of steps
 abbrev pub StepsKeepApart : Type 0
 StepsKeepApart = (old : State) (ctx : Ctx) (call : Call) (reply : Reply) (messages : List Message) (new : State) →
     Step old ctx call reply messages new → NoConflict old → NoConflict new
 
-abbrev pub RunsKeepApart : Type 0
-RunsKeepApart = (setting : Setting) (first last : State) (records : List Record) → Run setting first records last →
-    NoConflict first → NoConflict last
+abbrev pub ChainsKeepApart : Type 0
+ChainsKeepApart = (first last : State) (steps : List Transition) → Chain first steps last → NoConflict first →
+    NoConflict last
 
--- each request that waits conflicts with what is held of its file: each step keeps that, and so each run
+-- each request that waits conflicts with what is held of its file: each step keeps that, and so each chain of steps
 abbrev pub StepsKeepWaiting : Type 0
 StepsKeepWaiting = (old : State) (ctx : Ctx) (call : Call) (reply : Reply) (messages : List Message) (new : State) →
     Step old ctx call reply messages new → AllHeldUp old → AllHeldUp new
 
-abbrev pub RunsKeepWaiting : Type 0
-RunsKeepWaiting = (setting : Setting) (first last : State) (records : List Record) →
-    Run setting first records last → AllHeldUp first → AllHeldUp last
+abbrev pub ChainsKeepWaiting : Type 0
+ChainsKeepWaiting = (first last : State) (steps : List Transition) → Chain first steps last → AllHeldUp first →
+    AllHeldUp last

@@ -19,12 +19,13 @@ use Rattle.side_wire.specs.declared.nlm.NlmStatus.{NlmStatus}
 use Rattle.side_wire.specs.declared.nlm.NlmStatus.TheVariants as status
 use Rattle.side_wire.specs.declared.nlm.TestStatus.{TestStatus}
 use Rattle.side_wire.specs.declared.nlm.TestStatus.TheVariants as tested
+use Rattle.nfs_machine.specs.Chains.{Chain, Transition}
 use Rattle.nfs_machine.specs.Exports.{ExportValue, LivingExport}
 use Rattle.nfs_machine.specs.Locks.{mode_at}
 use Rattle.nfs_machine.specs.MountSteps.{MountStep}
 use Rattle.nfs_machine.specs.NlmSteps.{NlmStep}
 use Rattle.nfs_machine.specs.Opening.{opening}
-use Rattle.nfs_machine.specs.Run.{Arrival, FromHost, Asks, Record, Run, Setting}
+use Rattle.nfs_machine.specs.Run.{Arrival, FromHost, Asks, Setting}
 use Rattle.nfs_machine.specs.State.{Lock, Owner, Request, State}
 use Rattle.nfs_machine.specs.Step.{Step}
 use Rattle.nfs_machine.specs.declared.calls.Call.{Call}
@@ -123,7 +124,7 @@ SpelledCallsFit = (setting : Setting) (arrival : Arrival) (ctx : Ctx) (call : Ca
     Asks setting arrival ctx call → AskedFits ctx call
 
 -- what is mounted, held and waited for stays within the bounds: a server starts so, each step of any program keeps
--- it, and so each run
+-- it, and so each chain of steps
 abbrev pub OpeningFits : Type 0
 OpeningFits = (exports : List ExportValue) (moment : Moment) → MountsFit (opening exports moment) ×
     LocksFit (opening exports moment)
@@ -136,10 +137,10 @@ abbrev pub LocksStayFit : Type 0
 LocksStayFit = (old : State) (ctx : Ctx) (call : Call) (reply : Reply) (messages : List Message) (new : State) →
     Step old ctx call reply messages new → AskedFits ctx call → LocksFit old → LocksFit new
 
-abbrev pub RunsStayFit : Type 0
-RunsStayFit = (setting : Setting) (first last : State) (records : List Record)
-    → Run setting first records last → AllByRecursion (λ (r : Record). HostFits r.arrival) records →
-    MountsFit first × LocksFit first → MountsFit last × LocksFit last
+abbrev pub ChainsStayFit : Type 0
+ChainsStayFit = (first last : State) (steps : List Transition) → Chain first steps last →
+    AllByRecursion (λ (t : Transition). AskedFits t.ctx t.call) steps → MountsFit first ×
+    LocksFit first → MountsFit last × LocksFit last
 
 -- a status by which nothing was granted, and nothing waits
 abbrev pub refuses : NlmStatus → Bool

@@ -4,7 +4,7 @@ use Rattle.std.specs.FinMap.{get}
 use Rattle.nfs_wire.specs.declared.attributes.Time.{Time}
 use Rattle.side_wire.specs.declared.message.Message.{Message}
 use Rattle.nfs_machine.specs.Attributes.{attributes_of}
-use Rattle.nfs_machine.specs.Run.{Record, Run, Setting}
+use Rattle.nfs_machine.specs.Chains.{Chain, Transition}
 use Rattle.nfs_machine.specs.State.{Living, State}
 use Rattle.nfs_machine.specs.Step.{Step}
 use Rattle.nfs_machine.specs.Times.{is_earlier, time_of, touch}
@@ -45,10 +45,10 @@ abbrev pub StepsTouchOnce : Type 0
 StepsTouchOnce = (old : State) (ctx : Ctx) (call : Call) (reply : Reply) (messages : List Message) (new : State) →
     Step old ctx call reply messages new → TouchesOnce (time_of ctx.moment) old new
 
--- what lives under a handle when a run begins and when it ends was not changed later then than it is now
-abbrev pub RunsNeverFall : Type 0
-RunsNeverFall = (setting : Setting) (first last : State) (records : List Record) (number : ℕ) (was is : Living)
-    → Run setting first records last → first.spent number was.generation ≡ true →
+-- what lives under a handle when a chain of steps begins and when it ends was not changed later then than it is now
+abbrev pub ChainsNeverFall : Type 0
+ChainsNeverFall = (first last : State) (steps : List Transition) (number : ℕ) (was is : Living)
+    → Chain first steps last → first.spent number was.generation ≡ true →
     get first.objects number ≡ Some was → get last.objects number ≡ Some is →
     is.generation ≡ was.generation
     → is_earlier is.changed was.changed ≡ false

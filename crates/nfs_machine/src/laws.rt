@@ -1,22 +1,23 @@
 //! The laws of the machine.
 
+ghost use Rattle.nfs_machine.specs.Chains.{RunsAreChains};
 ghost use Rattle.nfs_machine.specs.HandleLaws.{MntHandlesResolve, NfsHandlesResolve};
 ghost use Rattle.nfs_machine.specs.Laws.{ArrivalsAskOnce, HandlesAreRead, HandlesAreWritten, NeverGivenAgain};
 ghost use Rattle.nfs_machine.specs.Laws.{OpeningIsFormed, OpeningNumbersFit, RefusalsAreShort, RefusalsChangeNothing};
-ghost use Rattle.nfs_machine.specs.Laws.{RepliesAreShort, RunsGoOn, RunsJoin, RunsKeepForm, RunsKeepNumbers};
+ghost use Rattle.nfs_machine.specs.Laws.{RepliesAreShort, RunsGoOn, RunsJoin, ChainsKeepForm, ChainsKeepNumbers};
 ghost use Rattle.nfs_machine.specs.Laws.{StepsGiveOnce, StepsKeepCookies, StepsKeepExports, StepsKeepForm};
 ghost use Rattle.nfs_machine.specs.Laws.{StepsKeepNumbers};
-ghost use Rattle.nfs_machine.specs.LockLaws.{ListedLocksTell, OpeningIsApart, OpeningWaitsForNone, RunsKeepApart};
-ghost use Rattle.nfs_machine.specs.LockLaws.{RunsKeepWaiting, StepsKeepApart, StepsKeepWaiting};
+ghost use Rattle.nfs_machine.specs.LockLaws.{ListedLocksTell, OpeningIsApart, OpeningWaitsForNone, ChainsKeepApart};
+ghost use Rattle.nfs_machine.specs.LockLaws.{ChainsKeepWaiting, StepsKeepApart, StepsKeepWaiting};
 ghost use Rattle.nfs_machine.specs.Paging.{FullPagesFit, FullPagesList, PagesAreOne, PagesAreWhole, PagesExist};
 ghost use Rattle.nfs_machine.specs.Paging.{PagesFit, PagesList};
 ghost use Rattle.nfs_machine.specs.Readings.{ReadingsAreWhole};
 ghost use Rattle.nfs_machine.specs.SideLaws.{LocksStayFit, MountRefusalsChangeNothing, MountRepliesHaveForm};
 ghost use Rattle.nfs_machine.specs.SideLaws.{MountsStayFit, NlmMessagesHaveForm, NlmRefusalsChangeNothing};
 ghost use Rattle.nfs_machine.specs.SideLaws.{NlmRepliesHaveForm, OpeningFits, PostedRefusalsChangeNothing};
-ghost use Rattle.nfs_machine.specs.SideLaws.{RunsStayFit, SpelledCallsFit};
+ghost use Rattle.nfs_machine.specs.SideLaws.{ChainsStayFit, SpelledCallsFit};
 ghost use Rattle.nfs_machine.specs.StatusLaws.{MountNeverAnswers, NfsNeverAnswers};
-ghost use Rattle.nfs_machine.specs.TimeLaws.{RunsNeverFall, StepsShowChanges, StepsTouchOnce, TimesNeverFall};
+ghost use Rattle.nfs_machine.specs.TimeLaws.{ChainsNeverFall, StepsShowChanges, StepsTouchOnce, TimesNeverFall};
 ghost use Rattle.nfs_machine.specs.TimeLaws.{TimesRise};
 
 use side_wire::{mount, nlm};
@@ -26,6 +27,14 @@ use side_wire::{mount, nlm};
 /// Such a run is `worked_run`.
 pub fn runs_go_on()
     ensures { RunsGoOn }
+{}
+
+/// The steps of a run are a chain of steps, of the calls that its arrivals ask: what is true of each chain is true of
+/// each run.
+///
+/// Such a run is `worked_run`.
+pub fn runs_are_chains()
+    ensures { RunsAreChains }
 {}
 
 /// Two runs of which the second begins where the first ended are one run.
@@ -89,8 +98,8 @@ pub fn pages_fit()
 
 /// The time of a change is never before that of the change before it, and is later but at the greatest time. A step
 /// leaves an object as it is, or changes its time of change so, once; in a well-formed state it changes it so with each
-/// change of the attributes that are shown, the links among them. In a run that of what lives under a handle never
-/// falls.
+/// change of the attributes that are shown, the links among them. Along a chain of steps of any calls that of what
+/// lives under a handle never falls.
 ///
 /// Times are worked through in `worked_times`. In `worked_run` the root lives under its handle to the end, and was
 /// changed.
@@ -99,7 +108,7 @@ pub fn times_of_changes_rise()
     ensures rise { TimesRise }
     ensures steps { StepsTouchOnce }
     ensures shown { StepsShowChanges }
-    ensures runs { RunsNeverFall }
+    ensures chains { ChainsNeverFall }
 {}
 
 /// A page that READDIR or READDIRPLUS answers is one of the directory that the handle names, whose cookies rise: so
@@ -136,12 +145,13 @@ pub fn refusals_change_nothing()
 {}
 
 /// A handle is given once. What a step leaves alive lived before it under the same handle, or has one that was never
-/// given before and is given from now on; and in a run nothing new lives under a handle that was given before the run.
+/// given before and is given from now on; and after a chain of steps of any calls nothing new lives under
+/// a handle that was given before it.
 ///
 /// Such a run is `worked_run`, in which a handle is given and the root keeps its own.
 pub fn handles_are_given_once()
     ensures steps { StepsGiveOnce }
-    ensures runs { NeverGivenAgain }
+    ensures chains { NeverGivenAgain }
 {}
 
 /// The number and the generation of what lives fit the bytes of its handle, as `handles_go_both_ways` asks of them.
@@ -151,7 +161,7 @@ pub fn handles_are_given_once()
 pub fn numbers_fit()
     ensures opening { OpeningNumbersFit }
     ensures steps { StepsKeepNumbers }
-    ensures runs { RunsKeepNumbers }
+    ensures chains { ChainsKeepNumbers }
 {}
 
 /// No step changes the exports.
@@ -170,7 +180,7 @@ pub fn steps_keep_exports()
 pub fn states_stay_well_formed()
     ensures opening { OpeningIsFormed }
     ensures steps { StepsKeepForm }
-    ensures runs { RunsKeepForm }
+    ensures chains { ChainsKeepForm }
 {}
 
 /// No two owners ever have locks that conflict at an offset, or shares that conflict.
@@ -179,7 +189,7 @@ pub fn states_stay_well_formed()
 pub fn owners_never_conflict()
     ensures opening { OpeningIsApart }
     ensures steps { StepsKeepApart }
-    ensures runs { RunsKeepApart }
+    ensures chains { ChainsKeepApart }
 {}
 
 /// A request waits only while it conflicts with what is held of its file.
@@ -188,7 +198,7 @@ pub fn owners_never_conflict()
 pub fn waiting_requests_conflict()
     ensures opening { OpeningWaitsForNone }
     ensures steps { StepsKeepWaiting }
-    ensures runs { RunsKeepWaiting }
+    ensures chains { ChainsKeepWaiting }
 {}
 
 /// A reply of MOUNT or NLM has a spelling, and so has each message, where the byte strings of the call and of what is
@@ -202,7 +212,7 @@ pub fn side_replies_have_forms()
 {}
 
 /// What is mounted, held and waited for is always within those bounds: a server starts so, each call of any program
-/// leaves it so, and so does a run. The byte strings of a call are within them, since it is spelled; that the name of
+/// leaves it so, and so does a chain of such calls. The byte strings of a call are within them, since it is spelled; that the name of
 /// a host that calls is, has to be given.
 ///
 /// Such a run is `worked_run`, and such steps are in `worked_locking`.
@@ -211,7 +221,7 @@ pub fn bounds_are_kept()
     ensures calls { SpelledCallsFit }
     ensures mounts { MountsStayFit }
     ensures locks { LocksStayFit }
-    ensures runs { RunsStayFit }
+    ensures chains { ChainsStayFit }
 {}
 
 /// A call of MOUNT or NLM that is refused in its reply changes nothing and puts no message; one of NLM that is

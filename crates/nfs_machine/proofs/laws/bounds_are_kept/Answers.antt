@@ -1,4 +1,4 @@
-use Rattle.nfs_machine.proofs.Bounds.{locks_stay_fit, mounts_stay_fit, opening_fits, runs_stay_fit, spelled_calls_fit}
+use Rattle.nfs_machine.proofs.Bounds.{locks_stay_fit, mounts_stay_fit, opening_fits, chains_stay_fit, spelled_calls_fit}
 use Rattle.nfs_machine.proofs.laws.bounds_are_kept.Goals as goal
 
 pub returns-clause-opening : goal.returns-clause-opening
@@ -13,5 +13,5 @@ returns-clause-mounts c = mounts_stay_fit
 pub returns-clause-locks : goal.returns-clause-locks
 returns-clause-locks c = locks_stay_fit
 
-pub returns-clause-runs : goal.returns-clause-runs
-returns-clause-runs c = runs_stay_fit
+pub returns-clause-chains : goal.returns-clause-chains
+returns-clause-chains c = chains_stay_fit

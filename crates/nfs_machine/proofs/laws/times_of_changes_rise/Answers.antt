@@ -1,6 +1,6 @@
 use Rattle.nfs_machine.proofs.Kept.{steps_show_changes, steps_touch_once}
 use Rattle.nfs_machine.proofs.Rising.{never_fall, rise}
-use Rattle.nfs_machine.proofs.Later.{runs_never_fall}
+use Rattle.nfs_machine.proofs.Later.{chains_never_fall}
 use Rattle.nfs_machine.proofs.laws.times_of_changes_rise.Goals as goal
 
 pub returns-clause-never_fall : goal.returns-clause-never_fall
@@ -15,5 +15,5 @@ returns-clause-steps c = steps_touch_once
 pub returns-clause-shown : goal.returns-clause-shown
 returns-clause-shown c = steps_show_changes
 
-pub returns-clause-runs : goal.returns-clause-runs
-returns-clause-runs c = runs_never_fall
+pub returns-clause-chains : goal.returns-clause-chains
+returns-clause-chains c = chains_never_fall

@@ -1,0 +1,5 @@
+use Rattle.nfs_machine.proofs.Runs.{runs_are_chains}
+use Rattle.nfs_machine.proofs.laws.runs_are_chains.Goals as goal
+
+pub returns : goal.returns
+returns c = runs_are_chains
