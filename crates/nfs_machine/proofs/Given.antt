@@ -39,7 +39,7 @@ use Rattle.nfs_machine.specs.NameSteps.{create_existing, create_over, leads_to, 
 use Rattle.nfs_machine.specs.NfsSteps.{NfsStep}
 use Rattle.nfs_machine.specs.Pages.{all_entries, fits_full}
 use Rattle.nfs_machine.specs.PageSteps.{IsParentOf, entries_left, full_entry}
-use Rattle.nfs_machine.specs.Paging.{Lists}
+use Rattle.nfs_machine.proofs.Visited.{Lists}
 use Rattle.nfs_machine.specs.Permission.{Changing, Searching, Writing}
 use Rattle.nfs_machine.specs.Resolve.{Resolved, BadHandle, Stale, Names, living_at, named, resolve}
 use Rattle.nfs_machine.specs.Shown.{handle_at, replaced, with_content, with_object}

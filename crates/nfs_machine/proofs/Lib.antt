@@ -47,6 +47,7 @@ mod RunWorked
 mod SideReplies
 pub mod Sums
 pub mod Texts
+mod Visited
 mod Visits
 pub mod Waiting
 pub mod WellFormed

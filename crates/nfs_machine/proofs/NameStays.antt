@@ -1,4 +1,4 @@
--- A name that leads to one object in each state of a run keeps its entry; and of what pages show, its entry alone has it.
+-- A name that leads to one object in each state of a chain keeps its entry; and of what pages show, its entry alone has it.
 use Rattle.std.proofs.Common.{◌≡◌, ◌==◌, ℕ, ◌<◌, ◌≤◌, Bool, true, false, cond, List, [], ◌∷◌, ◌++◌, Option, Some, None, option_map, refl, sym, ◌∙◌, ap, subst, arith}
 use Rattle.std.proofs.lemmas.Bool.{ne_eqb}
 use Rattle.std.proofs.lemmas.List.Elements.{Contains-append_right}
@@ -11,16 +11,18 @@ use Rattle.nfs_machine.specs.Attributes.{entries_of}
 use Rattle.nfs_machine.specs.Bytes.{same_bytes}
 use Rattle.nfs_machine.specs.Checks.{entry_of}
 use Rattle.nfs_machine.specs.Laws.{KeepsCookies}
-use Rattle.nfs_machine.specs.Paging.{IsVisit, ReadsOn, Rises, Visit, last_cookie, shown_by}
+use Rattle.nfs_machine.specs.Paging.{Rises, last_cookie}
+use Rattle.nfs_machine.proofs.Visited.{IsVisit, ReadsOn, Visit, shown_by}
 use Rattle.nfs_machine.specs.Readings.{Throughout, named_in}
-use Rattle.nfs_machine.specs.Run.{Record, Run, Setting}
+use Rattle.nfs_machine.specs.Chains.{Chain, Transition}
 use Rattle.nfs_machine.specs.State.{Entry, Living, State}
+use Rattle.nfs_machine.specs.Step.{Step}
 use Rattle.nfs_machine.specs.WellFormed.{NamesOnce}
 use Rattle.nfs_machine.proofs.Changes.{all-filter, itself}
 use Rattle.nfs_machine.proofs.Kept.{steps_keep_cookies}
 use Rattle.nfs_machine.proofs.Paging.{first}
 
--- ---- one entry through a run
+-- ---- one entry through steps
 -- the entry that a name of a directory has
 pub record EntryAt (m : State) (directory : ℕ) (name : List ℕ) (e : Entry) : Type 0 where
   pub object : Living
@@ -49,23 +51,28 @@ module _ (directory : ℕ) (name : List ℕ) (target : ℕ) where
   abbrev pub Leads : State → Type 0
   Leads m = named_in m directory name ≡ Some target
 
-  pub first-of : (setting : Setting) (old : State) (records : List Record) (new : State) (run : Run setting old records new) → Throughout Leads setting old records new run → Leads old
-  first-of setting old [] new run is = is
-  first-of setting old (r ∷ records) new run is = is.0
+  pub first-of : (old : State) (steps : List Transition) (new : State) (chain : Chain old steps new) →
+      Throughout Leads old steps new chain → Leads old
+  first-of old [] new chain is = is
+  first-of old (t ∷ steps) new chain is = is.0
 
   module _ (e : Entry) (leads : e.number ≡ target) where
-    kept-by : (m new : State) → KeepsCookies m new → EntryAt m directory name e → Leads new → EntryAt new directory name e
+    kept-by : (m new : State) → KeepsCookies m new → EntryAt m directory name e → Leads new →
+        EntryAt new directory name e
     kept-by m new keeps at is =
         let f = entered new directory name target is in
-        let same : f.entry ≡ e = keeps directory at.object f.at.object at.lives f.at.lives name e f.entry at.found f.at.found (f.leads ∙ sym leads) in
+        let same : f.entry ≡ e = keeps directory at.object f.at.object at.lives f.at.lives name e f.entry at.found
+        f.at.found (f.leads ∙ sym leads) in
         subst (EntryAt new directory name) same f.at
 
-    pub kept-through : (setting : Setting) (old : State) (records : List Record) (new : State) (run : Run setting old records new) → Throughout Leads setting old records new run
-        → EntryAt old directory name e → EntryAt new directory name e
-    kept-through setting old [] new run is at = subst (λ m. EntryAt m directory name e) (sym run) at
-    kept-through setting old (r ∷ records) new (mid, executes, rest) is at =
-        kept-through setting mid records new rest is.1
-        (kept-by old mid (steps_keep_cookies old executes.ctx executes.call r.reply r.messages mid executes.step) at (first-of setting mid records new rest is.1))
+    -- over the first step of a chain
+    pub kept-over : (old : State) (t : Transition) (mid : State) →
+        Step old t.ctx t.call t.reply t.messages mid → (steps : List Transition) (new : State)
+        (rest : Chain mid steps new) → Throughout Leads mid steps new rest → EntryAt old directory name e →
+        EntryAt mid directory name e
+    kept-over old t mid step steps new rest is at =
+        kept-by old mid (steps_keep_cookies old t.ctx t.call t.reply t.messages mid step) at
+        (first-of mid steps new rest is)
 
 -- ---- the entry alone has the name
 -- the test of the name and that of the cookie are one

@@ -6,7 +6,8 @@ use Rattle.std.proofs.lemmas.List.Sums.{sum_by-cons}
 use Rattle.std.specs.Cmp.{unsigned_Decides}
 use Rattle.std.specs.List.{Contains, count_by}
 use Rattle.nfs_machine.specs.Pages.{behind}
-use Rattle.nfs_machine.specs.Paging.{InOrder, PagesAreWhole, ReadsOn, Rises, Stays, Visit, last_cookie, shown_by}
+use Rattle.nfs_machine.specs.Paging.{Rises, last_cookie}
+use Rattle.nfs_machine.proofs.Visited.{InOrder, PagesAreWhole, ReadsOn, Stays, Visit, shown_by}
 use Rattle.nfs_machine.specs.State.{Entry}
 use Rattle.nfs_machine.proofs.Facts.{are_none, no-entry}
 

@@ -1,5 +1,6 @@
--- The pages of a reading in a run are visits of one directory, so the reading is whole.
-use Rattle.std.proofs.Common.{◌≡◌, ◌==◌, ℕ, Bool, List, [], ◌∷◌, ◌++◌, map, Option, Some, Result, Ok, Err, codes, false, refl, sym, ◌∙◌, ap, subst, arith}
+-- The pages of a reading are visits of one directory, so the reading is whole.
+use Rattle.std.proofs.Common.{◌≡◌, ◌==◌, ℕ, Bool, true, List, [], ◌∷◌, ◌++◌, map, Option, Some}
+use Rattle.std.proofs.Common.{Result, Ok, Err, codes, false, refl, sym, ◌∙◌, ap, subst, arith}
 use Rattle.std.proofs.lemmas.Bool.{ne_eqb}
 use Rattle.std.proofs.lemmas.List.Elements.{Contains-append_right}
 use Rattle.std.specs.Cmp.Lexicographic.{bytes_decides}
@@ -13,11 +14,11 @@ use Rattle.nfs_wire.specs.declared.entries.FullEntry.{FullEntry}
 use Rattle.nfs_wire.specs.declared.replies.NfsReply.{NfsReply}
 use Rattle.nfs_wire.specs.declared.status.NfsStatus.{NfsStatus}
 use Rattle.side_wire.specs.declared.message.Message.{Message}
-use Rattle.nfs_machine.proofs.NameStays.{EntryAt, IsOnly, all-map, count-same, entered, first-of, found-above, found-in, found-name, kept-through, only, shown-all}
+use Rattle.nfs_machine.proofs.NameStays.{EntryAt, IsOnly, all-map, count-same, entered, first-of, found-above}
+use Rattle.nfs_machine.proofs.NameStays.{found-in, found-name, kept-over, only, shown-all}
 use Rattle.nfs_machine.proofs.Paging.{whole}
 use Rattle.nfs_machine.proofs.Resolved.{resolved-lives, resolved-number}
-use Rattle.nfs_machine.proofs.Kept.{chains_keep_form}
-use Rattle.nfs_machine.proofs.Runs.{runs_are_chains}
+use Rattle.nfs_machine.proofs.Kept.{steps_keep_form}
 use Rattle.nfs_machine.proofs.Visits.{lists}
 use Rattle.nfs_machine.specs.Attributes.{entries_of}
 use Rattle.nfs_machine.specs.Bytes.{same_bytes}
@@ -27,9 +28,17 @@ use Rattle.nfs_machine.specs.NfsSteps.{NfsStep}
 use Rattle.nfs_machine.specs.Pages.{all_entries, fits, fits_full}
 use Rattle.nfs_machine.proofs.Pages.{PagesOf, readdir_result, readdirplus_result}
 use Rattle.nfs_machine.specs.PageSteps.{IsParentOf, entries_left, full_entry, page_entry}
-use Rattle.nfs_machine.specs.Paging.{InOrder, Lists, ReadsOn, Rises, Stays, Visit, last_cookie, shown_by}
-use Rattle.nfs_machine.specs.Readings.{Has, IsTurn, Reading, ReadingsAreWhole, StaysThrough, ThroughReading, Turn, all_shown, entry_shown, full_shown, lists_from, named_in, names_shown, page_shown}
-use Rattle.nfs_machine.specs.Run.{Setting}
+use Rattle.nfs_machine.specs.Paging.{Rises, last_cookie}
+use Rattle.nfs_machine.proofs.Visited.{InOrder, Lists, ReadsOn, Stays, Visit, shown_by}
+use Rattle.nfs_machine.specs.Readings.{AnswersPage, Between, Has, Reads, ReadsPage, ReadingsAreWhole, StaysThrough}
+use Rattle.nfs_machine.specs.Readings.{Throughout, Turn, all_shown, entry_shown, full_shown, lists_from, named_in}
+use Rattle.nfs_machine.specs.Readings.{names_shown, nfs_lists_from, nfs_page_shown, page_shown, steps_of}
+use Rattle.nfs_machine.specs.Chains.{Chain, Transition}
+use Rattle.nfs_machine.specs.Step.{Step}
+use Rattle.nfs_machine.specs.declared.calls.Call.{Call}
+use Rattle.nfs_machine.specs.declared.calls.Call.TheVariants as calls
+use Rattle.nfs_machine.specs.declared.calls.Reply.{Reply}
+use Rattle.nfs_machine.specs.declared.calls.Reply.TheVariants as replies
 use Rattle.nfs_machine.specs.State.{Entry, Living, State}
 use Rattle.nfs_machine.specs.WellFormed.{NamesOnce, WellFormed}
 use Rattle.nfs_machine.specs.declared.context.Ctx.{Ctx}
@@ -72,22 +81,35 @@ module _ (m : State) (ctx : Ctx) (w : WellFormed m) (shown : List Entry × Bool)
   of-full a parent is_parent (Err e) is shows = cc
 
   of-step : (call : NfsCall) (reply : NfsReply) (messages : List Message) (new : State) (directory : List ℕ) (cookie : ℕ) → NfsStep m ctx call reply messages new
-      → lists_from call ≡ Some (directory, cookie) → page_shown reply ≡ Some shown → Listed m ctx directory cookie shown
+      → nfs_lists_from call ≡ Some (directory, cookie) → nfs_page_shown reply ≡ Some shown →
+      Listed m ctx directory cookie shown
   unfolding NfsStep
   of-step (nfs.Readdir a) reply messages new directory cookie step from shows =
-      let shows' = ap page_shown (sym step.answers.reply_is) ∙ shows in
+      let shows' = ap nfs_page_shown (sym step.answers.reply_is) ∙ shows in
       let same = parts a.directory directory a.cookie cookie from in
       subst (λ x. Listed m ctx x cookie shown) same.0 (subst (λ x. Listed m ctx a.directory x shown) same.1 (of-names a step.parent step.is_parent step.page step.is_page shows'))
   of-step (nfs.Readdirplus a) reply messages new directory cookie step from shows =
-      let shows' = ap page_shown (sym step.answers.reply_is) ∙ shows in
+      let shows' = ap nfs_page_shown (sym step.answers.reply_is) ∙ shows in
       let same = parts a.directory directory a.cookie cookie from in
       subst (λ x. Listed m ctx x cookie shown) same.0 (subst (λ x. Listed m ctx a.directory x shown) same.1 (of-full a step.parent step.is_parent step.page step.is_page shows'))
   of-step call reply messages new directory cookie step from shows = cc
 
--- what a turn shows
-turn-lists : (setting : Setting) (old : State) (directory : List ℕ) (cookie : ℕ) (t : Turn) (mid : State) → IsTurn setting old directory cookie t mid → WellFormed mid
-    → Listed mid t.ctx directory cookie (t.page, t.eof)
-turn-lists setting old directory cookie t mid turn w = of-step mid t.ctx w (t.page, t.eof) t.call t.reply [] mid directory cookie turn.step turn.from turn.shows
+-- what a step shows
+step-lists : (old : State) (t : Transition) (mid : State) (directory : List ℕ) (cookie : ℕ) (page : List Entry)
+    (eof : Bool)
+    → Step old t.ctx t.call t.reply t.messages mid → AnswersPage t directory cookie page eof → WellFormed old
+    → Listed old t.ctx directory cookie (page, eof)
+step-lists old t mid directory cookie page eof step answers w = by t.call t.reply step answers.from answers.shows
+  where
+    by : (call : Call) (reply : Reply) → Step old t.ctx call reply t.messages mid →
+        lists_from call ≡ Some (directory, cookie) → page_shown reply ≡ Some (page, eof) →
+        Listed old t.ctx directory cookie (page, eof)
+    by (calls.Nfs call) (replies.Nfs reply) step from shows =
+        of-step old t.ctx w (page, eof) call reply t.messages mid directory cookie step from shows
+    by (calls.Nfs call) (replies.Mount reply) step from shows = absurd step
+    by (calls.Nfs call) (replies.Nlm reply) step from shows = absurd step
+    by (calls.Mount call) reply step from shows = cc
+    by (calls.Nlm call) reply step from shows = cc
 
 -- a name but "." and "..", and the entry that it has in the directory of a handle
 pub record IsName (directory : List ℕ) (h : Handle) (name : List ℕ) (target : ℕ) (e : Entry) : Type 0 where
@@ -101,14 +123,17 @@ abbrev pub HasAlone : List ℕ → Entry → Visit → Type 0
 HasAlone name e v = Contains v.entries e × AllByRecursion (IsOnly name e) v.entries
 
 -- the visits of a reading
-pub record Visits (setting : Setting) (old : State) (directory : List ℕ) (cookie : ℕ) (turns : List Turn) (reading : Reading setting old directory cookie turns) : Type 0 where
+pub record Visits (directory : List ℕ) (cookie : ℕ) (old : State) (turns : List Turn) (new : State)
+    (chain : Chain old (steps_of turns) new) : Type 0 where
   pub visits : List Visit
   pub order : InOrder visits
   pub on : ReadsOn cookie visits
   pub shown : shown_by visits ≡ all_shown turns
-  pub stays : (e : Entry) → StaysThrough setting old directory cookie turns reading e → Stays visits e
-  pub named : (h : Handle) (name : List ℕ) (target : ℕ) (e : Entry) → IsName directory h name target e → EntryAt old h.fileid name e
-      → ThroughReading (λ m. named_in m h.fileid name ≡ Some target) setting old directory cookie turns reading → AllByRecursion (HasAlone name e) visits
+  pub stays : (e : Entry) → StaysThrough directory e old turns new chain → Stays visits e
+  pub named : (h : Handle) (name : List ℕ) (target : ℕ) (e : Entry) → IsName directory h name target e →
+      EntryAt old h.fileid name e
+      → Throughout (λ m. named_in m h.fileid name ≡ Some target) old (steps_of turns) new chain →
+      AllByRecursion (HasAlone name e) visits
 
 abbrev visit-of : (m : State) (ctx : Ctx) (directory : List ℕ) (cookie : ℕ) (page : List Entry × Bool) → Listed m ctx directory cookie page → Visit
 visit-of m ctx directory cookie page l = record { entries = all_entries l.is.number l.is.parent l.is.entries; fit = l.fit; page = page.0; eof = page.1 }
@@ -136,72 +161,88 @@ alone m ctx directory cookie page l h name target e formed is at =
       ),
     )
 
-visits-of : (setting : Setting) (old : State) (directory : List ℕ) (cookie : ℕ) (turns : List Turn) → WellFormed old → (reading : Reading setting old directory cookie turns)
-    → Visits setting old directory cookie turns reading
-visits-of setting old directory cookie [] formed reading = absurd reading
-visits-of setting old directory cookie (t ∷ []) formed (mid, turn, ends) =
-    let c = runs_are_chains setting old mid t.between turn.run in
-    let then = chains_keep_form old mid c.0 c.1 formed in
-    let l = turn-lists setting old directory cookie t mid turn then in
+visits-of : (directory : List ℕ) (cookie : ℕ) (old : State) (turns : List Turn) (new : State) → WellFormed old →
+    (chain : Chain old (steps_of turns) new) → Reads directory cookie turns →
+    Visits directory cookie old turns new chain
+visits-of directory cookie old [] new formed chain reads = absurd reads
+visits-of directory cookie old (Between t ∷ turns) new formed (mid, step, rest) reads =
+    let then = steps_keep_form old t.ctx t.call t.reply t.messages mid step formed in
+    let more = visits-of directory cookie mid turns new then rest reads in
     record {
-      visits = record { entries = all_entries l.is.number l.is.parent l.is.entries; fit = l.fit; page = t.page; eof = t.eof } ∷ [];
+      visits = more.visits;
+      order = more.order;
+      on = more.on;
+      shown = more.shown;
+      stays = more.stays;
+      named = λ h name target e is at through. more.named h name target e is
+          (kept-over h.fileid name target e is.leads old t mid step (steps_of turns) new rest through.1 at) through.1;
+    }
+visits-of directory cookie old (ReadsPage t page ∷ []) new formed (mid, step, rest) reads =
+    let l = step-lists old t mid directory cookie page true step reads formed in
+    record {
+      visits = visit-of old t.ctx directory cookie (page, true) l ∷ [];
       order = (l.is.in_order, tt);
-      on = (l.is.visit, ends);
+      on = (l.is.visit, refl);
       shown = refl;
-      stays = λ e has. (has-it mid t.ctx directory cookie (t.page, t.eof) l e has, tt);
+      stays = λ e has. (has-it old t.ctx directory cookie (page, true) l e has.0, tt);
       named = λ h name target e is at through.
-          (alone mid t.ctx directory cookie (t.page, t.eof) l h name target e then is (kept-through h.fileid name target e is.leads setting old t.between mid turn.run through at), tt);
+          (alone old t.ctx directory cookie (page, true) l h name target e formed is at, tt);
     }
-visits-of setting old directory cookie (t ∷ u ∷ turns) formed (mid, turn, goes, rest) =
-    let c = runs_are_chains setting old mid t.between turn.run in
-    let then = chains_keep_form old mid c.0 c.1 formed in
-    let l = turn-lists setting old directory cookie t mid turn then in
-    let more = visits-of setting mid directory (last_cookie cookie t.page) (u ∷ turns) then rest in
-    joined l then more.visits more.order more.on more.shown more.stays more.named
+visits-of directory cookie old (ReadsPage t page ∷ turn ∷ turns) new formed (mid, step, rest) (answers, reads) =
+    let then = steps_keep_form old t.ctx t.call t.reply t.messages mid step formed in
+    let l = step-lists old t mid directory cookie page false step answers formed in
+    let more = visits-of directory (last_cookie cookie page) mid (turn ∷ turns) new then rest reads in
+    joined l more.visits more.order more.on more.shown more.stays more.named
   where
-    joined : (l : Listed mid t.ctx directory cookie (t.page, t.eof)) → WellFormed mid → (visits : List Visit) → InOrder visits → ReadsOn (last_cookie cookie t.page) visits
-        → shown_by visits ≡ all_shown (u ∷ turns) → ((e : Entry) → StaysThrough setting mid directory (last_cookie cookie t.page) (u ∷ turns) rest e → Stays visits e)
-        → ((h : Handle) (name : List ℕ) (target : ℕ) (e : Entry) → IsName directory h name target e → EntryAt mid h.fileid name e
-        → ThroughReading (λ m. named_in m h.fileid name ≡ Some target) setting mid directory (last_cookie cookie t.page) (u ∷ turns) rest → AllByRecursion (HasAlone name e) visits)
-        → Visits setting old directory cookie (t ∷ u ∷ turns) (mid, turn, goes, rest)
-    joined l then [] order on shown stays named = absurd on
-    joined l then (v ∷ visits) order on shown stays named = record {
-      visits = record { entries = all_entries l.is.number l.is.parent l.is.entries; fit = l.fit; page = t.page; eof = t.eof } ∷ v ∷ visits;
+    joined : (l : Listed old t.ctx directory cookie (page, false)) → (visits : List Visit) → InOrder visits →
+        ReadsOn (last_cookie cookie page) visits → shown_by visits ≡ all_shown (turn ∷ turns)
+        → ((e : Entry) → StaysThrough directory e mid (turn ∷ turns) new rest → Stays visits e)
+        → ((h : Handle) (name : List ℕ) (target : ℕ) (e : Entry) → IsName directory h name target e →
+        EntryAt mid h.fileid name e
+        → Throughout (λ m. named_in m h.fileid name ≡ Some target) mid (steps_of (turn ∷ turns)) new rest →
+        AllByRecursion (HasAlone name e) visits)
+        → Visits directory cookie old (ReadsPage t page ∷ turn ∷ turns) new (mid, step, rest)
+    joined l [] order on shown stays named = absurd on
+    joined l (v ∷ visits) order on shown stays named = record {
+      visits = visit-of old t.ctx directory cookie (page, false) l ∷ v ∷ visits;
       order = (l.is.in_order, order);
-      on = (l.is.visit, goes, on);
-      shown = ap (λ es. t.page ++ es) shown;
-      stays = λ e has. (has-it mid t.ctx directory cookie (t.page, t.eof) l e has.0, stays e has.1);
-      named = λ h name target e is at through.
-          let still = kept-through h.fileid name target e is.leads setting old t.between mid turn.run through.0 at in
-          (alone mid t.ctx directory cookie (t.page, t.eof) l h name target e then is still, named h name target e is still through.1);
+      on = (l.is.visit, refl, on);
+      shown = ap (λ es. page ++ es) shown;
+      stays = λ e has. (has-it old t.ctx directory cookie (page, false) l e has.0, stays e has.1);
+      named = λ h name target e is at through. (
+        alone old t.ctx directory cookie (page, false) l h name target e formed is at,
+        named h name target e is
+            (kept-over h.fileid name target e is.leads old t mid step (steps_of (turn ∷ turns)) new rest through.1 at)
+            through.1,
+      );
     }
-
--- where a reading begins, the name leads to the object
-begins : (setting : Setting) (old : State) (directory : List ℕ) (cookie : ℕ) (turns : List Turn) (reading : Reading setting old directory cookie turns) (number : ℕ) (name : List ℕ) (target : ℕ)
-    → ThroughReading (λ m. named_in m number name ≡ Some target) setting old directory cookie turns reading → named_in old number name ≡ Some target
-begins setting old directory cookie [] reading number name target through = absurd reading
-begins setting old directory cookie (t ∷ []) reading number name target through = first-of number name target setting old t.between reading.0 reading.1.run through
-begins setting old directory cookie (t ∷ u ∷ turns) reading number name target through = first-of number name target setting old t.between reading.0 reading.1.run through.0
 
 pub readings-whole : ReadingsAreWhole
-readings-whole setting old directory turns formed reading =
-    let v = visits-of setting old directory 0 turns formed reading in
+readings-whole directory old turns new formed chain reads =
+    let v = visits-of directory 0 old turns new formed chain reads in
     let all = whole v.visits v.order v.on in
     record {
       rises = subst (Rises 0) v.shown all.rises;
       shows = λ e stays. subst (λ es. Contains es e) v.shown (all.shows e (v.stays e stays));
-      once = λ e stays. subst (λ es. count_by (λ (x : Entry). x.cookie == e.cookie) es ≡ 1) v.shown (all.once e (v.stays e stays));
+      once = λ e stays. subst (λ es. count_by (λ (x : Entry). x.cookie == e.cookie) es ≡ 1) v.shown
+          (all.once e (v.stays e stays));
       names = λ h name target handle no_self not_above through.
-          let e = entered old h.fileid name target (begins setting old directory 0 turns reading h.fileid name target through) in
-          let alone = v.named h name target e.entry (record { handle = handle; no_self = no_self; not_above = not_above; leads = e.leads }) e.at through in
-          let stays : Stays v.visits e.entry = all-map (HasAlone name e.entry) (λ (x : Visit). Contains x.entries e.entry) (λ x has. has.0) v.visits alone in
-          let only = shown-all (IsOnly name e.entry) 0 v.visits v.on (all-map (HasAlone name e.entry) (λ (x : Visit). AllByRecursion (IsOnly name e.entry) x.entries) (λ x has. has.1) v.visits alone) in
+          let e = entered old h.fileid name target
+          (first-of h.fileid name target old (steps_of turns) new chain through) in
+          let alone = v.named h name target e.entry
+          (record { handle = handle; no_self = no_self; not_above = not_above; leads = e.leads }) e.at through in
+          let stays : Stays v.visits e.entry = all-map (HasAlone name e.entry)
+          (λ (x : Visit). Contains x.entries e.entry) (λ x has. has.0) v.visits alone in
+          let only = shown-all (IsOnly name e.entry) 0 v.visits v.on (all-map (HasAlone name e.entry)
+          (λ (x : Visit). AllByRecursion (IsOnly name e.entry) x.entries) (λ x has. has.1) v.visits alone) in
           record {
             entry = e.entry;
             shows = subst (λ es. Contains es e.entry) v.shown (all.shows e.entry stays);
-            named = (bytes_decides e.entry.name name).0 (found-name (entries_of e.at.object.content) name e.entry e.at.found);
+            named = (bytes_decides e.entry.name name).0
+                (found-name (entries_of e.at.object.content) name e.entry e.at.found);
             leads = e.leads;
             once = subst (λ es. count_by (λ (x : Entry). same_bytes x.name name) es ≡ 1) v.shown
-                (count-same (λ (x : Entry). same_bytes x.name name) (λ (x : Entry). x.cookie == e.entry.cookie) (shown_by v.visits) only ∙ all.once e.entry stays);
+                (count-same (λ (x : Entry). same_bytes x.name name) (λ (x : Entry). x.cookie == e.entry.cookie)
+                (shown_by v.visits) only ∙ all.once e.entry stays);
           };
     }

@@ -556,29 +556,22 @@ with-x-formed =
 pub worked-turns : WorkedTurns
 worked-turns = record {
   formed = with-x-formed;
-  reading = (
+  chain = (
     with_x,
-    record {
-      run = refl;
-      step = lists-page with_x refl root-made 0 zeros 160 first_two false first-page;
-      from = refl;
-      shows = refl;
-    },
-    refl,
+    lists-page with_x refl root-made 0 zeros 160 first_two false first-page,
     (
       written,
-      record {
-        run = (written, executes-write, refl);
-        step = lists-page written refl root-written 2 seven 65536 (x_entry ∷ []) true second-page;
-        from = refl;
-        shows = refl;
-      },
-      refl,
+      writes,
+      (written, lists-page written refl root-written 2 seven 65536 (x_entry ∷ []) true second-page, refl),
     ),
   );
-  stays = (has-x with_x refl root-made, has-x written refl root-written);
-  name_stays = (leads-x with_x root-made, (leads-x with_x root-made, leads-x written root-written));
-  self_stays = (has-self with_x refl root-made, has-self written refl root-written);
+  reads = (record { from = refl; shows = refl }, record { from = refl; shows = refl });
+  stays = (has-x with_x refl root-made, (has-x written refl root-written, tt));
+  name_stays = (
+    leads-x with_x root-made,
+    (leads-x with_x root-made, (leads-x written root-written, leads-x written root-written)),
+  );
+  self_stays = (has-self with_x refl root-made, (has-self written refl root-written, tt));
 }
   where
     first-page : PagesOf (fits 160) (entries_from 0 zeros (Names 1 root_with_x)) (Ok (first_two, false))

@@ -1,26 +1,20 @@
 -- A page that is answered is one of the directory that the handle names.
-use Rattle.std.proofs.Common.{◌≡◌, ℕ, Bool, true, false, List, [], ◌∷◌, map, Result, Ok, Err, IfOk, refl, sym, ap, subst, arith, ◌||◌, ◌==◌}
-use Rattle.nfs_wire.specs.declared.calls.ReaddirArguments.{ReaddirArguments}
-use Rattle.nfs_wire.specs.declared.calls.ReaddirplusArguments.{ReaddirplusArguments}
+use Rattle.std.proofs.Common.{◌≡◌, ℕ, Bool, true, false, List, [], ◌∷◌, Result, Ok, refl, ap, arith, ◌||◌, ◌==◌}
 use Rattle.nfs_wire.specs.declared.calls.Verifier.{Verifier}
-use Rattle.nfs_wire.specs.declared.replies.NfsReply.TheVariants as replies
-use Rattle.nfs_wire.specs.declared.replies.ReaddirReply.{ReaddirReply}
-use Rattle.nfs_wire.specs.declared.replies.ReaddirplusReply.{ReaddirplusReply}
 use Rattle.nfs_wire.specs.declared.status.NfsStatus.{NfsStatus}
 use Rattle.nfs_wire.specs.declared.status.NfsStatus.TheVariants as status
-use Rattle.side_wire.specs.declared.message.Message.{Message}
 use Rattle.nfs_machine.specs.Attributes.{is_directory}
 use Rattle.nfs_machine.specs.Bytes.{same_bytes}
 use Rattle.nfs_machine.specs.DataSteps.{verifier_of}
 use Rattle.nfs_machine.proofs.Resolved.{resolved-lives}
 use Rattle.nfs_machine.specs.Checks.{◌>>=◌, entries_in, holding, object_of, permitted}
-use Rattle.nfs_machine.specs.Pages.{Pages, all_entries, behind, fits, fits_full}
-use Rattle.nfs_machine.proofs.Pages.{PagesOf, ReaddirStep, ReaddirplusStep, readdir_result, readdirplus_result}
-use Rattle.nfs_machine.specs.PageSteps.{IsParentOf, entries_left, full_entry, page_entry}
-use Rattle.nfs_machine.specs.Paging.{Lists, Rises}
+use Rattle.nfs_machine.specs.Pages.{Pages, all_entries, behind}
+use Rattle.nfs_machine.proofs.Pages.{PagesOf}
+use Rattle.nfs_machine.specs.PageSteps.{IsParentOf, entries_left}
+use Rattle.nfs_machine.specs.Paging.{Rises}
+use Rattle.nfs_machine.proofs.Visited.{Lists}
 use Rattle.nfs_machine.specs.Permission.{Listing, may}
 use Rattle.nfs_machine.specs.Resolve.{Resolved, BadHandle, Stale, Names, resolve}
-use Rattle.nfs_machine.specs.Shown.{shown}
 use Rattle.nfs_machine.specs.State.{Content, Regular, Directory, Link, BlockDevice, CharacterDevice, Socket, Fifo, Entry, Living, State}
 use Rattle.nfs_machine.specs.WellFormed.{CookiesRise, WellFormed}
 use Rattle.nfs_machine.specs.declared.context.Ctx.{Ctx}
@@ -70,34 +64,3 @@ module _ (m : State) (ctx : Ctx) (w : WellFormed m) (directory : List ℕ) (cook
 
   pub lists : PagesOf fit (entries_left m ctx directory cookie verifier parent) (Ok p) → Lists m ctx directory cookie fit p
   lists is = at-handle (resolve m ctx directory) refl is
-
-pub readdir-lists : (old : State) (ctx : Ctx) (a : ReaddirArguments) (r : ReaddirReply) (messages : List Message) (new : State) → WellFormed old → ReaddirStep old ctx a (replies.Readdir r) messages new
-    → IfOk r.result (λ shown. (page : List Entry × Bool) × Lists old ctx a.directory a.cookie (fits a.count) page × (shown.entries ≡ map page_entry page.0) × (shown.eof ≡ page.1))
-readdir-lists old ctx a r messages new w step = subst P (sym same) (told step.page step.is_page)
-  where
-    P : ReaddirReply → Type 0
-    P x = IfOk x.result (λ shown. (page : List Entry × Bool) × Lists old ctx a.directory a.cookie (fits a.count) page × (shown.entries ≡ map page_entry page.0) × (shown.eof ≡ page.1))
-
-    same : r ≡ record { attributes = shown old (resolve old ctx a.directory); result = readdir_result ctx step.page }
-    same = let is = step.answers.reply_is in cc
-
-    told : (page : Result (List Entry × Bool) NfsStatus) → PagesOf (fits a.count) (entries_left old ctx a.directory a.cookie a.verifier step.parent) page
-        → P (record { attributes = shown old (resolve old ctx a.directory); result = readdir_result ctx page })
-    told (Ok p) is = (p, lists old ctx w a.directory a.cookie a.verifier step.parent step.is_parent (fits a.count) p is, refl, refl)
-    told (Err e) is = tt
-
-pub readdirplus-lists : (old : State) (ctx : Ctx) (a : ReaddirplusArguments) (r : ReaddirplusReply) (messages : List Message) (new : State) → WellFormed old
-    → ReaddirplusStep old ctx a (replies.Readdirplus r) messages new
-    → IfOk r.result (λ shown. (page : List Entry × Bool) × Lists old ctx a.directory a.cookie (fits_full a.directory_count a.most) page × (shown.entries ≡ map (full_entry old ctx) page.0) × (shown.eof ≡ page.1))
-readdirplus-lists old ctx a r messages new w step = subst P (sym same) (told step.page step.is_page)
-  where
-    P : ReaddirplusReply → Type 0
-    P x = IfOk x.result (λ shown. (page : List Entry × Bool) × Lists old ctx a.directory a.cookie (fits_full a.directory_count a.most) page × (shown.entries ≡ map (full_entry old ctx) page.0) × (shown.eof ≡ page.1))
-
-    same : r ≡ record { attributes = shown old (resolve old ctx a.directory); result = readdirplus_result old ctx step.page }
-    same = let is = step.answers.reply_is in cc
-
-    told : (page : Result (List Entry × Bool) NfsStatus) → PagesOf (fits_full a.directory_count a.most) (entries_left old ctx a.directory a.cookie a.verifier step.parent) page
-        → P (record { attributes = shown old (resolve old ctx a.directory); result = readdirplus_result old ctx page })
-    told (Ok p) is = (p, lists old ctx w a.directory a.cookie a.verifier step.parent step.is_parent (fits_full a.directory_count a.most) p is, refl, refl)
-    told (Err e) is = tt

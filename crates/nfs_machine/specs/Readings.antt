@@ -1,4 +1,4 @@
--- A directory read page by page in a run, with any other records between (RFC 1813, 3.3.16 and 3.3.17).
+-- A directory read page by page, among steps of any calls (RFC 1813, 3.3.16 and 3.3.17).
 use Rattle.std.specs.Prelude.{◌≡◌, ℕ, Bool, true, false, List, [], ◌∷◌, ◌++◌, map, Option, Some}
 use Rattle.std.specs.Prelude.{None, option_map, Result, Ok, Err, count_by, codes, ◌==◌}
 use Rattle.std.specs.FinMap.{get}
@@ -14,22 +14,29 @@ use Rattle.nfs_wire.specs.declared.replies.PagePlus.{PagePlus}
 use Rattle.nfs_wire.specs.declared.status.NfsStatus.{NfsStatus}
 use Rattle.nfs_machine.specs.Attributes.{entries_of}
 use Rattle.nfs_machine.specs.Bytes.{same_bytes}
+use Rattle.nfs_machine.specs.Chains.{Chain, Transition}
 use Rattle.nfs_machine.specs.Checks.{entry_of}
 use Rattle.nfs_machine.specs.Handles.{handle_of}
-use Rattle.nfs_machine.specs.NfsSteps.{NfsStep}
 use Rattle.nfs_machine.specs.Pages.{all_entries}
 use Rattle.nfs_machine.specs.Paging.{Rises, last_cookie}
 use Rattle.nfs_machine.specs.Resolve.{Names, resolve}
-use Rattle.nfs_machine.specs.Run.{Record, Run, Setting}
 use Rattle.nfs_machine.specs.State.{Directory, Entry, Living, State}
 use Rattle.nfs_machine.specs.WellFormed.{IsParent, WellFormed}
+use Rattle.nfs_machine.specs.declared.calls.Call.{Call}
+use Rattle.nfs_machine.specs.declared.calls.Call.TheVariants as calls
+use Rattle.nfs_machine.specs.declared.calls.Reply.{Reply}
+use Rattle.nfs_machine.specs.declared.calls.Reply.TheVariants as replies
 use Rattle.nfs_machine.specs.declared.context.Ctx.{Ctx}
 use Rattle.nfs_machine.specs.declared.handle.Handle.{Handle}
 
 -- the directory that a call lists, by its handle, and the cookie that it goes on from
-abbrev pub lists_from : NfsCall → Option (List ℕ × ℕ)
-lists_from (nfs.Readdir a) = Some (a.directory, a.cookie)
-lists_from (nfs.Readdirplus a) = Some (a.directory, a.cookie)
+abbrev pub nfs_lists_from : NfsCall → Option (List ℕ × ℕ)
+nfs_lists_from (nfs.Readdir a) = Some (a.directory, a.cookie)
+nfs_lists_from (nfs.Readdirplus a) = Some (a.directory, a.cookie)
+nfs_lists_from call = None
+
+abbrev pub lists_from : Call → Option (List ℕ × ℕ)
+lists_from (calls.Nfs call) = nfs_lists_from call
 lists_from call = None
 
 -- the entries that a reply shows, and its eof
@@ -44,41 +51,47 @@ abbrev pub full_shown : Result PagePlus NfsStatus → Option (List Entry × Bool
 full_shown (Ok page) = Some (map (λ (full : FullEntry). entry_shown full.entry) page.entries, page.eof)
 full_shown (Err e) = None
 
-abbrev pub page_shown : NfsReply → Option (List Entry × Bool)
-page_shown (nfs_replies.Readdir r) = names_shown r.result
-page_shown (nfs_replies.Readdirplus r) = full_shown r.result
+abbrev pub nfs_page_shown : NfsReply → Option (List Entry × Bool)
+nfs_page_shown (nfs_replies.Readdir r) = names_shown r.result
+nfs_page_shown (nfs_replies.Readdirplus r) = full_shown r.result
+nfs_page_shown reply = None
+
+abbrev pub page_shown : Reply → Option (List Entry × Bool)
+page_shown (replies.Nfs reply) = nfs_page_shown reply
 page_shown reply = None
 
--- one page of a reading: the records before it; its call with what this was answered, and what the answer showed
-pub record Turn : Type 0 where
-  pub between : List Record
-  pub ctx : Ctx
-  pub call : NfsCall
-  pub reply : NfsReply
-  pub page : List Entry
-  pub eof : Bool
+-- A step while a directory is read: one of the reading's pages, with the entries that it shows, or another. Other
+-- readings may go on at the same time, of this directory too.
+pub data Turn : Type 0 where
+  ReadsPage : (step : Transition) (page : List Entry) → Turn
+  Between : (step : Transition) → Turn
 
--- From a state, the records before it lead to the state in which its call is executed. It leaves that as it is and
--- puts no message.
-pub record IsTurn (setting : Setting) (old : State) (directory : List ℕ) (cookie : ℕ) (t : Turn)
-    (mid : State) : Type 0 where
-  pub run : Run setting old t.between mid
-  pub step : NfsStep mid t.ctx t.call t.reply [] mid
-  pub from : lists_from t.call ≡ Some (directory, cookie)
-  pub shows : page_shown t.reply ≡ Some (t.page, t.eof)
+abbrev pub step_of : Turn → Transition
+step_of (ReadsPage step page) = step
+step_of (Between step) = step
 
--- pages from a cookie on, each from the last cookie of the one before, up to the one that says that the directory ends
-abbrev pub Reading : Setting → State → List ℕ → ℕ → List Turn → Type 0
-Reading setting old directory cookie [] = ⊥
-Reading setting old directory cookie (t ∷ []) = (mid : State) × IsTurn setting old directory cookie t mid ×
-    (t.eof ≡ true)
-Reading setting old directory cookie (t ∷ u ∷ turns) =
-    (mid : State) × IsTurn setting old directory cookie t mid × (t.eof ≡ false) ×
-    Reading setting mid directory (last_cookie cookie t.page) (u ∷ turns)
+abbrev pub steps_of : List Turn → List Transition
+steps_of turns = map step_of turns
+
+-- the call goes on from this cookie, and is answered by this page
+pub record AnswersPage (step : Transition) (directory : List ℕ) (cookie : ℕ) (page : List Entry) (eof : Bool) :
+    Type 0 where
+  pub from : lists_from step.call ≡ Some (directory, cookie)
+  pub shows : page_shown step.reply ≡ Some (page, eof)
+
+-- the pages of one reading, each going on from the last cookie of the one before: the last step is the page that says
+-- that the directory ends
+abbrev pub Reads : (directory : List ℕ) → (cookie : ℕ) → List Turn → Type 0
+Reads directory cookie [] = ⊥
+Reads directory cookie (Between step ∷ turns) = Reads directory cookie turns
+Reads directory cookie (ReadsPage step page ∷ []) = AnswersPage step directory cookie page true
+Reads directory cookie (ReadsPage step page ∷ turn ∷ turns) = AnswersPage step directory cookie page false ×
+    Reads directory (last_cookie cookie page) (turn ∷ turns)
 
 abbrev pub all_shown : List Turn → List Entry
 all_shown [] = []
-all_shown (t ∷ turns) = t.page ++ all_shown turns
+all_shown (Between step ∷ turns) = all_shown turns
+all_shown (ReadsPage step page ∷ turns) = page ++ all_shown turns
 
 -- the directory that a handle names has the entry, or it is "." or ".."
 abbrev pub Has : State → Ctx → List ℕ → Entry → Type 0
@@ -89,13 +102,12 @@ Has m ctx directory e =
     → Contains (all_entries number parent entries) e
 
 -- it has it at each page
-abbrev pub StaysThrough : (setting : Setting) (old : State) (directory : List ℕ) (cookie : ℕ)
-    (turns : List Turn) → Reading setting old directory cookie turns → Entry → Type 0
-StaysThrough setting old directory cookie [] reading e = ⊥
-StaysThrough setting old directory cookie (t ∷ []) reading e = Has reading.0 t.ctx directory e
-StaysThrough setting old directory cookie (t ∷ u ∷ turns) reading e =
-    Has reading.0 t.ctx directory e ×
-    StaysThrough setting reading.0 directory (last_cookie cookie t.page) (u ∷ turns) reading.3 e
+abbrev pub StaysThrough : (directory : List ℕ) (e : Entry) (old : State) (turns : List Turn) (new : State) →
+    Chain old (steps_of turns) new → Type 0
+StaysThrough directory e old [] new chain = Unit {0}
+StaysThrough directory e old (Between step ∷ turns) new chain = StaysThrough directory e chain.0 turns new chain.2
+StaysThrough directory e old (ReadsPage step page ∷ turns) new chain =
+    Has old step.ctx directory e × StaysThrough directory e chain.0 turns new chain.2
 
 -- the object that a name of a directory leads to
 abbrev pub named_in : State → (directory : ℕ) → (name : List ℕ) → Option ℕ
@@ -104,22 +116,11 @@ named_in m directory name = elim (get m.objects directory) [
   | Some o ↦ option_map (λ (e : Entry). e.number) (entry_of (entries_of o.content) name)
 ]
 
--- in each state of a run, the first and the last among them
-abbrev pub Throughout : (State → Type 0) →
-    (setting : Setting) (old : State) (records : List Record) (new : State) → Run setting old records new → Type 0
-Throughout P setting old [] new run = P old
-Throughout P setting old (r ∷ records) new run = P old × Throughout P setting run.0 records new run.2
-
--- in each state from the one in which a reading begins to that of its last page
-abbrev pub ThroughReading : (State → Type 0) →
-    (setting : Setting) (old : State) (directory : List ℕ) (cookie : ℕ) (turns : List Turn) →
-    Reading setting old directory cookie turns → Type 0
-ThroughReading P setting old directory cookie [] reading = ⊥
-ThroughReading P setting old directory cookie
-    (t ∷ []) reading = Throughout P setting old t.between reading.0 reading.1.run
-ThroughReading P setting old directory cookie (t ∷ u ∷ turns) reading =
-    Throughout P setting old t.between reading.0 reading.1.run ×
-    ThroughReading P setting reading.0 directory (last_cookie cookie t.page) (u ∷ turns) reading.3
+-- in each state of a chain, the first and the last among them
+abbrev pub Throughout : (State → Type 0) → (old : State) (steps : List Transition) (new : State) →
+    Chain old steps new → Type 0
+Throughout P old [] new chain = P old
+Throughout P old (t ∷ steps) new chain = P old × Throughout P chain.0 steps new chain.2
 
 -- the name is shown once, as that of this object
 pub record ShowsName (shown : List Entry) (name : List ℕ) (target : ℕ) : Type 0 where
@@ -129,20 +130,20 @@ pub record ShowsName (shown : List Entry) (name : List ℕ) (target : ℕ) : Typ
   pub leads : entry.number ≡ target
   pub once : count_by (λ (x : Entry). same_bytes x.name name) shown ≡ 1
 
-pub record ShowsWhole (setting : Setting) (old : State) (directory : List ℕ) (turns : List Turn)
-    (reading : Reading setting old directory 0 turns) : Type 0 where
+pub record ShowsWhole (directory : List ℕ) (old : State) (turns : List Turn) (new : State)
+    (chain : Chain old (steps_of turns) new) : Type 0 where
   pub rises : Rises 0 (all_shown turns)
-  pub shows : (e : Entry) → StaysThrough setting old directory 0 turns reading e → Contains (all_shown turns) e
-  pub once : (e : Entry) → StaysThrough setting old directory 0 turns reading e →
+  pub shows : (e : Entry) → StaysThrough directory e old turns new chain → Contains (all_shown turns) e
+  pub once : (e : Entry) → StaysThrough directory e old turns new chain →
       count_by (λ (x : Entry). x.cookie == e.cookie) (all_shown turns) ≡ 1
   -- a name that leads to one object all the time, whatever its cookies; "." and ".." are above
   pub names : (h : Handle) (name : List ℕ) (target : ℕ) → handle_of directory ≡ Some h →
       same_bytes (codes ".") name ≡ false → same_bytes (codes "..") name ≡ false
-      → ThroughReading (λ m. named_in m h.fileid name ≡ Some target) setting old directory 0 turns reading →
+      → Throughout (λ m. named_in m h.fileid name ≡ Some target) old (steps_of turns) new chain →
       ShowsName (all_shown turns) name target
 
--- A directory that is read in pages from cookie 0 to its end, from a well-formed state on, shows no cookie twice, and
--- each entry and each name that stayed once.
+-- A directory that is read in pages from cookie 0 to its end, among any steps from a well-formed state on, shows no
+-- cookie twice, and each entry and each name that stayed once.
 abbrev pub ReadingsAreWhole : Type 0
-ReadingsAreWhole = (setting : Setting) (old : State) (directory : List ℕ) (turns : List Turn) → WellFormed old →
-    (reading : Reading setting old directory 0 turns) → ShowsWhole setting old directory turns reading
+ReadingsAreWhole = (directory : List ℕ) (old : State) (turns : List Turn) (new : State) → WellFormed old →
+    (chain : Chain old (steps_of turns) new) → Reads directory 0 turns → ShowsWhole directory old turns new chain

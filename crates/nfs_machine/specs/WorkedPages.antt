@@ -3,7 +3,6 @@ use Rattle.std.specs.Prelude.{◌≡◌, ℕ, Bool, true, false, List, [], ◌�
 use Rattle.nfs_wire.specs.declared.calls.Verifier.{Verifier}
 use Rattle.nfs_wire.specs.declared.status.NfsStatus.TheVariants as status
 use Rattle.nfs_machine.specs.Pages.{Pages, all_entries, behind, entry_size, fits, fits_full, full_entry_size}
-use Rattle.nfs_machine.specs.Paging.{InOrder, ReadsOn, Visit}
 use Rattle.nfs_machine.specs.State.{Entry}
 
 abbrev pub entry : List ℕ → ℕ → ℕ → Entry
@@ -63,17 +62,6 @@ pub record WorkedPages : Type 0 where
   pub past_end : IsPageOf (fits 104) (behind 8 later) [] true
   pub no_room_past_end : HasNoPage (fits 103) (behind 8 later)
   pub gone : IsPageOf (fits 160) (behind 3 later) (b ∷ d ∷ []) false
-
--- a reading in three pages, with the changes before the last
-abbrev pub visits : List Visit
-visits =
-    record { entries = full; fit = fits 160; page = dot ∷ dots ∷ []; eof = false }
-    ∷ record { entries = full; fit = fits 160; page = a ∷ b ∷ []; eof = false }
-    ∷ record { entries = later; fit = fits 65536; page = d ∷ e ∷ f ∷ []; eof = true } ∷ []
-
-pub record WorkedReading : Type 0 where
-  pub in_order : InOrder visits
-  pub reads : ReadsOn 0 visits
 
 -- READDIRPLUS
 pub record WorkedFullPages : Type 0 where

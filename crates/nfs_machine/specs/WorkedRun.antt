@@ -23,6 +23,7 @@ use Rattle.nfs_wire.specs.declared.replies.NfsReply.{NfsReply}
 use Rattle.nfs_wire.specs.declared.replies.NfsReply.TheVariants as nfs_replies
 use Rattle.nfs_wire.specs.declared.status.NfsStatus.TheVariants as status
 use Rattle.nfs_machine.specs.Attributes.{attributes_of, names_of}
+use Rattle.nfs_machine.specs.Chains.{Chain, Transition}
 use Rattle.nfs_machine.specs.Checks.{entry_of}
 use Rattle.nfs_machine.specs.Handles.{handle_bytes}
 use Rattle.nfs_machine.specs.LinkSteps.{link_end}
@@ -31,7 +32,7 @@ use Rattle.nfs_machine.specs.NameSteps.{wanted_file}
 use Rattle.nfs_machine.specs.NfsSteps.{NfsStep}
 use Rattle.nfs_machine.specs.Opening.{opening}
 use Rattle.nfs_machine.specs.PageSteps.{page_entry}
-use Rattle.nfs_machine.specs.Readings.{Reading, StaysThrough, ThroughReading, Turn, named_in}
+use Rattle.nfs_machine.specs.Readings.{Between, Reads, ReadsPage, StaysThrough, Throughout, Turn, named_in, steps_of}
 use Rattle.nfs_machine.specs.RemoveSteps.{without, without_object}
 use Rattle.nfs_machine.specs.RenameSteps.{rename_plan}
 use Rattle.nfs_machine.specs.Resolve.{resolve}
@@ -47,6 +48,7 @@ use Rattle.nfs_machine.specs.WorkedFiles.{time}
 use Rattle.nfs_machine.specs.WorkedPages.{seven, zeros}
 use Rattle.nfs_machine.specs.WorkedReplies.{root}
 use Rattle.nfs_machine.specs.WorkedSetting.{unwritable}
+use Rattle.nfs_machine.specs.declared.calls.Call.TheVariants as calls
 use Rattle.nfs_machine.specs.declared.calls.Reply.TheVariants as replies
 use Rattle.nfs_machine.specs.declared.context.Ctx.{Ctx}
 
@@ -324,34 +326,35 @@ page_reply m page eof = nfs_replies.Readdir
       result = Ok (record { verifier = seven; entries = map page_entry page; eof = eof });
     })
 
-abbrev pub first_turn : Turn
-first_turn = record {
-  between = [];
+abbrev pub first_step : Transition
+first_step = record {
   ctx = nobody;
-  call = nfs.Readdir first_listing;
-  reply = page_reply with_x first_two false;
-  page = first_two;
-  eof = false;
+  call = calls.Nfs (nfs.Readdir first_listing);
+  reply = replies.Nfs (page_reply with_x first_two false);
+  messages = [];
 }
 
-abbrev pub second_turn : Turn
-second_turn = record {
-  between = executed (nfs.Write writing) wrote_reply ∷ [];
+abbrev pub write_step : Transition
+write_step = record
+    { ctx = nobody; call = calls.Nfs (nfs.Write writing); reply = replies.Nfs wrote_reply; messages = [] }
+
+abbrev pub second_step : Transition
+second_step = record {
   ctx = nobody;
-  call = nfs.Readdir second_listing;
-  reply = page_reply written (x_entry ∷ []) true;
-  page = x_entry ∷ [];
-  eof = true;
+  call = calls.Nfs (nfs.Readdir second_listing);
+  reply = replies.Nfs (page_reply written (x_entry ∷ []) true);
+  messages = [];
 }
 
 abbrev pub turns : List Turn
-turns = first_turn ∷ second_turn ∷ []
+turns = ReadsPage first_step first_two ∷ Between write_step ∷ ReadsPage second_step (x_entry ∷ []) ∷ []
 
 pub record WorkedTurns : Type 0 where
   pub formed : WellFormed with_x
-  pub reading : Reading setting with_x root_bytes 0 turns
-  pub stays : StaysThrough setting with_x root_bytes 0 turns reading x_entry
-  pub name_stays : ThroughReading (λ m. named_in m 1 (codes "x") ≡ Some 5) setting with_x root_bytes 0 turns reading
+  pub chain : Chain with_x (steps_of turns) written
+  pub reads : Reads root_bytes 0 turns
+  pub stays : StaysThrough root_bytes x_entry with_x turns written chain
+  pub name_stays : Throughout (λ m. named_in m 1 (codes "x") ≡ Some 5) with_x (steps_of turns) written chain
   -- and so does "."
-  pub self_stays : StaysThrough setting with_x root_bytes 0 turns reading
-      (record { name = codes "."; number = 1; cookie = 1 })
+  pub self_stays : StaysThrough root_bytes (record { name = codes "."; number = 1; cookie = 1 }) with_x turns written
+      chain

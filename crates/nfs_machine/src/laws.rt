@@ -9,8 +9,7 @@ ghost use Rattle.nfs_machine.specs.Laws.{StepsGiveOnce, StepsKeepCookies, StepsK
 ghost use Rattle.nfs_machine.specs.Laws.{StepsKeepNumbers};
 ghost use Rattle.nfs_machine.specs.LockLaws.{ListedLocksTell, OpeningIsApart, OpeningWaitsForNone, ChainsKeepApart};
 ghost use Rattle.nfs_machine.specs.LockLaws.{ChainsKeepWaiting, StepsKeepApart, StepsKeepWaiting};
-ghost use Rattle.nfs_machine.specs.Paging.{FullPagesFit, FullPagesList, PagesAreOne, PagesAreWhole, PagesExist};
-ghost use Rattle.nfs_machine.specs.Paging.{PagesFit, PagesList};
+ghost use Rattle.nfs_machine.specs.Paging.{FullPagesFit, PagesAreOne, PagesExist, PagesFit};
 ghost use Rattle.nfs_machine.specs.Readings.{ReadingsAreWhole};
 ghost use Rattle.nfs_machine.specs.SideLaws.{LocksStayFit, MountRefusalsChangeNothing, MountRepliesHaveForm};
 ghost use Rattle.nfs_machine.specs.SideLaws.{MountsStayFit, NlmMessagesHaveForm, NlmRefusalsChangeNothing};
@@ -72,14 +71,6 @@ pub fn replies_are_short()
     ensures refusals { RefusalsAreShort }
 {}
 
-/// A directory that is read page by page from cookie 0 to its end, with any changes between, shows no cookie twice and
-/// each entry that stayed once.
-///
-/// Such pages are in `worked_reading`.
-pub fn pages_are_whole()
-    ensures { PagesAreWhole }
-{}
-
 /// What a page is determines it: of the same entries there is one page, or there is none.
 ///
 /// Such pages, and entries without one, are in `worked_pages` and `worked_full_pages`.
@@ -111,15 +102,6 @@ pub fn times_of_changes_rise()
     ensures chains { ChainsNeverFall }
 {}
 
-/// A page that READDIR or READDIRPLUS answers is one of the directory that the handle names, whose cookies rise: so
-/// such pages, each behind the one before, are a reading in the sense of `pages_are_whole`.
-///
-/// Such pages are in `worked_steps`.
-pub fn pages_list_directories()
-    ensures names { PagesList }
-    ensures full { FullPagesList }
-{}
-
 /// An entry keeps its cookie: where a name of a directory leads to the same object before a step and after it, it is
 /// the same entry (RFC 1813, 3.3.16).
 ///
@@ -128,9 +110,9 @@ pub fn entries_keep_cookies()
     ensures { StepsKeepCookies }
 {}
 
-/// A directory that is read page by page in a run, by READDIR or READDIRPLUS, from cookie 0 to its end, with any
-/// records between, shows no cookie twice, each entry that stayed once, "." and ".." among them, and once each name
-/// that led to the same object all the time; the state before is well-formed.
+/// A directory that is read page by page, by READDIR or READDIRPLUS, from cookie 0 to its end, among steps of any
+/// calls, shows no cookie twice, each entry that stayed once, "." and ".." among them, and once each name that led to
+/// the same object all the time; the state before is well-formed.
 ///
 /// Such a reading is `worked_turns`.
 pub fn readings_are_whole()
@@ -212,8 +194,8 @@ pub fn side_replies_have_forms()
 {}
 
 /// What is mounted, held and waited for is always within those bounds: a server starts so, each call of any program
-/// leaves it so, and so does a chain of such calls. The byte strings of a call are within them, since it is spelled; that the name of
-/// a host that calls is, has to be given.
+/// leaves it so, and so does a chain of such calls. The byte strings of a call are within them, since it is spelled;
+/// that the name of a host that calls is, has to be given.
 ///
 /// Such a run is `worked_run`, and such steps are in `worked_locking`.
 pub fn bounds_are_kept()

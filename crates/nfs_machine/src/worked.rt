@@ -7,7 +7,7 @@ ghost use Rattle.nfs_machine.specs.WorkedFiles.{WorkedContent, WorkedNames, Work
 ghost use Rattle.nfs_machine.specs.WorkedCreate.{WorkedAttributes, WorkedExisting, WorkedNewFile};
 ghost use Rattle.nfs_machine.specs.WorkedLocking.{WorkedChecks, WorkedLocking};
 ghost use Rattle.nfs_machine.specs.WorkedLocks.{WorkedGrants, WorkedMounts, WorkedRanges, WorkedShares, WorkedTests};
-ghost use Rattle.nfs_machine.specs.WorkedPages.{WorkedFullPages, WorkedPages, WorkedReading, WorkedSizes};
+ghost use Rattle.nfs_machine.specs.WorkedPages.{WorkedFullPages, WorkedPages, WorkedSizes};
 ghost use Rattle.nfs_machine.specs.WorkedReplies.{WorkedFileReplies, WorkedRootReplies};
 ghost use Rattle.nfs_machine.specs.WorkedRun.{WorkedLeaving, WorkedLinkings, WorkedRenamings, WorkedRun, WorkedSteps};
 ghost use Rattle.nfs_machine.specs.WorkedRun.{WorkedTurns};
@@ -122,11 +122,6 @@ pub fn worked_limits()
 /// Pages of READDIR, and where there is none.
 pub fn worked_pages()
     ensures { WorkedPages }
-{}
-
-/// A reading in three pages, with changes between.
-pub fn worked_reading()
-    ensures { WorkedReading }
 {}
 
 /// Pages of READDIRPLUS.
