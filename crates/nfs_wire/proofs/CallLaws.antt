@@ -2,17 +2,24 @@
 use Rattle.std.proofs.Common.{◌≡◌, ◌≢◌, ℕ, Result, Err, refl, ap, lit<}
 use Rattle.std.specs.Result.{IsErrAnd}
 use Rattle.nfs_xdr.specs.declared.XdrError.{XdrError}
-use Rattle.nfs_xdr.specs.declared.XdrError.TheVariants.{Memory}
+use Rattle.nfs_xdr.specs.declared.XdrError.TheVariants.{Short, TooLong, BadValue, Memory}
 use Rattle.nfs_xdr.specs.Types.{Value}
 use Rattle.nfs_xdr.proofs.ProgramLaws as program
 use Rattle.nfs_xdr.proofs.ProgramLaws.{Makers, made}
-use Rattle.nfs_wire.proofs.ArgumentLaws.{setattr_of, place_of, access_of, read_of, write_of, create_of, mkdir_of, symlink_of, mknod_of, rename_of, link_of, readdir_of, readdirplus_of, commit_of, setattr_again, write_again, create_again, mkdir_again, symlink_again, mknod_again}
+use Rattle.nfs_wire.proofs.ArgumentLaws.{setattr_of, place_of, access_of, read_of, write_of, create_of, mkdir_of}
+use Rattle.nfs_wire.proofs.ArgumentLaws.{symlink_of, mknod_of, rename_of, link_of, readdir_of, readdirplus_of}
+use Rattle.nfs_wire.proofs.ArgumentLaws.{commit_of, setattr_again, write_again, create_again, mkdir_again}
+use Rattle.nfs_wire.proofs.ArgumentLaws.{symlink_again, mknod_again}
 use Rattle.nfs_wire.specs.ArgumentsError.{arguments_error}
 use Rattle.nfs_wire.specs.Calls.{arguments, arguments_type, procedure_of, arguments_of, IsProcedure, SpellsOneCall}
 use Rattle.nfs_wire.specs.declared.arguments.ArgumentsError.{ArgumentsError}
 use Rattle.nfs_wire.specs.declared.arguments.ArgumentsError.TheVariants.{Garbage}
+use Rattle.nfs_wire.specs.declared.arguments.ArgumentsError.TheVariants as told
 use Rattle.nfs_wire.specs.declared.calls.NfsCall.{NfsCall}
-use Rattle.nfs_wire.specs.declared.calls.NfsCall.TheVariants.{Null, Getattr, Setattr, Lookup, Access, Readlink, Read, Write, Create, Mkdir, Symlink, Mknod, Remove, Rmdir, Rename, Link, Readdir, Readdirplus, Fsstat, Fsinfo, Pathconf, Commit}
+use Rattle.nfs_wire.specs.declared.calls.NfsCall.TheVariants.{Null, Getattr, Setattr, Lookup, Access, Readlink, Read}
+use Rattle.nfs_wire.specs.declared.calls.NfsCall.TheVariants.{Write, Create, Mkdir, Symlink, Mknod, Remove, Rmdir}
+use Rattle.nfs_wire.specs.declared.calls.NfsCall.TheVariants.{Rename, Link, Readdir, Readdirplus, Fsstat, Fsinfo}
+use Rattle.nfs_wire.specs.declared.calls.NfsCall.TheVariants.{Pathconf, Commit}
 
 -- each call is of a procedure that there is
 pub procedure_of-is : (call : NfsCall) → IsProcedure (procedure_of call)
@@ -41,8 +48,67 @@ procedure_of-is (Commit a) = lit< tt
 
 -- each procedure's call, made of the value of its arguments
 makers : Makers NfsCall arguments
-makers =
-    ((λ _. Null), ((λ v. Getattr v), ((λ v. Setattr (setattr_of v)), ((λ v. Lookup (place_of v)), ((λ v. Access (access_of v)), ((λ v. Readlink v), ((λ v. Read (read_of v)), ((λ v. Write (write_of v)), ((λ v. Create (create_of v)), ((λ v. Mkdir (mkdir_of v)), ((λ v. Symlink (symlink_of v)), ((λ v. Mknod (mknod_of v)), ((λ v. Remove (place_of v)), ((λ v. Rmdir (place_of v)), ((λ v. Rename (rename_of v)), ((λ v. Link (link_of v)), ((λ v. Readdir (readdir_of v)), ((λ v. Readdirplus (readdirplus_of v)), ((λ v. Fsstat v), ((λ v. Fsinfo v), ((λ v. Pathconf v), ((λ v. Commit (commit_of v)), tt))))))))))))))))))))))
+makers = (
+  (λ _. Null),
+  (
+    (λ v. Getattr v),
+    (
+      (λ v. Setattr (setattr_of v)),
+      (
+        (λ v. Lookup (place_of v)),
+        (
+          (λ v. Access (access_of v)),
+          (
+            (λ v. Readlink v),
+            (
+              (λ v. Read (read_of v)),
+              (
+                (λ v. Write (write_of v)),
+                (
+                  (λ v. Create (create_of v)),
+                  (
+                    (λ v. Mkdir (mkdir_of v)),
+                    (
+                      (λ v. Symlink (symlink_of v)),
+                      (
+                        (λ v. Mknod (mknod_of v)),
+                        (
+                          (λ v. Remove (place_of v)),
+                          (
+                            (λ v. Rmdir (place_of v)),
+                            (
+                              (λ v. Rename (rename_of v)),
+                              (
+                                (λ v. Link (link_of v)),
+                                (
+                                  (λ v. Readdir (readdir_of v)),
+                                  (
+                                    (λ v. Readdirplus (readdirplus_of v)),
+                                    (
+                                      (λ v. Fsstat v),
+                                      (
+                                        (λ v. Fsinfo v),
+                                        ((λ v. Pathconf v), ((λ v. Commit (commit_of v)), tt)),
+                                      ),
+                                    ),
+                                  ),
+                                ),
+                              ),
+                            ),
+                          ),
+                        ),
+                      ),
+                    ),
+                  ),
+                ),
+              ),
+            ),
+          ),
+        ),
+      ),
+    ),
+  ),
+)
 
 call_of : (procedure : ℕ) → Value (arguments_type procedure) → NfsCall
 call_of procedure value = made Null arguments makers procedure value
@@ -76,5 +142,17 @@ pub spells_one_call : SpellsOneCall
 spells_one_call = program.spells_one_call arguments procedure_of arguments_of call_of call_of-arguments_of
 
 -- what is answered as garbage was no want of memory
-pub is_not_memory : (result : Result NfsCall ArgumentsError) (e : XdrError) → IsErrAnd result (λ answer. answer ≡ arguments_error e) → result ≡ Err Garbage → e ≢ Memory
+pub is_not_memory : (result : Result NfsCall ArgumentsError) (e : XdrError) →
+    IsErrAnd result (λ answer. answer ≡ arguments_error e) → result ≡ Err Garbage → e ≢ Memory
 is_not_memory = program.is_not_memory arguments_error Garbage (λ is. cc)
+
+-- and what is answered as want of memory was it
+only_memory : (e : XdrError) → arguments_error e ≡ told.Memory → e ≡ Memory
+only_memory Short is = absurd cc
+only_memory TooLong is = absurd cc
+only_memory BadValue is = absurd cc
+only_memory Memory is = refl
+
+pub is_memory : (result : Result NfsCall ArgumentsError) (e : XdrError)
+    → IsErrAnd result (λ answer. answer ≡ arguments_error e) → result ≡ Err told.Memory → e ≡ Memory
+is_memory = program.is_memory arguments_error told.Memory only_memory

@@ -133,6 +133,10 @@ IsFrontedBy = program.IsFrontedBy SpellsArguments
 abbrev pub IsGarbage : ℕ → List ℕ → Type 0
 IsGarbage = program.IsGarbage procedure_of SpellsArguments
 
+-- a front of the bytes spells arguments of this procedure that hold bytes
+abbrev pub CallHoldsBytes : ℕ → List ℕ → Type 0
+CallHoldsBytes = program.CallHoldsBytes arguments
+
 -- one list of bytes spells at its front at most one call of a procedure
 abbrev pub SpellsOneCall : Type 0
 SpellsOneCall = program.SpellsOneCall procedure_of SpellsArguments

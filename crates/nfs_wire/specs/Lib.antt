@@ -2,6 +2,7 @@ pub mod Arguments
 pub mod ArgumentsError
 pub mod Attributes
 pub mod Calls
+pub mod Parts
 pub mod Replies
 pub mod Results
 pub mod Status

@@ -1,7 +1,8 @@
 //! The calls of NFS version 3, with their arguments.
 
 ghost use Rattle.std.specs.Prelude.{◌≡◌, IfOk, IsErrOf};
-ghost use Rattle.nfs_wire.specs.Calls.{procedure_of, IsFrontedBy, IsGarbage, ReadsCall, SpellsOneCall};
+ghost use Rattle.nfs_wire.specs.Calls.{procedure_of, IsFrontedBy, IsGarbage, CallHoldsBytes, ReadsCall};
+ghost use Rattle.nfs_wire.specs.Calls.{SpellsOneCall};
 
 mod data;
 mod items;
@@ -239,13 +240,15 @@ pub enum NfsCall {
 
 /// The call of the procedure of this number that the bytes hold. Bytes after its arguments are ignored.
 ///
-/// `Memory` comes only where the record's bytes could not be shared.
+/// The byte strings of a call are shared when all of it was read, so `Memory` says that it is one.
 pub fn read_args(procedure: u32, mut arguments: SharedReader<'_>) -> Result<NfsCall, ArgumentsError>
     // A call that is read is of that procedure, and a front of the bytes spells its arguments.
     ensures procedure { IfOk result (λ call. procedure_of call ≡ procedure) }
     ensures found { IfOk result (λ call. IsFrontedBy call arguments.entry) }
     // Garbage is what no front spells, as arguments of that procedure.
     ensures garbage { IsErrOf result ArgumentsError.Garbage → IsGarbage procedure arguments.entry }
+    // There is no memory only for a call that a front spells, and that holds bytes.
+    ensures memory { IsErrOf result ArgumentsError.Memory → CallHoldsBytes procedure arguments.entry }
 {
     are_bytes(arguments.as_slice());
     Ok(read_call(procedure, &mut arguments)?)

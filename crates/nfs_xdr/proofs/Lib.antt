@@ -7,3 +7,4 @@ pub mod NoMemory
 pub mod Spelling
 pub mod Entries
 pub mod ProgramLaws
+pub mod Sharing

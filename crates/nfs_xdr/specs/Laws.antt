@@ -56,4 +56,4 @@ abbrev pub Tells : {X : Type 0} → (t : Xdr) → (X → Value t) → List ℕ �
 Tells t view bytes (Ok x) =
     (front : List ℕ) × (rest : List ℕ) × (bytes ≡ front ++ rest) × Spells t (view x) front
 Tells t view bytes (Err e) =
-    e ≢ Memory → (v : Value t) (front rest : List ℕ) → bytes ≡ front ++ rest → Spells t v front → ⊥
+    (v : Value t) (front rest : List ℕ) → bytes ≡ front ++ rest → Spells t v front → ⊥

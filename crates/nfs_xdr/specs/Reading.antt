@@ -1,8 +1,10 @@
 -- Reading from left to right, as a function on lists: a value and the bytes behind it, or the first fault. It is what
 -- code is compared with; what is right is `Spells`.
-use Rattle.std.specs.Prelude.{◌≡◌, ◌≢◌, ◌≤◌, ℕ, zero, suc, ◌+◌, ◌-◌, Bool, true, false}
+use Rattle.std.specs.Prelude.{◌≡◌, ◌⊎◌, ◌≤◌, ℕ, zero, suc, ◌+◌, ◌-◌, Bool, true, false}
+use Rattle.std.specs.Prelude.{◌||◌, IsOkAnd}
 use Rattle.std.specs.Prelude.{List, [], ◌∷◌, length, take, drop, Option, Some, None, Result, Ok, Err, nat_lt}
 use Rattle.std.specs.Prelude.{◌==◌, if◌then◌else◌, ℤ}
+use Rattle.std.specs.List.{list_any}
 use Rattle.std.specs.Int.{Width, w32, w64, byte_len, from_be_bytes, cast_signed}
 use Rattle.nfs_xdr.specs.declared.XdrError.{XdrError}
 use Rattle.nfs_xdr.specs.declared.XdrError.TheVariants.{Short, TooLong, BadValue, Memory}
@@ -108,17 +110,38 @@ abbrev pub Reads : {X : Type 0} → (t : Xdr) →
 Reads t view old new (Ok x) = read t old ≡ Ok (view x, new)
 Reads t view old new (Err e) = (read t old ≡ Err e) × (new ≡ old)
 
--- The same of a reader that shares what it reads, for which there may be no memory.
-abbrev pub ReadsShared : {X : Type 0} → (t : Xdr) →
-    (X → Value t) → List ℕ → List ℕ → Result X XdrError → Type 0
-ReadsShared t view old new (Ok x) = read t old ≡ Ok (view x, new)
-ReadsShared t view old new (Err e) = (e ≢ Memory → read t old ≡ Err e) × (new ≡ old)
-
 -- The same of a reader made of items. Where the reader stands after a refusal is not said.
 abbrev pub ReadsFront : {X : Type 0} → (t : Xdr) →
     (X → Value t) → List ℕ → List ℕ → Result X XdrError → Type 0
 ReadsFront t view old new (Ok x) = read t old ≡ Ok (view x, new)
-ReadsFront t view old new (Err e) = e ≢ Memory → read t old ≡ Err e
+ReadsFront t view old new (Err e) = read t old ≡ Err e
+
+-- The value has a byte string of 4.10 or 4.11 that is not empty. To share such a one takes memory.
+abbrev pub holds_bytes : (t : Xdr) → Value t → Bool
+holds_bytes (Opaque max) bytes = nat_lt 0 (length bytes)
+holds_bytes (Pair a b) v = holds_bytes a v.0 || holds_bytes b v.1
+holds_bytes (Array max a) vs = list_any (holds_bytes a) vs
+holds_bytes (Optional a) None = false
+holds_bytes (Optional a) (Some v) = holds_bytes a v
+holds_bytes (Entries a) vs = list_any (holds_bytes a) vs
+holds_bytes (Union known arm) v = holds_bytes (arm v.0) v.1
+holds_bytes _ v = false
+
+-- What sharing a value that was read answers: the same value, seen by view, or no memory, where it holds bytes.
+abbrev pub Shares : {X : Type 0} → (t : Xdr) → (X → Value t) → Value t → Result X XdrError → Type 0
+Shares t view value (Ok x) = view x ≡ value
+Shares t view value (Err e) = (e ≡ Memory) × (holds_bytes t value ≡ true)
+
+-- a value is read that holds bytes
+abbrev pub HoldsBytes : (t : Xdr) → List ℕ → Type 0
+HoldsBytes t bytes = IsOkAnd (read t bytes) (λ x. holds_bytes t x.0 ≡ true)
+
+-- What a reader that shares what was read answers and leaves: what reading gives; or no memory, where what is read
+-- holds bytes.
+abbrev pub ReadsShared : {X : Type 0} → (t : Xdr) →
+    (X → Value t) → List ℕ → List ℕ → Result X XdrError → Type 0
+ReadsShared t view old new (Ok x) = read t old ≡ Ok (view x, new)
+ReadsShared t view old new (Err e) = (read t old ≡ Err e) ⊎ ((e ≡ Memory) × HoldsBytes t old)
 
 -- the bytes that are left of a whole, at its end
 pub record IsEndOf (rest whole : List ℕ) : Type 0 where

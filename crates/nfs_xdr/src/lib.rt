@@ -9,7 +9,8 @@
 //! `specs/Programs`, and its laws in `proofs/ProgramLaws`.
 //!
 //! A message is read or written by a plain function with `?`, whose clause is `ReadsFront` or
-//! `WritesFront`; `wire_tests` has an example, a union and loops among them.
+//! `WritesFront`; `wire_tests` has an example, a union and loops among them. Reading takes no memory; where byte
+//! strings are shared behind it, want of memory is told only of a message that was read whole (`ReadsShared`).
 #![tactic(auto)]
 
 ghost use Rattle.std.specs.Prelude.{◌≡◌};
@@ -28,7 +29,7 @@ pub use laws::{
     spelling_is_unique, writing_appends, writing_spells,
 };
 pub use reading::Reader;
-pub use shared::SharedReader;
+pub use shared::{Part, SharedReader};
 pub use writing::Writer;
 
 /// Why an item could not be read or written.

@@ -1,17 +1,48 @@
 //! A reader of shared bytes, which cuts byte strings out of them with no copy.
 
-ghost use Rattle.std.specs.Prelude.{◌≡◌, ◌+◌, ◌≤◌, length, take, drop, ◌==◌, IfOk, IfErr};
+ghost use Rattle.std.specs.Prelude.{◌≡◌, ◌+◌, ◌≤◌, ◌<◌, length, take, drop, ◌==◌, IfOk, IfErr};
+ghost use Rattle.std.specs.Prelude.{OnErr};
 ghost use Rattle.nfs_xdr.specs.declared.XdrError.TheVariants.{Memory};
 ghost use Rattle.nfs_xdr.specs.Laws.{IsBytes};
-ghost use Rattle.nfs_xdr.specs.Reading.{read, Reads, ReadsShared};
+ghost use Rattle.nfs_xdr.specs.Reading.{read, Reads};
 ghost use Rattle.nfs_xdr.specs.Types.{Word, Int, Hyper, Flag, Fixed, Opaque};
 
 use crate::{XdrError, items};
 use bytes::Bytes;
 use std::marker::Model;
 
-/// Reads items from the front of shared bytes, of which its byte strings are parts. A clause sees it
-/// as the bytes that are left.
+/// A byte string that was read, as a part of its source. It takes no memory before it is shared. A clause sees it as
+/// its bytes.
+#[derive(Drop)]
+pub struct Part<'a> {
+    source: &'a Bytes,
+    start: usize,
+    end: usize,
+}
+
+impl<'a> Model for Part<'a> {
+    ghost use Rattle.std.specs.Prelude.{List, ℕ, ◌≤◌, length, slice_range};
+
+    ghost Value = { List ℕ };
+
+    ghost view = { λ p. slice_range p.source.now p.start p.end };
+
+    ghost invariant = { λ p. (p.start ≤ p.end) × (p.end ≤ length p.source.now) };
+}
+
+impl<'a> Part<'a> {
+    /// The bytes, shared with their source. `Memory` comes only where there are some.
+    pub fn share(self) -> Result<Bytes, XdrError>
+        ensures ok { IfOk result (λ bytes. bytes ≡ self.entry) }
+        ensures err { IfErr result (λ e. e ≡ Memory) }
+        ensures some { OnErr result (0 < length self.entry) }
+    {
+        Ok(self.source.slice(self.start..self.end)?)
+    }
+}
+
+/// Reads items from the front of shared bytes, of which its byte strings are parts. It takes no memory. A clause sees
+/// it as the bytes that are left.
 ///
 /// After a refusal it stands where it stood.
 #[derive(Drop)]
@@ -73,9 +104,8 @@ impl<'a> SharedReader<'a> {
     }
 
     /// The bytes that are left, as a part of the source. The reader stays where it is.
-    pub fn rest(&self) -> Result<Bytes, XdrError>
-        ensures ok { IfOk result (λ rest. rest ≡ self.now) }
-        ensures err { IfErr result (λ e. e ≡ Memory) }
+    pub fn rest(&self) -> Part<'a>
+        ensures { result ≡ self.entry.now }
     {
         self.part(0, self.left.len())
     }
@@ -117,11 +147,11 @@ impl<'a> SharedReader<'a> {
 
     /// Opaque data of this size (RFC 4506 section 4.9). Its padding may be any bytes.
     #[tactic(auto, unfolding(crate::specs::Reading::read))]
-    pub fn fixed(&mut self, size: usize) -> Result<Bytes, XdrError>
-        ensures { ReadsShared (Fixed size) (λ b. b) self.old self.new result }
+    pub fn fixed(&mut self, size: usize) -> Result<Part<'a>, XdrError>
+        ensures { Reads (Fixed size) (λ part. part) self.old self.new result }
     {
         let taken = items::fixed(self.left, size)?;
-        let item = self.part(0, size)?;
+        let item = self.part(0, size);
         self.advance(taken);
         Ok(item)
     }
@@ -129,23 +159,26 @@ impl<'a> SharedReader<'a> {
     /// Opaque data or a string of at most `max` bytes (RFC 4506 sections 4.10 and 4.11): `TooLong`
     /// where its length is above that. Its padding may be any bytes.
     #[tactic(auto, unfolding(crate::specs::Reading::read))]
-    pub fn opaque(&mut self, max: usize) -> Result<Bytes, XdrError>
-        ensures { ReadsShared (Opaque max) (λ b. b) self.old self.new result }
+    pub fn opaque(&mut self, max: usize) -> Result<Part<'a>, XdrError>
+        ensures { Reads (Opaque max) (λ part. part) self.old self.new result }
     {
         let length = items::opaque(self.left, max)?;
-        let item = self.part(items::WORD, length)?;
+        let item = self.part(items::WORD, length);
         self.advance(items::WORD + (length + items::padding(length)));
         Ok(item)
     }
 
     /// So many of the bytes that are left, from this place on, as a part of the source.
-    fn part(&self, from: usize, size: usize) -> Result<Bytes, XdrError>
+    fn part(&self, from: usize, size: usize) -> Part<'a>
         requires { from + size ≤ length self.now }
-        ensures ok { IfOk result (λ part. part ≡ take size (drop from self.now)) }
-        ensures err { IfErr result (λ e. e ≡ Memory) }
+        ensures { result ≡ take size (drop from self.entry.now) }
     {
-        let at = self.source.len() - self.left.len() + from;
-        Ok(self.source.slice(at..at + size)?)
+        let start = self.source.len() - self.left.len() + from;
+        Part {
+            source: self.source,
+            start,
+            end: start + size,
+        }
     }
 
     /// Goes on behind the next `count` bytes.

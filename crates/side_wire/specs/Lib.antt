@@ -3,3 +3,4 @@ pub mod Messages
 pub mod Mount
 pub mod Nlm
 pub mod NlmTypes
+pub mod Parts

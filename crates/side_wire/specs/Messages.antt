@@ -1,6 +1,7 @@
 -- The calls that the server makes of its own accord: which bytes spell them, and what is read of their answers.
-use Rattle.std.specs.Prelude.{◌≡◌, ℕ, List, [], ◌++◌}
+use Rattle.std.specs.Prelude.{◌≡◌, ℕ, true, List, [], ◌++◌}
 use Rattle.nfs_xdr.specs.Types.{Xdr, Word, Opaque, Pair, Value, Spells}
+use Rattle.nfs_xdr.specs.Reading.{holds_bytes}
 use Rattle.nfs_xdr.specs.Writing.{write}
 use Rattle.side_wire.specs.Nlm.{nlm_arguments, nlm_procedure_of, nlm_arguments_of, test_result, plain_result}
 use Rattle.side_wire.specs.Nlm.{IsNetobj, HasTestResultForm, HasResultForm}
@@ -95,3 +96,9 @@ SpellsResult r bytes = Spells nlm4_res (result_value r) bytes
 -- no front of the bytes spells a result of GRANTED
 abbrev pub IsNoResult : List ℕ → Type 0
 IsNoResult bytes = (r : NlmResult) (front rest : List ℕ) → bytes ≡ front ++ rest → SpellsResult r front → ⊥
+
+-- a front of the bytes spells a result of GRANTED that holds bytes
+abbrev pub ResultHoldsBytes : List ℕ → Type 0
+ResultHoldsBytes bytes =
+    (value : Value nlm4_res) × (front : List ℕ) × (rest : List ℕ) × (bytes ≡ front ++ rest) ×
+    Spells nlm4_res value front × (holds_bytes nlm4_res value ≡ true)

@@ -7,7 +7,7 @@ ghost use Rattle.nfs_xdr.specs.Writing.{WritesFront};
 ghost use Rattle.nfs_xdr.specs.declared.XdrError.TheVariants.{Memory};
 ghost use Rattle.side_wire.specs.Messages.{call_of, call_header, header_value, callback_arguments, message_of};
 ghost use Rattle.side_wire.specs.Messages.{message_bytes, CallbacksAreCalls, HasLockForm, HasTestArgumentsForm};
-ghost use Rattle.side_wire.specs.Messages.{HasCallbackForm, SpellsResult, IsNoResult};
+ghost use Rattle.side_wire.specs.Messages.{HasCallbackForm, SpellsResult, IsNoResult, ResultHoldsBytes};
 ghost use Rattle.side_wire.specs.Nlm.{nlm_procedure_of};
 ghost use Rattle.side_wire.specs.NlmTypes.{nlm4_lock, lock_value, nlm4_testargs, test_value};
 ghost use Rattle.nfs_xdr.specs.Programs.{IsFrontedBy};
@@ -96,12 +96,14 @@ pub fn callbacks_are_calls()
 
 /// What a host answered to GRANTED (`nlm4_res`). Bytes after the result are ignored.
 ///
-/// `Memory` comes only where the record's bytes could not be shared.
+/// Its byte string is shared when all of it was read, so `Memory` says that there is one.
 pub fn read_granted_result(mut result_bytes: SharedReader<'_>) -> Result<NlmResult, ArgumentsError>
     // A front of the bytes spells the result that is read.
     ensures found { IfOk result (λ answer. IsFrontedBy SpellsResult answer result_bytes.entry) }
     // Garbage is what no front spells.
     ensures garbage { IsErrOf result ArgumentsError.Garbage → IsNoResult result_bytes.entry }
+    // There is no memory only for a result that a front spells, and that holds bytes.
+    ensures memory { IsErrOf result ArgumentsError.Memory → ResultHoldsBytes result_bytes.entry }
 {
     are_bytes(result_bytes.as_slice());
     Ok(read_plain_result(&mut result_bytes)?)

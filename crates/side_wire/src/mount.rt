@@ -4,10 +4,10 @@ ghost use Rattle.std.specs.Prelude.{◌≡◌, ◌++◌, IfOk, IfErr, IsErrOf, O
 ghost use Rattle.nfs_xdr.specs.Laws.{IsItsSpelling};
 ghost use Rattle.nfs_xdr.specs.Reading.{ReadsFront};
 ghost use Rattle.nfs_xdr.specs.declared.XdrError.TheVariants.{Memory};
-ghost use Rattle.nfs_xdr.specs.Programs.{IsFrontedBy, IsGarbage, SpellsOneCall};
+ghost use Rattle.nfs_xdr.specs.Programs.{CallHoldsBytes, IsFrontedBy, IsGarbage, SpellsOneCall};
 ghost use Rattle.nfs_xdr.specs.Writing.{WritesResult};
 ghost use Rattle.side_wire.specs.Mount.{mount_procedure_of, SpellsMountArguments, dirpath, mount_result_of};
-ghost use Rattle.side_wire.specs.Mount.{mount_result_bytes, HasMountForm, ReadsMountCall};
+ghost use Rattle.side_wire.specs.Mount.{mount_arguments, mount_result_bytes, HasMountForm, ReadsMountCall};
 
 mod lists;
 mod results;
@@ -15,7 +15,7 @@ mod results;
 use crate::arguments::{ArgumentsError, are_bytes};
 use bytes::Bytes;
 pub use lists::{ExportList, ExportNode, Groups, MountBody, MountList};
-use nfs_xdr::{SharedReader, Writer, XdrError};
+use nfs_xdr::{Part, SharedReader, Writer, XdrError};
 
 /// A status other than MNT3_OK (`mountstat3`).
 #[derive(Clone, Copy, Debug, PartialEq, Eq)]
@@ -73,7 +73,7 @@ pub fn one_call_is_spelled()
 
 /// The call of the procedure of this number that the bytes hold. Bytes after its arguments are ignored.
 ///
-/// `Memory` comes only where the record's bytes could not be shared.
+/// The byte strings of a call are shared when all of it was read, so `Memory` says that it is one.
 pub fn read_args(
     procedure: u32,
     mut arguments: SharedReader<'_>,
@@ -84,6 +84,9 @@ pub fn read_args(
     // Garbage is what no front spells, as arguments of that procedure.
     ensures garbage { IsErrOf result ArgumentsError.Garbage →
         IsGarbage mount_procedure_of SpellsMountArguments procedure arguments.entry }
+    // There is no memory only for a call that a front spells, and that holds bytes.
+    ensures memory { IsErrOf result ArgumentsError.Memory →
+        CallHoldsBytes mount_arguments procedure arguments.entry }
 {
     are_bytes(arguments.as_slice());
     Ok(read_call(procedure, &mut arguments)?)
@@ -122,19 +125,19 @@ fn read_call(procedure: u32, arguments: &mut SharedReader<'_>) -> Result<MountCa
 fn read_mnt(arguments: &mut SharedReader<'_>) -> Result<MountCall, XdrError>
     ensures { ReadsMountCall 1 arguments.old arguments.new result }
 {
-    Ok(MountCall::Mnt(read_path(arguments)?))
+    Ok(MountCall::Mnt(read_path(arguments)?.share()?))
 }
 
 /// The arguments of UMNT (RFC 1813, 5.2.3).
 fn read_unmount(arguments: &mut SharedReader<'_>) -> Result<MountCall, XdrError>
     ensures { ReadsMountCall 3 arguments.old arguments.new result }
 {
-    Ok(MountCall::Unmount(read_path(arguments)?))
+    Ok(MountCall::Unmount(read_path(arguments)?.share()?))
 }
 
 /// A path (`dirpath`, RFC 1813, 5.1.5).
-fn read_path(reader: &mut SharedReader<'_>) -> Result<Bytes, XdrError>
-    ensures { ReadsFront dirpath (λ path. path) reader.old reader.new result }
+fn read_path<'a>(reader: &mut SharedReader<'a>) -> Result<Part<'a>, XdrError>
+    ensures { ReadsFront dirpath (λ path. path) reader.entry.now reader.exit.now result }
 {
     reader.opaque(1024)
 }

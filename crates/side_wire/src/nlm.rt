@@ -3,12 +3,13 @@
 ghost use Rattle.std.specs.Prelude.{◌≡◌, ◌++◌, IfOk, IfErr, IsErrOf, OnOk};
 ghost use Rattle.nfs_xdr.specs.Laws.{IsItsSpelling};
 ghost use Rattle.nfs_xdr.specs.declared.XdrError.TheVariants.{Memory};
-ghost use Rattle.nfs_xdr.specs.Programs.{IsFrontedBy, IsGarbage, SpellsOneCall};
+ghost use Rattle.nfs_xdr.specs.Programs.{CallHoldsBytes, IsFrontedBy, IsGarbage, SpellsOneCall};
 ghost use Rattle.nfs_xdr.specs.Writing.{WritesResult};
 ghost use Rattle.side_wire.specs.Nlm.{nlm_procedure_of, SpellsNlmArguments, nlm_result_of, nlm_result_bytes};
-ghost use Rattle.side_wire.specs.Nlm.{HasNlmForm, ReadsNlmCall};
+ghost use Rattle.side_wire.specs.Nlm.{nlm_arguments, HasNlmForm, ReadsNlmCall};
 
 pub(crate) mod items;
+mod parts;
 mod procedures;
 
 use crate::arguments::{ArgumentsError, are_bytes};
@@ -256,7 +257,7 @@ pub fn one_call_is_spelled()
 
 /// The call of the procedure of this number that the bytes hold. Bytes after its arguments are ignored.
 ///
-/// `Memory` comes only where the record's bytes could not be shared.
+/// The byte strings of a call are shared when all of it was read, so `Memory` says that it is one.
 pub fn read_args(procedure: u32, mut arguments: SharedReader<'_>) -> Result<NlmCall, ArgumentsError>
     // A call that is read is of that procedure, and a front of the bytes spells its arguments.
     ensures procedure { IfOk result (λ call. nlm_procedure_of call ≡ procedure) }
@@ -264,6 +265,9 @@ pub fn read_args(procedure: u32, mut arguments: SharedReader<'_>) -> Result<NlmC
     // Garbage is what no front spells, as arguments of that procedure.
     ensures garbage { IsErrOf result ArgumentsError.Garbage →
         IsGarbage nlm_procedure_of SpellsNlmArguments procedure arguments.entry }
+    // There is no memory only for a call that a front spells, and that holds bytes.
+    ensures memory { IsErrOf result ArgumentsError.Memory →
+        CallHoldsBytes nlm_arguments procedure arguments.entry }
 {
     are_bytes(arguments.as_slice());
     Ok(read_call(procedure, &mut arguments)?)

@@ -16,7 +16,7 @@ use nfs_xdr::{SharedReader, XdrError};
 pub(super) fn read_getattr(arguments: &mut SharedReader<'_>) -> Result<NfsCall, XdrError>
     ensures { ReadsCall 1 arguments.old arguments.new result }
 {
-    Ok(NfsCall::Getattr(read_handle(arguments)?))
+    Ok(NfsCall::Getattr(read_handle(arguments)?.share()?))
 }
 
 /// SETATTR3args (RFC 1813, 3.3.2).
@@ -24,10 +24,13 @@ pub(super) fn read_getattr(arguments: &mut SharedReader<'_>) -> Result<NfsCall, 
 pub(super) fn read_setattr(arguments: &mut SharedReader<'_>) -> Result<NfsCall, XdrError>
     ensures { ReadsCall 2 arguments.old arguments.new result }
 {
+    let object = read_handle(arguments)?;
+    let attributes = read_set_attributes(arguments)?;
+    let guard = read_guard(arguments)?;
     Ok(NfsCall::Setattr(SetattrArguments {
-        object: read_handle(arguments)?,
-        attributes: read_set_attributes(arguments)?,
-        guard: read_guard(arguments)?,
+        object: object.share()?,
+        attributes,
+        guard,
     }))
 }
 
@@ -36,9 +39,11 @@ pub(super) fn read_setattr(arguments: &mut SharedReader<'_>) -> Result<NfsCall, 
 pub(super) fn read_access(arguments: &mut SharedReader<'_>) -> Result<NfsCall, XdrError>
     ensures { ReadsCall 4 arguments.old arguments.new result }
 {
+    let object = read_handle(arguments)?;
+    let rights = arguments.u32()?;
     Ok(NfsCall::Access(AccessArguments {
-        object: read_handle(arguments)?,
-        rights: arguments.u32()?,
+        object: object.share()?,
+        rights,
     }))
 }
 
@@ -46,7 +51,7 @@ pub(super) fn read_access(arguments: &mut SharedReader<'_>) -> Result<NfsCall, X
 pub(super) fn read_readlink(arguments: &mut SharedReader<'_>) -> Result<NfsCall, XdrError>
     ensures { ReadsCall 5 arguments.old arguments.new result }
 {
-    Ok(NfsCall::Readlink(read_handle(arguments)?))
+    Ok(NfsCall::Readlink(read_handle(arguments)?.share()?))
 }
 
 /// READ3args (RFC 1813, 3.3.6).
@@ -54,10 +59,13 @@ pub(super) fn read_readlink(arguments: &mut SharedReader<'_>) -> Result<NfsCall,
 pub(super) fn read_read(arguments: &mut SharedReader<'_>) -> Result<NfsCall, XdrError>
     ensures { ReadsCall 6 arguments.old arguments.new result }
 {
+    let file = read_handle(arguments)?;
+    let offset = arguments.u64()?;
+    let count = arguments.u32()?;
     Ok(NfsCall::Read(ReadArguments {
-        file: read_handle(arguments)?,
-        offset: arguments.u64()?,
-        count: arguments.u32()?,
+        file: file.share()?,
+        offset,
+        count,
     }))
 }
 
@@ -66,12 +74,17 @@ pub(super) fn read_read(arguments: &mut SharedReader<'_>) -> Result<NfsCall, Xdr
 pub(super) fn read_write(arguments: &mut SharedReader<'_>) -> Result<NfsCall, XdrError>
     ensures { ReadsCall 7 arguments.old arguments.new result }
 {
+    let file = read_handle(arguments)?;
+    let offset = arguments.u64()?;
+    let count = arguments.u32()?;
+    let stable = read_stability(arguments)?;
+    let data = arguments.opaque(UNBOUNDED)?;
     Ok(NfsCall::Write(WriteArguments {
-        file: read_handle(arguments)?,
-        offset: arguments.u64()?,
-        count: arguments.u32()?,
-        stable: read_stability(arguments)?,
-        data: arguments.opaque(UNBOUNDED)?,
+        file: file.share()?,
+        offset,
+        count,
+        stable,
+        data: data.share()?,
     }))
 }
 
@@ -80,10 +93,13 @@ pub(super) fn read_write(arguments: &mut SharedReader<'_>) -> Result<NfsCall, Xd
 pub(super) fn read_commit(arguments: &mut SharedReader<'_>) -> Result<NfsCall, XdrError>
     ensures { ReadsCall 21 arguments.old arguments.new result }
 {
+    let file = read_handle(arguments)?;
+    let offset = arguments.u64()?;
+    let count = arguments.u32()?;
     Ok(NfsCall::Commit(CommitArguments {
-        file: read_handle(arguments)?,
-        offset: arguments.u64()?,
-        count: arguments.u32()?,
+        file: file.share()?,
+        offset,
+        count,
     }))
 }
 

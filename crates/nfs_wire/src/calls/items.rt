@@ -1,32 +1,52 @@
 //! Items that the arguments of several procedures share.
 
-ghost use Rattle.nfs_xdr.specs.Reading.{ReadsFront};
+ghost use Rattle.nfs_xdr.specs.Reading.{ReadsFront, Shares};
 ghost use Rattle.nfs_wire.specs.Arguments.{nfs_fh3, filename3, diropargs3, verf3, place_value, verifier_value};
+ghost use Rattle.nfs_wire.specs.Parts.{place_parts_value};
 
 use crate::arguments::are_bytes;
 use crate::calls::{Place, Verifier};
-use bytes::Bytes;
-use nfs_xdr::{SharedReader, XdrError};
+use nfs_xdr::{Part, SharedReader, XdrError};
 
 /// The bound of a string that has none of its own: what its length word can say.
 pub(super) const UNBOUNDED: usize = u32::MAX as usize;
 
+/// A name in a directory, as it was read (`diropargs3`).
+#[derive(Drop)]
+pub(super) struct PlaceParts<'a> {
+    directory: Part<'a>,
+    name: Part<'a>,
+}
+
 /// A handle (`nfs_fh3`, RFC 1813, 2.5).
-pub(super) fn read_handle(reader: &mut SharedReader<'_>) -> Result<Bytes, XdrError>
-    ensures { ReadsFront nfs_fh3 (λ handle. handle) reader.old reader.new result }
+pub(super) fn read_handle<'a>(reader: &mut SharedReader<'a>) -> Result<Part<'a>, XdrError>
+    ensures { ReadsFront nfs_fh3 (λ handle. handle) reader.entry.now reader.exit.now result }
 {
     reader.opaque(64)
 }
 
 /// A name in a directory (`diropargs3`, RFC 1813, 2.5).
 #[tactic(auto, unfolding(nfs_xdr::specs::Reading::read))]
-pub(super) fn read_place(reader: &mut SharedReader<'_>) -> Result<Place, XdrError>
-    ensures { ReadsFront diropargs3 place_value reader.old reader.new result }
+pub(super) fn read_place<'a>(reader: &mut SharedReader<'a>) -> Result<PlaceParts<'a>, XdrError>
+    ensures { ReadsFront diropargs3 place_parts_value reader.entry.now reader.exit.now result }
 {
-    Ok(Place {
+    Ok(PlaceParts {
         directory: read_handle(reader)?,
         name: reader.opaque(UNBOUNDED)?,
     })
+}
+
+impl<'a> PlaceParts<'a> {
+    /// The name, with its bytes shared.
+    pub(super) fn share(self) -> Result<Place, XdrError>
+        ensures { Shares diropargs3 place_value (place_parts_value self.entry) result }
+    {
+        let PlaceParts { directory, name } = self;
+        Ok(Place {
+            directory: directory.share()?,
+            name: name.share()?,
+        })
+    }
 }
 
 /// A verifier (RFC 1813, 2.5). It takes no memory.

@@ -16,7 +16,7 @@ use nfs_xdr::{SharedReader, XdrError};
 pub(super) fn read_lookup(arguments: &mut SharedReader<'_>) -> Result<NfsCall, XdrError>
     ensures { ReadsCall 3 arguments.old arguments.new result }
 {
-    Ok(NfsCall::Lookup(read_place(arguments)?))
+    Ok(NfsCall::Lookup(read_place(arguments)?.share()?))
 }
 
 /// CREATE3args (RFC 1813, 3.3.8).
@@ -24,9 +24,11 @@ pub(super) fn read_lookup(arguments: &mut SharedReader<'_>) -> Result<NfsCall, X
 pub(super) fn read_create(arguments: &mut SharedReader<'_>) -> Result<NfsCall, XdrError>
     ensures { ReadsCall 8 arguments.old arguments.new result }
 {
+    let place = read_place(arguments)?;
+    let how = read_create_how(arguments)?;
     Ok(NfsCall::Create(CreateArguments {
-        place: read_place(arguments)?,
-        how: read_create_how(arguments)?,
+        place: place.share()?,
+        how,
     }))
 }
 
@@ -35,9 +37,11 @@ pub(super) fn read_create(arguments: &mut SharedReader<'_>) -> Result<NfsCall, X
 pub(super) fn read_mkdir(arguments: &mut SharedReader<'_>) -> Result<NfsCall, XdrError>
     ensures { ReadsCall 9 arguments.old arguments.new result }
 {
+    let place = read_place(arguments)?;
+    let attributes = read_set_attributes(arguments)?;
     Ok(NfsCall::Mkdir(MkdirArguments {
-        place: read_place(arguments)?,
-        attributes: read_set_attributes(arguments)?,
+        place: place.share()?,
+        attributes,
     }))
 }
 
@@ -46,10 +50,13 @@ pub(super) fn read_mkdir(arguments: &mut SharedReader<'_>) -> Result<NfsCall, Xd
 pub(super) fn read_symlink(arguments: &mut SharedReader<'_>) -> Result<NfsCall, XdrError>
     ensures { ReadsCall 10 arguments.old arguments.new result }
 {
+    let place = read_place(arguments)?;
+    let attributes = read_set_attributes(arguments)?;
+    let text = arguments.opaque(UNBOUNDED)?;
     Ok(NfsCall::Symlink(SymlinkArguments {
-        place: read_place(arguments)?,
-        attributes: read_set_attributes(arguments)?,
-        text: arguments.opaque(UNBOUNDED)?,
+        place: place.share()?,
+        attributes,
+        text: text.share()?,
     }))
 }
 
@@ -58,9 +65,11 @@ pub(super) fn read_symlink(arguments: &mut SharedReader<'_>) -> Result<NfsCall, 
 pub(super) fn read_mknod(arguments: &mut SharedReader<'_>) -> Result<NfsCall, XdrError>
     ensures { ReadsCall 11 arguments.old arguments.new result }
 {
+    let place = read_place(arguments)?;
+    let what = read_special(arguments)?;
     Ok(NfsCall::Mknod(MknodArguments {
-        place: read_place(arguments)?,
-        what: read_special(arguments)?,
+        place: place.share()?,
+        what,
     }))
 }
 
@@ -68,14 +77,14 @@ pub(super) fn read_mknod(arguments: &mut SharedReader<'_>) -> Result<NfsCall, Xd
 pub(super) fn read_remove(arguments: &mut SharedReader<'_>) -> Result<NfsCall, XdrError>
     ensures { ReadsCall 12 arguments.old arguments.new result }
 {
-    Ok(NfsCall::Remove(read_place(arguments)?))
+    Ok(NfsCall::Remove(read_place(arguments)?.share()?))
 }
 
 /// RMDIR3args (RFC 1813, 3.3.13).
 pub(super) fn read_rmdir(arguments: &mut SharedReader<'_>) -> Result<NfsCall, XdrError>
     ensures { ReadsCall 13 arguments.old arguments.new result }
 {
-    Ok(NfsCall::Rmdir(read_place(arguments)?))
+    Ok(NfsCall::Rmdir(read_place(arguments)?.share()?))
 }
 
 /// RENAME3args (RFC 1813, 3.3.14).
@@ -83,9 +92,11 @@ pub(super) fn read_rmdir(arguments: &mut SharedReader<'_>) -> Result<NfsCall, Xd
 pub(super) fn read_rename(arguments: &mut SharedReader<'_>) -> Result<NfsCall, XdrError>
     ensures { ReadsCall 14 arguments.old arguments.new result }
 {
+    let from = read_place(arguments)?;
+    let to = read_place(arguments)?;
     Ok(NfsCall::Rename(RenameArguments {
-        from: read_place(arguments)?,
-        to: read_place(arguments)?,
+        from: from.share()?,
+        to: to.share()?,
     }))
 }
 
@@ -94,9 +105,11 @@ pub(super) fn read_rename(arguments: &mut SharedReader<'_>) -> Result<NfsCall, X
 pub(super) fn read_link(arguments: &mut SharedReader<'_>) -> Result<NfsCall, XdrError>
     ensures { ReadsCall 15 arguments.old arguments.new result }
 {
+    let file = read_handle(arguments)?;
+    let place = read_place(arguments)?;
     Ok(NfsCall::Link(LinkArguments {
-        file: read_handle(arguments)?,
-        place: read_place(arguments)?,
+        file: file.share()?,
+        place: place.share()?,
     }))
 }
 

@@ -11,11 +11,15 @@ use nfs_xdr::{SharedReader, XdrError};
 pub(super) fn read_readdir(arguments: &mut SharedReader<'_>) -> Result<NfsCall, XdrError>
     ensures { ReadsCall 16 arguments.old arguments.new result }
 {
+    let directory = read_handle(arguments)?;
+    let cookie = arguments.u64()?;
+    let verifier = read_verifier(arguments)?;
+    let count = arguments.u32()?;
     Ok(NfsCall::Readdir(ReaddirArguments {
-        directory: read_handle(arguments)?,
-        cookie: arguments.u64()?,
-        verifier: read_verifier(arguments)?,
-        count: arguments.u32()?,
+        directory: directory.share()?,
+        cookie,
+        verifier,
+        count,
     }))
 }
 
@@ -24,12 +28,17 @@ pub(super) fn read_readdir(arguments: &mut SharedReader<'_>) -> Result<NfsCall, 
 pub(super) fn read_readdirplus(arguments: &mut SharedReader<'_>) -> Result<NfsCall, XdrError>
     ensures { ReadsCall 17 arguments.old arguments.new result }
 {
+    let directory = read_handle(arguments)?;
+    let cookie = arguments.u64()?;
+    let verifier = read_verifier(arguments)?;
+    let directory_count = arguments.u32()?;
+    let most = arguments.u32()?;
     Ok(NfsCall::Readdirplus(ReaddirplusArguments {
-        directory: read_handle(arguments)?,
-        cookie: arguments.u64()?,
-        verifier: read_verifier(arguments)?,
-        directory_count: arguments.u32()?,
-        most: arguments.u32()?,
+        directory: directory.share()?,
+        cookie,
+        verifier,
+        directory_count,
+        most,
     }))
 }
 
@@ -37,19 +46,19 @@ pub(super) fn read_readdirplus(arguments: &mut SharedReader<'_>) -> Result<NfsCa
 pub(super) fn read_fsstat(arguments: &mut SharedReader<'_>) -> Result<NfsCall, XdrError>
     ensures { ReadsCall 18 arguments.old arguments.new result }
 {
-    Ok(NfsCall::Fsstat(read_handle(arguments)?))
+    Ok(NfsCall::Fsstat(read_handle(arguments)?.share()?))
 }
 
 /// FSINFO3args (RFC 1813, 3.3.19).
 pub(super) fn read_fsinfo(arguments: &mut SharedReader<'_>) -> Result<NfsCall, XdrError>
     ensures { ReadsCall 19 arguments.old arguments.new result }
 {
-    Ok(NfsCall::Fsinfo(read_handle(arguments)?))
+    Ok(NfsCall::Fsinfo(read_handle(arguments)?.share()?))
 }
 
 /// PATHCONF3args (RFC 1813, 3.3.20).
 pub(super) fn read_pathconf(arguments: &mut SharedReader<'_>) -> Result<NfsCall, XdrError>
     ensures { ReadsCall 20 arguments.old arguments.new result }
 {
-    Ok(NfsCall::Pathconf(read_handle(arguments)?))
+    Ok(NfsCall::Pathconf(read_handle(arguments)?.share()?))
 }

@@ -1,12 +1,13 @@
 //! Items of NLM (RFC 1813, 6.1.4), read and written.
 
-ghost use Rattle.nfs_xdr.specs.Reading.{ReadsFront};
-ghost use Rattle.nfs_xdr.specs.Types.{Flag, Int, Pair, HasSpelling};
+ghost use Rattle.nfs_xdr.specs.Reading.{ReadsFront, ReadsShared};
+ghost use Rattle.nfs_xdr.specs.Types.{HasSpelling};
 ghost use Rattle.nfs_xdr.specs.Writing.{WritesFront};
 ghost use Rattle.nfs_xdr.specs.Writing.{WritesResult};
 ghost use Rattle.side_wire.specs.declared.nlm.TestStatus.TheVariants.{Denied};
 ghost use Rattle.side_wire.specs.Nlm.{test_result, plain_result, share_result, HasTestResultForm, HasTestStatusForm};
 ghost use Rattle.side_wire.specs.Nlm.{HasResultForm, IsNetobj};
+ghost use Rattle.side_wire.specs.Parts.{lock_parts_value, holder_parts_value, status_parts_value, share_parts_value};
 ghost use Rattle.side_wire.specs.NlmTypes.{netobj, nlm4_stats, nlm_status_number, nlm4_lock, lock_value, nlm4_holder};
 ghost use Rattle.side_wire.specs.NlmTypes.{holder_value, nlm4_testrply, test_status_value, nlm4_testres};
 ghost use Rattle.side_wire.specs.NlmTypes.{test_result_value, nlm4_res, result_value, nlm4_testargs, test_value};
@@ -15,13 +16,12 @@ ghost use Rattle.side_wire.specs.NlmTypes.{nlm4_unlockargs, unlock_value, fsh4_m
 ghost use Rattle.side_wire.specs.NlmTypes.{access_number, nlm4_share, share_value, nlm4_shareargs};
 ghost use Rattle.side_wire.specs.NlmTypes.{share_arguments_value, nlm4_notify, free_all_value};
 
+use super::parts::{HolderParts, LockParts, ShareParts, StatusParts};
 use super::{
-    CancelArguments, FreeAllArguments, LockArguments, LockHolder, NlmResult, NlmShare, NlmStatus,
+    CancelArguments, FreeAllArguments, LockArguments, LockHolder, NlmResult, NlmStatus,
     ShareAccess, ShareArguments, ShareMode, TestArguments, TestResult, TestStatus, UnlockArguments,
 };
-use crate::message::NlmLock;
-use bytes::Bytes;
-use nfs_xdr::{SharedReader, Writer, XdrError};
+use nfs_xdr::{Part, SharedReader, Writer, XdrError};
 
 /// Whether a lock is claimed again, and the caller's state.
 #[derive(Clone, Copy)]
@@ -33,43 +33,36 @@ struct Claim {
 /// The arguments of TEST and GRANTED (`nlm4_testargs`).
 #[tactic(auto, unfolding(nfs_xdr::specs::Reading::read))]
 pub(super) fn read_test_arguments(reader: &mut SharedReader<'_>) -> Result<TestArguments, XdrError>
-    ensures { ReadsFront nlm4_testargs test_value reader.old reader.new result }
+    ensures { ReadsShared nlm4_testargs test_value reader.old reader.new result }
 {
+    let cookie = read_netobj(reader)?;
+    let exclusive = reader.bool()?;
+    let lock = read_lock(reader)?;
     Ok(TestArguments {
-        cookie: read_netobj(reader)?,
-        exclusive: reader.bool()?,
-        lock: read_lock(reader)?,
+        cookie: cookie.share()?,
+        exclusive,
+        lock: lock.share()?,
     })
 }
 
 /// The arguments of LOCK and NM_LOCK (`nlm4_lockargs`).
 #[tactic(auto, unfolding(nfs_xdr::specs::Reading::read))]
 pub(super) fn read_lock_arguments(reader: &mut SharedReader<'_>) -> Result<LockArguments, XdrError>
-    ensures { ReadsFront nlm4_lockargs lock_arguments_value reader.old reader.new result }
+    ensures { ReadsShared nlm4_lockargs lock_arguments_value reader.old reader.new result }
 {
     let cookie = read_netobj(reader)?;
     let block = reader.bool()?;
     let exclusive = reader.bool()?;
     let lock = read_lock(reader)?;
-    let Claim { reclaim, state } = read_claim(reader)?;
+    let reclaim = reader.bool()?;
+    let state = reader.i32()?;
     Ok(LockArguments {
-        cookie,
+        cookie: cookie.share()?,
         block,
         exclusive,
-        lock,
+        lock: lock.share()?,
         reclaim,
         state,
-    })
-}
-
-/// The last two arguments of LOCK and NM_LOCK (`nlm4_lockargs`).
-#[tactic(auto, unfolding(nfs_xdr::specs::Reading::read))]
-fn read_claim(reader: &mut SharedReader<'_>) -> Result<Claim, XdrError>
-    ensures { ReadsFront (Pair Flag Int) (λ claim. (claim.reclaim, claim.state)) reader.old reader.new result }
-{
-    Ok(Claim {
-        reclaim: reader.bool()?,
-        state: reader.i32()?,
     })
 }
 
@@ -78,13 +71,17 @@ fn read_claim(reader: &mut SharedReader<'_>) -> Result<Claim, XdrError>
 pub(super) fn read_cancel_arguments(
     reader: &mut SharedReader<'_>,
 ) -> Result<CancelArguments, XdrError>
-    ensures { ReadsFront nlm4_cancargs cancel_value reader.old reader.new result }
+    ensures { ReadsShared nlm4_cancargs cancel_value reader.old reader.new result }
 {
+    let cookie = read_netobj(reader)?;
+    let block = reader.bool()?;
+    let exclusive = reader.bool()?;
+    let lock = read_lock(reader)?;
     Ok(CancelArguments {
-        cookie: read_netobj(reader)?,
-        block: reader.bool()?,
-        exclusive: reader.bool()?,
-        lock: read_lock(reader)?,
+        cookie: cookie.share()?,
+        block,
+        exclusive,
+        lock: lock.share()?,
     })
 }
 
@@ -93,11 +90,13 @@ pub(super) fn read_cancel_arguments(
 pub(super) fn read_unlock_arguments(
     reader: &mut SharedReader<'_>,
 ) -> Result<UnlockArguments, XdrError>
-    ensures { ReadsFront nlm4_unlockargs unlock_value reader.old reader.new result }
+    ensures { ReadsShared nlm4_unlockargs unlock_value reader.old reader.new result }
 {
+    let cookie = read_netobj(reader)?;
+    let lock = read_lock(reader)?;
     Ok(UnlockArguments {
-        cookie: read_netobj(reader)?,
-        lock: read_lock(reader)?,
+        cookie: cookie.share()?,
+        lock: lock.share()?,
     })
 }
 
@@ -106,12 +105,15 @@ pub(super) fn read_unlock_arguments(
 pub(super) fn read_share_arguments(
     reader: &mut SharedReader<'_>,
 ) -> Result<ShareArguments, XdrError>
-    ensures { ReadsFront nlm4_shareargs share_arguments_value reader.old reader.new result }
+    ensures { ReadsShared nlm4_shareargs share_arguments_value reader.old reader.new result }
 {
+    let cookie = read_netobj(reader)?;
+    let share = read_share(reader)?;
+    let reclaim = reader.bool()?;
     Ok(ShareArguments {
-        cookie: read_netobj(reader)?,
-        share: read_share(reader)?,
-        reclaim: reader.bool()?,
+        cookie: cookie.share()?,
+        share: share.share()?,
+        reclaim,
     })
 }
 
@@ -120,50 +122,55 @@ pub(super) fn read_share_arguments(
 pub(super) fn read_free_all_arguments(
     reader: &mut SharedReader<'_>,
 ) -> Result<FreeAllArguments, XdrError>
-    ensures { ReadsFront nlm4_notify free_all_value reader.old reader.new result }
+    ensures { ReadsShared nlm4_notify free_all_value reader.old reader.new result }
 {
+    let name = reader.opaque(1025)?;
+    let state = reader.i32()?;
     Ok(FreeAllArguments {
-        name: reader.opaque(1025)?,
-        state: reader.i32()?,
+        name: name.share()?,
+        state,
     })
 }
 
 /// The result of TEST (`nlm4_testres`).
 #[tactic(auto, unfolding(nfs_xdr::specs::Reading::read))]
 pub(super) fn read_test_result(reader: &mut SharedReader<'_>) -> Result<TestResult, XdrError>
-    ensures { ReadsFront nlm4_testres test_result_value reader.old reader.new result }
+    ensures { ReadsShared nlm4_testres test_result_value reader.old reader.new result }
 {
+    let cookie = read_netobj(reader)?;
+    let status = read_test_status(reader)?;
     Ok(TestResult {
-        cookie: read_netobj(reader)?,
-        status: read_test_status(reader)?,
+        cookie: cookie.share()?,
+        status: status.share()?,
     })
 }
 
 /// The result of LOCK, CANCEL, UNLOCK and GRANTED (`nlm4_res`).
 #[tactic(auto, unfolding(nfs_xdr::specs::Reading::read))]
 pub(crate) fn read_plain_result(reader: &mut SharedReader<'_>) -> Result<NlmResult, XdrError>
-    ensures { ReadsFront nlm4_res result_value reader.old reader.new result }
+    ensures { ReadsShared nlm4_res result_value reader.old reader.new result }
 {
+    let cookie = read_netobj(reader)?;
+    let status = read_status(reader)?;
     Ok(NlmResult {
-        cookie: read_netobj(reader)?,
-        status: read_status(reader)?,
+        cookie: cookie.share()?,
+        status,
     })
 }
 
 /// An opaque item or a string of at most 1024 bytes (`netobj`, `caller_name`).
-#[tactic(auto, unfolding(nfs_xdr::specs::Reading::read))]
-fn read_netobj(reader: &mut SharedReader<'_>) -> Result<Bytes, XdrError>
-    ensures { ReadsFront netobj (λ bytes. bytes) reader.old reader.new result }
+fn read_netobj<'a>(reader: &mut SharedReader<'a>) -> Result<Part<'a>, XdrError>
+    ensures { ReadsFront netobj (λ bytes. bytes) reader.entry.now reader.exit.now result }
 {
     reader.opaque(1024)
 }
 
 /// A lock (`nlm4_lock`).
 #[tactic(auto, unfolding(nfs_xdr::specs::Reading::read))]
-fn read_lock(reader: &mut SharedReader<'_>) -> Result<NlmLock, XdrError>
-    ensures { ReadsFront nlm4_lock lock_value reader.old reader.new result }
+fn read_lock<'a>(reader: &mut SharedReader<'a>) -> Result<LockParts<'a>, XdrError>
+    ensures { ReadsFront nlm4_lock lock_parts_value reader.entry.now reader.exit.now result }
 {
-    Ok(NlmLock {
+    Ok(LockParts {
         caller_name: read_netobj(reader)?,
         file: read_netobj(reader)?,
         owner: read_netobj(reader)?,
@@ -175,10 +182,10 @@ fn read_lock(reader: &mut SharedReader<'_>) -> Result<NlmLock, XdrError>
 
 /// A share (`nlm4_share`).
 #[tactic(auto, unfolding(nfs_xdr::specs::Reading::read))]
-fn read_share(reader: &mut SharedReader<'_>) -> Result<NlmShare, XdrError>
-    ensures { ReadsFront nlm4_share share_value reader.old reader.new result }
+fn read_share<'a>(reader: &mut SharedReader<'a>) -> Result<ShareParts<'a>, XdrError>
+    ensures { ReadsFront nlm4_share share_parts_value reader.entry.now reader.exit.now result }
 {
-    Ok(NlmShare {
+    Ok(ShareParts {
         caller_name: read_netobj(reader)?,
         file: read_netobj(reader)?,
         owner: read_netobj(reader)?,
@@ -189,10 +196,10 @@ fn read_share(reader: &mut SharedReader<'_>) -> Result<NlmShare, XdrError>
 
 /// Who holds a lock (`nlm4_holder`).
 #[tactic(auto, unfolding(nfs_xdr::specs::Reading::read))]
-fn read_holder(reader: &mut SharedReader<'_>) -> Result<LockHolder, XdrError>
-    ensures { ReadsFront nlm4_holder holder_value reader.old reader.new result }
+fn read_holder<'a>(reader: &mut SharedReader<'a>) -> Result<HolderParts<'a>, XdrError>
+    ensures { ReadsFront nlm4_holder holder_parts_value reader.entry.now reader.exit.now result }
 {
-    Ok(LockHolder {
+    Ok(HolderParts {
         exclusive: reader.bool()?,
         process: reader.i32()?,
         owner: read_netobj(reader)?,
@@ -251,20 +258,20 @@ fn read_status(reader: &mut SharedReader<'_>) -> Result<NlmStatus, XdrError>
 
 /// What became of a TEST (`nlm4_testrply`).
 #[tactic(auto, using(crate::proofs::NlmLaws::ten_arms), unfolding(nfs_xdr::specs::Reading::read))]
-fn read_test_status(reader: &mut SharedReader<'_>) -> Result<TestStatus, XdrError>
-    ensures { ReadsFront nlm4_testrply test_status_value reader.old reader.new result }
+fn read_test_status<'a>(reader: &mut SharedReader<'a>) -> Result<StatusParts<'a>, XdrError>
+    ensures { ReadsFront nlm4_testrply status_parts_value reader.entry.now reader.exit.now result }
 {
     match reader.u32()? {
-        0 => Ok(TestStatus::Granted),
-        1 => Ok(TestStatus::Denied(read_holder(reader)?)),
-        2 => Ok(TestStatus::DeniedNoLocks),
-        3 => Ok(TestStatus::Blocked),
-        4 => Ok(TestStatus::DeniedGracePeriod),
-        5 => Ok(TestStatus::Deadlock),
-        6 => Ok(TestStatus::ReadOnly),
-        7 => Ok(TestStatus::StaleHandle),
-        8 => Ok(TestStatus::FileTooBig),
-        9 => Ok(TestStatus::Failed),
+        0 => Ok(StatusParts::Granted),
+        1 => Ok(StatusParts::Denied(read_holder(reader)?)),
+        2 => Ok(StatusParts::DeniedNoLocks),
+        3 => Ok(StatusParts::Blocked),
+        4 => Ok(StatusParts::DeniedGracePeriod),
+        5 => Ok(StatusParts::Deadlock),
+        6 => Ok(StatusParts::ReadOnly),
+        7 => Ok(StatusParts::StaleHandle),
+        8 => Ok(StatusParts::FileTooBig),
+        9 => Ok(StatusParts::Failed),
         _ => Err(XdrError::BadValue),
     }
 }

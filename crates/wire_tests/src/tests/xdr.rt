@@ -6,10 +6,9 @@ ghost use Rattle.nfs_xdr.specs.Reading.{ReadsFront};
 ghost use Rattle.nfs_xdr.specs.Types.{Word, Array, Entries, Value};
 ghost use Rattle.nfs_xdr.specs.Writing.{WritesFront};
 ghost use Rattle.wire_tests.specs.declared.tests.xdr.Kind.TheVariants.{Text, Data, Exec};
-ghost use Rattle.wire_tests.specs.Example.{kind, file};
+ghost use Rattle.wire_tests.specs.Example.{kind, file, ReadsGrowing};
 
 use super::record;
-use bytes::Bytes;
 use nfs_xdr::{
     Reader, SharedReader, Writer, XdrError, reading_finds_spelling, refusal_means_unspelled,
     spelled_has_spelling, spelling_is_read, spelling_is_unique, writing_appends, writing_spells,
@@ -18,27 +17,27 @@ use std::alloc::Global;
 use std::test::Fail;
 
 /// The kind of a file.
-#[derive(Debug, Drop)]
-enum Kind {
+#[derive(Clone, Copy, Debug)]
+enum Kind<'a> {
     Text,
-    Data(Bytes),
-    Exec(Bytes),
+    Data(&'a [u8]),
+    Exec(&'a [u8]),
 }
 
 /// The file of the RFC's example.
-#[derive(Debug, Drop)]
-struct File {
-    name: Bytes,
-    kind: Kind,
-    owner: Bytes,
-    content: Bytes,
+#[derive(Clone, Copy, Debug)]
+struct File<'a> {
+    name: &'a [u8],
+    kind: Kind<'a>,
+    owner: &'a [u8],
+    content: &'a [u8],
 }
 
 #[tactic(auto, using(nfs_xdr::proofs::Unions::unions), unfolding(nfs_xdr::specs::Reading::read))]
-fn read_kind(reader: &mut SharedReader<'_>) -> Result<Kind, XdrError>
+fn read_kind<'a>(reader: &mut Reader<'a>) -> Result<Kind<'a>, XdrError>
     ensures { ReadsFront kind
-        (λ k. elim k as (λ _. Value kind) [ Text ↦ (0, tt) | Data s ↦ (1, s) | Exec s ↦ (2, s) ])
-        reader.old reader.new result }
+        (λ k. elim k as (λ _. Value kind) [ Text ↦ (0, tt) | Data s ↦ (1, s.now) | Exec s ↦ (2, s.now) ])
+        reader.entry.now reader.exit.now result }
 {
     match reader.u32()? {
         0 => Ok(Kind::Text),
@@ -49,16 +48,16 @@ fn read_kind(reader: &mut SharedReader<'_>) -> Result<Kind, XdrError>
 }
 
 #[tactic(auto, unfolding(nfs_xdr::specs::Reading::read))]
-fn read_file(reader: &mut SharedReader<'_>) -> Result<File, XdrError>
+fn read_file<'a>(reader: &mut Reader<'a>) -> Result<File<'a>, XdrError>
     ensures { ReadsFront file
         (λ f. (
-          f.name,
+          f.name.now,
           (
-            elim f.kind as (λ _. Value kind) [ Text ↦ (0, tt) | Data s ↦ (1, s) | Exec s ↦ (2, s) ],
-            (f.owner, f.content),
+            elim f.kind as (λ _. Value kind) [ Text ↦ (0, tt) | Data s ↦ (1, s.now) | Exec s ↦ (2, s.now) ],
+            (f.owner.now, f.content.now),
           ),
         ))
-        reader.old reader.new result }
+        reader.entry.now reader.exit.now result }
 {
     let name = reader.opaque(255)?;
     let kind = read_kind(reader)?;
@@ -74,7 +73,7 @@ fn read_file(reader: &mut SharedReader<'_>) -> Result<File, XdrError>
 
 #[tactic(auto, unfolding(nfs_xdr::specs::Reading::read))]
 fn read_gids(alloc: Global, reader: &mut Reader<'_>) -> Result<Vec<u32>, XdrError>
-    ensures { ReadsFront (Array 16 Word) (λ gids. gids.items) reader.old reader.new result }
+    ensures { ReadsGrowing (Array 16 Word) (λ gids. gids.items) reader.old reader.new result }
 {
     let count = reader.u32()?;
     if count > 16 {
@@ -128,21 +127,20 @@ const SILLYPROG: [u8; 48] = [
 ];
 
 /// Whether it is the RFC's example.
-fn is_the_example(file: &File) -> bool {
-    let Kind::Exec(interpretor) = &file.kind else {
+fn is_the_example(file: File<'_>) -> bool {
+    let Kind::Exec(interpretor) = file.kind else {
         return false;
     };
-    file.name.as_slice() == b"sillyprog".as_slice()
-        && interpretor.as_slice() == b"lisp".as_slice()
-        && file.owner.as_slice() == b"john".as_slice()
-        && file.content.as_slice() == b"(quit)".as_slice()
+    file.name == b"sillyprog".as_slice()
+        && interpretor == b"lisp".as_slice()
+        && file.owner == b"john".as_slice()
+        && file.content == b"(quit)".as_slice()
 }
 
 #[test]
 fn reads_the_example(rt: HostRuntime) -> Result<(), Fail> {
-    let record = record(rt.alloc(), &SILLYPROG)?;
-    let mut reader = SharedReader::new(&record);
-    assert!(rt; is_the_example(&read_file(&mut reader)?));
+    let mut reader = Reader::new(&SILLYPROG);
+    assert!(rt; is_the_example(read_file(&mut reader)?));
     assert!(rt; reader.is_empty());
     Ok(())
 }
@@ -186,25 +184,10 @@ fn reads_each_number_of_a_record(rt: HostRuntime) -> Result<(), Fail> {
     assert_eq!(rt; reader.u64(), Ok(0x0102_0304_0506_0708));
     assert_eq!(rt; reader.bool(), Ok(true));
     assert_eq!(rt; reader.bool(), Ok(false));
-    Ok(())
-}
-
-/// Whether these bytes were shared.
-fn is_shared(shared: Result<Bytes, XdrError>, bytes: &[u8]) -> bool {
-    match shared {
-        Ok(shared) => shared.as_slice() == bytes,
-        Err(_) => false,
-    }
-}
-
-#[test]
-fn shares_bytes_of_a_record(rt: HostRuntime) -> Result<(), Fail> {
-    let record = record(rt.alloc(), &ITEMS[24..])?;
-    let mut reader = SharedReader::new(&record);
-    assert!(rt; is_shared(reader.fixed(3), &[10, 11, 12]));
-    assert!(rt; is_shared(reader.opaque(5), &[1, 2, 3, 4, 5]));
+    assert_eq!(rt; reader.fixed(3)?.share()?.as_slice(), [10, 11, 12].as_slice());
+    assert_eq!(rt; reader.opaque(5)?.share()?.as_slice(), [1, 2, 3, 4, 5].as_slice());
     assert_eq!(rt; reader.as_slice(), [42].as_slice());
-    assert!(rt; is_shared(reader.rest(), &[42]));
+    assert_eq!(rt; reader.rest().share()?.as_slice(), [42].as_slice());
     Ok(())
 }
 

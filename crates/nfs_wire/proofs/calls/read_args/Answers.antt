@@ -1,14 +1,22 @@
 use Rattle.std.proofs.Common.{subst}
 use Rattle.nfs_xdr.specs.Laws.{IsBytes}
-use Rattle.nfs_xdr.proofs.ProgramLaws.{IsFrontedBy-read, IsGarbage-refused}
+use Rattle.nfs_xdr.proofs.ProgramLaws.{IsFrontedBy-read, IsGarbage-told, CallHoldsBytes-told}
 use Rattle.nfs_wire.specs.Calls.{IsProcedure, arguments, procedure_of, arguments_of}
-use Rattle.nfs_wire.proofs.CallLaws.{procedure_of-is, is_not_memory}
+use Rattle.nfs_wire.proofs.CallLaws.{procedure_of-is, is_not_memory, is_memory}
 use Rattle.nfs_wire.proofs.calls.read_args.Goals as goal
 
 pub returns-in_err-read_call-clause-garbage : goal.returns-in_err-read_call-clause-garbage
 returns-in_err-read_call-clause-garbage c garbage =
-    IsGarbage-refused IsProcedure arguments procedure_of arguments_of procedure_of-is _ _ c.in_err-read_call.field-0.0 (c.in_err-read_call.ensures (is_not_memory _ _ c.from_residual.ensures.1 garbage))
+    IsGarbage-told IsProcedure arguments procedure_of arguments_of procedure_of-is _ _ c.read_call.new.arguments
+    c.in_err-read_call.field-0.0 c.in_err-read_call.ensures (is_not_memory _ _ c.from_residual.ensures.1 garbage)
+
+pub returns-in_err-read_call-clause-memory : goal.returns-in_err-read_call-clause-memory
+returns-in_err-read_call-clause-memory c memory =
+    CallHoldsBytes-told IsProcedure arguments procedure_of arguments_of procedure_of-is _ _ c.read_call.new.arguments
+    c.in_err-read_call.field-0.0 c.in_err-read_call.ensures (is_memory _ _ c.from_residual.ensures.1 memory)
+    (subst IsBytes c.as_slice.ensures c.are_bytes.ensures)
 
 pub returns-clause-found : goal.returns-clause-found
 returns-clause-found c =
-    IsFrontedBy-read arguments procedure_of arguments_of _ _ _ (subst IsBytes c.as_slice.ensures c.are_bytes.ensures) c.in_ok-read_call.ensures.1
+    IsFrontedBy-read arguments procedure_of arguments_of _ _ _ (subst IsBytes c.as_slice.ensures c.are_bytes.ensures)
+    c.in_ok-read_call.ensures.1
