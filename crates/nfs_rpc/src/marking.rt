@@ -250,6 +250,8 @@ fn take_in(
 }
 
 impl Records {
+    ghost use Rattle.nfs_rpc.specs.declared.marking.Place.TheVariants.{Refused};
+
     /// A stream of which nothing has come yet.
     pub fn new(alloc: Global) -> Self
         ensures { Holds result [] [] }
@@ -272,7 +274,13 @@ impl Records {
             → (stream : List ℕ) (given : List (List ℕ)) → Holds self.old stream given
             → Holds self.new (stream ++ piece.now) given × IsTooLarge (stream ++ piece.now) }
         ensures memory { IsErrOf result RecordError.Memory → self.new ≡ self.old }
+        // Once refused, it refuses every later piece, and stays as it is.
+        ensures refuses { IsErrOf result RecordError.TooLarge → self.new.place ≡ Refused }
+        ensures stays { self.old.place ≡ Refused → IsErrOf result RecordError.TooLarge × (self.new ≡ self.old) }
     {
+        if self.place.is_refused() {
+            return Err(RecordError::TooLarge);
+        }
         let size = self.content.len();
         let place = self.place;
         let Ok(()) = take_in(
