@@ -3,6 +3,7 @@
 mod nfs;
 mod rpc;
 mod side;
+mod streams;
 mod xdr;
 
 use bytes::Bytes;
