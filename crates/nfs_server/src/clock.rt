@@ -2,6 +2,7 @@
 
 ghost use Rattle.std.specs.Prelude.{◌≡◌, ◌+◌, ◌*◌, ◌^◌, ◌<◌, ◌↔◌, IsSome, IfSome};
 ghost use Rattle.std.specs.Duration.{as_nanos};
+ghost use Rattle.std.specs.Time.{system_time_nanos};
 ghost use Rattle.nfs_server.specs.Clocks.{IsMomentAfter, number_after, number_of};
 
 use nfs_machine::{Moment, Moments};
@@ -105,7 +106,17 @@ pub fn start_number(clock: &impl Clock) -> u64 {
 
 fn since_1970(clock: &impl Clock) -> Option<Duration> {
     let now = SystemTime::now(clock).ok()?;
-    now.duration_since(UNIX_EPOCH).ok()
+    Some(time_since_1970(now))
+}
+
+// How long after 1970 began the system's time is, which is never before it.
+fn time_since_1970(now: SystemTime) -> Duration
+    ensures { as_nanos result ≡ system_time_nanos now }
+{
+    let Ok(since) = now.duration_since(UNIX_EPOCH) else {
+        unreachable!()
+    };
+    since
 }
 
 // The moment that is so long after 1970 began; the last one again where that is not known, or no moment.
