@@ -1,8 +1,13 @@
 -- What a record asks, as it is read.
 use Rattle.std.specs.Prelude.{◌≡◌, ℕ, List, ◌++◌, Result, Ok, Err}
+use Rattle.nfs_xdr.specs.Programs.{CallHoldsBytes}
+use Rattle.nfs_wire.specs.Calls as nfs
+use Rattle.side_wire.specs.Mount.{mount_arguments}
+use Rattle.side_wire.specs.Nlm.{nlm_arguments}
 use Rattle.nfs_rpc.specs.Early.{call_of}
 use Rattle.nfs_rpc.specs.Messages.{CallHeader}
 use Rattle.nfs_rpc.specs.declared.programs.Program.{Program}
+use Rattle.nfs_rpc.specs.declared.programs.Program.TheVariants.{Nfs, Mount, Nlm}
 use Rattle.nfs_machine.specs.Run.{IsCall}
 use Rattle.nfs_machine.specs.declared.calls.Call.{Call}
 use Rattle.nfs_machine.specs.RpcReplies.{FirstFault}
@@ -12,12 +17,18 @@ use Rattle.nfs_server.specs.declared.asking.Unasked.TheVariants as unasked
 use Rattle.nfs_server.specs.declared.asking.Unread.{Unread}
 use Rattle.nfs_server.specs.declared.asking.Unread.TheVariants as unread
 
--- garbage is what spells no call of the procedure
+-- a front of the bytes spells arguments of the procedure that hold bytes
+abbrev pub ArgumentsHoldBytes : Program → ℕ → List ℕ → Type 0
+ArgumentsHoldBytes Nfs procedure bytes = nfs.CallHoldsBytes procedure bytes
+ArgumentsHoldBytes Mount procedure bytes = CallHoldsBytes mount_arguments procedure bytes
+ArgumentsHoldBytes Nlm procedure bytes = CallHoldsBytes nlm_arguments procedure bytes
+
+-- garbage is what spells no call of the procedure; there is no memory only for one that is spelled and holds bytes
 abbrev pub ReadsArguments : Program → ℕ → List ℕ → Result Call Unread → Type 0
 ReadsArguments program procedure bytes (Ok call) = IsCall program procedure bytes call
-ReadsArguments program procedure bytes (Err unread.Garbage) =
-    (call : Call) → IsCall program procedure bytes call → ⊥
-ReadsArguments program procedure bytes (Err unread.Memory) = Unit {0}
+ReadsArguments program procedure bytes (Err unread.Garbage) = (call : Call) → IsCall program procedure bytes call →
+    ⊥
+ReadsArguments program procedure bytes (Err unread.Memory) = ArgumentsHoldBytes program procedure bytes
 
 -- the record is a call with this header
 pub record IsAsked (bytes : List ℕ) (asked : Asked) : Type 0 where
@@ -27,8 +38,10 @@ pub record IsAsked (bytes : List ℕ) (asked : Asked) : Type 0 where
   pub xid : header.xid ≡ asked.xid
   pub ids : header.ids ≡ asked.ids
 
--- a record asks a call, or has a fault
+-- a record asks a call, or has a fault, or there is no memory for the arguments of the call that it is
 abbrev pub ReadsRecord : List ℕ → Result Asked Unasked → Type 0
 ReadsRecord bytes (Ok asked) = IsAsked bytes asked
-ReadsRecord bytes (Err (unasked.Early fault)) = FirstFault bytes fault
-ReadsRecord bytes (Err unasked.Memory) = Unit {0}
+ReadsRecord bytes (Err (unasked.Early fault)) = EarlyOf bytes fault
+ReadsRecord bytes (Err unasked.Memory) =
+    (header : CallHeader) × (call_of bytes ≡ Ok header) ×
+    ArgumentsHoldBytes header.program header.procedure header.arguments
