@@ -1,7 +1,7 @@
 //! Serving a stream of records, one after the other.
 
-ghost use Rattle.std.specs.Prelude.{◌≡◌, ℕ, ◌+◌, ◌<◌, ◌≤◌, ◌⊎◌};
-ghost use Rattle.std.specs.Prelude.{List, [], ◌∷◌, ◌++◌, length, Some, IfOk, IfErr, OnOk, OnErr, IsErrOf};
+ghost use Rattle.std.specs.Prelude.{◌≡◌, ℕ, ◌+◌, ◌-◌, ◌^◌, ◌<◌, ◌≤◌, ◌⊎◌, List};
+ghost use Rattle.std.specs.Prelude.{[], ◌∷◌, ◌++◌, true, length, Some, IfOk, IfErr, OnOk, OnErr, IsErrOf};
 ghost use Rattle.std.specs.Io.KnownBytes.{Appends, Consumes, Keeps};
 ghost use Rattle.nfs_rpc.specs.Records.{Holds};
 ghost use Rattle.nfs_rpc.specs.Streams.{one_more};
@@ -76,10 +76,13 @@ pub fn serve_plain<C: Moments, R: Source, W: Sink>(
         → ServesFront C.gives host.now input e clock.old clock.new plain.old plain.new
         (W.written writer.old) (W.written writer.new)) }
     // A fault of a stream is one that the stream counted, or there was no end of it.
-    ensures read { IsErrOf result StreamFault.Read
-        → FailsToRead (R.Counts.failures reader.old) (R.Counts.failures reader.new) (R.unread reader.old) }
-    ensures write { IsErrOf result StreamFault.Write
-        → W.Counts.failures writer.new ≡ one_more (W.Counts.failures writer.old) }
+    ensures read { IsErrOf result StreamFault.Read →
+        (R.Counts.failures reader.new ≡ one_more (R.Counts.failures reader.old))
+        ⊎ ((input : List ℕ) → R.unread reader.old ≡ Some input → 2 ^ 64 - 1 ≤ length input) }
+    ensures write { IsErrOf result StreamFault.Write →
+        W.Counts.failures writer.new ≡ one_more (W.Counts.failures writer.old) }
+    // At the end every answer is sent.
+    ensures sent { OnOk result (W.all_sent writer.old ≡ true → W.all_sent writer.new ≡ true) }
 {
     let mut records = Records::new(alloc);
     let Ok(mut buffer) = Vec::from_elem(alloc, 0, BUFFER_SIZE) else {
@@ -122,10 +125,13 @@ fn serve_pieces<C: Moments, R: Source, W: Sink>(
     ensures fault { IfErr result (λ e. (input : List ℕ) → R.unread reader.old ≡ Some input
         → ServesFront C.gives host.now input e clock.old clock.new plain.old plain.new
         (W.written writer.old) (W.written writer.new)) }
-    ensures read { IsErrOf result StreamFault.Read
-        → FailsToRead (R.Counts.failures reader.old) (R.Counts.failures reader.new) (R.unread reader.old) }
-    ensures write { IsErrOf result StreamFault.Write
-        → W.Counts.failures writer.new ≡ one_more (W.Counts.failures writer.old) }
+    ensures read { IsErrOf result StreamFault.Read →
+        (R.Counts.failures reader.new ≡ one_more (R.Counts.failures reader.old))
+        ⊎ ((input : List ℕ) → R.unread reader.old ≡ Some input → 2 ^ 64 - 1 ≤ length input) }
+    ensures write { IsErrOf result StreamFault.Write →
+        W.Counts.failures writer.new ≡ one_more (W.Counts.failures writer.old) }
+    // At the end every answer is sent.
+    ensures sent { OnOk result (W.all_sent writer.old ≡ true → W.all_sent writer.new ≡ true) }
 {
     'pieces: for _reads in 0..u64::MAX {
         let taken = take_piece(reader, records, buffer)?;
@@ -140,13 +146,14 @@ fn serve_pieces<C: Moments, R: Source, W: Sink>(
     Err(StreamFault::Read)
 }
 
-/// Reads a piece and takes it in. A fault leaves the records as they were.
+/// Reads a piece and takes it in, when every record that had come is answered. A fault leaves the records as they were.
 fn take_piece<R: Source>(
     reader: &mut R,
     records: &mut Records,
     buffer: &mut [u8],
 ) -> Result<Taken, StreamFault>
-    requires { 0 < length buffer.old }
+    requires buffer { 0 < length buffer.old }
+    requires answered { records.old.queued ≡ [] }
     ensures taken { IfOk result
         (λ taken. Takes taken records.old records.new (R.unread reader.old) (R.unread reader.new)) }
     ensures ok { OnOk result (R.Counts.failures reader.new ≡ R.Counts.failures reader.old) }
@@ -182,8 +189,10 @@ fn serve_records<C: Moments, W: Sink>(
         (Goes C.gives host.now records.old.queued clock.old clock.new plain.old plain.new
         (W.written writer.old) (W.written writer.new)) }
     ensures all { OnOk result (records.new.queued ≡ []) }
-    ensures holds { OnOk result ((stream : List ℕ) (given : List (List ℕ)) → Holds records.old stream given
-        → Holds records.new stream (given ++ records.old.queued)) }
+    ensures sent { OnOk result (W.all_sent writer.old ≡ true → W.all_sent writer.new ≡ true) }
+    ensures holds { OnOk result
+        ((stream : List ℕ) (given : List (List ℕ)) → Holds records.old stream given →
+        Holds records.new stream (given ++ records.old.queued)) }
     ensures ok { OnOk result (W.Counts.failures writer.new ≡ W.Counts.failures writer.old) }
     ensures stops { IfErr result
         (λ e. Stops C.gives host.now e records.old.queued clock.old clock.new plain.old plain.new
@@ -208,6 +217,7 @@ fn serve_record<C: Moments, W: Sink>(
     message: Record,
 ) -> Result<(), StreamFault>
     requires { (1 ≤ length host.now) × (length host.now ≤ 255) }
+    ensures sent { OnOk result (W.all_sent writer.old ≡ true → W.all_sent writer.new ≡ true) }
     ensures goes { OnOk result
         (Goes C.gives host.now (message ∷ []) clock.old clock.new plain.old plain.new
         (W.written writer.old) (W.written writer.new)) }
@@ -229,12 +239,15 @@ fn serve_record<C: Moments, W: Sink>(
 
 /// Writes an answer and sends it on. At a fault a beginning of it may be written.
 fn send<W: Sink>(writer: &mut W, answer: &[u8]) -> Result<(), StreamFault>
+    ensures sent { OnOk result (W.all_sent writer.new ≡ true) }
     ensures written { OnOk result (Appends (W.written writer.old) (W.written writer.new) answer.now) }
     ensures ok { OnOk result (W.Counts.failures writer.new ≡ W.Counts.failures writer.old) }
-    ensures part { OnErr result ((sent : List ℕ) × (unsent : List ℕ) × (answer.now ≡ sent ++ unsent)
-        × Appends (W.written writer.old) (W.written writer.new) sent) }
-    ensures fault { IfErr result (λ e.
-        (e ≡ StreamFault.Write) × (W.Counts.failures writer.new ≡ one_more (W.Counts.failures writer.old))) }
+    ensures part { OnErr result
+        ((sent : List ℕ) × (unsent : List ℕ) × (answer.now ≡ sent ++ unsent) ×
+        Appends (W.written writer.old) (W.written writer.new) sent) }
+    ensures fault { IfErr result
+        (λ e. (e ≡ StreamFault.Write)
+        × (W.Counts.failures writer.new ≡ one_more (W.Counts.failures writer.old))) }
 {
     write_all(writer, answer)?;
     writer.flush().map_err(|_| StreamFault::Write)
@@ -244,10 +257,12 @@ fn send<W: Sink>(writer: &mut W, answer: &[u8]) -> Result<(), StreamFault>
 fn write_all<W: Sink>(writer: &mut W, bytes: &[u8]) -> Result<(), StreamFault>
     ensures written { OnOk result (Appends (W.written writer.old) (W.written writer.new) bytes.now) }
     ensures ok { OnOk result (W.Counts.failures writer.new ≡ W.Counts.failures writer.old) }
-    ensures part { OnErr result ((sent : List ℕ) × (unsent : List ℕ) × (bytes.now ≡ sent ++ unsent)
-        × Appends (W.written writer.old) (W.written writer.new) sent) }
-    ensures fault { IfErr result (λ e.
-        (e ≡ StreamFault.Write) × (W.Counts.failures writer.new ≡ one_more (W.Counts.failures writer.old))) }
+    ensures part { OnErr result
+        ((sent : List ℕ) × (unsent : List ℕ) × (bytes.now ≡ sent ++ unsent) ×
+        Appends (W.written writer.old) (W.written writer.new) sent) }
+    ensures fault { IfErr result
+        (λ e. (e ≡ StreamFault.Write)
+        × (W.Counts.failures writer.new ≡ one_more (W.Counts.failures writer.old))) }
 {
     let mut rest = bytes;
     'writes: while !rest.is_empty() {

@@ -1,6 +1,7 @@
 //! The program from its start to the end of its input.
 
-ghost use Rattle.std.specs.Prelude.{◌≡◌, IfErr, OnOk};
+ghost use Rattle.std.specs.Prelude.{◌≡◌, ℕ, ◌-◌, ◌^◌, ◌≤◌, ◌⊎◌, true, List, length, Some};
+ghost use Rattle.std.specs.Prelude.{IfErr, OnOk};
 ghost use Rattle.nfs_rpc.specs.Streams.{one_more};
 ghost use Rattle.nfs_server.specs.Served.{FailsToRead};
 ghost use Rattle.nfs_server.specs.Started.{FailsFromStart, ServesFromStart, setting_of};
@@ -33,11 +34,14 @@ pub fn serve_options<C: Moments, R: Source, W: Sink>(
     // A fault of a stream is one that the stream counted, or there was no end of it.
     ensures fault { IfErr result
         (FailsFromStart C.gives (setting_of options start) options.host (R.unread reader.old) clock.old clock.new
-        (W.written writer.old) (W.written writer.new) (λ fault.
-        (fault ≡ StreamFault.Read
-        → FailsToRead (R.Counts.failures reader.old) (R.Counts.failures reader.new) (R.unread reader.old))
-        × (fault ≡ StreamFault.Write
-        → W.Counts.failures writer.new ≡ one_more (W.Counts.failures writer.old)))) }
+        (W.written writer.old) (W.written writer.new)
+        (λ fault. (fault ≡ StreamFault.Read →
+        (R.Counts.failures reader.new ≡ one_more (R.Counts.failures reader.old))
+        ⊎ ((input : List ℕ) → R.unread reader.old ≡ Some input → 2 ^ 64 - 1 ≤ length input))
+        × (fault ≡ StreamFault.Write →
+        W.Counts.failures writer.new ≡ one_more (W.Counts.failures writer.old)))) }
+    // At the end every answer is sent.
+    ensures sent { OnOk result (W.all_sent writer.old ≡ true → W.all_sent writer.new ≡ true) }
 {
     let Options {
         exports,

@@ -1,11 +1,13 @@
-use Rattle.std.proofs.Common.{length}
+use Rattle.std.proofs.Common.{◌≡◌, true, length}
 use Rattle.nfs_server.proofs.Loops.{Answering}
 use Rattle.nfs_server.proofs.serve.serve_records.Given as goal
 
 abbrev pub invariant-records : goal.invariant-records
 invariant-records g l =
-    Answering g.C.Moments.gives l.host l.initial.clock l.clock l.initial.plain l.plain (g.W.Sink.written l.initial.writer) (g.W.Sink.written l.writer)
+    Answering g.C.Moments.gives l.host l.initial.clock l.clock l.initial.plain l.plain
+    (g.W.Sink.written l.initial.writer) (g.W.Sink.written l.writer)
     l.initial.records l.records (g.W.Counts.failures l.initial.writer) (g.W.Counts.failures l.writer)
+    × (g.W.Sink.all_sent l.initial.writer ≡ true → g.W.Sink.all_sent l.writer ≡ true)
 
 abbrev pub decreases-records : goal.decreases-records
 decreases-records g l = length l.records.queued
