@@ -184,8 +184,14 @@ fn reads_each_number_of_a_record(rt: HostRuntime) -> Result<(), Fail> {
     assert_eq!(rt; reader.u64(), Ok(0x0102_0304_0506_0708));
     assert_eq!(rt; reader.bool(), Ok(true));
     assert_eq!(rt; reader.bool(), Ok(false));
-    assert_eq!(rt; reader.fixed(3)?.share()?.as_slice(), [10, 11, 12].as_slice());
-    assert_eq!(rt; reader.opaque(5)?.share()?.as_slice(), [1, 2, 3, 4, 5].as_slice());
+    assert_eq!(rt;
+        reader.fixed(3)?.share()?.as_slice(),
+        [10, 11, 12].as_slice()
+    );
+    assert_eq!(rt;
+        reader.opaque(5)?.share()?.as_slice(),
+        [1, 2, 3, 4, 5].as_slice()
+    );
     assert_eq!(rt; reader.as_slice(), [42].as_slice());
     assert_eq!(rt; reader.rest().share()?.as_slice(), [42].as_slice());
     Ok(())
