@@ -59,3 +59,4 @@ pub mod Short
 mod Statuses
 pub mod Counted
 mod Given
+mod MountSizes

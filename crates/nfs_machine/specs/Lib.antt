@@ -20,6 +20,7 @@ pub mod LockSteps
 pub mod Locks
 pub mod MakeSteps
 pub mod Making
+pub mod MountLaws
 pub mod MountSteps
 pub mod NameSteps
 pub mod NfsSteps

@@ -9,6 +9,7 @@ ghost use Rattle.nfs_machine.specs.Laws.{StepsGiveOnce, StepsKeepCookies, StepsK
 ghost use Rattle.nfs_machine.specs.Laws.{StepsKeepNumbers};
 ghost use Rattle.nfs_machine.specs.LockLaws.{ListedLocksTell, OpeningIsApart, OpeningWaitsForNone, ChainsKeepApart};
 ghost use Rattle.nfs_machine.specs.LockLaws.{ChainsKeepWaiting, StepsKeepApart, StepsKeepWaiting};
+ghost use Rattle.nfs_machine.specs.MountLaws.{MountRepliesAreBounded};
 ghost use Rattle.nfs_machine.specs.Paging.{FullPagesFit, PagesAreOne, PagesExist, PagesFit};
 ghost use Rattle.nfs_machine.specs.Readings.{ReadingsAreWhole};
 ghost use Rattle.nfs_machine.specs.SideLaws.{LocksStayFit, MountRefusalsChangeNothing, MountRepliesHaveForm};
@@ -191,6 +192,15 @@ pub fn side_replies_have_forms()
     ensures mount { MountRepliesHaveForm }
     ensures nlm { NlmRepliesHaveForm }
     ensures messages { NlmMessagesHaveForm }
+{}
+
+/// A reply of MOUNT has at most 48 bytes where it answers MNT, 1,292 for each mount and 4 where it answers DUMP, and
+/// 1,036 for each export, 264 for each of its hosts, and 4 where it answers EXPORT; the others have none. What is
+/// mounted and exported is within the bounds of the program, as `bounds_are_kept` says of what is mounted.
+///
+/// Such steps are in `worked_locking`.
+pub fn mount_replies_are_bounded()
+    ensures { MountRepliesAreBounded }
 {}
 
 /// What is mounted, held and waited for is always within those bounds: a server starts so, each call of any program
