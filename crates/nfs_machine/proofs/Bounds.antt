@@ -1,5 +1,6 @@
 -- What is mounted, held and waited for stays within the bounds of MOUNT and NLM, whatever is called.
-use Rattle.std.proofs.Common.{◌≡◌, ℕ, true, false, cond, List, [], ◌∷◌, ◌++◌, Result, Ok, Err, refl, sym, ap, subst}
+use Rattle.std.proofs.Common.{◌≡◌, ℕ, true, false, cond, List, [], ◌∷◌, ◌++◌, Result, Ok, Err}
+use Rattle.std.proofs.Common.{refl, sym, ap, subst}
 use Rattle.std.specs.List.{AllByRecursion}
 use Rattle.nfs_xdr.specs.Types.{Spells}
 use Rattle.side_wire.specs.Messages.{HasLockForm}
@@ -18,14 +19,15 @@ use Rattle.nfs_rpc.specs.declared.programs.Program.{Program}
 use Rattle.nfs_machine.specs.MountSteps.{MntAnswers, MountStep, is_mounted, newest}
 use Rattle.nfs_machine.specs.Run.{FromHost, IsCall}
 use Rattle.nfs_machine.specs.SideLaws.{AskedFits, CallFits, LocksFit, LocksStayFit, MountsFit, MountsStayFit}
-use Rattle.nfs_machine.specs.SideLaws.{OpeningFits, PathFits, ChainsStayFit, SpelledCallsFit}
-use Rattle.nfs_machine.specs.State.{State}
+use Rattle.nfs_machine.specs.SideLaws.{OpeningFits, OwnersFit, PathFits, ChainsStayFit, SpelledCallsFit}
+use Rattle.nfs_machine.specs.State.{Request, State}
 use Rattle.nfs_machine.specs.declared.calls.Call.{Call}
 use Rattle.nfs_machine.specs.declared.calls.Call.TheVariants as calls
 use Rattle.nfs_machine.specs.declared.calls.Reply.TheVariants as replies
 use Rattle.nfs_machine.specs.declared.context.Ctx.{Ctx}
 use Rattle.nfs_machine.proofs.Kept.{nfs-follows}
 use Rattle.nfs_machine.proofs.Locking.{nlm-touches}
+use Rattle.nfs_machine.proofs.Opened.{none_of}
 use Rattle.nfs_machine.proofs.Posted.{nlm_messages_form}
 use Rattle.nfs_machine.proofs.SideReplies.{mount_fits}
 use Rattle.side_wire.specs.declared.mount.lists.MountBody.{MountBody}
@@ -64,23 +66,32 @@ spelled-call (nlm.Unshare a) bytes s = s.3.0
 spelled-call (nlm.NmLock a) bytes s = (s.3.0, spelled-lock a.lock s.4.4.4.0 s.4.4.4.3)
 spelled-call (nlm.FreeAll a) bytes s = tt
 
-spelled : (ctx : Ctx) (program : Program) (procedure : ℕ) (bytes : List ℕ) (call : Call) → IsHostName ctx.host → IsCall program procedure bytes call → AskedFits ctx call
+spelled : (ctx : Ctx) (program : Program) (procedure : ℕ) (bytes : List ℕ) (call : Call) → IsHostName ctx.host →
+    IsCall program procedure bytes call → AskedFits ctx call
 spelled ctx program procedure bytes (calls.Nfs call) host is = tt
 spelled ctx program procedure bytes (calls.Mount call) host is = (host, spelled-path call is.2.0 is.2.3)
 spelled ctx program procedure bytes (calls.Nlm call) host is = spelled-call call is.2.0 is.2.3
 
 pub spelled_calls_fit : SpelledCallsFit
 spelled_calls_fit setting (FromHost received) ctx call host asks =
-    spelled ctx asks.header.program asks.header.procedure asks.header.arguments call (subst IsHostName (sym (ap (λ (c : Ctx). c.host) asks.made_under)) host) asks.is_call
+    spelled ctx asks.header.program asks.header.procedure asks.header.arguments call
+    (subst IsHostName (sym (ap (λ (c : Ctx). c.host) asks.made_under)) host) asks.is_call
 
 -- ---- MOUNT leaves locks as they are
-mnt-locks : (old : State) (ctx : Ctx) (path : List ℕ) (result : Result (List ℕ) MountStatus) (new : State) → MntAnswers old ctx path result new → LocksFit old → LocksFit new
+mnt-locks : (old : State) (ctx : Ctx) (path : List ℕ) (result : Result (List ℕ) MountStatus) (new : State) →
+    MntAnswers old ctx path result new → LocksFit old → LocksFit new
 mnt-locks old ctx path (Ok handle) new (found, target, is, same) fit =
     let x : MountBody = record { hostname = ctx.host; directory = path } in
-    subst LocksFit (sym same) (elim (is_mounted old.mounts x) as (λ b. LocksFit (cond b old (record old { mounts = newest (old.mounts ++ x ∷ []) }))) [ true ↦ fit | false ↦ fit ])
+    subst LocksFit (sym same)
+    (elim (is_mounted old.mounts x) as
+    (λ b. LocksFit (cond b old (record old { mounts = newest (old.mounts ++ x ∷ []) }))) [
+      | true ↦ fit
+      | false ↦ fit
+    ])
 mnt-locks old ctx path (Err e) new (why, same) fit = subst LocksFit (sym same) fit
 
-mount-locks : (old : State) (ctx : Ctx) (call : MountCall) (reply : MountReply) (messages : List Message) (new : State) → MountStep old ctx call reply messages new → LocksFit old → LocksFit new
+mount-locks : (old : State) (ctx : Ctx) (call : MountCall) (reply : MountReply) (messages : List Message)
+    (new : State) → MountStep old ctx call reply messages new → LocksFit old → LocksFit new
 unfolding MountStep
 mount-locks old ctx mount.Null reply messages new step fit = subst LocksFit (sym step.state_is) fit
 mount-locks old ctx (mount.Mnt path) reply messages new step fit = mnt-locks old ctx path step.0 new step.3 fit
@@ -91,23 +102,37 @@ mount-locks old ctx mount.Export reply messages new step fit = subst LocksFit (s
 
 -- ---- steps and runs
 same-mounts : (old new : State) → new.mounts ≡ old.mounts → MountsFit old → MountsFit new
-same-mounts old new same fit = subst (λ (mounts : List MountBody). AllByRecursion (λ (x : MountBody). IsHostName x.hostname × IsDirpath x.directory) mounts) (sym same) fit
+same-mounts old new same fit = subst
+    (λ (mounts : List MountBody). AllByRecursion
+    (λ (x : MountBody). IsHostName x.hostname × IsDirpath x.directory) mounts) (sym same) fit
 
 pub mounts_stay_fit : MountsStayFit
-mounts_stay_fit old ctx (calls.Nfs call) (replies.Nfs reply) messages new step asked fit = same-mounts old new (nfs-follows old ctx call reply messages new step).mounts fit
-mounts_stay_fit old ctx (calls.Mount call) (replies.Mount reply) messages new step asked fit = mount_fits old ctx call reply messages new fit asked.0 asked.1 step
+mounts_stay_fit old ctx (calls.Nfs call) (replies.Nfs reply) messages new step asked fit = same-mounts old new
+    (nfs-follows old ctx call reply messages new step).mounts fit
+mounts_stay_fit old ctx (calls.Mount call)
+    (replies.Mount reply) messages new step asked fit = mount_fits old ctx call reply messages new fit asked.0 asked.1
+    step
 mounts_stay_fit old ctx (calls.Nlm call) (replies.Nlm reply) messages new step asked fit = same-mounts old new
-    (ap (λ k. k.0) (nlm-touches old ctx call reply messages new step).mounts) fit
+    (nlm-touches old ctx call reply messages new step).mounts fit
 mounts_stay_fit old ctx call reply messages new step asked fit = absurd step
 
 pub locks_stay_fit : LocksStayFit
-locks_stay_fit old ctx (calls.Nfs call) (replies.Nfs reply) messages new step asked fit = (nfs-follows old ctx call reply messages new step).bounds fit
-locks_stay_fit old ctx (calls.Mount call) (replies.Mount reply) messages new step asked fit = mount-locks old ctx call reply messages new step fit
-locks_stay_fit old ctx (calls.Nlm call) (replies.Nlm reply) messages new step asked fit = (nlm_messages_form old ctx call reply messages new fit asked step).1
+locks_stay_fit old ctx (calls.Nfs call) (replies.Nfs reply) messages new step asked fit =
+    (nfs-follows old ctx call reply messages new step).bounds fit
+locks_stay_fit old ctx (calls.Mount call)
+    (replies.Mount reply) messages new step asked fit = mount-locks old ctx call reply messages new step fit
+locks_stay_fit old ctx (calls.Nlm call) (replies.Nlm reply) messages new step asked fit =
+    (nlm_messages_form old ctx call reply messages new fit asked step).1
 locks_stay_fit old ctx call reply messages new step asked fit = absurd step
 
 pub opening_fits : OpeningFits
-opening_fits exports moment = (tt, ((λ file owner offset has. absurd (has refl)), tt))
+opening_fits exports moment = (
+  tt,
+  λ file. (
+    subst OwnersFit (sym (none_of file)) (λ owner offset has. absurd (has refl)),
+    subst (AllByRecursion (λ (r : Request). HasLockForm r.asked)) (sym (none_of file)) tt,
+  ),
+)
 
 pub chains_stay_fit : ChainsStayFit
 chains_stay_fit first last [] chain asked fit = subst (λ (m : State). MountsFit m × LocksFit m) (sym chain) fit

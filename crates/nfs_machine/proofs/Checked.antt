@@ -1,5 +1,8 @@
 -- What calls of NLM come to, over any outcome of their checks.
-use Rattle.std.proofs.Common.{◌≡◌, ℕ, Bool, List, [], ◌∷◌, ◌++◌, Result, if◌then◌else◌, ◌⊎◌, Some, None}
+use Rattle.std.proofs.Common.{◌≡◌, ℕ, Bool, true, false, List, [], ◌∷◌, ◌++◌, Option, Some, None}
+use Rattle.std.proofs.Common.{Result}
+use Rattle.std.proofs.Common.{if◌then◌else◌, ◌⊎◌}
+use Rattle.std.specs.FinMap.{get}
 use Rattle.std.specs.List.{list_any}
 use Rattle.side_wire.specs.declared.message.Message.{Message}
 use Rattle.side_wire.specs.declared.nlm.CancelArguments.{CancelArguments}
@@ -7,44 +10,71 @@ use Rattle.side_wire.specs.declared.nlm.LockArguments.{LockArguments}
 use Rattle.side_wire.specs.declared.nlm.NlmShare.{NlmShare}
 use Rattle.side_wire.specs.declared.nlm.NlmStatus.{NlmStatus}
 use Rattle.side_wire.specs.declared.nlm.NlmStatus.TheVariants as status
+use Rattle.side_wire.specs.declared.nlm.TestArguments.{TestArguments}
 use Rattle.side_wire.specs.declared.nlm.TestStatus.{TestStatus}
+use Rattle.side_wire.specs.declared.nlm.UnlockArguments.{UnlockArguments}
 use Rattle.nfs_machine.specs.Answers.{Answers}
-use Rattle.nfs_machine.specs.Bytes.{same_bytes}
+use Rattle.nfs_machine.specs.FileLists.{all_but, of_file, with_list}
 use Rattle.nfs_machine.specs.Grants.{ChangesLocks}
-use Rattle.nfs_machine.specs.Locks.{Conflicts, same_sharer, shares_conflict}
-use Rattle.nfs_machine.specs.LockSteps.{Checked, Fault, HeldUp, Tests, is_request, share_of, without}
-use Rattle.nfs_machine.specs.State.{Lock, Request, Share, State, Range}
+use Rattle.nfs_machine.specs.Locks.{Conflicts, range_of, same_sharer, shares_conflict}
+use Rattle.nfs_machine.specs.LockSteps.{Checked, HeldUp, LockFault, Tests, is_answered, is_request, nlm_status_of}
+use Rattle.nfs_machine.specs.LockSteps.{share_of, test_status_of}
+use Rattle.nfs_machine.specs.State.{PendingGrant, Request, Share, State}
 use Rattle.nfs_machine.specs.declared.context.Ctx.{Ctx}
 
-abbrev pub TestOf : State → Bool → Result Range Fault → TestStatus → List Message → State → Type 0
-TestOf old exclusive r = Checked (λ fault. fault.1) old r (λ r s messages new. Tests old r (Some exclusive) s × (messages ≡ []) × (new ≡ old))
+abbrev pub TestOf : State → TestArguments → Result ℕ LockFault → TestStatus → List Message → State →
+    Type 0
+TestOf old a checked = Checked test_status_of old checked (λ file s messages new.
+    Tests (of_file old.locks file) (range_of a.lock) (Some a.exclusive) s × (messages ≡ []) × (new ≡ old))
 
-abbrev pub LockOf : State → Ctx → LockArguments → Bool → Result Range Fault → NlmStatus → List Message → State → Type 0
-LockOf old ctx a by_message r = Checked (λ fault. fault.0) old r (λ r s messages new.
-    ((Conflicts old.locks r (Some a.exclusive) → ⊥) × (s ≡ status.Granted) × ChangesLocks old r (Some a.exclusive) messages new)
-    ⊎ (Conflicts old.locks r (Some a.exclusive) × HeldUp old ctx a by_message r.file a.block (list_any (is_request r a.exclusive a.lock) old.waiting) s messages new))
+abbrev pub LockOf : State → Ctx → LockArguments → Bool → Result ℕ LockFault → NlmStatus → List Message →
+    State → Type 0
+LockOf old ctx a by_message checked = Checked nlm_status_of old checked (λ file s messages new.
+    let Stands = Conflicts (of_file old.locks file) (range_of a.lock) (Some a.exclusive) in
+    ((Stands → ⊥) × (s ≡ status.Granted) ×
+    ChangesLocks old file (range_of a.lock) (Some a.exclusive) messages new)
+    ⊎ (Stands × HeldUp old ctx a by_message file a.block
+    (list_any (is_request a.exclusive a.lock) (of_file old.waiting file)) s messages new))
 
-abbrev pub CancelOf : State → CancelArguments → Result Range Fault → NlmStatus → List Message → State → Type 0
-CancelOf old a r = Checked (λ fault. fault.0) old r (λ r.
-    let goes = is_request r a.exclusive a.lock in Answers (if list_any goes old.waiting then status.Granted else status.Denied) (record old { waiting = without goes old.waiting }))
+abbrev pub Cancels : State → (file : ℕ) → (Request → Bool) → (cancels : Bool) → NlmStatus →
+    List Message → State → Type 0
+Cancels old file goes cancels = Answers (if cancels then status.Granted else status.Denied)
+    (if cancels then record old { waiting = with_list old.waiting file (all_but goes (of_file old.waiting file)) } else
+    old)
 
-abbrev pub UnlockOf : State → Result Range Fault → NlmStatus → List Message → State → Type 0
-UnlockOf old r = Checked (λ fault. fault.0) old r (λ r s messages new. (s ≡ status.Granted) × ChangesLocks old r None messages new)
+abbrev pub CancelOf : State → CancelArguments → Result ℕ LockFault → NlmStatus → List Message → State →
+    Type 0
+CancelOf old a checked = Checked nlm_status_of old checked (λ file. Cancels old file (is_request a.exclusive a.lock)
+    (list_any (is_request a.exclusive a.lock) (of_file old.waiting file)))
 
-abbrev pub Shares : State → Share → (conflicts : Bool) → NlmStatus → List Message → State → Type 0
-Shares old share conflicts = Answers (if conflicts then status.Denied else status.Granted) (if conflicts then old else record old { shares = without (same_sharer share) old.shares ++ share ∷ [] })
+abbrev pub UnlockOf : State → UnlockArguments → Result ℕ LockFault → NlmStatus → List Message → State →
+    Type 0
+UnlockOf old a checked = Checked nlm_status_of old checked (λ file s messages new.
+    (s ≡ status.Granted) × ChangesLocks old file (range_of a.lock) None messages new)
 
-abbrev pub ShareOf : State → NlmShare → Result ℕ Fault → NlmStatus → List Message → State → Type 0
-ShareOf old s r = Checked (λ fault. fault.0) old r (λ file. Shares old (share_of file s) (list_any (shares_conflict (share_of file s)) old.shares))
+abbrev pub Shares : State → (file : ℕ) → Share → (conflicts : Bool) → NlmStatus → List Message → State →
+    Type 0
+Shares old file share conflicts = Answers (if conflicts then status.Denied else status.Granted)
+    (if conflicts then old else record old
+    { shares = with_list old.shares file (all_but (same_sharer share) (of_file old.shares file) ++ share ∷ []) })
 
-abbrev pub UnshareOf : State → NlmShare → Result ℕ Fault → NlmStatus → List Message → State → Type 0
-UnshareOf old s r = Checked (λ fault. fault.0) old r (λ file. Answers status.Granted (record old { shares = without (same_sharer (share_of file s)) old.shares }))
+abbrev pub ShareOf : State → NlmShare → Result ℕ LockFault → NlmStatus → List Message → State → Type 0
+ShareOf old s checked = Checked nlm_status_of old checked (λ file.
+    Shares old file (share_of s) (list_any (shares_conflict (share_of s)) (of_file old.shares file)))
 
--- the state without what a caller has
-abbrev pub freed_of : State → List ℕ → List Lock → State
-freed_of m name locks = record m {
-  locks = locks;
-  shares = without (λ (s : Share). same_bytes s.caller_name name) m.shares;
-  waiting = without (λ (r : Request). same_bytes r.asked.caller_name name) m.waiting;
-  granted = without (λ (r : Request). same_bytes r.asked.caller_name name) m.granted;
-}
+abbrev pub UnshareOf : State → NlmShare → Result ℕ LockFault → NlmStatus → List Message → State → Type 0
+UnshareOf old s checked = Checked nlm_status_of old checked (λ file. Answers status.Granted (record old
+    { shares = with_list old.shares file (all_but (same_sharer (share_of s)) (of_file old.shares file)) }))
+
+-- what is answered is pending under its number
+pub found-pending : (old : State) (host cookie : List ℕ) (number : ℕ) (found : Option PendingGrant)
+    → get old.granted number ≡ found
+    → (grant : PendingGrant) → (if is_answered host cookie number found then found else None) ≡ Some grant
+    → get old.granted number ≡ Some grant
+found-pending old host cookie number None at grant is = cc
+found-pending old host cookie number (Some g) at grant is =
+    elim (is_answered host cookie number (Some g)) as (λ b. (if b then Some g else None) ≡ Some grant
+    → get old.granted number ≡ Some grant) [
+      | true ↦ λ e. cc
+      | false ↦ λ e. cc
+    ] is

@@ -14,7 +14,7 @@ use Rattle.nfs_machine.specs.Times.{touch}
 use Rattle.nfs_machine.specs.WellFormed.{TextsFit, WellFormed, is_root}
 use Rattle.nfs_machine.proofs.Changes.{differs-insert, differs-other, differs-remove, differs-there}
 use Rattle.nfs_machine.proofs.Cookies.{kept-same}
-use Rattle.nfs_machine.proofs.Loose.{Loose, also, fastened, loose-come, loose-touched, none_loose, tightened}
+use Rattle.nfs_machine.proofs.Loose.{Beside, Loose, also, fastened, loose-come, loose-touched, none_loose, tightened}
 
 -- an object in the place of another: under the same handle, changed at this time, with no new text, and with entries that keep their cookies
 pub record Turns (now : Time) (was is : Living) : Type 0 where
@@ -134,9 +134,10 @@ module _ (now : Time) (old mid : State) (c : Continues now old mid) (number : �
 -- an object that contains no name and lost one goes with its last, or stays
 module _ (mid : State) (number : ℕ) (object : Living) (at : get mid.objects number ≡ Some object)
     (l : Loose (also number none_loose) mid) (no_root : is_root mid number ≡ false) where
-  gone : entries_of object.content ≡ [] → names_of mid number ≡ 0 → TextsFit (without_object mid number) → WellFormed (without_object mid number)
-  gone empty none texts =
-      tightened (without_object mid number) texts
+  gone : entries_of object.content ≡ [] → names_of mid number ≡ 0 → Beside (without_object mid number) →
+      WellFormed (without_object mid number)
+  gone empty none beside =
+      tightened (without_object mid number) beside
       (fastened number none_loose (without_object mid number)
       (loose-come mid (without_object mid number) number (Some object) None (record {
         lives = at;
@@ -151,13 +152,18 @@ module _ (mid : State) (number : ℕ) (object : Living) (at : get mid.objects nu
       }) none_loose l)
       (λ o there. (let nothing : get (without_object mid number).objects number ≡ None = differs-there mid.objects (without_object mid number).objects number None (differs-remove mid.objects number) in cc)))
 
-  stays : (now : Time) → 1 ≤ names_of mid number → TextsFit (with_object mid number (touched object now)) → WellFormed (with_object mid number (touched object now))
-  stays now some texts = tightened (with_object mid number (touched object now)) texts (loose-touched mid number object at none_loose (fastened number none_loose mid l (λ o there. some)) now)
+  stays : (now : Time) → 1 ≤ names_of mid number → Beside (with_object mid number (touched object now)) →
+      WellFormed (with_object mid number (touched object now))
+  stays now some beside = tightened (with_object mid number (touched object now)) beside
+      (loose-touched mid number object at none_loose (fastened number none_loose mid l (λ o there. some)) now)
 
-  pub well_formed-losing : (names : ℕ) (now : Time) → entries_of object.content ≡ [] → names_of mid number + 1 ≡ names → TextsFit (losing_name mid names now number object)
+  pub well_formed-losing : (names : ℕ) (now : Time) → entries_of object.content ≡ [] →
+      names_of mid number + 1 ≡ names → Beside (losing_name mid names now number object)
       → WellFormed (losing_name mid names now number object)
   well_formed-losing names now empty count =
-      elim (nat_le names 1) as (λ b. nat_le names 1 ≡ b → TextsFit (cond b (without_object mid number) (with_object mid number (touched object now)))
+      elim (nat_le names 1) as
+      (λ b. nat_le names 1 ≡ b →
+      Beside (cond b (without_object mid number) (with_object mid number (touched object now)))
       → WellFormed (cond b (without_object mid number) (with_object mid number (touched object now)))) [
         | true ↦ λ e. (let few = leb-true names 1 e in gone empty (omega (arith, few, count)))
         | false ↦ λ e. (let more = leb-false names 1 e in stays now (omega (arith, more, count)))

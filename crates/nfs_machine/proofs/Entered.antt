@@ -10,10 +10,11 @@ use Rattle.nfs_machine.specs.Bytes.{same_bytes}
 use Rattle.nfs_machine.specs.Laws.{KeepsExports}
 use Rattle.nfs_machine.specs.RenameSteps.{IsWithin}
 use Rattle.nfs_machine.specs.State.{Directory, Entry, Living, State}
-use Rattle.nfs_machine.specs.WellFormed.{IsParent, Leads, TextsFit, WellFormed}
+use Rattle.nfs_machine.specs.WellFormed.{IsParent, Leads, WellFormed}
 use Rattle.nfs_machine.proofs.Changes.{Differs, apart, differs-insert, differs-other, differs-there, flipped, itself}
 use Rattle.nfs_machine.proofs.Exported.{exported-on, free-no_root}
-use Rattle.nfs_machine.proofs.Loose.{AddsName, Comes, Loose, Swaps, also, loose-added, loose-come, loosened, names_in-added, names_of-added, names_of-come, none_loose, swapped, tightened}
+use Rattle.nfs_machine.proofs.Loose.{AddsName, Beside, Comes, Loose, Swaps, also, loose-added, loose-come, loosened}
+use Rattle.nfs_machine.proofs.Loose.{names_in-added, names_of-added, names_of-come, none_loose, swapped, tightened}
 use Rattle.nfs_machine.proofs.Loose as swaps
 use Rattle.nfs_machine.proofs.Sums.{get-inserted, sum-none}
 use Rattle.nfs_machine.proofs.WellFormed.{LivesOn, counts-on, is_subdirectory, links-by, links-same, parent-on}
@@ -135,9 +136,9 @@ module _ (old new : State) (place number : ℕ) (directory wider made : Living) 
         let same : place ≡ number = within-empty mid number made made-there makes.made_entries number place within refl in
         let no : true ≡ false = sym ((unsigned_Decides place number).1 same) ∙ lives-apart place directory makes.lives in cc
 
-    pub well_formed-made : TextsFit new → WellFormed new
-    well_formed-made texts =
-        tightened new texts (loose-added mid new place number directory wider made name adds none_loose comes-loose
+    pub well_formed-made : Beside new → WellFormed new
+    well_formed-made beside =
+        tightened new beside (loose-added mid new place number directory wider made name adds none_loose comes-loose
         (depth mid (also number none_loose) comes-loose number made made-there place directory (stays place directory makes.lives) (ap is_directory makes.content) out)
         (deepened mid (also number none_loose) comes-loose number made made-there place directory (stays place directory makes.lives) (ap is_directory makes.content) out))
 

@@ -1,9 +1,12 @@
 -- What each procedure that changes names or objects leaves: handles are given once, and what is true of every state stays true.
-use Rattle.std.proofs.Common.{◌≡◌, ◌==◌, ℕ, ◌+◌, ◌<◌, ◌≤◌, ◌^◌, Bool, true, false, not, ◌&&◌, ◌||◌, cond, List, [], Option, Some, None, Result, Ok, Err, IfOk, IfSome, find, length, take, nat_le, nat_lt, ◌⊎◌, inl, inr, refl, sym, ◌∙◌, ap, subst, leb-true}
-use Rattle.std.specs.List.{list_any}
+use Rattle.std.proofs.Common.{◌≡◌, ◌==◌, ℕ, ◌+◌, ◌<◌, ◌≤◌, ◌^◌, Bool, true, false, not}
+use Rattle.std.proofs.Common.{◌&&◌, ◌||◌, cond, List, [], Option, Some, None, Result, Ok, Err, IfOk, IfSome}
+use Rattle.std.proofs.Common.{find, is_ok, length, take, nat_le, nat_lt, ◌⊎◌, inl, inr, refl, sym, ◌∙◌}
+use Rattle.std.proofs.Common.{ap, subst, leb-true}
+use Rattle.std.specs.List.{AllByRecursion, list_any}
 use Rattle.std.specs.Cmp.{unsigned_Decides}
-use Rattle.std.specs.FinMap.{get}
-use Rattle.std.proofs.lemmas.Bool.{not-true}
+use Rattle.std.specs.FinMap.{FinMap, get, insert}
+use Rattle.std.specs.Ordering.{nat_cmp}
 use Rattle.nfs_wire.specs.declared.attributes.Time.{Time}
 use Rattle.nfs_wire.specs.declared.calls.CreateHow.{CreateHow}
 use Rattle.nfs_wire.specs.declared.calls.CreateHow.TheVariants.{Unchecked, Guarded, Exclusive}
@@ -14,15 +17,15 @@ use Rattle.nfs_wire.specs.declared.replies.Written.{Written}
 use Rattle.nfs_wire.specs.declared.status.NfsStatus.{NfsStatus}
 use Rattle.nfs_wire.specs.declared.status.NfsStatus.TheVariants as status
 use Rattle.side_wire.specs.Messages.{HasLockForm}
-use Rattle.side_wire.specs.Nlm.{IsNetobj}
-use Rattle.nfs_machine.specs.LockLaws.{AllHeldUp, NoConflict}
+use Rattle.nfs_machine.specs.FileLists.{of_file, with_list}
+use Rattle.nfs_machine.specs.LocksFormed.{NoConflict, NoLocksConflict, NoSharesConflict}
 use Rattle.nfs_machine.specs.Answers.{state_after}
 use Rattle.nfs_machine.specs.Attributes.{entries_of, is_directory, links_of}
 use Rattle.nfs_machine.specs.Bytes.{same_bytes}
 use Rattle.nfs_machine.specs.Checks.{◌>>=◌, holding, object_of, entries_in, bytes_in, plain_name_checked, changeable, permitted, entry_of}
 use Rattle.nfs_machine.specs.Data.{size_limit, resized, written}
 use Rattle.nfs_machine.specs.DataSteps.{write_count, write_object}
-use Rattle.nfs_machine.specs.Grants.{IsHeldUp}
+use Rattle.nfs_machine.specs.Grants.{AllHeldUp, FileWaits, IsHeldUp}
 use Rattle.nfs_machine.specs.Laws.{GivesOnce, KeepsCookies, KeepsEntries, KeepsExports, LivesAs}
 use Rattle.nfs_machine.specs.Making.{Fresh, End, Known, Chosen, EndsAs, Wanted, given_attributes, make_end, make_new, new_object, with_entry, kind_checked}
 use Rattle.nfs_machine.specs.NameSteps.{create_existing, create_over, wanted_file}
@@ -34,7 +37,7 @@ use Rattle.nfs_machine.specs.SideLaws.{LocksFit, OwnersFit}
 use Rattle.nfs_machine.specs.State.{Regular, Directory, Link, Entry, Living, Lock, Request, Share, State, Content}
 use Rattle.nfs_machine.specs.TimeLaws.{TouchesOnce}
 use Rattle.nfs_machine.specs.Times.{time_of, touch}
-use Rattle.nfs_machine.specs.WellFormed.{WellFormed}
+use Rattle.nfs_machine.specs.WellFormed.{MountsFormed, TextsFit, WellFormed}
 use Rattle.nfs_machine.specs.declared.context.Ctx.{Ctx}
 use Rattle.nfs_machine.proofs.Changes.{differs-insert, differs-other, differs-there}
 use Rattle.nfs_machine.proofs.Continued.{Continues, Turns, kinds-continued, continues-itself, continues-over}
@@ -44,16 +47,18 @@ use Rattle.nfs_machine.proofs.Cookies.{kept-added, kept-of, kept-same}
 use Rattle.nfs_machine.proofs.Counted.{Counts, counts-kept}
 use Rattle.nfs_machine.proofs.Entered.{MakesEntry, names_of-kept, well_formed-made}
 use Rattle.nfs_machine.proofs.Facts.{chained-is, is-directory, is-regular, resolved-lives, write_end}
-use Rattle.nfs_machine.proofs.Loose.{well_formed-alike}
-use Rattle.nfs_machine.proofs.Modes.{all-left, apart-but, but, mode-but, mode-gone, shares-left}
+use Rattle.nfs_machine.proofs.FileMaps.{each-with, of-other, of-with}
+use Rattle.nfs_machine.proofs.Firm.{FilesOn, Firm, firm-losing, firm-of, firm-on, formed-of, put-directory, put-new}
+use Rattle.nfs_machine.proofs.Firm.{put-over}
+use Rattle.nfs_machine.proofs.Loose.{Beside, well_formed-alike}
 use Rattle.nfs_machine.proofs.Texts.{texts-put}
-use Rattle.nfs_machine.proofs.Waiting.{held-still}
 use Rattle.nfs_machine.proofs.WellFormed.{KeepsNames, replaced-alike, replaced-names}
 
--- no two owners conflict, and requests that wait go on to conflict with what is held
+-- no two owners conflict, requests that wait go on to conflict with what is held, and the rest is as in every state
 pub record LocksFollow (old new : State) : Type 0 where
   pub apart : NoConflict old → NoConflict new
   pub waits : AllHeldUp old → AllHeldUp new
+  pub firm : Firm old → Firm new
 
 -- of a call at this time
 pub record Follows (now : Time) (old new : State) : Type 0 where
@@ -68,32 +73,78 @@ pub record Follows (now : Time) (old new : State) : Type 0 where
   pub mounts : new.mounts ≡ old.mounts
   pub bounds : LocksFit old → LocksFit new
 
--- an object that loses a name, and with its last its locks
-pub locks-losing : (m : State) (names : ℕ) (now : Time) (number : ℕ) (o : Living) → LocksFollow m (losing_name m names now number o)
-locks-losing m names now number o =
-    elim (nat_le names 1) as (λ b. LocksFollow m (cond b (without_object m number) (with_object m number (touched o now)))) [
-      | true ↦ record {
-        apart = λ h. (apart-but number m.locks h.0, shares-left (λ (s : Share). not (s.file == number)) m.shares h.1);
-        waits = λ h. all-left (IsHeldUp m.locks) (IsHeldUp (but number m.locks)) (λ (r : Request). not (r.file == number)) m.waiting
-            (λ r e held. held-still m.locks (but number m.locks) r (λ owner offset. mode-but number m.locks r.file owner offset (not-true (r.file == number) e)) held) h;
-      }
-      | false ↦ record { apart = λ h. h; waits = λ h. h }
-    ]
+pub locks-themselves : (m : State) → LocksFollow m m
+locks-themselves m = record { apart = λ h. h; waits = λ h. h; firm = λ f. f }
 
--- its owners have nothing else
-owners-but : (number : ℕ) (locks : List Lock) → OwnersFit locks → OwnersFit (but number locks)
-owners-but number locks fit file owner offset has =
-    elim (file == number) as (λ b. (file == number) ≡ b → IsNetobj owner.owner) [
-      | true ↦ λ e. absurd (has (mode-gone number locks file owner offset e))
-      | false ↦ λ e. fit file owner offset (λ none. has (mode-but number locks file owner offset e ∙ none))
+-- where files live on
+pub locks-on : (m : State) (objects : FinMap nat_cmp Living) (spent : ℕ → ℕ → Bool) →
+    FilesOn m.objects objects
+    → LocksFollow m (record m { objects = objects; spent = spent })
+locks-on m objects spent on = record
+    { apart = λ h. h; waits = λ h. h; firm = λ f. firm-on m f objects on spent m.mounts }
+
+-- what is true of every state beside names
+pub beside-follows : (old new : State) → TextsFit new → LocksFollow old new → new.mounts ≡ old.mounts →
+    WellFormed old
+    → Beside new
+beside-follows old new texts locks mounts w = record {
+  texts = texts;
+  locks = formed-of new (locks.firm (firm-of old w.locks)) (locks.apart w.locks.apart) (locks.waits w.locks.held_up);
+  mounts = subst MountsFormed (sym mounts) w.mounts;
+}
+
+-- what a file has goes: what waits for others is held up as before
+waits-gone : (m : State) (number : ℕ) → AllHeldUp m → AllHeldUp (without_object m number)
+waits-gone m number held q =
+    elim (q == number) as (λ b. (q == number) ≡ b → FileWaits (without_object m number) q) [
+      | true ↦ λ e.
+          let none : of_file (with_list m.waiting number []) q ≡ [] =
+          of-with m.waiting number [] q ∙ ap (λ b. cond b [] (of_file m.waiting q)) e in
+          subst (AllByRecursion (IsHeldUp (of_file (with_list m.locks number []) q))) (sym none) tt
+      | false ↦ λ e.
+          subst (λ (locks : List Lock). AllByRecursion (IsHeldUp locks) (of_file (with_list m.waiting number []) q))
+          (sym (of-other m.locks number [] q e))
+          (subst (AllByRecursion (IsHeldUp (of_file m.locks q))) (sym (of-other m.waiting number [] q e)) (held q))
     ] refl
 
-pub bounds-losing : (m : State) (names : ℕ) (now : Time) (number : ℕ) (o : Living) → LocksFit m → LocksFit (losing_name m names now number o)
+apart-gone : (m : State) (number : ℕ) → NoConflict m → NoConflict (without_object m number)
+apart-gone m number h q = (
+  each-with m.locks number [] (λ n (l : List Lock). NoLocksConflict l) (λ a b offset e. refl) (λ n. (h n).0) q,
+  each-with m.shares number [] (λ n (l : List Share). NoSharesConflict l) tt (λ n. (h n).1) q,
+)
+
+-- an object that loses a name, and with its last its locks, while others change
+pub locks-losing : (m : State) (objects : FinMap nat_cmp Living) → FilesOn m.objects objects →
+    (names : ℕ) (now : Time)
+    (number : ℕ) (o : Living) → get m.objects number ≡ Some o
+    → LocksFollow m (losing_name (record m { objects = objects }) names now number o)
+locks-losing m objects on names now number o at =
+    let mid : State = record m { objects = objects } in record {
+      apart = λ h.
+          elim (nat_le names 1) as
+          (λ b. NoConflict (cond b (without_object mid number) (with_object mid number (touched o now)))) [
+            | true ↦ apart-gone mid number h
+            | false ↦ h
+          ];
+      waits = λ h.
+          elim (nat_le names 1) as
+          (λ b. AllHeldUp (cond b (without_object mid number) (with_object mid number (touched o now)))) [
+            | true ↦ waits-gone mid number h
+            | false ↦ h
+          ];
+      firm = λ f. firm-losing m f objects on names now number o at;
+    }
+
+pub bounds-losing : (m : State) (names : ℕ) (now : Time) (number : ℕ) (o : Living) → LocksFit m
+    → LocksFit (losing_name m names now number o)
 bounds-losing m names now number o fit =
     elim (nat_le names 1) as (λ b. LocksFit (cond b (without_object m number) (with_object m number (touched o now)))) [
-      | true ↦ (
-        owners-but number m.locks fit.0,
-        all-left (λ (r : Request). HasLockForm r.asked) (λ (r : Request). HasLockForm r.asked) (λ (r : Request). not (r.file == number)) m.waiting (λ r e h. h) fit.1,
+      | true ↦ λ q. (
+        each-with m.locks number [] (λ n (l : List Lock). OwnersFit l) (λ owner offset has. absurd (has refl))
+            (λ n. (fit n).0) q,
+        each-with m.waiting number []
+            (λ n (l : List Request). AllByRecursion (λ (r : Request). HasLockForm r.asked) l) tt
+            (λ n. (fit n).1) q,
       )
       | false ↦ fit
     ]
@@ -119,7 +170,7 @@ follows-itself now m =
       cookies = cookies-continued now m m (continues-itself now m);
       formed = λ w. w;
       counts = λ w. counts-kept now m m (continues-itself now m) (λ n. refl);
-      locks = record { apart = λ h. h; waits = λ h. h };
+      locks = locks-themselves m;
       exports = record { exports = refl; last = refl };
       mounts = refl;
       bounds = λ h. h;
@@ -138,19 +189,23 @@ of-ok P (Err e) x is all = cc
 pub record Alters (now : Time) (was is : Living) : Type 0 where
   pub keeps : KeepsNames was is
   pub turns : Turns now was is
+  pub regular : is_ok (bytes_in was.content) ≡ true → is_ok (bytes_in is.content) ≡ true
 
 pub follows-altered : (now : Time) (m : State) (number : ℕ) (was is : Living) → get m.objects number ≡ Some was → Alters now was is → Follows now m (with_object m number is)
 follows-altered now m number was is lives alters =
-    let c = continues-over now m m (continues-itself now m) number was lives is alters.turns in record {
+    let c = continues-over now m m (continues-itself now m) number was lives is alters.turns in
+    let locks = locks-on m (insert m.objects number is) m.spent
+    (put-over m.objects m.objects (λ n file. file) number was is lives alters.regular) in record {
       gives = gives-continued now m (with_object m number is) c;
       touches = touches-continued now m (with_object m number is) c;
       cookies = cookies-continued now m (with_object m number is) c;
       formed = λ w.
           well_formed-alike m (with_object m number is) (replaced-alike m number was is lives alters.keeps)
           (replaced-names m number was is lives alters.keeps) (λ n g e. e) (record { exports = refl; last = refl })
-          (texts-continued now m (with_object m number is) c w.texts) w;
+          (beside-follows m (with_object m number is)
+          (texts-continued now m (with_object m number is) c w.texts) locks refl w) w;
       counts = λ w. counts-kept now m (with_object m number is) c (replaced-names m number was is lives alters.keeps);
-      locks = record { apart = λ h. h; waits = λ h. h };
+      locks = locks;
       exports = record { exports = refl; last = refl };
       mounts = refl;
       bounds = λ h. h;
@@ -170,6 +225,7 @@ alters-regular o now bytes plain = record {
     changed = refl;
     entries = λ name e f before after number. cc;
   };
+  regular = λ e. refl;
 }
 
 module _ (m : State) (ctx : Ctx) where
@@ -308,10 +364,18 @@ module _ (m : State) (ctx : Ctx) where
         keeps = record { exports = refl; last = refl };
       }
 
+      locks : LocksFollow m new
+      locks = locks-on m new.objects fresh.spent
+          (put-new m.objects (insert m.objects number wider)
+          (put-directory m.objects m.objects (λ n file. file) number directory wider entries last lives content)
+          fresh.number o fresh.free)
+
       formed : WellFormed m → WellFormed new
       formed w =
           well_formed-made m new number fresh.number directory wider o name (makes w) w
+          (beside-follows m new
           (texts-put (with_object m number wider) fresh.number o (texts-continued (time_of ctx.moment) m (with_object m number wider) wide w.texts) text)
+          locks refl w)
 
       counts : WellFormed m → Counts (time_of ctx.moment) m new
       counts w = record {
@@ -333,7 +397,7 @@ module _ (m : State) (ctx : Ctx) where
         cookies = cookies;
         formed = formed;
         counts = counts;
-        locks = record { apart = λ h. h; waits = λ h. h };
+        locks = locks;
         exports = record { exports = refl; last = refl };
         mounts = refl;
         bounds = λ h. h;

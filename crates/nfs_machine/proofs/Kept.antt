@@ -1,8 +1,9 @@
 -- What each step keeps, and so each run: a handle is given once, and what is true of every state stays true.
-use Rattle.std.proofs.Common.{◌≡◌, ℕ, ◌+◌, ◌≤◌, ◌^◌, Bool, true, false, not, ◌||◌, cond, List}
-use Rattle.std.proofs.Common.{[], ◌∷◌, ◌++◌, Option, Some, None, Result, Ok, Err, IfOk, filter, nat_lt, inl}
-use Rattle.std.proofs.Common.{inr, refl, sym, ◌∙◌, subst, arith, ◌==◌, ap}
-use Rattle.std.specs.FinMap.{FinMap, get}
+use Rattle.std.proofs.Common.{◌≡◌, ℕ, ◌+◌, ◌≤◌, ◌^◌, Bool, true, false, not, ◌||◌, cond}
+use Rattle.std.proofs.Common.{List, [], ◌∷◌, ◌++◌, Option, Some, None, Result, Ok, Err, IfOk, filter}
+use Rattle.std.proofs.Common.{nat_lt, inl, inr, refl, sym, ◌∙◌, ap, subst, arith, ◌==◌}
+use Rattle.std.specs.FinMap.{FinMap, get, values}
+use Rattle.std.specs.List.{sum_by}
 use Rattle.std.specs.Ordering.{nat_cmp}
 use Rattle.nfs_wire.specs.declared.attributes.Time.{Time}
 use Rattle.nfs_wire.specs.declared.calls.NfsCall.{NfsCall}
@@ -27,14 +28,15 @@ use Rattle.std.specs.Cmp.{unsigned_Decides}
 use Rattle.nfs_machine.specs.Resolve.{resolve}
 use Rattle.nfs_machine.specs.Permission.{Changing}
 use Rattle.nfs_machine.specs.Answers.{Answers, state_after}
-use Rattle.nfs_machine.specs.Attributes.{links_of, names_of, is_directory}
+use Rattle.nfs_machine.specs.Attributes.{links_of, names_in, names_of, is_directory}
 use Rattle.nfs_machine.specs.Chains.{Chain, Transition}
 use Rattle.nfs_machine.specs.Checks.{holding, link_limit, ◌>>=◌, object_of, entries_in, entry_of, changeable, permitted, plain_name_checked}
 use Rattle.nfs_machine.specs.Laws.{GivesOnce, KeepsCookies, KeepsExports, LivesAs, NeverGivenAgain, ChainsKeepForm}
 use Rattle.nfs_machine.specs.Laws.{StepsGiveOnce, StepsKeepCookies, StepsKeepExports, StepsKeepForm}
 use Rattle.nfs_machine.specs.LinkSteps.{link_end}
+use Rattle.nfs_machine.specs.Grants.{AllHeldUp}
 use Rattle.nfs_machine.specs.LockLaws.{ChainsKeepApart, ChainsKeepWaiting, StepsKeepApart, StepsKeepWaiting}
-use Rattle.nfs_machine.specs.LockLaws.{AllHeldUp, NoConflict}
+use Rattle.nfs_machine.specs.LocksFormed.{NoConflict}
 use Rattle.nfs_machine.specs.MakeSteps.{wanted_special}
 use Rattle.nfs_machine.specs.Making.{End, MakeStep, Wanted, make_end}
 use Rattle.nfs_machine.specs.MountSteps.{MntAnswers, MountStep, is_mounted, is_of, newest, with_mount, without_mounts}
@@ -48,27 +50,30 @@ use Rattle.nfs_machine.specs.State.{Directory, Living, State, Entry}
 use Rattle.nfs_machine.specs.Step.{Step}
 use Rattle.nfs_machine.specs.TimeLaws.{StepsShowChanges, StepsTouchOnce, TouchesOnce}
 use Rattle.nfs_machine.specs.Times.{time_of}
-use Rattle.nfs_machine.specs.WellFormed.{WellFormed}
+use Rattle.nfs_machine.specs.WellFormed.{MountsFormed, TextsFit, WellFormed}
 use Rattle.nfs_machine.specs.declared.calls.Call.{Call}
 use Rattle.nfs_machine.specs.declared.calls.Call.TheVariants as calls
 use Rattle.nfs_machine.specs.declared.calls.Reply.{Reply}
 use Rattle.nfs_machine.specs.declared.calls.Reply.TheVariants as replies
 use Rattle.nfs_machine.specs.declared.context.Ctx.{Ctx}
-use Rattle.nfs_machine.proofs.Continued.{cookies-continued, gives-continued, touches-continued}
+use Rattle.nfs_machine.proofs.Continued.{Continues, cookies-continued, gives-continued, texts-continued}
+use Rattle.nfs_machine.proofs.Continued.{touches-continued}
 use Rattle.nfs_machine.proofs.Counted.{Counts, counts-kept, shows-changes}
 use Rattle.nfs_machine.proofs.Facts.{chained-is, holds, is-directory, leads-found, resolved-lives, setattr_end, write_end}
-use Rattle.nfs_machine.proofs.Follows.{EndFollows, Follows, LocksFollow, Plain, bounds-losing, ends-follow}
-use Rattle.nfs_machine.proofs.Follows.{exports-losing, follows-after, follows-itself, locks-losing, make-follows}
-use Rattle.nfs_machine.proofs.Follows.{mounts-losing, write-follows, file-plain, existing-follows}
-use Rattle.nfs_machine.proofs.Locking.{nlm-touches}
-use Rattle.nfs_machine.proofs.Loose.{well_formed-alike}
+use Rattle.nfs_machine.proofs.Follows.{EndFollows, Follows, LocksFollow, Plain, beside-follows, bounds-losing}
+use Rattle.nfs_machine.proofs.Follows.{ends-follow, exports-losing, follows-after, follows-itself, locks-losing, locks-on}
+use Rattle.nfs_machine.proofs.Follows.{make-follows, mounts-losing, write-follows, file-plain, existing-follows}
+use Rattle.nfs_machine.proofs.Firm.{FilesOn, firm-of, firm-on, formed-of, put-directory, put-over}
+use Rattle.nfs_machine.proofs.Locking.{Untouched, nlm-touches}
+use Rattle.nfs_machine.proofs.Loose.{Beside, well_formed-alike}
+use Rattle.nfs_machine.proofs.Mounted.{mounts-added, mounts-left}
 use Rattle.nfs_machine.proofs.Moves.{GoesIntoItself, Move, named_as, remove_end, rmdir_end, with_moved, with_names_moved, without_replaced}
 use Rattle.nfs_machine.proofs.Planned.{IsBegun, IsMove, continues-moved, moves-free, moves-over}
 use Rattle.nfs_machine.proofs.Renamed.{counts-moved, well_formed-moved}
 use Rattle.nfs_machine.proofs.Setting.{setattr-follows}
-use Rattle.nfs_machine.proofs.Taken.{link-follows, remove-follows, rmdir-follows, is-under}
+use Rattle.nfs_machine.proofs.Taken.{link-follows, remove-follows, rmdir-follows, is-under, under-entry}
 use Rattle.nfs_machine.proofs.Waiting.{nlm-waits}
-use Rattle.nfs_machine.proofs.WellFormed.{alike_itself}
+use Rattle.nfs_machine.proofs.WellFormed.{Alike, alike_itself}
 use Rattle.nfs_machine.specs.Bytes.{same_bytes}
 use Rattle.side_wire.specs.declared.mount.lists.MountBody.{MountBody}
 
@@ -99,12 +104,29 @@ directory-plain last is = (let same : 2 ≡ last = cc in omega (arith, same))
 
 -- a RENAME
 module _ (old : State) (ctx : Ctx) where
-  moved-locks : (now : Time) (move : Move) (replaced : Option (ℕ × Living))
+  -- where both directories and the object change, files live on
+  moved-on : (now : Time) (move : Move) → IsMove old move
+      → FilesOn old.objects
+      (with_object (with_names_moved old now move) move.from.number (touched move.from.object now)).objects
+  moved-on now move is =
+      put-over old.objects _ (put-directory old.objects _
+      (put-directory old.objects old.objects (λ k file. file) move.from.place move.from.directory _ move.from.entries
+      move.from.last_cookie is.from.lives is.from.content)
+      move.target move.directory _ move.entries move.last_cookie is.lives is.content)
+      move.from.number move.from.object (touched move.from.object now) is.from.object (λ e. e)
+
+  moved-locks : (now : Time) (move : Move) → IsMove old move → (replaced : Option (ℕ × Living)) →
+      move.replaced ≡ replaced
       → LocksFollow old (without_replaced old (with_object (with_names_moved old now move) move.from.number (touched move.from.object now)) now replaced)
-  moved-locks now move None = record { apart = λ h. h; waits = λ h. h }
-  moved-locks now move (Some o) =
-      let l = locks-losing (with_object (with_names_moved old now move) move.from.number (touched move.from.object now)) (names_of old o.0) now o.0 o.1 in
-      record { apart = l.apart; waits = l.waits }
+  moved-locks now move is None e =
+      locks-on old (with_object (with_names_moved old now move) move.from.number (touched move.from.object now)).objects
+      old.spent
+      (moved-on now move is)
+  moved-locks now move is (Some o) e =
+      locks-losing old (with_object (with_names_moved old now move) move.from.number
+      (touched move.from.object now)).objects
+      (moved-on now move is) (names_of old o.0) now o.0 o.1
+      (under-entry old (entry_of move.entries move.name) o (sym is.over ∙ e)).3
 
   moved-exports : (now : Time) (move : Move) (replaced : Option (ℕ × Living))
       → KeepsExports old (without_replaced old
@@ -131,9 +153,11 @@ module _ (old : State) (ctx : Ctx) where
     gives = gives-continued now old (with_moved old now move) (continues-moved old now move is);
     touches = touches-continued now old (with_moved old now move) (continues-moved old now move is);
     cookies = cookies-continued now old (with_moved old now move) (continues-moved old now move is);
-    formed = λ w. well_formed-moved old now move is w out;
+    formed = λ w. well_formed-moved old now move is w out (beside-follows old (with_moved old now move)
+        (texts-continued now old (with_moved old now move) (continues-moved old now move is) w.texts)
+        (moved-locks now move is move.replaced refl) (moved-mounts now move move.replaced) w);
     counts = λ w. counts-moved old now move is w out;
-    locks = moved-locks now move move.replaced;
+    locks = moved-locks now move is move.replaced refl;
     exports = moved-exports now move move.replaced;
     mounts = moved-mounts now move move.replaced;
     bounds = moved-bounds now move move.replaced;
@@ -265,28 +289,42 @@ unchanged : (now : Time) (old new : State) → new ≡ old → Keeps now old new
 unchanged now old new same = keeps now old new (stays now old new same)
 
 -- MOUNT leaves the objects as they are
-with-mounts : (now : Time) (m : State) (mounts : List MountBody) → Keeps now m (record m { mounts = mounts })
-with-mounts now m mounts = record {
+with-mounts : (now : Time) (m : State) (mounts : List MountBody) → (MountsFormed m.mounts → MountsFormed mounts)
+    → Keeps now m (record m { mounts = mounts })
+with-mounts now m mounts formed = record {
   gives = gives-continued now m (record m { mounts = mounts }) (record { kept = λ n g e. e; lived = λ n o at. (o, at, inl refl) });
   touches = touches-continued now m (record m { mounts = mounts }) (record { kept = λ n g e. e; lived = λ n o at. (o, at, inl refl) });
   cookies = cookies-continued now m (record m { mounts = mounts }) (record { kept = λ n g e. e; lived = λ n o at. (o, at, inl refl) });
-  formed = λ w. well_formed-alike m (record m { mounts = mounts }) (λ n. alike_itself (get m.objects n)) (λ n. refl)
-      (λ n g e. e) (record { exports = refl; last = refl }) w.texts w;
+  formed = λ w.
+      let firm = firm-on m (firm-of m w.locks) m.objects (λ n file. file) m.spent mounts in
+      well_formed-alike m (record m { mounts = mounts }) (λ n. alike_itself (get m.objects n)) (λ n. refl)
+      (λ n g e. e) (record { exports = refl; last = refl }) (record {
+        texts = w.texts;
+        locks = formed-of (record m { mounts = mounts }) firm w.locks.apart w.locks.held_up;
+        mounts = formed w.mounts;
+      }) w;
   counts = λ w. counts-kept now m (record m { mounts = mounts })
       (record { kept = λ n g e. e; lived = λ n o at. (o, at, inl refl) }) (λ n. refl);
-  locks = record { apart = λ h. h; waits = λ h. h };
+  locks = record {
+    apart = λ h. h;
+    waits = λ h. h;
+    firm = λ f. firm-on m f m.objects (λ n file. file) m.spent mounts;
+  };
   exports = record { exports = refl; last = refl };
 }
 
 mounted : (now : Time) (m : State) (x : MountBody) → Keeps now m (with_mount m x)
 mounted now m x =
-    elim (is_mounted m.mounts x) as (λ b. Keeps now m (cond b m (record m { mounts = newest (m.mounts ++ x ∷ []) }))) [
-      | true ↦ keeps now m m (follows-itself now m)
-      | false ↦ with-mounts now m (newest (m.mounts ++ x ∷ []))
-    ]
+    elim (is_mounted m.mounts x) as (λ b. is_mounted m.mounts x ≡ b
+    → Keeps now m (cond b m (record m { mounts = newest (m.mounts ++ x ∷ []) }))) [
+      | true ↦ λ e. keeps now m m (follows-itself now m)
+      | false ↦ λ e. with-mounts now m (newest (m.mounts ++ x ∷ [])) (mounts-added m.mounts x e)
+    ] refl
 
 unmounted : (now : Time) (m : State) (goes : MountBody → Bool) → Keeps now m (without_mounts m goes)
-unmounted now m goes = with-mounts now m (filter (λ (x : MountBody). not (goes x)) m.mounts)
+unmounted now m goes =
+    with-mounts now m (filter (λ (x : MountBody). not (goes x)) m.mounts)
+    (mounts-left (λ (x : MountBody). not (goes x)) m.mounts)
 
 mnt : (old : State) (ctx : Ctx) (path : List ℕ) (result : Result (List ℕ) MountStatus) (new : State) → MntAnswers old ctx path result new → Keeps (time_of ctx.moment) old new
 mnt old ctx path (Ok handle) new (found, target, is, same) = subst (Keeps (time_of ctx.moment) old) (sym same) (mounted (time_of ctx.moment) old (record { hostname = ctx.host; directory = path }))
@@ -302,30 +340,46 @@ mount-keeps old ctx mount.UnmountAll reply messages new step = subst (Keeps (tim
 mount-keeps old ctx mount.Export reply messages new step = unchanged (time_of ctx.moment) old new step.state_is
 
 -- so does NLM
-untouched : (now : Time) (old new : State) → new.objects ≡ old.objects → new.spent ≡ old.spent →
-    KeepsExports old new → (NoConflict old → NoConflict new) → (AllHeldUp old → AllHeldUp new) →
+untouched : (now : Time) (old new : State) → Untouched old new → (AllHeldUp old → AllHeldUp new) →
     Keeps now old new
-untouched now old new objects spent exports apart waits =
-    subst (λ (x : FinMap nat_cmp Living). Keeps now old (record new { objects = x })) (sym objects)
-    (subst (λ (x : ℕ → ℕ → Bool). Keeps now old (record new { objects = old.objects; spent = x })) (sym spent) (record {
-      gives = gives-continued now old (record new { objects = old.objects; spent = old.spent }) (record { kept = λ n g e. e; lived = λ n o at. (o, at, inl refl) });
-      touches = touches-continued now old (record new { objects = old.objects; spent = old.spent }) (record { kept = λ n g e. e; lived = λ n o at. (o, at, inl refl) });
-      cookies = cookies-continued now old (record new { objects = old.objects; spent = old.spent }) (record { kept = λ n g e. e; lived = λ n o at. (o, at, inl refl) });
-      formed = λ w. well_formed-alike old (record new { objects = old.objects; spent = old.spent })
-          (λ n. alike_itself (get old.objects n)) (λ n. refl) (λ n g e. e)
-          (record { exports = exports.exports; last = exports.last }) w.texts w;
-      counts = λ w. counts-kept now old (record new { objects = old.objects; spent = old.spent })
-          (record { kept = λ n g e. e; lived = λ n o at. (o, at, inl refl) }) (λ n. refl);
-      locks = record { apart = apart; waits = waits };
-      exports = record { exports = exports.exports; last = exports.last };
-    }))
+untouched now old new same waits = of same.objects same.spent (λ w. record {
+  texts = subst (λ (x : FinMap nat_cmp Living). TextsFit (record new { objects = x })) (sym same.objects) w.texts;
+  locks = formed-of new (same.firm (firm-of old w.locks)) (same.apart w.locks.apart) (waits w.locks.held_up);
+  mounts = subst MountsFormed (sym same.mounts) w.mounts;
+})
+  where
+    of : new.objects ≡ old.objects → new.spent ≡ old.spent → (WellFormed old → Beside new) →
+        Keeps now old new
+    of objects spent beside = record {
+      gives = gives-continued now old new continues;
+      touches = touches-continued now old new continues;
+      cookies = cookies-continued now old new continues;
+      formed = λ w. well_formed-alike old new (λ n. alike n) names spent-on same.exports (beside w) w;
+      counts = λ w. counts-kept now old new continues names;
+      locks = record { apart = same.apart; waits = waits; firm = same.firm };
+      exports = same.exports;
+    }
+      where
+        spent-on : (n g : ℕ) → old.spent n g ≡ true → new.spent n g ≡ true
+        spent-on n g e = ap (λ (x : ℕ → ℕ → Bool). x n g) spent ∙ e
+
+        continues : Continues now old new
+        continues = record {
+          kept = spent-on;
+          lived = λ n o at. (o, ap (λ (x : FinMap nat_cmp Living). get x n) (sym objects) ∙ at, inl refl);
+        }
+
+        alike : (n : ℕ) → Alike (get old.objects n) (get new.objects n)
+        alike n = subst (λ (x : FinMap nat_cmp Living). Alike (get old.objects n) (get x n)) (sym objects)
+            (alike_itself (get old.objects n))
+
+        names : (n : ℕ) → names_of new n ≡ names_of old n
+        names n = ap (λ (x : FinMap nat_cmp Living). sum_by (names_in n) (values x)) objects
 
 nlm-keeps : (old : State) (ctx : Ctx) (call : NlmCall) (reply : NlmReply) (messages : List Message) (new : State) → NlmStep old ctx call reply messages new → Keeps (time_of ctx.moment) old new
 nlm-keeps old ctx call reply messages new step =
-    (let same = nlm-touches old ctx call reply messages new step in untouched
-    (time_of ctx.moment) old new same.objects same.spent
-    (record { exports = ap (λ k. k.1) same.mounts; last = ap (λ k. k.2) same.mounts }) same.apart
-    (nlm-waits old ctx call reply messages new step))
+    untouched (time_of ctx.moment) old new (nlm-touches old ctx call reply messages new step)
+    (nlm-waits old ctx call reply messages new step)
 
 step-keeps : (old : State) (ctx : Ctx) (call : Call) (reply : Reply) (messages : List Message) (new : State) → Step old ctx call reply messages new → Keeps (time_of ctx.moment) old new
 step-keeps old ctx (calls.Nfs call) (replies.Nfs reply) messages new step = keeps (time_of ctx.moment) old new (nfs-follows old ctx call reply messages new step)

@@ -10,6 +10,8 @@ pub mod Exported
 mod ExportsWorked
 pub mod Facts
 mod Faults
+pub mod FileMaps
+pub mod Firm
 pub mod Follows
 mod Handles
 pub mod Kept
@@ -18,6 +20,7 @@ mod Listed
 mod Listing
 mod MakingWorked
 pub mod Modes
+mod Mounted
 pub mod Moves
 pub mod Opened
 pub mod Ordered

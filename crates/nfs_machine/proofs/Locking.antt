@@ -1,5 +1,10 @@
 -- NLM leaves the objects as they are, and lets no two owners conflict.
-use Rattle.std.proofs.Common.{◌≡◌, ℕ, Bool, true, false, not, List, [], ◌∷◌, ◌++◌, Option, Some, None, Result, Ok, Err, find, inl, inr, refl, sym, ◌∙◌, ap, subst}
+use Rattle.std.proofs.Common.{◌≡◌, ℕ, Bool, true, false, not, List, [], ◌∷◌, ◌++◌, Option, Some}
+use Rattle.std.proofs.Common.{None, Result, Ok, Err}
+use Rattle.std.proofs.Common.{IfOk, filter, unwrap_or, is_ok, if◌then◌else◌, inl, inr, refl, sym, ◌∙◌}
+use Rattle.std.proofs.Common.{ap, subst, ◌||◌}
+use Rattle.std.specs.FinMap.{get, remove}
+use Rattle.std.specs.Int.{w64, from_be_bytes}
 use Rattle.std.specs.List.{list_any}
 use Rattle.side_wire.specs.declared.message.Message.{Message}
 use Rattle.side_wire.specs.declared.nlm.CancelArguments.{CancelArguments}
@@ -11,19 +16,34 @@ use Rattle.side_wire.specs.declared.nlm.NlmShare.{NlmShare}
 use Rattle.side_wire.specs.declared.nlm.NlmStatus.{NlmStatus}
 use Rattle.side_wire.specs.declared.nlm.NlmStatus.TheVariants as status
 use Rattle.side_wire.specs.declared.nlm.ShareMode.TheVariants as mode
+use Rattle.side_wire.specs.declared.nlm.TestArguments.{TestArguments}
 use Rattle.side_wire.specs.declared.nlm.TestStatus.{TestStatus}
 use Rattle.side_wire.specs.declared.mount.lists.MountBody.{MountBody}
 use Rattle.nfs_machine.specs.Exports.{LivingExport}
-use Rattle.nfs_machine.specs.LockLaws.{NoConflict}
-use Rattle.nfs_machine.specs.Grants.{ChangesLocks, Grants, SettleInOrder, Settles, requested}
+use Rattle.side_wire.specs.declared.nlm.UnlockArguments.{UnlockArguments}
 use Rattle.nfs_machine.specs.Bytes.{same_bytes}
-use Rattle.nfs_machine.specs.Locks.{Conflicts, Mode, denies, same_sharer, shares_conflict}
-use Rattle.nfs_machine.specs.LockSteps.{Fault, Frees, GrantEnds, HeldUp, file_checked, is_answered, is_request, range_checked, share_of, without}
+use Rattle.nfs_machine.specs.Checks.{◌>>=◌, bytes_in, holding, is_writable}
+use Rattle.nfs_machine.specs.FileLists.{all_but, of_file, with_list}
+use Rattle.nfs_machine.specs.Grants.{ChangesLocks, Grants, SettleInOrder, Settles, requested}
+use Rattle.nfs_machine.specs.Laws.{KeepsExports}
+use Rattle.nfs_machine.specs.Locks.{Conflicts, Lists, Mode, denies, fits_offsets, modes_without, range_of}
+use Rattle.nfs_machine.specs.Locks.{same_sharer, shares_conflict}
+use Rattle.nfs_machine.specs.LocksFormed.{IsFile, NoConflict, NoLocksConflict, NoSharesConflict}
+use Rattle.nfs_machine.specs.LockSteps.{Frees, GrantEnds, HeldUp, LockFault, NotRegular, RangeTooBig, ReadOnly}
+use Rattle.nfs_machine.specs.LockSteps.{StaleHandle}
+use Rattle.nfs_machine.specs.LockSteps.{file_checked, freed_with, is_answered, is_request, lock_checked, share_of}
 use Rattle.nfs_machine.specs.NlmSteps.{NlmStep}
-use Rattle.nfs_machine.specs.State.{Request, Share, State, Range}
+use Rattle.nfs_machine.specs.Resolve.{BadHandle, Names, Resolved, Stale, resolve}
+use Rattle.nfs_machine.specs.State.{Living, Lock, PendingGrant, Range, Request, Share, State}
 use Rattle.nfs_machine.specs.declared.context.Ctx.{Ctx}
-use Rattle.nfs_machine.proofs.Checked.{CancelOf, LockOf, ShareOf, Shares, TestOf, UnlockOf, UnshareOf, freed_of}
+use Rattle.nfs_machine.proofs.Checked.{CancelOf, Cancels, LockOf, ShareOf, Shares, TestOf, UnlockOf, UnshareOf}
+use Rattle.nfs_machine.proofs.Checked.{found-pending}
+use Rattle.nfs_machine.proofs.FileMaps.{each-relisted, each-with, get-relisted, kept-is, remade}
+use Rattle.nfs_machine.proofs.Firm.{Firm, firm-answered, firm-cancelled, firm-freed, firm-granted, firm-locks}
+use Rattle.nfs_machine.proofs.Firm.{firm-shares}
+use Rattle.nfs_machine.proofs.Firm.{firm-waits}
 use Rattle.nfs_machine.proofs.Modes.{apart-with, apart-without, shares-left, shares-with, unlocking-free}
+use Rattle.nfs_machine.proofs.Resolved.{resolved-lives}
 
 -- what stands beside objects and locks: the mounts and the exports
 abbrev pub beside : State → List MountBody × List LivingExport × ℕ
@@ -32,110 +52,317 @@ beside m = (m.mounts, m.exports, m.last_export)
 pub record Untouched (old new : State) : Type 0 where
   pub objects : new.objects ≡ old.objects
   pub spent : new.spent ≡ old.spent
-  pub mounts : beside new ≡ beside old
+  pub mounts : new.mounts ≡ old.mounts
+  pub exports : KeepsExports old new
   pub apart : NoConflict old → NoConflict new
+  pub firm : Firm old → Firm new
 
 same : (old new : State) → new ≡ old → Untouched old new
 same old new e = record {
   objects = ap (λ (m : State). m.objects) e;
   spent = ap (λ (m : State). m.spent) e;
-  mounts = ap beside e;
+  mounts = ap (λ (m : State). m.mounts) e;
+  exports = record { exports = ap (λ (m : State). m.exports) e; last = ap (λ (m : State). m.last_export) e };
   apart = λ h. subst NoConflict (sym e) h;
+  firm = λ h. subst Firm (sym e) h;
 }
 
-then : (a b c : State) → Untouched a b → Untouched b c → Untouched a c
-then a b c x y = record { objects = y.objects ∙ x.objects; spent = y.spent ∙ x.spent; mounts = y.mounts ∙ x.mounts; apart = λ h. y.apart (x.apart h) }
+joined : (a b c : State) → Untouched a b → Untouched b c → Untouched a c
+joined a b c x y = record {
+  objects = y.objects ∙ x.objects;
+  spent = y.spent ∙ x.spent;
+  mounts = y.mounts ∙ x.mounts;
+  exports = record
+      { exports = y.exports.exports ∙ x.exports.exports; last = y.exports.last ∙ x.exports.last };
+  apart = λ h. y.apart (x.apart h);
+  firm = λ h. y.firm (x.firm h);
+}
 
 -- from a state with the same objects
 from : (old after new : State) → after.objects ≡ old.objects → after.spent ≡ old.spent →
-    beside after ≡ beside old → (NoConflict old → NoConflict after) → new ≡ after → Untouched old new
-from old after new objects spent mounts apart e = then old after new (record { objects = objects; spent = spent; mounts = mounts; apart = apart }) (same after new e)
+    beside after ≡ beside old
+    → (NoConflict old → NoConflict after) → (Firm old → Firm after) → new ≡ after → Untouched old new
+from old after new objects spent kept apart firm e = joined old after new (record {
+  objects = objects;
+  spent = spent;
+  mounts = ap (λ k. k.0) kept;
+  exports = record { exports = ap (λ k. k.1) kept; last = ap (λ k. k.2) kept };
+  apart = apart;
+  firm = firm;
+}) (same after new e)
 
-granted : (old : State) (file : ℕ) (message : Message) (new : State) → Grants old file message new → Untouched old new
-granted old file message new g =
-    from old (record old { locks = g.locks; waiting = g.earlier ++ g.later; granted = old.granted ++ g.request ∷ [] }) new refl refl refl
-    (λ h. (apart-with old.locks (requested g.request) (Some g.request.exclusive) g.free g.locks g.lists h.0, h.1)) g.state_is
+-- what a call names is a living regular file
+pub checked-file : (old : State) (ctx : Ctx) (handle : List ℕ) (fits writes : Bool)
+    → IfOk (file_checked old ctx handle fits writes) (IsFile old.objects)
+checked-file old ctx handle fits writes = of (resolve old ctx handle) refl
+  where
+    regular : (number : ℕ) (o : Living) → get old.objects number ≡ Some o → (b : Bool) →
+        is_ok (bytes_in o.content) ≡ b
+        → IfOk (holding b NotRegular >>= λ _. holding fits RangeTooBig >>= λ _.
+        holding (not writes || is_writable old.exports o) ReadOnly >>= λ _. Ok number) (IsFile old.objects)
+    regular number o at false is = tt
+    regular number o at true is =
+        elim fits as (λ f. IfOk (holding f RangeTooBig >>= λ _.
+        holding (not writes || is_writable old.exports o) ReadOnly >>= λ _. Ok number) (IsFile old.objects)) [
+          | true ↦ elim (not writes || is_writable old.exports o) as (λ w. IfOk (holding w ReadOnly >>= λ _. Ok number)
+              (IsFile old.objects)) [
+                | true ↦ record { object = o; lives = at; regular = is }
+                | false ↦ tt
+              ]
+          | false ↦ tt
+        ]
 
-settled : (old : State) (file : ℕ) (messages : List Message) (new : State) → Settles old file messages new → Untouched old new
+    of : (r : Resolved) → resolve old ctx handle ≡ r
+        → IfOk (elim r as (λ r. Result ℕ LockFault) [
+          | Names number object ↦
+              holding (is_ok (bytes_in object.content)) NotRegular >>= λ _.
+              holding fits RangeTooBig >>= λ _.
+              holding (not writes || is_writable old.exports object) ReadOnly >>= λ _.
+              Ok number
+          | other ↦ Err StaleHandle
+        ]) (IsFile old.objects)
+    of BadHandle is = tt
+    of Stale is = tt
+    of (Names number o) is = regular number o (resolved-lives old ctx handle number o is)
+        (is_ok (bytes_in o.content)) refl
+
+-- one file's locks change, and conflict with nothing
+locks-apart : (old : State) (file : ℕ) (locks : List Lock) → NoLocksConflict locks → NoConflict old
+    → NoConflict (record old { locks = with_list old.locks file locks })
+locks-apart old file locks here h q =
+    (each-with old.locks file locks (λ n (l : List Lock). NoLocksConflict l) here (λ n. (h n).0) q, (h q).1)
+
+shares-apart : (old : State) (file : ℕ) (shares : List Share) → NoSharesConflict shares → NoConflict old
+    → NoConflict (record old { shares = with_list old.shares file shares })
+shares-apart old file shares here h q =
+    ((h q).0, each-with old.shares file shares (λ n (l : List Share). NoSharesConflict l) here (λ n. (h n).1) q)
+
+granted : (old : State) (file : ℕ) (message : Message) (new : State) → Grants old file message new →
+    Untouched old new
+granted old file message new g = record {
+  objects = ap (λ (m : State). m.objects) g.state_is;
+  spent = ap (λ (m : State). m.spent) g.state_is;
+  mounts = ap (λ (m : State). m.mounts) g.state_is;
+  exports = record
+      { exports = ap (λ (m : State). m.exports) g.state_is; last = ap (λ (m : State). m.last_export) g.state_is };
+  apart = λ h. subst NoConflict (sym g.state_is) (locks-apart old file g.locks
+      (apart-with (of_file old.locks file) (requested g.request) (Some g.request.exclusive) g.free g.locks g.lists
+      (h file).0) h);
+  firm = λ f. firm-granted old f file message new g;
+}
+
+settled : (old : State) (file : ℕ) (messages : List Message) (new : State) → Settles old file messages new →
+    Untouched old new
 settled old file [] new (held, e) = same old new e
-settled old file (message ∷ messages) new (mid, grants, rest) = then old mid new (granted old file message mid grants) (settled mid file messages new rest)
+settled old file (message ∷ messages) new (mid, grants, rest) =
+    joined old mid new (granted old file message mid grants) (settled mid file messages new rest)
 
-settled-all : (old : State) (files : List ℕ) (messages : List Message) (new : State) → SettleInOrder old files messages new → Untouched old new
+settled-all : (old : State) (files : List ℕ) (messages : List Message) (new : State) →
+    SettleInOrder old files messages new
+    → Untouched old new
 settled-all old [] messages new (held, none, e) = same old new e
-settled-all old (file ∷ files) messages new (rise, mid, first, more, are, settles, rest) = then old mid new (settled old file first mid settles) (settled-all mid files more new rest)
+settled-all old (file ∷ files) messages new (rise, mid, first, more, are, settles, rest) =
+    joined old mid new (settled old file first mid settles) (settled-all mid files more new rest)
 
-changed : (old : State) (r : Range) (mode : Mode) (messages : List Message) (new : State) → (Conflicts old.locks r mode → ⊥) → ChangesLocks old r mode messages new → Untouched old new
-changed old r mode messages new free c =
-    then old (record old { locks = c.0 }) new (record { objects = refl; spent = refl; mounts = refl; apart = λ h. (apart-with old.locks r mode free c.0 c.1 h.0, h.1) }) (settled (record old { locks = c.0 }) r.file messages new c.2)
+changed : (old : State) (file : ℕ) (r : Range) (mode : Mode) (messages : List Message) (new : State)
+    → (Firm old → IsFile old.objects file) → (Conflicts (of_file old.locks file) r mode → ⊥)
+    → ChangesLocks old file r mode messages new → Untouched old new
+changed old file r mode messages new living free c =
+    let mid : State = record old { locks = with_list old.locks file c.locks } in
+    joined old mid new (record {
+      objects = refl;
+      spent = refl;
+      mounts = refl;
+      exports = record { exports = refl; last = refl };
+      apart = λ h. locks-apart old file c.locks
+          (apart-with (of_file old.locks file) r mode free c.locks c.lists (h file).0) h;
+      firm = λ f. firm-locks old f file (living f) c.locks c.lists.once;
+    }) (settled mid file messages new c.settles)
 
-tested : (old : State) (exclusive : Bool) (r : Result Range Fault) (s : TestStatus) (messages : List Message) (new : State) → TestOf old exclusive r s messages new → Untouched old new
-tested old exclusive (Err fault) s messages new step = same old new step.state_is
-tested old exclusive (Ok r) s messages new step = same old new step.2
+tested : (old : State) (a : TestArguments) (checked : Result ℕ LockFault) (s : TestStatus) (messages : List Message)
+    (new : State) → TestOf old a checked s messages new → Untouched old new
+tested old a (Err fault) s messages new step = same old new step.state_is
+tested old a (Ok file) s messages new step = same old new step.2
 
-held-up : (old : State) (ctx : Ctx) (a : LockArguments) (by_message : Bool) (file : ℕ) (block waits : Bool) (s : NlmStatus) (messages : List Message) (new : State)
+held-up : (old : State) (ctx : Ctx) (a : LockArguments) (by_message : Bool) (file : ℕ) (block waits : Bool)
+    (s : NlmStatus)
+    (messages : List Message) (new : State) → IsFile old.objects file
     → HeldUp old ctx a by_message file block waits s messages new → Untouched old new
-held-up old ctx a by_message file false waits s messages new step = same old new step.state_is
-held-up old ctx a by_message file true true s messages new step = same old new step.state_is
-held-up old ctx a by_message file true false s messages new (inl waits) = from old _ new refl refl refl (λ h. h) waits.3.state_is
-held-up old ctx a by_message file true false s messages new (inr none) = same old new none.1.state_is
+held-up old ctx a by_message file false waits s messages new living step = same old new step.state_is
+held-up old ctx a by_message file true true s messages new living step = same old new step.state_is
+held-up old ctx a by_message file true false s messages new living (inl waits) =
+    let r : Request = record {
+      number = waits.number;
+      host = ctx.host;
+      exclusive = a.exclusive;
+      asked = a.lock;
+      by_message = by_message;
+    } in
+    from old _ new refl refl refl (λ h. h)
+    (λ f. firm-waits old f file living r waits.suits waits.unspent) waits.answers.state_is
+held-up old ctx a by_message file true false s messages new living (inr none) = same old new none.1.state_is
 
-locked : (old : State) (ctx : Ctx) (a : LockArguments) (by_message : Bool) (r : Result Range Fault) (s : NlmStatus) (messages : List Message) (new : State)
-    → LockOf old ctx a by_message r s messages new → Untouched old new
-locked old ctx a by_message (Err fault) s messages new step = same old new step.state_is
-locked old ctx a by_message (Ok r) s messages new (inl free) = changed old r (Some a.exclusive) messages new free.0 free.2
-locked old ctx a by_message (Ok r) s messages new (inr held) = held-up old ctx a by_message r.file a.block (list_any (is_request r a.exclusive a.lock) old.waiting) s messages new held.1
+locked : (old : State) (ctx : Ctx) (a : LockArguments) (by_message : Bool) (checked : Result ℕ LockFault)
+    (s : NlmStatus)
+    (messages : List Message) (new : State) → IfOk checked (IsFile old.objects)
+    → LockOf old ctx a by_message checked s messages new → Untouched old new
+locked old ctx a by_message (Err fault) s messages new living step = same old new step.state_is
+locked old ctx a by_message (Ok file) s messages new living (inl free) =
+    changed old file (range_of a.lock) (Some a.exclusive) messages new (λ f. living) free.0 free.2
+locked old ctx a by_message (Ok file) s messages new living (inr held) =
+    held-up old ctx a by_message file a.block (list_any (is_request a.exclusive a.lock) (of_file old.waiting file)) s
+    messages new living held.1
 
-cancelled : (old : State) (a : CancelArguments) (r : Result Range Fault) (s : NlmStatus) (messages : List Message) (new : State) → CancelOf old a r s messages new → Untouched old new
+cancels : (old : State) (file : ℕ) (goes : Request → Bool) (some : Bool) (s : NlmStatus) (messages : List Message)
+    (new : State) → Cancels old file goes some s messages new → Untouched old new
+cancels old file goes true s messages new step = from old _ new refl refl refl (λ h. h)
+    (λ f. firm-cancelled old f file (λ (r : Request). not (goes r))) step.state_is
+cancels old file goes false s messages new step = same old new step.state_is
+
+cancelled : (old : State) (a : CancelArguments) (checked : Result ℕ LockFault) (s : NlmStatus)
+    (messages : List Message)
+    (new : State) → CancelOf old a checked s messages new → Untouched old new
 cancelled old a (Err fault) s messages new step = same old new step.state_is
-cancelled old a (Ok r) s messages new step = from old _ new refl refl refl (λ h. h) step.state_is
+cancelled old a (Ok file) s messages new step =
+    cancels old file (is_request a.exclusive a.lock)
+    (list_any (is_request a.exclusive a.lock) (of_file old.waiting file)) s messages new step
 
-unlocked : (old : State) (r : Result Range Fault) (s : NlmStatus) (messages : List Message) (new : State) → UnlockOf old r s messages new → Untouched old new
-unlocked old (Err fault) s messages new step = same old new step.state_is
-unlocked old (Ok r) s messages new step = changed old r None messages new (unlocking-free old.locks r) step.1
+unlocked : (old : State) (a : UnlockArguments) (checked : Result ℕ LockFault) (s : NlmStatus)
+    (messages : List Message)
+    (new : State) → IfOk checked (IsFile old.objects) → UnlockOf old a checked s messages new → Untouched old new
+unlocked old a (Err fault) s messages new living step = same old new step.state_is
+unlocked old a (Ok file) s messages new living step =
+    changed old file (range_of a.lock) None messages new (λ f. living)
+    (unlocking-free (of_file old.locks file) (range_of a.lock)) step.1
 
-answered : (old : State) (request : Option Request) (goes : Request → Bool) (s : NlmStatus) (messages : List Message) (new : State) → GrantEnds old request goes s messages new → Untouched old new
-answered old None goes s messages new step = same old new step.1
-answered old (Some request) goes status.Granted messages new step = from old _ new refl refl refl (λ h. h) step.1
-answered old (Some request) goes s messages new step =
-    then old (record old { granted = without goes old.granted }) new (record { objects = refl; spent = refl; mounts = refl; apart = λ h. h }) (changed (record old { granted = without goes old.granted }) (requested request) None messages new (unlocking-free old.locks (requested request)) step)
+answered : (old : State) (number : ℕ) (found : Option PendingGrant) (s : NlmStatus) (messages : List Message)
+    (new : State)
+    → ((grant : PendingGrant) → found ≡ Some grant → get old.granted number ≡ Some grant)
+    → GrantEnds old number found s messages new → Untouched old new
+answered old number None s messages new there step = same old new step.1
+answered old number (Some grant) status.Granted messages new there step =
+    from old _ new refl refl refl (λ h. h) (λ f. firm-answered old f number) step.1
+answered old number (Some grant) s messages new there step =
+    let mid : State = record old { granted = remove old.granted number } in
+    let r : Range = requested grant.request in
+    let rest = settled (record mid { locks = with_list mid.locks grant.file step.locks }) grant.file messages new
+    step.settles in
+    record {
+      objects = rest.objects;
+      spent = rest.spent;
+      mounts = rest.mounts;
+      exports = record { exports = rest.exports.exports; last = rest.exports.last };
+      apart = λ h. rest.apart (locks-apart mid grant.file step.locks (apart-with (of_file old.locks grant.file) r None
+          (unlocking-free (of_file old.locks grant.file) r) step.locks step.lists (h grant.file).0) h);
+      firm = λ f. rest.firm (firm-locks mid (firm-answered old f number) grant.file
+          (f.pending number grant (there grant refl)).file step.locks step.lists.once);
+    }
 
-share-untouched : (old : State) (share : Share) (conflicts : Bool) (s : NlmStatus) (messages : List Message) (new : State) → list_any (shares_conflict share) old.shares ≡ conflicts → Shares old share conflicts s messages new → Untouched old new
-share-untouched old share true s messages new is step = same old new step.state_is
-share-untouched old share false s messages new is step = from old _ new refl refl refl (λ h. (h.0, shares-with (λ (other : Share). not (same_sharer share other)) share old.shares is h.1)) step.state_is
+share-untouched : (old : State) (file : ℕ) (share : Share) (conflicts : Bool) (s : NlmStatus)
+    (messages : List Message)
+    (new : State) → IsFile old.objects file →
+    list_any (shares_conflict share) (of_file old.shares file) ≡ conflicts
+    → Shares old file share conflicts s messages new → Untouched old new
+share-untouched old file share true s messages new living is step = same old new step.state_is
+share-untouched old file share false s messages new living is step =
+    let shares : List Share = all_but (same_sharer share) (of_file old.shares file) ++ share ∷ [] in
+    from old _ new refl refl refl
+    (λ h. shares-apart old file shares (shares-with (λ (other : Share). not (same_sharer share other)) share
+    (of_file old.shares file) is (h file).1) h)
+    (λ f. firm-shares old f file living shares) step.state_is
 
-shared : (old : State) (asked : NlmShare) (r : Result ℕ Fault) (s : NlmStatus) (messages : List Message) (new : State) → ShareOf old asked r s messages new → Untouched old new
-shared old asked (Err fault) s messages new step = same old new step.state_is
-shared old asked (Ok file) s messages new step = share-untouched old (share_of file asked) (list_any (shares_conflict (share_of file asked)) old.shares) s messages new refl step
+shared : (old : State) (asked : NlmShare) (checked : Result ℕ LockFault) (s : NlmStatus) (messages : List Message)
+    (new : State) → IfOk checked (IsFile old.objects) → ShareOf old asked checked s messages new →
+    Untouched old new
+shared old asked (Err fault) s messages new living step = same old new step.state_is
+shared old asked (Ok file) s messages new living step =
+    share-untouched old file (share_of asked) (list_any (shares_conflict (share_of asked)) (of_file old.shares file)) s
+    messages new living refl step
 
-unshared : (old : State) (asked : NlmShare) (r : Result ℕ Fault) (s : NlmStatus) (messages : List Message) (new : State) → UnshareOf old asked r s messages new → Untouched old new
-unshared old asked (Err fault) s messages new step = same old new step.state_is
-unshared old asked (Ok file) s messages new step = from old _ new refl refl refl (λ h. (h.0, shares-left (λ (other : Share). not (same_sharer (share_of file asked) other)) old.shares h.1)) step.state_is
+unshared : (old : State) (asked : NlmShare) (checked : Result ℕ LockFault) (s : NlmStatus) (messages : List Message)
+    (new : State) → IfOk checked (IsFile old.objects) → UnshareOf old asked checked s messages new →
+    Untouched old new
+unshared old asked (Err fault) s messages new living step = same old new step.state_is
+unshared old asked (Ok file) s messages new living step =
+    let stay : Share → Bool = λ (other : Share). not (same_sharer (share_of asked) other) in
+    let shares : List Share = filter stay (of_file old.shares file) in
+    from old _ new refl refl refl
+    (λ h. shares-apart old file shares (shares-left stay (of_file old.shares file) (h file).1) h)
+    (λ f. firm-shares old f file living shares) step.state_is
 
-freed : (old : State) (name : List ℕ) (messages : List Message) (new : State) → Frees old name messages new → Untouched old new
+-- the locks of a file without those of a caller
+freed-apart : (name : List ℕ) (new : ℕ → List Lock) (file : ℕ) (o : Option (List Lock))
+    → Lists (new file) (modes_without (unwrap_or o []) name) → NoLocksConflict (unwrap_or o [])
+    → NoLocksConflict (unwrap_or (remade (λ q _. new q) file o) [])
+freed-apart name new file None lists h = λ a b offset other. refl
+freed-apart name new file (Some list) lists h =
+    subst NoLocksConflict (sym (kept-is (new file))) (apart-without list name (new file) lists h)
+
+freed : (old : State) (name : List ℕ) (messages : List Message) (new : State) → Frees old name messages new →
+    Untouched old new
 freed old name messages new f =
-    then old (freed_of old name f.0) new
-    (record { objects = refl; spent = refl; mounts = refl; apart = λ h. (apart-without old.locks name f.0 f.1 h.0, shares-left (λ (s : Share). not (same_bytes s.caller_name name)) old.shares h.1) })
-    (settled-all (freed_of old name f.0) f.2 messages new f.3)
+    joined old (freed_with old name f.locks) new (record {
+      objects = refl;
+      spent = refl;
+      mounts = refl;
+      exports = record { exports = refl; last = refl };
+      apart = λ h q. (
+        subst (λ o. NoLocksConflict (unwrap_or o [])) (sym (get-relisted (λ file _. f.locks file) old.locks q))
+            (freed-apart name f.locks q (get old.locks q) (f.lists q) (h q).0),
+        each-relisted (λ file. all_but (λ (s : Share). same_bytes s.caller_name name)) old.shares
+            (λ n (l : List Share). NoSharesConflict l) (λ n. tt)
+            (λ n shares. shares-left (λ (s : Share). not (same_bytes s.caller_name name))
+            (of_file old.shares n) shares)
+            (λ n. (h n).1) q,
+      );
+      firm = λ firm. firm-freed old firm f.locks (λ file. (f.lists file).once)
+          (λ (s : Share). same_bytes s.caller_name name) (λ (r : Request). same_bytes r.asked.caller_name name)
+          (λ (g : PendingGrant). same_bytes g.request.asked.caller_name name);
+    })
+    (settled-all (freed_with old name f.locks) f.files messages new f.settle)
 
-pub nlm-touches : (old : State) (ctx : Ctx) (call : NlmCall) (reply : NlmReply) (messages : List Message) (new : State) → NlmStep old ctx call reply messages new → Untouched old new
+pub nlm-touches : (old : State) (ctx : Ctx) (call : NlmCall) (reply : NlmReply) (messages : List Message) (new : State)
+    → NlmStep old ctx call reply messages new → Untouched old new
 unfolding NlmStep
 nlm-touches old ctx calls.Null reply messages new step = same old new step.state_is
-nlm-touches old ctx (calls.Test a) reply messages new step = tested old a.exclusive (range_checked old ctx false a.lock) step.0 messages new step.1
-nlm-touches old ctx (calls.Lock a) reply messages new step = locked old ctx a false (range_checked old ctx a.exclusive a.lock) step.0 messages new step.1
-nlm-touches old ctx (calls.Cancel a) reply messages new step = cancelled old a (range_checked old ctx false a.lock) step.0 messages new step.1
-nlm-touches old ctx (calls.Unlock a) reply messages new step = unlocked old (range_checked old ctx false a.lock) step.0 messages new step.1
+nlm-touches old ctx (calls.Test a) reply messages new step =
+    tested old a (lock_checked old ctx false a.lock) step.0 messages new step.1
+nlm-touches old ctx (calls.Lock a) reply messages new step =
+    locked old ctx a false (lock_checked old ctx a.exclusive a.lock) step.0 messages new
+    (checked-file old ctx a.lock.file (fits_offsets a.lock) a.exclusive) step.1
+nlm-touches old ctx (calls.Cancel a) reply messages new step =
+    cancelled old a (lock_checked old ctx false a.lock) step.0 messages new step.1
+nlm-touches old ctx (calls.Unlock a) reply messages new step =
+    unlocked old a (lock_checked old ctx false a.lock) step.0 messages new
+    (checked-file old ctx a.lock.file (fits_offsets a.lock) false) step.1
 nlm-touches old ctx (calls.Granted a) reply messages new step = same old new step.1.state_is
-nlm-touches old ctx (calls.TestMsg a) reply messages new step = tested old a.exclusive (range_checked old ctx false a.lock) step.0 step.1 new step.2
-nlm-touches old ctx (calls.LockMsg a) reply messages new step = locked old ctx a true (range_checked old ctx a.exclusive a.lock) step.0 step.1 new step.2
-nlm-touches old ctx (calls.CancelMsg a) reply messages new step = cancelled old a (range_checked old ctx false a.lock) step.0 step.1 new step.2
-nlm-touches old ctx (calls.UnlockMsg a) reply messages new step = unlocked old (range_checked old ctx false a.lock) step.0 step.1 new step.2
+nlm-touches old ctx (calls.TestMsg a) reply messages new step =
+    tested old a (lock_checked old ctx false a.lock) step.0 step.1 new step.2
+nlm-touches old ctx (calls.LockMsg a) reply messages new step =
+    locked old ctx a true (lock_checked old ctx a.exclusive a.lock) step.0 step.1 new
+    (checked-file old ctx a.lock.file (fits_offsets a.lock) a.exclusive) step.2
+nlm-touches old ctx (calls.CancelMsg a) reply messages new step =
+    cancelled old a (lock_checked old ctx false a.lock) step.0 step.1 new step.2
+nlm-touches old ctx (calls.UnlockMsg a) reply messages new step =
+    unlocked old a (lock_checked old ctx false a.lock) step.0 step.1 new
+    (checked-file old ctx a.lock.file (fits_offsets a.lock) false) step.2
 nlm-touches old ctx (calls.GrantedMsg a) reply messages new step = same old new step.2.state_is
 nlm-touches old ctx (calls.TestRes r) reply messages new step = same old new step.state_is
 nlm-touches old ctx (calls.LockRes r) reply messages new step = same old new step.state_is
 nlm-touches old ctx (calls.CancelRes r) reply messages new step = same old new step.state_is
 nlm-touches old ctx (calls.UnlockRes r) reply messages new step = same old new step.state_is
-nlm-touches old ctx (calls.GrantedRes r) reply messages new step = answered old (find (is_answered ctx.host r.cookie) old.granted) (is_answered ctx.host r.cookie) r.status messages new step.1
-nlm-touches old ctx (calls.Share a) reply messages new step = shared old a.share (file_checked old ctx a.share.file true (denies mode.DenyWrite a.share.access)) step.0 messages new step.1
-nlm-touches old ctx (calls.Unshare a) reply messages new step = unshared old a.share (file_checked old ctx a.share.file true false) step.0 messages new step.1
-nlm-touches old ctx (calls.NmLock a) reply messages new step = locked old ctx a false (range_checked old ctx a.exclusive a.lock) step.0 messages new step.1
+nlm-touches old ctx (calls.GrantedRes r) reply messages new step =
+    let number : ℕ = from_be_bytes w64 r.cookie in let found = get old.granted number in
+    answered old number (if is_answered ctx.host r.cookie number found then found else None) r.status messages new
+    (λ grant is. found-pending old ctx.host r.cookie number found refl grant is) step.1
+nlm-touches old ctx (calls.Share a) reply messages new step =
+    let writes = denies mode.DenyWrite a.share.access in
+    shared old a.share (file_checked old ctx a.share.file true writes) step.0 messages new
+    (checked-file old ctx a.share.file true writes) step.1
+nlm-touches old ctx (calls.Unshare a) reply messages new step =
+    unshared old a.share (file_checked old ctx a.share.file true false) step.0 messages new
+    (checked-file old ctx a.share.file true false) step.1
+nlm-touches old ctx (calls.NmLock a) reply messages new step =
+    locked old ctx a false (lock_checked old ctx a.exclusive a.lock) step.0 messages new
+    (checked-file old ctx a.lock.file (fits_offsets a.lock) a.exclusive) step.1
 nlm-touches old ctx (calls.FreeAll a) reply messages new step = freed old a.name messages new step.1

@@ -9,13 +9,14 @@ use Rattle.std.specs.List.{AllByRecursion, count_by, sum_by}
 use Rattle.nfs_wire.specs.declared.attributes.Time.{Time}
 use Rattle.nfs_machine.specs.Attributes.{entries_of, is_directory, is_living_directory, names_in, names_of}
 use Rattle.nfs_machine.specs.Bytes.{same_bytes}
+use Rattle.nfs_machine.specs.LocksFormed.{LocksFormed}
 use Rattle.nfs_machine.specs.RemoveSteps.{without}
 use Rattle.nfs_machine.specs.Shown.{touched, with_object}
 use Rattle.nfs_machine.specs.State.{Directory, Entry, Living, State}
 use Rattle.nfs_machine.specs.Exports.{export_at}
 use Rattle.nfs_machine.specs.Laws.{KeepsExports}
-use Rattle.nfs_machine.specs.WellFormed.{CookiesRise, ExportsStand, IsDirectoryOf, Leads, NamesOnce, TextsFit}
-use Rattle.nfs_machine.specs.WellFormed.{WellFormed, is_root}
+use Rattle.nfs_machine.specs.WellFormed.{CookiesRise, ExportsStand, IsDirectoryOf, Leads, MountsFormed, NamesOnce}
+use Rattle.nfs_machine.specs.WellFormed.{TextsFit, WellFormed, is_root}
 use Rattle.nfs_machine.proofs.Exported.{exported-on, stand-on}
 use Rattle.nfs_machine.proofs.Changes.{Differs, all-filter, apart, cookies-filter, count-without, differs-other, differs-there, flipped, itself, once-filter, sum-differs, weight}
 use Rattle.nfs_machine.proofs.WellFormed.{Alike, Deep, KeepsNames, LivesOn, all_last, before, deep-on, keeps_entries}
@@ -54,20 +55,27 @@ loosened loose m w = record {
   given = w.given;
 }
 
-pub tightened : (m : State) → TextsFit m → Loose none_loose m → WellFormed m
-tightened m texts l =
-    record {
-      exports = l.exports;
-      exported = l.exported;
-      names = l.names;
-      cookies = l.cookies;
-      named = λ n o at other. l.named n o at other refl;
-      one_name = l.one_name;
-      depth = l.depth;
-      deeper = l.deeper;
-      given = l.given;
-      texts = texts;
-    }
+-- and what is true of every state beside names
+pub record Beside (m : State) : Type 0 where
+  pub texts : TextsFit m
+  pub locks : LocksFormed m
+  pub mounts : MountsFormed m.mounts
+
+pub tightened : (m : State) → Beside m → Loose none_loose m → WellFormed m
+tightened m beside l = record {
+  exports = l.exports;
+  exported = l.exported;
+  names = l.names;
+  cookies = l.cookies;
+  named = λ n o at other. l.named n o at other refl;
+  one_name = l.one_name;
+  depth = l.depth;
+  deeper = l.deeper;
+  given = l.given;
+  texts = beside.texts;
+  locks = beside.locks;
+  mounts = beside.mounts;
+}
 
 -- a number where what lives has a name is not loose
 pub fastened : (number : ℕ) (loose : ℕ → Bool) (m : State) → Loose (also number loose) m → ((o : Living) → get m.objects number ≡ Some o → 1 ≤ names_of m number) → Loose loose m
@@ -127,8 +135,8 @@ module _ (old new : State) (alike : (n : ℕ) → Alike (get old.objects n) (get
         spent n o.generation (subst (λ g. old.spent n g ≡ true) (sym b.2.generation) (l.given n b.0 b.1));
   }
 
-  pub well_formed-alike : TextsFit new → WellFormed old → WellFormed new
-  well_formed-alike texts w = tightened new texts (loose-alike none_loose (loosened none_loose old w))
+  pub well_formed-alike : Beside new → WellFormed old → WellFormed new
+  well_formed-alike beside w = tightened new beside (loose-alike none_loose (loosened none_loose old w))
 
 module _ (m : State) (number : ℕ) (was : Living) (at : get m.objects number ≡ Some was) (loose : ℕ → Bool) (l : Loose loose m) where
   pub loose-replaced : (is : Living) → KeepsNames was is → Loose loose (with_object m number is)

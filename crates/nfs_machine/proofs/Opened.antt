@@ -1,20 +1,27 @@
 -- The state that a server starts with: its roots live, one for each export, and nothing else; so it is well formed.
 use Rattle.std.proofs.Common.{◌≡◌, ◌≢◌, ◌==◌, ◌||◌, ℕ, zero, suc, ◌+◌, ◌-◌, ◌<◌}
 use Rattle.std.proofs.Common.{◌≤◌, ◌&&◌, ◌⊎◌, inl, inr, true, false, cond, nat_le, List, [], ◌∷◌}
-use Rattle.std.proofs.Common.{length, Some, None, refl, sym, ◌∙◌, ap, subst, arith, if◌then◌else◌}
+use Rattle.std.proofs.Common.{length, Some, None, is_some, unwrap_or, refl, sym, ◌∙◌, ap, subst, arith}
+use Rattle.std.proofs.Common.{if◌then◌else◌}
 use Rattle.std.proofs.lemmas.Bool.Decides.{nat_tests}
 use Rattle.std.specs.Cmp.{nat_cmp_total, unsigned_Decides}
-use Rattle.std.specs.FinMap.{FinMap, get, insert, get-insert, get-empty}
-use Rattle.std.specs.List.{AllByRecursion, list_any, slice_get}
-use Rattle.std.specs.Prelude.{IsSome, is_some}
+use Rattle.std.specs.FinMap.{FinMap, contains_key, empty, get, insert, get-insert, get-empty, values}
+use Rattle.std.specs.List.{AllByRecursion, list_any, slice_get, sum_by}
+use Rattle.std.specs.Prelude.{IsSome}
 use Rattle.std.specs.Option.{option_map}
 use Rattle.std.specs.Ordering.{nat_cmp, eq_by_cmp}
 use Rattle.nfs_wire.specs.declared.attributes.Time.{Time}
 use Rattle.nfs_machine.specs.Attributes.{entries_of, is_living_directory, names_in, names_of}
 use Rattle.nfs_machine.specs.Exports.{ExportValue, export_at, numbered_exports, opening_exports}
+use Rattle.nfs_machine.specs.FileLists.{of_file}
+use Rattle.nfs_machine.specs.Grants.{IsHeldUp}
 use Rattle.nfs_machine.specs.Laws.{OpeningIsFormed}
+use Rattle.nfs_machine.specs.LockLaws.{OpeningIsApart, OpeningWaitsForNone}
+use Rattle.nfs_machine.specs.Locks.{OffsetsOnce}
+use Rattle.nfs_machine.specs.LocksFormed.{AreOfFiles, LocksFormed, NoLocksConflict, NoSharesConflict, count_of}
+use Rattle.nfs_machine.specs.LockSteps.{is_grant_number}
 use Rattle.nfs_machine.specs.Opening.{opening, opening_root, opening_roots, time_of}
-use Rattle.nfs_machine.specs.State.{Directory, Link, Entry, Living}
+use Rattle.nfs_machine.specs.State.{Directory, Link, Entry, Living, Request}
 use Rattle.nfs_machine.specs.WellFormed.{AllApart, CookiesRise, ExportsStand, HasRoot, IsDirectoryOf, IsNumbered}
 use Rattle.nfs_machine.specs.WellFormed.{WellFormed, is_root}
 use Rattle.nfs_machine.specs.declared.moment.Moment.{Moment}
@@ -48,6 +55,20 @@ module _ (time : Time) where
       insert_there (opening_roots (k + 1) es time) k n (opening_root k time) (λ same. omega (arith, below, same)) ∙ root_none es (k + 1) n (inl (omega (arith, below)))
   root_none (e ∷ es) k n (inr above) =
       insert_there (opening_roots (k + 1) es time) k n (opening_root k time) (λ same. omega (arith, above, same)) ∙ root_none es (k + 1) n (inr (omega (arith, above)))
+
+-- nothing is held or waited for
+pub none_of : {A : Type 0} (file : ℕ) → of_file {A = A} empty file ≡ []
+none_of file = ap (λ o. unwrap_or o []) (get-empty nat_cmp file)
+
+pub nothing_conflicts : OpeningIsApart
+nothing_conflicts es moment file = (
+  subst NoLocksConflict (sym (none_of file)) (λ a b offset other. refl),
+  subst NoSharesConflict (sym (none_of file)) tt,
+)
+
+pub nothing_waits : OpeningWaitsForNone
+nothing_waits es moment file =
+    subst (AllByRecursion (IsHeldUp (of_file (opening es moment).locks file))) (sym (none_of file)) tt
 
 module _ (es : List ExportValue) (moment : Moment) where
   abbrev time : Time
@@ -131,6 +152,33 @@ module _ (es : List ExportValue) (moment : Moment) where
                 (arith, low, other)) (omega (arith, high))
           ] refl
 
+  -- no file has anything
+  no_lists : {A : Type 0} → AreOfFiles {A = A} (opening es moment).objects empty
+  no_lists = record {
+    files = λ file list at. (let none : None ≡ Some list = sym (get-empty nat_cmp file) ∙ at in cc);
+    some = λ file at. (let none : None ≡ Some [] = sym (get-empty nat_cmp file) ∙ at in cc);
+  }
+
+  no_locks_formed : LocksFormed (opening es moment)
+  no_locks_formed = record {
+    locks = no_lists;
+    shares = no_lists;
+    waiting = no_lists;
+    once = λ file. subst OffsetsOnce (sym (none_of file)) (λ owner offset. omega arith);
+    apart = nothing_conflicts es moment;
+    held_up = nothing_waits es moment;
+    suit = λ file. subst (AllByRecursion (λ (r : Request). is_grant_number file r.number ≡ true))
+        (sym (none_of file)) tt;
+    pending = λ number grant at. (let none : None ≡ Some grant = sym (get-empty nat_cmp number) ∙ at in cc);
+    numbers = λ number.
+        let waits : sum_by (count_of number) (values (opening es moment).waiting) ≡ 0 =
+        sum-none (count_of number) empty
+        (λ q v at. (let none : None ≡ Some v = sym (get-empty nat_cmp q) ∙ at in cc)) in
+        let pending : cond {A = ℕ} (contains_key (opening es moment).granted number) 1 0 ≡ 0 =
+        ap (λ o. cond {A = ℕ} (is_some o) 1 0) (get-empty nat_cmp number) in
+        omega (arith, waits, pending);
+  }
+
   -- no names, and so nothing below a root
   pub roots_formed : length es ≤ 64 → AllApart (opening_exports es) → WellFormed (opening es moment)
   roots_formed few apart = record {
@@ -150,6 +198,8 @@ module _ (es : List ExportValue) (moment : Moment) where
         subst (λ (x : Living). AllByRecursion (λ (e : Entry). is_living_directory (get (opening_roots 1 es time) e.number) ≡ true → 0 < 0) (entries_of x.content)) (only_roots n o at).0 tt;
     given = λ n o at. (let r = only_roots n o at in subst (λ (x : Living). nat_le x.generation (last_given n) ≡ true) r.0 (ap (nat_le 1) r.1));
     texts = λ n o text at is. (let no : Directory [] 2 ≡ Link text = ap (λ (x : Living). x.content) (only_roots n o at).0 ∙ is in cc);
+    locks = no_locks_formed;
+    mounts = record { once = tt; few = omega arith };
   }
 
 pub opening_formed : OpeningIsFormed

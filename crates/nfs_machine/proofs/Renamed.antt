@@ -14,13 +14,14 @@ use Rattle.nfs_machine.specs.RemoveSteps.{object_under, without}
 use Rattle.nfs_machine.specs.RenameSteps.{IsWithin, itself, below, is_compatible}
 use Rattle.nfs_machine.specs.Shown.{touched, with_content, with_object}
 use Rattle.nfs_machine.specs.State.{Content, Directory, Entry, Living, State}
-use Rattle.nfs_machine.specs.WellFormed.{Leads, TextsFit, WellFormed, is_root}
+use Rattle.nfs_machine.specs.WellFormed.{Leads, WellFormed, is_root}
 use Rattle.nfs_machine.proofs.Changes.{apart, count-filter, differs-insert, differs-other, differs-there, find-all, find-filter, find-other, find-taken, flipped, without-absent}
-use Rattle.nfs_machine.proofs.Continued.{kinds-continued, texts-continued, well_formed-losing}
+use Rattle.nfs_machine.proofs.Continued.{kinds-continued, well_formed-losing}
 use Rattle.nfs_machine.specs.Times.{touch}
 use Rattle.nfs_machine.proofs.Counted.{Counts, changed-losing, names-losing}
 use Rattle.nfs_machine.proofs.Facts.{are_none, no-entry}
-use Rattle.nfs_machine.proofs.Loose.{AddsName, Deepens, Loose, also, loose-added, loose-replaced, loose-touched, loosened, names_of-added, names_of-taken, none_loose, tightened}
+use Rattle.nfs_machine.proofs.Loose.{AddsName, Beside, Deepens, Loose, also, loose-added, loose-replaced}
+use Rattle.nfs_machine.proofs.Loose.{loose-touched, loosened, names_of-added, names_of-taken, none_loose, tightened}
 use Rattle.nfs_machine.proofs.Moves.{GoesIntoItself, Move, Named, entries_left, with_moved, with_names_moved, without_replaced}
 use Rattle.nfs_machine.proofs.Planned.{IsMove, continues-moved}
 use Rattle.nfs_machine.proofs.Sums.{get-inserted}
@@ -403,19 +404,20 @@ module _ (m : State) (now : Time) (move : Move) (is : IsMove m move) (w : WellFo
         ∙ differs-other m.objects (with_object m place narrower).objects place (Some narrower) (differs-insert m.objects place narrower) o.0 over-place
         ∙ over.object
 
-    over-formed : TextsFit (without_replaced m step now (Some o)) → WellFormed (without_replaced m step now (Some o))
+    over-formed : Beside (without_replaced m step now (Some o)) → WellFormed (without_replaced m step now (Some o))
     over-formed =
         let l = freed-some o some in
         let one = one-less m now (over_named o) over none_loose (loosened none_loose m w) in
         well_formed-losing step o.0 o.1 over-lives (step-loose (also o.0 none_loose) l) over-no_root
         (names_of m o.0) now empty (omega (arith, one, names_of-step (also o.0 none_loose) l o.0))
 
-  pub well_formed-moved : WellFormed (with_moved m now move)
-  well_formed-moved = judged move.replaced refl (texts-continued now m (with_moved m now move) (continues-moved m now move is) w.texts)
+  pub well_formed-moved : Beside (with_moved m now move) → WellFormed (with_moved m now move)
+  well_formed-moved = judged move.replaced refl
     where
-      judged : (r : Option (ℕ × Living)) → move.replaced ≡ r → TextsFit (without_replaced m step now r) → WellFormed (without_replaced m step now r)
-      judged None e texts = tightened step texts (step-loose none_loose (freed-none e))
-      judged (Some o) e texts = over-formed o e texts
+      judged : (r : Option (ℕ × Living)) → move.replaced ≡ r → Beside (without_replaced m step now r)
+          → WellFormed (without_replaced m step now r)
+      judged None e beside = tightened step beside (step-loose none_loose (freed-none e))
+      judged (Some o) e beside = over-formed o e beside
 
   abbrev Told : Option (ℕ × Living) → Type 0
   Told r = (k : ℕ) (was is' : Living) → get m.objects k ≡ Some was →

@@ -1,5 +1,6 @@
 -- SETATTR leaves names as they are.
-use Rattle.std.proofs.Common.{◌≡◌, ℕ, true, ◌&&◌, List, [], Option, Some, None, Result, Ok, IfOk, refl}
+use Rattle.std.proofs.Common.{◌≡◌, ℕ, true, ◌&&◌, List, [], Option, Some, None, Result, Ok, IfOk, is_ok}
+use Rattle.std.proofs.Common.{refl}
 use Rattle.nfs_wire.specs.declared.attributes.Time.{Time}
 use Rattle.nfs_wire.specs.declared.calls.SetattrArguments.{SetattrArguments}
 use Rattle.nfs_wire.specs.declared.status.NfsStatus.{NfsStatus}
@@ -28,10 +29,14 @@ record Sized (was is : Content) : Type 0 where
   content : is_directory was ≡ true → is ≡ was
   text : (t : List ℕ) → is ≡ Link t → was ≡ Link t
   entries : KeepsEntries (entries_of was) (entries_of is)
+  regular : is_ok (bytes_in was) ≡ true → is_ok (bytes_in is) ≡ true
 
 sized-keeps : (c : Content) (size : Option ℕ) → IfOk (sized c size) (Sized c)
-sized-keeps c None = record { kind = refl; content = λ is. refl; text = λ t e. e; entries = kept-same (entries_of c) }
-sized-keeps (Regular bytes) (Some size) = record { kind = refl; content = λ is. cc; text = λ t e. cc; entries = kept-same [] }
+sized-keeps c None = record
+    { kind = refl; content = λ is. refl; text = λ t e. e; entries = kept-same (entries_of c); regular = λ e. e }
+sized-keeps (Regular bytes)
+    (Some size) = record
+    { kind = refl; content = λ is. cc; text = λ t e. cc; entries = kept-same []; regular = λ e. refl }
 sized-keeps (Directory entries last) (Some size) = tt
 sized-keeps (Link text) (Some size) = tt
 sized-keeps (BlockDevice device) (Some size) = tt
@@ -45,6 +50,7 @@ set-alter : (o : Living) (now : Time) (content : Content) (mode uid gid : ℕ) (
 set-alter o now content mode uid gid accessed modified is = record {
   keeps = record { export = refl; generation = refl; kind = is.kind; content = is.content };
   turns = record { generation = refl; kind = is.kind; text = is.text; changed = refl; entries = is.entries };
+  regular = is.regular;
 }
 
 set-alters : (exports : List LivingExport) (ctx : Ctx) (o : Living) (a : SetattrArguments) →

@@ -35,7 +35,9 @@ use Rattle.nfs_machine.proofs.Continued.{texts-continued, touches-continued, wel
 use Rattle.nfs_machine.proofs.Counted.{Counts, changed-losing, names-losing}
 use Rattle.nfs_machine.proofs.Cookies.{kept-added, kept-of, kept-same, kept-without}
 use Rattle.nfs_machine.proofs.Facts.{absent, chained-is, directory-empty, holds, is-directory, leads-found, plain-empty, resolved-lives}
-use Rattle.nfs_machine.proofs.Follows.{Follows, bounds-losing, exports-losing, locks-losing, mounts-losing}
+use Rattle.nfs_machine.proofs.Firm.{put-directory, put-over}
+use Rattle.nfs_machine.proofs.Follows.{Follows, LocksFollow, beside-follows, bounds-losing, exports-losing, locks-losing}
+use Rattle.nfs_machine.proofs.Follows.{locks-on, mounts-losing}
 use Rattle.nfs_machine.proofs.Loose.{AddsName, Loose, Swaps, TakesName, also, loose-added, loose-taken}
 use Rattle.nfs_machine.proofs.Loose.{loose-touched, loosened, names_of-added, names_of-taken, none_loose, tightened}
 use Rattle.nfs_machine.proofs.Moves.{Named, named_as, remove_end, rmdir_end, take_end, with_name_taken}
@@ -164,6 +166,12 @@ module _ (m : State) (now : Time) (n : Named) (named : IsNamed m n) where
           ] refl;
     }
 
+    locks-taken : LocksFollow m (with_name_taken m now n)
+    locks-taken = locks-losing m mid.objects
+        (put-directory m.objects m.objects
+        (λ k file. file) n.place n.directory narrower n.entries n.last_cookie named.lives
+        named.content) (names_of m n.number) now n.number n.object named.object
+
     pub taken-follows : Follows now m (with_name_taken m now n)
     taken-follows = record {
       gives = gives-continued now m (with_name_taken m now n) continues-taken;
@@ -173,8 +181,10 @@ module _ (m : State) (now : Time) (n : Named) (named : IsNamed m n) where
           let l = loosened none_loose m w in
           well_formed-losing mid n.number n.object object-there (loose-mid none_loose l) (no-root w)
           (names_of m n.number) now empty (one-less none_loose l)
-          (texts-continued now m (with_name_taken m now n) continues-taken w.texts);
-      locks = (let l = locks-losing mid (names_of m n.number) now n.number n.object in record { apart = l.apart; waits = l.waits });
+          (beside-follows m (with_name_taken m now n)
+          (texts-continued now m (with_name_taken m now n) continues-taken w.texts)
+          locks-taken (mounts-losing mid (names_of m n.number) now n.number n.object) w);
+      locks = locks-taken;
       exports = (let k = exports-losing mid
           (names_of m n.number) now n.number n.object in record { exports = k.exports; last = k.last });
       counts = counts-taken;
@@ -255,12 +265,21 @@ module _ (m : State) (now : Time) (number : ℕ) (object : Living) (place : ℕ)
   continues-linked = continues-touched now m added
       (continues-with now m m (continues-itself now m) place directory lives kind _ _ keeps) number object there
 
+  locks-linked : LocksFollow m (with_object added number (touched object now))
+  locks-linked = locks-on m (with_object added number (touched object now)).objects m.spent
+      (put-over m.objects added.objects
+      (put-directory m.objects m.objects (λ k file. file) place directory wider entries last lives content)
+      number object (touched object now) there (λ e. e))
+
   formed : WellFormed m → WellFormed (with_object added number (touched object now))
   formed w =
       let l = loosened (also number none_loose) m w in
       let wide = loose-added m added place number directory wider object name (adds w) none_loose l l.depth (record { deeper = l.deeper; added = λ e. (let no : true ≡ false = sym e ∙ plain in cc) }) in
       let at : get added.objects number ≡ Some object = differs-other m.objects added.objects place (Some wider) (differs-insert m.objects place wider) number other-place ∙ there in
-      tightened (with_object added number (touched object now)) (texts-continued now m (with_object added number (touched object now)) continues-linked w.texts)
+      tightened (with_object added number (touched object now))
+      (beside-follows m (with_object added number (touched object now))
+      (texts-continued now m (with_object added number (touched object now)) continues-linked w.texts) locks-linked refl
+      w)
       (loose-touched added number object at none_loose wide now)
 
   -- of what else lives on, no names came
@@ -299,7 +318,7 @@ module _ (m : State) (now : Time) (number : ℕ) (object : Living) (place : ℕ)
     touches = touches-continued now m (with_object added number (touched object now)) continues-linked;
     cookies = cookies-continued now m (with_object added number (touched object now)) continues-linked;
     formed = formed;
-    locks = record { apart = λ h. h; waits = λ h. h };
+    locks = locks-linked;
     exports = record { exports = refl; last = refl };
     counts = counts-linked;
     mounts = refl;

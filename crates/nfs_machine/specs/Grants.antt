@@ -1,19 +1,29 @@
 -- Requests that wait for a lock, and what becomes of them where held locks change (RFC 1813, appendix II, 6.2:
 -- procedures 2, 5 and 10).
 use Rattle.std.specs.Prelude.{◌≡◌, ℕ, ◌<◌, List, [], ◌∷◌, ◌++◌, if◌then◌else◌, Some}
+use Rattle.std.specs.FinMap.{insert}
 use Rattle.std.specs.Int.{w64, to_be_bytes}
 use Rattle.std.specs.List.{AllByRecursion}
 use Rattle.side_wire.specs.declared.message.Callback.TheVariants as callbacks
 use Rattle.side_wire.specs.declared.message.Message.{Message}
+use Rattle.nfs_machine.specs.FileLists.{of_file, with_list}
 use Rattle.nfs_machine.specs.Locks.{Conflicts, Lists, Mode, modes_with, range_of}
 use Rattle.nfs_machine.specs.State.{Lock, Request, State, Range}
 
 abbrev pub requested : Request → Range
-requested r = range_of r.file r.asked
+requested r = range_of r.asked
 
--- the request conflicts with what is held
+-- the request conflicts with what is held of its file
 abbrev pub IsHeldUp : List Lock → Request → Type 0
 IsHeldUp locks r = Conflicts locks (requested r) (Some r.exclusive)
+
+-- each request that waits for a file conflicts with what is held of it
+abbrev pub FileWaits : State → (file : ℕ) → Type 0
+FileWaits m file = AllByRecursion (IsHeldUp (of_file m.locks file)) (of_file m.waiting file)
+
+-- and so of all files
+abbrev pub AllHeldUp : State → Type 0
+AllHeldUp m = (file : ℕ) → FileWaits m file
 
 -- the cookie of GRANTED is the request's number
 abbrev pub grant_cookie : ℕ → List ℕ
@@ -32,32 +42,34 @@ pub record Grants (old : State) (file : ℕ) (message : Message) (new : State) :
   pub earlier : List Request
   pub request : Request
   pub later : List Request
-  pub waits : old.waiting ≡ earlier ++ request ∷ later
-  pub file_is : request.file ≡ file
-  pub held_up : AllByRecursion (λ (r : Request). r.file ≡ file → IsHeldUp old.locks r) earlier
-  pub free : IsHeldUp old.locks request → ⊥
+  pub waits : of_file old.waiting file ≡ earlier ++ request ∷ later
+  pub held_up : AllByRecursion (IsHeldUp (of_file old.locks file)) earlier
+  pub free : IsHeldUp (of_file old.locks file) request → ⊥
   pub locks : List Lock
-  pub lists : Lists locks (modes_with old.locks (requested request) (Some request.exclusive))
+  pub lists : Lists locks (modes_with (of_file old.locks file) (requested request) (Some request.exclusive))
   pub message_is : message ≡ grant_message request
-  pub state_is : new ≡
-      record old { locks = locks; waiting = earlier ++ later; granted = old.granted ++ request ∷ [] }
+  pub state_is : new ≡ record old {
+    locks = with_list old.locks file locks;
+    waiting = with_list old.waiting file (earlier ++ later);
+    granted = insert old.granted request.number (record { file = file; request = request });
+  }
 
 -- requests of a file are granted one after the other, each with its message, until none of those that wait can be
-abbrev pub Settles : State → ℕ → List Message → State → Type 0
-Settles old file [] new = AllByRecursion (λ (r : Request). r.file ≡ file → IsHeldUp old.locks r) old.waiting ×
-    (new ≡ old)
+abbrev pub Settles : State → (file : ℕ) → List Message → State → Type 0
+Settles old file [] new = FileWaits old file × (new ≡ old)
 Settles old file (message ∷ messages) new = (mid : State) × Grants old file message mid ×
     Settles mid file messages new
 
 -- Files settle one after the other, in order of fileid, until no request that waits can be granted
 abbrev pub SettleInOrder : State → List ℕ → List Message → State → Type 0
-SettleInOrder old [] messages new = AllByRecursion (IsHeldUp old.locks) old.waiting × (messages ≡ []) ×
-    (new ≡ old)
+SettleInOrder old [] messages new = AllHeldUp old × (messages ≡ []) × (new ≡ old)
 SettleInOrder old (file ∷ files) messages new =
     AllByRecursion (λ other. file < other) files × (mid : State) × (first rest : List Message) ×
     (messages ≡ first ++ rest) × Settles old file first mid × SettleInOrder mid files rest new
 
 -- the range's owner gets this mode on it, and then what waits for the file is tried
-abbrev pub ChangesLocks : State → Range → Mode → List Message → State → Type 0
-ChangesLocks old r mode messages new = (locks : List Lock) × Lists locks (modes_with old.locks r mode) ×
-    Settles (record old { locks = locks }) r.file messages new
+pub record ChangesLocks (old : State) (file : ℕ) (r : Range) (mode : Mode) (messages : List Message)
+    (new : State) : Type 0 where
+  pub locks : List Lock
+  pub lists : Lists locks (modes_with (of_file old.locks file) r mode)
+  pub settles : Settles (record old { locks = with_list old.locks file locks }) file messages new

@@ -9,6 +9,7 @@ pub mod Data
 pub mod DataSteps
 pub mod ExportFaults
 pub mod Exports
+pub mod FileLists
 pub mod FileSystemSteps
 pub mod Grants
 pub mod HandleLaws
@@ -18,6 +19,7 @@ pub mod LinkSteps
 pub mod LockLaws
 pub mod LockSteps
 pub mod Locks
+pub mod LocksFormed
 pub mod MakeSteps
 pub mod Making
 pub mod MountLaws

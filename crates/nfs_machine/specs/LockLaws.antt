@@ -1,41 +1,26 @@
 -- Laws of locks, shares and requests that wait (RFC 1813, appendix II).
-use Rattle.std.specs.Prelude.{◌≡◌, ℕ, Bool, false, not, ◌&&◌, List, nat_le, ◌==◌, Some}
-use Rattle.std.specs.List.{AllByRecursion, list_any}
+use Rattle.std.specs.Prelude.{◌≡◌, Bool, false, not, ◌&&◌, List, nat_le, Some}
+use Rattle.std.specs.List.{list_any}
 use Rattle.side_wire.specs.declared.message.Message.{Message}
 use Rattle.nfs_machine.specs.Chains.{Chain, Transition}
 use Rattle.nfs_machine.specs.Exports.{ExportValue}
-use Rattle.nfs_machine.specs.Grants.{IsHeldUp}
-use Rattle.nfs_machine.specs.Locks.{Conflicts, Mode, mode_at, modes_conflict, same_owner, shares_conflict}
+use Rattle.nfs_machine.specs.Grants.{AllHeldUp}
+use Rattle.nfs_machine.specs.Locks.{Conflicts, Mode, modes_conflict, same_owner}
+use Rattle.nfs_machine.specs.LocksFormed.{NoConflict}
 use Rattle.nfs_machine.specs.Opening.{opening}
-use Rattle.nfs_machine.specs.State.{Lock, Owner, Share, State, Range}
+use Rattle.nfs_machine.specs.State.{Lock, State, Range}
 use Rattle.nfs_machine.specs.Step.{Step}
 use Rattle.nfs_machine.specs.declared.calls.Call.{Call}
 use Rattle.nfs_machine.specs.declared.calls.Reply.{Reply}
 use Rattle.nfs_machine.specs.declared.context.Ctx.{Ctx}
 use Rattle.nfs_machine.specs.declared.moment.Moment.{Moment}
 
--- a listed lock that stands in the way: another owner's, with an offset of the range, and one of the two exclusive
+-- a listed lock of the file that stands in the way: another owner's, with an offset of the range, and one of the two
+-- exclusive
 abbrev pub stands_in_way : Range → Mode → Lock → Bool
 stands_in_way r mode l =
-    (l.file == r.file) && not
-    (same_owner r.owner l.owner) && nat_le l.first r.last && nat_le r.first l.last && modes_conflict mode
+    not (same_owner r.owner l.owner) && nat_le l.first r.last && nat_le r.first l.last && modes_conflict mode
     (Some l.exclusive)
-
--- no two owners have an offset in modes that conflict
-abbrev pub NoLocksConflict : List Lock → Type 0
-NoLocksConflict locks = (file : ℕ) (a b : Owner) (offset : ℕ) → same_owner a b ≡ false →
-    modes_conflict (mode_at locks file a offset) (mode_at locks file b offset) ≡ false
-
-abbrev pub NoSharesConflict : List Share → Type 0
-NoSharesConflict shares = AllByRecursion
-    (λ (a : Share). AllByRecursion (λ (b : Share). shares_conflict a b ≡ false) shares) shares
-
-abbrev pub NoConflict : State → Type 0
-NoConflict m = NoLocksConflict m.locks × NoSharesConflict m.shares
-
--- each request that waits conflicts with what is held
-abbrev pub AllHeldUp : State → Type 0
-AllHeldUp m = AllByRecursion (IsHeldUp m.locks) m.waiting
 
 -- where no listed lock stands in the way, nothing conflicts
 abbrev pub ListedLocksTell : Type 0

@@ -1,6 +1,7 @@
 -- Locks on ranges of files and share reservations: who has what, and what conflicts (RFC 1813, appendix II, 6.1.4).
 use Rattle.std.specs.Prelude.{◌≡◌, ℕ, ◌+◌, ◌-◌, ◌^◌, ◌≤◌, Bool, true, false, not, ◌&&◌}
-use Rattle.std.specs.Prelude.{◌||◌, List, Option, Some, option_map, nat_le, if◌then◌else◌, count_by, find}
+use Rattle.std.specs.Prelude.{◌||◌, List, Option, Some, None, option_map, nat_le, if◌then◌else◌, count_by}
+use Rattle.std.specs.Prelude.{find}
 use Rattle.std.specs.Prelude.{◌==◌}
 use Rattle.std.specs.Ordering.{int_eq}
 use Rattle.side_wire.specs.declared.message.NlmLock.{NlmLock}
@@ -22,40 +23,46 @@ same_owner a b = same_bytes a.caller_name b.caller_name && same_bytes a.owner b.
 abbrev pub is_within : (first last offset : ℕ) → Bool
 is_within first last offset = nat_le first offset && nat_le offset last
 
--- the range is this owner's, on this file, and contains this offset
-abbrev pub is_in : Range → ℕ → Owner → ℕ → Bool
-is_in r file owner offset = (r.file == file) && same_owner r.owner owner && is_within r.first r.last offset
+-- the range is this owner's and contains this offset
+abbrev pub is_in : Range → Owner → ℕ → Bool
+is_in r owner offset = same_owner r.owner owner && is_within r.first r.last offset
 
--- the mode of an owner at an offset of a file: that of the listed lock that contains it
-abbrev pub mode_at : List Lock → ℕ → Owner → ℕ → Mode
-mode_at locks file owner offset = option_map (λ (l : Lock). l.exclusive)
-    (find (λ (l : Lock). is_in l.range file owner offset) locks)
+-- the mode of an owner at an offset, among the locks of a file: that of the listed lock that contains it
+abbrev pub mode_at : List Lock → Owner → ℕ → Mode
+mode_at locks owner offset = option_map (λ (l : Lock). l.exclusive)
+    (find (λ (l : Lock). is_in l.range owner offset) locks)
 
--- the locks have these modes and no offset of an owner twice; in which ranges and in which order they are listed is
--- free
-pub record Lists (locks : List Lock) (modes : ℕ → Owner → ℕ → Mode) : Type 0 where
-  pub modes_are : (file : ℕ) (owner : Owner) (offset : ℕ) →
-      mode_at locks file owner offset ≡ modes file owner offset
-  pub once : (file : ℕ) (owner : Owner) (offset : ℕ) →
-      count_by (λ (l : Lock). is_in l.range file owner offset) locks ≤ 1
+-- no offset of an owner stands twice among the locks of a file
+abbrev pub OffsetsOnce : List Lock → Type 0
+OffsetsOnce locks = (owner : Owner) (offset : ℕ) → count_by (λ (l : Lock). is_in l.range owner offset) locks ≤ 1
+
+-- the locks of a file have these modes and no offset of an owner twice; in which ranges and in which order they are
+-- listed is free
+pub record Lists (locks : List Lock) (modes : Owner → ℕ → Mode) : Type 0 where
+  pub modes_are : (owner : Owner) (offset : ℕ) → mode_at locks owner offset ≡ modes owner offset
+  pub once : OffsetsOnce locks
 
 -- offsets have 64 bits (6.3.1)
 abbrev pub fits_offsets : NlmLock → Bool
 fits_offsets l = nat_le (l.offset + l.length) (2 ^ 64)
 
--- the range of a file that a call names; a length of 0 runs to the last offset of all (6.1.4)
-abbrev pub range_of : ℕ → NlmLock → Range
-range_of file l = let last = if l.length == 0 then 2 ^ 64 - 1 else l.offset + l.length - 1 in
+-- the range that a call names; a length of 0 runs to the last offset of all (6.1.4)
+abbrev pub range_of : NlmLock → Range
+range_of l = let last = if l.length == 0 then 2 ^ 64 - 1 else l.offset + l.length - 1 in
     record {
-      file = file;
       owner = record { caller_name = l.caller_name; owner = l.owner; process = l.process };
       first = l.offset;
       last = last;
     }
 
 -- the modes where the range's owner gets this mode on it, and all else is as before
-abbrev pub modes_with : List Lock → Range → Mode → ℕ → Owner → ℕ → Mode
-modes_with locks r mode file owner offset = if is_in r file owner offset then mode else mode_at locks file owner offset
+abbrev pub modes_with : List Lock → Range → Mode → Owner → ℕ → Mode
+modes_with locks r mode owner offset = if is_in r owner offset then mode else mode_at locks owner offset
+
+-- the modes where all owners of a caller lose what they have
+abbrev pub modes_without : List Lock → (caller_name : List ℕ) → Owner → ℕ → Mode
+modes_without locks name owner offset =
+    if same_bytes owner.caller_name name then None else mode_at locks owner offset
 
 -- two owners can't have one offset so: both have it, and one of them exclusively
 abbrev pub modes_conflict : Mode → Mode → Bool
@@ -68,11 +75,11 @@ pub record Conflicts (locks : List Lock) (r : Range) (mode : Mode) : Type 0 wher
   pub offset : ℕ
   pub is_other : same_owner r.owner other ≡ false
   pub is_inside : is_within r.first r.last offset ≡ true
-  pub conflict : modes_conflict mode (mode_at locks r.file other offset) ≡ true
+  pub conflict : modes_conflict mode (mode_at locks other offset) ≡ true
 
--- one sharer of one file: the same caller, and the same owner (oh) within it
+-- one sharer: the same caller, and the same owner (oh) within it
 abbrev pub same_sharer : Share → Share → Bool
-same_sharer a b = (a.file == b.file) && same_bytes a.caller_name b.caller_name && same_bytes a.owner b.owner
+same_sharer a b = same_bytes a.caller_name b.caller_name && same_bytes a.owner b.owner
 
 -- the access that one asks is denied by the mode of the other
 abbrev pub denies : ShareMode → ShareAccess → Bool
@@ -82,6 +89,6 @@ denies mode.DenyRead access.Write = false
 denies mode.DenyWrite access.Read = false
 denies denied asked = true
 
--- two shares that can't be had together
+-- two shares of a file that can't be had together
 abbrev pub shares_conflict : Share → Share → Bool
-shares_conflict a b = (a.file == b.file) && not (same_sharer a b) && (denies a.mode b.access || denies b.mode a.access)
+shares_conflict a b = not (same_sharer a b) && (denies a.mode b.access || denies b.mode a.access)

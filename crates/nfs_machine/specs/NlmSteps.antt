@@ -1,6 +1,5 @@
 -- The step of NLM version 4: each call has the step of its procedure (RFC 1813, appendix II, 6.2).
-use Rattle.std.specs.Prelude.{◌≡◌, ℕ, false, true, List, [], ◌∷◌, ◌++◌, find, if◌then◌else◌}
-use Rattle.std.specs.List.{list_any}
+use Rattle.std.specs.Prelude.{◌≡◌, ℕ, false, true, List, [], ◌∷◌, ◌++◌}
 use Rattle.side_wire.specs.declared.message.Callback.{Callback}
 use Rattle.side_wire.specs.declared.message.Callback.TheVariants as callbacks
 use Rattle.side_wire.specs.declared.message.Message.{Message}
@@ -11,11 +10,9 @@ use Rattle.side_wire.specs.declared.nlm.NlmReply.TheVariants as replies
 use Rattle.side_wire.specs.declared.nlm.NlmResult.{NlmResult}
 use Rattle.side_wire.specs.declared.nlm.NlmStatus.{NlmStatus}
 use Rattle.side_wire.specs.declared.nlm.NlmStatus.TheVariants as status
-use Rattle.side_wire.specs.declared.nlm.ShareMode.TheVariants as mode
 use Rattle.nfs_machine.specs.Answers.{Answers}
-use Rattle.nfs_machine.specs.LockSteps.{CancelEnds, Frees, GrantEnds, LockEnds, TestEnds, UnlockEnds, Checked}
-use Rattle.nfs_machine.specs.LockSteps.{file_checked, is_answered, share_of, without}
-use Rattle.nfs_machine.specs.Locks.{denies, same_sharer, shares_conflict}
+use Rattle.nfs_machine.specs.LockSteps.{CancelEnds, Frees, GrantAnswered, LockEnds, ShareEnds, TestEnds, UnlockEnds}
+use Rattle.nfs_machine.specs.LockSteps.{UnshareEnds}
 use Rattle.nfs_machine.specs.State.{State}
 use Rattle.nfs_machine.specs.declared.context.Ctx.{Ctx}
 
@@ -69,22 +66,11 @@ NlmStep old ctx (calls.LockRes r) = Answers replies.LockRes old
 NlmStep old ctx (calls.CancelRes r) = Answers replies.CancelRes old
 NlmStep old ctx (calls.UnlockRes r) = Answers replies.UnlockRes old
 -- GRANTED_RES, procedure 15
-NlmStep old ctx (calls.GrantedRes r) = λ reply messages new. let goes = is_answered ctx.host r.cookie in
-    (reply ≡ replies.GrantedRes) × GrantEnds old (find goes old.granted) goes r.status messages new
--- SHARE, procedure 20: a share that conflicts is denied, and any other takes the place of the sharer's own of the
--- file; access that DenyWrite denies is access to write
-NlmStep old ctx (calls.Share a) = Replies
-    (Checked (λ fault. fault.0) old (file_checked old ctx a.share.file true (denies mode.DenyWrite a.share.access))
-    (λ file.
-    let share = share_of file a.share in let conflicts = list_any (shares_conflict share) old.shares in
-    Answers (if conflicts then status.Denied else status.Granted)
-    (if conflicts then old else record old { shares = without (same_sharer share) old.shares ++ share ∷ [] })))
-    (λ s. replies.Share (result_with a.cookie s))
--- UNSHARE, procedure 21: the sharer has no share of the file any more
-NlmStep old ctx (calls.Unshare a) = Replies
-    (Checked (λ fault. fault.0) old (file_checked old ctx a.share.file true false) (λ file.
-    Answers status.Granted (record old { shares = without (same_sharer (share_of file a.share)) old.shares })))
-    (λ s. replies.Unshare (result_with a.cookie s))
+NlmStep old ctx (calls.GrantedRes r) = λ reply messages new. (reply ≡ replies.GrantedRes) ×
+    GrantAnswered old ctx r.cookie r.status messages new
+-- SHARE, procedure 20, and UNSHARE, procedure 21
+NlmStep old ctx (calls.Share a) = Replies (ShareEnds old ctx a) (λ s. replies.Share (result_with a.cookie s))
+NlmStep old ctx (calls.Unshare a) = Replies (UnshareEnds old ctx a) (λ s. replies.Unshare (result_with a.cookie s))
 -- NM_LOCK, procedure 22
 NlmStep old ctx (calls.NmLock a) = Replies (LockEnds old ctx a false) (λ s. replies.NmLock (result_with a.cookie s))
 -- FREE_ALL, procedure 23

@@ -39,9 +39,9 @@ opening exports moment = record {
   objects = opening_roots 1 exports (time_of moment);
   spent = λ number generation. nat_le generation (if nat_le 1 number && nat_le number (length exports) then 1 else 0);
   mounts = [];
-  locks = [];
-  shares = [];
-  waiting = [];
-  granted = [];
+  locks = empty;
+  shares = empty;
+  waiting = empty;
+  granted = empty;
   spent_grants = λ number. false;
 }

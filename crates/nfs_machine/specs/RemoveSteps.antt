@@ -14,10 +14,11 @@ use Rattle.nfs_machine.specs.Attributes.{is_directory, names_of}
 use Rattle.nfs_machine.specs.Bytes.{same_bytes}
 use Rattle.nfs_machine.specs.Checks.{◌>>=◌, holding, object_of, entries_in, changeable, permitted, entry_of}
 use Rattle.nfs_machine.specs.Checks.{name_checked}
+use Rattle.nfs_machine.specs.FileLists.{grants_but}
 use Rattle.nfs_machine.specs.Permission.{Changing}
 use Rattle.nfs_machine.specs.Resolve.{resolve}
 use Rattle.nfs_machine.specs.Shown.{wcc, touched, with_content, with_object}
-use Rattle.nfs_machine.specs.State.{Content, Directory, Entry, Living, Lock, Request, Share, State}
+use Rattle.nfs_machine.specs.State.{Content, Directory, Entry, Living, PendingGrant, State}
 use Rattle.nfs_machine.specs.Times.{time_of}
 use Rattle.nfs_machine.specs.declared.context.Ctx.{Ctx}
 
@@ -36,10 +37,10 @@ without entries name = filter (λ (e : Entry). not (same_bytes e.name name)) ent
 abbrev pub without_object : State → ℕ → State
 without_object m number = record m {
   objects = remove m.objects number;
-  locks = filter (λ (l : Lock). not (l.file == number)) m.locks;
-  shares = filter (λ (s : Share). not (s.file == number)) m.shares;
-  waiting = filter (λ (r : Request). not (r.file == number)) m.waiting;
-  granted = filter (λ (r : Request). not (r.file == number)) m.granted;
+  locks = remove m.locks number;
+  shares = remove m.shares number;
+  waiting = remove m.waiting number;
+  granted = grants_but (λ (g : PendingGrant). g.file == number) m.granted;
 }
 
 -- an object of so many names loses one: it goes with its last, and else its ctime changes

@@ -21,6 +21,7 @@ use Rattle.side_wire.specs.declared.nlm.TestStatus.{TestStatus}
 use Rattle.side_wire.specs.declared.nlm.TestStatus.TheVariants as tested
 use Rattle.nfs_machine.specs.Chains.{Chain, Transition}
 use Rattle.nfs_machine.specs.Exports.{ExportValue, LivingExport}
+use Rattle.nfs_machine.specs.FileLists.{of_file}
 use Rattle.nfs_machine.specs.Locks.{mode_at}
 use Rattle.nfs_machine.specs.MountSteps.{MountStep}
 use Rattle.nfs_machine.specs.NlmSteps.{NlmStep}
@@ -83,20 +84,22 @@ CallFits (nlm.Unshare a) = IsNetobj a.cookie
 CallFits (nlm.NmLock a) = IsNetobj a.cookie × HasLockForm a.lock
 CallFits call = Unit {0}
 
--- so is each owner (oh) that has something
+-- so is each owner (oh) that has something of a file
 abbrev pub OwnersFit : List Lock → Type 0
-OwnersFit locks = (file : ℕ) (owner : Owner) (offset : ℕ) → (mode_at locks file owner offset ≡ None → ⊥) →
+OwnersFit locks = (owner : Owner) (offset : ℕ) → (mode_at locks owner offset ≡ None → ⊥) →
     IsNetobj owner.owner
 
 -- a reply of NLM has a spelling
 abbrev pub NlmRepliesHaveForm : Type 0
 NlmRepliesHaveForm = (old : State) (ctx : Ctx) (call : NlmCall) (reply : NlmReply) (messages : List Message)
     (new : State)
-    → OwnersFit old.locks → CallFits call → NlmStep old ctx call reply messages new → HasNlmForm reply
+    → ((file : ℕ) → OwnersFit (of_file old.locks file)) → CallFits call →
+    NlmStep old ctx call reply messages new → HasNlmForm reply
 
 -- so are those of requests that wait
 abbrev pub LocksFit : State → Type 0
-LocksFit m = OwnersFit m.locks × AllByRecursion (λ (r : Request). HasLockForm r.asked) m.waiting
+LocksFit m = (file : ℕ) → OwnersFit (of_file m.locks file) ×
+    AllByRecursion (λ (r : Request). HasLockForm r.asked) (of_file m.waiting file)
 
 -- each message has a spelling, and what is held and waits stays within its bounds
 abbrev pub PutsForms : List Message → State → Type 0

@@ -47,9 +47,8 @@ pub record Owner : Type 0 where
   pub owner : List ℕ
   pub process : ℤ
 
--- a range of a file, for an owner
+-- a range of a file's offsets, for an owner
 pub record Range : Type 0 where
-  pub file : ℕ
   pub owner : Owner
   pub first : ℕ
   pub last : ℕ
@@ -61,21 +60,24 @@ pub record Lock : Type 0 where
 
 -- a share reservation: the access that its owner has, and the mode that denies others theirs
 pub record Share : Type 0 where
-  pub file : ℕ
   pub caller_name : List ℕ
   pub owner : List ℕ
   pub mode : ShareMode
   pub access : ShareAccess
 
--- a request for a lock, with the number that its grant has: it waits, or is held and not yet answered
+-- a request for a lock that waits, with the number that its grant has
 pub record Request : Type 0 where
   pub number : ℕ
-  pub file : ℕ
   pub host : List ℕ
   pub exclusive : Bool
   pub asked : NlmLock
   -- asked by LOCK_MSG
   pub by_message : Bool
+
+-- a request for a lock of this file that was granted, and is not answered yet
+pub record PendingGrant : Type 0 where
+  pub file : ℕ
+  pub request : Request
 
 pub record State : Type 0 where
   -- the living exports in the order given, and the greatest number that an export ever had
@@ -87,9 +89,12 @@ pub record State : Type 0 where
   pub spent : ℕ → ℕ → Bool
   -- the hosts with the paths that they mounted, as they sent them, in order of adding, each pair once
   pub mounts : List MountBody
-  pub locks : List Lock
-  pub shares : List Share
+  -- what there is of each file, by its number: no list in these maps is empty
+  pub locks : FinMap nat_cmp (List Lock)
+  pub shares : FinMap nat_cmp (List Share)
   -- in order of arrival
-  pub waiting : List Request
-  pub granted : List Request
+  pub waiting : FinMap nat_cmp (List Request)
+  -- the pending grants by their numbers
+  pub granted : FinMap nat_cmp PendingGrant
+  -- which numbers of grants were given, and are never given again
   pub spent_grants : ℕ → Bool

@@ -9,7 +9,10 @@ use Rattle.nfs_machine.specs.Attributes.{entries_of, is_directory, is_living_dir
 use Rattle.nfs_machine.specs.Bytes.{same_bytes}
 use Rattle.nfs_machine.specs.Exports.{LivingExport, export_at}
 use Rattle.nfs_machine.specs.Paths.{parts}
+use Rattle.nfs_machine.specs.LocksFormed.{LocksFormed}
+use Rattle.nfs_machine.specs.MountSteps.{is_of}
 use Rattle.nfs_machine.specs.State.{Directory, Link, Entry, Living, State}
+use Rattle.side_wire.specs.declared.mount.lists.MountBody.{MountBody}
 
 -- a living export names this object as its root
 abbrev pub is_root : State → ℕ → Bool
@@ -72,6 +75,17 @@ abbrev pub TextsFit : State → Type 0
 TextsFit m = (n : ℕ) (o : Living) (text : List ℕ) → get m.objects n ≡ Some o → o.content ≡ Link text →
     length text ≤ 4096
 
+-- each pair of a host and a path once
+abbrev pub MountsOnce : List MountBody → Type 0
+MountsOnce [] = Unit {0}
+MountsOnce (x ∷ mounts) = AllByRecursion (λ (y : MountBody). is_of x.hostname x.directory y ≡ false) mounts ×
+    MountsOnce mounts
+
+-- and no more of them than are kept
+pub record MountsFormed (mounts : List MountBody) : Type 0 where
+  pub once : MountsOnce mounts
+  pub few : length mounts ≤ 65536
+
 pub record WellFormed (m : State) : Type 0 where
   pub exports : ExportsStand m
   -- what lives is of a living export
@@ -92,6 +106,8 @@ pub record WellFormed (m : State) : Type 0 where
   -- the generation of what lives was given
   pub given : (n : ℕ) (o : Living) → get m.objects n ≡ Some o → m.spent n o.generation ≡ true
   pub texts : TextsFit m
+  pub locks : LocksFormed m
+  pub mounts : MountsFormed m.mounts
 
 -- the directory that a directory is named in; a root is its own parent
 pub record IsParent (m : State) (number parent : ℕ) : Type 0 where

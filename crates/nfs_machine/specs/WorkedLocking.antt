@@ -1,7 +1,8 @@
 -- Whole steps of MOUNT and NLM worked through by hand (RFC 1813, appendices I and II), from the state in which the
 -- file "x" was made and written.
 use Rattle.std.specs.Prelude.{◌≡◌, ◌-◌, ◌^◌, Bool, true, false, ℕ, ◌||◌, [], ◌∷◌, take, Ok}
-use Rattle.std.specs.Prelude.{Err, codes, pos, ◌==◌}
+use Rattle.std.specs.Prelude.{Err, codes, map, pos, ◌==◌}
+use Rattle.std.specs.FinMap.{empty}
 use Rattle.side_wire.specs.declared.message.NlmLock.{NlmLock}
 use Rattle.side_wire.specs.declared.mount.MountCall.TheVariants as mount
 use Rattle.side_wire.specs.declared.mount.MountReply.TheVariants as mount_replies
@@ -21,8 +22,9 @@ use Rattle.side_wire.specs.declared.nlm.TestArguments.{TestArguments}
 use Rattle.side_wire.specs.declared.nlm.TestStatus.TheVariants as tested
 use Rattle.side_wire.specs.declared.nlm.UnlockArguments.{UnlockArguments}
 use Rattle.nfs_machine.specs.Handles.{handle_bytes}
-use Rattle.nfs_machine.specs.Locks.{range_of}
-use Rattle.nfs_machine.specs.LockSteps.{range_checked}
+use Rattle.nfs_machine.specs.FileLists.{with_list}
+use Rattle.nfs_machine.specs.LockSteps.{NotRegular, RangeTooBig, ReadOnly, StaleHandle, lock_checked}
+use Rattle.nfs_machine.specs.LockSteps.{nlm_status_of, test_status_of}
 use Rattle.nfs_machine.specs.MountSteps.{MountStep}
 use Rattle.nfs_machine.specs.NlmSteps.{NlmStep, result_with}
 use Rattle.nfs_machine.specs.State.{Owner, Request, State}
@@ -41,19 +43,18 @@ locking o offset length block = record
 
 -- A has bytes 0 to 99, and gives back 40 to 59
 abbrev pub with_whole : State
-with_whole = record written { locks = whole }
+with_whole = record written { locks = with_list empty 5 whole }
 
 abbrev pub giving_back : UnlockArguments
 giving_back = record { cookie = 2 ∷ []; lock = on_x a 40 20 }
 
 abbrev pub with_split : State
-with_split = record written { locks = split }
+with_split = record written { locks = with_list empty 5 split }
 
 -- then B waits for byte 30
 abbrev pub waiting : Request
 waiting = record {
   number = 5;
-  file = 5;
   host = codes "10.0.0.1";
   exclusive = true;
   asked = on_x b 30 1;
@@ -61,7 +62,8 @@ waiting = record {
 }
 
 abbrev pub with_waiting : State
-with_waiting = record with_split { waiting = waiting ∷ []; spent_grants = λ n. (n == 5) || written.spent_grants n }
+with_waiting = record with_split
+    { waiting = with_list empty 5 (waiting ∷ []); spent_grants = λ n. (n == 5) || written.spent_grants n }
 
 -- B cancels that
 abbrev pub cancelling : CancelArguments
@@ -80,26 +82,29 @@ sharing o mode access = record {
 }
 
 abbrev pub with_reader : State
-with_reader = record written { shares = reading ∷ [] }
+with_reader = record written { shares = with_list empty 5 (reading ∷ []) }
 
 abbrev pub with_readers : State
-with_readers = record written { shares = reading ∷ reading_too ∷ [] }
+with_readers = record written { shares = with_list empty 5 (reading ∷ reading_too ∷ []) }
 
--- which file and range a call names: each check before the next
+-- which file a call names: each check before the next
 pub record WorkedChecks : Type 0 where
-  pub good : range_checked written nobody true (on_x a 0 100) ≡ Ok (range_of 5 (on_x a 0 100))
-  pub last_byte : range_checked written nobody true (on_x a (2 ^ 64 - 1) 1) ≡ Ok (range_of 5 (on_x a (2 ^ 64 - 1) 1))
-  pub no_handle : range_checked written nobody true (record (on_x a 0 1) { file = take 31 x_bytes }) ≡ Err
-      (status.StaleHandle, tested.StaleHandle)
-  pub other_start : range_checked written nobody true
+  pub good : lock_checked written nobody true (on_x a 0 100) ≡ Ok 5
+  pub last_byte : lock_checked written nobody true (on_x a (2 ^ 64 - 1) 1) ≡ Ok 5
+  pub no_handle : lock_checked written nobody true (record (on_x a 0 1) { file = take 31 x_bytes }) ≡ Err StaleHandle
+  pub other_start : lock_checked written nobody true
       (record (on_x a 0 1) { file = handle_bytes (record { export = 1; start = 8; fileid = 5; generation = 1 }) }) ≡
-      Err (status.StaleHandle, tested.StaleHandle)
-  pub directory : range_checked written nobody true (record (on_x a (2 ^ 64 - 1) 2) { file = root_bytes }) ≡ Err
-      (status.Failed, tested.Failed)
-  pub above : range_checked (read_only written) nobody true (on_x a (2 ^ 64 - 1) 2) ≡ Err
-      (status.FileTooBig, tested.FileTooBig)
-  pub exclusive : range_checked (read_only written) nobody true (on_x a 0 1) ≡ Err (status.ReadOnly, tested.ReadOnly)
-  pub shared : range_checked (read_only written) nobody false (on_x a 0 1) ≡ Ok (range_of 5 (on_x a 0 1))
+      Err StaleHandle
+  pub directory : lock_checked written nobody true (record (on_x a (2 ^ 64 - 1) 2) { file = root_bytes }) ≡
+      Err NotRegular
+  pub above : lock_checked (read_only written) nobody true (on_x a (2 ^ 64 - 1) 2) ≡ Err RangeTooBig
+  pub exclusive : lock_checked (read_only written) nobody true (on_x a 0 1) ≡ Err ReadOnly
+  pub shared : lock_checked (read_only written) nobody false (on_x a 0 1) ≡ Ok 5
+  -- how a call at fault is answered
+  pub statuses : map nlm_status_of (StaleHandle ∷ NotRegular ∷ RangeTooBig ∷ ReadOnly ∷ []) ≡
+      status.StaleHandle ∷ status.Failed ∷ status.FileTooBig ∷ status.ReadOnly ∷ []
+  pub test_statuses : map test_status_of (StaleHandle ∷ NotRegular ∷ RangeTooBig ∷ ReadOnly ∷ []) ≡
+      tested.StaleHandle ∷ tested.Failed ∷ tested.FileTooBig ∷ tested.ReadOnly ∷ []
 
 pub record WorkedLocking : Type 0 where
   pub locks : NlmStep written nobody (nlm.Lock (locking a 0 100 true))
@@ -112,7 +117,7 @@ pub record WorkedLocking : Type 0 where
   pub waits_once : NlmStep with_waiting nobody (nlm.Lock (locking b 30 1 true))
       (nlm_replies.Lock (result_with (1 ∷ []) status.Blocked)) [] with_waiting
   pub cancels : NlmStep with_waiting nobody (nlm.Cancel cancelling)
-      (nlm_replies.Cancel (result_with (3 ∷ []) status.Granted)) [] (record with_waiting { waiting = [] })
+      (nlm_replies.Cancel (result_with (3 ∷ []) status.Granted)) [] (record with_waiting { waiting = empty })
   pub cancels_none : NlmStep with_split nobody (nlm.Cancel cancelling)
       (nlm_replies.Cancel (result_with (3 ∷ []) status.Denied)) [] with_split
   pub tests : NlmStep with_split nobody (nlm.Test testing)
@@ -137,7 +142,8 @@ pub record WorkedLocking : Type 0 where
       (nlm.Unshare (sharing (record a { caller_name = codes "c3" }) mode.DenyNone access.Neither))
       (nlm_replies.Unshare (result_with (5 ∷ []) status.Granted)) [] with_readers
   pub unshares : NlmStep with_readers nobody (nlm.Unshare (sharing a mode.DenyWrite access.Read))
-      (nlm_replies.Unshare (result_with (5 ∷ []) status.Granted)) [] (record written { shares = reading_too ∷ [] })
+      (nlm_replies.Unshare (result_with (5 ∷ []) status.Granted)) []
+      (record written { shares = with_list empty 5 (reading_too ∷ []) })
   pub denied : NlmStep with_split nobody (nlm.NmLock (locking b 30 1 false))
       (nlm_replies.NmLock (result_with (1 ∷ []) status.Denied)) [] with_split
   pub mounts : MountStep written nobody (mount.Mnt (codes "/a")) (mount_replies.Mnt (Ok root_bytes)) []

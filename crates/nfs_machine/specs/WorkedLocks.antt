@@ -1,7 +1,9 @@
 -- Locks and shares worked through by hand (RFC 1813, appendix II), and lists of MOUNT (appendix I, 5.2.2 to 5.2.5).
 use Rattle.std.specs.Prelude.{◌≡◌, ℕ, ◌-◌, ◌^◌, Bool, true, false, List, [], ◌∷◌, Err, codes}
 use Rattle.std.specs.Prelude.{pos, None, Some}
+use Rattle.std.specs.FinMap.{FinMap, get}
 use Rattle.std.specs.List.{list_any}
+use Rattle.std.specs.Ordering.{nat_cmp}
 use Rattle.side_wire.specs.declared.message.Callback.TheVariants as callbacks
 use Rattle.side_wire.specs.declared.message.NlmLock.{NlmLock}
 use Rattle.side_wire.specs.declared.mount.MountStatus.TheVariants as mount_status
@@ -13,7 +15,8 @@ use Rattle.side_wire.specs.declared.nlm.ShareMode.TheVariants as mode
 use Rattle.side_wire.specs.declared.nlm.TestArguments.{TestArguments}
 use Rattle.side_wire.specs.declared.nlm.TestStatus.TheVariants as tested
 use Rattle.nfs_machine.specs.Grants.{grant_cookie, grant_message}
-use Rattle.nfs_machine.specs.LockSteps.{Tests, is_grant_number, length_shown, share_of, without}
+use Rattle.nfs_machine.specs.FileLists.{all_but, of_file, with_list}
+use Rattle.nfs_machine.specs.LockSteps.{Tests, is_grant_number, length_shown, share_of}
 use Rattle.nfs_machine.specs.Locks.{Lists, denies, fits_offsets, modes_conflict, modes_with, range_of, same_sharer}
 use Rattle.nfs_machine.specs.Locks.{shares_conflict, Mode}
 use Rattle.nfs_machine.specs.MountSteps.{MountStep, walk, with_mount}
@@ -42,17 +45,17 @@ a = record { caller_name = codes "c1"; owner = 1 ∷ []; process = pos 1 }
 abbrev pub b : Owner
 b = record { caller_name = codes "c2"; owner = 2 ∷ []; process = pos 2 }
 
--- a lock as a caller names it, and the range that it is on file 5
+-- a lock as a caller names it, and the range that it is
 abbrev pub asked : Owner → ℕ → ℕ → NlmLock
 asked o offset length = record
     { caller_name = o.caller_name; file = []; owner = o.owner; process = o.process; offset = offset; length = length }
 
-abbrev pub on_file : Owner → ℕ → ℕ → Range
-on_file o offset length = range_of 5 (asked o offset length)
+abbrev pub range_at : Owner → ℕ → ℕ → Range
+range_at o offset length = range_of (asked o offset length)
 
 abbrev pub lock : Owner → ℕ → ℕ → Bool → Lock
 lock o first last exclusive = record
-    { range = record { file = 5; owner = o; first = first; last = last }; exclusive = exclusive }
+    { range = record { owner = o; first = first; last = last }; exclusive = exclusive }
 
 -- A has 0 to 99 exclusively
 abbrev pub whole : List Lock
@@ -70,50 +73,49 @@ abbrev pub holder : ℕ → ℕ → LockHolder
 holder offset length = record { exclusive = true; process = pos 1; owner = 1 ∷ []; offset = offset; length = length }
 
 pub record WorkedRanges : Type 0 where
-  pub end_of_100 : (range_of 5 (asked a 0 100)).last ≡ 99
-  pub to_end : (range_of 5 (asked a 200 0)).last ≡ 2 ^ 64 - 1
+  pub end_of_100 : (range_of (asked a 0 100)).last ≡ 99
+  pub to_end : (range_of (asked a 200 0)).last ≡ 2 ^ 64 - 1
   pub last_byte : fits_offsets (asked a (2 ^ 64 - 1) 1) ≡ true
   pub above : fits_offsets (asked a (2 ^ 64 - 1) 2) ≡ false
   pub all_but_one : fits_offsets (asked a 1 (2 ^ 64 - 1)) ≡ true
   pub shown : length_shown 60 99 ≡ 40
   pub shown_to_end : length_shown 200 (2 ^ 64 - 1) ≡ 0
   -- LOCK of 0 to 99
-  pub locked : Lists whole (modes_with [] (on_file a 0 100) Exclusive)
+  pub locked : Lists whole (modes_with [] (range_at a 0 100) Exclusive)
   -- UNLOCK of 20 bytes from 40 on
-  pub at_39 : modes_with whole (on_file a 40 20) Unlocked 5 a 39 ≡ Exclusive
-  pub at_40 : modes_with whole (on_file a 40 20) Unlocked 5 a 40 ≡ Unlocked
-  pub at_59 : modes_with whole (on_file a 40 20) Unlocked 5 a 59 ≡ Unlocked
-  pub at_60 : modes_with whole (on_file a 40 20) Unlocked 5 a 60 ≡ Exclusive
-  pub at_100 : modes_with whole (on_file a 40 20) Unlocked 5 a 100 ≡ Unlocked
-  pub of_other : modes_with whole (on_file a 40 20) Unlocked 5 b 30 ≡ Unlocked
+  pub at_39 : modes_with whole (range_at a 40 20) Unlocked a 39 ≡ Exclusive
+  pub at_40 : modes_with whole (range_at a 40 20) Unlocked a 40 ≡ Unlocked
+  pub at_59 : modes_with whole (range_at a 40 20) Unlocked a 59 ≡ Unlocked
+  pub at_60 : modes_with whole (range_at a 40 20) Unlocked a 60 ≡ Exclusive
+  pub at_100 : modes_with whole (range_at a 40 20) Unlocked a 100 ≡ Unlocked
+  pub of_other : modes_with whole (range_at a 40 20) Unlocked b 30 ≡ Unlocked
   -- an owner is a caller, an owner within it and a process
-  pub of_other_process : modes_with whole (on_file a 40 20) Unlocked 5 (record a { process = pos 2 }) 30 ≡ Unlocked
-  pub of_other_owner : modes_with whole (on_file a 40 20) Unlocked 5 (record a { owner = 2 ∷ [] }) 30 ≡ Unlocked
-  pub of_other_caller : modes_with whole (on_file a 40 20) Unlocked 5
+  pub of_other_process : modes_with whole (range_at a 40 20) Unlocked (record a { process = pos 2 }) 30 ≡ Unlocked
+  pub of_other_owner : modes_with whole (range_at a 40 20) Unlocked (record a { owner = 2 ∷ [] }) 30 ≡ Unlocked
+  pub of_other_caller : modes_with whole (range_at a 40 20) Unlocked
       (record a { caller_name = codes "c2" }) 30 ≡ Unlocked
-  pub of_other_file : modes_with whole (on_file a 40 20) Unlocked 6 a 30 ≡ Unlocked
+  -- what a file has is its own, and no empty list stands
+  pub of_file_5 : (locks : FinMap nat_cmp (List Lock)) → of_file (with_list locks 5 whole) 5 ≡ whole
+  pub of_other_file : (locks : FinMap nat_cmp (List Lock)) → of_file (with_list locks 5 whole) 6 ≡ of_file locks 6
+  pub of_no_lock : (locks : FinMap nat_cmp (List Lock)) → get (with_list locks 5 []) 5 ≡ None
   -- a shared lock of 10 bytes from 50 on inside the exclusive one
-  pub shared_at_55 : modes_with whole (on_file a 50 10) Shared 5 a 55 ≡ Shared
-  pub exclusive_at_45 : modes_with whole (on_file a 50 10) Shared 5 a 45 ≡ Exclusive
+  pub shared_at_55 : modes_with whole (range_at a 50 10) Shared a 55 ≡ Shared
+  pub exclusive_at_45 : modes_with whole (range_at a 50 10) Shared a 45 ≡ Exclusive
   pub shared_beside_shared : modes_conflict Shared Shared ≡ false
   pub shared_beside_exclusive : modes_conflict Shared Exclusive ≡ true
 
 -- exclusive TESTs
 pub record WorkedTests : Type 0 where
-  pub at_30 : (m : State) →
-      Tests (record m { locks = split }) (on_file b 30 1) Exclusive (tested.Denied (holder 0 40))
-  pub part_of_it : (m : State) →
-      Tests (record m { locks = split }) (on_file b 30 1) Exclusive (tested.Denied (holder 30 5))
-  pub at_50 : (m : State) → Tests (record m { locks = split }) (on_file b 50 1) Exclusive tested.Granted
-  pub at_99 : (m : State) →
-      Tests (record m { locks = split }) (on_file b 99 1) Exclusive (tested.Denied (holder 60 40))
-  pub at_the_end : (m : State) →
-      Tests (record m { locks = to_the_end }) (on_file b (2 ^ 64 - 1) 1) Exclusive (tested.Denied (holder 200 0))
+  pub at_30 : Tests split (range_at b 30 1) Exclusive (tested.Denied (holder 0 40))
+  pub part_of_it : Tests split (range_at b 30 1) Exclusive (tested.Denied (holder 30 5))
+  pub at_50 : Tests split (range_at b 50 1) Exclusive tested.Granted
+  pub at_99 : Tests split (range_at b 99 1) Exclusive (tested.Denied (holder 60 40))
+  pub at_the_end : Tests to_the_end (range_at b (2 ^ 64 - 1) 1) Exclusive (tested.Denied (holder 200 0))
   -- A's own locks don't stand in its way
-  pub own : (m : State) → Tests (record m { locks = split }) (on_file a 0 0) Exclusive tested.Granted
+  pub own : Tests split (range_at a 0 0) Exclusive tested.Granted
 
 abbrev pub share : Owner → ShareMode → ShareAccess → Share
-share o denied taken = share_of 5
+share o denied taken = share_of
     (record { caller_name = o.caller_name; file = []; owner = o.owner; mode = denied; access = taken })
 
 -- A denies writing and reads
@@ -129,24 +131,23 @@ pub record WorkedShares : Type 0 where
   pub reading_is_not : list_any (shares_conflict reading_too) (reading ∷ []) ≡ false
   pub denying_readers : list_any (shares_conflict (share a mode.DenyRead access.Read))
       (reading ∷ reading_too ∷ []) ≡ true
-  pub other_file : shares_conflict (record (share b mode.DenyNone access.Write) { file = 6 }) reading ≡ false
   -- access that a mode denies, and access that it does not
   pub both : denies mode.DenyReadWrite access.Write ≡ true
   pub one_of_two : denies mode.DenyRead access.ReadWrite ≡ true
   pub the_other : denies mode.DenyRead access.Write ≡ false
   pub neither : denies mode.DenyReadWrite access.Neither ≡ false
-  pub unshare_of_none : without
+  pub unshare_of_none : all_but
       (same_sharer (share (record a { caller_name = codes "c3" }) mode.DenyNone access.Neither))
       (reading ∷ reading_too ∷ []) ≡ reading ∷ reading_too ∷ []
   -- an owner of shares is a caller and an owner within it
   pub of_other_owner : same_sharer reading (share (record a { owner = 2 ∷ [] }) mode.DenyWrite access.Read) ≡ false
   pub of_any_process : same_sharer reading (share (record a { process = pos 2 }) mode.DenyNone access.Write) ≡ true
-  pub unshare : without (same_sharer reading) (reading ∷ reading_too ∷ []) ≡ reading_too ∷ []
+  pub unshare : all_but (same_sharer reading) (reading ∷ reading_too ∷ []) ≡ reading_too ∷ []
 
 -- B asked for bytes 30 to 39 from the host h2, exclusively
 abbrev pub granted_request : Bool → Request
 granted_request by_message = record
-    { number = 69; file = 5; host = codes "h2"; exclusive = true; asked = asked b 30 10; by_message = by_message }
+    { number = 69; host = codes "h2"; exclusive = true; asked = asked b 30 10; by_message = by_message }
 
 abbrev pub grant_arguments : TestArguments
 grant_arguments = record {

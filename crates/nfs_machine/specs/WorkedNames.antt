@@ -2,7 +2,8 @@
 -- 3.3.15).
 use Rattle.std.specs.Prelude.{◌≡◌, ℕ, ℤ, true, false, List, [], ◌∷◌, ◌++◌, Option, Some, None}
 use Rattle.std.specs.Prelude.{Result, Ok, Err, codes, replicate, is_none}
-use Rattle.std.specs.FinMap.{get}
+use Rattle.std.specs.FinMap.{FinMap, empty, get, insert}
+use Rattle.std.specs.Ordering.{nat_cmp}
 use Rattle.nfs_wire.specs.declared.attributes.DeviceNumber.{DeviceNumber}
 use Rattle.nfs_wire.specs.declared.calls.Ordinary.TheVariants as ordinary
 use Rattle.nfs_wire.specs.declared.calls.Special.TheVariants.{BlockDevice, Fifo, Other}
@@ -12,6 +13,7 @@ use Rattle.side_wire.specs.declared.nlm.ShareAccess.TheVariants as access
 use Rattle.side_wire.specs.declared.nlm.ShareMode.TheVariants as mode
 use Rattle.nfs_machine.specs.Attributes.{is_directory, links_of, names_in, names_of}
 use Rattle.nfs_machine.specs.Checks.{plain_name_checked, entry_of}
+use Rattle.nfs_machine.specs.FileLists.{with_list}
 use Rattle.nfs_machine.specs.MakeSteps.{wanted_of, wanted_special}
 use Rattle.nfs_machine.specs.Making.{Wanted, given_attributes, kind_checked, new_object}
 use Rattle.nfs_machine.specs.Refusal.{nothing}
@@ -21,7 +23,9 @@ use Rattle.nfs_wire.specs.declared.calls.RenameArguments.{RenameArguments}
 use Rattle.nfs_wire.specs.declared.status.NfsStatus.TheVariants as status
 use Rattle.nfs_machine.specs.Resolve.{Stale, Names}
 use Rattle.nfs_machine.specs.Shown.{after_first, touched, wcc, with_content, with_object}
-use Rattle.nfs_machine.specs.State.{Content, Regular, Directory, Link, Entry, Living, Lock, Request, Share, State}
+use Rattle.nfs_machine.specs.State.{Content, Regular, Directory, Link, Entry, Living, Lock, PendingGrant, Request}
+use Rattle.nfs_machine.specs.State.{Share}
+use Rattle.nfs_machine.specs.State.{State}
 use Rattle.nfs_machine.specs.State as state
 use Rattle.nfs_machine.specs.Worked.{object}
 use Rattle.nfs_machine.specs.WorkedCreate.{called_as, no_attributes, sized}
@@ -92,10 +96,9 @@ abbrev pub both_entries : List Entry
 both_entries = first_entry ∷ second_entry ∷ []
 
 -- a lock of one byte of a file
-abbrev pub lock_of : ℤ → ℕ → Lock
-lock_of process file = record {
+abbrev pub lock_of : ℤ → Lock
+lock_of process = record {
   range = record {
-    file = file;
     owner = record { caller_name = codes "c"; owner = codes "o"; process = process };
     first = 0;
     last = 0;
@@ -103,14 +106,23 @@ lock_of process file = record {
   exclusive = true;
 }
 
--- a share of it, and a request for a lock of it
-abbrev pub share_of : ℕ → Share
-share_of file = record
-    { file = file; caller_name = codes "c"; owner = codes "o"; mode = mode.DenyNone; access = access.Read }
+-- a share of it, a request for a lock of it, and one of a file that was granted
+abbrev pub a_share : Share
+a_share = record { caller_name = codes "c"; owner = codes "o"; mode = mode.DenyNone; access = access.Read }
 
-abbrev pub request_of : NlmLock → ℕ → Request
-request_of lock file = record
-    { number = 1; file = file; host = codes "h"; exclusive = true; asked = lock; by_message = false }
+abbrev pub request_of : NlmLock → Request
+request_of lock = record
+    { number = 1; host = codes "h"; exclusive = true; asked = lock; by_message = false }
+
+abbrev pub grant_of : NlmLock → ℕ → PendingGrant
+grant_of lock file = record { file = file; request = request_of lock }
+
+-- what the fifth file has, and what the fourth has beside it
+abbrev pub of_5 : {A : Type 0} → A → FinMap nat_cmp (List A)
+of_5 x = with_list empty 5 (x ∷ [])
+
+abbrev pub of_4_and_5 : {A : Type 0} → A → FinMap nat_cmp (List A)
+of_4_and_5 x = with_list (of_5 x) 4 (x ∷ [])
 
 -- what REMOVE and RMDIR take away, and what becomes of an object
 pub record WorkedRemovals : Type 0 where
@@ -130,17 +142,14 @@ pub record WorkedRemovals : Type 0 where
   pub changed : (touched (object 420 (Regular [])) (time 1000 0)) ≡ record
       (object 420 (Regular [])) { changed = time 1000 0 }
   pub locks_go : (m : State) (process : ℤ) →
-      (without_object (record m { locks = lock_of process 4 ∷ lock_of process 5 ∷ [] }) 4).locks ≡
-      lock_of process 5 ∷ []
+      (without_object (record m { locks = of_4_and_5 (lock_of process) }) 4).locks ≡ of_5 (lock_of process)
   -- and its shares, and what waits for a lock of it or was granted
-  pub shares_go : (m : State) →
-      (without_object (record m { shares = share_of 4 ∷ share_of 5 ∷ [] }) 4).shares ≡ share_of 5 ∷ []
+  pub shares_go : (m : State) → (without_object (record m { shares = of_4_and_5 a_share }) 4).shares ≡ of_5 a_share
   pub waiting_go : (m : State) (lock : NlmLock) →
-      (without_object (record m { waiting = request_of lock 4 ∷ request_of lock 5 ∷ [] }) 4).waiting ≡
-      request_of lock 5 ∷ []
+      (without_object (record m { waiting = of_4_and_5 (request_of lock) }) 4).waiting ≡ of_5 (request_of lock)
   pub grants_go : (m : State) (lock : NlmLock) →
-      (without_object (record m { granted = request_of lock 4 ∷ request_of lock 5 ∷ [] }) 4).granted ≡
-      request_of lock 5 ∷ []
+      (without_object (record m { granted = insert (insert empty 2 (grant_of lock 5)) 1 (grant_of lock 4) }) 4).granted
+      ≡ insert empty 2 (grant_of lock 5)
 
 -- the links of a directory or a file
 pub record WorkedLinks : Type 0 where

@@ -156,10 +156,12 @@ pub fn steps_keep_exports()
 
 /// What is true of the state that a server starts with stays true: each export has its number and a root of its own,
 /// names lead to living objects of their export and none to a root, the directories of an export form one tree,
-/// cookies rise, and the texts of links are within their bound. The exports that it starts with are faultless, as
-/// those of `Exports::new` are.
+/// cookies rise, the texts of links are within their bound, and what is mounted stands once and within its bound.
+/// Locks, shares, waiting requests and pending grants are of living regular files, conflict with nothing, or with what
+/// is held where they wait, and have numbers of their own that were given. The exports that it starts with are
+/// faultless, as those of `Exports::new` are.
 ///
-/// Such a run is `worked_run`.
+/// Such a run is `worked_run`. Locks are held and waited for in `worked_locking`.
 pub fn states_stay_well_formed()
     ensures opening { OpeningIsFormed }
     ensures steps { StepsKeepForm }

@@ -1,5 +1,5 @@
-use Rattle.std.proofs.Common.{refl}
 use Rattle.nfs_machine.proofs.Kept.{chains_keep_apart, steps_keep_apart}
+use Rattle.nfs_machine.proofs.Opened.{nothing_conflicts}
 use Rattle.nfs_machine.proofs.laws.owners_never_conflict.Goals as goal
 
 pub returns-clause-steps : goal.returns-clause-steps
@@ -9,4 +9,4 @@ pub returns-clause-chains : goal.returns-clause-chains
 returns-clause-chains c = chains_keep_apart
 
 pub returns-clause-opening : goal.returns-clause-opening
-returns-clause-opening c = λ exports moment. ((λ file a b offset other. refl), tt)
+returns-clause-opening c = nothing_conflicts

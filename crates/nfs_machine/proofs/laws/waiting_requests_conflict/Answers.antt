@@ -1,4 +1,5 @@
 use Rattle.nfs_machine.proofs.Kept.{chains_keep_waiting, steps_keep_waiting}
+use Rattle.nfs_machine.proofs.Opened.{nothing_waits}
 use Rattle.nfs_machine.proofs.laws.waiting_requests_conflict.Goals as goal
 
 pub returns-clause-steps : goal.returns-clause-steps
@@ -8,4 +9,4 @@ pub returns-clause-chains : goal.returns-clause-chains
 returns-clause-chains c = chains_keep_waiting
 
 pub returns-clause-opening : goal.returns-clause-opening
-returns-clause-opening c = λ exports moment. tt
+returns-clause-opening c = nothing_waits

@@ -1,5 +1,8 @@
 use Rattle.nfs_machine.proofs.Ranges.{locked}
 use Rattle.std.proofs.Common.{refl}
+use Rattle.nfs_machine.specs.WorkedLocks.{whole}
+use Rattle.nfs_machine.proofs.Changes.{differs-remove}
+use Rattle.nfs_machine.proofs.FileMaps.{of-other, of-there}
 use Rattle.nfs_machine.proofs.worked.worked_ranges.Goals as goal
 
 pub returns : goal.returns
@@ -21,7 +24,9 @@ returns c = record {
   of_other_process = refl;
   of_other_owner = refl;
   of_other_caller = refl;
-  of_other_file = refl;
+  of_file_5 = λ locks. of-there locks 5 whole;
+  of_other_file = λ locks. of-other locks 5 whole 6 refl;
+  of_no_lock = λ locks. differs-remove locks 5 5;
   shared_at_55 = refl;
   exclusive_at_45 = refl;
   shared_beside_shared = refl;

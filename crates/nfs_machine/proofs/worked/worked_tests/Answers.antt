@@ -1,15 +1,15 @@
 use Rattle.std.proofs.Common.{refl}
 use Rattle.nfs_machine.proofs.Modes.{listed_locks_tell}
 use Rattle.nfs_machine.proofs.Ranges.{at-30, part-of-it, at-99, at-the-end}
-use Rattle.nfs_machine.specs.WorkedLocks.{a, b, on_file, split, Exclusive}
+use Rattle.nfs_machine.specs.WorkedLocks.{a, b, range_at, split, Exclusive}
 use Rattle.nfs_machine.proofs.worked.worked_tests.Goals as goal
 
 pub returns : goal.returns
 returns c = record {
   at_30 = at-30;
   part_of_it = part-of-it;
-  at_50 = λ m. listed_locks_tell split (on_file b 50 1) Exclusive refl;
+  at_50 = listed_locks_tell split (range_at b 50 1) Exclusive refl;
   at_99 = at-99;
   at_the_end = at-the-end;
-  own = λ m. listed_locks_tell split (on_file a 0 0) Exclusive refl;
+  own = listed_locks_tell split (range_at a 0 0) Exclusive refl;
 }

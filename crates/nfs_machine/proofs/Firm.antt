@@ -1,0 +1,514 @@
+-- What is true of locks, shares, requests that wait and pending grants in every state, but that nothing conflicts and
+-- that what waits is held up: changes of one file's lists keep it.
+use Rattle.std.proofs.Common.{◌≡◌, ◌==◌, ℕ, ◌+◌, ◌≤◌, Bool, true, false, not, ◌||◌, cond}
+use Rattle.std.proofs.Common.{List, [], ◌∷◌, ◌++◌}
+use Rattle.std.proofs.Common.{Some, None, filter, unwrap_or, is_ok, is_some, nat_le, refl, sym, ◌∙◌, ap, subst}
+use Rattle.std.proofs.Common.{arith}
+use Rattle.std.proofs.lemmas.List.Sums.{sum_by-append}
+use Rattle.std.specs.Cmp.{unsigned_Decides}
+use Rattle.std.specs.FinMap.{FinMap, contains_key, entries, get, insert, remove, values}
+use Rattle.std.specs.List.{AllByRecursion, sum_by}
+use Rattle.std.specs.Ordering.{nat_cmp}
+use Rattle.side_wire.specs.declared.message.Message.{Message}
+use Rattle.nfs_machine.specs.FileLists.{all_but, grants_but, of_file, relisted, with_list}
+use Rattle.nfs_machine.specs.Grants.{AllHeldUp, Grants}
+use Rattle.nfs_machine.specs.Locks.{OffsetsOnce}
+use Rattle.nfs_machine.specs.LocksFormed.{AreOfFiles, IsFile, IsPending, LocksFormed, NoConflict, count_of, uses_of}
+use Rattle.nfs_machine.specs.LockSteps.{is_grant_number}
+use Rattle.nfs_machine.specs.Checks.{bytes_in}
+use Rattle.nfs_machine.specs.RemoveSteps.{losing_name, without_object}
+use Rattle.nfs_machine.specs.Shown.{touched, with_object}
+use Rattle.nfs_machine.specs.State.{Content, Directory, Entry, Living, Lock, PendingGrant, Request, Share, State}
+use Rattle.nfs_wire.specs.declared.attributes.Time.{Time}
+use Rattle.side_wire.specs.declared.mount.lists.MountBody.{MountBody}
+use Rattle.nfs_machine.proofs.Changes.{differs-insert, differs-remove, flipped, itself}
+use Rattle.nfs_machine.proofs.FileMaps.{count-joined, count-left, differs-with, each-relisted, each-with, get-relisted}
+use Rattle.nfs_machine.proofs.FileMaps.{grants-left, has-left, kept, kept-some, remade, total-entries}
+use Rattle.nfs_machine.proofs.FileMaps.{total-with}
+use Rattle.nfs_machine.proofs.Modes.{all-joined, all-left, all-middle, all-removed}
+
+-- ---- files that live on
+-- each regular file is one in the other state too
+abbrev pub FilesOn : (base other : FinMap nat_cmp Living) → Type 0
+FilesOn base other = (n : ℕ) → IsFile base n → IsFile other n
+
+module _ (base other : FinMap nat_cmp Living) (on : FilesOn base other) where
+  put-on : (number : ℕ) (o : Living) → (IsFile base number → is_ok (bytes_in o.content) ≡ true)
+      → FilesOn base (insert other number o)
+  put-on number o regular n f =
+      elim (n == number) as (λ b. (n == number) ≡ b → IsFile (insert other number o) n) [
+        | true ↦ λ e. record {
+          object = o;
+          lives = differs-insert other number o n ∙ ap (λ b. cond b (Some o) (get other n)) e;
+          regular = regular (subst (IsFile base) ((unsigned_Decides n number).0 e) f);
+        }
+        | false ↦ λ e. (let x = on n f in record {
+          object = x.object;
+          lives = differs-insert other number o n ∙ ap (λ b. cond b (Some o) (get other n)) e ∙ x.lives;
+          regular = x.regular;
+        })
+      ] refl
+
+  -- over what lived there
+  pub put-over : (number : ℕ) (was is : Living) → get base number ≡ Some was
+      → (is_ok (bytes_in was.content) ≡ true → is_ok (bytes_in is.content) ≡ true) →
+      FilesOn base (insert other number is)
+  put-over number was is at regular = put-on number is (λ f.
+      let both : Some f.object ≡ Some was = sym f.lives ∙ at in
+      let same : f.object ≡ was = cc in
+      regular (subst (λ (o : Living). is_ok (bytes_in o.content) ≡ true) same f.regular))
+
+  -- over a directory
+  pub put-directory : (number : ℕ) (was is : Living) (entries : List Entry) (last : ℕ) →
+      get base number ≡ Some was
+      → was.content ≡ Directory entries last → FilesOn base (insert other number is)
+  put-directory number was is entries last at content = put-over number was is at (λ regular.
+      let none : false ≡ true = sym (ap (λ (c : Content). is_ok (bytes_in c)) content) ∙ regular in cc)
+
+  -- where nothing lived
+  pub put-new : (number : ℕ) (o : Living) → get base number ≡ None → FilesOn base (insert other number o)
+  put-new number o none = put-on number o (λ f. (let no : None ≡ Some f.object = sym none ∙ f.lives in cc))
+
+-- one goes
+gone-on : (objects : FinMap nat_cmp Living) (number n : ℕ) → (n == number) ≡ false → IsFile objects n
+    → IsFile (remove objects number) n
+gone-on objects number n other f = record {
+  object = f.object;
+  lives = differs-remove objects number n ∙ ap (λ b. cond b None (get objects n)) other ∙ f.lives;
+  regular = f.regular;
+}
+
+-- ---- lists of living files
+module _ {A : Type 0} (objects : FinMap nat_cmp Living) (lists : FinMap nat_cmp (List A))
+    (of : AreOfFiles objects lists) where
+  -- where a file has something, it lives
+  pub file-of : (file : ℕ) (earlier : List A) (x : A) (later : List A) →
+      of_file lists file ≡ earlier ++ x ∷ later
+      → IsFile objects file
+  file-of file earlier x later is =
+      elim (get lists file) as
+      (λ o. get lists file ≡ o → unwrap_or o [] ≡ earlier ++ x ∷ later → IsFile objects file) [
+        | None ↦ λ at e. absurd (none earlier e)
+        | Some list ↦ λ at e. of.files file list at
+      ] refl is
+    where
+      none : (xs : List A) → [] ≡ xs ++ x ∷ later → ⊥
+      none [] e = cc
+      none (y ∷ ys) e = cc
+
+  pub files-with : (file : ℕ) → IsFile objects file → (list : List A) →
+      AreOfFiles objects (with_list lists file list)
+  files-with file living list = record {
+    files = λ q l at.
+        elim (q == file) as (λ b. (q == file) ≡ b → cond b (kept list) (get lists q) ≡ Some l →
+        IsFile objects q) [
+          | true ↦ λ e there. subst (IsFile objects) (sym ((unsigned_Decides q file).0 e)) living
+          | false ↦ λ e there. of.files q l there
+        ] refl (sym (differs-with lists file list q) ∙ at);
+    some = λ q at.
+        elim (q == file) as (λ b. cond b (kept list) (get lists q) ≡ Some [] → ⊥) [
+          | true ↦ kept-some list
+          | false ↦ of.some q
+        ] (sym (differs-with lists file list q) ∙ at);
+  }
+
+  -- less of a list, or the same, is of a file that has something
+  pub files-less : (file : ℕ) (p : A → Bool) →
+      AreOfFiles objects (with_list lists file (filter p (of_file lists file)))
+  files-less file p =
+      elim (of_file lists file) as
+      (λ l. of_file lists file ≡ l → AreOfFiles objects (with_list lists file (filter p l))) [
+        | [] ↦ λ is. files-none
+        | (x ∷ xs) ↦ λ is. files-with file (file-of file [] x xs is) (filter p (x ∷ xs))
+      ] refl
+    where
+      files-none : AreOfFiles objects (with_list lists file [])
+      files-none = record {
+        files = λ q l at.
+            elim (q == file) as (λ b. cond b None (get lists q) ≡ Some l → IsFile objects q) [
+              | true ↦ λ there. cc
+              | false ↦ λ there. of.files q l there
+            ] (sym (differs-with lists file [] q) ∙ at);
+        some = λ q at.
+            elim (q == file) as (λ b. cond b None (get lists q) ≡ Some [] → ⊥) [
+              | true ↦ λ there. cc
+              | false ↦ of.some q
+            ] (sym (differs-with lists file [] q) ∙ at);
+      }
+
+  pub files-relisted : (anew : ℕ → List A → List A) → AreOfFiles objects (relisted anew lists)
+  files-relisted anew = record {
+    files = λ q l at.
+        elim (get lists q) as (λ o. get lists q ≡ o → remade anew q o ≡ Some l → IsFile objects q) [
+          | None ↦ λ is e. cc
+          | Some list ↦ λ is e. of.files q list is
+        ] refl (sym (get-relisted anew lists q) ∙ at);
+    some = λ q at.
+        elim (get lists q) as (λ o. remade anew q o ≡ Some [] → ⊥) [
+          | None ↦ λ e. cc
+          | Some list ↦ kept-some (anew q list)
+        ] (sym (get-relisted anew lists q) ∙ at);
+  }
+
+  -- a file goes, and what it had
+  pub files-gone : (number : ℕ) → AreOfFiles (remove objects number) (remove lists number)
+  files-gone number = record {
+    files = λ q l at.
+        elim (q == number) as (λ b. (q == number) ≡ b → cond b None (get lists q) ≡ Some l
+        → IsFile (remove objects number) q) [
+          | true ↦ λ e there. cc
+          | false ↦ λ e there. gone-on objects number q e (of.files q l there)
+        ] refl (sym (differs-remove lists number q) ∙ at);
+    some = λ q at.
+        elim (q == number) as (λ b. cond b None (get lists q) ≡ Some [] → ⊥) [
+          | true ↦ λ there. cc
+          | false ↦ of.some q
+        ] (sym (differs-remove lists number q) ∙ at);
+  }
+
+  -- where all files that have something live on
+  pub files-on : (new : FinMap nat_cmp Living) → ((n : ℕ) → IsFile objects n → IsFile new n) →
+      AreOfFiles new lists
+  files-on new on = record { files = λ q l at. on q (of.files q l at); some = of.some }
+
+-- ---- all but conflicts
+pub record Firm (m : State) : Type 0 where
+  pub locks : AreOfFiles m.objects m.locks
+  pub shares : AreOfFiles m.objects m.shares
+  pub waiting : AreOfFiles m.objects m.waiting
+  pub once : (file : ℕ) → OffsetsOnce (of_file m.locks file)
+  pub suit : (file : ℕ) →
+      AllByRecursion (λ (r : Request). is_grant_number file r.number ≡ true) (of_file m.waiting file)
+  pub pending : (number : ℕ) (grant : PendingGrant) → get m.granted number ≡ Some grant →
+      IsPending m.objects number grant
+  pub numbers : (number : ℕ) → uses_of m number ≤ cond (m.spent_grants number) 1 0
+
+pub firm-of : (m : State) → LocksFormed m → Firm m
+firm-of m l = record {
+  locks = l.locks;
+  shares = l.shares;
+  waiting = l.waiting;
+  once = l.once;
+  suit = l.suit;
+  pending = l.pending;
+  numbers = l.numbers;
+}
+
+pub formed-of : (m : State) → Firm m → NoConflict m → AllHeldUp m → LocksFormed m
+formed-of m f apart held = record {
+  locks = f.locks;
+  shares = f.shares;
+  waiting = f.waiting;
+  once = f.once;
+  apart = apart;
+  held_up = held;
+  suit = f.suit;
+  pending = f.pending;
+  numbers = f.numbers;
+}
+
+abbrev waiting_total : FinMap nat_cmp (List Request) → ℕ → ℕ
+waiting_total waiting number = sum_by (count_of number) (values waiting)
+
+abbrev pending_count : FinMap nat_cmp PendingGrant → ℕ → ℕ
+pending_count granted number = cond (contains_key granted number) 1 0
+
+abbrev Suits : (file : ℕ) → List Request → Type 0
+Suits file requests = AllByRecursion (λ (r : Request). is_grant_number file r.number ≡ true) requests
+
+-- one list of what waits changes: how often a number is used
+waiting-changed : (m : State) (file : ℕ) (list : List Request) (number : ℕ)
+    → waiting_total (with_list m.waiting file list) number + count_of number (of_file m.waiting file)
+    ≡ waiting_total m.waiting number + count_of number list
+waiting-changed m file list number = total-with (count_of number) refl m.waiting file list
+
+-- of what waits for a file nothing more is left
+less-numbers : (m : State) (file : ℕ) (list : List Request) (granted : FinMap nat_cmp PendingGrant) (number : ℕ)
+    → count_of number list ≤ count_of number (of_file m.waiting file)
+    → pending_count granted number ≤ pending_count m.granted number
+    → uses_of m number ≤ cond (m.spent_grants number) 1 0
+    → waiting_total (with_list m.waiting file list) number +
+    pending_count granted number ≤ cond (m.spent_grants number) 1 0
+less-numbers m file list granted number less fewer was =
+    let changed = waiting-changed m file list number in
+    omega (arith, changed, less, fewer, was)
+
+module _ (m : State) (f : Firm m) where
+  -- a file's locks
+  pub firm-locks : (file : ℕ) → IsFile m.objects file → (locks : List Lock) → OffsetsOnce locks
+      → Firm (record m { locks = with_list m.locks file locks })
+  firm-locks file living locks once = record {
+    locks = files-with m.objects m.locks f.locks file living locks;
+    shares = f.shares;
+    waiting = f.waiting;
+    once = each-with m.locks file locks (λ q (l : List Lock). OffsetsOnce l) once f.once;
+    suit = f.suit;
+    pending = f.pending;
+    numbers = f.numbers;
+  }
+
+  -- its shares
+  pub firm-shares : (file : ℕ) → IsFile m.objects file → (shares : List Share)
+      → Firm (record m { shares = with_list m.shares file shares })
+  firm-shares file living shares = record {
+    locks = f.locks;
+    shares = files-with m.objects m.shares f.shares file living shares;
+    waiting = f.waiting;
+    once = f.once;
+    suit = f.suit;
+    pending = f.pending;
+    numbers = f.numbers;
+  }
+
+  -- some of its requests wait no more
+  pub firm-cancelled : (file : ℕ) (p : Request → Bool)
+      → Firm (record m { waiting = with_list m.waiting file (filter p (of_file m.waiting file)) })
+  firm-cancelled file p =
+      let left = filter p (of_file m.waiting file) in record {
+        locks = f.locks;
+        shares = f.shares;
+        waiting = files-less m.objects m.waiting f.waiting file p;
+        once = f.once;
+        suit = each-with m.waiting file left Suits
+            (all-left (λ (r : Request). is_grant_number file r.number ≡ true)
+            (λ (r : Request). is_grant_number file r.number ≡ true) p (of_file m.waiting file) (λ r e h. h)
+            (f.suit file))
+            f.suit;
+        pending = f.pending;
+        numbers = λ number. less-numbers m file left m.granted number
+            (count-left (λ (r : Request). r.number == number) p (of_file m.waiting file)) (omega arith)
+            (f.numbers number);
+      }
+
+  -- a grant that is answered
+  pub firm-answered : (number : ℕ) → Firm (record m { granted = remove m.granted number })
+  firm-answered number = record {
+    locks = f.locks;
+    shares = f.shares;
+    waiting = f.waiting;
+    once = f.once;
+    suit = f.suit;
+    pending = λ n g at.
+        elim (n == number) as (λ b. cond b None (get m.granted n) ≡ Some g → IsPending m.objects n g) [
+          | true ↦ λ there. cc
+          | false ↦ λ there. f.pending n g there
+        ] (sym (differs-remove m.granted number n) ∙ at);
+    numbers = λ n.
+        let fewer : pending_count (remove m.granted number) n ≤ pending_count m.granted n =
+        subst (λ o. cond {A = ℕ} (is_some o) 1 0 ≤ pending_count m.granted n)
+        (sym (differs-remove m.granted number n))
+        (elim (n == number) as
+        (λ b. cond {A = ℕ} (is_some (cond b None (get m.granted n))) 1 0 ≤ pending_count m.granted n) [
+          | true ↦ omega arith
+          | false ↦ omega arith
+        ]) in
+        let was = f.numbers n in
+        omega (arith, fewer, was);
+  }
+
+  -- a request that begins to wait, under a number that was not given
+  module _ (file : ℕ) (living : IsFile m.objects file) (r : Request) (suits : is_grant_number file r.number ≡ true)
+      (unspent : m.spent_grants r.number ≡ false) where
+    abbrev longer : List Request
+    longer = of_file m.waiting file ++ r ∷ []
+
+    abbrev spent_now : ℕ → Bool
+    spent_now n = (n == r.number) || m.spent_grants n
+
+    one-more : (n : ℕ) →
+        waiting_total (with_list m.waiting file longer) n ≡ waiting_total m.waiting n + cond (r.number == n) 1 0
+    one-more n =
+        let changed = waiting-changed m file longer n in
+        let joined = sum_by-append (λ (q : Request). cond {A = ℕ} (q.number == n) 1 0) (of_file m.waiting file)
+        (r ∷ []) in
+        let one : count_of n (r ∷ []) ≡ cond (r.number == n) 1 0 = omega arith in
+        omega (arith, changed, joined, one)
+
+    uses-now : (n : ℕ) →
+        waiting_total (with_list m.waiting file longer) n + pending_count m.granted n ≤ cond (spent_now n) 1 0
+    uses-now n =
+        elim (n == r.number) as (λ b. (n == r.number) ≡ b
+        → waiting_total (with_list m.waiting file longer) n +
+        pending_count m.granted n ≤ cond (b || m.spent_grants n) 1 0) [
+          | true ↦ λ e.
+              let is : n ≡ r.number = (unsigned_Decides n r.number).0 e in
+              let none : cond {A = ℕ} (m.spent_grants n) 1 0 ≡ 0 = ap
+              (λ k. cond {A = ℕ} (m.spent_grants k) 1 0) is
+              ∙ ap (λ b. cond {A = ℕ} b 1 0) unspent in
+              let one : cond {A = ℕ} (r.number == n) 1 0 ≤ 1 = at_most (r.number == n) in
+              let was = f.numbers n in
+              omega (arith, none, one, was, one-more n)
+          | false ↦ λ e.
+              let other : cond {A = ℕ} (r.number == n) 1 0 ≡ 0 = ap (λ b. cond {A = ℕ} b 1 0)
+              (flipped n r.number e) in
+              let was = f.numbers n in
+              omega (arith, other, was, one-more n)
+        ] refl
+      where
+        at_most : (b : Bool) → cond {A = ℕ} b 1 0 ≤ 1
+        at_most true = omega arith
+        at_most false = omega arith
+
+    pub firm-waits : Firm (record m { waiting = with_list m.waiting file longer; spent_grants = spent_now })
+    firm-waits = record {
+      locks = f.locks;
+      shares = f.shares;
+      waiting = files-with m.objects m.waiting f.waiting file living longer;
+      once = f.once;
+      suit = each-with m.waiting file longer Suits
+          (all-joined (λ (q : Request). is_grant_number file q.number ≡ true) (of_file m.waiting file) (r ∷ [])
+          (f.suit file) (suits, tt)) f.suit;
+      pending = f.pending;
+      numbers = uses-now;
+    }
+
+  -- a request that waited is granted
+  module _ (file : ℕ) (message : Message) (new : State) (g : Grants m file message new) where
+    living : IsFile m.objects file
+    living = file-of m.objects m.waiting f.waiting file g.earlier g.request g.later g.waits
+
+    all-suit : Suits file (g.earlier ++ g.request ∷ g.later)
+    all-suit = subst (Suits file) g.waits (f.suit file)
+
+    abbrev left : List Request
+    left = g.earlier ++ g.later
+
+    abbrev grant : PendingGrant
+    grant = record { file = file; request = g.request }
+
+    abbrev more : FinMap nat_cmp PendingGrant
+    more = insert m.granted g.request.number grant
+
+    pending-now : (n : ℕ) (x : PendingGrant) → get more n ≡ Some x → IsPending m.objects n x
+    pending-now n x at =
+        elim (n == g.request.number) as
+        (λ b. (n == g.request.number) ≡ b → cond b (Some grant) (get m.granted n) ≡ Some x
+        → IsPending m.objects n x) [
+          | true ↦ λ e there.
+              let is : n ≡ g.request.number = (unsigned_Decides n g.request.number).0 e in
+              let same : grant ≡ x = cc in
+              subst (IsPending m.objects n) same (record {
+                file = living;
+                own = sym is;
+                suits = ap (is_grant_number file) is
+                    ∙ all-middle (λ (r : Request). is_grant_number file r.number ≡ true) g.earlier g.request
+                    g.later all-suit;
+              })
+          | false ↦ λ e there. f.pending n x there
+        ] refl (sym (differs-insert m.granted g.request.number grant n) ∙ at)
+
+    uses-granted : (n : ℕ) →
+        waiting_total (with_list m.waiting file left) n + pending_count more n ≤ cond (m.spent_grants n) 1 0
+    uses-granted n =
+        let changed = waiting-changed m file left n in
+        let joined = count-joined (λ (r : Request). r.number == n) g.earlier g.request g.later in
+        let had : count_of n (of_file m.waiting file) ≡ count_of n (g.earlier ++ g.request ∷ g.later) = ap
+        (count_of n) g.waits in
+        let was = f.numbers n in
+        let has : pending_count more n ≡ cond
+        (is_some (cond (n == g.request.number) (Some grant) (get m.granted n))) 1 0 =
+        ap (λ o. cond {A = ℕ} (is_some o) 1 0) (differs-insert m.granted g.request.number grant n) in
+        elim (n == g.request.number) as (λ b. (n == g.request.number) ≡ b
+        → pending_count more n ≡ cond (is_some (cond b (Some grant) (get m.granted n))) 1 0
+        → waiting_total (with_list m.waiting file left) n + pending_count more n ≤ cond (m.spent_grants n) 1 0) [
+          | true ↦ λ e now.
+              let is : n ≡ g.request.number = (unsigned_Decides n g.request.number).0 e in
+              let one : cond {A = ℕ} (g.request.number == n) 1 0 ≡ 1 =
+              ap (λ k. cond {A = ℕ} (g.request.number == k) 1 0) is ∙ ap (λ b. cond {A = ℕ} b 1 0)
+              (itself g.request.number) in
+              omega (arith, changed, joined, had, was, now, one)
+          | false ↦ λ e now.
+              let none : cond {A = ℕ} (g.request.number == n) 1 0 ≡ 0 =
+              ap (λ b. cond {A = ℕ} b 1 0) (flipped n g.request.number e) in
+              omega (arith, changed, joined, had, was, now, none)
+        ] refl has
+
+    pub firm-granted : Firm new
+    firm-granted = subst Firm (sym g.state_is) (record {
+      locks = files-with m.objects m.locks f.locks file living g.locks;
+      shares = f.shares;
+      waiting = files-with m.objects m.waiting f.waiting file living left;
+      once = each-with m.locks file g.locks (λ q (l : List Lock). OffsetsOnce l) g.lists.once f.once;
+      suit = each-with m.waiting file left Suits
+          (all-removed (λ (r : Request). is_grant_number file r.number ≡ true)
+          (λ (r : Request). is_grant_number file r.number ≡ true) g.earlier g.request g.later (λ r h. h) all-suit)
+          f.suit;
+      pending = pending-now;
+      numbers = uses-granted;
+    })
+
+  -- a caller has nothing more
+  module _ (locks : ℕ → List Lock) (once : (file : ℕ) → OffsetsOnce (locks file)) (shares : Share → Bool)
+      (waits : Request → Bool) (goes : PendingGrant → Bool) where
+    abbrev waiting_left : FinMap nat_cmp (List Request)
+    waiting_left = relisted (λ file. all_but waits) m.waiting
+
+    fewer-wait : (n : ℕ) → waiting_total waiting_left n ≤ waiting_total m.waiting n
+    fewer-wait n = total-entries (count_of n) refl (λ file. all_but waits)
+        (λ q list. count-left (λ (r : Request). r.number == n) (λ r. not (waits r)) list) (entries m.waiting)
+
+    pub firm-freed : Firm (record m {
+      locks = relisted (λ file _. locks file) m.locks;
+      shares = relisted (λ file. all_but shares) m.shares;
+      waiting = waiting_left;
+      granted = grants_but goes m.granted;
+    })
+    firm-freed = record {
+      locks = files-relisted m.objects m.locks f.locks (λ file _. locks file);
+      shares = files-relisted m.objects m.shares f.shares (λ file. all_but shares);
+      waiting = files-relisted m.objects m.waiting f.waiting (λ file. all_but waits);
+      once = each-relisted (λ file _. locks file) m.locks (λ q (l : List Lock). OffsetsOnce l)
+          (λ q owner offset. omega arith) (λ q h. once q) f.once;
+      suit = each-relisted (λ file. all_but waits) m.waiting Suits (λ q. tt)
+          (λ q h. all-left (λ (r : Request). is_grant_number q r.number ≡ true)
+          (λ (r : Request). is_grant_number q r.number ≡ true) (λ r. not (waits r)) (of_file m.waiting q)
+          (λ r e h. h) h) f.suit;
+      pending = λ n g at. f.pending n g (grants-left goes m.granted n g at).0;
+      numbers = λ n.
+          let was = f.numbers n in
+          let fewer = has-left goes m.granted n in
+          omega (arith, was, fewer, fewer-wait n);
+    }
+
+  -- what is beside them changes, and each living file lives on
+  pub firm-on : (objects : FinMap nat_cmp Living) → FilesOn m.objects objects → (spent : ℕ → ℕ → Bool)
+      → (mounts : List MountBody) → Firm (record m { objects = objects; spent = spent; mounts = mounts })
+  firm-on objects on spent mounts = record {
+    locks = files-on m.objects m.locks f.locks objects on;
+    shares = files-on m.objects m.shares f.shares objects on;
+    waiting = files-on m.objects m.waiting f.waiting objects on;
+    once = f.once;
+    suit = f.suit;
+    pending = λ n g at. (let p = f.pending n g at in record { file = on g.file p.file; own = p.own; suits = p.suits });
+    numbers = f.numbers;
+  }
+
+-- an object goes, and all that it had
+firm-gone : (m : State) → Firm m → (number : ℕ) → Firm (without_object m number)
+firm-gone m f number = record {
+  locks = files-gone m.objects m.locks f.locks number;
+  shares = files-gone m.objects m.shares f.shares number;
+  waiting = files-gone m.objects m.waiting f.waiting number;
+  once = each-with m.locks number [] (λ q (l : List Lock). OffsetsOnce l) (λ owner offset. omega arith) f.once;
+  suit = each-with m.waiting number [] Suits tt f.suit;
+  pending = λ n g at.
+      let left = grants-left (λ (x : PendingGrant). x.file == number) m.granted n g at in
+      let p = f.pending n g left.0 in
+      record { file = gone-on m.objects number g.file left.1 p.file; own = p.own; suits = p.suits };
+  numbers = λ n. less-numbers m number [] (grants_but (λ (x : PendingGrant). x.file == number) m.granted) n
+      (omega arith)
+      (has-left (λ (x : PendingGrant). x.file == number) m.granted n) (f.numbers n);
+}
+
+-- an object loses a name while others change
+pub firm-losing : (m : State) → Firm m → (objects : FinMap nat_cmp Living) → FilesOn m.objects objects
+    → (names : ℕ) (now : Time) (number : ℕ) (o : Living) → get m.objects number ≡ Some o
+    → Firm (losing_name (record m { objects = objects }) names now number o)
+firm-losing m f objects on names now number o at =
+    let mid : State = record m { objects = objects } in
+    elim (nat_le names 1) as
+    (λ b. Firm (cond b (without_object mid number) (with_object mid number (touched o now)))) [
+      | true ↦ firm-gone mid (firm-on m f objects on m.spent m.mounts) number
+      | false ↦ firm-on m f (insert objects number (touched o now))
+          (put-over m.objects objects on number o (touched o now) at (λ e. e)) m.spent m.mounts
+    ]
