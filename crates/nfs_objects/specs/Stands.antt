@@ -1,6 +1,6 @@
 -- The state that a store stands for.
 use Rattle.std.specs.Prelude.{◌≡◌, ℕ, false, List, [], map, Option, Some, None, option_map, unwrap_or, nat_le}
-use Rattle.std.specs.FinMap.{get}
+use Rattle.std.specs.FinMap.{empty, get}
 use Rattle.nfs_wire.specs.declared.calls.Verifier.{Verifier}
 use Rattle.nfs_machine.specs.State.{Living, State}
 use Rattle.nfs_machine.specs.State as machine
@@ -77,8 +77,8 @@ pub record Represents (s : Store) (m : State) : Type 0 where
   pub objects : (n : ℕ) → get m.objects n ≡ living_of (s.at (addresses.Inode n))
   pub mounts : m.mounts ≡ mounts_of (s.at addresses.Mounts)
   pub spent : (n g : ℕ) → m.spent n g ≡ nat_le g (s.last n)
-  pub no_locks : m.locks ≡ []
-  pub no_shares : m.shares ≡ []
-  pub no_waiting : m.waiting ≡ []
-  pub no_granted : m.granted ≡ []
+  pub no_locks : m.locks ≡ empty
+  pub no_shares : m.shares ≡ empty
+  pub no_waiting : m.waiting ≡ empty
+  pub no_granted : m.granted ≡ empty
   pub no_spent_grants : (n : ℕ) → m.spent_grants n ≡ false
