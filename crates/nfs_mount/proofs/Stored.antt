@@ -1,9 +1,10 @@
 -- Where only the table of mounts is written, all else of the store and of the state stays: objects, links, roots.
-use Rattle.std.proofs.Common.{ℕ, List, map, Some, refl, sym, ◌∙◌}
+use Rattle.std.proofs.Common.{ℕ, List, [], map, Some, refl, sym, ◌∙◌}
 use Rattle.std.specs.FinMap.{get}
-use Rattle.nfs_machine.proofs.Loose.{well_formed-alike}
+use Rattle.nfs_machine.proofs.Kept.{steps_keep_form}
 use Rattle.nfs_machine.proofs.WellFormed.{Alike, alike_itself, links-alike, parent-alike}
 use Rattle.nfs_machine.specs.State.{State}
+use Rattle.nfs_machine.specs.WellFormed.{WellFormed}
 use Rattle.nfs_machine.specs.declared.calls.Call.{Call}
 use Rattle.nfs_machine.specs.declared.calls.Reply.{Reply}
 use Rattle.nfs_machine.specs.declared.context.Ctx.{Ctx}
@@ -33,13 +34,13 @@ module _ (s : Store) (m : State) (table : List Mount) where
   alike : (n : ℕ) → Alike (get m.objects n) (get m.objects n)
   alike n = alike_itself (get m.objects n)
 
-  pub mounts_sound : Sound s m → Sound (with_write s Mounts (Some (objects.Mounts table))) (record m { mounts = map mounted_of table })
-  mounts_sound sound =
+  pub mounts_sound : Sound s m → WellFormed (record m { mounts = map mounted_of table })
+      → Sound (with_write s Mounts (Some (objects.Mounts table))) (record m { mounts = map mounted_of table })
+  mounts_sound sound formed =
       let after : State = record m { mounts = map mounted_of table } in record {
         links = λ n i at. sound.links n i at ∙ sym (links-alike m after alike (λ n. refl) n (content_of i.content));
         parents = λ n i d at is. parent-alike m after alike refl n d.parent (sound.parents n i d at is);
-        well_formed = well_formed-alike m after alike (λ n. refl) (λ n g given. given)
-            (record { exports = refl; last = refl }) sound.well_formed.texts sound.well_formed;
+        well_formed = formed;
       }
 
 pub promised_mounts : (call : Call) (ctx : Ctx) (view : ViewValue) (table : List Mount) (reply : Reply) → StoresMounts call ctx view table reply
@@ -49,7 +50,9 @@ promised_mounts call ctx view table reply stores = record {
     new = record m { mounts = map mounted_of table };
     step = stores.step s m stands sound exports fits;
     stands = mounts_represented s m table stands;
-    sound = mounts_sound s m table sound;
+    sound = mounts_sound s m table sound (steps_keep_form m ctx call reply []
+        (record m { mounts = map mounted_of table })
+        (stores.step s m stands sound exports fits) sound.well_formed);
   };
   writes = λ s fits. (stores.seen, tt);
 }
