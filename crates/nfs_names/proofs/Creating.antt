@@ -1,6 +1,6 @@
 -- CREATE's answer is a step in every sound store that the view fits: what is refused and what changes nothing, a file that gets another size,
 -- and a new file under a new name.
-use Rattle.std.proofs.Common.{◌≡◌, ◌==◌, ℕ, ◌+◌, ◌<◌, ◌^◌, true, false, Bool, cond, nat_lt, List, [], ◌∷◌, not, Option, Some, None, option_map, unwrap_or, IsSomeAnd, slice_get, Result, Ok, Err, refl, sym, ap, ◌∙◌, subst, arith}
+use Rattle.std.proofs.Common.{◌≡◌, ◌==◌, ℕ, ◌+◌, ◌<◌, ◌^◌, true, false, Bool, cond, nat_lt, List, [], ◌∷◌, Option, Some, None, option_map, unwrap_or, IsSomeAnd, slice_get, Result, Ok, Err, refl, sym, ap, ◌∙◌, subst, arith}
 use Rattle.std.proofs.lemmas.Bool.{both_ways, ltb-true}
 use Rattle.std.specs.Cmp.{unsigned_Decides}
 use Rattle.std.specs.FinMap.{get}

@@ -36,7 +36,7 @@ use Rattle.nfs_objects.specs.Values.{DoneValue}
 use Rattle.nfs_server.specs.Built.{IsBuilt}
 use Rattle.nfs_server.specs.Executed.{MakesStep}
 use Rattle.nfs_server.proofs.Sizes.{mount_refused_size, mounted_size}
-use Rattle.std.specs.Prelude.{Option, Some, None, IfSome, option_map}
+use Rattle.std.specs.Prelude.{Option, Some, None, IfSome}
 use Rattle.nfs_machine.specs.Refusal.{nfs_refusal, refusal_of}
 use Rattle.nfs_machine.specs.declared.calls.Refusal.TheVariants as refusals
 use Rattle.nfs_machine.specs.Run.{Setting}
