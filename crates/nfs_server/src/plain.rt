@@ -117,6 +117,7 @@ impl Plain {
         match read_record(&message) {
             Ok(asked) => {
                 let answer = self.answer_call(alloc, host, &message, &asked, moment);
+                // A call of `drop`, since a drop at the arm's end is proved for every variant of a call, in minutes.
                 drop(asked);
                 answer
             }

@@ -3,5 +3,5 @@ use Rattle.nfs_server.specs.Forms.{RefusalHasForm}
 use Rattle.nfs_server.proofs.Steps.{refusal_form}
 use Rattle.nfs_server.proofs.plain.refuse.Goals as goal
 
-pub refuse-requires : goal.refuse-requires
-refuse-requires c = subst RefusalHasForm (sym c.in_ok-refusal.ensures.ok) (refusal_form _ c.requires)
+pub refuse-answer-requires : goal.refuse-answer-requires
+refuse-answer-requires c = subst RefusalHasForm (sym c.in_ok-refusal.ensures.ok) (refusal_form _ c.requires)
