@@ -41,7 +41,7 @@ pub record IsAsked (bytes : List ℕ) (asked : Asked) : Type 0 where
 -- a record asks a call, or has a fault, or there is no memory for the arguments of the call that it is
 abbrev pub ReadsRecord : List ℕ → Result Asked Unasked → Type 0
 ReadsRecord bytes (Ok asked) = IsAsked bytes asked
-ReadsRecord bytes (Err (unasked.Early fault)) = EarlyOf bytes fault
+ReadsRecord bytes (Err (unasked.Early fault)) = FirstFault bytes fault
 ReadsRecord bytes (Err unasked.Memory) =
     (header : CallHeader) × (call_of bytes ≡ Ok header) ×
     ArgumentsHoldBytes header.program header.procedure header.arguments

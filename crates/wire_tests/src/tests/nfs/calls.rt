@@ -43,6 +43,16 @@ fn nothing() -> SetAttributes {
 /// The words of these attributes.
 const NOTHING: [u32; 6] = [0; 6];
 
+/// What is read of these bytes, as arguments of the procedure.
+fn read(
+    alloc: Global,
+    procedure: u32,
+    bytes: &[u8],
+) -> Result<Result<NfsCall, ArgumentsError>, Fail> {
+    let record = record(alloc, bytes)?;
+    Ok(read_args(procedure, SharedReader::new(&record)))
+}
+
 /// Whether the words, with a byte behind them, are read as the arguments of the call, and every shorter front is
 /// garbage.
 fn is_read(
@@ -71,13 +81,12 @@ fn is_read_before(
             return Ok(false);
         }
     }
-    is_call(alloc, procedure, arguments.as_slice(), call)
+    Ok(read(alloc, procedure, arguments.as_slice())? == Ok(call))
 }
 
 /// Whether the bytes are no arguments of the procedure.
 fn are_garbage(alloc: Global, procedure: u32, bytes: &[u8]) -> Result<bool, Fail> {
-    let record = record(alloc, bytes)?;
-    Ok(read_args(procedure, SharedReader::new(&record)).err() == Some(ArgumentsError::Garbage))
+    Ok(read(alloc, procedure, bytes)?.err() == Some(ArgumentsError::Garbage))
 }
 
 /// Whether the words are no arguments of the procedure.
@@ -87,16 +96,10 @@ fn is_garbage(alloc: Global, procedure: u32, front: &[u32], words: &[u32]) -> Re
     are_garbage(alloc, procedure, arguments.as_slice())
 }
 
-/// Whether the bytes are read as the arguments of the call.
-fn is_call(alloc: Global, procedure: u32, bytes: &[u8], call: NfsCall) -> Result<bool, Fail> {
-    let record = record(alloc, bytes)?;
-    Ok(read_args(procedure, SharedReader::new(&record)) == Ok(call))
-}
-
 #[test]
 fn null_has_no_arguments(rt: HostRuntime) -> Result<(), Fail> {
-    assert!(rt; is_call(rt.alloc(), 0, &[], NfsCall::Null)?);
-    assert!(rt; is_call(rt.alloc(), 0, &[1, 2, 3], NfsCall::Null)?);
+    assert!(rt; is_read_before(rt.alloc(), 0, &[], &[], &[], NfsCall::Null)?);
+    assert!(rt; is_read_before(rt.alloc(), 0, &[], &[], &[1, 2, 3], NfsCall::Null)?);
     one_call_is_spelled();
     Ok(())
 }

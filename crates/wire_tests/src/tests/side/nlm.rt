@@ -11,26 +11,29 @@ use side_wire::{ArgumentsError, NlmCall, nlm};
 use std::alloc::Global;
 use std::test::Fail;
 
-/// Why the bytes are not read as arguments of the procedure, if they are not.
-fn fault(alloc: Global, procedure: u32, bytes: &[u8]) -> Result<Option<ArgumentsError>, Fail> {
+/// What is read of these bytes, as arguments of the procedure.
+fn read(
+    alloc: Global,
+    procedure: u32,
+    bytes: &[u8],
+) -> Result<Result<NlmCall, ArgumentsError>, Fail> {
     let record = record(alloc, bytes)?;
-    Ok(nlm::read_args(procedure, SharedReader::new(&record)).err())
+    Ok(nlm::read_args(procedure, SharedReader::new(&record)))
 }
 
 /// Whether the bytes are no arguments of the procedure.
 fn are_garbage(alloc: Global, procedure: u32, bytes: &[u8]) -> Result<bool, Fail> {
-    Ok(fault(alloc, procedure, bytes)? == Some(ArgumentsError::Garbage))
+    Ok(read(alloc, procedure, bytes)?.err() == Some(ArgumentsError::Garbage))
 }
 
 /// Whether the bytes are read as arguments of the procedure.
 fn are_arguments(alloc: Global, procedure: u32, bytes: &[u8]) -> Result<bool, Fail> {
-    Ok(fault(alloc, procedure, bytes)?.is_none())
+    Ok(read(alloc, procedure, bytes)?.err().is_none())
 }
 
 /// Whether the bytes are read as arguments of the procedure, which are a copy of these.
 fn is_call(alloc: Global, procedure: u32, bytes: &[u8], call: NlmCall) -> Result<bool, Fail> {
-    let record = record(alloc, bytes)?;
-    Ok(nlm::read_args(procedure, SharedReader::new(&record)) == Ok(call.clone()?))
+    Ok(read(alloc, procedure, bytes)? == Ok(call.clone()?))
 }
 
 /// Whether the words, with a byte behind them, are read as the call, and every shorter front is garbage.
