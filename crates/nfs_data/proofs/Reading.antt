@@ -27,8 +27,8 @@ use Rattle.nfs_inodes.specs.Found.{BadHandle, Stale, Names, found_at}
 use Rattle.nfs_inodes.specs.Shown.{Shows}
 
 module _ (ctx : Ctx) (view : ViewValue) (a : ReadArguments) where
-  abbrev Answers : Option Attributes → Result ReadData NfsStatus → Type 0
-  Answers attributes result = HoldsUnchanged (calls.Nfs (nfs.Read a)) ctx view (answers.Nfs (replies.Read (record { attributes = attributes; result = result })))
+  abbrev RepliesUnchanged : Option Attributes → Result ReadData NfsStatus → Type 0
+  RepliesUnchanged attributes result = HoldsUnchanged (calls.Nfs (nfs.Read a)) ctx view (answers.Nfs (replies.Read (record { attributes = attributes; result = result })))
 
   -- what is answered where this is what the handle names
   abbrev answer_at : State → Resolved → ReadReply
@@ -38,14 +38,14 @@ module _ (ctx : Ctx) (view : ViewValue) (a : ReadArguments) where
   unfolding NfsStep
   step m r reply is named = record { reply_is = ap (λ x. replies.Read x) (is ∙ ap (answer_at m) (sym named)); no_message = refl; state_is = refl }
 
-  pub bad_handle_holds : BadHandle ≡ found_at ctx view.entries a.file → Answers None (Err status.BadHandle)
+  pub bad_handle_holds : BadHandle ≡ found_at ctx view.entries a.file → RepliesUnchanged None (Err status.BadHandle)
   bad_handle_holds found =
       record {
         step = λ s m stands sound exports fits. step m _ _ refl
             (resolve-means s m ctx view a.file BadHandle found stands exports fits);
       }
 
-  pub stale_holds : Stale ≡ found_at ctx view.entries a.file → Answers None (Err status.Stale)
+  pub stale_holds : Stale ≡ found_at ctx view.entries a.file → RepliesUnchanged None (Err status.Stale)
   stale_holds found =
       record {
         step = λ s m stands sound exports fits. step m _ _ refl
@@ -53,7 +53,7 @@ module _ (ctx : Ctx) (view : ViewValue) (a : ReadArguments) where
       }
 
   pub names_holds : (number : ℕ) (i : Inode) (attributes : Attributes) (result : Result ReadData NfsStatus) → Names number i ≡ found_at ctx view.entries a.file
-      → Shows number i attributes → result ≡ read_object ctx (living_of_inode i) a → Answers (Some attributes) result
+      → Shows number i attributes → result ≡ read_object ctx (living_of_inode i) a → RepliesUnchanged (Some attributes) result
   names_holds number i attributes result found shows is =
       record {
         step = λ s m stands sound exports fits.

@@ -23,8 +23,8 @@ use Rattle.nfs_inodes.specs.Found.{BadHandle, Stale, Names, found_at}
 use Rattle.nfs_inodes.specs.Shown.{Shows}
 
 module _ (ctx : Ctx) (view : ViewValue) (object : List ℕ) where
-  abbrev Answers : Result Attributes NfsStatus → Type 0
-  Answers result = HoldsUnchanged (calls.Nfs (nfs.Getattr object)) ctx view (answers.Nfs (replies.Getattr result))
+  abbrev RepliesUnchanged : Result Attributes NfsStatus → Type 0
+  RepliesUnchanged result = HoldsUnchanged (calls.Nfs (nfs.Getattr object)) ctx view (answers.Nfs (replies.Getattr result))
 
   -- the result, where the handle names this
   abbrev result_of : State → Resolved → Result Attributes NfsStatus
@@ -36,21 +36,21 @@ module _ (ctx : Ctx) (view : ViewValue) (object : List ℕ) where
   unfolding NfsStep
   step m result is = record { reply_is = ap (λ r. replies.Getattr r) is; no_message = refl; state_is = refl }
 
-  pub bad_handle_holds : BadHandle ≡ found_at ctx view.entries object → Answers (Err status.BadHandle)
+  pub bad_handle_holds : BadHandle ≡ found_at ctx view.entries object → RepliesUnchanged (Err status.BadHandle)
   bad_handle_holds found =
       record {
         step = λ s m stands sound exports fits. step m (Err status.BadHandle)
             (ap (result_of m) (sym (resolve-means s m ctx view object BadHandle found stands exports fits)));
       }
 
-  pub stale_holds : Stale ≡ found_at ctx view.entries object → Answers (Err status.Stale)
+  pub stale_holds : Stale ≡ found_at ctx view.entries object → RepliesUnchanged (Err status.Stale)
   stale_holds found =
       record {
         step = λ s m stands sound exports fits. step m (Err status.Stale)
             (ap (result_of m) (sym (resolve-means s m ctx view object Stale found stands exports fits)));
       }
 
-  pub names_holds : (number : ℕ) (i : Inode) (shown : Attributes) → Names number i ≡ found_at ctx view.entries object → Shows number i shown → Answers (Ok shown)
+  pub names_holds : (number : ℕ) (i : Inode) (shown : Attributes) → Names number i ≡ found_at ctx view.entries object → Shows number i shown → RepliesUnchanged (Ok shown)
   names_holds number i shown found shows =
       record {
         step = λ s m stands sound exports fits.

@@ -39,8 +39,8 @@ abbrev pub shown_wcc : Inode → Attributes → Wcc
 shown_wcc before after = record { before = Some (weak (living_of_inode before)); after = Some after }
 
 module _ (ctx : Ctx) (view : ViewValue) (a : WriteArguments) where
-  abbrev Answers : WriteReply → Type 0
-  Answers reply = HoldsUnchanged (calls.Nfs (nfs.Write a)) ctx view (answers.Nfs (replies.Write reply))
+  abbrev RepliesUnchanged : WriteReply → Type 0
+  RepliesUnchanged reply = HoldsUnchanged (calls.Nfs (nfs.Write a)) ctx view (answers.Nfs (replies.Write reply))
 
   -- what WRITE comes to where this is what the handle names, and where this becomes of the file
   abbrev end_at : State → Resolved → Result (Written × State) NfsStatus
@@ -62,14 +62,14 @@ module _ (ctx : Ctx) (view : ViewValue) (a : WriteArguments) where
     state_is = ap (state_after m) (ends ∙ ap (end_at m) (sym named));
   }
 
-  pub bad_handle_holds : BadHandle ≡ found_at ctx view.entries a.file → Answers (record { wcc = record { before = None; after = None }; result = Err status.BadHandle })
+  pub bad_handle_holds : BadHandle ≡ found_at ctx view.entries a.file → RepliesUnchanged (record { wcc = record { before = None; after = None }; result = Err status.BadHandle })
   bad_handle_holds found =
       record {
         step = λ s m stands sound exports fits. step m machine.BadHandle (Err status.BadHandle) _ refl
             (resolve-means s m ctx view a.file BadHandle found stands exports fits) refl;
       }
 
-  pub stale_holds : Stale ≡ found_at ctx view.entries a.file → Answers (record { wcc = record { before = None; after = None }; result = Err status.Stale })
+  pub stale_holds : Stale ≡ found_at ctx view.entries a.file → RepliesUnchanged (record { wcc = record { before = None; after = None }; result = Err status.Stale })
   stale_holds found =
       record {
         step = λ s m stands sound exports fits. step m machine.Stale (Err status.Stale) _ refl
@@ -80,7 +80,7 @@ module _ (ctx : Ctx) (view : ViewValue) (a : WriteArguments) where
     -- a WRITE that is refused, or writes nothing
     pub refused_holds : (e : NfsStatus) → Shows number i after →
         Err e ≡ write_object (opening_exports ctx.exports) ctx (living_of_inode i) a →
-        Answers (record { wcc = shown_wcc i after; result = Err e })
+        RepliesUnchanged (record { wcc = shown_wcc i after; result = Err e })
     refused_holds e shows is =
         record {
           step = λ s m stands sound exports fits.
@@ -93,7 +93,7 @@ module _ (ctx : Ctx) (view : ViewValue) (a : WriteArguments) where
 
     pub nothing_holds : (written : Written) → Shows number i after →
         Ok (written, None) ≡ write_object (opening_exports ctx.exports) ctx (living_of_inode i) a →
-        Answers (record { wcc = shown_wcc i after; result = Ok written })
+        RepliesUnchanged (record { wcc = shown_wcc i after; result = Ok written })
     nothing_holds written shows is =
         record {
           step = λ s m stands sound exports fits.

@@ -8,7 +8,7 @@ use Rattle.nfs_machine.specs.Checks.{◌>>=◌, bytes_in, changeable, holding, p
 use Rattle.nfs_machine.specs.Data.{size_limit, written}
 use Rattle.nfs_machine.specs.DataSteps.{verifier_of, write_count, write_object}
 use Rattle.nfs_machine.specs.Exports.{LivingExport}
-use Rattle.nfs_machine.specs.Permission.{Writing}
+use Rattle.nfs_machine.specs.Permission.{ToWrite}
 use Rattle.nfs_machine.specs.Shown.{with_content}
 use Rattle.nfs_machine.specs.State.{Regular, Living}
 use Rattle.nfs_machine.specs.Times.{time_of}
@@ -43,7 +43,7 @@ module _ (exports : List LivingExport) (ctx : Ctx) (file : Living) (a : WriteArg
         record { count = write_count a; committed = a.stable; verifier = verifier_of ctx },
         cond (write_count a == 0) None (Some (after bytes)),
       )) (bytes_in file.content) (holding (a.count == length a.«data») status.Invalid) (changeable exports file)
-      (permitted ctx file Writing)
+      (permitted ctx file ToWrite)
       (holding ((write_count a == 0) || nat_le (a.offset + write_count a) size_limit) status.FileTooBig) bytes is
       ∙ ap (λ b. Ok (
         record { count = write_count a; committed = a.stable; verifier = verifier_of ctx },

@@ -4,7 +4,7 @@ use Rattle.nfs_wire.specs.declared.status.NfsStatus.{NfsStatus}
 use Rattle.nfs_wire.specs.declared.status.NfsStatus.TheVariants as status
 use Rattle.nfs_machine.specs.Checks.{◌>>=◌, holding, permitted}
 use Rattle.nfs_machine.specs.Data.{resized, size_limit}
-use Rattle.nfs_machine.specs.Permission.{Writing}
+use Rattle.nfs_machine.specs.Permission.{ToWrite}
 use Rattle.nfs_machine.specs.Shown.{with_content}
 use Rattle.nfs_machine.specs.State.{Regular, Living}
 use Rattle.nfs_machine.specs.Times.{time_of}
@@ -20,6 +20,6 @@ seen_after (Err e) = Err e
 -- the file, cut off or filled up to this size
 abbrev pub file_resized : Ctx → Living → List ℕ → ℕ → Result (Option Living) NfsStatus
 file_resized ctx file bytes size = do
-  _ ← permitted ctx file Writing
+  _ ← permitted ctx file ToWrite
   _ ← holding (nat_le size size_limit) status.FileTooBig
   Ok (Some (with_content file (time_of ctx.moment) (Regular (resized bytes size))))

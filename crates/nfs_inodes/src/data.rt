@@ -54,7 +54,7 @@ fn readable<'a>(
         ≡ checked_bytes (read_object ctx.now (living_of_inode inode.now) arguments.now) (living_of_inode inode.now) }
 {
     let bytes = bytes_in(&inode.content)?;
-    permitted(ctx, inode, Right::Reading)?;
+    permitted(ctx, inode, Right::ToRead)?;
     Ok(bytes)
 }
 
@@ -123,7 +123,7 @@ fn writable<'a>(
         return Err(NfsStatus::Invalid);
     }
     changeable(ctx, inode)?;
-    permitted(ctx, inode, Right::Writing)?;
+    permitted(ctx, inode, Right::ToWrite)?;
     let count = write_count(arguments);
     if count > 0 && !ends_within(arguments.offset, count) {
         return Err(NfsStatus::FileTooBig);

@@ -31,4 +31,4 @@ pub use making::{
 pub use names::{MAX_NAME, leads_to, name_checked, new_name_checked};
 pub use permission::{Right, may, permitted};
 pub use shown::{attributes, wcc, weak};
-pub use times::{is_time, now, set_time, touch};
+pub use times::{is_time, now, time_set, touch};

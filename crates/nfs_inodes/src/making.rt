@@ -6,16 +6,16 @@ ghost use Rattle.nfs_machine.specs.Bytes.{same_bytes};
 ghost use Rattle.nfs_machine.specs.Checks.{bytes_in};
 ghost use Rattle.nfs_machine.specs.Permission.{is_member};
 ghost use Rattle.nfs_machine.specs.NameSteps.{create_over, given_attributes, new_object, wanted_file};
-ghost use Rattle.nfs_machine.specs.Times.{is_time, set_time, time_of, touch};
+ghost use Rattle.nfs_machine.specs.Times.{is_time, time_set, time_of, touch};
 ghost use Rattle.nfs_objects.specs.Endings.{KeepsPlace, with_name};
-ghost use Rattle.nfs_objects.specs.Stands.{content_of, living_of_inode, verifier_of};
+ghost use Rattle.nfs_objects.specs.Stands.{content_of, living_of_inode, verifier_bytes};
 ghost use Rattle.nfs_inodes.specs.Making.{file_resized, seen_after};
 
 use crate::checks::bytes_in;
 use crate::content::{resized, with_content};
 use crate::data::SIZE_LIMIT;
 use crate::permission::{Right, is_member, permitted};
-use crate::times::{is_time, now, set_time};
+use crate::times::{is_time, now, time_set};
 use bytes::Bytes;
 use nfs_machine::Ctx;
 use nfs_objects::{Content, Directory, Inode, Leaf};
@@ -111,8 +111,8 @@ pub fn new_object(
         uid: given.uid.unwrap_or(ctx.ids.uid),
         gid: given.gid.unwrap_or(ctx.ids.gid),
         links: 1,
-        accessed: set_time(now, now, given.accessed),
-        modified: set_time(now, now, given.modified),
+        accessed: time_set(now, now, given.accessed),
+        modified: time_set(now, now, given.modified),
         changed: now,
         verifier: None,
     }
@@ -137,7 +137,7 @@ pub fn attributes_given(how: &CreateHow) -> SetAttributes
 
 /// The verifier that a new file keeps.
 fn verifier_given(how: &CreateHow) -> Option<Verifier>
-    ensures { verifier_of result ≡ (wanted_file how.now).verifier }
+    ensures { verifier_bytes result ≡ (wanted_file how.now).verifier }
 {
     match how {
         CreateHow::Unchecked(_) | CreateHow::Guarded(_) => None,
@@ -233,7 +233,7 @@ fn resize(
     ensures keeps { IfOk result (λ after. IfOk after (λ a. IfSome a
         (λ new. KeepsPlace (record inode.now { content = Content.Regular bytes.now }) new))) }
 {
-    if let Err(status) = permitted(ctx, inode, Right::Writing) {
+    if let Err(status) = permitted(ctx, inode, Right::ToWrite) {
         return Ok(Err(status));
     }
     if size > SIZE_LIMIT {
@@ -246,7 +246,7 @@ fn resize(
 /// Whether a file was made by an exclusive CREATE with this verifier.
 fn is_verifier(kept: &Option<Verifier>, given: &Verifier) -> bool
     ensures { result
-        ≡ elim (verifier_of kept.now) [ None ↦ false | Some kept ↦ same_bytes kept given.now.bytes ] }
+        ≡ elim (verifier_bytes kept.now) [ None ↦ false | Some kept ↦ same_bytes kept given.now.bytes ] }
 {
     match kept {
         Some(kept) => kept.bytes == given.bytes,

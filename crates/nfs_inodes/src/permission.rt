@@ -3,7 +3,7 @@
 ghost use Rattle.std.specs.Prelude.{◌≡◌, ◌==◌, ◌||◌, ◌&&◌};
 ghost use Rattle.std.specs.List.{list_any};
 ghost use Rattle.nfs_machine.specs.Checks.{permitted};
-ghost use Rattle.nfs_machine.specs.Permission.{Reading, Writing, Searching, Listing, Changing, class_bits, is_member};
+ghost use Rattle.nfs_machine.specs.Permission.{ToRead, ToWrite, ToSearch, ToList, ToChange, class_bits, is_member};
 ghost use Rattle.nfs_machine.specs.Permission.{may, reads, runs, writes};
 ghost use Rattle.nfs_objects.specs.Stands.{living_of_inode};
 ghost use Rattle.nfs_inodes.specs.Rights.{right_of};
@@ -17,15 +17,15 @@ use nfs_wire::NfsStatus;
 #[derive(Clone, Copy, Debug, PartialEq, Eq)]
 pub enum Right {
     /// To read a file: its owner always may, else it needs r or x.
-    Reading,
+    ToRead,
     /// To write a file: its owner always may, else it needs w.
-    Writing,
+    ToWrite,
     /// To look names up in a directory: x.
-    Searching,
+    ToSearch,
     /// To list the names of a directory: r.
-    Listing,
+    ToList,
     /// To add and take names of a directory: w and x.
-    Changing,
+    ToChange,
 }
 
 /// Whether a caller has a right to an object. The user 0 has all; for others the bits of one class decide, which is the
@@ -79,19 +79,19 @@ fn is_among(groups: &[u32], gid: u32) -> bool
 
 fn class_may(right: Right, is_owner: bool, bits: u32) -> bool
     ensures { result ≡ elim (right_of right) [
-      | Reading ↦ is_owner || reads bits || runs bits
-      | Writing ↦ is_owner || writes bits
-      | Searching ↦ runs bits
-      | Listing ↦ reads bits
-      | Changing ↦ writes bits && runs bits
+      | ToRead ↦ is_owner || reads bits || runs bits
+      | ToWrite ↦ is_owner || writes bits
+      | ToSearch ↦ runs bits
+      | ToList ↦ reads bits
+      | ToChange ↦ writes bits && runs bits
     ] }
 {
     match right {
-        Right::Reading => is_owner || reads(bits) || runs(bits),
-        Right::Writing => is_owner || writes(bits),
-        Right::Searching => runs(bits),
-        Right::Listing => reads(bits),
-        Right::Changing => writes(bits) && runs(bits),
+        Right::ToRead => is_owner || reads(bits) || runs(bits),
+        Right::ToWrite => is_owner || writes(bits),
+        Right::ToSearch => runs(bits),
+        Right::ToList => reads(bits),
+        Right::ToChange => writes(bits) && runs(bits),
     }
 }
 

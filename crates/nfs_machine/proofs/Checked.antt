@@ -52,15 +52,15 @@ abbrev pub UnlockOf : State → UnlockArguments → Result ℕ LockFault → Nlm
 UnlockOf old a checked = Checked nlm_status_of old checked (λ file s messages new.
     (s ≡ status.Granted) × ChangesLocks old file (range_of a.lock) None messages new)
 
-abbrev pub Shares : State → (file : ℕ) → Share → (conflicts : Bool) → NlmStatus → List Message → State →
+abbrev pub ShareAnswers : State → (file : ℕ) → Share → (conflicts : Bool) → NlmStatus → List Message → State →
     Type 0
-Shares old file share conflicts = Answers (if conflicts then status.Denied else status.Granted)
+ShareAnswers old file share conflicts = Answers (if conflicts then status.Denied else status.Granted)
     (if conflicts then old else record old
     { shares = with_list old.shares file (all_but (same_sharer share) (of_file old.shares file) ++ share ∷ []) })
 
 abbrev pub ShareOf : State → NlmShare → Result ℕ LockFault → NlmStatus → List Message → State → Type 0
 ShareOf old s checked = Checked nlm_status_of old checked (λ file.
-    Shares old file (share_of s) (list_any (shares_conflict (share_of s)) (of_file old.shares file)))
+    ShareAnswers old file (share_of s) (list_any (shares_conflict (share_of s)) (of_file old.shares file)))
 
 abbrev pub UnshareOf : State → NlmShare → Result ℕ LockFault → NlmStatus → List Message → State → Type 0
 UnshareOf old s checked = Checked nlm_status_of old checked (λ file. Answers status.Granted (record old

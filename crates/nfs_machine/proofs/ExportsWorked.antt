@@ -11,11 +11,11 @@ use Rattle.nfs_wire.specs.declared.status.NfsStatus.TheVariants as status
 use Rattle.nfs_machine.specs.Checks.{entries_in, entry_of, holding, object_of, permitted}
 use Rattle.nfs_machine.specs.Checks.{◌>>=◌}
 use Rattle.nfs_machine.specs.Exports.{LivingExport, admits}
-use Rattle.nfs_machine.specs.MountSteps.{Leads, MountStep, entries_at, walk}
+use Rattle.nfs_machine.specs.MountSteps.{Matches, MountStep, entries_at, walk}
 use Rattle.nfs_machine.specs.NfsSteps.{NfsStep}
 use Rattle.nfs_machine.specs.Pages.{all_entries, behind, fits}
 use Rattle.nfs_machine.specs.Paths.{parts}
-use Rattle.nfs_machine.specs.Permission.{Listing}
+use Rattle.nfs_machine.specs.Permission.{ToList}
 use Rattle.nfs_machine.specs.Resolve.{Resolved, Names, living_at, resolve}
 use Rattle.nfs_machine.specs.State.{Entry, Living}
 use Rattle.nfs_machine.specs.WellFormed.{IsParent}
@@ -49,7 +49,7 @@ sub-parent = record { directory = upper_root; lives = root-at; named_in = inr (o
 
 abbrev entries_by : (parent : ℕ) → Resolved → Result (List Entry) NfsStatus
 entries_by parent r =
-    object_of r >>= λ d. entries_in d.1.content >>= λ entries. permitted nobody d.1 Listing >>= λ _. holding true
+    object_of r >>= λ d. entries_in d.1.content >>= λ entries. permitted nobody d.1 ToList >>= λ _. holding true
     status.BadCookie >>= λ _. Ok (behind 0 (all_entries d.0 parent entries.0))
 
 abbrev one_entry : List Entry
@@ -81,7 +81,7 @@ LeavesOne more e = admits e.value (codes "10.0.0.1") ≡ true → parts (codes "
     1 ≤ length more
 
 longest : (number : ℕ) (more : List (List ℕ)) →
-    Leads exporting.exports (codes "10.0.0.1") (parts (codes "/a/sub")) number more → 1 ≤ length more
+    Matches exporting.exports (codes "10.0.0.1") (parts (codes "/a/sub")) number more → 1 ≤ length more
 longest number more leads = export-all (LeavesOne more) exporting.exports number leads.export
     (above, (λ admitted begins. cc, tt)) leads.stands leads.admitted leads.begins
   where
@@ -129,7 +129,7 @@ worked-exporting = record {
         refl,
         7,
         codes "sub" ∷ [],
-        record { leads = record { export = upper; stands = refl; admitted = refl; begins = refl }; longest = longest },
+        record { matches = record { export = upper; stands = refl; admitted = refl; begins = refl }; longest = longest },
         sym found,
       ),
       refl,

@@ -29,7 +29,7 @@ use Rattle.nfs_machine.specs.Grants.{AllHeldUp, FileWaits, IsHeldUp}
 use Rattle.nfs_machine.specs.Laws.{GivesOnce, KeepsCookies, KeepsEntries, KeepsExports, LivesAs}
 use Rattle.nfs_machine.specs.Making.{Fresh, End, Known, Chosen, EndsAs, Wanted, given_attributes, make_end, make_new, new_object, with_entry, kind_checked}
 use Rattle.nfs_machine.specs.NameSteps.{create_existing, create_over, wanted_file}
-use Rattle.nfs_machine.specs.Permission.{Changing, Writing}
+use Rattle.nfs_machine.specs.Permission.{ToChange, ToWrite}
 use Rattle.nfs_machine.specs.RemoveSteps.{losing_name, without_object}
 use Rattle.nfs_machine.specs.Resolve.{resolve}
 use Rattle.nfs_machine.specs.Shown.{replaced, touched, with_content, with_object}
@@ -237,7 +237,7 @@ module _ (m : State) (ctx : Ctx) where
       chained-is P (bytes_in file.content) _
       (λ bytes is. chained-is P (holding (a.count == length a.«data») status.Invalid) _
       (λ x1 e1. chained-is P (changeable m.exports file) _
-      (λ x2 e2. chained-is P (permitted ctx file Writing) _ (λ x3 e3.
+      (λ x2 e2. chained-is P (permitted ctx file ToWrite) _ (λ x3 e3.
       chained-is P (holding ((write_count a == 0) || nat_le (a.offset + write_count a) size_limit) status.FileTooBig) _ (λ x4 e4.
       of (is-regular file.content bytes is) (write_count a == 0) (written bytes a.offset (take (write_count a) a.«data»)))))))
     where
@@ -419,7 +419,7 @@ module _ (m : State) (ctx : Ctx) where
       chained-is EndFollows (plain_name_checked status.Exists status.Exists place.name) _ (λ x1 e1.
       chained-is EndFollows wanted _ (λ what e2.
       chained-is EndFollows (changeable m.exports directory.1) _ (λ x3 e3.
-      chained-is EndFollows (permitted ctx directory.1 Changing) _ (λ x4 e4.
+      chained-is EndFollows (permitted ctx directory.1 ToChange) _ (λ x4 e4.
       under what (of-ok Plain wanted what e2 plain) directory.0 directory.1 entries.0 entries.1
       (resolved-lives m ctx place.directory directory at) (is-directory directory.1.content entries is) (entry_of entries.0 place.name) refl))))))
     where
@@ -437,11 +437,11 @@ module _ (m : State) (ctx : Ctx) where
       elim (elim file.verifier as (λ (_ : Option (List ℕ)). Bool) [ None ↦ false | Some kept ↦ same_bytes kept verifier.bytes ]) as (λ b. IfOk (cond b (Ok None) (Err status.Exists)) (λ after. IfSome after (Alters (time_of ctx.moment) file))) [ true ↦ tt | false ↦ tt ]
   over-alters (Unchecked a) file (Ok bytes) is = sized a.size
     where
-      sized : (size : Option ℕ) → IfOk (elim size as (λ (_ : Option ℕ). Result (Option Living) NfsStatus) [ None ↦ Ok None | Some size ↦ permitted ctx file Writing >>= λ _. holding (nat_le size size_limit) status.FileTooBig >>= λ _. Ok (Some (with_content file (time_of ctx.moment) (Regular (resized bytes size)))) ]) (λ after. IfSome after (Alters (time_of ctx.moment) file))
+      sized : (size : Option ℕ) → IfOk (elim size as (λ (_ : Option ℕ). Result (Option Living) NfsStatus) [ None ↦ Ok None | Some size ↦ permitted ctx file ToWrite >>= λ _. holding (nat_le size size_limit) status.FileTooBig >>= λ _. Ok (Some (with_content file (time_of ctx.moment) (Regular (resized bytes size)))) ]) (λ after. IfSome after (Alters (time_of ctx.moment) file))
       sized None = tt
       sized (Some size) =
           let P : Option Living → Type 0 = λ (after : Option Living). IfSome after (Alters (time_of ctx.moment) file) in
-          chained-is P (permitted ctx file Writing) _ (λ x1 e1. chained-is P (holding (nat_le size size_limit) status.FileTooBig) _ (λ x2 e2. alters-regular file (time_of ctx.moment) (resized bytes size) (is-regular file.content bytes is)))
+          chained-is P (permitted ctx file ToWrite) _ (λ x1 e1. chained-is P (holding (nat_le size size_limit) status.FileTooBig) _ (λ x2 e2. alters-regular file (time_of ctx.moment) (resized bytes size) (is-regular file.content bytes is)))
 
   pub existing-follows : (how : CreateHow) (number : ℕ) (o : Option Living) → get m.objects number ≡ o → IfOk (create_existing m ctx how number o) EndFollows
   existing-follows how number None at = tt

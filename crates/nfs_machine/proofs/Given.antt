@@ -35,12 +35,12 @@ use Rattle.nfs_machine.specs.Making.{Fresh, End, Known, Chosen, EndsAs, Wanted, 
 use Rattle.nfs_machine.specs.Making.{make_end, make_new, new_object, with_entry}
 use Rattle.nfs_machine.specs.MountSteps.{MntAnswers, MountStep, Target, entries_at, is_mounted, newest, walk}
 use Rattle.nfs_machine.specs.MountSteps.{with_mount}
-use Rattle.nfs_machine.specs.NameSteps.{create_existing, create_over, leads_to, lookup_result, wanted_file}
+use Rattle.nfs_machine.specs.NameSteps.{create_existing, create_over, leads_to, lookup_found, wanted_file}
 use Rattle.nfs_machine.specs.NfsSteps.{NfsStep}
 use Rattle.nfs_machine.specs.Pages.{all_entries, fits_full}
 use Rattle.nfs_machine.specs.PageSteps.{IsParentOf, entries_left, full_entry}
-use Rattle.nfs_machine.proofs.Visited.{Lists}
-use Rattle.nfs_machine.specs.Permission.{Changing, Searching, Writing}
+use Rattle.nfs_machine.proofs.Visited.{ListsPage}
+use Rattle.nfs_machine.specs.Permission.{ToChange, ToSearch, ToWrite}
 use Rattle.nfs_machine.specs.Resolve.{Resolved, BadHandle, Stale, Names, living_at, named, resolve}
 use Rattle.nfs_machine.specs.Shown.{handle_at, replaced, with_content, with_object}
 use Rattle.nfs_machine.specs.State.{Regular, Directory, Link, Entry, Living, State}
@@ -58,7 +58,7 @@ use Rattle.nfs_machine.proofs.Follows.{of-ok}
 use Rattle.nfs_machine.proofs.Kept.{steps_keep_form}
 use Rattle.nfs_machine.proofs.Numbered.{steps_keep_numbers}
 use Rattle.nfs_machine.proofs.Roots.{passing}
-use Rattle.nfs_machine.proofs.Pages.{PagesOf, readdirplus_result}
+use Rattle.nfs_machine.proofs.Pages.{PagesOf, readdirplus_page}
 use Rattle.nfs_machine.proofs.Visits.{lists}
 use Rattle.nfs_wire.specs.declared.calls.NfsCall.{NfsCall}
 use Rattle.nfs_wire.specs.declared.replies.NfsReply.{NfsReply}
@@ -206,13 +206,13 @@ module _ (read : HandlesAreRead) (m : State) (ctx : Ctx) (w : WellFormed m) (fit
     (start : ctx.start < 2 ^ 64) where
   -- ---- LOOKUP
   lookup-resolves : (place : Place) (parent : ℕ) → IsParentOf m ctx place.directory parent →
-      IfOk (lookup_result m ctx place parent) (λ found. Resolves m ctx found.object found.attributes)
+      IfOk (lookup_found m ctx place parent) (λ found. Resolves m ctx found.object found.attributes)
   lookup-resolves place parent is_parent =
       let P = λ (found : Found). Resolves m ctx found.object found.attributes in
       chained-is P (object_of (resolve m ctx place.directory)) _ (λ directory at.
       chained-is P (entries_in directory.1.content) _ (λ entries is.
       chained-is P (name_checked place.name) _ (λ x1 e1.
-      chained-is P (permitted ctx directory.1 Searching) _ (λ x2 e2.
+      chained-is P (permitted ctx directory.1 ToSearch) _ (λ x2 e2.
       chained-is P (leads_to directory.0 parent entries.0 place.name) _ (λ number leads.
       chained-is P (ok_or (get m.objects number) status.NoEntry) _ (λ o there.
       let names = resolved (resolve m ctx place.directory) directory at in
@@ -250,7 +250,7 @@ module _ (read : HandlesAreRead) (m : State) (ctx : Ctx) (w : WellFormed m) (fit
 
   -- ---- READDIRPLUS
   listed-resolves : (directory : List ℕ) (cookie : ℕ) (fits : List Entry → Bool) (page : List Entry × Bool) →
-      Lists m ctx directory cookie fits page → AllByRecursion (EntryIsTold m ctx) (map (full_entry m ctx) page.0)
+      ListsPage m ctx directory cookie fits page → AllByRecursion (EntryIsTold m ctx) (map (full_entry m ctx) page.0)
   listed-resolves directory cookie fits page lists =
       let lives = resolved-lives m ctx directory (lists.number, lists.object) (ap object_of lists.is_named) in
       let all = entries-export m w lists.number lists.parent lists.object lists.entries lists.last lives
@@ -324,13 +324,13 @@ module _ (m : State) (ctx : Ctx) where
       where
         sized : (size : Option ℕ) → IfOk (elim size as (λ (_ : Option ℕ). Result (Option Living) NfsStatus) [
           | None ↦ Ok None
-          | Some size ↦ permitted ctx o Writing >>= λ _. holding (nat_le size size_limit) status.FileTooBig >>= λ _.
+          | Some size ↦ permitted ctx o ToWrite >>= λ _. holding (nat_le size size_limit) status.FileTooBig >>= λ _.
               Ok (Some (with_content o (time_of ctx.moment) (Regular (resized bytes size))))
         ]) (λ after. (unwrap_or after o).export ≡ o.export)
         sized None = refl
         sized (Some size) =
             let P : Option Living → Type 0 = λ (after : Option Living). (unwrap_or after o).export ≡ o.export in
-            chained-is P (permitted ctx o Writing) _ (λ x1 e1.
+            chained-is P (permitted ctx o ToWrite) _ (λ x1 e1.
             chained-is P (holding (nat_le size size_limit) status.FileTooBig) _ (λ x2 e2. refl))
 
     there-after : (number : ℕ) (o : Living) (after : Option Living) → get m.objects number ≡ Some o →
@@ -375,7 +375,7 @@ module _ (m : State) (ctx : Ctx) where
       chained-is EndKnown (plain_name_checked status.Exists status.Exists place.name) _ (λ x1 e1.
       chained-is EndKnown wanted _ (λ what e2.
       chained-is EndKnown (changeable m.exports directory.1) _ (λ x3 e3.
-      chained-is EndKnown (permitted ctx directory.1 Changing) _ (λ x4 e4.
+      chained-is EndKnown (permitted ctx directory.1 ToChange) _ (λ x4 e4.
       under directory (named-admits (get m.objects) m.exports ctx (handle_of place.directory) directory.0 directory.1
       (resolved (resolve m ctx place.directory) directory at)) what entries.0 entries.1
       (subst (AllByRecursion (Leads m directory.1)) (ap entries_of (is-directory directory.1.content entries is))
@@ -470,15 +470,15 @@ module _ (read : HandlesAreRead) (old : State) (ctx : Ctx) (w : WellFormed old) 
   target-known : (path : List ℕ) (found : ℕ × Living) → Target old ctx path (Ok found) →
       IsKnown old ctx found.0 found.1 × (is_directory found.1.content ≡ true)
   target-known path found (fault, number, rest, chosen, is) =
-      let e = chosen.leads.export in
-      let root = export-all (HasRoot old) old.exports number e w.exports.rooted chosen.leads.stands in
-      let own : e.number ≡ number = export-number old.exports number e chosen.leads.stands in
+      let e = chosen.matches.export in
+      let root = export-all (HasRoot old) old.exports number e w.exports.rooted chosen.matches.stands in
+      let own : e.number ≡ number = export-number old.exports number e chosen.matches.stands in
       let reached = subst (λ (r : Result (ℕ × Living) MountStatus). IfOk r (Reached old w e.number)) (sym is)
       (walk-reaches old w e.number e.root rest (root.root, root.lives, root.own)) in (
         record {
           lives = reached.0;
           admitted = ap (λ k. export_admits (export_at old.exports k) ctx.host) (reached.2 ∙ own)
-              ∙ ap (λ x. export_admits x ctx.host) chosen.leads.stands ∙ chosen.leads.admitted;
+              ∙ ap (λ x. export_admits x ctx.host) chosen.matches.stands ∙ chosen.matches.admitted;
         },
         reached.1,
       )
@@ -576,7 +576,7 @@ handles-resolve read old ctx (calls.Commit a) reply messages new w fit start for
     (HandlesResolve new ctx) (sym step.reply_is) tt
 handles-resolve read old ctx (calls.Lookup place) reply messages new w fit start formed fits step = subst
     (HandlesResolve new ctx) (sym step.2.reply_is)
-    (subst (λ m. IfOk (lookup_result old ctx place step.0) (λ found. Resolves m ctx found.object found.attributes))
+    (subst (λ m. IfOk (lookup_found old ctx place step.0) (λ found. Resolves m ctx found.object found.attributes))
     (sym step.2.state_is) (lookup-resolves read old ctx w fit start place step.0 step.1))
 handles-resolve read old ctx (calls.Create a) reply messages new w fit start formed fits step = subst
     (HandlesResolve new ctx) (sym step.answers.reply_is)
@@ -600,13 +600,13 @@ handles-resolve read old ctx (calls.Mknod a) reply messages new w fit start form
     step.answers.state_is formed fits)
 handles-resolve read old ctx (calls.Readdirplus a) reply messages new w fit start formed fits step = subst
     (HandlesResolve new ctx) (sym step.answers.reply_is)
-    (subst (λ m. IfOk (readdirplus_result old ctx step.page)
+    (subst (λ m. IfOk (readdirplus_page old ctx step.page)
     (λ page. AllByRecursion (EntryIsTold m ctx) page.entries))
     (sym step.answers.state_is) (listed step.page step.is_page))
   where
     listed : (page : Result (List Entry × Bool) NfsStatus) → PagesOf (fits_full a.directory_count a.most)
         (entries_left old ctx a.directory a.cookie a.verifier step.parent) page →
-        IfOk (readdirplus_result old ctx page) (λ page. AllByRecursion (EntryIsTold old ctx) page.entries)
+        IfOk (readdirplus_page old ctx page) (λ page. AllByRecursion (EntryIsTold old ctx) page.entries)
     listed (Ok p) is = listed-resolves read old ctx w fit start a.directory a.cookie
         (fits_full a.directory_count a.most) p
         (lists old ctx w a.directory a.cookie a.verifier step.parent step.is_parent

@@ -6,7 +6,7 @@ use Rattle.std.proofs.lemmas.List.Elements.{All-drop, All-take}
 use Rattle.std.proofs.lemmas.Nat.{be_bytes_4, be_bytes_8}
 use Rattle.std.specs.Int.{from_be_bytes}
 use Rattle.std.specs.List.{All}
-use Rattle.nfs_machine.specs.Handles.{handle_bytes, handle_of, mark}
+use Rattle.nfs_machine.specs.Handles.{handle_bytes, handle_of, handle_mark}
 use Rattle.nfs_machine.specs.declared.handle.Handle.{Handle}
 
 abbrev handle : (word hyper : List ℕ → ℕ) → (export start fileid generation : List ℕ) → Handle
@@ -24,13 +24,13 @@ same_handle word hyper export start fileid generation export' start' fileid' gen
 -- what chunk after chunk gives
 pub handle_of-chunks : (bytes first rest0 export rest1 start rest2 fileid rest3 generation : List ℕ)
     → first ≡ take 4 bytes → rest0 ≡ drop 4 bytes → export ≡ take 4 rest0 → rest1 ≡ drop 4 rest0 → start ≡ take 8 rest1 → rest2 ≡ drop 8 rest1
-    → fileid ≡ take 8 rest2 → rest3 ≡ drop 8 rest2 → generation ≡ take 8 rest3 → length bytes ≡ 32 → from_be_bytes w32 first ≡ mark
+    → fileid ≡ take 8 rest2 → rest3 ≡ drop 8 rest2 → generation ≡ take 8 rest3 → length bytes ≡ 32 → from_be_bytes w32 first ≡ handle_mark
     → Some (handle (from_be_bytes w32) (from_be_bytes w64) export start fileid generation) ≡ handle_of bytes
 handle_of-chunks bytes first rest0 export rest1 start rest2 fileid rest3 generation f r0 e r1 s r2 i r3 g l m =
     let d8 : rest1 ≡ drop 8 bytes = r1 ∙ (ap (drop 4) r0 ∙ drop-drop 4 4 bytes) in
     let d16 : rest2 ≡ drop 16 bytes = r2 ∙ (ap (drop 8) d8 ∙ drop-drop 8 8 bytes) in
     let d24 : rest3 ≡ drop 24 bytes = r3 ∙ (ap (drop 8) d16 ∙ drop-drop 8 16 bytes) in
-    let is_marked : from_be_bytes w32 (take 4 bytes) ≡ mark = ap (from_be_bytes w32) (sym f) ∙ m in
+    let is_marked : from_be_bytes w32 (take 4 bytes) ≡ handle_mark = ap (from_be_bytes w32) (sym f) ∙ m in
     same_handle (from_be_bytes w32) (from_be_bytes w64) _ _ _ _ _ _ _ _ (e ∙ ap (take 4) r0) (s ∙ ap (take 8) d8) (i ∙ ap (take 8) d16) (g ∙ ap (take 8) d24)
     ∙ sym (some_if _ _ _ (eq-eqb _ _ l) (eq-eqb _ _ is_marked))
 
@@ -70,9 +70,9 @@ pub handle_of-written : (bytes : List ℕ) (h : Handle) → All (λ b. b < 256) 
 handle_of-written bytes h small e =
     let found = passed _ _ _ h e in
     let l : length bytes ≡ 32 = eqb-true _ _ found.0 in
-    let is_marked : from_be_bytes w32 (take 4 bytes) ≡ mark = eqb-true _ _ found.1 in
+    let is_marked : from_be_bytes w32 (take 4 bytes) ≡ handle_mark = eqb-true _ _ found.1 in
     cut bytes l ∙ joined _ _ _ _ _ _ _ _ _ _
-    (be_bytes_4 (take 4 bytes) mark (chunk_len bytes 0 4 (omega arith)) (small_chunk bytes 0 4 small) (sym is_marked))
+    (be_bytes_4 (take 4 bytes) handle_mark (chunk_len bytes 0 4 (omega arith)) (small_chunk bytes 0 4 small) (sym is_marked))
     (be_bytes_4 (take 4 (drop 4 bytes)) h.export (chunk_len bytes 4 4 (omega arith)) (small_chunk bytes 4 4 small) (ap (λ (x : Handle). x.export) (sym found.2)))
     (be_bytes_8 (take 8 (drop 8 bytes)) h.start (chunk_len bytes 8 8 (omega arith)) (small_chunk bytes 8 8 small) (ap (λ (x : Handle). x.start) (sym found.2)))
     (be_bytes_8 (take 8 (drop 16 bytes)) h.fileid (chunk_len bytes 16 8 (omega arith)) (small_chunk bytes 16 8 small) (ap (λ (x : Handle). x.fileid) (sym found.2)))

@@ -26,7 +26,7 @@ use Rattle.nfs_wire.specs.declared.calls.RenameArguments.{RenameArguments}
 use Rattle.std.specs.Prelude.{ok_or, is_some}
 use Rattle.std.specs.Cmp.{unsigned_Decides}
 use Rattle.nfs_machine.specs.Resolve.{resolve}
-use Rattle.nfs_machine.specs.Permission.{Changing}
+use Rattle.nfs_machine.specs.Permission.{ToChange}
 use Rattle.nfs_machine.specs.Answers.{Answers, state_after}
 use Rattle.nfs_machine.specs.Attributes.{links_of, names_in, names_of, is_directory}
 use Rattle.nfs_machine.specs.Chains.{Chain, Transition}
@@ -216,8 +216,8 @@ module _ (old : State) (ctx : Ctx) where
       chained-is IsPlan (plain_name_checked status.Invalid status.Invalid a.from.name) _ (λ x2 e2.
       chained-is IsPlan (plain_name_checked status.Invalid status.Invalid a.to.name) _ (λ x3 e3.
       chained-is IsPlan (changeable old.exports from.1) _ (λ x4 e4.
-      chained-is IsPlan (permitted ctx from.1 Changing) _ (λ x5 e5.
-      chained-is IsPlan (permitted ctx to.1 Changing) _ (λ x6 e6.
+      chained-is IsPlan (permitted ctx from.1 ToChange) _ (λ x5 e5.
+      chained-is IsPlan (permitted ctx to.1 ToChange) _ (λ x6 e6.
       chained-is IsPlan (ok_or (object_under old (entry_of from_entries.0 a.from.name)) status.NoEntry) _ (λ moved e7.
       move-planned a from to from_entries to_entries moved (object_under old (entry_of to_entries.0 a.to.name)) (record {
         from = is-under old from from_entries a.from.name moved (resolved-lives old ctx a.from.directory from at) (is-directory from.1.content from_entries is)

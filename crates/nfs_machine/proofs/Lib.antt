@@ -2,7 +2,7 @@ pub mod Asked
 pub mod Changes
 mod Bounds
 pub mod Checked
-mod Chosen
+mod LongestMatch
 pub mod Continued
 mod Cookies
 pub mod Entered

@@ -24,7 +24,7 @@ use Rattle.nfs_wire.specs.declared.status.NfsStatus.{NfsStatus}
 use Rattle.side_wire.specs.declared.message.Message.{Message}
 use Rattle.nfs_machine.specs.DataSteps.{verifier_of}
 use Rattle.nfs_machine.specs.Pages.{fits, fits_full, entry_size, full_entry_size}
-use Rattle.nfs_machine.proofs.Pages.{PagesOf, ReaddirStep, ReaddirplusStep, readdir_result, readdirplus_result}
+use Rattle.nfs_machine.proofs.Pages.{PagesOf, ReaddirStep, ReaddirplusStep, readdir_page, readdirplus_page}
 use Rattle.nfs_machine.specs.PageSteps.{entries_left, full_entry, page_entry}
 use Rattle.nfs_machine.specs.Resolve.{resolve}
 use Rattle.nfs_machine.specs.Shown.{attributes_at, handle_at, shown}
@@ -96,7 +96,7 @@ module _ (m : State) (ctx : Ctx) where
 
 -- a page is as long as it is reckoned, with its status
 pub readdir-page : (ctx : Ctx) (attributes : Option Attributes) (p : List Entry × Bool)
-    → length (result_bytes (nfs.Readdir (record { attributes = attributes; result = readdir_result ctx (Ok p) }))) ≤ 108 + sum_by entry_size p.0
+    → length (result_bytes (nfs.Readdir (record { attributes = attributes; result = readdir_page ctx (Ok p) }))) ≤ 108 + sum_by entry_size p.0
 readdir-page ctx attributes p =
     omega (
       arith,
@@ -107,7 +107,7 @@ readdir-page ctx attributes p =
     )
 
 pub readdirplus-page : (m : State) (ctx : Ctx) (attributes : Option Attributes) (p : List Entry × Bool)
-    → length (result_bytes (nfs.Readdirplus (record { attributes = attributes; result = readdirplus_result m ctx (Ok p) }))) ≤ 108 + sum_by full_entry_size p.0
+    → length (result_bytes (nfs.Readdirplus (record { attributes = attributes; result = readdirplus_page m ctx (Ok p) }))) ≤ 108 + sum_by full_entry_size p.0
 readdirplus-page m ctx attributes p =
     omega (
       arith,
@@ -122,18 +122,18 @@ abbrev pub Within : (Entry → ℕ) → (count : ℕ) → Result (List Entry × 
 Within size count page = IfOk page (λ p. 104 + sum_by size p.0 ≤ min count 65536)
 
 pub readdir-size : (ctx : Ctx) (attributes : Option Attributes) (count : ℕ) (page : Result (List Entry × Bool) NfsStatus) → Within entry_size count page
-    → length (result_bytes (nfs.Readdir (record { attributes = attributes; result = readdir_result ctx page }))) ≤ 65600
+    → length (result_bytes (nfs.Readdir (record { attributes = attributes; result = readdir_page ctx page }))) ≤ 65600
 readdir-size ctx attributes count (Ok p) within = omega (arith, within, readdir-page ctx attributes p)
 readdir-size ctx attributes count (Err e) within = omega (arith, adds-refused (Pair post_op_attr (Pair verf3 (Pair (Entries entry3) Flag))) post_op_attr e _ 88 (adds-after attributes) [])
 
 pub readdirplus-size : (m : State) (ctx : Ctx) (attributes : Option Attributes) (count : ℕ) (page : Result (List Entry × Bool) NfsStatus) → Within full_entry_size count page
-    → length (result_bytes (nfs.Readdirplus (record { attributes = attributes; result = readdirplus_result m ctx page }))) ≤ 65600
+    → length (result_bytes (nfs.Readdirplus (record { attributes = attributes; result = readdirplus_page m ctx page }))) ≤ 65600
 readdirplus-size m ctx attributes count (Ok p) within = omega (arith, within, readdirplus-page m ctx attributes p)
 readdirplus-size m ctx attributes count (Err e) within =
     omega (arith, adds-refused (Pair post_op_attr (Pair verf3 (Pair (Entries entryplus3) Flag))) post_op_attr e _ 88 (adds-after attributes) [])
 
 pub readdir-form : (ctx : Ctx) (attributes : Option Attributes) (count : ℕ) (page : Result (List Entry × Bool) NfsStatus) → Within entry_size count page
-    → HasReaddirForm (record { attributes = attributes; result = readdir_result ctx page })
+    → HasReaddirForm (record { attributes = attributes; result = readdir_page ctx page })
 readdir-form ctx attributes count (Ok p) within = small page_entry entry_size HasEntryForm (λ e fits. omega (arith, fits)) p.0 (omega (arith, within))
 readdir-form ctx attributes count (Err e) within = tt
 
@@ -142,7 +142,7 @@ handle-form ctx number None = tt
 handle-form ctx number (Some o) = omega arith
 
 pub readdirplus-form : (m : State) (ctx : Ctx) (attributes : Option Attributes) (count : ℕ) (page : Result (List Entry × Bool) NfsStatus) → Within full_entry_size count page
-    → HasReaddirplusForm (record { attributes = attributes; result = readdirplus_result m ctx page })
+    → HasReaddirplusForm (record { attributes = attributes; result = readdirplus_page m ctx page })
 readdirplus-form m ctx attributes count (Ok p) within =
     small (full_entry m ctx) full_entry_size HasFullEntryForm (λ e fits. (omega (arith, fits), handle-form ctx e.number (get m.objects e.number))) p.0 (omega (arith, within))
 readdirplus-form m ctx attributes count (Err e) within = tt
@@ -179,13 +179,13 @@ readdir-fits old ctx a r messages new step = subst P (sym same) (told step.page 
     P : ReaddirReply → Type 0
     P x = IfOk x.result (λ page. length (result_bytes (nfs.Readdir x)) ≤ 4 + a.count)
 
-    same : r ≡ record { attributes = at; result = readdir_result ctx step.page }
+    same : r ≡ record { attributes = at; result = readdir_page ctx step.page }
     same = let is = step.answers.reply_is in cc
 
     within : Within entry_size a.count step.page
     within = names-within a.count (entries_left old ctx a.directory a.cookie a.verifier step.parent) step.page step.is_page
 
-    told : (page : Result (List Entry × Bool) NfsStatus) → Within entry_size a.count page → P (record { attributes = at; result = readdir_result ctx page })
+    told : (page : Result (List Entry × Bool) NfsStatus) → Within entry_size a.count page → P (record { attributes = at; result = readdir_page ctx page })
     told (Ok p) w = omega (arith, w, readdir-page ctx at p)
     told (Err e) w = tt
 
@@ -199,12 +199,12 @@ readdirplus-fits old ctx a r messages new step = subst P (sym same) (told step.p
     P : ReaddirplusReply → Type 0
     P x = IfOk x.result (λ page. length (result_bytes (nfs.Readdirplus x)) ≤ 4 + a.most)
 
-    same : r ≡ record { attributes = at; result = readdirplus_result old ctx step.page }
+    same : r ≡ record { attributes = at; result = readdirplus_page old ctx step.page }
     same = let is = step.answers.reply_is in cc
 
     within : Within full_entry_size a.most step.page
     within = full-within a.directory_count a.most (entries_left old ctx a.directory a.cookie a.verifier step.parent) step.page step.is_page
 
-    told : (page : Result (List Entry × Bool) NfsStatus) → Within full_entry_size a.most page → P (record { attributes = at; result = readdirplus_result old ctx page })
+    told : (page : Result (List Entry × Bool) NfsStatus) → Within full_entry_size a.most page → P (record { attributes = at; result = readdirplus_page old ctx page })
     told (Ok p) w = omega (arith, w, readdirplus-page old ctx at p)
     told (Err e) w = tt

@@ -26,7 +26,7 @@ use Rattle.nfs_machine.specs.Checks.{◌>>=◌, bytes_in, holding, is_writable}
 use Rattle.nfs_machine.specs.FileLists.{all_but, of_file, with_list}
 use Rattle.nfs_machine.specs.Grants.{ChangesLocks, Grants, SettleInOrder, Settles, requested}
 use Rattle.nfs_machine.specs.Laws.{KeepsExports}
-use Rattle.nfs_machine.specs.Locks.{Conflicts, Lists, Mode, denies, fits_offsets, modes_without, range_of}
+use Rattle.nfs_machine.specs.Locks.{Conflicts, HasModes, Mode, denies, fits_offsets, modes_without, range_of}
 use Rattle.nfs_machine.specs.Locks.{same_sharer, shares_conflict}
 use Rattle.nfs_machine.specs.LocksFormed.{IsFile, NoConflict, NoLocksConflict, NoSharesConflict}
 use Rattle.nfs_machine.specs.LockSteps.{Frees, GrantEnds, HeldUp, LockFault, NotRegular, RangeTooBig, ReadOnly}
@@ -36,7 +36,7 @@ use Rattle.nfs_machine.specs.NlmSteps.{NlmStep}
 use Rattle.nfs_machine.specs.Resolve.{BadHandle, Names, Resolved, Stale, resolve}
 use Rattle.nfs_machine.specs.State.{Living, Lock, PendingGrant, Range, Request, Share, State}
 use Rattle.nfs_machine.specs.declared.context.Ctx.{Ctx}
-use Rattle.nfs_machine.proofs.Checked.{CancelOf, Cancels, LockOf, ShareOf, Shares, TestOf, UnlockOf, UnshareOf}
+use Rattle.nfs_machine.proofs.Checked.{CancelOf, Cancels, LockOf, ShareOf, ShareAnswers, TestOf, UnlockOf, UnshareOf}
 use Rattle.nfs_machine.proofs.Checked.{found-pending}
 use Rattle.nfs_machine.proofs.FileMaps.{each-relisted, each-with, get-relisted, kept-is, remade}
 use Rattle.nfs_machine.proofs.Firm.{Firm, firm-answered, firm-cancelled, firm-freed, firm-granted, firm-locks}
@@ -46,8 +46,8 @@ use Rattle.nfs_machine.proofs.Modes.{apart-with, apart-without, shares-left, sha
 use Rattle.nfs_machine.proofs.Resolved.{resolved-lives}
 
 -- what stands beside objects and locks: the mounts and the exports
-abbrev pub beside : State → List MountBody × List LivingExport × ℕ
-beside m = (m.mounts, m.exports, m.last_export)
+abbrev pub kept_beside : State → List MountBody × List LivingExport × ℕ
+kept_beside m = (m.mounts, m.exports, m.last_export)
 
 pub record Untouched (old new : State) : Type 0 where
   pub objects : new.objects ≡ old.objects
@@ -80,7 +80,7 @@ joined a b c x y = record {
 
 -- from a state with the same objects
 from : (old after new : State) → after.objects ≡ old.objects → after.spent ≡ old.spent →
-    beside after ≡ beside old
+    kept_beside after ≡ kept_beside old
     → (NoConflict old → NoConflict after) → (Firm old → Firm after) → new ≡ after → Untouched old new
 from old after new objects spent kept apart firm e = joined old after new (record {
   objects = objects;
@@ -262,7 +262,7 @@ share-untouched : (old : State) (file : ℕ) (share : Share) (conflicts : Bool) 
     (messages : List Message)
     (new : State) → IsFile old.objects file →
     list_any (shares_conflict share) (of_file old.shares file) ≡ conflicts
-    → Shares old file share conflicts s messages new → Untouched old new
+    → ShareAnswers old file share conflicts s messages new → Untouched old new
 share-untouched old file share true s messages new living is step = same old new step.state_is
 share-untouched old file share false s messages new living is step =
     let shares : List Share = all_but (same_sharer share) (of_file old.shares file) ++ share ∷ [] in
@@ -292,7 +292,7 @@ unshared old asked (Ok file) s messages new living step =
 
 -- the locks of a file without those of a caller
 freed-apart : (name : List ℕ) (new : ℕ → List Lock) (file : ℕ) (o : Option (List Lock))
-    → Lists (new file) (modes_without (unwrap_or o []) name) → NoLocksConflict (unwrap_or o [])
+    → HasModes (new file) (modes_without (unwrap_or o []) name) → NoLocksConflict (unwrap_or o [])
     → NoLocksConflict (unwrap_or (remade (λ q _. new q) file o) [])
 freed-apart name new file None lists h = λ a b offset other. refl
 freed-apart name new file (Some list) lists h =

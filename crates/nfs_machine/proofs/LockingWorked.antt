@@ -15,7 +15,7 @@ use Rattle.side_wire.specs.declared.message.NlmLock.{NlmLock}
 use Rattle.nfs_machine.specs.Checks.{◌>>=◌, bytes_in, holding, is_writable}
 use Rattle.nfs_machine.specs.FileLists.{all_but, of_file, with_list}
 use Rattle.nfs_machine.specs.Grants.{ChangesLocks, IsHeldUp}
-use Rattle.nfs_machine.specs.Locks.{Conflicts, Lists, fits_offsets, is_within, mode_at, modes_with, same_owner}
+use Rattle.nfs_machine.specs.Locks.{Conflicts, HasModes, fits_offsets, is_within, mode_at, modes_with, same_owner}
 use Rattle.nfs_machine.specs.Locks.{same_sharer, shares_conflict}
 use Rattle.nfs_machine.specs.LockSteps.{HeldUp, IsHolder, LockFault, NotRegular, RangeTooBig, ReadOnly, StaleHandle}
 use Rattle.nfs_machine.specs.LockSteps.{is_request, share_of}
@@ -35,9 +35,9 @@ use Rattle.nfs_machine.specs.WorkedLocks.{Exclusive}
 use Rattle.nfs_machine.specs.WorkedLocking.{WorkedChecks, WorkedLocking, cancelling, giving_back, locking, on_x}
 use Rattle.nfs_machine.specs.WorkedLocking.{sharing, testing, waiting, with_reader, with_readers, with_split}
 use Rattle.nfs_machine.specs.WorkedLocking.{with_waiting, with_whole}
-use Rattle.nfs_machine.specs.WorkedRun.{nobody, read_only, root_with_x, written, x_bytes, x_written}
+use Rattle.nfs_machine.specs.WorkedRun.{nobody, read_only, root_with_x, with_hi, x_bytes, x_written}
 use Rattle.nfs_machine.specs.NlmSteps.{NlmStep}
-use Rattle.nfs_machine.proofs.Checked.{CancelOf, Cancels, LockOf, ShareOf, Shares, TestOf, UnlockOf, UnshareOf}
+use Rattle.nfs_machine.proofs.Checked.{CancelOf, Cancels, LockOf, ShareOf, ShareAnswers, TestOf, UnlockOf, UnshareOf}
 use Rattle.nfs_machine.proofs.FileMaps.{first-list, next-list, no-list, of-there, with-again}
 use Rattle.nfs_machine.proofs.Modes.{listed_locks_tell, holds, mode_by}
 use Rattle.nfs_machine.proofs.Opened.{le_or, none_of}
@@ -97,7 +97,7 @@ module _ (offset : ℕ) where
       let above : 60 ≤ offset = leb-true 60 offset y.0 in
       omega (arith, below, above)
 
-given-back : Lists split (modes_with whole (range_at a 40 20) Unlocked)
+given-back : HasModes split (modes_with whole (range_at a 40 20) Unlocked)
 given-back = record { modes_are = modes; once = once }
   where
     modes : (owner : Owner) (offset : ℕ) →
@@ -157,18 +157,18 @@ abbrev lock_by : Bool → NlmLock → Resolved → Result ℕ LockFault
 lock_by = lock_under writable
 
 -- where a path without parts leads
-abbrev found_by : Option Living → Result (ℕ × Living) MountStatus
-found_by o = entries_at o >>=m λ d. Ok (1, d.0)
+abbrev walked_by : Option Living → Result (ℕ × Living) MountStatus
+walked_by o = entries_at o >>=m λ d. Ok (1, d.0)
 
-is-x : resolve written nobody x_bytes ≡ Names 5 x_written
-is-x = x-named written refl x_written refl refl x-lives
+is-x : resolve with_hi nobody x_bytes ≡ Names 5 x_written
+is-x = x-named with_hi refl x_written refl refl x-lives
 
 -- the same under a read-only export
-is-x-read : resolve (read_only written) nobody x_bytes ≡ Names 5 x_written
+is-x-read : resolve (read_only with_hi) nobody x_bytes ≡ Names 5 x_written
 is-x-read = ap (λ (l : Option Living). living_at l (record root_handle { fileid = 5 })) x-lives
 
-is-root : resolve written nobody root_bytes ≡ Names 1 root_with_x
-is-root = root-named written refl root_with_x refl refl root-written
+is-root : resolve with_hi nobody root_bytes ≡ Names 1 root_with_x
+is-root = root-named with_hi refl root_with_x refl refl root-written
 
 pub worked-checks : WorkedChecks
 worked-checks = record {
@@ -185,8 +185,8 @@ worked-checks = record {
 }
 
 -- ---- what file 5 has
-abbrev no_locks : List Lock
-no_locks = of_file empty 5
+abbrev none_held : List Lock
+none_held = of_file empty 5
 
 abbrev locks_whole : FinMap nat_cmp (List Lock)
 locks_whole = with_list empty 5 whole
@@ -219,24 +219,24 @@ held = subst (λ l. Conflicts l (range_at b 30 1) Exclusive) (sym is-split)
     (record { other = a; offset = 30; is_other = refl; is_inside = refl; conflict = refl })
 
 -- A's LOCK of the first 100 bytes
-locks-free : Conflicts no_locks (range_at a 0 100) Exclusive → ⊥
+locks-free : Conflicts none_held (range_at a 0 100) Exclusive → ⊥
 locks-free = subst (λ l. Conflicts l (range_at a 0 100) Exclusive → ⊥) (sym (none_of 5))
     (listed_locks_tell [] (range_at a 0 100) Exclusive refl)
 
-locks-whole : ChangesLocks written 5 (range_at a 0 100) Exclusive [] with_whole
+locks-whole : ChangesLocks with_hi 5 (range_at a 0 100) Exclusive [] with_whole
 locks-whole = record {
   locks = whole;
-  lists = subst (λ l. Lists whole (modes_with l (range_at a 0 100) Exclusive)) (sym (none_of 5)) locked;
+  lists = subst (λ l. HasModes whole (modes_with l (range_at a 0 100) Exclusive)) (sym (none_of 5)) locked;
   settles = (quiet (of_file locks_whole 5), refl);
 }
 
 locks-split : ChangesLocks with_whole 5 (range_at a 40 20) Unlocked [] with_split
 locks-split = record {
   locks = split;
-  lists = subst (λ l. Lists split (modes_with l (range_at a 40 20) Unlocked)) (sym is-whole) given-back;
+  lists = subst (λ l. HasModes split (modes_with l (range_at a 40 20) Unlocked)) (sym is-whole) given-back;
   settles = (
     quiet (of_file (with_list locks_whole 5 split) 5),
-    ap (λ x. record written { locks = x }) (sym (with-again empty 5 whole split)),
+    ap (λ x. record with_hi { locks = x }) (sym (with-again empty 5 whole split)),
   );
 }
 
@@ -274,7 +274,7 @@ unfolding NlmStep MountStep walk
 worked-locking = record {
   locks = (
     status.Granted,
-    subst (λ r. LockOf written nobody (locking a 0 100 true) false (lock_by true ((locking a 0 100 true)).lock r)
+    subst (λ r. LockOf with_hi nobody (locking a 0 100 true) false (lock_by true ((locking a 0 100 true)).lock r)
         status.Granted [] with_whole) (sym is-x) (inl (locks-free, refl, locks-whole)),
     refl,
   );
@@ -299,7 +299,7 @@ worked-locking = record {
                   reply_is = refl;
                   no_message = refl;
                   state_is = ap (λ x. record with_split
-                      { waiting = x; spent_grants = λ n. (n == 5) || written.spent_grants n })
+                      { waiting = x; spent_grants = λ n. (n == 5) || with_hi.spent_grants n })
                       (sym (first-list 5 (λ l. l ++ waiting ∷ [])));
                 };
               })),
@@ -352,7 +352,7 @@ worked-locking = record {
   posts = (
     status.Granted,
     [],
-    subst (λ r. LockOf written nobody (locking a 0 100 true) true (lock_by true ((locking a 0 100 true)).lock r)
+    subst (λ r. LockOf with_hi nobody (locking a 0 100 true) true (lock_by true ((locking a 0 100 true)).lock r)
         status.Granted [] with_whole) (sym is-x) (inl (locks-free, refl, locks-whole)),
     refl,
     refl,
@@ -367,13 +367,13 @@ worked-locking = record {
   );
   shares = (
     status.Granted,
-    subst (λ r. ShareOf written (sharing a mode.DenyWrite access.Read).share (file_by writable true false r)
+    subst (λ r. ShareOf with_hi (sharing a mode.DenyWrite access.Read).share (file_by writable true false r)
         status.Granted [] with_reader) (sym is-x)
-        (subst (λ some. Shares written 5 a_reads some status.Granted [] with_reader)
+        (subst (λ some. ShareAnswers with_hi 5 a_reads some status.Granted [] with_reader)
         (sym (ap (list_any (shares_conflict a_reads)) (none_of 5))) (record {
           reply_is = refl;
           no_message = refl;
-          state_is = ap (λ x. record written { shares = x })
+          state_is = ap (λ x. record with_hi { shares = x })
               (sym (first-list 5 (λ l. all_but (same_sharer a_reads) l ++ a_reads ∷ [])));
         })),
     refl,
@@ -382,7 +382,7 @@ worked-locking = record {
     status.Denied,
     subst (λ r. ShareOf with_reader (sharing b mode.DenyNone access.Write).share (file_by writable true true r)
         status.Denied [] with_reader) (sym is-x)
-        (subst (λ some. Shares with_reader 5 b_writes some status.Denied [] with_reader)
+        (subst (λ some. ShareAnswers with_reader 5 b_writes some status.Denied [] with_reader)
         (sym (conflicts-is b_writes (reading ∷ []) true refl))
         (record { reply_is = refl; no_message = refl; state_is = refl })),
     refl,
@@ -391,11 +391,11 @@ worked-locking = record {
     status.Granted,
     subst (λ r. ShareOf with_reader (sharing b mode.DenyNone access.Read).share (file_by writable true false r)
         status.Granted [] with_readers) (sym is-x)
-        (subst (λ some. Shares with_reader 5 b_reads some status.Granted [] with_readers)
+        (subst (λ some. ShareAnswers with_reader 5 b_reads some status.Granted [] with_readers)
         (sym (conflicts-is b_reads (reading ∷ []) false refl)) (record {
           reply_is = refl;
           no_message = refl;
-          state_is = ap (λ x. record written { shares = x })
+          state_is = ap (λ x. record with_hi { shares = x })
               (sym (next-list 5 (reading ∷ []) (λ l. all_but (same_sharer b_reads) l ++ b_reads ∷ [])));
         })),
     refl,
@@ -404,7 +404,7 @@ worked-locking = record {
     status.Denied,
     subst (λ r. ShareOf with_readers (sharing a mode.DenyRead access.Read).share (file_by writable true false r)
         status.Denied [] with_readers) (sym is-x)
-        (subst (λ some. Shares with_readers 5 a_denies some status.Denied [] with_readers)
+        (subst (λ some. ShareAnswers with_readers 5 a_denies some status.Denied [] with_readers)
         (sym (conflicts-is a_denies (reading ∷ reading_too ∷ []) true refl))
         (record { reply_is = refl; no_message = refl; state_is = refl })),
     refl,
@@ -416,7 +416,7 @@ worked-locking = record {
         (file_by writable true false r) status.Granted [] with_readers) (sym is-x) (record {
           reply_is = refl;
           no_message = refl;
-          state_is = ap (λ x. record written { shares = x })
+          state_is = ap (λ x. record with_hi { shares = x })
               (sym (next-list 5 (reading ∷ reading_too ∷ []) (all_but (same_sharer c_sharer))));
         }),
     refl,
@@ -424,10 +424,10 @@ worked-locking = record {
   unshares = (
     status.Granted,
     subst (λ r. UnshareOf with_readers (sharing a mode.DenyWrite access.Read).share (file_by writable true false r)
-        status.Granted [] (record written { shares = with_list empty 5 (reading_too ∷ []) })) (sym is-x) (record {
+        status.Granted [] (record with_hi { shares = with_list empty 5 (reading_too ∷ []) })) (sym is-x) (record {
           reply_is = refl;
           no_message = refl;
-          state_is = ap (λ x. record written { shares = x })
+          state_is = ap (λ x. record with_hi { shares = x })
               (sym (next-list 5 (reading ∷ reading_too ∷ []) (all_but (same_sharer a_reads))));
         }),
     refl,
@@ -449,7 +449,7 @@ worked-locking = record {
         1,
         [],
         record {
-          leads = record {
+          matches = record {
             export = record { number = 1; root = 1; value = open_export };
             stands = refl;
             admitted = refl;
@@ -457,7 +457,7 @@ worked-locking = record {
           };
           longest = λ other more leads. omega arith;
         },
-        sym (ap found_by root-written),
+        sym (ap walked_by root-written),
       ),
       refl,
       refl,

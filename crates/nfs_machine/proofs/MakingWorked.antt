@@ -17,7 +17,7 @@ use Rattle.nfs_machine.specs.Making.{End, EndsAs, MakeStep, Wanted, made, make_n
 use Rattle.nfs_machine.specs.MakeSteps.{wanted_of, wanted_special}
 use Rattle.nfs_machine.specs.NameSteps.{create_existing}
 use Rattle.nfs_machine.specs.NfsSteps.{NfsStep}
-use Rattle.nfs_machine.specs.Permission.{Changing}
+use Rattle.nfs_machine.specs.Permission.{ToChange}
 use Rattle.nfs_machine.specs.RemoveSteps.{TakeStep, losing_name, object_under, without}
 use Rattle.nfs_machine.specs.RemoveSteps as removing
 use Rattle.nfs_machine.specs.Resolve.{Resolved, Names, resolve}
@@ -26,9 +26,9 @@ use Rattle.nfs_machine.specs.State.{Content, Directory, Fifo, Link, Entry, Livin
 use Rattle.nfs_machine.specs.Worked.{root_bytes}
 use Rattle.nfs_machine.specs.WorkedCreate.{no_attributes}
 use Rattle.nfs_machine.specs.WorkedFiles.{time}
-use Rattle.nfs_machine.specs.WorkedMaking.{WorkedMaking, WorkedTaking, d_entry, empty_directory, exclusive, guarded, made_as, new, not_made, not_removed, root_with_d, with_new}
+use Rattle.nfs_machine.specs.WorkedMaking.{WorkedMaking, WorkedTaking, d_entry, bare_directory, exclusive, guarded, made_as, new, not_made, not_removed, root_with_d, with_new}
 use Rattle.nfs_machine.specs.WorkedReplies.{root}
-use Rattle.nfs_machine.specs.WorkedRun.{in_root, nobody, opened, root_with_x, written, x_entry}
+use Rattle.nfs_machine.specs.WorkedRun.{in_root, nobody, opened, root_with_x, with_hi, x_entry}
 use Rattle.nfs_machine.proofs.RunWorked.{fresh, root-named, root-opened, root-written, x-lives}
 use Rattle.nfs_machine.proofs.Sums.{get-inserted}
 
@@ -47,7 +47,7 @@ module _ (old : State) (name : List ℕ) (wanted : Result Wanted NfsStatus) (the
   make_by r =
       object_of r >>= λ directory. entries_in directory.1.content >>= λ entries. plain_name_checked status.Exists
       status.Exists name >>= λ _. wanted >>= λ what. changeable old.exports directory.1
-      >>= λ _. permitted nobody directory.1 Changing >>= λ _. make_under what directory.0 directory.1 entries.0 entries.1 (entry_of entries.0 name)
+      >>= λ _. permitted nobody directory.1 ToChange >>= λ _. make_under what directory.0 directory.1 entries.0 entries.1 (entry_of entries.0 name)
 
   not-made : (o : Living) (reply_of : MadeReply → NfsReply) (e : NfsStatus) → resolve old nobody root_bytes ≡ Names 1 o → make_by (Names 1 o) ≡ Err e
       → MakeStep old nobody (in_root name) wanted there reply_of (reply_of (not_made old e)) [] old
@@ -60,8 +60,8 @@ module _ (old : State) (name : List ℕ) (wanted : Result Wanted NfsStatus) (the
 is-opened : resolve opened nobody root_bytes ≡ Names 1 root
 is-opened = root-named opened refl root refl refl root-opened
 
-is-written : resolve written nobody root_bytes ≡ Names 1 root_with_x
-is-written = root-named written refl root_with_x refl refl root-written
+is-written : resolve with_hi nobody root_bytes ≡ Names 1 root_with_x
+is-written = root-named with_hi refl root_with_x refl refl root-written
 
 is-made : (o : Living) → resolve (with_new o) nobody root_bytes ≡ Names 1 root_with_d
 is-made o = root-named (with_new o) refl root_with_d refl refl (root-with-d o)
@@ -78,8 +78,8 @@ is-new name wanted there o reply_of ends = record {
 pub worked-making : WorkedMaking
 unfolding NfsStep fresh
 worked-making = record {
-  directory = is-new (codes "d") (Ok (wanted_of 493 (Directory [] 2) no_attributes)) (λ number object. Err status.Exists) empty_directory nfs_replies.Mkdir (fresh, refl);
-  links = ap (λ (l : Option Living). 2 + count_by (λ (e : Entry). is_living_directory l) (d_entry ∷ [])) (d-lives empty_directory);
+  directory = is-new (codes "d") (Ok (wanted_of 493 (Directory [] 2) no_attributes)) (λ number object. Err status.Exists) bare_directory nfs_replies.Mkdir (fresh, refl);
+  links = ap (λ (l : Option Living). 2 + count_by (λ (e : Entry). is_living_directory l) (d_entry ∷ [])) (d-lives bare_directory);
   above = not-made _ _ _ _ _ _ _ is-opened refl;
   link = is-new (codes "d") (Ok (wanted_of 511 (Link (codes "x")) no_attributes)) (λ number object. Err status.Exists) (new 511 (Link (codes "x"))) nfs_replies.Symlink (fresh, refl);
   empty_link = not-made _ _ _ _ _ _ _ is-opened refl;
@@ -89,9 +89,9 @@ worked-making = record {
   regular = not-made _ _ _ _ _ _ _ is-opened refl;
   long_name = not-made _ _ _ _ _ _ _ is-opened refl;
   no_name = not-made _ _ _ _ _ _ _ is-opened refl;
-  there = not-made _ _ _ _ _ _ _ is-written (ap (λ (l : Option Living). create_existing written nobody (guarded (codes "x")).how 5 l) x-lives);
-  over_directory = not-made _ _ _ _ _ _ _ (is-made empty_directory)
-      (ap (λ (l : Option Living). create_existing (with_new empty_directory) nobody (exclusive (codes "d")).how 5 l) (d-lives empty_directory));
+  there = not-made _ _ _ _ _ _ _ is-written (ap (λ (l : Option Living). create_existing with_hi nobody (guarded (codes "x")).how 5 l) x-lives);
+  over_directory = not-made _ _ _ _ _ _ _ (is-made bare_directory)
+      (ap (λ (l : Option Living). create_existing (with_new bare_directory) nobody (exclusive (codes "d")).how 5 l) (d-lives bare_directory));
 }
 
 -- ---- what is taken away
@@ -105,7 +105,7 @@ module _ (old : State) (name : List ℕ) (name_checked : List ℕ → Result (Un
   abbrev take_by : Resolved → Result (Unit {0} × State) NfsStatus
   take_by r =
       object_of r >>= λ directory. entries_in directory.1.content >>= λ entries. name_checked name >>= λ _.
-      changeable old.exports directory.1 >>= λ _. permitted nobody directory.1 Changing
+      changeable old.exports directory.1 >>= λ _. permitted nobody directory.1 ToChange
       >>= λ _. take_object directory entries (object_under old (entry_of entries.0 name))
 
   not-taken : (o : Living) (reply_of : RemovedReply → NfsReply) (e : NfsStatus) → resolve old nobody root_bytes ≡ Names 1 o → take_by (Names 1 o) ≡ Err e
@@ -124,11 +124,11 @@ worked-taking = record {
   above = not-taken opened (codes "..") (plain_name_checked status.Invalid status.Exists) removing.empty_directory root nfs_replies.Rmdir status.Exists is-opened refl;
   nothing = not-taken opened (codes "d") (plain_name_checked status.Invalid status.Exists) removing.empty_directory root nfs_replies.Rmdir status.NoEntry is-opened refl;
   file =
-      not-taken written (codes "x") (plain_name_checked status.Invalid status.Exists) removing.empty_directory root_with_x nfs_replies.Rmdir status.NotDirectory is-written
-      (ap (λ (l : Option Living). take_object written (codes "x") (plain_name_checked status.Invalid status.Exists) removing.empty_directory (1, root_with_x) (x_entry ∷ [], 3) (option_map (λ (o : Living). (5, o)) l)) x-lives);
+      not-taken with_hi (codes "x") (plain_name_checked status.Invalid status.Exists) removing.empty_directory root_with_x nfs_replies.Rmdir status.NotDirectory is-written
+      (ap (λ (l : Option Living). take_object with_hi (codes "x") (plain_name_checked status.Invalid status.Exists) removing.empty_directory (1, root_with_x) (x_entry ∷ [], 3) (option_map (λ (o : Living). (5, o)) l)) x-lives);
   remove_self = not-taken opened (codes ".") (plain_name_checked status.Invalid status.Invalid) removing.not_directory root nfs_replies.Remove status.Invalid is-opened refl;
   remove_above = not-taken opened (codes "..") (plain_name_checked status.Invalid status.Invalid) removing.not_directory root nfs_replies.Remove status.Invalid is-opened refl;
   directory =
-      not-taken (with_new empty_directory) (codes "d") (plain_name_checked status.Invalid status.Invalid) removing.not_directory root_with_d nfs_replies.Remove status.IsDirectory (is-made empty_directory)
-      (ap (λ (l : Option Living). take_object (with_new empty_directory) (codes "d") (plain_name_checked status.Invalid status.Invalid) removing.not_directory (1, root_with_d) (d_entry ∷ [], 3) (option_map (λ (o : Living). (5, o)) l)) (d-lives empty_directory));
+      not-taken (with_new bare_directory) (codes "d") (plain_name_checked status.Invalid status.Invalid) removing.not_directory root_with_d nfs_replies.Remove status.IsDirectory (is-made bare_directory)
+      (ap (λ (l : Option Living). take_object (with_new bare_directory) (codes "d") (plain_name_checked status.Invalid status.Invalid) removing.not_directory (1, root_with_d) (d_entry ∷ [], 3) (option_map (λ (o : Living). (5, o)) l)) (d-lives bare_directory));
 }

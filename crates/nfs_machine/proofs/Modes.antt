@@ -10,7 +10,7 @@ use Rattle.std.specs.Cmp.Lexicographic.{bytes_decides}
 use Rattle.std.specs.List.{AllByRecursion, list_any}
 use Rattle.std.specs.Ordering.{int_eq}
 use Rattle.nfs_machine.specs.Bytes.{same_bytes}
-use Rattle.nfs_machine.specs.Locks.{Conflicts, Lists, Mode, denies, is_in, is_within, mode_at, modes_conflict}
+use Rattle.nfs_machine.specs.Locks.{Conflicts, HasModes, Mode, denies, is_in, is_within, mode_at, modes_conflict}
 use Rattle.nfs_machine.specs.Locks.{modes_with, modes_without, same_owner, same_sharer, shares_conflict}
 use Rattle.nfs_machine.specs.LockLaws.{ListedLocksTell, stands_in_way}
 use Rattle.nfs_machine.specs.LocksFormed.{NoLocksConflict, NoSharesConflict}
@@ -188,7 +188,7 @@ module _ (locks : List Lock) (r : Range) (mode : Mode) (free : Conflicts locks r
       let no : true ≡ false = sym same ∙ other in
       cc
 
-  pub apart-with : (new : List Lock) → Lists new (modes_with locks r mode) → NoLocksConflict locks →
+  pub apart-with : (new : List Lock) → HasModes new (modes_with locks r mode) → NoLocksConflict locks →
       NoLocksConflict new
   apart-with new lists old a b offset other =
       let at-a = mode_at locks a offset in
@@ -209,7 +209,7 @@ module _ (locks : List Lock) (r : Range) (mode : Mode) (free : Conflicts locks r
             ] refl
       ] refl
 
-pub apart-without : (locks : List Lock) (name : List ℕ) (new : List Lock) → Lists new (modes_without locks name)
+pub apart-without : (locks : List Lock) (name : List ℕ) (new : List Lock) → HasModes new (modes_without locks name)
     → NoLocksConflict locks → NoLocksConflict new
 apart-without locks name new lists old a b offset other =
     let at-a = mode_at locks a offset in

@@ -8,7 +8,7 @@ use Rattle.nfs_wire.specs.declared.status.NfsStatus.TheVariants as status
 use Rattle.nfs_machine.specs.Attributes.{is_directory, names_of}
 use Rattle.nfs_machine.specs.Checks.{◌>>=◌, changeable, entries_in, entry_of, object_of, plain_name_checked, permitted}
 use Rattle.nfs_machine.specs.Making.{with_entry}
-use Rattle.nfs_machine.specs.Permission.{Changing}
+use Rattle.nfs_machine.specs.Permission.{ToChange}
 use Rattle.nfs_machine.specs.RemoveSteps.{empty_directory, losing_name, not_directory, object_under, without}
 use Rattle.nfs_machine.specs.RenameSteps.{IsWithin}
 use Rattle.nfs_machine.specs.Resolve.{resolve}
@@ -18,7 +18,7 @@ use Rattle.nfs_machine.specs.Times.{time_of}
 use Rattle.nfs_machine.specs.declared.context.Ctx.{Ctx}
 
 -- a name in a directory, and the object that it leads to
-pub record Named : Type 0 where
+pub record NamedEntry : Type 0 where
   pub place : ℕ
   pub directory : Living
   pub entries : List Entry
@@ -27,11 +27,11 @@ pub record Named : Type 0 where
   pub number : ℕ
   pub object : Living
 
-abbrev pub named_as : ℕ × Living → List Entry × ℕ → List ℕ → ℕ × Living → Named
+abbrev pub named_as : ℕ × Living → List Entry × ℕ → List ℕ → ℕ × Living → NamedEntry
 named_as directory entries name o = record { place = directory.0; directory = directory.1; entries = entries.0; last_cookie = entries.1; name = name; number = o.0; object = o.1 }
 
 -- the state with a name taken away
-abbrev pub with_name_taken : State → Time → Named → State
+abbrev pub with_name_taken : State → Time → NamedEntry → State
 with_name_taken m now n =
     losing_name (with_object m n.place (with_content n.directory now (Directory (without n.entries n.name) n.last_cookie))) (names_of m n.number) now n.number n.object
 
@@ -42,7 +42,7 @@ take_end old ctx place name_checked content_checked = do
   entries ← entries_in directory.1.content
   _ ← name_checked place.name
   _ ← changeable old.exports directory.1
-  _ ← permitted ctx directory.1 Changing
+  _ ← permitted ctx directory.1 ToChange
   object ← ok_or (object_under old (entry_of entries.0 place.name)) status.NoEntry
   _ ← content_checked object.1.content
   Ok (tt, with_name_taken old (time_of ctx.moment) (named_as directory entries place.name object))
@@ -55,7 +55,7 @@ rmdir_end old ctx place = take_end old ctx place (plain_name_checked status.Inva
 
 -- a name that moves, the directory that it comes to with the name that it has there, and what has that name now
 pub record Move : Type 0 where
-  pub from : Named
+  pub from : NamedEntry
   pub target : ℕ
   pub directory : Living
   pub entries : List Entry
@@ -64,14 +64,14 @@ pub record Move : Type 0 where
   pub replaced : Option (ℕ × Living)
 
 -- the target's entries that stay
-abbrev pub entries_left : Move → List Entry
-entries_left move = cond (move.target == move.from.place) (without (without move.entries move.name) move.from.name) (without move.entries move.name)
+abbrev pub entries_kept : Move → List Entry
+entries_kept move = cond (move.target == move.from.place) (without (without move.entries move.name) move.from.name) (without move.entries move.name)
 
 -- both directories after it
 abbrev pub with_names_moved : State → Time → Move → State
 with_names_moved m now move =
     with_object (with_object m move.from.place (with_content move.from.directory now (Directory (without move.from.entries move.from.name) move.from.last_cookie)))
-    move.target (with_content move.directory now (with_entry (entries_left move) move.last_cookie move.name move.from.number))
+    move.target (with_content move.directory now (with_entry (entries_kept move) move.last_cookie move.name move.from.number))
 
 -- what had the name loses it
 abbrev pub without_replaced : (old m : State) → Time → Option (ℕ × Living) → State

@@ -11,7 +11,7 @@ use Rattle.nfs_machine.specs.Attributes.{entries_of}
 use Rattle.nfs_machine.specs.Bytes.{same_bytes}
 use Rattle.nfs_machine.specs.Checks.{entry_of}
 use Rattle.nfs_machine.specs.Laws.{KeepsCookies}
-use Rattle.nfs_machine.specs.Paging.{Rises, last_cookie}
+use Rattle.nfs_machine.specs.Paging.{Rises, next_cookie}
 use Rattle.nfs_machine.proofs.Visited.{IsVisit, ReadsOn, Visit, shown_by}
 use Rattle.nfs_machine.specs.Readings.{Throughout, named_in}
 use Rattle.nfs_machine.specs.Chains.{Chain, Transition}
@@ -48,16 +48,16 @@ entered m directory name target is = there (get m.objects directory) refl is
     there (Some o) lives is = under o lives (entry_of (entries_of o.content) name) refl is
 
 module _ (directory : ℕ) (name : List ℕ) (target : ℕ) where
-  abbrev pub Leads : State → Type 0
-  Leads m = named_in m directory name ≡ Some target
+  abbrev pub LeadsToTarget : State → Type 0
+  LeadsToTarget m = named_in m directory name ≡ Some target
 
   pub first-of : (old : State) (steps : List Transition) (new : State) (chain : Chain old steps new) →
-      Throughout Leads old steps new chain → Leads old
+      Throughout LeadsToTarget old steps new chain → LeadsToTarget old
   first-of old [] new chain is = is
   first-of old (t ∷ steps) new chain is = is.0
 
   module _ (e : Entry) (leads : e.number ≡ target) where
-    kept-by : (m new : State) → KeepsCookies m new → EntryAt m directory name e → Leads new →
+    kept-by : (m new : State) → KeepsCookies m new → EntryAt m directory name e → LeadsToTarget new →
         EntryAt new directory name e
     kept-by m new keeps at is =
         let f = entered new directory name target is in
@@ -68,7 +68,7 @@ module _ (directory : ℕ) (name : List ℕ) (target : ℕ) where
     -- over the first step of a chain
     pub kept-over : (old : State) (t : Transition) (mid : State) →
         Step old t.ctx t.call t.reply t.messages mid → (steps : List Transition) (new : State)
-        (rest : Chain mid steps new) → Throughout Leads mid steps new rest → EntryAt old directory name e →
+        (rest : Chain mid steps new) → Throughout LeadsToTarget mid steps new rest → EntryAt old directory name e →
         EntryAt mid directory name e
     kept-over old t mid step steps new rest is at =
         kept-by old mid (steps_keep_cookies old t.ctx t.call t.reply t.messages mid step) at
@@ -140,7 +140,7 @@ module _ (P : Entry → Type 0) where
   pub shown-all : (c : ℕ) (visits : List Visit) → ReadsOn c visits → AllByRecursion (λ (v : Visit). AllByRecursion P v.entries) visits → AllByRecursion P (shown_by visits)
   shown-all c [] on all = tt
   shown-all c (v ∷ []) on all = all-both P v.page [] (page-all c v on.0 all.0) tt
-  shown-all c (v ∷ w ∷ visits) on all = all-both P v.page (shown_by (w ∷ visits)) (page-all c v on.0 all.0) (shown-all (last_cookie c v.page) (w ∷ visits) on.2 all.1)
+  shown-all c (v ∷ w ∷ visits) on all = all-both P v.page (shown_by (w ∷ visits)) (page-all c v on.0 all.0) (shown-all (next_cookie c v.page) (w ∷ visits) on.2 all.1)
 
 pub count-same : (p q : Entry → Bool) (es : List Entry) → AllByRecursion (λ (x : Entry). p x ≡ q x) es → count_by p es ≡ count_by q es
 count-same p q [] all = refl

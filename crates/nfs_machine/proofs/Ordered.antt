@@ -80,8 +80,8 @@ abbrev pub DiffersFrom : ExportText → ExportText → Type 0
 DiffersFrom text earlier = same_bytes earlier.path text.path ≡ false
 
 -- a text with a sound path, which none of these has
-abbrev Sound : List ExportText → ExportText → Type 0
-Sound earlier text = (is_export_path text.path ≡ true) × AllByRecursion (DiffersFrom text) earlier
+abbrev IsFaultlessText : List ExportText → ExportText → Type 0
+IsFaultlessText earlier text = (is_export_path text.path ≡ true) × AllByRecursion (DiffersFrom text) earlier
 
 none-of : (test : ExportText → Bool) (list : List ExportText) → list_any test list ≡ false →
     AllByRecursion (λ x. test x ≡ false) list
@@ -90,7 +90,7 @@ none-of test (x ∷ list) none =
     (let both = or_parts (test x) (list_any test list) none in (both.0, none-of test list both.1))
 
 faultless-text : (earlier : List ExportText) (text : ExportText) → fault_of earlier text ≡ None →
-    Sound earlier text
+    IsFaultlessText earlier text
 faultless-text earlier text none =
     judged (is_export_path text.path) (is_export_mode text.mode) (are_export_hosts text.hosts.items)
     (list_any (λ (e : ExportText). same_bytes e.path text.path) earlier) refl refl none
@@ -101,7 +101,7 @@ faultless-text earlier text none =
         (cond (not b) (Some (BadMode (length earlier + 1)))
         (cond (not c) (Some (NoHost (length earlier + 1))) (cond d (Some (DoublePath (length earlier + 1))) None)))
         ≡ None
-        → Sound earlier text
+        → IsFaultlessText earlier text
     judged false b c d path other is = cc
     judged true false c d path other is = cc
     judged true true false d path other is = cc
@@ -122,12 +122,12 @@ all-back P [] ys all = all
 all-back P (x ∷ xs) ys all = all-back P xs ys all.1
 
 faultless-all : (earlier list : List ExportText) → first_fault earlier list ≡ None →
-    AllByRecursion (Sound earlier) list
+    AllByRecursion (IsFaultlessText earlier) list
 faultless-all earlier [] none = tt
 faultless-all earlier (text ∷ list) none =
     let both = both-none (fault_of earlier text) (first_fault (earlier ++ text ∷ []) list) none in (
       faultless-text earlier text both.0,
-      all_map (Sound (earlier ++ text ∷ [])) (Sound earlier)
+      all_map (IsFaultlessText (earlier ++ text ∷ [])) (IsFaultlessText earlier)
           (λ x sound. (sound.0, all-front (DiffersFrom x) earlier (text ∷ []) sound.1)) list
           (faultless-all (earlier ++ text ∷ []) list both.1),
     )
@@ -220,7 +220,7 @@ all-apart earlier [] k none = tt
 all-apart earlier (text ∷ list) k none =
     let both = both-none (fault_of earlier text) (first_fault (earlier ++ text ∷ []) list) none in
     let own = faultless-text earlier text both.0 in
-    let others = all_map (Sound (earlier ++ text ∷ [])) (OtherPath text)
+    let others = all_map (IsFaultlessText (earlier ++ text ∷ [])) (OtherPath text)
     (λ x sound. parts-differ text.path x.path own.0 sound.0 (all-back (DiffersFrom x) earlier (text ∷ []) sound.1).0)
     list (faultless-all (earlier ++ text ∷ []) list both.1) in
     (apart-from list (k + 1) (omega arith) others, all-apart (earlier ++ text ∷ []) list (k + 1) both.1)

@@ -25,17 +25,17 @@ use Rattle.nfs_machine.specs.declared.context.Ctx.{Ctx}
 use Rattle.nfs_machine.proofs.Facts.{are_none, no-entry, some-entry}
 
 -- what READDIR and READDIRPLUS answer of a page, and their steps
-abbrev pub readdir_result : Ctx → Result (List Entry × Bool) NfsStatus → Result Page NfsStatus
-readdir_result ctx page = page >>= λ p. Ok (record { verifier = verifier_of ctx; entries = map page_entry p.0; eof = p.1 })
+abbrev pub readdir_page : Ctx → Result (List Entry × Bool) NfsStatus → Result Page NfsStatus
+readdir_page ctx page = page >>= λ p. Ok (record { verifier = verifier_of ctx; entries = map page_entry p.0; eof = p.1 })
 
-abbrev pub readdirplus_result : State → Ctx → Result (List Entry × Bool) NfsStatus → Result PagePlus NfsStatus
-readdirplus_result m ctx page = page >>= λ p. Ok (record { verifier = verifier_of ctx; entries = map (full_entry m ctx) p.0; eof = p.1 })
+abbrev pub readdirplus_page : State → Ctx → Result (List Entry × Bool) NfsStatus → Result PagePlus NfsStatus
+readdirplus_page m ctx page = page >>= λ p. Ok (record { verifier = verifier_of ctx; entries = map (full_entry m ctx) p.0; eof = p.1 })
 
 abbrev pub ReaddirStep : State → Ctx → ReaddirArguments → NfsReply → List Message → State → Type 0
-ReaddirStep old ctx a = PageStep old ctx a.directory a.cookie a.verifier (fits a.count) (λ attributes page. replies.Readdir (record { attributes = attributes; result = readdir_result ctx page }))
+ReaddirStep old ctx a = PageStep old ctx a.directory a.cookie a.verifier (fits a.count) (λ attributes page. replies.Readdir (record { attributes = attributes; result = readdir_page ctx page }))
 
 abbrev pub ReaddirplusStep : State → Ctx → ReaddirplusArguments → NfsReply → List Message → State → Type 0
-ReaddirplusStep old ctx a = PageStep old ctx a.directory a.cookie a.verifier (fits_full a.directory_count a.most) (λ attributes page. replies.Readdirplus (record { attributes = attributes; result = readdirplus_result old ctx page }))
+ReaddirplusStep old ctx a = PageStep old ctx a.directory a.cookie a.verifier (fits_full a.directory_count a.most) (λ attributes page. replies.Readdirplus (record { attributes = attributes; result = readdirplus_page old ctx page }))
 
 -- the page of the entries that are left, as a step has it
 abbrev pub PagesOf : (fit : List Entry → Bool) → Result (List Entry) NfsStatus → Result (List Entry × Bool) NfsStatus → Type 0

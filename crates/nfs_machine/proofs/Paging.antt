@@ -6,8 +6,8 @@ use Rattle.std.proofs.lemmas.List.Sums.{sum_by-cons}
 use Rattle.std.specs.Cmp.{unsigned_Decides}
 use Rattle.std.specs.List.{Contains, count_by}
 use Rattle.nfs_machine.specs.Pages.{behind}
-use Rattle.nfs_machine.specs.Paging.{Rises, last_cookie}
-use Rattle.nfs_machine.proofs.Visited.{InOrder, PagesAreWhole, ReadsOn, Stays, Visit, shown_by}
+use Rattle.nfs_machine.specs.Paging.{Rises, next_cookie}
+use Rattle.nfs_machine.proofs.Visited.{InOrder, PagesAreWhole, ReadsOn, IsAtEach, Visit, shown_by}
 use Rattle.nfs_machine.specs.State.{Entry}
 use Rattle.nfs_machine.proofs.Facts.{are_none, no-entry}
 
@@ -36,11 +36,11 @@ rises-front : (b : ℕ) (xs ys : List Entry) → Rises b (xs ++ ys) → Rises b 
 rises-front b [] ys h = tt
 rises-front b (x ∷ xs) ys h = (h.0, rises-front x.cookie xs ys h.1)
 
-rises-rest : (b : ℕ) (xs ys : List Entry) → Rises b (xs ++ ys) → Rises (last_cookie b xs) ys
+rises-rest : (b : ℕ) (xs ys : List Entry) → Rises b (xs ++ ys) → Rises (next_cookie b xs) ys
 rises-rest b [] ys h = h
 rises-rest b (x ∷ xs) ys h = rises-rest x.cookie xs ys h.1
 
-rises-both : (b : ℕ) (xs ys : List Entry) → Rises b xs → Rises (last_cookie b xs) ys → Rises b (xs ++ ys)
+rises-both : (b : ℕ) (xs ys : List Entry) → Rises b xs → Rises (next_cookie b xs) ys → Rises b (xs ++ ys)
 rises-both b [] ys h k = k
 rises-both b (x ∷ xs) ys h k = (h.0, rises-both x.cookie xs ys h.1 k)
 
@@ -92,12 +92,12 @@ pages-rise c (v ∷ []) order on =
     rises-both c v.page [] (rises-front c v.page on.0.0 whole) tt
 pages-rise c (v ∷ w ∷ visits) order on =
     let whole = subst (Rises c) on.0.1.0 (behind-rises 0 c v.entries order.0) in
-    rises-both c v.page (shown_by (w ∷ visits)) (rises-front c v.page on.0.0 whole) (pages-rise (last_cookie c v.page) (w ∷ visits) order.1 on.2)
+    rises-both c v.page (shown_by (w ∷ visits)) (rises-front c v.page on.0.0 whole) (pages-rise (next_cookie c v.page) (w ∷ visits) order.1 on.2)
 
 none-left : (es : List Entry) (e : Entry) → are_none es ≡ true → Contains es e → ⊥
 none-left es e is at = nowhere e (subst (λ l. Contains l e) (no-entry es is) at)
 
-shows : (c : ℕ) (visits : List Visit) (e : Entry) → InOrder visits → ReadsOn c visits → Stays visits e → c < e.cookie → Contains (shown_by visits) e
+shows : (c : ℕ) (visits : List Visit) (e : Entry) → InOrder visits → ReadsOn c visits → IsAtEach visits e → c < e.cookie → Contains (shown_by visits) e
 shows c [] e order on stays lt = absurd on
 shows c (v ∷ []) e order on stays lt =
     let here = subst (λ es. Contains es e) on.0.1.0 (left c v.entries e lt stays.0) in
@@ -111,7 +111,7 @@ shows c (v ∷ w ∷ visits) e order on stays lt =
     elim (Contains-append_cases v.page on.0.0 e here) [
       | inl in_page ↦ Contains-append_left v.page (shown_by (w ∷ visits)) e in_page
       | inr in_rest ↦ Contains-append_right v.page (shown_by (w ∷ visits)) e
-          (shows (last_cookie c v.page) (w ∷ visits) e order.1 on.2 stays.1 (above-all (last_cookie c v.page) on.0.0 e (rises-rest c v.page on.0.0 whole) in_rest))
+          (shows (next_cookie c v.page) (w ∷ visits) e order.1 on.2 stays.1 (above-all (next_cookie c v.page) on.0.0 e (rises-rest c v.page on.0.0 whole) in_rest))
     ]
 
 -- ---- once
@@ -149,6 +149,6 @@ pub whole : PagesAreWhole
 whole [] order on = absurd on
 whole (v ∷ visits) order on =
     let rises = pages-rise 0 (v ∷ visits) order on in
-    let shown : (e : Entry) → Stays (v ∷ visits) e → Contains (shown_by (v ∷ visits)) e =
+    let shown : (e : Entry) → IsAtEach (v ∷ visits) e → Contains (shown_by (v ∷ visits)) e =
     λ e stays. shows 0 (v ∷ visits) e order on stays (above-all 0 v.entries e order.0 stays.0) in
     record { rises = rises; shows = shown; once = λ e stays. one 0 (shown_by (v ∷ visits)) e rises (shown e stays) }

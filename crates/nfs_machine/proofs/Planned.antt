@@ -13,12 +13,12 @@ use Rattle.nfs_machine.specs.Shown.{touched, with_object}
 use Rattle.nfs_machine.specs.State.{Directory, Entry, Living, State}
 use Rattle.nfs_machine.proofs.Continued.{Continues, continues-itself, continues-losing, continues-touched, continues-with}
 use Rattle.nfs_machine.proofs.Cookies.{kept-added, kept-of, kept-same, kept-without}
-use Rattle.nfs_machine.proofs.Moves.{Move, entries_left, with_moved, with_names_moved, without_replaced}
-use Rattle.nfs_machine.proofs.Taken.{IsNamed, kept-taken, under-entry}
+use Rattle.nfs_machine.proofs.Moves.{Move, entries_kept, with_moved, with_names_moved, without_replaced}
+use Rattle.nfs_machine.proofs.Taken.{IsNamedEntry, kept-taken, under-entry}
 
 -- what the checks of a RENAME tell where a name moves
 pub record IsMove (m : State) (move : Move) : Type 0 where
-  pub from : IsNamed m move.from
+  pub from : IsNamedEntry m move.from
   pub lives : get m.objects move.target ≡ Some move.directory
   pub content : move.directory.content ≡ Directory move.entries move.last_cookie
   pub export : move.from.directory.export ≡ move.directory.export
@@ -28,7 +28,7 @@ pub record IsMove (m : State) (move : Move) : Type 0 where
 
 -- the same before what has the name is judged
 pub record IsBegun (m : State) (move : Move) : Type 0 where
-  pub from : IsNamed m move.from
+  pub from : IsNamedEntry m move.from
   pub lives : get m.objects move.target ≡ Some move.directory
   pub content : move.directory.content ≡ Directory move.entries move.last_cookie
   pub export : move.from.directory.export ≡ move.directory.export
@@ -69,7 +69,7 @@ module _ (m : State) (now : Time) (move : Move) (is : IsMove m move) where
       let no : true ≡ false = sym ((unsigned_Decides e.number move.from.number).1 (sym same)) ∙ is.other (e.number, move.from.object) over in
       cc
 
-  left : KeepsEntries move.entries (entries_left move)
+  left : KeepsEntries move.entries (entries_kept move)
   left =
       let others = kept-without move.entries move.entries move.name (kept-same move.entries) in
       elim (move.target == move.from.place) as (λ b. KeepsEntries move.entries (cond b (without (without move.entries move.name) move.from.name) (without move.entries move.name))) [
@@ -77,8 +77,8 @@ module _ (m : State) (now : Time) (move : Move) (is : IsMove m move) where
         | false ↦ others
       ]
 
-  keeps : KeepsEntries (entries_of move.directory.content) (entries_of (with_entry (entries_left move) move.last_cookie move.name move.from.number))
-  keeps = kept-of move.directory.content move.entries _ move.last_cookie is.content (kept-added move.entries (entries_left move) _ left elsewhere)
+  keeps : KeepsEntries (entries_of move.directory.content) (entries_of (with_entry (entries_kept move) move.last_cookie move.name move.from.number))
+  keeps = kept-of move.directory.content move.entries _ move.last_cookie is.content (kept-added move.entries (entries_kept move) _ left elsewhere)
 
   names-moved : Continues now m (with_names_moved m now move)
   names-moved =

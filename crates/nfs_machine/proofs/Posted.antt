@@ -23,7 +23,7 @@ use Rattle.side_wire.specs.declared.nlm.UnlockArguments.{UnlockArguments}
 use Rattle.nfs_machine.specs.Bytes.{same_bytes}
 use Rattle.nfs_machine.specs.Grants.{ChangesLocks, SettleInOrder, Settles, grant_cookie, grant_message, requested}
 use Rattle.nfs_machine.specs.FileLists.{all_but, of_file, with_list}
-use Rattle.nfs_machine.specs.Locks.{Lists, Mode, denies, is_in, mode_at, modes_with, modes_without, range_of}
+use Rattle.nfs_machine.specs.Locks.{HasModes, Mode, denies, is_in, mode_at, modes_with, modes_without, range_of}
 use Rattle.nfs_machine.specs.Locks.{same_sharer, shares_conflict}
 use Rattle.nfs_machine.specs.LockSteps.{Frees, GrantEnds, HeldUp, LockFault, file_checked, freed_with, is_answered}
 use Rattle.nfs_machine.specs.LockSteps.{is_request, lock_checked, share_of}
@@ -31,14 +31,14 @@ use Rattle.nfs_machine.specs.NlmSteps.{NlmStep}
 use Rattle.nfs_machine.specs.SideLaws.{LocksFit, NlmMessagesHaveForm, OwnersFit, PutsForms}
 use Rattle.nfs_machine.specs.State.{Lock, Owner, PendingGrant, Request, Share, State, Range}
 use Rattle.nfs_machine.specs.declared.context.Ctx.{Ctx}
-use Rattle.nfs_machine.proofs.Checked.{CancelOf, Cancels, LockOf, ShareOf, Shares, UnlockOf, UnshareOf}
+use Rattle.nfs_machine.proofs.Checked.{CancelOf, Cancels, LockOf, ShareOf, ShareAnswers, UnlockOf, UnshareOf}
 use Rattle.nfs_machine.proofs.FileMaps.{each-relisted, each-with, get-relisted, kept-is, remade}
 use Rattle.nfs_machine.proofs.Modes.{all-joined, all-left, all-middle, all-removed, inside}
 use Rattle.nfs_machine.proofs.SideReplies.{test-form, test-unchanged}
 
 -- where the range's owner is within its bound, so is each owner
 owners-with : (old new : List Lock) (r : Range) (mode : Mode) → IsNetobj r.owner.owner →
-    Lists new (modes_with old r mode)
+    HasModes new (modes_with old r mode)
     → OwnersFit old → OwnersFit new
 owners-with old new r mode within lists fit owner offset has =
     elim (is_in r owner offset) as (λ b. is_in r owner offset ≡ b
@@ -48,7 +48,7 @@ owners-with old new r mode within lists fit owner offset has =
     ] refl (λ none. has (lists.modes_are owner offset ∙ none))
 
 -- no owner gets anything
-owners-unlocked : (old new : List Lock) (r : Range) → Lists new (modes_with old r None) → OwnersFit old →
+owners-unlocked : (old new : List Lock) (r : Range) → HasModes new (modes_with old r None) → OwnersFit old →
     OwnersFit new
 owners-unlocked old new r lists fit owner offset has =
     elim (is_in r owner offset) as
@@ -57,7 +57,7 @@ owners-unlocked old new r lists fit owner offset has =
       | false ↦ λ h. fit owner offset h
     ] (λ none. has (lists.modes_are owner offset ∙ none))
 
-owners-without : (old new : List Lock) (name : List ℕ) → Lists new (modes_without old name) → OwnersFit old →
+owners-without : (old new : List Lock) (name : List ℕ) → HasModes new (modes_without old name) → OwnersFit old →
     OwnersFit new
 owners-without old new name lists fit owner offset has =
     elim (same_bytes owner.caller_name name) as (λ b. (cond b None (mode_at old owner offset) ≡ None → ⊥)
@@ -209,7 +209,7 @@ answered old number (Some grant) s messages new step fit =
     (requested grant.request) messages new step fit
 
 share-left : (old : State) (file : ℕ) (share : Share) (conflicts : Bool) (s : NlmStatus) (messages : List Message)
-    (new : State) → Shares old file share conflicts s messages new → LocksFit old → PutsForms messages new
+    (new : State) → ShareAnswers old file share conflicts s messages new → LocksFit old → PutsForms messages new
 share-left old file share true s messages new step fit = same old messages new step.state_is step.no_message fit
 share-left old file share false s messages new step fit = same (record old
     { shares = with_list old.shares file (all_but (same_sharer share) (of_file old.shares file) ++ share ∷ []) })
@@ -232,7 +232,7 @@ unshared old asked (Ok file) s messages new step fit = same (record old
 
 -- the locks of a file without those of a caller
 owners-freed : (name : List ℕ) (new : ℕ → List Lock) (file : ℕ) (o : Option (List Lock))
-    → Lists (new file) (modes_without (unwrap_or o []) name) → OwnersFit (unwrap_or o [])
+    → HasModes (new file) (modes_without (unwrap_or o []) name) → OwnersFit (unwrap_or o [])
     → OwnersFit (unwrap_or (remade (λ q _. new q) file o) [])
 owners-freed name new file None lists h = λ owner offset has. absurd (has refl)
 owners-freed name new file (Some list) lists h =

@@ -1,14 +1,14 @@
 -- Locks worked through: the modes of a list of locks at every offset, and what TEST shows of them.
 use Rattle.std.proofs.Common.{◌≡◌, ℕ, ◌-◌, ◌^◌, ◌≤◌, true, false, cond, [], ◌∷◌, Some}
 use Rattle.std.proofs.Common.{None, find, refl, ap, arith}
-use Rattle.nfs_machine.specs.Locks.{Lists, is_within, mode_at, modes_with}
+use Rattle.nfs_machine.specs.Locks.{HasModes, is_within, mode_at, modes_with}
 use Rattle.nfs_machine.specs.LockSteps.{IsHolder}
 use Rattle.nfs_machine.specs.State.{Owner}
 use Rattle.nfs_machine.specs.WorkedLocks.{a, b, holder, lock, range_at, split, to_the_end, whole, Unlocked, Exclusive}
 use Rattle.std.specs.List.{count_by}
 use Rattle.nfs_machine.proofs.Modes.{narrower, holds, mode_by}
 
-pub locked : Lists whole (modes_with [] (range_at a 0 100) Exclusive)
+pub locked : HasModes whole (modes_with [] (range_at a 0 100) Exclusive)
 locked = record { modes_are = modes; once = once }
   where
     modes : (owner : Owner) (offset : ℕ) →

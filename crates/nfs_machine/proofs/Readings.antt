@@ -26,11 +26,11 @@ use Rattle.nfs_machine.specs.Checks.{entry_of}
 use Rattle.nfs_machine.specs.Handles.{handle_of}
 use Rattle.nfs_machine.specs.NfsSteps.{NfsStep}
 use Rattle.nfs_machine.specs.Pages.{all_entries, fits, fits_full}
-use Rattle.nfs_machine.proofs.Pages.{PagesOf, readdir_result, readdirplus_result}
+use Rattle.nfs_machine.proofs.Pages.{PagesOf, readdir_page, readdirplus_page}
 use Rattle.nfs_machine.specs.PageSteps.{IsParentOf, entries_left, full_entry, page_entry}
-use Rattle.nfs_machine.specs.Paging.{Rises, last_cookie}
-use Rattle.nfs_machine.proofs.Visited.{InOrder, Lists, ReadsOn, Stays, Visit, shown_by}
-use Rattle.nfs_machine.specs.Readings.{AnswersPage, Between, Has, Reads, ReadsPage, ReadingsAreWhole, StaysThrough}
+use Rattle.nfs_machine.specs.Paging.{Rises, next_cookie}
+use Rattle.nfs_machine.proofs.Visited.{InOrder, ListsPage, ReadsOn, IsAtEach, Visit, shown_by}
+use Rattle.nfs_machine.specs.Readings.{AnswersPage, Between, Has, ReadsAll, ReadsPage, ReadingsAreWhole, StaysThrough}
 use Rattle.nfs_machine.specs.Readings.{Throughout, Turn, all_shown, entry_shown, full_shown, lists_from, named_in}
 use Rattle.nfs_machine.specs.Readings.{names_shown, nfs_lists_from, nfs_page_shown, page_shown, steps_of}
 use Rattle.nfs_machine.specs.Chains.{Chain, Transition}
@@ -59,11 +59,11 @@ parts a b c d e = let pair : ◌≡◌ {A = List ℕ × ℕ} (a, c) (b, d) = cc 
 -- a page that was shown
 pub record Listed (m : State) (ctx : Ctx) (directory : List ℕ) (cookie : ℕ) (page : List Entry × Bool) : Type 0 where
   pub fit : List Entry → Bool
-  pub is : Lists m ctx directory cookie fit page
+  pub is : ListsPage m ctx directory cookie fit page
 
 module _ (m : State) (ctx : Ctx) (w : WellFormed m) (shown : List Entry × Bool) where
   of-names : (a : ReaddirArguments) (parent : ℕ) → IsParentOf m ctx a.directory parent → (page : Result (List Entry × Bool) NfsStatus) → PagesOf (fits a.count) (entries_left m ctx a.directory a.cookie a.verifier parent) page
-      → names_shown (readdir_result ctx page) ≡ Some shown → Listed m ctx a.directory a.cookie shown
+      → names_shown (readdir_page ctx page) ≡ Some shown → Listed m ctx a.directory a.cookie shown
   of-names a parent is_parent (Ok p) is shows =
       let back : Some p ≡ Some shown = ap (λ es. Some (es, p.1)) (sym (names-back p.0)) ∙ shows in
       let same : p ≡ shown = cc in
@@ -71,7 +71,7 @@ module _ (m : State) (ctx : Ctx) (w : WellFormed m) (shown : List Entry × Bool)
   of-names a parent is_parent (Err e) is shows = cc
 
   of-full : (a : ReaddirplusArguments) (parent : ℕ) → IsParentOf m ctx a.directory parent → (page : Result (List Entry × Bool) NfsStatus)
-      → PagesOf (fits_full a.directory_count a.most) (entries_left m ctx a.directory a.cookie a.verifier parent) page → full_shown (readdirplus_result m ctx page) ≡ Some shown
+      → PagesOf (fits_full a.directory_count a.most) (entries_left m ctx a.directory a.cookie a.verifier parent) page → full_shown (readdirplus_page m ctx page) ≡ Some shown
       → Listed m ctx a.directory a.cookie shown
   of-full a parent is_parent (Ok p) is shows =
       let back : Some p ≡ Some shown = ap (λ es. Some (es, p.1)) (sym (full-back m ctx p.0)) ∙ shows in
@@ -129,7 +129,7 @@ pub record Visits (directory : List ℕ) (cookie : ℕ) (old : State) (turns : L
   pub order : InOrder visits
   pub on : ReadsOn cookie visits
   pub shown : shown_by visits ≡ all_shown turns
-  pub stays : (e : Entry) → StaysThrough directory e old turns new chain → Stays visits e
+  pub stays : (e : Entry) → StaysThrough directory e old turns new chain → IsAtEach visits e
   pub named : (h : Handle) (name : List ℕ) (target : ℕ) (e : Entry) → IsName directory h name target e →
       EntryAt old h.fileid name e
       → Throughout (λ m. named_in m h.fileid name ≡ Some target) old (steps_of turns) new chain →
@@ -162,7 +162,7 @@ alone m ctx directory cookie page l h name target e formed is at =
     )
 
 visits-of : (directory : List ℕ) (cookie : ℕ) (old : State) (turns : List Turn) (new : State) → WellFormed old →
-    (chain : Chain old (steps_of turns) new) → Reads directory cookie turns →
+    (chain : Chain old (steps_of turns) new) → ReadsAll directory cookie turns →
     Visits directory cookie old turns new chain
 visits-of directory cookie old [] new formed chain reads = absurd reads
 visits-of directory cookie old (Between t ∷ turns) new formed (mid, step, rest) reads =
@@ -191,12 +191,12 @@ visits-of directory cookie old (ReadsPage t page ∷ []) new formed (mid, step, 
 visits-of directory cookie old (ReadsPage t page ∷ turn ∷ turns) new formed (mid, step, rest) (answers, reads) =
     let then = steps_keep_form old t.ctx t.call t.reply t.messages mid step formed in
     let l = step-lists old t mid directory cookie page false step answers formed in
-    let more = visits-of directory (last_cookie cookie page) mid (turn ∷ turns) new then rest reads in
+    let more = visits-of directory (next_cookie cookie page) mid (turn ∷ turns) new then rest reads in
     joined l more.visits more.order more.on more.shown more.stays more.named
   where
     joined : (l : Listed old t.ctx directory cookie (page, false)) → (visits : List Visit) → InOrder visits →
-        ReadsOn (last_cookie cookie page) visits → shown_by visits ≡ all_shown (turn ∷ turns)
-        → ((e : Entry) → StaysThrough directory e mid (turn ∷ turns) new rest → Stays visits e)
+        ReadsOn (next_cookie cookie page) visits → shown_by visits ≡ all_shown (turn ∷ turns)
+        → ((e : Entry) → StaysThrough directory e mid (turn ∷ turns) new rest → IsAtEach visits e)
         → ((h : Handle) (name : List ℕ) (target : ℕ) (e : Entry) → IsName directory h name target e →
         EntryAt mid h.fileid name e
         → Throughout (λ m. named_in m h.fileid name ≡ Some target) mid (steps_of (turn ∷ turns)) new rest →
@@ -231,7 +231,7 @@ readings-whole directory old turns new formed chain reads =
           (first-of h.fileid name target old (steps_of turns) new chain through) in
           let alone = v.named h name target e.entry
           (record { handle = handle; no_self = no_self; not_above = not_above; leads = e.leads }) e.at through in
-          let stays : Stays v.visits e.entry = all-map (HasAlone name e.entry)
+          let stays : IsAtEach v.visits e.entry = all-map (HasAlone name e.entry)
           (λ (x : Visit). Contains x.entries e.entry) (λ x has. has.0) v.visits alone in
           let only = shown-all (IsOnly name e.entry) 0 v.visits v.on (all-map (HasAlone name e.entry)
           (λ (x : Visit). AllByRecursion (IsOnly name e.entry) x.entries) (λ x has. has.1) v.visits alone) in

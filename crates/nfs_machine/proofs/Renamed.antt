@@ -22,10 +22,10 @@ use Rattle.nfs_machine.proofs.Counted.{Counts, changed-losing, names-losing}
 use Rattle.nfs_machine.proofs.Facts.{are_none, no-entry}
 use Rattle.nfs_machine.proofs.Loose.{AddsName, Beside, Deepens, Loose, also, loose-added, loose-replaced}
 use Rattle.nfs_machine.proofs.Loose.{loose-touched, loosened, names_of-added, names_of-taken, none_loose, tightened}
-use Rattle.nfs_machine.proofs.Moves.{GoesIntoItself, Move, Named, entries_left, with_moved, with_names_moved, without_replaced}
+use Rattle.nfs_machine.proofs.Moves.{GoesIntoItself, Move, NamedEntry, entries_kept, with_moved, with_names_moved, without_replaced}
 use Rattle.nfs_machine.proofs.Planned.{IsMove, continues-moved}
 use Rattle.nfs_machine.proofs.Sums.{get-inserted}
-use Rattle.nfs_machine.proofs.Taken.{IsNamed, loose-mid, one-less, takes, under-entry}
+use Rattle.nfs_machine.proofs.Taken.{IsNamedEntry, loose-mid, one-less, takes, under-entry}
 use Rattle.nfs_machine.proofs.WellFormed.{Deep, KeepsNames, no_entries, replaced-names}
 use Rattle.nfs_machine.proofs.Within.{deepened, depth}
 
@@ -119,10 +119,10 @@ module _ (m : State) (now : Time) (move : Move) (is : IsMove m move) (w : WellFo
       (freed-keeps none)
 
   -- what has it
-  abbrev over_named : ℕ × Living → Named
+  abbrev over_named : ℕ × Living → NamedEntry
   over_named o = record { place = target; directory = move.directory; entries = move.entries; last_cookie = move.last_cookie; name = move.name; number = o.0; object = o.1 }
 
-  is-over : (o : ℕ × Living) → move.replaced ≡ Some o → IsNamed m (over_named o)
+  is-over : (o : ℕ × Living) → move.replaced ≡ Some o → IsNamedEntry m (over_named o)
   is-over o some =
       let e = under-entry m (entry_of move.entries move.name) o (sym is.over ∙ some) in
       record { lives = is.lives; content = is.content; entry = e.0; found = e.1; number = e.2; object = e.3 }
@@ -155,7 +155,7 @@ module _ (m : State) (now : Time) (move : Move) (is : IsMove m move) (w : WellFo
   abbrev fl : Bool → ℕ
   fl b = cond b move.last_cookie move.from.last_cookie
 
-  abbrev leaving : Named
+  abbrev leaving : NamedEntry
   leaving = record { place = place; directory = fd (target == place); entries = fe (target == place); last_cookie = fl (target == place); name = move.from.name; number = number; object = move.from.object }
 
   one-directory : target ≡ place → move.directory ≡ move.from.directory
@@ -178,7 +178,7 @@ module _ (m : State) (now : Time) (move : Move) (is : IsMove m move) (w : WellFo
         | false ↦ λ t. refl
       ] refl
 
-  is-leaving : IsNamed free leaving
+  is-leaving : IsNamedEntry free leaving
   is-leaving = record {
     lives = elim (target == place) as (λ b. (target == place) ≡ b → get free.objects place ≡ Some (fd b)) [
       | true ↦ λ e. ap (get free.objects) (sym ((unsigned_Decides target place).0 e)) ∙ differs-there m.objects free.objects target (Some freed) (differs-insert m.objects target freed)
@@ -226,12 +226,12 @@ module _ (m : State) (now : Time) (move : Move) (is : IsMove m move) (w : WellFo
   ] refl
 
   abbrev wider : Living
-  wider = with_content move.directory now (with_entry (entries_left move) move.last_cookie move.name number)
+  wider = with_content move.directory now (with_entry (entries_kept move) move.last_cookie move.name number)
 
   abbrev named : State
   named = with_object left target wider
 
-  waiting-content : waiting.content ≡ Directory (entries_left move) move.last_cookie
+  waiting-content : waiting.content ≡ Directory (entries_kept move) move.last_cookie
   waiting-content = elim (target == place) as (λ b. (waiting_of b).content ≡ Directory (cond b (without (without move.entries move.name) move.from.name) (without move.entries move.name)) move.last_cookie) [
     | true ↦ refl
     | false ↦ refl
@@ -243,7 +243,7 @@ module _ (m : State) (now : Time) (move : Move) (is : IsMove m move) (w : WellFo
   waiting-generation : waiting.generation ≡ move.directory.generation
   waiting-generation = elim (target == place) as (λ b. (waiting_of b).generation ≡ move.directory.generation) [ true ↦ refl | false ↦ refl ]
 
-  absent-left : find (λ (x : Entry). same_bytes x.name move.name) (entries_left move) ≡ None
+  absent-left : find (λ (x : Entry). same_bytes x.name move.name) (entries_kept move) ≡ None
   absent-left =
       elim (target == place) as (λ b. find (λ (x : Entry). same_bytes x.name move.name) (cond b (without (without move.entries move.name) move.from.name) (without move.entries move.name)) ≡ None) [
         | true ↦ find-filter (λ (x : Entry). same_bytes x.name move.name) _ (without move.entries move.name) (find-taken move.name move.entries)
@@ -274,7 +274,7 @@ module _ (m : State) (now : Time) (move : Move) (is : IsMove m move) (w : WellFo
         spent = λ n g e. e;
         keeps = record { exports = refl; last = refl };
       };
-      entries = entries_left move;
+      entries = entries_kept move;
       last = move.last_cookie;
       content = waiting-content;
       absent = absent-left;
@@ -373,7 +373,7 @@ module _ (m : State) (now : Time) (move : Move) (is : IsMove m move) (w : WellFo
 
   -- ---- what had the name
   module _ (o : ℕ × Living) (some : move.replaced ≡ Some o) where
-    over : IsNamed m (over_named o)
+    over : IsNamedEntry m (over_named o)
     over = is-over o some
 
     empty : entries_of o.1.content ≡ []

@@ -21,7 +21,7 @@ use Rattle.nfs_machine.specs.NfsSteps.{NfsStep}
 use Rattle.nfs_machine.specs.Bytes.{same_bytes}
 use Rattle.nfs_machine.specs.Pages.{all_entries, behind}
 use Rattle.nfs_machine.specs.PageSteps.{entries_left}
-use Rattle.nfs_machine.specs.Permission.{Listing}
+use Rattle.nfs_machine.specs.Permission.{ToList}
 use Rattle.nfs_machine.specs.WorkedPages.{seven, zeros}
 use Rattle.nfs_wire.specs.declared.calls.Verifier.{Verifier}
 use Rattle.nfs_machine.specs.Resolve.{Resolved, Names, living_at, resolve}
@@ -30,16 +30,16 @@ use Rattle.nfs_machine.specs.State.{Entry, Living, State}
 use Rattle.nfs_machine.specs.Worked.{root_bytes}
 use Rattle.nfs_machine.specs.WorkedCreate.{called_as, with_writable}
 use Rattle.nfs_machine.specs.WorkedFiles.{time}
-use Rattle.nfs_machine.specs.WorkedReplies.{IsAnswered, HasFile, HasRootAlone, file_before, file_bytes, file_shown}
+use Rattle.nfs_machine.specs.WorkedReplies.{IsReplied, HasFile, HasRootAlone, file_before, file_bytes, file_shown}
 use Rattle.nfs_machine.specs.WorkedReplies.{known_file, root, root_shown, setting_mode, with_room}
 use Rattle.nfs_machine.specs.declared.context.Ctx.{Ctx}
 
 -- the replies as functions of what the handle names
-abbrev set_by : State → Ctx → SetattrArguments → Resolved → Result (Unit {0} × State) NfsStatus
-set_by m ctx a r = object_of r >>= λ o. set_object m.exports ctx o.1 a >>= λ x. Ok (tt, with_object m o.0 x)
+abbrev set_from : State → Ctx → SetattrArguments → Resolved → Result (Unit {0} × State) NfsStatus
+set_from m ctx a r = object_of r >>= λ o. set_object m.exports ctx o.1 a >>= λ x. Ok (tt, with_object m o.0 x)
 
 abbrev setattr_by : State → Ctx → SetattrArguments → Resolved → NfsReply
-setattr_by m ctx a r = replies.Setattr (record { wcc = wcc (state_after m (set_by m ctx a r)) r; result = answer_of (set_by m ctx a r) })
+setattr_by m ctx a r = replies.Setattr (record { wcc = wcc (state_after m (set_from m ctx a r)) r; result = answer_of (set_from m ctx a r) })
 
 abbrev access_by : State → Ctx → ℕ → Resolved → NfsReply
 access_by m ctx asked r = replies.Access
@@ -81,7 +81,7 @@ module _ (k : State) (has : HasFile k) where
       (replaced-names (with_writable k) 2 known_file set_file has.lives
       (record { export = refl; generation = refl; kind = refl; content = λ is. refl }) 2 ∙ has.named_once)
 
-  pub guarded : IsAnswered (with_writable k) (called_as 0) (calls.Setattr (setting_mode (time 1000 0)))
+  pub guarded : IsReplied (with_writable k) (called_as 0) (calls.Setattr (setting_mode (time 1000 0)))
       (replies.Setattr (record {
         wcc = record { before = Some file_before; after = Some (file_shown 420 (time 1000 1)) };
         result = Err status.NotSynchronized;
@@ -93,7 +93,7 @@ module _ (k : State) (has : HasFile k) where
         ∙ ap (λ (x : Option Attributes). replies.Setattr (record { wcc = record { before = Some file_before; after = x }; result = Err status.NotSynchronized })) at);
     no_message = refl;
     state_is = sym (ap (λ r. state_after (with_writable k)
-        (set_by (with_writable k) (called_as 0) (setting_mode (time 1000 0)) r)) (named 0));
+        (set_from (with_writable k) (called_as 0) (setting_mode (time 1000 0)) r)) (named 0));
   }
 
   pub set : NfsStep (with_writable k) (called_as 0) (calls.Setattr (setting_mode (time 1000 1)))
@@ -107,10 +107,10 @@ module _ (k : State) (has : HasFile k) where
         ∙ ap (λ (x : Option Attributes). replies.Setattr (record { wcc = record { before = Some file_before; after = x }; result = Ok tt })) set-at);
     no_message = refl;
     state_is = sym (ap (λ r. state_after (with_writable k)
-        (set_by (with_writable k) (called_as 0) (setting_mode (time 1000 1)) r)) (named 0));
+        (set_from (with_writable k) (called_as 0) (setting_mode (time 1000 1)) r)) (named 0));
   }
 
-  pub access : IsAnswered (with_writable k) (called_as 5) (calls.Access (record { object = file_bytes; rights = 63 }))
+  pub access : IsReplied (with_writable k) (called_as 5) (calls.Access (record { object = file_bytes; rights = 63 }))
       (replies.Access (record { attributes = Some (file_shown 420 (time 1000 1)); result = Ok 1 }))
   unfolding NfsStep
   access = record {
@@ -120,7 +120,7 @@ module _ (k : State) (has : HasFile k) where
     state_is = refl;
   }
 
-  pub no_link : IsAnswered (with_writable k) (called_as 0) (calls.Readlink file_bytes)
+  pub no_link : IsReplied (with_writable k) (called_as 0) (calls.Readlink file_bytes)
       (replies.Readlink (record { attributes = Some (file_shown 420 (time 1000 1)); result = Err status.Invalid }))
   unfolding NfsStep
   no_link = record {
@@ -130,7 +130,7 @@ module _ (k : State) (has : HasFile k) where
     state_is = refl;
   }
 
-  pub committed : IsAnswered (with_writable k) (called_as 5)
+  pub committed : IsReplied (with_writable k) (called_as 5)
       (calls.Commit (record { file = file_bytes; offset = 0; count = 0 })) (replies.Commit (record {
         wcc = record { before = Some file_before; after = Some (file_shown 420 (time 1000 1)) };
         result = Ok (verifier_of (called_as 5));
@@ -144,7 +144,7 @@ module _ (k : State) (has : HasFile k) where
     state_is = refl;
   }
 
-  pub limits : IsAnswered (with_writable k) (called_as 0) (calls.Pathconf file_bytes)
+  pub limits : IsReplied (with_writable k) (called_as 0) (calls.Pathconf file_bytes)
       (replies.Pathconf (record { attributes = Some (file_shown 420 (time 1000 1)); result = Ok path_limits }))
   unfolding NfsStep
   limits = record {
@@ -155,7 +155,7 @@ module _ (k : State) (has : HasFile k) where
   }
 
 pub bad_handle : (m : State) →
-    IsAnswered (with_writable m) (called_as 0) (calls.Fsinfo (take 31 file_bytes))
+    IsReplied (with_writable m) (called_as 0) (calls.Fsinfo (take 31 file_bytes))
     (replies.Fsinfo (record { attributes = None; result = Err status.BadHandle }))
 unfolding NfsStep
 bad_handle m = record { reply_is = refl; no_message = refl; state_is = refl }
@@ -170,7 +170,7 @@ module _ (k : State) (has : HasRootAlone k) where
   abbrev fresh : Space
   fresh = space_left 1099511627776 (root ∷ []) 1
 
-  pub space : IsAnswered (with_writable k) (with_room 1099511627776) (calls.Fsstat root_bytes)
+  pub space : IsReplied (with_writable k) (with_room 1099511627776) (calls.Fsstat root_bytes)
       (replies.Fsstat (record { attributes = Some root_shown; result = Ok fresh }))
   unfolding NfsStep
   space = record {
@@ -184,7 +184,7 @@ module _ (k : State) (has : HasRootAlone k) where
     state_is = refl;
   }
 
-  pub system : IsAnswered (with_writable k) (called_as 0) (calls.Fsinfo root_bytes)
+  pub system : IsReplied (with_writable k) (called_as 0) (calls.Fsinfo root_bytes)
       (replies.Fsinfo (record { attributes = Some root_shown; result = Ok file_system }))
   unfolding NfsStep
   system = record {
@@ -194,7 +194,7 @@ module _ (k : State) (has : HasRootAlone k) where
     state_is = refl;
   }
 
-  pub no_file : IsAnswered (with_writable k) (called_as 0)
+  pub no_file : IsReplied (with_writable k) (called_as 0)
       (calls.Commit (record { file = root_bytes; offset = 0; count = 0 }))
       (replies.Commit (record
       { wcc = record { before = Some (weak root); after = Some root_shown }; result = Err status.Invalid }))
@@ -212,7 +212,7 @@ module _ (k : State) (has : HasRootAlone k) where
   left_by cookie verifier r = do
     d ← object_of r
     entries ← entries_in d.1.content
-    _ ← permitted (called_as 0) d.1 Listing
+    _ ← permitted (called_as 0) d.1 ToList
     _ ← holding ((cookie == 0) || same_bytes verifier.bytes (verifier_of (called_as 0)).bytes) status.BadCookie
     Ok (behind cookie (all_entries d.0 1 entries.0))
 

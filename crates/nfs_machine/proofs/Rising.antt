@@ -43,14 +43,14 @@ itself a (inl h) = omega (arith, h)
 itself a (inr h) = let x = h.1 in omega (arith, x)
 
 -- later, or the greatest time itself
-abbrev Follows : Time → Time → Type 0
-Follows t u = Earlier t u ⊎ ((u ≡ t) × (4294967295 ≤ t.seconds) × (999999999 ≤ t.nanoseconds))
+abbrev FollowsTime : Time → Time → Type 0
+FollowsTime t u = Earlier t u ⊎ ((u ≡ t) × (4294967295 ≤ t.seconds) × (999999999 ≤ t.nanoseconds))
 
-next-later : (t : Time) → Follows t (next t)
+next-later : (t : Time) → FollowsTime t (next t)
 next-later t =
-    elim (nat_lt t.nanoseconds 999999999) as (λ b. nat_lt t.nanoseconds 999999999 ≡ b → Follows t (cond b later second)) [
+    elim (nat_lt t.nanoseconds 999999999) as (λ b. nat_lt t.nanoseconds 999999999 ≡ b → FollowsTime t (cond b later second)) [
       | true ↦ λ is. inl (inr (refl, omega arith))
-      | false ↦ λ is. elim (nat_lt t.seconds 4294967295) as (λ b. nat_lt t.seconds 4294967295 ≡ b → Follows t (cond b (record { seconds = t.seconds + 1; nanoseconds = 0 }) t)) [
+      | false ↦ λ is. elim (nat_lt t.seconds 4294967295) as (λ b. nat_lt t.seconds 4294967295 ≡ b → FollowsTime t (cond b (record { seconds = t.seconds + 1; nanoseconds = 0 }) t)) [
         | true ↦ λ below. inl (inl (omega arith))
         | false ↦ λ below. inr (refl, ltb-false t.seconds 4294967295 below, ltb-false t.nanoseconds 999999999 is)
       ] refl
@@ -62,9 +62,9 @@ next-later t =
     second : Time
     second = cond (nat_lt t.seconds 4294967295) (record { seconds = t.seconds + 1; nanoseconds = 0 }) t
 
-touched : (changed now : Time) → Follows changed (touch changed now)
+touched : (changed now : Time) → FollowsTime changed (touch changed now)
 touched changed now =
-    elim (is_earlier (next changed) now) as (λ b. is_earlier (next changed) now ≡ b → Follows changed (cond b now (next changed))) [
+    elim (is_earlier (next changed) now) as (λ b. is_earlier (next changed) now ≡ b → FollowsTime changed (cond b now (next changed))) [
       | true ↦ λ is. elim (next-later changed) [
         | inl later ↦ inl (after changed (next changed) now later (told (next changed) now is))
         | inr greatest ↦ inl (subst (λ (t : Time). Earlier t now) greatest.0 (told (next changed) now is))

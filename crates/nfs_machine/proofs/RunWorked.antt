@@ -33,7 +33,7 @@ use Rattle.nfs_machine.specs.NameSteps.{create_existing, wanted_file}
 use Rattle.nfs_machine.specs.NfsSteps.{NfsStep}
 use Rattle.nfs_machine.specs.Pages.{all_entries, behind, fits, fits_full}
 use Rattle.nfs_machine.specs.PageSteps.{page_entry}
-use Rattle.nfs_machine.specs.Permission.{Changing, Listing}
+use Rattle.nfs_machine.specs.Permission.{ToChange, ToList}
 use Rattle.nfs_machine.specs.RemoveSteps.{losing_name, not_directory, object_under, without}
 use Rattle.nfs_machine.specs.RenameSteps.{move_plan, rename_plan}
 use Rattle.nfs_machine.specs.Exports.{LivingExport}
@@ -50,11 +50,11 @@ use Rattle.nfs_machine.specs.WorkedPages.{seven, zeros}
 use Rattle.nfs_machine.specs.WorkedReplies.{root}
 use Rattle.nfs_machine.specs.WorkedRun.{wrote_reply, received, WorkedLeaving, WorkedLinking, WorkedRenaming, WorkedRun}
 use Rattle.nfs_machine.specs.WorkedRun.{WorkedSteps, WorkedTurns, all_three, argument_bytes, arrives, executed}
-use Rattle.nfs_machine.specs.WorkedRun.{first_two, header_of, in_root, listed_full_reply, listed_reply, listing}
+use Rattle.nfs_machine.specs.WorkedRun.{first_two, nfs_header, in_root, listed_full_reply, listed_reply, listing}
 use Rattle.nfs_machine.specs.WorkedRun.{linking, listing_full, made_reply, making, miscounted, nobody, opened, left}
 use Rattle.nfs_machine.specs.WorkedRun.{page_reply, read_only, refused_reply, renaming, removed, removed_reply}
 use Rattle.nfs_machine.specs.WorkedRun.{root_after, root_with, root_with_both, root_with_x, setting, with_x, writing}
-use Rattle.nfs_machine.specs.WorkedRun.{written, x, x_bytes, x_entry, x_written, y_entry}
+use Rattle.nfs_machine.specs.WorkedRun.{with_hi, x, x_bytes, x_entry, x_written, y_entry}
 use Rattle.nfs_machine.specs.declared.calls.Call.TheVariants as calls
 use Rattle.nfs_machine.specs.declared.context.Ctx.{Ctx}
 use Rattle.nfs_machine.proofs.Moves.{remove_end}
@@ -77,10 +77,10 @@ root-made = get-inserted (insert opened.objects 1 root_with_x) 5 x 1 ∙ get-ins
 x-made : get with_x.objects 5 ≡ Some x
 x-made = get-inserted (insert opened.objects 1 root_with_x) 5 x 5
 
-pub root-written : get written.objects 1 ≡ Some root_with_x
+pub root-written : get with_hi.objects 1 ≡ Some root_with_x
 root-written = get-inserted with_x.objects 5 x_written 1 ∙ root-made
 
-pub x-lives : get written.objects 5 ≡ Some x_written
+pub x-lives : get with_hi.objects 5 ≡ Some x_written
 x-lives = get-inserted with_x.objects 5 x_written 5
 
 pub root-named : (m : State) → m.exports ≡ writable → (o : Living) → o.generation ≡ 1 → o.export ≡ 1 →
@@ -100,11 +100,11 @@ x-named m exports o generation export at =
     (λ k. cond (k == 1) (Names 5 o) Stale) export
 
 -- ---- the calls arrive
-asked : (call : NfsCall) → call_of (received call).bytes ≡ Ok (header_of call) →
+asked : (call : NfsCall) → call_of (received call).bytes ≡ Ok (nfs_header call) →
     HasSpelling (arguments_type (procedure_of call)) (arguments_of call) →
     Asks setting (arrives call) nobody (calls.Nfs call)
 asked call read form = record {
-  header = header_of call;
+  header = nfs_header call;
   read = read;
   is_call = (
     refl,
@@ -118,11 +118,11 @@ asked call read form = record {
     append-nil [] = refl
     append-nil (b ∷ xs) = ap (λ ys. b ∷ ys) (append-nil xs)
 
-making-read : call_of (received (nfs.Create making)).bytes ≡ Ok (header_of (nfs.Create making))
+making-read : call_of (received (nfs.Create making)).bytes ≡ Ok (nfs_header (nfs.Create making))
 unfolding call_of read appended with_word with_hyper with_padded with_arm
 making-read = refl
 
-writing-read : call_of (received (nfs.Write writing)).bytes ≡ Ok (header_of (nfs.Write writing))
+writing-read : call_of (received (nfs.Write writing)).bytes ≡ Ok (nfs_header (nfs.Write writing))
 unfolding call_of read appended with_word with_hyper with_padded with_arm
 writing-read = refl
 
@@ -159,7 +159,7 @@ abbrev create_by : Resolved → Result (End opened) NfsStatus
 create_by r =
     object_of r >>= λ directory. entries_in directory.1.content >>= λ entries. plain_name_checked status.Exists
     status.Exists making.place.name >>= λ _. changeable writable directory.1 >>= λ _. permitted nobody directory.1
-    Changing
+    ToChange
     >>= λ _. create_under directory.0 directory.1 entries.0 entries.1 (entry_of entries.0 making.place.name)
 
 creates : NfsStep opened nobody (nfs.Create making) made_reply [] with_x
@@ -176,7 +176,7 @@ abbrev write_by : WriteArguments → Resolved → Result (Written × State) NfsS
 write_by a r = object_of r >>= λ file. write_object writable nobody file.1 a >>= λ end. Ok
     (end.0, replaced with_x file.0 end.1)
 
-writes : NfsStep with_x nobody (nfs.Write writing) wrote_reply [] written
+writes : NfsStep with_x nobody (nfs.Write writing) wrote_reply [] with_hi
 unfolding NfsStep
 writes =
     let named = x-named with_x refl x refl refl x-made in record {
@@ -197,7 +197,7 @@ refused =
 -- ---- READDIR
 abbrev entries_from : (cookie : ℕ) → Verifier → Resolved → Result (List Entry) NfsStatus
 entries_from cookie verifier r =
-    object_of r >>= λ d. entries_in d.1.content >>= λ entries. permitted nobody d.1 Listing >>= λ _. holding ((cookie == 0) || same_bytes verifier.bytes (verifier_of nobody).bytes) status.BadCookie >>= λ _. Ok (behind cookie (all_entries d.0 1 entries.0))
+    object_of r >>= λ d. entries_in d.1.content >>= λ entries. permitted nobody d.1 ToList >>= λ _. holding ((cookie == 0) || same_bytes verifier.bytes (verifier_of nobody).bytes) status.BadCookie >>= λ _. Ok (behind cookie (all_entries d.0 1 entries.0))
 
 abbrev entries_by : Resolved → Result (List Entry) NfsStatus
 entries_by = entries_from 0 zeros
@@ -213,12 +213,12 @@ root-parent m exports lives number d both =
       named_in = inl (refl, ap (list_any (λ (e : LivingExport). e.root == 1)) exports);
     }))
 
-lists : NfsStep written nobody (nfs.Readdir listing) listed_reply [] written
+lists : NfsStep with_hi nobody (nfs.Readdir listing) listed_reply [] with_hi
 unfolding NfsStep
 lists =
-    let named = root-named written refl root_with_x refl refl root-written in record {
+    let named = root-named with_hi refl root_with_x refl refl root-written in record {
       parent = 1;
-      is_parent = λ number d is kind. root-parent written refl root-written number d (sym named ∙ is);
+      is_parent = λ number d is kind. root-parent with_hi refl root-written number d (sym named ∙ is);
       page = Ok (all_three, true);
       is_page = subst (λ r. PagesOf (fits 65536) (entries_by r) (Ok (all_three, true))) (sym named) (page-ends (fits 65536) all_three refl);
       answers = record { reply_is = refl; no_message = refl; state_is = refl };
@@ -226,30 +226,30 @@ lists =
 
 -- ---- READDIRPLUS
 abbrev shown-entry : Entry → Option Living → FullEntry
-shown-entry e o = record { entry = page_entry e; attributes = option_map (attributes_of written e.number) o; object = option_map (handle_at nobody e.number) o }
+shown-entry e o = record { entry = page_entry e; attributes = option_map (attributes_of with_hi e.number) o; object = option_map (handle_at nobody e.number) o }
 
 abbrev shown-reply : Option Living → Option Living → NfsReply
 shown-reply r f = nfs_replies.Readdirplus (record {
-  attributes = shown written (resolve written nobody root_bytes);
+  attributes = shown with_hi (resolve with_hi nobody root_bytes);
   result = Ok (record { verifier = verifier_of nobody; entries = shown-entry (record { name = codes "."; number = 1; cookie = 1 }) r ∷ shown-entry (record { name = codes ".."; number = 1; cookie = 2 }) r ∷ shown-entry x_entry f ∷ []; eof = true });
 })
 
-lists-full : NfsStep written nobody (nfs.Readdirplus listing_full) listed_full_reply [] written
+lists-full : NfsStep with_hi nobody (nfs.Readdirplus listing_full) listed_full_reply [] with_hi
 unfolding NfsStep
 lists-full =
-    let named = root-named written refl root_with_x refl refl root-written in record {
+    let named = root-named with_hi refl root_with_x refl refl root-written in record {
       parent = 1;
-      is_parent = λ number d is kind. root-parent written refl root-written number d (sym named ∙ is);
+      is_parent = λ number d is kind. root-parent with_hi refl root-written number d (sym named ∙ is);
       page = Ok (all_three, true);
       is_page = subst (λ r. PagesOf (fits_full 65536 65536) (entries_by r) (Ok (all_three, true))) (sym named) (page-ends (fits_full 65536 65536) all_three refl);
       answers = record { reply_is = shown_by root-written x-lives; no_message = refl; state_is = refl };
     }
   where
-    shown_by : get written.objects 1 ≡ Some root_with_x → get written.objects 5 ≡ Some x_written → listed_full_reply ≡ shown-reply (get written.objects 1) (get written.objects 5)
-    shown_by r f = sym (ap (λ l. shown-reply l (get written.objects 5)) r ∙ ap (λ l. shown-reply (Some root_with_x) l) f)
+    shown_by : get with_hi.objects 1 ≡ Some root_with_x → get with_hi.objects 5 ≡ Some x_written → listed_full_reply ≡ shown-reply (get with_hi.objects 1) (get with_hi.objects 5)
+    shown_by r f = sym (ap (λ l. shown-reply l (get with_hi.objects 5)) r ∙ ap (λ l. shown-reply (Some root_with_x) l) f)
 
 -- ---- REMOVE
-names-x : names_of written 5 ≡ 1
+names-x : names_of with_hi 5 ≡ 1
 names-x =
     let none : names_of opened 5 ≡ 0 = sum-none (names_in 5) opened.objects (λ q v at. subst (λ (o : Living). names_in 5 o ≡ 0) (only_roots setting.exports moment q v at).0 refl) in
     let free : get (insert opened.objects 1 root_with_x) 5 ≡ None = get-inserted opened.objects 1 root_with_x 5 ∙ none-opened in
@@ -271,44 +271,44 @@ names-x =
 
 abbrev take_object : Option (ℕ × Living) → Result (Unit {0} × State) NfsStatus
 take_object found =
-    ok_or found status.NoEntry >>= λ o. not_directory o.1.content >>= λ _. Ok (tt, losing_name (with_object written 1 root_after) (names_of written o.0) (time 1000 0) o.0 o.1)
+    ok_or found status.NoEntry >>= λ o. not_directory o.1.content >>= λ _. Ok (tt, losing_name (with_object with_hi 1 root_after) (names_of with_hi o.0) (time 1000 0) o.0 o.1)
 
 abbrev take_under : ℕ × Living → List Entry × ℕ → Result (Unit {0} × State) NfsStatus
 take_under directory entries =
-    ok_or (object_under written (entry_of entries.0 (codes "x"))) status.NoEntry >>= λ o. not_directory o.1.content >>= λ _.
-    let left = with_object written directory.0 (with_content directory.1 (time 1000 0) (Directory (without entries.0 (codes "x")) entries.1)) in
-    Ok (tt, losing_name left (names_of written o.0) (time 1000 0) o.0 o.1)
+    ok_or (object_under with_hi (entry_of entries.0 (codes "x"))) status.NoEntry >>= λ o. not_directory o.1.content >>= λ _.
+    let left = with_object with_hi directory.0 (with_content directory.1 (time 1000 0) (Directory (without entries.0 (codes "x")) entries.1)) in
+    Ok (tt, losing_name left (names_of with_hi o.0) (time 1000 0) o.0 o.1)
 
 abbrev take_by : Resolved → Result (Unit {0} × State) NfsStatus
 take_by r =
     object_of r >>= λ directory. entries_in directory.1.content >>= λ entries. plain_name_checked status.Invalid
     status.Invalid (codes "x") >>= λ _. changeable writable directory.1 >>= λ _. permitted nobody directory.1
-    Changing
+    ToChange
     >>= λ _. take_under directory entries
 
-taken : remove_end written nobody (in_root (codes "x")) ≡ Ok (tt, removed)
+taken : remove_end with_hi nobody (in_root (codes "x")) ≡ Ok (tt, removed)
 taken =
-    ap take_by (root-named written refl root_with_x refl refl root-written)
+    ap take_by (root-named with_hi refl root_with_x refl refl root-written)
     ∙ ap (λ (l : Option Living). take_object (option_map (λ (o : Living). (5, o)) l)) x-lives
-    ∙ ap (λ k. Ok (tt, losing_name (with_object written 1 root_after) k (time 1000 0) 5 x_written)) names-x
+    ∙ ap (λ k. Ok (tt, losing_name (with_object with_hi 1 root_after) k (time 1000 0) 5 x_written)) names-x
 
-takes : NfsStep written nobody (nfs.Remove (in_root (codes "x"))) removed_reply [] removed
+takes : NfsStep with_hi nobody (nfs.Remove (in_root (codes "x"))) removed_reply [] removed
 unfolding NfsStep
 takes = record {
-  reply_is = sym (ap (λ end. nfs_replies.Remove (record { directory = wcc (state_after written end) (resolve written nobody root_bytes); result = answer_of end })) taken);
+  reply_is = sym (ap (λ end. nfs_replies.Remove (record { directory = wcc (state_after with_hi end) (resolve with_hi nobody root_bytes); result = answer_of end })) taken);
   no_message = refl;
-  state_is = sym (ap (state_after written) taken);
+  state_is = sym (ap (state_after with_hi) taken);
 }
 
 executes-create : Executes setting opened (executed (nfs.Create making) made_reply) with_x
 executes-create = record { ctx = nobody; call = calls.Nfs (nfs.Create making); asks = asked (nfs.Create making) making-read making-form; step = creates }
 
-executes-write : Executes setting with_x (executed (nfs.Write writing) wrote_reply) written
+executes-write : Executes setting with_x (executed (nfs.Write writing) wrote_reply) with_hi
 executes-write = record { ctx = nobody; call = calls.Nfs (nfs.Write writing); asks = asked (nfs.Write writing) writing-read writing-form; step = writes }
 
 pub worked-run : WorkedRun
 worked-run = record {
-  run = (with_x, executes-create, (written, executes-write, refl));
+  run = (with_x, executes-create, (with_hi, executes-write, refl));
   hosts = (within 8 255 refl, (within 8 255 refl, tt));
   given = refl;
   first = root-opened;
@@ -333,7 +333,7 @@ abbrev link_by : State → List ℕ → (file directory : Resolved) → Result (
 link_by m name f d =
     object_of f >>= λ file. object_of d >>= λ directory. holding (file.1.export == directory.1.export) status.CrossDevice >>= λ _. holding (not (is_directory file.1.content)) status.Invalid
     >>= λ _. entries_in directory.1.content >>= λ entries. plain_name_checked status.Invalid status.Invalid name >>=
-    λ _. changeable writable directory.1 >>= λ _. permitted nobody directory.1 Changing
+    λ _. changeable writable directory.1 >>= λ _. permitted nobody directory.1 ToChange
     >>= λ _. link_names m name file directory entries (links_of m file.0 file.1.content)
 
 module _ (k : State) (entries : List Entry) (of_root : get k.objects 1 ≡ Some (root_with entries))
@@ -392,9 +392,9 @@ module _ (m : State) (ctx : Ctx) (a : RenameArguments) where
   move_by f t =
       object_of f >>= λ from. object_of t >>= λ to. holding (from.1.export == to.1.export) status.CrossDevice >>= λ _. entries_in from.1.content >>= λ from_entries. entries_in to.1.content >>= λ to_entries.
       plain_name_checked status.Invalid status.Invalid a.from.name >>= λ _. plain_name_checked status.Invalid
-      status.Invalid a.to.name >>= λ _. changeable m.exports from.1 >>= λ _. permitted ctx from.1 Changing >>= λ
+      status.Invalid a.to.name >>= λ _. changeable m.exports from.1 >>= λ _. permitted ctx from.1 ToChange >>= λ
       _.
-      permitted ctx to.1 Changing >>= λ _. move_found from to from_entries to_entries (object_under m (entry_of from_entries.0 a.from.name)) (object_under m (entry_of to_entries.0 a.to.name))
+      permitted ctx to.1 ToChange >>= λ _. move_found from to from_entries to_entries (object_under m (entry_of from_entries.0 a.from.name)) (object_under m (entry_of to_entries.0 a.to.name))
 
 module _ (k : State) (entries : List Entry) (of_root : get k.objects 1 ≡ Some (root_with entries))
     (of_x : get k.objects 5 ≡ Some x_written) where
@@ -484,7 +484,7 @@ abbrev leave_by : State → Resolved → Result (Unit {0} × State) NfsStatus
 leave_by m r =
     object_of r >>= λ directory. entries_in directory.1.content >>= λ entries. plain_name_checked status.Invalid
     status.Invalid (codes "x") >>= λ _. changeable writable directory.1 >>= λ _. permitted nobody directory.1
-    Changing
+    ToChange
     >>= λ _. leave_object m directory entries (object_under m (entry_of entries.0 (codes "x")))
 
 pub worked-leaving : WorkedLeaving
@@ -560,18 +560,18 @@ worked-turns = record {
     with_x,
     lists-page with_x refl root-made 0 zeros 160 first_two false first-page,
     (
-      written,
+      with_hi,
       writes,
-      (written, lists-page written refl root-written 2 seven 65536 (x_entry ∷ []) true second-page, refl),
+      (with_hi, lists-page with_hi refl root-written 2 seven 65536 (x_entry ∷ []) true second-page, refl),
     ),
   );
   reads = (record { from = refl; shows = refl }, record { from = refl; shows = refl });
-  stays = (has-x with_x refl root-made, (has-x written refl root-written, tt));
+  stays = (has-x with_x refl root-made, (has-x with_hi refl root-written, tt));
   name_stays = (
     leads-x with_x root-made,
-    (leads-x with_x root-made, (leads-x written root-written, leads-x written root-written)),
+    (leads-x with_x root-made, (leads-x with_hi root-written, leads-x with_hi root-written)),
   );
-  self_stays = (has-self with_x refl root-made, (has-self written refl root-written, tt));
+  self_stays = (has-self with_x refl root-made, (has-self with_hi refl root-written, tt));
 }
   where
     first-page : PagesOf (fits 160) (entries_from 0 zeros (Names 1 root_with_x)) (Ok (first_two, false))

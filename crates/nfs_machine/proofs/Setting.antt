@@ -21,8 +21,8 @@ use Rattle.nfs_machine.specs.Times.{is_time, time_of, touch}
 use Rattle.nfs_machine.specs.declared.context.Ctx.{Ctx}
 
 -- a content in the size that is set, if one is
-abbrev sized : Content → Option ℕ → Result Content NfsStatus
-sized c size = elim size [ None ↦ Ok c | Some size ↦ bytes_in c >>= λ bytes. Ok (Regular (resized bytes size)) ]
+abbrev content_sized : Content → Option ℕ → Result Content NfsStatus
+content_sized c size = elim size [ None ↦ Ok c | Some size ↦ bytes_in c >>= λ bytes. Ok (Regular (resized bytes size)) ]
 
 record Sized (was is : Content) : Type 0 where
   kind : is_directory is ≡ is_directory was
@@ -31,7 +31,7 @@ record Sized (was is : Content) : Type 0 where
   entries : KeepsEntries (entries_of was) (entries_of is)
   regular : is_ok (bytes_in was) ≡ true → is_ok (bytes_in is) ≡ true
 
-sized-keeps : (c : Content) (size : Option ℕ) → IfOk (sized c size) (Sized c)
+sized-keeps : (c : Content) (size : Option ℕ) → IfOk (content_sized c size) (Sized c)
 sized-keeps c None = record
     { kind = refl; content = λ is. refl; text = λ t e. e; entries = kept-same (entries_of c); regular = λ e. e }
 sized-keeps (Regular bytes)
@@ -61,8 +61,8 @@ set-alters exports ctx o a =
     chained P (changeable exports o) _
     (λ x1. chained P (holding _ status.NotSynchronized) _
     (λ x2. chained P (holding (is_time set.accessed && is_time set.modified) status.Invalid) _ (λ x3.
-    chained-is P (sized o.content set.size) _ (λ content is.
-    let keeps : Sized o.content content = of-ok (Sized o.content) (sized o.content set.size) content is (sized-keeps o.content set.size) in
+    chained-is P (content_sized o.content set.size) _ (λ content is.
+    let keeps : Sized o.content content = of-ok (Sized o.content) (content_sized o.content set.size) content is (sized-keeps o.content set.size) in
     search (chained, set-alter, keeps) depth 10))))
 
 pub setattr-follows : (old : State) (ctx : Ctx) (a : SetattrArguments) → IfOk (setattr_end old ctx a) (λ e. Follows (time_of ctx.moment) old e.1)

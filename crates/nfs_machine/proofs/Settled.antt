@@ -13,7 +13,7 @@ use Rattle.nfs_machine.specs.Bytes.{same_bytes}
 use Rattle.nfs_machine.specs.FileLists.{all_but, of_file, with_list}
 use Rattle.nfs_machine.specs.Grants.{FileWaits, Grants, IsHeldUp, SettleInOrder, grant_cookie}
 use Rattle.nfs_machine.specs.Grants.{grant_message, requested}
-use Rattle.nfs_machine.specs.Locks.{Lists, is_in, is_within, mode_at, modes_with, modes_without, same_owner}
+use Rattle.nfs_machine.specs.Locks.{HasModes, is_in, is_within, mode_at, modes_with, modes_without, same_owner}
 use Rattle.nfs_machine.specs.LockSteps.{GrantEnds, freed_with, is_answered}
 use Rattle.nfs_machine.specs.NlmSteps.{NlmStep}
 use Rattle.nfs_machine.specs.State.{Lock, Owner, PendingGrant, Request, Share, State}
@@ -49,7 +49,7 @@ away owner offset c_has a_has =
     let below : offset ≤ 9 = leb-true offset 9 y.1 in
     omega (arith, above, below)
 
-given-back : Lists first_held (modes_with two_held (range_at c 10 10) Unlocked)
+given-back : HasModes first_held (modes_with two_held (range_at c 10 10) Unlocked)
 given-back = record { modes_are = modes; once = once-of (lock a 0 9 true) }
   where
     modes : (owner : Owner) (offset : ℕ) →
@@ -75,7 +75,7 @@ wider owner offset e =
     let all = and_parts (same_owner a owner) (is_within 0 9 offset) e in
     ap (λ t. t && is_within 0 19 offset) all.0 ∙ narrower 0 9 0 19 offset (omega arith) (omega arith) all.1
 
-shared-by-a : Lists first_shared (modes_with first_held (range_at a 0 20) Shared)
+shared-by-a : HasModes first_shared (modes_with first_held (range_at a 0 20) Shared)
 shared-by-a = record { modes_are = modes; once = once-of (lock a 0 19 false) }
   where
     modes : (owner : Owner) (offset : ℕ) →
@@ -94,7 +94,7 @@ shared-by-a = record { modes_are = modes; once = once-of (lock a 0 19 false) }
         ] refl
 
 -- B shares them too
-shared-by-b : Lists both_shared (modes_with first_shared (range_at b 0 20) Shared)
+shared-by-b : HasModes both_shared (modes_with first_shared (range_at b 0 20) Shared)
 shared-by-b = record { modes_are = modes; once = once }
   where
     modes : (owner : Owner) (offset : ℕ) →
@@ -147,7 +147,7 @@ granting : (old : State) (before after : List Lock) (earlier : List Request) (r 
     (new : State)
     → of_file old.locks 5 ≡ before → of_file old.waiting 5 ≡ earlier ++ r ∷ later
     → AllByRecursion (IsHeldUp before) earlier → (IsHeldUp before r → ⊥)
-    → Lists after (modes_with before (requested r) (Some r.exclusive))
+    → HasModes after (modes_with before (requested r) (Some r.exclusive))
     → new ≡ record old {
       locks = with_list old.locks 5 after;
       waiting = with_list old.waiting 5 (earlier ++ later);
@@ -162,7 +162,7 @@ granting old before after earlier r later new locks waits held free lists is = r
   held_up = subst (λ l. AllByRecursion (IsHeldUp l) earlier) (sym locks) held;
   free = subst (λ l. IsHeldUp l r → ⊥) (sym locks) free;
   locks = after;
-  lists = subst (λ l. Lists after (modes_with l (requested r) (Some r.exclusive))) (sym locks) lists;
+  lists = subst (λ l. HasModes after (modes_with l (requested r) (Some r.exclusive))) (sym locks) lists;
   message_is = refl;
   state_is = is;
 }
@@ -192,7 +192,7 @@ worked-settling m =
     let last_locks = sym (with-again m.locks 5 first_shared both_shared) in
     let last_waits = sym (with-again m.waiting 5 (waiting b 5 ∷ []) []) in record {
       locks = first_held;
-      lists = subst (λ l. Lists first_held (modes_with l (range_at c 10 10) Unlocked))
+      lists = subst (λ l. HasModes first_held (modes_with l (range_at c 10 10) Unlocked))
           (sym (of-there m.locks 5 two_held))
           given-back;
       settles = (
@@ -229,7 +229,7 @@ same-turned owner offset other = elim (holds owner offset (lock c 0 19 true)) as
       | false ↦ λ has. refl
     ] refl
 
-freed : Lists [] (modes_without (lock c 0 19 true ∷ []) (codes "c3"))
+freed : HasModes [] (modes_without (lock c 0 19 true ∷ []) (codes "c3"))
 freed = record { modes_are = modes; once = λ owner offset. omega arith }
   where
     modes : (owner : Owner) (offset : ℕ) →
@@ -243,7 +243,7 @@ freed = record { modes_are = modes; once = λ owner offset. omega arith }
         ] refl
 
 -- no other file has a lock
-none-freed : Lists [] (modes_without [] (codes "c3"))
+none-freed : HasModes [] (modes_without [] (codes "c3"))
 none-freed = record { modes_are = modes; once = λ owner offset. omega arith }
   where
     modes : (owner : Owner) (offset : ℕ) → Unlocked ≡ modes_without [] (codes "c3") owner offset
@@ -254,14 +254,14 @@ none-freed = record { modes_are = modes; once = λ owner offset. omega arith }
         ]
 
 all-freed : (file : ℕ) →
-    Lists [] (modes_without (of_file (with_list empty 5 (lock c 0 19 true ∷ [])) file) (codes "c3"))
+    HasModes [] (modes_without (of_file (with_list empty 5 (lock c 0 19 true ∷ [])) file) (codes "c3"))
 all-freed = each-with empty 5 (lock c 0 19 true ∷ [])
-    (λ q (l : List Lock). Lists [] (modes_without l (codes "c3"))) freed
-    (λ q. subst (λ l. Lists [] (modes_without l (codes "c3"))) (sym (none_of q)) none-freed)
+    (λ q (l : List Lock). HasModes [] (modes_without l (codes "c3"))) freed
+    (λ q. subst (λ l. HasModes [] (modes_without l (codes "c3"))) (sym (none_of q)) none-freed)
 
 -- one lock where there was none
 alone-of : (o : Owner) (exclusive : Bool) →
-    Lists (lock o 0 19 exclusive ∷ []) (modes_with [] (range_at o 0 20) (Some exclusive))
+    HasModes (lock o 0 19 exclusive ∷ []) (modes_with [] (range_at o 0 20) (Some exclusive))
 alone-of o exclusive = record { modes_are = modes; once = once-of (lock o 0 19 exclusive) }
   where
     modes : (owner : Owner) (offset : ℕ) →
@@ -276,7 +276,7 @@ alone-of o exclusive = record { modes_are = modes; once = once-of (lock o 0 19 e
 
 -- and none where it is given back
 none-of : (o : Owner) (exclusive : Bool) →
-    Lists [] (modes_with (lock o 0 19 exclusive ∷ []) (range_at o 0 20) Unlocked)
+    HasModes [] (modes_with (lock o 0 19 exclusive ∷ []) (range_at o 0 20) Unlocked)
 none-of o exclusive = record { modes_are = modes; once = λ owner offset. omega arith }
   where
     modes : (owner : Owner) (offset : ℕ) →
@@ -300,8 +300,8 @@ grants-first : (old : State) (r : Request) (later : List Request) (o : Owner) (e
 grants-first old r later o exclusive new locks waits range mode is =
     granting old [] (lock o 0 19 exclusive ∷ []) [] r later new locks waits tt
     (λ held. listed_locks_tell [] (requested r) (Some r.exclusive) refl held)
-    (subst (λ x. Lists (lock o 0 19 exclusive ∷ []) (modes_with [] x (Some r.exclusive))) (sym range)
-    (subst (λ e. Lists (lock o 0 19 exclusive ∷ []) (modes_with [] (range_at o 0 20) (Some e))) (sym mode)
+    (subst (λ x. HasModes (lock o 0 19 exclusive ∷ []) (modes_with [] x (Some r.exclusive))) (sym range)
+    (subst (λ e. HasModes (lock o 0 19 exclusive ∷ []) (modes_with [] (range_at o 0 20) (Some e))) (sym mode)
     (alone-of o exclusive))) is
 
 a-in-the-way : IsHeldUp (lock a 0 19 true ∷ []) (alone b 69)
@@ -505,7 +505,7 @@ worked-freed = record {
     answers m (codes "c1") nlm_status.Denied (grant_message (alone b 69) ∷ []) (held_by_b m)
         (Some (pending (alone a 5))) (get-one 5 (pending (alone a 5)) 5) (record {
           locks = [];
-          lists = subst (λ l. Lists [] (modes_with l (range_at a 0 20) Unlocked))
+          lists = subst (λ l. HasModes [] (modes_with l (range_at a 0 20) Unlocked))
               (sym (of-there empty 5 (lock a 0 19 true ∷ []))) (none-of a true);
           settles = (held_by_b m, b-granted m, (none-waits (held_by_b m) (none_of 5), refl));
         }),

@@ -1,5 +1,5 @@
 -- Replies are short: handles have 32 bytes, and a READ gives at most 65,536.
-use Rattle.nfs_machine.specs.Permission.{Changing}
+use Rattle.nfs_machine.specs.Permission.{ToChange}
 use Rattle.std.proofs.Common.{ℕ, ◌≤◌, ◌+◌, ◌^◌, nat_lt, List, [], length, drop, min, Option, Some, None, Result, Ok, Err, IfOk, IfSome, sym, subst, arith}
 use Rattle.std.proofs.lemmas.List.{length-take}
 use Rattle.std.specs.FinMap.{get, values}
@@ -31,7 +31,7 @@ use Rattle.nfs_machine.specs.Laws.{IsShort, RefusalsAreShort, RepliesAreShort}
 use Rattle.nfs_machine.specs.LinkSteps.{link_end}
 use Rattle.nfs_machine.specs.MakeSteps.{wanted_special, wanted_of}
 use Rattle.nfs_machine.specs.Making.{Fresh, End, Known, Chosen, EndsAs, Wanted, make_end, make_new, given_attributes, kind_checked}
-use Rattle.nfs_machine.specs.NameSteps.{lookup_result, create_existing, create_over, wanted_file}
+use Rattle.nfs_machine.specs.NameSteps.{lookup_found, create_existing, create_over, wanted_file}
 use Rattle.nfs_machine.specs.NfsSteps.{NfsStep}
 use Rattle.nfs_machine.specs.PageSteps.{entries_left}
 use Rattle.nfs_machine.specs.Resolve.{resolve}
@@ -63,7 +63,7 @@ text-fits (Ok text) short = omega (arith, short)
 text-fits (Err e) short = tt
 
 module _ (m : State) (ctx : Ctx) where
-  lookup-short : (place : Place) (parent : ℕ) → IfOk (lookup_result m ctx place parent) (λ found. length found.object ≤ 64)
+  lookup-short : (place : Place) (parent : ℕ) → IfOk (lookup_found m ctx place parent) (λ found. length found.object ≤ 64)
   lookup-short place parent = search (chained, arith) depth 12
 
   abbrev read_result : ReadArguments → Result ReadData NfsStatus
@@ -109,7 +109,7 @@ module _ (m : State) (ctx : Ctx) where
         chained EndShort (plain_name_checked status.Exists status.Exists place.name) _ (λ x1.
         chained EndShort wanted _ (λ what.
         chained EndShort (changeable m.exports directory.1) _ (λ x2.
-        chained EndShort (permitted ctx directory.1 Changing) _ (λ x3.
+        chained EndShort (permitted ctx directory.1 ToChange) _ (λ x3.
         by-name what directory.0 directory.1 entries.0 entries.1 (entry_of entries.0 place.name)))))))
 
   ends-short : (r : Result (End m) NfsStatus) (end : Result (Made × State) NfsStatus) → EndsAs m r end → IfOk r EndShort → IfOk (answer_of end) (λ made. IfSome made.object IsHandle)
@@ -125,7 +125,7 @@ replies_short old ctx (calls.Getattr object) reply messages new w step =
     subst IsShort (sym step.reply_is) (record { form = tt; short = omega (arith, getattr-size (object_of (resolve old ctx object) >>= λ o. Ok (attributes_of old o.0 o.1))) })
 replies_short old ctx (calls.Lookup place) reply messages new w step =
     let form = lookup-short old ctx place step.0 in
-    subst IsShort (sym step.2.reply_is) (record { form = form; short = omega (arith, lookup-size (shown old (resolve old ctx place.directory)) (lookup_result old ctx place step.0) form) })
+    subst IsShort (sym step.2.reply_is) (record { form = form; short = omega (arith, lookup-size (shown old (resolve old ctx place.directory)) (lookup_found old ctx place step.0) form) })
 replies_short old ctx (calls.Read a) reply messages new w step = subst IsShort (sym step.reply_is) (record {
   form = weaker (read_result old ctx a) (read-short old ctx a);
   short = omega (arith, read-size (shown old (resolve old ctx a.file)) (read_result old ctx a) 65536 (read-short old ctx a));

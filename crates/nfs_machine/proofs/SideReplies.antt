@@ -38,7 +38,7 @@ use Rattle.nfs_machine.specs.SideLaws.{NlmRefusalsChangeNothing, NlmRepliesHaveF
 use Rattle.nfs_machine.specs.SideLaws.{is_mount_refusal, is_nlm_refusal, refuses}
 use Rattle.nfs_machine.specs.State.{Lock, Request, Share, State, Range}
 use Rattle.nfs_machine.specs.declared.context.Ctx.{Ctx}
-use Rattle.nfs_machine.proofs.Checked.{CancelOf, Cancels, LockOf, ShareOf, Shares, TestOf, UnlockOf, UnshareOf}
+use Rattle.nfs_machine.proofs.Checked.{CancelOf, Cancels, LockOf, ShareOf, ShareAnswers, TestOf, UnlockOf, UnshareOf}
 use Rattle.nfs_machine.proofs.Modes.{all-joined, all-left}
 use Rattle.side_wire.specs.declared.mount.lists.MountBody.{MountBody}
 
@@ -249,7 +249,7 @@ unlock-unchanged old a (Ok file) s messages new step e = not-granted s step.0 e
 
 shares-unchanged : (old : State) (file : ℕ) (share : Share) (conflicts : Bool) (s : NlmStatus)
     (messages : List Message)
-    (new : State) → Shares old file share conflicts s messages new → refuses s ≡ true → Nothing old messages new
+    (new : State) → ShareAnswers old file share conflicts s messages new → refuses s ≡ true → Nothing old messages new
 shares-unchanged old file share true s messages new step e = (step.state_is, step.no_message)
 shares-unchanged old file share false s messages new step e = not-granted s step.reply_is e
 

@@ -48,11 +48,11 @@ use Rattle.nfs_machine.specs.MakeSteps.{wanted_of, wanted_special}
 use Rattle.nfs_machine.specs.Making.{End, Known, Chosen, EndsAs, Wanted, make_end, make_new, given_attributes}
 use Rattle.nfs_machine.specs.Making.{kind_checked}
 use Rattle.nfs_machine.specs.MountSteps.{MntAnswers, MountStep, entries_at, path_fault, walk}
-use Rattle.nfs_machine.specs.NameSteps.{lookup_result, create_existing, create_over, wanted_file}
+use Rattle.nfs_machine.specs.NameSteps.{lookup_found, create_existing, create_over, wanted_file}
 use Rattle.nfs_machine.specs.NfsSteps.{NfsStep}
 use Rattle.nfs_machine.specs.Pages.{Pages, fits, fits_full}
 use Rattle.nfs_machine.specs.PageSteps.{entries_left}
-use Rattle.nfs_machine.specs.Permission.{Changing, Writing}
+use Rattle.nfs_machine.specs.Permission.{ToChange, ToWrite}
 use Rattle.nfs_machine.specs.RenameSteps.{RenameEnds, move_plan, rename_plan}
 use Rattle.nfs_machine.specs.Resolve.{Resolved, BadHandle, Stale, Names, resolve}
 use Rattle.nfs_machine.specs.State.{Content, Regular, Directory, Link, BlockDevice, CharacterDevice, Socket, Fifo}
@@ -62,30 +62,30 @@ use Rattle.nfs_machine.specs.StatusLaws.{mount_failure_in, mount_never_answers}
 use Rattle.nfs_machine.specs.declared.context.Ctx.{Ctx}
 
 -- a result that is refused with none of these statuses
-record Tells {A : Type 0} (r : Result A NfsStatus) : Type 0 where
+record TellsStatus {A : Type 0} (r : Result A NfsStatus) : Type 0 where
   tells : IfSome (failure_of r) (λ s. is_never_answered s ≡ false)
 
-tells-value : {A : Type 0} (x : A) → Tells (Ok x)
+tells-value : {A : Type 0} (x : A) → TellsStatus (Ok x)
 tells-value x = record { tells = tt }
 
-tells-status : {A : Type 0} (e : NfsStatus) → is_never_answered e ≡ false → Tells {A = A} (Err e)
+tells-status : {A : Type 0} (e : NfsStatus) → is_never_answered e ≡ false → TellsStatus {A = A} (Err e)
 tells-status e answered = record { tells = answered }
 
-tells-chain : {A B : Type 0} (r : Result A NfsStatus) (f : A → Result B NfsStatus) → Tells r →
-    ((x : A) → Tells (f x)) → Tells (r >>= f)
+tells-chain : {A B : Type 0} (r : Result A NfsStatus) (f : A → Result B NfsStatus) → TellsStatus r →
+    ((x : A) → TellsStatus (f x)) → TellsStatus (r >>= f)
 tells-chain (Ok x) f first rest = rest x
 tells-chain (Err e) f first rest = record { tells = first.tells }
 
-tells-held : (b : Bool) (e : NfsStatus) → is_never_answered e ≡ false → Tells (holding b e)
+tells-held : (b : Bool) (e : NfsStatus) → is_never_answered e ≡ false → TellsStatus (holding b e)
 tells-held true e answered = record { tells = tt }
 tells-held false e answered = record { tells = answered }
 
-tells-object : (r : Resolved) → Tells (object_of r)
+tells-object : (r : Resolved) → TellsStatus (object_of r)
 tells-object BadHandle = record { tells = refl }
 tells-object Stale = record { tells = refl }
 tells-object (Names number object) = record { tells = tt }
 
-tells-entries : (c : Content) → Tells (entries_in c)
+tells-entries : (c : Content) → TellsStatus (entries_in c)
 tells-entries (Directory entries last) = record { tells = tt }
 tells-entries (Regular bytes) = record { tells = refl }
 tells-entries (Link text) = record { tells = refl }
@@ -94,7 +94,7 @@ tells-entries (CharacterDevice device) = record { tells = refl }
 tells-entries Socket = record { tells = refl }
 tells-entries Fifo = record { tells = refl }
 
-tells-bytes : (c : Content) → Tells (bytes_in c)
+tells-bytes : (c : Content) → TellsStatus (bytes_in c)
 tells-bytes (Directory entries last) = record { tells = refl }
 tells-bytes (Regular bytes) = record { tells = tt }
 tells-bytes (Link text) = record { tells = refl }
@@ -103,7 +103,7 @@ tells-bytes (CharacterDevice device) = record { tells = refl }
 tells-bytes Socket = record { tells = refl }
 tells-bytes Fifo = record { tells = refl }
 
-tells-text : (c : Content) → Tells (text_in c)
+tells-text : (c : Content) → TellsStatus (text_in c)
 tells-text (Directory entries last) = record { tells = refl }
 tells-text (Regular bytes) = record { tells = refl }
 tells-text (Link text) = record { tells = tt }
@@ -112,32 +112,32 @@ tells-text (CharacterDevice device) = record { tells = refl }
 tells-text Socket = record { tells = refl }
 tells-text Fifo = record { tells = refl }
 
-tells-ok_or : {A : Type 0} (x : Option A) (e : NfsStatus) → is_never_answered e ≡ false → Tells (ok_or x e)
+tells-ok_or : {A : Type 0} (x : Option A) (e : NfsStatus) → is_never_answered e ≡ false → TellsStatus (ok_or x e)
 tells-ok_or (Some x) e answered = record { tells = tt }
 tells-ok_or None e answered = record { tells = answered }
 
-tells-if : {A : Type 0} (b : Bool) (x y : Result A NfsStatus) → Tells x → Tells y → Tells (cond b x y)
+tells-if : {A : Type 0} (b : Bool) (x y : Result A NfsStatus) → TellsStatus x → TellsStatus y → TellsStatus (cond b x y)
 tells-if true x y first second = first
 tells-if false x y first second = second
 
-tells-name : (name : List ℕ) → Tells (name_checked name)
+tells-name : (name : List ℕ) → TellsStatus (name_checked name)
 tells-name name = search (tells-chain, tells-held) depth 8
 
 tells-plain : (self above : NfsStatus) (name : List ℕ) → is_never_answered self ≡ false →
-    is_never_answered above ≡ false → Tells (plain_name_checked self above name)
+    is_never_answered above ≡ false → TellsStatus (plain_name_checked self above name)
 tells-plain self above name first second = search
     (tells-chain, tells-name, tells-if, tells-status, tells-value) depth 10
 
-tells-answer : {A : Type 0} (r : Result (A × State) NfsStatus) → Tells r → Tells (answer_of r)
+tells-answer : {A : Type 0} (r : Result (A × State) NfsStatus) → TellsStatus r → TellsStatus (answer_of r)
 tells-answer (Ok x) tells = record { tells = tt }
 tells-answer (Err e) tells = record { tells = tells.tells }
 
 module _ (m : State) (ctx : Ctx) where
-  tells-lookup : (place : Place) (parent : ℕ) → Tells (lookup_result m ctx place parent)
+  tells-lookup : (place : Place) (parent : ℕ) → TellsStatus (lookup_found m ctx place parent)
   tells-lookup place parent =
       search (tells-chain, tells-object, tells-entries, tells-name, tells-held, tells-ok_or, tells-value) depth 14
 
-  tells-link : (a : LinkArguments) → Tells (link_end m ctx a)
+  tells-link : (a : LinkArguments) → TellsStatus (link_end m ctx a)
   tells-link a =
       search (tells-chain, tells-object, tells-entries, tells-plain, tells-held, tells-value) depth 24
 
@@ -148,11 +148,11 @@ module _ (m : State) (ctx : Ctx) where
     | Some size ↦ bytes_in c >>= λ bytes. Ok (Regular (resized bytes size))
   ]
 
-  tells-content : (c : Content) (size : Option ℕ) → Tells (content_set c size)
+  tells-content : (c : Content) (size : Option ℕ) → TellsStatus (content_set c size)
   tells-content c None = record { tells = tt }
   tells-content c (Some size) = tells-chain (bytes_in c) _ (tells-bytes c) (λ bytes. tells-value _)
 
-  tells-set : (o : Living) (a : SetattrArguments) → Tells (set_object m.exports ctx o a)
+  tells-set : (o : Living) (a : SetattrArguments) → TellsStatus (set_object m.exports ctx o a)
   tells-set o a =
       let set = a.attributes in let guard = unwrap_or a.guard o.changed in
       tells-chain (changeable m.exports o) _ (tells-held _ _ refl) (λ x1.
@@ -164,30 +164,30 @@ module _ (m : State) (ctx : Ctx) where
       tells-chain (content_set o.content set.size) _ (tells-content o.content set.size) (λ content.
       search (tells-chain, tells-held, tells-value) depth 12))))
 
-  tells-setattr : (a : SetattrArguments) → Tells (setattr_end m ctx a)
+  tells-setattr : (a : SetattrArguments) → TellsStatus (setattr_end m ctx a)
   tells-setattr a = search (tells-chain, tells-object, tells-set, tells-value) depth 8
 
-  tells-read : (a : ReadArguments) → Tells (object_of (resolve m ctx a.file) >>= λ o. read_object ctx o.1 a)
+  tells-read : (a : ReadArguments) → TellsStatus (object_of (resolve m ctx a.file) >>= λ o. read_object ctx o.1 a)
   tells-read a = search (tells-chain, tells-object, tells-bytes, tells-held, tells-value) depth 14
 
-  tells-write : (a : WriteArguments) → Tells (write_end m ctx a)
+  tells-write : (a : WriteArguments) → TellsStatus (write_end m ctx a)
   tells-write a = search (tells-chain, tells-object, tells-bytes, tells-held, tells-value) depth 20
 
   -- ---- a name is taken away
-  tells-remove : (place : Place) → Tells (remove_end m ctx place)
+  tells-remove : (place : Place) → TellsStatus (remove_end m ctx place)
   tells-remove place =
       search (tells-chain, tells-object, tells-entries, tells-plain, tells-held, tells-ok_or, tells-value) depth 24
 
-  tells-empty : (c : Content) → Tells (empty_directory c)
+  tells-empty : (c : Content) → TellsStatus (empty_directory c)
   tells-empty c = search (tells-chain, tells-entries, tells-held) depth 8
 
-  tells-rmdir : (place : Place) → Tells (rmdir_end m ctx place)
+  tells-rmdir : (place : Place) → TellsStatus (rmdir_end m ctx place)
   tells-rmdir place = search
       (tells-chain, tells-object, tells-entries, tells-plain, tells-held, tells-ok_or, tells-empty, tells-value)
       depth 24
 
   -- ---- an object is made
-  tells-kind : (links : ℕ) (c : Content) → Tells (kind_checked ctx links c)
+  tells-kind : (links : ℕ) (c : Content) → TellsStatus (kind_checked ctx links c)
   tells-kind links (Directory entries last) = tells-held _ _ refl
   tells-kind links (Link text) = search (tells-chain, tells-held) depth 8
   tells-kind links (BlockDevice device) = tells-held _ _ refl
@@ -196,37 +196,37 @@ module _ (m : State) (ctx : Ctx) where
   tells-kind links Socket = tells-value _
   tells-kind links Fifo = tells-value _
 
-  tells-given : (a : SetAttributes) → Tells (given_attributes ctx a)
+  tells-given : (a : SetAttributes) → TellsStatus (given_attributes ctx a)
   tells-given a = search (tells-chain, tells-held) depth 8
 
   tells-new : (name : List ℕ) (wanted : Wanted) (number : ℕ) (directory : Living) (entries : List Entry)
       (last : ℕ)
-      → Tells (make_new m ctx name wanted number directory entries last)
+      → TellsStatus (make_new m ctx name wanted number directory entries last)
   tells-new name wanted number directory entries last =
       search (tells-chain, tells-kind, tells-given, tells-held, tells-value) depth 12
 
   tells-over : (how : CreateHow) (file : Living) (r : Result (List ℕ) NfsStatus) →
-      Tells (create_over ctx how file r)
+      TellsStatus (create_over ctx how file r)
   tells-over how file (Err e) = record { tells = refl }
   tells-over (Guarded a) file (Ok bytes) = record { tells = refl }
   tells-over (Exclusive verifier) file (Ok bytes) = tells-if _ _ _ (tells-value _) (tells-status _ refl)
   tells-over (Unchecked a) file (Ok bytes) = sized a.size
     where
-      sized : (size : Option ℕ) → Tells (elim size as (λ (_ : Option ℕ). Result (Option Living) NfsStatus) [
+      sized : (size : Option ℕ) → TellsStatus (elim size as (λ (_ : Option ℕ). Result (Option Living) NfsStatus) [
         | None ↦ Ok None
-        | Some size ↦ permitted ctx file Writing >>= λ _. holding (nat_le size size_limit) status.FileTooBig >>=
+        | Some size ↦ permitted ctx file ToWrite >>= λ _. holding (nat_le size size_limit) status.FileTooBig >>=
             λ _. Ok (Some (with_content file (time_of ctx.moment) (Regular (resized bytes size))))
       ])
       sized None = record { tells = tt }
       sized (Some size) = search (tells-chain, tells-held, tells-value) depth 8
 
-  tells-existing : (how : CreateHow) (number : ℕ) (o : Option Living) → Tells (create_existing m ctx how number o)
+  tells-existing : (how : CreateHow) (number : ℕ) (o : Option Living) → TellsStatus (create_existing m ctx how number o)
   tells-existing how number None = record { tells = refl }
   tells-existing how number (Some o) =
       tells-chain (create_over ctx how o (bytes_in o.content)) _ (tells-over how o (bytes_in o.content))
       (λ after. tells-value _)
 
-  tells-special : (what : Special) → Tells (wanted_special what)
+  tells-special : (what : Special) → TellsStatus (wanted_special what)
   tells-special (special.BlockDevice given device) = record { tells = tt }
   tells-special (special.CharacterDevice given device) = record { tells = tt }
   tells-special (special.Socket given) = record { tells = tt }
@@ -234,16 +234,16 @@ module _ (m : State) (ctx : Ctx) where
   tells-special (special.Other kind) = record { tells = refl }
 
   module _ (place : Place) (there : ℕ → Option Living → Result (End m) NfsStatus)
-      (found : (number : ℕ) (o : Option Living) → Tells (there number o)) where
+      (found : (number : ℕ) (o : Option Living) → TellsStatus (there number o)) where
     by-name : (what : Wanted) (number : ℕ) (directory : Living) (entries : List Entry) (last : ℕ) (e : Option Entry)
-        → Tells (elim e as (λ (_ : Option Entry). Result (End m) NfsStatus) [
+        → TellsStatus (elim e as (λ (_ : Option Entry). Result (End m) NfsStatus) [
           | Some e ↦ there e.number (get m.objects e.number)
           | None ↦ make_new m ctx place.name what number directory entries last
         ])
     by-name what number directory entries last None = tells-new place.name what number directory entries last
     by-name what number directory entries last (Some e) = found e.number (get m.objects e.number)
 
-    tells-make : (wanted : Result Wanted NfsStatus) → Tells wanted → Tells (make_end m ctx place wanted there)
+    tells-make : (wanted : Result Wanted NfsStatus) → TellsStatus wanted → TellsStatus (make_end m ctx place wanted there)
     tells-make wanted known =
         tells-chain (object_of (resolve m ctx place.directory)) _ (tells-object _) (λ directory.
         tells-chain (entries_in directory.1.content) _ (tells-entries _) (λ entries.
@@ -252,31 +252,31 @@ module _ (m : State) (ctx : Ctx) where
         (λ x1.
         tells-chain wanted _ known (λ what.
         tells-chain (changeable m.exports directory.1) _ (tells-held _ _ refl) (λ x2.
-        tells-chain (permitted ctx directory.1 Changing) _ (tells-held _ _ refl) (λ x3.
+        tells-chain (permitted ctx directory.1 ToChange) _ (tells-held _ _ refl) (λ x3.
         by-name what directory.0 directory.1 entries.0 entries.1 (entry_of entries.0 place.name)))))))
 
   tells-ends : (r : Result (End m) NfsStatus) (end : Result (Made × State) NfsStatus) → EndsAs m r end →
-      Tells r →
-      Tells (answer_of end)
+      TellsStatus r →
+      TellsStatus (answer_of end)
   tells-ends (Ok (Known answer new)) end is known = subst
-      (λ (r : Result (Made × State) NfsStatus). Tells (answer_of r)) (sym is) (tells-value _)
+      (λ (r : Result (Made × State) NfsStatus). TellsStatus (answer_of r)) (sym is) (tells-value _)
   tells-ends (Ok (Chosen makes)) end (fresh, is) known = subst
-      (λ (r : Result (Made × State) NfsStatus). Tells (answer_of r)) (sym is) (tells-value _)
+      (λ (r : Result (Made × State) NfsStatus). TellsStatus (answer_of r)) (sym is) (tells-value _)
   tells-ends (Err e) end is known = subst
-      (λ (r : Result (Made × State) NfsStatus). Tells (answer_of r)) (sym is) (record { tells = known.tells })
+      (λ (r : Result (Made × State) NfsStatus). TellsStatus (answer_of r)) (sym is) (record { tells = known.tells })
 
   -- ---- a name moves
   abbrev Plan : Type 0
   Plan = Option (ℕ × ℕ) × Result (Unit {0} × State) NfsStatus
 
   record PlanTells (plan : Result Plan NfsStatus) : Type 0 where
-    refused : Tells plan
-    planned : IfOk plan (λ p. Tells p.1)
+    refused : TellsStatus plan
+    planned : IfOk plan (λ p. TellsStatus p.1)
 
-  plan-value : (p : Plan) → Tells p.1 → PlanTells (Ok p)
+  plan-value : (p : Plan) → TellsStatus p.1 → PlanTells (Ok p)
   plan-value p known = record { refused = tells-value p; planned = known }
 
-  plan-chain : {A : Type 0} (r : Result A NfsStatus) (f : A → Result Plan NfsStatus) → Tells r →
+  plan-chain : {A : Type 0} (r : Result A NfsStatus) (f : A → Result Plan NfsStatus) → TellsStatus r →
       ((x : A) → PlanTells (f x)) → PlanTells (r >>= f)
   plan-chain (Ok x) f first rest = rest x
   plan-chain (Err e) f first rest = record { refused = record { tells = first.tells }; planned = tt }
@@ -297,29 +297,29 @@ module _ (m : State) (ctx : Ctx) where
       (plan-chain, tells-object, tells-entries, tells-plain, tells-held, tells-ok_or, tells-move) depth 30
 
   tells-renamed : (plan : Result Plan NfsStatus) (end : Result (Unit {0} × State) NfsStatus) → PlanTells plan →
-      RenameEnds m plan end → Tells (answer_of end)
-  tells-renamed (Err e) end is ends = subst (λ (r : Result (Unit {0} × State) NfsStatus). Tells (answer_of r))
+      RenameEnds m plan end → TellsStatus (answer_of end)
+  tells-renamed (Err e) end is ends = subst (λ (r : Result (Unit {0} × State) NfsStatus). TellsStatus (answer_of r))
       (sym ends)
       (record { tells = is.refused.tells })
   tells-renamed (Ok (None, known)) end is ends = subst
-      (λ (r : Result (Unit {0} × State) NfsStatus). Tells (answer_of r)) (sym ends) (tells-answer known is.planned)
+      (λ (r : Result (Unit {0} × State) NfsStatus). TellsStatus (answer_of r)) (sym ends) (tells-answer known is.planned)
   tells-renamed (Ok (Some (moved, target), known)) end is (inl into) = subst
-      (λ (r : Result (Unit {0} × State) NfsStatus). Tells (answer_of r)) (sym into.1) (tells-status _ refl)
+      (λ (r : Result (Unit {0} × State) NfsStatus). TellsStatus (answer_of r)) (sym into.1) (tells-status _ refl)
   tells-renamed (Ok (Some (moved, target), known)) end is (inr out) = subst
-      (λ (r : Result (Unit {0} × State) NfsStatus). Tells (answer_of r)) (sym out.1) (tells-answer known is.planned)
+      (λ (r : Result (Unit {0} × State) NfsStatus). TellsStatus (answer_of r)) (sym out.1) (tells-answer known is.planned)
 
   -- ---- a directory is listed
   tells-page : (fit : List Entry → Bool) (left : Result (List Entry) NfsStatus)
       (page : Result (List Entry × Bool) NfsStatus)
-      → Tells left → (elim left as (λ (_ : Result (List Entry) NfsStatus). Type 0)
-      [ Ok entries ↦ Pages fit entries page | Err e ↦ page ≡ Err e ]) → Tells page
+      → TellsStatus left → (elim left as (λ (_ : Result (List Entry) NfsStatus). Type 0)
+      [ Ok entries ↦ Pages fit entries page | Err e ↦ page ≡ Err e ]) → TellsStatus page
   tells-page fit (Ok entries) (Ok page) known is = record { tells = tt }
-  tells-page fit (Ok entries) (Err e) known is = subst (λ (e : NfsStatus). Tells {A = List Entry × Bool} (Err e))
+  tells-page fit (Ok entries) (Err e) known is = subst (λ (e : NfsStatus). TellsStatus {A = List Entry × Bool} (Err e))
       (sym is.1) (record { tells = refl })
-  tells-page fit (Err e) page known is = subst Tells (sym is) (record { tells = known.tells })
+  tells-page fit (Err e) page known is = subst TellsStatus (sym is) (record { tells = known.tells })
 
   tells-left : (directory : List ℕ) (cookie : ℕ) (verifier : Verifier) (parent : ℕ) →
-      Tells (entries_left m ctx directory cookie verifier parent)
+      TellsStatus (entries_left m ctx directory cookie verifier parent)
   tells-left directory cookie verifier parent =
       search (tells-chain, tells-object, tells-entries, tells-held, tells-value) depth 12
 
@@ -327,7 +327,7 @@ module _ (m : State) (ctx : Ctx) where
       (page : Result (List Entry × Bool) NfsStatus)
       → (elim (entries_left m ctx directory cookie verifier parent) as
       (λ (_ : Result (List Entry) NfsStatus). Type 0)
-      [ Ok entries ↦ Pages fit entries page | Err e ↦ page ≡ Err e ]) → Tells page
+      [ Ok entries ↦ Pages fit entries page | Err e ↦ page ≡ Err e ]) → TellsStatus page
   tells-pages fit directory cookie verifier parent page is =
       tells-page fit (entries_left m ctx directory cookie verifier parent) page
       (tells-left directory cookie verifier parent) is
@@ -456,7 +456,7 @@ mnt-tells old ctx path (Ok handle) new answers = tt
 mnt-tells old ctx path (Err e) new (inl fault, same) = path-tells path e fault
 mnt-tells old ctx path (Err e) new (inr (inl none), same) = ap mount_never_answers none.2
 mnt-tells old ctx path (Err e) new (inr (inr target), same) = subst MountTells (sym target.4)
-    (walk-tells (get old.objects) target.3.leads.export.root target.2)
+    (walk-tells (get old.objects) target.3.matches.export.root target.2)
 
 pub mount_never_answered : MountNeverAnswers
 unfolding MountStep

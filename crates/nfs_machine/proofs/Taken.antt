@@ -18,7 +18,7 @@ use Rattle.nfs_machine.specs.Checks.{holding, object_of, entries_in, plain_name_
 use Rattle.nfs_machine.specs.Laws.{KeepsEntries}
 use Rattle.nfs_machine.specs.LinkSteps.{link_end}
 use Rattle.nfs_machine.specs.Making.{with_entry}
-use Rattle.nfs_machine.specs.Permission.{Changing}
+use Rattle.nfs_machine.specs.Permission.{ToChange}
 use Rattle.nfs_machine.specs.RemoveSteps.{empty_directory, not_directory, without, object_under}
 use Rattle.nfs_machine.specs.Resolve.{resolve}
 use Rattle.nfs_machine.specs.Shown.{touched, with_content, with_object}
@@ -40,11 +40,11 @@ use Rattle.nfs_machine.proofs.Follows.{Follows, LocksFollow, beside-follows, bou
 use Rattle.nfs_machine.proofs.Follows.{locks-on, mounts-losing}
 use Rattle.nfs_machine.proofs.Loose.{AddsName, Loose, Swaps, TakesName, also, loose-added, loose-taken}
 use Rattle.nfs_machine.proofs.Loose.{loose-touched, loosened, names_of-added, names_of-taken, none_loose, tightened}
-use Rattle.nfs_machine.proofs.Moves.{Named, named_as, remove_end, rmdir_end, take_end, with_name_taken}
+use Rattle.nfs_machine.proofs.Moves.{NamedEntry, named_as, remove_end, rmdir_end, take_end, with_name_taken}
 use Rattle.nfs_machine.proofs.Exported.{plain-no_root}
 
 -- a name that is in its directory, and leads to what lives there
-pub record IsNamed (m : State) (n : Named) : Type 0 where
+pub record IsNamedEntry (m : State) (n : NamedEntry) : Type 0 where
   pub lives : get m.objects n.place ≡ Some n.directory
   pub content : n.directory.content ≡ Directory n.entries n.last_cookie
   pub entry : Entry
@@ -62,17 +62,17 @@ under-entry m (Some e) o is = found (get m.objects e.number) refl is
     found (Some x) at some = (let same : (e.number, x) ≡ o = cc in (e, refl, ap (λ (y : ℕ × Living). y.0) same, subst (λ (y : ℕ × Living). get m.objects y.0 ≡ Some y.1) same at))
 
 pub is-under : (m : State) (directory : ℕ × Living) (entries : List Entry × ℕ) (name : List ℕ) (o : ℕ × Living) → get m.objects directory.0 ≡ Some directory.1 → directory.1.content ≡ Directory entries.0 entries.1
-    → object_under m (entry_of entries.0 name) ≡ Some o → IsNamed m (named_as directory entries name o)
+    → object_under m (entry_of entries.0 name) ≡ Some o → IsNamedEntry m (named_as directory entries name o)
 is-under m directory entries name o lives content is =
     let e = under-entry m (entry_of entries.0 name) o is in
     record { lives = lives; content = content; entry = e.0; found = e.1; number = e.2; object = e.3 }
 
 -- the names beside it keep their cookies
-pub kept-taken : (m : State) (n : Named) → IsNamed m n → KeepsEntries (entries_of n.directory.content) (without n.entries n.name)
+pub kept-taken : (m : State) (n : NamedEntry) → IsNamedEntry m n → KeepsEntries (entries_of n.directory.content) (without n.entries n.name)
 kept-taken m n named = kept-of n.directory.content n.entries (without n.entries n.name) n.last_cookie named.content (kept-without n.entries n.entries n.name (kept-same n.entries))
 
 -- a directory in the place of another: its entries alone differ
-pub narrower-swaps : (m : State) (n : Named) (now : Time) (entries : List Entry) (last : ℕ) → IsNamed m n
+pub narrower-swaps : (m : State) (n : NamedEntry) (now : Time) (entries : List Entry) (last : ℕ) → IsNamedEntry m n
     → Swaps m (with_object m n.place (with_content n.directory now (Directory entries last))) n.place n.directory (with_content n.directory now (Directory entries last))
 narrower-swaps m n now entries last named = record {
   lives = named.lives;
@@ -84,7 +84,7 @@ narrower-swaps m n now entries last named = record {
   keeps = record { exports = refl; last = refl };
 }
 
-module _ (m : State) (now : Time) (n : Named) (named : IsNamed m n) where
+module _ (m : State) (now : Time) (n : NamedEntry) (named : IsNamedEntry m n) where
   abbrev pub narrower : Living
   narrower = with_content n.directory now (Directory (without n.entries n.name) n.last_cookie)
 
@@ -203,7 +203,7 @@ module _ (m : State) (ctx : Ctx) where
       chained-is Leaves (entries_in directory.1.content) _ (λ entries is.
       chained-is Leaves (name place.name) _ (λ x1 e1.
       chained-is Leaves (changeable m.exports directory.1) _ (λ x2 e2.
-      chained-is Leaves (permitted ctx directory.1 Changing) _ (λ x3 e3.
+      chained-is Leaves (permitted ctx directory.1 ToChange) _ (λ x3 e3.
       chained-is Leaves (ok_or (object_under m (entry_of entries.0 place.name)) status.NoEntry) _ (λ o e4.
       chained-is Leaves (content o.1.content) _ (λ x5 e5.
       taken-follows m (time_of ctx.moment) (named_as directory entries place.name o)
@@ -335,7 +335,7 @@ link-follows m ctx a =
     chained-is P (entries_in directory.1.content) _ (λ entries is.
     chained-is P (plain_name_checked status.Invalid status.Invalid a.place.name) _ (λ x3 e3.
     chained-is P (changeable m.exports directory.1) _ (λ x4 e4.
-    chained-is P (permitted ctx directory.1 Changing) _ (λ x5 e5.
+    chained-is P (permitted ctx directory.1 ToChange) _ (λ x5 e5.
     chained-is P (holding (is_none (entry_of entries.0 a.place.name)) status.Exists) _ (λ x6 e6.
     chained-is P (holding (nat_lt (links_of m file.0 file.1.content) link_limit) status.TooManyLinks) _ (λ x7 e7.
     chained-is P (holding (nat_lt (entries.1 + 1) (2 ^ 64)) status.NoSpace) _ (λ x8 e8.

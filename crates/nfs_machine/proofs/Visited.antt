@@ -2,7 +2,7 @@
 use Rattle.std.proofs.Common.{◌≡◌, ◌==◌, ℕ, Bool, true, false, List, [], ◌∷◌, ◌++◌, Ok}
 use Rattle.std.specs.List.{AllByRecursion, Contains, count_by}
 use Rattle.nfs_machine.specs.Pages.{Pages, all_entries, behind}
-use Rattle.nfs_machine.specs.Paging.{Rises, last_cookie}
+use Rattle.nfs_machine.specs.Paging.{Rises, next_cookie}
 use Rattle.nfs_machine.specs.Resolve.{Names, resolve}
 use Rattle.nfs_machine.specs.State.{Directory, Entry, Living, State}
 use Rattle.nfs_machine.specs.WellFormed.{IsParent}
@@ -23,7 +23,7 @@ abbrev pub ReadsOn : ℕ → List Visit → Type 0
 ReadsOn cookie [] = ⊥
 ReadsOn cookie (v ∷ []) = IsVisit cookie v × (v.eof ≡ true)
 ReadsOn cookie (v ∷ w ∷ visits) = IsVisit cookie v × (v.eof ≡ false) ×
-    ReadsOn (last_cookie cookie v.page) (w ∷ visits)
+    ReadsOn (next_cookie cookie v.page) (w ∷ visits)
 
 -- all entries that the pages show
 abbrev pub shown_by : List Visit → List Entry
@@ -35,20 +35,20 @@ abbrev pub InOrder : List Visit → Type 0
 InOrder visits = AllByRecursion (λ (v : Visit). Rises 0 v.entries) visits
 
 -- the entry was there at each visit
-abbrev pub Stays : List Visit → Entry → Type 0
-Stays visits e = AllByRecursion (λ (v : Visit). Contains v.entries e) visits
+abbrev pub IsAtEach : List Visit → Entry → Type 0
+IsAtEach visits e = AllByRecursion (λ (v : Visit). Contains v.entries e) visits
 
 -- A directory that is read from cookie 0 to its end shows no cookie twice, and each entry that stayed once.
 pub record ReadsWhole (visits : List Visit) : Type 0 where
   pub rises : Rises 0 (shown_by visits)
-  pub shows : (e : Entry) → Stays visits e → Contains (shown_by visits) e
-  pub once : (e : Entry) → Stays visits e → count_by (λ (x : Entry). x.cookie == e.cookie) (shown_by visits) ≡ 1
+  pub shows : (e : Entry) → IsAtEach visits e → Contains (shown_by visits) e
+  pub once : (e : Entry) → IsAtEach visits e → count_by (λ (x : Entry). x.cookie == e.cookie) (shown_by visits) ≡ 1
 
 abbrev pub PagesAreWhole : Type 0
 PagesAreWhole = (visits : List Visit) → InOrder visits → ReadsOn 0 visits → ReadsWhole visits
 
 -- the page is one of the directory that a handle names, whose entries stand in order
-pub record Lists (m : State) (ctx : Ctx) (directory : List ℕ) (cookie : ℕ) (fit : List Entry → Bool)
+pub record ListsPage (m : State) (ctx : Ctx) (directory : List ℕ) (cookie : ℕ) (fit : List Entry → Bool)
     (page : List Entry × Bool) : Type 0 where
   pub number : ℕ
   pub object : Living

@@ -12,8 +12,8 @@ use Rattle.nfs_machine.specs.Pages.{Pages, all_entries, behind}
 use Rattle.nfs_machine.proofs.Pages.{PagesOf}
 use Rattle.nfs_machine.specs.PageSteps.{IsParentOf, entries_left}
 use Rattle.nfs_machine.specs.Paging.{Rises}
-use Rattle.nfs_machine.proofs.Visited.{Lists}
-use Rattle.nfs_machine.specs.Permission.{Listing, may}
+use Rattle.nfs_machine.proofs.Visited.{ListsPage}
+use Rattle.nfs_machine.specs.Permission.{ToList, may}
 use Rattle.nfs_machine.specs.Resolve.{Resolved, BadHandle, Stale, Names, resolve}
 use Rattle.nfs_machine.specs.State.{Content, Regular, Directory, Link, BlockDevice, CharacterDevice, Socket, Fifo, Entry, Living, State}
 use Rattle.nfs_machine.specs.WellFormed.{CookiesRise, WellFormed}
@@ -33,11 +33,11 @@ module _ (fit : List Entry → Bool) (p : List Entry × Bool) where
 module _ (m : State) (ctx : Ctx) (w : WellFormed m) (directory : List ℕ) (cookie : ℕ) (verifier : Verifier) (parent : ℕ) (is_parent : IsParentOf m ctx directory parent) (fit : List Entry → Bool) (p : List Entry × Bool) where
   abbrev Rest : ℕ → Living → List Entry × ℕ → Result (List Entry) NfsStatus
   Rest number o entries = do
-    _ ← permitted ctx o Listing
+    _ ← permitted ctx o ToList
     _ ← holding ((cookie == 0) || same_bytes verifier.bytes (verifier_of ctx).bytes) status.BadCookie
     Ok (behind cookie (all_entries number parent entries.0))
 
-  at-directory : (number : ℕ) (o : Living) (c : Content) → resolve m ctx directory ≡ Names number o → o.content ≡ c → PagesOf fit (entries_in c >>= Rest number o) (Ok p) → Lists m ctx directory cookie fit p
+  at-directory : (number : ℕ) (o : Living) (c : Content) → resolve m ctx directory ≡ Names number o → o.content ≡ c → PagesOf fit (entries_in c >>= Rest number o) (Ok p) → ListsPage m ctx directory cookie fit p
   at-directory number o (Directory entries last) named content is = record {
     number = number;
     object = o;
@@ -47,7 +47,7 @@ module _ (m : State) (ctx : Ctx) (w : WellFormed m) (directory : List ℕ) (cook
     is_directory = content;
     parent = parent;
     is_parent = is_parent number o named (ap is_directory content);
-    visit = passed fit p (may ctx.ids o Listing) ((cookie == 0) || same_bytes verifier.bytes (verifier_of ctx).bytes) status.Access status.BadCookie (behind cookie (all_entries number parent entries)) is;
+    visit = passed fit p (may ctx.ids o ToList) ((cookie == 0) || same_bytes verifier.bytes (verifier_of ctx).bytes) status.Access status.BadCookie (behind cookie (all_entries number parent entries)) is;
     in_order = (omega arith, (omega arith, rising 2 last entries (w.cookies number o entries last (resolved-lives m ctx directory number o named) content)));
   }
   at-directory number o (Regular bytes) named content is = cc
@@ -57,10 +57,10 @@ module _ (m : State) (ctx : Ctx) (w : WellFormed m) (directory : List ℕ) (cook
   at-directory number o Socket named content is = cc
   at-directory number o Fifo named content is = cc
 
-  at-handle : (r : Resolved) → resolve m ctx directory ≡ r → PagesOf fit (object_of r >>= λ d. entries_in d.1.content >>= Rest d.0 d.1) (Ok p) → Lists m ctx directory cookie fit p
+  at-handle : (r : Resolved) → resolve m ctx directory ≡ r → PagesOf fit (object_of r >>= λ d. entries_in d.1.content >>= Rest d.0 d.1) (Ok p) → ListsPage m ctx directory cookie fit p
   at-handle BadHandle named is = cc
   at-handle Stale named is = cc
   at-handle (Names number o) named is = at-directory number o o.content named refl is
 
-  pub lists : PagesOf fit (entries_left m ctx directory cookie verifier parent) (Ok p) → Lists m ctx directory cookie fit p
+  pub lists : PagesOf fit (entries_left m ctx directory cookie verifier parent) (Ok p) → ListsPage m ctx directory cookie fit p
   lists is = at-handle (resolve m ctx directory) refl is

@@ -30,7 +30,7 @@ use Rattle.nfs_machine.specs.LockSteps.{share_of}
 use Rattle.nfs_machine.specs.NlmSteps.{NlmStep}
 use Rattle.nfs_machine.specs.State.{Lock, PendingGrant, Range, Request, Share, State}
 use Rattle.nfs_machine.specs.declared.context.Ctx.{Ctx}
-use Rattle.nfs_machine.proofs.Checked.{CancelOf, Cancels, LockOf, ShareOf, Shares, TestOf, UnlockOf, UnshareOf}
+use Rattle.nfs_machine.proofs.Checked.{CancelOf, Cancels, LockOf, ShareOf, ShareAnswers, TestOf, UnlockOf, UnshareOf}
 use Rattle.nfs_machine.proofs.FileMaps.{each-with, of-other}
 use Rattle.nfs_machine.proofs.Modes.{all-joined, all-left}
 
@@ -148,7 +148,7 @@ answered old number (Some grant) s messages new step held =
     step held
 
 shared : (old : State) (file : ℕ) (share : Share) (conflicts : Bool) (s : NlmStatus) (messages : List Message)
-    (new : State) → Shares old file share conflicts s messages new → AllHeldUp old → AllHeldUp new
+    (new : State) → ShareAnswers old file share conflicts s messages new → AllHeldUp old → AllHeldUp new
 shared old file share true s messages new step held = stays old new step.state_is held
 shared old file share false s messages new step held = subst AllHeldUp (sym step.state_is) held
 

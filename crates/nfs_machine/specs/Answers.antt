@@ -31,8 +31,8 @@ abbrev pub Ends : {A : Type 0} → State → (State → Result A NfsStatus → N
 Ends old reply_of end = Answers (reply_of (state_after old end) (answer_of end)) (state_after old end)
 
 -- a call that changes nothing and tells something of the object that a handle names, beside its attributes
-abbrev pub Tells : {A : Type 0} → State → Ctx → (handle : List ℕ) →
+abbrev pub TellsOfObject : {A : Type 0} → State → Ctx → (handle : List ℕ) →
     (Option Attributes → Result A NfsStatus → NfsReply) → (ℕ × Living → Result A NfsStatus) → NfsReply →
     List Message → State → Type 0
-Tells old ctx handle reply_of told = Answers
+TellsOfObject old ctx handle reply_of told = Answers
     (reply_of (shown old (resolve old ctx handle)) (object_of (resolve old ctx handle) >>= told)) old

@@ -8,9 +8,9 @@ use Rattle.nfs_machine.specs.Attributes.{is_directory}
 use Rattle.nfs_machine.specs.Checks.{◌>>=◌, holding, bytes_in, changeable, is_writable}
 use Rattle.nfs_machine.specs.Data.{size_limit, resized}
 use Rattle.nfs_machine.specs.Exports.{LivingExport}
-use Rattle.nfs_machine.specs.Permission.{Writing, Searching, Listing, Changing, class_bits, is_member, may, reads, runs}
+use Rattle.nfs_machine.specs.Permission.{ToWrite, ToSearch, ToList, ToChange, class_bits, is_member, may, reads, runs}
 use Rattle.nfs_machine.specs.State.{Regular, Living}
-use Rattle.nfs_machine.specs.Times.{is_client_time, is_server_time, is_time, set_time, time_of, touch}
+use Rattle.nfs_machine.specs.Times.{is_client_time, is_server_time, is_time, time_set, time_of, touch}
 use Rattle.nfs_machine.specs.declared.context.Ctx.{Ctx}
 
 -- SETATTR, 3.3.2: the object after it. The time of change is always new, the time of modification with it where a
@@ -40,14 +40,14 @@ set_object exports ctx o a =
           status.Permission
       -- who may write sets the size, and times that the server gives
       _ ← holding (not (is_some set.size || is_server_time set.accessed || is_server_time set.modified) || may ctx.ids
-          o Writing) status.Access
+          o ToWrite) status.Access
       Ok (record o {
         content = content;
         mode = unwrap_or (option_map (λ mode. mode % 4096) set.mode) o.mode;
         uid = uid;
         gid = gid;
-        accessed = set_time o.accessed (time_of ctx.moment) set.accessed;
-        modified = set_time (if is_some set.size then touch o.changed (time_of ctx.moment) else o.modified)
+        accessed = time_set o.accessed (time_of ctx.moment) set.accessed;
+        modified = time_set (if is_some set.size then touch o.changed (time_of ctx.moment) else o.modified)
             (time_of ctx.moment) set.modified;
         changed = touch o.changed (time_of ctx.moment);
         verifier = None;
@@ -59,10 +59,10 @@ set_object exports ctx o a =
 abbrev pub granted : List LivingExport → Ctx → Living → (asked : ℕ) → ℕ
 granted exports ctx o asked =
     let bit : ℕ → Bool → ℕ = λ number holds. if (asked / number % 2 == 1) && holds then number else 0 in
-    let changes = is_writable exports o && may ctx.ids o (if is_directory o.content then Changing else Writing) in
+    let changes = is_writable exports o && may ctx.ids o (if is_directory o.content then ToChange else ToWrite) in
     let executes = if ctx.ids.uid == 0 then runs (o.mode / 64) || runs (o.mode / 8) || runs o.mode else runs
     (class_bits ctx.ids o) in
-    if is_directory o.content then bit 1 (may ctx.ids o Listing) + bit 2 (may ctx.ids o Searching) + bit 4 changes +
+    if is_directory o.content then bit 1 (may ctx.ids o ToList) + bit 2 (may ctx.ids o ToSearch) + bit 4 changes +
     bit 8 changes + bit 16 changes
     else bit 1 ((ctx.ids.uid == 0) || (ctx.ids.uid == o.uid) || reads (class_bits ctx.ids o)) + bit 4 changes +
     bit 8 changes + bit 32 executes

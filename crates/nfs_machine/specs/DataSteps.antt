@@ -12,7 +12,7 @@ use Rattle.nfs_wire.specs.declared.status.NfsStatus.TheVariants as status
 use Rattle.nfs_machine.specs.Checks.{◌>>=◌, holding, bytes_in, changeable, permitted}
 use Rattle.nfs_machine.specs.Data.{transfer_limit, size_limit, written, read_at}
 use Rattle.nfs_machine.specs.Exports.{LivingExport}
-use Rattle.nfs_machine.specs.Permission.{Reading, Writing}
+use Rattle.nfs_machine.specs.Permission.{ToRead, ToWrite}
 use Rattle.nfs_machine.specs.Shown.{with_content}
 use Rattle.nfs_machine.specs.State.{Regular, Living}
 use Rattle.nfs_machine.specs.Times.{time_of}
@@ -22,7 +22,7 @@ use Rattle.nfs_machine.specs.declared.context.Ctx.{Ctx}
 abbrev pub read_object : Ctx → Living → ReadArguments → Result ReadData NfsStatus
 read_object ctx file a = do
   bytes ← bytes_in file.content
-  _ ← permitted ctx file Reading
+  _ ← permitted ctx file ToRead
   Ok (read_at bytes a.offset a.count)
 
 -- the start number is the verifier of WRITE and COMMIT (3.3.7 and 3.3.21), and that of the cookies of pages (3.3.16
@@ -41,7 +41,7 @@ write_object exports ctx file a = do
   bytes ← bytes_in file.content
   _ ← holding (a.count == length a.«data») status.Invalid
   _ ← changeable exports file
-  _ ← permitted ctx file Writing
+  _ ← permitted ctx file ToWrite
   _ ← holding ((write_count a == 0) || nat_le (a.offset + write_count a) size_limit) status.FileTooBig
   let after = with_content file (time_of ctx.moment)
       (Regular (written bytes a.offset (take (write_count a) a.«data»))) in

@@ -7,7 +7,7 @@ use Rattle.std.specs.List.{AllByRecursion}
 use Rattle.side_wire.specs.declared.message.Callback.TheVariants as callbacks
 use Rattle.side_wire.specs.declared.message.Message.{Message}
 use Rattle.nfs_machine.specs.FileLists.{of_file, with_list}
-use Rattle.nfs_machine.specs.Locks.{Conflicts, Lists, Mode, modes_with, range_of}
+use Rattle.nfs_machine.specs.Locks.{Conflicts, HasModes, Mode, modes_with, range_of}
 use Rattle.nfs_machine.specs.State.{Lock, Request, State, Range}
 
 abbrev pub requested : Request → Range
@@ -46,7 +46,7 @@ pub record Grants (old : State) (file : ℕ) (message : Message) (new : State) :
   pub held_up : AllByRecursion (IsHeldUp (of_file old.locks file)) earlier
   pub free : IsHeldUp (of_file old.locks file) request → ⊥
   pub locks : List Lock
-  pub lists : Lists locks (modes_with (of_file old.locks file) (requested request) (Some request.exclusive))
+  pub lists : HasModes locks (modes_with (of_file old.locks file) (requested request) (Some request.exclusive))
   pub message_is : message ≡ grant_message request
   pub state_is : new ≡ record old {
     locks = with_list old.locks file locks;
@@ -71,5 +71,5 @@ SettleInOrder old (file ∷ files) messages new =
 pub record ChangesLocks (old : State) (file : ℕ) (r : Range) (mode : Mode) (messages : List Message)
     (new : State) : Type 0 where
   pub locks : List Lock
-  pub lists : Lists locks (modes_with (of_file old.locks file) r mode)
+  pub lists : HasModes locks (modes_with (of_file old.locks file) r mode)
   pub settles : Settles (record old { locks = with_list old.locks file locks }) file messages new

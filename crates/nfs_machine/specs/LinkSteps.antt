@@ -7,7 +7,7 @@ use Rattle.nfs_machine.specs.Attributes.{is_directory, links_of}
 use Rattle.nfs_machine.specs.Checks.{◌>>=◌, holding, object_of, entries_in, plain_name_checked, changeable}
 use Rattle.nfs_machine.specs.Checks.{permitted, link_limit, entry_of}
 use Rattle.nfs_machine.specs.Making.{with_entry}
-use Rattle.nfs_machine.specs.Permission.{Changing}
+use Rattle.nfs_machine.specs.Permission.{ToChange}
 use Rattle.nfs_machine.specs.Resolve.{resolve}
 use Rattle.nfs_machine.specs.Shown.{touched, with_content, with_object}
 use Rattle.nfs_machine.specs.State.{State}
@@ -24,7 +24,7 @@ link_end old ctx a = do
   entries ← entries_in directory.1.content
   _ ← plain_name_checked status.Invalid status.Invalid a.place.name
   _ ← changeable old.exports directory.1
-  _ ← permitted ctx directory.1 Changing
+  _ ← permitted ctx directory.1 ToChange
   _ ← holding (is_none (entry_of entries.0 a.place.name)) status.Exists
   _ ← holding (nat_lt (links_of old file.0 file.1.content) link_limit) status.TooManyLinks
   _ ← holding (nat_lt (entries.1 + 1) (2 ^ 64)) status.NoSpace

@@ -25,7 +25,7 @@ use Rattle.nfs_machine.specs.Bytes.{same_bytes}
 use Rattle.nfs_machine.specs.Checks.{◌>>=◌, bytes_in, holding, is_writable}
 use Rattle.nfs_machine.specs.FileLists.{all_but, grants_but, of_file, relisted, with_list}
 use Rattle.nfs_machine.specs.Grants.{ChangesLocks, SettleInOrder, grant_cookie, requested}
-use Rattle.nfs_machine.specs.Locks.{Conflicts, Lists, Mode, denies, fits_offsets, is_within, mode_at, modes_without}
+use Rattle.nfs_machine.specs.Locks.{Conflicts, HasModes, Mode, denies, fits_offsets, is_within, mode_at, modes_without}
 use Rattle.nfs_machine.specs.Locks.{range_of, same_owner, same_sharer, shares_conflict}
 use Rattle.nfs_machine.specs.Resolve.{Names, resolve}
 use Rattle.nfs_machine.specs.State.{Lock, PendingGrant, Request, Share, State, Range}
@@ -237,6 +237,6 @@ freed_with m name locks = record m {
 -- the caller has nothing more, and then what waits is tried
 pub record Frees (old : State) (name : List ℕ) (messages : List Message) (new : State) : Type 0 where
   pub locks : ℕ → List Lock
-  pub lists : (file : ℕ) → Lists (locks file) (modes_without (of_file old.locks file) name)
+  pub lists : (file : ℕ) → HasModes (locks file) (modes_without (of_file old.locks file) name)
   pub files : List ℕ
   pub settle : SettleInOrder (freed_with old name locks) files messages new

@@ -38,7 +38,7 @@ OffsetsOnce locks = (owner : Owner) (offset : ℕ) → count_by (λ (l : Lock). 
 
 -- the locks of a file have these modes and no offset of an owner twice; in which ranges and in which order they are
 -- listed is free
-pub record Lists (locks : List Lock) (modes : Owner → ℕ → Mode) : Type 0 where
+pub record HasModes (locks : List Lock) (modes : Owner → ℕ → Mode) : Type 0 where
   pub modes_are : (owner : Owner) (offset : ℕ) → mode_at locks owner offset ≡ modes owner offset
   pub once : OffsetsOnce locks
 

@@ -17,11 +17,11 @@ use Rattle.nfs_machine.specs.Attributes.{attributes_of, links_of}
 use Rattle.nfs_machine.specs.Checks.{◌>>=◌, holding, object_of, entries_in, plain_name_checked, changeable}
 use Rattle.nfs_machine.specs.Checks.{permitted, entry_of, link_limit}
 use Rattle.nfs_machine.specs.Data.{size_limit}
-use Rattle.nfs_machine.specs.Permission.{Changing, is_member}
+use Rattle.nfs_machine.specs.Permission.{ToChange, is_member}
 use Rattle.nfs_machine.specs.Resolve.{resolve}
 use Rattle.nfs_machine.specs.Shown.{wcc, handle_at, with_content, with_object}
 use Rattle.nfs_machine.specs.State.{Content, Directory, Link, BlockDevice, CharacterDevice, Entry, Living, State}
-use Rattle.nfs_machine.specs.Times.{is_time, set_time, time_of}
+use Rattle.nfs_machine.specs.Times.{is_time, time_set, time_of}
 use Rattle.nfs_machine.specs.declared.context.Ctx.{Ctx}
 
 -- What the machine chooses for a new object: a number that no living object has and a generation that was never given
@@ -61,8 +61,8 @@ new_object ctx export generation wanted = record {
   mode = unwrap_or wanted.attributes.mode wanted.mode % 4096;
   uid = unwrap_or wanted.attributes.uid ctx.ids.uid;
   gid = unwrap_or wanted.attributes.gid ctx.ids.gid;
-  accessed = set_time (time_of ctx.moment) (time_of ctx.moment) wanted.attributes.accessed;
-  modified = set_time (time_of ctx.moment) (time_of ctx.moment) wanted.attributes.modified;
+  accessed = time_set (time_of ctx.moment) (time_of ctx.moment) wanted.attributes.accessed;
+  modified = time_set (time_of ctx.moment) (time_of ctx.moment) wanted.attributes.modified;
   changed = time_of ctx.moment;
   verifier = wanted.verifier;
 }
@@ -124,7 +124,7 @@ make_end old ctx place wanted there = do
   _ ← plain_name_checked status.Exists status.Exists place.name
   what ← wanted
   _ ← changeable old.exports directory.1
-  _ ← permitted ctx directory.1 Changing
+  _ ← permitted ctx directory.1 ToChange
   elim (entry_of entries.0 place.name) [
     | Some e ↦ there e.number (get old.objects e.number)
     | None ↦ make_new old ctx place.name what directory.0 directory.1 entries.0 entries.1

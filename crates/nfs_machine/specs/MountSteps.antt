@@ -33,7 +33,7 @@ path_fault path =
     else (if list_any (λ part. nat_lt 255 (length part)) (pieces path) then Some status.NameTooLong else None)
 
 -- the export admits the host, and its parts begin the names, which go on with rest
-pub record Leads (exports : List LivingExport) (host : List ℕ) (names : List (List ℕ)) (number : ℕ)
+pub record Matches (exports : List LivingExport) (host : List ℕ) (names : List (List ℕ)) (number : ℕ)
     (rest : List (List ℕ)) : Type 0 where
   pub export : LivingExport
   pub stands : export_at exports number ≡ Some export
@@ -41,10 +41,10 @@ pub record Leads (exports : List LivingExport) (host : List ℕ) (names : List (
   pub begins : names ≡ parts export.path ++ rest
 
 -- of the exports that lead there, the one with the longest path: the least is left to walk
-pub record Chosen (exports : List LivingExport) (host : List ℕ) (names : List (List ℕ)) (number : ℕ)
+pub record LongestMatch (exports : List LivingExport) (host : List ℕ) (names : List (List ℕ)) (number : ℕ)
     (rest : List (List ℕ)) : Type 0 where
-  pub leads : Leads exports host names number rest
-  pub longest : (other : ℕ) (more : List (List ℕ)) → Leads exports host names other more →
+  pub matches : Matches exports host names number rest
+  pub longest : (other : ℕ) (more : List (List ℕ)) → Matches exports host names other more →
       length rest ≤ length more
 
 -- the entries of a directory; a walk stops at anything else
@@ -64,12 +64,12 @@ walk find number (name ∷ names) = entries_at (find number) >>= λ d. ok_or
 abbrev pub Target : State → Ctx → List ℕ → Result (ℕ × Living) MountStatus → Type 0
 Target m ctx path found =
     (path_fault path ≡ None) × (number : ℕ) × (rest : List (List ℕ)) ×
-    (chosen : Chosen m.exports ctx.host (parts path) number rest) ×
-    (found ≡ walk (get m.objects) chosen.leads.export.root rest)
+    (chosen : LongestMatch m.exports ctx.host (parts path) number rest) ×
+    (found ≡ walk (get m.objects) chosen.matches.export.root rest)
 
 -- no export that admits the host leads there
 abbrev pub NoExport : List LivingExport → (host : List ℕ) → (names : List (List ℕ)) → Type 0
-NoExport exports host names = (number : ℕ) (rest : List (List ℕ)) → Leads exports host names number rest → ⊥
+NoExport exports host names = (number : ℕ) (rest : List (List ℕ)) → Matches exports host names number rest → ⊥
 
 -- this path of this host, as it was sent
 abbrev pub is_of : List ℕ → List ℕ → MountBody → Bool

@@ -19,7 +19,7 @@ pub use Rattle.nfs_machine.specs.Making.{Fresh, given_attributes, new_object, wi
 pub use Rattle.nfs_machine.specs.Making.{EndsAs}
 use Rattle.nfs_machine.specs.Making.{Wanted}
 use Rattle.nfs_machine.specs.Pages.{all_entries}
-use Rattle.nfs_machine.specs.Permission.{Writing, Searching}
+use Rattle.nfs_machine.specs.Permission.{ToWrite, ToSearch}
 use Rattle.nfs_machine.specs.Resolve.{resolve}
 use Rattle.nfs_machine.specs.Shown.{handle_at, with_content, replaced}
 use Rattle.nfs_machine.specs.State.{Regular, Entry, Living, State}
@@ -31,12 +31,12 @@ abbrev pub leads_to : (number parent : ℕ) → List Entry → List ℕ → Resu
 leads_to number parent entries name = ok_or
     (option_map (λ (e : Entry). e.number) (entry_of (all_entries number parent entries) name)) status.NoEntry
 
-abbrev pub lookup_result : State → Ctx → Place → ℕ → Result Found NfsStatus
-lookup_result m ctx place parent = do
+abbrev pub lookup_found : State → Ctx → Place → ℕ → Result Found NfsStatus
+lookup_found m ctx place parent = do
   directory ← object_of (resolve m ctx place.directory)
   entries ← entries_in directory.1.content
   _ ← name_checked place.name
-  _ ← permitted ctx directory.1 Searching
+  _ ← permitted ctx directory.1 ToSearch
   number ← leads_to directory.0 parent entries.0 place.name
   o ← ok_or (get m.objects number) status.NoEntry
   Ok (record { object = handle_at ctx number o; attributes = Some (attributes_of m number o) })
@@ -51,7 +51,7 @@ create_over ctx how file (Err e) = Err status.Exists
 create_over ctx (Unchecked a) file (Ok bytes) = elim a.size [
   | None ↦ Ok None
   | Some size ↦ do
-    _ ← permitted ctx file Writing
+    _ ← permitted ctx file ToWrite
     _ ← holding (nat_le size size_limit) status.FileTooBig
     Ok (Some (with_content file (time_of ctx.moment) (Regular (resized bytes size))))
 ]

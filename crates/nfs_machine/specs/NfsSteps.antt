@@ -7,7 +7,7 @@ use Rattle.nfs_wire.specs.declared.calls.NfsCall.TheVariants as calls
 use Rattle.nfs_wire.specs.declared.replies.NfsReply.{NfsReply}
 use Rattle.nfs_wire.specs.declared.replies.NfsReply.TheVariants as replies
 use Rattle.side_wire.specs.declared.message.Message.{Message}
-use Rattle.nfs_machine.specs.Answers.{Answers, Ends, Tells}
+use Rattle.nfs_machine.specs.Answers.{Answers, Ends, TellsOfObject}
 use Rattle.nfs_machine.specs.AttributeSteps.{granted, set_object}
 use Rattle.nfs_machine.specs.Attributes.{attributes_of}
 use Rattle.nfs_machine.specs.Checks.{◌>>=◌, object_of, bytes_in, text_in, plain_name_checked}
@@ -19,7 +19,7 @@ use Rattle.nfs_machine.specs.PageSteps.{IsParentOf, PageStep, full_entry, page_e
 use Rattle.nfs_machine.specs.LinkSteps.{link_end}
 use Rattle.nfs_machine.specs.MakeSteps.{wanted_of, wanted_special}
 use Rattle.nfs_machine.specs.Making.{MakeStep}
-use Rattle.nfs_machine.specs.NameSteps.{lookup_result, create_existing, wanted_file}
+use Rattle.nfs_machine.specs.NameSteps.{lookup_found, create_existing, wanted_file}
 use Rattle.nfs_machine.specs.RemoveSteps.{TakeStep, empty_directory, not_directory}
 use Rattle.nfs_machine.specs.RenameSteps.{RenameEnds, rename_plan}
 use Rattle.nfs_machine.specs.Resolve.{resolve}
@@ -45,18 +45,18 @@ NfsStep old ctx (calls.Lookup place) = λ reply messages new. (parent : ℕ) ×
     × Answers (replies.Lookup
     (record {
       directory = shown old (resolve old ctx place.directory);
-      result = lookup_result old ctx place parent;
+      result = lookup_found old ctx place parent;
     })) old reply messages new
 -- ACCESS, 3.3.4
-NfsStep old ctx (calls.Access a) = Tells old ctx a.object
+NfsStep old ctx (calls.Access a) = TellsOfObject old ctx a.object
     (λ attributes result. replies.Access (record { attributes = attributes; result = result }))
     (λ o. Ok (granted old.exports ctx o.1 a.rights))
 -- READLINK, 3.3.5: no permission is asked
-NfsStep old ctx (calls.Readlink object) = Tells old ctx object
+NfsStep old ctx (calls.Readlink object) = TellsOfObject old ctx object
     (λ attributes result. replies.Readlink (record { attributes = attributes; result = result }))
     (λ o. text_in o.1.content)
 -- READ, 3.3.6
-NfsStep old ctx (calls.Read a) = Tells old ctx a.file
+NfsStep old ctx (calls.Read a) = TellsOfObject old ctx a.file
     (λ attributes result. replies.Read (record { attributes = attributes; result = result }))
     (λ o. read_object ctx o.1 a)
 -- WRITE, 3.3.7
@@ -82,14 +82,14 @@ NfsStep old ctx (calls.Readdirplus a) = PageStep old ctx a.directory a.cookie a.
           (record { verifier = verifier_of ctx; entries = map (full_entry old ctx) p.0; eof = p.1 });
     }))
 -- FSSTAT, 3.3.18
-NfsStep old ctx (calls.Fsstat object) = Tells old ctx object
+NfsStep old ctx (calls.Fsstat object) = TellsOfObject old ctx object
     (λ attributes result. replies.Fsstat (record { attributes = attributes; result = result }))
     (λ o. Ok (space_left ctx.limits.total_bytes (values old.objects) o.1.export))
 -- FSINFO, 3.3.19
-NfsStep old ctx (calls.Fsinfo object) = Tells old ctx object
+NfsStep old ctx (calls.Fsinfo object) = TellsOfObject old ctx object
     (λ attributes result. replies.Fsinfo (record { attributes = attributes; result = result })) (λ o. Ok file_system)
 -- PATHCONF, 3.3.20
-NfsStep old ctx (calls.Pathconf object) = Tells old ctx object
+NfsStep old ctx (calls.Pathconf object) = TellsOfObject old ctx object
     (λ attributes result. replies.Pathconf (record { attributes = attributes; result = result }))
     (λ o. Ok path_limits)
 -- COMMIT, 3.3.21: what was written is there already, so nothing changes, and no permission is asked

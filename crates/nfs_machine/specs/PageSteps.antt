@@ -15,7 +15,7 @@ use Rattle.nfs_machine.specs.Bytes.{same_bytes}
 use Rattle.nfs_machine.specs.Checks.{◌>>=◌, holding, object_of, entries_in, permitted}
 use Rattle.nfs_machine.specs.DataSteps.{verifier_of}
 use Rattle.nfs_machine.specs.Pages.{Pages, all_entries, behind}
-use Rattle.nfs_machine.specs.Permission.{Listing}
+use Rattle.nfs_machine.specs.Permission.{ToList}
 use Rattle.nfs_machine.specs.Resolve.{Names, resolve}
 use Rattle.nfs_machine.specs.Shown.{attributes_at, handle_at, shown}
 use Rattle.nfs_machine.specs.State.{Entry, Living, State}
@@ -28,7 +28,7 @@ abbrev pub entries_left : State → Ctx → (directory : List ℕ) → (cookie :
 entries_left m ctx directory cookie verifier parent = do
   d ← object_of (resolve m ctx directory)
   entries ← entries_in d.1.content
-  _ ← permitted ctx d.1 Listing
+  _ ← permitted ctx d.1 ToList
   -- the cookies of this server are good while it runs: each but 0 with the verifier that it gives
   _ ← holding ((cookie == 0) || same_bytes verifier.bytes (verifier_of ctx).bytes) status.BadCookie
   Ok (behind cookie (all_entries d.0 parent entries.0))

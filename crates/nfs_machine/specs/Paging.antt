@@ -17,9 +17,9 @@ use Rattle.nfs_machine.specs.State.{Entry, State}
 use Rattle.nfs_machine.specs.declared.context.Ctx.{Ctx}
 
 -- where the next page goes on
-abbrev pub last_cookie : ℕ → List Entry → ℕ
-last_cookie cookie [] = cookie
-last_cookie cookie (e ∷ page) = last_cookie e.cookie page
+abbrev pub next_cookie : ℕ → List Entry → ℕ
+next_cookie cookie [] = cookie
+next_cookie cookie (e ∷ page) = next_cookie e.cookie page
 
 -- cookies rise from above a number
 abbrev pub Rises : ℕ → List Entry → Type 0

@@ -6,15 +6,15 @@ use Rattle.nfs_machine.specs.State.{Living}
 
 pub data Right : Type 0 where
   -- of a file: by its owner always; else r, or x (a program is read to be run)
-  Reading : Right
+  ToRead : Right
   -- of an object of any kind, to set its content or times: by its owner always; else w
-  Writing : Right
+  ToWrite : Right
   -- of a directory: x
-  Searching : Right
+  ToSearch : Right
   -- of a directory: r
-  Listing : Right
+  ToList : Right
   -- of a directory's entries: w and x
-  Changing : Right
+  ToChange : Right
 
 -- whether a group is the caller's own or one of its further groups
 abbrev pub is_member : Ids → ℕ → Bool
@@ -39,9 +39,9 @@ abbrev pub may : Ids → Living → Right → Bool
 may ids o right =
     let bits = class_bits ids o in let owner = ids.uid == o.uid in
     (ids.uid == 0) || elim right [
-      | Reading ↦ owner || reads bits || runs bits
-      | Writing ↦ owner || writes bits
-      | Searching ↦ runs bits
-      | Listing ↦ reads bits
-      | Changing ↦ writes bits && runs bits
+      | ToRead ↦ owner || reads bits || runs bits
+      | ToWrite ↦ owner || writes bits
+      | ToSearch ↦ runs bits
+      | ToList ↦ reads bits
+      | ToChange ↦ writes bits && runs bits
     ]

@@ -18,7 +18,7 @@ use Rattle.nfs_machine.specs.Chains.{Chain, Transition}
 use Rattle.nfs_machine.specs.Checks.{entry_of}
 use Rattle.nfs_machine.specs.Handles.{handle_of}
 use Rattle.nfs_machine.specs.Pages.{all_entries}
-use Rattle.nfs_machine.specs.Paging.{Rises, last_cookie}
+use Rattle.nfs_machine.specs.Paging.{Rises, next_cookie}
 use Rattle.nfs_machine.specs.Resolve.{Names, resolve}
 use Rattle.nfs_machine.specs.State.{Directory, Entry, Living, State}
 use Rattle.nfs_machine.specs.WellFormed.{IsParent, WellFormed}
@@ -81,12 +81,12 @@ pub record AnswersPage (step : Transition) (directory : List ℕ) (cookie : ℕ)
 
 -- the pages of one reading, each going on from the last cookie of the one before: the last step is the page that says
 -- that the directory ends
-abbrev pub Reads : (directory : List ℕ) → (cookie : ℕ) → List Turn → Type 0
-Reads directory cookie [] = ⊥
-Reads directory cookie (Between step ∷ turns) = Reads directory cookie turns
-Reads directory cookie (ReadsPage step page ∷ []) = AnswersPage step directory cookie page true
-Reads directory cookie (ReadsPage step page ∷ turn ∷ turns) = AnswersPage step directory cookie page false ×
-    Reads directory (last_cookie cookie page) (turn ∷ turns)
+abbrev pub ReadsAll : (directory : List ℕ) → (cookie : ℕ) → List Turn → Type 0
+ReadsAll directory cookie [] = ⊥
+ReadsAll directory cookie (Between step ∷ turns) = ReadsAll directory cookie turns
+ReadsAll directory cookie (ReadsPage step page ∷ []) = AnswersPage step directory cookie page true
+ReadsAll directory cookie (ReadsPage step page ∷ turn ∷ turns) = AnswersPage step directory cookie page false ×
+    ReadsAll directory (next_cookie cookie page) (turn ∷ turns)
 
 abbrev pub all_shown : List Turn → List Entry
 all_shown [] = []
@@ -146,4 +146,4 @@ pub record ShowsWhole (directory : List ℕ) (old : State) (turns : List Turn) (
 -- cookie twice, and each entry and each name that stayed once.
 abbrev pub ReadingsAreWhole : Type 0
 ReadingsAreWhole = (directory : List ℕ) (old : State) (turns : List Turn) (new : State) → WellFormed old →
-    (chain : Chain old (steps_of turns) new) → Reads directory 0 turns → ShowsWhole directory old turns new chain
+    (chain : Chain old (steps_of turns) new) → ReadsAll directory 0 turns → ShowsWhole directory old turns new chain

@@ -24,33 +24,33 @@ use Rattle.nfs_machine.specs.declared.calls.Refusal.TheVariants as refusals
 use Rattle.nfs_machine.specs.declared.calls.Reply.TheVariants as replies
 
 -- nothing is shown of an object
-abbrev pub nothing : Wcc
-nothing = record { before = None; after = None }
+abbrev pub no_wcc : Wcc
+no_wcc = record { before = None; after = None }
 
 abbrev pub nfs_refusal : NfsCall → Option NfsReply
 nfs_refusal nfs.Null = None
 nfs_refusal (nfs.Getattr object) = Some (nfs_replies.Getattr (Err nfs_status.Jukebox))
-nfs_refusal (nfs.Setattr a) = Some (nfs_replies.Setattr (record { wcc = nothing; result = Err nfs_status.Jukebox }))
+nfs_refusal (nfs.Setattr a) = Some (nfs_replies.Setattr (record { wcc = no_wcc; result = Err nfs_status.Jukebox }))
 nfs_refusal (nfs.Lookup place) = Some
     (nfs_replies.Lookup (record { directory = None; result = Err nfs_status.Jukebox }))
 nfs_refusal (nfs.Access a) = Some (nfs_replies.Access (record { attributes = None; result = Err nfs_status.Jukebox }))
 nfs_refusal (nfs.Readlink object) = Some
     (nfs_replies.Readlink (record { attributes = None; result = Err nfs_status.Jukebox }))
 nfs_refusal (nfs.Read a) = Some (nfs_replies.Read (record { attributes = None; result = Err nfs_status.Jukebox }))
-nfs_refusal (nfs.Write a) = Some (nfs_replies.Write (record { wcc = nothing; result = Err nfs_status.Jukebox }))
-nfs_refusal (nfs.Create a) = Some (nfs_replies.Create (record { directory = nothing; result = Err nfs_status.Jukebox }))
-nfs_refusal (nfs.Mkdir a) = Some (nfs_replies.Mkdir (record { directory = nothing; result = Err nfs_status.Jukebox }))
+nfs_refusal (nfs.Write a) = Some (nfs_replies.Write (record { wcc = no_wcc; result = Err nfs_status.Jukebox }))
+nfs_refusal (nfs.Create a) = Some (nfs_replies.Create (record { directory = no_wcc; result = Err nfs_status.Jukebox }))
+nfs_refusal (nfs.Mkdir a) = Some (nfs_replies.Mkdir (record { directory = no_wcc; result = Err nfs_status.Jukebox }))
 nfs_refusal (nfs.Symlink a) = Some
-    (nfs_replies.Symlink (record { directory = nothing; result = Err nfs_status.Jukebox }))
-nfs_refusal (nfs.Mknod a) = Some (nfs_replies.Mknod (record { directory = nothing; result = Err nfs_status.Jukebox }))
+    (nfs_replies.Symlink (record { directory = no_wcc; result = Err nfs_status.Jukebox }))
+nfs_refusal (nfs.Mknod a) = Some (nfs_replies.Mknod (record { directory = no_wcc; result = Err nfs_status.Jukebox }))
 nfs_refusal (nfs.Remove place) = Some
-    (nfs_replies.Remove (record { directory = nothing; result = Err nfs_status.Jukebox }))
+    (nfs_replies.Remove (record { directory = no_wcc; result = Err nfs_status.Jukebox }))
 nfs_refusal (nfs.Rmdir place) = Some
-    (nfs_replies.Rmdir (record { directory = nothing; result = Err nfs_status.Jukebox }))
+    (nfs_replies.Rmdir (record { directory = no_wcc; result = Err nfs_status.Jukebox }))
 nfs_refusal (nfs.Rename a) = Some
-    (nfs_replies.Rename (record { from = nothing; to = nothing; result = Err nfs_status.Jukebox }))
+    (nfs_replies.Rename (record { from = no_wcc; to = no_wcc; result = Err nfs_status.Jukebox }))
 nfs_refusal (nfs.Link a) = Some
-    (nfs_replies.Link (record { attributes = None; directory = nothing; result = Err nfs_status.Jukebox }))
+    (nfs_replies.Link (record { attributes = None; directory = no_wcc; result = Err nfs_status.Jukebox }))
 nfs_refusal (nfs.Readdir a) = Some (nfs_replies.Readdir (record { attributes = None; result = Err nfs_status.Jukebox }))
 nfs_refusal (nfs.Readdirplus a) = Some
     (nfs_replies.Readdirplus (record { attributes = None; result = Err nfs_status.Jukebox }))
@@ -60,7 +60,7 @@ nfs_refusal (nfs.Fsinfo object) = Some
     (nfs_replies.Fsinfo (record { attributes = None; result = Err nfs_status.Jukebox }))
 nfs_refusal (nfs.Pathconf object) = Some
     (nfs_replies.Pathconf (record { attributes = None; result = Err nfs_status.Jukebox }))
-nfs_refusal (nfs.Commit a) = Some (nfs_replies.Commit (record { wcc = nothing; result = Err nfs_status.Jukebox }))
+nfs_refusal (nfs.Commit a) = Some (nfs_replies.Commit (record { wcc = no_wcc; result = Err nfs_status.Jukebox }))
 
 -- NLM4_DENIED_NOLOCKS (RFC 1813, 6.1.4), with the call's cookie
 abbrev pub no_locks : List ℕ → NlmResult

@@ -15,7 +15,7 @@ use Rattle.nfs_machine.specs.Bytes.{same_bytes}
 use Rattle.nfs_machine.specs.Checks.{◌>>=◌, holding, object_of, entries_in, changeable, permitted, entry_of}
 use Rattle.nfs_machine.specs.Checks.{name_checked}
 use Rattle.nfs_machine.specs.FileLists.{grants_but}
-use Rattle.nfs_machine.specs.Permission.{Changing}
+use Rattle.nfs_machine.specs.Permission.{ToChange}
 use Rattle.nfs_machine.specs.Resolve.{resolve}
 use Rattle.nfs_machine.specs.Shown.{wcc, touched, with_content, with_object}
 use Rattle.nfs_machine.specs.State.{Content, Directory, Entry, Living, PendingGrant, State}
@@ -60,7 +60,7 @@ TakeStep old ctx place name_checked content_checked reply_of =
       entries ← entries_in directory.1.content
       _ ← name_checked place.name
       _ ← changeable old.exports directory.1
-      _ ← permitted ctx directory.1 Changing
+      _ ← permitted ctx directory.1 ToChange
       object ← ok_or (object_under old (entry_of entries.0 place.name)) status.NoEntry
       _ ← content_checked object.1.content
       let left = with_object old directory.0

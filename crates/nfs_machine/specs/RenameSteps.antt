@@ -12,7 +12,7 @@ use Rattle.nfs_machine.specs.Attributes.{entries_of, is_directory, links_of, nam
 use Rattle.nfs_machine.specs.Checks.{◌>>=◌, holding, object_of, entries_in, entry_of, plain_name_checked}
 use Rattle.nfs_machine.specs.Checks.{changeable, permitted, link_limit}
 use Rattle.nfs_machine.specs.Making.{with_entry}
-use Rattle.nfs_machine.specs.Permission.{Changing}
+use Rattle.nfs_machine.specs.Permission.{ToChange}
 use Rattle.nfs_machine.specs.RemoveSteps.{losing_name, object_under, without}
 use Rattle.nfs_machine.specs.Resolve.{resolve}
 use Rattle.nfs_machine.specs.Shown.{touched, with_content, with_object}
@@ -70,8 +70,8 @@ rename_plan old ctx a = do
   _ ← plain_name_checked status.Invalid status.Invalid a.from.name
   _ ← plain_name_checked status.Invalid status.Invalid a.to.name
   _ ← changeable old.exports from.1
-  _ ← permitted ctx from.1 Changing
-  _ ← permitted ctx to.1 Changing
+  _ ← permitted ctx from.1 ToChange
+  _ ← permitted ctx to.1 ToChange
   moved ← ok_or (object_under old (entry_of from_entries.0 a.from.name)) status.NoEntry
   move_plan old (time_of ctx.moment) a from to from_entries to_entries moved
       (object_under old (entry_of to_entries.0 a.to.name))

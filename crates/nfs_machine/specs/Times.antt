@@ -34,5 +34,5 @@ abbrev pub is_server_time : SetTime → Bool
 is_server_time set = elim set [ ToServer ↦ true | other ↦ false ]
 
 -- a time that is set now (2.5: set_atime, set_mtime)
-abbrev pub set_time : Time → Time → SetTime → Time
-set_time old now set = elim set [ Leave ↦ old | ToServer ↦ now | ToClient t ↦ t ]
+abbrev pub time_set : Time → Time → SetTime → Time
+time_set old now set = elim set [ Leave ↦ old | ToServer ↦ now | ToClient t ↦ t ]

@@ -7,9 +7,9 @@ use Rattle.side_wire.specs.declared.mount.MountStatus.TheVariants as status
 use Rattle.nfs_machine.specs.ExportFaults.{are_export_hosts, is_export_mode, is_export_path}
 use Rattle.nfs_machine.specs.Exports.{ExportValue, LivingExport, admits, export_at, opening_exports}
 use Rattle.nfs_machine.specs.Handles.{handle_bytes, handle_of}
-use Rattle.nfs_machine.specs.MountSteps.{Chosen, path_fault, walk}
+use Rattle.nfs_machine.specs.MountSteps.{LongestMatch, path_fault, walk}
 use Rattle.nfs_machine.specs.Paths.{parts, slash}
-use Rattle.nfs_machine.specs.Permission.{Reading, Writing, Searching, Listing, Changing, class_bits, may}
+use Rattle.nfs_machine.specs.Permission.{ToRead, ToWrite, ToSearch, ToList, ToChange, class_bits, may}
 use Rattle.nfs_machine.specs.Resolve.{BadHandle, Stale, Names, named}
 use Rattle.nfs_machine.specs.State.{Content, Regular, Directory, Living}
 use Rattle.nfs_machine.specs.declared.context.Ctx.{Ctx}
@@ -64,16 +64,16 @@ pub record WorkedRights : Type 0 where
   pub group_bits : class_bits (user 300 200) (object 416 (Regular [])) ≡ 4
   pub member_bits : class_bits member (object 416 (Regular [])) ≡ 4
   pub other_bits : class_bits (user 9 9) (object 416 (Regular [])) ≡ 0
-  pub owner_writes : may (user 100 9) (object 416 (Regular [])) Writing ≡ true
-  pub group_reads : may (user 300 200) (object 416 (Regular [])) Reading ≡ true
-  pub group_writes : may (user 300 200) (object 416 (Regular [])) Writing ≡ false
-  pub other_reads : may (user 9 9) (object 416 (Regular [])) Reading ≡ false
-  pub other_runs : may (user 9 9) (object 417 (Regular [])) Reading ≡ true
-  pub root_writes : may (user 0 0) (object 416 (Regular [])) Writing ≡ true
+  pub owner_writes : may (user 100 9) (object 416 (Regular [])) ToWrite ≡ true
+  pub group_reads : may (user 300 200) (object 416 (Regular [])) ToRead ≡ true
+  pub group_writes : may (user 300 200) (object 416 (Regular [])) ToWrite ≡ false
+  pub other_reads : may (user 9 9) (object 416 (Regular [])) ToRead ≡ false
+  pub other_runs : may (user 9 9) (object 417 (Regular [])) ToRead ≡ true
+  pub root_writes : may (user 0 0) (object 416 (Regular [])) ToWrite ≡ true
   -- of a directory of mode 0070: the owner's class alone counts for the owner, who is in the group too
-  pub owner_searches : may (user 100 200) (object 56 (Directory [] 2)) Searching ≡ false
-  pub owner_lists : may (user 100 200) (object 56 (Directory [] 2)) Listing ≡ false
-  pub group_changes : may (user 300 200) (object 56 (Directory [] 2)) Changing ≡ true
+  pub owner_searches : may (user 100 200) (object 56 (Directory [] 2)) ToSearch ≡ false
+  pub owner_lists : may (user 100 200) (object 56 (Directory [] 2)) ToList ≡ false
+  pub group_changes : may (user 300 200) (object 56 (Directory [] 2)) ToChange ≡ true
 
 -- the root of the first export of a server that was started with the number 7
 abbrev pub root_handle : Handle
@@ -158,9 +158,9 @@ pub record WorkedWalks : Type 0 where
   pub through_file : walk find 1 (codes "file" ∷ codes "x" ∷ []) ≡ Err status.NotDirectory
   pub nothing : walk find 1 (codes "x" ∷ []) ≡ Err status.NoEntry
   -- the longest export that admits the host is chosen
-  pub admitted : Chosen two_exports (codes "10.0.0.2") (parts (codes "/a/b")) 2 []
-  pub not_admitted : Chosen two_exports (codes "10.0.0.1") (parts (codes "/a/b")) 1 (codes "b" ∷ [])
-  pub empty_parts : Chosen two_exports (codes "10.0.0.1") (parts (codes "//a/")) 1 []
+  pub admitted : LongestMatch two_exports (codes "10.0.0.2") (parts (codes "/a/b")) 2 []
+  pub not_admitted : LongestMatch two_exports (codes "10.0.0.1") (parts (codes "/a/b")) 1 (codes "b" ∷ [])
+  pub empty_parts : LongestMatch two_exports (codes "10.0.0.1") (parts (codes "//a/")) 1 []
 
 -- a slash and the longest name, 256 bytes
 abbrev pub long_part : List ℕ

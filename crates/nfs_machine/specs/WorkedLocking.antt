@@ -30,7 +30,7 @@ use Rattle.nfs_machine.specs.NlmSteps.{NlmStep, result_with}
 use Rattle.nfs_machine.specs.State.{Owner, Request, State}
 use Rattle.nfs_machine.specs.Worked.{root_bytes}
 use Rattle.nfs_machine.specs.WorkedLocks.{a, asked, b, holder, mounted, reading, reading_too, split, whole}
-use Rattle.nfs_machine.specs.WorkedRun.{nobody, read_only, written, x_bytes}
+use Rattle.nfs_machine.specs.WorkedRun.{nobody, read_only, with_hi, x_bytes}
 
 -- a lock of the file
 abbrev pub on_x : Owner → ℕ → ℕ → NlmLock
@@ -43,13 +43,13 @@ locking o offset length block = record
 
 -- A has bytes 0 to 99, and gives back 40 to 59
 abbrev pub with_whole : State
-with_whole = record written { locks = with_list empty 5 whole }
+with_whole = record with_hi { locks = with_list empty 5 whole }
 
 abbrev pub giving_back : UnlockArguments
 giving_back = record { cookie = 2 ∷ []; lock = on_x a 40 20 }
 
 abbrev pub with_split : State
-with_split = record written { locks = with_list empty 5 split }
+with_split = record with_hi { locks = with_list empty 5 split }
 
 -- then B waits for byte 30
 abbrev pub waiting : Request
@@ -63,7 +63,7 @@ waiting = record {
 
 abbrev pub with_waiting : State
 with_waiting = record with_split
-    { waiting = with_list empty 5 (waiting ∷ []); spent_grants = λ n. (n == 5) || written.spent_grants n }
+    { waiting = with_list empty 5 (waiting ∷ []); spent_grants = λ n. (n == 5) || with_hi.spent_grants n }
 
 -- B cancels that
 abbrev pub cancelling : CancelArguments
@@ -82,24 +82,24 @@ sharing o mode access = record {
 }
 
 abbrev pub with_reader : State
-with_reader = record written { shares = with_list empty 5 (reading ∷ []) }
+with_reader = record with_hi { shares = with_list empty 5 (reading ∷ []) }
 
 abbrev pub with_readers : State
-with_readers = record written { shares = with_list empty 5 (reading ∷ reading_too ∷ []) }
+with_readers = record with_hi { shares = with_list empty 5 (reading ∷ reading_too ∷ []) }
 
 -- which file a call names: each check before the next
 pub record WorkedChecks : Type 0 where
-  pub good : lock_checked written nobody true (on_x a 0 100) ≡ Ok 5
-  pub last_byte : lock_checked written nobody true (on_x a (2 ^ 64 - 1) 1) ≡ Ok 5
-  pub no_handle : lock_checked written nobody true (record (on_x a 0 1) { file = take 31 x_bytes }) ≡ Err StaleHandle
-  pub other_start : lock_checked written nobody true
+  pub good : lock_checked with_hi nobody true (on_x a 0 100) ≡ Ok 5
+  pub last_byte : lock_checked with_hi nobody true (on_x a (2 ^ 64 - 1) 1) ≡ Ok 5
+  pub no_handle : lock_checked with_hi nobody true (record (on_x a 0 1) { file = take 31 x_bytes }) ≡ Err StaleHandle
+  pub other_start : lock_checked with_hi nobody true
       (record (on_x a 0 1) { file = handle_bytes (record { export = 1; start = 8; fileid = 5; generation = 1 }) }) ≡
       Err StaleHandle
-  pub directory : lock_checked written nobody true (record (on_x a (2 ^ 64 - 1) 2) { file = root_bytes }) ≡
+  pub directory : lock_checked with_hi nobody true (record (on_x a (2 ^ 64 - 1) 2) { file = root_bytes }) ≡
       Err NotRegular
-  pub above : lock_checked (read_only written) nobody true (on_x a (2 ^ 64 - 1) 2) ≡ Err RangeTooBig
-  pub exclusive : lock_checked (read_only written) nobody true (on_x a 0 1) ≡ Err ReadOnly
-  pub shared : lock_checked (read_only written) nobody false (on_x a 0 1) ≡ Ok 5
+  pub above : lock_checked (read_only with_hi) nobody true (on_x a (2 ^ 64 - 1) 2) ≡ Err RangeTooBig
+  pub exclusive : lock_checked (read_only with_hi) nobody true (on_x a 0 1) ≡ Err ReadOnly
+  pub shared : lock_checked (read_only with_hi) nobody false (on_x a 0 1) ≡ Ok 5
   -- how a call at fault is answered
   pub statuses : map nlm_status_of (StaleHandle ∷ NotRegular ∷ RangeTooBig ∷ ReadOnly ∷ []) ≡
       status.StaleHandle ∷ status.Failed ∷ status.FileTooBig ∷ status.ReadOnly ∷ []
@@ -107,7 +107,7 @@ pub record WorkedChecks : Type 0 where
       tested.StaleHandle ∷ tested.Failed ∷ tested.FileTooBig ∷ tested.ReadOnly ∷ []
 
 pub record WorkedLocking : Type 0 where
-  pub locks : NlmStep written nobody (nlm.Lock (locking a 0 100 true))
+  pub locks : NlmStep with_hi nobody (nlm.Lock (locking a 0 100 true))
       (nlm_replies.Lock (result_with (1 ∷ []) status.Granted)) [] with_whole
   pub unlocks : NlmStep with_whole nobody (nlm.Unlock giving_back)
       (nlm_replies.Unlock (result_with (2 ∷ []) status.Granted)) [] with_split
@@ -123,13 +123,13 @@ pub record WorkedLocking : Type 0 where
   pub tests : NlmStep with_split nobody (nlm.Test testing)
       (nlm_replies.Test (record { cookie = 4 ∷ []; status = tested.Denied (holder 0 40) })) [] with_split
   -- a MSG form has its result in a call of the server's own
-  pub posts : NlmStep written nobody (nlm.LockMsg (locking a 0 100 true)) nlm_replies.LockMsg
+  pub posts : NlmStep with_hi nobody (nlm.LockMsg (locking a 0 100 true)) nlm_replies.LockMsg
       (record { host = codes "10.0.0.1"; call = callbacks.LockRes (result_with (1 ∷ []) status.Granted) } ∷ [])
       with_whole
   pub posts_denied : NlmStep with_split nobody (nlm.LockMsg (locking b 30 1 false)) nlm_replies.LockMsg
       (record { host = codes "10.0.0.1"; call = callbacks.LockRes (result_with (1 ∷ []) status.Denied) } ∷ [])
       with_split
-  pub shares : NlmStep written nobody (nlm.Share (sharing a mode.DenyWrite access.Read))
+  pub shares : NlmStep with_hi nobody (nlm.Share (sharing a mode.DenyWrite access.Read))
       (nlm_replies.Share (result_with (5 ∷ []) status.Granted)) [] with_reader
   pub share_denied : NlmStep with_reader nobody (nlm.Share (sharing b mode.DenyNone access.Write))
       (nlm_replies.Share (result_with (5 ∷ []) status.Denied)) [] with_reader
@@ -143,10 +143,10 @@ pub record WorkedLocking : Type 0 where
       (nlm_replies.Unshare (result_with (5 ∷ []) status.Granted)) [] with_readers
   pub unshares : NlmStep with_readers nobody (nlm.Unshare (sharing a mode.DenyWrite access.Read))
       (nlm_replies.Unshare (result_with (5 ∷ []) status.Granted)) []
-      (record written { shares = with_list empty 5 (reading_too ∷ []) })
+      (record with_hi { shares = with_list empty 5 (reading_too ∷ []) })
   pub denied : NlmStep with_split nobody (nlm.NmLock (locking b 30 1 false))
       (nlm_replies.NmLock (result_with (1 ∷ []) status.Denied)) [] with_split
-  pub mounts : MountStep written nobody (mount.Mnt (codes "/a")) (mount_replies.Mnt (Ok root_bytes)) []
-      (record written { mounts = mounted (codes "10.0.0.1") (codes "/a") ∷ [] })
-  pub not_mounted : MountStep written nobody (mount.Mnt (codes "a"))
-      (mount_replies.Mnt (Err mount_status.Invalid)) [] written
+  pub mounts : MountStep with_hi nobody (mount.Mnt (codes "/a")) (mount_replies.Mnt (Ok root_bytes)) []
+      (record with_hi { mounts = mounted (codes "10.0.0.1") (codes "/a") ∷ [] })
+  pub not_mounted : MountStep with_hi nobody (mount.Mnt (codes "a"))
+      (mount_replies.Mnt (Err mount_status.Invalid)) [] with_hi

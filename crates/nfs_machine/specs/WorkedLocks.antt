@@ -17,7 +17,7 @@ use Rattle.side_wire.specs.declared.nlm.TestStatus.TheVariants as tested
 use Rattle.nfs_machine.specs.Grants.{grant_cookie, grant_message}
 use Rattle.nfs_machine.specs.FileLists.{all_but, of_file, with_list}
 use Rattle.nfs_machine.specs.LockSteps.{Tests, is_grant_number, length_shown, share_of}
-use Rattle.nfs_machine.specs.Locks.{Lists, denies, fits_offsets, modes_conflict, modes_with, range_of, same_sharer}
+use Rattle.nfs_machine.specs.Locks.{HasModes, denies, fits_offsets, modes_conflict, modes_with, range_of, same_sharer}
 use Rattle.nfs_machine.specs.Locks.{shares_conflict, Mode}
 use Rattle.nfs_machine.specs.MountSteps.{MountStep, walk, with_mount}
 use Rattle.nfs_machine.specs.State.{Lock, Owner, Request, Share, State, Range}
@@ -81,7 +81,7 @@ pub record WorkedRanges : Type 0 where
   pub shown : length_shown 60 99 ≡ 40
   pub shown_to_end : length_shown 200 (2 ^ 64 - 1) ≡ 0
   -- LOCK of 0 to 99
-  pub locked : Lists whole (modes_with [] (range_at a 0 100) Exclusive)
+  pub locked : HasModes whole (modes_with [] (range_at a 0 100) Exclusive)
   -- UNLOCK of 20 bytes from 40 on
   pub at_39 : modes_with whole (range_at a 40 20) Unlocked a 39 ≡ Exclusive
   pub at_40 : modes_with whole (range_at a 40 20) Unlocked a 40 ≡ Unlocked

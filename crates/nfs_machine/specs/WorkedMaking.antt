@@ -29,7 +29,7 @@ use Rattle.nfs_machine.specs.WorkedFiles.{time}
 use Rattle.nfs_machine.specs.WorkedNames.{disk}
 use Rattle.nfs_machine.specs.WorkedPages.{seven}
 use Rattle.nfs_machine.specs.WorkedReplies.{root}
-use Rattle.nfs_machine.specs.WorkedRun.{in_root, nobody, opened, written}
+use Rattle.nfs_machine.specs.WorkedRun.{in_root, nobody, opened, with_hi}
 
 -- "d" is made in the root, with the number 5 and the generation 1
 abbrev pub d_entry : Entry
@@ -60,8 +60,8 @@ with_new o = record opened {
   spent = λ n g. ((n == 5) && (g == 1)) || opened.spent n g;
 }
 
-abbrev pub empty_directory : Living
-empty_directory = new 493 (Directory [] 2)
+abbrev pub bare_directory : Living
+bare_directory = new 493 (Directory [] 2)
 
 abbrev pub made_as : Living → MadeReply
 made_as o = record {
@@ -93,10 +93,10 @@ exclusive name = record { place = in_root name; how = Exclusive (record { bytes 
 
 -- what is made, and what is not
 pub record WorkedMaking : Type 0 where
-  pub directory : NfsStep opened nobody (nfs.Mkdir (mkdir (codes "d"))) (nfs_replies.Mkdir (made_as empty_directory)) []
-      (with_new empty_directory)
+  pub directory : NfsStep opened nobody (nfs.Mkdir (mkdir (codes "d"))) (nfs_replies.Mkdir (made_as bare_directory)) []
+      (with_new bare_directory)
   -- the root has one link more
-  pub links : links_of (with_new empty_directory) 1 root_with_d.content ≡ 3
+  pub links : links_of (with_new bare_directory) 1 root_with_d.content ≡ 3
   pub above : NfsStep opened nobody (nfs.Mkdir (mkdir (codes "..")))
       (nfs_replies.Mkdir (not_made opened status.Exists)) [] opened
   pub link : NfsStep opened nobody (nfs.Symlink (symlink (codes "x")))
@@ -115,10 +115,10 @@ pub record WorkedMaking : Type 0 where
       (nfs_replies.Create (not_made opened status.NameTooLong)) [] opened
   pub no_name : NfsStep opened nobody (nfs.Create (guarded []))
       (nfs_replies.Create (not_made opened status.Access)) [] opened
-  pub there : NfsStep written nobody (nfs.Create (guarded (codes "x")))
-      (nfs_replies.Create (not_made written status.Exists)) [] written
-  pub over_directory : NfsStep (with_new empty_directory) nobody (nfs.Create (exclusive (codes "d")))
-      (nfs_replies.Create (not_made (with_new empty_directory) status.Exists)) [] (with_new empty_directory)
+  pub there : NfsStep with_hi nobody (nfs.Create (guarded (codes "x")))
+      (nfs_replies.Create (not_made with_hi status.Exists)) [] with_hi
+  pub over_directory : NfsStep (with_new bare_directory) nobody (nfs.Create (exclusive (codes "d")))
+      (nfs_replies.Create (not_made (with_new bare_directory) status.Exists)) [] (with_new bare_directory)
 
 -- what is not taken away
 pub record WorkedTaking : Type 0 where
@@ -128,11 +128,11 @@ pub record WorkedTaking : Type 0 where
       (nfs_replies.Rmdir (not_removed opened status.Exists)) [] opened
   pub nothing : NfsStep opened nobody (nfs.Rmdir (in_root (codes "d")))
       (nfs_replies.Rmdir (not_removed opened status.NoEntry)) [] opened
-  pub file : NfsStep written nobody (nfs.Rmdir (in_root (codes "x")))
-      (nfs_replies.Rmdir (not_removed written status.NotDirectory)) [] written
+  pub file : NfsStep with_hi nobody (nfs.Rmdir (in_root (codes "x")))
+      (nfs_replies.Rmdir (not_removed with_hi status.NotDirectory)) [] with_hi
   pub remove_self : NfsStep opened nobody (nfs.Remove (in_root (codes ".")))
       (nfs_replies.Remove (not_removed opened status.Invalid)) [] opened
   pub remove_above : NfsStep opened nobody (nfs.Remove (in_root (codes "..")))
       (nfs_replies.Remove (not_removed opened status.Invalid)) [] opened
-  pub directory : NfsStep (with_new empty_directory) nobody (nfs.Remove (in_root (codes "d")))
-      (nfs_replies.Remove (not_removed (with_new empty_directory) status.IsDirectory)) [] (with_new empty_directory)
+  pub directory : NfsStep (with_new bare_directory) nobody (nfs.Remove (in_root (codes "d")))
+      (nfs_replies.Remove (not_removed (with_new bare_directory) status.IsDirectory)) [] (with_new bare_directory)

@@ -16,7 +16,7 @@ use Rattle.nfs_machine.specs.Checks.{plain_name_checked, entry_of}
 use Rattle.nfs_machine.specs.FileLists.{with_list}
 use Rattle.nfs_machine.specs.MakeSteps.{wanted_of, wanted_special}
 use Rattle.nfs_machine.specs.Making.{Wanted, given_attributes, kind_checked, new_object}
-use Rattle.nfs_machine.specs.Refusal.{nothing}
+use Rattle.nfs_machine.specs.Refusal.{no_wcc}
 use Rattle.nfs_machine.specs.RemoveSteps.{empty_directory, losing_name, not_directory, without, without_object}
 use Rattle.nfs_machine.specs.RenameSteps.{IsWithin, RenameEnds, is_compatible, move_plan}
 use Rattle.nfs_wire.specs.declared.calls.RenameArguments.{RenameArguments}
@@ -169,7 +169,7 @@ pub record WorkedLinks : Type 0 where
   pub taken_name : is_none (entry_of both_entries (codes "b")) ≡ false
   pub free_name : is_none (entry_of both_entries (codes "c")) ≡ true
   -- of two handles, the second is not looked at where the first names nothing
-  pub not_read : (m : State) (o : Living) → wcc m (after_first Stale (Names 2 o)) ≡ nothing
+  pub not_read : (m : State) (o : Living) → wcc m (after_first Stale (Names 2 o)) ≡ no_wcc
   pub read : (o : Living) → after_first (Names 4 o) Stale ≡ Stale
 
 -- "a" of a directory becomes "b" of another, or of the same

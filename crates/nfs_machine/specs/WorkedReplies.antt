@@ -91,13 +91,13 @@ abbrev pub with_room : ℕ → Ctx
 with_room bytes = record (called_as 0) { limits = record { total_bytes = bytes } }
 
 -- a call that is answered so, puts no message and changes nothing
-abbrev pub IsAnswered : State → Ctx → NfsCall → NfsReply → Type 0
-IsAnswered m ctx call reply = NfsStep m ctx call reply [] m
+abbrev pub IsReplied : State → Ctx → NfsCall → NfsReply → Type 0
+IsReplied m ctx call reply = NfsStep m ctx call reply [] m
 
 -- what is answered in a state with the file
 pub record WorkedFileReplies : Type 0 where
   pub guarded : (m : State) → HasFile m →
-      IsAnswered (with_writable m) (called_as 0) (calls.Setattr (setting_mode (time 1000 0))) (replies.Setattr (record {
+      IsReplied (with_writable m) (called_as 0) (calls.Setattr (setting_mode (time 1000 0))) (replies.Setattr (record {
         wcc = record { before = Some file_before; after = Some (file_shown 420 (time 1000 1)) };
         result = Err status.NotSynchronized;
       }))
@@ -107,28 +107,28 @@ pub record WorkedFileReplies : Type 0 where
         result = Ok tt;
       })) [] (with_object (with_writable m) 2 (record known_file { mode = 384; changed = time 1000 2 }))
   pub access : (m : State) → HasFile m
-      → IsAnswered (with_writable m) (called_as 5) (calls.Access (record { object = file_bytes; rights = 63 }))
+      → IsReplied (with_writable m) (called_as 5) (calls.Access (record { object = file_bytes; rights = 63 }))
       (replies.Access (record { attributes = Some (file_shown 420 (time 1000 1)); result = Ok 1 }))
   pub no_link : (m : State) → HasFile m
-      → IsAnswered (with_writable m) (called_as 0) (calls.Readlink file_bytes)
+      → IsReplied (with_writable m) (called_as 0) (calls.Readlink file_bytes)
       (replies.Readlink (record { attributes = Some (file_shown 420 (time 1000 1)); result = Err status.Invalid }))
   pub committed : (m : State) → HasFile m →
-      IsAnswered (with_writable m) (called_as 5) (calls.Commit (record { file = file_bytes; offset = 0; count = 0 }))
+      IsReplied (with_writable m) (called_as 5) (calls.Commit (record { file = file_bytes; offset = 0; count = 0 }))
       (replies.Commit (record {
         wcc = record { before = Some file_before; after = Some (file_shown 420 (time 1000 1)) };
         result = Ok (record { bytes = 0 ∷ 0 ∷ 0 ∷ 0 ∷ 0 ∷ 0 ∷ 0 ∷ 7 ∷ [] });
       }))
   pub limits : (m : State) → HasFile m
-      → IsAnswered (with_writable m) (called_as 0) (calls.Pathconf file_bytes)
+      → IsReplied (with_writable m) (called_as 0) (calls.Pathconf file_bytes)
       (replies.Pathconf (record { attributes = Some (file_shown 420 (time 1000 1)); result = Ok path_limits }))
   pub bad_handle : (m : State) →
-      IsAnswered (with_writable m) (called_as 0) (calls.Fsinfo (take 31 file_bytes))
+      IsReplied (with_writable m) (called_as 0) (calls.Fsinfo (take 31 file_bytes))
       (replies.Fsinfo (record { attributes = None; result = Err status.BadHandle }))
 
 -- and in the state of a fresh export
 pub record WorkedRootReplies : Type 0 where
   pub space : (m : State) → HasRootAlone m →
-      IsAnswered (with_writable m) (with_room 1099511627776) (calls.Fsstat root_bytes) (replies.Fsstat (record {
+      IsReplied (with_writable m) (with_room 1099511627776) (calls.Fsstat root_bytes) (replies.Fsstat (record {
         attributes = Some root_shown;
         result = Ok (record {
           total_bytes = 1099511627776;
@@ -141,10 +141,10 @@ pub record WorkedRootReplies : Type 0 where
         });
       }))
   pub system : (m : State) → HasRootAlone m →
-      IsAnswered (with_writable m) (called_as 0) (calls.Fsinfo root_bytes)
+      IsReplied (with_writable m) (called_as 0) (calls.Fsinfo root_bytes)
       (replies.Fsinfo (record { attributes = Some root_shown; result = Ok file_system }))
   pub no_file : (m : State) → HasRootAlone m →
-      IsAnswered (with_writable m) (called_as 0) (calls.Commit (record { file = root_bytes; offset = 0; count = 0 }))
+      IsReplied (with_writable m) (called_as 0) (calls.Commit (record { file = root_bytes; offset = 0; count = 0 }))
       (replies.Commit (record {
         wcc = record {
           before = Some (record { size = 4096; modified = time 1000 0; changed = time 1000 0 });

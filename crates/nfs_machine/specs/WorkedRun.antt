@@ -32,7 +32,7 @@ use Rattle.nfs_machine.specs.NameSteps.{wanted_file}
 use Rattle.nfs_machine.specs.NfsSteps.{NfsStep}
 use Rattle.nfs_machine.specs.Opening.{opening}
 use Rattle.nfs_machine.specs.PageSteps.{page_entry}
-use Rattle.nfs_machine.specs.Readings.{Between, Reads, ReadsPage, StaysThrough, Throughout, Turn, named_in, steps_of}
+use Rattle.nfs_machine.specs.Readings.{Between, ReadsAll, ReadsPage, StaysThrough, Throughout, Turn, named_in, steps_of}
 use Rattle.nfs_machine.specs.RemoveSteps.{without, without_object}
 use Rattle.nfs_machine.specs.RenameSteps.{rename_plan}
 use Rattle.nfs_machine.specs.Resolve.{resolve}
@@ -71,8 +71,8 @@ received call =
 abbrev pub arrives : NfsCall → Arrival
 arrives call = FromHost (received call)
 
-abbrev pub header_of : NfsCall → CallHeader
-header_of call = record {
+abbrev pub nfs_header : NfsCall → CallHeader
+nfs_header call = record {
   xid = 9;
   program = programs.Nfs;
   procedure = procedure_of call;
@@ -126,13 +126,13 @@ writing = record { file = x_bytes; offset = 0; count = 2; stable = FileSync; «d
 abbrev pub x_written : Living
 x_written = with_content x (time 1000 0) (Regular (codes "hi"))
 
-abbrev pub written : State
-written = with_object with_x 5 x_written
+abbrev pub with_hi : State
+with_hi = with_object with_x 5 x_written
 
 abbrev pub wrote_reply : NfsReply
 wrote_reply = nfs_replies.Write
     (record {
-      wcc = wcc written (resolve with_x nobody x_bytes);
+      wcc = wcc with_hi (resolve with_x nobody x_bytes);
       result = Ok (record { count = 2; committed = FileSync; verifier = seven });
     })
 
@@ -142,11 +142,11 @@ records = executed (nfs.Create making) made_reply ∷ executed (nfs.Write writin
 -- The run, of hosts whose names are within their bound. The root lives under its handle from the beginning to the
 -- end, and was changed.
 pub record WorkedRun : Type 0 where
-  pub run : Run setting opened records written
+  pub run : Run setting opened records with_hi
   pub hosts : AllByRecursion (λ (r : Record). HostFits r.arrival) records
   pub given : opened.spent 1 root.generation ≡ true
   pub first : get opened.objects 1 ≡ Some root
-  pub last : get written.objects 1 ≡ Some root_with_x
+  pub last : get with_hi.objects 1 ≡ Some root_with_x
   pub later : is_earlier root.changed root_with_x.changed ≡ true
 
 -- the root is listed by both procedures, and "x" is removed; a WRITE whose count is not that of its data is refused
@@ -164,7 +164,7 @@ abbrev pub root_after : Living
 root_after = with_content root_with_x (time 1000 0) (Directory [] 3)
 
 abbrev pub removed : State
-removed = without_object (with_object written 1 root_after) 5
+removed = without_object (with_object with_hi 1 root_after) 5
 
 abbrev pub miscounted : WriteArguments
 miscounted = record writing { count = 3 }
@@ -172,14 +172,14 @@ miscounted = record writing { count = 3 }
 abbrev pub listed_reply : NfsReply
 listed_reply = nfs_replies.Readdir
     (record {
-      attributes = shown written (resolve written nobody root_bytes);
+      attributes = shown with_hi (resolve with_hi nobody root_bytes);
       result = Ok (record { verifier = seven; entries = map page_entry all_three; eof = true });
     })
 
 -- with what each name leads to: the root twice, and the file
 abbrev pub full : Entry → Living → List ℕ → FullEntry
 full e o handle = record
-    { entry = page_entry e; attributes = Some (attributes_of written e.number o); object = Some handle }
+    { entry = page_entry e; attributes = Some (attributes_of with_hi e.number o); object = Some handle }
 
 abbrev pub full_three : List FullEntry
 full_three =
@@ -190,22 +190,22 @@ full_three =
 abbrev pub listed_full_reply : NfsReply
 listed_full_reply = nfs_replies.Readdirplus
     (record {
-      attributes = shown written (resolve written nobody root_bytes);
+      attributes = shown with_hi (resolve with_hi nobody root_bytes);
       result = Ok (record { verifier = seven; entries = full_three; eof = true });
     })
 
 abbrev pub removed_reply : NfsReply
 removed_reply = nfs_replies.Remove
-    (record { directory = wcc removed (resolve written nobody root_bytes); result = Ok tt })
+    (record { directory = wcc removed (resolve with_hi nobody root_bytes); result = Ok tt })
 
 abbrev pub refused_reply : NfsReply
 refused_reply = nfs_replies.Write
     (record { wcc = wcc with_x (resolve with_x nobody x_bytes); result = Err status.Invalid })
 
 pub record WorkedSteps : Type 0 where
-  pub listed : NfsStep written nobody (nfs.Readdir listing) listed_reply [] written
-  pub listed_full : NfsStep written nobody (nfs.Readdirplus listing_full) listed_full_reply [] written
-  pub removes : NfsStep written nobody (nfs.Remove (in_root (codes "x"))) removed_reply [] removed
+  pub listed : NfsStep with_hi nobody (nfs.Readdir listing) listed_reply [] with_hi
+  pub listed_full : NfsStep with_hi nobody (nfs.Readdirplus listing_full) listed_full_reply [] with_hi
+  pub removes : NfsStep with_hi nobody (nfs.Remove (in_root (codes "x"))) removed_reply [] removed
   pub refuses : NfsStep with_x nobody (nfs.Write miscounted) refused_reply [] with_x
 
 -- LINK of "x" under another name
@@ -342,7 +342,7 @@ abbrev pub second_step : Transition
 second_step = record {
   ctx = nobody;
   call = calls.Nfs (nfs.Readdir second_listing);
-  reply = replies.Nfs (page_reply written (x_entry ∷ []) true);
+  reply = replies.Nfs (page_reply with_hi (x_entry ∷ []) true);
   messages = [];
 }
 
@@ -351,10 +351,10 @@ turns = ReadsPage first_step first_two ∷ Between write_step ∷ ReadsPage seco
 
 pub record WorkedTurns : Type 0 where
   pub formed : WellFormed with_x
-  pub chain : Chain with_x (steps_of turns) written
-  pub reads : Reads root_bytes 0 turns
-  pub stays : StaysThrough root_bytes x_entry with_x turns written chain
-  pub name_stays : Throughout (λ m. named_in m 1 (codes "x") ≡ Some 5) with_x (steps_of turns) written chain
+  pub chain : Chain with_x (steps_of turns) with_hi
+  pub reads : ReadsAll root_bytes 0 turns
+  pub stays : StaysThrough root_bytes x_entry with_x turns with_hi chain
+  pub name_stays : Throughout (λ m. named_in m 1 (codes "x") ≡ Some 5) with_x (steps_of turns) with_hi chain
   -- and so does "."
-  pub self_stays : StaysThrough root_bytes (record { name = codes "."; number = 1; cookie = 1 }) with_x turns written
+  pub self_stays : StaysThrough root_bytes (record { name = codes "."; number = 1; cookie = 1 }) with_x turns with_hi
       chain

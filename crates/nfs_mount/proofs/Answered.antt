@@ -8,7 +8,7 @@ use Rattle.side_wire.specs.declared.mount.MountStatus.{MountStatus}
 use Rattle.side_wire.specs.declared.mount.MountStatus.TheVariants.{Access}
 use Rattle.nfs_machine.proofs.Ordered.{opened-root}
 use Rattle.nfs_machine.specs.Exports.{LivingExport, opening_exports}
-use Rattle.nfs_machine.specs.MountSteps.{Chosen, MountStep, NoExport, Target, handle_at, is_mounted, newest, path_fault}
+use Rattle.nfs_machine.specs.MountSteps.{LongestMatch, MountStep, NoExport, Target, handle_at, is_mounted, newest, path_fault}
 use Rattle.nfs_machine.specs.MountSteps.{walk}
 use Rattle.nfs_machine.specs.Paths.{parts}
 use Rattle.nfs_machine.specs.State.{Living, State}
@@ -26,8 +26,8 @@ use Rattle.nfs_objects.specs.declared.address.Addr.TheVariants.{Mounts}
 use Rattle.nfs_objects.specs.declared.object.Inode as inodes
 use Rattle.nfs_objects.specs.declared.object.Mount as tables
 use Rattle.nfs_objects.specs.declared.object.Object.{Object}
-use Rattle.nfs_mount.specs.Tables.{Adds, StoresMounts}
-use Rattle.nfs_mount.specs.Walks.{Agrees, Ends, IsNamed}
+use Rattle.nfs_mount.specs.Tables.{AddsMount, StoresMounts}
+use Rattle.nfs_mount.specs.Walks.{Agrees, EndsAt, IsTargetOf}
 use Rattle.nfs_mount.proofs.Walked.{ended}
 
 pub null_answered : (ctx : Ctx) (view : ViewValue) → HoldsUnchanged (Mount calls.Null) ctx view (answers.Mount replies.Null)
@@ -56,17 +56,17 @@ module _ (ctx : Ctx) (view : ViewValue) (path : List ℕ) where
         }
 
     module _ (root : ℕ) (rest : List (List ℕ))
-        (chosen : Chosen (opening_exports ctx.exports) ctx.host (parts path) root rest) where
+        (chosen : LongestMatch (opening_exports ctx.exports) ctx.host (parts path) root rest) where
       agrees : (s : Store) (m : State) → Represents s m → Fits view s → Agrees view (get m.objects)
       agrees s m stands fits = λ n known seen. lives-seen s m view n known stands fits seen
 
       -- it is chosen in the state, and its root has its number
       chosen-in : (m : State) → HasExports ctx.exports m →
-          (c : Chosen m.exports ctx.host (parts path) root rest) × (c.leads.export.root ≡ root)
+          (c : LongestMatch m.exports ctx.host (parts path) root rest) × (c.matches.export.root ≡ root)
       chosen-in m exports =
-          subst (λ (es : List LivingExport). (c : Chosen es ctx.host (parts path) root rest) ×
-          (c.leads.export.root ≡ root)) (sym exports)
-          (chosen, opened-root ctx.exports root chosen.leads.export chosen.leads.stands)
+          subst (λ (es : List LivingExport). (c : LongestMatch es ctx.host (parts path) root rest) ×
+          (c.matches.export.root ≡ root)) (sym exports)
+          (chosen, opened-root ctx.exports root chosen.matches.export chosen.matches.stands)
 
       target : (m : State) (found : Result (ℕ × Living) MountStatus) → HasExports ctx.exports m →
           walk (get m.objects) root rest ≡ found → Target m ctx path found
@@ -87,16 +87,16 @@ module _ (ctx : Ctx) (view : ViewValue) (path : List ℕ) where
         );
       }
 
-      pub named : (number : ℕ) (inode : inodes.Inode) → Ends view root rest number inode →
-          IsNamed ctx view path number inode
+      pub named : (number : ℕ) (inode : inodes.Inode) → EndsAt view root rest number inode →
+          IsTargetOf ctx view path number inode
       named number inode ends = record {
         target = λ s m stands sound exports fits. target m (Ok (number, living_of_inode inode)) exports
             (ended view root rest number inode ends (get m.objects) (agrees s m stands fits));
       }
 
-  module _ (number : ℕ) (inode : inodes.Inode) (known : Option Object) (handle : List ℕ) (named : IsNamed ctx view path number inode)
+  module _ (number : ℕ) (inode : inodes.Inode) (known : Option Object) (handle : List ℕ) (named : IsTargetOf ctx view path number inode)
       (seen : seen_at view.entries Mounts ≡ Some known) (is : handle ≡ handle_at ctx number (living_of_inode inode)) where
-    pub listed_answered : Adds known ctx.host path None → HoldsUnchanged (Mount (calls.Mnt path)) ctx view (answers.Mount (replies.Mnt (Ok handle)))
+    pub listed_answered : AddsMount known ctx.host path None → HoldsUnchanged (Mount (calls.Mnt path)) ctx view (answers.Mount (replies.Mnt (Ok handle)))
     unfolding MountStep
     listed_answered listed = record {
       step = λ s m stands sound exports fits. (
@@ -112,7 +112,7 @@ module _ (ctx : Ctx) (view : ViewValue) (path : List ℕ) where
       );
     }
 
-    pub added_answered : (table : List tables.Mount) → Adds known ctx.host path (Some table) → StoresMounts (Mount (calls.Mnt path)) ctx view table (answers.Mount (replies.Mnt (Ok handle)))
+    pub added_answered : (table : List tables.Mount) → AddsMount known ctx.host path (Some table) → StoresMounts (Mount (calls.Mnt path)) ctx view table (answers.Mount (replies.Mnt (Ok handle)))
     unfolding MountStep
     added_answered table adds = record {
       seen = subst (λ o. IsSome o) (sym seen) refl;

@@ -9,7 +9,7 @@ use Rattle.std.specs.List.{slice_get}
 use Rattle.nfs_machine.specs.Exports.{ExportValue, LivingExport, admits, export_at, export_value, opening_exports}
 use Rattle.nfs_machine.proofs.Exported.{export-all, export-number}
 use Rattle.nfs_machine.proofs.Ordered.{all-numbered, opened-at, opened-zero, with_number}
-use Rattle.nfs_machine.specs.MountSteps.{Chosen, Leads}
+use Rattle.nfs_machine.specs.MountSteps.{LongestMatch, Matches}
 use Rattle.nfs_machine.specs.Paths.{parts}
 use Rattle.nfs_machine.specs.declared.exports.Export.{Export}
 use Rattle.nfs_mount.specs.declared.choice.Choice.{Choice}
@@ -18,11 +18,11 @@ use Rattle.nfs_mount.specs.Choices.{IsLead, LeadsNot, deeper_of}
 -- of the exports with these first numbers, this is the one that leads there and leaves the least, or none does
 abbrev pub IsBestOf : ℕ → List ExportValue → List ℕ → List (List ℕ) → Option Choice → Type 0
 IsBestOf count exports host names None = (number : ℕ) (rest : List (List ℕ)) → number ≤ count →
-    Leads (opening_exports exports) host names number rest → ⊥
+    Matches (opening_exports exports) host names number rest → ⊥
 IsBestOf count exports host names (Some best) =
-    Leads (opening_exports exports) host names best.number best.rest × (best.depth + length best.rest ≡ length names)
+    Matches (opening_exports exports) host names best.number best.rest × (best.depth + length best.rest ≡ length names)
     × ((number : ℕ) (rest : List (List ℕ)) → number ≤ count →
-    Leads (opening_exports exports) host names number rest → length best.rest ≤ length rest)
+    Matches (opening_exports exports) host names number rest → length best.rest ≤ length rest)
 
 below_or_at : (n i : ℕ) → n ≤ i + 1 → (n ≤ i) ⊎ (n ≡ i + 1)
 below_or_at n i le = elim (cases_lt n (i + 1)) [ inl less ↦ inl (omega arith) | inr more ↦ inr (omega arith) ]
@@ -38,7 +38,7 @@ module _ (exports : List ExportValue) (host : List ℕ) (names : List (List ℕ)
 
   -- what leads there by a number is the export with it
   leads_by : (i : ℕ) (e : ExportValue) (rest : List (List ℕ)) → slice_get exports i ≡ Some e →
-      Leads (opening_exports exports) host names (i + 1) rest → (admits e host ≡ true) ×
+      Matches (opening_exports exports) host names (i + 1) rest → (admits e host ≡ true) ×
       (names ≡ parts e.path ++ rest)
   leads_by i e rest at leads =
       let both : Some (with_number (i + 1) e) ≡ Some leads.export = sym (at_number i e at) ∙ leads.stands in
@@ -49,7 +49,7 @@ module _ (exports : List ExportValue) (host : List ℕ) (names : List (List ℕ)
 
   leads_to : (i : ℕ) (e : ExportValue) (c : Choice) → slice_get exports i ≡ Some e →
       IsLead (i + 1) e host names c →
-      Leads (opening_exports exports) host names c.number c.rest
+      Matches (opening_exports exports) host names c.number c.rest
   leads_to i e c at lead = record {
     export = with_number (i + 1) e;
     stands = ap (export_at (opening_exports exports)) lead.number_is ∙ at_number i e at;
@@ -64,15 +64,15 @@ module _ (exports : List ExportValue) (host : List ℕ) (names : List (List ℕ)
   module _ (i : ℕ) (e : ExportValue) (at : slice_get exports i ≡ Some e) where
     upto : (P : List (List ℕ) → Type 0) →
         ((number : ℕ) (rest : List (List ℕ)) → number ≤ i →
-        Leads (opening_exports exports) host names number rest → P rest)
+        Matches (opening_exports exports) host names number rest → P rest)
         → ((rest : List (List ℕ)) → admits e host ≡ true → names ≡ parts e.path ++ rest → P rest)
         → (number : ℕ) (rest : List (List ℕ)) → number ≤ i + 1 →
-        Leads (opening_exports exports) host names number rest → P rest
+        Matches (opening_exports exports) host names number rest → P rest
     upto P old new number rest le leads =
         elim (below_or_at number i le) [
           | inl less ↦ old number rest less leads
           | inr same ↦ (let l = leads_by i e rest at
-              (subst (λ n. Leads (opening_exports exports) host names n rest) same leads) in new rest l.0 l.1)
+              (subst (λ n. Matches (opening_exports exports) host names n rest) same leads) in new rest l.0 l.1)
         ]
 
     pub best_step : (best other : Option Choice) → IsBestOf i exports host names best
@@ -104,7 +104,7 @@ module _ (exports : List ExportValue) (host : List ℕ) (names : List (List ℕ)
         ] refl
 
   number_within : (number : ℕ) (rest : List (List ℕ)) →
-      Leads (opening_exports exports) host names number rest → number ≤ length exports
+      Matches (opening_exports exports) host names number rest → number ≤ length exports
   number_within number rest leads =
       let all = all-numbered (λ (e : LivingExport). e.number ≤ length exports) exports 1
       (λ n e low high. omega (arith, high)) in
@@ -115,15 +115,15 @@ module _ (exports : List ExportValue) (host : List ℕ) (names : List (List ℕ)
   -- the best of all is chosen
   pub best_of_all : (count : ℕ) (best : Option Choice) → length exports ≤ count → IsBestOf count exports host names best
       → MatchOption best ((number : ℕ) (rest : List (List ℕ)) →
-      Leads (opening_exports exports) host names number rest → ⊥)
-      (λ c. Chosen (opening_exports exports) host names c.number c.rest)
+      Matches (opening_exports exports) host names number rest → ⊥)
+      (λ c. LongestMatch (opening_exports exports) host names c.number c.rest)
   best_of_all count None all none = λ number rest leads. none number rest (omega (arith, number_within number rest leads)) leads
   best_of_all count (Some c) all best =
-      record { leads = best.0; longest = λ number rest leads. best.2 number rest (omega (arith, number_within number rest leads)) leads }
+      record { matches = best.0; longest = λ number rest leads. best.2 number rest (omega (arith, number_within number rest leads)) leads }
 
 -- numbers are from 1, so none leads there before the first was seen
 pub none_first : (exports : List ExportValue) (host : List ℕ) (names : List (List ℕ)) (number : ℕ)
-    (rest : List (List ℕ)) → number ≤ 0 → Leads (opening_exports exports) host names number rest → ⊥
+    (rest : List (List ℕ)) → number ≤ 0 → Matches (opening_exports exports) host names number rest → ⊥
 none_first exports host names number rest le leads =
     let zero : 0 ≡ number = omega (arith, le) in
     let both : None ≡ Some leads.export =

@@ -22,7 +22,7 @@ use Rattle.nfs_machine.specs.WellFormed.{HasRoot, Leads}
 use Rattle.nfs_machine.specs.declared.context.Ctx.{Ctx}
 use Rattle.nfs_objects.proofs.Seen.{fits_at}
 use Rattle.nfs_objects.specs.Attempt.{AsksFor, Addresses}
-use Rattle.nfs_objects.specs.Rounds.{AsksFewOfSound, Round, Read, Given, Gives, GrowsBy, asked_by, empty_count, empty_wanted, view_after}
+use Rattle.nfs_objects.specs.Rounds.{AsksFewOfSound, Round, Read, Given, GivesDemand, GrowsBy, asked_by, empty_count, empty_wanted, view_after}
 use Rattle.nfs_objects.specs.Sound.{Sound, HasExports}
 use Rattle.nfs_objects.specs.Stands.{Represents, living_of}
 use Rattle.nfs_objects.specs.Store.{Store}
@@ -35,7 +35,7 @@ use Rattle.nfs_objects.specs.declared.done.Outcome.{Outcome}
 use Rattle.nfs_objects.specs.declared.done.Outcome.TheVariants.{Need, Fresh, Done}
 use Rattle.nfs_objects.specs.declared.object.Object.{Object}
 use Rattle.nfs_mount.proofs.Walked.{entry_named, walk-refused}
-use Rattle.nfs_mount.specs.Needs.{AsksForWalk, MntAsks, MountAsks, lacking, reads}
+use Rattle.nfs_mount.specs.Needs.{AsksForWalk, MntAsks, MountAsks, lacking, next_reads}
 use Rattle.nfs_mount.specs.Walks.{Agrees, ComesTo}
 
 -- what holds of all entries holds of the one with a name
@@ -189,12 +189,12 @@ module _ (s : Store) where
         let v = view_after earlier in
         let before = all-front (λ e. s.at e.0 ≡ e.1) v.entries entries fits in
         let more = each v grows.0 before grows.1 in
-        let given : of_entries entries ≡ of_asked more.0 = (subst (λ w. Gives w (Read entries)) more.1 grows.2).1 in
+        let given : of_entries entries ≡ of_asked more.0 = (subst (λ w. GivesDemand w (Read entries)) more.1 grows.2).1 in
         subst Held (ap (λ l. of_entries v.entries ++ l) (sym given) ∙ sym (map-append (λ (e : Addr × Option Object). e.0) v.entries entries)) (held-more v more.0 (grown earlier grows.3 before) more.2)
     grown (Given reserved ∷ earlier) grows fits =
         let v = view_after earlier in
         let more = each v grows.0 (all-front (λ e. s.at e.0 ≡ e.1) v.entries ((addresses.Inode reserved.number, None) ∷ []) fits) grows.1 in
-        absurd (subst (λ w. Gives w (Given reserved)) more.1 grows.2)
+        absurd (subst (λ w. GivesDemand w (Given reserved)) more.1 grows.2)
 
     few : (rounds : List Round) (outcome : Outcome) → GrowsBy comes rounds → comes (view_after rounds) outcome → FitsStore (view_after rounds)
         → empty_count s (of_entries (view_after rounds).entries) + empty_wanted s (asked_by outcome) ≤ 256
@@ -232,14 +232,14 @@ module _ (s : Store) where
     lacking-addresses (a ∷ l) = ap (λ l. a ∷ l) (lacking-addresses l)
 
     reads-bounded : (number : ℕ) (left : List (List ℕ)) → (seen_at v.entries (addresses.Inode number) ≡ None → is_none (s.at (addresses.Inode number)) ≡ false)
-        → BoundedAt v (lacking v (reads number left))
+        → BoundedAt v (lacking v (next_reads number left))
     reads-bounded number left stands =
-        subst (Bounded (is_none (seen_at v.entries addresses.Mounts))) (sym (lacking-addresses (filter (λ a. is_none (seen_at v.entries a)) (reads number left)))) (of left)
+        subst (Bounded (is_none (seen_at v.entries addresses.Mounts))) (sym (lacking-addresses (filter (λ a. is_none (seen_at v.entries a)) (next_reads number left)))) (of left)
       where
         there : is_none (seen_at v.entries (addresses.Inode number)) ≡ true → is_none (s.at (addresses.Inode number)) ≡ false
         there is = stands (none-read (seen_at v.entries (addresses.Inode number)) is)
 
-        of : (left : List (List ℕ)) → Bounded (is_none (seen_at v.entries addresses.Mounts)) (filter (λ a. is_none (seen_at v.entries a)) (reads number left))
+        of : (left : List (List ℕ)) → Bounded (is_none (seen_at v.entries addresses.Mounts)) (filter (λ a. is_none (seen_at v.entries a)) (next_reads number left))
         of [] = last-bounded number (is_none (seen_at v.entries (addresses.Inode number))) (is_none (seen_at v.entries addresses.Mounts)) there
         of (name ∷ names) = more-bounded number (is_none (seen_at v.entries (addresses.Inode number))) (is_none (seen_at v.entries addresses.Mounts)) there
 
@@ -265,12 +265,12 @@ module _ (s : Store) where
       walk-bounded : (asked : List (Addr × Mode)) → AsksForWalk ctx v path asked → BoundedAt v asked
       walk-bounded asked walk =
           let es = opening_exports ctx.exports in
-          let e = walk.chosen.leads.export in
+          let e = walk.chosen.matches.export in
           let rooted : AllByRecursion (HasRoot m) es =
           subst (AllByRecursion (HasRoot m)) exports sound.well_formed.exports.rooted in
-          let r = export-all (HasRoot m) es walk.root e rooted walk.chosen.leads.stands in
+          let r = export-all (HasRoot m) es walk.root e rooted walk.chosen.matches.stands in
           let lives : get m.objects walk.root ≡ Some r.root =
-          ap (get m.objects) (sym (opened-root ctx.exports walk.root e walk.chosen.leads.stands)) ∙ r.lives in
+          ap (get m.objects) (sym (opened-root ctx.exports walk.root e walk.chosen.matches.stands)) ∙ r.lives in
           subst (BoundedAt v) (sym walk.asked_is) (reads-bounded v walk.number walk.left
           (comes-stands walk.root r.root walk.names walk.number walk.left lives walk.comes))
 

@@ -20,8 +20,8 @@ use Rattle.nfs_objects.specs.declared.object.Content.TheVariants as contents
 use Rattle.nfs_objects.specs.declared.object.Inode.{Inode}
 use Rattle.nfs_objects.specs.declared.object.Object.{Object}
 use Rattle.nfs_objects.specs.declared.object.Object.TheVariants as objects
-use Rattle.nfs_mount.specs.Needs.{reads}
-use Rattle.nfs_mount.specs.Walks.{Agrees, ComesTo, Ends}
+use Rattle.nfs_mount.specs.Needs.{next_reads}
+use Rattle.nfs_mount.specs.Walks.{Agrees, ComesTo, EndsAt}
 use Rattle.nfs_objects.proofs.Listed.{no-leaf}
 
 -- the entry of a name, as a walk looks it up
@@ -94,7 +94,7 @@ module _ (view : ViewValue) (root : ℕ) (start : List (List ℕ)) (number : ℕ
       entries : (at : ℕ → Option Living) → Agrees view at → entries_at (at number) ≡ Ok (living_of_inode i, d.entries)
       entries at agrees = ap entries_at (here at agrees) ∙ entries-directory i i.content d refl of
 
-      pub ends : names ≡ [] → Ends view root start number i
+      pub ends : names ≡ [] → EndsAt view root start number i
       ends none = record {
         comes = subst (λ ns. ComesTo view root start number ns) none comes;
         seen = sym seen ∙ ap (λ o. Some o) (some_inode known i is);
@@ -116,7 +116,7 @@ module _ (view : ViewValue) (root : ℕ) (start : List (List ℕ)) (number : ℕ
             ∙ ap (λ n. walk at n rest) (sym e.2)
 
 -- a walk without names ends at a directory
-pub ended : (view : ViewValue) (root : ℕ) (names : List (List ℕ)) (number : ℕ) (i : Inode) → Ends view root names number i
+pub ended : (view : ViewValue) (root : ℕ) (names : List (List ℕ)) (number : ℕ) (i : Inode) → EndsAt view root names number i
     → (at : ℕ → Option Living) → Agrees view at → walk at root names ≡ Ok (number, living_of_inode i)
 ended view root names number i e at agrees =
     e.comes at agrees ∙ of i.content refl
@@ -134,10 +134,10 @@ ended view root names number i e at agrees =
     of contents.Fifo is = let no : false ≡ true = ap (λ c. is_directory (content_of c)) (sym is) ∙ e.directory in cc
 
 -- what is read next, by whether a name is left
-pub reads-last : (number : ℕ) (left : List (List ℕ)) → true ≡ (length left == 0) → reads number left ≡ addresses.Inode number ∷ addresses.Mounts ∷ []
+pub reads-last : (number : ℕ) (left : List (List ℕ)) → true ≡ (length left == 0) → next_reads number left ≡ addresses.Inode number ∷ addresses.Mounts ∷ []
 reads-last number [] is = refl
 reads-last number (name ∷ left) is = absurd (grind (arith, nat_tests))
 
-pub reads-more : (number : ℕ) (left : List (List ℕ)) → false ≡ (length left == 0) → reads number left ≡ addresses.Inode number ∷ []
+pub reads-more : (number : ℕ) (left : List (List ℕ)) → false ≡ (length left == 0) → next_reads number left ≡ addresses.Inode number ∷ []
 reads-more number [] is = absurd (grind (arith, nat_tests))
 reads-more number (name ∷ left) is = refl

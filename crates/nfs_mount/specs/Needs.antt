@@ -3,7 +3,7 @@ use Rattle.std.specs.Prelude.{◌≡◌, ℕ, List, [], ◌∷◌, map, filter, 
 use Rattle.side_wire.specs.declared.mount.MountCall.{MountCall}
 use Rattle.side_wire.specs.declared.mount.MountCall.TheVariants as calls
 use Rattle.nfs_machine.specs.Exports.{opening_exports}
-use Rattle.nfs_machine.specs.MountSteps.{Chosen, path_fault}
+use Rattle.nfs_machine.specs.MountSteps.{LongestMatch, path_fault}
 use Rattle.nfs_machine.specs.Paths.{parts}
 use Rattle.nfs_machine.specs.declared.context.Ctx.{Ctx}
 use Rattle.nfs_objects.specs.Attempt.{AsksFor}
@@ -27,9 +27,9 @@ IsDoneOrNeeds wanted (Fresh count) = ⊥
 IsDoneOrNeeds wanted (Done done) = Unit {0}
 
 -- what a walk of these names from a number reads next: what stands there, and where no name is left the table of mounts
-abbrev pub reads : ℕ → List (List ℕ) → List Addr
-reads number [] = Inode number ∷ Mounts ∷ []
-reads number (name ∷ names) = Inode number ∷ []
+abbrev pub next_reads : ℕ → List (List ℕ) → List Addr
+next_reads number [] = Inode number ∷ Mounts ∷ []
+next_reads number (name ∷ names) = Inode number ∷ []
 
 -- the path is sane, an export is chosen, its walk comes to a number as far as the view shows, and what it reads next
 -- and the view has not is asked for
@@ -38,11 +38,11 @@ pub record AsksForWalk (ctx : Ctx) (view : ViewValue) (path : List ℕ) (asked :
   -- the number of the export, which its root has too where a server opens with the context's exports
   pub root : ℕ
   pub names : List (List ℕ)
-  pub chosen : Chosen (opening_exports ctx.exports) ctx.host (parts path) root names
+  pub chosen : LongestMatch (opening_exports ctx.exports) ctx.host (parts path) root names
   pub number : ℕ
   pub left : List (List ℕ)
   pub comes : ComesTo view root names number left
-  pub asked_is : asked ≡ lacking view (reads number left)
+  pub asked_is : asked ≡ lacking view (next_reads number left)
 
 abbrev pub MntAsks : Ctx → ViewValue → List ℕ → Outcome → Type 0
 MntAsks ctx view path (Need addresses) = AsksForWalk ctx view path addresses.items

@@ -24,9 +24,9 @@ pub record StoresMounts (call : Call) (ctx : Ctx) (view : ViewValue) (table : Li
       → Step m ctx call reply [] (record m { mounts = map mounted_of table })
 
 -- the table with the pair added last, or none where it is listed already
-abbrev pub Adds : Option Object → List ℕ → List ℕ → Option (List Mount) → Type 0
-Adds known host path None = is_mounted (mounts_of known) (mounted host path) ≡ true
-Adds known host path (Some table) =
+abbrev pub AddsMount : Option Object → List ℕ → List ℕ → Option (List Mount) → Type 0
+AddsMount known host path None = is_mounted (mounts_of known) (mounted host path) ≡ true
+AddsMount known host path (Some table) =
     (is_mounted (mounts_of known) (mounted host path) ≡ false)
     × (map mounted_of table ≡ newest (mounts_of known ++ mounted host path ∷ []))
 

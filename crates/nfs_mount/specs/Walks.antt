@@ -28,13 +28,14 @@ ComesTo view root names number left =
     (find : ℕ → Option Living) → Agrees view find → walk find root names ≡ walk find number left
 
 -- the walk ends at a directory that the view shows
-pub record Ends (view : ViewValue) (root : ℕ) (names : List (List ℕ)) (number : ℕ) (inode : Inode) : Type 0 where
+pub record EndsAt (view : ViewValue) (root : ℕ) (names : List (List ℕ))
+    (number : ℕ) (inode : Inode) : Type 0 where
   pub comes : ComesTo view root names number []
   pub seen : seen_at view.entries (addresses.Inode number) ≡ Some (Some (objects.Inode inode))
   pub directory : is_directory (content_of inode.content) ≡ true
 
 -- the walk stands at a number that the view has not shown, and this tells whether no name is left
-pub record Stops (view : ViewValue) (root : ℕ) (names : List (List ℕ))
+pub record StopsAt (view : ViewValue) (root : ℕ) (names : List (List ℕ))
     (number : ℕ) (is_last : Bool) : Type 0 where
   pub left : List (List ℕ)
   pub comes : ComesTo view root names number left
@@ -42,12 +43,12 @@ pub record Stops (view : ViewValue) (root : ℕ) (names : List (List ℕ))
   pub last : is_last ≡ (length left == 0)
 
 abbrev pub Walks : ViewValue → ℕ → List (List ℕ) → Walked → Type 0
-Walks view root names (Found number inode) = Ends view root names number inode.now
+Walks view root names (Found number inode) = EndsAt view root names number inode.now
 Walks view root names (Refused status) =
     (find : ℕ → Option Living) → Agrees view find → walk find root names ≡ Err status
-Walks view root names (Unread number is_last) = Stops view root names number is_last
+Walks view root names (Unread number is_last) = StopsAt view root names number is_last
 
 -- in every sound store that the view fits, the path names this inode with this number
-pub record IsNamed (ctx : Ctx) (view : ViewValue) (path : List ℕ) (number : ℕ) (inode : Inode) : Type 0 where
+pub record IsTargetOf (ctx : Ctx) (view : ViewValue) (path : List ℕ) (number : ℕ) (inode : Inode) : Type 0 where
   pub target : (s : Store) (m : State) → Represents s m → Sound s m → HasExports ctx.exports m → Fits view s →
       Target m ctx path (Ok (number, living_of_inode inode))

@@ -2,7 +2,7 @@
 
 ghost use Rattle.std.specs.Prelude.{◌≡◌, ◌+◌, ◌^◌, ◌<◌, length, MatchOption};
 ghost use Rattle.nfs_machine.specs.Exports.{export_value, opening_exports};
-ghost use Rattle.nfs_machine.specs.MountSteps.{Chosen, NoExport};
+ghost use Rattle.nfs_machine.specs.MountSteps.{LongestMatch, NoExport};
 ghost use Rattle.nfs_machine.specs.Paths.{parts};
 ghost use Rattle.nfs_mount.specs.Choices.{IsLead, LeadsNot, deeper_of};
 
@@ -25,7 +25,8 @@ pub struct Choice<'a> {
 /// is none. It takes no memory.
 pub fn choose<'a>(ctx: &Ctx, path: &'a [u8]) -> Option<Choice<'a>>
     ensures { MatchOption result (NoExport (opening_exports ctx.now.exports) ctx.now.host (parts path.now))
-        (λ choice. Chosen (opening_exports ctx.now.exports) ctx.now.host (parts path.now) choice.number choice.rest) }
+        (λ choice.
+        LongestMatch (opening_exports ctx.now.exports) ctx.now.host (parts path.now) choice.number choice.rest) }
 {
     let mut best = None;
     for (index, export) in ctx.exports.list().iter().enumerate() {

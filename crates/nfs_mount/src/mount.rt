@@ -2,13 +2,13 @@
 
 ghost use Rattle.std.specs.Prelude.{◌≡◌, [], ◌∷◌, IfOk, Err, None, is_none};
 ghost use Rattle.nfs_machine.specs.Exports.{opening_exports};
-ghost use Rattle.nfs_machine.specs.MountSteps.{Chosen, path_fault};
+ghost use Rattle.nfs_machine.specs.MountSteps.{LongestMatch, path_fault};
 ghost use Rattle.nfs_machine.specs.Paths.{parts};
 ghost use Rattle.nfs_objects.specs.Attempt.{Attempts, IsDone, IsNeed};
 ghost use Rattle.nfs_objects.specs.Endings.{HoldsUnchanged, only_answered};
 ghost use Rattle.nfs_objects.specs.Values.{seen_at};
 ghost use Rattle.nfs_mount.specs.Needs.{IsDoneOrNeeds, MntAsks, lacking};
-ghost use Rattle.nfs_mount.specs.Walks.{IsNamed, Walks};
+ghost use Rattle.nfs_mount.specs.Walks.{IsTargetOf, Walks};
 
 use crate::choice::{Choice, choose};
 use crate::paths::{Names, path_fault};
@@ -44,7 +44,8 @@ fn enter(
     choice: Choice<'_>,
 ) -> Result<Outcome, AllocError>
     requires fault { path_fault path.now ≡ None }
-    requires chosen { Chosen (opening_exports ctx.now.exports) ctx.now.host (parts path.now) choice.number choice.rest }
+    requires chosen { LongestMatch (opening_exports ctx.now.exports) ctx.now.host (parts path.now)
+        choice.number choice.rest }
     ensures attempts { IfOk result
         (λ outcome. Attempts (Call.Mount (MountCall.Mnt path.now)) ctx.now view.now outcome) }
     ensures asks { IfOk result (MntAsks ctx.now view.now path.now) }
@@ -103,7 +104,7 @@ fn grant(
     number: u64,
     inode: &Inode,
 ) -> Result<Outcome, AllocError>
-    requires { IsNamed ctx.now view.now path.now number inode.now }
+    requires { IsTargetOf ctx.now view.now path.now number inode.now }
     ensures attempts { IfOk result
         (λ outcome. Attempts (Call.Mount (MountCall.Mnt path.now)) ctx.now view.now outcome) }
     ensures asks { IfOk result (IsDoneOrNeeds (lacking view.now (Addr.Mounts ∷ []))) }

@@ -3,8 +3,8 @@
 ghost use Rattle.std.specs.Prelude.{◌≡◌, IfOk, option_map, Some};
 ghost use Rattle.std.specs.Arc.{arc_value};
 ghost use Rattle.nfs_objects.specs.Attempt.{Attempts, IsDone};
-ghost use Rattle.nfs_objects.specs.Values.{write_value};
-ghost use Rattle.nfs_mount.specs.Tables.{Adds, StoresMounts, mounts_stored};
+ghost use Rattle.nfs_objects.specs.Values.{write_stored};
+ghost use Rattle.nfs_mount.specs.Tables.{AddsMount, StoresMounts, mounts_stored};
 
 use bytes::Bytes;
 use nfs_machine::{Call, Ctx, Reply};
@@ -19,7 +19,7 @@ pub fn with_mount(
     host: &Bytes,
     path: &Bytes,
 ) -> Result<Option<MountTable>, AllocError>
-    ensures { IfOk result (λ table. Adds (option_map arc_value known.now) host.now path.now table) }
+    ensures { IfOk result (λ table. AddsMount (option_map arc_value known.now) host.now path.now table) }
 {
     match mount_table(known) {
         Some(table) if table.is_listed(host, path) => Ok(None),
@@ -47,7 +47,7 @@ pub fn store_mounts(
 }
 
 fn write_mounts(alloc: Global, table: MountTable) -> Result<Write, AllocError>
-    ensures { IfOk result (λ write. write_value write ≡ (Addr.Mounts, Some (Object.Mounts table))) }
+    ensures { IfOk result (λ write. write_stored write ≡ (Addr.Mounts, Some (Object.Mounts table))) }
 {
     let object = Arc::new(alloc, Object::Mounts(table))?;
     Ok(Write {

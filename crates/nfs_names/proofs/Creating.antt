@@ -23,7 +23,7 @@ use Rattle.nfs_machine.specs.Exports.{LivingExport, opening_exports}
 use Rattle.nfs_machine.specs.NameSteps.{End, Known, Chosen, EndsAs, Fresh, create_existing, create_over, given_attributes, made, new_object, with_entry, wanted_file}
 use Rattle.nfs_machine.specs.Making.{make_new}
 use Rattle.nfs_machine.specs.NfsSteps.{NfsStep}
-use Rattle.nfs_machine.specs.Permission.{Changing}
+use Rattle.nfs_machine.specs.Permission.{ToChange}
 use Rattle.nfs_machine.specs.Resolve.{Resolved, resolve}
 use Rattle.nfs_machine.specs.Resolve as machine
 use Rattle.nfs_machine.specs.Shown.{attributes_at, replaced, wcc, with_content, with_object}
@@ -169,7 +169,7 @@ module _ (ctx : Ctx) (view : ViewValue) (a : CreateArguments) where
     entries ← entries_in directory.1.content
     _ ← plain_name_checked status.Exists status.Exists a.place.name
     _ ← changeable m.exports directory.1
-    _ ← permitted ctx directory.1 Changing
+    _ ← permitted ctx directory.1 ToChange
     end_in m entries directory.0 directory.1
 
   step : (m new : State) (r : Resolved) (end : Result (Made × State) NfsStatus) (reply : MadeReply) → resolve m ctx a.place.directory ≡ r
@@ -183,20 +183,20 @@ module _ (ctx : Ctx) (view : ViewValue) (a : CreateArguments) where
         answers = record { reply_is = reply-same reply _ _ (d ∙ ap (wcc (state_after m end)) (sym is)) e; no_message = refl; state_is = state };
       }
 
-  abbrev Holds : MadeReply → Type 0
-  Holds reply = HoldsUnchanged (calls.Nfs (nfs.Create a)) ctx view (answers.Nfs (replies.Create reply))
+  abbrev RepliesUnchanged : MadeReply → Type 0
+  RepliesUnchanged reply = HoldsUnchanged (calls.Nfs (nfs.Create a)) ctx view (answers.Nfs (replies.Create reply))
 
   abbrev nothing : NfsStatus → MadeReply
   nothing e = record { directory = record { before = None; after = None }; result = Err e }
 
-  pub bad_handle_holds : BadHandle ≡ found_at ctx view.entries a.place.directory → Holds (nothing status.BadHandle)
+  pub bad_handle_holds : BadHandle ≡ found_at ctx view.entries a.place.directory → RepliesUnchanged (nothing status.BadHandle)
   bad_handle_holds found = record {
     step = λ s m stands sound exports fits.
         step m m machine.BadHandle (Err status.BadHandle) (nothing status.BadHandle)
         (resolve-means s m ctx view a.place.directory BadHandle found stands exports fits) refl refl refl refl;
   }
 
-  pub stale_holds : Stale ≡ found_at ctx view.entries a.place.directory → Holds (nothing status.Stale)
+  pub stale_holds : Stale ≡ found_at ctx view.entries a.place.directory → RepliesUnchanged (nothing status.Stale)
   stale_holds found = record {
     step = λ s m stands sound exports fits.
         step m m machine.Stale (Err status.Stale) (nothing status.Stale)
@@ -214,13 +214,13 @@ module _ (ctx : Ctx) (view : ViewValue) (a : CreateArguments) where
         directory_in i.content >>= λ directory.
         plain_name_checked status.Exists status.Exists a.place.name >>= λ _.
         changeable exports (living_of_inode i) >>= λ _.
-        permitted ctx (living_of_inode i) Changing >>= λ _. Ok directory
+        permitted ctx (living_of_inode i) ToChange >>= λ _. Ok directory
 
     ends-here : (m : State) → HasExports ctx.exports m →
         end_by m (machine.Names number (living_of_inode i)) ≡ then m (directory_checked ctx i a.place.name)
     ends-here m exports =
         directory-same (plain_name_checked status.Exists status.Exists a.place.name)
-        (changeable m.exports (living_of_inode i)) (permitted ctx (living_of_inode i) Changing)
+        (changeable m.exports (living_of_inode i)) (permitted ctx (living_of_inode i) ToChange)
         (λ entries. end_in m entries number (living_of_inode i)) i.content
         ∙ ap (λ es. then m (checked_among es)) exports
 
@@ -240,7 +240,7 @@ module _ (ctx : Ctx) (view : ViewValue) (a : CreateArguments) where
     -- nothing changes
     unchanged_holds : (checked : Result Directory NfsStatus) (reply : MadeReply) (end : State → Result (Made × State) NfsStatus) → directory_checked ctx i a.place.name ≡ checked
         → ShowsWcc number i i reply.directory → ((m : State) → m ≡ state_after m (end m))
-        → ((s : Store) (m : State) → Represents s m → Sound s m → Fits view s → EndsAs m (then m checked) (end m) × (reply.result ≡ answer_of (end m))) → Holds reply
+        → ((s : Store) (m : State) → Represents s m → Sound s m → Fits view s → EndsAs m (then m checked) (end m) × (reply.result ≡ answer_of (end m))) → RepliesUnchanged reply
     unchanged_holds checked reply end is shows same ends = record {
       step = λ s m stands sound exports fits.
           let means = resolve-means s m ctx view a.place.directory (Names number i) names stands exports fits in
@@ -250,7 +250,7 @@ module _ (ctx : Ctx) (view : ViewValue) (a : CreateArguments) where
     }
 
     -- refused by a check of the directory
-    pub refused_holds : (e : NfsStatus) (reply : MadeReply) → directory_checked ctx i a.place.name ≡ Err e → ShowsWcc number i i reply.directory → reply.result ≡ Err e → Holds reply
+    pub refused_holds : (e : NfsStatus) (reply : MadeReply) → directory_checked ctx i a.place.name ≡ Err e → ShowsWcc number i i reply.directory → reply.result ≡ Err e → RepliesUnchanged reply
     refused_holds e reply is shows result = unchanged_holds (Err e) reply (λ m. Err e) is shows (λ m. refl) (λ s m stands sound fits. (refl, result))
 
     module _ (d : Directory) (checked : directory_checked ctx i a.place.name ≡ Ok d) where
@@ -266,7 +266,7 @@ module _ (ctx : Ctx) (view : ViewValue) (a : CreateArguments) where
             entry-number (entry_of d.entries a.place.name) n leads m (make_new m ctx a.place.name (wanted_file a.how) number (living_of_inode i) d.entries d.last_cookie)
             ∙ ap (create_existing m ctx a.how n) (lives-seen s m view n known stands fits seen)
 
-        pub absent_holds : (reply : MadeReply) → None ≡ inode_of known → ShowsWcc number i i reply.directory → reply.result ≡ Err status.Exists → Holds reply
+        pub absent_holds : (reply : MadeReply) → None ≡ inode_of known → ShowsWcc number i i reply.directory → reply.result ≡ Err status.Exists → RepliesUnchanged reply
         absent_holds reply none shows result = unchanged_holds (Ok d) reply (λ m. Err status.Exists) checked shows (λ m. refl) (λ s m stands sound fits.
             (subst (λ x. EndsAs m x (Err status.Exists)) (sym (there s m stands fits ∙ ap (λ (o : Option Inode). create_existing m ctx a.how n (option_map living_of_inode o)) (sym none))) refl, result))
 
@@ -284,12 +284,12 @@ module _ (ctx : Ctx) (view : ViewValue) (a : CreateArguments) where
               ∙ ap (λ (k : Option Inode). create_existing m ctx a.how n (option_map living_of_inode k)) (sym some)
               ∙ ap (λ r. r >>= λ y. Ok (Known (made (replaced m n y) ctx n (unwrap_or y (living_of_inode o))) (replaced m n y))) (sym is)
 
-          pub over_refused_holds : (e : NfsStatus) (reply : MadeReply) → Err e ≡ over → ShowsWcc number i i reply.directory → reply.result ≡ Err e → Holds reply
+          pub over_refused_holds : (e : NfsStatus) (reply : MadeReply) → Err e ≡ over → ShowsWcc number i i reply.directory → reply.result ≡ Err e → RepliesUnchanged reply
           over_refused_holds e reply is shows result = unchanged_holds (Ok d) reply (λ m. Err e) checked shows (λ m. refl) (λ s m stands sound fits.
               (subst (λ x. EndsAs m x (Err e)) (sym (existing s m (Err e) stands fits is)) refl, result))
 
           -- the file stays as it is
-          pub over_kept_holds : (reply : MadeReply) (told : Made) → Ok None ≡ over → ShowsWcc number i i reply.directory → reply.result ≡ Ok told → ShowsMade ctx n o told → Holds reply
+          pub over_kept_holds : (reply : MadeReply) (told : Made) → Ok None ≡ over → ShowsWcc number i i reply.directory → reply.result ≡ Ok told → ShowsMade ctx n o told → RepliesUnchanged reply
           over_kept_holds reply told is shows result tells =
               unchanged_holds (Ok d) reply (λ m. Ok (made m ctx n (living_of_inode o), m)) checked shows (λ m. refl) (λ s m stands sound fits.
               let at = fits_at view.entries s.at (addresses.Inode n) (Some (objects.Inode o)) fits.entries at-name in
@@ -310,7 +310,7 @@ module _ (ctx : Ctx) (view : ViewValue) (a : CreateArguments) where
                     (changeable (opening_exports ctx.exports) (living_of_inode i) ≡ Ok tt)
                 passed = checks-passed (plain_name_checked status.Exists status.Exists a.place.name)
                     (changeable (opening_exports ctx.exports) (living_of_inode i))
-                    (permitted ctx (living_of_inode i) Changing) i.content d checked
+                    (permitted ctx (living_of_inode i) ToChange) i.content d checked
 
             pub resized_rewrites : (reply : MadeReply) (told : Made) → ShowsWcc number i i reply.directory → reply.result ≡ Ok told → ShowsMade ctx n new told
                 → Rewrites (calls.Nfs (nfs.Create a)) ctx view n new (answers.Nfs (replies.Create reply))
@@ -354,7 +354,7 @@ module _ (ctx : Ctx) (view : ViewValue) (a : CreateArguments) where
             ]) absent
             ∙ judged-then (given_attributes ctx (wanted_file a.how).attributes) (holding (nat_lt (d.last_cookie + 1) (2 ^ 64)) status.NoSpace) (Chosen (makes_new m))
 
-        pub new_refused_holds : (e : NfsStatus) (reply : MadeReply) → Err e ≡ new_judged ctx a.how d.last_cookie → ShowsWcc number i i reply.directory → reply.result ≡ Err e → Holds reply
+        pub new_refused_holds : (e : NfsStatus) (reply : MadeReply) → Err e ≡ new_judged ctx a.how d.last_cookie → ShowsWcc number i i reply.directory → reply.result ≡ Err e → RepliesUnchanged reply
         new_refused_holds e reply is shows result = unchanged_holds (Ok d) reply (λ m. Err e) checked shows (λ m. refl) (λ s m stands sound fits.
             (subst (λ x. EndsAs m x (Err e)) (sym (new-there m ∙ ap (λ r. r >>= λ _. Ok (Chosen (makes_new m))) (sym is))) refl, result))
 
@@ -382,7 +382,7 @@ module _ (ctx : Ctx) (view : ViewValue) (a : CreateArguments) where
           is_creation =
               let passed = checks-passed (plain_name_checked status.Exists status.Exists a.place.name)
               (changeable (opening_exports ctx.exports) (living_of_inode i))
-              (permitted ctx (living_of_inode i) Changing) i.content d checked in
+              (permitted ctx (living_of_inode i) ToChange) i.content d checked in
               record {
                 old = i;
                 place = d;

@@ -12,7 +12,7 @@ use Rattle.nfs_machine.specs.State.{Entry}
 use Rattle.nfs_machine.specs.declared.context.Ctx.{Ctx}
 use Rattle.nfs_machine.specs.declared.handle.Handle.{Handle}
 use Rattle.nfs_objects.proofs.Rounds.{Second, Enough, Another, NewNumber, few-alike, few-none, few-two, first_wanted, second_wanted}
-use Rattle.nfs_objects.specs.Attempt.{Wanted, Addresses}
+use Rattle.nfs_objects.specs.Attempt.{Demand, Addresses}
 use Rattle.nfs_objects.specs.Rounds.{AsksFew}
 use Rattle.nfs_objects.specs.Stands.{inode_of}
 use Rattle.nfs_objects.specs.Values.{ViewValue, seen_at}
@@ -25,7 +25,7 @@ use Rattle.nfs_names.specs.Calls.{is_name_call}
 use Rattle.nfs_names.specs.Wanted.{checked_wanted, create_wanted, directory_checked, entry_wanted, looked_up, lookup_wanted, new_judged, new_wanted, object_wanted, wanted}
 
 -- a procedure that asks for what its handle names, and then as that says
-module _ (next : FoundValue → Second) (asked : ViewValue → FoundValue → Wanted)
+module _ (next : FoundValue → Second) (asked : ViewValue → FoundValue → Demand)
     (bad : (v : ViewValue) → asked v BadHandle ≡ Addresses []) (stale : (v : ViewValue) → asked v Stale ≡ Addresses [])
     (first : (v : ViewValue) (h : Handle) → first_wanted (addresses.Inode h.fileid) (λ known. Enough) v None ≡ asked v (found_known h None))
     (ends : (v : ViewValue) → second_wanted v (next Stale) ≡ asked v Stale)

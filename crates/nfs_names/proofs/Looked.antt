@@ -10,9 +10,9 @@ use Rattle.nfs_wire.specs.declared.status.NfsStatus.{NfsStatus}
 use Rattle.nfs_wire.specs.declared.status.NfsStatus.TheVariants as status
 use Rattle.nfs_machine.specs.Attributes.{attributes_of, is_directory}
 use Rattle.nfs_machine.specs.Checks.{◌>>=◌, object_of, entries_in, name_checked, permitted}
-use Rattle.nfs_machine.specs.NameSteps.{leads_to, lookup_result}
+use Rattle.nfs_machine.specs.NameSteps.{leads_to, lookup_found}
 use Rattle.nfs_machine.specs.NfsSteps.{NfsStep}
-use Rattle.nfs_machine.specs.Permission.{Searching}
+use Rattle.nfs_machine.specs.Permission.{ToSearch}
 use Rattle.nfs_machine.specs.Resolve.{Resolved, resolve}
 use Rattle.nfs_machine.specs.Resolve as machine
 use Rattle.nfs_machine.specs.Shown.{handle_at, shown}
@@ -99,8 +99,8 @@ abbrev found_of : State → Ctx → ℕ → Option Living → Result Found NfsSt
 found_of m ctx number object = ok_or object status.NoEntry >>= λ o. Ok (record { object = handle_at ctx number o; attributes = Some (attributes_of m number o) })
 
 module _ (ctx : Ctx) (view : ViewValue) (place : Place) where
-  abbrev Answers : Option Attributes → Result Found NfsStatus → Type 0
-  Answers directory result = HoldsUnchanged (calls.Nfs (nfs.Lookup place)) ctx view (answers.Nfs (replies.Lookup (record { directory = directory; result = result })))
+  abbrev RepliesUnchanged : Option Attributes → Result Found NfsStatus → Type 0
+  RepliesUnchanged directory result = HoldsUnchanged (calls.Nfs (nfs.Lookup place)) ctx view (answers.Nfs (replies.Lookup (record { directory = directory; result = result })))
 
   -- the machine's result, where the handle names this
   abbrev result_of : State → ℕ → Resolved → Result Found NfsStatus
@@ -108,7 +108,7 @@ module _ (ctx : Ctx) (view : ViewValue) (place : Place) where
     directory ← object_of r
     entries ← entries_in directory.1.content
     _ ← name_checked place.name
-    _ ← permitted ctx directory.1 Searching
+    _ ← permitted ctx directory.1 ToSearch
     number ← leads_to directory.0 parent entries.0 place.name
     found_of m ctx number (get m.objects number)
 
@@ -118,20 +118,20 @@ module _ (ctx : Ctx) (view : ViewValue) (place : Place) where
       → NfsStep m ctx (nfs.Lookup place) (replies.Lookup (record { directory = directory; result = result })) [] m
   unfolding NfsStep
   step m parent r is parents directory result d e =
-      let whole : result ≡ lookup_result m ctx place parent = e ∙ ap (result_of m parent) (sym is) in (
+      let whole : result ≡ lookup_found m ctx place parent = e ∙ ap (result_of m parent) (sym is) in (
         parent,
         (λ n o names kind. parents n o (sym is ∙ names) kind),
         record { reply_is = reply-same (d ∙ ap (shown m) (sym is)) whole; no_message = refl; state_is = refl },
       )
 
-  pub bad_handle_holds : BadHandle ≡ found_at ctx view.entries place.directory → Answers None (Err status.BadHandle)
+  pub bad_handle_holds : BadHandle ≡ found_at ctx view.entries place.directory → RepliesUnchanged None (Err status.BadHandle)
   bad_handle_holds found = record {
     step = λ s m stands sound exports fits.
         step m 0 machine.BadHandle (resolve-means s m ctx view place.directory BadHandle found stands exports fits)
         (λ n o names kind. cc) None (Err status.BadHandle) refl refl;
   }
 
-  pub stale_holds : Stale ≡ found_at ctx view.entries place.directory → Answers None (Err status.Stale)
+  pub stale_holds : Stale ≡ found_at ctx view.entries place.directory → RepliesUnchanged None (Err status.Stale)
   stale_holds found = record {
     step = λ s m stands sound exports fits.
         step m 0 machine.Stale (resolve-means s m ctx view place.directory Stale found stands exports fits)
@@ -149,7 +149,7 @@ module _ (ctx : Ctx) (view : ViewValue) (place : Place) where
     abbrev Looks : State → Result Found NfsStatus → Type 0
     Looks m result = result ≡ (looked_up ctx number i place.name >>= λ n. found_of m ctx n (get m.objects n))
 
-    named_holds : (result : Result Found NfsStatus) → ((s : Store) (m : State) → Represents s m → Sound s m → Fits view s → Looks m result) → Answers (Some directory) result
+    named_holds : (result : Result Found NfsStatus) → ((s : Store) (m : State) → Represents s m → Sound s m → Fits view s → Looks m result) → RepliesUnchanged (Some directory) result
     named_holds result looks = record {
       step = λ s m stands sound exports fits.
           let means = resolve-means s m ctx view place.directory (Names number i) names stands exports fits in
@@ -158,10 +158,10 @@ module _ (ctx : Ctx) (view : ViewValue) (place : Place) where
           let seen = seen-attributes s m view number i directory sound fits means.1 shows in
           step m (parent_in i.content) (machine.Names number (living_of_inode i)) means.0 (parent_kept s m number i at sound) (Some directory) result
           (ap (λ a. Some a) seen ∙ ap (option_map (attributes_of m number)) (sym lives))
-          (looks s m stands sound fits ∙ sym (directory-same number place.name (name_checked place.name) (permitted ctx (living_of_inode i) Searching) (λ n. found_of m ctx n (get m.objects n)) i.content));
+          (looks s m stands sound fits ∙ sym (directory-same number place.name (name_checked place.name) (permitted ctx (living_of_inode i) ToSearch) (λ n. found_of m ctx n (get m.objects n)) i.content));
     }
 
-    pub refused_holds : (e : NfsStatus) → Err e ≡ looked_up ctx number i place.name → Answers (Some directory) (Err e)
+    pub refused_holds : (e : NfsStatus) → Err e ≡ looked_up ctx number i place.name → RepliesUnchanged (Some directory) (Err e)
     refused_holds e refused = named_holds (Err e) (λ s m stands sound fits. ap (λ r. r >>= λ n. found_of m ctx n (get m.objects n)) refused)
 
     module _ (n : ℕ) (leads : Ok n ≡ looked_up ctx number i place.name) (known : Option Object) (seen : Some known ≡ seen_at view.entries (addresses.Inode n)) where
@@ -169,12 +169,12 @@ module _ (ctx : Ctx) (view : ViewValue) (place : Place) where
       found_there s m stands fits result is =
           is ∙ ap (found_of m ctx n) (sym (lives-seen s m view n known stands fits (sym seen))) ∙ ap (λ r. r >>= λ k. found_of m ctx k (get m.objects k)) leads
 
-      pub absent_holds : None ≡ inode_of known → Answers (Some directory) (Err status.NoEntry)
+      pub absent_holds : None ≡ inode_of known → RepliesUnchanged (Some directory) (Err status.NoEntry)
       absent_holds none = named_holds (Err status.NoEntry) (λ s m stands sound fits.
           found_there s m stands fits (Err status.NoEntry) (ap (λ (o : Option Inode). found_of m ctx n (option_map living_of_inode o)) none))
 
       pub found_holds : (o : Inode) (found : Found) → Some o ≡ inode_of known → found.object ≡ handle_at ctx n (living_of_inode o) → IsSomeAnd found.attributes (Shows n o)
-          → Answers (Some directory) (Ok found)
+          → RepliesUnchanged (Some directory) (Ok found)
       found_holds o found some handle attributes = named_holds (Ok found) (λ s m stands sound fits.
           let here = sym seen ∙ ap (λ k. Some k) (is_inode known o some) in
           let told = found-same found (handle_at ctx n (living_of_inode o)) (Some (attributes_of m n (living_of_inode o))) handle

@@ -11,10 +11,10 @@ use Rattle.nfs_machine.specs.Checks.{◌>>=◌, holding, name_checked, plain_nam
 use Rattle.nfs_machine.specs.Checks.{entry_of}
 use Rattle.nfs_machine.specs.Exports.{opening_exports}
 use Rattle.nfs_machine.specs.NameSteps.{given_attributes, leads_to, wanted_file}
-use Rattle.nfs_machine.specs.Permission.{Searching, Changing}
+use Rattle.nfs_machine.specs.Permission.{ToSearch, ToChange}
 use Rattle.nfs_machine.specs.State.{Entry}
 use Rattle.nfs_machine.specs.declared.context.Ctx.{Ctx}
-pub use Rattle.nfs_objects.specs.Attempt.{Wanted, Addresses, AsksAs, number_wanted, unless_known}
+pub use Rattle.nfs_objects.specs.Attempt.{Demand, Addresses, AsksAs, number_wanted, unless_known}
 use Rattle.nfs_objects.specs.Stands.{living_of_inode}
 use Rattle.nfs_objects.specs.Values.{ViewValue, seen_at}
 use Rattle.nfs_objects.specs.declared.address.Addr.{Addr}
@@ -34,7 +34,7 @@ abbrev pub looked_up : Ctx → ℕ → Inode → List ℕ → Result ℕ NfsStat
 looked_up ctx number i name = do
   directory ← directory_in i.content
   _ ← name_checked name
-  _ ← permitted ctx (living_of_inode i) Searching
+  _ ← permitted ctx (living_of_inode i) ToSearch
   leads_to number directory.parent directory.entries name
 
 abbrev pub object_wanted : List (Addr × Option Object) → Result ℕ NfsStatus → List (Addr × Mode)
@@ -54,7 +54,7 @@ directory_checked ctx i name = do
   directory ← directory_in i.content
   _ ← plain_name_checked status.Exists status.Exists name
   _ ← changeable (opening_exports ctx.exports) (living_of_inode i)
-  _ ← permitted ctx (living_of_inode i) Changing
+  _ ← permitted ctx (living_of_inode i) ToChange
   Ok directory
 
 -- a new file, judged: what it is given, and that the directory has a cookie for it
@@ -63,28 +63,28 @@ new_judged ctx how last_cookie = do
   _ ← given_attributes ctx (wanted_file how).attributes
   holding (nat_lt (last_cookie + 1) (2 ^ 64)) status.NoSpace
 
-abbrev pub new_wanted : List Reserved → Result (Unit {0}) NfsStatus → Wanted
+abbrev pub new_wanted : List Reserved → Result (Unit {0}) NfsStatus → Demand
 new_wanted reserved (Ok u) = number_wanted (slice_get reserved 0)
 new_wanted reserved (Err status) = Addresses []
 
 -- what the name leads to, or a number for the new file
-abbrev pub entry_wanted : Ctx → ViewValue → CreateHow → ℕ → Option Entry → Wanted
+abbrev pub entry_wanted : Ctx → ViewValue → CreateHow → ℕ → Option Entry → Demand
 entry_wanted ctx view how last_cookie (Some e) =
     Addresses (unless_known (addresses.Inode e.number) (seen_at view.entries (addresses.Inode e.number)))
 entry_wanted ctx view how last_cookie None = new_wanted view.reserved (new_judged ctx how last_cookie)
 
-abbrev pub checked_wanted : Ctx → ViewValue → CreateArguments → Result Directory NfsStatus → Wanted
+abbrev pub checked_wanted : Ctx → ViewValue → CreateArguments → Result Directory NfsStatus → Demand
 checked_wanted ctx view a (Ok directory) =
     entry_wanted ctx view a.how directory.last_cookie (entry_of directory.entries a.place.name)
 checked_wanted ctx view a (Err status) = Addresses []
 
-abbrev pub create_wanted : Ctx → ViewValue → CreateArguments → FoundValue → Wanted
+abbrev pub create_wanted : Ctx → ViewValue → CreateArguments → FoundValue → Demand
 create_wanted ctx view a BadHandle = Addresses []
 create_wanted ctx view a Stale = Addresses []
 create_wanted ctx view a (Names number i) = checked_wanted ctx view a (directory_checked ctx i a.place.name)
 create_wanted ctx view a (Unread address) = Addresses ((address, Exclusive) ∷ [])
 
-abbrev pub wanted : Ctx → ViewValue → NfsCall → Wanted
+abbrev pub wanted : Ctx → ViewValue → NfsCall → Demand
 wanted ctx view (calls.Lookup place) =
     Addresses (lookup_wanted ctx view.entries place.name (found_at ctx view.entries place.directory))
 wanted ctx view (calls.Create a) = create_wanted ctx view a (found_at ctx view.entries a.place.directory)

@@ -95,7 +95,7 @@ fn directory_checked<'a>(
     let directory = directory(inode)?;
     new_name_checked(name)?;
     changeable(ctx, inode)?;
-    permitted(ctx, inode, Right::Changing)?;
+    permitted(ctx, inode, Right::ToChange)?;
     Ok(directory)
 }
 

@@ -74,7 +74,7 @@ fn look_up(ctx: &Ctx, number: u64, inode: &Inode, name: &[u8]) -> Result<u64, Nf
 {
     let directory = directory(inode)?;
     name_checked(name)?;
-    permitted(ctx, inode, Right::Searching)?;
+    permitted(ctx, inode, Right::ToSearch)?;
     leads_to(number, directory, name)
 }
 

@@ -5,8 +5,8 @@ use Rattle.std.specs.Cmp.{unsigned_Decides}
 use Rattle.std.specs.Option.{is_none}
 use Rattle.std.proofs.lemmas.List.{length-map}
 use Rattle.std.proofs.lemmas.List.Sums.{count_by-le-length}
-use Rattle.nfs_objects.specs.Attempt.{Wanted, Addresses, Number, number_wanted, unless_known}
-use Rattle.nfs_objects.specs.Rounds.{Round, Read, Given, AsksFew, Gives, Grows, empty_count, empty_wanted, view_after, with_round}
+use Rattle.nfs_objects.specs.Attempt.{Demand, Addresses, Number, number_wanted, unless_known}
+use Rattle.nfs_objects.specs.Rounds.{Round, Read, Given, AsksFew, GivesDemand, Grows, empty_count, empty_wanted, view_after, with_round}
 use Rattle.nfs_objects.specs.Store.{Store}
 use Rattle.nfs_objects.specs.Values.{ViewValue, is_addr, seen_at}
 use Rattle.nfs_objects.specs.declared.address.Addr.{Addr}
@@ -26,16 +26,16 @@ pub data Second : Type 0 where
   Another : (address : Addr) → Second
   NewNumber : Second
 
-abbrev pub second_wanted : ViewValue → Second → Wanted
+abbrev pub second_wanted : ViewValue → Second → Demand
 second_wanted v Enough = Addresses []
 second_wanted v (Another address) = Addresses (unless_known address (seen_at v.entries address))
 second_wanted v NewNumber = number_wanted (slice_get v.reserved 0)
 
-abbrev pub first_wanted : Addr → (Option Object → Second) → ViewValue → Option (Option Object) → Wanted
+abbrev pub first_wanted : Addr → (Option Object → Second) → ViewValue → Option (Option Object) → Demand
 first_wanted a second v None = Addresses ((a, Exclusive) ∷ [])
 first_wanted a second v (Some known) = second_wanted v (second known)
 
-abbrev count : Wanted → ℕ
+abbrev count : Demand → ℕ
 count (Addresses wanted) = length wanted
 count Number = 1
 
@@ -52,11 +52,11 @@ second-few v Enough = omega arith
 second-few v (Another address) = unless-few address (seen_at v.entries address)
 second-few v NewNumber = number-few (slice_get v.reserved 0)
 
-empties : (s : Store) (w : Wanted) → empty_wanted s w ≤ count w
+empties : (s : Store) (w : Demand) → empty_wanted s w ≤ count w
 empties s (Addresses wanted) = omega (arith, count_by-le-length (λ a. is_none (s.at a)) (map (λ (w : Addr × Mode). w.0) wanted), length-map wanted (λ (w : Addr × Mode). w.0))
 empties s Number = omega arith
 
-few : (s : Store) (entries : List (Addr × Option Object)) (w : Wanted) → length entries + count w ≤ 256
+few : (s : Store) (entries : List (Addr × Option Object)) (w : Demand) → length entries + count w ≤ 256
     → empty_count s (map (λ e. e.0) entries) + empty_wanted s w ≤ 256
 few s entries w all = omega (arith, all, empties s w, count_by-le-length (λ a. is_none (s.at a)) (map (λ (e : Addr × Option Object). e.0) entries), length-map entries (λ (e : Addr × Option Object). e.0))
 
@@ -70,7 +70,7 @@ one-read a (e ∷ []) same = (e, refl, cc)
 one-read a (e ∷ f ∷ entries) same = cc
 
 module _ (a : Addr) (second : Option Object → Second) where
-  abbrev wanted : ViewValue → Wanted
+  abbrev wanted : ViewValue → Demand
   wanted v = first_wanted a second v (seen_at v.entries a)
 
   -- what was read at the first address
@@ -81,7 +81,7 @@ module _ (a : Addr) (second : Option Object → Second) where
   abbrev First : Round → Type 0
   First round = (e : Addr × Option Object) × (e.0 ≡ a) × (round ≡ Read (e ∷ []))
 
-  first : (round : Round) → Gives (wanted (view_after [])) round → First round
+  first : (round : Round) → GivesDemand (wanted (view_after [])) round → First round
   first (Read entries) gives = let r = one-read a entries gives.1 in (r.0, r.2, ap Read r.1)
   first (Given reserved) gives = absurd gives
 
@@ -119,11 +119,11 @@ module _ (a : Addr) (second : Option Object → Second) where
     once = record { entries = e ∷ []; reserved = [] }
 
     -- what was asked for in the second round
-    gives-read : (b : Addr) (known : Option (Option Object)) (entries : List (Addr × Option Object)) → Gives (Addresses (unless_known b known)) (Read entries) → IsRead b entries
+    gives-read : (b : Addr) (known : Option (Option Object)) (entries : List (Addr × Option Object)) → GivesDemand (Addresses (unless_known b known)) (Read entries) → IsRead b entries
     gives-read b None entries gives = one-read b entries gives.1
     gives-read b (Some known) entries gives = absurd (gives.0 refl)
 
-    twice : (s : Second) → second e.1 ≡ s → (round : Round) → Gives (second_wanted once s) round → Ends (with_round once round)
+    twice : (s : Second) → second e.1 ≡ s → (round : Round) → GivesDemand (second_wanted once s) round → Ends (with_round once round)
     twice Enough other (Read entries) gives = absurd (gives.0 refl)
     twice Enough other (Given r) gives = absurd gives
     twice (Another b) other (Read entries) gives =
@@ -140,16 +140,16 @@ module _ (a : Addr) (second : Option Object → Second) where
   second-round : (one two : Round) → Grows wanted (two ∷ one ∷ []) → (length (view_after (two ∷ one ∷ [])).entries ≡ 2) × (wanted (view_after (two ∷ one ∷ [])) ≡ Addresses [])
   second-round one two grows =
       let f = first one grows.1.0 in
-      subst (λ r. Gives (wanted (view_after (r ∷ []))) two → Ends f.0 f.1 (view_after (two ∷ r ∷ []))) (sym f.2)
-      (λ gives. twice f.0 f.1 (second f.0.1) refl two (subst (λ w. Gives w two) (once-wanted f.0 f.1 (once f.0 f.1) refl) gives)) grows.0
+      subst (λ r. GivesDemand (wanted (view_after (r ∷ []))) two → Ends f.0 f.1 (view_after (two ∷ r ∷ []))) (sym f.2)
+      (λ gives. twice f.0 f.1 (second f.0.1) refl two (subst (λ w. GivesDemand w two) (once-wanted f.0 f.1 (once f.0 f.1) refl) gives)) grows.0
 
   -- there is no third round
-  third : (round : Round) → Gives (Addresses []) round → ⊥
+  third : (round : Round) → GivesDemand (Addresses []) round → ⊥
   third (Read entries) gives = gives.0 refl
   third (Given reserved) gives = gives
 
   longer : (x y z : Round) (more : List Round) → Grows wanted (x ∷ y ∷ z ∷ more) → ⊥
-  longer x y z [] grows = third x (subst (λ w. Gives w x) (second-round z y grows.1).1 grows.0)
+  longer x y z [] grows = third x (subst (λ w. GivesDemand w x) (second-round z y grows.1).1 grows.0)
   longer x y z (w ∷ more) grows = longer y z w more grows.1
 
   abbrev Few : List Round → Type 0
@@ -184,5 +184,5 @@ few-none rounds s grows fits =
     subst (λ (r : List Round). empty_count s (map (λ (e : Addr × Option Object). e.0) (view_after r).entries) + empty_wanted s (Addresses []) ≤ 256) (sym (few-nothing rounds grows)) (omega arith)
 
 -- what asks for the same asks for few
-pub few-alike : (f g : ViewValue → Wanted) → ((v : ViewValue) → f v ≡ g v) → AsksFew f → AsksFew g
+pub few-alike : (f g : ViewValue → Demand) → ((v : ViewValue) → f v ≡ g v) → AsksFew f → AsksFew g
 few-alike f g same asks = subst AsksFew (λ i v. same v i) asks

@@ -18,7 +18,7 @@ EachOnce [] = Unit {0}
 EachOnce (a ∷ addresses) = AllByRecursion (λ b. is_addr a.0 b.0 ≡ false) addresses × EachOnce addresses
 
 -- addresses are asked for: at least one, each once, each exclusively, and only such as the view has not
-pub record Asks (view : ViewValue) (addresses : List (Addr × Mode)) : Type 0 where
+pub record AsksAddresses (view : ViewValue) (addresses : List (Addr × Mode)) : Type 0 where
   pub some : addresses ≢ []
   pub once : EachOnce addresses
   pub lacking : AllByRecursion (λ a. (seen_at view.entries a.0 ≡ None) × (a.1 ≡ Exclusive)) addresses
@@ -26,7 +26,7 @@ pub record Asks (view : ViewValue) (addresses : List (Addr × Mode)) : Type 0 wh
 -- it asks for something, and only for what the view has not; what is done is the call, under this context and on
 -- this view
 abbrev pub Attempts : Call → Ctx → ViewValue → Outcome → Type 0
-Attempts call ctx view (Need addresses) = Asks view addresses.items
+Attempts call ctx view (Need addresses) = AsksAddresses view addresses.items
 Attempts call ctx view (Fresh count) = (view.reserved ≡ []) × (0 < count)
 Attempts call ctx view (Done done) = (done.call ≡ call) × (done.ctx ≡ ctx) × (done.view ≡ view)
 
@@ -49,9 +49,9 @@ IsNeed wanted (Fresh count) = ⊥
 IsNeed wanted (Done done) = ⊥
 
 -- what an attempt asks for: addresses, or one new number
-pub data Wanted : Type 0 where
-  Addresses : (addresses : List (Addr × Mode)) → Wanted
-  Number : Wanted
+pub data Demand : Type 0 where
+  Addresses : (addresses : List (Addr × Mode)) → Demand
+  Number : Demand
 
 abbrev pub IsNumber : Outcome → Type 0
 IsNumber (Need addresses) = ⊥
@@ -59,7 +59,7 @@ IsNumber (Fresh count) = count ≡ 1
 IsNumber (Done done) = ⊥
 
 -- just that is asked for, and nothing where the call is done
-abbrev pub AsksAs : Wanted → Outcome → Type 0
+abbrev pub AsksAs : Demand → Outcome → Type 0
 AsksAs (Addresses addresses) outcome = AsksFor addresses outcome
 AsksAs Number outcome = IsNumber outcome
 
@@ -69,6 +69,6 @@ unless_known address None = (address, Exclusive) ∷ []
 unless_known address (Some known) = []
 
 -- a new number, where none was given
-abbrev pub number_wanted : Option Reserved → Wanted
+abbrev pub number_wanted : Option Reserved → Demand
 number_wanted (Some reserved) = Addresses []
 number_wanted None = Number

@@ -10,7 +10,7 @@ use Rattle.nfs_objects.specs.declared.done.Outcome.{Outcome}
 use Rattle.nfs_objects.specs.declared.done.Outcome.TheVariants.{Need, Fresh, Done}
 use Rattle.nfs_objects.specs.declared.object.Object.{Object}
 use Rattle.nfs_objects.specs.declared.view.Reserved.{Reserved}
-use Rattle.nfs_objects.specs.Attempt.{Wanted, Addresses, Number}
+use Rattle.nfs_objects.specs.Attempt.{Demand, Addresses, Number}
 use Rattle.nfs_objects.specs.Fits.{Fits}
 use Rattle.nfs_objects.specs.Sound.{Sound, HasExports}
 use Rattle.nfs_objects.specs.Stands.{Represents}
@@ -33,33 +33,33 @@ view_after [] = record { entries = []; reserved = [] }
 view_after (round ∷ earlier) = with_round (view_after earlier) round
 
 -- just what is asked for is given
-abbrev pub Gives : Wanted → Round → Type 0
-Gives (Addresses wanted) (Read entries) = (wanted ≢ []) × (map (λ e. e.0) entries ≡ map (λ w. w.0) wanted)
-Gives (Addresses wanted) (Given reserved) = ⊥
-Gives Number (Read entries) = ⊥
-Gives Number (Given reserved) = Unit {0}
+abbrev pub GivesDemand : Demand → Round → Type 0
+GivesDemand (Addresses wanted) (Read entries) = (wanted ≢ []) × (map (λ e. e.0) entries ≡ map (λ w. w.0) wanted)
+GivesDemand (Addresses wanted) (Given reserved) = ⊥
+GivesDemand Number (Read entries) = ⊥
+GivesDemand Number (Given reserved) = Unit {0}
 
 -- each round gives what an attempt asks for on the view after those before it
-abbrev pub Grows : (ViewValue → Wanted) → List Round → Type 0
+abbrev pub Grows : (ViewValue → Demand) → List Round → Type 0
 Grows wanted [] = Unit {0}
-Grows wanted (round ∷ earlier) = Gives (wanted (view_after earlier)) round × Grows wanted earlier
+Grows wanted (round ∷ earlier) = GivesDemand (wanted (view_after earlier)) round × Grows wanted earlier
 
 -- of these addresses, how many hold nothing in the store
 abbrev pub empty_count : Store → List Addr → ℕ
 empty_count s addresses = count_by (λ a. is_none (s.at a)) addresses
 
-abbrev pub empty_wanted : Store → Wanted → ℕ
+abbrev pub empty_wanted : Store → Demand → ℕ
 empty_wanted s (Addresses wanted) = empty_count s (map (λ w. w.0) wanted)
 empty_wanted s Number = 1
 
 -- whatever is given, the view and all that is asked for lie among the addresses of the store and at most 256 others
-abbrev pub AsksFew : (ViewValue → Wanted) → Type 0
+abbrev pub AsksFew : (ViewValue → Demand) → Type 0
 AsksFew wanted = (rounds : List Round) (s : Store) → Grows wanted rounds → Fits (view_after rounds) s
     → empty_count s (map (λ e. e.0) (view_after rounds).entries) + empty_wanted s (wanted (view_after rounds))
     ≤ 256
 
 -- what an outcome asks for
-abbrev pub asked_by : Outcome → Wanted
+abbrev pub asked_by : Outcome → Demand
 asked_by (Need wanted) = Addresses wanted.items
 asked_by (Fresh count) = Number
 asked_by (Done done) = Addresses []
@@ -68,7 +68,7 @@ asked_by (Done done) = Addresses []
 abbrev pub GrowsBy : (ViewValue → Outcome → Type 0) → List Round → Type 0
 GrowsBy comes [] = Unit {0}
 GrowsBy comes (round ∷ earlier) = (outcome : Outcome) × comes (view_after earlier) outcome
-    × Gives (asked_by outcome) round × GrowsBy comes earlier
+    × GivesDemand (asked_by outcome) round × GrowsBy comes earlier
 
 -- The same in every sound store that the view fits: a call may follow many names, and what bounds it is that each
 -- leads to what stands in the store.

@@ -25,8 +25,8 @@ content_of contents.Socket = machine.Socket
 content_of contents.Fifo = machine.Fifo
 
 -- the bytes of an exclusive CREATE
-abbrev pub verifier_of : Option Verifier → Option (List ℕ)
-verifier_of verifier = option_map (λ (v : Verifier). v.bytes) verifier
+abbrev pub verifier_bytes : Option Verifier → Option (List ℕ)
+verifier_bytes verifier = option_map (λ (v : Verifier). v.bytes) verifier
 
 -- the living object that an inode is
 abbrev pub living_of_inode : Inode → Living
@@ -40,7 +40,7 @@ living_of_inode i = record {
   accessed = i.accessed;
   modified = i.modified;
   changed = i.changed;
-  verifier = verifier_of i.verifier;
+  verifier = verifier_bytes i.verifier;
 }
 
 -- the inode that stands there

@@ -30,17 +30,17 @@ pub record DoneValue : Type 0 where
   pub reply : Reply
 
 -- an address with what is known to stand there
-abbrev pub entry_value : Entry → Addr × Option Object
-entry_value entry = (entry.address, option_map arc_value entry.object)
+abbrev pub entry_seen : Entry → Addr × Option Object
+entry_seen entry = (entry.address, option_map arc_value entry.object)
 
 -- an address with what is to stand there
-abbrev pub write_value : Write → Addr × Option Object
-write_value write = (write.address, option_map arc_value write.object)
+abbrev pub write_stored : Write → Addr × Option Object
+write_stored write = (write.address, option_map arc_value write.object)
 
 -- the end of this call, made of these parts
-abbrev pub done_value : Call → Ctx → ViewValue → List Write → List Message → Reply → DoneValue
-done_value call ctx view writes messages reply =
-    record { call = call; ctx = ctx; view = view; writes = map write_value writes; messages = messages; reply = reply }
+abbrev pub done_with : Call → Ctx → ViewValue → List Write → List Message → Reply → DoneValue
+done_with call ctx view writes messages reply =
+    record { call = call; ctx = ctx; view = view; writes = map write_stored writes; messages = messages; reply = reply }
 
 -- the object behind the loan, if there is one
 abbrev pub pointed : {X Z : Type 0} → Bor (Option (Arc X Z)) → Option X

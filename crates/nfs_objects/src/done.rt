@@ -1,7 +1,7 @@
 //! What a call comes to.
 
 ghost use Rattle.std.specs.Prelude.{◌≡◌, map};
-ghost use Rattle.nfs_objects.specs.Values.{done_value, write_value};
+ghost use Rattle.nfs_objects.specs.Values.{done_with, write_stored};
 ghost use Rattle.nfs_objects.specs.Promise.{IsPromised};
 
 use crate::address::{Addr, Mode};
@@ -32,15 +32,15 @@ pub struct Done {
 }
 
 impl Model for Done {
-    ghost use Rattle.nfs_objects.specs.Values.{DoneValue, done_value};
+    ghost use Rattle.nfs_objects.specs.Values.{DoneValue, done_with};
 
     ghost Value = { DoneValue };
 
-    ghost view = { λ d. done_value d.call d.ctx d.view d.writes.items d.messages.items d.reply };
+    ghost view = { λ d. done_with d.call d.ctx d.view d.writes.items d.messages.items d.reply };
 
     ghost use Rattle.nfs_objects.specs.Promise.{IsPromised};
 
-    ghost invariant = { λ d. IsPromised (done_value d.call d.ctx d.view d.writes.items d.messages.items d.reply) };
+    ghost invariant = { λ d. IsPromised (done_with d.call d.ctx d.view d.writes.items d.messages.items d.reply) };
 }
 
 /// What an attempt comes to.
@@ -64,8 +64,8 @@ impl Done {
         messages: Vec<Message>,
         reply: Reply,
     ) -> Done
-        requires { IsPromised (done_value call ctx view writes.items messages.items reply) }
-        ensures { result ≡ done_value call ctx view writes.items messages.items reply }
+        requires { IsPromised (done_with call ctx view writes.items messages.items reply) }
+        ensures { result ≡ done_with call ctx view writes.items messages.items reply }
     {
         Done {
             call,
@@ -107,7 +107,7 @@ impl Done {
 
     /// What is to be written, in this order.
     pub fn writes(&self) -> &[Write]
-        ensures { map write_value result.now ≡ self.now.writes }
+        ensures { map write_stored result.now ≡ self.now.writes }
     {
         &self.writes
     }

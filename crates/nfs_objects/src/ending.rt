@@ -5,7 +5,7 @@ ghost use Rattle.nfs_objects.specs.Attempt.{Attempts, IsDone, IsNeed};
 ghost use Rattle.nfs_objects.specs.Endings.{Creates, HoldsUnchanged, Rewrites, creation_stored, inode_stored};
 ghost use Rattle.nfs_objects.specs.Endings.{only_answered};
 ghost use Rattle.nfs_objects.specs.Promise.{IsPromised};
-ghost use Rattle.nfs_objects.specs.Values.{done_value, write_value};
+ghost use Rattle.nfs_objects.specs.Values.{done_with, write_stored};
 
 use crate::address::{Addr, Mode};
 use crate::done::{Done, Outcome, Write};
@@ -30,9 +30,9 @@ pub fn ended(
     messages: Vec<Message>,
     reply: Reply,
 ) -> Result<Outcome, AllocError>
-    requires { IsPromised (done_value call ctx.now view.now writes.items messages.items reply) }
+    requires { IsPromised (done_with call ctx.now view.now writes.items messages.items reply) }
     ensures attempts { IfOk result (λ outcome. Attempts call ctx.now view.now outcome) }
-    ensures done { IfOk result (IsDone (done_value call ctx.now view.now writes.items messages.items reply)) }
+    ensures done { IfOk result (IsDone (done_with call ctx.now view.now writes.items messages.items reply)) }
 {
     let done = Done::new(
         call,
@@ -132,7 +132,7 @@ pub fn created(
 }
 
 fn write_inode(alloc: Global, number: u64, inode: Inode) -> Result<Write, AllocError>
-    ensures { IfOk result (λ write. write_value write ≡ (Addr.Inode number, Some (Object.Inode inode))) }
+    ensures { IfOk result (λ write. write_stored write ≡ (Addr.Inode number, Some (Object.Inode inode))) }
 {
     Ok(Write {
         address: Addr::Inode(number),

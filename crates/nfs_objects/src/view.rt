@@ -3,7 +3,7 @@
 ghost use Rattle.std.specs.Prelude.{◌≡◌, [], ◌∷◌, ◌++◌, map, IfOk, OnErr, OnOk, option_map};
 ghost use Rattle.std.specs.Prelude.{slice_get, length, ◌==◌};
 ghost use Rattle.std.specs.Arc.{arc_value};
-ghost use Rattle.nfs_objects.specs.Values.{seen_at, pointed, entry_value};
+ghost use Rattle.nfs_objects.specs.Values.{seen_at, pointed, entry_seen};
 
 use crate::address::{Addr, is_same};
 use crate::object::Object;
@@ -34,11 +34,11 @@ pub struct View {
 
 impl Model for View {
     ghost use Rattle.std.specs.Prelude.{map};
-    ghost use Rattle.nfs_objects.specs.Values.{ViewValue, entry_value};
+    ghost use Rattle.nfs_objects.specs.Values.{ViewValue, entry_seen};
 
     ghost Value = { ViewValue };
 
-    ghost view = { λ v. record { entries = map entry_value v.entries.items; reserved = v.reserved.items } };
+    ghost view = { λ v. record { entries = map entry_seen v.entries.items; reserved = v.reserved.items } };
 }
 
 impl View {
@@ -133,7 +133,7 @@ impl View {
 }
 
 fn copy_entries(alloc: Global, entries: &[Entry]) -> Result<Vec<Entry>, AllocError>
-    ensures { IfOk result (λ v. map entry_value v.items ≡ map entry_value entries.now) }
+    ensures { IfOk result (λ v. map entry_seen v.items ≡ map entry_seen entries.now) }
 {
     let mut copies = Vec::with_capacity(alloc, entries.len())?;
     for entry in entries {

@@ -6,13 +6,13 @@ use Rattle.nfs_machine.specs.State.{State}
 use Rattle.nfs_machine.specs.declared.moment.Moment.{Moment}
 use Rattle.nfs_machine.proofs.Runs.{run-append}
 use Rattle.nfs_server.specs.Plain.{PlainValue, StandsFor}
-use Rattle.nfs_server.specs.Serving.{AreFrom, Answers, Serves, Ticks}
-use Rattle.nfs_server.specs.Served.{Answered, AreAnswered, Ends, Goes, Stops, IsAnswered}
+use Rattle.nfs_server.specs.Serving.{AreFrom, AnswersArrival, Serves, Ticks}
+use Rattle.nfs_server.specs.Served.{Answered, AreAnswered, EndsBy, Goes, Stops, IsAnswered}
 use Rattle.nfs_server.specs.declared.serve.StreamFault.{StreamFault}
 use Rattle.nfs_server.specs.declared.serve.StreamFault.TheVariants.{Read, Write, TooLarge, Memory}
 
 -- an answer adds one step or none
-answer_run : (setting : Setting) (old new : State) (arrival : Arrival) (answer : List ℕ) (records : List Record) → Answers setting old arrival answer records new → Run setting old records new
+answer_run : (setting : Setting) (old new : State) (arrival : Arrival) (answer : List ℕ) (records : List Record) → AnswersArrival setting old arrival answer records new → Run setting old records new
 answer_run setting old new (FromHost received) answer records (inl early) = subst
     (λ (rs : List Record). Run setting old rs new) (sym early.nothing) early.unchanged
 answer_run setting old new (FromHost received) answer records (inr (inl refused)) = subst
@@ -132,7 +132,7 @@ module _ {Clock : Type 0} (gives : Clock → Moment → Clock → Type 0) (host 
   }
 
   -- a fault at the first of these records
-  pub stops_before : (fault : StreamFault) (clock later : Clock) (old new : PlainValue) (before after : Option (List ℕ)) (others : List (List ℕ)) → Ends gives host fault others clock later old new before after
+  pub stops_before : (fault : StreamFault) (clock later : Clock) (old new : PlainValue) (before after : Option (List ℕ)) (others : List (List ℕ)) → EndsBy gives host fault others clock later old new before after
       → Stops gives host fault others clock later old new before after
   stops_before fault clock later old new before after others ends = record {
     first = [];
@@ -146,7 +146,7 @@ module _ {Clock : Type 0} (gives : Clock → Moment → Clock → Type 0) (host 
   }
 
   -- a fault after all of these records
-  pub goes_stops : (fault : StreamFault) (first last : Clock) (c : List (List ℕ)) (old new : PlainValue) (before after : Option (List ℕ)) → Ends gives host fault [] last last new new after after
+  pub goes_stops : (fault : StreamFault) (first last : Clock) (c : List (List ℕ)) (old new : PlainValue) (before after : Option (List ℕ)) → EndsBy gives host fault [] last last new new after after
       → Goes gives host c first last old new before after → Stops gives host fault c first last old new before after
   goes_stops fault first last c old new before after ends a = record {
     first = c;
@@ -185,7 +185,7 @@ module _ {Clock : Type 0} (gives : Clock → Moment → Clock → Type 0) (host 
 
   -- the record in hand leaves those behind it
   ends_ahead : (fault : StreamFault) (c d : List (List ℕ)) (clock later : Clock) (old new : PlainValue) (before after : Option (List ℕ)) → c ≢ [] → (fault ≡ Write) ⊎ (fault ≡ Memory)
-      → Ends gives host fault c clock later old new before after → Ends gives host fault (c ++ d) clock later old new before after
+      → EndsBy gives host fault c clock later old new before after → EndsBy gives host fault (c ++ d) clock later old new before after
   ends_ahead Read c d clock later old new before after some (inl is) e = let f : Read ≡ Write = is in cc
   ends_ahead Read c d clock later old new before after some (inr is) e = let f : Read ≡ Memory = is in cc
   ends_ahead TooLarge c d clock later old new before after some (inl is) e = let f : TooLarge ≡ Write = is in cc
@@ -204,7 +204,7 @@ module _ {Clock : Type 0} (gives : Clock → Moment → Clock → Type 0) (host 
       inr (record { hand = e.hand; behind = e.behind ++ d; whole = ap (λ l. l ++ d) e.whole; moment = e.moment; ticked = e.ticked; unchanged = e.unchanged; unwritten = e.unwritten })
 
   -- a record at which it stopped, and others behind it
-  pub stops_at : (fault : StreamFault) (hand : List ℕ) (d : List (List ℕ)) (first last : Clock) (old new : PlainValue) (before after : Option (List ℕ)) → Ends gives host fault (hand ∷ []) first last old new before after
+  pub stops_at : (fault : StreamFault) (hand : List ℕ) (d : List (List ℕ)) (first last : Clock) (old new : PlainValue) (before after : Option (List ℕ)) → EndsBy gives host fault (hand ∷ []) first last old new before after
       → (fault ≡ Write) ⊎ (fault ≡ Memory) → Stops gives host fault (hand ∷ d) first last old new before after
   stops_at fault hand d first last old new before after ends which =
       stops_before fault first last old new before after (hand ∷ d) (ends_ahead fault (hand ∷ []) d first last old new before after (λ e. let f : (hand ∷ []) ≡ [] = e in cc) which ends)

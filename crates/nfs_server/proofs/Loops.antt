@@ -7,7 +7,7 @@ use Rattle.std.specs.Io.KnownBytes.{Appends, Consumes}
 use Rattle.nfs_rpc.specs.Records.{RecordsValue, Holds, IsTooLarge}
 use Rattle.nfs_machine.specs.declared.moment.Moment.{Moment}
 use Rattle.nfs_server.specs.Plain.{PlainValue}
-use Rattle.nfs_server.specs.Served.{AreAnswered, Ends, Goes, Stops}
+use Rattle.nfs_server.specs.Served.{AreAnswered, EndsBy, Goes, Stops}
 
 -- a front of the bytes is written
 pub record Writing (before now : Option (List ℕ)) (bytes rest : List ℕ) (failures fails : ℕ) : Type 0 where
@@ -56,9 +56,9 @@ module _ {Clock : Type 0} (gives : Clock → Moment → Clock → Type 0) (host 
   abbrev pub Part : Type 0
   Part = (sent : List ℕ) × (unsent : List ℕ) × (bytes ≡ sent ++ unsent) × Appends before after sent
 
-  part_cut : (e : StreamFault) → e ≡ Write → Part → bytes ≡ answer → AreAnswered gives host (hand ∷ []) first last old new answer → Ends gives host e (hand ∷ []) first last old new before after
+  part_cut : (e : StreamFault) → e ≡ Write → Part → bytes ≡ answer → AreAnswered gives host (hand ∷ []) first last old new answer → EndsBy gives host e (hand ∷ []) first last old new before after
   part_cut e is (sent, unsent, cut, written) same a =
-      subst (λ (f : StreamFault). Ends gives host f (hand ∷ []) first last old new before after) (sym is)
+      subst (λ (f : StreamFault). EndsBy gives host f (hand ∷ []) first last old new before after) (sym is)
       (record {
         hand = hand;
         behind = [];
@@ -70,7 +70,7 @@ module _ {Clock : Type 0} (gives : Clock → Moment → Clock → Type 0) (host 
       })
 
   pub sent_stops : (P : Type 0) (r : Result (Unit {0}) StreamFault) → OnErr r Part → IfErr r (λ e. (e ≡ Write) × P) → bytes ≡ answer → AreAnswered gives host (hand ∷ []) first last old new answer
-      → IfErr r (λ e. Ends gives host e (hand ∷ []) first last old new before after)
+      → IfErr r (λ e. EndsBy gives host e (hand ∷ []) first last old new before after)
   sent_stops P (Ok u) part fault same a = tt
   sent_stops P (Err e) part fault same a = part_cut e fault.0 part same a
 
@@ -105,7 +105,7 @@ module _ {Clock : Type 0} (gives : Clock → Moment → Clock → Type 0) (host 
 
   -- the next record is not
   pub answering_stops : (fault : StreamFault) (r : List ℕ) → Answering gives host first clock old plain before now initial records failures fails → records ≡ record left { queued = r ∷ left.queued }
-      → Ends gives host fault (r ∷ []) clock later plain next now after → (fault ≡ Write) ⊎ (fault ≡ Memory)
+      → EndsBy gives host fault (r ∷ []) clock later plain next now after → (fault ≡ Write) ⊎ (fault ≡ Memory)
       → Stops gives host fault initial.queued first later old next before after
   answering_stops fault r a is ends which =
       let whole : initial.queued ≡ a.served ++ (r ∷ left.queued) = a.cut ∙ ap (λ (v : RecordsValue). a.served ++ v.queued) is in

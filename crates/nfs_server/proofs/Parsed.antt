@@ -18,7 +18,7 @@ use Rattle.nfs_machine.specs.Exports.{ExportValue}
 use Rattle.nfs_machine.specs.declared.exports.ExportError.{ExportError}
 use Rattle.nfs_machine.specs.declared.exports.ExportError.TheVariants as export
 use Rattle.nfs_machine.specs.declared.exports.ExportText.{ExportText}
-use Rattle.nfs_server.specs.CommandLine.{AreRefused, Configures, IsHost, IsHostRefusal, IsParsedFrom, IsRefusal, IsTaken, IsValueRefusal, Reads, ReadsFlag, ReadsNumber, Refuses, export_parts, exports_of, host_of, nfsd, parts_of}
+use Rattle.nfs_server.specs.CommandLine.{AreRefused, Configures, IsHost, IsHostRefusal, IsParsedFrom, IsRefusal, IsTaken, IsValueRefusal, ReadsOptions, ReadsFlag, ReadsNumber, Refuses, export_parts, exports_of, host_of, nfsd, parts_of}
 use Rattle.nfs_server.specs.Exits.{exit_of_command, exit_of_exports, exit_of_kind}
 use Rattle.nfs_server.specs.declared.exit.Exit.{Exit}
 use Rattle.nfs_server.specs.declared.options.Options.{Options}
@@ -124,11 +124,11 @@ flag_read words m id is_set parsed reads =
 
 -- the options of the rows are those of the words
 pub options_read : (words : List Text) (m : ArgMatches) (options : Options) → IsParsedFrom words m → IsTaken words
-    → ReadsFlag (one_of (codes "stdio") (matches_of nfsd words)) true → Reads (rows_of (found_of m)) options → Configures words options
+    → ReadsFlag (one_of (codes "stdio") (matches_of nfsd words)) true → ReadsOptions (rows_of (found_of m)) options → Configures words options
 options_read words m options parsed is_taken transport reads = record {
   taken = is_taken;
   transport = transport;
-  reads = subst (λ (rows : List Row). Reads rows options) parsed.rows reads;
+  reads = subst (λ (rows : List Row). ReadsOptions rows options) parsed.rows reads;
 }
 
 -- and so is what refuses them

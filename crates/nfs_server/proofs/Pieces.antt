@@ -5,8 +5,8 @@ use Rattle.nfs_rpc.specs.Records.{RecordsValue, Holds, IsStream, IsTooLarge}
 use Rattle.nfs_rpc.specs.Streams.{one_more}
 use Rattle.nfs_machine.specs.declared.moment.Moment.{Moment}
 use Rattle.nfs_server.specs.Plain.{PlainValue}
-use Rattle.nfs_server.specs.Served.{Ends, Goes, IsFaultOf, Stops, ServesAll, ServesFront}
-use Rattle.nfs_server.specs.Taken.{Follows, Takes, TakesIn}
+use Rattle.nfs_server.specs.Served.{EndsBy, Goes, IsFaultOf, Stops, ServesAll, ServesFront}
+use Rattle.nfs_server.specs.Taken.{FollowsOn, Takes, TakesIn}
 use Rattle.nfs_server.specs.declared.serve.Served.{Served}
 use Rattle.nfs_server.specs.declared.serve.Taken.{Taken}
 use Rattle.nfs_server.specs.declared.serve.Taken.TheVariants.{End, Piece, Refused}
@@ -39,7 +39,7 @@ whole_of (Some x) (Some y) input fed read end is =
     let same : x ≡ input = cc in
     sym (append-nil fed) ∙ ap (λ l. fed ++ l) (sym end) ∙ sym read ∙ same
 
-pub more_of : (taken : Taken) (old new : RecordsValue) (piece : List ℕ) (left : Option (List ℕ)) → taken ≢ End → TakesIn taken old new piece left → (0 < length piece) × Follows old new piece
+pub more_of : (taken : Taken) (old new : RecordsValue) (piece : List ℕ) (left : Option (List ℕ)) → taken ≢ End → TakesIn taken old new piece left → (0 < length piece) × FollowsOn old new piece
 more_of End old new piece left more t = absurd (more refl)
 more_of Piece old new piece left more t = (t.0, t.1)
 more_of Refused old new piece left more t = (t.0, t.1)
@@ -54,7 +54,7 @@ taken_within Refused old new piece left more other t = absurd (other refl)
 module _ {Clock : Type 0} (gives : Clock → Moment → Clock → Type 0) (host : List ℕ) (first clock : Clock) (old plain : PlainValue) (before now unread left : Option (List ℕ))
     (records : RecordsValue) (reads reading readings writing writings : ℕ) (t : Taking gives host first clock old plain before now unread left records reads reading readings writing writings) where
   -- a fault before the next piece
-  pub fault_taking : (fault : StreamFault) → Ends gives host fault [] clock clock plain plain now now → IsFaultOf fault t.fed → (input : List ℕ) → unread ≡ Some input
+  pub fault_taking : (fault : StreamFault) → EndsBy gives host fault [] clock clock plain plain now now → IsFaultOf fault t.fed → (input : List ℕ) → unread ≡ Some input
       → ServesFront gives host input fault first clock old plain before now
   fault_taking fault ends is_fault input is =
       let front = ahead_of unread left input t.fed t.read is in
@@ -164,9 +164,9 @@ taking_none gives host first old before unread records reading writing holds = r
 
 -- a fault in taking a piece in is of the reader or of memory
 pub ends_early : {Clock P : Type 0} (gives : Clock → Moment → Clock → Type 0) (host : List ℕ) (clock : Clock) (plain : PlainValue) (now : Option (List ℕ)) (e : StreamFault) → ((e ≡ Read) × P) ⊎ (e ≡ Memory)
-    → Ends gives host e [] clock clock plain plain now now
-ends_early gives host clock plain now e (inl is) = subst (λ (f : StreamFault). Ends gives host f [] clock clock plain plain now now) (sym is.0) (refl, refl, refl, refl)
-ends_early gives host clock plain now e (inr is) = subst (λ (f : StreamFault). Ends gives host f [] clock clock plain plain now now) (sym is) (inl (refl, refl, refl, refl))
+    → EndsBy gives host e [] clock clock plain plain now now
+ends_early gives host clock plain now e (inl is) = subst (λ (f : StreamFault). EndsBy gives host f [] clock clock plain plain now now) (sym is.0) (refl, refl, refl, refl)
+ends_early gives host clock plain now e (inr is) = subst (λ (f : StreamFault). EndsBy gives host f [] clock clock plain plain now now) (sym is) (inl (refl, refl, refl, refl))
 
 pub early_fault : {P : Type 0} (e : StreamFault) (fed : List ℕ) → (IsTooLarge fed → ⊥) → ((e ≡ Read) × P) ⊎ (e ≡ Memory) → IsFaultOf e fed
 early_fault e fed within (inl is) = subst (λ (f : StreamFault). IsFaultOf f fed) (sym is.0) within

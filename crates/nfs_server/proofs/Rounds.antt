@@ -6,7 +6,7 @@ use Rattle.std.proofs.lemmas.List.{map-append, map-set, take_all, take_more, tak
 use Rattle.std.specs.List.{AllByRecursion}
 use Rattle.nfs_objects.specs.Fits.{Fits}
 use Rattle.nfs_objects.specs.Store.{Store, with_write, with_writes}
-use Rattle.nfs_objects.specs.Values.{ViewValue, write_value}
+use Rattle.nfs_objects.specs.Values.{ViewValue, write_stored}
 use Rattle.nfs_objects.specs.declared.address.Addr.{Addr}
 use Rattle.nfs_objects.specs.declared.address.Addr.TheVariants.{Inode, Mounts}
 use Rattle.nfs_objects.specs.declared.object.Object.{Object}
@@ -162,10 +162,10 @@ pub truncate_view : (xs ys : List Slot) (values : List SlotValue) (n : ℕ) → 
 truncate_view xs ys values n is cut = ap (map slot_value) cut ∙ sym (take-map slot_value n xs) ∙ ap (take n) is
 
 pub making_item : (initial slots more : List SlotValue) (writes : List Write) (index : ℕ) (item : Write) → index < length writes → item ≡ get_or writes index item
-    → Making initial slots (map write_value (take index writes)) → (count : ℕ) × (more ≡ slots ++ replicate count empty_slot) → HasRoom more item.address → Making initial more (map write_value (take (index + 1) writes))
+    → Making initial slots (map write_stored (take index writes)) → (count : ℕ) × (more ≡ slots ++ replicate count empty_slot) → HasRoom more item.address → Making initial more (map write_stored (take (index + 1) writes))
 making_item initial slots more writes index item h is m grown room =
-    making_more initial slots more (map write_value (take index writes)) (map write_value (take (index + 1) writes)) (write_value item) grown.0 m grown.1 room
-    (ap (map write_value) (take_more writes index item h) ∙ map-append write_value (take index writes) (get_or writes index item ∷ []) ∙ ap (λ (w : Write). map write_value (take index writes) ++ write_value w ∷ []) (sym is))
+    making_more initial slots more (map write_stored (take index writes)) (map write_stored (take (index + 1) writes)) (write_stored item) grown.0 m grown.1 room
+    (ap (map write_stored) (take_more writes index item h) ∙ map-append write_stored (take index writes) (get_or writes index item ∷ []) ∙ ap (λ (w : Write). map write_stored (take index writes) ++ write_stored w ∷ []) (sym is))
 
 pub making_none : (initial : List SlotValue) → Making initial initial []
 making_none initial = record { growing = growing_none initial; room = tt }
@@ -176,8 +176,8 @@ making_back initial slots more writes count is m grown =
     let g = growing_join initial slots more grown.0 m.growing grown.1 in
     ap (λ n. take n more) is ∙ ap (take (length initial)) g.grown ∙ take-append_seam initial (replicate g.count empty_slot)
 
-pub making_all : (initial slots : List SlotValue) (writes : List Write) (index : ℕ) → length writes ≤ index → Making initial slots (map write_value (take index writes)) → AllRoom slots (map write_value writes)
-making_all initial slots writes index h m = subst (λ (ws : List Write). AllRoom slots (map write_value ws)) (take_all index writes h) m.room
+pub making_all : (initial slots : List SlotValue) (writes : List Write) (index : ℕ) → length writes ≤ index → Making initial slots (map write_stored (take index writes)) → AllRoom slots (map write_stored writes)
+making_all initial slots writes index h m = subst (λ (ws : List Write). AllRoom slots (map write_stored ws)) (take_all index writes h) m.room
 
 pub nil_of_len : {X : Type 0} (xs : List X) (n : ℕ) → n ≡ length xs → n ≡ 0 → xs ≡ []
 nil_of_len [] n len none = refl

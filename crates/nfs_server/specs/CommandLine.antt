@@ -82,7 +82,7 @@ exports_of rows = unwrap_or (all_of (codes "export") rows) []
 -- ---- what the words come to
 
 -- the rows of a command line that is taken give the options
-pub record Reads (rows : List Row) (options : Options) : Type 0 where
+pub record ReadsOptions (rows : List Row) (options : Options) : Type 0 where
   pub start : ReadsNumber 64 (one_of (codes "start") rows) options.start
   pub clock : ReadsNumber 32 (one_of (codes "clock") rows) options.clock
   pub bytes : (number : Option ℕ) × ReadsNumber 64 (one_of (codes "bytes") rows) number
@@ -113,7 +113,7 @@ pub record IsTaken (words : List Text) : Type 0 where
 pub record Configures (words : List Text) (options : Options) : Type 0 where
   pub taken : IsTaken words
   pub transport : ReadsFlag (one_of (codes "stdio") (matches_of nfsd words)) true
-  pub reads : Reads (matches_of nfsd words) options
+  pub reads : ReadsOptions (matches_of nfsd words) options
 
 -- a value is refused
 abbrev pub IsValueRefusal : Exit → Type 0

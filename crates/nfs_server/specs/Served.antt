@@ -10,7 +10,7 @@ use Rattle.nfs_machine.specs.Run.{Setting, Arrival, Record, Run}
 use Rattle.nfs_machine.specs.State.{State}
 use Rattle.nfs_machine.specs.declared.moment.Moment.{Moment}
 use Rattle.nfs_server.specs.Plain.{PlainValue, StandsFor}
-use Rattle.nfs_server.specs.Serving.{AreFrom, Answers, Serves, Ticks}
+use Rattle.nfs_server.specs.Serving.{AreFrom, AnswersArrival, Serves, Ticks}
 use Rattle.nfs_server.specs.declared.serve.StreamFault.{StreamFault}
 use Rattle.nfs_server.specs.declared.serve.StreamFault.TheVariants.{Read, Write, TooLarge, Memory}
 
@@ -73,13 +73,13 @@ pub record IsCut {Clock : Type 0} (gives : Clock → Moment → Clock → Type 0
 
 -- What was done at a fault with the records that had come. Read and TooLarge: none is left. Write: the first one's
 -- answer is cut. Memory: none is left, or the first one has no answer.
-abbrev pub Ends : {Clock : Type 0} → (Clock → Moment → Clock → Type 0) → List ℕ → StreamFault →
+abbrev pub EndsBy : {Clock : Type 0} → (Clock → Moment → Clock → Type 0) → List ℕ → StreamFault →
     List (List ℕ) → (clock later : Clock) (old new : PlainValue) (before after : Option (List ℕ)) → Type 0
-Ends gives host Read contents clock later old new before after = Stays contents clock later old new before after
-Ends gives host TooLarge contents clock later old new before after = Stays contents clock later old new before after
-Ends gives host Write contents clock later old new before after =
+EndsBy gives host Read contents clock later old new before after = Stays contents clock later old new before after
+EndsBy gives host TooLarge contents clock later old new before after = Stays contents clock later old new before after
+EndsBy gives host Write contents clock later old new before after =
     IsCut gives host contents clock later old new before after
-Ends gives host Memory contents clock later old new before after =
+EndsBy gives host Memory contents clock later old new before after =
     Stays contents clock later old new before after ⊎ IsUnanswered gives contents clock later old new before after
 
 -- the first of the records were answered, and their answers were written; at the next one serving ended by the fault
@@ -93,7 +93,7 @@ pub record Stops {Clock : Type 0} (gives : Clock → Moment → Clock → Type 0
   pub sent : Option (List ℕ)
   pub whole : contents ≡ first ++ others
   pub goes : Goes gives host first clock mid old between before sent
-  pub ends : Ends gives host fault others mid later between new sent after
+  pub ends : EndsBy gives host fault others mid later between new sent after
 
 -- all records of the input were served; bytes after the last whole record are left (RFC 5531, section 11)
 pub record ServesAll {Clock : Type 0} (gives : Clock → Moment → Clock → Type 0) (host input : List ℕ)
@@ -131,7 +131,7 @@ pub record ServesFront {Clock : Type 0} (gives : Clock → Moment → Clock → 
 pub record IsAnswered (arrival : Arrival) (old new : PlainValue) (answer : List ℕ) : Type 0 where
   pub setting : new.setting ≡ old.setting
   pub each : (m : State) → StandsFor old m → (records : List Record) × (after : State)
-      × Answers old.setting m arrival answer records after × StandsFor new after
+      × AnswersArrival old.setting m arrival answer records after × StandsFor new after
 
 -- the bytes of an answer; nothing for what is dropped
 abbrev pub answer_bytes : Option (Vec ℕ Global) → List ℕ

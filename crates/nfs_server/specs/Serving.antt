@@ -43,8 +43,8 @@ pub record IsExecuted (setting : Setting) (old : State) (received : Received) (a
   pub answered : answer ≡ success_message asks.header.xid reply
   pub one : records ≡ record { arrival = FromHost received; reply = reply; messages = messages } ∷ []
 
-abbrev pub Answers : Setting → State → Arrival → List ℕ → List Record → State → Type 0
-Answers setting old (FromHost received) answer records new =
+abbrev pub AnswersArrival : Setting → State → Arrival → List ℕ → List Record → State → Type 0
+AnswersArrival setting old (FromHost received) answer records new =
     IsEarly old received answer records new ⊎ IsRefused setting old received answer records new ⊎
     IsExecuted setting old received answer records new
 
@@ -54,7 +54,7 @@ Serves setting old [] written records new = (written ≡ []) × (records ≡ [])
 Serves setting old (arrival ∷ arrivals) written records new =
     (answer : List ℕ) × (others : List ℕ) × (first : List Record) × (later : List Record) × (mid : State)
     × (written ≡ answer ++ others) × (records ≡ first ++ later)
-    × Answers setting old arrival answer first mid × Serves setting mid arrivals others later new
+    × AnswersArrival setting old arrival answer first mid × Serves setting mid arrivals others later new
 
 -- the moment of an arrival
 abbrev pub moment_of : Arrival → Moment

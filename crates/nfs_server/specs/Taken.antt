@@ -6,18 +6,18 @@ use Rattle.nfs_server.specs.declared.serve.Taken.{Taken}
 use Rattle.nfs_server.specs.declared.serve.Taken.TheVariants.{End, Piece, Refused}
 
 -- the piece follows the stream
-abbrev pub Follows : RecordsValue → RecordsValue → List ℕ → Type 0
-Follows old new piece =
+abbrev pub FollowsOn : RecordsValue → RecordsValue → List ℕ → Type 0
+FollowsOn old new piece =
     (stream : List ℕ) (given : List (List ℕ)) → Holds old stream given → Holds new (stream ++ piece) given
 
 abbrev pub TakesIn : Taken → RecordsValue → RecordsValue → List ℕ → Option (List ℕ) → Type 0
 TakesIn End old new piece left = (piece ≡ []) × (new ≡ old) × IsAtEnd left
 TakesIn Piece old new piece left =
-    (0 < length piece) × Follows old new piece
+    (0 < length piece) × FollowsOn old new piece
     × ((stream : List ℕ) (given : List (List ℕ)) → Holds old stream given
     → IsTooLarge (stream ++ piece) → ⊥)
 TakesIn Refused old new piece left =
-    (0 < length piece) × Follows old new piece
+    (0 < length piece) × FollowsOn old new piece
     × ((stream : List ℕ) (given : List (List ℕ)) → Holds old stream given
     → IsTooLarge (stream ++ piece))
 

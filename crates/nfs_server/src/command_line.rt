@@ -4,7 +4,7 @@ ghost use Rattle.std.specs.Prelude.{◌≡◌, ◌==◌, [], false, map, slice_g
 ghost use Rattle.std.specs.Prelude.{IfErr, IfOk, MatchResult};
 ghost use Rattle.std.specs.List.{slice_split};
 ghost use Rattle.clap.specs.Words.{app_of, found_of, rows_of, rule_of};
-ghost use Rattle.nfs_server.specs.CommandLine.{Configures, Reads, Refuses, IsHost, IsParsedFrom};
+ghost use Rattle.nfs_server.specs.CommandLine.{Configures, ReadsOptions, Refuses, IsHost, IsParsedFrom};
 ghost use Rattle.nfs_server.specs.CommandLine.{IsHostRefusal, IsReadingFault, IsRefusal, IsValueRefusal};
 ghost use Rattle.nfs_server.specs.CommandLine.{export_parts, host_of, nfsd, parts_of};
 ghost use Rattle.nfs_server.specs.CommandLine.{flag_rule, number_rule, option_rule};
@@ -186,7 +186,7 @@ fn host<'a>(command: &mut Command<'a>, matches: &ArgMatches<'a>) -> Result<&'a s
 fn read_options(alloc: Global, matches: &ArgMatches<'_>, host: &str) -> Result<Options, Exit>
     requires host_has_length { IsHost host.now }
     requires host_is { host.now ≡ host_of (rows_of (found_of matches.now)) }
-    ensures { MatchResult result (Reads (rows_of (found_of matches.now)))
+    ensures { MatchResult result (ReadsOptions (rows_of (found_of matches.now)))
         (IsRefusal (rows_of (found_of matches.now))) }
 {
     let list = export_texts(alloc, matches.get_strs("export").unwrap_or(&[]))?;

@@ -5,7 +5,7 @@ ghost use Rattle.std.specs.Prelude.{[], ◌∷◌, ◌++◌, true, length, Some,
 ghost use Rattle.std.specs.Io.KnownBytes.{Appends, Consumes, Keeps};
 ghost use Rattle.nfs_rpc.specs.Records.{Holds};
 ghost use Rattle.nfs_rpc.specs.Streams.{one_more};
-ghost use Rattle.nfs_server.specs.Served.{Ends, FailsToRead, Goes, Stops, ServedIsRun, ServesAll, ServesFront};
+ghost use Rattle.nfs_server.specs.Served.{EndsBy, FailsToRead, Goes, Stops, ServedIsRun, ServesAll, ServesFront};
 ghost use Rattle.nfs_server.specs.Taken.{Takes};
 
 use crate::plain::Plain;
@@ -223,7 +223,7 @@ fn serve_record<C: Moments, W: Sink>(
         (W.written writer.old) (W.written writer.new)) }
     ensures ok { OnOk result (W.Counts.failures writer.new ≡ W.Counts.failures writer.old) }
     ensures ends { IfErr result
-        (λ e. Ends C.gives host.now e (message ∷ []) clock.old clock.new plain.old plain.new
+        (λ e. EndsBy C.gives host.now e (message ∷ []) clock.old clock.new plain.old plain.new
         (W.written writer.old) (W.written writer.new)) }
     ensures fault { IfErr result (λ e.
         ((e ≡ StreamFault.Write) × (W.Counts.failures writer.new ≡ one_more (W.Counts.failures writer.old)))

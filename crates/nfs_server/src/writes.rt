@@ -5,7 +5,7 @@ ghost use Rattle.std.specs.Prelude.{IfOk, OnOk, OnErr};
 ghost use Rattle.std.specs.Arc.{arc_value};
 ghost use Rattle.std.specs.List.{AllByRecursion};
 ghost use Rattle.nfs_objects.specs.Store.{with_write, with_writes};
-ghost use Rattle.nfs_objects.specs.Values.{write_value};
+ghost use Rattle.nfs_objects.specs.Values.{write_stored};
 ghost use Rattle.nfs_objects.specs.declared.object.Object.{Object};
 ghost use Rattle.nfs_server.specs.Plain.{HasRoom, store_in};
 ghost use Rattle.nfs_server.specs.Slots.{empty_slot};
@@ -17,7 +17,7 @@ use std::sync::Arc;
 
 /// The same writes, which share the objects.
 pub(crate) fn copy_writes(alloc: Global, writes: &[Write]) -> Result<Vec<Write>, AllocError>
-    ensures { IfOk result (λ copies. map write_value copies.items ≡ map write_value writes.now) }
+    ensures { IfOk result (λ copies. map write_stored copies.items ≡ map write_stored writes.now) }
 {
     let mut copies = Vec::with_capacity(alloc, writes.len())?;
     for write in writes {
@@ -32,7 +32,7 @@ pub(crate) fn copy_writes(alloc: Global, writes: &[Write]) -> Result<Vec<Write>,
 
 /// Makes room for all of the writes. An error changes nothing.
 pub(crate) fn make_room(slots: &mut Slots, writes: &[Write]) -> Result<(), AllocError>
-    ensures room { OnOk result (AllByRecursion (λ w. HasRoom slots.new w.0) (map write_value writes.now)) }
+    ensures room { OnOk result (AllByRecursion (λ w. HasRoom slots.new w.0) (map write_stored writes.now)) }
     ensures same { OnOk result ((mounts : Option Object) → store_in slots.new mounts ≡ store_in slots.old mounts) }
     ensures err { OnErr result (slots.new ≡ slots.old) }
 {
@@ -62,9 +62,9 @@ fn make_one(slots: &mut Slots, address: Addr) -> Result<(), AllocError>
 
 /// Makes the writes, one after the other.
 pub(crate) fn install(slots: &mut Slots, mounts: &mut Option<Arc<Object>>, writes: Vec<Write>)
-    requires { AllByRecursion (λ w. HasRoom slots.old w.0) (map write_value writes.items) }
+    requires { AllByRecursion (λ w. HasRoom slots.old w.0) (map write_stored writes.items) }
     ensures { store_in slots.new (option_map arc_value mounts.new)
-        ≡ with_writes (store_in slots.old (option_map arc_value mounts.old)) (map write_value writes.items) }
+        ≡ with_writes (store_in slots.old (option_map arc_value mounts.old)) (map write_stored writes.items) }
 {
     let mut writes = writes.into_iter();
     'writes: while let Some(write) = writes.next() {

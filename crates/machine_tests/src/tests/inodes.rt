@@ -38,19 +38,19 @@ fn a_character_device_shows_its_numbers(rt: HostRuntime) {
 #[test]
 fn rights_to_a_directory_are_bits_of_one_class(rt: HostRuntime) {
     for (uid, gid, mode, right, want) in [
-        (5, 1, 0o077, Right::Searching, false),
-        (5, 1, 0o077, Right::Listing, false),
-        (5, 1, 0o577, Right::Changing, false),
-        (5, 1, 0o300, Right::Changing, true),
-        (1, 6, 0o010, Right::Searching, true),
-        (1, 6, 0o767, Right::Searching, false),
-        (1, 6, 0o757, Right::Changing, false),
-        (1, 1, 0o001, Right::Searching, true),
-        (1, 1, 0o776, Right::Searching, false),
-        (1, 1, 0o003, Right::Changing, true),
-        (1, 1, 0o002, Right::Changing, false),
-        (0, 1, 0o000, Right::Searching, true),
-        (0, 1, 0o000, Right::Changing, true),
+        (5, 1, 0o077, Right::ToSearch, false),
+        (5, 1, 0o077, Right::ToList, false),
+        (5, 1, 0o577, Right::ToChange, false),
+        (5, 1, 0o300, Right::ToChange, true),
+        (1, 6, 0o010, Right::ToSearch, true),
+        (1, 6, 0o767, Right::ToSearch, false),
+        (1, 6, 0o757, Right::ToChange, false),
+        (1, 1, 0o001, Right::ToSearch, true),
+        (1, 1, 0o776, Right::ToSearch, false),
+        (1, 1, 0o003, Right::ToChange, true),
+        (1, 1, 0o002, Right::ToChange, false),
+        (0, 1, 0o000, Right::ToSearch, true),
+        (0, 1, 0o000, Right::ToChange, true),
     ] {
         let caller = caller(uid, gid);
         assert_eq!(rt; may(&caller, &fifo(mode), right), want, "{uid} {mode}");

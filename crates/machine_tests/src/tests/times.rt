@@ -1,7 +1,7 @@
 //! The time of a change rises with each change (RFC 1813, 2.5: mtime, ctime), and how times are set (2.5: set_atime).
 
 use super::*;
-use nfs_inodes::{is_time, set_time, touch};
+use nfs_inodes::{is_time, time_set, touch};
 
 fn time(seconds: u32, nanoseconds: u32) -> Time {
     Time {
@@ -38,10 +38,10 @@ fn a_time_has_less_than_a_second_of_nanoseconds(rt: HostRuntime) {
 #[test]
 fn a_time_is_left_or_set(rt: HostRuntime) {
     let now = time(2000, 5);
-    assert_eq!(rt; set_time(TIME, now, SetTime::Leave), TIME);
-    assert_eq!(rt; set_time(TIME, now, SetTime::ToServer), now);
+    assert_eq!(rt; time_set(TIME, now, SetTime::Leave), TIME);
+    assert_eq!(rt; time_set(TIME, now, SetTime::ToServer), now);
     assert_eq!(rt;
-        set_time(TIME, now, SetTime::ToClient(time(9, 1))),
+        time_set(TIME, now, SetTime::ToClient(time(9, 1))),
         time(9, 1)
     );
 }

@@ -1,5 +1,5 @@
 use Rattle.std.proofs.Common.{refl, arith}
-use Rattle.nfs_machine.proofs.Chosen.{one_left}
+use Rattle.nfs_machine.proofs.LongestMatch.{one_left}
 use Rattle.nfs_machine.specs.MountSteps.{walk}
 use Rattle.nfs_machine.specs.Worked.{open_export, lower_export}
 use Rattle.nfs_machine.proofs.worked.worked_walks.Goals as goal
@@ -13,7 +13,7 @@ returns c = record {
   through_file = refl;
   nothing = refl;
   admitted = record {
-    leads = record {
+    matches = record {
       export = record { number = 2; root = 2; value = lower_export };
       stands = refl;
       admitted = refl;
@@ -22,7 +22,7 @@ returns c = record {
     longest = λ other more leads. omega arith;
   };
   not_admitted = record {
-    leads = record {
+    matches = record {
       export = record { number = 1; root = 1; value = open_export };
       stands = refl;
       admitted = refl;
@@ -31,7 +31,7 @@ returns c = record {
     longest = one_left;
   };
   empty_parts = record {
-    leads = record {
+    matches = record {
       export = record { number = 1; root = 1; value = open_export };
       stands = refl;
       admitted = refl;

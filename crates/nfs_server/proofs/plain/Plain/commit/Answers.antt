@@ -1,5 +1,5 @@
 use Rattle.std.proofs.Common.{List, ap, ◌∙◌, map, subst, sym}
-use Rattle.nfs_objects.specs.Values.{write_value}
+use Rattle.nfs_objects.specs.Values.{write_stored}
 use Rattle.nfs_objects.specs.declared.done.Write.{Write}
 use Rattle.nfs_server.specs.Forms.{HasForm}
 use Rattle.nfs_server.specs.Plain.{PlainValue, Stands}
@@ -16,7 +16,7 @@ pub invariant_of-self : goal.invariant_of-self
 invariant_of-self c = rw c.in_err-make_room.ensures.err c.self.invariant
 
 pub install-requires : goal.install-requires
-install-requires c = subst (λ (ws : List Write). AllRoom c.make_room.new.slots (map write_value ws)) c.deref.ensures.value c.in_ok-make_room.ensures.room
+install-requires c = subst (λ (ws : List Write). AllRoom c.make_room.new.slots (map write_stored ws)) c.deref.ensures.value c.in_ok-make_room.ensures.room
 
 pub invariant_of-self-2 : goal.invariant_of-self-2
 invariant_of-self-2 c =

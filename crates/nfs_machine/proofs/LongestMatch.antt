@@ -1,7 +1,7 @@
 -- A host that the lower export does not admit is led by the upper one alone, which leaves a name to walk.
 use Rattle.std.proofs.Common.{◌≡◌, ◌≤◌, ℕ, true, List, ◌++◌, length, codes, ap, arith}
 use Rattle.nfs_machine.specs.Exports.{LivingExport, admits}
-use Rattle.nfs_machine.specs.MountSteps.{Leads}
+use Rattle.nfs_machine.specs.MountSteps.{Matches}
 use Rattle.nfs_machine.specs.Paths.{parts}
 use Rattle.nfs_machine.specs.Worked.{two_exports, open_export}
 use Rattle.nfs_machine.proofs.Exported.{export-all}
@@ -11,7 +11,7 @@ LeavesOne more e = admits e.value (codes "10.0.0.1") ≡ true → parts (codes "
     1 ≤ length more
 
 pub one_left : (number : ℕ) (more : List (List ℕ)) →
-    Leads two_exports (codes "10.0.0.1") (parts (codes "/a/b")) number more → 1 ≤ length more
+    Matches two_exports (codes "10.0.0.1") (parts (codes "/a/b")) number more → 1 ≤ length more
 one_left number more leads = export-all (LeavesOne more) two_exports number leads.export
     (upper, (λ admitted begins. cc, tt)) leads.stands leads.admitted leads.begins
   where
