@@ -32,7 +32,7 @@ module _ (ctx : Ctx) (view : ViewValue) (a : ReadArguments) where
 
   -- what is answered where this is what the handle names
   abbrev answer_at : State → Resolved → ReadReply
-  answer_at m r = record { attributes = shown m r; result = object_of r >>= λ file. read_object ctx file.1 a }
+  answer_at m r = record { attributes = shown m r; result = object_of r >>= λ file. read_object ctx file.object a }
 
   step : (m : State) (r : Resolved) (reply : ReadReply) → reply ≡ answer_at m r → resolve m ctx a.file ≡ r → NfsStep m ctx (nfs.Read a) (replies.Read reply) [] m
   unfolding NfsStep

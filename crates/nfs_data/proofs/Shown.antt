@@ -28,7 +28,7 @@ module _ (ctx : Ctx) (view : ViewValue) (object : List ℕ) where
 
   -- the result, where the handle names this
   abbrev result_of : State → Resolved → Result Attributes NfsStatus
-  result_of m resolved = object_of resolved >>= λ o. Ok (attributes_of m o.0 o.1)
+  result_of m resolved = object_of resolved >>= λ o. Ok (attributes_of m o.number o.object)
 
   -- a step, where the result is that of what the handle names
   step : (m : State) (result : Result Attributes NfsStatus) → result ≡ result_of m (resolve m ctx object)

@@ -44,8 +44,8 @@ module _ (ctx : Ctx) (view : ViewValue) (a : WriteArguments) where
 
   -- what WRITE comes to where this is what the handle names, and where this becomes of the file
   abbrev end_at : State → Resolved → Result (Written × State) NfsStatus
-  end_at m r = object_of r >>= λ file. write_object m.exports ctx file.1 a >>= λ end. Ok
-      (end.0, replaced m file.0 end.1)
+  end_at m r = object_of r >>= λ file. write_object m.exports ctx file.object a >>= λ end. Ok
+      (end.0, replaced m file.number end.1)
 
   abbrev end_by : State → ℕ → Result (Written × Option Living) NfsStatus → Result (Written × State) NfsStatus
   end_by m number written = written >>= λ end. Ok (end.0, replaced m number end.1)

@@ -16,7 +16,7 @@ use Rattle.nfs_machine.specs.NfsSteps.{NfsStep}
 use Rattle.nfs_machine.specs.Pages.{all_entries, behind, fits}
 use Rattle.nfs_machine.specs.Paths.{parts}
 use Rattle.nfs_machine.specs.Permission.{ToList}
-use Rattle.nfs_machine.specs.Resolve.{Resolved, Names, living_at, resolve}
+use Rattle.nfs_machine.specs.Resolve.{Named, Resolved, Names, living_at, resolve}
 use Rattle.nfs_machine.specs.State.{Entry, Living}
 use Rattle.nfs_machine.specs.WellFormed.{IsParent}
 use Rattle.nfs_machine.specs.WorkedExports.{WorkedExporting, dots, exporting, handle, listing, lower_root}
@@ -25,6 +25,7 @@ use Rattle.nfs_machine.specs.WorkedRun.{nobody}
 use Rattle.nfs_machine.proofs.Exported.{export-all}
 use Rattle.nfs_machine.proofs.Pages.{PagesOf, page-ends}
 use Rattle.nfs_machine.proofs.Sums.{get-inserted}
+use Rattle.nfs_machine.proofs.Facts.{numbered}
 
 root-at : get objects 12 ≡ Some upper_root
 root-at = get-inserted (insert (insert empty 20 lower_root) 7 sub) 12 upper_root 12
@@ -49,8 +50,8 @@ sub-parent = record { directory = upper_root; lives = root-at; named_in = inr (o
 
 abbrev entries_by : (parent : ℕ) → Resolved → Result (List Entry) NfsStatus
 entries_by parent r =
-    object_of r >>= λ d. entries_in d.1.content >>= λ entries. permitted nobody d.1 ToList >>= λ _. holding true
-    status.BadCookie >>= λ _. Ok (behind 0 (all_entries d.0 parent entries.0))
+    object_of r >>= λ d. entries_in d.object.content >>= λ entries. permitted nobody d.object ToList >>= λ _. holding true
+    status.BadCookie >>= λ _. Ok (behind 0 (all_entries d.number parent entries.list))
 
 abbrev one_entry : List Entry
 one_entry = record { name = codes "sub"; number = 7; cookie = 3 } ∷ []
@@ -90,14 +91,14 @@ longest number more leads = export-all (LeavesOne more) exporting.exports number
     above admitted begins = (let count = ap length begins in omega arith)
 
 -- the walk of "sub" from its root
-abbrev below_by : ℕ → Option Living → Result (ℕ × Living) MountStatus
-below_by number o = entries_at o >>= λ d. Ok (number, d.0)
+abbrev below_by : ℕ → Option Living → Result Named MountStatus
+below_by number o = entries_at o >>= λ d. Ok (numbered number d.0)
 
-abbrev step_by : Option Living → Result (ℕ × Living) MountStatus
+abbrev step_by : Option Living → Result Named MountStatus
 step_by o = entries_at o >>= λ d. ok_or (entry_of d.1 (codes "sub")) mount_status.NoEntry >>= λ e. below_by e.number
     (get objects e.number)
 
-found : walk (get objects) 12 (codes "sub" ∷ []) ≡ Ok (7, sub)
+found : walk (get objects) 12 (codes "sub" ∷ []) ≡ Ok (numbered 7 sub)
 unfolding walk
 found = ap (λ (o : Option Living). step_by o) root-at ∙ ap (below_by 7) sub-at
 
@@ -124,7 +125,7 @@ worked-exporting = record {
     refl,
     refl,
     (
-      (7, sub),
+      numbered 7 sub,
       (
         refl,
         7,

@@ -14,11 +14,11 @@ use Rattle.nfs_machine.specs.DataSteps.{write_object}
 use Rattle.nfs_machine.specs.Shown.{replaced, with_object}
 use Rattle.nfs_machine.specs.Attributes.{entries_of, is_directory}
 use Rattle.nfs_machine.specs.Bytes.{same_bytes}
-use Rattle.nfs_machine.specs.Checks.{◌>>=◌, holding, object_of, entries_in, bytes_in, entry_of}
+use Rattle.nfs_machine.specs.Checks.{DirectoryEntries, ◌>>=◌, holding, object_of, entries_in, bytes_in, entry_of}
 use Rattle.nfs_machine.specs.RemoveSteps.{empty_directory, not_directory}
 use Rattle.nfs_machine.specs.Exports.{LivingExport, export_admits, export_at}
 use Rattle.nfs_machine.specs.Handles.{handle_of}
-use Rattle.nfs_machine.specs.Resolve.{Stale, Names, living_at, named, resolve}
+use Rattle.nfs_machine.specs.Resolve.{Named, Stale, Names, living_at, named, resolve}
 use Rattle.nfs_machine.specs.State.{Content, Regular, Directory, Link, BlockDevice, CharacterDevice, Socket, Fifo, Entry, Living, State}
 use Rattle.nfs_machine.specs.declared.context.Ctx.{Ctx}
 use Rattle.nfs_machine.specs.declared.handle.Handle.{Handle}
@@ -26,12 +26,12 @@ use Rattle.nfs_machine.proofs.WellFormed.{no_entries}
 
 -- what SETATTR and WRITE come to
 abbrev pub setattr_end : State → Ctx → SetattrArguments → Result (Unit {0} × State) NfsStatus
-setattr_end old ctx a = object_of (resolve old ctx a.object) >>= λ o. set_object old.exports ctx o.1 a >>= λ after. Ok
-    (tt, with_object old o.0 after)
+setattr_end old ctx a = object_of (resolve old ctx a.object) >>= λ o. set_object old.exports ctx o.object a >>= λ after. Ok
+    (tt, with_object old o.number after)
 
 abbrev pub write_end : State → Ctx → WriteArguments → Result (Written × State) NfsStatus
-write_end old ctx a = object_of (resolve old ctx a.file) >>= λ o. write_object old.exports ctx o.1 a >>= λ x. Ok
-    (x.0, replaced old o.0 x.1)
+write_end old ctx a = object_of (resolve old ctx a.file) >>= λ o. write_object old.exports ctx o.object a >>= λ x. Ok
+    (x.0, replaced old o.number x.1)
 
 -- what holds after each value that a check gives holds of the chain
 pub chained-is : {A B : Type 0} (P : B → Type 0) (r : Result A NfsStatus) (f : A → Result B NfsStatus) → ((x : A) → r ≡ Ok x → IfOk (f x) P) → IfOk (r >>= f) P
@@ -42,30 +42,36 @@ pub holds : (b : Bool) (e : NfsStatus) (x : Unit {0}) → holding b e ≡ Ok x �
 holds true e x is = refl
 holds false e x is = cc
 
-lives-at : (find : ℕ → Option Living) (h : Handle) (o : Option Living) (x : ℕ × Living) → find h.fileid ≡ o → object_of (living_at o h) ≡ Ok x → find x.0 ≡ Some x.1
+abbrev pub numbered : ℕ → Living → Named
+numbered number o = record { number = number; object = o }
+
+abbrev pub entries_with : List Entry → ℕ → DirectoryEntries
+entries_with list last = record { list = list; last_cookie = last }
+
+lives-at : (find : ℕ → Option Living) (h : Handle) (o : Option Living) (x : Named) → find h.fileid ≡ o → object_of (living_at o h) ≡ Ok x → find x.number ≡ Some x.object
 lives-at find h None x at is = cc
 lives-at find h (Some o) x at is =
-    elim ((o.generation == h.generation) && (o.export == h.export)) as (λ b. object_of (cond b (Names h.fileid o) Stale) ≡ Ok x → find x.0 ≡ Some x.1) [
-      | true ↦ λ e. (let same : (h.fileid, o) ≡ x = cc in subst (λ (y : ℕ × Living). find y.0 ≡ Some y.1) same at)
+    elim ((o.generation == h.generation) && (o.export == h.export)) as (λ b. object_of (cond b (Names h.fileid o) Stale) ≡ Ok x → find x.number ≡ Some x.object) [
+      | true ↦ λ e. (let same : numbered h.fileid o ≡ x = cc in subst (λ (y : Named). find y.number ≡ Some y.object) same at)
       | false ↦ λ e. cc
     ] is
 
 named-lives : (find : ℕ → Option Living) (exports : List LivingExport) (ctx : Ctx) (h : Option Handle)
-    (x : ℕ × Living) → object_of (named find exports ctx h) ≡ Ok x → find x.0 ≡ Some x.1
+    (x : Named) → object_of (named find exports ctx h) ≡ Ok x → find x.number ≡ Some x.object
 named-lives find exports ctx None x is = cc
 named-lives find exports ctx (Some h) x is =
     elim ((h.start == ctx.start) && export_admits (export_at exports h.export) ctx.host) as
-    (λ b. object_of (cond b (living_at (find h.fileid) h) Stale) ≡ Ok x → find x.0 ≡ Some x.1) [
+    (λ b. object_of (cond b (living_at (find h.fileid) h) Stale) ≡ Ok x → find x.number ≡ Some x.object) [
       | true ↦ λ e. lives-at find h (find h.fileid) x refl e
       | false ↦ λ e. cc
     ] is
 
 -- what a handle names lives
-pub resolved-lives : (m : State) (ctx : Ctx) (bytes : List ℕ) (x : ℕ × Living) → object_of (resolve m ctx bytes) ≡ Ok x → get m.objects x.0 ≡ Some x.1
+pub resolved-lives : (m : State) (ctx : Ctx) (bytes : List ℕ) (x : Named) → object_of (resolve m ctx bytes) ≡ Ok x → get m.objects x.number ≡ Some x.object
 resolved-lives m ctx bytes x is = named-lives (get m.objects) m.exports ctx (handle_of bytes) x is
 
-pub is-directory : (c : Content) (x : List Entry × ℕ) → entries_in c ≡ Ok x → c ≡ Directory x.0 x.1
-is-directory (Directory entries last) x is = (let same : (entries, last) ≡ x = cc in ap (λ (y : List Entry × ℕ). Directory y.0 y.1) same)
+pub is-directory : (c : Content) (x : DirectoryEntries) → entries_in c ≡ Ok x → c ≡ Directory x.list x.last_cookie
+is-directory (Directory entries last) x is = (let same : entries_with entries last ≡ x = cc in ap (λ (y : DirectoryEntries). Directory y.list y.last_cookie) same)
 is-directory (Regular bytes) x is = cc
 is-directory (Link text) x is = cc
 is-directory (BlockDevice device) x is = cc
@@ -82,9 +88,9 @@ is-regular (CharacterDevice device) x is = cc
 is-regular Socket x is = cc
 is-regular Fifo x is = cc
 
-pub leads-found : (p : Option (ℕ × Living)) (x : ℕ × Living) → ok_or p status.NoEntry ≡ Ok x → p ≡ Some x
+pub leads-found : (p : Option Named) (x : Named) → ok_or p status.NoEntry ≡ Ok x → p ≡ Some x
 leads-found None x is = cc
-leads-found (Some y) x is = (let same : y ≡ x = cc in ap (λ (z : ℕ × Living). Some z) same)
+leads-found (Some y) x is = (let same : y ≡ x = cc in ap (λ (z : Named). Some z) same)
 
 pub absent : (entries : List Entry) (name : List ℕ) → is_none (entry_of entries name) ≡ true → find (λ (x : Entry). same_bytes x.name name) entries ≡ None
 absent entries name e =

@@ -248,11 +248,11 @@ module _ (m : State) (ctx : Ctx) where
   pub write-follows : (a : WriteArguments) → IfOk (write_end m ctx a) (λ e. Follows (time_of ctx.moment) m e.1)
   write-follows a =
       chained-is (λ (e : Written × State). Follows (time_of ctx.moment) m e.1) (object_of (resolve m ctx a.file)) _ (λ file at.
-      chained-is (λ (e : Written × State). Follows (time_of ctx.moment) m e.1) (write_object m.exports ctx file.1 a) _
+      chained-is (λ (e : Written × State). Follows (time_of ctx.moment) m e.1) (write_object m.exports ctx file.object a) _
       (λ end is.
-      follows-replaced (time_of ctx.moment) m file.0 file.1 end.1 (resolved-lives m ctx a.file file at)
-      (of-ok (λ (e : Written × Option Living). IfSome e.1 (Alters (time_of ctx.moment) file.1))
-      (write_object m.exports ctx file.1 a) end is (write-alters file.1 a))))
+      follows-replaced (time_of ctx.moment) m file.number file.object end.1 (resolved-lives m ctx a.file file at)
+      (of-ok (λ (e : Written × Option Living). IfSome e.1 (Alters (time_of ctx.moment) file.object))
+      (write_object m.exports ctx file.object a) end is (write-alters file.object a))))
 
   -- ---- an object is made
   abbrev pub EndFollows : End m → Type 0
@@ -415,13 +415,13 @@ module _ (m : State) (ctx : Ctx) where
       → ((number : ℕ) → IfOk (there number (get m.objects number)) EndFollows) → IfOk (make_end m ctx place wanted there) EndFollows
   make-follows place wanted there plain found =
       chained-is EndFollows (object_of (resolve m ctx place.directory)) _ (λ directory at.
-      chained-is EndFollows (entries_in directory.1.content) _ (λ entries is.
+      chained-is EndFollows (entries_in directory.object.content) _ (λ entries is.
       chained-is EndFollows (plain_name_checked status.Exists status.Exists place.name) _ (λ x1 e1.
       chained-is EndFollows wanted _ (λ what e2.
-      chained-is EndFollows (changeable m.exports directory.1) _ (λ x3 e3.
-      chained-is EndFollows (permitted ctx directory.1 ToChange) _ (λ x4 e4.
-      under what (of-ok Plain wanted what e2 plain) directory.0 directory.1 entries.0 entries.1
-      (resolved-lives m ctx place.directory directory at) (is-directory directory.1.content entries is) (entry_of entries.0 place.name) refl))))))
+      chained-is EndFollows (changeable m.exports directory.object) _ (λ x3 e3.
+      chained-is EndFollows (permitted ctx directory.object ToChange) _ (λ x4 e4.
+      under what (of-ok Plain wanted what e2 plain) directory.number directory.object entries.list entries.last_cookie
+      (resolved-lives m ctx place.directory directory at) (is-directory directory.object.content entries is) (entry_of entries.list place.name) refl))))))
     where
       under : (what : Wanted) → Plain what → (number : ℕ) (directory : Living) (entries : List Entry) (last : ℕ) → get m.objects number ≡ Some directory → directory.content ≡ Directory entries last
           → (e : Option Entry) → entry_of entries place.name ≡ e

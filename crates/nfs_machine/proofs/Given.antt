@@ -41,7 +41,7 @@ use Rattle.nfs_machine.specs.Pages.{all_entries, fits_full}
 use Rattle.nfs_machine.specs.PageSteps.{IsParentOf, entries_left, full_entry}
 use Rattle.nfs_machine.proofs.Visited.{ListsPage}
 use Rattle.nfs_machine.specs.Permission.{ToChange, ToSearch, ToWrite}
-use Rattle.nfs_machine.specs.Resolve.{Resolved, BadHandle, Stale, Names, living_at, named, resolve}
+use Rattle.nfs_machine.specs.Resolve.{Named, Resolved, BadHandle, Stale, Names, living_at, named, resolve}
 use Rattle.nfs_machine.specs.Shown.{handle_at, replaced, with_content, with_object}
 use Rattle.nfs_machine.specs.State.{Regular, Directory, Link, Entry, Living, State}
 use Rattle.nfs_machine.specs.Times.{time_of}
@@ -53,7 +53,7 @@ use Rattle.nfs_machine.specs.declared.handle.Handle.{Handle}
 use Rattle.side_wire.specs.declared.mount.lists.MountBody.{MountBody}
 use Rattle.nfs_machine.proofs.Changes.{all-filter, differs-insert, differs-there, find-all, itself}
 use Rattle.nfs_machine.proofs.Exported.{export-all, export-number}
-use Rattle.nfs_machine.proofs.Facts.{chained-is, is-directory, resolved-lives}
+use Rattle.nfs_machine.proofs.Facts.{chained-is, is-directory, resolved-lives, numbered}
 use Rattle.nfs_machine.proofs.Follows.{of-ok}
 use Rattle.nfs_machine.proofs.Kept.{steps_keep_form}
 use Rattle.nfs_machine.proofs.Numbered.{steps_keep_numbers}
@@ -65,11 +65,11 @@ use Rattle.nfs_wire.specs.declared.replies.NfsReply.{NfsReply}
 use Rattle.nfs_machine.proofs.WellFormed.{all_map}
 
 -- ---- what a handle says of the object that it names
-resolved : (r : Resolved) (x : ℕ × Living) → object_of r ≡ Ok x → r ≡ Names x.0 x.1
+resolved : (r : Resolved) (x : Named) → object_of r ≡ Ok x → r ≡ Names x.number x.object
 resolved BadHandle x is = cc
 resolved Stale x is = cc
-resolved (Names number object) x is = (let same : (number, object) ≡ x = cc in
-    ap (λ (y : ℕ × Living). Names y.0 y.1) same)
+resolved (Names number object) x is = (let same : numbered number object ≡ x = cc in
+    ap (λ (y : Named). Names y.number y.object) same)
 
 -- the export of the object that a handle names admits the caller
 named-admits : (find : ℕ → Option Living) (exports : List LivingExport) (ctx : Ctx) (h : Option Handle)
@@ -194,9 +194,9 @@ all-front : (P : Entry → Type 0) (front rest : List Entry) → AllByRecursion 
 all-front P [] rest all = tt
 all-front P (e ∷ front) rest all = (all.0, all-front P front rest all.1)
 
-module _ (m : State) (ctx : Ctx) (w : WellFormed m) (directory : ℕ × Living) where
-  known-there : (admitted : export_admits (export_at m.exports directory.1.export) ctx.host ≡ true) (number : ℕ)
-      (o : Living) → get m.objects number ≡ Some o → o.export ≡ directory.1.export → IsKnown m ctx number o
+module _ (m : State) (ctx : Ctx) (w : WellFormed m) (directory : Named) where
+  known-there : (admitted : export_admits (export_at m.exports directory.object.export) ctx.host ≡ true) (number : ℕ)
+      (o : Living) → get m.objects number ≡ Some o → o.export ≡ directory.object.export → IsKnown m ctx number o
   known-there admitted number o at same = record {
     lives = at;
     admitted = ap (λ k. export_admits (export_at m.exports k) ctx.host) same ∙ admitted;
@@ -210,23 +210,23 @@ module _ (read : HandlesAreRead) (m : State) (ctx : Ctx) (w : WellFormed m) (fit
   lookup-resolves place parent is_parent =
       let P = λ (found : Found). Resolves m ctx found.object found.attributes in
       chained-is P (object_of (resolve m ctx place.directory)) _ (λ directory at.
-      chained-is P (entries_in directory.1.content) _ (λ entries is.
+      chained-is P (entries_in directory.object.content) _ (λ entries is.
       chained-is P (name_checked place.name) _ (λ x1 e1.
-      chained-is P (permitted ctx directory.1 ToSearch) _ (λ x2 e2.
-      chained-is P (leads_to directory.0 parent entries.0 place.name) _ (λ number leads.
+      chained-is P (permitted ctx directory.object ToSearch) _ (λ x2 e2.
+      chained-is P (leads_to directory.number parent entries.list place.name) _ (λ number leads.
       chained-is P (ok_or (get m.objects number) status.NoEntry) _ (λ o there.
       let names = resolved (resolve m ctx place.directory) directory at in
-      let content = is-directory directory.1.content entries is in
+      let content = is-directory directory.object.content entries is in
       let lives = resolved-lives m ctx place.directory directory at in
-      let inside = entries-export m w directory.0 parent directory.1 entries.0 entries.1 lives content
-      (is_parent directory.0 directory.1 names (ap is_directory content)) in
-      let known = led (all_entries directory.0 parent entries.0) place.name directory.1.export inside number leads in
+      let inside = entries-export m w directory.number parent directory.object entries.list entries.last_cookie lives content
+      (is_parent directory.number directory.object names (ap is_directory content)) in
+      let known = led (all_entries directory.number parent entries.list) place.name directory.object.export inside number leads in
       let own = exists (get m.objects number) o there in
       let both : Some known.0 ≡ Some o = sym known.1 ∙ own in
       let same : known.0 ≡ o = cc in
       resolves-known read m ctx w fit start number o
       (known-there m ctx w directory
-      (named-admits (get m.objects) m.exports ctx (handle_of place.directory) directory.0 directory.1 names)
+      (named-admits (get m.objects) m.exports ctx (handle_of place.directory) directory.number directory.object names)
       number o own (ap (λ (x : Living). x.export) (sym same) ∙ known.2))))))))
     where
       exists : (x : Option Living) (o : Living) → ok_or x status.NoEntry ≡ Ok o → x ≡ Some o
@@ -252,7 +252,7 @@ module _ (read : HandlesAreRead) (m : State) (ctx : Ctx) (w : WellFormed m) (fit
   listed-resolves : (directory : List ℕ) (cookie : ℕ) (fits : List Entry → Bool) (page : List Entry × Bool) →
       ListsPage m ctx directory cookie fits page → AllByRecursion (EntryIsTold m ctx) (map (full_entry m ctx) page.0)
   listed-resolves directory cookie fits page lists =
-      let lives = resolved-lives m ctx directory (lists.number, lists.object) (ap object_of lists.is_named) in
+      let lives = resolved-lives m ctx directory (numbered lists.number lists.object) (ap object_of lists.is_named) in
       let all = entries-export m w lists.number lists.parent lists.object lists.entries lists.last lives
       lists.is_directory lists.is_parent in
       let left = all-filter (λ (e : Entry). InExport m w lists.object.export e.number)
@@ -266,7 +266,7 @@ module _ (read : HandlesAreRead) (m : State) (ctx : Ctx) (w : WellFormed m) (fit
           (λ (x : Option Living). IsTold m ctx (option_map (handle_at ctx e.number) x)
           (option_map (attributes_of m e.number) x)) (sym at)
           (resolves-known read m ctx w fit start e.number o
-          (known-there m ctx w (lists.number, lists.object)
+          (known-there m ctx w (numbered lists.number lists.object)
           (named-admits (get m.objects) m.exports ctx (handle_of directory) lists.number lists.object lists.is_named)
           e.number o at same))
 
@@ -286,22 +286,22 @@ module _ (m : State) (ctx : Ctx) where
   EndKnown (Known answer new) = KnownMade new answer
   EndKnown (Chosen makes) = (fresh : Fresh m) → KnownMade (makes fresh).1 (makes fresh).0
 
-  module _ (directory : ℕ × Living)
-      (admitted : export_admits (export_at m.exports directory.1.export) ctx.host ≡ true) where
+  module _ (directory : Named)
+      (admitted : export_admits (export_at m.exports directory.object.export) ctx.host ≡ true) where
     new-known : (name : List ℕ) (wanted : Wanted) (entries : List Entry) (last : ℕ) →
-        IfOk (make_new m ctx name wanted directory.0 directory.1 entries last) EndKnown
+        IfOk (make_new m ctx name wanted directory.number directory.object entries last) EndKnown
     new-known name wanted entries last =
-        chained-is EndKnown (kind_checked ctx (links_of m directory.0 directory.1.content) wanted.content) _ (λ x0 e0.
+        chained-is EndKnown (kind_checked ctx (links_of m directory.number directory.object.content) wanted.content) _ (λ x0 e0.
         chained-is EndKnown (given_attributes ctx wanted.attributes) _ (λ x1 e1.
         chained-is EndKnown (holding (nat_lt (last + 1) (2 ^ 64)) status.NoSpace) _ (λ x2 e2 fresh.
-        let o = new_object ctx directory.1.export fresh.generation wanted in
-        let wider = with_content directory.1 (time_of ctx.moment) (with_entry entries last name fresh.number) in (
+        let o = new_object ctx directory.object.export fresh.generation wanted in
+        let wider = with_content directory.object (time_of ctx.moment) (with_entry entries last name fresh.number) in (
           fresh.number,
           o,
           record {
-            lives = differs-there (with_object m directory.0 wider).objects
-                (with_object (with_object m directory.0 wider) fresh.number o).objects fresh.number (Some o)
-                (differs-insert (with_object m directory.0 wider).objects fresh.number o);
+            lives = differs-there (with_object m directory.number wider).objects
+                (with_object (with_object m directory.number wider) fresh.number o).objects fresh.number (Some o)
+                (differs-insert (with_object m directory.number wider).objects fresh.number o);
             admitted = admitted;
           },
           refl,
@@ -344,7 +344,7 @@ module _ (m : State) (ctx : Ctx) where
     after-exports number (Some x) = refl
 
     existing-known : (how : CreateHow) (number : ℕ) (o : Living) → get m.objects number ≡ Some o →
-        o.export ≡ directory.1.export → IfOk (create_existing m ctx how number (Some o)) EndKnown
+        o.export ≡ directory.object.export → IfOk (create_existing m ctx how number (Some o)) EndKnown
     existing-known how number o at same =
         chained-is EndKnown (create_over ctx how o (bytes_in o.content)) _ (λ after is. (
           number,
@@ -365,35 +365,35 @@ module _ (m : State) (ctx : Ctx) where
   -- what is there under the name is in the export
   make-known : WellFormed m → (place : Place) (wanted : Result Wanted NfsStatus)
       (there : ℕ → Option Living → Result (End m) NfsStatus)
-      → ((directory : ℕ × Living) → export_admits (export_at m.exports directory.1.export) ctx.host ≡ true →
-      (number : ℕ) (o : Living) → get m.objects number ≡ Some o → o.export ≡ directory.1.export →
+      → ((directory : Named) → export_admits (export_at m.exports directory.object.export) ctx.host ≡ true →
+      (number : ℕ) (o : Living) → get m.objects number ≡ Some o → o.export ≡ directory.object.export →
       IfOk (there number (Some o)) EndKnown)
       → IfOk (make_end m ctx place wanted there) EndKnown
   make-known w place wanted there found =
       chained-is EndKnown (object_of (resolve m ctx place.directory)) _ (λ directory at.
-      chained-is EndKnown (entries_in directory.1.content) _ (λ entries is.
+      chained-is EndKnown (entries_in directory.object.content) _ (λ entries is.
       chained-is EndKnown (plain_name_checked status.Exists status.Exists place.name) _ (λ x1 e1.
       chained-is EndKnown wanted _ (λ what e2.
-      chained-is EndKnown (changeable m.exports directory.1) _ (λ x3 e3.
-      chained-is EndKnown (permitted ctx directory.1 ToChange) _ (λ x4 e4.
-      under directory (named-admits (get m.objects) m.exports ctx (handle_of place.directory) directory.0 directory.1
-      (resolved (resolve m ctx place.directory) directory at)) what entries.0 entries.1
-      (subst (AllByRecursion (Leads m directory.1)) (ap entries_of (is-directory directory.1.content entries is))
-      (w.names directory.0 directory.1 (resolved-lives m ctx place.directory directory at)).leads)
-      (entry_of entries.0 place.name) refl))))))
+      chained-is EndKnown (changeable m.exports directory.object) _ (λ x3 e3.
+      chained-is EndKnown (permitted ctx directory.object ToChange) _ (λ x4 e4.
+      under directory (named-admits (get m.objects) m.exports ctx (handle_of place.directory) directory.number directory.object
+      (resolved (resolve m ctx place.directory) directory at)) what entries.list entries.last_cookie
+      (subst (AllByRecursion (Leads m directory.object)) (ap entries_of (is-directory directory.object.content entries is))
+      (w.names directory.number directory.object (resolved-lives m ctx place.directory directory at)).leads)
+      (entry_of entries.list place.name) refl))))))
     where
-      under : (directory : ℕ × Living) →
-          export_admits (export_at m.exports directory.1.export) ctx.host ≡ true →
-          (what : Wanted) (entries : List Entry) (last : ℕ) → AllByRecursion (Leads m directory.1) entries →
+      under : (directory : Named) →
+          export_admits (export_at m.exports directory.object.export) ctx.host ≡ true →
+          (what : Wanted) (entries : List Entry) (last : ℕ) → AllByRecursion (Leads m directory.object) entries →
           (e : Option Entry) → entry_of entries place.name ≡ e →
           IfOk (elim e as (λ (_ : Option Entry). Result (End m) NfsStatus) [
             | Some e ↦ there e.number (get m.objects e.number)
-            | None ↦ make_new m ctx place.name what directory.0 directory.1 entries last
+            | None ↦ make_new m ctx place.name what directory.number directory.object entries last
           ]) EndKnown
       under directory admitted what entries last leads None is = new-known directory admitted place.name what entries
           last
       under directory admitted what entries last leads (Some e) is =
-          let l = find-all (Leads m directory.1) (λ (x : Entry). same_bytes x.name place.name) entries e leads is in
+          let l = find-all (Leads m directory.object) (λ (x : Entry). same_bytes x.name place.name) entries e leads is in
           subst (λ x. IfOk (there e.number x) EndKnown) (sym l.lives)
           (found directory admitted e.number l.object l.lives l.export)
 
@@ -436,9 +436,9 @@ entries-of (Some o) d is = elim (is_directory o.content) as (λ b. is_directory 
 
 module _ (m : State) (w : WellFormed m) (export : ℕ) where
   -- a living directory of the export
-  abbrev Reached : ℕ × Living → Type 0
-  Reached found = (get m.objects found.0 ≡ Some found.1) × (is_directory found.1.content ≡ true) ×
-      (found.1.export ≡ export)
+  abbrev Reached : Named → Type 0
+  Reached found = (get m.objects found.number ≡ Some found.object) × (is_directory found.object.content ≡ true) ×
+      (found.object.export ≡ export)
 
   walk-reaches : (number : ℕ) (names : List (List ℕ)) → InExport m w export number →
       IfOk (walk (get m.objects) number names) Reached
@@ -467,13 +467,13 @@ module _ (m : State) (w : WellFormed m) (export : ℕ) where
 
 module _ (read : HandlesAreRead) (old : State) (ctx : Ctx) (w : WellFormed old) (fit : NumbersFit old)
     (start : ctx.start < 2 ^ 64) where
-  target-known : (path : List ℕ) (found : ℕ × Living) → Target old ctx path (Ok found) →
-      IsKnown old ctx found.0 found.1 × (is_directory found.1.content ≡ true)
+  target-known : (path : List ℕ) (found : Named) → Target old ctx path (Ok found) →
+      IsKnown old ctx found.number found.object × (is_directory found.object.content ≡ true)
   target-known path found (fault, number, rest, chosen, is) =
       let e = chosen.matches.export in
       let root = export-all (HasRoot old) old.exports number e w.exports.rooted chosen.matches.stands in
       let own : e.number ≡ number = export-number old.exports number e chosen.matches.stands in
-      let reached = subst (λ (r : Result (ℕ × Living) MountStatus). IfOk r (Reached old w e.number)) (sym is)
+      let reached = subst (λ (r : Result Named MountStatus). IfOk r (Reached old w e.number)) (sym is)
       (walk-reaches old w e.number e.root rest (root.root, root.lives, root.own)) in (
         record {
           lives = reached.0;
@@ -503,11 +503,11 @@ mnt_handles_resolve read old ctx path handle messages new w fit start (result, t
     of (found, target, is, after) =
         let known = target-known read old ctx w fit start path found target in
         record {
-          number = found.0;
-          object = found.1;
-          is_named = ap (λ h. resolve new ctx h) is ∙ ap (λ m. resolve m ctx (handle_at ctx found.0 found.1)) after
-              ∙ mounted-resolves read old ctx w fit start (record { hostname = ctx.host; directory = path }) found.0
-              found.1 known.0;
+          number = found.number;
+          object = found.object;
+          is_named = ap (λ h. resolve new ctx h) is ∙ ap (λ m. resolve m ctx (handle_at ctx found.number found.object)) after
+              ∙ mounted-resolves read old ctx w fit start (record { hostname = ctx.host; directory = path }) found.number
+              found.object known.0;
           directory = known.1;
         }
 
@@ -516,9 +516,9 @@ mnt_handles_resolve read old ctx path handle messages new w fit start (result, t
 module _ (read : HandlesAreRead) (old : State) (ctx : Ctx) (place : Place) (w : WellFormed old)
     (start : ctx.start < 2 ^ 64) where
   answered-known : (wanted : Result Wanted NfsStatus) (there : ℕ → Option Living → Result (End old) NfsStatus)
-      → ((directory : ℕ × Living) →
-      export_admits (export_at old.exports directory.1.export) ctx.host ≡ true →
-      (number : ℕ) (o : Living) → get old.objects number ≡ Some o → o.export ≡ directory.1.export →
+      → ((directory : Named) →
+      export_admits (export_at old.exports directory.object.export) ctx.host ≡ true →
+      (number : ℕ) (o : Living) → get old.objects number ≡ Some o → o.export ≡ directory.object.export →
       IfOk (there number (Some o)) (EndKnown old ctx))
       → (end : Result (Made × State) NfsStatus) (new : State) →
       EndsAs old (make_end old ctx place wanted there) end →
@@ -530,9 +530,9 @@ module _ (read : HandlesAreRead) (old : State) (ctx : Ctx) (place : Place) (w : 
       (make-known old ctx w place wanted there found)) (subst WellFormed is formed) (subst NumbersFit is fit) start)
 
   -- what is there is answered by no status but EXIST
-  none-there : (directory : ℕ × Living) →
-      export_admits (export_at old.exports directory.1.export) ctx.host ≡ true →
-      (number : ℕ) (o : Living) → get old.objects number ≡ Some o → o.export ≡ directory.1.export →
+  none-there : (directory : Named) →
+      export_admits (export_at old.exports directory.object.export) ctx.host ≡ true →
+      (number : ℕ) (o : Living) → get old.objects number ≡ Some o → o.export ≡ directory.object.export →
       IfOk {T = End old} (Err status.Exists) (EndKnown old ctx)
   none-there directory admitted number o at same = tt
 

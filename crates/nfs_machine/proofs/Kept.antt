@@ -25,12 +25,12 @@ use Rattle.side_wire.specs.declared.nlm.NlmReply.{NlmReply}
 use Rattle.nfs_wire.specs.declared.calls.RenameArguments.{RenameArguments}
 use Rattle.std.specs.Prelude.{ok_or, is_some}
 use Rattle.std.specs.Cmp.{unsigned_Decides}
-use Rattle.nfs_machine.specs.Resolve.{resolve}
+use Rattle.nfs_machine.specs.Resolve.{Named, resolve}
 use Rattle.nfs_machine.specs.Permission.{ToChange}
 use Rattle.nfs_machine.specs.Answers.{Answers, state_after}
 use Rattle.nfs_machine.specs.Attributes.{links_of, names_in, names_of, is_directory}
 use Rattle.nfs_machine.specs.Chains.{Chain, Transition}
-use Rattle.nfs_machine.specs.Checks.{holding, link_limit, ◌>>=◌, object_of, entries_in, entry_of, changeable, permitted, plain_name_checked}
+use Rattle.nfs_machine.specs.Checks.{DirectoryEntries, holding, link_limit, ◌>>=◌, object_of, entries_in, entry_of, changeable, permitted, plain_name_checked}
 use Rattle.nfs_machine.specs.Laws.{GivesOnce, KeepsCookies, KeepsExports, LivesAs, NeverGivenAgain, ChainsKeepForm}
 use Rattle.nfs_machine.specs.Laws.{StepsGiveOnce, StepsKeepCookies, StepsKeepExports, StepsKeepForm}
 use Rattle.nfs_machine.specs.LinkSteps.{link_end}
@@ -115,7 +115,7 @@ module _ (old : State) (ctx : Ctx) where
       move.target move.directory _ move.entries move.last_cookie is.lives is.content)
       move.from.number move.from.object (touched move.from.object now) is.from.object (λ e. e)
 
-  moved-locks : (now : Time) (move : Move) → IsMove old move → (replaced : Option (ℕ × Living)) →
+  moved-locks : (now : Time) (move : Move) → IsMove old move → (replaced : Option Named) →
       move.replaced ≡ replaced
       → LocksFollow old (without_replaced old (with_object (with_names_moved old now move) move.from.number (touched move.from.object now)) now replaced)
   moved-locks now move is None e =
@@ -125,28 +125,28 @@ module _ (old : State) (ctx : Ctx) where
   moved-locks now move is (Some o) e =
       locks-losing old (with_object (with_names_moved old now move) move.from.number
       (touched move.from.object now)).objects
-      (moved-on now move is) (names_of old o.0) now o.0 o.1
+      (moved-on now move is) (names_of old o.number) now o.number o.object
       (under-entry old (entry_of move.entries move.name) o (sym is.over ∙ e)).3
 
-  moved-exports : (now : Time) (move : Move) (replaced : Option (ℕ × Living))
+  moved-exports : (now : Time) (move : Move) (replaced : Option Named)
       → KeepsExports old (without_replaced old
       (with_object (with_names_moved old now move) move.from.number (touched move.from.object now)) now replaced)
   moved-exports now move None = record { exports = refl; last = refl }
   moved-exports now move (Some o) =
       let k = exports-losing
       (with_object (with_names_moved old now move) move.from.number (touched move.from.object now))
-      (names_of old o.0) now o.0 o.1 in
+      (names_of old o.number) now o.number o.object in
       record { exports = k.exports; last = k.last }
 
-  moved-mounts : (now : Time) (move : Move) (replaced : Option (ℕ × Living))
+  moved-mounts : (now : Time) (move : Move) (replaced : Option Named)
       → (without_replaced old (with_object (with_names_moved old now move) move.from.number (touched move.from.object now)) now replaced).mounts ≡ old.mounts
   moved-mounts now move None = refl
-  moved-mounts now move (Some o) = mounts-losing (with_object (with_names_moved old now move) move.from.number (touched move.from.object now)) (names_of old o.0) now o.0 o.1
+  moved-mounts now move (Some o) = mounts-losing (with_object (with_names_moved old now move) move.from.number (touched move.from.object now)) (names_of old o.number) now o.number o.object
 
-  moved-bounds : (now : Time) (move : Move) (replaced : Option (ℕ × Living))
+  moved-bounds : (now : Time) (move : Move) (replaced : Option Named)
       → LocksFit old → LocksFit (without_replaced old (with_object (with_names_moved old now move) move.from.number (touched move.from.object now)) now replaced)
   moved-bounds now move None = λ h. h
-  moved-bounds now move (Some o) = bounds-losing (with_object (with_names_moved old now move) move.from.number (touched move.from.object now)) (names_of old o.0) now o.0 o.1
+  moved-bounds now move (Some o) = bounds-losing (with_object (with_names_moved old now move) move.from.number (touched move.from.object now)) (names_of old o.number) now o.number o.object
 
   moved-follows : (now : Time) (move : Move) → IsMove old move → (GoesIntoItself old move → ⊥) → Follows now old (with_moved old now move)
   moved-follows now move is out = record {
@@ -175,56 +175,56 @@ module _ (old : State) (ctx : Ctx) where
   stays-out true moved target out into = out into.1
   stays-out false moved target out into = (let no : false ≡ true = into.0 in cc)
 
-  module _ (a : RenameArguments) (from to : ℕ × Living) (from_entries to_entries : List Entry × ℕ) (moved : ℕ × Living) where
-    abbrev move_of : Option (ℕ × Living) → Move
+  module _ (a : RenameArguments) (from to : Named) (from_entries to_entries : DirectoryEntries) (moved : Named) where
+    abbrev move_of : Option Named → Move
     move_of replaced =
-        record { from = named_as from from_entries a.from.name moved; target = to.0; directory = to.1; entries = to_entries.0; last_cookie = to_entries.1; name = a.to.name; replaced = replaced }
+        record { from = named_as from from_entries a.from.name moved; target = to.number; directory = to.object; entries = to_entries.list; last_cookie = to_entries.last_cookie; name = a.to.name; replaced = replaced }
 
-    abbrev gains : Option (ℕ × Living) → Result (Unit {0}) NfsStatus
-    gains replaced = holding (not (is_directory moved.1.content) || (to.0 == from.0) || is_some replaced || nat_lt (links_of old to.0 to.1.content) link_limit) status.TooManyLinks
+    abbrev gains : Option Named → Result (Unit {0}) NfsStatus
+    gains replaced = holding (not (is_directory moved.object.content) || (to.number == from.number) || is_some replaced || nat_lt (links_of old to.number to.object.content) link_limit) status.TooManyLinks
 
-    abbrev end_of : Option (ℕ × Living) → Result (Unit {0} × State) NfsStatus
-    end_of replaced = gains replaced >>= λ _. holding (nat_lt (to_entries.1 + 1) (2 ^ 64)) status.NoSpace >>= λ _. Ok (tt, with_moved old (time_of ctx.moment) (move_of replaced))
+    abbrev end_of : Option Named → Result (Unit {0} × State) NfsStatus
+    end_of replaced = gains replaced >>= λ _. holding (nat_lt (to_entries.last_cookie + 1) (2 ^ 64)) status.NoSpace >>= λ _. Ok (tt, with_moved old (time_of ctx.moment) (move_of replaced))
 
-    abbrev plan_of : Option (ℕ × Living) → Option (ℕ × ℕ) × Result (Unit {0} × State) NfsStatus
-    plan_of replaced = (cond (is_directory moved.1.content) (Some (moved.0, to.0)) None, end_of replaced)
+    abbrev plan_of : Option Named → Option (ℕ × ℕ) × Result (Unit {0} × State) NfsStatus
+    plan_of replaced = (cond (is_directory moved.object.content) (Some (moved.number, to.number)) None, end_of replaced)
 
-    plan-follows : (replaced : Option (ℕ × Living)) → IsMove old (move_of replaced) → IsPlan (plan_of replaced)
+    plan-follows : (replaced : Option Named) → IsMove old (move_of replaced) → IsPlan (plan_of replaced)
     plan-follows replaced is out =
         let P : Unit {0} × State → Type 0 = λ e. Follows (time_of ctx.moment) old e.1 in
         chained-is P (gains replaced) _ (λ x1 e1.
-        chained-is P (holding (nat_lt (to_entries.1 + 1) (2 ^ 64)) status.NoSpace) _ (λ x2 e2.
-        moved-follows (time_of ctx.moment) (move_of replaced) is (stays-out (is_directory moved.1.content) moved.0 to.0 out)))
+        chained-is P (holding (nat_lt (to_entries.last_cookie + 1) (2 ^ 64)) status.NoSpace) _ (λ x2 e2.
+        moved-follows (time_of ctx.moment) (move_of replaced) is (stays-out (is_directory moved.object.content) moved.number to.number out)))
 
-    move-planned : (replaced : Option (ℕ × Living)) → IsBegun old (move_of replaced) → IfOk (move_plan old (time_of ctx.moment) a from to from_entries to_entries moved replaced) IsPlan
+    move-planned : (replaced : Option Named) → IsBegun old (move_of replaced) → IfOk (move_plan old (time_of ctx.moment) a from to from_entries to_entries moved replaced) IsPlan
     move-planned None begun = plan-follows None (moves-free old (move_of None) begun refl)
     move-planned (Some r) begun =
-        elim (r.0 == moved.0) as (λ b. (r.0 == moved.0) ≡ b
-        → IfOk (cond b (Ok (None, Ok (tt, old))) (holding (is_compatible moved.1.content r.1.content) status.Exists >>= λ _. Ok (plan_of (Some r)))) IsPlan) [
+        elim (r.number == moved.number) as (λ b. (r.number == moved.number) ≡ b
+        → IfOk (cond b (Ok (None, Ok (tt, old))) (holding (is_compatible moved.object.content r.object.content) status.Exists >>= λ _. Ok (plan_of (Some r)))) IsPlan) [
           | true ↦ λ e out. follows-itself (time_of ctx.moment) old
-          | false ↦ λ e. chained-is IsPlan (holding (is_compatible moved.1.content r.1.content) status.Exists) _ (λ x1 e1.
-              plan-follows (Some r) (moves-over old (move_of (Some r)) begun r refl e (holds (is_compatible moved.1.content r.1.content) status.Exists x1 e1)))
+          | false ↦ λ e. chained-is IsPlan (holding (is_compatible moved.object.content r.object.content) status.Exists) _ (λ x1 e1.
+              plan-follows (Some r) (moves-over old (move_of (Some r)) begun r refl e (holds (is_compatible moved.object.content r.object.content) status.Exists x1 e1)))
         ] refl
 
   planned : (a : RenameArguments) → IfOk (rename_plan old ctx a) IsPlan
   planned a =
       chained-is IsPlan (object_of (resolve old ctx a.from.directory)) _ (λ from at.
       chained-is IsPlan (object_of (resolve old ctx a.to.directory)) _ (λ to there.
-      chained-is IsPlan (holding (from.1.export == to.1.export) status.CrossDevice) _ (λ x1 e1.
-      chained-is IsPlan (entries_in from.1.content) _ (λ from_entries is.
-      chained-is IsPlan (entries_in to.1.content) _ (λ to_entries is_to.
+      chained-is IsPlan (holding (from.object.export == to.object.export) status.CrossDevice) _ (λ x1 e1.
+      chained-is IsPlan (entries_in from.object.content) _ (λ from_entries is.
+      chained-is IsPlan (entries_in to.object.content) _ (λ to_entries is_to.
       chained-is IsPlan (plain_name_checked status.Invalid status.Invalid a.from.name) _ (λ x2 e2.
       chained-is IsPlan (plain_name_checked status.Invalid status.Invalid a.to.name) _ (λ x3 e3.
-      chained-is IsPlan (changeable old.exports from.1) _ (λ x4 e4.
-      chained-is IsPlan (permitted ctx from.1 ToChange) _ (λ x5 e5.
-      chained-is IsPlan (permitted ctx to.1 ToChange) _ (λ x6 e6.
-      chained-is IsPlan (ok_or (object_under old (entry_of from_entries.0 a.from.name)) status.NoEntry) _ (λ moved e7.
-      move-planned a from to from_entries to_entries moved (object_under old (entry_of to_entries.0 a.to.name)) (record {
-        from = is-under old from from_entries a.from.name moved (resolved-lives old ctx a.from.directory from at) (is-directory from.1.content from_entries is)
-            (leads-found (object_under old (entry_of from_entries.0 a.from.name)) moved e7);
+      chained-is IsPlan (changeable old.exports from.object) _ (λ x4 e4.
+      chained-is IsPlan (permitted ctx from.object ToChange) _ (λ x5 e5.
+      chained-is IsPlan (permitted ctx to.object ToChange) _ (λ x6 e6.
+      chained-is IsPlan (ok_or (object_under old (entry_of from_entries.list a.from.name)) status.NoEntry) _ (λ moved e7.
+      move-planned a from to from_entries to_entries moved (object_under old (entry_of to_entries.list a.to.name)) (record {
+        from = is-under old from from_entries a.from.name moved (resolved-lives old ctx a.from.directory from at) (is-directory from.object.content from_entries is)
+            (leads-found (object_under old (entry_of from_entries.list a.from.name)) moved e7);
         lives = resolved-lives old ctx a.to.directory to there;
-        content = is-directory to.1.content to_entries is_to;
-        export = (unsigned_Decides from.1.export to.1.export).0 (holds (from.1.export == to.1.export) status.CrossDevice x1 e1);
+        content = is-directory to.object.content to_entries is_to;
+        export = (unsigned_Decides from.object.export to.object.export).0 (holds (from.object.export == to.object.export) status.CrossDevice x1 e1);
         over = refl;
       }))))))))))))
 

@@ -25,7 +25,7 @@ use Rattle.nfs_machine.specs.MountSteps.{MountStep, entries_at, walk, ◌>>=◌ 
 use Rattle.nfs_machine.specs.Exports.{LivingExport}
 use Rattle.nfs_machine.specs.WorkedCreate.{writable}
 use Rattle.nfs_machine.specs.WorkedSetting.{unwritable}
-use Rattle.nfs_machine.specs.Resolve.{Resolved, Names, living_at, resolve}
+use Rattle.nfs_machine.specs.Resolve.{Named, Resolved, Names, living_at, resolve}
 use Rattle.side_wire.specs.declared.nlm.ShareAccess.TheVariants as access
 use Rattle.side_wire.specs.declared.nlm.ShareMode.TheVariants as mode
 use Rattle.nfs_machine.specs.State.{Living, Lock, Owner, Request, Share}
@@ -43,6 +43,7 @@ use Rattle.nfs_machine.proofs.Modes.{listed_locks_tell, holds, mode_by}
 use Rattle.nfs_machine.proofs.Opened.{le_or, none_of}
 use Rattle.nfs_machine.proofs.Ranges.{at-30, locked}
 use Rattle.nfs_machine.proofs.RunWorked.{root-named, root-written, x-lives, x-named}
+use Rattle.nfs_machine.proofs.Facts.{numbered}
 
 -- ---- 0 to 99 without 40 to 59
 module _ (offset : ℕ) where
@@ -157,8 +158,8 @@ abbrev lock_by : Bool → NlmLock → Resolved → Result ℕ LockFault
 lock_by = lock_under writable
 
 -- where a path without parts leads
-abbrev walked_by : Option Living → Result (ℕ × Living) MountStatus
-walked_by o = entries_at o >>=m λ d. Ok (1, d.0)
+abbrev walked_by : Option Living → Result Named MountStatus
+walked_by o = entries_at o >>=m λ d. Ok (numbered 1 d.0)
 
 is-x : resolve with_hi nobody x_bytes ≡ Names 5 x_written
 is-x = x-named with_hi refl x_written refl refl x-lives
@@ -443,7 +444,7 @@ worked-locking = record {
     refl,
     refl,
     (
-      (1, root_with_x),
+      numbered 1 root_with_x,
       (
         refl,
         1,

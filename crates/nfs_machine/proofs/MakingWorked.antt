@@ -12,7 +12,7 @@ use Rattle.nfs_wire.specs.declared.status.NfsStatus.{NfsStatus}
 use Rattle.nfs_wire.specs.declared.status.NfsStatus.TheVariants as status
 use Rattle.nfs_machine.specs.Answers.{answer_of, state_after}
 use Rattle.nfs_machine.specs.Attributes.{is_living_directory, names_of}
-use Rattle.nfs_machine.specs.Checks.{◌>>=◌, changeable, entries_in, entry_of, object_of, permitted, plain_name_checked}
+use Rattle.nfs_machine.specs.Checks.{DirectoryEntries, ◌>>=◌, changeable, entries_in, entry_of, object_of, permitted, plain_name_checked}
 use Rattle.nfs_machine.specs.Making.{End, EndsAs, MakeStep, Wanted, made, make_new}
 use Rattle.nfs_machine.specs.MakeSteps.{wanted_of, wanted_special}
 use Rattle.nfs_machine.specs.NameSteps.{create_existing}
@@ -20,7 +20,7 @@ use Rattle.nfs_machine.specs.NfsSteps.{NfsStep}
 use Rattle.nfs_machine.specs.Permission.{ToChange}
 use Rattle.nfs_machine.specs.RemoveSteps.{TakeStep, losing_name, object_under, without}
 use Rattle.nfs_machine.specs.RemoveSteps as removing
-use Rattle.nfs_machine.specs.Resolve.{Resolved, Names, resolve}
+use Rattle.nfs_machine.specs.Resolve.{Named, Resolved, Names, resolve}
 use Rattle.nfs_machine.specs.Shown.{wcc, with_content, with_object}
 use Rattle.nfs_machine.specs.State.{Content, Directory, Fifo, Link, Entry, Living, State}
 use Rattle.nfs_machine.specs.Worked.{root_bytes}
@@ -31,6 +31,7 @@ use Rattle.nfs_machine.specs.WorkedReplies.{root}
 use Rattle.nfs_machine.specs.WorkedRun.{in_root, nobody, opened, root_with_x, with_hi, x_entry}
 use Rattle.nfs_machine.proofs.RunWorked.{fresh, root-named, root-opened, root-written, x-lives}
 use Rattle.nfs_machine.proofs.Sums.{get-inserted}
+use Rattle.nfs_machine.proofs.Facts.{numbered, entries_with}
 
 root-with-d : (o : Living) → get (with_new o).objects 1 ≡ Some root_with_d
 root-with-d o = get-inserted (insert opened.objects 1 root_with_d) 5 o 1 ∙ get-inserted opened.objects 1 root_with_d 1
@@ -45,9 +46,9 @@ module _ (old : State) (name : List ℕ) (wanted : Result Wanted NfsStatus) (the
 
   abbrev make_by : Resolved → Result (End old) NfsStatus
   make_by r =
-      object_of r >>= λ directory. entries_in directory.1.content >>= λ entries. plain_name_checked status.Exists
-      status.Exists name >>= λ _. wanted >>= λ what. changeable old.exports directory.1
-      >>= λ _. permitted nobody directory.1 ToChange >>= λ _. make_under what directory.0 directory.1 entries.0 entries.1 (entry_of entries.0 name)
+      object_of r >>= λ directory. entries_in directory.object.content >>= λ entries. plain_name_checked status.Exists
+      status.Exists name >>= λ _. wanted >>= λ what. changeable old.exports directory.object
+      >>= λ _. permitted nobody directory.object ToChange >>= λ _. make_under what directory.number directory.object entries.list entries.last_cookie (entry_of entries.list name)
 
   not-made : (o : Living) (reply_of : MadeReply → NfsReply) (e : NfsStatus) → resolve old nobody root_bytes ≡ Names 1 o → make_by (Names 1 o) ≡ Err e
       → MakeStep old nobody (in_root name) wanted there reply_of (reply_of (not_made old e)) [] old
@@ -96,17 +97,17 @@ worked-making = record {
 
 -- ---- what is taken away
 module _ (old : State) (name : List ℕ) (name_checked : List ℕ → Result (Unit {0}) NfsStatus) (content_checked : Content → Result (Unit {0}) NfsStatus) where
-  abbrev take_object : (directory : ℕ × Living) → (entries : List Entry × ℕ) → Option (ℕ × Living) → Result (Unit {0} × State) NfsStatus
+  abbrev take_object : (directory : Named) → (entries : DirectoryEntries) → Option Named → Result (Unit {0} × State) NfsStatus
   take_object directory entries found =
-      ok_or found status.NoEntry >>= λ object. content_checked object.1.content >>= λ _.
-      let left = with_object old directory.0 (with_content directory.1 (time 1000 0) (Directory (without entries.0 name) entries.1)) in
-      Ok (tt, losing_name left (names_of old object.0) (time 1000 0) object.0 object.1)
+      ok_or found status.NoEntry >>= λ object. content_checked object.object.content >>= λ _.
+      let left = with_object old directory.number (with_content directory.object (time 1000 0) (Directory (without entries.list name) entries.last_cookie)) in
+      Ok (tt, losing_name left (names_of old object.number) (time 1000 0) object.number object.object)
 
   abbrev take_by : Resolved → Result (Unit {0} × State) NfsStatus
   take_by r =
-      object_of r >>= λ directory. entries_in directory.1.content >>= λ entries. name_checked name >>= λ _.
-      changeable old.exports directory.1 >>= λ _. permitted nobody directory.1 ToChange
-      >>= λ _. take_object directory entries (object_under old (entry_of entries.0 name))
+      object_of r >>= λ directory. entries_in directory.object.content >>= λ entries. name_checked name >>= λ _.
+      changeable old.exports directory.object >>= λ _. permitted nobody directory.object ToChange
+      >>= λ _. take_object directory entries (object_under old (entry_of entries.list name))
 
   not-taken : (o : Living) (reply_of : RemovedReply → NfsReply) (e : NfsStatus) → resolve old nobody root_bytes ≡ Names 1 o → take_by (Names 1 o) ≡ Err e
       → TakeStep old nobody (in_root name) name_checked content_checked reply_of (reply_of (not_removed old e)) [] old
@@ -125,10 +126,10 @@ worked-taking = record {
   nothing = not-taken opened (codes "d") (plain_name_checked status.Invalid status.Exists) removing.empty_directory root nfs_replies.Rmdir status.NoEntry is-opened refl;
   file =
       not-taken with_hi (codes "x") (plain_name_checked status.Invalid status.Exists) removing.empty_directory root_with_x nfs_replies.Rmdir status.NotDirectory is-written
-      (ap (λ (l : Option Living). take_object with_hi (codes "x") (plain_name_checked status.Invalid status.Exists) removing.empty_directory (1, root_with_x) (x_entry ∷ [], 3) (option_map (λ (o : Living). (5, o)) l)) x-lives);
+      (ap (λ (l : Option Living). take_object with_hi (codes "x") (plain_name_checked status.Invalid status.Exists) removing.empty_directory (numbered 1 root_with_x) (entries_with (x_entry ∷ []) 3) (option_map (λ (o : Living). numbered 5 o) l)) x-lives);
   remove_self = not-taken opened (codes ".") (plain_name_checked status.Invalid status.Invalid) removing.not_directory root nfs_replies.Remove status.Invalid is-opened refl;
   remove_above = not-taken opened (codes "..") (plain_name_checked status.Invalid status.Invalid) removing.not_directory root nfs_replies.Remove status.Invalid is-opened refl;
   directory =
       not-taken (with_new bare_directory) (codes "d") (plain_name_checked status.Invalid status.Invalid) removing.not_directory root_with_d nfs_replies.Remove status.IsDirectory (is-made bare_directory)
-      (ap (λ (l : Option Living). take_object (with_new bare_directory) (codes "d") (plain_name_checked status.Invalid status.Invalid) removing.not_directory (1, root_with_d) (d_entry ∷ [], 3) (option_map (λ (o : Living). (5, o)) l)) (d-lives bare_directory));
+      (ap (λ (l : Option Living). take_object (with_new bare_directory) (codes "d") (plain_name_checked status.Invalid status.Invalid) removing.not_directory (numbered 1 root_with_d) (entries_with (d_entry ∷ []) 3) (option_map (λ (o : Living). numbered 5 o) l)) (d-lives bare_directory));
 }

@@ -156,7 +156,7 @@ mnt-bytes : (old : State) (ctx : Ctx) (path : List ℕ) (result : Result (List �
     MntAnswers old ctx path result new → Adds mountres3 (mount_outcome result) 48
 mnt-bytes old ctx path (Ok handle) new (found, target, is, same) =
     adds-mounted handle (ap length is ∙
-    (let long : length (handle_at ctx found.0 found.1) ≡ 32 = omega arith in long))
+    (let long : length (handle_at ctx found.number found.object) ≡ 32 = omega arith in long))
 mnt-bytes old ctx path (Err s) new answers = λ front. omega (arith, adds-refused s front)
 
 abbrev IsBounded : MountReply → Type 0

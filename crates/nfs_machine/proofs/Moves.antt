@@ -6,12 +6,12 @@ use Rattle.nfs_wire.specs.declared.calls.Place.{Place}
 use Rattle.nfs_wire.specs.declared.status.NfsStatus.{NfsStatus}
 use Rattle.nfs_wire.specs.declared.status.NfsStatus.TheVariants as status
 use Rattle.nfs_machine.specs.Attributes.{is_directory, names_of}
-use Rattle.nfs_machine.specs.Checks.{◌>>=◌, changeable, entries_in, entry_of, object_of, plain_name_checked, permitted}
+use Rattle.nfs_machine.specs.Checks.{DirectoryEntries, ◌>>=◌, changeable, entries_in, entry_of, object_of, plain_name_checked, permitted}
 use Rattle.nfs_machine.specs.Making.{with_entry}
 use Rattle.nfs_machine.specs.Permission.{ToChange}
 use Rattle.nfs_machine.specs.RemoveSteps.{empty_directory, losing_name, not_directory, object_under, without}
 use Rattle.nfs_machine.specs.RenameSteps.{IsWithin}
-use Rattle.nfs_machine.specs.Resolve.{resolve}
+use Rattle.nfs_machine.specs.Resolve.{Named, resolve}
 use Rattle.nfs_machine.specs.Shown.{touched, with_content, with_object}
 use Rattle.nfs_machine.specs.State.{Content, Directory, Entry, Living, State}
 use Rattle.nfs_machine.specs.Times.{time_of}
@@ -27,8 +27,8 @@ pub record NamedEntry : Type 0 where
   pub number : ℕ
   pub object : Living
 
-abbrev pub named_as : ℕ × Living → List Entry × ℕ → List ℕ → ℕ × Living → NamedEntry
-named_as directory entries name o = record { place = directory.0; directory = directory.1; entries = entries.0; last_cookie = entries.1; name = name; number = o.0; object = o.1 }
+abbrev pub named_as : Named → DirectoryEntries → List ℕ → Named → NamedEntry
+named_as directory entries name o = record { place = directory.number; directory = directory.object; entries = entries.list; last_cookie = entries.last_cookie; name = name; number = o.number; object = o.object }
 
 -- the state with a name taken away
 abbrev pub with_name_taken : State → Time → NamedEntry → State
@@ -39,12 +39,12 @@ with_name_taken m now n =
 abbrev pub take_end : State → Ctx → Place → (List ℕ → Result (Unit {0}) NfsStatus) → (Content → Result (Unit {0}) NfsStatus) → Result (Unit {0} × State) NfsStatus
 take_end old ctx place name_checked content_checked = do
   directory ← object_of (resolve old ctx place.directory)
-  entries ← entries_in directory.1.content
+  entries ← entries_in directory.object.content
   _ ← name_checked place.name
-  _ ← changeable old.exports directory.1
-  _ ← permitted ctx directory.1 ToChange
-  object ← ok_or (object_under old (entry_of entries.0 place.name)) status.NoEntry
-  _ ← content_checked object.1.content
+  _ ← changeable old.exports directory.object
+  _ ← permitted ctx directory.object ToChange
+  object ← ok_or (object_under old (entry_of entries.list place.name)) status.NoEntry
+  _ ← content_checked object.object.content
   Ok (tt, with_name_taken old (time_of ctx.moment) (named_as directory entries place.name object))
 
 abbrev pub remove_end : State → Ctx → Place → Result (Unit {0} × State) NfsStatus
@@ -61,7 +61,7 @@ pub record Move : Type 0 where
   pub entries : List Entry
   pub last_cookie : ℕ
   pub name : List ℕ
-  pub replaced : Option (ℕ × Living)
+  pub replaced : Option Named
 
 -- the target's entries that stay
 abbrev pub entries_kept : Move → List Entry
@@ -74,8 +74,8 @@ with_names_moved m now move =
     move.target (with_content move.directory now (with_entry (entries_kept move) move.last_cookie move.name move.from.number))
 
 -- what had the name loses it
-abbrev pub without_replaced : (old m : State) → Time → Option (ℕ × Living) → State
-without_replaced old m now replaced = elim replaced [ None ↦ m | Some o ↦ losing_name m (names_of old o.0) now o.0 o.1 ]
+abbrev pub without_replaced : (old m : State) → Time → Option Named → State
+without_replaced old m now replaced = elim replaced [ None ↦ m | Some o ↦ losing_name m (names_of old o.number) now o.number o.object ]
 
 abbrev pub with_moved : State → Time → Move → State
 with_moved old now move =

@@ -11,10 +11,12 @@ use Rattle.nfs_machine.specs.RemoveSteps.{without, object_under}
 use Rattle.nfs_machine.specs.RenameSteps.{is_compatible}
 use Rattle.nfs_machine.specs.Shown.{touched, with_object}
 use Rattle.nfs_machine.specs.State.{Directory, Entry, Living, State}
+use Rattle.nfs_machine.specs.Resolve.{Named}
 use Rattle.nfs_machine.proofs.Continued.{Continues, continues-itself, continues-losing, continues-touched, continues-with}
 use Rattle.nfs_machine.proofs.Cookies.{kept-added, kept-of, kept-same, kept-without}
 use Rattle.nfs_machine.proofs.Moves.{Move, entries_kept, with_moved, with_names_moved, without_replaced}
 use Rattle.nfs_machine.proofs.Taken.{IsNamedEntry, kept-taken, under-entry}
+use Rattle.nfs_machine.proofs.Facts.{numbered}
 
 -- what the checks of a RENAME tell where a name moves
 pub record IsMove (m : State) (move : Move) : Type 0 where
@@ -23,8 +25,8 @@ pub record IsMove (m : State) (move : Move) : Type 0 where
   pub content : move.directory.content ≡ Directory move.entries move.last_cookie
   pub export : move.from.directory.export ≡ move.directory.export
   pub over : move.replaced ≡ object_under m (entry_of move.entries move.name)
-  pub other : (o : ℕ × Living) → move.replaced ≡ Some o → (o.0 == move.from.number) ≡ false
-  pub compatible : (o : ℕ × Living) → move.replaced ≡ Some o → is_compatible move.from.object.content o.1.content ≡ true
+  pub other : (o : Named) → move.replaced ≡ Some o → (o.number == move.from.number) ≡ false
+  pub compatible : (o : Named) → move.replaced ≡ Some o → is_compatible move.from.object.content o.object.content ≡ true
 
 -- the same before what has the name is judged
 pub record IsBegun (m : State) (move : Move) : Type 0 where
@@ -46,18 +48,18 @@ module _ (m : State) (move : Move) (begun : IsBegun m move) where
     compatible = λ o some. (let both : None ≡ Some o = sym is ∙ some in cc);
   }
 
-  pub moves-over : (r : ℕ × Living) → move.replaced ≡ Some r → (r.0 == move.from.number) ≡ false → is_compatible move.from.object.content r.1.content ≡ true → IsMove m move
+  pub moves-over : (r : Named) → move.replaced ≡ Some r → (r.number == move.from.number) ≡ false → is_compatible move.from.object.content r.object.content ≡ true → IsMove m move
   moves-over r is differs compatible = record {
     from = begun.from;
     lives = begun.lives;
     content = begun.content;
     export = begun.export;
     over = begun.over;
-    other = λ o some. (let both : Some r ≡ Some o = sym is ∙ some in let same : r ≡ o = cc in subst (λ (x : ℕ × Living). (x.0 == move.from.number) ≡ false) same differs);
+    other = λ o some. (let both : Some r ≡ Some o = sym is ∙ some in let same : r ≡ o = cc in subst (λ (x : Named). (x.number == move.from.number) ≡ false) same differs);
     compatible = λ o some.
         let both : Some r ≡ Some o = sym is ∙ some in
         let same : r ≡ o = cc in
-        subst (λ (x : ℕ × Living). is_compatible move.from.object.content x.1.content ≡ true) same compatible;
+        subst (λ (x : Named). is_compatible move.from.object.content x.object.content ≡ true) same compatible;
   }
 
 module _ (m : State) (now : Time) (move : Move) (is : IsMove m move) where
@@ -65,8 +67,8 @@ module _ (m : State) (now : Time) (move : Move) (is : IsMove m move) where
   elsewhere : (e : Entry) → entry_of move.entries move.name ≡ Some e → move.from.number ≡ e.number → ⊥
   elsewhere e found same =
       let lives : get m.objects e.number ≡ Some move.from.object = ap (get m.objects) (sym same) ∙ is.from.object in
-      let over : move.replaced ≡ Some (e.number, move.from.object) = is.over ∙ ap (object_under m) found ∙ ap (option_map (λ (o : Living). (e.number, o))) lives in
-      let no : true ≡ false = sym ((unsigned_Decides e.number move.from.number).1 (sym same)) ∙ is.other (e.number, move.from.object) over in
+      let over : move.replaced ≡ Some (numbered e.number move.from.object) = is.over ∙ ap (object_under m) found ∙ ap (option_map (λ (o : Living). numbered e.number o)) lives in
+      let no : true ≡ false = sym ((unsigned_Decides e.number move.from.number).1 (sym same)) ∙ is.other (numbered e.number move.from.object) over in
       cc
 
   left : KeepsEntries move.entries (entries_kept move)
@@ -94,8 +96,8 @@ module _ (m : State) (now : Time) (move : Move) (is : IsMove m move) where
   pub continues-moved : Continues now m (with_moved m now move)
   continues-moved = over move.replaced refl
     where
-      over : (r : Option (ℕ × Living)) → move.replaced ≡ r → Continues now m (without_replaced m (with_object (with_names_moved m now move) move.from.number (touched move.from.object now)) now r)
+      over : (r : Option Named) → move.replaced ≡ r → Continues now m (without_replaced m (with_object (with_names_moved m now move) move.from.number (touched move.from.object now)) now r)
       over None e = object-moved
       over (Some o) e =
-          continues-losing now m (with_object (with_names_moved m now move) move.from.number (touched move.from.object now)) object-moved o.0 o.1
-          (under-entry m (entry_of move.entries move.name) o (sym is.over ∙ e)).3 (names_of m o.0)
+          continues-losing now m (with_object (with_names_moved m now move) move.from.number (touched move.from.object now)) object-moved o.number o.object
+          (under-entry m (entry_of move.entries move.name) o (sym is.over ∙ e)).3 (names_of m o.number)

@@ -18,8 +18,9 @@ use Rattle.nfs_machine.specs.WellFormed.{Leads, WellFormed, is_root}
 use Rattle.nfs_machine.proofs.Changes.{apart, count-filter, differs-insert, differs-other, differs-there, find-all, find-filter, find-other, find-taken, flipped, without-absent}
 use Rattle.nfs_machine.proofs.Continued.{kinds-continued, well_formed-losing}
 use Rattle.nfs_machine.specs.Times.{touch}
+use Rattle.nfs_machine.specs.Resolve.{Named}
 use Rattle.nfs_machine.proofs.Counted.{Counts, changed-losing, names-losing}
-use Rattle.nfs_machine.proofs.Facts.{are_none, no-entry}
+use Rattle.nfs_machine.proofs.Facts.{are_none, no-entry, numbered}
 use Rattle.nfs_machine.proofs.Loose.{AddsName, Beside, Deepens, Loose, also, loose-added, loose-replaced}
 use Rattle.nfs_machine.proofs.Loose.{loose-touched, loosened, names_of-added, names_of-taken, none_loose, tightened}
 use Rattle.nfs_machine.proofs.Moves.{GoesIntoItself, Move, NamedEntry, entries_kept, with_moved, with_names_moved, without_replaced}
@@ -81,7 +82,7 @@ none-under : (m : State) (directory : Living) (x : Option Entry) → ((e : Entry
 none-under m directory None leads none = refl
 none-under m directory (Some e) leads none =
     let l = leads e refl in
-    let some : object_under m (Some e) ≡ Some (e.number, l.object) = ap (option_map (λ (o : Living). (e.number, o))) l.lives in
+    let some : object_under m (Some e) ≡ Some (numbered e.number l.object) = ap (option_map (λ (o : Living). numbered e.number o)) l.lives in
     cc
 
 module _ (m : State) (now : Time) (move : Move) (is : IsMove m move) (w : WellFormed m) (out : GoesIntoItself m move → ⊥) where
@@ -119,15 +120,15 @@ module _ (m : State) (now : Time) (move : Move) (is : IsMove m move) (w : WellFo
       (freed-keeps none)
 
   -- what has it
-  abbrev over_named : ℕ × Living → NamedEntry
-  over_named o = record { place = target; directory = move.directory; entries = move.entries; last_cookie = move.last_cookie; name = move.name; number = o.0; object = o.1 }
+  abbrev over_named : Named → NamedEntry
+  over_named o = record { place = target; directory = move.directory; entries = move.entries; last_cookie = move.last_cookie; name = move.name; number = o.number; object = o.object }
 
-  is-over : (o : ℕ × Living) → move.replaced ≡ Some o → IsNamedEntry m (over_named o)
+  is-over : (o : Named) → move.replaced ≡ Some o → IsNamedEntry m (over_named o)
   is-over o some =
       let e = under-entry m (entry_of move.entries move.name) o (sym is.over ∙ some) in
       record { lives = is.lives; content = is.content; entry = e.0; found = e.1; number = e.2; object = e.3 }
 
-  freed-some : (o : ℕ × Living) → move.replaced ≡ Some o → Loose (also o.0 none_loose) free
+  freed-some : (o : Named) → move.replaced ≡ Some o → Loose (also o.number none_loose) free
   freed-some o some = loose-mid m now (over_named o) (is-over o some) none_loose (loosened none_loose m w)
 
   -- ---- numbers that are apart
@@ -171,9 +172,9 @@ module _ (m : State) (now : Time) (move : Move) (is : IsMove m move) (w : WellFo
         | true ↦ λ t.
             let name : move.from.name ≡ move.name = (bytes_decides move.from.name move.name).0 t in
             let found : entry_of move.entries move.name ≡ Some is.from.entry = ap (λ n. entry_of move.entries n) (sym name) ∙ ap (λ es. entry_of es move.from.name) (one-list same) ∙ is.from.found in
-            let some : move.replaced ≡ Some (is.from.entry.number, object-leads.object) =
-            is.over ∙ ap (object_under m) found ∙ ap (option_map (λ (o : Living). (is.from.entry.number, o))) object-leads.lives in
-            let no : true ≡ false = sym ((unsigned_Decides is.from.entry.number number).1 is.from.number) ∙ is.other (is.from.entry.number, object-leads.object) some in
+            let some : move.replaced ≡ Some (numbered is.from.entry.number object-leads.object) =
+            is.over ∙ ap (object_under m) found ∙ ap (option_map (λ (o : Living). numbered is.from.entry.number o)) object-leads.lives in
+            let no : true ≡ false = sym ((unsigned_Decides is.from.entry.number number).1 is.from.number) ∙ is.other (numbered is.from.entry.number object-leads.object) some in
             cc
         | false ↦ λ t. refl
       ] refl
@@ -372,54 +373,54 @@ module _ (m : State) (now : Time) (move : Move) (is : IsMove m move) (w : WellFo
   names_of-step loose l n = subst (λ objects. names_of (of_objects objects) n ≡ names_of free n) same-objects (names_of-moved loose l n)
 
   -- ---- what had the name
-  module _ (o : ℕ × Living) (some : move.replaced ≡ Some o) where
+  module _ (o : Named) (some : move.replaced ≡ Some o) where
     over : IsNamedEntry m (over_named o)
     over = is-over o some
 
-    empty : entries_of o.1.content ≡ []
-    empty = replaced-empty move.from.object.content o.1.content (is.compatible o some)
+    empty : entries_of o.object.content ≡ []
+    empty = replaced-empty move.from.object.content o.object.content (is.compatible o some)
 
-    over-target : (o.0 == target) ≡ false
+    over-target : (o.number == target) ≡ false
     over-target =
         subst (λ k. (k == target) ≡ false) over.number (entry-apart m w target move.directory move.entries move.last_cookie is.lives is.content move.name over.entry over.found)
 
-    over-place : (o.0 == place) ≡ false
-    over-place = apart o.0 place (λ same.
-        let both : Some o.1 ≡ Some move.from.directory = sym over.object ∙ ap (get m.objects) same ∙ is.from.lives in
-        let own : o.1 ≡ move.from.directory = cc in
+    over-place : (o.number == place) ≡ false
+    over-place = apart o.number place (λ same.
+        let both : Some o.object ≡ Some move.from.directory = sym over.object ∙ ap (get m.objects) same ∙ is.from.lives in
+        let own : o.object ≡ move.from.directory = cc in
         let none : move.from.entries ≡ [] = sym (ap entries_of is.from.content) ∙ sym (ap (λ (x : Living). entries_of x.content) own) ∙ empty in
         let found : find (λ (x : Entry). same_bytes x.name move.from.name) [] ≡ Some is.from.entry = subst (λ es. find (λ (x : Entry). same_bytes x.name move.from.name) es ≡ Some is.from.entry) none is.from.found in
         cc)
 
-    over-no_root : is_root m o.0 ≡ false
+    over-no_root : is_root m o.number ≡ false
     over-no_root =
         subst (λ k. is_root m k ≡ false) over.number
         (entry-leads m w target move.directory move.entries move.last_cookie is.lives is.content move.name
         over.entry over.found).no_root
 
-    over-lives : get step.objects o.0 ≡ Some o.1
+    over-lives : get step.objects o.number ≡ Some o.object
     over-lives =
-        differs-other (with_names_moved m now move).objects step.objects number (Some (touched move.from.object now)) (differs-insert (with_names_moved m now move).objects number (touched move.from.object now)) o.0 (is.other o some)
-        ∙ differs-other (with_object m place narrower).objects (with_names_moved m now move).objects target (Some wider) (differs-insert (with_object m place narrower).objects target wider) o.0 over-target
-        ∙ differs-other m.objects (with_object m place narrower).objects place (Some narrower) (differs-insert m.objects place narrower) o.0 over-place
+        differs-other (with_names_moved m now move).objects step.objects number (Some (touched move.from.object now)) (differs-insert (with_names_moved m now move).objects number (touched move.from.object now)) o.number (is.other o some)
+        ∙ differs-other (with_object m place narrower).objects (with_names_moved m now move).objects target (Some wider) (differs-insert (with_object m place narrower).objects target wider) o.number over-target
+        ∙ differs-other m.objects (with_object m place narrower).objects place (Some narrower) (differs-insert m.objects place narrower) o.number over-place
         ∙ over.object
 
     over-formed : Beside (without_replaced m step now (Some o)) → WellFormed (without_replaced m step now (Some o))
     over-formed =
         let l = freed-some o some in
         let one = one-less m now (over_named o) over none_loose (loosened none_loose m w) in
-        well_formed-losing step o.0 o.1 over-lives (step-loose (also o.0 none_loose) l) over-no_root
-        (names_of m o.0) now empty (omega (arith, one, names_of-step (also o.0 none_loose) l o.0))
+        well_formed-losing step o.number o.object over-lives (step-loose (also o.number none_loose) l) over-no_root
+        (names_of m o.number) now empty (omega (arith, one, names_of-step (also o.number none_loose) l o.number))
 
   pub well_formed-moved : Beside (with_moved m now move) → WellFormed (with_moved m now move)
   well_formed-moved = judged move.replaced refl
     where
-      judged : (r : Option (ℕ × Living)) → move.replaced ≡ r → Beside (without_replaced m step now r)
+      judged : (r : Option Named) → move.replaced ≡ r → Beside (without_replaced m step now r)
           → WellFormed (without_replaced m step now r)
       judged None e beside = tightened step beside (step-loose none_loose (freed-none e))
       judged (Some o) e beside = over-formed o e beside
 
-  abbrev Told : Option (ℕ × Living) → Type 0
+  abbrev Told : Option Named → Type 0
   Told r = (k : ℕ) (was is' : Living) → get m.objects k ≡ Some was →
       get (without_replaced m step now r).objects k ≡ Some is' →
       (names_of (without_replaced m step now r) k ≡ names_of m k) ⊎ (is'.changed ≡ touch was.changed now)
@@ -431,29 +432,29 @@ module _ (m : State) (now : Time) (move : Move) (is : IsMove m move) (w : WellFo
     names = judged move.replaced refl;
   }
     where
-      judged : (r : Option (ℕ × Living)) → move.replaced ≡ r → Told r
+      judged : (r : Option Named) → move.replaced ≡ r → Told r
       judged None e k was is' at there = inl
           (names_of-step none_loose (freed-none e) k
           ∙ replaced-names m target move.directory freed is.lives (freed-keeps e) k)
-      judged (Some o) e k was is' at there = elim (k == o.0) as (λ b. (k == o.0) ≡ b →
+      judged (Some o) e k was is' at there = elim (k == o.number) as (λ b. (k == o.number) ≡ b →
           (names_of (without_replaced m step now (Some o)) k ≡ names_of m k) ⊎
           (is'.changed ≡ touch was.changed now)) [
             | true ↦ λ t.
-                let same : k ≡ o.0 = (unsigned_Decides k o.0).0 t in
-                let own : o.1 ≡ was = (let both : Some o.1 ≡ Some was = sym (over o e).object ∙ ap (get m.objects)
+                let same : k ≡ o.number = (unsigned_Decides k o.number).0 t in
+                let own : o.object ≡ was = (let both : Some o.object ≡ Some was = sym (over o e).object ∙ ap (get m.objects)
                 (sym same) ∙ at in cc) in
-                inr (changed-losing step now o.0 o.1 (over-lives o e) (names_of m o.0) is'
+                inr (changed-losing step now o.number o.object (over-lives o e) (names_of m o.number) is'
                 (ap (get (without_replaced m step now (Some o)).objects) (sym same) ∙ there)
                 ∙ ap (λ (x : Living). touch x.changed now) own)
             | false ↦ λ t.
                 let none : cond {A = ℕ} ((over o e).entry.number == k) 1 0 ≡ 0 = ap
                 (λ x. cond {A = ℕ} (x == k) 1 0)
-                (over o e).number ∙ ap (λ b. cond b 1 0) (flipped k o.0 t) in
+                (over o e).number ∙ ap (λ b. cond b 1 0) (flipped k o.number t) in
                 inl (omega (
                   arith,
                   none,
-                  names-losing step now o.0 o.1 (over-lives o e) (empty o e) (names_of m o.0) k,
-                  names_of-step (also o.0 none_loose) (freed-some o e) k,
+                  names-losing step now o.number o.object (over-lives o e) (empty o e) (names_of m o.number) k,
+                  names_of-step (also o.number none_loose) (freed-some o e) k,
                   names_of-taken m free target move.directory freed move.name (over o e).entry
                       (takes m now (over_named o) (over o e)) none_loose (loosened none_loose m w) k,
                 ))

@@ -36,29 +36,29 @@ use Rattle.nfs_machine.specs.declared.context.Ctx.{Ctx}
 
 -- the replies as functions of what the handle names
 abbrev set_from : State → Ctx → SetattrArguments → Resolved → Result (Unit {0} × State) NfsStatus
-set_from m ctx a r = object_of r >>= λ o. set_object m.exports ctx o.1 a >>= λ x. Ok (tt, with_object m o.0 x)
+set_from m ctx a r = object_of r >>= λ o. set_object m.exports ctx o.object a >>= λ x. Ok (tt, with_object m o.number x)
 
 abbrev setattr_by : State → Ctx → SetattrArguments → Resolved → NfsReply
 setattr_by m ctx a r = replies.Setattr (record { wcc = wcc (state_after m (set_from m ctx a r)) r; result = answer_of (set_from m ctx a r) })
 
 abbrev access_by : State → Ctx → ℕ → Resolved → NfsReply
 access_by m ctx asked r = replies.Access
-    (record { attributes = shown m r; result = object_of r >>= λ o. Ok (granted m.exports ctx o.1 asked) })
+    (record { attributes = shown m r; result = object_of r >>= λ o. Ok (granted m.exports ctx o.object asked) })
 
 abbrev commit_by : State → Ctx → Resolved → NfsReply
-commit_by m ctx r = replies.Commit (record { wcc = wcc m r; result = object_of r >>= λ file. bytes_in file.1.content >>= λ bytes. Ok (verifier_of ctx) })
+commit_by m ctx r = replies.Commit (record { wcc = wcc m r; result = object_of r >>= λ file. bytes_in file.object.content >>= λ bytes. Ok (verifier_of ctx) })
 
 abbrev pathconf_by : State → Resolved → NfsReply
 pathconf_by m r = replies.Pathconf (record { attributes = shown m r; result = object_of r >>= λ o. Ok path_limits })
 
 abbrev readlink_by : State → Resolved → NfsReply
-readlink_by m r = replies.Readlink (record { attributes = shown m r; result = object_of r >>= λ o. text_in o.1.content })
+readlink_by m r = replies.Readlink (record { attributes = shown m r; result = object_of r >>= λ o. text_in o.object.content })
 
 abbrev fsinfo_by : State → Resolved → NfsReply
 fsinfo_by m r = replies.Fsinfo (record { attributes = shown m r; result = object_of r >>= λ o. Ok file_system })
 
 abbrev fsstat_by : State → ℕ → List Living → Resolved → NfsReply
-fsstat_by m total objects r = replies.Fsstat (record { attributes = shown m r; result = object_of r >>= λ o. Ok (space_left total objects o.1.export) })
+fsstat_by m total objects r = replies.Fsstat (record { attributes = shown m r; result = object_of r >>= λ o. Ok (space_left total objects o.object.export) })
 
 module _ (k : State) (has : HasFile k) where
   named : (uid : ℕ) → resolve (with_writable k) (called_as uid) file_bytes ≡ Names 2 known_file
@@ -211,10 +211,10 @@ module _ (k : State) (has : HasRootAlone k) where
   abbrev left_by : ℕ → Verifier → Resolved → Result (List Entry) NfsStatus
   left_by cookie verifier r = do
     d ← object_of r
-    entries ← entries_in d.1.content
-    _ ← permitted (called_as 0) d.1 ToList
+    entries ← entries_in d.object.content
+    _ ← permitted (called_as 0) d.object ToList
     _ ← holding ((cookie == 0) || same_bytes verifier.bytes (verifier_of (called_as 0)).bytes) status.BadCookie
-    Ok (behind cookie (all_entries d.0 1 entries.0))
+    Ok (behind cookie (all_entries d.number 1 entries.list))
 
   pub first_cookie : entries_left (with_writable k) (called_as 0) root_bytes 0 zeros 1 ≡ Ok (all_entries 1 1 [])
   first_cookie = ap (left_by 0 zeros) (root-named 0)

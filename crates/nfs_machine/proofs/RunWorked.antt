@@ -25,7 +25,7 @@ use Rattle.nfs_wire.specs.declared.status.NfsStatus.TheVariants as status
 use Rattle.nfs_machine.specs.Bytes.{same_bytes}
 use Rattle.nfs_machine.specs.Answers.{answer_of, state_after}
 use Rattle.nfs_machine.specs.Attributes.{attributes_of, entries_of, is_directory, links_of, names_in, names_of}
-use Rattle.nfs_machine.specs.Checks.{◌>>=◌, changeable, entries_in, entry_of, holding, link_limit, object_of, permitted, plain_name_checked}
+use Rattle.nfs_machine.specs.Checks.{DirectoryEntries, ◌>>=◌, changeable, entries_in, entry_of, holding, link_limit, object_of, permitted, plain_name_checked}
 use Rattle.nfs_machine.specs.DataSteps.{write_object, verifier_of}
 use Rattle.nfs_machine.specs.LinkSteps.{link_end}
 use Rattle.nfs_machine.specs.Making.{End, EndsAs, Fresh, made, make_new, with_entry}
@@ -37,7 +37,7 @@ use Rattle.nfs_machine.specs.Permission.{ToChange, ToList}
 use Rattle.nfs_machine.specs.RemoveSteps.{losing_name, not_directory, object_under, without}
 use Rattle.nfs_machine.specs.RenameSteps.{move_plan, rename_plan}
 use Rattle.nfs_machine.specs.Exports.{LivingExport}
-use Rattle.nfs_machine.specs.Resolve.{Resolved, Stale, Names, living_at, named, resolve}
+use Rattle.nfs_machine.specs.Resolve.{Named, Resolved, Stale, Names, living_at, named, resolve}
 use Rattle.nfs_machine.specs.Readings.{Has, named_in}
 use Rattle.nfs_machine.specs.Run.{Asks, Executes}
 use Rattle.nfs_machine.specs.Shown.{handle_at, replaced, shown, touched, wcc, with_content, with_object}
@@ -63,6 +63,7 @@ use Rattle.nfs_machine.proofs.Kept.{chains_keep_form}
 use Rattle.nfs_machine.proofs.Runs.{runs_are_chains}
 use Rattle.nfs_machine.proofs.Pages.{PagesOf, fits-shrinks, page-ends, page-stops}
 use Rattle.nfs_machine.proofs.Sums.{get-inserted, sum-insert_new, sum-insert_old, sum-none}
+use Rattle.nfs_machine.proofs.Facts.{numbered, entries_with}
 
 -- ---- what lives where
 pub root-opened : get opened.objects 1 ≡ Some root
@@ -157,10 +158,10 @@ create_under number directory entries last e = elim e [
 
 abbrev create_by : Resolved → Result (End opened) NfsStatus
 create_by r =
-    object_of r >>= λ directory. entries_in directory.1.content >>= λ entries. plain_name_checked status.Exists
-    status.Exists making.place.name >>= λ _. changeable writable directory.1 >>= λ _. permitted nobody directory.1
+    object_of r >>= λ directory. entries_in directory.object.content >>= λ entries. plain_name_checked status.Exists
+    status.Exists making.place.name >>= λ _. changeable writable directory.object >>= λ _. permitted nobody directory.object
     ToChange
-    >>= λ _. create_under directory.0 directory.1 entries.0 entries.1 (entry_of entries.0 making.place.name)
+    >>= λ _. create_under directory.number directory.object entries.list entries.last_cookie (entry_of entries.list making.place.name)
 
 creates : NfsStep opened nobody (nfs.Create making) made_reply [] with_x
 unfolding NfsStep fresh
@@ -173,8 +174,8 @@ creates = record {
 
 -- ---- WRITE
 abbrev write_by : WriteArguments → Resolved → Result (Written × State) NfsStatus
-write_by a r = object_of r >>= λ file. write_object writable nobody file.1 a >>= λ end. Ok
-    (end.0, replaced with_x file.0 end.1)
+write_by a r = object_of r >>= λ file. write_object writable nobody file.object a >>= λ end. Ok
+    (end.0, replaced with_x file.number end.1)
 
 writes : NfsStep with_x nobody (nfs.Write writing) wrote_reply [] with_hi
 unfolding NfsStep
@@ -197,7 +198,7 @@ refused =
 -- ---- READDIR
 abbrev entries_from : (cookie : ℕ) → Verifier → Resolved → Result (List Entry) NfsStatus
 entries_from cookie verifier r =
-    object_of r >>= λ d. entries_in d.1.content >>= λ entries. permitted nobody d.1 ToList >>= λ _. holding ((cookie == 0) || same_bytes verifier.bytes (verifier_of nobody).bytes) status.BadCookie >>= λ _. Ok (behind cookie (all_entries d.0 1 entries.0))
+    object_of r >>= λ d. entries_in d.object.content >>= λ entries. permitted nobody d.object ToList >>= λ _. holding ((cookie == 0) || same_bytes verifier.bytes (verifier_of nobody).bytes) status.BadCookie >>= λ _. Ok (behind cookie (all_entries d.number 1 entries.list))
 
 abbrev entries_by : Resolved → Result (List Entry) NfsStatus
 entries_by = entries_from 0 zeros
@@ -269,27 +270,27 @@ names-x =
       sum-insert_old (names_in 5) with_x.objects 5 x x_written x-made,
     )
 
-abbrev take_object : Option (ℕ × Living) → Result (Unit {0} × State) NfsStatus
+abbrev take_object : Option Named → Result (Unit {0} × State) NfsStatus
 take_object found =
-    ok_or found status.NoEntry >>= λ o. not_directory o.1.content >>= λ _. Ok (tt, losing_name (with_object with_hi 1 root_after) (names_of with_hi o.0) (time 1000 0) o.0 o.1)
+    ok_or found status.NoEntry >>= λ o. not_directory o.object.content >>= λ _. Ok (tt, losing_name (with_object with_hi 1 root_after) (names_of with_hi o.number) (time 1000 0) o.number o.object)
 
-abbrev take_under : ℕ × Living → List Entry × ℕ → Result (Unit {0} × State) NfsStatus
+abbrev take_under : Named → DirectoryEntries → Result (Unit {0} × State) NfsStatus
 take_under directory entries =
-    ok_or (object_under with_hi (entry_of entries.0 (codes "x"))) status.NoEntry >>= λ o. not_directory o.1.content >>= λ _.
-    let left = with_object with_hi directory.0 (with_content directory.1 (time 1000 0) (Directory (without entries.0 (codes "x")) entries.1)) in
-    Ok (tt, losing_name left (names_of with_hi o.0) (time 1000 0) o.0 o.1)
+    ok_or (object_under with_hi (entry_of entries.list (codes "x"))) status.NoEntry >>= λ o. not_directory o.object.content >>= λ _.
+    let left = with_object with_hi directory.number (with_content directory.object (time 1000 0) (Directory (without entries.list (codes "x")) entries.last_cookie)) in
+    Ok (tt, losing_name left (names_of with_hi o.number) (time 1000 0) o.number o.object)
 
 abbrev take_by : Resolved → Result (Unit {0} × State) NfsStatus
 take_by r =
-    object_of r >>= λ directory. entries_in directory.1.content >>= λ entries. plain_name_checked status.Invalid
-    status.Invalid (codes "x") >>= λ _. changeable writable directory.1 >>= λ _. permitted nobody directory.1
+    object_of r >>= λ directory. entries_in directory.object.content >>= λ entries. plain_name_checked status.Invalid
+    status.Invalid (codes "x") >>= λ _. changeable writable directory.object >>= λ _. permitted nobody directory.object
     ToChange
     >>= λ _. take_under directory entries
 
 taken : remove_end with_hi nobody (in_root (codes "x")) ≡ Ok (tt, removed)
 taken =
     ap take_by (root-named with_hi refl root_with_x refl refl root-written)
-    ∙ ap (λ (l : Option Living). take_object (option_map (λ (o : Living). (5, o)) l)) x-lives
+    ∙ ap (λ (l : Option Living). take_object (option_map (λ (o : Living). numbered 5 o) l)) x-lives
     ∙ ap (λ k. Ok (tt, losing_name (with_object with_hi 1 root_after) k (time 1000 0) 5 x_written)) names-x
 
 takes : NfsStep with_hi nobody (nfs.Remove (in_root (codes "x"))) removed_reply [] removed
@@ -320,21 +321,21 @@ pub worked-steps : WorkedSteps
 worked-steps = record { listed = lists; listed_full = lists-full; removes = takes; refuses = refused }
 
 -- ---- LINK
-abbrev link_found : State → List ℕ → (file directory : ℕ × Living) → (entries : List Entry × ℕ) → (links : ℕ) → Option Entry → Result (Unit {0} × State) NfsStatus
+abbrev link_found : State → List ℕ → (file directory : Named) → (entries : DirectoryEntries) → (links : ℕ) → Option Entry → Result (Unit {0} × State) NfsStatus
 link_found m name file directory entries links found =
-    holding (is_none found) status.Exists >>= λ _. holding (nat_lt links link_limit) status.TooManyLinks >>= λ _. holding (nat_lt (entries.1 + 1) (2 ^ 64)) status.NoSpace >>= λ _.
-    let wider = with_content directory.1 (time 1000 0) (with_entry entries.0 entries.1 name file.0) in
-    Ok (tt, with_object (with_object m directory.0 wider) file.0 (touched file.1 (time 1000 0)))
+    holding (is_none found) status.Exists >>= λ _. holding (nat_lt links link_limit) status.TooManyLinks >>= λ _. holding (nat_lt (entries.last_cookie + 1) (2 ^ 64)) status.NoSpace >>= λ _.
+    let wider = with_content directory.object (time 1000 0) (with_entry entries.list entries.last_cookie name file.number) in
+    Ok (tt, with_object (with_object m directory.number wider) file.number (touched file.object (time 1000 0)))
 
-abbrev link_names : State → List ℕ → (file directory : ℕ × Living) → (entries : List Entry × ℕ) → (links : ℕ) → Result (Unit {0} × State) NfsStatus
-link_names m name file directory entries links = link_found m name file directory entries links (entry_of entries.0 name)
+abbrev link_names : State → List ℕ → (file directory : Named) → (entries : DirectoryEntries) → (links : ℕ) → Result (Unit {0} × State) NfsStatus
+link_names m name file directory entries links = link_found m name file directory entries links (entry_of entries.list name)
 
 abbrev link_by : State → List ℕ → (file directory : Resolved) → Result (Unit {0} × State) NfsStatus
 link_by m name f d =
-    object_of f >>= λ file. object_of d >>= λ directory. holding (file.1.export == directory.1.export) status.CrossDevice >>= λ _. holding (not (is_directory file.1.content)) status.Invalid
-    >>= λ _. entries_in directory.1.content >>= λ entries. plain_name_checked status.Invalid status.Invalid name >>=
-    λ _. changeable writable directory.1 >>= λ _. permitted nobody directory.1 ToChange
-    >>= λ _. link_names m name file directory entries (links_of m file.0 file.1.content)
+    object_of f >>= λ file. object_of d >>= λ directory. holding (file.object.export == directory.object.export) status.CrossDevice >>= λ _. holding (not (is_directory file.object.content)) status.Invalid
+    >>= λ _. entries_in directory.object.content >>= λ entries. plain_name_checked status.Invalid status.Invalid name >>=
+    λ _. changeable writable directory.object >>= λ _. permitted nobody directory.object ToChange
+    >>= λ _. link_names m name file directory entries (links_of m file.number file.object.content)
 
 module _ (k : State) (entries : List Entry) (of_root : get k.objects 1 ≡ Some (root_with entries))
     (of_x : get k.objects 5 ≡ Some x_written) where
@@ -349,24 +350,24 @@ module _ (k : State) (entries : List Entry) (of_root : get k.objects 1 ≡ Some 
 
   -- where the name is found so
   linked-where : (name : List ℕ) (found : Option Entry) → entry_of entries name ≡ found → (links : ℕ)
-      → link_names (with_writable k) name (5, x_written) (1, root_with entries) (entries, 40000) links ≡ link_found
-      (with_writable k) name (5, x_written) (1, root_with entries) (entries, 40000) links found
+      → link_names (with_writable k) name (numbered 5 x_written) (numbered 1 (root_with entries)) (entries_with entries 40000) links ≡ link_found
+      (with_writable k) name (numbered 5 x_written) (numbered 1 (root_with entries)) (entries_with entries 40000) links found
   linked-where name found is links = ap
-      (link_found (with_writable k) name (5, x_written) (1, root_with entries) (entries, 40000) links) is
+      (link_found (with_writable k) name (numbered 5 x_written) (numbered 1 (root_with entries)) (entries_with entries 40000) links) is
 
   free-name : entry_of entries (codes "y") ≡ None →
       link_end (with_writable k) nobody (linking (codes "y")) ≡ link_found (with_writable k) (codes "y")
-      (5, x_written) (1, root_with entries) (entries, 40000) (names_of (with_writable k) 5) None
+      (numbered 5 x_written) (numbered 1 (root_with entries)) (entries_with entries 40000) (names_of (with_writable k) 5) None
   free-name none = linked-by (codes "y") ∙ linked-where (codes "y") None none (names_of (with_writable k) 5)
 
   pub worked-linking : WorkedLinking (with_writable k) entries
   worked-linking = record {
     last = λ none most. free-name none ∙ ap
-        (λ links. link_found (with_writable k) (codes "y") (5, x_written) (1, root_with entries)
-        (entries, 40000) links None) most;
+        (λ links. link_found (with_writable k) (codes "y") (numbered 5 x_written) (numbered 1 (root_with entries))
+        (entries_with entries 40000) links None) most;
     full = λ none many. free-name none ∙ ap
-        (λ links. link_found (with_writable k) (codes "y") (5, x_written) (1, root_with entries)
-        (entries, 40000) links None) many;
+        (λ links. link_found (with_writable k) (codes "y") (numbered 5 x_written) (numbered 1 (root_with entries))
+        (entries_with entries 40000) links None) many;
     there = λ e found. linked-by (codes "x") ∙ linked-where (codes "x") (Some e) found
         (names_of (with_writable k) 5);
     self = linked-by (codes ".");
@@ -384,17 +385,17 @@ module _ (k : State) (entries : List Entry) (of_root : get k.objects 1 ≡ Some 
 
 -- ---- RENAME
 module _ (m : State) (ctx : Ctx) (a : RenameArguments) where
-  abbrev move_found : (from to : ℕ × Living) → (from_entries to_entries : List Entry × ℕ) → (moved replaced : Option (ℕ × Living)) → Result (Option (ℕ × ℕ) × Result (Unit {0} × State) NfsStatus) NfsStatus
+  abbrev move_found : (from to : Named) → (from_entries to_entries : DirectoryEntries) → (moved replaced : Option Named) → Result (Option (ℕ × ℕ) × Result (Unit {0} × State) NfsStatus) NfsStatus
   move_found from to from_entries to_entries moved replaced =
       ok_or moved status.NoEntry >>= λ moved. move_plan m (time 1000 0) a from to from_entries to_entries moved replaced
 
   abbrev move_by : (from to : Resolved) → Result (Option (ℕ × ℕ) × Result (Unit {0} × State) NfsStatus) NfsStatus
   move_by f t =
-      object_of f >>= λ from. object_of t >>= λ to. holding (from.1.export == to.1.export) status.CrossDevice >>= λ _. entries_in from.1.content >>= λ from_entries. entries_in to.1.content >>= λ to_entries.
+      object_of f >>= λ from. object_of t >>= λ to. holding (from.object.export == to.object.export) status.CrossDevice >>= λ _. entries_in from.object.content >>= λ from_entries. entries_in to.object.content >>= λ to_entries.
       plain_name_checked status.Invalid status.Invalid a.from.name >>= λ _. plain_name_checked status.Invalid
-      status.Invalid a.to.name >>= λ _. changeable m.exports from.1 >>= λ _. permitted ctx from.1 ToChange >>= λ
+      status.Invalid a.to.name >>= λ _. changeable m.exports from.object >>= λ _. permitted ctx from.object ToChange >>= λ
       _.
-      permitted ctx to.1 ToChange >>= λ _. move_found from to from_entries to_entries (object_under m (entry_of from_entries.0 a.from.name)) (object_under m (entry_of to_entries.0 a.to.name))
+      permitted ctx to.object ToChange >>= λ _. move_found from to from_entries to_entries (object_under m (entry_of from_entries.list a.from.name)) (object_under m (entry_of to_entries.list a.to.name))
 
 module _ (k : State) (entries : List Entry) (of_root : get k.objects 1 ≡ Some (root_with entries))
     (of_x : get k.objects 5 ≡ Some x_written) where
@@ -429,9 +430,9 @@ module _ (k : State) (entries : List Entry) (of_root : get k.objects 1 ≡ Some 
   abbrev x_to_y : RenameArguments
   x_to_y = renaming (codes "x") (codes "y")
 
-  abbrev found_so : (moved replaced : Option (ℕ × Living)) → Result (Option (ℕ × ℕ) × Result (Unit {0} × State) NfsStatus) NfsStatus
-  found_so = move_found (with_writable k) nobody x_to_y (1, root_with entries) (1, root_with entries) (entries, 40000)
-      (entries, 40000)
+  abbrev found_so : (moved replaced : Option Named) → Result (Option (ℕ × ℕ) × Result (Unit {0} × State) NfsStatus) NfsStatus
+  found_so = move_found (with_writable k) nobody x_to_y (numbered 1 (root_with entries)) (numbered 1 (root_with entries)) (entries_with entries 40000)
+      (entries_with entries 40000)
 
   -- where both names are found so
   where-found : (from to : Option Entry) → entry_of entries (codes "x") ≡ from →
@@ -467,25 +468,25 @@ module _ (k : State) (entries : List Entry) (of_root : get k.objects 1 ≡ Some 
         (Names 1 (root_with entries))) of-file;
     moves = λ cookie found none.
         where-found (Some (record { name = codes "x"; number = 5; cookie = cookie })) None found none
-        ∙ ap (λ (l : Option Living). found_so (option_map (λ (o : Living). (5, o)) l) None) of_x;
+        ∙ ap (λ (l : Option Living). found_so (option_map (λ (o : Living). numbered 5 o) l) None) of_x;
     both = λ cookie other found too.
         where-found (Some (record { name = codes "x"; number = 5; cookie = cookie })) (Some (record { name = codes "y"; number = 5; cookie = other })) found too
-        ∙ ap (λ (l : Option Living). found_so (option_map (λ (o : Living). (5, o)) l) (option_map (λ (o : Living). (5, o)) l)) of_x;
+        ∙ ap (λ (l : Option Living). found_so (option_map (λ (o : Living). numbered 5 o) l) (option_map (λ (o : Living). numbered 5 o) l)) of_x;
   }
 
 -- ---- REMOVE of one of two names
-abbrev leave_object : State → ℕ × Living → List Entry × ℕ → Option (ℕ × Living) → Result (Unit {0} × State) NfsStatus
+abbrev leave_object : State → Named → DirectoryEntries → Option Named → Result (Unit {0} × State) NfsStatus
 leave_object m directory entries found =
-    ok_or found status.NoEntry >>= λ o. not_directory o.1.content >>= λ _.
-    let left = with_object m directory.0 (with_content directory.1 (time 1000 0) (Directory (without entries.0 (codes "x")) entries.1)) in
-    Ok (tt, losing_name left (names_of m o.0) (time 1000 0) o.0 o.1)
+    ok_or found status.NoEntry >>= λ o. not_directory o.object.content >>= λ _.
+    let left = with_object m directory.number (with_content directory.object (time 1000 0) (Directory (without entries.list (codes "x")) entries.last_cookie)) in
+    Ok (tt, losing_name left (names_of m o.number) (time 1000 0) o.number o.object)
 
 abbrev leave_by : State → Resolved → Result (Unit {0} × State) NfsStatus
 leave_by m r =
-    object_of r >>= λ directory. entries_in directory.1.content >>= λ entries. plain_name_checked status.Invalid
-    status.Invalid (codes "x") >>= λ _. changeable writable directory.1 >>= λ _. permitted nobody directory.1
+    object_of r >>= λ directory. entries_in directory.object.content >>= λ entries. plain_name_checked status.Invalid
+    status.Invalid (codes "x") >>= λ _. changeable writable directory.object >>= λ _. permitted nobody directory.object
     ToChange
-    >>= λ _. leave_object m directory entries (object_under m (entry_of entries.0 (codes "x")))
+    >>= λ _. leave_object m directory entries (object_under m (entry_of entries.list (codes "x")))
 
 pub worked-leaving : WorkedLeaving
 unfolding NfsStep
@@ -502,8 +503,8 @@ worked-leaving k of_root of_x two = record {
     taken : remove_end (with_writable k) nobody (in_root (codes "x")) ≡ Ok (tt, left (with_writable k))
     taken =
         ap (leave_by (with_writable k)) (root-named (with_writable k) refl root_with_both refl refl of_root)
-        ∙ ap (λ (l : Option Living). leave_object (with_writable k) (1, root_with_both)
-        (x_entry ∷ y_entry ∷ [], 4) (option_map (λ (o : Living). (5, o)) l)) of_x
+        ∙ ap (λ (l : Option Living). leave_object (with_writable k) (numbered 1 root_with_both)
+        (entries_with (x_entry ∷ y_entry ∷ []) 4) (option_map (λ (o : Living). numbered 5 o) l)) of_x
         ∙ ap (λ n. Ok (
           tt,
           losing_name

@@ -68,8 +68,8 @@ set-alters exports ctx o a =
 pub setattr-follows : (old : State) (ctx : Ctx) (a : SetattrArguments) → IfOk (setattr_end old ctx a) (λ e. Follows (time_of ctx.moment) old e.1)
 setattr-follows old ctx a =
     chained-is (λ (e : Unit {0} × State). Follows (time_of ctx.moment) old e.1) (object_of (resolve old ctx a.object)) _ (λ o at.
-    chained-is (λ (e : Unit {0} × State). Follows (time_of ctx.moment) old e.1) (set_object old.exports ctx o.1 a) _
+    chained-is (λ (e : Unit {0} × State). Follows (time_of ctx.moment) old e.1) (set_object old.exports ctx o.object a) _
     (λ x is.
-    follows-altered (time_of ctx.moment) old o.0 o.1 x (resolved-lives old ctx a.object o at)
-    (of-ok (Alters (time_of ctx.moment) o.1) (set_object old.exports ctx o.1 a) x is
-    (set-alters old.exports ctx o.1 a))))
+    follows-altered (time_of ctx.moment) old o.number o.object x (resolved-lives old ctx a.object o at)
+    (of-ok (Alters (time_of ctx.moment) o.object) (set_object old.exports ctx o.object a) x is
+    (set-alters old.exports ctx o.object a))))

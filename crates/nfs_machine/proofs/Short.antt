@@ -67,10 +67,10 @@ module _ (m : State) (ctx : Ctx) where
   lookup-short place parent = search (chained, arith) depth 12
 
   abbrev read_result : ReadArguments → Result ReadData NfsStatus
-  read_result a = object_of (resolve m ctx a.file) >>= λ o. read_object ctx o.1 a
+  read_result a = object_of (resolve m ctx a.file) >>= λ o. read_object ctx o.object a
 
   abbrev commit_result : CommitArguments → Result Verifier NfsStatus
-  commit_result a = object_of (resolve m ctx a.file) >>= λ o. bytes_in o.1.content >>= λ bytes. Ok (verifier_of ctx)
+  commit_result a = object_of (resolve m ctx a.file) >>= λ o. bytes_in o.object.content >>= λ bytes. Ok (verifier_of ctx)
 
   read-short : (a : ReadArguments) → IfOk (read_result a) (λ read. length read.«data» ≤ 65536)
   read-short a = search (chained, read-at-short) depth 8
@@ -105,12 +105,12 @@ module _ (m : State) (ctx : Ctx) where
     make-short : (wanted : Result Wanted NfsStatus) → IfOk (make_end m ctx place wanted there) EndShort
     make-short wanted =
         chained EndShort (object_of (resolve m ctx place.directory)) _ (λ directory.
-        chained EndShort (entries_in directory.1.content) _ (λ entries.
+        chained EndShort (entries_in directory.object.content) _ (λ entries.
         chained EndShort (plain_name_checked status.Exists status.Exists place.name) _ (λ x1.
         chained EndShort wanted _ (λ what.
-        chained EndShort (changeable m.exports directory.1) _ (λ x2.
-        chained EndShort (permitted ctx directory.1 ToChange) _ (λ x3.
-        by-name what directory.0 directory.1 entries.0 entries.1 (entry_of entries.0 place.name)))))))
+        chained EndShort (changeable m.exports directory.object) _ (λ x2.
+        chained EndShort (permitted ctx directory.object ToChange) _ (λ x3.
+        by-name what directory.number directory.object entries.list entries.last_cookie (entry_of entries.list place.name)))))))
 
   ends-short : (r : Result (End m) NfsStatus) (end : Result (Made × State) NfsStatus) → EndsAs m r end → IfOk r EndShort → IfOk (answer_of end) (λ made. IfSome made.object IsHandle)
   ends-short (Ok (Known answer new)) end is short = subst (λ (r : Result (Made × State) NfsStatus). IfOk (answer_of r) (λ made. IfSome made.object IsHandle)) (sym is) short
@@ -122,7 +122,7 @@ pub replies_short : RepliesAreShort
 unfolding NfsStep appended
 replies_short old ctx calls.Null reply messages new w step = subst IsShort (sym step.reply_is) (record { form = tt; short = omega arith })
 replies_short old ctx (calls.Getattr object) reply messages new w step =
-    subst IsShort (sym step.reply_is) (record { form = tt; short = omega (arith, getattr-size (object_of (resolve old ctx object) >>= λ o. Ok (attributes_of old o.0 o.1))) })
+    subst IsShort (sym step.reply_is) (record { form = tt; short = omega (arith, getattr-size (object_of (resolve old ctx object) >>= λ o. Ok (attributes_of old o.number o.object))) })
 replies_short old ctx (calls.Lookup place) reply messages new w step =
     let form = lookup-short old ctx place step.0 in
     subst IsShort (sym step.2.reply_is) (record { form = form; short = omega (arith, lookup-size (shown old (resolve old ctx place.directory)) (lookup_found old ctx place step.0) form) })
@@ -146,12 +146,12 @@ replies_short old ctx (calls.Access a) reply messages new w step =
       short = omega (
         arith,
         access-size (shown old (resolve old ctx a.object))
-            (object_of (resolve old ctx a.object) >>= λ o. Ok (granted old.exports ctx o.1 a.rights)),
+            (object_of (resolve old ctx a.object) >>= λ o. Ok (granted old.exports ctx o.object a.rights)),
       );
     })
 replies_short old ctx (calls.Readlink object) reply messages new w step = subst IsShort (sym step.reply_is) (record {
-  form = text-fits (object_of (resolve old ctx object) >>= λ o. text_in o.1.content) (texts-read old ctx object w.texts);
-  short = omega (arith, readlink-size (shown old (resolve old ctx object)) (object_of (resolve old ctx object) >>= λ o. text_in o.1.content) 4096 (texts-read old ctx object w.texts));
+  form = text-fits (object_of (resolve old ctx object) >>= λ o. text_in o.object.content) (texts-read old ctx object w.texts);
+  short = omega (arith, readlink-size (shown old (resolve old ctx object)) (object_of (resolve old ctx object) >>= λ o. text_in o.object.content) 4096 (texts-read old ctx object w.texts));
 })
 replies_short old ctx (calls.Readdir a) reply messages new w step =
     let within = names-within a.count (entries_left old ctx a.directory a.cookie a.verifier step.parent) step.page step.is_page in
@@ -166,7 +166,7 @@ replies_short old ctx (calls.Readdirplus a) reply messages new w step =
       short = omega (arith, readdirplus-size old ctx (shown old (resolve old ctx a.directory)) a.most step.page within);
     })
 replies_short old ctx (calls.Fsstat object) reply messages new w step =
-    subst IsShort (sym step.reply_is) (record { form = tt; short = omega (arith, fsstat-size (shown old (resolve old ctx object)) (object_of (resolve old ctx object) >>= λ o. Ok (space_left ctx.limits.total_bytes (values old.objects) o.1.export))) })
+    subst IsShort (sym step.reply_is) (record { form = tt; short = omega (arith, fsstat-size (shown old (resolve old ctx object)) (object_of (resolve old ctx object) >>= λ o. Ok (space_left ctx.limits.total_bytes (values old.objects) o.object.export))) })
 replies_short old ctx (calls.Fsinfo object) reply messages new w step =
     subst IsShort (sym step.reply_is) (record { form = tt; short = omega (arith, fsinfo-size (shown old (resolve old ctx object)) (object_of (resolve old ctx object) >>= λ o. Ok file_system)) })
 replies_short old ctx (calls.Pathconf object) reply messages new w step =

@@ -41,7 +41,7 @@ use Rattle.nfs_machine.proofs.Moves.{remove_end, rmdir_end}
 use Rattle.nfs_machine.specs.Answers.{answer_of}
 use Rattle.nfs_machine.specs.Attributes.{attributes_of, entries_of, is_directory}
 use Rattle.nfs_machine.specs.AttributeSteps.{granted, set_object}
-use Rattle.nfs_machine.specs.Checks.{◌>>=◌, holding, bytes_in, object_of, text_in, entries_in, plain_name_checked}
+use Rattle.nfs_machine.specs.Checks.{DirectoryEntries, ◌>>=◌, holding, bytes_in, object_of, text_in, entries_in, plain_name_checked}
 use Rattle.nfs_machine.specs.Checks.{changeable, permitted, entry_of, name_checked}
 use Rattle.nfs_machine.specs.LinkSteps.{link_end}
 use Rattle.nfs_machine.specs.MakeSteps.{wanted_of, wanted_special}
@@ -54,7 +54,7 @@ use Rattle.nfs_machine.specs.Pages.{Pages, fits, fits_full}
 use Rattle.nfs_machine.specs.PageSteps.{entries_left}
 use Rattle.nfs_machine.specs.Permission.{ToChange, ToWrite}
 use Rattle.nfs_machine.specs.RenameSteps.{RenameEnds, move_plan, rename_plan}
-use Rattle.nfs_machine.specs.Resolve.{Resolved, BadHandle, Stale, Names, resolve}
+use Rattle.nfs_machine.specs.Resolve.{Named, Resolved, BadHandle, Stale, Names, resolve}
 use Rattle.nfs_machine.specs.State.{Content, Regular, Directory, Link, BlockDevice, CharacterDevice, Socket, Fifo}
 use Rattle.nfs_machine.specs.State.{Entry, Living, State}
 use Rattle.nfs_machine.specs.StatusLaws.{NfsNeverAnswers, MountNeverAnswers, failure_in, failure_of, is_never_answered}
@@ -167,7 +167,7 @@ module _ (m : State) (ctx : Ctx) where
   tells-setattr : (a : SetattrArguments) → TellsStatus (setattr_end m ctx a)
   tells-setattr a = search (tells-chain, tells-object, tells-set, tells-value) depth 8
 
-  tells-read : (a : ReadArguments) → TellsStatus (object_of (resolve m ctx a.file) >>= λ o. read_object ctx o.1 a)
+  tells-read : (a : ReadArguments) → TellsStatus (object_of (resolve m ctx a.file) >>= λ o. read_object ctx o.object a)
   tells-read a = search (tells-chain, tells-object, tells-bytes, tells-held, tells-value) depth 14
 
   tells-write : (a : WriteArguments) → TellsStatus (write_end m ctx a)
@@ -246,14 +246,14 @@ module _ (m : State) (ctx : Ctx) where
     tells-make : (wanted : Result Wanted NfsStatus) → TellsStatus wanted → TellsStatus (make_end m ctx place wanted there)
     tells-make wanted known =
         tells-chain (object_of (resolve m ctx place.directory)) _ (tells-object _) (λ directory.
-        tells-chain (entries_in directory.1.content) _ (tells-entries _) (λ entries.
+        tells-chain (entries_in directory.object.content) _ (tells-entries _) (λ entries.
         tells-chain (plain_name_checked status.Exists status.Exists place.name) _
         (tells-plain status.Exists status.Exists place.name refl refl)
         (λ x1.
         tells-chain wanted _ known (λ what.
-        tells-chain (changeable m.exports directory.1) _ (tells-held _ _ refl) (λ x2.
-        tells-chain (permitted ctx directory.1 ToChange) _ (tells-held _ _ refl) (λ x3.
-        by-name what directory.0 directory.1 entries.0 entries.1 (entry_of entries.0 place.name)))))))
+        tells-chain (changeable m.exports directory.object) _ (tells-held _ _ refl) (λ x2.
+        tells-chain (permitted ctx directory.object ToChange) _ (tells-held _ _ refl) (λ x3.
+        by-name what directory.number directory.object entries.list entries.last_cookie (entry_of entries.list place.name)))))))
 
   tells-ends : (r : Result (End m) NfsStatus) (end : Result (Made × State) NfsStatus) → EndsAs m r end →
       TellsStatus r →
@@ -285,9 +285,9 @@ module _ (m : State) (ctx : Ctx) where
   plan-if true x y first second = first
   plan-if false x y first second = second
 
-  tells-move : (now : Time) (a : RenameArguments) (from to : ℕ × Living)
-      (from_entries to_entries : List Entry × ℕ)
-      (moved : ℕ × Living) (replaced : Option (ℕ × Living))
+  tells-move : (now : Time) (a : RenameArguments) (from to : Named)
+      (from_entries to_entries : DirectoryEntries)
+      (moved : Named) (replaced : Option Named)
       → PlanTells (move_plan m now a from to from_entries to_entries moved replaced)
   tells-move now a from to from_entries to_entries moved replaced =
       search (plan-chain, plan-if, plan-value, tells-chain, tells-held, tells-value) depth 16
@@ -340,19 +340,19 @@ pub nfs_never_answers : NfsNeverAnswers
 unfolding NfsStep
 nfs_never_answers old ctx calls.Null reply messages new step = subst Well (sym step.reply_is) tt
 nfs_never_answers old ctx (calls.Getattr object) reply messages new step = subst Well (sym step.reply_is)
-    (tells-chain (object_of (resolve old ctx object)) (λ o. Ok (attributes_of old o.0 o.1)) (tells-object _)
+    (tells-chain (object_of (resolve old ctx object)) (λ o. Ok (attributes_of old o.number o.object)) (tells-object _)
     (λ o. tells-value _)).tells
 nfs_never_answers old ctx (calls.Setattr a) reply messages new step = subst Well (sym step.reply_is)
     (tells-answer (setattr_end old ctx a) (tells-setattr old ctx a)).tells
 nfs_never_answers old ctx (calls.Lookup place) reply messages new step = subst Well (sym step.2.reply_is)
     (tells-lookup old ctx place step.0).tells
 nfs_never_answers old ctx (calls.Access a) reply messages new step = subst Well (sym step.reply_is)
-    (tells-chain (object_of (resolve old ctx a.object)) (λ o. Ok (granted old.exports ctx o.1 a.rights))
+    (tells-chain (object_of (resolve old ctx a.object)) (λ o. Ok (granted old.exports ctx o.object a.rights))
     (tells-object _)
     (λ o. tells-value _)).tells
 nfs_never_answers old ctx (calls.Readlink object) reply messages new step = subst Well (sym step.reply_is)
-    (tells-chain (object_of (resolve old ctx object)) (λ o. text_in o.1.content) (tells-object _)
-    (λ o. tells-text o.1.content)).tells
+    (tells-chain (object_of (resolve old ctx object)) (λ o. text_in o.object.content) (tells-object _)
+    (λ o. tells-text o.object.content)).tells
 nfs_never_answers old ctx (calls.Read a) reply messages new step = subst Well (sym step.reply_is)
     (tells-read old ctx a).tells
 nfs_never_answers old ctx (calls.Write a) reply messages new step = subst Well (sym step.reply_is)
@@ -392,7 +392,7 @@ nfs_never_answers old ctx (calls.Readdirplus a) reply messages new step = subst 
     (λ p. tells-value _)).tells
 nfs_never_answers old ctx (calls.Fsstat object) reply messages new step = subst Well (sym step.reply_is)
     (tells-chain (object_of (resolve old ctx object))
-    (λ o. Ok (space_left ctx.limits.total_bytes (values old.objects) o.1.export)) (tells-object _)
+    (λ o. Ok (space_left ctx.limits.total_bytes (values old.objects) o.object.export)) (tells-object _)
     (λ o. tells-value _)).tells
 nfs_never_answers old ctx (calls.Fsinfo object) reply messages new step = subst Well (sym step.reply_is)
     (tells-chain (object_of (resolve old ctx object)) (λ o. Ok file_system) (tells-object _)
@@ -401,8 +401,8 @@ nfs_never_answers old ctx (calls.Pathconf object) reply messages new step = subs
     (tells-chain (object_of (resolve old ctx object)) (λ o. Ok path_limits) (tells-object _)
     (λ o. tells-value _)).tells
 nfs_never_answers old ctx (calls.Commit a) reply messages new step = subst Well (sym step.reply_is)
-    (tells-chain (object_of (resolve old ctx a.file)) (λ o. bytes_in o.1.content >>= λ bytes. Ok (verifier_of ctx))
-    (tells-object _) (λ o. tells-chain (bytes_in o.1.content) _ (tells-bytes _) (λ bytes. tells-value _))).tells
+    (tells-chain (object_of (resolve old ctx a.file)) (λ o. bytes_in o.object.content >>= λ bytes. Ok (verifier_of ctx))
+    (tells-object _) (λ o. tells-chain (bytes_in o.object.content) _ (tells-bytes _) (λ bytes. tells-value _))).tells
 
 -- ---- MOUNT
 abbrev MountTells : {A : Type 0} → Result A MountStatus → Type 0

@@ -14,13 +14,13 @@ use Rattle.nfs_wire.specs.declared.status.NfsStatus.{NfsStatus}
 use Rattle.nfs_wire.specs.declared.status.NfsStatus.TheVariants as status
 use Rattle.nfs_machine.specs.Attributes.{entries_of, is_directory, names_of, links_of}
 use Rattle.nfs_machine.specs.Bytes.{same_bytes}
-use Rattle.nfs_machine.specs.Checks.{holding, object_of, entries_in, plain_name_checked, changeable, permitted, entry_of, link_limit}
+use Rattle.nfs_machine.specs.Checks.{DirectoryEntries, holding, object_of, entries_in, plain_name_checked, changeable, permitted, entry_of, link_limit}
 use Rattle.nfs_machine.specs.Laws.{KeepsEntries}
 use Rattle.nfs_machine.specs.LinkSteps.{link_end}
 use Rattle.nfs_machine.specs.Making.{with_entry}
 use Rattle.nfs_machine.specs.Permission.{ToChange}
 use Rattle.nfs_machine.specs.RemoveSteps.{empty_directory, not_directory, without, object_under}
-use Rattle.nfs_machine.specs.Resolve.{resolve}
+use Rattle.nfs_machine.specs.Resolve.{Named, resolve}
 use Rattle.nfs_machine.specs.Shown.{touched, with_content, with_object}
 use Rattle.nfs_machine.specs.State.{Content, Directory, Entry, Living, State}
 use Rattle.nfs_machine.specs.Times.{time_of}
@@ -34,7 +34,7 @@ use Rattle.nfs_machine.proofs.Continued.{continues-touched, continues-with, cook
 use Rattle.nfs_machine.proofs.Continued.{texts-continued, touches-continued, well_formed-losing}
 use Rattle.nfs_machine.proofs.Counted.{Counts, changed-losing, names-losing}
 use Rattle.nfs_machine.proofs.Cookies.{kept-added, kept-of, kept-same, kept-without}
-use Rattle.nfs_machine.proofs.Facts.{absent, chained-is, directory-empty, holds, is-directory, leads-found, plain-empty, resolved-lives}
+use Rattle.nfs_machine.proofs.Facts.{absent, chained-is, directory-empty, holds, is-directory, leads-found, plain-empty, resolved-lives, numbered}
 use Rattle.nfs_machine.proofs.Firm.{put-directory, put-over}
 use Rattle.nfs_machine.proofs.Follows.{Follows, LocksFollow, beside-follows, bounds-losing, exports-losing, locks-losing}
 use Rattle.nfs_machine.proofs.Follows.{locks-on, mounts-losing}
@@ -53,18 +53,18 @@ pub record IsNamedEntry (m : State) (n : NamedEntry) : Type 0 where
   pub object : get m.objects n.number ≡ Some n.object
 
 -- what an entry leads to lives at its number
-pub under-entry : (m : State) (x : Option Entry) (o : ℕ × Living) → object_under m x ≡ Some o → (e : Entry) × (x ≡ Some e) × (e.number ≡ o.0) × (get m.objects o.0 ≡ Some o.1)
+pub under-entry : (m : State) (x : Option Entry) (o : Named) → object_under m x ≡ Some o → (e : Entry) × (x ≡ Some e) × (e.number ≡ o.number) × (get m.objects o.number ≡ Some o.object)
 under-entry m None o is = cc
 under-entry m (Some e) o is = found (get m.objects e.number) refl is
   where
-    found : (l : Option Living) → get m.objects e.number ≡ l → option_map (λ (x : Living). (e.number, x)) l ≡ Some o → (f : Entry) × (Some e ≡ Some f) × (f.number ≡ o.0) × (get m.objects o.0 ≡ Some o.1)
+    found : (l : Option Living) → get m.objects e.number ≡ l → option_map (λ (x : Living). numbered e.number x) l ≡ Some o → (f : Entry) × (Some e ≡ Some f) × (f.number ≡ o.number) × (get m.objects o.number ≡ Some o.object)
     found None at some = cc
-    found (Some x) at some = (let same : (e.number, x) ≡ o = cc in (e, refl, ap (λ (y : ℕ × Living). y.0) same, subst (λ (y : ℕ × Living). get m.objects y.0 ≡ Some y.1) same at))
+    found (Some x) at some = (let same : numbered e.number x ≡ o = cc in (e, refl, ap (λ (y : Named). y.number) same, subst (λ (y : Named). get m.objects y.number ≡ Some y.object) same at))
 
-pub is-under : (m : State) (directory : ℕ × Living) (entries : List Entry × ℕ) (name : List ℕ) (o : ℕ × Living) → get m.objects directory.0 ≡ Some directory.1 → directory.1.content ≡ Directory entries.0 entries.1
-    → object_under m (entry_of entries.0 name) ≡ Some o → IsNamedEntry m (named_as directory entries name o)
+pub is-under : (m : State) (directory : Named) (entries : DirectoryEntries) (name : List ℕ) (o : Named) → get m.objects directory.number ≡ Some directory.object → directory.object.content ≡ Directory entries.list entries.last_cookie
+    → object_under m (entry_of entries.list name) ≡ Some o → IsNamedEntry m (named_as directory entries name o)
 is-under m directory entries name o lives content is =
-    let e = under-entry m (entry_of entries.0 name) o is in
+    let e = under-entry m (entry_of entries.list name) o is in
     record { lives = lives; content = content; entry = e.0; found = e.1; number = e.2; object = e.3 }
 
 -- the names beside it keep their cookies
@@ -200,16 +200,16 @@ module _ (m : State) (ctx : Ctx) where
       → IfOk (take_end m ctx place name content) Leaves
   take-follows place name content empty =
       chained-is Leaves (object_of (resolve m ctx place.directory)) _ (λ directory at.
-      chained-is Leaves (entries_in directory.1.content) _ (λ entries is.
+      chained-is Leaves (entries_in directory.object.content) _ (λ entries is.
       chained-is Leaves (name place.name) _ (λ x1 e1.
-      chained-is Leaves (changeable m.exports directory.1) _ (λ x2 e2.
-      chained-is Leaves (permitted ctx directory.1 ToChange) _ (λ x3 e3.
-      chained-is Leaves (ok_or (object_under m (entry_of entries.0 place.name)) status.NoEntry) _ (λ o e4.
-      chained-is Leaves (content o.1.content) _ (λ x5 e5.
+      chained-is Leaves (changeable m.exports directory.object) _ (λ x2 e2.
+      chained-is Leaves (permitted ctx directory.object ToChange) _ (λ x3 e3.
+      chained-is Leaves (ok_or (object_under m (entry_of entries.list place.name)) status.NoEntry) _ (λ o e4.
+      chained-is Leaves (content o.object.content) _ (λ x5 e5.
       taken-follows m (time_of ctx.moment) (named_as directory entries place.name o)
-      (is-under m directory entries place.name o (resolved-lives m ctx place.directory directory at) (is-directory directory.1.content entries is)
-      (leads-found (object_under m (entry_of entries.0 place.name)) o e4))
-      (empty o.1.content x5 e5))))))))
+      (is-under m directory entries place.name o (resolved-lives m ctx place.directory directory at) (is-directory directory.object.content entries is)
+      (leads-found (object_under m (entry_of entries.list place.name)) o e4))
+      (empty o.object.content x5 e5))))))))
 
   pub remove-follows : (place : Place) → IfOk (remove_end m ctx place) Leaves
   remove-follows place = take-follows place (plain_name_checked status.Invalid status.Invalid) not_directory plain-empty
@@ -330,18 +330,18 @@ link-follows m ctx a =
     let P : Unit {0} × State → Type 0 = Leaves m ctx in
     chained-is P (object_of (resolve m ctx a.file)) _ (λ file at.
     chained-is P (object_of (resolve m ctx a.place.directory)) _ (λ directory there.
-    chained-is P (holding (file.1.export == directory.1.export) status.CrossDevice) _ (λ x1 e1.
-    chained-is P (holding (not (is_directory file.1.content)) status.Invalid) _ (λ x2 e2.
-    chained-is P (entries_in directory.1.content) _ (λ entries is.
+    chained-is P (holding (file.object.export == directory.object.export) status.CrossDevice) _ (λ x1 e1.
+    chained-is P (holding (not (is_directory file.object.content)) status.Invalid) _ (λ x2 e2.
+    chained-is P (entries_in directory.object.content) _ (λ entries is.
     chained-is P (plain_name_checked status.Invalid status.Invalid a.place.name) _ (λ x3 e3.
-    chained-is P (changeable m.exports directory.1) _ (λ x4 e4.
-    chained-is P (permitted ctx directory.1 ToChange) _ (λ x5 e5.
-    chained-is P (holding (is_none (entry_of entries.0 a.place.name)) status.Exists) _ (λ x6 e6.
-    chained-is P (holding (nat_lt (links_of m file.0 file.1.content) link_limit) status.TooManyLinks) _ (λ x7 e7.
-    chained-is P (holding (nat_lt (entries.1 + 1) (2 ^ 64)) status.NoSpace) _ (λ x8 e8.
-    linked-follows m (time_of ctx.moment) file.0 file.1 directory.0 directory.1 entries.0 entries.1 a.place.name
+    chained-is P (changeable m.exports directory.object) _ (λ x4 e4.
+    chained-is P (permitted ctx directory.object ToChange) _ (λ x5 e5.
+    chained-is P (holding (is_none (entry_of entries.list a.place.name)) status.Exists) _ (λ x6 e6.
+    chained-is P (holding (nat_lt (links_of m file.number file.object.content) link_limit) status.TooManyLinks) _ (λ x7 e7.
+    chained-is P (holding (nat_lt (entries.last_cookie + 1) (2 ^ 64)) status.NoSpace) _ (λ x8 e8.
+    linked-follows m (time_of ctx.moment) file.number file.object directory.number directory.object entries.list entries.last_cookie a.place.name
     (resolved-lives m ctx a.file file at) (resolved-lives m ctx a.place.directory directory there)
-    ((unsigned_Decides file.1.export directory.1.export).0 (holds (file.1.export == directory.1.export) status.CrossDevice x1 e1))
-    (not-true (is_directory file.1.content) (holds (not (is_directory file.1.content)) status.Invalid x2 e2))
-    (is-directory directory.1.content entries is)
-    (absent entries.0 a.place.name (holds (is_none (entry_of entries.0 a.place.name)) status.Exists x6 e6)))))))))))))
+    ((unsigned_Decides file.object.export directory.object.export).0 (holds (file.object.export == directory.object.export) status.CrossDevice x1 e1))
+    (not-true (is_directory file.object.content) (holds (not (is_directory file.object.content)) status.Invalid x2 e2))
+    (is-directory directory.object.content entries is)
+    (absent entries.list a.place.name (holds (is_none (entry_of entries.list a.place.name)) status.Exists x6 e6)))))))))))))

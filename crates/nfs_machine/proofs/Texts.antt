@@ -19,7 +19,7 @@ texts-put m number o fit here n x text at is =
     ] (sym (get-inserted m.objects number o n) ∙ at)
 
 -- what READLINK answers is within it
-pub texts-read : (m : State) (ctx : Ctx) (object : List ℕ) → TextsFit m → IfOk (object_of (resolve m ctx object) >>= λ link. text_in link.1.content) (λ text. length text ≤ 4096)
+pub texts-read : (m : State) (ctx : Ctx) (object : List ℕ) → TextsFit m → IfOk (object_of (resolve m ctx object) >>= λ link. text_in link.object.content) (λ text. length text ≤ 4096)
 texts-read m ctx object fit = at (resolve m ctx object) refl
   where
     of : (o : Living) (c : Content) → ((text : List ℕ) → c ≡ Link text → length text ≤ 4096) → IfOk (text_in c) (λ text. length text ≤ 4096)
@@ -31,7 +31,7 @@ texts-read m ctx object fit = at (resolve m ctx object) refl
     of o Socket bound = tt
     of o Fifo bound = tt
 
-    at : (r : Resolved) → resolve m ctx object ≡ r → IfOk (object_of r >>= λ link. text_in link.1.content) (λ text. length text ≤ 4096)
+    at : (r : Resolved) → resolve m ctx object ≡ r → IfOk (object_of r >>= λ link. text_in link.object.content) (λ text. length text ≤ 4096)
     at BadHandle is = tt
     at Stale is = tt
     at (Names number o) is = of o o.content (λ text link. fit number o text (resolved-lives m ctx object number o is) link)

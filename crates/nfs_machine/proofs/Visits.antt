@@ -7,7 +7,7 @@ use Rattle.nfs_machine.specs.Attributes.{is_directory}
 use Rattle.nfs_machine.specs.Bytes.{same_bytes}
 use Rattle.nfs_machine.specs.DataSteps.{verifier_of}
 use Rattle.nfs_machine.proofs.Resolved.{resolved-lives}
-use Rattle.nfs_machine.specs.Checks.{◌>>=◌, entries_in, holding, object_of, permitted}
+use Rattle.nfs_machine.specs.Checks.{DirectoryEntries, ◌>>=◌, entries_in, holding, object_of, permitted}
 use Rattle.nfs_machine.specs.Pages.{Pages, all_entries, behind}
 use Rattle.nfs_machine.proofs.Pages.{PagesOf}
 use Rattle.nfs_machine.specs.PageSteps.{IsParentOf, entries_left}
@@ -31,11 +31,11 @@ module _ (fit : List Entry → Bool) (p : List Entry × Bool) where
   passed false c e f es is = cc
 
 module _ (m : State) (ctx : Ctx) (w : WellFormed m) (directory : List ℕ) (cookie : ℕ) (verifier : Verifier) (parent : ℕ) (is_parent : IsParentOf m ctx directory parent) (fit : List Entry → Bool) (p : List Entry × Bool) where
-  abbrev Rest : ℕ → Living → List Entry × ℕ → Result (List Entry) NfsStatus
+  abbrev Rest : ℕ → Living → DirectoryEntries → Result (List Entry) NfsStatus
   Rest number o entries = do
     _ ← permitted ctx o ToList
     _ ← holding ((cookie == 0) || same_bytes verifier.bytes (verifier_of ctx).bytes) status.BadCookie
-    Ok (behind cookie (all_entries number parent entries.0))
+    Ok (behind cookie (all_entries number parent entries.list))
 
   at-directory : (number : ℕ) (o : Living) (c : Content) → resolve m ctx directory ≡ Names number o → o.content ≡ c → PagesOf fit (entries_in c >>= Rest number o) (Ok p) → ListsPage m ctx directory cookie fit p
   at-directory number o (Directory entries last) named content is = record {
@@ -57,7 +57,7 @@ module _ (m : State) (ctx : Ctx) (w : WellFormed m) (directory : List ℕ) (cook
   at-directory number o Socket named content is = cc
   at-directory number o Fifo named content is = cc
 
-  at-handle : (r : Resolved) → resolve m ctx directory ≡ r → PagesOf fit (object_of r >>= λ d. entries_in d.1.content >>= Rest d.0 d.1) (Ok p) → ListsPage m ctx directory cookie fit p
+  at-handle : (r : Resolved) → resolve m ctx directory ≡ r → PagesOf fit (object_of r >>= λ d. entries_in d.object.content >>= Rest d.number d.object) (Ok p) → ListsPage m ctx directory cookie fit p
   at-handle BadHandle named is = cc
   at-handle Stale named is = cc
   at-handle (Names number o) named is = at-directory number o o.content named refl is

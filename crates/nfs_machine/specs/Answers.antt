@@ -6,7 +6,7 @@ use Rattle.nfs_wire.specs.declared.replies.NfsReply.{NfsReply}
 use Rattle.nfs_wire.specs.declared.status.NfsStatus.{NfsStatus}
 use Rattle.side_wire.specs.declared.message.Message.{Message}
 use Rattle.nfs_machine.specs.Checks.{◌>>=◌, object_of}
-use Rattle.nfs_machine.specs.Resolve.{resolve}
+use Rattle.nfs_machine.specs.Resolve.{Named, resolve}
 use Rattle.nfs_machine.specs.Shown.{shown}
 use Rattle.nfs_machine.specs.State.{Living, State}
 use Rattle.nfs_machine.specs.declared.context.Ctx.{Ctx}
@@ -32,7 +32,7 @@ Ends old reply_of end = Answers (reply_of (state_after old end) (answer_of end))
 
 -- a call that changes nothing and tells something of the object that a handle names, beside its attributes
 abbrev pub TellsOfObject : {A : Type 0} → State → Ctx → (handle : List ℕ) →
-    (Option Attributes → Result A NfsStatus → NfsReply) → (ℕ × Living → Result A NfsStatus) → NfsReply →
+    (Option Attributes → Result A NfsStatus → NfsReply) → (Named → Result A NfsStatus) → NfsReply →
     List Message → State → Type 0
 TellsOfObject old ctx handle reply_of told = Answers
     (reply_of (shown old (resolve old ctx handle)) (object_of (resolve old ctx handle) >>= told)) old

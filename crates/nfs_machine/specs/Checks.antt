@@ -10,7 +10,7 @@ use Rattle.nfs_machine.specs.Bytes.{same_bytes}
 use Rattle.nfs_machine.specs.Exports.{LivingExport, export_at}
 use Rattle.nfs_machine.specs.Paths.{slash}
 use Rattle.nfs_machine.specs.Permission.{Right, may}
-use Rattle.nfs_machine.specs.Resolve.{Resolved, BadHandle, Stale, Names}
+use Rattle.nfs_machine.specs.Resolve.{Named, Resolved, BadHandle, Stale, Names}
 use Rattle.nfs_machine.specs.State.{Content, Regular, Directory, Link, Entry, Living}
 use Rattle.nfs_machine.specs.declared.context.Ctx.{Ctx}
 
@@ -21,18 +21,22 @@ result >>= next = elim result [ Ok x ↦ next x | Err e ↦ Err e ]
 abbrev pub holding : {E : Type 0} → Bool → E → Result (Unit {0}) E
 holding b e = if b then Ok tt else Err e
 
--- the object that a handle names, with its number
-abbrev pub object_of : Resolved → Result (ℕ × Living) NfsStatus
+-- what a handle names
+abbrev pub object_of : Resolved → Result Named NfsStatus
 object_of resolved = elim resolved [
   | BadHandle ↦ Err status.BadHandle
   | Stale ↦ Err status.Stale
-  | Names number object ↦ Ok (number, object)
+  | Names number object ↦ Ok (record { number = number; object = object })
 ]
 
--- the entries of a directory, and the greatest cookie that it ever used
-abbrev pub entries_in : Content → Result (List Entry × ℕ) NfsStatus
+-- what is in a directory: its entries, and the greatest cookie that it ever used
+pub record DirectoryEntries : Type 0 where
+  pub list : List Entry
+  pub last_cookie : ℕ
+
+abbrev pub entries_in : Content → Result DirectoryEntries NfsStatus
 entries_in content = elim content [
-  | Directory entries last_cookie ↦ Ok (entries, last_cookie)
+  | Directory entries last_cookie ↦ Ok (record { list = entries; last_cookie = last_cookie })
   | other ↦ Err status.NotDirectory
 ]
 

@@ -19,14 +19,19 @@ abbrev pub link_end : State → Ctx → LinkArguments → Result (Unit {0} × St
 link_end old ctx a = do
   file ← object_of (resolve old ctx a.file)
   directory ← object_of (resolve old ctx a.place.directory)
-  _ ← holding (file.1.export == directory.1.export) status.CrossDevice
-  _ ← holding (not (is_directory file.1.content)) status.Invalid
-  entries ← entries_in directory.1.content
+  _ ← holding (file.object.export == directory.object.export) status.CrossDevice
+  _ ← holding (not (is_directory file.object.content)) status.Invalid
+  entries ← entries_in directory.object.content
   _ ← plain_name_checked status.Invalid status.Invalid a.place.name
-  _ ← changeable old.exports directory.1
-  _ ← permitted ctx directory.1 ToChange
-  _ ← holding (is_none (entry_of entries.0 a.place.name)) status.Exists
-  _ ← holding (nat_lt (links_of old file.0 file.1.content) link_limit) status.TooManyLinks
-  _ ← holding (nat_lt (entries.1 + 1) (2 ^ 64)) status.NoSpace
-  let wider = with_content directory.1 (time_of ctx.moment) (with_entry entries.0 entries.1 a.place.name file.0) in
-      Ok (tt, with_object (with_object old directory.0 wider) file.0 (touched file.1 (time_of ctx.moment)))
+  _ ← changeable old.exports directory.object
+  _ ← permitted ctx directory.object ToChange
+  _ ← holding (is_none (entry_of entries.list a.place.name)) status.Exists
+  _ ← holding (nat_lt (links_of old file.number file.object.content) link_limit) status.TooManyLinks
+  _ ← holding (nat_lt (entries.last_cookie + 1) (2 ^ 64)) status.NoSpace
+  let wider = with_content directory.object (time_of ctx.moment)
+      (with_entry entries.list entries.last_cookie a.place.name file.number) in
+      Ok (
+        tt,
+        with_object (with_object old directory.number wider) file.number
+            (touched file.object (time_of ctx.moment)),
+      )

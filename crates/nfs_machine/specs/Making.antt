@@ -120,14 +120,14 @@ abbrev pub make_end : (old : State) → Ctx → Place → Result Wanted NfsStatu
     (there : ℕ → Option Living → Result (End old) NfsStatus) → Result (End old) NfsStatus
 make_end old ctx place wanted there = do
   directory ← object_of (resolve old ctx place.directory)
-  entries ← entries_in directory.1.content
+  entries ← entries_in directory.object.content
   _ ← plain_name_checked status.Exists status.Exists place.name
   what ← wanted
-  _ ← changeable old.exports directory.1
-  _ ← permitted ctx directory.1 ToChange
-  elim (entry_of entries.0 place.name) [
+  _ ← changeable old.exports directory.object
+  _ ← permitted ctx directory.object ToChange
+  elim (entry_of entries.list place.name) [
     | Some e ↦ there e.number (get old.objects e.number)
-    | None ↦ make_new old ctx place.name what directory.0 directory.1 entries.0 entries.1
+    | None ↦ make_new old ctx place.name what directory.number directory.object entries.list entries.last_cookie
   ]
 
 -- the step of such a call: its directory is shown before and after

@@ -23,6 +23,7 @@ use Rattle.nfs_machine.specs.Paths.{parts, pieces, is_dots, begins_with_slash}
 pub use Rattle.nfs_machine.specs.Shown.{handle_at}
 use Rattle.nfs_machine.specs.State.{Entry, Living, State}
 use Rattle.nfs_machine.specs.declared.context.Ctx.{Ctx}
+use Rattle.nfs_machine.specs.Resolve.{Named}
 
 -- no directory of any server is called so: INVAL for a path without a leading slash, with NUL, or with a part "." or
 -- ".."; then NAMETOOLONG for a part above 255 bytes
@@ -55,13 +56,13 @@ entries_at living = elim living [
 ]
 
 -- the directory that names lead to from a number, with its own number; no link is followed
-unfoldable pub walk : (ℕ → Option Living) → ℕ → List (List ℕ) → Result (ℕ × Living) MountStatus
-walk find number [] = entries_at (find number) >>= λ d. Ok (number, d.0)
+unfoldable pub walk : (ℕ → Option Living) → ℕ → List (List ℕ) → Result Named MountStatus
+walk find number [] = entries_at (find number) >>= λ d. Ok (record { number = number; object = d.0 })
 walk find number (name ∷ names) = entries_at (find number) >>= λ d. ok_or
     (entry_of d.1 name) status.NoEntry >>= λ e. walk find e.number names
 
 -- what a path names for a caller: the walk begins at the root of the export that is chosen
-abbrev pub Target : State → Ctx → List ℕ → Result (ℕ × Living) MountStatus → Type 0
+abbrev pub Target : State → Ctx → List ℕ → Result Named MountStatus → Type 0
 Target m ctx path found =
     (path_fault path ≡ None) × (number : ℕ) × (rest : List (List ℕ)) ×
     (chosen : LongestMatch m.exports ctx.host (parts path) number rest) ×
@@ -90,7 +91,7 @@ with_mount m mounted = if is_mounted m.mounts mounted then m else record m
 -- MNT, 5.2.1
 abbrev pub MntAnswers : State → Ctx → List ℕ → Result (List ℕ) MountStatus → State → Type 0
 MntAnswers old ctx path (Ok handle) new =
-    (found : ℕ × Living) × Target old ctx path (Ok found) × (handle ≡ handle_at ctx found.0 found.1)
+    (found : Named) × Target old ctx path (Ok found) × (handle ≡ handle_at ctx found.number found.object)
     × (new ≡ with_mount old (record { hostname = ctx.host; directory = path }))
 MntAnswers old ctx path (Err e) new =
     ((path_fault path ≡ Some e)

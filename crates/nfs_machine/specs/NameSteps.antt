@@ -34,10 +34,10 @@ leads_to number parent entries name = ok_or
 abbrev pub lookup_found : State → Ctx → Place → ℕ → Result Found NfsStatus
 lookup_found m ctx place parent = do
   directory ← object_of (resolve m ctx place.directory)
-  entries ← entries_in directory.1.content
+  entries ← entries_in directory.object.content
   _ ← name_checked place.name
-  _ ← permitted ctx directory.1 ToSearch
-  number ← leads_to directory.0 parent entries.0 place.name
+  _ ← permitted ctx directory.object ToSearch
+  number ← leads_to directory.number parent entries.list place.name
   o ← ok_or (get m.objects number) status.NoEntry
   Ok (record { object = handle_at ctx number o; attributes = Some (attributes_of m number o) })
 

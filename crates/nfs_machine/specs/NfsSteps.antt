@@ -33,12 +33,12 @@ unfoldable pub NfsStep : State → Ctx → NfsCall → NfsReply → List Message
 NfsStep old ctx calls.Null = Answers replies.Null old
 -- GETATTR, 3.3.1
 NfsStep old ctx (calls.Getattr object) = Answers
-    (replies.Getattr (object_of (resolve old ctx object) >>= λ o. Ok (attributes_of old o.0 o.1))) old
+    (replies.Getattr (object_of (resolve old ctx object) >>= λ o. Ok (attributes_of old o.number o.object))) old
 -- SETATTR, 3.3.2
 NfsStep old ctx (calls.Setattr a) = Ends old
     (λ after result. replies.Setattr (record { wcc = wcc after (resolve old ctx a.object); result = result }))
-    (object_of (resolve old ctx a.object) >>= λ o. set_object old.exports ctx o.1 a >>= λ after. Ok
-    (tt, with_object old o.0 after))
+    (object_of (resolve old ctx a.object) >>= λ o. set_object old.exports ctx o.object a >>= λ after. Ok
+    (tt, with_object old o.number after))
 -- LOOKUP, 3.3.3
 NfsStep old ctx (calls.Lookup place) = λ reply messages new. (parent : ℕ) ×
     IsParentOf old ctx place.directory parent
@@ -50,20 +50,20 @@ NfsStep old ctx (calls.Lookup place) = λ reply messages new. (parent : ℕ) ×
 -- ACCESS, 3.3.4
 NfsStep old ctx (calls.Access a) = TellsOfObject old ctx a.object
     (λ attributes result. replies.Access (record { attributes = attributes; result = result }))
-    (λ o. Ok (granted old.exports ctx o.1 a.rights))
+    (λ o. Ok (granted old.exports ctx o.object a.rights))
 -- READLINK, 3.3.5: no permission is asked
 NfsStep old ctx (calls.Readlink object) = TellsOfObject old ctx object
     (λ attributes result. replies.Readlink (record { attributes = attributes; result = result }))
-    (λ o. text_in o.1.content)
+    (λ o. text_in o.object.content)
 -- READ, 3.3.6
 NfsStep old ctx (calls.Read a) = TellsOfObject old ctx a.file
     (λ attributes result. replies.Read (record { attributes = attributes; result = result }))
-    (λ o. read_object ctx o.1 a)
+    (λ o. read_object ctx o.object a)
 -- WRITE, 3.3.7
 NfsStep old ctx (calls.Write a) = Ends old
     (λ after result. replies.Write (record { wcc = wcc after (resolve old ctx a.file); result = result }))
-    (object_of (resolve old ctx a.file) >>= λ o. write_object old.exports ctx o.1 a >>= λ x. Ok
-    (x.0, replaced old o.0 x.1))
+    (object_of (resolve old ctx a.file) >>= λ o. write_object old.exports ctx o.object a >>= λ x. Ok
+    (x.0, replaced old o.number x.1))
 -- CREATE, 3.3.8
 NfsStep old ctx (calls.Create a) = MakeStep old ctx a.place (Ok (wanted_file a.how))
     (create_existing old ctx a.how) replies.Create
@@ -84,7 +84,7 @@ NfsStep old ctx (calls.Readdirplus a) = PageStep old ctx a.directory a.cookie a.
 -- FSSTAT, 3.3.18
 NfsStep old ctx (calls.Fsstat object) = TellsOfObject old ctx object
     (λ attributes result. replies.Fsstat (record { attributes = attributes; result = result }))
-    (λ o. Ok (space_left ctx.limits.total_bytes (values old.objects) o.1.export))
+    (λ o. Ok (space_left ctx.limits.total_bytes (values old.objects) o.object.export))
 -- FSINFO, 3.3.19
 NfsStep old ctx (calls.Fsinfo object) = TellsOfObject old ctx object
     (λ attributes result. replies.Fsinfo (record { attributes = attributes; result = result })) (λ o. Ok file_system)
@@ -97,7 +97,7 @@ NfsStep old ctx (calls.Commit a) = let named = resolve old ctx a.file in
     Answers (replies.Commit
     (record {
       wcc = wcc old named;
-      result = object_of named >>= λ o. bytes_in o.1.content >>= λ bytes. Ok (verifier_of ctx);
+      result = object_of named >>= λ o. bytes_in o.object.content >>= λ bytes. Ok (verifier_of ctx);
     })) old
 -- MKDIR, 3.3.9: a directory of mode 0755 with no entry, where "." and ".." have the cookies 1 and 2; its parent has
 -- one link more

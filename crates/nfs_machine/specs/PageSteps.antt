@@ -27,11 +27,11 @@ abbrev pub entries_left : State → Ctx → (directory : List ℕ) → (cookie :
     (parent : ℕ) → Result (List Entry) NfsStatus
 entries_left m ctx directory cookie verifier parent = do
   d ← object_of (resolve m ctx directory)
-  entries ← entries_in d.1.content
-  _ ← permitted ctx d.1 ToList
+  entries ← entries_in d.object.content
+  _ ← permitted ctx d.object ToList
   -- the cookies of this server are good while it runs: each but 0 with the verifier that it gives
   _ ← holding ((cookie == 0) || same_bytes verifier.bytes (verifier_of ctx).bytes) status.BadCookie
-  Ok (behind cookie (all_entries d.0 parent entries.0))
+  Ok (behind cookie (all_entries d.number parent entries.list))
 
 -- where the handle names a directory, it is named in this one
 abbrev pub IsParentOf : State → Ctx → (directory : List ℕ) → (parent : ℕ) → Type 0

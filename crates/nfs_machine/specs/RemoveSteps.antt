@@ -16,17 +16,17 @@ use Rattle.nfs_machine.specs.Checks.{◌>>=◌, holding, object_of, entries_in, 
 use Rattle.nfs_machine.specs.Checks.{name_checked}
 use Rattle.nfs_machine.specs.FileLists.{grants_but}
 use Rattle.nfs_machine.specs.Permission.{ToChange}
-use Rattle.nfs_machine.specs.Resolve.{resolve}
+use Rattle.nfs_machine.specs.Resolve.{Named, resolve}
 use Rattle.nfs_machine.specs.Shown.{wcc, touched, with_content, with_object}
 use Rattle.nfs_machine.specs.State.{Content, Directory, Entry, Living, PendingGrant, State}
 use Rattle.nfs_machine.specs.Times.{time_of}
 use Rattle.nfs_machine.specs.declared.context.Ctx.{Ctx}
 
--- the object that an entry leads to, with its number
-abbrev pub object_under : State → Option Entry → Option (ℕ × Living)
+-- what an entry leads to
+abbrev pub object_under : State → Option Entry → Option Named
 object_under m entry = elim entry [
   | None ↦ None
-  | Some e ↦ option_map (λ o. (e.number, o)) (get m.objects e.number)
+  | Some e ↦ option_map (λ o. record { number = e.number; object = o }) (get m.objects e.number)
 ]
 
 -- the entries without a name
@@ -57,15 +57,16 @@ TakeStep old ctx place name_checked content_checked reply_of =
     Ends old (λ after result. reply_of
     (record { directory = wcc after (resolve old ctx place.directory); result = result })) (do
       directory ← object_of (resolve old ctx place.directory)
-      entries ← entries_in directory.1.content
+      entries ← entries_in directory.object.content
       _ ← name_checked place.name
-      _ ← changeable old.exports directory.1
-      _ ← permitted ctx directory.1 ToChange
-      object ← ok_or (object_under old (entry_of entries.0 place.name)) status.NoEntry
-      _ ← content_checked object.1.content
-      let left = with_object old directory.0
-          (with_content directory.1 (time_of ctx.moment) (Directory (without entries.0 place.name) entries.1))
-      Ok (tt, losing_name left (names_of old object.0) (time_of ctx.moment) object.0 object.1))
+      _ ← changeable old.exports directory.object
+      _ ← permitted ctx directory.object ToChange
+      object ← ok_or (object_under old (entry_of entries.list place.name)) status.NoEntry
+      _ ← content_checked object.object.content
+      let left = with_object old directory.number
+          (with_content directory.object (time_of ctx.moment)
+          (Directory (without entries.list place.name) entries.last_cookie))
+      Ok (tt, losing_name left (names_of old object.number) (time_of ctx.moment) object.number object.object))
 
 -- REMOVE, 3.3.12: of any object but a directory
 abbrev pub not_directory : Content → Result (Unit {0}) NfsStatus
@@ -73,4 +74,4 @@ not_directory content = holding (not (is_directory content)) status.IsDirectory
 
 -- RMDIR, 3.3.13: of a directory with no entry
 abbrev pub empty_directory : Content → Result (Unit {0}) NfsStatus
-empty_directory content = entries_in content >>= λ entries. holding (length entries.0 == 0) status.NotEmpty
+empty_directory content = entries_in content >>= λ entries. holding (length entries.list == 0) status.NotEmpty

@@ -10,11 +10,11 @@ use Rattle.nfs_wire.specs.declared.status.NfsStatus.{NfsStatus}
 use Rattle.nfs_wire.specs.declared.status.NfsStatus.TheVariants as status
 use Rattle.nfs_machine.specs.Attributes.{entries_of, is_directory, links_of, names_in, names_of}
 use Rattle.nfs_machine.specs.Checks.{◌>>=◌, holding, object_of, entries_in, entry_of, plain_name_checked}
-use Rattle.nfs_machine.specs.Checks.{changeable, permitted, link_limit}
+use Rattle.nfs_machine.specs.Checks.{DirectoryEntries, changeable, permitted, link_limit}
 use Rattle.nfs_machine.specs.Making.{with_entry}
 use Rattle.nfs_machine.specs.Permission.{ToChange}
 use Rattle.nfs_machine.specs.RemoveSteps.{losing_name, object_under, without}
-use Rattle.nfs_machine.specs.Resolve.{resolve}
+use Rattle.nfs_machine.specs.Resolve.{Named, resolve}
 use Rattle.nfs_machine.specs.Shown.{touched, with_content, with_object}
 use Rattle.nfs_machine.specs.State.{Content, Directory, Entry, Living, State}
 use Rattle.nfs_machine.specs.Times.{time_of}
@@ -33,30 +33,38 @@ is_compatible moved replaced = (is_directory moved && is_directory replaced && (
 
 -- The rest of a RENAME of an object that moves, where the name that it is to have leads to another, to itself or to
 -- nothing: its end, and where a directory moves, its number and that of the directory that it comes to.
-abbrev pub move_plan : State → Time → RenameArguments → (from to : ℕ × Living) →
-    (from_entries to_entries : List Entry × ℕ) → (moved : ℕ × Living) → (replaced : Option (ℕ × Living))
+abbrev pub move_plan : State → Time → RenameArguments → (from to : Named) →
+    (from_entries to_entries : DirectoryEntries) → (moved : Named) → (replaced : Option Named)
     → Result (Option (ℕ × ℕ) × Result (Unit {0} × State) NfsStatus) NfsStatus
 move_plan old now a from to from_entries to_entries moved replaced =
     -- where both names lead to one object, nothing moves
-    if option_map_or (λ o. o.0 == moved.0) replaced false then Ok (None, Ok (tt, old)) else do
-      _ ← holding (option_map_or (λ o. is_compatible moved.1.content o.1.content) replaced true) status.Exists
+    if option_map_or (λ o. o.number == moved.number) replaced false then Ok (None, Ok (tt, old)) else do
+      _ ← holding (option_map_or (λ o. is_compatible moved.object.content o.object.content) replaced true)
+          status.Exists
       let end = do
         -- a directory brings a link to a parent that is new to it, but where it takes the place of another directory
-        _ ← holding (not (is_directory moved.1.content) || (to.0 == from.0) || is_some replaced || nat_lt
-            (links_of old to.0 to.1.content) link_limit) status.TooManyLinks
+        _ ← holding (not (is_directory moved.object.content) || (to.number == from.number) || is_some replaced ||
+            nat_lt (links_of old to.number to.object.content) link_limit) status.TooManyLinks
         -- the target has a cookie left for the name
-        _ ← holding (nat_lt (to_entries.1 + 1) (2 ^ 64)) status.NoSpace
+        _ ← holding (nat_lt (to_entries.last_cookie + 1) (2 ^ 64)) status.NoSpace
         -- the target's entries that stay: the name was another's, or, in one directory, the old name leaves it
-        let left = if to.0 == from.0 then without
-            (without to_entries.0 a.to.name) a.from.name else without to_entries.0 a.to.name
+        let left = if to.number == from.number then without
+            (without to_entries.list a.to.name) a.from.name else without to_entries.list a.to.name
         -- both directories after it; one directory changes once
-        let source = with_object old from.0
-            (with_content from.1 now (Directory (without from_entries.0 a.from.name) from_entries.1))
-        let target = with_object source to.0 (with_content to.1 now (with_entry left to_entries.1 a.to.name moved.0))
-        let new = with_object target moved.0 (touched moved.1 now)
+        let source = with_object old from.number
+            (with_content from.object now (Directory (without from_entries.list a.from.name) from_entries.last_cookie))
+        let target = with_object source to.number
+            (with_content to.object now (with_entry left to_entries.last_cookie a.to.name moved.number))
+        let new = with_object target moved.number (touched moved.object now)
         -- what had the name loses it
-        Ok (tt, elim replaced [ None ↦ new | Some o ↦ losing_name new (names_of old o.0) now o.0 o.1 ])
-      Ok (if is_directory moved.1.content then Some (moved.0, to.0) else None, end)
+        Ok (
+          tt,
+          elim replaced [
+            | None ↦ new
+            | Some o ↦ losing_name new (names_of old o.number) now o.number o.object
+          ],
+        )
+      Ok (if is_directory moved.object.content then Some (moved.number, to.number) else None, end)
 
 -- its checks in order, up to that the name leads to something
 abbrev pub rename_plan : State → Ctx → RenameArguments →
@@ -64,17 +72,17 @@ abbrev pub rename_plan : State → Ctx → RenameArguments →
 rename_plan old ctx a = do
   from ← object_of (resolve old ctx a.from.directory)
   to ← object_of (resolve old ctx a.to.directory)
-  _ ← holding (from.1.export == to.1.export) status.CrossDevice
-  from_entries ← entries_in from.1.content
-  to_entries ← entries_in to.1.content
+  _ ← holding (from.object.export == to.object.export) status.CrossDevice
+  from_entries ← entries_in from.object.content
+  to_entries ← entries_in to.object.content
   _ ← plain_name_checked status.Invalid status.Invalid a.from.name
   _ ← plain_name_checked status.Invalid status.Invalid a.to.name
-  _ ← changeable old.exports from.1
-  _ ← permitted ctx from.1 ToChange
-  _ ← permitted ctx to.1 ToChange
-  moved ← ok_or (object_under old (entry_of from_entries.0 a.from.name)) status.NoEntry
+  _ ← changeable old.exports from.object
+  _ ← permitted ctx from.object ToChange
+  _ ← permitted ctx to.object ToChange
+  moved ← ok_or (object_under old (entry_of from_entries.list a.from.name)) status.NoEntry
   move_plan old (time_of ctx.moment) a from to from_entries to_entries moved
-      (object_under old (entry_of to_entries.0 a.to.name))
+      (object_under old (entry_of to_entries.list a.to.name))
 
 -- what a RENAME with this rest comes to: a directory never goes into itself, or below
 abbrev pub RenameEnds : State → Result (Option (ℕ × ℕ) × Result (Unit {0} × State) NfsStatus) NfsStatus →

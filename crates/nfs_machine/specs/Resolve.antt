@@ -7,6 +7,11 @@ use Rattle.nfs_machine.specs.State.{Living, State}
 use Rattle.nfs_machine.specs.declared.context.Ctx.{Ctx}
 use Rattle.nfs_machine.specs.declared.handle.Handle.{Handle}
 
+-- what a handle or a name leads to: a living object, with its number
+pub record Named : Type 0 where
+  pub number : ℕ
+  pub object : Living
+
 pub data Resolved : Type 0 where
   -- no handle of this server's form
   BadHandle : Resolved

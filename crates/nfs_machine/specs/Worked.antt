@@ -152,8 +152,9 @@ pub record WorkedHandles : Type 0 where
 
 -- where paths lead (RFC 1813, 5.2.1)
 pub record WorkedWalks : Type 0 where
-  pub root : (o : Living) → find 1 ≡ Some o → walk find 1 [] ≡ Ok (1, o)
-  pub directory : (o : Living) → find 2 ≡ Some o → walk find 1 (codes "sub" ∷ []) ≡ Ok (2, o)
+  pub root : (o : Living) → find 1 ≡ Some o → walk find 1 [] ≡ Ok (record { number = 1; object = o })
+  pub directory : (o : Living) → find 2 ≡ Some o → walk find 1 (codes "sub" ∷ []) ≡
+      Ok (record { number = 2; object = o })
   pub file : walk find 1 (codes "file" ∷ []) ≡ Err status.NotDirectory
   pub through_file : walk find 1 (codes "file" ∷ codes "x" ∷ []) ≡ Err status.NotDirectory
   pub nothing : walk find 1 (codes "x" ∷ []) ≡ Err status.NoEntry

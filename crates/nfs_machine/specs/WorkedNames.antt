@@ -21,7 +21,7 @@ use Rattle.nfs_machine.specs.RemoveSteps.{empty_directory, losing_name, not_dire
 use Rattle.nfs_machine.specs.RenameSteps.{IsWithin, RenameEnds, is_compatible, move_plan}
 use Rattle.nfs_wire.specs.declared.calls.RenameArguments.{RenameArguments}
 use Rattle.nfs_wire.specs.declared.status.NfsStatus.TheVariants as status
-use Rattle.nfs_machine.specs.Resolve.{Stale, Names}
+use Rattle.nfs_machine.specs.Resolve.{Named, Stale, Names}
 use Rattle.nfs_machine.specs.Shown.{after_first, touched, wcc, with_content, with_object}
 use Rattle.nfs_machine.specs.State.{Content, Regular, Directory, Link, Entry, Living, Lock, PendingGrant, Request}
 use Rattle.nfs_machine.specs.State.{Share}
@@ -179,11 +179,12 @@ a_to_b = record { from = record { directory = []; name = codes "a" }; to = recor
 -- "a" of directory 2, an object of this content, comes to "b" of a directory, where this stands; the directories have
 -- these entries
 abbrev pub move_among : (entries others : List Entry) → State → Content → (target last_cookie : ℕ) →
-    Option (ℕ × Living) → Result (Option (ℕ × ℕ) × Result (Unit {0} × State) NfsStatus) NfsStatus
+    Option Named → Result (Option (ℕ × ℕ) × Result (Unit {0} × State) NfsStatus) NfsStatus
 move_among entries others m content target last_cookie replaced =
-    move_plan m (time 1000 0) a_to_b (2, object 511 (Directory entries 7))
-    (target, object 511 (Directory others last_cookie)) (entries, 7) (others, last_cookie)
-    (4, object 511 content) replaced
+    move_plan m (time 1000 0) a_to_b (record { number = 2; object = object 511 (Directory entries 7) })
+    (record { number = target; object = object 511 (Directory others last_cookie) })
+    (record { list = entries; last_cookie = 7 }) (record { list = others; last_cookie = last_cookie })
+    (record { number = 4; object = object 511 content }) replaced
 
 abbrev pub directory_with : List Entry → ℕ → Living
 directory_with entries last_cookie = with_content (object 511 (Directory [] 7)) (time 1000 0)
@@ -206,8 +207,8 @@ beside = first_entry ∷ third_entry ∷ []
 abbrev pub fourth_entry : Entry
 fourth_entry = record { name = codes "d"; number = 7; cookie = 5 }
 
-abbrev pub empty_place : Option (ℕ × Living)
-empty_place = Some (5, object 511 (Directory [] 2))
+abbrev pub empty_place : Option Named
+empty_place = Some (record { number = 5; object = object 511 (Directory [] 2) })
 
 -- what RENAME comes to
 pub record WorkedRenames : Type 0 where
@@ -218,10 +219,11 @@ pub record WorkedRenames : Type 0 where
   pub file_over_link : is_compatible (Regular []) (Link (codes "x")) ≡ true
   -- two names of one object
   pub same_object : (m : State) (entries others : List Entry) →
-      move_among entries others m (Regular []) 2 7 (Some (4, object 511 (Regular []))) ≡ Ok (None, Ok (tt, m))
+      move_among entries others m (Regular []) 2 7 (Some (record { number = 4; object = object 511 (Regular []) })) ≡
+      Ok (None, Ok (tt, m))
   pub over_file : (m : State) →
       move_among both_entries both_entries m (Directory [] 2) 2 7
-      (Some (5, object 420 (Regular []))) ≡ Err status.Exists
+      (Some (record { number = 5; object = object 420 (Regular []) })) ≡ Err status.Exists
   pub over_nothing : (m : State) →
       move_among beside beside m (Directory [] 2) 2 7 None ≡ Ok
       (Some (4, 2), Ok (tt, moved_among (third_entry ∷ []) m (Directory [] 2) 2 (third_entry ∷ []) 8))

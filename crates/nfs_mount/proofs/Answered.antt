@@ -15,6 +15,7 @@ use Rattle.nfs_machine.specs.State.{Living, State}
 use Rattle.nfs_machine.specs.declared.calls.Call.TheVariants.{Mount}
 use Rattle.nfs_machine.specs.declared.calls.Reply.TheVariants as answers
 use Rattle.nfs_machine.specs.declared.context.Ctx.{Ctx}
+use Rattle.nfs_machine.specs.Resolve.{Named}
 use Rattle.nfs_objects.specs.Endings.{HoldsUnchanged}
 use Rattle.nfs_objects.proofs.Seen.{lives-seen, mounts-seen}
 use Rattle.nfs_objects.specs.Fits.{Fits}
@@ -68,7 +69,7 @@ module _ (ctx : Ctx) (view : ViewValue) (path : List ℕ) where
           (c.matches.export.root ≡ root)) (sym exports)
           (chosen, opened-root ctx.exports root chosen.matches.export chosen.matches.stands)
 
-      target : (m : State) (found : Result (ℕ × Living) MountStatus) → HasExports ctx.exports m →
+      target : (m : State) (found : Result Named MountStatus) → HasExports ctx.exports m →
           walk (get m.objects) root rest ≡ found → Target m ctx path found
       target m found exports walks =
           let c = chosen-in m exports in
@@ -90,7 +91,7 @@ module _ (ctx : Ctx) (view : ViewValue) (path : List ℕ) where
       pub named : (number : ℕ) (inode : inodes.Inode) → EndsAt view root rest number inode →
           IsTargetOf ctx view path number inode
       named number inode ends = record {
-        target = λ s m stands sound exports fits. target m (Ok (number, living_of_inode inode)) exports
+        target = λ s m stands sound exports fits. target m (Ok (record { number = number; object = living_of_inode inode })) exports
             (ended view root rest number inode ends (get m.objects) (agrees s m stands fits));
       }
 
@@ -104,7 +105,7 @@ module _ (ctx : Ctx) (view : ViewValue) (path : List ℕ) where
         refl,
         refl,
         (
-          (number, living_of_inode inode),
+          record { number = number; object = living_of_inode inode },
           named.target s m stands sound exports fits,
           is,
           sym (ap (λ b. cond b m (record m { mounts = newest (m.mounts ++ mounted ctx.host path ∷ []) })) (ap (λ l. is_mounted l (mounted ctx.host path)) (mounts-seen s m view known stands fits seen) ∙ listed)),
@@ -121,7 +122,7 @@ module _ (ctx : Ctx) (view : ViewValue) (path : List ℕ) where
         refl,
         refl,
         (
-          (number, living_of_inode inode),
+          record { number = number; object = living_of_inode inode },
           named.target s m stands sound exports fits,
           is,
           ap (λ l. record m { mounts = l }) (adds.1 ∙ ap (λ l. newest (l ++ mounted ctx.host path ∷ [])) (sym (mounts-seen s m view known stands fits seen)))

@@ -20,6 +20,7 @@ use Rattle.nfs_machine.proofs.Ordered.{opened-root}
 use Rattle.nfs_machine.specs.Exports.{opening_exports}
 use Rattle.nfs_machine.specs.WellFormed.{HasRoot, Leads}
 use Rattle.nfs_machine.specs.declared.context.Ctx.{Ctx}
+use Rattle.nfs_machine.specs.Resolve.{Named}
 use Rattle.nfs_objects.proofs.Seen.{fits_at}
 use Rattle.nfs_objects.specs.Attempt.{AsksFor, Addresses}
 use Rattle.nfs_objects.specs.Rounds.{AsksFewOfSound, Round, Read, Given, GivesDemand, GrowsBy, asked_by, empty_count, empty_wanted, view_after}
@@ -48,6 +49,9 @@ all-named P (x ∷ es) name e all named =
     ] named
 
 -- the entries that a walk goes through are those of the directory
+abbrev numbered : ℕ → Living → Named
+numbered number o = record { number = number; object = o }
+
 entries-are : (o : Living) (d : Living × List Entry) → entries_at (Some o) ≡ Ok d → d.1 ≡ entries_of o.content
 entries-are o d at =
     elim (is_directory o.content) as (λ b. cond b (Ok (o, entries_of o.content)) (Err NotDirectory) ≡ Ok d → d.1 ≡ entries_of o.content) [
@@ -76,7 +80,7 @@ module _ (at : ℕ → Option Living) (number : ℕ) (file : Living) (empty : at
       ] refl
 
   module _ (name : List ℕ) (names : List (List ℕ)) where
-    abbrev walks-on : (ℕ → Option Living) → Result (Living × List Entry) MountStatus → Result (ℕ × Living) MountStatus
+    abbrev walks-on : (ℕ → Option Living) → Result (Living × List Entry) MountStatus → Result Named MountStatus
     walks-on f found = found >>= λ d. (entry_named d.1 name >>= λ e. walk f e.number names)
 
     on-same : (found : Result (Living × List Entry) MountStatus)
@@ -91,7 +95,7 @@ module _ (at : ℕ → Option Living) (number : ℕ) (file : Living) (empty : at
 
   walk-same : (names : List (List ℕ)) (n : ℕ) (o : Living) → at n ≡ Some o → walk at n names ≡ walk placed n names
   unfolding walk
-  walk-same [] n o lives = ap (λ l. entries_at l >>= λ d. Ok (n, d.0)) (sym (placed-living n o lives))
+  walk-same [] n o lives = ap (λ l. entries_at l >>= λ d. Ok (numbered n d.0)) (sym (placed-living n o lives))
   walk-same (name ∷ names) n o lives =
       on-same name names (entries_at (at n)) (λ d e found named.
       let entries : d.1 ≡ entries_of o.content = entries-are o d (ap entries_at (sym lives) ∙ found) in

@@ -64,7 +64,7 @@ module _ (at : ℕ → Option Living) (number : ℕ) where
   walk-refused status [] e = rw e refl
   walk-refused status (name ∷ names) e = rw e refl
 
-  walk-end : (o : Living) (es : List Entry) → entries_at (at number) ≡ Ok (o, es) → walk at number [] ≡ Ok (number, o)
+  walk-end : (o : Living) (es : List Entry) → entries_at (at number) ≡ Ok (o, es) → walk at number [] ≡ Ok (record { number = number; object = o })
   unfolding walk
   walk-end o es e = rw e refl
 
@@ -117,14 +117,14 @@ module _ (view : ViewValue) (root : ℕ) (start : List (List ℕ)) (number : ℕ
 
 -- a walk without names ends at a directory
 pub ended : (view : ViewValue) (root : ℕ) (names : List (List ℕ)) (number : ℕ) (i : Inode) → EndsAt view root names number i
-    → (at : ℕ → Option Living) → Agrees view at → walk at root names ≡ Ok (number, living_of_inode i)
+    → (at : ℕ → Option Living) → Agrees view at → walk at root names ≡ Ok (record { number = number; object = living_of_inode i })
 ended view root names number i e at agrees =
     e.comes at agrees ∙ of i.content refl
   where
     lives : at number ≡ Some (living_of_inode i)
     lives = agrees number (Some (objects.Inode i)) e.seen
 
-    of : (c : Content) → i.content ≡ c → walk at number [] ≡ Ok (number, living_of_inode i)
+    of : (c : Content) → i.content ≡ c → walk at number [] ≡ Ok (record { number = number; object = living_of_inode i })
     of (contents.Directory d) is = walk-end at number (living_of_inode i) d.entries (ap entries_at lives ∙ entries-directory i (contents.Directory d) d is refl)
     of (contents.Regular bytes) is = let no : false ≡ true = ap (λ c. is_directory (content_of c)) (sym is) ∙ e.directory in cc
     of (contents.Link text) is = let no : false ≡ true = ap (λ c. is_directory (content_of c)) (sym is) ∙ e.directory in cc

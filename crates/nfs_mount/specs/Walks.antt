@@ -51,4 +51,4 @@ Walks view root names (Unread number is_last) = StopsAt view root names number i
 -- in every sound store that the view fits, the path names this inode with this number
 pub record IsTargetOf (ctx : Ctx) (view : ViewValue) (path : List ℕ) (number : ℕ) (inode : Inode) : Type 0 where
   pub target : (s : Store) (m : State) → Represents s m → Sound s m → HasExports ctx.exports m → Fits view s →
-      Target m ctx path (Ok (number, living_of_inode inode))
+      Target m ctx path (Ok (record { number = number; object = living_of_inode inode }))

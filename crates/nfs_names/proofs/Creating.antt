@@ -18,7 +18,7 @@ use Rattle.nfs_wire.specs.declared.status.NfsStatus.TheVariants as status
 use Rattle.nfs_machine.proofs.Changes.{apart}
 use Rattle.nfs_machine.specs.Answers.{answer_of, state_after}
 use Rattle.nfs_machine.specs.Attributes.{attributes_of, is_directory, links_of}
-use Rattle.nfs_machine.specs.Checks.{◌>>=◌, holding, object_of, entries_in, bytes_in, plain_name_checked, changeable, permitted, entry_of}
+use Rattle.nfs_machine.specs.Checks.{DirectoryEntries, ◌>>=◌, holding, object_of, entries_in, bytes_in, plain_name_checked, changeable, permitted, entry_of}
 use Rattle.nfs_machine.specs.Exports.{LivingExport, opening_exports}
 use Rattle.nfs_machine.specs.NameSteps.{End, Known, Chosen, EndsAs, Fresh, create_existing, create_over, given_attributes, made, new_object, with_entry, wanted_file}
 use Rattle.nfs_machine.specs.Making.{make_new}
@@ -61,13 +61,13 @@ use Rattle.nfs_names.specs.Shown.{ShowsMade, ShowsWcc}
 use Rattle.nfs_names.specs.Wanted.{Addresses, checked_wanted, create_wanted, directory_checked, entry_wanted, new_judged, new_wanted, unless_known}
 
 -- checks made one after the other, and then another
-module _ {B : Type 0} (named changed permit : Result (Unit {0}) NfsStatus) (k : List Entry × ℕ → Result B NfsStatus) where
+module _ {B : Type 0} (named changed permit : Result (Unit {0}) NfsStatus) (k : DirectoryEntries → Result B NfsStatus) where
   checks-then : (d : Directory)
-      → (named >>= λ _. changed >>= λ _. permit >>= λ _. k (d.entries, d.last_cookie))
-      ≡ ((named >>= λ _. changed >>= λ _. permit >>= λ _. Ok d) >>= λ (x : Directory). k (x.entries, x.last_cookie))
-  checks-then d = elim named as (λ n. (n >>= λ _. changed >>= λ _. permit >>= λ _. k (d.entries, d.last_cookie)) ≡ ((n >>= λ _. changed >>= λ _. permit >>= λ _. Ok d) >>= λ (x : Directory). k (x.entries, x.last_cookie))) [
-    | Ok u ↦ elim changed as (λ c. (c >>= λ _. permit >>= λ _. k (d.entries, d.last_cookie)) ≡ ((c >>= λ _. permit >>= λ _. Ok d) >>= λ (x : Directory). k (x.entries, x.last_cookie))) [
-      | Ok v ↦ elim permit as (λ p. (p >>= λ _. k (d.entries, d.last_cookie)) ≡ ((p >>= λ _. Ok d) >>= λ (x : Directory). k (x.entries, x.last_cookie))) [
+      → (named >>= λ _. changed >>= λ _. permit >>= λ _. k (record { list = d.entries; last_cookie = d.last_cookie }))
+      ≡ ((named >>= λ _. changed >>= λ _. permit >>= λ _. Ok d) >>= λ (x : Directory). k (record { list = x.entries; last_cookie = x.last_cookie }))
+  checks-then d = elim named as (λ n. (n >>= λ _. changed >>= λ _. permit >>= λ _. k (record { list = d.entries; last_cookie = d.last_cookie })) ≡ ((n >>= λ _. changed >>= λ _. permit >>= λ _. Ok d) >>= λ (x : Directory). k (record { list = x.entries; last_cookie = x.last_cookie }))) [
+    | Ok u ↦ elim changed as (λ c. (c >>= λ _. permit >>= λ _. k (record { list = d.entries; last_cookie = d.last_cookie })) ≡ ((c >>= λ _. permit >>= λ _. Ok d) >>= λ (x : Directory). k (record { list = x.entries; last_cookie = x.last_cookie }))) [
+      | Ok v ↦ elim permit as (λ p. (p >>= λ _. k (record { list = d.entries; last_cookie = d.last_cookie })) ≡ ((p >>= λ _. Ok d) >>= λ (x : Directory). k (record { list = x.entries; last_cookie = x.last_cookie }))) [
         | Ok w ↦ refl
         | Err e ↦ refl
       ]
@@ -79,7 +79,7 @@ module _ {B : Type 0} (named changed permit : Result (Unit {0}) NfsStatus) (k : 
   -- where the directory's inode says, the machine's directory says
   directory-same : (c : Content)
       → (entries_in (content_of c) >>= λ entries. named >>= λ _. changed >>= λ _. permit >>= λ _. k entries)
-      ≡ ((directory_in c >>= λ directory. named >>= λ _. changed >>= λ _. permit >>= λ _. Ok directory) >>= λ (x : Directory). k (x.entries, x.last_cookie))
+      ≡ ((directory_in c >>= λ directory. named >>= λ _. changed >>= λ _. permit >>= λ _. Ok directory) >>= λ (x : Directory). k (record { list = x.entries; last_cookie = x.last_cookie }))
   directory-same (contents.Directory directory) = checks-then directory
   directory-same (contents.Regular bytes) = refl
   directory-same (contents.Link text) = refl
@@ -157,20 +157,20 @@ none-reserved (x ∷ xs) e = cc
 
 module _ (ctx : Ctx) (view : ViewValue) (a : CreateArguments) where
   -- what the call comes to, where the handle names this
-  abbrev end_in : (m : State) → List Entry × ℕ → ℕ → Living → Result (End m) NfsStatus
-  end_in m entries number directory = elim (entry_of entries.0 a.place.name) [
+  abbrev end_in : (m : State) → DirectoryEntries → ℕ → Living → Result (End m) NfsStatus
+  end_in m entries number directory = elim (entry_of entries.list a.place.name) [
     | Some e ↦ create_existing m ctx a.how e.number (get m.objects e.number)
-    | None ↦ make_new m ctx a.place.name (wanted_file a.how) number directory entries.0 entries.1
+    | None ↦ make_new m ctx a.place.name (wanted_file a.how) number directory entries.list entries.last_cookie
   ]
 
   abbrev end_by : (m : State) → Resolved → Result (End m) NfsStatus
   end_by m r = do
     directory ← object_of r
-    entries ← entries_in directory.1.content
+    entries ← entries_in directory.object.content
     _ ← plain_name_checked status.Exists status.Exists a.place.name
-    _ ← changeable m.exports directory.1
-    _ ← permitted ctx directory.1 ToChange
-    end_in m entries directory.0 directory.1
+    _ ← changeable m.exports directory.object
+    _ ← permitted ctx directory.object ToChange
+    end_in m entries directory.number directory.object
 
   step : (m new : State) (r : Resolved) (end : Result (Made × State) NfsStatus) (reply : MadeReply) → resolve m ctx a.place.directory ≡ r
       → EndsAs m (end_by m r) end → reply.directory ≡ wcc (state_after m end) r → reply.result ≡ answer_of end → new ≡ state_after m end
@@ -206,7 +206,7 @@ module _ (ctx : Ctx) (view : ViewValue) (a : CreateArguments) where
   -- the directory's handle names an inode that the view shows
   module _ (number : ℕ) (i : Inode) (names : Names number i ≡ found_at ctx view.entries a.place.directory) where
     abbrev then : (m : State) → Result Directory NfsStatus → Result (End m) NfsStatus
-    then m checked = checked >>= λ (d : Directory). end_in m (d.entries, d.last_cookie) number (living_of_inode i)
+    then m checked = checked >>= λ (d : Directory). end_in m (record { list = d.entries; last_cookie = d.last_cookie }) number (living_of_inode i)
 
     -- the checks of the directory, among these exports
     abbrev checked_among : List LivingExport → Result Directory NfsStatus

@@ -77,7 +77,7 @@ module _ (checked permit : Result (Unit {0}) NfsStatus) (found : Result ℕ NfsS
 -- where the directory's inode says, the machine's directory says
 module _ (number : ℕ) (name : List ℕ) (checked permit : Result (Unit {0}) NfsStatus) (f : ℕ → Result Found NfsStatus) where
   directory-same : (c : Content)
-      → (entries_in (content_of c) >>= λ entries. checked >>= λ _. permit >>= λ _. leads_to number (parent_in c) entries.0 name >>= f)
+      → (entries_in (content_of c) >>= λ entries. checked >>= λ _. permit >>= λ _. leads_to number (parent_in c) entries.list name >>= f)
       ≡ ((directory_in c >>= λ directory. checked >>= λ _. permit >>= λ _. leads_to number directory.parent directory.entries name) >>= f)
   directory-same (contents.Directory directory) = checks-then checked permit (leads_to number directory.parent directory.entries name) f
   directory-same (contents.Regular bytes) = refl
@@ -106,10 +106,10 @@ module _ (ctx : Ctx) (view : ViewValue) (place : Place) where
   abbrev result_of : State → ℕ → Resolved → Result Found NfsStatus
   result_of m parent r = do
     directory ← object_of r
-    entries ← entries_in directory.1.content
+    entries ← entries_in directory.object.content
     _ ← name_checked place.name
-    _ ← permitted ctx directory.1 ToSearch
-    number ← leads_to directory.0 parent entries.0 place.name
+    _ ← permitted ctx directory.object ToSearch
+    number ← leads_to directory.number parent entries.list place.name
     found_of m ctx number (get m.objects number)
 
   step : (m : State) (parent : ℕ) (r : Resolved) → resolve m ctx place.directory ≡ r
