@@ -4,14 +4,8 @@ use Rattle.std.specs.Cmp.{unsigned_Decides}
 use Rattle.std.specs.Prelude.{is_none, ok_or}
 use Rattle.std.specs.FinMap.{get}
 use Rattle.std.proofs.lemmas.Bool.{false_from_ne_true, not-true}
-use Rattle.nfs_wire.specs.declared.calls.SetattrArguments.{SetattrArguments}
-use Rattle.nfs_wire.specs.declared.calls.WriteArguments.{WriteArguments}
-use Rattle.nfs_wire.specs.declared.replies.Written.{Written}
 use Rattle.nfs_wire.specs.declared.status.NfsStatus.{NfsStatus}
 use Rattle.nfs_wire.specs.declared.status.NfsStatus.TheVariants as status
-use Rattle.nfs_machine.specs.AttributeSteps.{set_object}
-use Rattle.nfs_machine.specs.DataSteps.{write_object}
-use Rattle.nfs_machine.specs.Shown.{replaced, with_object}
 use Rattle.nfs_machine.specs.Attributes.{entries_of, is_directory}
 use Rattle.nfs_machine.specs.Bytes.{same_bytes}
 use Rattle.nfs_machine.specs.Checks.{DirectoryEntries, ◌>>=◌, holding, object_of, entries_in, bytes_in, entry_of}
@@ -23,15 +17,6 @@ use Rattle.nfs_machine.specs.State.{Content, Regular, Directory, Link, BlockDevi
 use Rattle.nfs_machine.specs.declared.context.Ctx.{Ctx}
 use Rattle.nfs_machine.specs.declared.handle.Handle.{Handle}
 use Rattle.nfs_machine.proofs.WellFormed.{no_entries}
-
--- what SETATTR and WRITE come to
-abbrev pub setattr_end : State → Ctx → SetattrArguments → Result (Unit {0} × State) NfsStatus
-setattr_end old ctx a = object_of (resolve old ctx a.object) >>= λ o. set_object old.exports ctx o.object a >>= λ after. Ok
-    (tt, with_object old o.number after)
-
-abbrev pub write_end : State → Ctx → WriteArguments → Result (Written × State) NfsStatus
-write_end old ctx a = object_of (resolve old ctx a.file) >>= λ o. write_object old.exports ctx o.object a >>= λ x. Ok
-    (x.0, replaced old o.number x.1)
 
 -- what holds after each value that a check gives holds of the chain
 pub chained-is : {A B : Type 0} (P : B → Type 0) (r : Result A NfsStatus) (f : A → Result B NfsStatus) → ((x : A) → r ≡ Ok x → IfOk (f x) P) → IfOk (r >>= f) P

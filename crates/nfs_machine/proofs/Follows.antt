@@ -27,7 +27,7 @@ use Rattle.nfs_machine.specs.Data.{size_limit, resized, written}
 use Rattle.nfs_machine.specs.DataSteps.{write_count, write_object}
 use Rattle.nfs_machine.specs.Grants.{AllHeldUp, FileWaits, IsHeldUp}
 use Rattle.nfs_machine.specs.Laws.{GivesOnce, KeepsCookies, KeepsEntries, KeepsExports, LivesAs}
-use Rattle.nfs_machine.specs.Making.{Fresh, End, Known, Chosen, EndsAs, Wanted, given_attributes, make_end, make_new, new_object, with_entry, kind_checked}
+use Rattle.nfs_machine.specs.Making.{Wanted, given_attributes, new_object, with_entry, kind_checked}
 use Rattle.nfs_machine.specs.NameSteps.{create_existing, create_over, wanted_file}
 use Rattle.nfs_machine.specs.Permission.{ToChange, ToWrite}
 use Rattle.nfs_machine.specs.RemoveSteps.{losing_name, without_object}
@@ -39,6 +39,7 @@ use Rattle.nfs_machine.specs.TimeLaws.{TouchesOnce}
 use Rattle.nfs_machine.specs.Times.{time_of, touch}
 use Rattle.nfs_machine.specs.WellFormed.{MountsFormed, TextsFit, WellFormed}
 use Rattle.nfs_machine.specs.declared.context.Ctx.{Ctx}
+use Rattle.nfs_machine.proofs.Choosing.{Fresh, End, Known, Chosen, EndsAs, make_plan, make_new, known, known-holds}
 use Rattle.nfs_machine.proofs.Changes.{differs-insert, differs-other, differs-there}
 use Rattle.nfs_machine.proofs.Continued.{Continues, Turns, kinds-continued, continues-itself, continues-over}
 use Rattle.nfs_machine.proofs.Continued.{continues-with, cookies-continued, gives-continued, lived-as}
@@ -46,7 +47,8 @@ use Rattle.nfs_machine.proofs.Continued.{texts-continued, touches-continued}
 use Rattle.nfs_machine.proofs.Cookies.{kept-added, kept-of, kept-same}
 use Rattle.nfs_machine.proofs.Counted.{Counts, counts-kept}
 use Rattle.nfs_machine.proofs.Entered.{MakesEntry, names_of-kept, well_formed-made}
-use Rattle.nfs_machine.proofs.Facts.{chained-is, is-directory, is-regular, resolved-lives, write_end}
+use Rattle.nfs_machine.specs.DataSteps.{write_end}
+use Rattle.nfs_machine.proofs.Facts.{chained-is, is-directory, is-regular, resolved-lives}
 use Rattle.nfs_machine.proofs.FileMaps.{each-with, of-other, of-with}
 use Rattle.nfs_machine.proofs.Firm.{FilesOn, Firm, firm-losing, firm-of, firm-on, formed-of, put-directory, put-new}
 use Rattle.nfs_machine.proofs.Firm.{put-over}
@@ -257,11 +259,13 @@ module _ (m : State) (ctx : Ctx) where
   -- ---- an object is made
   abbrev pub EndFollows : End m → Type 0
   EndFollows (Known answer new) = Follows (time_of ctx.moment) m new
-  EndFollows (Chosen makes) = (fresh : Fresh m) → Follows (time_of ctx.moment) m (makes fresh).1
+  EndFollows (Chosen makes shows) = (fresh : Fresh m) → Follows (time_of ctx.moment) m (makes fresh.choice).1
 
   pub ends-follow : (r : Result (End m) NfsStatus) (end : Result (Made × State) NfsStatus) → EndsAs m r end → IfOk r EndFollows → IfOk end (λ e. Follows (time_of ctx.moment) m e.1)
   ends-follow (Ok (Known answer new)) end is follows = subst (λ (r : Result (Made × State) NfsStatus). IfOk r (λ e. Follows (time_of ctx.moment) m e.1)) (sym is) follows
-  ends-follow (Ok (Chosen makes)) end (fresh, is) follows = subst (λ (r : Result (Made × State) NfsStatus). IfOk r (λ e. Follows (time_of ctx.moment) m e.1)) (sym is) (follows fresh)
+  ends-follow (Ok (Chosen makes shows)) end (fresh, is) follows = subst
+      (λ (r : Result (Made × State) NfsStatus). IfOk r (λ e. Follows (time_of ctx.moment) m e.1)) (sym is)
+      (follows fresh)
   ends-follow (Err e) end is follows = subst (λ (r : Result (Made × State) NfsStatus). IfOk r (λ e. Follows (time_of ctx.moment) m e.1)) (sym is) tt
 
   -- the text of a link was checked
@@ -411,8 +415,10 @@ module _ (m : State) (ctx : Ctx) where
       chained-is EndFollows (holding (nat_lt (last + 1) (2 ^ 64)) status.NoSpace) _ (λ x2 e2.
       made-follows name wanted number directory entries last lives content none plain (text-within (links_of m number directory.content) wanted.content x0 e0))))
 
-  pub make-follows : (place : Place) (wanted : Result Wanted NfsStatus) (there : ℕ → Option Living → Result (End m) NfsStatus) → IfOk wanted Plain
-      → ((number : ℕ) → IfOk (there number (get m.objects number)) EndFollows) → IfOk (make_end m ctx place wanted there) EndFollows
+  pub make-follows : (place : Place) (wanted : Result Wanted NfsStatus)
+      (there : ℕ → Option Living → Result (Made × State) NfsStatus) → IfOk wanted Plain
+      → ((number : ℕ) → IfOk (there number (get m.objects number)) (λ e. Follows (time_of ctx.moment) m e.1)) →
+      IfOk (make_plan m ctx place wanted there) EndFollows
   make-follows place wanted there plain found =
       chained-is EndFollows (object_of (resolve m ctx place.directory)) _ (λ directory at.
       chained-is EndFollows (entries_in directory.object.content) _ (λ entries is.
@@ -425,8 +431,13 @@ module _ (m : State) (ctx : Ctx) where
     where
       under : (what : Wanted) → Plain what → (number : ℕ) (directory : Living) (entries : List Entry) (last : ℕ) → get m.objects number ≡ Some directory → directory.content ≡ Directory entries last
           → (e : Option Entry) → entry_of entries place.name ≡ e
-          → IfOk (elim e as (λ (_ : Option Entry). Result (End m) NfsStatus) [ Some e ↦ there e.number (get m.objects e.number) | None ↦ make_new m ctx place.name what number directory entries last ]) EndFollows
-      under what plain number directory entries last lives content (Some e) is = found e.number
+          → IfOk (elim e as (λ (_ : Option Entry). Result (End m) NfsStatus) [
+            | Some e ↦ known (there e.number (get m.objects e.number))
+            | None ↦ make_new m ctx place.name what
+                number directory entries last
+          ]) EndFollows
+      under what plain number directory entries last lives content (Some e) is = known-holds EndFollows
+          (there e.number (get m.objects e.number)) (found e.number)
       under what plain number directory entries last lives content None is = new-follows place.name what number directory entries last lives content is plain
 
   -- CREATE of what is there
@@ -443,10 +454,12 @@ module _ (m : State) (ctx : Ctx) where
           let P : Option Living → Type 0 = λ (after : Option Living). IfSome after (Alters (time_of ctx.moment) file) in
           chained-is P (permitted ctx file ToWrite) _ (λ x1 e1. chained-is P (holding (nat_le size size_limit) status.FileTooBig) _ (λ x2 e2. alters-regular file (time_of ctx.moment) (resized bytes size) (is-regular file.content bytes is)))
 
-  pub existing-follows : (how : CreateHow) (number : ℕ) (o : Option Living) → get m.objects number ≡ o → IfOk (create_existing m ctx how number o) EndFollows
+  pub existing-follows : (how : CreateHow) (number : ℕ) (o : Option Living) → get m.objects number ≡ o → IfOk
+      (create_existing m ctx how number o) (λ e. Follows (time_of ctx.moment) m e.1)
   existing-follows how number None at = tt
   existing-follows how number (Some o) at =
-      chained-is EndFollows (create_over ctx how o (bytes_in o.content)) _ (λ after is.
+      chained-is (λ (e : Made × State). Follows (time_of ctx.moment) m e.1)
+      (create_over ctx how o (bytes_in o.content)) _ (λ after is.
       follows-replaced (time_of ctx.moment) m number o after at (of-ok (λ (after : Option Living). IfSome after (Alters (time_of ctx.moment) o)) (create_over ctx how o (bytes_in o.content)) after is (over-alters how o (bytes_in o.content) refl)))
 
   pub file-plain : (how : CreateHow) → Plain (wanted_file how)

@@ -31,8 +31,7 @@ use Rattle.nfs_machine.specs.HandleLaws.{IsTold, NfsHandlesResolve, Resolves}
 use Rattle.nfs_machine.specs.Handles.{handle_of}
 use Rattle.nfs_machine.specs.Laws.{HandlesAreRead, NumbersFit}
 use Rattle.nfs_machine.specs.MakeSteps.{wanted_of, wanted_special}
-use Rattle.nfs_machine.specs.Making.{Fresh, End, Known, Chosen, EndsAs, Wanted, given_attributes, kind_checked, made}
-use Rattle.nfs_machine.specs.Making.{make_end, make_new, new_object, with_entry}
+use Rattle.nfs_machine.specs.Making.{Wanted, given_attributes, kind_checked, made, new_object, with_entry}
 use Rattle.nfs_machine.specs.MountSteps.{MntAnswers, MountStep, Target, entries_at, is_mounted, newest, walk}
 use Rattle.nfs_machine.specs.MountSteps.{with_mount}
 use Rattle.nfs_machine.specs.NameSteps.{create_existing, create_over, leads_to, lookup_found, wanted_file}
@@ -49,6 +48,8 @@ use Rattle.nfs_machine.specs.WellFormed.{HasRoot, IsNumbered, IsParent, Leads, W
 use Rattle.nfs_machine.specs.declared.calls.Call.TheVariants as any_call
 use Rattle.nfs_machine.specs.declared.calls.Reply.TheVariants as any_reply
 use Rattle.nfs_machine.specs.declared.context.Ctx.{Ctx}
+use Rattle.nfs_machine.proofs.Choosing.{Fresh, End, Known, Chosen, EndsAs, make_plan, make_new, known, known-holds}
+use Rattle.nfs_machine.proofs.Choosing.{makes-as}
 use Rattle.nfs_machine.specs.declared.handle.Handle.{Handle}
 use Rattle.side_wire.specs.declared.mount.lists.MountBody.{MountBody}
 use Rattle.nfs_machine.proofs.Changes.{all-filter, differs-insert, differs-there, find-all, itself}
@@ -284,7 +285,7 @@ module _ (m : State) (ctx : Ctx) where
 
   abbrev EndKnown : End m → Type 0
   EndKnown (Known answer new) = KnownMade new answer
-  EndKnown (Chosen makes) = (fresh : Fresh m) → KnownMade (makes fresh).1 (makes fresh).0
+  EndKnown (Chosen makes shows) = (fresh : Fresh m) → KnownMade (makes fresh.choice).1 (makes fresh.choice).0
 
   module _ (directory : Named)
       (admitted : export_admits (export_at m.exports directory.object.export) ctx.host ≡ true) where
@@ -344,9 +345,10 @@ module _ (m : State) (ctx : Ctx) where
     after-exports number (Some x) = refl
 
     existing-known : (how : CreateHow) (number : ℕ) (o : Living) → get m.objects number ≡ Some o →
-        o.export ≡ directory.object.export → IfOk (create_existing m ctx how number (Some o)) EndKnown
+        o.export ≡ directory.object.export → IfOk (create_existing m ctx how number (Some o)) (λ e. KnownMade e.1 e.0)
     existing-known how number o at same =
-        chained-is EndKnown (create_over ctx how o (bytes_in o.content)) _ (λ after is. (
+        chained-is (λ (e : Made × State). KnownMade e.1 e.0) (create_over ctx how o (bytes_in o.content)) _
+        (λ after is. (
           number,
           unwrap_or after o,
           record {
@@ -364,11 +366,11 @@ module _ (m : State) (ctx : Ctx) where
 
   -- what is there under the name is in the export
   make-known : WellFormed m → (place : Place) (wanted : Result Wanted NfsStatus)
-      (there : ℕ → Option Living → Result (End m) NfsStatus)
+      (there : ℕ → Option Living → Result (Made × State) NfsStatus)
       → ((directory : Named) → export_admits (export_at m.exports directory.object.export) ctx.host ≡ true →
       (number : ℕ) (o : Living) → get m.objects number ≡ Some o → o.export ≡ directory.object.export →
-      IfOk (there number (Some o)) EndKnown)
-      → IfOk (make_end m ctx place wanted there) EndKnown
+      IfOk (there number (Some o)) (λ e. KnownMade e.1 e.0))
+      → IfOk (make_plan m ctx place wanted there) EndKnown
   make-known w place wanted there found =
       chained-is EndKnown (object_of (resolve m ctx place.directory)) _ (λ directory at.
       chained-is EndKnown (entries_in directory.object.content) _ (λ entries is.
@@ -387,21 +389,22 @@ module _ (m : State) (ctx : Ctx) where
           (what : Wanted) (entries : List Entry) (last : ℕ) → AllByRecursion (Leads m directory.object) entries →
           (e : Option Entry) → entry_of entries place.name ≡ e →
           IfOk (elim e as (λ (_ : Option Entry). Result (End m) NfsStatus) [
-            | Some e ↦ there e.number (get m.objects e.number)
+            | Some e ↦ known (there e.number (get m.objects e.number))
             | None ↦ make_new m ctx place.name what directory.number directory.object entries last
           ]) EndKnown
       under directory admitted what entries last leads None is = new-known directory admitted place.name what entries
           last
       under directory admitted what entries last leads (Some e) is =
           let l = find-all (Leads m directory.object) (λ (x : Entry). same_bytes x.name place.name) entries e leads is in
-          subst (λ x. IfOk (there e.number x) EndKnown) (sym l.lives)
-          (found directory admitted e.number l.object l.lives l.export)
+          subst (λ x. IfOk (known (there e.number x)) EndKnown) (sym l.lives)
+          (known-holds EndKnown (there e.number (Some l.object))
+          (found directory admitted e.number l.object l.lives l.export))
 
   ends-known : (r : Result (End m) NfsStatus) (end : Result (Made × State) NfsStatus) → EndsAs m r end →
       IfOk r EndKnown → IfOk end (λ e. KnownMade e.1 e.0)
   ends-known (Ok (Known answer new)) end is known = subst
       (λ (r : Result (Made × State) NfsStatus). IfOk r (λ e. KnownMade e.1 e.0)) (sym is) known
-  ends-known (Ok (Chosen makes)) end (fresh, is) known = subst
+  ends-known (Ok (Chosen makes shows)) end (fresh, is) known = subst
       (λ (r : Result (Made × State) NfsStatus). IfOk r (λ e. KnownMade e.1 e.0)) (sym is) (known fresh)
   ends-known (Err e) end is known = subst
       (λ (r : Result (Made × State) NfsStatus). IfOk r (λ e. KnownMade e.1 e.0)) (sym is) tt
@@ -515,25 +518,26 @@ mnt_handles_resolve read old ctx path handle messages new w fit start (result, t
 -- where a call makes what is wanted, or answers what is there
 module _ (read : HandlesAreRead) (old : State) (ctx : Ctx) (place : Place) (w : WellFormed old)
     (start : ctx.start < 2 ^ 64) where
-  answered-known : (wanted : Result Wanted NfsStatus) (there : ℕ → Option Living → Result (End old) NfsStatus)
+  answered-known : (wanted : Result Wanted NfsStatus)
+      (there : ℕ → Option Living → Result (Made × State) NfsStatus)
       → ((directory : Named) →
       export_admits (export_at old.exports directory.object.export) ctx.host ≡ true →
       (number : ℕ) (o : Living) → get old.objects number ≡ Some o → o.export ≡ directory.object.export →
-      IfOk (there number (Some o)) (EndKnown old ctx))
+      IfOk (there number (Some o)) (λ e. KnownMade old ctx e.1 e.0))
       → (end : Result (Made × State) NfsStatus) (new : State) →
-      EndsAs old (make_end old ctx place wanted there) end →
+      EndsAs old (make_plan old ctx place wanted there) end →
       new ≡ state_after old end → WellFormed new → NumbersFit new → IfOk (answer_of end) (MadeIsTold new ctx)
   answered-known wanted there found end new ends is formed fit =
       subst (λ m. IfOk (answer_of end) (MadeIsTold m ctx)) (sym is)
       (told-known read old ctx end
-      (ends-known old ctx (make_end old ctx place wanted there) end ends
+      (ends-known old ctx (make_plan old ctx place wanted there) end ends
       (make-known old ctx w place wanted there found)) (subst WellFormed is formed) (subst NumbersFit is fit) start)
 
   -- what is there is answered by no status but EXIST
   none-there : (directory : Named) →
       export_admits (export_at old.exports directory.object.export) ctx.host ≡ true →
       (number : ℕ) (o : Living) → get old.objects number ≡ Some o → o.export ≡ directory.object.export →
-      IfOk {T = End old} (Err status.Exists) (EndKnown old ctx)
+      IfOk {T = Made × State} (Err status.Exists) (λ e. KnownMade old ctx e.1 e.0)
   none-there directory admitted number o at same = tt
 
 -- the handles of any call of NFS, where the state after it is well-formed
@@ -561,7 +565,7 @@ handles-resolve read old ctx (calls.Remove place) reply messages new w fit start
 handles-resolve read old ctx (calls.Rmdir place) reply messages new w fit start formed fits step = subst
     (HandlesResolve new ctx) (sym step.reply_is) tt
 handles-resolve read old ctx (calls.Rename a) reply messages new w fit start formed fits step = subst
-    (HandlesResolve new ctx) (sym step.2.reply_is) tt
+    (HandlesResolve new ctx) (sym step.answers.reply_is) tt
 handles-resolve read old ctx (calls.Link a) reply messages new w fit start formed fits step = subst
     (HandlesResolve new ctx) (sym step.reply_is) tt
 handles-resolve read old ctx (calls.Readdir a) reply messages new w fit start formed fits step = subst
@@ -578,26 +582,30 @@ handles-resolve read old ctx (calls.Lookup place) reply messages new w fit start
     (HandlesResolve new ctx) (sym step.2.reply_is)
     (subst (λ m. IfOk (lookup_found old ctx place step.0) (λ found. Resolves m ctx found.object found.attributes))
     (sym step.2.state_is) (lookup-resolves read old ctx w fit start place step.0 step.1))
-handles-resolve read old ctx (calls.Create a) reply messages new w fit start formed fits step = subst
-    (HandlesResolve new ctx) (sym step.answers.reply_is)
+handles-resolve read old ctx (calls.Create a) reply messages new w fit start formed fits step =
+    let s = makes-as step in subst
+    (HandlesResolve new ctx) (sym s.answers.reply_is)
     (answered-known read old ctx a.place w start (Ok (wanted_file a.how)) (create_existing old ctx a.how)
     (λ directory admitted number o at same. existing-known old ctx directory admitted a.how number o at same)
-    step.end new step.ends step.answers.state_is formed fits)
-handles-resolve read old ctx (calls.Mkdir a) reply messages new w fit start formed fits step = subst
-    (HandlesResolve new ctx) (sym step.answers.reply_is)
+    s.end new s.ends s.answers.state_is formed fits)
+handles-resolve read old ctx (calls.Mkdir a) reply messages new w fit start formed fits step =
+    let s = makes-as step in subst
+    (HandlesResolve new ctx) (sym s.answers.reply_is)
     (answered-known read old ctx a.place w start (Ok (wanted_of 493 (Directory [] 2) a.attributes))
-    (λ number object. Err status.Exists) (none-there read old ctx a.place w start) step.end new step.ends
-    step.answers.state_is formed fits)
-handles-resolve read old ctx (calls.Symlink a) reply messages new w fit start formed fits step = subst
-    (HandlesResolve new ctx) (sym step.answers.reply_is)
+    (λ number object. Err status.Exists) (none-there read old ctx a.place w start) s.end new s.ends
+    s.answers.state_is formed fits)
+handles-resolve read old ctx (calls.Symlink a) reply messages new w fit start formed fits step =
+    let s = makes-as step in subst
+    (HandlesResolve new ctx) (sym s.answers.reply_is)
     (answered-known read old ctx a.place w start (Ok (wanted_of 511 (Link a.text) a.attributes))
-    (λ number object. Err status.Exists) (none-there read old ctx a.place w start) step.end new step.ends
-    step.answers.state_is formed fits)
-handles-resolve read old ctx (calls.Mknod a) reply messages new w fit start formed fits step = subst
-    (HandlesResolve new ctx) (sym step.answers.reply_is)
+    (λ number object. Err status.Exists) (none-there read old ctx a.place w start) s.end new s.ends
+    s.answers.state_is formed fits)
+handles-resolve read old ctx (calls.Mknod a) reply messages new w fit start formed fits step =
+    let s = makes-as step in subst
+    (HandlesResolve new ctx) (sym s.answers.reply_is)
     (answered-known read old ctx a.place w start (wanted_special a.what)
-    (λ number object. Err status.Exists) (none-there read old ctx a.place w start) step.end new step.ends
-    step.answers.state_is formed fits)
+    (λ number object. Err status.Exists) (none-there read old ctx a.place w start) s.end new s.ends
+    s.answers.state_is formed fits)
 handles-resolve read old ctx (calls.Readdirplus a) reply messages new w fit start formed fits step = subst
     (HandlesResolve new ctx) (sym step.answers.reply_is)
     (subst (λ m. IfOk (readdirplus_page old ctx step.page)

@@ -11,6 +11,7 @@ use Rattle.nfs_wire.specs.declared.calls.NfsCall.TheVariants as nfs
 use Rattle.nfs_wire.specs.declared.calls.Place.{Place}
 use Rattle.nfs_wire.specs.declared.calls.Special.{Special}
 use Rattle.nfs_wire.specs.declared.calls.Special.TheVariants as special
+use Rattle.nfs_wire.specs.declared.replies.Made.{Made}
 use Rattle.nfs_wire.specs.declared.replies.MadeReply.{MadeReply}
 use Rattle.nfs_wire.specs.declared.replies.NfsReply.{NfsReply}
 use Rattle.nfs_wire.specs.declared.status.NfsStatus.{NfsStatus}
@@ -24,11 +25,12 @@ use Rattle.side_wire.specs.declared.nlm.NlmCall.{NlmCall}
 use Rattle.side_wire.specs.declared.nlm.NlmReply.{NlmReply}
 use Rattle.nfs_wire.specs.declared.calls.RenameArguments.{RenameArguments}
 use Rattle.std.specs.Prelude.{ok_or, is_some}
+use Rattle.std.proofs.lemmas.Bool.{not-true}
 use Rattle.std.specs.Cmp.{unsigned_Decides}
 use Rattle.nfs_machine.specs.Resolve.{Named, resolve}
 use Rattle.nfs_machine.specs.Permission.{ToChange}
 use Rattle.nfs_machine.specs.Answers.{Answers, state_after}
-use Rattle.nfs_machine.specs.Attributes.{links_of, names_in, names_of, is_directory}
+use Rattle.nfs_machine.specs.Attributes.{links_of, names_in, names_of, is_directory, is_living_directory}
 use Rattle.nfs_machine.specs.Chains.{Chain, Transition}
 use Rattle.nfs_machine.specs.Checks.{DirectoryEntries, holding, link_limit, ◌>>=◌, object_of, entries_in, entry_of, changeable, permitted, plain_name_checked}
 use Rattle.nfs_machine.specs.Laws.{GivesOnce, KeepsCookies, KeepsExports, LivesAs, NeverGivenAgain, ChainsKeepForm}
@@ -38,15 +40,15 @@ use Rattle.nfs_machine.specs.Grants.{AllHeldUp}
 use Rattle.nfs_machine.specs.LockLaws.{ChainsKeepApart, ChainsKeepWaiting, StepsKeepApart, StepsKeepWaiting}
 use Rattle.nfs_machine.specs.LocksFormed.{NoConflict}
 use Rattle.nfs_machine.specs.MakeSteps.{wanted_special}
-use Rattle.nfs_machine.specs.Making.{End, MakeStep, Wanted, make_end}
+use Rattle.nfs_machine.specs.Making.{MakeStep, Wanted}
 use Rattle.nfs_machine.specs.MountSteps.{MntAnswers, MountStep, is_mounted, is_of, newest, with_mount, without_mounts}
 use Rattle.nfs_machine.specs.NfsSteps.{NfsStep}
 use Rattle.nfs_machine.specs.NlmSteps.{NlmStep}
 use Rattle.nfs_machine.specs.RemoveSteps.{object_under}
-use Rattle.nfs_machine.specs.RenameSteps.{IsWithin, RenameEnds, is_compatible, move_plan, rename_plan}
+use Rattle.nfs_machine.specs.RenameSteps.{TellsWithin, is_compatible, rename_end}
 use Rattle.nfs_machine.specs.Shown.{touched, with_object}
 use Rattle.nfs_machine.specs.SideLaws.{LocksFit}
-use Rattle.nfs_machine.specs.State.{Directory, Living, State, Entry}
+use Rattle.nfs_machine.specs.State.{Directory, Living, State}
 use Rattle.nfs_machine.specs.Step.{Step}
 use Rattle.nfs_machine.specs.TimeLaws.{StepsShowChanges, StepsTouchOnce, TouchesOnce}
 use Rattle.nfs_machine.specs.Times.{time_of}
@@ -56,18 +58,24 @@ use Rattle.nfs_machine.specs.declared.calls.Call.TheVariants as calls
 use Rattle.nfs_machine.specs.declared.calls.Reply.{Reply}
 use Rattle.nfs_machine.specs.declared.calls.Reply.TheVariants as replies
 use Rattle.nfs_machine.specs.declared.context.Ctx.{Ctx}
+use Rattle.nfs_machine.proofs.Choosing.{make_plan, makes-as}
 use Rattle.nfs_machine.proofs.Continued.{Continues, cookies-continued, gives-continued, texts-continued}
 use Rattle.nfs_machine.proofs.Continued.{touches-continued}
 use Rattle.nfs_machine.proofs.Counted.{Counts, counts-kept, shows-changes}
-use Rattle.nfs_machine.proofs.Facts.{chained-is, holds, is-directory, leads-found, resolved-lives, setattr_end, write_end}
-use Rattle.nfs_machine.proofs.Follows.{EndFollows, Follows, LocksFollow, Plain, beside-follows, bounds-losing}
+use Rattle.nfs_machine.specs.DataSteps.{write_end}
+use Rattle.nfs_machine.specs.AttributeSteps.{setattr_end}
+use Rattle.nfs_machine.proofs.Facts.{chained-is, holds, is-directory, leads-found, resolved-lives}
+use Rattle.nfs_machine.proofs.Follows.{Follows, LocksFollow, Plain, beside-follows, bounds-losing}
 use Rattle.nfs_machine.proofs.Follows.{ends-follow, exports-losing, follows-after, follows-itself, locks-losing, locks-on}
 use Rattle.nfs_machine.proofs.Follows.{make-follows, mounts-losing, write-follows, file-plain, existing-follows}
 use Rattle.nfs_machine.proofs.Firm.{FilesOn, firm-of, firm-on, formed-of, put-directory, put-over}
 use Rattle.nfs_machine.proofs.Locking.{Untouched, nlm-touches}
 use Rattle.nfs_machine.proofs.Loose.{Beside, well_formed-alike}
 use Rattle.nfs_machine.proofs.Mounted.{mounts-added, mounts-left}
-use Rattle.nfs_machine.proofs.Moves.{GoesIntoItself, Move, named_as, remove_end, rmdir_end, with_moved, with_names_moved, without_replaced}
+use Rattle.nfs_machine.specs.RemoveSteps.{rmdir_end}
+use Rattle.nfs_machine.specs.RemoveSteps.{remove_end}
+use Rattle.nfs_machine.proofs.Moves.{GoesIntoItself, Move, move_end, named_as, with_moved}
+use Rattle.nfs_machine.proofs.Moves.{with_names_moved, without_replaced}
 use Rattle.nfs_machine.proofs.Planned.{IsBegun, IsMove, continues-moved, moves-free, moves-over}
 use Rattle.nfs_machine.proofs.Renamed.{counts-moved, well_formed-moved}
 use Rattle.nfs_machine.proofs.Setting.{setattr-follows}
@@ -84,12 +92,18 @@ answered : {A : Type 0} {Answer : Type 0} (now : Time) (answer : Answer) (old : 
     → Answers answer (state_after old end) reply messages new → IfOk end (λ e. Follows now old e.1) → Follows now old new
 answered now answer old end reply messages new step f = subst (Follows now old) (sym step.state_is) (follows-after now old end f)
 
-made : (old : State) (ctx : Ctx) (place : Place) (wanted : Result Wanted NfsStatus) (there : ℕ → Option Living → Result (End old) NfsStatus) (reply_of : MadeReply → NfsReply) (reply : NfsReply)
+made : (old : State) (ctx : Ctx) (place : Place) (wanted : Result Wanted NfsStatus)
+    (there : ℕ → Option Living → Result (Made × State) NfsStatus) (reply_of : MadeReply → NfsReply)
+    (reply : NfsReply)
     (messages : List Message) (new : State) → MakeStep old ctx place wanted there reply_of reply messages new → IfOk wanted (Plain old ctx)
-    → ((number : ℕ) → IfOk (there number (get old.objects number)) (EndFollows old ctx)) → Follows (time_of ctx.moment) old new
+    → ((number : ℕ) → IfOk (there number (get old.objects number)) (λ e. Follows (time_of ctx.moment) old e.1))
+    → Follows (time_of ctx.moment) old new
 made old ctx place wanted there reply_of reply messages new step plain found =
-    subst (Follows (time_of ctx.moment) old) (sym step.answers.state_is) (follows-after (time_of ctx.moment) old step.end
-    (ends-follow old ctx (make_end old ctx place wanted there) step.end step.ends (make-follows old ctx place wanted there plain found)))
+    let s = makes-as step in
+    subst (Follows (time_of ctx.moment) old) (sym s.answers.state_is)
+    (follows-after (time_of ctx.moment) old s.end
+    (ends-follow old ctx (make_plan old ctx place wanted there) s.end s.ends
+    (make-follows old ctx place wanted there plain found)))
 
 -- what is made contains no name
 special-plain : (m : State) (ctx : Ctx) (what : Special) → IfOk (wanted_special what) (Plain m ctx)
@@ -163,79 +177,92 @@ module _ (old : State) (ctx : Ctx) where
     bounds = moved-bounds now move move.replaced;
   }
 
-  -- what is known of the directory that moves, and of the end then
-  abbrev StaysOut : Option (ℕ × ℕ) → Type 0
-  StaysOut None = Unit {0}
-  StaysOut (Some p) = IsWithin old p.0 p.1 → ⊥
+  abbrev Followed : Unit {0} × State → Type 0
+  Followed e = Follows (time_of ctx.moment) old e.1
 
-  abbrev IsPlan : Option (ℕ × ℕ) × Result (Unit {0} × State) NfsStatus → Type 0
-  IsPlan plan = StaysOut plan.0 → IfOk plan.1 (λ e. Follows (time_of ctx.moment) old e.1)
+  module _ (is_within : ℕ → ℕ → Bool) (tells : TellsWithin old is_within) (a : RenameArguments) where
+    module _ (from to : Named) (from_entries to_entries : DirectoryEntries) (moved : Named) where
+      abbrev move_of : Option Named → Move
+      move_of replaced =
+          record {
+            from = named_as from from_entries a.from.name moved;
+            target = to.number;
+            directory = to.object;
+            entries =
+                to_entries.list;
+            last_cookie = to_entries.last_cookie;
+            name = a.to.name;
+            replaced = replaced;
+          }
 
-  stays-out : (b : Bool) (moved target : ℕ) → StaysOut (cond b (Some (moved, target)) None) → (b ≡ true) × IsWithin old moved target → ⊥
-  stays-out true moved target out into = out into.1
-  stays-out false moved target out into = (let no : false ≡ true = into.0 in cc)
+      -- where the test tells that the target is outside
+      stays-out : (replaced : Option Named) → IsMove old (move_of replaced) → not (is_within moved.number to.number)
+          ≡ true →
+          GoesIntoItself old (move_of replaced) → ⊥
+      stays-out replaced is outside into =
+          let inside : is_within moved.number to.number ≡ true = (tells moved.number to.number
+          (ap is_living_directory is.lives ∙ ap is_directory is.content)).1 into.1 in
+          let no : true ≡ false = sym inside ∙ not-true (is_within moved.number to.number) outside in
+          cc
 
-  module _ (a : RenameArguments) (from to : Named) (from_entries to_entries : DirectoryEntries) (moved : Named) where
-    abbrev move_of : Option Named → Move
-    move_of replaced =
-        record { from = named_as from from_entries a.from.name moved; target = to.number; directory = to.object; entries = to_entries.list; last_cookie = to_entries.last_cookie; name = a.to.name; replaced = replaced }
+      abbrev gains : Option Named → Result (Unit {0}) NfsStatus
+      gains replaced = holding (not (is_directory moved.object.content) || (to.number == from.number) || is_some replaced || nat_lt
+          (links_of old to.number to.object.content) link_limit) status.TooManyLinks
 
-    abbrev gains : Option Named → Result (Unit {0}) NfsStatus
-    gains replaced = holding (not (is_directory moved.object.content) || (to.number == from.number) || is_some replaced || nat_lt (links_of old to.number to.object.content) link_limit) status.TooManyLinks
+      abbrev end_of : Option Named → Result (Unit {0} × State) NfsStatus
+      end_of replaced =
+          holding (not (is_within moved.number to.number)) status.Invalid >>= λ _. gains replaced >>= λ _.
+          holding (nat_lt (to_entries.last_cookie + 1) (2 ^ 64)) status.NoSpace >>= λ _. Ok
+          (tt, with_moved old (time_of ctx.moment) (move_of replaced))
 
-    abbrev end_of : Option Named → Result (Unit {0} × State) NfsStatus
-    end_of replaced = gains replaced >>= λ _. holding (nat_lt (to_entries.last_cookie + 1) (2 ^ 64)) status.NoSpace >>= λ _. Ok (tt, with_moved old (time_of ctx.moment) (move_of replaced))
+      end-follows : (replaced : Option Named) → IsMove old (move_of replaced) → IfOk (end_of replaced)
+          Followed
+      end-follows replaced is =
+          chained-is Followed (holding (not (is_within moved.number to.number)) status.Invalid) _ (λ x0 e0.
+          chained-is Followed (gains replaced) _ (λ x1 e1.
+          chained-is Followed (holding (nat_lt (to_entries.last_cookie + 1) (2 ^ 64)) status.NoSpace) _ (λ x2 e2.
+          moved-follows (time_of ctx.moment) (move_of replaced) is
+          (stays-out replaced is (holds (not (is_within moved.number to.number)) status.Invalid x0 e0)))))
 
-    abbrev plan_of : Option Named → Option (ℕ × ℕ) × Result (Unit {0} × State) NfsStatus
-    plan_of replaced = (cond (is_directory moved.object.content) (Some (moved.number, to.number)) None, end_of replaced)
+      move-follows : (replaced : Option Named) → IsBegun old (move_of replaced) → IfOk
+          (move_end old (time_of ctx.moment) a is_within from to from_entries to_entries moved replaced) Followed
+      move-follows None begun = end-follows None (moves-free old (move_of None) begun refl)
+      move-follows (Some r) begun =
+          elim (r.number == moved.number) as (λ b. (r.number == moved.number) ≡ b
+          → IfOk (cond b (Ok (tt, old)) (holding (is_compatible moved.object.content r.object.content) status.Exists >>= λ _.
+          end_of (Some r))) Followed) [
+            | true ↦ λ e. follows-itself (time_of ctx.moment) old
+            | false ↦ λ e. chained-is Followed (holding (is_compatible moved.object.content r.object.content) status.Exists) _
+                (λ x1 e1.
+                end-follows (Some r) (moves-over old (move_of (Some r)) begun r refl e
+                (holds (is_compatible moved.object.content r.object.content) status.Exists x1 e1)))
+          ] refl
 
-    plan-follows : (replaced : Option Named) → IsMove old (move_of replaced) → IsPlan (plan_of replaced)
-    plan-follows replaced is out =
-        let P : Unit {0} × State → Type 0 = λ e. Follows (time_of ctx.moment) old e.1 in
-        chained-is P (gains replaced) _ (λ x1 e1.
-        chained-is P (holding (nat_lt (to_entries.last_cookie + 1) (2 ^ 64)) status.NoSpace) _ (λ x2 e2.
-        moved-follows (time_of ctx.moment) (move_of replaced) is (stays-out (is_directory moved.object.content) moved.number to.number out)))
-
-    move-planned : (replaced : Option Named) → IsBegun old (move_of replaced) → IfOk (move_plan old (time_of ctx.moment) a from to from_entries to_entries moved replaced) IsPlan
-    move-planned None begun = plan-follows None (moves-free old (move_of None) begun refl)
-    move-planned (Some r) begun =
-        elim (r.number == moved.number) as (λ b. (r.number == moved.number) ≡ b
-        → IfOk (cond b (Ok (None, Ok (tt, old))) (holding (is_compatible moved.object.content r.object.content) status.Exists >>= λ _. Ok (plan_of (Some r)))) IsPlan) [
-          | true ↦ λ e out. follows-itself (time_of ctx.moment) old
-          | false ↦ λ e. chained-is IsPlan (holding (is_compatible moved.object.content r.object.content) status.Exists) _ (λ x1 e1.
-              plan-follows (Some r) (moves-over old (move_of (Some r)) begun r refl e (holds (is_compatible moved.object.content r.object.content) status.Exists x1 e1)))
-        ] refl
-
-  planned : (a : RenameArguments) → IfOk (rename_plan old ctx a) IsPlan
-  planned a =
-      chained-is IsPlan (object_of (resolve old ctx a.from.directory)) _ (λ from at.
-      chained-is IsPlan (object_of (resolve old ctx a.to.directory)) _ (λ to there.
-      chained-is IsPlan (holding (from.object.export == to.object.export) status.CrossDevice) _ (λ x1 e1.
-      chained-is IsPlan (entries_in from.object.content) _ (λ from_entries is.
-      chained-is IsPlan (entries_in to.object.content) _ (λ to_entries is_to.
-      chained-is IsPlan (plain_name_checked status.Invalid status.Invalid a.from.name) _ (λ x2 e2.
-      chained-is IsPlan (plain_name_checked status.Invalid status.Invalid a.to.name) _ (λ x3 e3.
-      chained-is IsPlan (changeable old.exports from.object) _ (λ x4 e4.
-      chained-is IsPlan (permitted ctx from.object ToChange) _ (λ x5 e5.
-      chained-is IsPlan (permitted ctx to.object ToChange) _ (λ x6 e6.
-      chained-is IsPlan (ok_or (object_under old (entry_of from_entries.list a.from.name)) status.NoEntry) _ (λ moved e7.
-      move-planned a from to from_entries to_entries moved (object_under old (entry_of to_entries.list a.to.name)) (record {
-        from = is-under old from from_entries a.from.name moved (resolved-lives old ctx a.from.directory from at) (is-directory from.object.content from_entries is)
-            (leads-found (object_under old (entry_of from_entries.list a.from.name)) moved e7);
-        lives = resolved-lives old ctx a.to.directory to there;
-        content = is-directory to.object.content to_entries is_to;
-        export = (unsigned_Decides from.object.export to.object.export).0 (holds (from.object.export == to.object.export) status.CrossDevice x1 e1);
-        over = refl;
-      }))))))))))))
-
-  abbrev After : Result (Unit {0} × State) NfsStatus → Type 0
-  After end = Follows (time_of ctx.moment) old (state_after old end)
-
-  renamed : (plan : Result (Option (ℕ × ℕ) × Result (Unit {0} × State) NfsStatus) NfsStatus) (end : Result (Unit {0} × State) NfsStatus) → IfOk plan IsPlan → RenameEnds old plan end → After end
-  renamed (Err e) end is ends = subst After (sym ends) (follows-itself (time_of ctx.moment) old)
-  renamed (Ok (None, known)) end is ends = subst After (sym ends) (follows-after (time_of ctx.moment) old known (is tt))
-  renamed (Ok (Some (moved, target), known)) end is (inl into) = subst After (sym into.1) (follows-itself (time_of ctx.moment) old)
-  renamed (Ok (Some (moved, target), known)) end is (inr out) = subst After (sym out.1) (follows-after (time_of ctx.moment) old known (is out.0))
+    rename-follows : IfOk (rename_end old ctx a is_within) Followed
+    rename-follows =
+        chained-is Followed (object_of (resolve old ctx a.from.directory)) _ (λ from at.
+        chained-is Followed (object_of (resolve old ctx a.to.directory)) _ (λ to there.
+        chained-is Followed (holding (from.object.export == to.object.export) status.CrossDevice) _ (λ x1 e1.
+        chained-is Followed (entries_in from.object.content) _ (λ from_entries is.
+        chained-is Followed (entries_in to.object.content) _ (λ to_entries is_to.
+        chained-is Followed (plain_name_checked status.Invalid status.Invalid a.from.name) _ (λ x2 e2.
+        chained-is Followed (plain_name_checked status.Invalid status.Invalid a.to.name) _ (λ x3 e3.
+        chained-is Followed (changeable old.exports from.object) _ (λ x4 e4.
+        chained-is Followed (permitted ctx from.object ToChange) _ (λ x5 e5.
+        chained-is Followed (permitted ctx to.object ToChange) _ (λ x6 e6.
+        chained-is Followed (ok_or (object_under old (entry_of from_entries.list a.from.name)) status.NoEntry) _
+        (λ moved e7.
+        move-follows from to from_entries to_entries moved (object_under old (entry_of to_entries.list a.to.name))
+        (record {
+          from = is-under old from from_entries a.from.name moved (resolved-lives old ctx a.from.directory from at)
+              (is-directory from.object.content from_entries is)
+              (leads-found (object_under old (entry_of from_entries.list a.from.name)) moved e7);
+          lives = resolved-lives old ctx a.to.directory to there;
+          content = is-directory to.object.content to_entries is_to;
+          export = (unsigned_Decides from.object.export to.object.export).0
+              (holds (from.object.export == to.object.export) status.CrossDevice x1 e1);
+          over = refl;
+        }))))))))))))
 
 pub nfs-follows : (old : State) (ctx : Ctx) (call : NfsCall) (reply : NfsReply) (messages : List Message) (new : State) → NfsStep old ctx call reply messages new → Follows (time_of ctx.moment) old new
 unfolding NfsStep
@@ -253,7 +280,8 @@ nfs-follows old ctx (nfs.Remove place) reply messages new step = answered (time_
 nfs-follows old ctx (nfs.Rmdir place) reply messages new step = answered (time_of ctx.moment) _ old (rmdir_end old ctx place) reply messages new step (rmdir-follows old ctx place)
 nfs-follows old ctx (nfs.Link a) reply messages new step = answered (time_of ctx.moment) _ old (link_end old ctx a) reply messages new step (link-follows old ctx a)
 nfs-follows old ctx (nfs.Rename a) reply messages new step =
-    subst (Follows (time_of ctx.moment) old) (sym step.2.state_is) (renamed old ctx (rename_plan old ctx a) step.0 (planned old ctx a) step.1)
+    answered (time_of ctx.moment) _ old (rename_end old ctx a step.is_within) reply messages new step.answers
+    (rename-follows old ctx step.is_within step.tells a)
 nfs-follows old ctx (nfs.Setattr a) reply messages new step = answered (time_of ctx.moment) _ old (setattr_end old ctx a) reply messages new step (setattr-follows old ctx a)
 nfs-follows old ctx (nfs.Access a) reply messages new step = stays (time_of ctx.moment) old new step.state_is
 nfs-follows old ctx (nfs.Readlink object) reply messages new step = stays (time_of ctx.moment) old new step.state_is

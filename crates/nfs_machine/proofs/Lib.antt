@@ -2,6 +2,7 @@ pub mod Asked
 pub mod Changes
 mod Bounds
 pub mod Checked
+pub mod Choosing
 mod LongestMatch
 pub mod Continued
 mod Cookies

@@ -4,21 +4,22 @@ use Rattle.std.specs.Prelude.{ok_or}
 use Rattle.std.specs.FinMap.{get, insert}
 use Rattle.std.specs.List.{count_by}
 use Rattle.nfs_wire.specs.declared.calls.Special.TheVariants as special
+use Rattle.nfs_wire.specs.declared.replies.Made.{Made}
 use Rattle.nfs_wire.specs.declared.replies.MadeReply.{MadeReply}
 use Rattle.nfs_wire.specs.declared.replies.NfsReply.{NfsReply}
 use Rattle.nfs_wire.specs.declared.replies.NfsReply.TheVariants as nfs_replies
 use Rattle.nfs_wire.specs.declared.replies.RemovedReply.{RemovedReply}
 use Rattle.nfs_wire.specs.declared.status.NfsStatus.{NfsStatus}
 use Rattle.nfs_wire.specs.declared.status.NfsStatus.TheVariants as status
-use Rattle.nfs_machine.specs.Answers.{answer_of, state_after}
+use Rattle.nfs_machine.specs.Answers.{Ends, answer_of, state_after}
 use Rattle.nfs_machine.specs.Attributes.{is_living_directory, names_of}
 use Rattle.nfs_machine.specs.Checks.{DirectoryEntries, ◌>>=◌, changeable, entries_in, entry_of, object_of, permitted, plain_name_checked}
-use Rattle.nfs_machine.specs.Making.{End, EndsAs, MakeStep, Wanted, made, make_new}
+use Rattle.nfs_machine.specs.Making.{MakeStep, Wanted, made}
 use Rattle.nfs_machine.specs.MakeSteps.{wanted_of, wanted_special}
 use Rattle.nfs_machine.specs.NameSteps.{create_existing}
 use Rattle.nfs_machine.specs.NfsSteps.{NfsStep}
 use Rattle.nfs_machine.specs.Permission.{ToChange}
-use Rattle.nfs_machine.specs.RemoveSteps.{TakeStep, losing_name, object_under, without}
+use Rattle.nfs_machine.specs.RemoveSteps.{losing_name, object_under, take_end, taken_reply, without}
 use Rattle.nfs_machine.specs.RemoveSteps as removing
 use Rattle.nfs_machine.specs.Resolve.{Named, Resolved, Names, resolve}
 use Rattle.nfs_machine.specs.Shown.{wcc, with_content, with_object}
@@ -29,6 +30,7 @@ use Rattle.nfs_machine.specs.WorkedFiles.{time}
 use Rattle.nfs_machine.specs.WorkedMaking.{WorkedMaking, WorkedTaking, d_entry, bare_directory, exclusive, guarded, made_as, new, not_made, not_removed, root_with_d, with_new}
 use Rattle.nfs_machine.specs.WorkedReplies.{root}
 use Rattle.nfs_machine.specs.WorkedRun.{in_root, nobody, opened, root_with_x, with_hi, x_entry}
+use Rattle.nfs_machine.proofs.Choosing.{End, EndsAs, known, make_new, makes-so}
 use Rattle.nfs_machine.proofs.RunWorked.{fresh, root-named, root-opened, root-written, x-lives}
 use Rattle.nfs_machine.proofs.Sums.{get-inserted}
 use Rattle.nfs_machine.proofs.Facts.{numbered, entries_with}
@@ -40,9 +42,14 @@ d-lives : (o : Living) → get (with_new o).objects 5 ≡ Some o
 d-lives o = get-inserted (insert opened.objects 1 root_with_d) 5 o 5
 
 -- ---- what is made under a name of the root
-module _ (old : State) (name : List ℕ) (wanted : Result Wanted NfsStatus) (there : ℕ → Option Living → Result (End old) NfsStatus) where
+module _ (old : State) (name : List ℕ) (wanted : Result Wanted NfsStatus)
+    (there : ℕ → Option Living → Result (Made × State) NfsStatus) where
   abbrev make_under : Wanted → ℕ → Living → List Entry → ℕ → Option Entry → Result (End old) NfsStatus
-  make_under what number directory entries last e = elim e [ Some e ↦ there e.number (get old.objects e.number) | None ↦ make_new old nobody name what number directory entries last ]
+  make_under what number directory entries last e = elim e [
+    | Some e ↦ known (there e.number (get old.objects e.number))
+    | None ↦ make_new old nobody name what number
+        directory entries last
+  ]
 
   abbrev make_by : Resolved → Result (End old) NfsStatus
   make_by r =
@@ -52,11 +59,11 @@ module _ (old : State) (name : List ℕ) (wanted : Result Wanted NfsStatus) (the
 
   not-made : (o : Living) (reply_of : MadeReply → NfsReply) (e : NfsStatus) → resolve old nobody root_bytes ≡ Names 1 o → make_by (Names 1 o) ≡ Err e
       → MakeStep old nobody (in_root name) wanted there reply_of (reply_of (not_made old e)) [] old
-  not-made o reply_of e named comes = record {
+  not-made o reply_of e named comes = makes-so (record {
     end = Err e;
     ends = subst (λ r. EndsAs old (make_by r) (Err e)) (sym named) (subst (λ c. EndsAs old c (Err e)) (sym comes) refl);
     answers = record { reply_is = refl; no_message = refl; state_is = refl };
-  }
+  })
 
 is-opened : resolve opened nobody root_bytes ≡ Names 1 root
 is-opened = root-named opened refl root refl refl root-opened
@@ -67,14 +74,16 @@ is-written = root-named with_hi refl root_with_x refl refl root-written
 is-made : (o : Living) → resolve (with_new o) nobody root_bytes ≡ Names 1 root_with_d
 is-made o = root-named (with_new o) refl root_with_d refl refl (root-with-d o)
 
-is-new : (name : List ℕ) (wanted : Result Wanted NfsStatus) (there : ℕ → Option Living → Result (End opened) NfsStatus) (o : Living) (reply_of : MadeReply → NfsReply)
+is-new : (name : List ℕ) (wanted : Result Wanted NfsStatus)
+    (there : ℕ → Option Living → Result (Made × State) NfsStatus) (o : Living)
+    (reply_of : MadeReply → NfsReply)
     → EndsAs opened (make_by opened name wanted there (Names 1 root)) (Ok (made (with_new o) nobody 5 o, with_new o))
     → MakeStep opened nobody (in_root name) wanted there reply_of (reply_of (made_as o)) [] (with_new o)
-is-new name wanted there o reply_of ends = record {
+is-new name wanted there o reply_of ends = makes-so (record {
   end = Ok (made (with_new o) nobody 5 o, with_new o);
   ends = subst (λ r. EndsAs opened (make_by opened name wanted there r) (Ok (made (with_new o) nobody 5 o, with_new o))) (sym is-opened) ends;
   answers = record { reply_is = refl; no_message = refl; state_is = refl };
-}
+})
 
 pub worked-making : WorkedMaking
 unfolding NfsStep fresh
@@ -90,27 +99,33 @@ worked-making = record {
   regular = not-made _ _ _ _ _ _ _ is-opened refl;
   long_name = not-made _ _ _ _ _ _ _ is-opened refl;
   no_name = not-made _ _ _ _ _ _ _ is-opened refl;
-  there = not-made _ _ _ _ _ _ _ is-written (ap (λ (l : Option Living). create_existing with_hi nobody (guarded (codes "x")).how 5 l) x-lives);
+  there = not-made _ _ _ _ _ _ _ is-written (ap
+      (λ (l : Option Living). known {old = with_hi} (create_existing with_hi nobody (guarded (codes "x")).how 5 l))
+      x-lives);
   over_directory = not-made _ _ _ _ _ _ _ (is-made bare_directory)
-      (ap (λ (l : Option Living). create_existing (with_new bare_directory) nobody (exclusive (codes "d")).how 5 l) (d-lives bare_directory));
+      (ap (λ (l : Option Living). known {old = with_new bare_directory}
+      (create_existing (with_new bare_directory) nobody (exclusive (codes "d")).how 5 l))
+      (d-lives bare_directory));
 }
 
 -- ---- what is taken away
-module _ (old : State) (name : List ℕ) (name_checked : List ℕ → Result (Unit {0}) NfsStatus) (content_checked : Content → Result (Unit {0}) NfsStatus) where
+module _ (old : State) (name : List ℕ) (judged_name : List ℕ → Result (Unit {0}) NfsStatus)
+    (judged_content : Content → Result (Unit {0}) NfsStatus) where
   abbrev take_object : (directory : Named) → (entries : DirectoryEntries) → Option Named → Result (Unit {0} × State) NfsStatus
   take_object directory entries found =
-      ok_or found status.NoEntry >>= λ object. content_checked object.object.content >>= λ _.
+      ok_or found status.NoEntry >>= λ object. judged_content object.object.content >>= λ _.
       let left = with_object old directory.number (with_content directory.object (time 1000 0) (Directory (without entries.list name) entries.last_cookie)) in
       Ok (tt, losing_name left (names_of old object.number) (time 1000 0) object.number object.object)
 
   abbrev take_by : Resolved → Result (Unit {0} × State) NfsStatus
   take_by r =
-      object_of r >>= λ directory. entries_in directory.object.content >>= λ entries. name_checked name >>= λ _.
+      object_of r >>= λ directory. entries_in directory.object.content >>= λ entries. judged_name name >>= λ _.
       changeable old.exports directory.object >>= λ _. permitted nobody directory.object ToChange
       >>= λ _. take_object directory entries (object_under old (entry_of entries.list name))
 
   not-taken : (o : Living) (reply_of : RemovedReply → NfsReply) (e : NfsStatus) → resolve old nobody root_bytes ≡ Names 1 o → take_by (Names 1 o) ≡ Err e
-      → TakeStep old nobody (in_root name) name_checked content_checked reply_of (reply_of (not_removed old e)) [] old
+      → Ends old (taken_reply old nobody (in_root name) reply_of)
+      (take_end old nobody (in_root name) judged_name judged_content) (reply_of (not_removed old e)) [] old
   not-taken o reply_of e named comes =
       let end = ap take_by named ∙ comes in record {
         reply_is = sym (ap (λ end. reply_of (record { directory = wcc (state_after old end) (resolve old nobody root_bytes); result = answer_of end })) end);

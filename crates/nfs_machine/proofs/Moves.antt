@@ -1,21 +1,20 @@
 -- A name that is taken away or moves, with all that its checks found: the steps speak of these one by one.
-use Rattle.std.proofs.Common.{◌≡◌, ◌==◌, ℕ, true, cond, List, Option, Some, None, Result, Ok}
-use Rattle.std.specs.Prelude.{ok_or}
+use Rattle.std.proofs.Common.{◌≡◌, ◌==◌, ℕ, ◌+◌, ◌^◌, Bool, true, false, not, ◌||◌, cond}
+use Rattle.std.proofs.Common.{List, Option, Some, None, Result, Ok, nat_lt}
+use Rattle.std.specs.Option.{option_map_or}
+use Rattle.std.specs.Prelude.{if◌then◌else◌, is_some}
 use Rattle.nfs_wire.specs.declared.attributes.Time.{Time}
-use Rattle.nfs_wire.specs.declared.calls.Place.{Place}
+use Rattle.nfs_wire.specs.declared.calls.RenameArguments.{RenameArguments}
 use Rattle.nfs_wire.specs.declared.status.NfsStatus.{NfsStatus}
 use Rattle.nfs_wire.specs.declared.status.NfsStatus.TheVariants as status
-use Rattle.nfs_machine.specs.Attributes.{is_directory, names_of}
-use Rattle.nfs_machine.specs.Checks.{DirectoryEntries, ◌>>=◌, changeable, entries_in, entry_of, object_of, plain_name_checked, permitted}
+use Rattle.nfs_machine.specs.Attributes.{is_directory, links_of, names_of}
+use Rattle.nfs_machine.specs.Checks.{DirectoryEntries, ◌>>=◌, holding, link_limit}
 use Rattle.nfs_machine.specs.Making.{with_entry}
-use Rattle.nfs_machine.specs.Permission.{ToChange}
-use Rattle.nfs_machine.specs.RemoveSteps.{empty_directory, losing_name, not_directory, object_under, without}
-use Rattle.nfs_machine.specs.RenameSteps.{IsWithin}
-use Rattle.nfs_machine.specs.Resolve.{Named, resolve}
+use Rattle.nfs_machine.specs.RemoveSteps.{losing_name, without}
+use Rattle.nfs_machine.specs.RenameSteps.{IsWithin, is_compatible}
+use Rattle.nfs_machine.specs.Resolve.{Named}
 use Rattle.nfs_machine.specs.Shown.{touched, with_content, with_object}
-use Rattle.nfs_machine.specs.State.{Content, Directory, Entry, Living, State}
-use Rattle.nfs_machine.specs.Times.{time_of}
-use Rattle.nfs_machine.specs.declared.context.Ctx.{Ctx}
+use Rattle.nfs_machine.specs.State.{Directory, Entry, Living, State}
 
 -- a name in a directory, and the object that it leads to
 pub record NamedEntry : Type 0 where
@@ -34,24 +33,6 @@ named_as directory entries name o = record { place = directory.number; directory
 abbrev pub with_name_taken : State → Time → NamedEntry → State
 with_name_taken m now n =
     losing_name (with_object m n.place (with_content n.directory now (Directory (without n.entries n.name) n.last_cookie))) (names_of m n.number) now n.number n.object
-
--- what a call that takes a name away comes to
-abbrev pub take_end : State → Ctx → Place → (List ℕ → Result (Unit {0}) NfsStatus) → (Content → Result (Unit {0}) NfsStatus) → Result (Unit {0} × State) NfsStatus
-take_end old ctx place name_checked content_checked = do
-  directory ← object_of (resolve old ctx place.directory)
-  entries ← entries_in directory.object.content
-  _ ← name_checked place.name
-  _ ← changeable old.exports directory.object
-  _ ← permitted ctx directory.object ToChange
-  object ← ok_or (object_under old (entry_of entries.list place.name)) status.NoEntry
-  _ ← content_checked object.object.content
-  Ok (tt, with_name_taken old (time_of ctx.moment) (named_as directory entries place.name object))
-
-abbrev pub remove_end : State → Ctx → Place → Result (Unit {0} × State) NfsStatus
-remove_end old ctx place = take_end old ctx place (plain_name_checked status.Invalid status.Invalid) not_directory
-
-abbrev pub rmdir_end : State → Ctx → Place → Result (Unit {0} × State) NfsStatus
-rmdir_end old ctx place = take_end old ctx place (plain_name_checked status.Invalid status.Exists) empty_directory
 
 -- a name that moves, the directory that it comes to with the name that it has there, and what has that name now
 pub record Move : Type 0 where
@@ -80,6 +61,28 @@ without_replaced old m now replaced = elim replaced [ None ↦ m | Some o ↦ lo
 abbrev pub with_moved : State → Time → Move → State
 with_moved old now move =
     without_replaced old (with_object (with_names_moved old now move) move.from.number (touched move.from.object now)) now move.replaced
+
+-- what a RENAME comes to, behind the checks that find its names
+abbrev pub move_end : State → Time → RenameArguments → (ℕ → ℕ → Bool) → (from to : Named) →
+    (from_entries to_entries : DirectoryEntries) → (moved : Named) → Option Named → Result
+    (Unit {0} × State) NfsStatus
+move_end old now a is_within from to from_entries to_entries moved replaced =
+    let move : Move = record {
+      from = named_as from from_entries a.from.name moved;
+      target = to.number;
+      directory = to.object;
+      entries = to_entries.list;
+      last_cookie = to_entries.last_cookie;
+      name = a.to.name;
+      replaced = replaced;
+    } in
+    if option_map_or (λ o. o.number == moved.number) replaced false then Ok (tt, old) else do
+      _ ← holding (option_map_or (λ o. is_compatible moved.object.content o.object.content) replaced true) status.Exists
+      _ ← holding (not (is_within moved.number to.number)) status.Invalid
+      _ ← holding (not (is_directory moved.object.content) || (to.number == from.number) || is_some replaced || nat_lt
+          (links_of old to.number to.object.content) link_limit) status.TooManyLinks
+      _ ← holding (nat_lt (to_entries.last_cookie + 1) (2 ^ 64)) status.NoSpace
+      Ok (tt, with_moved old now move)
 
 -- a directory that would come into itself, or below
 abbrev pub GoesIntoItself : State → Move → Type 0

@@ -2,13 +2,17 @@
 use Rattle.std.proofs.Common.{◌≡◌, true, Result, Ok, Err, is_err, refl, sym, ◌∙◌, ap}
 use Rattle.nfs_wire.specs.declared.calls.NfsCall.TheVariants as calls
 use Rattle.nfs_wire.specs.declared.status.NfsStatus.{NfsStatus}
-use Rattle.nfs_machine.proofs.Facts.{setattr_end, write_end}
+use Rattle.nfs_machine.specs.DataSteps.{write_end}
+use Rattle.nfs_machine.specs.AttributeSteps.{setattr_end}
 use Rattle.nfs_machine.specs.Answers.{answer_of, state_after}
 use Rattle.nfs_machine.specs.Laws.{RefusalsChangeNothing, is_refusal}
 use Rattle.nfs_machine.specs.LinkSteps.{link_end}
 use Rattle.nfs_machine.specs.NfsSteps.{NfsStep}
+use Rattle.nfs_machine.specs.RenameSteps.{rename_end}
 use Rattle.nfs_machine.specs.State.{State}
-use Rattle.nfs_machine.proofs.Moves.{remove_end, rmdir_end}
+use Rattle.nfs_machine.proofs.Choosing.{makes-as}
+use Rattle.nfs_machine.specs.RemoveSteps.{rmdir_end}
+use Rattle.nfs_machine.specs.RemoveSteps.{remove_end}
 
 stays : {A : Type 0} (old : State) (end : Result (A × State) NfsStatus) → is_err (answer_of end) ≡ true → state_after old end ≡ old
 stays old (Ok end) e = cc
@@ -23,19 +27,26 @@ refusals_unchanged old ctx (calls.Read a) reply messages new step e = (step.stat
 refusals_unchanged old ctx (calls.Write a) reply messages new step e =
     (step.state_is ∙ stays old (write_end old ctx a) (sym (ap is_refusal step.reply_is) ∙ e), step.no_message)
 refusals_unchanged old ctx (calls.Create a) reply messages new step e =
-    (step.answers.state_is ∙ stays old step.end (sym (ap is_refusal step.answers.reply_is) ∙ e), step.answers.no_message)
+    let s = makes-as step in
+    (s.answers.state_is ∙ stays old s.end (sym (ap is_refusal s.answers.reply_is) ∙ e), s.answers.no_message)
 refusals_unchanged old ctx (calls.Mkdir a) reply messages new step e =
-    (step.answers.state_is ∙ stays old step.end (sym (ap is_refusal step.answers.reply_is) ∙ e), step.answers.no_message)
+    let s = makes-as step in
+    (s.answers.state_is ∙ stays old s.end (sym (ap is_refusal s.answers.reply_is) ∙ e), s.answers.no_message)
 refusals_unchanged old ctx (calls.Symlink a) reply messages new step e =
-    (step.answers.state_is ∙ stays old step.end (sym (ap is_refusal step.answers.reply_is) ∙ e), step.answers.no_message)
+    let s = makes-as step in
+    (s.answers.state_is ∙ stays old s.end (sym (ap is_refusal s.answers.reply_is) ∙ e), s.answers.no_message)
 refusals_unchanged old ctx (calls.Mknod a) reply messages new step e =
-    (step.answers.state_is ∙ stays old step.end (sym (ap is_refusal step.answers.reply_is) ∙ e), step.answers.no_message)
+    let s = makes-as step in
+    (s.answers.state_is ∙ stays old s.end (sym (ap is_refusal s.answers.reply_is) ∙ e), s.answers.no_message)
 refusals_unchanged old ctx (calls.Remove place) reply messages new step e =
     (step.state_is ∙ stays old (remove_end old ctx place) (sym (ap is_refusal step.reply_is) ∙ e), step.no_message)
 refusals_unchanged old ctx (calls.Rmdir place) reply messages new step e =
     (step.state_is ∙ stays old (rmdir_end old ctx place) (sym (ap is_refusal step.reply_is) ∙ e), step.no_message)
-refusals_unchanged old ctx (calls.Rename a) reply messages new step e =
-    (step.2.state_is ∙ stays old step.0 (sym (ap is_refusal step.2.reply_is) ∙ e), step.2.no_message)
+refusals_unchanged old ctx (calls.Rename a) reply messages new step e = (
+  step.answers.state_is ∙ stays old (rename_end old ctx a step.is_within)
+      (sym (ap is_refusal step.answers.reply_is) ∙ e),
+  step.answers.no_message,
+)
 refusals_unchanged old ctx (calls.Link a) reply messages new step e =
     (step.state_is ∙ stays old (link_end old ctx a) (sym (ap is_refusal step.reply_is) ∙ e), step.no_message)
 refusals_unchanged old ctx (calls.Setattr a) reply messages new step e =

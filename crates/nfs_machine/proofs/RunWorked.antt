@@ -28,14 +28,14 @@ use Rattle.nfs_machine.specs.Attributes.{attributes_of, entries_of, is_directory
 use Rattle.nfs_machine.specs.Checks.{DirectoryEntries, ◌>>=◌, changeable, entries_in, entry_of, holding, link_limit, object_of, permitted, plain_name_checked}
 use Rattle.nfs_machine.specs.DataSteps.{write_object, verifier_of}
 use Rattle.nfs_machine.specs.LinkSteps.{link_end}
-use Rattle.nfs_machine.specs.Making.{End, EndsAs, Fresh, made, make_new, with_entry}
+use Rattle.nfs_machine.specs.Making.{made, with_entry}
 use Rattle.nfs_machine.specs.NameSteps.{create_existing, wanted_file}
 use Rattle.nfs_machine.specs.NfsSteps.{NfsStep}
 use Rattle.nfs_machine.specs.Pages.{all_entries, behind, fits, fits_full}
 use Rattle.nfs_machine.specs.PageSteps.{page_entry}
 use Rattle.nfs_machine.specs.Permission.{ToChange, ToList}
 use Rattle.nfs_machine.specs.RemoveSteps.{losing_name, not_directory, object_under, without}
-use Rattle.nfs_machine.specs.RenameSteps.{move_plan, rename_plan}
+use Rattle.nfs_machine.specs.RenameSteps.{rename_end}
 use Rattle.nfs_machine.specs.Exports.{LivingExport}
 use Rattle.nfs_machine.specs.Resolve.{Named, Resolved, Stale, Names, living_at, named, resolve}
 use Rattle.nfs_machine.specs.Readings.{Has, named_in}
@@ -52,12 +52,14 @@ use Rattle.nfs_machine.specs.WorkedRun.{wrote_reply, received, WorkedLeaving, Wo
 use Rattle.nfs_machine.specs.WorkedRun.{WorkedSteps, WorkedTurns, all_three, argument_bytes, arrives, executed}
 use Rattle.nfs_machine.specs.WorkedRun.{first_two, nfs_header, in_root, listed_full_reply, listed_reply, listing}
 use Rattle.nfs_machine.specs.WorkedRun.{linking, listing_full, made_reply, making, miscounted, nobody, opened, left}
-use Rattle.nfs_machine.specs.WorkedRun.{page_reply, read_only, refused_reply, renaming, removed, removed_reply}
+use Rattle.nfs_machine.specs.WorkedRun.{page_reply, read_only, refused_reply, renamed, renaming, removed, removed_reply}
 use Rattle.nfs_machine.specs.WorkedRun.{root_after, root_with, root_with_both, root_with_x, setting, with_x, writing}
 use Rattle.nfs_machine.specs.WorkedRun.{with_hi, x, x_bytes, x_entry, x_written, y_entry}
 use Rattle.nfs_machine.specs.declared.calls.Call.TheVariants as calls
 use Rattle.nfs_machine.specs.declared.context.Ctx.{Ctx}
-use Rattle.nfs_machine.proofs.Moves.{remove_end}
+use Rattle.nfs_machine.proofs.Choosing.{End, EndsAs, Fresh, known, make_new, makes-so}
+use Rattle.nfs_machine.specs.RemoveSteps.{remove_end}
+use Rattle.nfs_machine.proofs.Moves.{move_end}
 use Rattle.nfs_machine.proofs.Opened.{only_roots, roots_formed}
 use Rattle.nfs_machine.proofs.Kept.{chains_keep_form}
 use Rattle.nfs_machine.proofs.Runs.{runs_are_chains}
@@ -139,20 +141,20 @@ writing-form = ((within 32 64 refl, within 33 (2 ^ 32) refl), (within 1 (2 ^ 64)
 -- ---- CREATE
 unfoldable pub fresh : Fresh opened
 fresh = record {
-  number = 5;
-  generation = 1;
-  spent = λ n g. ((n == 5) && (g == 1)) || opened.spent n g;
-  number_fits = within 6 (2 ^ 64) refl;
-  generation_fits = within 2 (2 ^ 64) refl;
-  free = none-opened;
-  never_given = refl;
-  given = refl;
-  kept = λ n g e. or_right ((n == 5) && (g == 1)) (opened.spent n g) e;
+  choice = record { number = 5; generation = 1; spent = λ n g. ((n == 5) && (g == 1)) || opened.spent n g };
+  is_fresh = record {
+    number_fits = within 6 (2 ^ 64) refl;
+    generation_fits = within 2 (2 ^ 64) refl;
+    free = none-opened;
+    never_given = refl;
+    given = refl;
+    kept = λ n g e. or_right ((n == 5) && (g == 1)) (opened.spent n g) e;
+  };
 }
 
 abbrev create_under : ℕ → Living → List Entry → ℕ → Option Entry → Result (End opened) NfsStatus
 create_under number directory entries last e = elim e [
-  | Some e ↦ create_existing opened nobody making.how e.number (get opened.objects e.number)
+  | Some e ↦ known (create_existing opened nobody making.how e.number (get opened.objects e.number))
   | None ↦ make_new opened nobody making.place.name (wanted_file making.how) number directory entries last
 ]
 
@@ -165,12 +167,12 @@ create_by r =
 
 creates : NfsStep opened nobody (nfs.Create making) made_reply [] with_x
 unfolding NfsStep fresh
-creates = record {
+creates = makes-so (record {
   end = Ok (made with_x nobody 5 x, with_x);
   ends = subst (λ r. EndsAs opened (create_by r) (Ok (made with_x nobody 5 x, with_x)))
       (sym (root-named opened refl root refl refl root-opened)) (fresh, refl);
   answers = record { reply_is = refl; no_message = refl; state_is = refl };
-}
+})
 
 -- ---- WRITE
 abbrev write_by : WriteArguments → Resolved → Result (Written × State) NfsStatus
@@ -384,12 +386,14 @@ module _ (k : State) (entries : List Entry) (of_root : get k.objects 1 ≡ Some 
   }
 
 -- ---- RENAME
-module _ (m : State) (ctx : Ctx) (a : RenameArguments) where
-  abbrev move_found : (from to : Named) → (from_entries to_entries : DirectoryEntries) → (moved replaced : Option Named) → Result (Option (ℕ × ℕ) × Result (Unit {0} × State) NfsStatus) NfsStatus
+module _ (m : State) (ctx : Ctx) (a : RenameArguments) (is_within : ℕ → ℕ → Bool) where
+  abbrev pub move_found : (from to : Named) → (from_entries to_entries : DirectoryEntries) →
+      (moved replaced : Option Named) → Result (Unit {0} × State) NfsStatus
   move_found from to from_entries to_entries moved replaced =
-      ok_or moved status.NoEntry >>= λ moved. move_plan m (time 1000 0) a from to from_entries to_entries moved replaced
+      ok_or moved status.NoEntry >>= λ moved. move_end m (time 1000 0) a is_within from to from_entries to_entries
+      moved replaced
 
-  abbrev move_by : (from to : Resolved) → Result (Option (ℕ × ℕ) × Result (Unit {0} × State) NfsStatus) NfsStatus
+  abbrev pub move_by : (from to : Resolved) → Result (Unit {0} × State) NfsStatus
   move_by f t =
       object_of f >>= λ from. object_of t >>= λ to. holding (from.object.export == to.object.export) status.CrossDevice >>= λ _. entries_in from.object.content >>= λ from_entries. entries_in to.object.content >>= λ to_entries.
       plain_name_checked status.Invalid status.Invalid a.from.name >>= λ _. plain_name_checked status.Invalid
@@ -398,7 +402,7 @@ module _ (m : State) (ctx : Ctx) (a : RenameArguments) where
       permitted ctx to.object ToChange >>= λ _. move_found from to from_entries to_entries (object_under m (entry_of from_entries.list a.from.name)) (object_under m (entry_of to_entries.list a.to.name))
 
 module _ (k : State) (entries : List Entry) (of_root : get k.objects 1 ≡ Some (root_with entries))
-    (of_x : get k.objects 5 ≡ Some x_written) where
+    (of_x : get k.objects 5 ≡ Some x_written) (is_within : ℕ → ℕ → Bool) where
   of-nobody : resolve (with_writable k) nobody root_bytes ≡ Names 1 (root_with entries)
   of-nobody = root-named (with_writable k) refl (root_with entries) refl refl of_root
 
@@ -409,35 +413,38 @@ module _ (k : State) (entries : List Entry) (of_root : get k.objects 1 ≡ Some 
   of-file = x-named (with_writable k) refl x_written refl refl of_x
 
   in-root : (a : RenameArguments) → a.from.directory ≡ root_bytes → a.to.directory ≡ root_bytes →
-      rename_plan (with_writable k) nobody a ≡ move_by (with_writable k) nobody a (Names 1 (root_with entries))
+      rename_end (with_writable k) nobody a is_within ≡ move_by (with_writable k) nobody a is_within
+      (Names 1 (root_with entries))
       (Names 1 (root_with entries))
   in-root a from to =
-      ap (λ f. move_by (with_writable k) nobody a f (resolve (with_writable k) nobody a.to.directory))
+      ap (λ f. move_by (with_writable k) nobody a is_within f (resolve (with_writable k) nobody a.to.directory))
       (ap (resolve (with_writable k) nobody) from ∙ of-nobody)
-      ∙ ap (move_by (with_writable k) nobody a (Names 1 (root_with entries)))
+      ∙ ap (move_by (with_writable k) nobody a is_within (Names 1 (root_with entries)))
       (ap (resolve (with_writable k) nobody) to ∙ of-nobody)
 
   under-read : (a : RenameArguments) → a.from.directory ≡ root_bytes → a.to.directory ≡ root_bytes →
-      rename_plan (read_only (with_writable k)) nobody a ≡ move_by (read_only (with_writable k)) nobody a
+      rename_end (read_only (with_writable k)) nobody a is_within ≡ move_by (read_only (with_writable k)) nobody a
+      is_within
       (Names 1 (root_with entries)) (Names 1 (root_with entries))
   under-read a from to =
-      ap (λ f. move_by (read_only (with_writable k)) nobody a f
+      ap (λ f. move_by (read_only (with_writable k)) nobody a is_within f
       (resolve (read_only (with_writable k)) nobody a.to.directory))
       (ap (resolve (read_only (with_writable k)) nobody) from ∙ of-read)
-      ∙ ap (move_by (read_only (with_writable k)) nobody a (Names 1 (root_with entries)))
+      ∙ ap (move_by (read_only (with_writable k)) nobody a is_within (Names 1 (root_with entries)))
       (ap (resolve (read_only (with_writable k)) nobody) to ∙ of-read)
 
   abbrev x_to_y : RenameArguments
   x_to_y = renaming (codes "x") (codes "y")
 
-  abbrev found_so : (moved replaced : Option Named) → Result (Option (ℕ × ℕ) × Result (Unit {0} × State) NfsStatus) NfsStatus
-  found_so = move_found (with_writable k) nobody x_to_y (numbered 1 (root_with entries)) (numbered 1 (root_with entries)) (entries_with entries 40000)
+  abbrev found_so : (moved replaced : Option Named) → Result (Unit {0} × State) NfsStatus
+  found_so = move_found (with_writable k) nobody x_to_y is_within (numbered 1 (root_with entries)) (numbered 1 (root_with entries))
+      (entries_with entries 40000)
       (entries_with entries 40000)
 
   -- where both names are found so
   where-found : (from to : Option Entry) → entry_of entries (codes "x") ≡ from →
       entry_of entries (codes "y") ≡ to →
-      rename_plan (with_writable k) nobody x_to_y ≡ found_so (object_under (with_writable k) from)
+      rename_end (with_writable k) nobody x_to_y is_within ≡ found_so (object_under (with_writable k) from)
       (object_under (with_writable k) to)
   where-found from to is_from is_to =
       in-root x_to_y refl refl ∙ ap
@@ -445,7 +452,7 @@ module _ (k : State) (entries : List Entry) (of_root : get k.objects 1 ≡ Some 
       (object_under (with_writable k) (entry_of entries (codes "y")))) is_from ∙ ap
       (λ e. found_so (object_under (with_writable k) from) (object_under (with_writable k) e)) is_to
 
-  pub worked-renaming : WorkedRenaming (with_writable k) entries
+  pub worked-renaming : WorkedRenaming (with_writable k) entries is_within
   worked-renaming = record {
     self = under-read (renaming (codes ".") (replicate 256 120)) refl refl;
     above = in-root (renaming (codes "x") (codes "..")) refl refl;
@@ -454,21 +461,22 @@ module _ (k : State) (entries : List Entry) (of_root : get k.objects 1 ≡ Some 
     nothing = λ none. where-found None (entry_of entries (codes "y")) none refl;
     from_file =
         ap (λ f. move_by (with_writable k) nobody
-        (record { from = record { directory = x_bytes; name = codes "x" }; to = in_root (codes "y") }) f
+        (record { from = record { directory = x_bytes; name = codes "x" }; to = in_root (codes "y") }) is_within f
         (resolve (with_writable k) nobody root_bytes)) of-file
         ∙ ap (move_by (with_writable k) nobody
-        (record { from = record { directory = x_bytes; name = codes "x" }; to = in_root (codes "y") })
+        (record { from = record { directory = x_bytes; name = codes "x" }; to = in_root (codes "y") }) is_within
         (Names 5 x_written)) of-nobody;
     into_file =
         ap (λ f. move_by (with_writable k) nobody
-        (record { from = in_root (codes "x"); to = record { directory = x_bytes; name = codes "y" } }) f
+        (record { from = in_root (codes "x"); to = record { directory = x_bytes; name = codes "y" } }) is_within f
         (resolve (with_writable k) nobody x_bytes)) of-nobody
         ∙ ap (move_by (with_writable k) nobody
-        (record { from = in_root (codes "x"); to = record { directory = x_bytes; name = codes "y" } })
+        (record { from = in_root (codes "x"); to = record { directory = x_bytes; name = codes "y" } }) is_within
         (Names 1 (root_with entries))) of-file;
-    moves = λ cookie found none.
+    moves = λ cookie found none outside.
         where-found (Some (record { name = codes "x"; number = 5; cookie = cookie })) None found none
-        ∙ ap (λ (l : Option Living). found_so (option_map (λ (o : Living). numbered 5 o) l) None) of_x;
+        ∙ ap (λ (l : Option Living). found_so (option_map (λ (o : Living). numbered 5 o) l) None) of_x
+        ∙ ap (λ b. holding (not b) status.Invalid >>= λ _. Ok (tt, renamed (with_writable k) entries)) outside;
     both = λ cookie other found too.
         where-found (Some (record { name = codes "x"; number = 5; cookie = cookie })) (Some (record { name = codes "y"; number = 5; cookie = other })) found too
         ∙ ap (λ (l : Option Living). found_so (option_map (λ (o : Living). numbered 5 o) l) (option_map (λ (o : Living). numbered 5 o) l)) of_x;

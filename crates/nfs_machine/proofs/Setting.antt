@@ -7,7 +7,8 @@ use Rattle.nfs_wire.specs.declared.status.NfsStatus.{NfsStatus}
 use Rattle.nfs_wire.specs.declared.status.NfsStatus.TheVariants as status
 use Rattle.nfs_machine.specs.Data.{resized}
 use Rattle.nfs_machine.proofs.Cookies.{kept-same}
-use Rattle.nfs_machine.proofs.Facts.{chained-is, resolved-lives, setattr_end}
+use Rattle.nfs_machine.specs.AttributeSteps.{setattr_end}
+use Rattle.nfs_machine.proofs.Facts.{chained-is, resolved-lives}
 use Rattle.nfs_machine.proofs.Follows.{Alters, Follows, follows-altered, of-ok}
 use Rattle.nfs_machine.proofs.Short.{chained}
 use Rattle.nfs_machine.specs.AttributeSteps.{set_object}

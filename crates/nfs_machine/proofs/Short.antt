@@ -16,7 +16,8 @@ use Rattle.nfs_wire.specs.declared.calls.WriteArguments.{WriteArguments}
 use Rattle.nfs_wire.specs.declared.replies.Made.{Made}
 use Rattle.nfs_wire.specs.declared.replies.ReadData.{ReadData}
 use Rattle.nfs_wire.specs.declared.status.NfsStatus.{NfsStatus}
-use Rattle.nfs_machine.proofs.Facts.{setattr_end, write_end}
+use Rattle.nfs_machine.specs.DataSteps.{commit_result, write_end}
+use Rattle.nfs_machine.specs.AttributeSteps.{setattr_end}
 use Rattle.nfs_wire.specs.declared.status.NfsStatus.TheVariants as status
 use Rattle.nfs_machine.specs.Answers.{answer_of, state_after}
 use Rattle.nfs_machine.specs.Attributes.{attributes_of, links_of}
@@ -25,22 +26,26 @@ use Rattle.nfs_machine.specs.Data.{read_at}
 use Rattle.nfs_machine.proofs.Listing.{readdir-size, readdir-form, readdirplus-size, readdirplus-form, names-within, full-within}
 use Rattle.nfs_machine.proofs.Results.{setattr-size, access-size, readlink-size, fsstat-size, fsinfo-size, pathconf-size, commit-size}
 use Rattle.nfs_machine.specs.AttributeSteps.{granted}
-use Rattle.nfs_machine.specs.DataSteps.{read_object, verifier_of}
+use Rattle.nfs_machine.specs.DataSteps.{read_object}
 use Rattle.nfs_machine.specs.FileSystemSteps.{space_left, file_system, path_limits}
 use Rattle.nfs_machine.specs.Laws.{IsShort, RefusalsAreShort, RepliesAreShort}
 use Rattle.nfs_machine.specs.LinkSteps.{link_end}
 use Rattle.nfs_machine.specs.MakeSteps.{wanted_special, wanted_of}
-use Rattle.nfs_machine.specs.Making.{Fresh, End, Known, Chosen, EndsAs, Wanted, make_end, make_new, given_attributes, kind_checked}
+use Rattle.nfs_machine.specs.Making.{Wanted, given_attributes, kind_checked}
 use Rattle.nfs_machine.specs.NameSteps.{lookup_found, create_existing, create_over, wanted_file}
 use Rattle.nfs_machine.specs.NfsSteps.{NfsStep}
 use Rattle.nfs_machine.specs.PageSteps.{entries_left}
+use Rattle.nfs_machine.specs.RenameSteps.{rename_end}
 use Rattle.nfs_machine.specs.Resolve.{resolve}
 use Rattle.nfs_machine.specs.Shown.{after_first, shown, wcc}
 use Rattle.nfs_machine.specs.State.{Entry, Living, State, Link, Directory}
 use Rattle.nfs_machine.specs.declared.context.Ctx.{Ctx}
+use Rattle.nfs_machine.proofs.Choosing.{Fresh, End, Known, Chosen, EndsAs, make_plan, make_new, known, known-holds}
+use Rattle.nfs_machine.proofs.Choosing.{makes-as}
 use Rattle.nfs_machine.proofs.ReplySizes.{linked-size, removed-size, renamed-size}
 use Rattle.nfs_machine.proofs.Texts.{texts-read}
-use Rattle.nfs_machine.proofs.Moves.{remove_end, rmdir_end}
+use Rattle.nfs_machine.specs.RemoveSteps.{rmdir_end}
+use Rattle.nfs_machine.specs.RemoveSteps.{remove_end}
 
 -- what holds of every answer of a chain holds of the chain
 pub chained : {A B : Type 0} (P : B → Type 0) (r : Result A NfsStatus) (f : A → Result B NfsStatus) → ((x : A) → IfOk (f x) P) → IfOk (r >>= f) P
@@ -69,24 +74,22 @@ module _ (m : State) (ctx : Ctx) where
   abbrev read_result : ReadArguments → Result ReadData NfsStatus
   read_result a = object_of (resolve m ctx a.file) >>= λ o. read_object ctx o.object a
 
-  abbrev commit_result : CommitArguments → Result Verifier NfsStatus
-  commit_result a = object_of (resolve m ctx a.file) >>= λ o. bytes_in o.object.content >>= λ bytes. Ok (verifier_of ctx)
-
   read-short : (a : ReadArguments) → IfOk (read_result a) (λ read. length read.«data» ≤ 65536)
   read-short a = search (chained, read-at-short) depth 8
 
   write-short : (a : WriteArguments) → IfOk (write_end m ctx a) (λ end. length end.0.verifier.bytes ≤ 8)
   write-short a = search (chained, arith) depth 10
 
-  commit-short : (a : CommitArguments) → IfOk (commit_result a) (λ (v : Verifier). length v.bytes ≤ 8)
+  commit-short : (a : CommitArguments) → IfOk (commit_result m ctx a) (λ (v : Verifier). length v.bytes ≤ 8)
   commit-short a = search (chained, arith) depth 8
 
   -- a handle that an end answers, whatever the machine chooses
   abbrev EndShort : End m → Type 0
   EndShort (Known answer new) = IfSome answer.object IsHandle
-  EndShort (Chosen makes) = (fresh : Fresh m) → IfSome (makes fresh).0.object IsHandle
+  EndShort (Chosen makes shows) = (fresh : Fresh m) → IfSome (makes fresh.choice).0.object IsHandle
 
-  existing-short : (how : CreateHow) (number : ℕ) (o : Option Living) → IfOk (create_existing m ctx how number o) EndShort
+  existing-short : (how : CreateHow) (number : ℕ) (o : Option Living) → IfOk (create_existing m ctx how number o)
+      (λ e. IfSome e.0.object IsHandle)
   existing-short how number None = tt
   existing-short how number (Some o) = chained _ (create_over ctx how o (bytes_in o.content)) _ λ after. omega arith
 
@@ -96,13 +99,19 @@ module _ (m : State) (ctx : Ctx) where
       chained EndShort (given_attributes ctx wanted.attributes) _ (λ x1.
       chained EndShort (holding (nat_lt (last + 1) (2 ^ 64)) status.NoSpace) _ (λ x2 fresh. omega arith)))
 
-  module _ (place : Place) (there : ℕ → Option Living → Result (End m) NfsStatus) (found : (number : ℕ) (o : Option Living) → IfOk (there number o) EndShort) where
+  module _ (place : Place) (there : ℕ → Option Living → Result (Made × State) NfsStatus)
+      (found : (number : ℕ) (o : Option Living) → IfOk (there number o) (λ e. IfSome e.0.object IsHandle)) where
     by-name : (what : Wanted) (number : ℕ) (directory : Living) (entries : List Entry) (last : ℕ) (e : Option Entry)
-        → IfOk (elim e as (λ (_ : Option Entry). Result (End m) NfsStatus) [ Some e ↦ there e.number (get m.objects e.number) | None ↦ make_new m ctx place.name what number directory entries last ]) EndShort
+        → IfOk (elim e as (λ (_ : Option Entry). Result (End m) NfsStatus) [
+          | Some e ↦ known (there e.number (get m.objects e.number))
+          | None ↦ make_new m ctx place.name what
+              number directory entries last
+        ]) EndShort
     by-name what number directory entries last None = new-short place.name what number directory entries last
-    by-name what number directory entries last (Some e) = found e.number (get m.objects e.number)
+    by-name what number directory entries last (Some e) = known-holds EndShort (there e.number (get m.objects e.number))
+        (found e.number (get m.objects e.number))
 
-    make-short : (wanted : Result Wanted NfsStatus) → IfOk (make_end m ctx place wanted there) EndShort
+    make-short : (wanted : Result Wanted NfsStatus) → IfOk (make_plan m ctx place wanted there) EndShort
     make-short wanted =
         chained EndShort (object_of (resolve m ctx place.directory)) _ (λ directory.
         chained EndShort (entries_in directory.object.content) _ (λ entries.
@@ -114,7 +123,9 @@ module _ (m : State) (ctx : Ctx) where
 
   ends-short : (r : Result (End m) NfsStatus) (end : Result (Made × State) NfsStatus) → EndsAs m r end → IfOk r EndShort → IfOk (answer_of end) (λ made. IfSome made.object IsHandle)
   ends-short (Ok (Known answer new)) end is short = subst (λ (r : Result (Made × State) NfsStatus). IfOk (answer_of r) (λ made. IfSome made.object IsHandle)) (sym is) short
-  ends-short (Ok (Chosen makes)) end (fresh, is) short = subst (λ (r : Result (Made × State) NfsStatus). IfOk (answer_of r) (λ made. IfSome made.object IsHandle)) (sym is) (short fresh)
+  ends-short (Ok (Chosen makes shows)) end (fresh, is) short = subst
+      (λ (r : Result (Made × State) NfsStatus). IfOk (answer_of r) (λ made. IfSome made.object IsHandle)) (sym is)
+      (short fresh)
   ends-short (Err e) end is short = subst (λ (r : Result (Made × State) NfsStatus). IfOk (answer_of r) (λ made. IfSome made.object IsHandle)) (sym is) tt
 
 -- the answer of each procedure
@@ -135,8 +146,18 @@ replies_short old ctx (calls.Write a) reply messages new w step = subst IsShort 
   short = omega (arith, write-size (wcc (state_after old (write_end old ctx a)) (resolve old ctx a.file)) (answer_of (write_end old ctx a)) (answered (λ w. length w.verifier.bytes ≤ 8) (write_end old ctx a) (write-short old ctx a)));
 })
 replies_short old ctx (calls.Create a) reply messages new w step =
-    let form = ends-short old ctx (make_end old ctx a.place (Ok (wanted_file a.how)) (create_existing old ctx a.how)) step.end step.ends (make-short old ctx a.place (create_existing old ctx a.how) (existing-short old ctx a.how) (Ok (wanted_file a.how))) in
-    subst IsShort (sym step.answers.reply_is) (record { form = form; short = omega (arith, made-size (wcc (state_after old step.end) (resolve old ctx a.place.directory)) (answer_of step.end) form) })
+    let s = makes-as step in
+    let form = ends-short old ctx (make_plan old ctx a.place (Ok (wanted_file a.how)) (create_existing old ctx a.how))
+    s.end s.ends (make-short old ctx a.place (create_existing old ctx a.how) (existing-short old ctx a.how)
+    (Ok (wanted_file a.how))) in
+    subst IsShort (sym s.answers.reply_is) (record {
+      form = form;
+      short = omega (
+        arith,
+        made-size (wcc (state_after old s.end) (resolve old ctx a.place.directory))
+            (answer_of s.end) form,
+      );
+    })
 replies_short old ctx (calls.Setattr a) reply messages new w step =
     subst IsShort (sym step.reply_is) (record { form = tt; short = omega (arith, setattr-size (wcc (state_after old (setattr_end old ctx a)) (resolve old ctx a.object)) (answer_of (setattr_end old ctx a))) })
 replies_short old ctx (calls.Access a) reply messages new w step =
@@ -174,21 +195,63 @@ replies_short old ctx (calls.Pathconf object) reply messages new w step =
 replies_short old ctx (calls.Commit a) reply messages new w step =
     subst IsShort (sym step.reply_is) (record { form = tt; short = omega (arith, commit-size (wcc old (resolve old ctx a.file)) (commit_result old ctx a) (commit-short old ctx a)) })
 replies_short old ctx (calls.Mkdir a) reply messages new w step =
-    let form = ends-short old ctx (make_end old ctx a.place (Ok (wanted_of 493 (Directory [] 2) a.attributes)) (λ number object. Err status.Exists)) step.end step.ends (make-short old ctx a.place (λ number object. Err status.Exists) (λ number object. tt) (Ok (wanted_of 493 (Directory [] 2) a.attributes))) in
-    subst IsShort (sym step.answers.reply_is) (record { form = form; short = omega (arith, made-size (wcc (state_after old step.end) (resolve old ctx a.place.directory)) (answer_of step.end) form) })
+    let s = makes-as step in
+    let form = ends-short old ctx (make_plan old ctx a.place (Ok (wanted_of 493 (Directory [] 2) a.attributes))
+    (λ number object. Err status.Exists)) s.end s.ends
+    (make-short old ctx a.place (λ number object. Err status.Exists) (λ number object. tt)
+    (Ok (wanted_of 493 (Directory [] 2) a.attributes))) in
+    subst IsShort (sym s.answers.reply_is) (record {
+      form = form;
+      short = omega (
+        arith,
+        made-size (wcc (state_after old s.end) (resolve old ctx a.place.directory))
+            (answer_of s.end) form,
+      );
+    })
 replies_short old ctx (calls.Symlink a) reply messages new w step =
-    let form = ends-short old ctx (make_end old ctx a.place (Ok (wanted_of 511 (Link a.text) a.attributes)) (λ number object. Err status.Exists)) step.end step.ends (make-short old ctx a.place (λ number object. Err status.Exists) (λ number object. tt) (Ok (wanted_of 511 (Link a.text) a.attributes))) in
-    subst IsShort (sym step.answers.reply_is) (record { form = form; short = omega (arith, made-size (wcc (state_after old step.end) (resolve old ctx a.place.directory)) (answer_of step.end) form) })
+    let s = makes-as step in
+    let form = ends-short old ctx (make_plan old ctx a.place (Ok (wanted_of 511 (Link a.text) a.attributes))
+    (λ number object. Err status.Exists)) s.end s.ends
+    (make-short old ctx a.place (λ number object. Err status.Exists) (λ number object. tt)
+    (Ok (wanted_of 511 (Link a.text) a.attributes))) in
+    subst IsShort (sym s.answers.reply_is) (record {
+      form = form;
+      short = omega (
+        arith,
+        made-size (wcc (state_after old s.end) (resolve old ctx a.place.directory))
+            (answer_of s.end) form,
+      );
+    })
 replies_short old ctx (calls.Mknod a) reply messages new w step =
-    let form = ends-short old ctx (make_end old ctx a.place (wanted_special a.what) (λ number object. Err status.Exists)) step.end step.ends (make-short old ctx a.place (λ number object. Err status.Exists) (λ number object. tt) (wanted_special a.what)) in
-    subst IsShort (sym step.answers.reply_is) (record { form = form; short = omega (arith, made-size (wcc (state_after old step.end) (resolve old ctx a.place.directory)) (answer_of step.end) form) })
+    let s = makes-as step in
+    let form = ends-short old ctx (make_plan old ctx a.place (wanted_special a.what)
+    (λ number object. Err status.Exists)) s.end s.ends
+    (make-short old ctx a.place (λ number object. Err status.Exists) (λ number object. tt)
+    (wanted_special a.what)) in
+    subst IsShort (sym s.answers.reply_is) (record {
+      form = form;
+      short = omega (
+        arith,
+        made-size (wcc (state_after old s.end) (resolve old ctx a.place.directory))
+            (answer_of s.end) form,
+      );
+    })
 replies_short old ctx (calls.Remove place) reply messages new w step =
     subst IsShort (sym step.reply_is) (record { form = tt; short = omega (arith, removed-size (wcc (state_after old (remove_end old ctx place)) (resolve old ctx place.directory)) (answer_of (remove_end old ctx place))) })
 replies_short old ctx (calls.Rmdir place) reply messages new w step =
     subst IsShort (sym step.reply_is) (record { form = tt; short = omega (arith, removed-size (wcc (state_after old (rmdir_end old ctx place)) (resolve old ctx place.directory)) (answer_of (rmdir_end old ctx place))) })
 replies_short old ctx (calls.Rename a) reply messages new w step =
-    let from = resolve old ctx a.from.directory in let after = state_after old step.0 in
-    subst IsShort (sym step.2.reply_is) (record { form = tt; short = omega (arith, renamed-size (wcc after from) (wcc after (after_first from (resolve old ctx a.to.directory))) (answer_of step.0)) })
+    let from = resolve old ctx a.from.directory in
+    let end = rename_end old ctx a step.is_within in
+    let after = state_after old end in
+    subst IsShort (sym step.answers.reply_is)
+    (record {
+      form = tt;
+      short = omega (
+        arith,
+        renamed-size (wcc after from) (wcc after (after_first from (resolve old ctx a.to.directory))) (answer_of end),
+      );
+    })
 replies_short old ctx (calls.Link a) reply messages new w step =
     let file = resolve old ctx a.file in let new = state_after old (link_end old ctx a) in
     subst IsShort (sym step.reply_is) (record {

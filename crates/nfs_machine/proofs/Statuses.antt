@@ -1,7 +1,7 @@
 -- Which statuses each call may be answered with.
 use Rattle.std.proofs.Common.{◌≡◌, ◌==◌, ℕ, Bool, true, false, not, ◌&&◌, ◌||◌, cond, List, []}
 use Rattle.std.proofs.Common.{◌∷◌}
-use Rattle.std.proofs.Common.{Option, Some, None, Result, Ok, Err, IfOk, IfSome, length, nat_le, nat_lt, refl, sym}
+use Rattle.std.proofs.Common.{Option, Some, None, Result, Ok, Err, IfSome, length, nat_le, nat_lt, refl, sym}
 use Rattle.std.proofs.Common.{ap, subst}
 use Rattle.std.proofs.Common.{inl, inr}
 use Rattle.std.specs.Prelude.{ok_or, unwrap_or}
@@ -20,7 +20,6 @@ use Rattle.nfs_machine.specs.Data.{resized, size_limit}
 use Rattle.nfs_machine.specs.DataSteps.{read_object, verifier_of}
 use Rattle.nfs_machine.specs.FileSystemSteps.{file_system, path_limits, space_left}
 use Rattle.nfs_machine.specs.Paths.{pieces, is_dots, begins_with_slash}
-use Rattle.nfs_wire.specs.declared.attributes.Time.{Time}
 use Rattle.nfs_wire.specs.declared.replies.NfsReply.{NfsReply}
 use Rattle.side_wire.specs.declared.mount.MountReply.{MountReply}
 use Rattle.nfs_machine.specs.RemoveSteps.{empty_directory}
@@ -36,30 +35,32 @@ use Rattle.nfs_wire.specs.declared.status.NfsStatus.TheVariants as status
 use Rattle.side_wire.specs.declared.mount.MountCall.TheVariants as mount
 use Rattle.side_wire.specs.declared.mount.MountStatus.{MountStatus}
 use Rattle.side_wire.specs.declared.mount.MountStatus.TheVariants as mount_status
-use Rattle.nfs_machine.proofs.Facts.{setattr_end, write_end}
-use Rattle.nfs_machine.proofs.Moves.{remove_end, rmdir_end}
+use Rattle.nfs_machine.specs.DataSteps.{write_end}
+use Rattle.nfs_machine.specs.AttributeSteps.{setattr_end}
+use Rattle.nfs_machine.specs.RemoveSteps.{rmdir_end}
+use Rattle.nfs_machine.specs.RemoveSteps.{remove_end}
 use Rattle.nfs_machine.specs.Answers.{answer_of}
 use Rattle.nfs_machine.specs.Attributes.{attributes_of, entries_of, is_directory}
 use Rattle.nfs_machine.specs.AttributeSteps.{granted, set_object}
-use Rattle.nfs_machine.specs.Checks.{DirectoryEntries, ◌>>=◌, holding, bytes_in, object_of, text_in, entries_in, plain_name_checked}
+use Rattle.nfs_machine.specs.Checks.{◌>>=◌, holding, bytes_in, object_of, text_in, entries_in, plain_name_checked}
 use Rattle.nfs_machine.specs.Checks.{changeable, permitted, entry_of, name_checked}
 use Rattle.nfs_machine.specs.LinkSteps.{link_end}
 use Rattle.nfs_machine.specs.MakeSteps.{wanted_of, wanted_special}
-use Rattle.nfs_machine.specs.Making.{End, Known, Chosen, EndsAs, Wanted, make_end, make_new, given_attributes}
-use Rattle.nfs_machine.specs.Making.{kind_checked}
+use Rattle.nfs_machine.specs.Making.{Wanted, given_attributes, kind_checked}
 use Rattle.nfs_machine.specs.MountSteps.{MntAnswers, MountStep, entries_at, path_fault, walk}
 use Rattle.nfs_machine.specs.NameSteps.{lookup_found, create_existing, create_over, wanted_file}
 use Rattle.nfs_machine.specs.NfsSteps.{NfsStep}
 use Rattle.nfs_machine.specs.Pages.{Pages, fits, fits_full}
 use Rattle.nfs_machine.specs.PageSteps.{entries_left}
 use Rattle.nfs_machine.specs.Permission.{ToChange, ToWrite}
-use Rattle.nfs_machine.specs.RenameSteps.{RenameEnds, move_plan, rename_plan}
-use Rattle.nfs_machine.specs.Resolve.{Named, Resolved, BadHandle, Stale, Names, resolve}
+use Rattle.nfs_machine.specs.RenameSteps.{rename_end}
+use Rattle.nfs_machine.specs.Resolve.{Resolved, BadHandle, Stale, Names, resolve}
 use Rattle.nfs_machine.specs.State.{Content, Regular, Directory, Link, BlockDevice, CharacterDevice, Socket, Fifo}
 use Rattle.nfs_machine.specs.State.{Entry, Living, State}
 use Rattle.nfs_machine.specs.StatusLaws.{NfsNeverAnswers, MountNeverAnswers, failure_in, failure_of, is_never_answered}
 use Rattle.nfs_machine.specs.StatusLaws.{mount_failure_in, mount_never_answers}
 use Rattle.nfs_machine.specs.declared.context.Ctx.{Ctx}
+use Rattle.nfs_machine.proofs.Choosing.{End, Known, Chosen, EndsAs, make_plan, make_new, known, makes-as}
 
 -- a result that is refused with none of these statuses
 record TellsStatus {A : Type 0} (r : Result A NfsStatus) : Type 0 where
@@ -131,6 +132,10 @@ tells-plain self above name first second = search
 tells-answer : {A : Type 0} (r : Result (A × State) NfsStatus) → TellsStatus r → TellsStatus (answer_of r)
 tells-answer (Ok x) tells = record { tells = tt }
 tells-answer (Err e) tells = record { tells = tells.tells }
+
+tells-known : {old : State} (r : Result (Made × State) NfsStatus) → TellsStatus r → TellsStatus (known {old = old} r)
+tells-known (Ok x) tells = record { tells = tt }
+tells-known (Err e) tells = record { tells = tells.tells }
 
 module _ (m : State) (ctx : Ctx) where
   tells-lookup : (place : Place) (parent : ℕ) → TellsStatus (lookup_found m ctx place parent)
@@ -233,17 +238,18 @@ module _ (m : State) (ctx : Ctx) where
   tells-special (special.Fifo given) = record { tells = tt }
   tells-special (special.Other kind) = record { tells = refl }
 
-  module _ (place : Place) (there : ℕ → Option Living → Result (End m) NfsStatus)
+  module _ (place : Place) (there : ℕ → Option Living → Result (Made × State) NfsStatus)
       (found : (number : ℕ) (o : Option Living) → TellsStatus (there number o)) where
     by-name : (what : Wanted) (number : ℕ) (directory : Living) (entries : List Entry) (last : ℕ) (e : Option Entry)
         → TellsStatus (elim e as (λ (_ : Option Entry). Result (End m) NfsStatus) [
-          | Some e ↦ there e.number (get m.objects e.number)
+          | Some e ↦ known (there e.number (get m.objects e.number))
           | None ↦ make_new m ctx place.name what number directory entries last
         ])
     by-name what number directory entries last None = tells-new place.name what number directory entries last
-    by-name what number directory entries last (Some e) = found e.number (get m.objects e.number)
+    by-name what number directory entries last (Some e) = tells-known (there e.number (get m.objects e.number))
+        (found e.number (get m.objects e.number))
 
-    tells-make : (wanted : Result Wanted NfsStatus) → TellsStatus wanted → TellsStatus (make_end m ctx place wanted there)
+    tells-make : (wanted : Result Wanted NfsStatus) → TellsStatus wanted → TellsStatus (make_plan m ctx place wanted there)
     tells-make wanted known =
         tells-chain (object_of (resolve m ctx place.directory)) _ (tells-object _) (λ directory.
         tells-chain (entries_in directory.object.content) _ (tells-entries _) (λ entries.
@@ -260,53 +266,15 @@ module _ (m : State) (ctx : Ctx) where
       TellsStatus (answer_of end)
   tells-ends (Ok (Known answer new)) end is known = subst
       (λ (r : Result (Made × State) NfsStatus). TellsStatus (answer_of r)) (sym is) (tells-value _)
-  tells-ends (Ok (Chosen makes)) end (fresh, is) known = subst
+  tells-ends (Ok (Chosen makes shows)) end (fresh, is) known = subst
       (λ (r : Result (Made × State) NfsStatus). TellsStatus (answer_of r)) (sym is) (tells-value _)
   tells-ends (Err e) end is known = subst
       (λ (r : Result (Made × State) NfsStatus). TellsStatus (answer_of r)) (sym is) (record { tells = known.tells })
 
   -- ---- a name moves
-  abbrev Plan : Type 0
-  Plan = Option (ℕ × ℕ) × Result (Unit {0} × State) NfsStatus
-
-  record PlanTells (plan : Result Plan NfsStatus) : Type 0 where
-    refused : TellsStatus plan
-    planned : IfOk plan (λ p. TellsStatus p.1)
-
-  plan-value : (p : Plan) → TellsStatus p.1 → PlanTells (Ok p)
-  plan-value p known = record { refused = tells-value p; planned = known }
-
-  plan-chain : {A : Type 0} (r : Result A NfsStatus) (f : A → Result Plan NfsStatus) → TellsStatus r →
-      ((x : A) → PlanTells (f x)) → PlanTells (r >>= f)
-  plan-chain (Ok x) f first rest = rest x
-  plan-chain (Err e) f first rest = record { refused = record { tells = first.tells }; planned = tt }
-
-  plan-if : (b : Bool) (x y : Result Plan NfsStatus) → PlanTells x → PlanTells y → PlanTells (cond b x y)
-  plan-if true x y first second = first
-  plan-if false x y first second = second
-
-  tells-move : (now : Time) (a : RenameArguments) (from to : Named)
-      (from_entries to_entries : DirectoryEntries)
-      (moved : Named) (replaced : Option Named)
-      → PlanTells (move_plan m now a from to from_entries to_entries moved replaced)
-  tells-move now a from to from_entries to_entries moved replaced =
-      search (plan-chain, plan-if, plan-value, tells-chain, tells-held, tells-value) depth 16
-
-  tells-plan : (a : RenameArguments) → PlanTells (rename_plan m ctx a)
-  tells-plan a = search
-      (plan-chain, tells-object, tells-entries, tells-plain, tells-held, tells-ok_or, tells-move) depth 30
-
-  tells-renamed : (plan : Result Plan NfsStatus) (end : Result (Unit {0} × State) NfsStatus) → PlanTells plan →
-      RenameEnds m plan end → TellsStatus (answer_of end)
-  tells-renamed (Err e) end is ends = subst (λ (r : Result (Unit {0} × State) NfsStatus). TellsStatus (answer_of r))
-      (sym ends)
-      (record { tells = is.refused.tells })
-  tells-renamed (Ok (None, known)) end is ends = subst
-      (λ (r : Result (Unit {0} × State) NfsStatus). TellsStatus (answer_of r)) (sym ends) (tells-answer known is.planned)
-  tells-renamed (Ok (Some (moved, target), known)) end is (inl into) = subst
-      (λ (r : Result (Unit {0} × State) NfsStatus). TellsStatus (answer_of r)) (sym into.1) (tells-status _ refl)
-  tells-renamed (Ok (Some (moved, target), known)) end is (inr out) = subst
-      (λ (r : Result (Unit {0} × State) NfsStatus). TellsStatus (answer_of r)) (sym out.1) (tells-answer known is.planned)
+  tells-rename : (a : RenameArguments) (is_within : ℕ → ℕ → Bool) → TellsStatus (rename_end m ctx a is_within)
+  tells-rename a is_within = search
+      (tells-chain, tells-object, tells-entries, tells-plain, tells-held, tells-ok_or, tells-if, tells-value) depth 40
 
   -- ---- a directory is listed
   tells-page : (fit : List Entry → Bool) (left : Result (List Entry) NfsStatus)
@@ -357,28 +325,32 @@ nfs_never_answers old ctx (calls.Read a) reply messages new step = subst Well (s
     (tells-read old ctx a).tells
 nfs_never_answers old ctx (calls.Write a) reply messages new step = subst Well (sym step.reply_is)
     (tells-answer (write_end old ctx a) (tells-write old ctx a)).tells
-nfs_never_answers old ctx (calls.Create a) reply messages new step = subst Well (sym step.answers.reply_is)
-    (tells-ends old ctx (make_end old ctx a.place (Ok (wanted_file a.how)) (create_existing old ctx a.how)) step.end
-    step.ends (tells-make old ctx a.place (create_existing old ctx a.how) (tells-existing old ctx a.how)
+nfs_never_answers old ctx (calls.Create a) reply messages new step =
+    let s = makes-as step in subst Well (sym s.answers.reply_is)
+    (tells-ends old ctx (make_plan old ctx a.place (Ok (wanted_file a.how)) (create_existing old ctx a.how)) s.end
+    s.ends (tells-make old ctx a.place (create_existing old ctx a.how) (tells-existing old ctx a.how)
     (Ok (wanted_file a.how)) (tells-value _))).tells
-nfs_never_answers old ctx (calls.Mkdir a) reply messages new step = subst Well (sym step.answers.reply_is)
-    (tells-ends old ctx _ step.end step.ends
+nfs_never_answers old ctx (calls.Mkdir a) reply messages new step =
+    let s = makes-as step in subst Well (sym s.answers.reply_is)
+    (tells-ends old ctx _ s.end s.ends
     (tells-make old ctx a.place (λ number object. Err status.Exists) (λ number object. tells-status _ refl)
     (Ok (wanted_of 493 (Directory [] 2) a.attributes)) (tells-value _))).tells
-nfs_never_answers old ctx (calls.Symlink a) reply messages new step = subst Well (sym step.answers.reply_is)
-    (tells-ends old ctx _ step.end step.ends
+nfs_never_answers old ctx (calls.Symlink a) reply messages new step =
+    let s = makes-as step in subst Well (sym s.answers.reply_is)
+    (tells-ends old ctx _ s.end s.ends
     (tells-make old ctx a.place (λ number object. Err status.Exists) (λ number object. tells-status _ refl)
     (Ok (wanted_of 511 (Link a.text) a.attributes)) (tells-value _))).tells
-nfs_never_answers old ctx (calls.Mknod a) reply messages new step = subst Well (sym step.answers.reply_is)
-    (tells-ends old ctx _ step.end step.ends
+nfs_never_answers old ctx (calls.Mknod a) reply messages new step =
+    let s = makes-as step in subst Well (sym s.answers.reply_is)
+    (tells-ends old ctx _ s.end s.ends
     (tells-make old ctx a.place (λ number object. Err status.Exists) (λ number object. tells-status _ refl) _
     (tells-special old ctx a.what))).tells
 nfs_never_answers old ctx (calls.Remove place) reply messages new step = subst Well (sym step.reply_is)
     (tells-answer (remove_end old ctx place) (tells-remove old ctx place)).tells
 nfs_never_answers old ctx (calls.Rmdir place) reply messages new step = subst Well (sym step.reply_is)
     (tells-answer (rmdir_end old ctx place) (tells-rmdir old ctx place)).tells
-nfs_never_answers old ctx (calls.Rename a) reply messages new step = subst Well (sym step.2.reply_is)
-    (tells-renamed old ctx (rename_plan old ctx a) step.0 (tells-plan old ctx a) step.1).tells
+nfs_never_answers old ctx (calls.Rename a) reply messages new step = subst Well (sym step.answers.reply_is)
+    (tells-answer (rename_end old ctx a step.is_within) (tells-rename old ctx a step.is_within)).tells
 nfs_never_answers old ctx (calls.Link a) reply messages new step = subst Well (sym step.reply_is)
     (tells-answer (link_end old ctx a) (tells-link old ctx a)).tells
 nfs_never_answers old ctx (calls.Readdir a) reply messages new step = subst Well (sym step.answers.reply_is)

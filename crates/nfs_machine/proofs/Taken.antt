@@ -40,7 +40,10 @@ use Rattle.nfs_machine.proofs.Follows.{Follows, LocksFollow, beside-follows, bou
 use Rattle.nfs_machine.proofs.Follows.{locks-on, mounts-losing}
 use Rattle.nfs_machine.proofs.Loose.{AddsName, Loose, Swaps, TakesName, also, loose-added, loose-taken}
 use Rattle.nfs_machine.proofs.Loose.{loose-touched, loosened, names_of-added, names_of-taken, none_loose, tightened}
-use Rattle.nfs_machine.proofs.Moves.{NamedEntry, named_as, remove_end, rmdir_end, take_end, with_name_taken}
+use Rattle.nfs_machine.specs.RemoveSteps.{take_end}
+use Rattle.nfs_machine.specs.RemoveSteps.{rmdir_end}
+use Rattle.nfs_machine.specs.RemoveSteps.{remove_end}
+use Rattle.nfs_machine.proofs.Moves.{NamedEntry, named_as, with_name_taken}
 use Rattle.nfs_machine.proofs.Exported.{plain-no_root}
 
 -- a name that is in its directory, and leads to what lives there

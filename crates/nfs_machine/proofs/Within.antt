@@ -5,10 +5,11 @@ use Rattle.std.specs.FinMap.{FinMap, get, remove, values}
 use Rattle.std.specs.List.{count_by, sum_by}
 use Rattle.std.specs.Ordering.{nat_cmp}
 use Rattle.nfs_machine.specs.Attributes.{entries_of, is_directory, is_living_directory, names_in, names_of}
-use Rattle.nfs_machine.specs.RenameSteps.{IsWithin, itself, below}
+use Rattle.nfs_machine.specs.RenameSteps.{IsWithin, TellsWithin, itself, below}
 use Rattle.nfs_machine.specs.State.{Entry, Living, State}
+use Rattle.nfs_machine.specs.WellFormed.{WellFormed}
 use Rattle.nfs_machine.proofs.Changes.{differs-other, differs-remove, part-of_sum, sum-differs, weight}
-use Rattle.nfs_machine.proofs.Loose.{Deepens, Loose}
+use Rattle.nfs_machine.proofs.Loose.{Deepens, Loose, loosened, none_loose}
 use Rattle.nfs_machine.proofs.Roots.{has-directory, passing}
 use Rattle.nfs_machine.proofs.Sums.{sum-some_part}
 use Rattle.nfs_machine.proofs.WellFormed.{Deep, all_both, all_map, counted}
@@ -159,3 +160,14 @@ module _ (m : State) (loose : ℕ → Bool) (l : Loose loose m) where
               | false ↦ λ e. omega (arith, depth-in top top-in, depth-out place e)
             ] refl;
       }
+
+-- in a well-formed state there is such a test
+pub within-told : (m : State) → WellFormed m → (is_within : ℕ → ℕ → Bool) × TellsWithin m is_within
+within-told m w =
+    let l = loosened none_loose m w in (
+      λ upper lower. (told m none_loose l upper lower).is,
+      λ upper lower living. (
+        λ is. (told m none_loose l upper lower).within living is,
+        λ within. (told m none_loose l upper lower).complete living within,
+      ),
+    )

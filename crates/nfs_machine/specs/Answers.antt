@@ -8,7 +8,7 @@ use Rattle.side_wire.specs.declared.message.Message.{Message}
 use Rattle.nfs_machine.specs.Checks.{◌>>=◌, object_of}
 use Rattle.nfs_machine.specs.Resolve.{Named, resolve}
 use Rattle.nfs_machine.specs.Shown.{shown}
-use Rattle.nfs_machine.specs.State.{Living, State}
+use Rattle.nfs_machine.specs.State.{State}
 use Rattle.nfs_machine.specs.declared.context.Ctx.{Ctx}
 
 -- this answer, no message, and this state, which is the old one where nothing changes

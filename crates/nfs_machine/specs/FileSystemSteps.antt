@@ -1,11 +1,18 @@
--- What FSSTAT, FSINFO and PATHCONF tell of file systems (RFC 1813, 3.3.18 to 3.3.20). Each export is one.
-use Rattle.std.specs.Prelude.{ℕ, ◌+◌, ◌-◌, true, false, List, count_by, sum_by, if◌then◌else◌, ◌==◌}
+-- The steps of FSSTAT, FSINFO and PATHCONF (RFC 1813, 3.3.18 to 3.3.20). Each export is a file system.
+use Rattle.std.specs.Prelude.{Ok, ℕ, ◌+◌, ◌-◌, true, false, List, count_by, sum_by, if◌then◌else◌}
+use Rattle.std.specs.Prelude.{◌==◌}
+use Rattle.std.specs.FinMap.{values}
 use Rattle.nfs_wire.specs.declared.replies.FileSystem.{FileSystem}
+use Rattle.nfs_wire.specs.declared.replies.NfsReply.{NfsReply}
+use Rattle.nfs_wire.specs.declared.replies.NfsReply.TheVariants as replies
 use Rattle.nfs_wire.specs.declared.replies.PathLimits.{PathLimits}
 use Rattle.nfs_wire.specs.declared.replies.Space.{Space}
+use Rattle.side_wire.specs.declared.message.Message.{Message}
+use Rattle.nfs_machine.specs.Answers.{TellsOfObject}
 use Rattle.nfs_machine.specs.Attributes.{block, used_of}
 use Rattle.nfs_machine.specs.Data.{transfer_limit, size_limit}
-use Rattle.nfs_machine.specs.State.{Living}
+use Rattle.nfs_machine.specs.State.{Living, State}
+use Rattle.nfs_machine.specs.declared.context.Ctx.{Ctx}
 
 -- FSSTAT, 3.3.18: what the living objects of an export leave of a total of bytes, and of the 4,294,967,295 files that
 -- it tells of; never below 0
@@ -23,6 +30,11 @@ space_left total objects export =
       unchanged_for = 0;
     }
 
+abbrev pub FsstatStep : State → Ctx → (object : List ℕ) → NfsReply → List Message → State → Type 0
+FsstatStep old ctx object = TellsOfObject old ctx object
+    (λ attributes result. replies.Fsstat (record { attributes = attributes; result = result }))
+    (λ o. Ok (space_left ctx.limits.total_bytes (values old.objects) o.object.export))
+
 -- FSINFO, 3.3.19
 abbrev pub file_system : FileSystem
 file_system = record {
@@ -39,6 +51,10 @@ file_system = record {
   properties = 1 + 2 + 8 + 16;
 }
 
+abbrev pub FsinfoStep : State → Ctx → (object : List ℕ) → NfsReply → List Message → State → Type 0
+FsinfoStep old ctx object = TellsOfObject old ctx object
+    (λ attributes result. replies.Fsinfo (record { attributes = attributes; result = result })) (λ o. Ok file_system)
+
 -- PATHCONF, 3.3.20: names are compared as bytes, and one that is too long is refused
 abbrev pub path_limits : PathLimits
 path_limits = record {
@@ -49,3 +65,8 @@ path_limits = record {
   case_insensitive = false;
   case_preserving = true;
 }
+
+abbrev pub PathconfStep : State → Ctx → (object : List ℕ) → NfsReply → List Message → State → Type 0
+PathconfStep old ctx object = TellsOfObject old ctx object
+    (λ attributes result. replies.Pathconf (record { attributes = attributes; result = result }))
+    (λ o. Ok path_limits)

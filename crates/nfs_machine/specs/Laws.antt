@@ -17,6 +17,7 @@ use Rattle.nfs_machine.specs.Handles.{handle_bytes, handle_of}
 use Rattle.nfs_machine.specs.NfsSteps.{NfsStep}
 use Rattle.nfs_machine.specs.Opening.{opening}
 use Rattle.nfs_machine.specs.Refusal.{nfs_refusal}
+use Rattle.nfs_machine.specs.RenameSteps.{TellsWithin}
 use Rattle.nfs_machine.specs.Run.{Arrival, Asks, Executes, Record, Run, Setting}
 use Rattle.nfs_machine.specs.State.{Entry, Living, State}
 use Rattle.nfs_machine.specs.Step.{Step}
@@ -182,3 +183,7 @@ StepsKeepForm = (old : State) (ctx : Ctx) (call : Call) (reply : Reply) (message
 abbrev pub ChainsKeepForm : Type 0
 ChainsKeepForm = (first last : State) (steps : List Transition) → Chain first steps last → WellFormed first →
     WellFormed last
+
+-- so a RENAME has a step
+abbrev pub WithinIsTold : Type 0
+WithinIsTold = (m : State) → WellFormed m → (is_within : ℕ → ℕ → Bool) × TellsWithin m is_within

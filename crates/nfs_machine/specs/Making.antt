@@ -1,7 +1,7 @@
 -- How a call makes a new object under a new name (RFC 1813, 3.3.8 to 3.3.11).
 use Rattle.std.specs.Prelude.{not, length, ◌≡◌, ℕ, ◌+◌, ◌<◌, ◌^◌, ◌%◌, true, false, ◌&&◌}
 use Rattle.std.specs.Prelude.{◌||◌, Bool, List, [], ◌∷◌, ◌++◌, Option, Some, None, unwrap_or, Result}
-use Rattle.std.specs.Prelude.{Ok, Err, nat_le, nat_lt, ◌==◌}
+use Rattle.std.specs.Prelude.{Ok, nat_le, nat_lt, ◌==◌, ◌⊎◌}
 use Rattle.std.specs.FinMap.{get}
 use Rattle.std.specs.List.{list_any}
 use Rattle.nfs_wire.specs.declared.attributes.SetAttributes.{SetAttributes}
@@ -24,18 +24,21 @@ use Rattle.nfs_machine.specs.State.{Content, Directory, Link, BlockDevice, Chara
 use Rattle.nfs_machine.specs.Times.{is_time, time_set, time_of}
 use Rattle.nfs_machine.specs.declared.context.Ctx.{Ctx}
 
--- What the machine chooses for a new object: a number that no living object has and a generation that was never given
--- with it. From then on it is spent, beside all that was.
-pub record Fresh (m : State) : Type 0 where
+-- what the machine chooses for a new object, and what is spent from then on
+pub record Choice : Type 0 where
   pub number : ℕ
   pub generation : ℕ
   pub spent : ℕ → ℕ → Bool
-  pub number_fits : number < 2 ^ 64
-  pub generation_fits : generation < 2 ^ 64
-  pub free : get m.objects number ≡ None
-  pub never_given : m.spent number generation ≡ false
-  pub given : spent number generation ≡ true
-  pub kept : (n g : ℕ) → m.spent n g ≡ true → spent n g ≡ true
+
+-- The number is that of no living object, and the generation was never given with it. From then on it is spent, beside
+-- all that was.
+pub record IsFresh (m : State) (choice : Choice) : Type 0 where
+  pub number_fits : choice.number < 2 ^ 64
+  pub generation_fits : choice.generation < 2 ^ 64
+  pub free : get m.objects choice.number ≡ None
+  pub never_given : m.spent choice.number choice.generation ≡ false
+  pub given : choice.spent choice.number choice.generation ≡ true
+  pub kept : (n g : ℕ) → m.spent n g ≡ true → choice.spent n g ≡ true
 
 -- the attributes that a new object is given, judged (2.5: sattr3)
 abbrev pub given_attributes : Ctx → SetAttributes → Result (Unit {0}) NfsStatus
@@ -76,19 +79,6 @@ with_entry entries last_cookie name number = Directory
 abbrev pub made : State → Ctx → ℕ → Living → Made
 made m ctx number o = record { object = Some (handle_at ctx number o); attributes = Some (attributes_of m number o) }
 
--- What a call that may make an object comes to: what it answers and the state after it, or these as the machine
--- chooses. So nothing has to be chosen for what is refused, or was there.
-pub data End (old : State) : Type 0 where
-  Known : (answer : Made) (new : State) → End old
-  Chosen : (makes : Fresh old → Made × State) → End old
-
-abbrev pub EndsAs : (old : State) → Result (End old) NfsStatus → Result (Made × State) NfsStatus → Type 0
-EndsAs old comes_to end = elim comes_to [
-  | Ok (Known answer new) ↦ end ≡ Ok (answer, new)
-  | Ok (Chosen makes) ↦ (fresh : Fresh old) × (end ≡ Ok (makes fresh))
-  | Err e ↦ end ≡ Err e
-]
-
 -- what is judged of an object of each kind: a directory brings one link to its parent, which has so many; the text of
 -- a link is neither empty nor holds a NUL, and has at most 4,096 bytes; uid 0 alone makes devices (3.3.9 to 3.3.11)
 abbrev pub kind_checked : Ctx → (links : ℕ) → Content → Result (Unit {0}) NfsStatus
@@ -100,42 +90,39 @@ kind_checked ctx links (BlockDevice device) = holding (ctx.ids.uid == 0) status.
 kind_checked ctx links (CharacterDevice device) = holding (ctx.ids.uid == 0) status.Permission
 kind_checked ctx links content = Ok tt
 
--- the last checks, of the object's kind, of the attributes that are given, and that the directory has a cookie left
--- for the name; then the object, under its name in the directory
-abbrev pub make_new : (old : State) → Ctx → (name : List ℕ) → Wanted → ℕ → Living → List Entry →
-    ℕ → Result (End old) NfsStatus
-make_new old ctx name wanted number directory entries last_cookie = do
-  _ ← kind_checked ctx (links_of old number directory.content) wanted.content
-  _ ← given_attributes ctx wanted.attributes
-  _ ← holding (nat_lt (last_cookie + 1) (2 ^ 64)) status.NoSpace
-  Ok (Chosen (λ fresh.
-      let o = new_object ctx directory.export fresh.generation wanted in
-      let wider = with_content directory (time_of ctx.moment) (with_entry entries last_cookie name fresh.number) in
-      let new = record (with_object (with_object old number wider) fresh.number o) { spent = fresh.spent } in
-      (made new ctx fresh.number o, new)))
-
--- a call that makes what is wanted under a name; where the name is there, it comes to what the procedure makes of the
--- object that it leads to
-abbrev pub make_end : (old : State) → Ctx → Place → Result Wanted NfsStatus →
-    (there : ℕ → Option Living → Result (End old) NfsStatus) → Result (End old) NfsStatus
-make_end old ctx place wanted there = do
+-- what a call comes to that makes what is asked for under a name, with a number and a generation for it; where the name
+-- is there, what the procedure makes of the object that it leads to
+abbrev pub make_end : State → Ctx → Choice → Place → (asked : Result Wanted NfsStatus) →
+    (there : ℕ → Option Living → Result (Made × State) NfsStatus) → Result (Made × State) NfsStatus
+make_end old ctx choice place asked there = do
   directory ← object_of (resolve old ctx place.directory)
   entries ← entries_in directory.object.content
   _ ← plain_name_checked status.Exists status.Exists place.name
-  what ← wanted
+  wanted ← asked
   _ ← changeable old.exports directory.object
   _ ← permitted ctx directory.object ToChange
   elim (entry_of entries.list place.name) [
     | Some e ↦ there e.number (get old.objects e.number)
-    | None ↦ make_new old ctx place.name what directory.number directory.object entries.list entries.last_cookie
+    | None ↦ do
+      _ ← kind_checked ctx (links_of old directory.number directory.object.content) wanted.content
+      _ ← given_attributes ctx wanted.attributes
+      -- the directory has a cookie left for the name
+      _ ← holding (nat_lt (entries.last_cookie + 1) (2 ^ 64)) status.NoSpace
+      let o = new_object ctx directory.object.export choice.generation wanted
+      let wider = with_content directory.object (time_of ctx.moment)
+          (with_entry entries.list entries.last_cookie place.name choice.number)
+      let new = record (with_object (with_object old directory.number wider) choice.number o) { spent = choice.spent }
+      Ok (made new ctx choice.number o, new)
   ]
 
 -- the step of such a call: its directory is shown before and after
-pub record MakeStep (old : State) (ctx : Ctx) (place : Place) (wanted : Result Wanted NfsStatus)
-    (there : ℕ → Option Living → Result (End old) NfsStatus)
+pub record MakeStep (old : State) (ctx : Ctx) (place : Place) (asked : Result Wanted NfsStatus)
+    (there : ℕ → Option Living → Result (Made × State) NfsStatus)
     (reply_of : MadeReply → NfsReply) (reply : NfsReply) (messages : List Message) (new : State) : Type 0 where
-  pub end : Result (Made × State) NfsStatus
-  pub ends : EndsAs old (make_end old ctx place wanted there) end
+  pub choice : Choice
+  -- it is fresh, unless nothing of it shows: where the call is refused, or the name was there
+  pub fresh : IsFresh old choice ⊎ ((other : Choice) →
+      make_end old ctx other place asked there ≡ make_end old ctx choice place asked there)
   pub answers : Ends old
       (λ after result. reply_of (record { directory = wcc after (resolve old ctx place.directory); result = result }))
-      end reply messages new
+      (make_end old ctx choice place asked there) reply messages new

@@ -61,16 +61,16 @@ walk find number [] = entries_at (find number) >>= λ d. Ok (record { number = n
 walk find number (name ∷ names) = entries_at (find number) >>= λ d. ok_or
     (entry_of d.1 name) status.NoEntry >>= λ e. walk find e.number names
 
--- what a path names for a caller: the walk begins at the root of the export that is chosen
+-- no export that admits the host leads there
+abbrev pub NoExport : List LivingExport → (host : List ℕ) → (names : List (List ℕ)) → Type 0
+NoExport exports host names = (number : ℕ) (rest : List (List ℕ)) → Matches exports host names number rest → ⊥
+
+-- what a path without fault names for a caller: the walk begins at the root of the export that is chosen
 abbrev pub Target : State → Ctx → List ℕ → Result Named MountStatus → Type 0
 Target m ctx path found =
     (path_fault path ≡ None) × (number : ℕ) × (rest : List (List ℕ)) ×
     (chosen : LongestMatch m.exports ctx.host (parts path) number rest) ×
     (found ≡ walk (get m.objects) chosen.matches.export.root rest)
-
--- no export that admits the host leads there
-abbrev pub NoExport : List LivingExport → (host : List ℕ) → (names : List (List ℕ)) → Type 0
-NoExport exports host names = (number : ℕ) (rest : List (List ℕ)) → Matches exports host names number rest → ⊥
 
 -- this path of this host, as it was sent
 abbrev pub is_of : List ℕ → List ℕ → MountBody → Bool
@@ -88,15 +88,16 @@ abbrev pub with_mount : State → MountBody → State
 with_mount m mounted = if is_mounted m.mounts mounted then m else record m
     { mounts = newest (m.mounts ++ mounted ∷ []) }
 
--- MNT, 5.2.1
+-- MNT, 5.2.1, in this order: the path has a fault; no export that admits the host leads there; the walk from the root
+-- of the one that is chosen ends in a refusal; or the pair is mounted, and the handle answered
 abbrev pub MntAnswers : State → Ctx → List ℕ → Result (List ℕ) MountStatus → State → Type 0
-MntAnswers old ctx path (Ok handle) new =
-    (found : Named) × Target old ctx path (Ok found) × (handle ≡ handle_at ctx found.number found.object)
-    × (new ≡ with_mount old (record { hostname = ctx.host; directory = path }))
 MntAnswers old ctx path (Err e) new =
     ((path_fault path ≡ Some e)
     ⊎ ((path_fault path ≡ None) × NoExport old.exports ctx.host (parts path) × (e ≡ status.Access))
     ⊎ Target old ctx path (Err e)) × (new ≡ old)
+MntAnswers old ctx path (Ok handle) new =
+    (found : Named) × Target old ctx path (Ok found) × (handle ≡ handle_at ctx found.number found.object)
+    × (new ≡ with_mount old (record { hostname = ctx.host; directory = path }))
 
 -- the state without some mounts: UMNT, 5.2.3, takes this path of this host away, and UMNTALL, 5.2.4, every path of it
 abbrev pub without_mounts : State → (MountBody → Bool) → State

@@ -4,25 +4,31 @@ use Rattle.std.specs.Prelude.{nat_le, replicate, if◌then◌else◌}
 use Rattle.std.specs.FinMap.{get}
 use Rattle.nfs_wire.specs.declared.attributes.SetAttributes.{SetAttributes}
 use Rattle.nfs_wire.specs.declared.attributes.SetTime.TheVariants.{Leave}
+use Rattle.nfs_wire.specs.declared.calls.CreateArguments.{CreateArguments}
 use Rattle.nfs_wire.specs.declared.calls.CreateHow.{CreateHow}
 use Rattle.nfs_wire.specs.declared.calls.CreateHow.TheVariants.{Unchecked, Guarded, Exclusive}
 use Rattle.nfs_wire.specs.declared.calls.Place.{Place}
 use Rattle.nfs_wire.specs.declared.replies.Found.{Found}
+use Rattle.nfs_wire.specs.declared.replies.Made.{Made}
+use Rattle.nfs_wire.specs.declared.replies.NfsReply.{NfsReply}
+use Rattle.nfs_wire.specs.declared.replies.NfsReply.TheVariants as replies
 use Rattle.nfs_wire.specs.declared.status.NfsStatus.{NfsStatus}
 use Rattle.nfs_wire.specs.declared.status.NfsStatus.TheVariants as status
+use Rattle.side_wire.specs.declared.message.Message.{Message}
+use Rattle.nfs_machine.specs.Answers.{Answers}
 use Rattle.nfs_machine.specs.Attributes.{attributes_of}
 use Rattle.nfs_machine.specs.Bytes.{same_bytes}
 use Rattle.nfs_machine.specs.Checks.{◌>>=◌, holding, object_of, entries_in, bytes_in, name_checked, permitted}
 use Rattle.nfs_machine.specs.Checks.{entry_of}
 use Rattle.nfs_machine.specs.Data.{size_limit, resized}
-pub use Rattle.nfs_machine.specs.Making.{Fresh, given_attributes, new_object, with_entry, made, End, Known, Chosen}
-pub use Rattle.nfs_machine.specs.Making.{EndsAs}
-use Rattle.nfs_machine.specs.Making.{Wanted}
+pub use Rattle.nfs_machine.specs.Making.{given_attributes, new_object, with_entry, made}
+use Rattle.nfs_machine.specs.Making.{MakeStep, Wanted}
+use Rattle.nfs_machine.specs.PageSteps.{IsParentOf}
 use Rattle.nfs_machine.specs.Pages.{all_entries}
 use Rattle.nfs_machine.specs.Permission.{ToWrite, ToSearch}
 use Rattle.nfs_machine.specs.Resolve.{resolve}
-use Rattle.nfs_machine.specs.Shown.{handle_at, with_content, replaced}
-use Rattle.nfs_machine.specs.State.{Regular, Entry, Living, State}
+use Rattle.nfs_machine.specs.Shown.{handle_at, shown, with_content, replaced}
+use Rattle.nfs_machine.specs.State.{Regular, Entry, Living, State, octal}
 use Rattle.nfs_machine.specs.Times.{time_of}
 use Rattle.nfs_machine.specs.declared.context.Ctx.{Ctx}
 
@@ -40,6 +46,15 @@ lookup_found m ctx place parent = do
   number ← leads_to directory.number parent entries.list place.name
   o ← ok_or (get m.objects number) status.NoEntry
   Ok (record { object = handle_at ctx number o; attributes = Some (attributes_of m number o) })
+
+-- its directory is shown, and has this parent
+abbrev pub LookupStep : State → Ctx → Place → NfsReply → List Message → State → Type 0
+LookupStep old ctx place reply messages new = (parent : ℕ) × IsParentOf old ctx place.directory parent
+    × Answers (replies.Lookup
+    (record {
+      directory = shown old (resolve old ctx place.directory);
+      result = lookup_found old ctx place parent;
+    })) old reply messages new
 
 -- CREATE, 3.3.8
 -- What is there under the name. Only a regular file can be answered: UNCHECKED answers it, cut or filled up to the
@@ -60,12 +75,11 @@ create_over ctx (Exclusive verifier) file
     (Ok bytes) = if elim file.verifier [ None ↦ false | Some kept ↦ same_bytes kept verifier.bytes ] then Ok None
     else Err status.Exists
 
-abbrev pub create_existing : (old : State) → Ctx → CreateHow → ℕ → Option Living →
-    Result (End old) NfsStatus
+abbrev pub create_existing : State → Ctx → CreateHow → ℕ → Option Living → Result (Made × State) NfsStatus
 create_existing old ctx how number None = Err status.Exists
 create_existing old ctx how number (Some o) = do
   after ← create_over ctx how o (bytes_in o.content)
-  Ok (Known (made (replaced old number after) ctx number (unwrap_or after o)) (replaced old number after))
+  Ok (made (replaced old number after) ctx number (unwrap_or after o), replaced old number after)
 
 -- a new file of mode 0644, filled with zeros up to the size that is given; EXCLUSIVE gives no attribute, but a
 -- verifier that the file keeps
@@ -78,8 +92,11 @@ wanted_file how =
     [ Unchecked a ↦ (a, None) | Guarded a ↦ (a, None) | Exclusive verifier ↦ (nothing, Some verifier.bytes) ]
     in
     record {
-      mode = 420;
+      mode = octal 6 4 4;
       content = Regular (replicate (unwrap_or given.0.size 0) 0);
       attributes = given.0;
       verifier = given.1;
     }
+
+abbrev pub CreateStep : State → Ctx → CreateArguments → NfsReply → List Message → State → Type 0
+CreateStep old ctx a = MakeStep old ctx a.place (Ok (wanted_file a.how)) (create_existing old ctx a.how) replies.Create

@@ -5,7 +5,7 @@ use Rattle.std.specs.Ordering.{nat_cmp}
 use Rattle.std.specs.FinMap.{FinMap, empty, insert}
 use Rattle.nfs_wire.specs.declared.attributes.Time.{Time}
 use Rattle.nfs_machine.specs.Exports.{ExportValue, opening_exports}
-use Rattle.nfs_machine.specs.State.{Directory, Living, State}
+use Rattle.nfs_machine.specs.State.{Directory, Living, State, octal}
 pub use Rattle.nfs_machine.specs.Times.{time_of}
 use Rattle.nfs_machine.specs.declared.moment.Moment.{Moment}
 
@@ -16,7 +16,7 @@ opening_root number time =
       export = number;
       generation = 1;
       content = Directory [] 2;
-      mode = 511;
+      mode = octal 7 7 7;
       uid = 0;
       gid = 0;
       accessed = time;

@@ -1,11 +1,15 @@
 -- The step of the procedures that list directories, READDIR and READDIRPLUS (RFC 1813, 3.3.16 and 3.3.17).
-use Rattle.std.specs.Prelude.{◌≡◌, ℕ, Bool, true, ◌||◌, List, Option, Result, Ok, Err, option_map, ◌==◌}
+use Rattle.std.specs.Prelude.{◌≡◌, ℕ, Bool, true, ◌||◌, List, Option, Result, Ok, Err, option_map, map}
+use Rattle.std.specs.Prelude.{◌==◌}
 use Rattle.std.specs.FinMap.{get}
 use Rattle.nfs_wire.specs.declared.attributes.Attributes.{Attributes}
+use Rattle.nfs_wire.specs.declared.calls.ReaddirArguments.{ReaddirArguments}
+use Rattle.nfs_wire.specs.declared.calls.ReaddirplusArguments.{ReaddirplusArguments}
 use Rattle.nfs_wire.specs.declared.calls.Verifier.{Verifier}
 use Rattle.nfs_wire.specs.declared.entries.FullEntry.{FullEntry}
 use Rattle.nfs_wire.specs.declared.entries.PageEntry.{PageEntry}
 use Rattle.nfs_wire.specs.declared.replies.NfsReply.{NfsReply}
+use Rattle.nfs_wire.specs.declared.replies.NfsReply.TheVariants as replies
 use Rattle.nfs_wire.specs.declared.status.NfsStatus.{NfsStatus}
 use Rattle.nfs_wire.specs.declared.status.NfsStatus.TheVariants as status
 use Rattle.side_wire.specs.declared.message.Message.{Message}
@@ -14,7 +18,7 @@ use Rattle.nfs_machine.specs.Attributes.{is_directory}
 use Rattle.nfs_machine.specs.Bytes.{same_bytes}
 use Rattle.nfs_machine.specs.Checks.{◌>>=◌, holding, object_of, entries_in, permitted}
 use Rattle.nfs_machine.specs.DataSteps.{verifier_of}
-use Rattle.nfs_machine.specs.Pages.{Pages, all_entries, behind}
+use Rattle.nfs_machine.specs.Pages.{Pages, all_entries, behind, fits, fits_full}
 use Rattle.nfs_machine.specs.Permission.{ToList}
 use Rattle.nfs_machine.specs.Resolve.{Names, resolve}
 use Rattle.nfs_machine.specs.Shown.{attributes_at, handle_at, shown}
@@ -64,3 +68,19 @@ full_entry m ctx e = record {
   attributes = attributes_at m e.number;
   object = option_map (handle_at ctx e.number) (get m.objects e.number);
 }
+
+abbrev pub ReaddirStep : State → Ctx → ReaddirArguments → NfsReply → List Message → State → Type 0
+ReaddirStep old ctx a = PageStep old ctx a.directory a.cookie a.verifier (fits a.count) (λ attributes page.
+    replies.Readdir (record {
+      attributes = attributes;
+      result = page >>= λ p. Ok (record { verifier = verifier_of ctx; entries = map page_entry p.0; eof = p.1 });
+    }))
+
+abbrev pub ReaddirplusStep : State → Ctx → ReaddirplusArguments → NfsReply → List Message → State → Type 0
+ReaddirplusStep old ctx a = PageStep old ctx a.directory a.cookie a.verifier
+    (fits_full a.directory_count a.most) (λ attributes page.
+    replies.Readdirplus (record {
+      attributes = attributes;
+      result = page >>= λ p. Ok
+          (record { verifier = verifier_of ctx; entries = map (full_entry old ctx) p.0; eof = p.1 });
+    }))

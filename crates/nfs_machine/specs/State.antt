@@ -1,5 +1,5 @@
 -- The state of the machine: one value, which one call at a time changes (RFC 1813, 1.6 and 2.5; appendices I and II).
-use Rattle.std.specs.Prelude.{ℕ, ℤ, Bool, List, Option}
+use Rattle.std.specs.Prelude.{ℕ, ◌+◌, ◌*◌, ℤ, Bool, List, Option}
 use Rattle.std.specs.Ordering.{nat_cmp}
 use Rattle.std.specs.FinMap.{FinMap}
 use Rattle.nfs_wire.specs.declared.attributes.DeviceNumber.{DeviceNumber}
@@ -26,6 +26,10 @@ pub data Content : Type 0 where
   CharacterDevice : (device : DeviceNumber) → Content
   Socket : Content
   Fifo : Content
+
+-- a mode by its three digits: of the owner, the group and others
+abbrev pub octal : (owner group other : ℕ) → ℕ
+octal owner group other = owner * 64 + group * 8 + other
 
 -- a living object; its handle is made of its export, the start number, its number and its generation
 pub record Living : Type 0 where

@@ -11,7 +11,7 @@ use Rattle.nfs_machine.specs.MountSteps.{LongestMatch, path_fault, walk}
 use Rattle.nfs_machine.specs.Paths.{parts, slash}
 use Rattle.nfs_machine.specs.Permission.{ToRead, ToWrite, ToSearch, ToList, ToChange, class_bits, may}
 use Rattle.nfs_machine.specs.Resolve.{BadHandle, Stale, Names, named}
-use Rattle.nfs_machine.specs.State.{Content, Regular, Directory, Living}
+use Rattle.nfs_machine.specs.State.{Content, Regular, Directory, Living, octal}
 use Rattle.nfs_machine.specs.declared.context.Ctx.{Ctx}
 use Rattle.nfs_machine.specs.declared.context.Limits.{Limits}
 use Rattle.nfs_machine.specs.declared.handle.Handle.{Handle}
@@ -88,11 +88,11 @@ root_bytes =
 abbrev pub find : ℕ → Option Living
 find number =
     if number == 1 then Some
-    (object 511 (Directory
+    (object (octal 7 7 7) (Directory
     (record { name = codes "sub"; number = 2; cookie = 3 } ∷
     record { name = codes "file"; number = 3; cookie = 4 } ∷ []) 4))
-    else (if number == 2 then Some (object 511 (Directory [] 2)) else
-    (if number == 3 then Some (object 420 (Regular [])) else None))
+    else (if number == 2 then Some (object (octal 7 7 7) (Directory [] 2)) else
+    (if number == 3 then Some (object (octal 6 4 4) (Regular [])) else None))
 
 abbrev pub open_export : ExportValue
 open_export = record { path = codes "/a"; read_only = false; hosts = codes "*" ∷ [] }
@@ -114,7 +114,7 @@ called_by host start moment limits = record
 
 -- the root of the second export
 abbrev pub lower_root : Living
-lower_root = record (object 511 (Directory [] 2)) { export = 2 }
+lower_root = record (object (octal 7 7 7) (Directory [] 2)) { export = 2 }
 
 abbrev pub lower_handle : Handle
 lower_handle = record { export = 2; start = 7; fileid = 2; generation = 1 }

@@ -1,5 +1,6 @@
 -- CREATE worked through by hand: what a new file is, and what becomes of one that is there (RFC 1813, 3.3.8).
-use Rattle.std.specs.Prelude.{replicate, ◌≡◌, ℕ, List, [], ◌∷◌, Option, Some, None, Result, Ok, Err}
+use Rattle.std.specs.Prelude.{◌+◌, replicate, ◌≡◌, ℕ, List, [], ◌∷◌, Option, Some, None, Result, Ok}
+use Rattle.std.specs.Prelude.{Err}
 use Rattle.std.specs.Prelude.{codes}
 use Rattle.std.proofs.Common.{lit<}
 use Rattle.nfs_wire.specs.declared.attributes.SetAttributes.{SetAttributes}
@@ -16,7 +17,7 @@ use Rattle.nfs_machine.specs.Making.{Wanted, given_attributes, new_object, with_
 use Rattle.nfs_machine.specs.NameSteps.{create_over}
 use Rattle.nfs_machine.specs.Opening.{opening_root}
 use Rattle.nfs_machine.specs.Shown.{with_content}
-use Rattle.nfs_machine.specs.State.{Regular, Directory, Living, State}
+use Rattle.nfs_machine.specs.State.{Regular, Directory, Living, State, octal}
 use Rattle.nfs_machine.specs.Worked.{open_export, user}
 use Rattle.nfs_machine.specs.WorkedFiles.{time}
 use Rattle.nfs_machine.specs.declared.context.Ctx.{Ctx}
@@ -56,7 +57,7 @@ file bytes changed verifier = record {
   export = 1;
   generation = 4;
   content = Regular bytes;
-  mode = 420;
+  mode = octal 6 4 4;
   uid = 9;
   gid = 9;
   accessed = time 1000 0;
@@ -79,12 +80,13 @@ pub record WorkedAttributes : Type 0 where
 
 -- an empty file of mode 0644, where these are given
 abbrev pub empty_file : SetAttributes → Wanted
-empty_file given = record { mode = 420; content = Regular []; attributes = given; verifier = None }
+empty_file given = record { mode = octal 6 4 4; content = Regular []; attributes = given; verifier = None }
 
 -- a new file, and its directory with the new name
 pub record WorkedNewFile : Type 0 where
   pub plain : new_object (called_as 9) 1 4 (empty_file no_attributes) ≡ file [] (time 1000 0) None
-  pub mode : (new_object (called_as 9) 1 4 (empty_file (record no_attributes { mode = Some 4480 }))).mode ≡ 384
+  pub mode : (new_object (called_as 9) 1 4 (empty_file
+      (record no_attributes { mode = Some (4096 + octal 6 0 0) }))).mode ≡ octal 6 0 0
   pub time_given : (new_object (called_as 9) 1 4
       (empty_file (record no_attributes { modified = ToClient (time 5 6) }))).modified ≡ time 5 6
   pub directory : with_content (opening_root 1 (time 1000 0)) (time 1000 0) (with_entry [] 2 (codes "x") 2) ≡ record

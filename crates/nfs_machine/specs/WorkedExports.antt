@@ -17,7 +17,7 @@ use Rattle.nfs_machine.specs.Opening.{opening}
 use Rattle.nfs_machine.specs.PageSteps.{page_entry}
 use Rattle.nfs_machine.specs.Resolve.{Names, Stale, resolve}
 use Rattle.nfs_machine.specs.Shown.{shown}
-use Rattle.nfs_machine.specs.State.{Directory, Entry, Living, State}
+use Rattle.nfs_machine.specs.State.{Directory, Entry, Living, State, octal}
 use Rattle.nfs_machine.specs.WellFormed.{IsParent, is_root}
 use Rattle.nfs_machine.specs.Worked.{lower_export, object, open_export}
 use Rattle.nfs_machine.specs.WorkedCreate.{moment}
@@ -34,14 +34,14 @@ lower = record { number = 3; root = 20; value = lower_export }
 
 -- the root of `/a`, with the directory "sub"
 abbrev pub upper_root : Living
-upper_root = record (object 511 (Directory (record { name = codes "sub"; number = 7; cookie = 3 } ∷ []) 3))
+upper_root = record (object (octal 7 7 7) (Directory (record { name = codes "sub"; number = 7; cookie = 3 } ∷ []) 3))
     { export = 7 }
 
 abbrev pub sub : Living
-sub = record (object 511 (Directory [] 2)) { export = 7 }
+sub = record (object (octal 7 7 7) (Directory [] 2)) { export = 7 }
 
 abbrev pub lower_root : Living
-lower_root = record (object 511 (Directory [] 2)) { export = 3 }
+lower_root = record (object (octal 7 7 7) (Directory [] 2)) { export = 3 }
 
 abbrev pub objects : FinMap nat_cmp Living
 objects = insert (insert (insert empty 20 lower_root) 7 sub) 12 upper_root

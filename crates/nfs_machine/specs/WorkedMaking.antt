@@ -22,7 +22,7 @@ use Rattle.nfs_machine.specs.Making.{made}
 use Rattle.nfs_machine.specs.NfsSteps.{NfsStep}
 use Rattle.nfs_machine.specs.Resolve.{resolve}
 use Rattle.nfs_machine.specs.Shown.{wcc, with_content}
-use Rattle.nfs_machine.specs.State.{Content, Directory, Fifo, Link, Entry, Living, State}
+use Rattle.nfs_machine.specs.State.{Content, Directory, Fifo, Link, Entry, Living, State, octal}
 use Rattle.nfs_machine.specs.Worked.{root_bytes}
 use Rattle.nfs_machine.specs.WorkedCreate.{no_attributes}
 use Rattle.nfs_machine.specs.WorkedFiles.{time}
@@ -61,7 +61,7 @@ with_new o = record opened {
 }
 
 abbrev pub bare_directory : Living
-bare_directory = new 493 (Directory [] 2)
+bare_directory = new (octal 7 5 5) (Directory [] 2)
 
 abbrev pub made_as : Living → MadeReply
 made_as o = record {
@@ -100,13 +100,14 @@ pub record WorkedMaking : Type 0 where
   pub above : NfsStep opened nobody (nfs.Mkdir (mkdir (codes "..")))
       (nfs_replies.Mkdir (not_made opened status.Exists)) [] opened
   pub link : NfsStep opened nobody (nfs.Symlink (symlink (codes "x")))
-      (nfs_replies.Symlink (made_as (new 511 (Link (codes "x"))))) [] (with_new (new 511 (Link (codes "x"))))
+      (nfs_replies.Symlink (made_as (new (octal 7 7 7) (Link (codes "x"))))) []
+      (with_new (new (octal 7 7 7) (Link (codes "x"))))
   pub empty_link : NfsStep opened nobody (nfs.Symlink (symlink []))
       (nfs_replies.Symlink (not_made opened status.Invalid)) [] opened
   pub long_link : NfsStep opened nobody (nfs.Symlink (symlink (replicate 4097 97)))
       (nfs_replies.Symlink (not_made opened status.NameTooLong)) [] opened
   pub fifo : NfsStep opened nobody (nfs.Mknod (mknod (special.Fifo no_attributes)))
-      (nfs_replies.Mknod (made_as (new 420 Fifo))) [] (with_new (new 420 Fifo))
+      (nfs_replies.Mknod (made_as (new (octal 6 4 4) Fifo))) [] (with_new (new (octal 6 4 4) Fifo))
   pub device : NfsStep opened nobody (nfs.Mknod (mknod (special.BlockDevice no_attributes disk)))
       (nfs_replies.Mknod (not_made opened status.Permission)) [] opened
   pub regular : NfsStep opened nobody (nfs.Mknod (mknod (special.Other ordinary.Regular)))

@@ -1,13 +1,15 @@
 -- Calls on names worked through by hand: MKDIR, SYMLINK, MKNOD, REMOVE, RMDIR, RENAME and LINK (RFC 1813, 3.3.9 to
 -- 3.3.15).
-use Rattle.std.specs.Prelude.{◌≡◌, ℕ, ℤ, true, false, List, [], ◌∷◌, ◌++◌, Option, Some, None}
+use Rattle.std.specs.Prelude.{◌≡◌, ℕ, ℤ, Bool, true, false, List, [], ◌∷◌, ◌++◌, Option, Some, None}
 use Rattle.std.specs.Prelude.{Result, Ok, Err, codes, replicate, is_none}
 use Rattle.std.specs.FinMap.{FinMap, empty, get, insert}
 use Rattle.std.specs.Ordering.{nat_cmp}
 use Rattle.nfs_wire.specs.declared.attributes.DeviceNumber.{DeviceNumber}
 use Rattle.nfs_wire.specs.declared.calls.Ordinary.TheVariants as ordinary
+use Rattle.nfs_wire.specs.declared.calls.RenameArguments.{RenameArguments}
 use Rattle.nfs_wire.specs.declared.calls.Special.TheVariants.{BlockDevice, Fifo, Other}
 use Rattle.nfs_wire.specs.declared.status.NfsStatus.{NfsStatus}
+use Rattle.nfs_wire.specs.declared.status.NfsStatus.TheVariants as status
 use Rattle.side_wire.specs.declared.message.NlmLock.{NlmLock}
 use Rattle.side_wire.specs.declared.nlm.ShareAccess.TheVariants as access
 use Rattle.side_wire.specs.declared.nlm.ShareMode.TheVariants as mode
@@ -17,18 +19,16 @@ use Rattle.nfs_machine.specs.FileLists.{with_list}
 use Rattle.nfs_machine.specs.MakeSteps.{wanted_of, wanted_special}
 use Rattle.nfs_machine.specs.Making.{Wanted, given_attributes, kind_checked, new_object}
 use Rattle.nfs_machine.specs.Refusal.{no_wcc}
-use Rattle.nfs_machine.specs.RemoveSteps.{empty_directory, losing_name, not_directory, without, without_object}
-use Rattle.nfs_machine.specs.RenameSteps.{IsWithin, RenameEnds, is_compatible, move_plan}
-use Rattle.nfs_wire.specs.declared.calls.RenameArguments.{RenameArguments}
-use Rattle.nfs_wire.specs.declared.status.NfsStatus.TheVariants as status
-use Rattle.nfs_machine.specs.Resolve.{Named, Stale, Names}
+use Rattle.nfs_machine.specs.RemoveSteps.{empty_directory, losing_name, not_directory, object_under, without}
+use Rattle.nfs_machine.specs.RemoveSteps.{without_object}
+use Rattle.nfs_machine.specs.RenameSteps.{IsWithin, TellsWithin, is_compatible, rename_end}
+use Rattle.nfs_machine.specs.Resolve.{Named, Stale, Names, resolve}
 use Rattle.nfs_machine.specs.Shown.{after_first, touched, wcc, with_content, with_object}
 use Rattle.nfs_machine.specs.State.{Content, Regular, Directory, Link, Entry, Living, Lock, PendingGrant, Request}
-use Rattle.nfs_machine.specs.State.{Share}
-use Rattle.nfs_machine.specs.State.{State}
+use Rattle.nfs_machine.specs.State.{octal, Share, State}
 use Rattle.nfs_machine.specs.State as state
 use Rattle.nfs_machine.specs.Worked.{object}
-use Rattle.nfs_machine.specs.WorkedCreate.{called_as, no_attributes, sized}
+use Rattle.nfs_machine.specs.WorkedCreate.{called_as, no_attributes, sized, with_writable}
 use Rattle.nfs_machine.specs.WorkedFiles.{time}
 
 -- "." and ".." are there in every directory, and never go or move
@@ -65,26 +65,28 @@ pub record WorkedMakes : Type 0 where
   pub fifo_by_user : kind_checked (called_as 1) 2 state.Fifo ≡ Ok tt
   pub socket_by_user : kind_checked (called_as 1) 2 state.Socket ≡ Ok tt
   pub fifo : wanted_special (Fifo no_attributes) ≡ Ok
-      (record { mode = 420; content = state.Fifo; attributes = no_attributes; verifier = None })
+      (record { mode = octal 6 4 4; content = state.Fifo; attributes = no_attributes; verifier = None })
   pub device : wanted_special (BlockDevice no_attributes disk) ≡ Ok
-      (record { mode = 420; content = state.BlockDevice disk; attributes = no_attributes; verifier = None })
+      (record { mode = octal 6 4 4; content = state.BlockDevice disk; attributes = no_attributes; verifier = None })
   pub empty_text : kind_checked (called_as 9) 2 (Link []) ≡ Err status.Invalid
   pub nul_in_text : kind_checked (called_as 9) 2 (Link (97 ∷ 0 ∷ [])) ≡ Err status.Invalid
   pub plain_text : kind_checked (called_as 9) 2 (Link (codes "../a")) ≡ Ok tt
   pub longest_text : kind_checked (called_as 9) 2 (Link (replicate 4096 97)) ≡ Ok tt
   pub longer_text : kind_checked (called_as 9) 2 (Link (replicate 4097 97)) ≡ Err status.NameTooLong
   pub longer_with_nul : kind_checked (called_as 9) 2 (Link (replicate 4097 97 ++ 0 ∷ [])) ≡ Err status.Invalid
-  pub new_directory : made_by (wanted_of 493 (Directory [] 2) no_attributes) ≡ record (object 493 (Directory [] 2)) {
-    generation = 4;
-    uid = 9;
-    gid = 9;
-    accessed = time 1000 0;
-    modified = time 1000 0;
-    changed = time 1000 0;
-  }
-  pub link_mode : (made_by (wanted_of 511 (Link (codes "a")) no_attributes)).mode ≡ 511
+  pub new_directory : made_by (wanted_of (octal 7 5 5) (Directory [] 2) no_attributes) ≡ record
+      (object (octal 7 5 5) (Directory [] 2)) {
+        generation = 4;
+        uid = 9;
+        gid = 9;
+        accessed = time 1000 0;
+        modified = time 1000 0;
+        changed = time 1000 0;
+      }
+  pub link_mode : (made_by (wanted_of (octal 7 7 7) (Link (codes "a")) no_attributes)).mode ≡ octal 7 7 7
   -- a size is for regular files alone
-  pub no_size : given_attributes (called_as 9) (wanted_of 493 (Directory [] 2) (sized 1048577)).attributes ≡ Ok tt
+  pub no_size : given_attributes (called_as 9) (wanted_of (octal 7 5 5) (Directory [] 2) (sized 1048577)).attributes
+      ≡ Ok tt
 
 abbrev pub first_entry : Entry
 first_entry = record { name = codes "a"; number = 4; cookie = 3 }
@@ -139,8 +141,8 @@ pub record WorkedRemovals : Type 0 where
   pub last_name : (m : State) (o : Living) → losing_name m 1 (time 1000 0) 4 o ≡ without_object m 4
   pub other_name : (m : State) (o : Living) →
       losing_name m 2 (time 1000 0) 4 o ≡ with_object m 4 (touched o (time 1000 0))
-  pub changed : (touched (object 420 (Regular [])) (time 1000 0)) ≡ record
-      (object 420 (Regular [])) { changed = time 1000 0 }
+  pub changed : (touched (object (octal 6 4 4) (Regular [])) (time 1000 0)) ≡ record
+      (object (octal 6 4 4) (Regular [])) { changed = time 1000 0 }
   pub locks_go : (m : State) (process : ℤ) →
       (without_object (record m { locks = of_4_and_5 (lock_of process) }) 4).locks ≡ of_5 (lock_of process)
   -- and its shares, and what waits for a lock of it or was granted
@@ -165,7 +167,7 @@ pub record WorkedLinks : Type 0 where
       → links_of m 1 (Directory both_entries 7) ≡ 4
   -- both names of one directory may lead to one file
   pub two_names : names_in 4
-      (object 511 (Directory (first_entry ∷ record second_entry { number = 4 } ∷ []) 7)) ≡ 2
+      (object (octal 7 7 7) (Directory (first_entry ∷ record second_entry { number = 4 } ∷ []) 7)) ≡ 2
   pub taken_name : is_none (entry_of both_entries (codes "b")) ≡ false
   pub free_name : is_none (entry_of both_entries (codes "c")) ≡ true
   -- of two handles, the second is not looked at where the first names nothing
@@ -173,21 +175,29 @@ pub record WorkedLinks : Type 0 where
   pub read : (o : Living) → after_first (Names 4 o) Stale ≡ Stale
 
 -- "a" of a directory becomes "b" of another, or of the same
-abbrev pub a_to_b : RenameArguments
-a_to_b = record { from = record { directory = []; name = codes "a" }; to = record { directory = []; name = codes "b" } }
+abbrev pub a_to_b : (from to : List ℕ) → RenameArguments
+a_to_b from to = record
+    { from = record { directory = from; name = codes "a" }; to = record { directory = to; name = codes "b" } }
 
--- "a" of directory 2, an object of this content, comes to "b" of a directory, where this stands; the directories have
--- these entries
-abbrev pub move_among : (entries others : List Entry) → State → Content → (target last_cookie : ℕ) →
-    Option Named → Result (Option (ℕ × ℕ) × Result (Unit {0} × State) NfsStatus) NfsStatus
-move_among entries others m content target last_cookie replaced =
-    move_plan m (time 1000 0) a_to_b (record { number = 2; object = object 511 (Directory entries 7) })
-    (record { number = target; object = object 511 (Directory others last_cookie) })
-    (record { list = entries; last_cookie = 7 }) (record { list = others; last_cookie = last_cookie })
-    (record { number = 4; object = object 511 content }) replaced
+-- "a" of directory 2 leads to an object of this content with the number 4, and "b" of the target to this; the
+-- directories have these entries
+pub record Moves (m : State) (from to : List ℕ) (entries others : List Entry) (content : Content)
+    (target last_cookie : ℕ) (replaced : Option Named) : Type 0 where
+  pub source : resolve m (called_as 9) from ≡ Names 2 (object (octal 7 7 7) (Directory entries 7))
+  pub destination : resolve m (called_as 9) to ≡ Names target (object (octal 7 7 7) (Directory others last_cookie))
+  pub moved : object_under m (entry_of entries (codes "a")) ≡
+      Some (record { number = 4; object = object (octal 7 7 7) content })
+  pub over : object_under m (entry_of others (codes "b")) ≡ replaced
+
+-- what its RENAME comes to, where the target is within the object, or not
+abbrev pub MovesTo : State → (entries others : List Entry) → Content → (target last_cookie : ℕ) →
+    Option Named → (is_within : Bool) → Result (Unit {0} × State) NfsStatus → Type 0
+MovesTo m entries others content target last_cookie replaced is_within end =
+    (from to : List ℕ) → Moves m from to entries others content target last_cookie replaced →
+    rename_end m (called_as 9) (a_to_b from to) (λ upper lower. is_within) ≡ end
 
 abbrev pub directory_with : List Entry → ℕ → Living
-directory_with entries last_cookie = with_content (object 511 (Directory [] 7)) (time 1000 0)
+directory_with entries last_cookie = with_content (object (octal 7 7 7) (Directory [] 7)) (time 1000 0)
     (Directory entries last_cookie)
 
 -- the state then: the object has the name "b" of its new directory, with this cookie, behind the names that stay there
@@ -195,7 +205,7 @@ abbrev pub moved_among : List Entry → State → Content → (target : ℕ) →
 moved_among source m content target left cookie =
     with_object (with_object (with_object m 2 (directory_with source 7)) target
     (directory_with (left ++ record { name = codes "b"; number = 4; cookie = cookie } ∷ []) cookie)) 4
-    (touched (object 511 content) (time 1000 0))
+    (touched (object (octal 7 7 7) content) (time 1000 0))
 
 -- beside "a" there is "c", and in another directory "d"
 abbrev pub third_entry : Entry
@@ -208,7 +218,7 @@ abbrev pub fourth_entry : Entry
 fourth_entry = record { name = codes "d"; number = 7; cookie = 5 }
 
 abbrev pub empty_place : Option Named
-empty_place = Some (record { number = 5; object = object 511 (Directory [] 2) })
+empty_place = Some (record { number = 5; object = object (octal 7 7 7) (Directory [] 2) })
 
 -- what RENAME comes to
 pub record WorkedRenames : Type 0 where
@@ -219,61 +229,64 @@ pub record WorkedRenames : Type 0 where
   pub file_over_link : is_compatible (Regular []) (Link (codes "x")) ≡ true
   -- two names of one object
   pub same_object : (m : State) (entries others : List Entry) →
-      move_among entries others m (Regular []) 2 7 (Some (record { number = 4; object = object 511 (Regular []) })) ≡
-      Ok (None, Ok (tt, m))
+      MovesTo (with_writable m) entries others (Regular []) 2 7
+      (Some (record { number = 4; object = object (octal 7 7 7) (Regular []) })) false
+      (Ok (tt, with_writable m))
   pub over_file : (m : State) →
-      move_among both_entries both_entries m (Directory [] 2) 2 7
-      (Some (record { number = 5; object = object 420 (Regular []) })) ≡ Err status.Exists
+      MovesTo (with_writable m) both_entries both_entries (Directory [] 2) 2 7
+      (Some (record { number = 5; object = object (octal 6 4 4) (Regular []) })) true (Err status.Exists)
   pub over_nothing : (m : State) →
-      move_among beside beside m (Directory [] 2) 2 7 None ≡ Ok
-      (Some (4, 2), Ok (tt, moved_among (third_entry ∷ []) m (Directory [] 2) 2 (third_entry ∷ []) 8))
+      MovesTo (with_writable m) beside beside (Directory [] 2) 2 7 None false
+      (Ok (tt, moved_among (third_entry ∷ []) (with_writable m) (Directory [] 2) 2 (third_entry ∷ []) 8))
   -- what the target keeps: its other names, and in the old name's directory not that one
-  pub left_in_other : (m : State)
-      → move_among beside (fourth_entry ∷ []) m (Regular []) 3 7 None ≡ Ok
-      (None, Ok (tt, moved_among (third_entry ∷ []) m (Regular []) 3 (fourth_entry ∷ []) 8))
+  pub left_in_other : (m : State) →
+      MovesTo (with_writable m) beside (fourth_entry ∷ []) (Regular []) 3 7 None false
+      (Ok (tt, moved_among (third_entry ∷ []) (with_writable m) (Regular []) 3 (fourth_entry ∷ []) 8))
   pub left_in_same : (m : State) →
-      move_among beside beside m (Regular []) 2 7 None ≡ Ok
-      (None, Ok (tt, moved_among (third_entry ∷ []) m (Regular []) 2 (third_entry ∷ []) 8))
+      MovesTo (with_writable m) beside beside (Regular []) 2 7 None false
+      (Ok (tt, moved_among (third_entry ∷ []) (with_writable m) (Regular []) 2 (third_entry ∷ []) 8))
   -- a move that brings a link is refused where the target has all its links; the others go on, whatever links it has
-  pub last_link : (m : State) (entries others : List Entry) → links_of m 3 (Directory others 40000) ≡ 31999
-      → move_among entries others m (Directory [] 2) 3 40000 None
-      ≡ Ok (
-        Some (4, 3),
-        Ok
-            (tt, moved_among (without entries (codes "a")) m (Directory [] 2) 3 (without others (codes "b")) 40001),
-      )
-  pub link_to_other : (m : State) (entries others : List Entry) → links_of m 3 (Directory others 40000) ≡ 32000
-      → move_among entries others m (Directory [] 2) 3 40000 None ≡ Ok (Some (4, 3), Err status.TooManyLinks)
-  pub link_to_same : (m : State) (entries : List Entry)
-      → move_among entries entries m (Directory [] 2) 2 7 None
-      ≡ Ok (
-        Some (4, 2),
-        Ok (
-          tt,
-          moved_among (without entries (codes "a")) m (Directory [] 2) 2
-              (without (without entries (codes "b")) (codes "a")) 8,
-        ),
-      )
-  pub link_over_directory : (m : State) (entries others : List Entry)
-      → move_among entries others m (Directory [] 2) 3 40000 empty_place
-      ≡ Ok (
-        Some (4, 3),
-        Ok (
-          tt,
-          losing_name (moved_among (without entries (codes "a")) m (Directory [] 2) 3
-              (without others (codes "b")) 40001) (names_of m 5) (time 1000 0) 5 (object 511 (Directory [] 2)),
-        ),
-      )
-  pub link_of_file : (m : State) (entries others : List Entry)
-      → move_among entries others m (Regular []) 3 40000 None ≡ Ok
-      (None, Ok (tt, moved_among (without entries (codes "a")) m (Regular []) 3 (without others (codes "b")) 40001))
+  pub last_link : (m : State) (entries others : List Entry) → links_of m 3 (Directory others 40000) ≡ 31999 →
+      MovesTo (with_writable m) entries others (Directory [] 2) 3 40000 None false
+      (Ok (
+        tt,
+        moved_among (without entries (codes "a")) (with_writable m) (Directory [] 2) 3
+            (without others (codes "b")) 40001,
+      ))
+  pub link_to_other : (m : State) (entries others : List Entry) → links_of m 3 (Directory others 40000) ≡ 32000 →
+      MovesTo (with_writable m) entries others (Directory [] 2) 3 40000 None false (Err status.TooManyLinks)
+  -- the target's links are counted behind that
+  pub below_first : (m : State) (entries others : List Entry) → links_of m 3 (Directory others 40000) ≡ 32000 →
+      MovesTo (with_writable m) entries others (Directory [] 2) 3 40000 None true (Err status.Invalid)
+  pub link_to_same : (m : State) (entries : List Entry) →
+      MovesTo (with_writable m) entries entries (Directory [] 2) 2 7 None false
+      (Ok (
+        tt,
+        moved_among (without entries (codes "a")) (with_writable m) (Directory [] 2) 2
+            (without (without entries (codes "b")) (codes "a")) 8,
+      ))
+  pub link_over_directory : (m : State) (entries others : List Entry) →
+      MovesTo (with_writable m) entries others (Directory [] 2) 3 40000 empty_place false
+      (Ok (
+        tt,
+        losing_name (moved_among (without entries (codes "a")) (with_writable m) (Directory [] 2) 3
+            (without others (codes "b")) 40001) (names_of m 5) (time 1000 0) 5 (object (octal 7 7 7) (Directory [] 2)),
+      ))
+  pub link_of_file : (m : State) (entries others : List Entry) →
+      MovesTo (with_writable m) entries others (Regular []) 3 40000 None false
+      (Ok (
+        tt,
+        moved_among (without entries (codes "a")) (with_writable m) (Regular []) 3
+            (without others (codes "b")) 40001,
+      ))
   pub last_cookie : (m : State) →
-      move_among beside (fourth_entry ∷ []) m (Regular []) 3 18446744073709551615 None ≡ Ok
-      (None, Err status.NoSpace)
+      MovesTo (with_writable m) beside (fourth_entry ∷ []) (Regular []) 3 18446744073709551615 None false
+      (Err status.NoSpace)
   -- a directory into itself
-  pub into_itself : (m : State) (end : Result (Unit {0} × State) NfsStatus)
-      → RenameEnds m (move_among beside (fourth_entry ∷ []) m (Directory (fourth_entry ∷ []) 7) 4 7 None) end →
-      end ≡ Err status.Invalid
+  pub into_itself : (m : State) (from to : List ℕ) (is_within : ℕ → ℕ → Bool) →
+      TellsWithin (with_writable m) is_within →
+      Moves (with_writable m) from to beside (fourth_entry ∷ []) (Directory (fourth_entry ∷ []) 7) 4 7 None →
+      rename_end (with_writable m) (called_as 9) (a_to_b from to) is_within ≡ Err status.Invalid
   -- and below: a name of the directory 4 leads to the directory 6
   pub below : (m : State) (directory : Living) → get m.objects 4 ≡ Some directory →
       directory.content ≡ Directory (record first_entry { number = 6 } ∷ []) 3 → IsWithin m 4 6

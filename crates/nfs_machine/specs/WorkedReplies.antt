@@ -3,11 +3,11 @@ use Rattle.std.specs.Prelude.{◌≡◌, ℕ, List, [], ◌∷◌, take, Some, N
 use Rattle.std.specs.FinMap.{get, values}
 use Rattle.nfs_wire.specs.declared.attributes.Attributes.{Attributes}
 use Rattle.nfs_wire.specs.declared.attributes.FileType.TheVariants as types
-use Rattle.nfs_wire.specs.declared.attributes.WeakAttributes.{WeakAttributes}
-use Rattle.nfs_wire.specs.declared.calls.SetattrArguments.{SetattrArguments}
 use Rattle.nfs_wire.specs.declared.attributes.Time.{Time}
+use Rattle.nfs_wire.specs.declared.attributes.WeakAttributes.{WeakAttributes}
 use Rattle.nfs_wire.specs.declared.calls.NfsCall.{NfsCall}
 use Rattle.nfs_wire.specs.declared.calls.NfsCall.TheVariants as calls
+use Rattle.nfs_wire.specs.declared.calls.SetattrArguments.{SetattrArguments}
 use Rattle.nfs_wire.specs.declared.replies.NfsReply.{NfsReply}
 use Rattle.nfs_wire.specs.declared.replies.NfsReply.TheVariants as replies
 use Rattle.nfs_wire.specs.declared.status.NfsStatus.TheVariants as status
@@ -16,13 +16,13 @@ use Rattle.nfs_machine.specs.FileSystemSteps.{file_system, path_limits}
 use Rattle.nfs_machine.specs.Handles.{handle_bytes}
 use Rattle.nfs_machine.specs.NfsSteps.{NfsStep}
 use Rattle.nfs_machine.specs.Opening.{opening_root}
+use Rattle.nfs_machine.specs.PageSteps.{entries_left}
+use Rattle.nfs_machine.specs.Pages.{all_entries}
 use Rattle.nfs_machine.specs.Shown.{with_object}
-use Rattle.nfs_machine.specs.State.{Living, State}
+use Rattle.nfs_machine.specs.State.{Living, State, octal}
 use Rattle.nfs_machine.specs.Worked.{root_bytes}
 use Rattle.nfs_machine.specs.WorkedCreate.{called_as, file, with_writable}
 use Rattle.nfs_machine.specs.WorkedFiles.{time}
-use Rattle.nfs_machine.specs.Pages.{all_entries}
-use Rattle.nfs_machine.specs.PageSteps.{entries_left}
 use Rattle.nfs_machine.specs.WorkedPages.{seven, zeros}
 use Rattle.nfs_machine.specs.WorkedSetting.{with_mode}
 use Rattle.nfs_machine.specs.declared.context.Ctx.{Ctx}
@@ -47,7 +47,7 @@ abbrev pub file_bytes : List ℕ
 file_bytes = handle_bytes (record { export = 1; start = 7; fileid = 2; generation = 4 })
 
 abbrev pub setting_mode : Time → SetattrArguments
-setting_mode guard = record { object = file_bytes; attributes = with_mode 384; guard = Some guard }
+setting_mode guard = record { object = file_bytes; attributes = with_mode (octal 6 0 0); guard = Some guard }
 
 -- what is shown of the file in this mode, and changed then
 abbrev pub file_shown : ℕ → Time → Attributes
@@ -70,7 +70,7 @@ file_shown mode changed = record {
 abbrev pub root_shown : Attributes
 root_shown = record {
   kind = types.Directory;
-  mode = 511;
+  mode = octal 7 7 7;
   links = 2;
   uid = 0;
   gid = 0;
@@ -98,29 +98,36 @@ IsReplied m ctx call reply = NfsStep m ctx call reply [] m
 pub record WorkedFileReplies : Type 0 where
   pub guarded : (m : State) → HasFile m →
       IsReplied (with_writable m) (called_as 0) (calls.Setattr (setting_mode (time 1000 0))) (replies.Setattr (record {
-        wcc = record { before = Some file_before; after = Some (file_shown 420 (time 1000 1)) };
+        wcc = record { before = Some file_before; after = Some (file_shown (octal 6 4 4) (time 1000 1)) };
         result = Err status.NotSynchronized;
       }))
   pub set : (m : State) → HasFile m →
       NfsStep (with_writable m) (called_as 0) (calls.Setattr (setting_mode (time 1000 1))) (replies.Setattr (record {
-        wcc = record { before = Some file_before; after = Some (file_shown 384 (time 1000 2)) };
+        wcc = record { before = Some file_before; after = Some (file_shown (octal 6 0 0) (time 1000 2)) };
         result = Ok tt;
-      })) [] (with_object (with_writable m) 2 (record known_file { mode = 384; changed = time 1000 2 }))
+      })) [] (with_object (with_writable m) 2 (record known_file { mode = octal 6 0 0; changed = time 1000 2 }))
   pub access : (m : State) → HasFile m
       → IsReplied (with_writable m) (called_as 5) (calls.Access (record { object = file_bytes; rights = 63 }))
-      (replies.Access (record { attributes = Some (file_shown 420 (time 1000 1)); result = Ok 1 }))
+      (replies.Access (record { attributes = Some (file_shown (octal 6 4 4) (time 1000 1)); result = Ok 1 }))
   pub no_link : (m : State) → HasFile m
       → IsReplied (with_writable m) (called_as 0) (calls.Readlink file_bytes)
-      (replies.Readlink (record { attributes = Some (file_shown 420 (time 1000 1)); result = Err status.Invalid }))
+      (replies.Readlink (record {
+        attributes = Some (file_shown (octal 6 4 4) (time 1000 1));
+        result = Err
+            status.Invalid;
+      }))
   pub committed : (m : State) → HasFile m →
       IsReplied (with_writable m) (called_as 5) (calls.Commit (record { file = file_bytes; offset = 0; count = 0 }))
       (replies.Commit (record {
-        wcc = record { before = Some file_before; after = Some (file_shown 420 (time 1000 1)) };
+        wcc = record { before = Some file_before; after = Some (file_shown (octal 6 4 4) (time 1000 1)) };
         result = Ok (record { bytes = 0 ∷ 0 ∷ 0 ∷ 0 ∷ 0 ∷ 0 ∷ 0 ∷ 7 ∷ [] });
       }))
   pub limits : (m : State) → HasFile m
       → IsReplied (with_writable m) (called_as 0) (calls.Pathconf file_bytes)
-      (replies.Pathconf (record { attributes = Some (file_shown 420 (time 1000 1)); result = Ok path_limits }))
+      (replies.Pathconf (record {
+        attributes = Some (file_shown (octal 6 4 4) (time 1000 1));
+        result = Ok path_limits;
+      }))
   pub bad_handle : (m : State) →
       IsReplied (with_writable m) (called_as 0) (calls.Fsinfo (take 31 file_bytes))
       (replies.Fsinfo (record { attributes = None; result = Err status.BadHandle }))

@@ -34,7 +34,7 @@ use Rattle.nfs_machine.specs.Opening.{opening}
 use Rattle.nfs_machine.specs.PageSteps.{page_entry}
 use Rattle.nfs_machine.specs.Readings.{Between, ReadsAll, ReadsPage, StaysThrough, Throughout, Turn, named_in, steps_of}
 use Rattle.nfs_machine.specs.RemoveSteps.{without, without_object}
-use Rattle.nfs_machine.specs.RenameSteps.{rename_plan}
+use Rattle.nfs_machine.specs.RenameSteps.{rename_end}
 use Rattle.nfs_machine.specs.Resolve.{resolve}
 use Rattle.nfs_machine.specs.Run.{Arrival, FromHost, Received, Record, Run, Setting}
 use Rattle.nfs_machine.specs.SideLaws.{HostFits}
@@ -261,32 +261,34 @@ renamed m entries =
     (Directory (left ++ record { name = codes "y"; number = 5; cookie = 40001 } ∷ []) 40001))) 5
     (touched x_written (time 1000 0))
 
--- what it comes to: the checks in their order, a move to a name that is free, and two names of one file
-pub record WorkedRenaming (m : State) (entries : List Entry) : Type 0 where
-  pub self : rename_plan (read_only m) nobody (renaming (codes ".") (replicate 256 120)) ≡ Err status.Invalid
-  pub above : rename_plan m nobody (renaming (codes "x") (codes "..")) ≡ Err status.Invalid
-  pub long : rename_plan m nobody (renaming (codes "x") (replicate 256 120)) ≡ Err status.NameTooLong
-  pub fixed : rename_plan (read_only m) nobody (renaming (codes "x") (codes "y")) ≡ Err status.ReadOnly
+-- what it comes to, where the root is within the file or not: the checks in their order, a move to a name that is
+-- free, and two names of one file
+pub record WorkedRenaming (m : State) (entries : List Entry) (is_within : ℕ → ℕ → Bool) : Type 0 where
+  pub self : rename_end (read_only m) nobody (renaming (codes ".") (replicate 256 120)) is_within ≡ Err status.Invalid
+  pub above : rename_end m nobody (renaming (codes "x") (codes "..")) is_within ≡ Err status.Invalid
+  pub long : rename_end m nobody (renaming (codes "x") (replicate 256 120)) is_within ≡ Err status.NameTooLong
+  pub fixed : rename_end (read_only m) nobody (renaming (codes "x") (codes "y")) is_within ≡ Err status.ReadOnly
   pub nothing : entry_of entries (codes "x") ≡ None →
-      rename_plan m nobody (renaming (codes "x") (codes "y")) ≡ Err status.NoEntry
-  pub from_file : rename_plan m nobody
-      (record { from = record { directory = x_bytes; name = codes "x" }; to = in_root (codes "y") }) ≡
+      rename_end m nobody (renaming (codes "x") (codes "y")) is_within ≡ Err status.NoEntry
+  pub from_file : rename_end m nobody
+      (record { from = record { directory = x_bytes; name = codes "x" }; to = in_root (codes "y") }) is_within ≡
       Err status.NotDirectory
-  pub into_file : rename_plan m nobody
-      (record { from = in_root (codes "x"); to = record { directory = x_bytes; name = codes "y" } }) ≡
+  pub into_file : rename_end m nobody
+      (record { from = in_root (codes "x"); to = record { directory = x_bytes; name = codes "y" } }) is_within ≡
       Err status.NotDirectory
   pub moves : (cookie : ℕ) →
       entry_of entries (codes "x") ≡ Some (record { name = codes "x"; number = 5; cookie = cookie }) →
-      entry_of entries (codes "y") ≡ None
-      → rename_plan m nobody (renaming (codes "x") (codes "y")) ≡ Ok (None, Ok (tt, renamed m entries))
+      entry_of entries (codes "y") ≡ None → is_within 5 1 ≡ false
+      → rename_end m nobody (renaming (codes "x") (codes "y")) is_within ≡ Ok (tt, renamed m entries)
   pub both : (cookie other : ℕ) →
       entry_of entries (codes "x") ≡ Some (record { name = codes "x"; number = 5; cookie = cookie })
       → entry_of entries (codes "y") ≡ Some (record { name = codes "y"; number = 5; cookie = other }) →
-      rename_plan m nobody (renaming (codes "x") (codes "y")) ≡ Ok (None, Ok (tt, m))
+      rename_end m nobody (renaming (codes "x") (codes "y")) is_within ≡ Ok (tt, m)
 
 abbrev pub WorkedRenamings : Type 0
 WorkedRenamings = (m : State) (entries : List Entry) → get m.objects 1 ≡ Some (root_with entries) →
-    get m.objects 5 ≡ Some x_written → WorkedRenaming (with_writable m) entries
+    get m.objects 5 ≡ Some x_written → (is_within : ℕ → ℕ → Bool) → WorkedRenaming (with_writable m)
+    entries is_within
 
 -- "x" is taken away where it is the first of the file's two names: "y" keeps its cookie, and the file lives on
 abbrev pub y_entry : Entry

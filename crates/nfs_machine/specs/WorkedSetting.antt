@@ -1,5 +1,6 @@
 -- SETATTR, ACCESS, FSSTAT, FSINFO and PATHCONF worked through by hand (RFC 1813, 3.3.2, 3.3.4 and 3.3.18 to 3.3.20).
-use Rattle.std.specs.Prelude.{◌≡◌, ℕ, true, false, List, [], ◌∷◌, replicate, Option, Some, None, Result}
+use Rattle.std.specs.Prelude.{◌+◌, ◌≡◌, ℕ, true, false, List, [], ◌∷◌, replicate, Option, Some}
+use Rattle.std.specs.Prelude.{None, Result}
 use Rattle.std.specs.Prelude.{Ok}
 use Rattle.std.specs.Prelude.{Err, codes}
 use Rattle.nfs_rpc.specs.declared.credentials.Ids.{Ids}
@@ -14,7 +15,7 @@ use Rattle.nfs_machine.specs.Checks.{bytes_in, text_in}
 use Rattle.nfs_machine.specs.Exports.{LivingExport, opening_exports}
 use Rattle.nfs_machine.specs.FileSystemSteps.{space_left, file_system, path_limits}
 use Rattle.nfs_machine.specs.Opening.{opening_root}
-use Rattle.nfs_machine.specs.State.{Content, Regular, Directory, Link, Fifo, Living}
+use Rattle.nfs_machine.specs.State.{Content, Regular, Directory, Link, Fifo, Living, octal}
 use Rattle.nfs_machine.specs.Worked.{member, object, open_export, user}
 use Rattle.nfs_machine.specs.WorkedCreate.{called_as, file, sized, no_attributes, writable}
 use Rattle.nfs_machine.specs.WorkedFiles.{hello, time}
@@ -43,13 +44,13 @@ set_by uid a o = set_object writable (called_as uid) o (setting a None)
 -- the guard, and times
 pub record WorkedGuard : Type 0 where
   pub changed_since : set_object writable (called_as 0) known
-      (setting (with_mode 384) (Some (time 1000 0))) ≡ Err status.NotSynchronized
-  pub as_known : set_object writable (called_as 0) known (setting (with_mode 384) (Some (time 1000 1))) ≡ Ok
-      (record known { mode = 384; changed = time 1000 2 })
+      (setting (with_mode (octal 6 0 0)) (Some (time 1000 0))) ≡ Err status.NotSynchronized
+  pub as_known : set_object writable (called_as 0) known (setting (with_mode (octal 6 0 0)) (Some (time 1000 1))) ≡ Ok
+      (record known { mode = octal 6 0 0; changed = time 1000 2 })
   pub other_second : set_object writable (called_as 0) known
-      (setting (with_mode 384) (Some (time 999 1))) ≡ Err status.NotSynchronized
+      (setting (with_mode (octal 6 0 0)) (Some (time 999 1))) ≡ Err status.NotSynchronized
   pub bad_guard : set_object writable (called_as 0) known
-      (setting (with_mode 384) (Some (time 1000 1000000000))) ≡ Err status.NotSynchronized
+      (setting (with_mode (octal 6 0 0)) (Some (time 1000 1000000000))) ≡ Err status.NotSynchronized
   pub unguarded : set_by 9 no_attributes known ≡ Ok (record known { changed = time 1000 2 })
   pub size : set_by 9 (sized 2) known ≡ Ok
       (record known { content = Regular (codes "he"); modified = time 1000 2; changed = time 1000 2 })
@@ -57,22 +58,23 @@ pub record WorkedGuard : Type 0 where
       (record known { modified = time 5 6; changed = time 1000 2 })
   pub server_time : set_by 9 (record no_attributes { accessed = ToServer; modified = ToServer }) known ≡ Ok
       (record known { modified = time 1000 0; changed = time 1000 2 })
-  pub twelve_bits : set_by 9 (with_mode 4480) known ≡ Ok (record known { mode = 384; changed = time 1000 2 })
+  pub twelve_bits : set_by 9 (with_mode (4096 + octal 6 0 0)) known ≡ Ok
+      (record known { mode = octal 6 0 0; changed = time 1000 2 })
   pub verifier : set_by 9 no_attributes (record known { verifier = Some (codes "12345678") }) ≡ Ok
       (record known { changed = time 1000 2 })
 
 -- the first check that fails decides
 pub record WorkedSetting : Type 0 where
   pub read_only : set_object unwritable (called_as 0) known
-      (setting (with_mode 384) (Some (time 1000 0))) ≡ Err status.ReadOnly
+      (setting (with_mode (octal 6 0 0)) (Some (time 1000 0))) ≡ Err status.ReadOnly
   pub guard_first : set_object writable (called_as 0) known
       (setting (record no_attributes { modified = ToClient (time 0 1000000000) }) (Some (time 1000 0))) ≡
       Err status.NotSynchronized
   pub bad_time : set_by 5
       (record (sized 1048577) { modified = ToClient (time 0 1000000000) }) known ≡ Err status.Invalid
   pub directory : set_by 5 (sized 1048577) (opening_root 1 (time 1000 0)) ≡ Err status.Invalid
-  pub too_big : set_by 5 (record (sized 1048577) { mode = Some 384 }) known ≡ Err status.FileTooBig
-  pub mode : set_by 5 (record (sized 2) { mode = Some 384 }) known ≡ Err status.Permission
+  pub too_big : set_by 5 (record (sized 1048577) { mode = Some (octal 6 0 0) }) known ≡ Err status.FileTooBig
+  pub mode : set_by 5 (record (sized 2) { mode = Some (octal 6 0 0) }) known ≡ Err status.Permission
   pub client_time : set_by 5 (record no_attributes { accessed = ToClient (time 5 6) }) known ≡ Err status.Permission
   pub given_away : set_by 9 (record no_attributes { uid = Some 8 }) known ≡ Err status.Permission
   pub kept : set_by 9 (record no_attributes { uid = Some 9; gid = Some 9 }) known ≡ Ok
@@ -106,15 +108,15 @@ pub record WorkedAccess : Type 0 where
   pub root_runs : rights (user 0 0) 417 (Regular []) ≡ 45
   pub owner_of_nothing : rights (user 100 9) 0 Fifo ≡ 13
   -- a directory of mode 0755
-  pub directory : rights (user 100 9) 493 (Directory [] 2) ≡ 31
-  pub other_directory : rights (user 9 9) 493 (Directory [] 2) ≡ 3
+  pub directory : rights (user 100 9) (octal 7 5 5) (Directory [] 2) ≡ 31
+  pub other_directory : rights (user 9 9) (octal 7 5 5) (Directory [] 2) ≡ 3
   -- of mode 0050: the owner's class alone counts
   pub closed_directory : rights (user 100 9) 40 (Directory [] 2) ≡ 0
   pub root_directory : rights (user 0 0) 0 (Directory [] 2) ≡ 31
-  pub read_only : granted unwritable (by (user 0 0)) (object 493 (Directory [] 2)) 63 ≡ 3
-  pub read_only_file : granted unwritable (by (user 0 0)) (object 493 (Regular [])) 63 ≡ 33
-  pub asked : granted writable (by (user 100 9)) (object 493 (Directory [] 2)) 18 ≡ 18
-  pub unknown : granted writable (by (user 100 9)) (object 493 (Directory [] 2)) 4294967264 ≡ 0
+  pub read_only : granted unwritable (by (user 0 0)) (object (octal 7 5 5) (Directory [] 2)) 63 ≡ 3
+  pub read_only_file : granted unwritable (by (user 0 0)) (object (octal 7 5 5) (Regular [])) 63 ≡ 33
+  pub asked : granted writable (by (user 100 9)) (object (octal 7 5 5) (Directory [] 2)) 18 ≡ 18
+  pub unknown : granted writable (by (user 100 9)) (object (octal 7 5 5) (Directory [] 2)) 4294967264 ≡ 0
 
 -- kinds that READLINK and COMMIT are refused of
 pub record WorkedKinds : Type 0 where

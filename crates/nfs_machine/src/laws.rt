@@ -6,7 +6,7 @@ ghost use Rattle.nfs_machine.specs.Laws.{ArrivalsAskOnce, HandlesAreRead, Handle
 ghost use Rattle.nfs_machine.specs.Laws.{OpeningIsFormed, OpeningNumbersFit, RefusalsAreShort, RefusalsChangeNothing};
 ghost use Rattle.nfs_machine.specs.Laws.{RepliesAreShort, RunsGoOn, RunsJoin, ChainsKeepForm, ChainsKeepNumbers};
 ghost use Rattle.nfs_machine.specs.Laws.{StepsGiveOnce, StepsKeepCookies, StepsKeepExports, StepsKeepForm};
-ghost use Rattle.nfs_machine.specs.Laws.{StepsKeepNumbers};
+ghost use Rattle.nfs_machine.specs.Laws.{StepsKeepNumbers, WithinIsTold};
 ghost use Rattle.nfs_machine.specs.LockLaws.{ListedLocksTell, OpeningIsApart, OpeningWaitsForNone, ChainsKeepApart};
 ghost use Rattle.nfs_machine.specs.LockLaws.{ChainsKeepWaiting, StepsKeepApart, StepsKeepWaiting};
 ghost use Rattle.nfs_machine.specs.MountLaws.{MountRepliesAreBounded};
@@ -226,6 +226,14 @@ pub fn side_refusals_change_nothing()
     ensures mount { MountRefusalsChangeNothing }
     ensures nlm { NlmRefusalsChangeNothing }
     ensures posted { PostedRefusalsChangeNothing }
+{}
+
+/// In a well-formed state a test tells which directories are one another or below one another, as a step of RENAME
+/// does: whether a directory would go below itself is told of each.
+///
+/// Such states are in `worked_run`.
+pub fn within_is_told()
+    ensures { WithinIsTold }
 {}
 
 /// A lock conflicts with nothing where no listed lock stands in its way.

@@ -20,8 +20,10 @@ use Rattle.nfs_machine.specs.Answers.{answer_of, state_after}
 use Rattle.nfs_machine.specs.Attributes.{attributes_of, is_directory, links_of}
 use Rattle.nfs_machine.specs.Checks.{DirectoryEntries, ◌>>=◌, holding, object_of, entries_in, bytes_in, plain_name_checked, changeable, permitted, entry_of}
 use Rattle.nfs_machine.specs.Exports.{LivingExport, opening_exports}
-use Rattle.nfs_machine.specs.NameSteps.{End, Known, Chosen, EndsAs, Fresh, create_existing, create_over, given_attributes, made, new_object, with_entry, wanted_file}
-use Rattle.nfs_machine.specs.Making.{make_new}
+use Rattle.nfs_machine.proofs.Choosing.{Chosen, End, EndsAs, Fresh, known, make_new, makes-so}
+use Rattle.nfs_machine.specs.NameSteps.{create_existing, create_over, given_attributes, made, new_object, with_entry}
+use Rattle.nfs_machine.specs.NameSteps.{wanted_file}
+use Rattle.nfs_machine.specs.Making.{Choice}
 use Rattle.nfs_machine.specs.NfsSteps.{NfsStep}
 use Rattle.nfs_machine.specs.Permission.{ToChange}
 use Rattle.nfs_machine.specs.Resolve.{Resolved, resolve}
@@ -159,7 +161,7 @@ module _ (ctx : Ctx) (view : ViewValue) (a : CreateArguments) where
   -- what the call comes to, where the handle names this
   abbrev end_in : (m : State) → DirectoryEntries → ℕ → Living → Result (End m) NfsStatus
   end_in m entries number directory = elim (entry_of entries.list a.place.name) [
-    | Some e ↦ create_existing m ctx a.how e.number (get m.objects e.number)
+    | Some e ↦ known {old = m} (create_existing m ctx a.how e.number (get m.objects e.number))
     | None ↦ make_new m ctx a.place.name (wanted_file a.how) number directory entries.list entries.last_cookie
   ]
 
@@ -177,11 +179,15 @@ module _ (ctx : Ctx) (view : ViewValue) (a : CreateArguments) where
       → NfsStep m ctx (nfs.Create a) (replies.Create reply) [] new
   unfolding NfsStep
   step m new r end reply is ends d e state =
-      record {
+      makes-so (record {
         end = end;
         ends = subst (λ x. EndsAs m (end_by m x) end) (sym is) ends;
-        answers = record { reply_is = reply-same reply _ _ (d ∙ ap (wcc (state_after m end)) (sym is)) e; no_message = refl; state_is = state };
-      }
+        answers = record {
+          reply_is = reply-same reply _ _ (d ∙ ap (wcc (state_after m end)) (sym is)) e;
+          no_message = refl;
+          state_is = state;
+        };
+      })
 
   abbrev RepliesUnchanged : MadeReply → Type 0
   RepliesUnchanged reply = HoldsUnchanged (calls.Nfs (nfs.Create a)) ctx view (answers.Nfs (replies.Create reply))
@@ -255,34 +261,54 @@ module _ (ctx : Ctx) (view : ViewValue) (a : CreateArguments) where
 
     module _ (d : Directory) (checked : directory_checked ctx i a.place.name ≡ Ok d) where
       entry-number : (o : Option Entry) (n : ℕ) → option_map (λ (e : Entry). e.number) o ≡ Some n → (m : State) (none : Result (End m) NfsStatus)
-          → elim o [ Some e ↦ create_existing m ctx a.how e.number (get m.objects e.number) | None ↦ none ] ≡ create_existing m ctx a.how n (get m.objects n)
+          → elim o [
+            | Some e ↦ known {old = m} (create_existing m ctx a.how e.number (get m.objects e.number))
+            | None ↦ none
+          ]
+          ≡ known {old = m} (create_existing m ctx a.how n (get m.objects n))
       entry-number None n is m none = cc
-      entry-number (Some e) n is m none = ap (λ k. create_existing m ctx a.how k (get m.objects k)) (let same : e.number ≡ n = cc in same)
+      entry-number (Some e) n is m none = ap (λ k. known {old = m} (create_existing m ctx a.how k (get m.objects k)))
+          (let same : e.number ≡ n = cc in same)
 
       -- the name is there, and the view shows what it leads to
-      module _ (n : ℕ) (leads : option_map (λ (e : Entry). e.number) (entry_of d.entries a.place.name) ≡ Some n) (known : Option Object) (seen : seen_at view.entries (addresses.Inode n) ≡ Some known) where
-        there : (s : Store) (m : State) → Represents s m → Fits view s → then m (Ok d) ≡ create_existing m ctx a.how n (living_of known)
+      module _ (n : ℕ) (leads : option_map (λ (e : Entry). e.number) (entry_of d.entries a.place.name) ≡ Some n)
+          (shown : Option Object) (seen : seen_at view.entries (addresses.Inode n) ≡ Some shown) where
+        there : (s : Store) (m : State) → Represents s m → Fits view s → then m (Ok d) ≡ known
+            (create_existing m ctx a.how n (living_of shown))
         there s m stands fits =
             entry-number (entry_of d.entries a.place.name) n leads m (make_new m ctx a.place.name (wanted_file a.how) number (living_of_inode i) d.entries d.last_cookie)
-            ∙ ap (create_existing m ctx a.how n) (lives-seen s m view n known stands fits seen)
+            ∙ ap (λ l. known {old = m} (create_existing m ctx a.how n l))
+            (lives-seen s m view n shown stands fits seen)
 
-        pub absent_holds : (reply : MadeReply) → None ≡ inode_of known → ShowsWcc number i i reply.directory → reply.result ≡ Err status.Exists → RepliesUnchanged reply
-        absent_holds reply none shows result = unchanged_holds (Ok d) reply (λ m. Err status.Exists) checked shows (λ m. refl) (λ s m stands sound fits.
-            (subst (λ x. EndsAs m x (Err status.Exists)) (sym (there s m stands fits ∙ ap (λ (o : Option Inode). create_existing m ctx a.how n (option_map living_of_inode o)) (sym none))) refl, result))
+        pub absent_holds : (reply : MadeReply) → None ≡ inode_of shown → ShowsWcc number i i reply.directory →
+            reply.result ≡ Err status.Exists → RepliesUnchanged reply
+        absent_holds reply none shows result = unchanged_holds (Ok d) reply (λ m. Err status.Exists) checked shows (λ m. refl) (λ s m stands sound fits. (
+          subst (λ x. EndsAs m x (Err status.Exists)) (sym
+              (there s m stands fits ∙ ap (λ (o : Option Inode). known
+              (create_existing m ctx a.how n (option_map living_of_inode o))) (sym none))) refl,
+          result,
+        ))
 
-        module _ (o : Inode) (some : Some o ≡ inode_of known) where
+        module _ (o : Inode) (some : Some o ≡ inode_of shown) where
           at-name : seen_at view.entries (addresses.Inode n) ≡ Some (Some (objects.Inode o))
-          at-name = seen ∙ ap (λ k. Some k) (is_inode known o some)
+          at-name = seen ∙ ap (λ k. Some k) (is_inode shown o some)
 
           abbrev over : Result (Option Living) NfsStatus
           over = create_over ctx a.how (living_of_inode o) (bytes_in (content_of o.content))
 
           existing : (s : Store) (m : State) (x : Result (Option Living) NfsStatus) → Represents s m → Fits view s → x ≡ over
-              → then m (Ok d) ≡ (x >>= λ y. Ok (Known (made (replaced m n y) ctx n (unwrap_or y (living_of_inode o))) (replaced m n y)))
+              → then m (Ok d)
+              ≡ known {old = m} (x >>= λ y. Ok (
+                made (replaced m n y) ctx n (unwrap_or y (living_of_inode o)),
+                replaced m n y,
+              ))
           existing s m x stands fits is =
               there s m stands fits
-              ∙ ap (λ (k : Option Inode). create_existing m ctx a.how n (option_map living_of_inode k)) (sym some)
-              ∙ ap (λ r. r >>= λ y. Ok (Known (made (replaced m n y) ctx n (unwrap_or y (living_of_inode o))) (replaced m n y))) (sym is)
+              ∙ ap (λ (k : Option Inode). known {old = m} (create_existing m ctx a.how n
+              (option_map living_of_inode k)))
+              (sym some)
+              ∙ ap (λ (r : Result (Option Living) NfsStatus). known {old = m} (r >>= λ y. Ok
+              (made (replaced m n y) ctx n (unwrap_or y (living_of_inode o)), replaced m n y))) (sym is)
 
           pub over_refused_holds : (e : NfsStatus) (reply : MadeReply) → Err e ≡ over → ShowsWcc number i i reply.directory → reply.result ≡ Err e → RepliesUnchanged reply
           over_refused_holds e reply is shows result = unchanged_holds (Ok d) reply (λ m. Err e) checked shows (λ m. refl) (λ s m stands sound fits.
@@ -339,24 +365,30 @@ module _ (ctx : Ctx) (view : ViewValue) (a : CreateArguments) where
       -- the name is not there
       module _ (absent : entry_of d.entries a.place.name ≡ None) where
         -- what the machine makes with the number and the generation that it chooses
-        abbrev makes_new : (m : State) → Fresh m → Made × State
-        makes_new m fresh =
-            let o = new_object ctx i.export fresh.generation (wanted_file a.how) in
-            let wider = with_content (living_of_inode i) (time_of ctx.moment) (with_entry d.entries d.last_cookie a.place.name fresh.number) in
-            let new = record (with_object (with_object m number wider) fresh.number o) { spent = fresh.spent } in
-            (made new ctx fresh.number o, new)
+        abbrev makes_new : State → Choice → Made × State
+        makes_new m choice =
+            let o = new_object ctx i.export choice.generation (wanted_file a.how) in
+            let wider = with_content (living_of_inode i) (time_of ctx.moment)
+            (with_entry d.entries d.last_cookie a.place.name choice.number) in
+            let new = record (with_object (with_object m number wider) choice.number o) { spent = choice.spent } in
+            (made new ctx choice.number o, new)
 
-        new-there : (m : State) → then m (Ok d) ≡ (new_judged ctx a.how d.last_cookie >>= λ _. Ok (Chosen (makes_new m)))
+        new-there : (m : State) → then m (Ok d) ≡ (new_judged ctx a.how d.last_cookie >>= λ _. Ok
+            (Chosen (makes_new m) (λ choice. refl)))
         new-there m =
             ap (λ (o : Option Entry). elim o [
-              | Some e ↦ create_existing m ctx a.how e.number (get m.objects e.number)
+              | Some e ↦ known {old = m} (create_existing m ctx a.how e.number (get m.objects e.number))
               | None ↦ make_new m ctx a.place.name (wanted_file a.how) number (living_of_inode i) d.entries d.last_cookie
             ]) absent
-            ∙ judged-then (given_attributes ctx (wanted_file a.how).attributes) (holding (nat_lt (d.last_cookie + 1) (2 ^ 64)) status.NoSpace) (Chosen (makes_new m))
+            ∙ judged-then (given_attributes ctx (wanted_file a.how).attributes)
+            (holding (nat_lt (d.last_cookie + 1) (2 ^ 64)) status.NoSpace) (Chosen (makes_new m) (λ choice. refl))
 
         pub new_refused_holds : (e : NfsStatus) (reply : MadeReply) → Err e ≡ new_judged ctx a.how d.last_cookie → ShowsWcc number i i reply.directory → reply.result ≡ Err e → RepliesUnchanged reply
-        new_refused_holds e reply is shows result = unchanged_holds (Ok d) reply (λ m. Err e) checked shows (λ m. refl) (λ s m stands sound fits.
-            (subst (λ x. EndsAs m x (Err e)) (sym (new-there m ∙ ap (λ r. r >>= λ _. Ok (Chosen (makes_new m))) (sym is))) refl, result))
+        new_refused_holds e reply is shows result = unchanged_holds (Ok d) reply (λ m. Err e) checked shows (λ m. refl) (λ s m stands sound fits. (
+          subst (λ x. EndsAs m x (Err e)) (sym (new-there m ∙ ap
+              (λ r. r >>= λ _. Ok (Chosen (makes_new m) (λ choice. refl))) (sym is))) refl,
+          result,
+        ))
 
         module _ (wider object : Inode) (reserved : Reserved) (judged : Ok tt ≡ new_judged ctx a.how d.last_cookie) (first : slice_get view.reserved 0 ≡ Some reserved)
             (number_fits : reserved.number < 2 ^ 64) (generation_fits : reserved.generation < 2 ^ 64)
@@ -409,15 +441,15 @@ module _ (ctx : Ctx) (view : ViewValue) (a : CreateArguments) where
             chosen =
                 let makes = makes view creation is_creation s m stands sound fits in
                 record {
-                  number = reserved.number;
-                  generation = object.generation;
-                  spent = m1.spent;
-                  number_fits = number_fits;
-                  generation_fits = subst (λ g. g < 2 ^ 64) (sym generation) generation_fits;
-                  free = free view creation is_creation s m stands sound fits;
-                  never_given = never_given view creation is_creation s m stands sound fits;
-                  given = makes.given;
-                  kept = makes.spent;
+                  choice = record { number = reserved.number; generation = object.generation; spent = m1.spent };
+                  is_fresh = record {
+                    number_fits = number_fits;
+                    generation_fits = subst (λ g. g < 2 ^ 64) (sym generation) generation_fits;
+                    free = free view creation is_creation s m stands sound fits;
+                    never_given = never_given view creation is_creation s m stands sound fits;
+                    given = makes.given;
+                    kept = makes.spent;
+                  };
                 }
 
             abbrev done : Result (Made × State) NfsStatus
@@ -427,7 +459,7 @@ module _ (ctx : Ctx) (view : ViewValue) (a : CreateArguments) where
             state_with w o = record (with_object (with_object m number w) reserved.number o) { spent = m1.spent }
 
             -- the machine's file and directory are these
-            machine-done : done ≡ Ok (makes_new m chosen)
+            machine-done : done ≡ Ok (makes_new m chosen.choice)
             unfolding chosen
             machine-done =
                 let file : living_of_inode object ≡ new_object ctx i.export object.generation (wanted_file a.how) = living ∙ ap (λ g. new_object ctx i.export g (wanted_file a.how)) (sym generation) in
@@ -439,7 +471,9 @@ module _ (ctx : Ctx) (view : ViewValue) (a : CreateArguments) where
                 )) file
 
             ends-done : EndsAs m (then m (Ok d)) done
-            ends-done = subst (λ x. EndsAs m x done) (sym (new-there m ∙ ap (λ r. r >>= λ _. Ok (Chosen (makes_new m))) (sym judged))) (chosen, machine-done)
+            ends-done = subst (λ x. EndsAs m x done) (sym
+                (new-there m ∙ ap (λ r. r >>= λ _. Ok (Chosen (makes_new m) (λ choice. refl))) (sym judged)))
+                (chosen, machine-done)
 
             created-step : (reply : MadeReply) (told : Made) → ShowsWcc number i wider reply.directory → reply.result ≡ Ok told → ShowsMade ctx reserved.number object told
                 → NfsStep m ctx (nfs.Create a) (replies.Create reply) [] m1

@@ -1,6 +1,7 @@
 -- The slots that a server starts with: none at 0, and the root of each export at the export's number.
 use Rattle.std.specs.Prelude.{ℕ, zero, suc, List, [], ◌∷◌, ◌++◌, Some, None}
 use Rattle.nfs_wire.specs.declared.attributes.Time.{Time}
+use Rattle.nfs_machine.specs.State.{octal}
 use Rattle.nfs_objects.specs.declared.object.Content.TheVariants as contents
 use Rattle.nfs_objects.specs.declared.object.Inode.{Inode}
 use Rattle.nfs_objects.specs.declared.object.Object.TheVariants as objects
@@ -13,7 +14,7 @@ root_of number time =
       export = number;
       generation = 1;
       content = contents.Directory (record { parent = number; last_cookie = 2; entries = [] });
-      mode = 511;
+      mode = octal 7 7 7;
       uid = 0;
       gid = 0;
       links = 2;

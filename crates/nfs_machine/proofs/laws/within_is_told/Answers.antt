@@ -1,0 +1,5 @@
+use Rattle.nfs_machine.proofs.Within.{within-told}
+use Rattle.nfs_machine.proofs.laws.within_is_told.Goals as goal
+
+pub returns : goal.returns
+returns c = within-told
