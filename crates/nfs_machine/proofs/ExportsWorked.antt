@@ -63,15 +63,15 @@ parent-of number parent o is n d both =
 
 lists : (directory : List ℕ) (number parent : ℕ) (o : Living) (entries : List Entry) →
     resolve exporting nobody directory ≡ Names number o → IsParent exporting number parent
-    → PagesOf (fits 65536) (entries_by parent (Names number o)) (Ok (dots number parent entries, true))
+    → PagesOf (fits 65536) (entries_by parent (Names number o)) (Ok (record { entries = dots number parent entries; eof = true }))
     → NfsStep exporting nobody (nfs.Readdir (listing directory))
     (page_of directory (dots number parent entries)) [] exporting
 unfolding NfsStep
 lists directory number parent o entries named is page = record {
   parent = parent;
   is_parent = λ n d at kind. parent-of number parent o is n d (sym named ∙ at);
-  page = Ok (dots number parent entries, true);
-  is_page = subst (λ r. PagesOf (fits 65536) (entries_by parent r) (Ok (dots number parent entries, true)))
+  page = Ok (record { entries = dots number parent entries; eof = true });
+  is_page = subst (λ r. PagesOf (fits 65536) (entries_by parent r) (Ok (record { entries = dots number parent entries; eof = true })))
       (sym named) page;
   answers = record { reply_is = refl; no_message = refl; state_is = refl };
 }

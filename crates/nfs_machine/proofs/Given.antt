@@ -36,7 +36,7 @@ use Rattle.nfs_machine.specs.MountSteps.{MntAnswers, MountStep, Target, entries_
 use Rattle.nfs_machine.specs.MountSteps.{with_mount}
 use Rattle.nfs_machine.specs.NameSteps.{create_existing, create_over, leads_to, lookup_found, wanted_file}
 use Rattle.nfs_machine.specs.NfsSteps.{NfsStep}
-use Rattle.nfs_machine.specs.Pages.{all_entries, fits_full}
+use Rattle.nfs_machine.specs.Pages.{DirectoryPage, all_entries, fits_full}
 use Rattle.nfs_machine.specs.PageSteps.{IsParentOf, entries_left, full_entry}
 use Rattle.nfs_machine.proofs.Visited.{ListsPage}
 use Rattle.nfs_machine.specs.Permission.{ToChange, ToSearch, ToWrite}
@@ -250,8 +250,8 @@ module _ (read : HandlesAreRead) (m : State) (ctx : Ctx) (w : WellFormed m) (fit
               all found))
 
   -- ---- READDIRPLUS
-  listed-resolves : (directory : List ℕ) (cookie : ℕ) (fits : List Entry → Bool) (page : List Entry × Bool) →
-      ListsPage m ctx directory cookie fits page → AllByRecursion (EntryIsTold m ctx) (map (full_entry m ctx) page.0)
+  listed-resolves : (directory : List ℕ) (cookie : ℕ) (fits : List Entry → Bool) (page : DirectoryPage) →
+      ListsPage m ctx directory cookie fits page → AllByRecursion (EntryIsTold m ctx) (map (full_entry m ctx) page.entries)
   listed-resolves directory cookie fits page lists =
       let lives = resolved-lives m ctx directory (numbered lists.number lists.object) (ap object_of lists.is_named) in
       let all = entries-export m w lists.number lists.parent lists.object lists.entries lists.last lives
@@ -259,7 +259,7 @@ module _ (read : HandlesAreRead) (m : State) (ctx : Ctx) (w : WellFormed m) (fit
       let left = all-filter (λ (e : Entry). InExport m w lists.object.export e.number)
       (λ (e : Entry). nat_lt cookie e.cookie) (all_entries lists.number lists.parent lists.entries) all in
       let split = (lists.visit).1.0 in
-      told page.0 (all-front (λ (e : Entry). InExport m w lists.object.export e.number) page.0 (lists.visit).0
+      told page.entries (all-front (λ (e : Entry). InExport m w lists.object.export e.number) page.entries (lists.visit).0
       (subst (AllByRecursion (λ (e : Entry). InExport m w lists.object.export e.number)) split left))
     where
       one : (e : Entry) → InExport m w lists.object.export e.number → EntryIsTold m ctx (full_entry m ctx e)
@@ -612,7 +612,7 @@ handles-resolve read old ctx (calls.Readdirplus a) reply messages new w fit star
     (λ page. AllByRecursion (EntryIsTold m ctx) page.entries))
     (sym step.answers.state_is) (listed step.page step.is_page))
   where
-    listed : (page : Result (List Entry × Bool) NfsStatus) → PagesOf (fits_full a.directory_count a.most)
+    listed : (page : Result DirectoryPage NfsStatus) → PagesOf (fits_full a.directory_count a.most)
         (entries_left old ctx a.directory a.cookie a.verifier step.parent) page →
         IfOk (readdirplus_page old ctx page) (λ page. AllByRecursion (EntryIsTold old ctx) page.entries)
     listed (Ok p) is = listed-resolves read old ctx w fit start a.directory a.cookie

@@ -23,7 +23,7 @@ use Rattle.nfs_wire.specs.declared.replies.ReaddirplusReply.{ReaddirplusReply}
 use Rattle.nfs_wire.specs.declared.status.NfsStatus.{NfsStatus}
 use Rattle.side_wire.specs.declared.message.Message.{Message}
 use Rattle.nfs_machine.specs.DataSteps.{verifier_of}
-use Rattle.nfs_machine.specs.Pages.{fits, fits_full, entry_size, full_entry_size}
+use Rattle.nfs_machine.specs.Pages.{DirectoryPage, fits, fits_full, entry_size, full_entry_size}
 use Rattle.nfs_machine.proofs.Pages.{PagesOf, ReaddirStep, ReaddirplusStep, readdir_page, readdirplus_page}
 use Rattle.nfs_machine.specs.PageSteps.{entries_left, full_entry, page_entry}
 use Rattle.nfs_machine.specs.Resolve.{resolve}
@@ -95,77 +95,77 @@ module _ (m : State) (ctx : Ctx) where
       )
 
 -- a page is as long as it is reckoned, with its status
-pub readdir-page : (ctx : Ctx) (attributes : Option Attributes) (p : List Entry × Bool)
-    → length (result_bytes (nfs.Readdir (record { attributes = attributes; result = readdir_page ctx (Ok p) }))) ≤ 108 + sum_by entry_size p.0
+pub readdir-page : (ctx : Ctx) (attributes : Option Attributes) (p : DirectoryPage)
+    → length (result_bytes (nfs.Readdir (record { attributes = attributes; result = readdir_page ctx (Ok p) }))) ≤ 108 + sum_by entry_size p.entries
 readdir-page ctx attributes p =
     omega (
       arith,
       adds-done _ post_op_attr _ _
-          (adds-pair post_op_attr (Pair verf3 (Pair (Entries entry3) Flag)) _ _ 88 (8 + (4 + sum_by entry_size p.0 + 4)) (adds-after attributes)
-          (adds-pair verf3 (Pair (Entries entry3) Flag) _ _ 8 (4 + sum_by entry_size p.0 + 4) (adds-verifier ctx)
-          (adds-pair (Entries entry3) Flag _ p.1 (4 + sum_by entry_size p.0) 4 (adds-entries entry3 entry_value page_entry entry_size adds-entry p.0) (adds-flag p.1)))) [],
+          (adds-pair post_op_attr (Pair verf3 (Pair (Entries entry3) Flag)) _ _ 88 (8 + (4 + sum_by entry_size p.entries + 4)) (adds-after attributes)
+          (adds-pair verf3 (Pair (Entries entry3) Flag) _ _ 8 (4 + sum_by entry_size p.entries + 4) (adds-verifier ctx)
+          (adds-pair (Entries entry3) Flag _ p.eof (4 + sum_by entry_size p.entries) 4 (adds-entries entry3 entry_value page_entry entry_size adds-entry p.entries) (adds-flag p.eof)))) [],
     )
 
-pub readdirplus-page : (m : State) (ctx : Ctx) (attributes : Option Attributes) (p : List Entry × Bool)
-    → length (result_bytes (nfs.Readdirplus (record { attributes = attributes; result = readdirplus_page m ctx (Ok p) }))) ≤ 108 + sum_by full_entry_size p.0
+pub readdirplus-page : (m : State) (ctx : Ctx) (attributes : Option Attributes) (p : DirectoryPage)
+    → length (result_bytes (nfs.Readdirplus (record { attributes = attributes; result = readdirplus_page m ctx (Ok p) }))) ≤ 108 + sum_by full_entry_size p.entries
 readdirplus-page m ctx attributes p =
     omega (
       arith,
       adds-done _ post_op_attr _ _
-          (adds-pair post_op_attr (Pair verf3 (Pair (Entries entryplus3) Flag)) _ _ 88 (8 + (4 + sum_by full_entry_size p.0 + 4)) (adds-after attributes)
-          (adds-pair verf3 (Pair (Entries entryplus3) Flag) _ _ 8 (4 + sum_by full_entry_size p.0 + 4) (adds-verifier ctx)
-          (adds-pair (Entries entryplus3) Flag _ p.1 (4 + sum_by full_entry_size p.0) 4 (adds-entries entryplus3 full_entry_value (full_entry m ctx) full_entry_size (adds-full m ctx) p.0) (adds-flag p.1)))) [],
+          (adds-pair post_op_attr (Pair verf3 (Pair (Entries entryplus3) Flag)) _ _ 88 (8 + (4 + sum_by full_entry_size p.entries + 4)) (adds-after attributes)
+          (adds-pair verf3 (Pair (Entries entryplus3) Flag) _ _ 8 (4 + sum_by full_entry_size p.entries + 4) (adds-verifier ctx)
+          (adds-pair (Entries entryplus3) Flag _ p.eof (4 + sum_by full_entry_size p.entries) 4 (adds-entries entryplus3 full_entry_value (full_entry m ctx) full_entry_size (adds-full m ctx) p.entries) (adds-flag p.eof)))) [],
     )
 
 -- a page that fits is short, and has the form of a result
-abbrev pub Within : (Entry → ℕ) → (count : ℕ) → Result (List Entry × Bool) NfsStatus → Type 0
-Within size count page = IfOk page (λ p. 104 + sum_by size p.0 ≤ min count 65536)
+abbrev pub Within : (Entry → ℕ) → (count : ℕ) → Result DirectoryPage NfsStatus → Type 0
+Within size count page = IfOk page (λ p. 104 + sum_by size p.entries ≤ min count 65536)
 
-pub readdir-size : (ctx : Ctx) (attributes : Option Attributes) (count : ℕ) (page : Result (List Entry × Bool) NfsStatus) → Within entry_size count page
+pub readdir-size : (ctx : Ctx) (attributes : Option Attributes) (count : ℕ) (page : Result DirectoryPage NfsStatus) → Within entry_size count page
     → length (result_bytes (nfs.Readdir (record { attributes = attributes; result = readdir_page ctx page }))) ≤ 65600
 readdir-size ctx attributes count (Ok p) within = omega (arith, within, readdir-page ctx attributes p)
 readdir-size ctx attributes count (Err e) within = omega (arith, adds-refused (Pair post_op_attr (Pair verf3 (Pair (Entries entry3) Flag))) post_op_attr e _ 88 (adds-after attributes) [])
 
-pub readdirplus-size : (m : State) (ctx : Ctx) (attributes : Option Attributes) (count : ℕ) (page : Result (List Entry × Bool) NfsStatus) → Within full_entry_size count page
+pub readdirplus-size : (m : State) (ctx : Ctx) (attributes : Option Attributes) (count : ℕ) (page : Result DirectoryPage NfsStatus) → Within full_entry_size count page
     → length (result_bytes (nfs.Readdirplus (record { attributes = attributes; result = readdirplus_page m ctx page }))) ≤ 65600
 readdirplus-size m ctx attributes count (Ok p) within = omega (arith, within, readdirplus-page m ctx attributes p)
 readdirplus-size m ctx attributes count (Err e) within =
     omega (arith, adds-refused (Pair post_op_attr (Pair verf3 (Pair (Entries entryplus3) Flag))) post_op_attr e _ 88 (adds-after attributes) [])
 
-pub readdir-form : (ctx : Ctx) (attributes : Option Attributes) (count : ℕ) (page : Result (List Entry × Bool) NfsStatus) → Within entry_size count page
+pub readdir-form : (ctx : Ctx) (attributes : Option Attributes) (count : ℕ) (page : Result DirectoryPage NfsStatus) → Within entry_size count page
     → HasReaddirForm (record { attributes = attributes; result = readdir_page ctx page })
-readdir-form ctx attributes count (Ok p) within = small page_entry entry_size HasEntryForm (λ e fits. omega (arith, fits)) p.0 (omega (arith, within))
+readdir-form ctx attributes count (Ok p) within = small page_entry entry_size HasEntryForm (λ e fits. omega (arith, fits)) p.entries (omega (arith, within))
 readdir-form ctx attributes count (Err e) within = tt
 
 handle-form : (ctx : Ctx) (number : ℕ) (o : Option Living) → IfSome (option_map (handle_at ctx number) o) IsHandle
 handle-form ctx number None = tt
 handle-form ctx number (Some o) = omega arith
 
-pub readdirplus-form : (m : State) (ctx : Ctx) (attributes : Option Attributes) (count : ℕ) (page : Result (List Entry × Bool) NfsStatus) → Within full_entry_size count page
+pub readdirplus-form : (m : State) (ctx : Ctx) (attributes : Option Attributes) (count : ℕ) (page : Result DirectoryPage NfsStatus) → Within full_entry_size count page
     → HasReaddirplusForm (record { attributes = attributes; result = readdirplus_page m ctx page })
 readdirplus-form m ctx attributes count (Ok p) within =
-    small (full_entry m ctx) full_entry_size HasFullEntryForm (λ e fits. (omega (arith, fits), handle-form ctx e.number (get m.objects e.number))) p.0 (omega (arith, within))
+    small (full_entry m ctx) full_entry_size HasFullEntryForm (λ e fits. (omega (arith, fits), handle-form ctx e.number (get m.objects e.number))) p.entries (omega (arith, within))
 readdirplus-form m ctx attributes count (Err e) within = tt
 
 -- what a step answers fits
-paged : (fit : List Entry → Bool) (entries : Result (List Entry) NfsStatus) (page : Result (List Entry × Bool) NfsStatus) → PagesOf fit entries page → IfOk page (λ p. fit p.0 ≡ true)
+paged : (fit : List Entry → Bool) (entries : Result (List Entry) NfsStatus) (page : Result DirectoryPage NfsStatus) → PagesOf fit entries page → IfOk page (λ p. fit p.entries ≡ true)
 paged fit (Ok entries) (Ok p) is = is.1.1
 paged fit (Err e) (Ok p) is = cc
 paged fit entries (Err e) is = tt
 
-pub names-within : (count : ℕ) (entries : Result (List Entry) NfsStatus) (page : Result (List Entry × Bool) NfsStatus) → PagesOf (fits count) entries page → Within entry_size count page
+pub names-within : (count : ℕ) (entries : Result (List Entry) NfsStatus) (page : Result DirectoryPage NfsStatus) → PagesOf (fits count) entries page → Within entry_size count page
 names-within count entries page is = weaker page (paged (fits count) entries page is)
   where
-    weaker : (page : Result (List Entry × Bool) NfsStatus) → IfOk page (λ p. fits count p.0 ≡ true) → Within entry_size count page
-    weaker (Ok p) h = leb-true (104 + sum_by entry_size p.0) (min count 65536) h
+    weaker : (page : Result DirectoryPage NfsStatus) → IfOk page (λ p. fits count p.entries ≡ true) → Within entry_size count page
+    weaker (Ok p) h = leb-true (104 + sum_by entry_size p.entries) (min count 65536) h
     weaker (Err e) h = tt
 
-pub full-within : (directory_count most : ℕ) (entries : Result (List Entry) NfsStatus) (page : Result (List Entry × Bool) NfsStatus) → PagesOf (fits_full directory_count most) entries page
+pub full-within : (directory_count most : ℕ) (entries : Result (List Entry) NfsStatus) (page : Result DirectoryPage NfsStatus) → PagesOf (fits_full directory_count most) entries page
     → Within full_entry_size most page
 full-within directory_count most entries page is = weaker page (paged (fits_full directory_count most) entries page is)
   where
-    weaker : (page : Result (List Entry × Bool) NfsStatus) → IfOk page (λ p. fits_full directory_count most p.0 ≡ true) → Within full_entry_size most page
-    weaker (Ok p) h = leb-true (104 + sum_by full_entry_size p.0) (min most 65536) (first_so _ (nat_le (sum_by entry_size p.0) directory_count) h)
+    weaker : (page : Result DirectoryPage NfsStatus) → IfOk page (λ p. fits_full directory_count most p.entries ≡ true) → Within full_entry_size most page
+    weaker (Ok p) h = leb-true (104 + sum_by full_entry_size p.entries) (min most 65536) (first_so _ (nat_le (sum_by entry_size p.entries) directory_count) h)
     weaker (Err e) h = tt
 
 -- what a page has, read off the reply
@@ -185,7 +185,7 @@ readdir-fits old ctx a r messages new step = subst P (sym same) (told step.page 
     within : Within entry_size a.count step.page
     within = names-within a.count (entries_left old ctx a.directory a.cookie a.verifier step.parent) step.page step.is_page
 
-    told : (page : Result (List Entry × Bool) NfsStatus) → Within entry_size a.count page → P (record { attributes = at; result = readdir_page ctx page })
+    told : (page : Result DirectoryPage NfsStatus) → Within entry_size a.count page → P (record { attributes = at; result = readdir_page ctx page })
     told (Ok p) w = omega (arith, w, readdir-page ctx at p)
     told (Err e) w = tt
 
@@ -205,6 +205,6 @@ readdirplus-fits old ctx a r messages new step = subst P (sym same) (told step.p
     within : Within full_entry_size a.most step.page
     within = full-within a.directory_count a.most (entries_left old ctx a.directory a.cookie a.verifier step.parent) step.page step.is_page
 
-    told : (page : Result (List Entry × Bool) NfsStatus) → Within full_entry_size a.most page → P (record { attributes = at; result = readdirplus_page old ctx page })
+    told : (page : Result DirectoryPage NfsStatus) → Within full_entry_size a.most page → P (record { attributes = at; result = readdirplus_page old ctx page })
     told (Ok p) w = omega (arith, w, readdirplus-page old ctx at p)
     told (Err e) w = tt

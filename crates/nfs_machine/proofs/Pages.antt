@@ -18,18 +18,18 @@ use Rattle.side_wire.specs.declared.message.Message.{Message}
 use Rattle.nfs_machine.specs.Checks.{◌>>=◌}
 use Rattle.nfs_machine.specs.DataSteps.{verifier_of}
 use Rattle.nfs_machine.specs.PageSteps.{PageStep, full_entry, page_entry}
-use Rattle.nfs_machine.specs.Pages.{IsPage, Pages, entry_size, fits, fits_full, full_entry_size}
+use Rattle.nfs_machine.specs.Pages.{DirectoryPage, IsPage, Pages, entry_size, fits, fits_full, full_entry_size}
 use Rattle.nfs_machine.specs.Paging.{PagesAreOne, PagesExist}
 use Rattle.nfs_machine.specs.State.{Entry, State}
 use Rattle.nfs_machine.specs.declared.context.Ctx.{Ctx}
 use Rattle.nfs_machine.proofs.Facts.{are_none, no-entry, some-entry}
 
 -- what READDIR and READDIRPLUS answer of a page, and their steps
-abbrev pub readdir_page : Ctx → Result (List Entry × Bool) NfsStatus → Result Page NfsStatus
-readdir_page ctx page = page >>= λ p. Ok (record { verifier = verifier_of ctx; entries = map page_entry p.0; eof = p.1 })
+abbrev pub readdir_page : Ctx → Result DirectoryPage NfsStatus → Result Page NfsStatus
+readdir_page ctx page = page >>= λ p. Ok (record { verifier = verifier_of ctx; entries = map page_entry p.entries; eof = p.eof })
 
-abbrev pub readdirplus_page : State → Ctx → Result (List Entry × Bool) NfsStatus → Result PagePlus NfsStatus
-readdirplus_page m ctx page = page >>= λ p. Ok (record { verifier = verifier_of ctx; entries = map (full_entry m ctx) p.0; eof = p.1 })
+abbrev pub readdirplus_page : State → Ctx → Result DirectoryPage NfsStatus → Result PagePlus NfsStatus
+readdirplus_page m ctx page = page >>= λ p. Ok (record { verifier = verifier_of ctx; entries = map (full_entry m ctx) p.entries; eof = p.eof })
 
 abbrev pub ReaddirStep : State → Ctx → ReaddirArguments → NfsReply → List Message → State → Type 0
 ReaddirStep old ctx a = PageStep old ctx a.directory a.cookie a.verifier (fits a.count) (λ attributes page. replies.Readdir (record { attributes = attributes; result = readdir_page ctx page }))
@@ -38,7 +38,7 @@ abbrev pub ReaddirplusStep : State → Ctx → ReaddirplusArguments → NfsReply
 ReaddirplusStep old ctx a = PageStep old ctx a.directory a.cookie a.verifier (fits_full a.directory_count a.most) (λ attributes page. replies.Readdirplus (record { attributes = attributes; result = readdirplus_page old ctx page }))
 
 -- the page of the entries that are left, as a step has it
-abbrev pub PagesOf : (fit : List Entry → Bool) → Result (List Entry) NfsStatus → Result (List Entry × Bool) NfsStatus → Type 0
+abbrev pub PagesOf : (fit : List Entry → Bool) → Result (List Entry) NfsStatus → Result DirectoryPage NfsStatus → Type 0
 PagesOf fit left page = elim left as (λ r. Type 0) [ Ok entries ↦ Pages fit entries page | Err e ↦ page ≡ Err e ]
 
 -- what fits still fits with less
@@ -83,11 +83,11 @@ longest fit shrinks (x ∷ front) rest (o ∷ other) more same stops h =
 
 -- a page that goes on behind it, and the last
 pub page-stops : (fit : List Entry → Bool) → Shrinks fit → (f : Entry) (front : List Entry) (x : Entry) (rest : List Entry) → fit (f ∷ front) ≡ true → fit (f ∷ front ++ x ∷ []) ≡ false
-    → Pages fit (f ∷ front ++ x ∷ rest) (Ok (f ∷ front, false))
+    → Pages fit (f ∷ front ++ x ∷ rest) (Ok (record { entries = f ∷ front; eof = false }))
 page-stops fit shrinks f front x rest here next =
     (x ∷ rest, (refl, here, λ none. cc), λ other more is. longest fit shrinks (f ∷ front) (x ∷ rest) other more is.0 (λ y ys same. (let head : x ≡ y = cc in ap (λ z. fit (f ∷ front ++ z ∷ [])) (sym head) ∙ next)) is.1, sym (some-entry x rest))
 
-pub page-ends : (fit : List Entry → Bool) (front : List Entry) → fit front ≡ true → Pages fit front (Ok (front, true))
+pub page-ends : (fit : List Entry → Bool) (front : List Entry) → fit front ≡ true → Pages fit front (Ok (record { entries = front; eof = true }))
 page-ends fit front here =
     ([], (sym (append-nil front), here, λ none. refl), λ other more is. (let whole = ap length is.0 in let sum = length-append other more in omega (arith, whole, sum)), refl)
   where
@@ -123,15 +123,15 @@ heads-alike (x ∷ xs) (y ∷ ys) more rest same lengths =
     (cc, inner.1)
 
 pub one-page : PagesAreOne
-one-page fit entries (Ok (p, eof)) (Ok (q, eof')) a b =
-    let le = a.2 q b.0 b.1 in
-    let ge = b.2 p a.0 a.1 in
-    let same = heads-alike p q a.0 b.0 (sym a.1.0 ∙ b.1.0) (omega (arith, le, ge)) in
+one-page fit entries (Ok p) (Ok q) a b =
+    let le = a.2 q.entries b.0 b.1 in
+    let ge = b.2 p.entries a.0 a.1 in
+    let same = heads-alike p.entries q.entries a.0 b.0 (sym a.1.0 ∙ b.1.0) (omega (arith, le, ge)) in
     let fronts = same.0 in
-    let ends : eof ≡ eof' = a.3 ∙ ap are_none same.1 ∙ sym b.3 in
-    cc
-one-page fit entries (Ok p) (Err e) a b = absurd (b.0 p.0 a.0 a.1)
-one-page fit entries (Err e) (Ok q) a b = absurd (a.0 q.0 b.0 b.1)
+    let ends : p.eof ≡ q.eof = a.3 ∙ ap are_none same.1 ∙ sym b.3 in
+    ap (λ es. Ok (record p { entries = es })) fronts ∙ ap (λ e. Ok (record q { eof = e })) ends
+one-page fit entries (Ok p) (Err e) a b = absurd (b.0 p.entries a.0 a.1)
+one-page fit entries (Err e) (Ok q) a b = absurd (a.0 q.entries b.0 b.1)
 one-page fit entries (Err e) (Err e') a b = ap Err (a.1 ∙ sym b.1)
 
 module _ (fit : List Entry → Bool) (entries : List Entry) where
@@ -140,7 +140,7 @@ module _ (fit : List Entry → Bool) (entries : List Entry) where
   Bounded n = (other more : List Entry) → IsPage fit entries other more → length other ≤ n
 
   abbrev Paged : Type 0
-  Paged = (page : Result (List Entry × Bool) NfsStatus) × Pages fit entries page
+  Paged = (page : Result DirectoryPage NfsStatus) × Pages fit entries page
 
   front-of : (other more : List Entry) → IsPage fit entries other more → other ≡ take (length other) entries
   front-of other more is = sym (ap (take (length other)) is.0 ∙ take-append_seam other more)
@@ -154,7 +154,7 @@ module _ (fit : List Entry → Bool) (entries : List Entry) where
   find-page : (n : ℕ) → n ≤ length entries → Bounded n → Paged
   find-page zero le bounded =
       elim (fit [] && are_none entries) as (λ t. (fit [] && are_none entries) ≡ t → Paged) [
-        | true ↦ λ is. (Ok ([], true), ([], (none (fit []) entries is, first_so (fit []) (are_none entries) is, λ e. refl), bounded, refl))
+        | true ↦ λ is. (Ok (record { entries = []; eof = true }), ([], (none (fit []) entries is, first_so (fit []) (are_none entries) is, λ e. refl), bounded, refl))
         | false ↦ λ is. (
           Err status.TooSmall,
           (
@@ -182,7 +182,7 @@ module _ (fit : List Entry → Bool) (entries : List Entry) where
   find-page (suc n) le bounded =
       elim (fit (take (suc n) entries)) as (λ t. fit (take (suc n) entries) ≡ t → Paged) [
         | true ↦ λ is. (
-          Ok (take (suc n) entries, are_none (drop (suc n) entries)),
+          Ok (record { entries = take (suc n) entries; eof = are_none (drop (suc n) entries) }),
           (
             drop (suc n) entries,
             (sym (whole (suc n)), is, λ e. absurd (let l = long (suc n) le in let z = ap length e in omega (arith, l, z))),

@@ -25,7 +25,7 @@ use Rattle.nfs_machine.specs.Bytes.{same_bytes}
 use Rattle.nfs_machine.specs.Checks.{entry_of}
 use Rattle.nfs_machine.specs.Handles.{handle_of}
 use Rattle.nfs_machine.specs.NfsSteps.{NfsStep}
-use Rattle.nfs_machine.specs.Pages.{all_entries, fits, fits_full}
+use Rattle.nfs_machine.specs.Pages.{DirectoryPage, all_entries, fits, fits_full}
 use Rattle.nfs_machine.proofs.Pages.{PagesOf, readdir_page, readdirplus_page}
 use Rattle.nfs_machine.specs.PageSteps.{IsParentOf, entries_left, full_entry, page_entry}
 use Rattle.nfs_machine.specs.Paging.{Rises, next_cookie}
@@ -57,24 +57,24 @@ parts : (a b : List ℕ) (c d : ℕ) → ◌≡◌ {A = Option (List ℕ × ℕ)
 parts a b c d e = let pair : ◌≡◌ {A = List ℕ × ℕ} (a, c) (b, d) = cc in (ap (λ (p : List ℕ × ℕ). p.0) pair, ap (λ (p : List ℕ × ℕ). p.1) pair)
 
 -- a page that was shown
-pub record Listed (m : State) (ctx : Ctx) (directory : List ℕ) (cookie : ℕ) (page : List Entry × Bool) : Type 0 where
+pub record Listed (m : State) (ctx : Ctx) (directory : List ℕ) (cookie : ℕ) (page : DirectoryPage) : Type 0 where
   pub fit : List Entry → Bool
   pub is : ListsPage m ctx directory cookie fit page
 
-module _ (m : State) (ctx : Ctx) (w : WellFormed m) (shown : List Entry × Bool) where
-  of-names : (a : ReaddirArguments) (parent : ℕ) → IsParentOf m ctx a.directory parent → (page : Result (List Entry × Bool) NfsStatus) → PagesOf (fits a.count) (entries_left m ctx a.directory a.cookie a.verifier parent) page
+module _ (m : State) (ctx : Ctx) (w : WellFormed m) (shown : DirectoryPage) where
+  of-names : (a : ReaddirArguments) (parent : ℕ) → IsParentOf m ctx a.directory parent → (page : Result DirectoryPage NfsStatus) → PagesOf (fits a.count) (entries_left m ctx a.directory a.cookie a.verifier parent) page
       → names_shown (readdir_page ctx page) ≡ Some shown → Listed m ctx a.directory a.cookie shown
   of-names a parent is_parent (Ok p) is shows =
-      let back : Some p ≡ Some shown = ap (λ es. Some (es, p.1)) (sym (names-back p.0)) ∙ shows in
+      let back : Some p ≡ Some shown = ap (λ es. Some (record p { entries = es })) (sym (names-back p.entries)) ∙ shows in
       let same : p ≡ shown = cc in
       subst (Listed m ctx a.directory a.cookie) same (record { fit = fits a.count; is = lists m ctx w a.directory a.cookie a.verifier parent is_parent (fits a.count) p is })
   of-names a parent is_parent (Err e) is shows = cc
 
-  of-full : (a : ReaddirplusArguments) (parent : ℕ) → IsParentOf m ctx a.directory parent → (page : Result (List Entry × Bool) NfsStatus)
+  of-full : (a : ReaddirplusArguments) (parent : ℕ) → IsParentOf m ctx a.directory parent → (page : Result DirectoryPage NfsStatus)
       → PagesOf (fits_full a.directory_count a.most) (entries_left m ctx a.directory a.cookie a.verifier parent) page → full_shown (readdirplus_page m ctx page) ≡ Some shown
       → Listed m ctx a.directory a.cookie shown
   of-full a parent is_parent (Ok p) is shows =
-      let back : Some p ≡ Some shown = ap (λ es. Some (es, p.1)) (sym (full-back m ctx p.0)) ∙ shows in
+      let back : Some p ≡ Some shown = ap (λ es. Some (record p { entries = es })) (sym (full-back m ctx p.entries)) ∙ shows in
       let same : p ≡ shown = cc in
       subst (Listed m ctx a.directory a.cookie) same
       (record { fit = fits_full a.directory_count a.most; is = lists m ctx w a.directory a.cookie a.verifier parent is_parent (fits_full a.directory_count a.most) p is })
@@ -98,14 +98,14 @@ module _ (m : State) (ctx : Ctx) (w : WellFormed m) (shown : List Entry × Bool)
 step-lists : (old : State) (t : Transition) (mid : State) (directory : List ℕ) (cookie : ℕ) (page : List Entry)
     (eof : Bool)
     → Step old t.ctx t.call t.reply t.messages mid → AnswersPage t directory cookie page eof → WellFormed old
-    → Listed old t.ctx directory cookie (page, eof)
+    → Listed old t.ctx directory cookie (record { entries = page; eof = eof })
 step-lists old t mid directory cookie page eof step answers w = by t.call t.reply step answers.from answers.shows
   where
     by : (call : Call) (reply : Reply) → Step old t.ctx call reply t.messages mid →
-        lists_from call ≡ Some (directory, cookie) → page_shown reply ≡ Some (page, eof) →
-        Listed old t.ctx directory cookie (page, eof)
+        lists_from call ≡ Some (directory, cookie) → page_shown reply ≡ Some (record { entries = page; eof = eof }) →
+        Listed old t.ctx directory cookie (record { entries = page; eof = eof })
     by (calls.Nfs call) (replies.Nfs reply) step from shows =
-        of-step old t.ctx w (page, eof) call reply t.messages mid directory cookie step from shows
+        of-step old t.ctx w (record { entries = page; eof = eof }) call reply t.messages mid directory cookie step from shows
     by (calls.Nfs call) (replies.Mount reply) step from shows = absurd step
     by (calls.Nfs call) (replies.Nlm reply) step from shows = absurd step
     by (calls.Mount call) reply step from shows = cc
@@ -135,14 +135,14 @@ pub record Visits (directory : List ℕ) (cookie : ℕ) (old : State) (turns : L
       → Throughout (λ m. named_in m h.fileid name ≡ Some target) old (steps_of turns) new chain →
       AllByRecursion (HasAlone name e) visits
 
-abbrev visit-of : (m : State) (ctx : Ctx) (directory : List ℕ) (cookie : ℕ) (page : List Entry × Bool) → Listed m ctx directory cookie page → Visit
-visit-of m ctx directory cookie page l = record { entries = all_entries l.is.number l.is.parent l.is.entries; fit = l.fit; page = page.0; eof = page.1 }
+abbrev visit-of : (m : State) (ctx : Ctx) (directory : List ℕ) (cookie : ℕ) (page : DirectoryPage) → Listed m ctx directory cookie page → Visit
+visit-of m ctx directory cookie page l = record { entries = all_entries l.is.number l.is.parent l.is.entries; fit = l.fit; page = page.entries; eof = page.eof }
 
-has-it : (m : State) (ctx : Ctx) (directory : List ℕ) (cookie : ℕ) (page : List Entry × Bool) (l : Listed m ctx directory cookie page) (e : Entry) → Has m ctx directory e
+has-it : (m : State) (ctx : Ctx) (directory : List ℕ) (cookie : ℕ) (page : DirectoryPage) (l : Listed m ctx directory cookie page) (e : Entry) → Has m ctx directory e
     → Contains (all_entries l.is.number l.is.parent l.is.entries) e
 has-it m ctx directory cookie page l e has = has l.is.number l.is.object l.is.entries l.is.last l.is.parent l.is.is_named l.is.is_directory l.is.is_parent
 
-alone : (m : State) (ctx : Ctx) (directory : List ℕ) (cookie : ℕ) (page : List Entry × Bool) (l : Listed m ctx directory cookie page) (h : Handle) (name : List ℕ) (target : ℕ) (e : Entry) → WellFormed m
+alone : (m : State) (ctx : Ctx) (directory : List ℕ) (cookie : ℕ) (page : DirectoryPage) (l : Listed m ctx directory cookie page) (h : Handle) (name : List ℕ) (target : ℕ) (e : Entry) → WellFormed m
     → IsName directory h name target e → EntryAt m h.fileid name e → HasAlone name e (visit-of m ctx directory cookie page l)
 alone m ctx directory cookie page l h name target e formed is at =
     let lives : get m.objects l.is.number ≡ Some l.is.object = resolved-lives m ctx directory l.is.number l.is.object l.is.is_named in
@@ -180,13 +180,13 @@ visits-of directory cookie old (Between t ∷ turns) new formed (mid, step, rest
 visits-of directory cookie old (ReadsPage t page ∷ []) new formed (mid, step, rest) reads =
     let l = step-lists old t mid directory cookie page true step reads formed in
     record {
-      visits = visit-of old t.ctx directory cookie (page, true) l ∷ [];
+      visits = visit-of old t.ctx directory cookie (record { entries = page; eof = true }) l ∷ [];
       order = (l.is.in_order, tt);
       on = (l.is.visit, refl);
       shown = refl;
-      stays = λ e has. (has-it old t.ctx directory cookie (page, true) l e has.0, tt);
+      stays = λ e has. (has-it old t.ctx directory cookie (record { entries = page; eof = true }) l e has.0, tt);
       named = λ h name target e is at through.
-          (alone old t.ctx directory cookie (page, true) l h name target e formed is at, tt);
+          (alone old t.ctx directory cookie (record { entries = page; eof = true }) l h name target e formed is at, tt);
     }
 visits-of directory cookie old (ReadsPage t page ∷ turn ∷ turns) new formed (mid, step, rest) (answers, reads) =
     let then = steps_keep_form old t.ctx t.call t.reply t.messages mid step formed in
@@ -194,7 +194,7 @@ visits-of directory cookie old (ReadsPage t page ∷ turn ∷ turns) new formed 
     let more = visits-of directory (next_cookie cookie page) mid (turn ∷ turns) new then rest reads in
     joined l more.visits more.order more.on more.shown more.stays more.named
   where
-    joined : (l : Listed old t.ctx directory cookie (page, false)) → (visits : List Visit) → InOrder visits →
+    joined : (l : Listed old t.ctx directory cookie (record { entries = page; eof = false })) → (visits : List Visit) → InOrder visits →
         ReadsOn (next_cookie cookie page) visits → shown_by visits ≡ all_shown (turn ∷ turns)
         → ((e : Entry) → StaysThrough directory e mid (turn ∷ turns) new rest → IsAtEach visits e)
         → ((h : Handle) (name : List ℕ) (target : ℕ) (e : Entry) → IsName directory h name target e →
@@ -204,13 +204,13 @@ visits-of directory cookie old (ReadsPage t page ∷ turn ∷ turns) new formed 
         → Visits directory cookie old (ReadsPage t page ∷ turn ∷ turns) new (mid, step, rest)
     joined l [] order on shown stays named = absurd on
     joined l (v ∷ visits) order on shown stays named = record {
-      visits = visit-of old t.ctx directory cookie (page, false) l ∷ v ∷ visits;
+      visits = visit-of old t.ctx directory cookie (record { entries = page; eof = false }) l ∷ v ∷ visits;
       order = (l.is.in_order, order);
       on = (l.is.visit, refl, on);
       shown = ap (λ es. page ++ es) shown;
-      stays = λ e has. (has-it old t.ctx directory cookie (page, false) l e has.0, stays e has.1);
+      stays = λ e has. (has-it old t.ctx directory cookie (record { entries = page; eof = false }) l e has.0, stays e has.1);
       named = λ h name target e is at through. (
-        alone old t.ctx directory cookie (page, false) l h name target e formed is at,
+        alone old t.ctx directory cookie (record { entries = page; eof = false }) l h name target e formed is at,
         named h name target e is
             (kept-over h.fileid name target e is.leads old t mid step (steps_of (turn ∷ turns)) new rest through.1 at)
             through.1,

@@ -222,8 +222,8 @@ lists =
     let named = root-named with_hi refl root_with_x refl refl root-written in record {
       parent = 1;
       is_parent = λ number d is kind. root-parent with_hi refl root-written number d (sym named ∙ is);
-      page = Ok (all_three, true);
-      is_page = subst (λ r. PagesOf (fits 65536) (entries_by r) (Ok (all_three, true))) (sym named) (page-ends (fits 65536) all_three refl);
+      page = Ok (record { entries = all_three; eof = true });
+      is_page = subst (λ r. PagesOf (fits 65536) (entries_by r) (Ok (record { entries = all_three; eof = true }))) (sym named) (page-ends (fits 65536) all_three refl);
       answers = record { reply_is = refl; no_message = refl; state_is = refl };
     }
 
@@ -243,8 +243,8 @@ lists-full =
     let named = root-named with_hi refl root_with_x refl refl root-written in record {
       parent = 1;
       is_parent = λ number d is kind. root-parent with_hi refl root-written number d (sym named ∙ is);
-      page = Ok (all_three, true);
-      is_page = subst (λ r. PagesOf (fits_full 65536 65536) (entries_by r) (Ok (all_three, true))) (sym named) (page-ends (fits_full 65536 65536) all_three refl);
+      page = Ok (record { entries = all_three; eof = true });
+      is_page = subst (λ r. PagesOf (fits_full 65536 65536) (entries_by r) (Ok (record { entries = all_three; eof = true }))) (sym named) (page-ends (fits_full 65536 65536) all_three refl);
       answers = record { reply_is = shown_by root-written x-lives; no_message = refl; state_is = refl };
     }
   where
@@ -525,15 +525,15 @@ worked-leaving k of_root of_x two = record {
 -- a page of it, where "x" is its only name
 lists-page : (m : State) → m.exports ≡ writable → get m.objects 1 ≡ Some root_with_x →
     (cookie : ℕ) (verifier : Verifier) (count : ℕ) (page : List Entry) (eof : Bool)
-    → PagesOf (fits count) (entries_from cookie verifier (Names 1 root_with_x)) (Ok (page, eof))
+    → PagesOf (fits count) (entries_from cookie verifier (Names 1 root_with_x)) (Ok (record { entries = page; eof = eof }))
     → NfsStep m nobody (nfs.Readdir (record { directory = root_bytes; cookie = cookie; verifier = verifier; count = count })) (page_reply m page eof) [] m
 unfolding NfsStep
 lists-page m exports lives cookie verifier count page eof is_page =
     let named = root-named m exports root_with_x refl refl lives in record {
       parent = 1;
       is_parent = λ number d is kind. root-parent m exports lives number d (sym named ∙ is);
-      page = Ok (page, eof);
-      is_page = subst (λ r. PagesOf (fits count) (entries_from cookie verifier r) (Ok (page, eof))) (sym named) is_page;
+      page = Ok (record { entries = page; eof = eof });
+      is_page = subst (λ r. PagesOf (fits count) (entries_from cookie verifier r) (Ok (record { entries = page; eof = eof }))) (sym named) is_page;
       answers = record { reply_is = refl; no_message = refl; state_is = refl };
     }
 
@@ -583,8 +583,8 @@ worked-turns = record {
   self_stays = (has-self with_x refl root-made, (has-self with_hi refl root-written, tt));
 }
   where
-    first-page : PagesOf (fits 160) (entries_from 0 zeros (Names 1 root_with_x)) (Ok (first_two, false))
+    first-page : PagesOf (fits 160) (entries_from 0 zeros (Names 1 root_with_x)) (Ok (record { entries = first_two; eof = false }))
     first-page = page-stops (fits 160) (fits-shrinks 160) _ _ x_entry [] refl refl
 
-    second-page : PagesOf (fits 65536) (entries_from 2 seven (Names 1 root_with_x)) (Ok (x_entry ∷ [], true))
+    second-page : PagesOf (fits 65536) (entries_from 2 seven (Names 1 root_with_x)) (Ok (record { entries = x_entry ∷ []; eof = true }))
     second-page = page-ends (fits 65536) (x_entry ∷ []) refl

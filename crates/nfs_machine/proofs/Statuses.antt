@@ -50,7 +50,7 @@ use Rattle.nfs_machine.specs.Making.{Wanted, given_attributes, kind_checked}
 use Rattle.nfs_machine.specs.MountSteps.{MntAnswers, MountStep, entries_at, path_fault, walk}
 use Rattle.nfs_machine.specs.NameSteps.{lookup_found, create_existing, create_over, wanted_file}
 use Rattle.nfs_machine.specs.NfsSteps.{NfsStep}
-use Rattle.nfs_machine.specs.Pages.{Pages, fits, fits_full}
+use Rattle.nfs_machine.specs.Pages.{DirectoryPage, Pages, fits, fits_full}
 use Rattle.nfs_machine.specs.PageSteps.{entries_left}
 use Rattle.nfs_machine.specs.Permission.{ToChange, ToWrite}
 use Rattle.nfs_machine.specs.RenameSteps.{rename_end}
@@ -278,11 +278,11 @@ module _ (m : State) (ctx : Ctx) where
 
   -- ---- a directory is listed
   tells-page : (fit : List Entry → Bool) (left : Result (List Entry) NfsStatus)
-      (page : Result (List Entry × Bool) NfsStatus)
+      (page : Result DirectoryPage NfsStatus)
       → TellsStatus left → (elim left as (λ (_ : Result (List Entry) NfsStatus). Type 0)
       [ Ok entries ↦ Pages fit entries page | Err e ↦ page ≡ Err e ]) → TellsStatus page
   tells-page fit (Ok entries) (Ok page) known is = record { tells = tt }
-  tells-page fit (Ok entries) (Err e) known is = subst (λ (e : NfsStatus). TellsStatus {A = List Entry × Bool} (Err e))
+  tells-page fit (Ok entries) (Err e) known is = subst (λ (e : NfsStatus). TellsStatus {A = DirectoryPage} (Err e))
       (sym is.1) (record { tells = refl })
   tells-page fit (Err e) page known is = subst TellsStatus (sym is) (record { tells = known.tells })
 
@@ -292,7 +292,7 @@ module _ (m : State) (ctx : Ctx) where
       search (tells-chain, tells-object, tells-entries, tells-held, tells-value) depth 12
 
   tells-pages : (fit : List Entry → Bool) (directory : List ℕ) (cookie : ℕ) (verifier : Verifier) (parent : ℕ)
-      (page : Result (List Entry × Bool) NfsStatus)
+      (page : Result DirectoryPage NfsStatus)
       → (elim (entries_left m ctx directory cookie verifier parent) as
       (λ (_ : Result (List Entry) NfsStatus). Type 0)
       [ Ok entries ↦ Pages fit entries page | Err e ↦ page ≡ Err e ]) → TellsStatus page

@@ -1,7 +1,7 @@
 -- Pages of a directory as visits: what the directory had, and what a page showed of it.
 use Rattle.std.proofs.Common.{◌≡◌, ◌==◌, ℕ, Bool, true, false, List, [], ◌∷◌, ◌++◌, Ok}
 use Rattle.std.specs.List.{AllByRecursion, Contains, count_by}
-use Rattle.nfs_machine.specs.Pages.{Pages, all_entries, behind}
+use Rattle.nfs_machine.specs.Pages.{DirectoryPage, Pages, all_entries, behind}
 use Rattle.nfs_machine.specs.Paging.{Rises, next_cookie}
 use Rattle.nfs_machine.specs.Resolve.{Names, resolve}
 use Rattle.nfs_machine.specs.State.{Directory, Entry, Living, State}
@@ -16,7 +16,7 @@ pub record Visit : Type 0 where
   pub eof : Bool
 
 abbrev pub IsVisit : ℕ → Visit → Type 0
-IsVisit cookie v = Pages v.fit (behind cookie v.entries) (Ok (v.page, v.eof))
+IsVisit cookie v = Pages v.fit (behind cookie v.entries) (Ok (record { entries = v.page; eof = v.eof }))
 
 -- pages from a cookie on, up to the one that says that the directory ends; between them it may have changed
 abbrev pub ReadsOn : ℕ → List Visit → Type 0
@@ -49,7 +49,7 @@ PagesAreWhole = (visits : List Visit) → InOrder visits → ReadsOn 0 visits �
 
 -- the page is one of the directory that a handle names, whose entries stand in order
 pub record ListsPage (m : State) (ctx : Ctx) (directory : List ℕ) (cookie : ℕ) (fit : List Entry → Bool)
-    (page : List Entry × Bool) : Type 0 where
+    (page : DirectoryPage) : Type 0 where
   pub number : ℕ
   pub object : Living
   pub is_named : resolve m ctx directory ≡ Names number object
@@ -59,5 +59,5 @@ pub record ListsPage (m : State) (ctx : Ctx) (directory : List ℕ) (cookie : �
   pub parent : ℕ
   pub is_parent : IsParent m number parent
   pub visit : IsVisit cookie
-      (record { entries = all_entries number parent entries; fit = fit; page = page.0; eof = page.1 })
+      (record { entries = all_entries number parent entries; fit = fit; page = page.entries; eof = page.eof })
   pub in_order : Rises 0 (all_entries number parent entries)

@@ -8,7 +8,7 @@ use Rattle.nfs_machine.specs.Bytes.{same_bytes}
 use Rattle.nfs_machine.specs.DataSteps.{verifier_of}
 use Rattle.nfs_machine.proofs.Resolved.{resolved-lives}
 use Rattle.nfs_machine.specs.Checks.{DirectoryEntries, ◌>>=◌, entries_in, holding, object_of, permitted}
-use Rattle.nfs_machine.specs.Pages.{Pages, all_entries, behind}
+use Rattle.nfs_machine.specs.Pages.{DirectoryPage, Pages, all_entries, behind}
 use Rattle.nfs_machine.proofs.Pages.{PagesOf}
 use Rattle.nfs_machine.specs.PageSteps.{IsParentOf, entries_left}
 use Rattle.nfs_machine.specs.Paging.{Rises}
@@ -23,14 +23,14 @@ rising : (below last : ℕ) (es : List Entry) → CookiesRise below es last → 
 rising below last [] h = tt
 rising below last (e ∷ es) h = (h.0, rising e.cookie last es h.1)
 
-module _ (fit : List Entry → Bool) (p : List Entry × Bool) where
+module _ (fit : List Entry → Bool) (p : DirectoryPage) where
   -- the checks were passed
   passed : (b c : Bool) (e f : NfsStatus) (es : List Entry) → PagesOf fit (holding b e >>= λ _. holding c f >>= λ _. Ok es) (Ok p) → Pages fit es (Ok p)
   passed true true e f es is = is
   passed true false e f es is = cc
   passed false c e f es is = cc
 
-module _ (m : State) (ctx : Ctx) (w : WellFormed m) (directory : List ℕ) (cookie : ℕ) (verifier : Verifier) (parent : ℕ) (is_parent : IsParentOf m ctx directory parent) (fit : List Entry → Bool) (p : List Entry × Bool) where
+module _ (m : State) (ctx : Ctx) (w : WellFormed m) (directory : List ℕ) (cookie : ℕ) (verifier : Verifier) (parent : ℕ) (is_parent : IsParentOf m ctx directory parent) (fit : List Entry → Bool) (p : DirectoryPage) where
   abbrev Rest : ℕ → Living → DirectoryEntries → Result (List Entry) NfsStatus
   Rest number o entries = do
     _ ← permitted ctx o ToList

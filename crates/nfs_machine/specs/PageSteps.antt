@@ -18,7 +18,7 @@ use Rattle.nfs_machine.specs.Attributes.{is_directory}
 use Rattle.nfs_machine.specs.Bytes.{same_bytes}
 use Rattle.nfs_machine.specs.Checks.{◌>>=◌, holding, object_of, entries_in, permitted}
 use Rattle.nfs_machine.specs.DataSteps.{verifier_of}
-use Rattle.nfs_machine.specs.Pages.{Pages, all_entries, behind, fits, fits_full}
+use Rattle.nfs_machine.specs.Pages.{DirectoryPage, Pages, all_entries, behind, fits, fits_full}
 use Rattle.nfs_machine.specs.Permission.{ToList}
 use Rattle.nfs_machine.specs.Resolve.{Names, resolve}
 use Rattle.nfs_machine.specs.Shown.{attributes_at, handle_at, shown}
@@ -45,12 +45,12 @@ IsParentOf m ctx directory parent = (number : ℕ) (d : Living) → resolve m ct
 -- a call that is answered by a page of a directory: the entries behind a cookie, as many as fit
 pub record PageStep (old : State) (ctx : Ctx) (directory : List ℕ) (cookie : ℕ) (verifier : Verifier)
     (fit : List Entry → Bool)
-    (reply_of : Option Attributes → Result (List Entry × Bool) NfsStatus → NfsReply) (reply : NfsReply)
+    (reply_of : Option Attributes → Result DirectoryPage NfsStatus → NfsReply) (reply : NfsReply)
     (messages : List Message) (new : State) : Type 0 where
   pub parent : ℕ
   pub is_parent : IsParentOf old ctx directory parent
-  pub page : Result (List Entry × Bool) NfsStatus
-  -- of the entries that are left, with its eof
+  pub page : Result DirectoryPage NfsStatus
+  -- of the entries that are left
   pub is_page : elim (entries_left old ctx directory cookie verifier parent) as (λ left. Type 0) [
     | Ok entries ↦ Pages fit entries page
     | Err e ↦ page ≡ Err e
@@ -73,7 +73,8 @@ abbrev pub ReaddirStep : State → Ctx → ReaddirArguments → NfsReply → Lis
 ReaddirStep old ctx a = PageStep old ctx a.directory a.cookie a.verifier (fits a.count) (λ attributes page.
     replies.Readdir (record {
       attributes = attributes;
-      result = page >>= λ p. Ok (record { verifier = verifier_of ctx; entries = map page_entry p.0; eof = p.1 });
+      result = page >>= λ p. Ok
+          (record { verifier = verifier_of ctx; entries = map page_entry p.entries; eof = p.eof });
     }))
 
 abbrev pub ReaddirplusStep : State → Ctx → ReaddirplusArguments → NfsReply → List Message → State → Type 0
@@ -82,5 +83,5 @@ ReaddirplusStep old ctx a = PageStep old ctx a.directory a.cookie a.verifier
     replies.Readdirplus (record {
       attributes = attributes;
       result = page >>= λ p. Ok
-          (record { verifier = verifier_of ctx; entries = map (full_entry old ctx) p.0; eof = p.1 });
+          (record { verifier = verifier_of ctx; entries = map (full_entry old ctx) p.entries; eof = p.eof });
     }))

@@ -39,11 +39,16 @@ fits_full directory_count most front = nat_le (104 + sum_by full_entry_size fron
 abbrev pub IsPage : (fit : List Entry → Bool) → (entries front rest : List Entry) → Type 0
 IsPage fit entries front rest = (entries ≡ front ++ rest) × (fit front ≡ true) × (front ≡ [] → rest ≡ [])
 
--- the longest page, and whether no entry is left behind it; TOOSMALL where there is no page
-abbrev pub Pages : (fit : List Entry → Bool) → List Entry → Result (List Entry × Bool) NfsStatus → Type 0
+-- the entries that a reply lists, and whether no entry is left behind them
+pub record DirectoryPage : Type 0 where
+  pub entries : List Entry
+  pub eof : Bool
+
+-- the longest page, with its eof; TOOSMALL where there is no page
+abbrev pub Pages : (fit : List Entry → Bool) → List Entry → Result DirectoryPage NfsStatus → Type 0
 Pages fit entries (Ok page) =
-    (rest : List Entry) × IsPage fit entries page.0 rest ×
-    ((other more : List Entry) → IsPage fit entries other more → length other ≤ length page.0)
-    × (page.1 ≡ (length rest == 0))
+    (rest : List Entry) × IsPage fit entries page.entries rest ×
+    ((other more : List Entry) → IsPage fit entries other more → length other ≤ length page.entries)
+    × (page.eof ≡ (length rest == 0))
 Pages fit entries (Err e) = ((front rest : List Entry) → IsPage fit entries front rest → ⊥) ×
     (e ≡ status.TooSmall)

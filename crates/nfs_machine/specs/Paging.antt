@@ -12,7 +12,7 @@ use Rattle.nfs_wire.specs.declared.replies.ReaddirplusReply.{ReaddirplusReply}
 use Rattle.nfs_wire.specs.declared.status.NfsStatus.{NfsStatus}
 use Rattle.side_wire.specs.declared.message.Message.{Message}
 use Rattle.nfs_machine.specs.NfsSteps.{NfsStep}
-use Rattle.nfs_machine.specs.Pages.{Pages}
+use Rattle.nfs_machine.specs.Pages.{DirectoryPage, Pages}
 use Rattle.nfs_machine.specs.State.{Entry, State}
 use Rattle.nfs_machine.specs.declared.context.Ctx.{Ctx}
 
@@ -28,11 +28,11 @@ Rises below (e ∷ entries) = (below < e.cookie) × Rises e.cookie entries
 
 -- of the same entries there is one page, or there is none
 abbrev pub PagesAreOne : Type 0
-PagesAreOne = (fit : List Entry → Bool) (entries : List Entry) (one other : Result (List Entry × Bool) NfsStatus) →
+PagesAreOne = (fit : List Entry → Bool) (entries : List Entry) (one other : Result DirectoryPage NfsStatus) →
     Pages fit entries one → Pages fit entries other → one ≡ other
 
 abbrev pub PagesExist : Type 0
-PagesExist = (fit : List Entry → Bool) (entries : List Entry) → (page : Result (List Entry × Bool) NfsStatus) ×
+PagesExist = (fit : List Entry → Bool) (entries : List Entry) → (page : Result DirectoryPage NfsStatus) ×
     Pages fit entries page
 
 -- a page is no longer than the caller asks; its count leaves out the status

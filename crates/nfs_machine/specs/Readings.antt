@@ -17,7 +17,7 @@ use Rattle.nfs_machine.specs.Bytes.{same_bytes}
 use Rattle.nfs_machine.specs.Chains.{Chain, Transition}
 use Rattle.nfs_machine.specs.Checks.{entry_of}
 use Rattle.nfs_machine.specs.Handles.{handle_of}
-use Rattle.nfs_machine.specs.Pages.{all_entries}
+use Rattle.nfs_machine.specs.Pages.{DirectoryPage, all_entries}
 use Rattle.nfs_machine.specs.Paging.{Rises, next_cookie}
 use Rattle.nfs_machine.specs.Resolve.{Names, resolve}
 use Rattle.nfs_machine.specs.State.{Directory, Entry, Living, State}
@@ -43,20 +43,21 @@ lists_from call = None
 abbrev pub entry_shown : PageEntry → Entry
 entry_shown e = record { name = e.name; number = e.fileid; cookie = e.cookie }
 
-abbrev pub names_shown : Result Page NfsStatus → Option (List Entry × Bool)
-names_shown (Ok page) = Some (map entry_shown page.entries, page.eof)
+abbrev pub names_shown : Result Page NfsStatus → Option DirectoryPage
+names_shown (Ok page) = Some (record { entries = map entry_shown page.entries; eof = page.eof })
 names_shown (Err e) = None
 
-abbrev pub full_shown : Result PagePlus NfsStatus → Option (List Entry × Bool)
-full_shown (Ok page) = Some (map (λ (full : FullEntry). entry_shown full.entry) page.entries, page.eof)
+abbrev pub full_shown : Result PagePlus NfsStatus → Option DirectoryPage
+full_shown (Ok page) = Some
+    (record { entries = map (λ (full : FullEntry). entry_shown full.entry) page.entries; eof = page.eof })
 full_shown (Err e) = None
 
-abbrev pub nfs_page_shown : NfsReply → Option (List Entry × Bool)
+abbrev pub nfs_page_shown : NfsReply → Option DirectoryPage
 nfs_page_shown (nfs_replies.Readdir r) = names_shown r.result
 nfs_page_shown (nfs_replies.Readdirplus r) = full_shown r.result
 nfs_page_shown reply = None
 
-abbrev pub page_shown : Reply → Option (List Entry × Bool)
+abbrev pub page_shown : Reply → Option DirectoryPage
 page_shown (replies.Nfs reply) = nfs_page_shown reply
 page_shown reply = None
 
@@ -77,7 +78,7 @@ steps_of turns = map step_of turns
 pub record AnswersPage (step : Transition) (directory : List ℕ) (cookie : ℕ) (page : List Entry) (eof : Bool) :
     Type 0 where
   pub from : lists_from step.call ≡ Some (directory, cookie)
-  pub shows : page_shown step.reply ≡ Some (page, eof)
+  pub shows : page_shown step.reply ≡ Some (record { entries = page; eof = eof })
 
 -- the pages of one reading, each going on from the last cookie of the one before: the last step is the page that says
 -- that the directory ends

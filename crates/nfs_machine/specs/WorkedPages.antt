@@ -45,7 +45,7 @@ empty = all_entries 2 1 []
 
 -- the page of these entries, and whether it is the last
 abbrev pub IsPageOf : (List Entry → Bool) → (entries page : List Entry) → (eof : Bool) → Type 0
-IsPageOf fit entries page eof = Pages fit entries (Ok (page, eof))
+IsPageOf fit entries page eof = Pages fit entries (Ok (record { entries = page; eof = eof }))
 
 -- there is none
 abbrev pub HasNoPage : (List Entry → Bool) → List Entry → Type 0
