@@ -26,6 +26,9 @@ use std::alloc::{AllocError, Global};
 /// The mode of a new file that is given none.
 const FILE_MODE: u32 = 0o644;
 
+/// A mode has twelve bits (RFC 1813, 2.5: fattr3); it is below this.
+const MODE_LIMIT: u32 = 0o10000;
+
 /// Judges the attributes that a new object is given (RFC 1813, 2.5: sattr3).
 ///
 /// # Errors
@@ -107,7 +110,7 @@ pub fn new_object(
         export,
         generation,
         content,
-        mode: given.mode.unwrap_or(mode) % 0o10000,
+        mode: given.mode.unwrap_or(mode) % MODE_LIMIT,
         uid: given.uid.unwrap_or(ctx.ids.uid),
         gid: given.gid.unwrap_or(ctx.ids.gid),
         links: 1,

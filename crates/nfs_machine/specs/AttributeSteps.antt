@@ -14,7 +14,8 @@ use Rattle.nfs_machine.specs.Attributes.{attributes_of, is_directory}
 use Rattle.nfs_machine.specs.Checks.{◌>>=◌, holding, object_of, bytes_in, changeable, is_writable}
 use Rattle.nfs_machine.specs.Data.{size_limit, resized}
 use Rattle.nfs_machine.specs.Exports.{LivingExport}
-use Rattle.nfs_machine.specs.Permission.{ToWrite, ToSearch, ToList, ToChange, class_bits, is_member, may, reads, runs}
+use Rattle.nfs_machine.specs.Permission.{ToWrite, ToSearch, ToList, ToChange, class_bits, is_member, may}
+use Rattle.nfs_machine.specs.Permission.{mode_limit, reads, runs}
 use Rattle.nfs_machine.specs.Resolve.{resolve}
 use Rattle.nfs_machine.specs.Shown.{wcc, with_object}
 use Rattle.nfs_machine.specs.State.{Regular, Living, State}
@@ -57,7 +58,7 @@ set_object exports ctx o a =
           o ToWrite) status.Access
       Ok (record o {
         content = content;
-        mode = unwrap_or (option_map (λ mode. mode % 4096) set.mode) o.mode;
+        mode = unwrap_or (option_map (λ mode. mode % mode_limit) set.mode) o.mode;
         uid = uid;
         gid = gid;
         accessed = time_set o.accessed (time_of ctx.moment) set.accessed;

@@ -18,7 +18,7 @@ type_of (CharacterDevice device) = types.CharacterDevice
 type_of Socket = types.Socket
 type_of Fifo = types.Fifo
 
--- the size of a directory, and the unit in which space is used
+-- the size of a directory, and the unit in which space is used, in bytes (2.5: fattr3, size and used)
 abbrev pub block : ℕ
 block = 4096
 

@@ -76,3 +76,7 @@ entry_of entries name = find (λ e. same_bytes e.name name) entries
 -- the greatest number of links of an object (3.3.20: linkmax)
 abbrev pub link_limit : ℕ
 link_limit = 32000
+
+-- the most bytes of a symbolic link's text (3.3.10: symlink_data; the bound is this server's own)
+abbrev pub text_limit : ℕ
+text_limit = 4096

@@ -15,9 +15,9 @@ use Rattle.side_wire.specs.declared.message.Message.{Message}
 use Rattle.nfs_machine.specs.Answers.{Ends}
 use Rattle.nfs_machine.specs.Attributes.{attributes_of, links_of}
 use Rattle.nfs_machine.specs.Checks.{◌>>=◌, holding, object_of, entries_in, plain_name_checked, changeable}
-use Rattle.nfs_machine.specs.Checks.{permitted, entry_of, link_limit}
+use Rattle.nfs_machine.specs.Checks.{permitted, entry_of, link_limit, text_limit}
 use Rattle.nfs_machine.specs.Data.{size_limit}
-use Rattle.nfs_machine.specs.Permission.{ToChange, is_member}
+use Rattle.nfs_machine.specs.Permission.{ToChange, is_member, mode_limit}
 use Rattle.nfs_machine.specs.Resolve.{resolve}
 use Rattle.nfs_machine.specs.Shown.{wcc, handle_at, with_content, with_object}
 use Rattle.nfs_machine.specs.State.{Content, Directory, Link, BlockDevice, CharacterDevice, Entry, Living, State}
@@ -61,7 +61,7 @@ new_object ctx export generation wanted = record {
   export = export;
   generation = generation;
   content = wanted.content;
-  mode = unwrap_or wanted.attributes.mode wanted.mode % 4096;
+  mode = unwrap_or wanted.attributes.mode wanted.mode % mode_limit;
   uid = unwrap_or wanted.attributes.uid ctx.ids.uid;
   gid = unwrap_or wanted.attributes.gid ctx.ids.gid;
   accessed = time_set (time_of ctx.moment) (time_of ctx.moment) wanted.attributes.accessed;
@@ -80,12 +80,12 @@ abbrev pub made : State → Ctx → ℕ → Living → Made
 made m ctx number o = record { object = Some (handle_at ctx number o); attributes = Some (attributes_of m number o) }
 
 -- what is judged of an object of each kind: a directory brings one link to its parent, which has so many; the text of
--- a link is neither empty nor holds a NUL, and has at most 4,096 bytes; uid 0 alone makes devices (3.3.9 to 3.3.11)
+-- a link is neither empty nor holds a NUL, and is within its bound; uid 0 alone makes devices (3.3.9 to 3.3.11)
 abbrev pub kind_checked : Ctx → (links : ℕ) → Content → Result (Unit {0}) NfsStatus
 kind_checked ctx links (Directory entries last_cookie) = holding (nat_lt links link_limit) status.TooManyLinks
 kind_checked ctx links (Link text) = do
   _ ← holding (nat_le 1 (length text) && not (list_any (λ b. b == 0) text)) status.Invalid
-  holding (nat_le (length text) 4096) status.NameTooLong
+  holding (nat_le (length text) text_limit) status.NameTooLong
 kind_checked ctx links (BlockDevice device) = holding (ctx.ids.uid == 0) status.Permission
 kind_checked ctx links (CharacterDevice device) = holding (ctx.ids.uid == 0) status.Permission
 kind_checked ctx links content = Ok tt

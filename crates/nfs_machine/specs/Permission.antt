@@ -4,6 +4,10 @@ use Rattle.std.specs.List.{list_any}
 use Rattle.nfs_rpc.specs.declared.credentials.Ids.{Ids}
 use Rattle.nfs_machine.specs.State.{Living}
 
+-- a mode has twelve bits: set-uid, set-gid, sticky, and three of each class (2.5: fattr3); it is below this
+abbrev pub mode_limit : ℕ
+mode_limit = 0o10000
+
 pub data Right : Type 0 where
   -- of a file: by its owner always; else r, or x (a program is read to be run)
   ToRead : Right

@@ -7,6 +7,7 @@ use Rattle.std.specs.List.{AllByRecursion, list_any}
 use Rattle.std.specs.FinMap.{get}
 use Rattle.nfs_machine.specs.Attributes.{entries_of, is_directory, is_living_directory, names_in, names_of}
 use Rattle.nfs_machine.specs.Bytes.{same_bytes}
+use Rattle.nfs_machine.specs.Checks.{text_limit}
 use Rattle.nfs_machine.specs.Exports.{LivingExport, export_at}
 use Rattle.nfs_machine.specs.Paths.{parts}
 use Rattle.nfs_machine.specs.LocksFormed.{LocksFormed}
@@ -73,7 +74,7 @@ pub record IsDirectoryOf (m : State) (directory : Living) : Type 0 where
 -- the text of each link is within its bound (3.3.10)
 abbrev pub TextsFit : State → Type 0
 TextsFit m = (n : ℕ) (o : Living) (text : List ℕ) → get m.objects n ≡ Some o → o.content ≡ Link text →
-    length text ≤ 4096
+    length text ≤ text_limit
 
 -- each pair of a host and a path once
 abbrev pub MountsOnce : List MountBody → Type 0
