@@ -1,5 +1,5 @@
 -- A call that is refused changes nothing.
-use Rattle.std.proofs.Common.{◌≡◌, true, Result, Ok, Err, is_err, refl, sym, ◌∙◌, ap}
+use Rattle.std.proofs.Common.{◌≡◌, true, Result, Ok, Err, is_some, refl, sym, ◌∙◌, ap}
 use Rattle.nfs_wire.specs.declared.calls.NfsCall.TheVariants as calls
 use Rattle.nfs_wire.specs.declared.status.NfsStatus.{NfsStatus}
 use Rattle.nfs_machine.specs.DataSteps.{write_end}
@@ -10,11 +10,12 @@ use Rattle.nfs_machine.specs.LinkSteps.{link_end}
 use Rattle.nfs_machine.specs.NfsSteps.{NfsStep}
 use Rattle.nfs_machine.specs.RenameSteps.{rename_end}
 use Rattle.nfs_machine.specs.State.{State}
+use Rattle.nfs_machine.specs.StatusLaws.{failure_of}
 use Rattle.nfs_machine.proofs.Choosing.{makes-as}
 use Rattle.nfs_machine.specs.RemoveSteps.{rmdir_end}
 use Rattle.nfs_machine.specs.RemoveSteps.{remove_end}
 
-stays : {A : Type 0} (old : State) (end : Result (A × State) NfsStatus) → is_err (answer_of end) ≡ true → state_after old end ≡ old
+stays : {A : Type 0} (old : State) (end : Result (A × State) NfsStatus) → is_some (failure_of (answer_of end)) ≡ true → state_after old end ≡ old
 stays old (Ok end) e = cc
 stays old (Err e) refused = refl
 

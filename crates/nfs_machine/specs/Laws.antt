@@ -1,12 +1,11 @@
 -- Laws of the machine.
 use Rattle.std.specs.Prelude.{◌≡◌, ℕ, Bool, true, false, ◌<◌, ◌≤◌, ◌^◌, List, [], ◌∷◌}
-use Rattle.std.specs.Prelude.{◌++◌, length, Some, is_err, IfSome, ◌⊎◌}
+use Rattle.std.specs.Prelude.{◌++◌, length, Some, is_some, IfSome, ◌⊎◌}
 use Rattle.std.specs.FinMap.{get}
 use Rattle.std.specs.List.{All}
 use Rattle.nfs_wire.specs.Replies.{HasNfsForm, result_bytes}
 use Rattle.nfs_wire.specs.declared.calls.NfsCall.{NfsCall}
 use Rattle.nfs_wire.specs.declared.replies.NfsReply.{NfsReply}
-use Rattle.nfs_wire.specs.declared.replies.NfsReply.TheVariants as replies
 use Rattle.side_wire.specs.declared.message.Message.{Message}
 use Rattle.nfs_machine.specs.Attributes.{entries_of}
 use Rattle.nfs_machine.specs.Chains.{Chain, Transition}
@@ -20,6 +19,7 @@ use Rattle.nfs_machine.specs.Refusal.{nfs_refusal}
 use Rattle.nfs_machine.specs.RenameSteps.{TellsWithin}
 use Rattle.nfs_machine.specs.Run.{Arrival, Asks, Executes, Record, Run, Setting}
 use Rattle.nfs_machine.specs.State.{Entry, Living, State}
+use Rattle.nfs_machine.specs.StatusLaws.{failure_in}
 use Rattle.nfs_machine.specs.Step.{Step}
 use Rattle.nfs_machine.specs.WellFormed.{WellFormed}
 use Rattle.nfs_machine.specs.declared.calls.Call.{Call}
@@ -75,28 +75,7 @@ RefusalsAreShort = (call : NfsCall) → IfSome (nfs_refusal call) IsShort
 
 -- a reply with a status other than NFS3_OK (RFC 1813, 2.6)
 abbrev pub is_refusal : NfsReply → Bool
-is_refusal replies.Null = false
-is_refusal (replies.Getattr result) = is_err result
-is_refusal (replies.Setattr r) = is_err r.result
-is_refusal (replies.Lookup r) = is_err r.result
-is_refusal (replies.Access r) = is_err r.result
-is_refusal (replies.Readlink r) = is_err r.result
-is_refusal (replies.Read r) = is_err r.result
-is_refusal (replies.Write r) = is_err r.result
-is_refusal (replies.Create r) = is_err r.result
-is_refusal (replies.Mkdir r) = is_err r.result
-is_refusal (replies.Symlink r) = is_err r.result
-is_refusal (replies.Mknod r) = is_err r.result
-is_refusal (replies.Remove r) = is_err r.result
-is_refusal (replies.Rmdir r) = is_err r.result
-is_refusal (replies.Rename r) = is_err r.result
-is_refusal (replies.Link r) = is_err r.result
-is_refusal (replies.Readdir r) = is_err r.result
-is_refusal (replies.Readdirplus r) = is_err r.result
-is_refusal (replies.Fsstat r) = is_err r.result
-is_refusal (replies.Fsinfo r) = is_err r.result
-is_refusal (replies.Pathconf r) = is_err r.result
-is_refusal (replies.Commit r) = is_err r.result
+is_refusal reply = is_some (failure_in reply)
 
 -- a call that is refused changes nothing and puts no message
 abbrev pub RefusalsChangeNothing : Type 0
