@@ -43,14 +43,17 @@ fn nothing() -> SetAttributes {
 /// The words of these attributes.
 const NOTHING: [u32; 6] = [0; 6];
 
-/// What is read of these bytes, as arguments of the procedure.
-fn read(
-    alloc: Global,
-    procedure: u32,
-    bytes: &[u8],
-) -> Result<Result<NfsCall, ArgumentsError>, Fail> {
-    let record = record(alloc, bytes)?;
-    Ok(read_args(procedure, SharedReader::new(&record)))
+/// Why the record is no arguments of the procedure.
+fn refusal(procedure: u32, record: &Bytes) -> Option<ArgumentsError> {
+    read_args(procedure, SharedReader::new(record)).err()
+}
+
+/// Whether the record is read as the call.
+fn is_call(procedure: u32, record: &Bytes, call: &NfsCall) -> bool {
+    let read = read_args(procedure, SharedReader::new(record));
+    let is_call = matches!(&read, Ok(read) if read == call);
+    drop(read);
+    is_call
 }
 
 /// Whether the words, with a byte behind them, are read as the arguments of the call, and every shorter front is
@@ -74,6 +77,20 @@ fn is_read_before(
     behind: &[u8],
     call: NfsCall,
 ) -> Result<bool, Fail> {
+    let is_read = is_read_alone(alloc, procedure, front, words, behind, &call);
+    drop(call);
+    is_read
+}
+
+/// The same of a call that is lent.
+fn is_read_alone(
+    alloc: Global,
+    procedure: u32,
+    front: &[u32],
+    words: &[u32],
+    behind: &[u8],
+    call: &NfsCall,
+) -> Result<bool, Fail> {
     let back = bytes_of(alloc, words, behind)?;
     let arguments = bytes_of(alloc, front, back.as_slice())?;
     for length in 0..arguments.len().saturating_sub(behind.len()) {
@@ -81,12 +98,14 @@ fn is_read_before(
             return Ok(false);
         }
     }
-    Ok(read(alloc, procedure, arguments.as_slice())? == Ok(call))
+    let record = record(alloc, arguments.as_slice())?;
+    Ok(is_call(procedure, &record, call))
 }
 
 /// Whether the bytes are no arguments of the procedure.
 fn are_garbage(alloc: Global, procedure: u32, bytes: &[u8]) -> Result<bool, Fail> {
-    Ok(read(alloc, procedure, bytes)?.err() == Some(ArgumentsError::Garbage))
+    let record = record(alloc, bytes)?;
+    Ok(refusal(procedure, &record) == Some(ArgumentsError::Garbage))
 }
 
 /// Whether the words are no arguments of the procedure.

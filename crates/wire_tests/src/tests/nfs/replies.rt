@@ -5,7 +5,7 @@ ghost use Rattle.std.specs.List.{All};
 ghost use Rattle.nfs_wire.specs.Replies.{HasNfsForm, HasMadeForm, HasEntryForm, HasFullEntryForm};
 
 use super::{DIRECTORY, directory, seconds};
-use crate::tests::{behind_a_byte, bytes_of, has_written, joined};
+use crate::tests::{behind_a_byte, has_written, joined};
 use bytes::Bytes;
 use nfs_wire::{
     AccessReply, Attributes, CommitReply, DeviceNumber, FileSystem, FileType, Found, FsinfoReply,
@@ -27,28 +27,13 @@ const UNKNOWN: Wcc = Wcc {
     after: None,
 };
 
-/// Whether these bytes are written of the reply. It owns the reply, since a test that keeps one is slow to prove.
-fn are_written(alloc: Global, reply: NfsReply, bytes: &[u8]) -> Result<bool, Fail>
-    requires { HasNfsForm reply }
-{
-    is_result(alloc, &reply, bytes)
-}
-
-/// The same of a reply that is lent.
-fn is_result(alloc: Global, reply: &NfsReply, bytes: &[u8]) -> Result<bool, Fail>
-    requires { HasNfsForm reply.now }
-{
-    let mut writer = behind_a_byte(alloc)?;
-    write_result(&mut writer, reply)?;
-    Ok(has_written(writer, bytes))
-}
-
-/// Whether these words are written of the reply.
+/// Whether these words are written of the reply. It owns the reply, since a test that keeps one is slow to prove.
 fn is_written(alloc: Global, reply: NfsReply, words: &[u32]) -> Result<bool, Fail>
     requires { HasNfsForm reply }
 {
-    let expected = bytes_of(alloc, words, &[])?;
-    are_written(alloc, reply, expected.as_slice())
+    let is_written = is_result(alloc, &reply, words, &[], &[]);
+    drop(reply);
+    is_written
 }
 
 /// Whether these words are written of the reply, with the attributes of the directory between them.
@@ -60,8 +45,25 @@ fn is_written_around(
 ) -> Result<bool, Fail>
     requires { HasNfsForm reply }
 {
-    let expected = joined(alloc, front, &DIRECTORY, back)?;
-    are_written(alloc, reply, expected.as_slice())
+    let is_written = is_result(alloc, &reply, front, &DIRECTORY, back);
+    drop(reply);
+    is_written
+}
+
+/// Whether the words in three parts are written of the reply.
+fn is_result(
+    alloc: Global,
+    reply: &NfsReply,
+    front: &[u32],
+    middle: &[u32],
+    back: &[u32],
+) -> Result<bool, Fail>
+    requires { HasNfsForm reply.now }
+{
+    let expected = joined(alloc, front, middle, back)?;
+    let mut writer = behind_a_byte(alloc)?;
+    write_result(&mut writer, reply)?;
+    Ok(has_written(writer, expected.as_slice()))
 }
 
 #[test]

@@ -14,40 +14,49 @@ use side_wire::{
 use std::alloc::{AllocError, Global};
 use std::test::Fail;
 
-/// What is read of these bytes, as arguments of the procedure.
-fn read(
-    alloc: Global,
-    procedure: u32,
-    bytes: &[u8],
-) -> Result<Result<MountCall, ArgumentsError>, Fail> {
-    let record = record(alloc, bytes)?;
-    Ok(mount::read_args(procedure, SharedReader::new(&record)))
-}
-
 /// Whether the bytes are no arguments of the procedure.
 fn is_garbage(alloc: Global, procedure: u32, bytes: &[u8]) -> Result<bool, Fail> {
-    Ok(matches!(read(alloc, procedure, bytes)?, Err(ArgumentsError::Garbage)))
+    let record = record(alloc, bytes)?;
+    let refusal = mount::read_args(procedure, SharedReader::new(&record)).err();
+    Ok(refusal == Some(ArgumentsError::Garbage))
 }
 
 /// Whether the bytes are read as the call of the procedure, with this path or with none.
 fn is_call(alloc: Global, procedure: u32, bytes: &[u8], path: &[u8]) -> Result<bool, Fail> {
-    Ok(match read(alloc, procedure, bytes)? {
-        Ok(MountCall::Null) => procedure == 0 && path.is_empty(),
-        Ok(MountCall::Mnt(read)) => procedure == 1 && read.as_slice() == path,
-        Ok(MountCall::Dump) => procedure == 2 && path.is_empty(),
-        Ok(MountCall::Unmount(read)) => procedure == 3 && read.as_slice() == path,
-        Ok(MountCall::UnmountAll) => procedure == 4 && path.is_empty(),
-        Ok(MountCall::Export) => procedure == 5 && path.is_empty(),
-        Err(_) => false,
-    })
+    let record = record(alloc, bytes)?;
+    let read = mount::read_args(procedure, SharedReader::new(&record));
+    let is_call = matches!(&read, Ok(call) if is_of(call, procedure, path));
+    drop(read);
+    Ok(is_call)
+}
+
+/// Whether the call is of the procedure, with this path or with none.
+fn is_of(call: &MountCall, procedure: u32, path: &[u8]) -> bool {
+    match call {
+        MountCall::Null => procedure == 0 && path.is_empty(),
+        MountCall::Mnt(read) => procedure == 1 && read.as_slice() == path,
+        MountCall::Dump => procedure == 2 && path.is_empty(),
+        MountCall::Unmount(read) => procedure == 3 && read.as_slice() == path,
+        MountCall::UnmountAll => procedure == 4 && path.is_empty(),
+        MountCall::Export => procedure == 5 && path.is_empty(),
+    }
 }
 
 /// Whether these bytes are written of the reply.
 fn is_written(alloc: Global, reply: MountReply, bytes: &[u8]) -> Result<bool, Fail>
     requires { HasMountForm reply }
 {
+    let is_written = is_result(alloc, &reply, bytes);
+    drop(reply);
+    is_written
+}
+
+/// The same of a reply that is lent.
+fn is_result(alloc: Global, reply: &MountReply, bytes: &[u8]) -> Result<bool, Fail>
+    requires { HasMountForm reply.now }
+{
     let mut writer = behind_a_byte(alloc)?;
-    mount::write_result(&mut writer, &reply)?;
+    mount::write_result(&mut writer, reply)?;
     Ok(has_written(writer, bytes))
 }
 

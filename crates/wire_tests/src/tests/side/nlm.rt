@@ -8,32 +8,44 @@ mod values;
 use crate::tests::{joined, record};
 use nfs_xdr::SharedReader;
 use side_wire::{ArgumentsError, NlmCall, nlm};
-use std::alloc::Global;
+use std::alloc::{AllocError, Global};
 use std::test::Fail;
 
-/// What is read of these bytes, as arguments of the procedure.
-fn read(
-    alloc: Global,
-    procedure: u32,
-    bytes: &[u8],
-) -> Result<Result<NlmCall, ArgumentsError>, Fail> {
+/// Why the bytes are no arguments of the procedure.
+fn refusal(alloc: Global, procedure: u32, bytes: &[u8]) -> Result<Option<ArgumentsError>, Fail> {
     let record = record(alloc, bytes)?;
-    Ok(nlm::read_args(procedure, SharedReader::new(&record)))
+    Ok(nlm::read_args(procedure, SharedReader::new(&record)).err())
 }
 
 /// Whether the bytes are no arguments of the procedure.
 fn are_garbage(alloc: Global, procedure: u32, bytes: &[u8]) -> Result<bool, Fail> {
-    Ok(read(alloc, procedure, bytes)?.err() == Some(ArgumentsError::Garbage))
+    Ok(refusal(alloc, procedure, bytes)? == Some(ArgumentsError::Garbage))
 }
 
 /// Whether the bytes are read as arguments of the procedure.
 fn are_arguments(alloc: Global, procedure: u32, bytes: &[u8]) -> Result<bool, Fail> {
-    Ok(read(alloc, procedure, bytes)?.err().is_none())
+    Ok(refusal(alloc, procedure, bytes)?.is_none())
 }
 
 /// Whether the bytes are read as arguments of the procedure, which are a copy of these.
 fn is_call(alloc: Global, procedure: u32, bytes: &[u8], call: NlmCall) -> Result<bool, Fail> {
-    Ok(read(alloc, procedure, bytes)? == Ok(call.clone()?))
+    let copy: Result<NlmCall, AllocError> = call.clone();
+    drop(call);
+    let is_call = match &copy {
+        Ok(copy) => is_read_as(alloc, procedure, bytes, copy),
+        Err(AllocError) => Err(Fail::from("a copy")),
+    };
+    drop(copy);
+    is_call
+}
+
+/// Whether the bytes are read as this call of the procedure.
+fn is_read_as(alloc: Global, procedure: u32, bytes: &[u8], call: &NlmCall) -> Result<bool, Fail> {
+    let record = record(alloc, bytes)?;
+    let read = nlm::read_args(procedure, SharedReader::new(&record));
+    let is_call = matches!(&read, Ok(read) if read == call);
+    drop(read);
+    Ok(is_call)
 }
 
 /// Whether the words, with a byte behind them, are read as the call, and every shorter front is garbage.

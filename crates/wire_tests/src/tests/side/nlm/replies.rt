@@ -13,7 +13,9 @@ use std::test::Fail;
 fn is_written(alloc: Global, reply: NlmReply, front: &[u32], back: &[u32]) -> Result<bool, Fail>
     requires { HasNlmForm reply }
 {
-    is_result(alloc, &reply, front, back)
+    let is_written = is_result(alloc, &reply, front, back);
+    drop(reply);
+    is_written
 }
 
 /// The same of a reply that is lent.
