@@ -1,8 +1,5 @@
 -- What the readers of a call's header answer.
 use Rattle.std.specs.Prelude.{◌≡◌, ℕ, List, Result, Ok, Err}
-use Rattle.nfs_xdr.specs.Types.{Xdr, Value}
-use Rattle.nfs_xdr.specs.Reading.{read}
-use Rattle.nfs_xdr.specs.declared.XdrError.{XdrError}
 use Rattle.nfs_rpc.specs.declared.calls.RpcCall.{RpcCall}
 use Rattle.nfs_rpc.specs.declared.programs.Program.{Program}
 use Rattle.nfs_rpc.specs.declared.credentials.Ids.{Ids}
@@ -11,13 +8,6 @@ use Rattle.nfs_rpc.specs.declared.faults.Early.{Early}
 use Rattle.nfs_rpc.specs.declared.faults.Early.TheVariants.{Answer}
 use Rattle.nfs_rpc.specs.Messages.{CallHeader}
 use Rattle.nfs_rpc.specs.Early.{call_of, heading_of}
-
--- What a reader that takes no memory answers, seen by view, and leaves: what reading gives. Where it stands after a
--- refusal is not said.
-abbrev pub ReadsExactly : {X : Type 0} → (t : Xdr) →
-    (X → Value t) → List ℕ → List ℕ → Result X XdrError → Type 0
-ReadsExactly t view old new (Ok x) = read t old ≡ Ok (view x, new)
-ReadsExactly t view old new (Err e) = read t old ≡ Err e
 
 -- a call as its header tells it
 abbrev pub header_of : RpcCall → CallHeader

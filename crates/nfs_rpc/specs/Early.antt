@@ -32,7 +32,7 @@ holding false early = Err early
 
 -- who an AUTH_SYS body names, where it can be read; bytes behind it are not looked at
 abbrev pub sys_ids : Result (Value AuthSys × List ℕ) XdrError → Option Ids
-sys_ids (Ok x) = Some (record { uid = x.0.1.1.0; gid = x.0.1.1.1.0; gids = x.0.1.1.1.1 })
+sys_ids (Ok ((stamp, (machine, (uid, (gid, gids)))), rest)) = Some (record { uid = uid; gid = gid; gids = gids })
 sys_ids (Err e) = None
 
 -- who calls, by the credential's flavor and body: AUTH_NONE is nobody and its body is not looked at, AUTH_SYS names
@@ -54,16 +54,25 @@ heading_of xid number version procedure flavor body arguments = do
   _ ← holding (is_built program procedure) (Answer xid ProcedureUnavailable)
   Ok (record { xid = xid; program = program; procedure = procedure; ids = ids; arguments = arguments })
 
+-- a heading that was read, by its fields, with the arguments behind it; the verifier is not looked at
+abbrev pub heading_in : (xid : ℕ) → Value Heading × List ℕ → Result CallHeader Early
+heading_in xid ((number, (version, (procedure, ((flavor, body), verifier)))), arguments) =
+    heading_of xid number version procedure flavor body arguments
+
 -- what follows the first three words: a message type 0 is a call, and RPC's version is 2
 abbrev pub message_of : (xid type version : ℕ) → List ℕ → Result CallHeader Early
 message_of xid type version bytes = do
   _ ← holding (type == 0) Drop
   _ ← holding (version == 2) (Answer xid RpcMismatch)
   heading ← readable (read Heading bytes) Drop
-  heading_of xid heading.0.0 heading.0.1.0 heading.0.1.1.0 heading.0.1.1.1.0.0 heading.0.1.1.1.0.1 heading.1
+  heading_in xid heading
+
+-- the first three words of a record, with what follows
+abbrev pub opening_in : Value Opening × List ℕ → Result CallHeader Early
+opening_in ((xid, (type, version)), bytes) = message_of xid type version bytes
 
 -- the call that a record is
 unfoldable pub call_of : List ℕ → Result CallHeader Early
 call_of bytes = do
   opening ← readable (read Opening bytes) Drop
-  message_of opening.0.0 opening.0.1.0 opening.0.1.1 opening.1
+  opening_in opening

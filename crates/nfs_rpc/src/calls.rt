@@ -1,9 +1,9 @@
 //! The header of a call.
 
 ghost use Rattle.std.specs.Prelude.{◌≡◌, ◌≤◌, ◌%◌, length, drop};
-ghost use Rattle.nfs_xdr.specs.Reading.{read};
+ghost use Rattle.nfs_xdr.specs.Reading.{ReadsFront, read};
 ghost use Rattle.nfs_rpc.specs.Messages as spec;
-ghost use Rattle.nfs_rpc.specs.Calls.{IsCallOf, NamesCall, ReadsExactly};
+ghost use Rattle.nfs_rpc.specs.Calls.{IsCallOf, NamesCall};
 ghost use Rattle.nfs_rpc.specs.Early.{ids_of, sys_ids};
 ghost use Rattle.nfs_xdr.specs.Types.{Word, Array, ◌&◌};
 ghost use Rattle.std.specs.Result.{result_ok};
@@ -136,7 +136,7 @@ fn read_sys_ids(body: &[u8]) -> Result<Ids, XdrError>
 /// Reads the further groups.
 #[tactic(auto, unfolding(nfs_xdr::specs::Reading::read))]
 fn read_gids(reader: &mut Reader<'_>) -> Result<Gids, XdrError>
-    ensures { ReadsExactly (Array GIDS_LIMIT Word) (λ gids. gids) reader.old reader.new result }
+    ensures { ReadsFront (Array GIDS_LIMIT Word) (λ gids. gids) reader.old reader.new result }
 {
     let count = reader.u32()?;
     if count > GIDS_LIMIT as u32 {
@@ -151,7 +151,7 @@ fn read_gids(reader: &mut Reader<'_>) -> Result<Gids, XdrError>
 
 #[tactic(auto, unfolding(nfs_xdr::specs::Reading::read))]
 fn read_opening(reader: &mut SharedReader<'_>) -> Result<Opening, XdrError>
-    ensures { ReadsExactly spec.Opening (λ o. (o.xid, (o.kind, o.version))) reader.old reader.new result }
+    ensures { ReadsFront spec.Opening (λ o. (o.xid, (o.kind, o.version))) reader.old reader.new result }
 {
     Ok(Opening {
         xid: reader.u32()?,
@@ -162,7 +162,7 @@ fn read_opening(reader: &mut SharedReader<'_>) -> Result<Opening, XdrError>
 
 #[tactic(auto, unfolding(nfs_xdr::specs::Reading::read))]
 fn read_heading<'a>(reader: &mut SharedReader<'a>) -> Result<Heading<'a>, XdrError>
-    ensures { ReadsExactly spec.Heading
+    ensures { ReadsFront spec.Heading
         (λ h. h.program & h.version & h.procedure
         & (h.credential.flavor, h.credential.body.now) & (h.verifier.flavor, h.verifier.body.now))
         reader.entry.now reader.exit.now result }
@@ -179,7 +179,7 @@ fn read_heading<'a>(reader: &mut SharedReader<'a>) -> Result<Heading<'a>, XdrErr
 /// Reads a flavor and a body with no copy of it.
 #[tactic(auto, unfolding(nfs_xdr::specs::Reading::read))]
 fn read_auth<'a>(reader: &mut SharedReader<'a>) -> Result<Auth<'a>, XdrError>
-    ensures { ReadsExactly spec.Auth (λ a. (a.flavor, a.body.now)) reader.entry.now reader.exit.now result }
+    ensures { ReadsFront spec.Auth (λ a. (a.flavor, a.body.now)) reader.entry.now reader.exit.now result }
 {
     let flavor = reader.u32()?;
     let bytes = reader.as_slice();
