@@ -8,10 +8,11 @@ use Rattle.std.specs.Prelude.{ok_or}
 use Rattle.nfs_wire.specs.declared.calls.NfsCall.TheVariants as nfs
 use Rattle.nfs_wire.specs.declared.status.NfsStatus.{NfsStatus}
 use Rattle.nfs_wire.specs.declared.status.NfsStatus.TheVariants as status
+use Rattle.nfs_machine.specs.Attributes.{entries_of}
 use Rattle.nfs_machine.specs.Checks.{entries_in, entry_of, holding, object_of, permitted}
 use Rattle.nfs_machine.specs.Checks.{◌>>=◌}
 use Rattle.nfs_machine.specs.Exports.{LivingExport, admits}
-use Rattle.nfs_machine.specs.MountSteps.{Matches, MountStep, entries_at, walk}
+use Rattle.nfs_machine.specs.MountSteps.{Matches, MountStep, directory_at, walk}
 use Rattle.nfs_machine.specs.NfsSteps.{NfsStep}
 use Rattle.nfs_machine.specs.Pages.{all_entries, behind, fits}
 use Rattle.nfs_machine.specs.Paths.{parts}
@@ -92,11 +93,12 @@ longest number more leads = export-all (LeavesOne more) exporting.exports number
 
 -- the walk of "sub" from its root
 abbrev below_by : ℕ → Option Living → Result Named MountStatus
-below_by number o = entries_at o >>= λ d. Ok (numbered number d.0)
+below_by number o = directory_at o >>= λ d. Ok (numbered number d)
 
 abbrev step_by : Option Living → Result Named MountStatus
-step_by o = entries_at o >>= λ d. ok_or (entry_of d.1 (codes "sub")) mount_status.NoEntry >>= λ e. below_by e.number
-    (get objects e.number)
+step_by o = directory_at o >>= λ d.
+    ok_or (entry_of (entries_of d.content) (codes "sub")) mount_status.NoEntry >>= λ e.
+    below_by e.number (get objects e.number)
 
 found : walk (get objects) 12 (codes "sub" ∷ []) ≡ Ok (numbered 7 sub)
 unfolding walk

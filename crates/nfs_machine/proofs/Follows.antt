@@ -24,7 +24,7 @@ use Rattle.nfs_machine.specs.Attributes.{entries_of, is_directory, links_of}
 use Rattle.nfs_machine.specs.Bytes.{same_bytes}
 use Rattle.nfs_machine.specs.Checks.{◌>>=◌, holding, object_of, entries_in, bytes_in, plain_name_checked, changeable, permitted, entry_of}
 use Rattle.nfs_machine.specs.Data.{size_limit, resized, written}
-use Rattle.nfs_machine.specs.DataSteps.{write_count, write_object}
+use Rattle.nfs_machine.specs.DataSteps.{WriteEnd, write_count, write_object}
 use Rattle.nfs_machine.specs.Grants.{AllHeldUp, FileWaits, IsHeldUp}
 use Rattle.nfs_machine.specs.Laws.{GivesOnce, KeepsCookies, KeepsEntries, KeepsExports, LivesAs}
 use Rattle.nfs_machine.specs.Making.{Wanted, given_attributes, new_object, with_entry, kind_checked}
@@ -233,9 +233,9 @@ alters-regular o now bytes plain = record {
 module _ (m : State) (ctx : Ctx) where
   write-alters : (file : Living) (a : WriteArguments) →
       IfOk (write_object m.exports ctx file a)
-      (λ (e : Written × Option Living). IfSome e.1 (Alters (time_of ctx.moment) file))
+      (λ (e : WriteEnd). IfSome e.after (Alters (time_of ctx.moment) file))
   write-alters file a =
-      let P : Written × Option Living → Type 0 = λ (e : Written × Option Living). IfSome e.1 (Alters (time_of ctx.moment) file) in
+      let P : WriteEnd → Type 0 = λ (e : WriteEnd). IfSome e.after (Alters (time_of ctx.moment) file) in
       chained-is P (bytes_in file.content) _
       (λ bytes is. chained-is P (holding (a.count == length a.«data») status.Invalid) _
       (λ x1 e1. chained-is P (changeable m.exports file) _
@@ -252,8 +252,8 @@ module _ (m : State) (ctx : Ctx) where
       chained-is (λ (e : Written × State). Follows (time_of ctx.moment) m e.1) (object_of (resolve m ctx a.file)) _ (λ file at.
       chained-is (λ (e : Written × State). Follows (time_of ctx.moment) m e.1) (write_object m.exports ctx file.object a) _
       (λ end is.
-      follows-replaced (time_of ctx.moment) m file.number file.object end.1 (resolved-lives m ctx a.file file at)
-      (of-ok (λ (e : Written × Option Living). IfSome e.1 (Alters (time_of ctx.moment) file.object))
+      follows-replaced (time_of ctx.moment) m file.number file.object end.after (resolved-lives m ctx a.file file at)
+      (of-ok (λ (e : WriteEnd). IfSome e.after (Alters (time_of ctx.moment) file.object))
       (write_object m.exports ctx file.object a) end is (write-alters file.object a))))
 
   -- ---- an object is made

@@ -32,7 +32,7 @@ use Rattle.nfs_machine.specs.Handles.{handle_of}
 use Rattle.nfs_machine.specs.Laws.{HandlesAreRead, NumbersFit}
 use Rattle.nfs_machine.specs.MakeSteps.{wanted_of, wanted_special}
 use Rattle.nfs_machine.specs.Making.{Wanted, given_attributes, kind_checked, made, new_object, with_entry}
-use Rattle.nfs_machine.specs.MountSteps.{MntAnswers, MountStep, Target, entries_at, is_mounted, newest, walk}
+use Rattle.nfs_machine.specs.MountSteps.{MntAnswers, MountStep, Target, directory_at, is_mounted, newest, walk}
 use Rattle.nfs_machine.specs.MountSteps.{with_mount}
 use Rattle.nfs_machine.specs.NameSteps.{create_existing, create_over, leads_to, lookup_found, wanted_file}
 use Rattle.nfs_machine.specs.NfsSteps.{NfsStep}
@@ -424,16 +424,14 @@ of-mount : {A B : Type 0} (P : B → Type 0) (r : Result A MountStatus) (f : A �
 of-mount P (Ok x) f holds = holds x refl
 of-mount P (Err e) f holds = tt
 
-entries-of : (living : Option Living) (d : Living × List Entry) → entries_at living ≡ Ok d →
-    (living ≡ Some d.0) × (is_directory d.0.content ≡ true) × (d.1 ≡ entries_of d.0.content)
-entries-of None d is = cc
-entries-of (Some o) d is = elim (is_directory o.content) as (λ b. is_directory o.content ≡ b →
-    cond b (Ok (o, entries_of o.content)) (Err mount_status.NotDirectory) ≡ Ok d →
-    (Some o ≡ Some d.0) × (is_directory d.0.content ≡ true) × (d.1 ≡ entries_of d.0.content)) [
+directory-of : (living : Option Living) (d : Living) → directory_at living ≡ Ok d →
+    (living ≡ Some d) × (is_directory d.content ≡ true)
+directory-of None d is = cc
+directory-of (Some o) d is = elim (is_directory o.content) as (λ b. is_directory o.content ≡ b →
+    cond b (Ok o) (Err mount_status.NotDirectory) ≡ Ok d → (Some o ≡ Some d) × (is_directory d.content ≡ true)) [
       | true ↦ λ kind t.
-          let same : (o, entries_of o.content) ≡ d = cc in
-          subst (λ (x : Living × List Entry). (Some o ≡ Some x.0) × (is_directory x.0.content ≡ true) ×
-          (x.1 ≡ entries_of x.0.content)) same (refl, kind, refl)
+          let same : o ≡ d = cc in
+          subst (λ (x : Living). (Some o ≡ Some x) × (is_directory x.content ≡ true)) same (refl, kind)
       | false ↦ λ kind t. cc
     ] refl is
 
@@ -447,20 +445,20 @@ module _ (m : State) (w : WellFormed m) (export : ℕ) where
       IfOk (walk (get m.objects) number names) Reached
   unfolding walk
   walk-reaches number [] (o, at, inside) =
-      of-mount Reached (entries_at (get m.objects number)) _ (λ d is.
-      let e = entries-of (get m.objects number) d is in
-      let both : Some o ≡ Some d.0 = sym at ∙ e.0 in
-      let same : o ≡ d.0 = cc in
+      of-mount Reached (directory_at (get m.objects number)) _ (λ d is.
+      let e = directory-of (get m.objects number) d is in
+      let both : Some o ≡ Some d = sym at ∙ e.0 in
+      let same : o ≡ d = cc in
       (e.0, e.1, ap (λ (x : Living). x.export) (sym same) ∙ inside))
   walk-reaches number (name ∷ names) (o, at, inside) =
-      of-mount Reached (entries_at (get m.objects number)) _ (λ d is.
-      of-mount Reached (ok_or (entry_of d.1 name) mount_status.NoEntry) _ (λ x found.
-      let e = entries-of (get m.objects number) d is in
-      let both : Some o ≡ Some d.0 = sym at ∙ e.0 in
-      let same : o ≡ d.0 = cc in
-      let l = find-all (Leads m d.0) (λ (y : Entry). same_bytes y.name name) d.1 x
-      (subst (AllByRecursion (Leads m d.0)) (sym e.2) (w.names number d.0 e.0).leads)
-      (there (entry_of d.1 name) x found) in
+      of-mount Reached (directory_at (get m.objects number)) _ (λ d is.
+      of-mount Reached (ok_or (entry_of (entries_of d.content) name) mount_status.NoEntry) _ (λ x found.
+      let e = directory-of (get m.objects number) d is in
+      let both : Some o ≡ Some d = sym at ∙ e.0 in
+      let same : o ≡ d = cc in
+      let l = find-all (Leads m d) (λ (y : Entry). same_bytes y.name name) (entries_of d.content) x
+      (w.names number d e.0).leads
+      (there (entry_of (entries_of d.content) name) x found) in
       walk-reaches x.number names
       (l.object, l.lives, l.export ∙ ap (λ (y : Living). y.export) (sym same) ∙ inside)))
     where

@@ -21,7 +21,7 @@ use Rattle.nfs_machine.specs.LockSteps.{HeldUp, IsHolder, LockFault, NotRegular,
 use Rattle.nfs_machine.specs.LockSteps.{is_request, share_of}
 use Rattle.side_wire.specs.declared.mount.MountStatus.{MountStatus}
 use Rattle.side_wire.specs.declared.mount.MountStatus.TheVariants as mount_status
-use Rattle.nfs_machine.specs.MountSteps.{MountStep, entries_at, walk, ◌>>=◌ as ◌>>=m◌}
+use Rattle.nfs_machine.specs.MountSteps.{MountStep, directory_at, walk, ◌>>=◌ as ◌>>=m◌}
 use Rattle.nfs_machine.specs.Exports.{LivingExport}
 use Rattle.nfs_machine.specs.WorkedCreate.{writable}
 use Rattle.nfs_machine.specs.WorkedSetting.{unwritable}
@@ -159,7 +159,7 @@ lock_by = lock_under writable
 
 -- where a path without parts leads
 abbrev walked_by : Option Living → Result Named MountStatus
-walked_by o = entries_at o >>=m λ d. Ok (numbered 1 d.0)
+walked_by o = directory_at o >>=m λ d. Ok (numbered 1 d)
 
 is-x : resolve with_hi nobody x_bytes ≡ Names 5 x_written
 is-x = x-named with_hi refl x_written refl refl x-lives

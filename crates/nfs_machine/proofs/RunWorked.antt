@@ -177,7 +177,7 @@ creates = makes-so (record {
 -- ---- WRITE
 abbrev write_by : WriteArguments → Resolved → Result (Written × State) NfsStatus
 write_by a r = object_of r >>= λ file. write_object writable nobody file.object a >>= λ end. Ok
-    (end.0, replaced with_x file.number end.1)
+    (end.told, replaced with_x file.number end.after)
 
 writes : NfsStep with_x nobody (nfs.Write writing) wrote_reply [] with_hi
 unfolding NfsStep

@@ -47,7 +47,7 @@ use Rattle.nfs_machine.specs.Checks.{changeable, permitted, entry_of, name_check
 use Rattle.nfs_machine.specs.LinkSteps.{link_end}
 use Rattle.nfs_machine.specs.MakeSteps.{wanted_of, wanted_special}
 use Rattle.nfs_machine.specs.Making.{Wanted, given_attributes, kind_checked}
-use Rattle.nfs_machine.specs.MountSteps.{MntAnswers, MountStep, entries_at, path_fault, walk}
+use Rattle.nfs_machine.specs.MountSteps.{MntAnswers, MountStep, directory_at, path_fault, walk}
 use Rattle.nfs_machine.specs.NameSteps.{lookup_found, create_existing, create_over, wanted_file}
 use Rattle.nfs_machine.specs.NfsSteps.{NfsStep}
 use Rattle.nfs_machine.specs.Pages.{DirectoryPage, Pages, fits, fits_full}
@@ -385,11 +385,10 @@ chain : {A B : Type 0} (r : Result A MountStatus) (f : A → Result B MountStatu
 chain (Ok x) f first rest = rest x
 chain (Err e) f first rest = first
 
-entries-tell : (living : Option Living) → MountTells (entries_at living)
-entries-tell None = refl
-entries-tell (Some o) = elim (is_directory o.content) as
-    (λ b. MountTells {A = Living × List Entry}
-    (cond b (Ok (o, entries_of o.content)) (Err mount_status.NotDirectory))) [
+directory-tells : (living : Option Living) → MountTells (directory_at living)
+directory-tells None = refl
+directory-tells (Some o) = elim (is_directory o.content) as
+    (λ b. MountTells {A = Living} (cond b (Ok o) (Err mount_status.NotDirectory))) [
       | true ↦ tt
       | false ↦ refl
     ]
@@ -401,10 +400,10 @@ entry-tells (Some e) = tt
 walk-tells : (find : ℕ → Option Living) (number : ℕ) (names : List (List ℕ)) →
     MountTells (walk find number names)
 unfolding walk
-walk-tells find number [] = chain (entries_at (find number)) _ (entries-tell (find number)) (λ d. tt)
+walk-tells find number [] = chain (directory_at (find number)) _ (directory-tells (find number)) (λ d. tt)
 walk-tells find number (name ∷ names) =
-    chain (entries_at (find number)) _ (entries-tell (find number)) (λ d.
-    chain (ok_or (entry_of d.1 name) mount_status.NoEntry) _ (entry-tells (entry_of d.1 name)) (λ e.
+    chain (directory_at (find number)) _ (directory-tells (find number)) (λ d.
+    chain (ok_or (entry_of (entries_of d.content) name) mount_status.NoEntry) _ (entry-tells (entry_of (entries_of d.content) name)) (λ e.
     walk-tells find e.number names))
 
 path-tells : (path : List ℕ) (e : MountStatus) → path_fault path ≡ Some e → mount_never_answers e ≡ false

@@ -51,9 +51,12 @@ verifier_of ctx = record { bytes = to_be_bytes w64 ctx.start }
 abbrev pub write_count : WriteArguments → ℕ
 write_count a = min a.count transfer_limit
 
--- the file after it; where nothing is written it stays
-abbrev pub write_object : List LivingExport → Ctx → Living → WriteArguments →
-    Result (Written × Option Living) NfsStatus
+-- what a WRITE tells, and the file after it; where nothing is written it stays
+pub record WriteEnd : Type 0 where
+  pub told : Written
+  pub after : Option Living
+
+abbrev pub write_object : List LivingExport → Ctx → Living → WriteArguments → Result WriteEnd NfsStatus
 write_object exports ctx file a = do
   bytes ← bytes_in file.content
   _ ← holding (a.count == length a.«data») status.Invalid
@@ -62,16 +65,16 @@ write_object exports ctx file a = do
   _ ← holding ((write_count a == 0) || nat_le (a.offset + write_count a) size_limit) status.FileTooBig
   let after = with_content file (time_of ctx.moment)
       (Regular (written bytes a.offset (take (write_count a) a.«data»))) in
-      Ok (
-        record { count = write_count a; committed = a.stable; verifier = verifier_of ctx },
-        if write_count a == 0 then None else Some after,
-      )
+      Ok (record {
+        told = record { count = write_count a; committed = a.stable; verifier = verifier_of ctx };
+        after = if write_count a == 0 then None else Some after;
+      })
 
 abbrev pub write_end : State → Ctx → WriteArguments → Result (Written × State) NfsStatus
 write_end old ctx a = do
   o ← object_of (resolve old ctx a.file)
-  x ← write_object old.exports ctx o.object a
-  Ok (x.0, replaced old o.number x.1)
+  end ← write_object old.exports ctx o.object a
+  Ok (end.told, replaced old o.number end.after)
 
 abbrev pub WriteStep : State → Ctx → WriteArguments → NfsReply → List Message → State → Type 0
 WriteStep old ctx a = Ends old

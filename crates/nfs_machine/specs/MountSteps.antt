@@ -21,7 +21,7 @@ use Rattle.nfs_machine.specs.Exports.{LivingExport, admits, every_host, export_a
 use Rattle.nfs_machine.specs.Answers.{Answers}
 use Rattle.nfs_machine.specs.Paths.{parts, pieces, is_dots, begins_with_slash}
 pub use Rattle.nfs_machine.specs.Shown.{handle_at}
-use Rattle.nfs_machine.specs.State.{Entry, Living, State}
+use Rattle.nfs_machine.specs.State.{Living, State}
 use Rattle.nfs_machine.specs.declared.context.Ctx.{Ctx}
 use Rattle.nfs_machine.specs.Resolve.{Named}
 
@@ -48,18 +48,18 @@ pub record LongestMatch (exports : List LivingExport) (host : List ℕ) (names :
   pub longest : (other : ℕ) (more : List (List ℕ)) → Matches exports host names other more →
       length rest ≤ length more
 
--- the entries of a directory; a walk stops at anything else
-abbrev pub entries_at : Option Living → Result (Living × List Entry) MountStatus
-entries_at living = elim living [
+-- a directory; a walk stops at anything else
+abbrev pub directory_at : Option Living → Result Living MountStatus
+directory_at living = elim living [
   | None ↦ Err status.NoEntry
-  | Some o ↦ if is_directory o.content then Ok (o, entries_of o.content) else Err status.NotDirectory
+  | Some o ↦ if is_directory o.content then Ok o else Err status.NotDirectory
 ]
 
 -- the directory that names lead to from a number, with its own number; no link is followed
 unfoldable pub walk : (ℕ → Option Living) → ℕ → List (List ℕ) → Result Named MountStatus
-walk find number [] = entries_at (find number) >>= λ d. Ok (record { number = number; object = d.0 })
-walk find number (name ∷ names) = entries_at (find number) >>= λ d. ok_or
-    (entry_of d.1 name) status.NoEntry >>= λ e. walk find e.number names
+walk find number [] = directory_at (find number) >>= λ d. Ok (record { number = number; object = d })
+walk find number (name ∷ names) = directory_at (find number) >>= λ d. ok_or
+    (entry_of (entries_of d.content) name) status.NoEntry >>= λ e. walk find e.number names
 
 -- no export that admits the host leads there
 abbrev pub NoExport : List LivingExport → (host : List ℕ) → (names : List (List ℕ)) → Type 0

@@ -81,21 +81,27 @@ create_existing old ctx how number (Some o) = do
   after ← create_over ctx how o (bytes_in o.content)
   Ok (made (replaced old number after) ctx number (unwrap_or after o), replaced old number after)
 
+-- the attributes that a new file is given
+abbrev pub attributes_in : CreateHow → SetAttributes
+attributes_in (Unchecked attributes) = attributes
+attributes_in (Guarded attributes) = attributes
+attributes_in (Exclusive verifier) = record
+    { mode = None; uid = None; gid = None; size = None; accessed = Leave; modified = Leave }
+
+-- the verifier that it keeps
+abbrev pub verifier_in : CreateHow → Option (List ℕ)
+verifier_in (Exclusive verifier) = Some verifier.bytes
+verifier_in how = None
+
 -- a new file of mode 0644, filled with zeros up to the size that is given; EXCLUSIVE gives no attribute, but a
 -- verifier that the file keeps
 abbrev pub wanted_file : CreateHow → Wanted
 wanted_file how =
-    let nothing : SetAttributes = record
-    { mode = None; uid = None; gid = None; size = None; accessed = Leave; modified = Leave } in
-    let given : SetAttributes ×
-    Option (List ℕ) = elim how
-    [ Unchecked a ↦ (a, None) | Guarded a ↦ (a, None) | Exclusive verifier ↦ (nothing, Some verifier.bytes) ]
-    in
     record {
       mode = octal 6 4 4;
-      content = Regular (replicate (unwrap_or given.0.size 0) 0);
-      attributes = given.0;
-      verifier = given.1;
+      content = Regular (replicate (unwrap_or (attributes_in how).size 0) 0);
+      attributes = attributes_in how;
+      verifier = verifier_in how;
     }
 
 abbrev pub CreateStep : State → Ctx → CreateArguments → NfsReply → List Message → State → Type 0

@@ -106,9 +106,10 @@ Has m ctx directory e =
 abbrev pub StaysThrough : (directory : List ℕ) (e : Entry) (old : State) (turns : List Turn) (new : State) →
     Chain old (steps_of turns) new → Type 0
 StaysThrough directory e old [] new chain = Unit {0}
-StaysThrough directory e old (Between step ∷ turns) new chain = StaysThrough directory e chain.0 turns new chain.2
-StaysThrough directory e old (ReadsPage step page ∷ turns) new chain =
-    Has old step.ctx directory e × StaysThrough directory e chain.0 turns new chain.2
+StaysThrough directory e old (Between step ∷ turns) new (mid, first, rest) =
+    StaysThrough directory e mid turns new rest
+StaysThrough directory e old (ReadsPage step page ∷ turns) new (mid, first, rest) =
+    Has old step.ctx directory e × StaysThrough directory e mid turns new rest
 
 -- the object that a name of a directory leads to
 abbrev pub named_in : State → (directory : ℕ) → (name : List ℕ) → Option ℕ
@@ -121,7 +122,7 @@ named_in m directory name = elim (get m.objects directory) [
 abbrev pub Throughout : (State → Type 0) → (old : State) (steps : List Transition) (new : State) →
     Chain old steps new → Type 0
 Throughout P old [] new chain = P old
-Throughout P old (t ∷ steps) new chain = P old × Throughout P chain.0 steps new chain.2
+Throughout P old (t ∷ steps) new (mid, first, rest) = P old × Throughout P mid steps new rest
 
 -- the name is shown once, as that of this object
 pub record ShowsName (shown : List Entry) (name : List ℕ) (target : ℕ) : Type 0 where

@@ -53,7 +53,6 @@ context_of setting host ids moment = record {
   ids = ids;
   moment = moment;
   start = setting.start;
-  exports = setting.exports;
   limits = setting.limits;
 }
 

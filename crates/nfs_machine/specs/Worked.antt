@@ -110,7 +110,7 @@ two_exports = opening_exports exports
 
 abbrev pub called_by : List ℕ → ℕ → Moment → Limits → Ctx
 called_by host start moment limits = record
-    { host = host; ids = user 0 0; moment = moment; start = start; exports = exports; limits = limits }
+    { host = host; ids = user 0 0; moment = moment; start = start; limits = limits }
 
 -- the root of the second export
 abbrev pub lower_root : Living

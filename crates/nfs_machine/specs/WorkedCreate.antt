@@ -33,7 +33,6 @@ called_as uid = record {
   ids = user uid uid;
   moment = moment;
   start = 7;
-  exports = open_export ∷ [];
   limits = record { total_bytes = 0 };
 }
 

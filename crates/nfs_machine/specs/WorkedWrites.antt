@@ -23,22 +23,22 @@ answered count = record { count = count; committed = FileSync; verifier = seven 
 -- into a file of uid 9 and mode 0644 that holds "hello"
 pub record WorkedWrites : Type 0 where
   pub behind_end : write_object writable (called_as 9) known (writing 8 1 (codes "!"))
-      ≡ Ok (
-        answered 1,
-        Some
-            (record known {
-              content = Regular (hello ++ 0 ∷ 0 ∷ 0 ∷ 33 ∷ []);
-              modified = time 1000 2;
-              changed = time 1000 2;
-            }),
-      )
+      ≡ Ok (record {
+        told = answered 1;
+        after = Some (record known {
+          content = Regular (hello ++ 0 ∷ 0 ∷ 0 ∷ 33 ∷ []);
+          modified = time 1000 2;
+          changed = time 1000 2;
+        });
+      })
   pub space : used_of (Regular (hello ++ 0 ∷ 0 ∷ 0 ∷ 33 ∷ [])) ≡ 4096
   pub no_space : used_of (Regular []) ≡ 0
   pub last_offset : write_object writable (called_as 9) known
       (writing (2 ^ 64 - 1) 1 (codes "!")) ≡ Err status.FileTooBig
   pub above : write_object writable (called_as 9) known (writing 1048576 1 (codes "!")) ≡ Err status.FileTooBig
   -- no byte is written at any offset
-  pub none : write_object writable (called_as 9) known (writing (2 ^ 64 - 1) 0 []) ≡ Ok (answered 0, None)
+  pub none : write_object writable (called_as 9) known (writing (2 ^ 64 - 1) 0 [])
+      ≡ Ok (record { told = answered 0; after = None })
   pub most : write_count (writing 0 65537 []) ≡ 65536
   pub miscounted : write_object writable (called_as 9) known (writing 0 2 (codes "!")) ≡ Err status.Invalid
   pub read_only : write_object unwritable (called_as 5) known (writing 0 1 (codes "!")) ≡ Err status.ReadOnly

@@ -2,7 +2,6 @@
 
 ghost use Rattle.std.specs.Prelude.{◌≡◌};
 
-use crate::exports::Exports;
 use crate::moment::Moment;
 use bytes::Bytes;
 use nfs_rpc::Ids;
@@ -16,7 +15,7 @@ pub struct Limits {
 }
 
 /// Who calls and when, and what the server was started with.
-#[derive(Drop)]
+#[derive(Debug, Drop, PartialEq, Eq)]
 pub struct Ctx {
     /// The peer's address text, without a port.
     pub host: Bytes,
@@ -24,7 +23,6 @@ pub struct Ctx {
     pub moment: Moment,
     /// The start number, which each handle has.
     pub start: u64,
-    pub exports: Exports,
     pub limits: Limits,
 }
 
@@ -37,7 +35,6 @@ impl Clone for Ctx {
             ids: self.ids,
             moment: self.moment,
             start: self.start,
-            exports: self.exports.clone()?,
             limits: self.limits,
         })
     }

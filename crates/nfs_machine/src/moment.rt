@@ -2,6 +2,8 @@
 
 ghost use Rattle.std.specs.Prelude.{◌≡◌, ◌↔◌, ◌<◌, IsSome, IfSome};
 
+use nfs_wire::Time;
+
 /// How many nanoseconds a second has.
 const NANOSECONDS: u32 = 1_000_000_000;
 
@@ -14,6 +16,8 @@ pub struct Moment {
 }
 
 impl Moment {
+    ghost use Rattle.nfs_machine.specs.Times.{time_of};
+
     /// The moment of this second and nanosecond; None where there are 1,000,000,000 nanoseconds or more.
     pub fn new(seconds: u32, nanoseconds: u32) -> Option<Moment>
         ensures in_range { IsSome result ↔ (nanoseconds < 1000000000) }
@@ -27,6 +31,16 @@ impl Moment {
             })
         } else {
             None
+        }
+    }
+
+    /// As NFS shows it (RFC 1813, 2.5: nfstime3).
+    pub fn time(self) -> Time
+        ensures { result ≡ time_of self }
+    {
+        Time {
+            seconds: self.seconds,
+            nanoseconds: self.nanoseconds,
         }
     }
 }
