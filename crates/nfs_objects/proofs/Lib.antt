@@ -1,7 +1,10 @@
-pub mod Entered
+pub mod Bounded
+pub mod Drafted
+pub mod ExportTables
+pub mod Knows
 pub mod Listed
-pub mod Mounts
+pub mod Looked
+pub mod MountTables
 pub mod Promised
-pub mod Replaced
-pub mod Rounds
 pub mod Seen
+pub mod Turns

@@ -1,74 +1,87 @@
--- What an attempt may come to.
-use Rattle.std.specs.Prelude.{◌≡◌, ◌≢◌, ◌<◌, false, List, [], ◌∷◌, Option, Some, None}
-use Rattle.std.specs.List.{AllByRecursion}
-use Rattle.nfs_machine.specs.declared.context.Ctx.{Ctx}
+-- What an attempt of a call may come to.
+use Rattle.std.specs.Prelude.{◌≡◌, ℕ, true, false, List, [], ◌∷◌, Option, Some, None, Result, Ok, Err}
+use Rattle.nfs_machine.specs.Handles.{handle_of}
 use Rattle.nfs_machine.specs.declared.calls.Call.{Call}
+use Rattle.nfs_machine.specs.declared.context.Ctx.{Ctx}
+use Rattle.nfs_objects.specs.Asks.{Asks, IsNeed}
+use Rattle.nfs_objects.specs.Calls.{handles_of, is_null, named_by}
+use Rattle.nfs_objects.specs.Modes.{mode_at, modes_of}
+use Rattle.nfs_objects.specs.Promise.{IsPromised}
+use Rattle.nfs_objects.specs.Values.{ViewValue, change_value, done_value, seen_at}
 use Rattle.nfs_objects.specs.declared.address.Addr.{Addr}
-use Rattle.nfs_objects.specs.declared.address.Mode.{Mode}
-use Rattle.nfs_objects.specs.declared.address.Mode.TheVariants.{Exclusive}
-use Rattle.nfs_objects.specs.declared.done.Outcome.{Outcome}
-use Rattle.nfs_objects.specs.declared.done.Outcome.TheVariants.{Need, Fresh, Done}
-use Rattle.nfs_objects.specs.declared.object.Object.{Object}
-use Rattle.nfs_objects.specs.declared.view.Reserved.{Reserved}
-use Rattle.nfs_objects.specs.Values.{DoneValue, ViewValue, is_addr, seen_at}
+use Rattle.nfs_objects.specs.declared.address.Addr.TheVariants as addresses
+use Rattle.nfs_objects.specs.declared.change.Change.{Change}
+use Rattle.nfs_objects.specs.declared.change.Halt.{Halt}
+use Rattle.nfs_objects.specs.declared.change.Halt.TheVariants as halts
+use Rattle.nfs_objects.specs.declared.change.Outcome.{Outcome}
+use Rattle.nfs_objects.specs.declared.change.Outcome.TheVariants.{Need, Fresh, Done}
+use Rattle.nfs_objects.specs.declared.modes.Mode.{Mode}
+use Rattle.nfs_objects.specs.declared.modes.Modes.{Modes}
 
--- no address stands twice
-abbrev pub EachOnce : List (Addr × Mode) → Type 0
-EachOnce [] = Unit {0}
-EachOnce (a ∷ addresses) = AllByRecursion (λ b. is_addr a.0 b.0 ≡ false) addresses × EachOnce addresses
-
--- addresses are asked for: at least one, each once, each exclusively, and only such as the view has not
-pub record AsksAddresses (view : ViewValue) (addresses : List (Addr × Mode)) : Type 0 where
-  pub some : addresses ≢ []
-  pub once : EachOnce addresses
-  pub lacking : AllByRecursion (λ a. (seen_at view.entries a.0 ≡ None) × (a.1 ≡ Exclusive)) addresses
-
--- it asks for something, and only for what the view has not; what is done is the call, under this context and on
--- this view
+-- an attempt asks for addresses, or for one number where none is reserved; or it is done, and keeps the promise
 abbrev pub Attempts : Call → Ctx → ViewValue → Outcome → Type 0
-Attempts call ctx view (Need addresses) = AsksAddresses view addresses.items
-Attempts call ctx view (Fresh count) = (view.reserved ≡ []) × (0 < count)
-Attempts call ctx view (Done done) = (done.call ≡ call) × (done.ctx ≡ ctx) × (done.view ≡ view)
+Attempts call ctx view (Need asked) = Asks (modes_of call) (named_by call) view asked.items
+Attempts call ctx view (Fresh count) = (view.reserved ≡ []) × (count ≡ 1)
+Attempts call ctx view (Done change) = IsPromised (done_value call ctx view (change_value change))
 
--- what it asks for is these addresses, and nothing where the call is done
-abbrev pub AsksFor : List (Addr × Mode) → Outcome → Type 0
-AsksFor wanted (Need addresses) = addresses.items ≡ wanted
-AsksFor wanted (Fresh count) = ⊥
-AsksFor wanted (Done done) = wanted ≡ []
+-- ---- what is asked for first
+-- the address, where the view has it not
+abbrev pub unless_seen : ViewValue → Addr → Option Addr
+unless_seen view a = elim (seen_at view.entries a) [ None ↦ Some a | Some seen ↦ None ]
 
--- the call is done, and so
-abbrev pub IsDone : DoneValue → Outcome → Type 0
-IsDone end (Need addresses) = ⊥
-IsDone end (Fresh count) = ⊥
-IsDone end (Done done) = done ≡ end
+-- the first handle's object
+abbrev pub object_wanted : ViewValue → List (List ℕ) → Option Addr
+object_wanted view [] = None
+object_wanted view (handle ∷ handles) = elim (handle_of handle) [
+  | None ↦ None
+  | Some h ↦ unless_seen view (addresses.Inode h.fileid)
+]
 
--- these addresses are asked for
-abbrev pub IsNeed : List (Addr × Mode) → Outcome → Type 0
-IsNeed wanted (Need addresses) = addresses.items ≡ wanted
-IsNeed wanted (Fresh count) = ⊥
-IsNeed wanted (Done done) = ⊥
+-- the exports, by every call but NULL; then the object of the first handle
+abbrev pub first_wanted : Call → ViewValue → Option Addr
+first_wanted call view = elim (is_null call) [
+  | true ↦ None
+  | false ↦ elim (unless_seen view addresses.Exports) [
+    | Some a ↦ Some a
+    | None ↦ object_wanted view (handles_of call)
+  ]
+]
 
--- what an attempt asks for: addresses, or one new number
-pub data Demand : Type 0 where
-  Addresses : (addresses : List (Addr × Mode)) → Demand
-  Number : Demand
+-- just this is asked for
+abbrev pub IsAsked : Addr × Mode → Outcome → Type 0
+IsAsked a (Need asked) = asked.items ≡ a ∷ []
+IsAsked a outcome = ⊥
 
-abbrev pub IsNumber : Outcome → Type 0
-IsNumber (Need addresses) = ⊥
-IsNumber (Fresh count) = count ≡ 1
-IsNumber (Done done) = ⊥
+-- what is wanted first is asked for, and nothing else with it
+abbrev pub AsksFirst : Call → ViewValue → Outcome → Type 0
+AsksFirst call view outcome = elim (first_wanted call view) [
+  | None ↦ Unit {0}
+  | Some a ↦ IsAsked (a, mode_at (modes_of call) a) outcome
+]
 
--- just that is asked for, and nothing where the call is done
-abbrev pub AsksAs : Demand → Outcome → Type 0
-AsksAs (Addresses addresses) outcome = AsksFor addresses outcome
-AsksAs Number outcome = IsNumber outcome
+-- ---- the same of what an attempt comes to before it is an outcome
+-- a call that is not done asks, or there is no memory; it answers each status
+abbrev pub Stops : Modes → (named : List Addr) → ViewValue → Halt → Type 0
+Stops modes named view (halts.Need asked) = Asks modes named view asked.items
+Stops modes named view (halts.Fresh count) = (view.reserved ≡ []) × (count ≡ 1)
+Stops modes named view halts.Memory = Unit {0}
+Stops modes named view (halts.Status e) = ⊥
 
--- the address, where it was not read
-abbrev pub unless_known : Addr → Option (Option Object) → List (Addr × Mode)
-unless_known address None = (address, Exclusive) ∷ []
-unless_known address (Some known) = []
+abbrev pub Ends : Call → Ctx → ViewValue → Result Change Halt → Type 0
+Ends call ctx view (Ok change) = IsPromised (done_value call ctx view (change_value change))
+Ends call ctx view (Err halt) = Stops (modes_of call) (named_by call) view halt
 
--- a new number, where none was given
-abbrev pub number_wanted : Option Reserved → Demand
-number_wanted (Some reserved) = Addresses []
-number_wanted None = Number
+-- this is asked for, if anything is wanted first
+abbrev pub HaltsFirst : {A : Type 0} → Modes → Option Addr → Result A Halt → Type 0
+HaltsFirst modes None result = Unit {0}
+HaltsFirst modes (Some a) (Ok x) = ⊥
+HaltsFirst modes (Some a) (Err halt) = IsNeed a (mode_at modes a) halt
+
+abbrev pub EndsFirst : Call → ViewValue → Result Change Halt → Type 0
+EndsFirst call view result = HaltsFirst (modes_of call) (first_wanted call view) result
+
+-- no status is left to answer
+abbrev pub IsSettled : {A : Type 0} → Result A Halt → Type 0
+IsSettled (Ok x) = Unit {0}
+IsSettled (Err (halts.Status e)) = ⊥
+IsSettled (Err halt) = Unit {0}

@@ -1,16 +1,18 @@
 -- The state that a store stands for.
-use Rattle.std.specs.Prelude.{◌≡◌, ℕ, false, List, [], map, Option, Some, None, option_map, unwrap_or, nat_le}
+use Rattle.std.specs.Prelude.{◌≡◌, ◌≤◌, ℕ, false, List, [], Option, Some, None, option_map, unwrap_or}
+use Rattle.std.specs.Prelude.{nat_le}
 use Rattle.std.specs.FinMap.{empty, get}
 use Rattle.nfs_wire.specs.declared.calls.Verifier.{Verifier}
+use Rattle.nfs_machine.specs.Exports.{LivingExport}
 use Rattle.nfs_machine.specs.State.{Living, State}
 use Rattle.nfs_machine.specs.State as machine
 use Rattle.nfs_objects.specs.declared.address.Addr.TheVariants as addresses
 use Rattle.nfs_objects.specs.declared.object.Content.{Content}
 use Rattle.nfs_objects.specs.declared.object.Content.TheVariants as contents
 use Rattle.nfs_objects.specs.declared.object.Inode.{Inode}
-use Rattle.nfs_objects.specs.declared.object.Mount.{Mount}
 use Rattle.nfs_objects.specs.declared.object.Object.{Object}
-use Rattle.nfs_objects.specs.declared.object.Object.TheVariants as objects
+use Rattle.nfs_objects.specs.declared.object.Object.TheVariants as stored
+use Rattle.nfs_objects.specs.ExportTables.{ExportTableValue}
 use Rattle.nfs_objects.specs.Store.{Store}
 use Rattle.side_wire.specs.declared.mount.lists.MountBody.{MountBody}
 
@@ -25,8 +27,8 @@ content_of contents.Socket = machine.Socket
 content_of contents.Fifo = machine.Fifo
 
 -- the bytes of an exclusive CREATE
-abbrev pub verifier_bytes : Option Verifier → Option (List ℕ)
-verifier_bytes verifier = option_map (λ (v : Verifier). v.bytes) verifier
+abbrev pub verifier_of : Option Verifier → Option (List ℕ)
+verifier_of verifier = option_map (λ (v : Verifier). v.bytes) verifier
 
 -- the living object that an inode is
 abbrev pub living_of_inode : Inode → Living
@@ -40,45 +42,71 @@ living_of_inode i = record {
   accessed = i.accessed;
   modified = i.modified;
   changed = i.changed;
-  verifier = verifier_bytes i.verifier;
+  verifier = verifier_of i.verifier;
 }
 
 -- the inode that stands there
 abbrev pub inode_of : Option Object → Option Inode
-inode_of None = None
-inode_of (Some (objects.Inode i)) = Some i
-inode_of (Some (objects.Mounts table)) = None
+inode_of (Some (stored.Inode i)) = Some i
+inode_of o = None
 
 -- what lives where this stands
 abbrev pub living_of : Option Object → Option Living
 living_of o = option_map living_of_inode (inode_of o)
 
--- a host that mounted a path
-abbrev pub mounted : List ℕ → List ℕ → MountBody
-mounted host path = record { hostname = host; directory = path }
-
--- what the machine sees of a mount
-abbrev pub mounted_of : Mount → MountBody
-mounted_of m = mounted m.host m.path
-
 -- the table of mounts that stands there
-abbrev pub table_of : Option Object → Option (List Mount)
-table_of None = None
-table_of (Some (objects.Inode i)) = None
-table_of (Some (objects.Mounts table)) = Some table
+abbrev pub table_of : Option Object → Option (List MountBody)
+table_of (Some (stored.Mounts table)) = Some table
+table_of o = None
 
 -- an absent table is empty
-abbrev pub mounts_of : Option Object → List MountBody
-mounts_of o = unwrap_or (option_map (map mounted_of) (table_of o)) []
+abbrev pub mounts_in : Option (List MountBody) → List MountBody
+mounts_in table = unwrap_or table []
 
--- The store stands for the state: what is at each number lives, the table has the mounts, and spent are the generations
--- of each number up to the last.
-pub record Represents (s : Store) (m : State) : Type 0 where
-  pub objects : (n : ℕ) → get m.objects n ≡ living_of (s.at (addresses.Inode n))
-  pub mounts : m.mounts ≡ mounts_of (s.at addresses.Mounts)
-  pub spent : (n g : ℕ) → m.spent n g ≡ nat_le g (s.last n)
-  pub no_locks : m.locks ≡ empty
-  pub no_shares : m.shares ≡ empty
-  pub no_waiting : m.waiting ≡ empty
-  pub no_granted : m.granted ≡ empty
-  pub no_spent_grants : (n : ℕ) → m.spent_grants n ≡ false
+abbrev pub mounts_of : Option Object → List MountBody
+mounts_of o = mounts_in (table_of o)
+
+-- the table of exports that stands there; an absent one is empty
+abbrev pub export_table_of : Option Object → ExportTableValue
+export_table_of (Some (stored.Exports table)) = table
+export_table_of o = record { exports = []; last = 0 }
+
+-- the living exports that stand there
+abbrev pub exports_of : Option Object → List LivingExport
+exports_of o = (export_table_of o).exports
+
+-- what the machine is in, and what inodes keep beside: of each object the count of its links, of each directory its
+-- parent
+pub record Kept : Type 0 where
+  pub state : State
+  pub links : ℕ → ℕ
+  pub parents : ℕ → ℕ
+
+abbrev pub links_kept : Option Inode → ℕ
+links_kept None = 0
+links_kept (Some i) = i.links
+
+abbrev pub parent_in : Content → ℕ
+parent_in (contents.Directory directory) = directory.parent
+parent_in content = 0
+
+abbrev pub parent_kept : Option Inode → ℕ
+parent_kept None = 0
+parent_kept (Some i) = parent_in i.content
+
+-- The store stands for this: it has the table of exports and that of mounts, what is at each number lives, with its
+-- links and its parent, and spent are the generations of each number up to the last, that of what lives among them.
+pub record Represents (s : Store) (k : Kept) : Type 0 where
+  pub exports : k.state.exports ≡ exports_of (s.at addresses.Exports)
+  pub last_export : k.state.last_export ≡ (export_table_of (s.at addresses.Exports)).last
+  pub objects : (n : ℕ) → get k.state.objects n ≡ living_of (s.at (addresses.Inode n))
+  pub links : (n : ℕ) → k.links n ≡ links_kept (inode_of (s.at (addresses.Inode n)))
+  pub parents : (n : ℕ) → k.parents n ≡ parent_kept (inode_of (s.at (addresses.Inode n)))
+  pub given : (n : ℕ) (i : Inode) → s.at (addresses.Inode n) ≡ Some (stored.Inode i) → i.generation ≤ s.last n
+  pub mounts : k.state.mounts ≡ mounts_of (s.at addresses.Mounts)
+  pub spent : (n g : ℕ) → k.state.spent n g ≡ nat_le g (s.last n)
+  pub no_locks : k.state.locks ≡ empty
+  pub no_shares : k.state.shares ≡ empty
+  pub no_waiting : k.state.waiting ≡ empty
+  pub no_granted : k.state.granted ≡ empty
+  pub no_spent_grants : (n : ℕ) → k.state.spent_grants n ≡ false

@@ -1,10 +1,10 @@
 -- A store, and what writes make of it.
-use Rattle.std.specs.Prelude.{ℕ, List, [], ◌∷◌, Option, Some, None, max, if◌then◌else◌, ◌==◌}
+use Rattle.std.specs.Prelude.{ℕ, List, [], ◌∷◌, Option, Some, max, if◌then◌else◌, ◌==◌}
 use Rattle.nfs_objects.specs.declared.address.Addr.{Addr}
-use Rattle.nfs_objects.specs.declared.address.Addr.TheVariants.{Inode, Mounts}
+use Rattle.nfs_objects.specs.declared.address.Addr.TheVariants.{Inode}
 use Rattle.nfs_objects.specs.declared.object.Object.{Object}
 use Rattle.nfs_objects.specs.declared.object.Object.TheVariants as objects
-use Rattle.nfs_objects.specs.Values.{DoneValue, is_addr}
+use Rattle.nfs_objects.specs.Values.{is_addr}
 
 -- what stands at each address, and the greatest generation that each number was given, which stays when the object goes
 pub record Store : Type 0 where
@@ -18,9 +18,7 @@ put_at at a o b = if is_addr a b then o else at b
 -- a number is given the generation of the object that is put there
 abbrev pub give : (ℕ → ℕ) → Addr → Option Object → ℕ → ℕ
 give last (Inode n) (Some (objects.Inode i)) k = if n == k then max (last k) i.generation else last k
-give last (Inode n) (Some (objects.Mounts table)) k = last k
-give last (Inode n) None k = last k
-give last Mounts o k = last k
+give last a o k = last k
 
 -- the store after one write
 abbrev pub with_write : Store → Addr → Option Object → Store
@@ -30,7 +28,3 @@ with_write s a o = record { at = put_at s.at a o; last = give s.last a o }
 abbrev pub with_writes : Store → List (Addr × Option Object) → Store
 with_writes s [] = s
 with_writes s (w ∷ ws) = with_writes (with_write s w.0 w.1) ws
-
--- the store after a call's end
-abbrev pub installed : Store → DoneValue → Store
-installed s d = with_writes s d.writes

@@ -1,12 +1,13 @@
 //! Directories: names, what they lead to, and their cookies.
 
-ghost use Rattle.std.specs.Prelude.{◌≡◌, [], ◌∷◌, ◌++◌, ◌==◌, length, IfOk, None, find};
+ghost use Rattle.std.specs.Prelude.{◌≡◌, [], ◌∷◌, ◌++◌, ◌==◌, length, IfOk, None, find, not};
 ghost use Rattle.std.specs.Prelude.{option_map, slice_get};
 ghost use Rattle.std.proofs.Common.{ap, nat_eq, rules};
 ghost use Rattle.std.specs.Cmp.Lexicographic.{bytes_decides, nat_list_eq_equiv, pointwise};
 ghost use Rattle.std.specs.Cmp.Rules.{hashing};
 ghost use Rattle.std.specs.Hash as fed;
 ghost use Rattle.nfs_machine.specs.Bytes.{same_bytes};
+ghost use Rattle.nfs_machine.specs.RemoveSteps.{without};
 ghost use Rattle.nfs_objects.specs.Entries.{entry, leaf_of, shown_entry};
 
 use bytes::Bytes;
@@ -112,6 +113,19 @@ impl Entries {
     {
         let mut map = self.map.clone()?;
         map.insert(name.clone()?, leaf)?;
+        Ok(Entries { map })
+    }
+
+    /// The same without this name. The entries themselves stay as they are.
+    pub fn without_name(&self, name: &[u8]) -> Result<Entries, AllocError>
+        ensures { IfOk result (λ entries. entries ≡ without self.now name.now) }
+    {
+        let mut map = self.map.clone()?;
+        map.retain(
+            |key: &Bytes, leaf: &mut Leaf| -> bool
+                ensures { (result ≡ not (same_bytes key.now name.entry.now)) × (leaf.new ≡ leaf.old) }
+            { key.as_slice() != name },
+        );
         Ok(Entries { map })
     }
 }

@@ -1,23 +1,32 @@
 //! The objects of the store, what a call has seen of them, and what it comes to.
 //!
 //! A store is a map from addresses to objects, and stands for one state of the machine of `nfs_machine`. A call runs on
-//! a `View`, the part of the store that it has read, and comes to an `Outcome`: addresses that it needs, new numbers
-//! that it wants, or a `Done`. The contract is the promise that the type of `Done` keeps for its own call, context and
-//! view: in every sound store that the view fits, its reply, messages and writes are one step of the machine, which
-//! leaves the store sound. So nothing else can be committed, whatever other calls did since the view was read.
+//! a `Draft`: the `View`, which is the part of the store that it has read, and the writes that it would make. It comes
+//! to a `Change`, or halts with addresses or numbers that it needs first. A `Done` is a change whose type keeps the
+//! promise: in every sound store that the view fits, its reply, messages and writes are one step of the machine, which
+//! leaves the store sound.
 #![tactic(auto)]
 
 pub mod address;
+pub mod change;
 pub mod directory;
-pub mod done;
-pub mod ending;
+pub mod draft;
+pub mod exports;
+pub mod laws;
+pub mod modes;
+pub mod mounts;
 pub mod object;
+mod refusal;
 pub mod view;
 
-pub use address::{Addr, Mode};
+pub use address::Addr;
+pub use change::{Change, Done, Halt, Outcome, Write};
 pub use directory::{Directory, Entries, Leaf};
-pub use done::{Done, Outcome, Write};
-pub use ending::{Creation, created, ended, needed, rewritten, unchanged};
+pub use draft::Draft;
+pub use exports::{ExportTable, LivingExport};
+pub use modes::{CHANGING, MOUNTING, Mode, Modes, READING};
+pub use mounts::{MOUNT_LIMIT, Mount, MountTable, Mounts};
 pub use nfs_machine::Handle;
-pub use object::{Content, Inode, MOUNT_LIMIT, Mount, MountTable, Object, living, mount_table};
+pub use object::{Content, Inode, Object};
+pub use refusal::{outcome, settled};
 pub use view::{Entry, Reserved, View, share};

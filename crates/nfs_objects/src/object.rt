@@ -1,19 +1,17 @@
 //! What stands in the store.
 
-ghost use Rattle.std.specs.Prelude.{◌≡◌, false, IfOk, MatchOption, option_map, option_copied};
+ghost use Rattle.std.specs.Prelude.{◌≡◌, false, MatchOption, option_map, option_copied};
 ghost use Rattle.std.specs.Arc.{arc_value};
 ghost use Rattle.nfs_machine.specs.Attributes.{is_directory};
-ghost use Rattle.nfs_objects.specs.Stands.{content_of, inode_of, table_of};
+ghost use Rattle.nfs_objects.specs.Stands.{content_of, exports_of, inode_of, table_of};
 
 use crate::directory::Directory;
+use crate::exports::{ExportTable, LivingExport};
+use crate::mounts::MountTable;
 use bytes::Bytes;
 use nfs_wire::{DeviceNumber, Time, Verifier};
-use std::alloc::{AllocError, Global};
-use std::marker::Model;
+use std::alloc::AllocError;
 use std::sync::Arc;
-
-/// How many mounts are kept: the newest.
-pub const MOUNT_LIMIT: usize = 65536;
 
 /// What an object is and contains.
 #[derive(Debug, Drop)]
@@ -99,94 +97,22 @@ impl Clone for Inode {
     }
 }
 
-/// A host that mounted a path, as it sent it.
-#[derive(Clone, Debug, Drop, PartialEq, Eq)]
-pub struct Mount {
-    pub host: Bytes,
-    pub path: Bytes,
-}
-
-/// The mounts in order of adding.
-#[derive(Debug, Drop)]
-pub struct MountTable {
-    list: Vec<Mount>,
-}
-
-impl Model for MountTable {
-    ghost use Rattle.std.specs.Prelude.{List};
-    ghost use Rattle.nfs_objects.specs.declared.object.Mount.{Mount};
-
-    ghost Value = { List Mount };
-
-    ghost view = { λ t. t.list.items };
-}
-
-impl MountTable {
-    ghost use Rattle.std.specs.Prelude.{[], ◌∷◌, ◌++◌, map};
-    ghost use Rattle.nfs_machine.specs.MountSteps.{is_mounted, newest};
-    ghost use Rattle.nfs_objects.specs.Stands.{mounted, mounted_of};
-
-    /// A table without mounts.
-    pub fn new(alloc: Global) -> MountTable
-        ensures { result ≡ [] }
-    {
-        MountTable {
-            list: Vec::new(alloc),
-        }
-    }
-
-    /// The mounts in order of adding.
-    pub fn list(&self) -> &[Mount]
-        ensures { result.now ≡ self.now }
-    {
-        self.list.as_slice()
-    }
-
-    /// Whether the host has mounted the path.
-    pub fn is_listed(&self, host: &Bytes, path: &Bytes) -> bool
-        ensures { result ≡ is_mounted (map mounted_of self.now) (mounted host.now path.now) }
-    {
-        self.list
-            .iter()
-            .any(|mount| mount.host == *host && mount.path == *path)
-    }
-
-    /// A table with this mount last; beyond `MOUNT_LIMIT` mounts the first go. The table itself stays as it is.
-    pub fn with_mount(
-        &self,
-        alloc: Global,
-        host: &Bytes,
-        path: &Bytes,
-    ) -> Result<MountTable, AllocError>
-        ensures { IfOk result
-            (λ table. map mounted_of table ≡ newest (map mounted_of self.now ++ mounted host.now path.now ∷ [])) }
-    {
-        let surplus = (self.list.len() + 1).saturating_sub(MOUNT_LIMIT);
-        let mut list = copy_mounts(alloc, &self.list[surplus..])?;
-        list.push(Mount {
-            host: host.clone()?,
-            path: path.clone()?,
-        })?;
-        Ok(MountTable { list })
-    }
-}
-
-/// A copy with room for one more mount; the texts are shared.
-fn copy_mounts(alloc: Global, mounts: &[Mount]) -> Result<Vec<Mount>, AllocError>
-    ensures { IfOk result (λ copies. copies.items ≡ mounts.now) }
-{
-    let mut copies = Vec::with_capacity(alloc, mounts.len() + 1)?;
-    for mount in mounts {
-        copies.push(mount.clone()?)?;
-    }
-    Ok(copies)
-}
-
 /// What stands at an address.
 #[derive(Debug, Drop)]
 pub enum Object {
+    Exports(ExportTable),
     Inode(Inode),
     Mounts(MountTable),
+}
+
+/// The living exports; none where nothing stands, or what is no such table.
+pub fn export_list(known: &Option<Arc<Object>>) -> &[LivingExport]
+    ensures { result.now ≡ exports_of (option_map arc_value known.now) }
+{
+    match known.as_deref() {
+        Some(Object::Exports(table)) => table.list(),
+        _ => &[],
+    }
 }
 
 /// The inode that stands where this is known; None where nothing does, or what is no inode.
@@ -195,7 +121,7 @@ pub fn living(known: &Option<Arc<Object>>) -> Option<&Inode>
 {
     match &**known.as_ref()? {
         Object::Inode(inode) => Some(inode),
-        Object::Mounts(_) => None,
+        Object::Exports(_) | Object::Mounts(_) => None,
     }
 }
 
@@ -204,7 +130,7 @@ pub fn mount_table(known: &Option<Arc<Object>>) -> Option<&MountTable>
     ensures { option_copied result ≡ table_of (option_map arc_value known.now) }
 {
     match &**known.as_ref()? {
-        Object::Inode(_) => None,
         Object::Mounts(table) => Some(table),
+        Object::Exports(_) | Object::Inode(_) => None,
     }
 }

@@ -1,20 +1,24 @@
 //! What a call has read of the store.
 
-ghost use Rattle.std.specs.Prelude.{◌≡◌, [], ◌∷◌, ◌++◌, map, IfOk, OnErr, OnOk, option_map};
+ghost use Rattle.std.specs.Prelude.{◌≡◌, [], ◌∷◌, ◌++◌, map, IfOk, IfSome, None, OnErr, OnOk, Some};
+ghost use Rattle.std.specs.Prelude.{option_map};
 ghost use Rattle.std.specs.Prelude.{slice_get, length, ◌==◌};
 ghost use Rattle.std.specs.Arc.{arc_value};
-ghost use Rattle.nfs_objects.specs.Values.{seen_at, pointed, entry_seen};
+ghost use Rattle.nfs_objects.specs.Fits.{vacant};
+ghost use Rattle.nfs_objects.specs.Values.{pointed, seen_at, seen_of, shown_at};
 
-use crate::address::{Addr, is_same};
+use crate::address::Addr;
+use crate::modes::Mode;
 use crate::object::Object;
+use indexmap::IndexMap;
 use std::alloc::{AllocError, Global};
 use std::marker::Model;
 use std::sync::Arc;
 
-/// What is known of one address: the object, or that there is none.
+/// What is known of one address: how it is held, and the object, or that there is none.
 #[derive(Drop)]
 pub struct Entry {
-    pub address: Addr,
+    pub mode: Mode,
     pub object: Option<Arc<Object>>,
 }
 
@@ -25,20 +29,27 @@ pub struct Reserved {
     pub generation: u64,
 }
 
-/// All that a call has read of the store, and the numbers that it may give to new objects.
+/// All that a call has read of the store, each address once and in order of adding, and the numbers that it may give to
+/// new objects. The address of such a number stands in it, held alone and empty.
 #[derive(Drop)]
 pub struct View {
-    entries: Vec<Entry>,
+    entries: IndexMap<Addr, Entry>,
     reserved: Vec<Reserved>,
 }
 
 impl Model for View {
     ghost use Rattle.std.specs.Prelude.{map};
-    ghost use Rattle.nfs_objects.specs.Values.{ViewValue, entry_seen};
+    ghost use Rattle.nfs_objects.specs.Fits.{HoldsReserved};
+    ghost use Rattle.nfs_objects.specs.Values.{ViewValue, seen_of};
 
     ghost Value = { ViewValue };
 
-    ghost view = { λ v. record { entries = map entry_seen v.entries.items; reserved = v.reserved.items } };
+    ghost view = { λ v. record { entries = map seen_of v.entries.entries; reserved = v.reserved.items } };
+
+    ghost invariant = { λ v. HoldsReserved (record {
+      entries = map seen_of v.entries.entries;
+      reserved = v.reserved.items;
+    }) };
 }
 
 impl View {
@@ -47,7 +58,7 @@ impl View {
         ensures { result ≡ record { entries = []; reserved = [] } }
     {
         View {
-            entries: Vec::new(alloc),
+            entries: IndexMap::new(alloc),
             reserved: Vec::new(alloc),
         }
     }
@@ -63,87 +74,64 @@ impl View {
     pub fn is_empty(&self) -> bool
         ensures { result ≡ (length self.now.entries == 0) }
     {
-        self.entries.is_empty()
+        self.len() == 0
     }
 
-    /// What is known of an address: the object there, or that there is none. None where the address was not read.
+    /// What is known of an address, in whatever mode it is held: the object there, or that there is none. None where it
+    /// was not read.
     pub fn find(&self, address: Addr) -> Option<&Option<Arc<Object>>>
-        ensures { option_map pointed result ≡ seen_at self.now.entries address }
+        ensures { option_map pointed result ≡ shown_at self.now.entries address }
     {
-        for entry in &self.entries {
-            if is_same(entry.address, address) {
-                return Some(&entry.object);
-            }
-        }
-        None
+        Some(&self.entries.get(&address)?.object)
     }
 
     /// The first number that may be given.
     pub fn fresh(&self) -> Option<Reserved>
-        ensures { result ≡ slice_get self.now.reserved 0 }
+        ensures first { result ≡ slice_get self.now.reserved 0 }
+        ensures kept { IfSome result (λ r. seen_at self.now.entries (Addr.Inode r.number) ≡ Some (vacant r)) }
     {
         self.reserved.first().copied()
     }
 
     /// Adds what is known of an address. An error changes nothing.
-    pub fn add(&mut self, address: Addr, object: Option<Arc<Object>>) -> Result<(), AllocError>
+    pub fn add(
+        &mut self,
+        address: Addr,
+        mode: Mode,
+        object: Option<Arc<Object>>,
+    ) -> Result<(), AllocError>
+        requires { seen_at self.old.entries address ≡ None }
         ensures ok { OnOk result
             (self.new ≡ record {
-              entries = self.old.entries ++ (address, option_map arc_value object) ∷ [];
+              entries = self.old.entries ++ record
+                  { address = address; mode = mode; object = option_map arc_value object } ∷ [];
               reserved = self.old.reserved;
             }) }
         ensures err { OnErr result (self.new ≡ self.old) }
     {
-        self.entries.push(Entry { address, object })?;
+        self.entries.insert(address, Entry { mode, object })?;
         Ok(())
     }
 
     /// Adds a number that may be given, whose address is empty. An error changes nothing.
     pub fn add_reserved(&mut self, reserved: Reserved) -> Result<(), AllocError>
+        requires { seen_at self.old.entries (Addr.Inode reserved.number) ≡ None }
         ensures ok { OnOk result
             (self.new ≡ record {
-              entries = self.old.entries ++ (Addr.Inode reserved.number, None) ∷ [];
+              entries = self.old.entries ++ vacant reserved ∷ [];
               reserved = self.old.reserved ++ reserved ∷ [];
             }) }
         ensures err { OnErr result (self.new ≡ self.old) }
     {
-        self.reserved.push(reserved)?;
+        self.reserved.reserve(1)?;
         let entry = Entry {
-            address: Addr::Inode(reserved.number),
+            mode: Mode::Exclusive,
             object: None,
         };
-        match self.entries.push(entry) {
-            Ok(()) => Ok(()),
-            Err(_) => {
-                self.reserved.pop();
-                Err(AllocError)
-            }
-        }
+        self.entries.insert(Addr::Inode(reserved.number), entry)?;
+        self.reserved.push(reserved)?;
+        Ok(())
     }
-
-    /// A view of the same, which shares the objects.
-    pub fn copy(&self, alloc: Global) -> Result<View, AllocError>
-        ensures { IfOk result (λ v. v ≡ self.now) }
-    {
-        Ok(View {
-            entries: copy_entries(alloc, &self.entries)?,
-            reserved: Vec::from_slice(alloc, &self.reserved)?,
-        })
-    }
-}
-
-fn copy_entries(alloc: Global, entries: &[Entry]) -> Result<Vec<Entry>, AllocError>
-    ensures { IfOk result (λ v. map entry_seen v.items ≡ map entry_seen entries.now) }
-{
-    let mut copies = Vec::with_capacity(alloc, entries.len())?;
-    for entry in entries {
-        let object = share(&entry.object)?;
-        copies.push(Entry {
-            address: entry.address,
-            object,
-        })?;
-    }
-    Ok(copies)
 }
 
 /// One more owner of an object.

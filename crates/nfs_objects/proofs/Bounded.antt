@@ -1,0 +1,409 @@
+-- A call asks for few addresses where nothing stands: each of them is one that it names, and is asked for once.
+use Rattle.std.proofs.Common.{◌≡◌, ℕ, ◌+◌, ◌<◌, ◌≤◌, true, false, Bool, cond, ◌||◌, List, []}
+use Rattle.std.proofs.Common.{◌∷◌, ◌++◌, length, Option, Some, None, IsSome, is_some, ◌⊎◌, inl, inr}
+use Rattle.std.proofs.Common.{refl, sym, ◌∙◌, ap, subst, arith}
+use Rattle.std.proofs.lemmas.List.{append-nil, append_assoc, map-append}
+use Rattle.std.proofs.lemmas.List.Sums.{count_by-le-length, sum_by-append, sum_by-cons, sum_by_push}
+use Rattle.std.specs.List.{AllByRecursion, count_by}
+use Rattle.std.specs.Option.{is_none}
+use Rattle.nfs_wire.specs.declared.calls.NfsCall.{NfsCall}
+use Rattle.nfs_wire.specs.declared.calls.NfsCall.TheVariants as nfs
+use Rattle.side_wire.specs.declared.nlm.NlmCall.{NlmCall}
+use Rattle.side_wire.specs.declared.nlm.NlmCall.TheVariants as nlm
+use Rattle.nfs_machine.specs.Handles.{handle_of}
+use Rattle.nfs_machine.specs.WellFormed.{WellFormed}
+use Rattle.nfs_machine.specs.declared.calls.Call.{Call}
+use Rattle.nfs_machine.specs.declared.calls.Call.TheVariants as calls
+use Rattle.nfs_machine.specs.declared.context.Ctx.{Ctx}
+use Rattle.nfs_machine.specs.declared.handle.Handle.{Handle}
+use Rattle.nfs_objects.proofs.Seen.{all-append, all-map, is_addr-refl}
+use Rattle.nfs_objects.specs.Asks.{EachOnce, MayAsk}
+use Rattle.nfs_objects.specs.Attempt.{Attempts}
+use Rattle.nfs_objects.specs.Bound.{AsksFew, Given, Gives, Grows, NamesFew, Read, Round, WasAsked, asked_count}
+use Rattle.nfs_objects.specs.Bound.{empty_count, held, view_after, with_round}
+use Rattle.nfs_objects.specs.Calls.{IsAmong, named_by, nfs_handles, nlm_handles, objects_at}
+use Rattle.nfs_objects.specs.Fits.{Fits, vacant}
+use Rattle.nfs_objects.specs.Modes.{modes_of}
+use Rattle.nfs_objects.specs.Sound.{Sound}
+use Rattle.nfs_objects.specs.Stands.{Kept, Represents}
+use Rattle.nfs_objects.specs.Store.{Store}
+use Rattle.nfs_objects.specs.Values.{Seen, ViewValue, is_addr, seen_at}
+use Rattle.nfs_objects.specs.declared.address.Addr.{Addr}
+use Rattle.nfs_objects.specs.declared.address.Addr.TheVariants as addresses
+use Rattle.nfs_objects.specs.declared.change.Outcome.{Outcome}
+use Rattle.nfs_objects.specs.declared.change.Outcome.TheVariants.{Need, Fresh, Done}
+use Rattle.nfs_objects.specs.declared.modes.Mode.{Mode}
+use Rattle.nfs_objects.specs.declared.modes.Modes.{Modes}
+use Rattle.nfs_objects.specs.declared.object.Object.{Object}
+use Rattle.nfs_objects.specs.declared.view.Reserved.{Reserved}
+
+-- ---- lists
+all-two : {X : Type 0} (P Q R : X → Type 0) → ((x : X) → P x → Q x → R x) → (xs : List X) →
+    AllByRecursion P xs → AllByRecursion Q xs → AllByRecursion R xs
+all-two P Q R f [] p q = tt
+all-two P Q R f (x ∷ xs) p q = (f x p.0 q.0, all-two P Q R f xs p.1 q.1)
+
+all-front : {X : Type 0} (P : X → Type 0) (xs ys : List X) → AllByRecursion P (xs ++ ys) → AllByRecursion P xs
+all-front P [] ys all = tt
+all-front P (x ∷ xs) ys all = (all.0, all-front P xs ys all.1)
+
+-- ---- counts
+one-more : (a b : Bool) → (a ≡ true → b ≡ true) → cond {A = ℕ} a 1 0 ≤ cond {A = ℕ} b 1 0
+one-more true b f = subst (λ c. 1 ≤ cond {A = ℕ} c 1 0) (sym (f refl)) (omega arith)
+one-more false b f = omega arith
+
+at-most : (a : Bool) → cond {A = ℕ} a 1 0 ≤ 1
+at-most true = omega arith
+at-most false = omega arith
+
+count-cons : {X : Type 0} (p : X → Bool) (x : X) (xs : List X) →
+    count_by p (x ∷ xs) ≡ cond {A = ℕ} (p x) 1 0 + count_by p xs
+count-cons p x xs = sum_by-cons (λ y. cond {A = ℕ} (p y) 1 0) x xs
+
+count-more : {X : Type 0} (p q : X → Bool) → ((x : X) → p x ≡ true → q x ≡ true) → (xs : List X) →
+    count_by p xs ≤ count_by q xs
+count-more p q f [] = omega arith
+count-more p q f (x ∷ xs) = omega (
+  arith,
+  count-more p q f xs,
+  one-more (p x) (q x) (f x),
+  count-cons p x xs,
+  count-cons q x xs,
+)
+
+-- one of the named passes that did not
+count-gain : (p q : Addr → Bool) → ((x : Addr) → p x ≡ true → q x ≡ true) → (a : Addr) →
+    p a ≡ false → q a ≡ true
+    → (named : List Addr) → IsAmong named a → count_by p named + 1 ≤ count_by q named
+count-gain p q f a none passes [] among = absurd among
+count-gain p q f a none passes (b ∷ named) (inl same) =
+    let no : cond {A = ℕ} (p b) 1 0 ≡ 0 = ap (λ c. cond {A = ℕ} c 1 0) (ap p same ∙ none) in
+    let yes : cond {A = ℕ} (q b) 1 0 ≡ 1 = ap (λ c. cond {A = ℕ} c 1 0) (ap q same ∙ passes) in
+    omega (arith, no, yes, count-more p q f named, count-cons p b named, count-cons q b named)
+count-gain p q f a none passes (b ∷ named) (inr among) =
+    omega (
+      arith,
+      count-gain p q f a none passes named among,
+      one-more (p b) (q b) (f b),
+      count-cons p b named,
+      count-cons q b named,
+    )
+
+-- ---- which addresses are among those seen or asked for
+abbrev is_in : List (Addr × Mode) → Addr → Bool
+is_in [] a = false
+is_in (x ∷ xs) a = is_addr x.0 a || is_in xs a
+
+unseen-out : (es : List Seen) (a : Addr) → seen_at es a ≡ None → is_in (held es) a ≡ false
+unseen-out [] a none = refl
+unseen-out (e ∷ es) a none =
+    elim (is_addr e.address a) as (λ b. cond b (Some e) (seen_at es a) ≡ None →
+    (b || is_in (held es) a) ≡ false) [
+      | true ↦ λ here. cc
+      | false ↦ λ there. unseen-out es a there
+    ] none
+
+in-append : (xs : List (Addr × Mode)) (y : Addr × Mode) (a : Addr) →
+    is_in (xs ++ y ∷ []) a ≡ (is_in xs a || is_addr y.0 a)
+in-append [] y a = elim (is_addr y.0 a) as (λ t. (t || false) ≡ t) [ true ↦ refl | false ↦ refl ]
+in-append (x ∷ xs) y a =
+    elim (is_addr x.0 a) as (λ t. (t || is_in (xs ++ y ∷ []) a) ≡ ((t || is_in xs a) || is_addr y.0 a)) [
+      | true ↦ refl
+      | false ↦ in-append xs y a
+    ]
+
+in-more : (xs : List (Addr × Mode)) (y : Addr × Mode) (a : Addr) → is_in xs a ≡ true →
+    is_in (xs ++ y ∷ []) a ≡ true
+in-more xs y a is = in-append xs y a ∙ ap (λ b. b || is_addr y.0 a) is
+
+in-last : (xs : List (Addr × Mode)) (y : Addr × Mode) → is_in (xs ++ y ∷ []) y.0 ≡ true
+in-last xs y =
+    in-append xs y y.0 ∙ ap (λ b. is_in xs y.0 || b) (is_addr-refl y.0)
+    ∙ elim (is_in xs y.0) as (λ b. (b || true) ≡ true) [ true ↦ refl | false ↦ refl ]
+
+module _ (s : Store) (named : List Addr) where
+  -- what holds nothing is named, but for so many
+  abbrev Within : List (Addr × Mode) → ℕ → Type 0
+  Within xs others = empty_count s xs ≤ count_by (is_in xs) named + others
+
+  -- it is new, and named if it holds nothing
+  abbrev IsNew : List (Addr × Mode) → Addr × Mode → Type 0
+  IsNew xs y = (is_in xs y.0 ≡ false) × (s.at y.0 ≡ None → IsAmong named y.0)
+
+  empty-push : (xs : List (Addr × Mode)) (y : Addr × Mode) → empty_count s
+      (xs ++ y ∷ []) ≡ empty_count s xs + cond {A = ℕ} (is_none (s.at y.0)) 1 0
+  empty-push xs y = sum_by_push (λ (a : Addr × Mode). cond {A = ℕ} (is_none (s.at a.0)) 1 0) xs y
+
+  within-one : (xs : List (Addr × Mode)) (y : Addr × Mode) (others : ℕ) → Within xs others → IsNew xs y →
+      Within (xs ++ y ∷ []) others
+  within-one xs y others within new =
+      elim (s.at y.0) as (λ (o : Option Object). s.at y.0 ≡ o → Within (xs ++ y ∷ []) others) [
+        | None ↦ λ e.
+            let one : cond {A = ℕ} (is_none (s.at y.0)) 1 0 ≡ 1 =
+            ap (λ (o : Option Object). cond {A = ℕ} (is_none o) 1 0) e in
+            omega (
+              arith,
+              within,
+              one,
+              empty-push xs y,
+              count-gain (is_in xs) (is_in (xs ++ y ∷ [])) (in-more xs y) y.0 new.0 (in-last xs y) named (new.1 e),
+            )
+        | Some x ↦ λ e.
+            let none : cond {A = ℕ} (is_none (s.at y.0)) 1 0 ≡ 0 =
+            ap (λ (o : Option Object). cond {A = ℕ} (is_none o) 1 0) e in
+            omega (
+              arith,
+              within,
+              none,
+              empty-push xs y,
+              count-more (is_in xs) (is_in (xs ++ y ∷ []))
+                  (in-more xs y) named,
+            )
+      ] refl
+
+  -- one more of the others
+  within-other : (xs : List (Addr × Mode)) (y : Addr × Mode) (others : ℕ) → Within xs others →
+      Within (xs ++ y ∷ []) (others + 1)
+  within-other xs y others within =
+      omega (
+        arith,
+        within,
+        empty-push xs y,
+        at-most (is_none (s.at y.0)),
+        count-more (is_in xs) (is_in (xs ++ y ∷ [])) (in-more xs y) named,
+      )
+
+  new-still : (xs : List (Addr × Mode)) (y z : Addr × Mode) → IsNew xs z → is_addr y.0 z.0 ≡ false →
+      IsNew (xs ++ y ∷ []) z
+  new-still xs y z new other = (in-append xs y z.0 ∙ ap (λ b. b || is_addr y.0 z.0) new.0 ∙ other, new.1)
+
+  within-many : (xs ys : List (Addr × Mode)) (others : ℕ) → Within xs others → AllByRecursion (IsNew xs) ys →
+      EachOnce ys → Within (xs ++ ys) others
+  within-many xs [] others within new once = subst (λ (l : List (Addr × Mode)). Within l others)
+      (sym (append-nil xs)) within
+  within-many xs (y ∷ ys) others within new once =
+      subst (λ (l : List (Addr × Mode)). Within l others) (append_assoc xs (y ∷ []) ys)
+      (within-many (xs ++ y ∷ []) ys others (within-one xs y others within new.0)
+      (all-two (IsNew xs) (λ (z : Addr × Mode). is_addr y.0 z.0 ≡ false) (IsNew (xs ++ y ∷ []))
+      (λ z n o. new-still xs y z n o) ys new.1 once.0) once.1)
+
+-- ---- the view before
+some-before : (xs ys : List Seen) (a : Addr) → IsSome (seen_at xs a) → IsSome (seen_at (xs ++ ys) a)
+some-before [] ys a some = cc
+some-before (e ∷ es) ys a some =
+    elim (is_addr e.address a) as (λ b. IsSome (cond b (Some e) (seen_at es a)) →
+    IsSome (cond b (Some e) (seen_at (es ++ ys) a))) [
+      | true ↦ λ here. refl
+      | false ↦ λ there. some-before es ys a there
+    ] some
+
+some-last : (xs : List Seen) (y : Seen) → IsSome (seen_at (xs ++ y ∷ []) y.address)
+some-last [] y = ap (λ b. is_some (cond b (Some y) None)) (is_addr-refl y.address)
+some-last (e ∷ es) y =
+    elim (is_addr e.address y.address) as (λ b. IsSome (cond b (Some e) (seen_at (es ++ y ∷ []) y.address))) [
+      | true ↦ refl
+      | false ↦ some-last es y
+    ]
+
+-- what is seen in a larger view was seen so, if it was
+seen-front : (xs ys : List Seen) (a : Addr) (x : Seen) → IsSome (seen_at xs a) →
+    seen_at (xs ++ ys) a ≡ Some x → seen_at xs a ≡ Some x
+seen-front [] ys a x some seen = cc
+seen-front (e ∷ es) ys a x some seen =
+    elim (is_addr e.address a) as (λ b. IsSome (cond b (Some e) (seen_at es a)) →
+    cond b (Some e) (seen_at (es ++ ys) a) ≡ Some x → cond b (Some e) (seen_at es a) ≡ Some x) [
+      | true ↦ λ here is. is
+      | false ↦ λ there is. seen-front es ys a x there is
+    ] some seen
+
+-- each number that may be given has an entry
+abbrev HasEntry : List Seen → Reserved → Type 0
+HasEntry entries r = IsSome (seen_at entries (addresses.Inode r.number))
+
+more-entries : (entries more : List Seen) (reserved : List Reserved) → AllByRecursion (HasEntry entries) reserved →
+    AllByRecursion (HasEntry (entries ++ more)) reserved
+more-entries entries more reserved all =
+    all-map (HasEntry entries) (HasEntry (entries ++ more))
+    (λ r some. some-before entries more (addresses.Inode r.number) some) reserved all
+
+have-entries : (rounds : List Round) → AllByRecursion (HasEntry (view_after rounds).entries)
+    (view_after rounds).reserved
+have-entries [] = tt
+have-entries (Read entries ∷ earlier) = more-entries (view_after earlier).entries entries
+    (view_after earlier).reserved (have-entries earlier)
+have-entries (Given r ∷ earlier) =
+    all-append (HasEntry ((view_after earlier).entries ++ vacant r ∷ [])) (view_after earlier).reserved r
+    (more-entries (view_after earlier).entries (vacant r ∷ []) (view_after earlier).reserved (have-entries earlier))
+    (some-last (view_after earlier).entries (vacant r))
+
+-- the number may be given in this store
+abbrev MayBeGiven : Store → List Seen → Reserved → Type 0
+MayBeGiven s entries r = (seen_at entries (addresses.Inode r.number) ≡ Some (vacant r)) ×
+    (s.last r.number < r.generation)
+
+fits-front : (s : Store) (entries more : List Seen) (reserved : List Reserved) →
+    AllByRecursion (HasEntry entries) reserved
+    → AllByRecursion (λ (e : Seen). s.at e.address ≡ e.object) (entries ++ more) →
+    AllByRecursion (MayBeGiven s (entries ++ more)) reserved
+    → Fits (record { entries = entries; reserved = reserved }) s
+fits-front s entries more reserved have stand given = record {
+  entries = all-front (λ (e : Seen). s.at e.address ≡ e.object) entries more stand;
+  reserved =
+      all-two (HasEntry entries) (MayBeGiven s (entries ++ more)) (MayBeGiven s entries)
+      (λ r has may. (seen-front entries more (addresses.Inode r.number) (vacant r) has may.0, may.1)) reserved have
+      given;
+}
+
+-- a store that the larger view fits fits the view before
+fits-before : (s : Store) (v : ViewValue) (round : Round) → AllByRecursion (HasEntry v.entries) v.reserved →
+    Fits (with_round v round) s → Fits v s
+fits-before s v (Read entries) have fits = fits-front s v.entries entries v.reserved have fits.entries fits.reserved
+fits-before s v (Given r) have fits =
+    fits-front s v.entries (vacant r ∷ []) v.reserved have fits.entries
+    (all-front (MayBeGiven s (v.entries ++ vacant r ∷ [])) v.reserved (r ∷ []) fits.reserved)
+
+-- ---- rounds
+in-all : (P : Addr × Mode → Type 0) (xs : List (Addr × Mode)) (a : Addr × Mode) → AllByRecursion P xs →
+    WasAsked xs a → P a
+in-all P [] a all in_it = absurd in_it
+in-all P (x ∷ xs) a all (inl same) = subst P same all.0
+in-all P (x ∷ xs) a all (inr rest) = in-all P xs a all.1 rest
+
+module _ (call : Call) (ctx : Ctx) (s : Store) (k : Kept) (stands : Represents s k) (sound : Sound k)
+    (formed : WellFormed k.state) where
+  asked-new : (v : ViewValue) → Fits v s → (a : Addr × Mode) → MayAsk (modes_of call) (named_by call) v a →
+      IsNew s (named_by call) (held v.entries) a
+  asked-new v fits a may = (
+    unseen-out v.entries a.0 may.unseen,
+    λ none. (elim may.bounded [
+      | inl among ↦ among
+      | inr lives ↦ (let some = lives s k fits stands sound formed in cc)
+    ]),
+  )
+
+  abbrev Bounded : ViewValue → Type 0
+  Bounded v = Within s (named_by call) (held v.entries) (length v.reserved) × (length v.reserved ≤ 1)
+
+  bounded-one : (v : ViewValue) (round : Round) (outcome : Outcome) → Attempts call ctx v outcome →
+      Gives outcome round → Fits v s → Bounded v → Bounded (with_round v round)
+  bounded-one v (Read entries) (Need asked) attempts gives fits bounded = (
+    subst (λ (l : List (Addr × Mode)). Within s (named_by call) l (length v.reserved))
+        (sym (map-append (λ (e : Seen). (e.address, e.mode)) v.entries entries))
+        (within-many s (named_by call) (held v.entries) (held entries) (length v.reserved) bounded.0
+        (all-map (WasAsked asked.items) (IsNew s (named_by call) (held v.entries))
+        (λ a was.
+        let may = in-all (MayAsk (modes_of call) (named_by call) v) asked.items a attempts.each was in
+        asked-new v fits a may)
+        (held entries) gives.1) gives.0),
+    bounded.1,
+  )
+  bounded-one v (Read entries) (Fresh count) attempts gives fits bounded = absurd gives
+  bounded-one v (Read entries) (Done change) attempts gives fits bounded = absurd gives
+  bounded-one v (Given r) (Need asked) attempts gives fits bounded = absurd gives
+  bounded-one v (Given r) (Fresh count) attempts gives fits bounded =
+      let none : v.reserved ≡ [] = attempts.0 in
+      let was : length v.reserved ≡ 0 = ap (λ (l : List Reserved). length l) none in
+      let now : length (v.reserved ++ r ∷ []) ≡ 1 = ap (λ (l : List Reserved). length (l ++ r ∷ [])) none in (
+        subst (λ (l : List (Addr × Mode)). Within s (named_by call) l (length (v.reserved ++ r ∷ [])))
+            (sym (map-append (λ (e : Seen). (e.address, e.mode)) v.entries (vacant r ∷ [])))
+            (let w = within-other s (named_by call) (held v.entries) (addresses.Inode r.number, (vacant r).mode)
+            (length v.reserved) bounded.0 in omega (arith, w, was, now)),
+        omega (arith, now),
+      )
+  bounded-one v (Given r) (Done change) attempts gives fits bounded = absurd gives
+
+  bounded : (rounds : List Round) → Grows call ctx rounds → Fits (view_after rounds) s →
+      Bounded (view_after rounds)
+  bounded [] grows fits = (omega arith, omega arith)
+  bounded (round ∷ earlier) grows fits =
+      let before = fits-before s (view_after earlier) round (have-entries earlier) fits in
+      bounded-one (view_after earlier) round grows.0 grows.1 grows.2 before (bounded earlier grows.3 before)
+
+  few : (v : ViewValue) (outcome : Outcome) → Attempts call ctx v outcome → Fits v s → Bounded v
+      → empty_count s (held v.entries) + asked_count s outcome ≤ length (named_by call) + 1
+  few v (Need asked) attempts fits bounded =
+      let all = within-many s (named_by call) (held v.entries) asked.items (length v.reserved) bounded.0
+      (all-map (MayAsk (modes_of call) (named_by call) v) (IsNew s (named_by call) (held v.entries))
+      (asked-new v fits) asked.items attempts.each) attempts.once in
+      omega (
+        arith,
+        all,
+        bounded.1,
+        sum_by-append (λ (a : Addr × Mode). cond {A = ℕ} (is_none (s.at a.0)) 1 0) (held v.entries) asked.items,
+        count_by-le-length (is_in (held v.entries ++ asked.items)) (named_by call),
+      )
+  few v (Fresh count) attempts fits bounded =
+      let was : length v.reserved ≡ 0 = ap (λ (l : List Reserved). length l) attempts.0 in
+      omega (arith, bounded.0, was, attempts.1, count_by-le-length (is_in (held v.entries)) (named_by call))
+  few v (Done change) attempts fits bounded =
+      omega (arith, bounded.0, bounded.1, count_by-le-length (is_in (held v.entries)) (named_by call))
+
+pub asks-few : AsksFew
+asks-few call ctx rounds outcome s k grows attempts fits stands sound formed =
+    few call ctx s k stands sound formed (view_after rounds) outcome attempts fits
+    (bounded call ctx s k stands sound formed rounds grows fits)
+
+-- ---- what a call names
+objects-few : (handles : List (List ℕ)) → length (objects_at handles) ≤ length handles
+objects-few [] = omega arith
+objects-few (handle ∷ handles) =
+    let rest = objects-few handles in
+    elim (handle_of handle) as (λ (h : Option Handle).
+    length (elim h as (λ (o : Option Handle). List Addr) [
+      | None ↦ objects_at handles
+      | Some x ↦ addresses.Inode x.fileid ∷ objects_at handles
+    ]) ≤ length (handle ∷ handles)) [
+      | None ↦ omega (arith, rest)
+      | Some h ↦ omega (arith, rest)
+    ]
+
+nfs-handles-few : (call : NfsCall) → length (nfs_handles call) ≤ 2
+nfs-handles-few nfs.Null = omega arith
+nfs-handles-few (nfs.Getattr a) = omega arith
+nfs-handles-few (nfs.Setattr a) = omega arith
+nfs-handles-few (nfs.Lookup a) = omega arith
+nfs-handles-few (nfs.Access a) = omega arith
+nfs-handles-few (nfs.Readlink a) = omega arith
+nfs-handles-few (nfs.Read a) = omega arith
+nfs-handles-few (nfs.Write a) = omega arith
+nfs-handles-few (nfs.Create a) = omega arith
+nfs-handles-few (nfs.Mkdir a) = omega arith
+nfs-handles-few (nfs.Symlink a) = omega arith
+nfs-handles-few (nfs.Mknod a) = omega arith
+nfs-handles-few (nfs.Remove a) = omega arith
+nfs-handles-few (nfs.Rmdir a) = omega arith
+nfs-handles-few (nfs.Readdir a) = omega arith
+nfs-handles-few (nfs.Readdirplus a) = omega arith
+nfs-handles-few (nfs.Fsstat a) = omega arith
+nfs-handles-few (nfs.Fsinfo a) = omega arith
+nfs-handles-few (nfs.Pathconf a) = omega arith
+nfs-handles-few (nfs.Commit a) = omega arith
+nfs-handles-few (nfs.Rename a) = omega arith
+nfs-handles-few (nfs.Link a) = omega arith
+
+nlm-handles-few : (call : NlmCall) → length (nlm_handles call) ≤ 2
+nlm-handles-few nlm.Null = omega arith
+nlm-handles-few (nlm.Test a) = omega arith
+nlm-handles-few (nlm.Lock a) = omega arith
+nlm-handles-few (nlm.Cancel a) = omega arith
+nlm-handles-few (nlm.Unlock a) = omega arith
+nlm-handles-few (nlm.Granted a) = omega arith
+nlm-handles-few (nlm.TestMsg a) = omega arith
+nlm-handles-few (nlm.LockMsg a) = omega arith
+nlm-handles-few (nlm.CancelMsg a) = omega arith
+nlm-handles-few (nlm.UnlockMsg a) = omega arith
+nlm-handles-few (nlm.GrantedMsg a) = omega arith
+nlm-handles-few (nlm.TestRes a) = omega arith
+nlm-handles-few (nlm.LockRes a) = omega arith
+nlm-handles-few (nlm.CancelRes a) = omega arith
+nlm-handles-few (nlm.UnlockRes a) = omega arith
+nlm-handles-few (nlm.GrantedRes a) = omega arith
+nlm-handles-few (nlm.Share a) = omega arith
+nlm-handles-few (nlm.Unshare a) = omega arith
+nlm-handles-few (nlm.NmLock a) = omega arith
+nlm-handles-few (nlm.FreeAll a) = omega arith
+
+pub names-few : NamesFew
+names-few (calls.Nfs call) = omega (arith, objects-few (nfs_handles call), nfs-handles-few call)
+names-few (calls.Mount call) = omega arith
+names-few (calls.Nlm call) = omega (arith, objects-few (nlm_handles call), nlm-handles-few call)

@@ -1,0 +1,65 @@
+-- The map of a view's entries: what a look-up finds is what the view shows.
+use Rattle.std.specs.Prelude.{◌≡◌, ◌++◌, Bool, true, false, List, [], ◌∷◌, Some, None, option_map, map}
+use Rattle.std.specs.Prelude.{refl}
+use Rattle.std.proofs.Common.{cond, ◌∙◌, ap}
+use Rattle.std.proofs.lemmas.List.{map-append}
+use Rattle.std.specs.Arc.{arc_value}
+use Rattle.std.specs.Cmp.{nat_eq_equiv}
+use Rattle.std.specs.Map.{lookup}
+use Rattle.indexmap.proofs.CallerLemmas.{insert_entry-new}
+use Rattle.indexmap.specs.IndexMap.{IndexMap, insert_entry}
+use Rattle.nfs_objects.specs.contracts.address.AddrPartialEq.TheImpl.{eq-value}
+use Rattle.nfs_objects.specs.declared.address.Addr.{Addr}
+use Rattle.nfs_objects.specs.declared.address.Addr.TheVariants.{Exports, Inode, Mounts}
+use Rattle.nfs_objects.specs.declared.view.Entry.{Entry}
+use Rattle.nfs_objects.specs.Values.{Seen, is_addr, seen_at, seen_of, shown_at}
+
+-- the addresses of the map are compared so
+abbrev pub same_address : Addr → Addr → Bool
+same_address a b = (eq-value).it a b
+
+pub tests : (a b : Addr) → same_address a b ≡ is_addr b a
+tests Exports Exports = refl
+tests Exports (Inode m) = refl
+tests Exports Mounts = refl
+tests (Inode n) Exports = refl
+tests (Inode n) (Inode m) = nat_eq_equiv.symm n m
+tests (Inode n) Mounts = refl
+tests Mounts Exports = refl
+tests Mounts (Inode m) = refl
+tests Mounts Mounts = refl
+
+module _ (a : Addr) where
+  pub lookup-shown : (pairs : List (Addr × Entry)) →
+      option_map (λ (e : Entry). option_map arc_value e.object) (lookup (same_address a) pairs) ≡ shown_at
+      (map seen_of pairs) a
+  lookup-shown [] = refl
+  lookup-shown (p ∷ pairs) =
+      ap (λ b. option_map (λ (e : Entry). option_map arc_value e.object)
+      (cond b (Some p.1) (lookup (same_address a) pairs))) (tests a p.0)
+      ∙ elim (is_addr p.0 a) as (λ b.
+      option_map (λ (e : Entry). option_map arc_value e.object) (cond b (Some p.1) (lookup (same_address a) pairs))
+      ≡ option_map (λ (e : Seen). e.object) (cond b (Some (seen_of p)) (seen_at (map seen_of pairs) a))) [
+        | true ↦ refl
+        | false ↦ lookup-shown pairs
+      ]
+
+  -- an address that is not seen is not in the map
+  pub lookup-none : (pairs : List (Addr × Entry)) → seen_at (map seen_of pairs) a ≡ None →
+      lookup (same_address a) pairs ≡ None
+  lookup-none [] none = refl
+  lookup-none (p ∷ pairs) none =
+      ap (λ b. cond b (Some p.1) (lookup (same_address a) pairs)) (tests a p.0)
+      ∙ elim (is_addr p.0 a) as (λ b. cond b (Some (seen_of p)) (seen_at (map seen_of pairs) a) ≡ None →
+      cond b (Some p.1) (lookup (same_address a) pairs) ≡ None) [
+        | true ↦ λ here. cc
+        | false ↦ λ there. lookup-none pairs there
+      ] none
+
+  -- and is added last
+  pub added-last : {S : Type 0} (old : IndexMap Addr Entry S) (new : List (Addr × Entry)) (entry : Entry)
+      → seen_at (map seen_of old.entries) a ≡ None → new ≡ insert_entry same_address old.entries a entry
+      → map seen_of new ≡ map seen_of old.entries ++ seen_of (a, entry) ∷ []
+  added-last old new entry none made =
+      ap (map seen_of) (made ∙ insert_entry-new same_address old a entry (lookup-none old.entries none))
+      ∙ map-append seen_of old.entries ((a, entry) ∷ [])

@@ -1,0 +1,263 @@
+-- What one write of an inode does to what the store stands for.
+use Rattle.std.proofs.Common.{◌≡◌, ◌==◌, ℕ, ◌<◌, ◌≤◌, true, false, cond, ◌||◌, ◌&&◌, max}
+use Rattle.std.proofs.Common.{nat_le, List, Option, Some, None, inl, inr, refl, sym, ◌∙◌, ap, subst, arith}
+use Rattle.std.proofs.Math.Bool.{or-false}
+use Rattle.std.proofs.Math.Nat.{le-max_left, le-max_right}
+use Rattle.std.proofs.lemmas.Bool.{le-leb, lt-leb}
+use Rattle.std.proofs.lemmas.Bool.Decides.{leb_tells}
+use Rattle.std.specs.Cmp.{nat_eq_equiv, unsigned_Decides}
+use Rattle.std.specs.FinMap.{FinMap, empty, get, insert, remove}
+use Rattle.std.specs.Ordering.{nat_cmp}
+use Rattle.side_wire.specs.declared.mount.lists.MountBody.{MountBody}
+use Rattle.nfs_machine.proofs.Changes.{differs-remove}
+use Rattle.nfs_machine.proofs.FileMaps.{grants-none, no-list}
+use Rattle.nfs_machine.proofs.Sums.{get-inserted}
+use Rattle.nfs_machine.specs.FileLists.{grants_but}
+use Rattle.nfs_machine.specs.State.{Living, PendingGrant}
+use Rattle.nfs_objects.proofs.Seen.{known-stands, writes-append}
+use Rattle.nfs_objects.specs.Edits.{edited, freed, set_at, with_living, with_mounts, with_new}
+use Rattle.nfs_objects.specs.Fits.{Fits}
+use Rattle.nfs_objects.specs.Knows.{Turns}
+use Rattle.nfs_objects.specs.Stands.{Kept, Represents, inode_of, links_kept, living_of, living_of_inode, parent_in}
+use Rattle.nfs_objects.specs.Stands.{parent_kept}
+use Rattle.nfs_objects.specs.Store.{Store, give, put_at, with_write, with_writes}
+use Rattle.nfs_objects.specs.Values.{DraftValue, known_at, with_written}
+use Rattle.nfs_objects.specs.declared.address.Addr.{Addr}
+use Rattle.nfs_objects.specs.declared.address.Addr.TheVariants as addresses
+use Rattle.nfs_objects.specs.declared.object.Inode.{Inode}
+use Rattle.nfs_objects.specs.declared.object.Object.{Object}
+use Rattle.nfs_objects.specs.declared.object.Object.TheVariants as objects
+
+-- what stands where an inode was put
+lives-put : (at : Addr → Option Object) (living : FinMap nat_cmp Living) (number : ℕ) (i : Inode) →
+    ((n : ℕ) → get living n ≡ living_of (at (addresses.Inode n)))
+    → (n : ℕ) → get (insert living number (living_of_inode i)) n ≡ living_of
+    (put_at at (addresses.Inode number) (Some (objects.Inode i)) (addresses.Inode n))
+lives-put at living number i stands n =
+    get-inserted living number (living_of_inode i) n
+    ∙ ap (λ b. cond b (Some (living_of_inode i)) (get living n)) (nat_eq_equiv.symm n number)
+    ∙ elim (number == n) as (λ b. cond b (Some (living_of_inode i)) (get living n) ≡ living_of
+    (cond b (Some (objects.Inode i)) (at (addresses.Inode n)))) [
+      | true ↦ refl
+      | false ↦ stands n
+    ]
+
+-- a function of what stands at each number, after a write at one
+kept-put : (f : Option Object → ℕ) (at : Addr → Option Object) (kept : ℕ → ℕ) (number : ℕ)
+    (o : Option Object) → ((n : ℕ) → kept n ≡ f (at (addresses.Inode n)))
+    → (n : ℕ) → set_at kept number (f o) n ≡ f (put_at at (addresses.Inode number) o (addresses.Inode n))
+kept-put f at kept number o was n =
+    elim (number == n) as (λ b. cond b (f o) (kept n) ≡ f (cond b o (at (addresses.Inode n))))
+    [ true ↦ refl | false ↦ was n ]
+
+-- the generation of what stands somewhere is among those given
+given-put : (s : Store) (number : ℕ) (new : Inode) (last : ℕ → ℕ) →
+    ((n : ℕ) (i : Inode) → s.at (addresses.Inode n) ≡ Some (objects.Inode i) → i.generation ≤ s.last n)
+    → ((n : ℕ) → s.last n ≤ last n) → new.generation ≤ last number
+    → (n : ℕ) (i : Inode) → put_at s.at (addresses.Inode number) (Some (objects.Inode new))
+    (addresses.Inode n) ≡ Some (objects.Inode i) → i.generation ≤ last n
+given-put s number new last given more here n i at =
+    elim (number == n) as (λ b. (number == n) ≡ b → cond b (Some (objects.Inode new))
+    (s.at (addresses.Inode n)) ≡ Some (objects.Inode i) → i.generation ≤ last n) [
+      | true ↦ λ same is. (let e : new ≡ i = cc in
+          subst (λ (j : Inode). j.generation ≤ last n) e
+          (subst (λ q. new.generation ≤ last q) ((unsigned_Decides number n).0 same) here))
+      | false ↦ λ other is. (let a = given n i is in let b = more n in omega (arith, a, b))
+    ] refl at
+
+last-kept : (last : ℕ → ℕ) (number generation n : ℕ) → generation ≤ last number →
+    cond (number == n) (max (last n) generation) (last n) ≡ last n
+last-kept last number generation n within =
+    elim (number == n) as (λ b. (number == n) ≡ b → cond b (max (last n) generation) (last n) ≡ last n) [
+      | true ↦ λ e. (let w : generation ≤ last n = subst (λ k. generation ≤ last k)
+          ((unsigned_Decides number n).0 e) within in omega (arith, w))
+      | false ↦ λ e. refl
+    ] refl
+
+pub put-stands : (s : Store) (k : Kept) (n : ℕ) (i : Inode) → Represents s k → i.generation ≤ s.last n
+    → Represents (with_write s (addresses.Inode n) (Some (objects.Inode i)))
+    (with_living k n (living_of_inode i) i.links (parent_in i.content))
+put-stands s k n i stands within = record {
+  exports = stands.exports;
+  last_export = stands.last_export;
+  objects = lives-put s.at k.state.objects n i stands.objects;
+  links = kept-put (λ o. links_kept (inode_of o)) s.at k.links n (Some (objects.Inode i)) stands.links;
+  parents = kept-put (λ o. parent_kept (inode_of o)) s.at k.parents n (Some (objects.Inode i)) stands.parents;
+  given = given-put s n i (give s.last (addresses.Inode n) (Some (objects.Inode i))) stands.given
+      (λ q. (let e = last-kept s.last n i.generation q within in omega (arith, e)))
+      (let e = last-kept s.last n i.generation n within in omega (arith, e, within));
+  mounts = stands.mounts;
+  spent = λ q g. stands.spent q g ∙ ap (λ l. nat_le g l) (sym (last-kept s.last n i.generation q within));
+  no_locks = stands.no_locks;
+  no_shares = stands.no_shares;
+  no_waiting = stands.no_waiting;
+  no_granted = stands.no_granted;
+  no_spent_grants = stands.no_spent_grants;
+}
+
+get-removed : (living : FinMap nat_cmp Living) (number n : ℕ) →
+    get (remove living number) n ≡ cond (number == n) None (get living n)
+get-removed living number n = differs-remove living number n ∙ ap (λ b. cond b None (get living n))
+    (nat_eq_equiv.symm n number)
+
+none-removed : {X : Type 0} (n : ℕ) (lists : FinMap nat_cmp (List X)) → lists ≡ empty → remove lists n ≡ empty
+none-removed {X = X} n lists none = ap (λ (m : FinMap nat_cmp (List X)). remove m n) none ∙ no-list n
+
+pub free-stands : (s : Store) (k : Kept) (n : ℕ) → Represents s k →
+    Represents (with_write s (addresses.Inode n) None) (freed k n)
+free-stands s k n stands = record {
+  exports = stands.exports;
+  last_export = stands.last_export;
+  objects = λ q. get-removed k.state.objects n q
+      ∙ elim (n == q) as (λ b. cond b None (get k.state.objects q) ≡ living_of
+      (cond b None (s.at (addresses.Inode q)))) [ true ↦ refl | false ↦ stands.objects q ];
+  links = kept-put (λ o. links_kept (inode_of o)) s.at k.links n None stands.links;
+  parents = kept-put (λ o. parent_kept (inode_of o)) s.at k.parents n None stands.parents;
+  given = λ q i at. elim (n == q) as (λ b. cond b None (s.at (addresses.Inode q)) ≡ Some (objects.Inode i) →
+      i.generation ≤ s.last q) [ true ↦ λ e. cc | false ↦ λ e. stands.given q i e ] at;
+  mounts = stands.mounts;
+  spent = stands.spent;
+  no_locks = none-removed n k.state.locks stands.no_locks;
+  no_shares = none-removed n k.state.shares stands.no_shares;
+  no_waiting = none-removed n k.state.waiting stands.no_waiting;
+  no_granted = ap (grants_but (λ (g : PendingGrant). g.file == n)) stands.no_granted
+      ∙ grants-none (λ (g : PendingGrant). g.file == n);
+  no_spent_grants = stands.no_spent_grants;
+}
+
+-- at most the greater of two is at most one of them
+below_max : (g a b : ℕ) → (nat_le g a || nat_le g b) ≡ nat_le g (max a b)
+below_max g a b = elim (leb_tells g a) [
+  | inl x ↦ ap (λ t. t || nat_le g b) x.0 ∙ sym (le-leb g (max a b) (le_trans g a (max a b) x.1 (le-max_left a b)))
+  | inr x ↦ ap (λ t. t || nat_le g b) x.0 ∙ elim (leb_tells g b) [
+    | inl y ↦ y.0 ∙ sym (le-leb g (max a b) (le_trans g b (max a b) y.1 (le-max_right a b)))
+    | inr y ↦ y.0 ∙ sym (lt-leb g (max a b) (max-lt a b g x.1 y.1))
+  ]
+]
+  where
+    le_trans : (x y z : ℕ) → x ≤ y → y ≤ z → x ≤ z
+    le_trans x y z h k = omega (arith, h, k)
+
+    max-lt : (x y z : ℕ) → x < z → y < z → max x y < z
+    max-lt x y z h k = omega (arith, h, k)
+
+pub new-stands : (s : Store) (k : Kept) (n : ℕ) (i : Inode) → Represents s k
+    → Represents (with_write s (addresses.Inode n) (Some (objects.Inode i)))
+    (with_new k n (living_of_inode i) i.links (parent_in i.content))
+new-stands s k n i stands = record {
+  exports = stands.exports;
+  last_export = stands.last_export;
+  objects = lives-put s.at k.state.objects n i stands.objects;
+  links = kept-put (λ o. links_kept (inode_of o)) s.at k.links n (Some (objects.Inode i)) stands.links;
+  parents = kept-put (λ o. parent_kept (inode_of o)) s.at k.parents n (Some (objects.Inode i)) stands.parents;
+  given = given-put s n i (give s.last (addresses.Inode n) (Some (objects.Inode i))) stands.given
+      (λ q. more q)
+      (subst (λ b. i.generation ≤ cond b (max (s.last n) i.generation) (s.last n))
+      (sym ((unsigned_Decides n n).1 refl)) (le-max_right (s.last n) i.generation));
+  mounts = stands.mounts;
+  spent = λ q g.
+      ap (λ b. b || ((q == n) && nat_le g i.generation)) (stands.spent q g)
+      ∙ ap (λ b. nat_le g (s.last q) || (b && nat_le g i.generation)) (nat_eq_equiv.symm q n)
+      ∙ elim (n == q) as (λ b. (nat_le g (s.last q) || (b && nat_le g i.generation)) ≡ nat_le g
+      (cond b (max (s.last q) i.generation) (s.last q))) [
+        | true ↦ below_max g (s.last q) i.generation
+        | false ↦ or-false (nat_le g (s.last q))
+      ];
+  no_locks = stands.no_locks;
+  no_shares = stands.no_shares;
+  no_waiting = stands.no_waiting;
+  no_granted = stands.no_granted;
+  no_spent_grants = stands.no_spent_grants;
+}
+  where
+    more : (q : ℕ) → s.last q ≤ cond (n == q) (max (s.last q) i.generation) (s.last q)
+    more q = elim (n == q) as (λ b. s.last q ≤ cond b (max (s.last q) i.generation) (s.last q))
+        [ true ↦ le-max_left (s.last q) i.generation | false ↦ omega arith ]
+
+-- other mounts
+pub mounts-stand : (s : Store) (k : Kept) (table : List MountBody) → Represents s k
+    → Represents (with_write s addresses.Mounts (Some (objects.Mounts table))) (with_mounts k table)
+mounts-stand s k table stands = record {
+  exports = stands.exports;
+  last_export = stands.last_export;
+  objects = stands.objects;
+  links = stands.links;
+  parents = stands.parents;
+  given = stands.given;
+  mounts = refl;
+  spent = stands.spent;
+  no_locks = stands.no_locks;
+  no_shares = stands.no_shares;
+  no_waiting = stands.no_waiting;
+  no_granted = stands.no_granted;
+  no_spent_grants = stands.no_spent_grants;
+}
+
+module _ (d : DraftValue) where
+  turns-written : (a : Addr) (o : Option Object) (op : Kept → Kept)
+      → ((s : Store) (k : Kept) → Fits d.view s → Represents (with_writes s d.writes) k →
+      Represents (with_write (with_writes s d.writes) a o) (op k))
+      → Turns d (with_written d a o) op
+  turns-written a o op f = record {
+    ctx = refl;
+    view = refl;
+    modes = refl;
+    messages = refl;
+    turns = λ s k fits stands. subst (λ (x : Store). Represents x (op k)) (sym (writes-append d.writes s a o))
+        (f s k fits stands);
+  }
+
+  -- the draft with a table of mounts
+  pub mounts-turns : (table : List MountBody) →
+      Turns d (with_written d addresses.Mounts (Some (objects.Mounts table))) (λ k. with_mounts k table)
+  mounts-turns table =
+      turns-written addresses.Mounts (Some (objects.Mounts table)) (λ k. with_mounts k table)
+      (λ s k fits stands. mounts-stand (with_writes s d.writes) k table stands)
+
+module _ (d : DraftValue) (n : ℕ) where
+  -- the draft after it
+  abbrev next : Option Object → DraftValue
+  next o = with_written d (addresses.Inode n) o
+
+  turns-next : (o : Option Object) (op : Kept → Kept)
+      → ((s : Store) (k : Kept) → Fits d.view s → Represents (with_writes s d.writes) k →
+      Represents (with_write (with_writes s d.writes) (addresses.Inode n) o) (op k)) → Turns d (next o) op
+  turns-next = turns-written d (addresses.Inode n)
+
+  -- one inode in the place of another, of the same generation and with the same parent
+  pub edit-turns : (i j : Inode) (object : Living → Living) (links : ℕ → ℕ) →
+      known_at d (addresses.Inode n) ≡ Some (Some (objects.Inode i))
+      → living_of_inode j ≡ object (living_of_inode i) → j.links ≡ links i.links →
+      parent_in j.content ≡ parent_in i.content → j.generation ≡ i.generation
+      → Turns d (next (Some (objects.Inode j))) (λ k. edited k n object links)
+  edit-turns i j object links known is linked under generation = turns-next (Some (objects.Inode j))
+      (λ k. edited k n object links) (λ s k fits stands.
+      let at : (with_writes s d.writes).at (addresses.Inode n) ≡ Some (objects.Inode i) =
+      known-stands d s (addresses.Inode n) (Some (objects.Inode i)) fits known in
+      let lives : get k.state.objects n ≡ Some (living_of_inode i) = stands.objects n ∙ ap living_of at in
+      let counted : k.links n ≡ i.links = stands.links n ∙ ap (λ o. links_kept (inode_of o)) at in
+      let below : k.parents n ≡ parent_in i.content = stands.parents n ∙ ap (λ o. parent_kept (inode_of o)) at in
+      let put = put-stands (with_writes s d.writes) k n j stands
+      (subst (λ g. g ≤ (with_writes s d.writes).last n) (sym generation) (stands.given n i at)) in
+      let same : edited k n object links ≡ with_living k n (living_of_inode j) j.links (parent_in j.content) =
+      ap
+      (λ (o : Option Living). elim o [
+        | None ↦ k
+        | Some o ↦ with_living k n (object o) (links (k.links n))
+            (k.parents n)
+      ]) lives
+      ∙ ap (λ (o : Living). with_living k n o (links (k.links n)) (k.parents n)) (sym is)
+      ∙ ap (λ l. with_living k n (living_of_inode j) l (k.parents n)) (ap links counted ∙ sym linked)
+      ∙ ap (λ p. with_living k n (living_of_inode j) j.links p) (below ∙ sym under) in
+      subst
+      (λ (x : Kept). Represents (with_write (with_writes s d.writes) (addresses.Inode n) (Some (objects.Inode j)))
+      x) (sym same) put)
+
+  pub free-turns : Turns d (next None) (λ k. freed k n)
+  free-turns = turns-next None (λ k. freed k n) (λ s k fits stands. free-stands (with_writes s d.writes) k n stands)
+
+  pub new-turns : (i : Inode) → Turns d (next (Some (objects.Inode i)))
+      (λ k. with_new k n (living_of_inode i) i.links (parent_in i.content))
+  new-turns i = turns-next (Some (objects.Inode i))
+      (λ k. with_new k n (living_of_inode i) i.links (parent_in i.content))
+      (λ s k fits stands. new-stands (with_writes s d.writes) k n i stands)

@@ -1,0 +1,8 @@
+use Rattle.nfs_objects.proofs.Bounded.{asks-few, names-few}
+use Rattle.nfs_objects.proofs.laws.calls_ask_few.Goals as goal
+
+pub returns-clause-asked : goal.returns-clause-asked
+returns-clause-asked c = asks-few
+
+pub returns-clause-named : goal.returns-clause-named
+returns-clause-named c = names-few

@@ -1,0 +1,85 @@
+-- What calls name.
+use Rattle.std.specs.Prelude.{◌≡◌, ℕ, Bool, true, false, List, [], ◌∷◌, Some, None, ◌⊎◌}
+use Rattle.nfs_wire.specs.declared.calls.NfsCall.{NfsCall}
+use Rattle.nfs_wire.specs.declared.calls.NfsCall.TheVariants as nfs
+use Rattle.side_wire.specs.declared.mount.MountCall.TheVariants as mount
+use Rattle.side_wire.specs.declared.nlm.NlmCall.{NlmCall}
+use Rattle.side_wire.specs.declared.nlm.NlmCall.TheVariants as nlm
+use Rattle.nfs_machine.specs.Handles.{handle_of}
+use Rattle.nfs_machine.specs.declared.calls.Call.{Call}
+use Rattle.nfs_machine.specs.declared.calls.Call.TheVariants as calls
+use Rattle.nfs_objects.specs.declared.address.Addr.{Addr}
+use Rattle.nfs_objects.specs.declared.address.Addr.TheVariants as addresses
+
+-- the handles of a call of NFS, in the order in which they are judged (RFC 1813, 3.3)
+abbrev pub nfs_handles : NfsCall → List (List ℕ)
+nfs_handles nfs.Null = []
+nfs_handles (nfs.Getattr object) = object ∷ []
+nfs_handles (nfs.Setattr a) = a.object ∷ []
+nfs_handles (nfs.Lookup place) = place.directory ∷ []
+nfs_handles (nfs.Access a) = a.object ∷ []
+nfs_handles (nfs.Readlink link) = link ∷ []
+nfs_handles (nfs.Read a) = a.file ∷ []
+nfs_handles (nfs.Write a) = a.file ∷ []
+nfs_handles (nfs.Create a) = a.place.directory ∷ []
+nfs_handles (nfs.Mkdir a) = a.place.directory ∷ []
+nfs_handles (nfs.Symlink a) = a.place.directory ∷ []
+nfs_handles (nfs.Mknod a) = a.place.directory ∷ []
+nfs_handles (nfs.Remove place) = place.directory ∷ []
+nfs_handles (nfs.Rmdir place) = place.directory ∷ []
+nfs_handles (nfs.Rename a) = a.from.directory ∷ a.to.directory ∷ []
+nfs_handles (nfs.Link a) = a.file ∷ a.place.directory ∷ []
+nfs_handles (nfs.Readdir a) = a.directory ∷ []
+nfs_handles (nfs.Readdirplus a) = a.directory ∷ []
+nfs_handles (nfs.Fsstat object) = object ∷ []
+nfs_handles (nfs.Fsinfo object) = object ∷ []
+nfs_handles (nfs.Pathconf object) = object ∷ []
+nfs_handles (nfs.Commit a) = a.file ∷ []
+
+-- those of a call of NLM (RFC 1813, 6.2)
+abbrev pub nlm_handles : NlmCall → List (List ℕ)
+nlm_handles (nlm.Test a) = a.lock.file ∷ []
+nlm_handles (nlm.Lock a) = a.lock.file ∷ []
+nlm_handles (nlm.Cancel a) = a.lock.file ∷ []
+nlm_handles (nlm.Unlock a) = a.lock.file ∷ []
+nlm_handles (nlm.TestMsg a) = a.lock.file ∷ []
+nlm_handles (nlm.LockMsg a) = a.lock.file ∷ []
+nlm_handles (nlm.CancelMsg a) = a.lock.file ∷ []
+nlm_handles (nlm.UnlockMsg a) = a.lock.file ∷ []
+nlm_handles (nlm.Share a) = a.share.file ∷ []
+nlm_handles (nlm.Unshare a) = a.share.file ∷ []
+nlm_handles (nlm.NmLock a) = a.lock.file ∷ []
+-- GRANTED and the results name locks of other servers, and FREE_ALL names a host
+nlm_handles call = []
+
+abbrev pub handles_of : Call → List (List ℕ)
+handles_of (calls.Nfs call) = nfs_handles call
+handles_of (calls.Mount call) = []
+handles_of (calls.Nlm call) = nlm_handles call
+
+-- the procedure NULL of each program reads nothing
+abbrev pub is_null : Call → Bool
+is_null (calls.Nfs nfs.Null) = true
+is_null (calls.Mount mount.Null) = true
+is_null (calls.Nlm nlm.Null) = true
+is_null call = false
+
+-- the addresses of the objects that handles name
+abbrev pub objects_at : List (List ℕ) → List Addr
+objects_at [] = []
+objects_at (handle ∷ handles) = elim (handle_of handle) [
+  | None ↦ objects_at handles
+  | Some h ↦ addresses.Inode h.fileid ∷ objects_at handles
+]
+
+-- The addresses that a call names whether anything stands there or not: the exports, the objects of its handles, and
+-- those that are its program's alone.
+abbrev pub named_by : Call → List Addr
+named_by (calls.Nfs call) = addresses.Exports ∷ objects_at (nfs_handles call)
+named_by (calls.Mount call) = addresses.Exports ∷ addresses.Mounts ∷ []
+named_by (calls.Nlm call) = addresses.Exports ∷ objects_at (nlm_handles call)
+
+-- the address is one of these
+abbrev pub IsAmong : List Addr → Addr → Type 0
+IsAmong [] a = ⊥
+IsAmong (b ∷ addresses) a = (b ≡ a) ⊎ IsAmong addresses a

@@ -1,0 +1,45 @@
+-- Changes of what is kept, at one address: the makers of drafts do these.
+use Rattle.std.specs.Prelude.{ℕ, ◌||◌, ◌&&◌, List, nat_le, Some, None, if◌then◌else◌, ◌==◌}
+use Rattle.std.specs.FinMap.{get}
+use Rattle.side_wire.specs.declared.mount.lists.MountBody.{MountBody}
+use Rattle.nfs_machine.specs.RemoveSteps.{without_object}
+use Rattle.nfs_machine.specs.Shown.{with_object}
+use Rattle.nfs_machine.specs.State.{Living}
+use Rattle.nfs_objects.specs.Stands.{Kept}
+
+abbrev pub set_at : (ℕ → ℕ) → ℕ → ℕ → ℕ → ℕ
+set_at f n value q = if n == q then value else f q
+
+-- this lives at a number, with so many links and this parent
+abbrev pub with_living : Kept → ℕ → Living → (links parent : ℕ) → Kept
+with_living k n o links parent = record {
+  state = with_object k.state n o;
+  links = set_at k.links n links;
+  parents = set_at k.parents n parent;
+}
+
+-- what lives at a number, if anything does, becomes this, with so many links
+abbrev pub edited : Kept → ℕ → (Living → Living) → (ℕ → ℕ) → Kept
+edited k n object links = elim (get k.state.objects n) [
+  | None ↦ k
+  | Some o ↦ with_living k n (object o) (links (k.links n)) (k.parents n)
+]
+
+-- nothing lives at a number
+abbrev pub freed : Kept → ℕ → Kept
+freed k n = record {
+  state = without_object k.state n;
+  links = set_at k.links n 0;
+  parents = set_at k.parents n 0;
+}
+
+-- a new object at a number, whose generations up to the object's are spent
+abbrev pub with_new : Kept → ℕ → Living → (links parent : ℕ) → Kept
+with_new k n o links parent = record (with_living k n o links parent) {
+  state = record (with_object k.state n o)
+      { spent = λ a g. k.state.spent a g || ((a == n) && nat_le g o.generation) };
+}
+
+-- these are the mounts
+abbrev pub with_mounts : Kept → List MountBody → Kept
+with_mounts k mounts = record k { state = record k.state { mounts = mounts } }

@@ -1,0 +1,252 @@
+//! What a call has read, and what it would write.
+
+ghost use Rattle.std.specs.Prelude.{◌≡◌, ◌∷◌, ◌++◌, [], IsSome, MatchResult, OnErr, OnOk, option_map};
+ghost use Rattle.std.specs.Prelude.{option_copied};
+ghost use Rattle.std.specs.Arc.{arc_value};
+ghost use Rattle.nfs_objects.specs.Asks.{IsFirst, IsFresh, IsNeed, Lacks};
+ghost use Rattle.nfs_objects.specs.Knows.{Knows};
+ghost use Rattle.nfs_objects.specs.Modes.{Suits, mode_at};
+ghost use Rattle.nfs_objects.specs.Drafts.{MayGive, MayWrite};
+ghost use Rattle.nfs_objects.specs.Promise.{Given, Held};
+ghost use Rattle.nfs_objects.specs.Stands.{mounts_in};
+ghost use Rattle.nfs_objects.specs.Values.{change_value, known_at, new_draft, pointed, with_written, written_at};
+
+use crate::address::{Addr, is_same};
+use crate::change::{Change, Halt, Write};
+use crate::exports::LivingExport;
+use crate::modes::{Mode, Modes};
+use crate::mounts::MountTable;
+use crate::object::{Inode, Object, export_list, mount_table};
+use crate::view::{Reserved, View};
+use nfs_machine::{Ctx, Reply};
+use side_wire::Message;
+use std::alloc::{AllocError, Global};
+use std::marker::Model;
+use std::sync::Arc;
+
+/// A call in the making: the context and the view that it stands on, the modes in which it holds what it reads, and the
+/// writes and messages so far.
+#[derive(Drop)]
+pub struct Draft<'a> {
+    alloc: Global,
+    ctx: &'a Ctx,
+    view: &'a View,
+    modes: Modes,
+    writes: Vec<Write>,
+    messages: Vec<Message>,
+}
+
+impl<'a> Model for Draft<'a> {
+    ghost use Rattle.std.specs.Prelude.{map};
+    ghost use Rattle.nfs_objects.specs.Drafts.{IsDraft};
+    ghost use Rattle.nfs_objects.specs.Values.{DraftValue, write_value};
+
+    ghost Value = { DraftValue };
+
+    ghost view = { λ d. record {
+      ctx = d.ctx.now;
+      view = d.view.now;
+      modes = d.modes;
+      writes = map write_value d.writes.items;
+      messages = d.messages.items;
+    } };
+
+    ghost invariant = { λ d. IsDraft d.modes d.view.now (map write_value d.writes.items) };
+}
+
+impl<'a> Draft<'a> {
+    /// A draft with no write. The view holds all that it has as the modes want.
+    pub fn new(alloc: Global, ctx: &'a Ctx, view: &'a View, modes: Modes) -> Draft<'a>
+        requires { Suits modes view.now }
+        ensures { result ≡ new_draft ctx.now view.now modes }
+    {
+        Draft {
+            alloc,
+            ctx,
+            view,
+            modes,
+            writes: Vec::new(alloc),
+            messages: Vec::new(alloc),
+        }
+    }
+
+    /// What the call was made under.
+    pub fn ctx(&self) -> &'a Ctx
+        ensures { result.now ≡ self.now.ctx }
+    {
+        self.ctx
+    }
+
+    /// Whence its memory comes.
+    pub fn alloc(&self) -> Global {
+        self.alloc
+    }
+
+    /// What would stand at an address: the last write to it, else what the view shows.
+    ///
+    /// # Errors
+    ///
+    /// `Need` of the address where it was not read, and `Memory`.
+    pub fn find(&self, address: Addr) -> Result<&Option<Arc<Object>>, Halt>
+        ensures { MatchResult result
+            (λ object. known_at self.now address ≡ Some (option_map arc_value object.now))
+            (Lacks self.now address) }
+    {
+        if let Some(object) = self.written(address) {
+            return Ok(object);
+        }
+        match self.view.find(address) {
+            Some(object) => Ok(object),
+            None => Err(lacking(self.alloc, address, self.modes.at(address))),
+        }
+    }
+
+    /// What was written to an address last.
+    fn written(&self, address: Addr) -> Option<&Option<Arc<Object>>>
+        ensures { option_map pointed result ≡ written_at None self.now.writes address }
+    {
+        let mut last = None;
+        for write in &self.writes {
+            if is_same(write.address, address) {
+                last = Some(&write.object);
+            }
+        }
+        last
+    }
+
+    /// The living exports.
+    ///
+    /// # Errors
+    ///
+    /// `Need` of their table where it was not read, and `Memory`.
+    pub fn exports(&self) -> Result<&[LivingExport], Halt>
+        ensures { MatchResult result
+            (λ list. Knows self.now (λ k. k.state.exports ≡ list.now))
+            (Lacks self.now Addr.Exports) }
+    {
+        Ok(export_list(self.find(Addr::Exports)?))
+    }
+
+    /// The table of mounts, if there is one.
+    ///
+    /// # Errors
+    ///
+    /// `Need` of it where it was not read, and `Memory`.
+    pub fn mounts(&self) -> Result<Option<&MountTable>, Halt>
+        ensures { MatchResult result
+            (λ table. IsSome (known_at self.now Addr.Mounts) ×
+            Knows self.now (λ k. k.state.mounts ≡ mounts_in (option_copied table)))
+            (Lacks self.now Addr.Mounts) }
+    {
+        Ok(mount_table(self.find(Addr::Mounts)?))
+    }
+
+    /// Puts an inode at a number that was read. It keeps the generation that lives there, or has the one that was
+    /// reserved.
+    ///
+    /// # Errors
+    ///
+    /// `AllocError` where the memory was refused. It changes nothing.
+    pub fn put(&mut self, number: u64, inode: Inode) -> Result<(), AllocError>
+        requires alone { self.old.modes.inodes ≡ Mode.Exclusive }
+        requires known { IsSome (known_at self.old (Addr.Inode number)) }
+        requires given { MayGive self.old number inode.generation }
+        ensures ok { OnOk result (self.new ≡ with_written self.old (Addr.Inode number) (Some (Object.Inode inode))) }
+        ensures err { OnErr result (self.new ≡ self.old) }
+    {
+        let object = Arc::new(self.alloc, Object::Inode(inode))?;
+        self.write(Addr::Inode(number), Some(object))
+    }
+
+    /// Frees a number that was read.
+    ///
+    /// # Errors
+    ///
+    /// `AllocError` where the memory was refused. It changes nothing.
+    pub fn free(&mut self, number: u64) -> Result<(), AllocError>
+        requires alone { self.old.modes.inodes ≡ Mode.Exclusive }
+        requires known { IsSome (known_at self.old (Addr.Inode number)) }
+        ensures ok { OnOk result (self.new ≡ with_written self.old (Addr.Inode number) None) }
+        ensures err { OnErr result (self.new ≡ self.old) }
+    {
+        self.write(Addr::Inode(number), None)
+    }
+
+    /// Puts a table of mounts in the place of the one that was read.
+    ///
+    /// # Errors
+    ///
+    /// `AllocError` where the memory was refused. It changes nothing.
+    pub fn put_mounts(&mut self, table: MountTable) -> Result<(), AllocError>
+        requires alone { self.old.modes.mounts ≡ Mode.Exclusive }
+        requires known { IsSome (known_at self.old Addr.Mounts) }
+        ensures ok { OnOk result (self.new ≡ with_written self.old Addr.Mounts (Some (Object.Mounts table))) }
+        ensures err { OnErr result (self.new ≡ self.old) }
+    {
+        let object = Arc::new(self.alloc, Object::Mounts(table))?;
+        self.write(Addr::Mounts, Some(object))
+    }
+
+    fn write(&mut self, address: Addr, object: Option<Arc<Object>>) -> Result<(), AllocError>
+        requires alone { mode_at self.old.modes address ≡ Mode.Exclusive }
+        requires known { IsSome (known_at self.old address) }
+        requires given { MayWrite self.old address (option_map arc_value object) }
+        ensures ok { OnOk result (self.new ≡ with_written self.old address (option_map arc_value object)) }
+        ensures err { OnErr result (self.new ≡ self.old) }
+    {
+        self.writes.push(Write { address, object })?;
+        Ok(())
+    }
+
+    /// Puts one more message.
+    ///
+    /// # Errors
+    ///
+    /// `AllocError` where the memory was refused. It changes nothing.
+    pub fn send(&mut self, message: Message) -> Result<(), AllocError>
+        ensures ok { OnOk result (self.new ≡ record self.old { messages = self.old.messages ++ message ∷ [] }) }
+        ensures err { OnErr result (self.new ≡ self.old) }
+    {
+        self.messages.push(message)?;
+        Ok(())
+    }
+
+    /// The first number that may be given to a new object, with its generation.
+    ///
+    /// # Errors
+    ///
+    /// `Fresh` where there is none.
+    pub fn fresh(&self) -> Result<Reserved, Halt>
+        ensures { MatchResult result (IsFirst self.now) (IsFresh self.now) }
+    {
+        match self.view.fresh() {
+            Some(reserved) => Ok(reserved),
+            None => Err(Halt::Fresh(1)),
+        }
+    }
+
+    /// The end of the call: its writes and messages, and what it answers.
+    pub fn answer(self, reply: Reply) -> Change
+        ensures value { change_value result ≡ record
+            { writes = self.entry.writes; messages = self.entry.messages; reply = reply } }
+        ensures held { Held self.entry.view self.entry.writes }
+        ensures given { Given self.entry.view self.entry.writes }
+    {
+        Change {
+            writes: self.writes,
+            messages: self.messages,
+            reply,
+        }
+    }
+}
+
+/// The wish for one address in this mode.
+fn lacking(alloc: Global, address: Addr, mode: Mode) -> Halt
+    ensures { IsNeed address mode result }
+{
+    let mut asked = Vec::new(alloc);
+    match asked.push((address, mode)) {
+        Ok(()) => Halt::Need(asked),
+        Err(_) => Halt::Memory,
+    }
+}

@@ -1,0 +1,153 @@
+//! The exports that live.
+
+ghost use Rattle.std.specs.Prelude.{◌≡◌, IfOk, length, option_copied};
+ghost use Rattle.nfs_machine.specs.Exports.{export_value};
+
+use bytes::Bytes;
+use nfs_machine::{Export, Exports};
+use std::alloc::{AllocError, Global};
+use std::marker::Model;
+use std::sync::Arc;
+
+/// An export that lives. A clause sees it as the machine does: its number, its root's, and the export as it is given.
+#[derive(Debug, Drop)]
+pub struct LivingExport {
+    number: u32,
+    root: u64,
+    export: Export,
+}
+
+impl Model for LivingExport {
+    ghost use Rattle.nfs_machine.specs.Exports.{LivingExport as Living, export_value};
+
+    ghost Value = { Living };
+
+    ghost view = { λ e. record { number = e.number; root = e.root; value = export_value e.export } };
+}
+
+impl LivingExport {
+    ghost use Rattle.nfs_machine.specs.Exports.{admits};
+
+    /// Its number, from 1. No other export ever has it.
+    pub fn number(&self) -> u32
+        ensures { result ≡ self.now.number }
+    {
+        self.number
+    }
+
+    /// The number of its root, a directory.
+    pub fn root(&self) -> u64
+        ensures { result ≡ self.now.root }
+    {
+        self.root
+    }
+
+    /// Its path, as it was given.
+    pub fn path(&self) -> &[u8]
+        ensures { result.now ≡ self.now.path }
+    {
+        &self.export.path
+    }
+
+    /// Whether nothing in it may be changed.
+    pub fn is_read_only(&self) -> bool
+        ensures { result ≡ self.now.read_only }
+    {
+        self.export.read_only
+    }
+
+    /// Whether this host may use it: it is listed, or `*` is. It takes no memory.
+    pub fn admits(&self, host: &Bytes) -> bool
+        ensures { result ≡ admits self.now.value host.now }
+    {
+        self.export.admits(host)
+    }
+}
+
+/// The living exports in the order given, and the greatest number that an export ever had. Copies share one list. A
+/// list of exports that replaces another gives each path that stays the number and the root that it has, and each new
+/// path a number above the greatest, so that no handle ever names an object of another export.
+#[derive(Debug, Drop)]
+pub struct ExportTable {
+    list: Arc<Vec<LivingExport>>,
+    last: u32,
+}
+
+impl Model for ExportTable {
+    ghost use Rattle.std.specs.Arc.{arc_value};
+    ghost use Rattle.nfs_objects.specs.ExportTables.{ExportTableValue, IsExportTable};
+
+    ghost Value = { ExportTableValue };
+
+    ghost view = { λ t. record { exports = (arc_value t.list).items; last = t.last } };
+
+    ghost invariant = { λ t. IsExportTable (record { exports = (arc_value t.list).items; last = t.last }) };
+}
+
+impl Clone for ExportTable {
+    ghost is_clone = { λ table copy. copy ≡ table };
+
+    fn clone(&self) -> Result<ExportTable, AllocError> {
+        Ok(ExportTable {
+            list: Arc::try_clone(&self.list)?,
+            last: self.last,
+        })
+    }
+}
+
+impl ExportTable {
+    ghost use Rattle.nfs_machine.specs.Exports.{export_at, opening_exports};
+    ghost use Rattle.nfs_objects.specs.ExportTables.{IsExportTable};
+
+    /// The table that a server opens with: the exports are numbered from 1 in the order given, and their roots have the
+    /// same numbers.
+    ///
+    /// # Errors
+    ///
+    /// `AllocError` where the memory for the table was refused.
+    pub fn opening(alloc: Global, exports: &Exports) -> Result<ExportTable, AllocError>
+        ensures exports { IfOk result (λ t. t.exports ≡ opening_exports exports.now) }
+        ensures last { IfOk result (λ t. t.last ≡ length exports.now) }
+    {
+        let given = exports.list();
+        let mut list = Vec::with_capacity(alloc, given.len())?;
+        for (index, export) in given.iter().enumerate() {
+            let number = index as u32 + 1;
+            list.push(LivingExport {
+                number,
+                root: number as u64,
+                export: copy_export(export)?,
+            })?;
+        }
+        Ok(ExportTable {
+            list: Arc::new(alloc, list)?,
+            last: given.len() as u32,
+        })
+    }
+
+    /// The exports that live, in the order given.
+    pub fn list(&self) -> &[LivingExport]
+        ensures list { result.now ≡ self.now.exports }
+        ensures table { IsExportTable self.now }
+    {
+        &self.list
+    }
+
+    /// The export with this number; None where none lives.
+    pub fn get(&self, number: u32) -> Option<&LivingExport>
+        ensures { option_copied result ≡ export_at self.now.exports number }
+    {
+        self.list.iter().find(|export| export.number() == number)
+    }
+}
+
+/// A copy of an export, which shares the texts.
+fn copy_export(export: &Export) -> Result<Export, AllocError>
+    ensures { IfOk result (λ copy. export_value copy ≡ export_value export.now) }
+{
+    Ok(Export {
+        path: export.path.clone()?,
+        read_only: export.read_only,
+        hosts: export.hosts.clone()?,
+    })
+}

@@ -1,0 +1,363 @@
+//! The table of mounts (RFC 1813, appendix I, 5.2).
+
+ghost use Rattle.std.specs.Prelude.{◌≡◌, ◌==◌, ◌<◌, ◌≤◌, [], ◌∷◌, ◌++◌, false, IfOk};
+ghost use Rattle.std.specs.Prelude.{OnOk, drop, length, map};
+ghost use Rattle.std.specs.Arc.{arc_value};
+
+use bytes::Bytes;
+use indexmap::{Equivalent, IndexSet};
+use std::alloc::{AllocError, Global};
+use std::hash::{Hash, Hasher};
+use std::marker::Model;
+use std::sync::Arc;
+
+/// How many mounts are kept: the newest.
+pub const MOUNT_LIMIT: usize = 65536;
+
+/// How many mounts a piece of a table has at most. One more mount copies two pieces, and a look-up asks each.
+const PIECE_LIMIT: usize = 256;
+
+/// A host that mounted a path, as it sent it. A clause sees it as the machine does.
+#[derive(Debug, Drop, PartialEq, Eq, Hash)]
+pub struct Mount {
+    host: Bytes,
+    path: Bytes,
+}
+
+impl Model for Mount {
+    ghost use Rattle.side_wire.specs.declared.mount.lists.MountBody.{MountBody};
+    ghost use Rattle.nfs_objects.specs.MountTables.{mounted};
+
+    ghost Value = { MountBody };
+
+    ghost view = { λ m. mounted m.host m.path };
+
+    ghost inverse = { λ m. record { host = m.hostname; path = m.directory } };
+}
+
+impl Clone for Mount {
+    ghost is_clone = { λ mount copy. copy ≡ mount };
+
+    fn clone(&self) -> Result<Mount, AllocError> {
+        Ok(Mount {
+            host: self.host.clone()?,
+            path: self.path.clone()?,
+        })
+    }
+}
+
+impl Mount {
+    ghost use Rattle.nfs_objects.specs.MountTables.{mounted};
+
+    /// The host's mount of the path. It copies both, so that it keeps no record alive that they were cut from.
+    fn of(alloc: Global, host: &[u8], path: &[u8]) -> Result<Mount, AllocError>
+        ensures { IfOk result (λ mount. mount ≡ mounted host.now path.now) }
+    {
+        Ok(Mount {
+            host: Bytes::copy_from_slice(alloc, host)?,
+            path: Bytes::copy_from_slice(alloc, path)?,
+        })
+    }
+
+    /// The host, as it sent its name.
+    pub fn host(&self) -> &Bytes
+        ensures { result.now ≡ self.now.hostname }
+    {
+        &self.host
+    }
+
+    /// The path, as the host sent it.
+    pub fn path(&self) -> &Bytes
+        ensures { result.now ≡ self.now.directory }
+    {
+        &self.path
+    }
+}
+
+/// A mount to look up. It is hashed and compared as a `Mount` is.
+#[derive(Clone, Copy, PartialEq, Eq, Hash)]
+struct Sought<'a> {
+    host: &'a [u8],
+    path: &'a [u8],
+}
+
+impl<'a> Equivalent<Mount> for Sought<'a> {
+    ghost use Rattle.std.specs.Hash as fed;
+    ghost use Rattle.nfs_machine.specs.MountSteps.{is_of};
+    ghost use Rattle.nfs_objects.specs.MountTables.{both_alike, is_of_alike};
+
+    ghost equivalent = { λ sought mount. is_of sought.host.now sought.path.now mount };
+
+    ghost respects_hash = { λ sought mount same.
+        both_alike (λ host path. fed.slice fed.u8 host ++ fed.slice fed.u8 path)
+        sought.host.now sought.path.now mount same };
+
+    ghost respects_eq = { λ sought x y same. is_of_alike sought.host.now sought.path.now x y same };
+
+    fn equivalent(&self, key: &Mount) -> bool {
+        key.host.as_slice() == self.host && key.path.as_slice() == self.path
+    }
+}
+
+/// A part of a table: mounts in order of adding.
+#[derive(Debug, Drop)]
+struct Piece {
+    mounts: IndexSet<Mount>,
+}
+
+impl Model for Piece {
+    ghost use Rattle.std.specs.Prelude.{List};
+    ghost use Rattle.side_wire.specs.declared.mount.lists.MountBody.{MountBody};
+
+    ghost Value = { List MountBody };
+
+    ghost view = { λ p. p.mounts.keys };
+}
+
+impl Piece {
+    ghost use Rattle.nfs_machine.specs.MountSteps.{is_mounted};
+    ghost use Rattle.nfs_objects.specs.MountTables.{AreFilled, joined, mounted};
+
+    fn new(alloc: Global) -> Piece
+        ensures { result ≡ [] }
+    {
+        Piece {
+            mounts: IndexSet::new(alloc),
+        }
+    }
+
+    fn len(&self) -> usize
+        ensures { result ≡ length self.now }
+    {
+        self.mounts.len()
+    }
+
+    fn as_slice(&self) -> &[Mount]
+        ensures { result.now ≡ self.now }
+    {
+        self.mounts.as_slice()
+    }
+
+    fn is_listed(&self, host: &[u8], path: &[u8]) -> bool
+        ensures { result ≡ is_mounted self.now (mounted host.now path.now) }
+    {
+        self.mounts.contains(Sought { host, path })
+    }
+
+    /// A piece with this mount last.
+    fn with_mount(&self, mount: Mount) -> Result<Piece, AllocError>
+        requires { is_mounted self.now mount ≡ false }
+        ensures { IfOk result (λ piece. piece ≡ self.now ++ mount ∷ []) }
+    {
+        let mut mounts = self.mounts.clone()?;
+        mounts.insert(mount)?;
+        Ok(Piece { mounts })
+    }
+
+    /// A piece without the first mount, or none where no mount is left.
+    #[tactic(auto, using(crate::proofs::MountTables::rest_none, crate::proofs::MountTables::rest_one))]
+    fn rest(&self, alloc: Global) -> Result<Vec<Arc<Piece>>, AllocError>
+        ensures joined { IfOk result (λ pieces. joined (map arc_value pieces.items) ≡ drop 1 self.now) }
+        ensures filled { IfOk result (λ pieces. AreFilled (map arc_value pieces.items)) }
+    {
+        let mut pieces = Vec::new(alloc);
+        if self.len() < 2 {
+            return Ok(pieces);
+        }
+        pieces.push(Arc::new(alloc, self.without_first()?)?)?;
+        Ok(pieces)
+    }
+
+    fn without_first(&self) -> Result<Piece, AllocError>
+        ensures { IfOk result (λ piece. piece ≡ drop 1 self.now) }
+    {
+        let mut mounts = self.mounts.clone()?;
+        mounts.shift_remove_index(0);
+        Ok(Piece { mounts })
+    }
+}
+
+/// The mounts in order of adding, at most `MOUNT_LIMIT`; each is found by its hash. A table is never changed: one more
+/// mount makes another one, which shares with it all but some hundreds.
+#[derive(Debug, Drop)]
+pub struct MountTable {
+    pieces: Vec<Arc<Piece>>,
+    len: usize,
+}
+
+impl Model for MountTable {
+    ghost use Rattle.std.specs.Prelude.{List, map};
+    ghost use Rattle.std.specs.Arc.{arc_value};
+    ghost use Rattle.side_wire.specs.declared.mount.lists.MountBody.{MountBody};
+    ghost use Rattle.nfs_objects.specs.MountTables.{AreInPieces, joined};
+
+    ghost Value = { List MountBody };
+
+    ghost view = { λ t. joined (map arc_value t.pieces.items) };
+
+    ghost invariant = { λ t. AreInPieces (map arc_value t.pieces.items) t.len };
+}
+
+impl MountTable {
+    ghost use Rattle.nfs_machine.specs.MountSteps.{is_mounted, newest};
+    ghost use Rattle.nfs_objects.specs.MountTables.{AreFilled, joined, mounted};
+
+    /// A table without mounts.
+    pub fn new(alloc: Global) -> MountTable
+        ensures { result ≡ [] }
+    {
+        MountTable {
+            pieces: Vec::new(alloc),
+            len: 0,
+        }
+    }
+
+    /// How many mounts there are.
+    pub fn len(&self) -> usize
+        ensures len { result ≡ length self.now }
+        ensures bounded { length self.now ≤ MOUNT_LIMIT }
+    {
+        self.len
+    }
+
+    /// Whether there are no mounts.
+    pub fn is_empty(&self) -> bool
+        ensures { result ≡ (length self.now == 0) }
+    {
+        self.len() == 0
+    }
+
+    /// The mounts in order of adding.
+    pub fn iter(&self) -> Mounts<'_>
+        ensures { result ≡ self.now }
+    {
+        Mounts {
+            front: &[],
+            pieces: &self.pieces,
+        }
+    }
+
+    /// Whether the host has mounted the path. It takes no memory.
+    pub fn is_listed(&self, host: &[u8], path: &[u8]) -> bool
+        ensures { result ≡ is_mounted self.now (mounted host.now path.now) }
+    {
+        self.pieces.iter().any(|piece| piece.is_listed(host, path))
+    }
+
+    /// A table with this mount last; beyond `MOUNT_LIMIT` mounts the first goes. The table itself stays as it is. The
+    /// host and the path are copied, so that the table keeps no record alive that they were cut from.
+    ///
+    /// # Errors
+    ///
+    /// `AllocError` where the memory for the table was refused.
+    pub fn with_mount(
+        &self,
+        alloc: Global,
+        host: &[u8],
+        path: &[u8],
+    ) -> Result<MountTable, AllocError>
+        requires { is_mounted self.now (mounted host.now path.now) ≡ false }
+        ensures { IfOk result (λ table. table ≡ newest (self.now ++ mounted host.now path.now ∷ [])) }
+    {
+        let mount = Mount::of(alloc, host, path)?;
+        if self.len() < MOUNT_LIMIT {
+            self.with_last(alloc, mount)
+        } else {
+            self.without_first(alloc)?.with_last(alloc, mount)
+        }
+    }
+
+    /// A table with this mount last.
+    fn with_last(&self, alloc: Global, mount: Mount) -> Result<MountTable, AllocError>
+        requires room { length self.now < MOUNT_LIMIT }
+        requires absent { is_mounted self.now mount ≡ false }
+        ensures { IfOk result (λ table. table ≡ self.now ++ mount ∷ []) }
+    {
+        let (front, last) = self.last_with(alloc, mount)?;
+        let mut pieces = Vec::with_capacity(alloc, front.len() + 1)?;
+        share_pieces(&mut pieces, front)?;
+        pieces.push(Arc::new(alloc, last)?)?;
+        Ok(MountTable {
+            pieces,
+            len: self.len + 1,
+        })
+    }
+
+    /// The pieces that stay, and behind them one that ends with this mount: the last piece where it has room.
+    fn last_with(&self, alloc: Global, mount: Mount) -> Result<(&[Arc<Piece>], Piece), AllocError>
+        requires { is_mounted self.now mount ≡ false }
+        ensures joined { IfOk result (λ p. joined (map arc_value p.0.now) ++ p.1 ≡ self.now ++ mount ∷ []) }
+        ensures filled { IfOk result (λ p. AreFilled (map arc_value p.0.now) × (0 < length p.1)) }
+    {
+        match self.pieces.split_last() {
+            Some((last, front)) if last.len() < PIECE_LIMIT => Ok((front, last.with_mount(mount)?)),
+            _ => Ok((&self.pieces, Piece::new(alloc).with_mount(mount)?)),
+        }
+    }
+
+    /// A table without the first mount.
+    fn without_first(&self, alloc: Global) -> Result<MountTable, AllocError>
+        ensures { IfOk result (λ table. table ≡ drop 1 self.now) }
+    {
+        let Some((first, others)) = self.pieces.split_first() else {
+            return Ok(MountTable::new(alloc));
+        };
+        let mut pieces = first.rest(alloc)?;
+        share_pieces(&mut pieces, others)?;
+        Ok(MountTable {
+            pieces,
+            len: self.len - 1,
+        })
+    }
+}
+
+/// Adds one more owner of each of these pieces.
+fn share_pieces(owners: &mut Vec<Arc<Piece>>, pieces: &[Arc<Piece>]) -> Result<(), AllocError>
+    ensures { OnOk result
+        (map arc_value owners.new.items ≡ map arc_value owners.old.items ++ map arc_value pieces.now) }
+{
+    for piece in pieces {
+        owners.push(Arc::try_clone(piece)?)?;
+    }
+    Ok(())
+}
+
+/// Lends the mounts of a table, in order of adding.
+#[derive(Drop)]
+pub struct Mounts<'a> {
+    front: &'a [Mount],
+    pieces: &'a [Arc<Piece>],
+}
+
+impl<'a> Model for Mounts<'a> {
+    ghost use Rattle.std.specs.Prelude.{List, ◌++◌, map};
+    ghost use Rattle.std.specs.Arc.{arc_value};
+    ghost use Rattle.side_wire.specs.declared.mount.lists.MountBody.{MountBody};
+    ghost use Rattle.nfs_objects.specs.MountTables.{joined};
+
+    ghost Value = { List MountBody };
+
+    ghost view = { λ m. m.front.now ++ joined (map arc_value m.pieces.now) };
+}
+
+impl<'a> Iterator for Mounts<'a> {
+    ghost use Rattle.std.specs.Iterator.{YieldsFirstRef, item_count};
+
+    type Item = &'a Mount;
+
+    ghost next_gives = { YieldsFirstRef (λ mounts. mounts) };
+
+    ghost remaining = { item_count (λ mounts. mounts) };
+
+    fn next(&mut self) -> Option<&'a Mount> {
+        'pieces: loop {
+            if let Some((mount, rest)) = self.front.split_first() {
+                self.front = rest;
+                return Some(mount);
+            }
+            let (piece, rest) = self.pieces.split_first()?;
+            self.front = piece.as_slice();
+            self.pieces = rest;
+        }
+    }
+}
