@@ -1,3 +1,7 @@
-pub mod Attributed
-pub mod Meant
-pub mod Passed
+pub mod Ending
+pub mod Halting
+pub mod Keeping
+pub mod Leading
+pub mod Naming
+pub mod Putting
+pub mod Standing

@@ -1,7 +1,4 @@
-pub mod Data
-pub mod Found
-pub mod Kinds
-pub mod Lent
-pub mod Making
+pub mod Known
+pub mod Makes
 pub mod Rights
-pub mod Shown
+pub mod Stops

@@ -1,40 +1,73 @@
 //! The checks that procedures share; each tells the status of a call that fails it (RFC 1813, 2.6).
 
-ghost use Rattle.std.specs.Prelude.{◌≡◌};
-ghost use Rattle.nfs_machine.specs.Checks.{bytes_in, changeable};
-ghost use Rattle.nfs_machine.specs.Exports.{opening_exports};
-ghost use Rattle.nfs_objects.specs.Stands.{content_of, living_of_inode};
-ghost use Rattle.nfs_inodes.specs.Lent.{lent};
+ghost use Rattle.std.specs.Prelude.{◌≡◌, IfOk};
+ghost use Rattle.nfs_machine.specs.Checks.{changeable, permitted};
+ghost use Rattle.nfs_machine.specs.State.{Socket};
+ghost use Rattle.nfs_inodes.specs.Known.{ChecksDirectory, ChecksRegular, shell};
+ghost use Rattle.nfs_inodes.specs.Rights.{right_of};
 
-use bytes::Bytes;
+use crate::found::{Known, export_at};
+use crate::kinds::{Directory, File};
+use crate::permission::{Right, may};
 use nfs_machine::Ctx;
-use nfs_objects::{Content, Inode};
-use nfs_wire::NfsStatus;
+use nfs_objects::LivingExport;
+use nfs_wire::{FileType, NfsStatus};
 
-/// The bytes of a regular file.
+/// The object is a directory.
+///
+/// # Errors
+///
+/// `NotDirectory` where it is none.
+pub fn directory(known: &Known) -> Result<Directory, NfsStatus>
+    ensures known { IfOk result (λ directory. directory.known ≡ known.now) }
+    ensures checks { ChecksDirectory known.now result }
+{
+    match known.attributes.kind {
+        FileType::Directory => Ok(Directory { known: *known }),
+        _ => Err(NfsStatus::NotDirectory),
+    }
+}
+
+/// The object is a regular file.
 ///
 /// # Errors
 ///
 /// `Invalid` where it is none.
-pub fn bytes_in(content: &Content) -> Result<&Bytes, NfsStatus>
-    ensures { lent result ≡ bytes_in (content_of content.now) }
+pub fn regular(known: &Known) -> Result<File, NfsStatus>
+    ensures known { IfOk result (λ file. file.known ≡ known.now) }
+    ensures checks { ChecksRegular known.now result }
 {
-    match content {
-        Content::Regular(bytes) => Ok(bytes),
+    match known.attributes.kind {
+        FileType::Regular => Ok(File { known: *known }),
         _ => Err(NfsStatus::Invalid),
     }
 }
 
-/// The inode may be changed: its export is there and not read only.
+/// The object may be changed: its export is there and not read only.
 ///
 /// # Errors
 ///
 /// `ReadOnly` where it may not.
-pub fn changeable(ctx: &Ctx, inode: &Inode) -> Result<(), NfsStatus>
-    ensures { result ≡ changeable (opening_exports ctx.now.exports) (living_of_inode inode.now) }
+pub fn changeable(exports: &[LivingExport], known: &Known) -> Result<(), NfsStatus>
+    ensures { result ≡ changeable exports.now (shell known.now Socket) }
 {
-    match ctx.exports.get(inode.export) {
-        Some(export) if !export.read_only => Ok(()),
+    match export_at(exports, known.export) {
+        Some(export) if !export.is_read_only() => Ok(()),
         _ => Err(NfsStatus::ReadOnly),
+    }
+}
+
+/// Asks for a right.
+///
+/// # Errors
+///
+/// `Access` where the caller has it not.
+pub fn permitted(ctx: &Ctx, known: &Known, right: Right) -> Result<(), NfsStatus>
+    ensures { result ≡ permitted ctx.now (shell known.now Socket) (right_of right) }
+{
+    if may(&ctx.ids, known, right) {
+        Ok(())
+    } else {
+        Err(NfsStatus::Access)
     }
 }

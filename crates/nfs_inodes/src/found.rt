@@ -1,69 +1,244 @@
-//! From a handle to its inode (RFC 1813, 2.6: NFS3ERR_BADHANDLE, NFS3ERR_STALE), and back.
+//! What lives at a number, and what a handle names (RFC 1813, 2.6: NFS3ERR_BADHANDLE, NFS3ERR_STALE).
 
-ghost use Rattle.std.specs.Prelude.{◌≡◌, IfOk};
-ghost use Rattle.nfs_machine.specs.Shown.{handle_at};
-ghost use Rattle.nfs_objects.specs.Stands.{living_of_inode};
-ghost use Rattle.nfs_inodes.specs.Found.{found_at, found_value, is_inode_of};
+ghost use Rattle.std.specs.Prelude.{◌≡◌, ◌∷◌, [], ◌==◌, ◌&&◌, false, IfErr, IfOk, MatchResult};
+ghost use Rattle.std.specs.Prelude.{None, Some};
+ghost use Rattle.std.specs.Prelude.{option_copied};
+ghost use Rattle.nfs_machine.specs.Bytes.{same_bytes};
+ghost use Rattle.nfs_machine.specs.Exports.{export_admits, export_at};
+ghost use Rattle.nfs_machine.specs.Shown.{attributes_at, handle_at};
+ghost use Rattle.nfs_machine.specs.State.{Socket};
+ghost use Rattle.nfs_objects.specs.Asks.{Lives};
+ghost use Rattle.nfs_objects.specs.Attempt.{HaltsFirst, unless_seen};
+ghost use Rattle.nfs_objects.specs.Knows.{Knows};
+ghost use Rattle.nfs_inodes.specs.Known.{HasInode, IsKnownOf, IsObject, Means, is_handle_of, shell};
+ghost use Rattle.nfs_inodes.specs.Known.{weak_of};
+ghost use Rattle.nfs_inodes.specs.Stops.{ReadsAt, StopsAt, StopsBringing, wanted_first};
 
+use crate::attributes::{device, file_type, size, used};
 use bytes::Bytes;
 use nfs_machine::{Ctx, Handle};
-use nfs_objects::{Addr, Inode, View, living};
+use nfs_objects::object::{export_list, living};
+use nfs_objects::{Addr, Draft, Halt, Inode, LivingExport};
+use nfs_wire::{Attributes, NfsStatus, Verifier, Wcc, WeakAttributes};
 use std::alloc::{AllocError, Global};
 
-/// What a handle names, as far as the view shows.
+/// A living object, but for what it contains.
 #[derive(Clone, Copy, Debug)]
-pub enum Found<'a> {
-    /// The handle is none of this server's (RFC 1813, 2.6: NFS3ERR_BADHANDLE).
-    BadHandle,
-    /// The handle names nothing for this caller (RFC 1813, 2.6: NFS3ERR_STALE).
-    Stale,
-    /// The inode that the handle names, with its number.
-    Inode(u64, &'a Inode),
-    /// What stands at this address decides, and the view has not shown it.
-    Unread(Addr),
+pub struct Known {
+    pub number: u64,
+    pub export: u32,
+    pub generation: u64,
+    pub attributes: Attributes,
+    /// Of the exclusive CREATE that made it (RFC 1813, 3.3.8).
+    pub verifier: Option<Verifier>,
 }
 
-/// What a handle names for a caller, as far as the view shows. The handle's form is looked at first, then its start
-/// number and whether its export admits the host, and only then the object.
-pub fn resolve<'a>(ctx: &Ctx, view: &'a View, handle: &[u8]) -> Found<'a>
-    ensures { found_value result ≡ found_at ctx.now view.now.entries handle.now }
+/// The living exports.
+///
+/// # Errors
+///
+/// `Need` of their table, and `Memory`.
+pub fn exports<'d>(draft: &'d Draft<'_>) -> Result<&'d [LivingExport], Halt>
+    ensures exports { MatchResult result
+        (λ list. Knows draft.now (λ k. k.state.exports ≡ list.now))
+        (StopsAt draft.now Addr.Exports) }
+    ensures reads { ReadsAt draft.now Addr.Exports result }
+    ensures first { draft.now.writes ≡ [] →
+        HaltsFirst draft.now.modes (unless_seen draft.now.view Addr.Exports) result }
 {
+    Ok(export_list(draft.find(Addr::Exports)?))
+}
+
+/// The living export with this number.
+pub(crate) fn export_at(exports: &[LivingExport], number: u32) -> Option<&LivingExport>
+    ensures { option_copied result ≡ export_at exports.now number }
+{
+    exports.iter().find(|export| export.number() == number)
+}
+
+/// What lives at a number.
+///
+/// # Errors
+///
+/// `Need` of the number's address, and `Memory`.
+pub fn object(draft: &Draft<'_>, number: u64) -> Result<Option<Known>, Halt>
+    ensures object { MatchResult result
+        (λ x. Knows draft.now (λ k. IsObject k.state number x))
+        (StopsAt draft.now (Addr.Inode number)) }
+    ensures reads { ReadsAt draft.now (Addr.Inode number) result }
+{
+    match inode(draft, number)? {
+        Some(inode) => Ok(Some(known_of(number, inode))),
+        None => Ok(None),
+    }
+}
+
+/// The inode at a number.
+pub(crate) fn inode<'d>(draft: &'d Draft<'_>, number: u64) -> Result<Option<&'d Inode>, Halt>
+    ensures inode { MatchResult result
+        (λ inode. HasInode draft.now number (option_copied inode))
+        (StopsAt draft.now (Addr.Inode number)) }
+    ensures reads { ReadsAt draft.now (Addr.Inode number) result }
+{
+    Ok(living(draft.find(Addr::Inode(number))?))
+}
+
+/// The attributes of what lives at a number.
+///
+/// # Errors
+///
+/// `Need` of the number's address, and `Memory`.
+pub fn shown(draft: &Draft<'_>, number: u64) -> Result<Option<Attributes>, Halt>
+    ensures { MatchResult result
+        (λ shown. Knows draft.now (λ k. attributes_at k.state number ≡ shown))
+        (StopsAt draft.now (Addr.Inode number)) }
+{
+    match object(draft, number)? {
+        Some(known) => Ok(Some(known.attributes)),
+        None => Ok(None),
+    }
+}
+
+/// An object before a call, and what lives at its number in the draft (RFC 1813, 2.5: wcc_data).
+///
+/// # Errors
+///
+/// `Need` of the number's address, and `Memory`.
+pub fn wcc(draft: &Draft<'_>, before: &Known) -> Result<Wcc, Halt>
+    ensures { MatchResult result
+        (λ wcc. Knows draft.now (λ k. wcc ≡ record
+        { before = Some (weak_of before.now); after = attributes_at k.state before.now.number }))
+        (StopsAt draft.now (Addr.Inode before.now.number)) }
+{
+    let after = shown(draft, before.number)?;
+    Ok(Wcc {
+        before: Some(weak(before)),
+        after,
+    })
+}
+
+/// What a handle names for the caller, or the status of a call that brings it. The exports are read first, and then the
+/// object.
+///
+/// # Errors
+///
+/// `Need` of the exports, or of the address that the handle names; and `Memory`.
+pub fn named(draft: &Draft<'_>, handle: &[u8]) -> Result<Result<Known, NfsStatus>, Halt>
+    requires { draft.now.writes ≡ [] }
+    ensures means { IfOk result (λ found. Knows draft.now (Means draft.now.ctx handle.now found)) }
+    ensures lives { IfOk result (λ found. IfOk found (λ x. Lives draft.now.view (Addr.Inode x.number))) }
+    ensures stops { IfErr result (StopsBringing draft.now handle.now) }
+    ensures first { HaltsFirst draft.now.modes (wanted_first draft.now.view (handle.now ∷ [])) result }
+{
+    let exports = exports(draft)?;
     let Some(handle) = Handle::read(handle) else {
-        return Found::BadHandle;
+        return Ok(Err(NfsStatus::BadHandle));
     };
-    if handle.start != ctx.start || !ctx.exports.admits(handle.export, &ctx.host) {
-        return Found::Stale;
-    }
-    let address = Addr::Inode(handle.fileid);
-    let Some(known) = view.find(address) else {
-        return Found::Unread(address);
+    let Some(known) = object(draft, handle.fileid)? else {
+        return Ok(Err(NfsStatus::Stale));
     };
-    match living(known) {
-        Some(inode) if is_named(inode, &handle) => Found::Inode(handle.fileid, inode),
-        _ => Found::Stale,
+    if is_target(draft.ctx(), exports, &handle, &known) {
+        Ok(Ok(known))
+    } else {
+        Ok(Err(NfsStatus::Stale))
     }
 }
 
-/// Whether the inode at a handle's number is the handle's.
-fn is_named(inode: &Inode, handle: &Handle) -> bool
-    ensures { result ≡ is_inode_of handle.now inode.now }
+/// Whether the caller may use the handle, and the object at its number is the handle's.
+fn is_target(ctx: &Ctx, exports: &[LivingExport], handle: &Handle, known: &Known) -> bool
+    ensures { result ≡ (((handle.now.start == ctx.now.start)
+        && export_admits (export_at exports.now handle.now.export) ctx.now.host)
+        && is_handle_of handle.now known.now) }
 {
-    inode.generation == handle.generation && inode.export == handle.export
+    is_admitted(ctx, exports, handle) && is_handle_of(handle, known)
 }
 
-/// The bytes of the handle of the inode with this number.
+/// Whether a handle is of this start of the server, and of an export that admits the caller.
+fn is_admitted(ctx: &Ctx, exports: &[LivingExport], handle: &Handle) -> bool
+    ensures { result ≡ ((handle.now.start == ctx.now.start)
+        && export_admits (export_at exports.now handle.now.export) ctx.now.host) }
+{
+    handle.start == ctx.start && admits(exports, handle.export, &ctx.host)
+}
+
+/// Whether there is such an export, and it admits the host.
+fn admits(exports: &[LivingExport], number: u32, host: &Bytes) -> bool
+    ensures { result ≡ export_admits (export_at exports.now number) host.now }
+{
+    match export_at(exports, number) {
+        Some(export) => export.admits(host),
+        None => false,
+    }
+}
+
+/// Whether the object at a handle's number is the handle's.
+fn is_handle_of(handle: &Handle, known: &Known) -> bool
+    ensures { result ≡ is_handle_of handle.now known.now }
+{
+    known.generation == handle.generation && known.export == handle.export
+}
+
+fn known_of(number: u64, inode: &Inode) -> Known
+    ensures { IsKnownOf number inode.now result }
+{
+    Known {
+        number,
+        export: inode.export,
+        generation: inode.generation,
+        attributes: Attributes {
+            kind: file_type(&inode.content),
+            mode: inode.mode,
+            links: inode.links,
+            uid: inode.uid,
+            gid: inode.gid,
+            size: size(&inode.content),
+            used: used(&inode.content),
+            device: device(&inode.content),
+            fsid: u64::from(inode.export),
+            fileid: number,
+            accessed: inode.accessed,
+            modified: inode.modified,
+            changed: inode.changed,
+        },
+        verifier: inode.verifier,
+    }
+}
+
+/// The bytes of the handle of an object.
 ///
 /// # Errors
 ///
 /// `AllocError` where the memory for the bytes was refused.
-pub fn handle(alloc: Global, ctx: &Ctx, number: u64, inode: &Inode) -> Result<Bytes, AllocError>
-    ensures { IfOk result (λ bytes. bytes ≡ handle_at ctx.now number (living_of_inode inode.now)) }
+pub fn handle(alloc: Global, ctx: &Ctx, known: &Known) -> Result<Bytes, AllocError>
+    ensures { IfOk result (λ bytes. bytes ≡ handle_at ctx.now known.now.number (shell known.now Socket)) }
 {
     let handle = Handle {
-        export: inode.export,
+        export: known.export,
         start: ctx.start,
-        fileid: number,
-        generation: inode.generation,
+        fileid: known.number,
+        generation: known.generation,
     };
     Bytes::copy_from_slice(alloc, &handle.bytes())
+}
+
+/// What a caller compares to see whether its cache is still true (RFC 1813, 2.5: wcc_attr).
+fn weak(known: &Known) -> WeakAttributes
+    ensures { result ≡ weak_of known.now }
+{
+    WeakAttributes {
+        size: known.attributes.size,
+        modified: known.attributes.modified,
+        changed: known.attributes.changed,
+    }
+}
+
+/// Whether a file was made by an exclusive CREATE with this verifier.
+pub fn is_verifier(known: &Known, given: &Verifier) -> bool
+    ensures { result ≡ elim (shell known.now Socket).verifier
+        [ None ↦ false | Some kept ↦ same_bytes kept given.now.bytes ] }
+{
+    match &known.verifier {
+        Some(kept) => kept.bytes == given.bytes,
+        None => false,
+    }
 }

@@ -1,22 +1,20 @@
-//! The kind of object that a procedure is for (RFC 1813, 2.6: NFS3ERR_NOTDIR).
+//! Objects of a kind, as a check told.
 
-ghost use Rattle.std.specs.Prelude.{◌≡◌, Ok, Err, MatchResult};
-ghost use Rattle.nfs_inodes.specs.Kinds.{directory_in};
+ghost use Rattle.std.specs.Prelude.{◌≡◌};
+ghost use Rattle.nfs_wire.specs.declared.attributes.FileType.TheVariants as types;
 
-use nfs_objects::{Content, Directory, Inode};
-use nfs_wire::NfsStatus;
+use crate::found::Known;
 
-/// The directory that an inode is.
-///
-/// # Errors
-///
-/// `NotDirectory` where it is none.
-pub fn directory(inode: &Inode) -> Result<&Directory, NfsStatus>
-    ensures { MatchResult result (λ directory. directory_in inode.now.content ≡ Ok directory.now)
-        (λ status. directory_in inode.now.content ≡ Err status) }
-{
-    match &inode.content {
-        Content::Directory(directory) => Ok(directory),
-        _ => Err(NfsStatus::NotDirectory),
-    }
+/// A living directory.
+#[derive(Clone, Copy, Debug)]
+pub struct Directory {
+    pub known: Known,
+    pub ghost kind: { known.attributes.kind ≡ types.Directory },
+}
+
+/// A living regular file.
+#[derive(Clone, Copy, Debug)]
+pub struct File {
+    pub known: Known,
+    pub ghost kind: { known.attributes.kind ≡ types.Regular },
 }

@@ -1,34 +1,31 @@
-//! Inodes as the procedures see them: from a handle to its inode, what is shown of it, who may do what with it,
-//! names, and what a file's bytes become.
+//! Inodes and directories as the procedures see them: from a handle to its object, what is known of it, who may do what
+//! with it, names, bytes, and changes of objects.
 //!
-//! `resolve` tells what a handle names as far as a view shows (`found_at`); the lemmas of `proofs/Meant` tie that to
-//! what it names in every state whose store the view fits. `attributes` are the machine's of the inode's object, with
-//! the count of links that the inode keeps; `may` and the checks that procedures share (`directory`, `name_checked`,
-//! `new_name_checked`, `permitted`, `changeable`) answer as the machine does, and `read`, `write`, `new_file` and
-//! `create_over` come to what the machine's READ, WRITE and CREATE make of the object. It stands on `nfs_objects` for
-//! views and inodes.
+//! A reader's contract is a fact of the state in every store that the draft's view fits; a maker's is what it does to
+//! what the store stands for. Readers and makers halt where something has to be read first. What a maker is for may not
+//! be there: then it changes nothing, as its contract says. No inode is shown above this crate.
 #![tactic(auto)]
 
+mod attributes;
 pub mod checks;
-pub mod content;
+mod content;
 pub mod data;
+pub mod entries;
 pub mod found;
 pub mod kinds;
+pub mod makers;
 pub mod making;
 pub mod names;
 pub mod permission;
-pub mod shown;
 pub mod times;
 
-pub use checks::{bytes_in, changeable};
-pub use content::{resized, with_content, written};
-pub use data::{SIZE_LIMIT, TRANSFER_LIMIT, read, verifier, write};
-pub use found::{Found, handle, resolve};
-pub use kinds::directory;
-pub use making::{
-    attributes_given, create_over, given_attributes, new_file, new_object, with_name,
-};
-pub use names::{MAX_NAME, leads_to, name_checked, new_name_checked};
-pub use permission::{Right, may, permitted};
-pub use shown::{attributes, wcc, weak};
+pub use checks::{changeable, directory, permitted, regular};
+pub use data::{SIZE_LIMIT, TRANSFER_LIMIT, read, verifier};
+pub use entries::{entry, leads_to, next_cookie};
+pub use found::{Known, exports, handle, is_verifier, named, object, shown, wcc};
+pub use kinds::{Directory, File};
+pub use makers::{add_entry, lose_link, make_file, resize, take_entry, write};
+pub use making::{attributes_given, given_attributes};
+pub use names::{MAX_NAME, name_checked, plain_name_checked};
+pub use permission::{Right, may};
 pub use times::{is_time, now, time_set, touch};

@@ -1,24 +1,16 @@
-//! New objects and their names, and CREATE over what is there (RFC 1813, 3.3.8).
+//! What new objects are given (RFC 1813, 3.3.8).
 
-ghost use Rattle.std.specs.Prelude.{◌≡◌, ◌==◌, ◌||◌, ◌&&◌, ◌+◌, ◌<◌, ◌^◌, false, IfOk};
-ghost use Rattle.std.specs.Prelude.{IfSome, None, Some, find, replicate, unwrap_or};
-ghost use Rattle.nfs_machine.specs.Bytes.{same_bytes};
-ghost use Rattle.nfs_machine.specs.Checks.{bytes_in};
+ghost use Rattle.std.specs.Prelude.{◌≡◌, ◌==◌, ◌||◌, ◌&&◌, IfOk, None, replicate, unwrap_or};
 ghost use Rattle.nfs_machine.specs.Permission.{is_member};
-ghost use Rattle.nfs_machine.specs.NameSteps.{create_over, given_attributes, new_object, wanted_file};
-ghost use Rattle.nfs_machine.specs.Times.{is_time, time_set, time_of, touch};
-ghost use Rattle.nfs_objects.specs.Endings.{KeepsPlace, with_name};
-ghost use Rattle.nfs_objects.specs.Stands.{content_of, living_of_inode, verifier_bytes};
-ghost use Rattle.nfs_inodes.specs.Making.{file_resized, seen_after};
+ghost use Rattle.nfs_machine.specs.NameSteps.{given_attributes, new_object, wanted_file};
+ghost use Rattle.nfs_objects.specs.Stands.{content_of, living_of_inode, parent_in, verifier_of};
 
-use crate::checks::bytes_in;
-use crate::content::{resized, with_content};
 use crate::data::SIZE_LIMIT;
-use crate::permission::{Right, is_member, permitted};
+use crate::permission::is_member;
 use crate::times::{is_time, now, time_set};
 use bytes::Bytes;
 use nfs_machine::Ctx;
-use nfs_objects::{Content, Directory, Inode, Leaf};
+use nfs_objects::{Content, Inode};
 use nfs_rpc::Ids;
 use nfs_wire::{CreateHow, NfsStatus, SetAttributes, SetTime, Verifier};
 use std::alloc::{AllocError, Global};
@@ -66,7 +58,7 @@ fn may_give(ids: &Ids, given: &SetAttributes) -> bool
 /// # Errors
 ///
 /// `AllocError` where the memory for the content was refused.
-pub fn new_file(
+pub(crate) fn new_file(
     alloc: Global,
     ctx: &Ctx,
     how: &CreateHow,
@@ -76,6 +68,7 @@ pub fn new_file(
     ensures living { IfOk result
         (λ file. living_of_inode file ≡ new_object ctx.now export generation (wanted_file how.now)) }
     ensures links { IfOk result (λ file. file.links ≡ 1) }
+    ensures parent { IfOk result (λ file. parent_in file.content ≡ 0) }
 {
     let given = attributes_given(how);
     let content = zeros(alloc, given.size.unwrap_or(0) as usize)?;
@@ -93,7 +86,7 @@ pub fn new_file(
 
 /// A new object with one link and no verifier: what is given, and else the caller's ids, the mode of its kind and the
 /// call's moment.
-pub fn new_object(
+fn new_object(
     ctx: &Ctx,
     export: u32,
     generation: u64,
@@ -140,7 +133,7 @@ pub fn attributes_given(how: &CreateHow) -> SetAttributes
 
 /// The verifier that a new file keeps.
 fn verifier_given(how: &CreateHow) -> Option<Verifier>
-    ensures { verifier_bytes result ≡ (wanted_file how.now).verifier }
+    ensures { verifier_of result ≡ (wanted_file how.now).verifier }
 {
     match how {
         CreateHow::Unchecked(_) | CreateHow::Guarded(_) => None,
@@ -154,105 +147,4 @@ fn zeros(alloc: Global, size: usize) -> Result<Bytes, AllocError>
     let mut zeros = Vec::with_capacity(alloc, size)?;
     zeros.resize(size, 0)?;
     Ok(Bytes::from_vec(zeros)?)
-}
-
-/// The inode of a directory with one more name, which leads to this number. Its cookie is one above all that the
-/// directory ever used (RFC 1813, 3.3.16).
-///
-/// # Errors
-///
-/// `AllocError` where the memory for the names was refused.
-pub fn with_name(
-    ctx: &Ctx,
-    inode: &Inode,
-    directory: &Directory,
-    name: &Bytes,
-    number: u64,
-) -> Result<Inode, AllocError>
-    requires absent { find (λ e. same_bytes e.name name.now) directory.now.entries ≡ None }
-    requires room { directory.now.last_cookie + 1 < 2 ^ 64 }
-    ensures { IfOk result (λ wider. wider ≡ record inode.now {
-      content = Content.Directory (with_name directory.now name.now number);
-      modified = touch inode.now.changed (time_of ctx.now.moment);
-      changed = touch inode.now.changed (time_of ctx.now.moment);
-    }) }
-{
-    let cookie = directory.last_cookie + 1;
-    let entries = directory.entries.with_entry(name, Leaf { number, cookie })?;
-    let wider = Directory {
-        parent: directory.parent,
-        last_cookie: cookie,
-        entries,
-    };
-    Ok(with_content(inode, now(ctx), Content::Directory(wider)))
-}
-
-/// What CREATE makes of the object that has the name; None where it stays as it is.
-///
-/// # Errors
-///
-/// `AllocError` where the memory for new content was refused. The status within is `Exists` where the object cannot be
-/// answered; `Access` and `FileTooBig` where it cannot get the size that is given.
-pub fn create_over(
-    alloc: Global,
-    ctx: &Ctx,
-    how: &CreateHow,
-    inode: &Inode,
-) -> Result<Result<Option<Inode>, NfsStatus>, AllocError>
-    ensures value { IfOk result (λ after. seen_after after
-        ≡ create_over ctx.now how.now (living_of_inode inode.now) (bytes_in (content_of inode.now.content))) }
-    ensures keeps { IfOk result (λ after. IfOk after (λ a. IfSome a (KeepsPlace inode.now))) }
-{
-    let bytes = match bytes_in(&inode.content) {
-        Ok(bytes) => bytes,
-        Err(_) => return Ok(Err(NfsStatus::Exists)),
-    };
-    match how {
-        CreateHow::Unchecked(given) => match given.size {
-            Some(size) => resize(alloc, ctx, inode, bytes, size),
-            None => Ok(Ok(None)),
-        },
-        CreateHow::Guarded(_) => Ok(Err(NfsStatus::Exists)),
-        CreateHow::Exclusive(verifier) => {
-            if is_verifier(&inode.verifier, verifier) {
-                Ok(Ok(None))
-            } else {
-                Ok(Err(NfsStatus::Exists))
-            }
-        }
-    }
-}
-
-/// The file of this content, cut off or filled up with zeros to this size.
-fn resize(
-    alloc: Global,
-    ctx: &Ctx,
-    inode: &Inode,
-    bytes: &Bytes,
-    size: u64,
-) -> Result<Result<Option<Inode>, NfsStatus>, AllocError>
-    ensures value { IfOk result (λ after. seen_after after
-        ≡ file_resized ctx.now (living_of_inode inode.now) bytes.now size) }
-    ensures keeps { IfOk result (λ after. IfOk after (λ a. IfSome a
-        (λ new. KeepsPlace (record inode.now { content = Content.Regular bytes.now }) new))) }
-{
-    if let Err(status) = permitted(ctx, inode, Right::ToWrite) {
-        return Ok(Err(status));
-    }
-    if size > SIZE_LIMIT {
-        return Ok(Err(NfsStatus::FileTooBig));
-    }
-    let content = resized(alloc, bytes.as_slice(), size as usize)?;
-    Ok(Ok(Some(with_content(inode, now(ctx), Content::Regular(content)))))
-}
-
-/// Whether a file was made by an exclusive CREATE with this verifier.
-fn is_verifier(kept: &Option<Verifier>, given: &Verifier) -> bool
-    ensures { result
-        ≡ elim (verifier_bytes kept.now) [ None ↦ false | Some kept ↦ same_bytes kept given.now.bytes ] }
-{
-    match kept {
-        Some(kept) => kept.bytes == given.bytes,
-        None => false,
-    }
 }

@@ -2,16 +2,14 @@
 
 ghost use Rattle.std.specs.Prelude.{◌≡◌, ◌==◌, ◌||◌, ◌&&◌};
 ghost use Rattle.std.specs.List.{list_any};
-ghost use Rattle.nfs_machine.specs.Checks.{permitted};
 ghost use Rattle.nfs_machine.specs.Permission.{ToRead, ToWrite, ToSearch, ToList, ToChange, class_bits, is_member};
 ghost use Rattle.nfs_machine.specs.Permission.{may, reads, runs, writes};
-ghost use Rattle.nfs_objects.specs.Stands.{living_of_inode};
+ghost use Rattle.nfs_machine.specs.State.{Socket};
+ghost use Rattle.nfs_inodes.specs.Known.{shell};
 ghost use Rattle.nfs_inodes.specs.Rights.{right_of};
 
-use nfs_machine::Ctx;
-use nfs_objects::Inode;
+use crate::found::Known;
 use nfs_rpc::Ids;
-use nfs_wire::NfsStatus;
 
 /// What a caller wants to do with an object.
 #[derive(Clone, Copy, Debug, PartialEq, Eq)]
@@ -30,37 +28,27 @@ pub enum Right {
 
 /// Whether a caller has a right to an object. The user 0 has all; for others the bits of one class decide, which is the
 /// owner's, else the group's, else that of all others.
-pub fn may(ids: &Ids, inode: &Inode, right: Right) -> bool
-    ensures { result ≡ may ids.now (living_of_inode inode.now) (right_of right) }
+pub fn may(ids: &Ids, known: &Known, right: Right) -> bool
+    ensures { result ≡ may ids.now (shell known.now Socket) (right_of right) }
 {
-    ids.uid == 0 || class_may(right, ids.uid == inode.uid, class_bits(ids, inode))
-}
-
-/// Asks for a right.
-///
-/// # Errors
-///
-/// `Access` where the caller has it not.
-pub fn permitted(ctx: &Ctx, inode: &Inode, right: Right) -> Result<(), NfsStatus>
-    ensures { result ≡ permitted ctx.now (living_of_inode inode.now) (right_of right) }
-{
-    if may(&ctx.ids, inode, right) {
-        Ok(())
-    } else {
-        Err(NfsStatus::Access)
-    }
+    ids.uid == 0
+        || class_may(
+            right,
+            ids.uid == known.attributes.uid,
+            class_bits(ids, known),
+        )
 }
 
 /// The three bits of the caller's class.
-fn class_bits(ids: &Ids, inode: &Inode) -> u32
-    ensures { result ≡ class_bits ids.now (living_of_inode inode.now) }
+fn class_bits(ids: &Ids, known: &Known) -> u32
+    ensures { result ≡ class_bits ids.now (shell known.now Socket) }
 {
-    if ids.uid == inode.uid {
-        inode.mode / 0o100 % 0o10
-    } else if is_member(ids, inode.gid) {
-        inode.mode / 0o10 % 0o10
+    if ids.uid == known.attributes.uid {
+        known.attributes.mode / 0o100 % 0o10
+    } else if is_member(ids, known.attributes.gid) {
+        known.attributes.mode / 0o10 % 0o10
     } else {
-        inode.mode % 0o10
+        known.attributes.mode % 0o10
     }
 }
 

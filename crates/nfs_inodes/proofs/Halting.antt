@@ -1,0 +1,104 @@
+-- How readers halt, as their callers see it.
+use Rattle.std.proofs.Common.{◌≡◌, ℕ, List, [], ◌∷◌, Option, Some, None, Result, Err, IsSome, inl, inr, option_map, refl, sym, ◌∙◌, ap, subst}
+use Rattle.nfs_machine.specs.Handles.{handle_of}
+use Rattle.nfs_machine.specs.declared.handle.Handle.{Handle}
+use Rattle.nfs_objects.proofs.Knows.{among-first, among-next, lacks-stops, turned-stops}
+use Rattle.nfs_objects.proofs.Seen.{unknown-unseen}
+use Rattle.nfs_objects.specs.Asks.{IsFresh, Lacks, Lives}
+use Rattle.nfs_objects.specs.Attempt.{HaltsFirst, object_wanted, unless_seen}
+use Rattle.nfs_objects.specs.Calls.{IsAmong, objects_at}
+use Rattle.nfs_objects.specs.Knows.{Turns}
+use Rattle.nfs_objects.specs.Stands.{Kept}
+use Rattle.nfs_objects.specs.Values.{DraftValue, Seen, known_at, seen_at, shown_at, written_at}
+use Rattle.nfs_objects.specs.declared.address.Addr.{Addr}
+use Rattle.nfs_objects.specs.declared.address.Addr.TheVariants as addresses
+use Rattle.nfs_objects.specs.declared.change.Halt.{Halt}
+use Rattle.nfs_objects.specs.declared.change.Halt.TheVariants.{Need, Fresh, Memory, Status}
+use Rattle.nfs_objects.specs.declared.object.Object.{Object}
+use Rattle.nfs_inodes.specs.Stops.{IsBrought, StopsAt, StopsBringing, wanted_first}
+
+-- what a draft lacks stops the call
+pub lacking-stops : (d : DraftValue) (a : Addr) (halt : Halt) → Lacks d a halt → StopsAt d a halt
+lacking-stops d a halt lacks = λ named bounded. lacks-stops d named a halt lacks bounded
+
+-- and so does a number that is wanted
+pub fresh-stops : (d : DraftValue) (a : Addr) (halt : Halt) → IsFresh d halt → StopsAt d a halt
+fresh-stops d a (Need asked) wanted = absurd wanted
+fresh-stops d a (Fresh count) wanted = λ named bounded. wanted
+fresh-stops d a Memory wanted = absurd wanted
+fresh-stops d a (Status e) wanted = absurd wanted
+
+-- what stops a changed draft's call stops the call
+pub stops-before : (old new : DraftValue) (op : Kept → Kept) (a : Addr) (halt : Halt) → Turns old new op → StopsAt new a halt → StopsAt old a halt
+stops-before old new op a halt turns stops = λ named bounded.
+    turned-stops old named new op halt turns (stops named (elim bounded [
+      | inl among ↦ inl among
+      | inr lives ↦ inr (subst (λ view. Lives view a) (sym turns.view) lives)
+    ]))
+
+-- ---- what is asked for first
+module _ (d : DraftValue) (a : Addr) where
+  abbrev wanted : Option Seen → Option Addr
+  wanted s = elim s [ None ↦ Some a | Some x ↦ None ]
+
+  pub known-shown : d.writes ≡ [] → IsSome (known_at d a) → unless_seen d.view a ≡ None
+  known-shown none some = by (seen_at d.view.entries a) (subst (λ ws. IsSome (written_at (shown_at d.view.entries a) ws a)) none some)
+    where
+      by : (s : Option Seen) → IsSome (option_map (λ (e : Seen). e.object) s) → wanted s ≡ None
+      by None e = cc
+      by (Some x) e = refl
+
+  pub lacking-unseen : (halt : Halt) → Lacks d a halt → unless_seen d.view a ≡ Some a
+  lacking-unseen halt lacks = ap wanted (unknown-unseen d a lacks.unknown)
+
+pub known-first : (A : Type 0) (d : DraftValue) (a : Addr) (o : Option Object) (r : Result A Halt) → d.writes ≡ [] → known_at d a ≡ Some o
+    → HaltsFirst d.modes (unless_seen d.view a) r
+known-first A d a o r none known =
+    subst (λ w. HaltsFirst {A = A} d.modes w r) (sym (known-shown d a none (subst (λ x. IsSome x) (sym known) refl))) tt
+
+pub lacking-first-at : (A : Type 0) (d : DraftValue) (a : Addr) (halt : Halt) → Lacks d a halt → HaltsFirst {A = A} d.modes (unless_seen d.view a) (Err halt)
+lacking-first-at A d a halt lacks = subst (λ w. HaltsFirst {A = A} d.modes w (Err halt)) (sym (lacking-unseen d a halt lacks)) lacks.asked
+
+module _ (A : Type 0) (d : DraftValue) (bytes : List ℕ) where
+  abbrev First : Result A Halt → Type 0
+  First r = HaltsFirst {A = A} d.modes (wanted_first d.view (bytes ∷ [])) r
+
+  abbrev past : Option Addr → Option Addr
+  past w = elim w [ Some a ↦ Some a | None ↦ object_wanted d.view (bytes ∷ []) ]
+
+  pub exports-first : (halt : Halt) → Lacks d addresses.Exports halt → First (Err halt)
+  exports-first halt lacks = subst (λ w. HaltsFirst {A = A} d.modes (past w) (Err halt)) (sym (lacking-unseen d addresses.Exports halt lacks)) lacks.asked
+
+  module _ (none : d.writes ≡ []) (known : IsSome (known_at d addresses.Exports)) where
+    wants : (o : Option Handle) → handle_of bytes ≡ o
+        → wanted_first d.view (bytes ∷ []) ≡ elim o [ None ↦ None | Some h ↦ unless_seen d.view (addresses.Inode h.fileid) ]
+    wants o is =
+        ap past (known-shown d addresses.Exports none known)
+        ∙ ap (λ (x : Option Handle). elim x [ None ↦ None | Some h ↦ unless_seen d.view (addresses.Inode h.fileid) ]) is
+
+    pub bad-first : (r : Result A Halt) → handle_of bytes ≡ None → First r
+    bad-first r is = subst (λ w. HaltsFirst {A = A} d.modes w r) (sym (wants None is)) tt
+
+    module _ (h : Handle) (is : handle_of bytes ≡ Some h) where
+      pub object-first : (r : Result A Halt) → IsSome (known_at d (addresses.Inode h.fileid)) → First r
+      object-first r some =
+          subst (λ w. HaltsFirst {A = A} d.modes w r) (sym (wants (Some h) is ∙ known-shown d (addresses.Inode h.fileid) none some)) tt
+
+      pub lacking-first : (halt : Halt) → Lacks d (addresses.Inode h.fileid) halt → First (Err halt)
+      lacking-first halt lacks =
+          subst (λ w. HaltsFirst {A = A} d.modes w (Err halt)) (sym (wants (Some h) is ∙ lacking-unseen d (addresses.Inode h.fileid) halt lacks)) lacks.asked
+
+-- ---- a handle that the call brings
+pub brought-among : (handles : List (List ℕ)) (bytes : List ℕ) (h : Handle) → handle_of bytes ≡ Some h → IsBrought bytes handles
+    → IsAmong (objects_at handles) (addresses.Inode h.fileid)
+brought-among [] bytes h is brought = absurd brought
+brought-among (x ∷ handles) bytes h is (inl here) = among-first x handles h (ap handle_of here ∙ is)
+brought-among (x ∷ handles) bytes h is (inr there) = among-next x handles (addresses.Inode h.fileid) (brought-among handles bytes h is there)
+
+pub exports-stop : (d : DraftValue) (bytes : List ℕ) (halt : Halt) → StopsAt d addresses.Exports halt → StopsBringing d bytes halt
+exports-stop d bytes halt stops = λ handles brought. stops (addresses.Exports ∷ objects_at handles) (inl (inl refl))
+
+pub object-stops : (d : DraftValue) (bytes : List ℕ) (h : Handle) (halt : Halt) → handle_of bytes ≡ Some h → StopsAt d (addresses.Inode h.fileid) halt
+    → StopsBringing d bytes halt
+object-stops d bytes h halt is stops = λ handles brought.
+    stops (addresses.Exports ∷ objects_at handles) (inl (inr (brought-among handles bytes h is brought)))

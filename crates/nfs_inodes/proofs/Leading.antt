@@ -1,0 +1,94 @@
+-- What names lead to, as what stands at a directory's number tells.
+use Rattle.std.proofs.Common.{◌≡◌, ℕ, true, false, Bool, cond, List, [], Option, Some, None, Result, Ok, Err, option_map, refl, sym, ◌∙◌, ap, subst}
+use Rattle.std.specs.Prelude.{codes, ok_or, IfSome, MatchResult}
+use Rattle.std.specs.FinMap.{get}
+use Rattle.nfs_wire.specs.declared.attributes.FileType.TheVariants as types
+use Rattle.nfs_wire.specs.declared.status.NfsStatus.TheVariants as status
+use Rattle.nfs_machine.proofs.Changes.{find-all}
+use Rattle.nfs_machine.specs.Attributes.{entries_of, is_directory}
+use Rattle.nfs_machine.specs.Bytes.{same_bytes}
+use Rattle.nfs_machine.specs.Checks.{entry_of}
+use Rattle.nfs_machine.specs.NameSteps.{leads_to}
+use Rattle.nfs_machine.specs.State.{Content, Entry}
+use Rattle.nfs_machine.specs.WellFormed.{Leads}
+use Rattle.nfs_objects.specs.Asks.{Lives}
+use Rattle.nfs_objects.specs.Knows.{Knows, Possible}
+use Rattle.nfs_objects.specs.Stands.{Kept, Represents}
+use Rattle.nfs_objects.specs.Store.{Store, with_writes}
+use Rattle.nfs_objects.specs.Values.{DraftValue}
+use Rattle.nfs_objects.specs.declared.address.Addr.TheVariants as addresses
+use Rattle.nfs_objects.specs.declared.change.Halt.{Halt}
+use Rattle.nfs_objects.specs.declared.object.Inode.{Inode}
+use Rattle.nfs_inodes.proofs.Standing.{contains, content_in, directory-kind, kind-is, some-stands}
+use Rattle.nfs_inodes.specs.Known.{HasInode, IsKnown, content_at, last_cookie_of, object_at}
+use Rattle.nfs_inodes.specs.declared.found.Known.{Known}
+
+-- the number that a name's entry leads to
+abbrev pub under : Content → List ℕ → Option ℕ
+under content name = option_map (λ (e : Entry). e.number) (entry_of (entries_of content) name)
+
+pub entry-there : (d : DraftValue) (n : ℕ) (name : List ℕ) (i : Option Inode) (number : Option ℕ) → HasInode d n i → number ≡ under (content_in i) name
+    → Knows d (λ k. under (content_at k.state n) name ≡ number)
+entry-there d n name i number has is s k w = ap (λ c. under c name) (contains d n i has s k w.fits w.stands) ∙ sym is
+
+pub cookie-there : (d : DraftValue) (n : ℕ) (i : Option Inode) (last : ℕ) → HasInode d n i → last ≡ last_cookie_of (content_in i)
+    → Knows d (λ k. last_cookie_of (content_at k.state n) ≡ last)
+cookie-there d n i last has is s k w = ap last_cookie_of (contains d n i has s k w.fits w.stands) ∙ sym is
+
+-- ---- what a name leads to stands in each store
+module _ (d : DraftValue) (x : Known) (none : d.writes ≡ []) (known : Knows d (λ k. IsKnown k.state x)) where
+  on-store : (s : Store) (k : Kept) → Represents s k → Represents (with_writes s d.writes) k
+  on-store s k stands = subst (λ ws. Represents (with_writes s ws) k) (sym none) stands
+
+  abbrev named-by : Option Entry → Option ℕ
+  named-by f = option_map (λ (e : Entry). e.number) f
+
+  some-entry : (f : Option Entry) (n : ℕ) → named-by f ≡ Some n → (e : Entry) × (f ≡ Some e) × (e.number ≡ n)
+  some-entry None n is = cc
+  some-entry (Some e) n is = (e, refl, (let same : e.number ≡ n = cc in same))
+
+  pub entry-lives : (name : List ℕ) (number : Option ℕ) → Knows d (λ k. under (content_at k.state x.number) name ≡ number) → IfSome number (λ n. Lives d.view (addresses.Inode n))
+  entry-lives name None is = tt
+  entry-lives name (Some n) is = λ s k fits stands sound formed.
+      let w : Possible d s k = record { fits = fits; stands = on-store s k stands; sound = sound } in
+      let found = some-entry (entry_of (entries_of (content_at k.state x.number)) name) n (is s k w) in
+      let leads = find-all (Leads k.state (object_at k.state x)) (λ (f : Entry). same_bytes f.name name) (entries_of (content_at k.state x.number)) found.0
+      (formed.names x.number (object_at k.state x) (known s k w).lives).leads found.1 in
+      some-stands (s.at (addresses.Inode n)) leads.object (sym (stands.objects n) ∙ ap (get k.state.objects) (sym found.2) ∙ leads.lives)
+
+  pub parent-lives : (n : ℕ) → x.attributes.kind ≡ types.Directory → Knows d (λ k. k.parents x.number ≡ n) → Lives d.view (addresses.Inode n)
+  parent-lives n kind is = λ s k fits stands sound formed.
+      let w : Possible d s k = record { fits = fits; stands = on-store s k stands; sound = sound } in
+      let directory : is_directory (content_at k.state x.number) ≡ true = directory-kind (content_at k.state x.number) (kind-is k.state x (known s k w) ∙ kind) in
+      let parent = sound.parents x.number (object_at k.state x) (known s k w).lives directory in
+      some-stands (s.at (addresses.Inode n)) parent.directory (sym (stands.objects n) ∙ ap (get k.state.objects) (sym (is s k w)) ∙ parent.lives)
+
+-- ---- ".", ".." and other names
+module _ (n parent : ℕ) (es : List Entry) (name : List ℕ) where
+  abbrev own : Entry
+  own = record { name = codes "."; number = n; cookie = 1 }
+
+  abbrev above : Entry
+  above = record { name = codes ".."; number = parent; cookie = 2 }
+
+  abbrev leads : Bool → Bool → Option ℕ
+  leads a b = option_map (λ (e : Entry). e.number) (cond a (Some own) (cond b (Some above) (entry_of es name)))
+
+  pub leads-self : true ≡ same_bytes (codes ".") name → leads_to n parent es name ≡ Ok n
+  leads-self is = ap (λ a. ok_or (leads a (same_bytes (codes "..") name)) status.NoEntry) (sym is)
+
+  pub leads-above : false ≡ same_bytes (codes ".") name → true ≡ same_bytes (codes "..") name → leads_to n parent es name ≡ Ok parent
+  leads-above other is =
+      ap (λ a. ok_or (leads a (same_bytes (codes "..") name)) status.NoEntry) (sym other) ∙ ap (λ b. ok_or (leads false b) status.NoEntry) (sym is)
+
+  pub leads-other : (number : Option ℕ) → false ≡ same_bytes (codes ".") name → false ≡ same_bytes (codes "..") name
+      → option_map (λ (e : Entry). e.number) (entry_of es name) ≡ number → leads_to n parent es name ≡ ok_or number status.NoEntry
+  leads-other number other none is =
+      ap (λ a. ok_or (leads a (same_bytes (codes "..") name)) status.NoEntry) (sym other) ∙ ap (λ b. ok_or (leads false b) status.NoEntry) (sym none)
+      ∙ ap (λ o. ok_or o status.NoEntry) is
+
+pub leads-by-entry : (d : DraftValue) (n : ℕ) (name : List ℕ) (r : Result (Option ℕ) Halt) (S : Halt → Type 0) → false ≡ same_bytes (codes ".") name → false ≡ same_bytes (codes "..") name
+    → MatchResult r (λ number. Knows d (λ k. under (content_at k.state n) name ≡ number)) S
+    → MatchResult r (λ number. Knows d (λ k. leads_to n (k.parents n) (entries_of (content_at k.state n)) name ≡ ok_or number status.NoEntry)) S
+leads-by-entry d n name (Ok number) S other none is = λ s k w. leads-other n (k.parents n) (entries_of (content_at k.state n)) name number other none (is s k w)
+leads-by-entry d n name (Err halt) S other none is = is

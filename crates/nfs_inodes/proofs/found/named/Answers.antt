@@ -1,0 +1,53 @@
+use Rattle.std.proofs.Common.{sym, subst}
+use Rattle.std.proofs.lemmas.Result.{err_from_is_err_and}
+use Rattle.nfs_inodes.proofs.Halting.{bad-first, exports-first, exports-stop, lacking-first, object-first, object-stops}
+use Rattle.nfs_inodes.proofs.Naming.{bad-handle, named-there, nothing-there}
+use Rattle.nfs_inodes.proofs.Standing.{known-lives}
+use Rattle.nfs_inodes.specs.Known.{IsObject}
+use Rattle.nfs_inodes.proofs.found.named.Goals as goal
+
+pub returns-in_err-exports-clause-stops : goal.returns-in_err-exports-clause-stops
+returns-in_err-exports-clause-stops c =
+    let p = err_from_is_err_and c.from_residual.result c.from_residual.ensures.1 in
+    rw (p.1, p.2) (exports-stop c.args.draft.now c.args.handle.now _ c.in_err-exports.ensures.exports)
+
+pub returns-in_err-exports-clause-first : goal.returns-in_err-exports-clause-first
+returns-in_err-exports-clause-first c =
+    let p = err_from_is_err_and c.from_residual.result c.from_residual.ensures.1 in
+    rw (p.1, p.2) (exports-first _ c.args.draft.now c.args.handle.now _ c.in_err-exports.ensures.reads)
+
+pub returns-in_default-clause-means : goal.returns-in_default-clause-means
+returns-in_default-clause-means c = bad-handle c.args.draft.now c.args.handle.now (sym c.in_default.ensures)
+
+pub returns-in_default-clause-first : goal.returns-in_default-clause-first
+returns-in_default-clause-first c = bad-first _ c.args.draft.now c.args.handle.now c.requires c.in_ok-exports.ensures.reads _ (sym c.in_default.ensures)
+
+pub returns-in_err-known-clause-stops : goal.returns-in_err-known-clause-stops
+returns-in_err-known-clause-stops c =
+    let p = err_from_is_err_and c.from_residual-in_err-known.result c.from_residual-in_err-known.ensures.1 in
+    rw (p.1, p.2) (object-stops c.args.draft.now c.args.handle.now c.in-Some.handle _ (sym c.in-Some.ensures) c.in_err-known.ensures.object)
+
+pub returns-in_err-known-clause-first : goal.returns-in_err-known-clause-first
+returns-in_err-known-clause-first c =
+    let p = err_from_is_err_and c.from_residual-in_err-known.result c.from_residual-in_err-known.ensures.1 in
+    rw (p.1, p.2) (lacking-first _ c.args.draft.now c.args.handle.now c.requires c.in_ok-exports.ensures.reads c.in-Some.handle (sym c.in-Some.ensures) _ c.in_err-known.ensures.reads)
+
+pub returns-in_default-2-clause-means : goal.returns-in_default-2-clause-means
+returns-in_default-2-clause-means c =
+    nothing-there c.args.draft.now c.args.handle.now c.in-Some.handle (sym c.in-Some.ensures)
+    (λ s k w. subst (IsObject k.state c.in-Some.handle.fileid) c.in_default-2.is (c.in_ok-known.ensures.object s k w))
+
+pub returns-in_default-2-clause-first : goal.returns-in_default-2-clause-first
+returns-in_default-2-clause-first c =
+    object-first _ c.args.draft.now c.args.handle.now c.requires c.in_ok-exports.ensures.reads c.in-Some.handle (sym c.in-Some.ensures) _ c.in_ok-known.ensures.reads
+
+pub returns-then-is_target-clause-means : goal.returns-then-is_target-clause-means
+returns-then-is_target-clause-means c =
+    named-there c.args.draft.now c.args.handle.now c.in-Some.handle (sym c.in-Some.ensures) c.in_ok-exports.exports.now c.in_ok-exports.ensures.exports c.in-Some-2.known
+    (λ s k w. subst (IsObject k.state c.in-Some.handle.fileid) c.in-Some-2.is (c.in_ok-known.ensures.object s k w))
+    (sym (rw c.ctx.ensures at c.if-is_target.ensures))
+
+pub returns-then-is_target-clause-lives : goal.returns-then-is_target-clause-lives
+returns-then-is_target-clause-lives c =
+    known-lives c.args.draft.now c.in-Some-2.known c.requires
+    (λ s k w. (subst (IsObject k.state c.in-Some.handle.fileid) c.in-Some-2.is (c.in_ok-known.ensures.object s k w)).1)

@@ -1,0 +1,129 @@
+//! What names lead to (RFC 1813, 3.3.3).
+
+ghost use Rattle.std.specs.Prelude.{◌≡◌, [], IfOk, IfSome, MatchResult, ok_or, option_map};
+ghost use Rattle.nfs_wire.specs.declared.status.NfsStatus.TheVariants as status;
+ghost use Rattle.nfs_machine.specs.Attributes.{entries_of};
+ghost use Rattle.nfs_machine.specs.Checks.{entry_of};
+ghost use Rattle.nfs_machine.specs.NameSteps.{leads_to};
+ghost use Rattle.nfs_objects.specs.Asks.{Lives};
+ghost use Rattle.nfs_objects.specs.Knows.{Knows};
+ghost use Rattle.nfs_objects.specs.Stands.{content_of, parent_in};
+ghost use Rattle.nfs_inodes.specs.Known.{IsKnown, content_at, last_cookie_of, next_cookie};
+ghost use Rattle.nfs_inodes.specs.Stops.{StopsAt};
+
+use crate::found::inode;
+use crate::kinds::Directory;
+use crate::names::{is_above, is_self};
+use nfs_objects::{Addr, Content, Draft, Halt};
+
+/// The number that a name's entry leads to in a directory; None where there is no such entry. Something lives there in
+/// every store that the view fits.
+///
+/// # Errors
+///
+/// `Need` of the directory's address, and `Memory`.
+pub fn entry(draft: &Draft<'_>, directory: &Directory, name: &[u8]) -> Result<Option<u64>, Halt>
+    requires none { draft.now.writes ≡ [] }
+    requires known { Knows draft.now (λ k. IsKnown k.state directory.now.known) }
+    ensures entry { MatchResult result
+        (λ number. Knows draft.now (λ k. option_map (λ e. e.number)
+        (entry_of (entries_of (content_at k.state directory.now.known.number)) name.now) ≡ number))
+        (StopsAt draft.now (Addr.Inode directory.now.known.number)) }
+    ensures lives { IfOk result (λ number. IfSome number (λ n. Lives draft.now.view (Addr.Inode n))) }
+{
+    match inode(draft, directory.known.number)? {
+        Some(inode) => Ok(entry_in(&inode.content, name)),
+        None => Ok(None),
+    }
+}
+
+fn entry_in(content: &Content, name: &[u8]) -> Option<u64>
+    ensures { result ≡ option_map (λ e. e.number) (entry_of (entries_of (content_of content.now)) name.now) }
+{
+    match content {
+        Content::Directory(directory) => Some(directory.entries.find(name)?.number),
+        _ => None,
+    }
+}
+
+/// The parent of a directory.
+fn parent(draft: &Draft<'_>, directory: &Directory) -> Result<u64, Halt>
+    ensures { MatchResult result
+        (λ parent. Knows draft.now (λ k. k.parents directory.now.known.number ≡ parent))
+        (StopsAt draft.now (Addr.Inode directory.now.known.number)) }
+{
+    match inode(draft, directory.known.number)? {
+        Some(inode) => Ok(parent_of(&inode.content)),
+        None => Ok(0),
+    }
+}
+
+fn parent_of(content: &Content) -> u64
+    ensures { result ≡ parent_in content.now }
+{
+    match content {
+        Content::Directory(directory) => directory.parent,
+        _ => 0,
+    }
+}
+
+/// The number that a name leads to in a directory: `.` to the directory itself, `..` to its parent, and another name to
+/// its entry's object; None where there is no such entry. Something lives there in every store that the view fits.
+///
+/// # Errors
+///
+/// `Need` of the directory's address, and `Memory`.
+pub fn leads_to(draft: &Draft<'_>, directory: &Directory, name: &[u8]) -> Result<Option<u64>, Halt>
+    requires none { draft.now.writes ≡ [] }
+    requires known { Knows draft.now (λ k. IsKnown k.state directory.now.known) }
+    ensures leads { MatchResult result
+        (λ number. Knows draft.now (λ k.
+        leads_to directory.now.known.number (k.parents directory.now.known.number)
+        (entries_of (content_at k.state directory.now.known.number)) name.now ≡ ok_or number status.NoEntry))
+        (StopsAt draft.now (Addr.Inode directory.now.known.number)) }
+    ensures lives { IfOk result (λ number. IfSome number (λ n. Lives draft.now.view (Addr.Inode n))) }
+{
+    if is_self(name) {
+        return Ok(Some(directory.known.number));
+    }
+    if is_above(name) {
+        return Ok(Some(parent(draft, directory)?));
+    }
+    entry(draft, directory, name)
+}
+
+/// The cookie of a directory's next entry, one above the greatest that it ever used (RFC 1813, 3.3.16); None where it
+/// used the greatest of all.
+///
+/// # Errors
+///
+/// `Need` of the directory's address, and `Memory`.
+pub fn next_cookie(draft: &Draft<'_>, directory: &Directory) -> Result<Option<u64>, Halt>
+    ensures { MatchResult result
+        (λ cookie. Knows draft.now (λ k.
+        next_cookie (last_cookie_of (content_at k.state directory.now.known.number)) ≡ cookie))
+        (StopsAt draft.now (Addr.Inode directory.now.known.number)) }
+{
+    Ok(last_cookie(draft, directory)?.checked_add(1))
+}
+
+/// The greatest cookie that a directory ever used.
+fn last_cookie(draft: &Draft<'_>, directory: &Directory) -> Result<u64, Halt>
+    ensures { MatchResult result
+        (λ last. Knows draft.now (λ k. last_cookie_of (content_at k.state directory.now.known.number) ≡ last))
+        (StopsAt draft.now (Addr.Inode directory.now.known.number)) }
+{
+    match inode(draft, directory.known.number)? {
+        Some(inode) => Ok(last_cookie_in(&inode.content)),
+        None => Ok(0),
+    }
+}
+
+fn last_cookie_in(content: &Content) -> u64
+    ensures { result ≡ last_cookie_of (content_of content.now) }
+{
+    match content {
+        Content::Directory(directory) => directory.last_cookie,
+        _ => 0,
+    }
+}

@@ -1,0 +1,239 @@
+//! Changes of objects (RFC 1813, 2.5: mtime, ctime). Each is a change of what the store stands for.
+
+ghost use Rattle.std.specs.Prelude.{◌≡◌, ◌+◌, ◌-◌, ◌<◌, ◌^◌, [], IfOk, IsSome, MatchResult, OnOk};
+ghost use Rattle.std.specs.Prelude.{length};
+ghost use Rattle.nfs_machine.specs.Data.{resized, written};
+ghost use Rattle.nfs_machine.specs.Making.{new_object};
+ghost use Rattle.nfs_machine.specs.NameSteps.{wanted_file};
+ghost use Rattle.nfs_machine.specs.Shown.{touched};
+ghost use Rattle.nfs_machine.specs.Times.{time_of};
+ghost use Rattle.nfs_objects.specs.Edits.{edited, freed};
+ghost use Rattle.nfs_objects.specs.Asks.{IsFirst};
+ghost use Rattle.nfs_objects.specs.Knows.{Knows, Turns};
+ghost use Rattle.nfs_objects.specs.Values.{known_at};
+ghost use Rattle.nfs_objects.specs.declared.address.Addr.{Addr as Address};
+ghost use Rattle.nfs_inodes.specs.Makes.{IsFree, bytes_changed, link_lost, made_under, name_added, name_taken};
+ghost use Rattle.nfs_inodes.specs.Stops.{StopsAt};
+
+use crate::content::{resized, with_content, written};
+use crate::found::inode;
+use crate::kinds::{Directory, File};
+use crate::making::new_file;
+use crate::times::{now, touch};
+use bytes::Bytes;
+use nfs_objects::{Addr, Content, Draft, Halt, Leaf, Mode, Reserved};
+use nfs_wire::CreateHow;
+
+/// Writes bytes at an offset of a file; a gap before it is zeros. The bytes end below 2^64.
+///
+/// # Errors
+///
+/// `Need` of what has to be held for it, and `Memory`. The draft is of no use then.
+pub fn write(draft: &mut Draft<'_>, file: &File, offset: usize, bytes: &[u8]) -> Result<(), Halt>
+    requires alone { draft.old.modes.inodes ≡ Mode.Exclusive }
+    requires room { offset + length bytes.now < 2 ^ 64 }
+    ensures { MatchResult result
+        (λ _. Turns draft.old draft.new (bytes_changed (time_of draft.old.ctx.moment) file.now.known.number
+        (λ old. written old offset bytes.now)))
+        (StopsAt draft.old (Addr.Inode file.now.known.number)) }
+{
+    let number = file.known.number;
+    let Some(inode) = inode(draft, number)? else {
+        return Ok(());
+    };
+    let Content::Regular(old) = &inode.content else {
+        return Ok(());
+    };
+    let content = written(draft.alloc(), old.as_slice(), offset, bytes)?;
+    let new = with_content(inode, now(draft.ctx()), Content::Regular(content));
+    Ok(draft.put(number, new)?)
+}
+
+/// Cuts a file off, or fills it up with zeros, to this size in bytes.
+///
+/// # Errors
+///
+/// `Need` of what has to be held for it, and `Memory`. The draft is of no use then.
+pub fn resize(draft: &mut Draft<'_>, file: &File, size: usize) -> Result<(), Halt>
+    requires { draft.old.modes.inodes ≡ Mode.Exclusive }
+    ensures { MatchResult result
+        (λ _. Turns draft.old draft.new (bytes_changed (time_of draft.old.ctx.moment) file.now.known.number
+        (λ old. resized old size)))
+        (StopsAt draft.old (Addr.Inode file.now.known.number)) }
+{
+    let number = file.known.number;
+    let Some(inode) = inode(draft, number)? else {
+        return Ok(());
+    };
+    let Content::Regular(old) = &inode.content else {
+        return Ok(());
+    };
+    let content = resized(draft.alloc(), old.as_slice(), size)?;
+    let new = with_content(inode, now(draft.ctx()), Content::Regular(content));
+    Ok(draft.put(number, new)?)
+}
+
+/// Takes one of an object's links away, which are so many: it goes with its last, and else its ctime changes.
+///
+/// # Errors
+///
+/// `Need` of what has to be held for it, and `Memory`. The draft is of no use then.
+pub fn lose_link(draft: &mut Draft<'_>, number: u64, links: u32) -> Result<(), Halt>
+    requires { draft.old.modes.inodes ≡ Mode.Exclusive }
+    ensures { MatchResult result
+        (λ _. Turns draft.old draft.new (link_lost (time_of draft.old.ctx.moment) number links))
+        (StopsAt draft.old (Addr.Inode number)) }
+{
+    if links <= 1 {
+        free(draft, number)
+    } else {
+        unlink(draft, number)
+    }
+}
+
+fn free(draft: &mut Draft<'_>, number: u64) -> Result<(), Halt>
+    requires { draft.old.modes.inodes ≡ Mode.Exclusive }
+    ensures { MatchResult result (λ _. Turns draft.old draft.new (λ k. freed k number))
+        (StopsAt draft.old (Addr.Inode number)) }
+{
+    inode(draft, number)?;
+    Ok(draft.free(number)?)
+}
+
+fn unlink(draft: &mut Draft<'_>, number: u64) -> Result<(), Halt>
+    requires { draft.old.modes.inodes ≡ Mode.Exclusive }
+    ensures { MatchResult result
+        (λ _. Turns draft.old draft.new
+        (λ k. edited k number (λ o. touched o (time_of draft.old.ctx.moment)) (λ l. l - 1)))
+        (StopsAt draft.old (Addr.Inode number)) }
+{
+    let Some(inode) = inode(draft, number)? else {
+        return Ok(());
+    };
+    let mut new = inode.clone()?;
+    new.links = new.links.saturating_sub(1);
+    new.changed = touch(new.changed, now(draft.ctx()));
+    Ok(draft.put(number, new)?)
+}
+
+/// Takes a name out of a directory.
+///
+/// # Errors
+///
+/// `Need` of what has to be held for it, and `Memory`. The draft is of no use then.
+pub fn take_entry(draft: &mut Draft<'_>, directory: &Directory, name: &[u8]) -> Result<(), Halt>
+    requires { draft.old.modes.inodes ≡ Mode.Exclusive }
+    ensures { MatchResult result
+        (λ _. Turns draft.old draft.new
+        (name_taken (time_of draft.old.ctx.moment) directory.now.known.number name.now))
+        (StopsAt draft.old (Addr.Inode directory.now.known.number)) }
+{
+    let place = directory.known.number;
+    let Some(inode) = inode(draft, place)? else {
+        return Ok(());
+    };
+    let Content::Directory(old) = &inode.content else {
+        return Ok(());
+    };
+    let narrower = Content::Directory(nfs_objects::Directory {
+        parent: old.parent,
+        last_cookie: old.last_cookie,
+        entries: old.entries.without_name(name)?,
+    });
+    let new = with_content(inode, now(draft.ctx()), narrower);
+    Ok(draft.put(place, new)?)
+}
+
+/// Adds a name to a directory that has it not, last and with this cookie. The name is copied.
+///
+/// # Errors
+///
+/// `Need` of what has to be held for it, and `Memory`. The draft is of no use then.
+pub fn add_entry(
+    draft: &mut Draft<'_>,
+    directory: &Directory,
+    name: &[u8],
+    number: u64,
+    cookie: u64,
+) -> Result<(), Halt>
+    requires { draft.old.modes.inodes ≡ Mode.Exclusive }
+    ensures turns { MatchResult result
+        (λ _. Turns draft.old draft.new (name_added (time_of draft.old.ctx.moment) directory.now.known.number
+        (record { name = name.now; number = number; cookie = cookie })))
+        (StopsAt draft.old (Addr.Inode directory.now.known.number)) }
+    ensures known { OnOk result ((a : Address) → IsSome (known_at draft.old a) → IsSome (known_at draft.new a)) }
+{
+    let place = directory.known.number;
+    let Some(inode) = inode(draft, place)? else {
+        return Ok(());
+    };
+    let Content::Directory(old) = &inode.content else {
+        return Ok(());
+    };
+    if old.entries.find(name).is_some() {
+        return Ok(());
+    }
+    let name = Bytes::copy_from_slice(draft.alloc(), name)?;
+    let wider = Content::Directory(nfs_objects::Directory {
+        parent: old.parent,
+        last_cookie: cookie,
+        entries: old.entries.with_entry(&name, Leaf { number, cookie })?,
+    });
+    let new = with_content(inode, now(draft.ctx()), wider);
+    Ok(draft.put(place, new)?)
+}
+
+/// Makes the file that CREATE makes, under a new name of a directory: its number and generation are those that the view
+/// reserved. The name is copied.
+///
+/// # Errors
+///
+/// `Fresh` where none is reserved; `Need` of what has to be held for it, and `Memory`. The draft is of no use then.
+pub fn make_file(
+    draft: &mut Draft<'_>,
+    directory: &Directory,
+    name: &[u8],
+    cookie: u64,
+    how: &CreateHow,
+) -> Result<Reserved, Halt>
+    requires none { draft.old.writes ≡ [] }
+    requires alone { draft.old.modes.inodes ≡ Mode.Exclusive }
+    ensures turns { MatchResult result
+        (λ r. Knows draft.old (λ k. IsFree k.state r) × Turns draft.old draft.new
+        (made_under (time_of draft.old.ctx.moment) directory.now.known.number cookie name.now r
+        (new_object draft.old.ctx directory.now.known.export r.generation (wanted_file how.now))))
+        (StopsAt draft.old (Addr.Inode directory.now.known.number)) }
+    ensures known { IfOk result (λ r. IsSome (known_at draft.new (Addr.Inode r.number))) }
+{
+    let reserved = draft.fresh()?;
+    let Reserved { number, generation } = reserved;
+    make_reserved(draft, directory, name, cookie, how, number, generation)?;
+    Ok(reserved)
+}
+
+/// The same with this number and generation.
+fn make_reserved(
+    draft: &mut Draft<'_>,
+    directory: &Directory,
+    name: &[u8],
+    cookie: u64,
+    how: &CreateHow,
+    number: u64,
+    generation: u64,
+) -> Result<(), Halt>
+    requires none { draft.old.writes ≡ [] }
+    requires alone { draft.old.modes.inodes ≡ Mode.Exclusive }
+    requires first { IsFirst draft.old (record { number = number; generation = generation }) }
+    ensures turns { MatchResult result
+        (λ _. Knows draft.old (λ k. IsFree k.state (record { number = number; generation = generation })) ×
+        Turns draft.old draft.new (made_under (time_of draft.old.ctx.moment) directory.now.known.number cookie
+        name.now (record { number = number; generation = generation })
+        (new_object draft.old.ctx directory.now.known.export generation (wanted_file how.now))))
+        (StopsAt draft.old (Addr.Inode directory.now.known.number)) }
+    ensures known { OnOk result (IsSome (known_at draft.new (Addr.Inode number))) }
+{
+    let export = directory.known.export;
+    let file = new_file(draft.alloc(), draft.ctx(), how, export, generation)?;
+    add_entry(draft, directory, name, number, cookie)?;
+    Ok(draft.put(number, file)?)
+}
