@@ -1,5 +1,3 @@
-pub mod Few
-pub mod Nothing
+pub mod Answered
 pub mod Reading
-pub mod Shown
 pub mod Writing

@@ -1,125 +1,148 @@
--- WRITE's end is a step in every sound store that the view fits: the file that it leaves is the machine's, and the
--- attributes before and after are those that the file had and has.
-use Rattle.std.proofs.Common.{◌≡◌, ℕ, Option, Some, None, Result, Ok, Err, [], refl, sym, ap, ◌∙◌}
-use Rattle.nfs_wire.specs.declared.attributes.Attributes.{Attributes}
+-- What WRITE answers, and the file after it, are a step.
+use Rattle.std.proofs.Common.{◌≡◌, ◌==◌, true, false, Bool, cond, List, [], Some, None, Result, Ok, Err, refl}
+use Rattle.std.proofs.Common.{sym, ap, ◌∙◌}
+use Rattle.nfs_wire.specs.declared.attributes.FileType.TheVariants as types
 use Rattle.nfs_wire.specs.declared.attributes.Wcc.{Wcc}
 use Rattle.nfs_wire.specs.declared.calls.NfsCall.TheVariants as nfs
 use Rattle.nfs_wire.specs.declared.calls.WriteArguments.{WriteArguments}
 use Rattle.nfs_wire.specs.declared.replies.NfsReply.TheVariants as replies
-use Rattle.nfs_wire.specs.declared.replies.WriteReply.{WriteReply}
 use Rattle.nfs_wire.specs.declared.replies.Written.{Written}
 use Rattle.nfs_wire.specs.declared.status.NfsStatus.{NfsStatus}
-use Rattle.nfs_wire.specs.declared.status.NfsStatus.TheVariants as status
 use Rattle.nfs_machine.specs.Answers.{answer_of, state_after}
-use Rattle.nfs_machine.specs.Checks.{◌>>=◌, object_of}
-use Rattle.nfs_machine.specs.DataSteps.{write_object}
-use Rattle.nfs_machine.specs.Exports.{opening_exports}
+use Rattle.nfs_machine.specs.Attributes.{type_of}
+use Rattle.nfs_machine.specs.DataSteps.{write_count, write_end, write_object}
+use Rattle.nfs_machine.specs.Exports.{LivingExport}
 use Rattle.nfs_machine.specs.NfsSteps.{NfsStep}
-use Rattle.nfs_machine.specs.Resolve.{Resolved, resolve}
-use Rattle.nfs_machine.specs.Resolve as machine
-use Rattle.nfs_machine.specs.Shown.{replaced, wcc, weak}
-use Rattle.nfs_machine.specs.State.{Living, State}
+use Rattle.nfs_machine.specs.Resolve.{resolve}
+use Rattle.nfs_machine.specs.Shown.{attributes_at, replaced, wcc, with_content}
+use Rattle.nfs_machine.specs.State.{Content, Living, Regular, State}
+use Rattle.nfs_machine.specs.Times.{time_of}
 use Rattle.nfs_machine.specs.declared.calls.Call.TheVariants as calls
 use Rattle.nfs_machine.specs.declared.calls.Reply.TheVariants as answers
 use Rattle.nfs_machine.specs.declared.context.Ctx.{Ctx}
-use Rattle.nfs_objects.proofs.Seen.{fits_at}
-use Rattle.nfs_objects.specs.Endings.{HoldsUnchanged, KeepsPlace, Rewrites}
-use Rattle.nfs_objects.specs.Stands.{living_of_inode}
-use Rattle.nfs_objects.specs.Values.{ViewValue}
-use Rattle.nfs_objects.specs.declared.address.Addr.TheVariants as addresses
-use Rattle.nfs_objects.specs.declared.object.Inode.{Inode}
-use Rattle.nfs_objects.specs.declared.object.Object.TheVariants as objects
-use Rattle.nfs_inodes.proofs.Attributed.{attributes-put, attributes-seen}
-use Rattle.nfs_inodes.proofs.Meant.{names-seen, resolve-means}
-use Rattle.nfs_inodes.specs.Found.{BadHandle, Stale, Names, found_at}
-use Rattle.nfs_inodes.specs.Shown.{Shows}
+use Rattle.nfs_objects.proofs.Knows.{failed, passed}
+use Rattle.nfs_objects.proofs.Promised.{answer-ending, does-nothing, promised-does, promised-unchanged}
+use Rattle.nfs_objects.proofs.Promised.{turns-none}
+use Rattle.nfs_objects.specs.Begins.{Begins}
+use Rattle.nfs_objects.specs.Knows.{Does, Knows, Possible, Turns, ending}
+use Rattle.nfs_objects.specs.Promise.{Given, Held, IsPromised}
+use Rattle.nfs_objects.specs.Stands.{Kept}
+use Rattle.nfs_objects.specs.Store.{Store}
+use Rattle.nfs_objects.specs.Values.{DraftValue, done_value}
+use Rattle.nfs_inodes.proofs.Keeping.{bytes-is, bytes-sound}
+use Rattle.nfs_inodes.proofs.Standing.{kind-is, regular-bytes}
+use Rattle.nfs_inodes.specs.Known.{Names, NamesNothing, bytes_of, content_at, object_at, shell, weak_of}
+use Rattle.nfs_inodes.specs.Makes.{bytes_changed}
+use Rattle.nfs_inodes.specs.declared.found.Known.{Known}
+use Rattle.nfs_data.specs.Writes.{IsWriteEnd, answer_to, bytes_after, write_found}
 
--- what is shown of a file before and after
-abbrev pub shown_wcc : Inode → Attributes → Wcc
-shown_wcc before after = record { before = Some (weak (living_of_inode before)); after = Some after }
+-- what the checks came to
+abbrev pub Checks : {A : Type 0} → List LivingExport → WriteArguments → Known → Result A NfsStatus → Ctx
+    → Type 0
+Checks exports a x checked ctx = (content : Content) → type_of content ≡ x.attributes.kind
+    → write_object exports ctx (shell x content) a ≡ write_found ctx a x content checked
 
-module _ (ctx : Ctx) (view : ViewValue) (a : WriteArguments) where
-  abbrev RepliesUnchanged : WriteReply → Type 0
-  RepliesUnchanged reply = HoldsUnchanged (calls.Nfs (nfs.Write a)) ctx view (answers.Nfs (replies.Write reply))
+-- ---- the answer, and the file after it
+module _ {A : Type 0} (d : DraftValue) (a : WriteArguments) (x : Known)
+    (names : Knows d (λ k. Names d.ctx a.file k x)) (exports : List LivingExport)
+    (listed : Knows d (λ k. k.state.exports ≡ exports)) (checked : Result A NfsStatus)
+    (checks : Checks exports a x checked d.ctx) where
+  object-end : (s : Store) (k : Kept) → Possible d s k
+      → write_object k.state.exports d.ctx (object_at k.state x) a
+      ≡ write_found d.ctx a x (content_at k.state x.number) checked
+  object-end s k w =
+      ap (λ es. write_object es d.ctx (object_at k.state x) a) (listed s k w)
+      ∙ checks (content_at k.state x.number) (kind-is k.state x (names s k w).known)
 
-  -- what WRITE comes to where this is what the handle names, and where this becomes of the file
-  abbrev end_at : State → Resolved → Result (Written × State) NfsStatus
-  end_at m r = object_of r >>= λ file. write_object m.exports ctx file.object a >>= λ end. Ok
-      (end.0, replaced m file.number end.1)
+  pub refused-does : (e : NfsStatus) → checked ≡ Err e → Does d d (IsWriteEnd d.ctx a) (Err e)
+  refused-does e is = does-nothing d (IsWriteEnd d.ctx a) e (λ s k w.
+      sym (passed _ (names s k w).names (failed _
+      (object-end s k w ∙ ap (write_found d.ctx a x (content_at k.state x.number)) is))))
 
-  abbrev end_by : State → ℕ → Result (Written × Option Living) NfsStatus → Result (Written × State) NfsStatus
-  end_by m number written = written >>= λ end. Ok (end.0, replaced m number end.1)
+  module _ (passes : A) (is : checked ≡ Ok passes) where
+    abbrev file_after : State → Living
+    file_after m = with_content (object_at m x) (time_of d.ctx.moment)
+        (Regular (bytes_after a (bytes_of (content_at m x.number))))
 
-  abbrev reply_by : State → Resolved → Result (Written × State) NfsStatus → WriteReply
-  reply_by m r end = record { wcc = wcc (state_after m end) r; result = answer_of end }
+    ends-as : (b : Bool) → (write_count a == 0) ≡ b → (s : Store) (k : Kept) → Possible d s k
+        → write_end k.state d.ctx a
+        ≡ Ok (answer_to d.ctx a, replaced k.state x.number (cond b None (Some (file_after k.state))))
+    ends-as b e s k w =
+        passed _ (names s k w).names (passed _
+        (object-end s k w ∙ ap (write_found d.ctx a x (content_at k.state x.number)) is)
+        (ap (λ y. Ok (answer_to d.ctx a, replaced k.state x.number (cond y None (Some (file_after k.state))))) e))
 
-  step : (m : State) (r : Resolved) (end : Result (Written × State) NfsStatus) (reply : WriteReply) → reply ≡ reply_by m r end → resolve m ctx a.file ≡ r → end ≡ end_at m r
-      → NfsStep m ctx (nfs.Write a) (replies.Write reply) [] (state_after m end)
-  unfolding NfsStep
-  step m r end reply is named ends = record {
-    reply_is = ap (λ x. replies.Write x) (is ∙ ap (reply_by m r) ends ∙ ap (λ q. reply_by m q (end_at m q)) (sym named));
-    no_message = refl;
-    state_is = ap (state_after m) (ends ∙ ap (end_at m) (sym named));
-  }
+    pub nothing-does : (write_count a == 0) ≡ true → Does d d (IsWriteEnd d.ctx a) (Ok (answer_to d.ctx a))
+    nothing-does none = record {
+      op = λ k. k;
+      turns = turns-none d;
+      sound = λ s k w formed. w.sound;
+      ends = λ s k w formed. sym (ends-as true none s k w);
+      stays = λ k. refl;
+    }
 
-  pub bad_handle_holds : BadHandle ≡ found_at ctx view.entries a.file → RepliesUnchanged (record { wcc = record { before = None; after = None }; result = Err status.BadHandle })
-  bad_handle_holds found =
-      record {
-        step = λ s m stands sound exports fits. step m machine.BadHandle (Err status.BadHandle) _ refl
-            (resolve-means s m ctx view a.file BadHandle found stands exports fits) refl;
-      }
+    abbrev op : Kept → Kept
+    op k = bytes_changed (time_of d.ctx.moment) x.number (bytes_after a) k
 
-  pub stale_holds : Stale ≡ found_at ctx view.entries a.file → RepliesUnchanged (record { wcc = record { before = None; after = None }; result = Err status.Stale })
-  stale_holds found =
-      record {
-        step = λ s m stands sound exports fits. step m machine.Stale (Err status.Stale) _ refl
-            (resolve-means s m ctx view a.file Stale found stands exports fits) refl;
-      }
+    pub written-does : (new : DraftValue) → (write_count a == 0) ≡ false → x.attributes.kind ≡ types.Regular
+        → Turns d new op
+        → Does d new (IsWriteEnd d.ctx a) (Ok (answer_to d.ctx a))
+    written-does new some regular turns = record {
+      op = op;
+      turns = turns;
+      sound = λ s k w formed. bytes-sound k x.number (time_of d.ctx.moment) (bytes_after a) w.sound;
+      ends = λ s k w formed.
+          let known = (names s k w).known in
+          let is : op k ≡ _ = bytes-is k x (time_of d.ctx.moment) (bytes_after a)
+          (bytes_of (content_at k.state x.number)) known
+          (regular-bytes (content_at k.state x.number) (kind-is k.state x known ∙ regular)) in
+          ap (λ (q : Kept). Ok (answer_to d.ctx a, q.state)) is ∙ sym (ends-as false some s k w);
+      stays = λ k. refl;
+    }
 
-  module _ (number : ℕ) (i : Inode) (after : Attributes) (found : Names number i ≡ found_at ctx view.entries a.file) where
-    -- a WRITE that is refused, or writes nothing
-    pub refused_holds : (e : NfsStatus) → Shows number i after →
-        Err e ≡ write_object (opening_exports ctx.exports) ctx (living_of_inode i) a →
-        RepliesUnchanged (record { wcc = shown_wcc i after; result = Err e })
-    refused_holds e shows is =
-        record {
-          step = λ s m stands sound exports fits.
-              let means = resolve-means s m ctx view a.file (Names number i) found stands exports fits in
-              step m (machine.Names number (living_of_inode i)) (Err e) (record { wcc = shown_wcc i after; result = Err e })
-              (ap (λ o. record { wcc = record { before = Some (weak (living_of_inode i)); after = o }; result = Err e }) (attributes-seen s m view number i after stands sound fits means.1 shows))
-              means.0 (ap (end_by m number)
-              (is ∙ ap (λ es. write_object es ctx (living_of_inode i) a) (sym exports)));
-        }
+-- ---- the reply
+write-step : (m new : State) (ctx : Ctx) (a : WriteArguments) (shown : Wcc) (result : Result Written NfsStatus)
+    (end : Result (Written × State) NfsStatus) → end ≡ write_end m ctx a
+    → shown ≡ wcc (state_after m end) (resolve m ctx a.file) → result ≡ answer_of end
+    → new ≡ state_after m end
+    → NfsStep m ctx (nfs.Write a) (replies.Write (record { wcc = shown; result = result })) [] new
+unfolding NfsStep
+write-step m new ctx a shown result end is shows answers state = record {
+  reply_is = ap (λ x. replies.Write (record { wcc = x; result = result })) shows
+      ∙ ap (λ r. replies.Write (record { wcc = wcc (state_after m end) (resolve m ctx a.file); result = r })) answers
+      ∙ ap (λ e. replies.Write (record
+      { wcc = wcc (state_after m e) (resolve m ctx a.file); result = answer_of e })) is;
+  no_message = refl;
+  state_is = state ∙ ap (state_after m) is;
+}
 
-    pub nothing_holds : (written : Written) → Shows number i after →
-        Ok (written, None) ≡ write_object (opening_exports ctx.exports) ctx (living_of_inode i) a →
-        RepliesUnchanged (record { wcc = shown_wcc i after; result = Ok written })
-    nothing_holds written shows is =
-        record {
-          step = λ s m stands sound exports fits.
-              let means = resolve-means s m ctx view a.file (Names number i) found stands exports fits in
-              step m (machine.Names number (living_of_inode i)) (Ok (written, m)) (record { wcc = shown_wcc i after; result = Ok written })
-              (ap (λ o. record { wcc = record { before = Some (weak (living_of_inode i)); after = o }; result = Ok written }) (attributes-seen s m view number i after stands sound fits means.1 shows))
-              means.0 (ap (end_by m number)
-              (is ∙ ap (λ es. write_object es ctx (living_of_inode i) a) (sym exports)));
-        }
+module _ (d : DraftValue) (a : WriteArguments) (begins : Begins (calls.Nfs (nfs.Write a)) d) where
+  abbrev pub IsAnswer : DraftValue → Wcc → Result Written NfsStatus → Type 0
+  IsAnswer new shown result = IsPromised (done_value (calls.Nfs (nfs.Write a)) d.ctx d.view (record {
+    writes = new.writes;
+    messages = new.messages;
+    reply = answers.Nfs (replies.Write (record { wcc = shown; result = result }));
+  }))
 
-    -- a WRITE after which the file is another
-    pub written_rewrites : (written : Written) (new : Inode) → Shows number new after → KeepsPlace i new →
-        Ok (written, Some (living_of_inode new)) ≡ write_object (opening_exports ctx.exports) ctx
-        (living_of_inode i) a
-        → Rewrites (calls.Nfs (nfs.Write a)) ctx view number new (answers.Nfs (replies.Write (record { wcc = shown_wcc i after; result = Ok written })))
-    written_rewrites written new shows keeps is =
-        let seen = names-seen ctx view.entries a.file number i found in
-        record {
-          old = i;
-          seen = seen;
-          keeps = keeps;
-          step = λ s m stands sound exports fits.
-              let means = resolve-means s m ctx view a.file (Names number i) found stands exports fits in
-              let at = fits_at view.entries s.at (addresses.Inode number) (Some (objects.Inode i)) fits.entries seen in
-              step m (machine.Names number (living_of_inode i)) (end_by m number (Ok (written, Some (living_of_inode new)))) (record { wcc = shown_wcc i after; result = Ok written })
-              (ap (λ o. record { wcc = record { before = Some (weak (living_of_inode i)); after = o }; result = Ok written }) (attributes-put s m number i new after at keeps stands sound shows))
-              means.0 (ap (end_by m number)
-              (is ∙ ap (λ es. write_object es ctx (living_of_inode i) a) (sym exports)));
-        }
+  pub write-promised : (new : DraftValue) (x : Known) (shown : Wcc) (result : Result Written NfsStatus)
+      → Held new.view new.writes → Given new.view new.writes
+      → Knows d (λ k. Names d.ctx a.file k x) → Does d new (IsWriteEnd d.ctx a) result
+      → Knows new (λ k. shown ≡ record { before = Some (weak_of x); after = attributes_at k.state x.number })
+      → IsAnswer new shown result
+  write-promised new x shown result held given names does shows =
+      promised-does d new begins.none begins.quiet (IsWriteEnd d.ctx a) result does (calls.Nfs (nfs.Write a)) _
+      held given (λ s k m w now same state ends.
+      let end = ending result (does.op k).state in
+      write-step k.state m d.ctx a shown result end ends
+      (shows s (does.op k) now
+      ∙ ap (λ (m : State). record { before = Some (weak_of x); after = attributes_at m x.number }) (does.stays k)
+      ∙ sym ((names s k w).wcc_after (state_after k.state end)))
+      (sym (answer-ending result (does.op k).state)) state)
+
+  pub refused-promised : (e : NfsStatus) → Held d.view d.writes → Given d.view d.writes
+      → Knows d (λ k. NamesNothing d.ctx a.file k e)
+      → IsAnswer d (record { before = None; after = None }) (Err e)
+  refused-promised e held given refused =
+      promised-unchanged d begins.none begins.quiet (calls.Nfs (nfs.Write a)) _ held given (λ s k w formed.
+      write-step k.state k.state d.ctx a _ (Err e) (Err e) (sym (failed _ (refused s k w).refused))
+      (sym ((refused s k w).wcc_after k.state)) refl refl)

@@ -1,2 +1,3 @@
 pub mod Calls
-pub mod Wanted
+pub mod Reads
+pub mod Writes

@@ -1,71 +1,62 @@
 //! READ: bytes of a file (RFC 1813, 3.3.6).
 
-ghost use Rattle.std.specs.Prelude.{◌≡◌, [], Err, IfOk, None};
-ghost use Rattle.nfs_objects.specs.Attempt.{Attempts, AsksFor};
-ghost use Rattle.nfs_objects.specs.Endings.{HoldsUnchanged};
-ghost use Rattle.nfs_data.specs.Wanted.{wanted};
+ghost use Rattle.std.specs.Prelude.{◌≡◌, IfOk, MatchResult};
+ghost use Rattle.nfs_machine.specs.Attributes.{type_of};
+ghost use Rattle.nfs_machine.specs.DataSteps.{read_object};
+ghost use Rattle.nfs_machine.specs.State.{Content};
+ghost use Rattle.nfs_machine.specs.declared.calls.Call.TheVariants as calls;
+ghost use Rattle.nfs_objects.specs.Attempt.{Ends, EndsFirst};
+ghost use Rattle.nfs_objects.specs.Begins.{Begins};
+ghost use Rattle.nfs_objects.specs.Knows.{Knows};
+ghost use Rattle.nfs_objects.specs.declared.address.Addr.TheVariants as addresses;
+ghost use Rattle.nfs_inodes.specs.Known.{IsKnown, object_at, shell};
+ghost use Rattle.nfs_inodes.specs.Stops.{StopsAt};
+ghost use Rattle.nfs_data.specs.Reads.{read_found};
 
-use nfs_inodes::{Found, attributes, read, resolve};
-use nfs_machine::{Call, Ctx, Reply};
-use nfs_objects::{Outcome, View, needed, unchanged};
-use nfs_wire::{NfsCall, NfsReply, NfsStatus, ReadArguments, ReadReply};
-use std::alloc::{AllocError, Global};
+use nfs_inodes::{File, Known, Right, named, permitted, read, regular};
+use nfs_machine::{Ctx, Reply};
+use nfs_objects::{Change, Draft, Halt};
+use nfs_wire::{NfsCall, NfsReply, NfsStatus, ReadArguments, ReadData, ReadReply};
 
-/// Tries READ with these arguments on a view.
-pub(crate) fn attempt(
-    alloc: Global,
-    arguments: &ReadArguments,
-    ctx: &Ctx,
-    view: &View,
-) -> Result<Outcome, AllocError>
-    ensures attempts { IfOk result
-        (λ outcome. Attempts (Call.Nfs (NfsCall.Read arguments.now)) ctx.now view.now outcome) }
-    ensures asks { IfOk result (AsksFor (wanted ctx.now view.now.entries (NfsCall.Read arguments.now))) }
+/// Tries READ.
+pub(crate) fn attempt(draft: Draft<'_>, arguments: &ReadArguments) -> Result<Change, Halt>
+    requires { Begins (calls.Nfs (NfsCall.Read arguments.now)) draft }
+    ensures ends { Ends (calls.Nfs (NfsCall.Read arguments.now)) draft.entry.ctx draft.entry.view result }
+    ensures first { EndsFirst (calls.Nfs (NfsCall.Read arguments.now)) draft.entry.view result }
 {
-    match resolve(ctx, view, arguments.file.as_slice()) {
-        Found::BadHandle => answer(
-            alloc,
-            arguments,
-            ctx,
-            view,
-            nothing_named(NfsStatus::BadHandle),
-        ),
-        Found::Stale => answer(alloc, arguments, ctx, view, nothing_named(NfsStatus::Stale)),
-        Found::Inode(number, inode) => {
-            let reply = ReadReply {
-                attributes: Some(attributes(number, inode)),
-                result: read(ctx, inode, arguments)?,
-            };
-            answer(alloc, arguments, ctx, view, reply)
-        }
-        Found::Unread(address) => needed(alloc, address),
+    let (attributes, result) = match named(&draft, arguments.file.as_slice())? {
+        Ok(known) => (Some(known.attributes), read_of(&draft, &known, arguments)?),
+        Err(status) => (None, Err(status)),
+    };
+    let reply = ReadReply { attributes, result };
+    Ok(draft.answer(Reply::Nfs(NfsReply::Read(reply))))
+}
+
+/// What is read of an object, or why nothing is.
+fn read_of(
+    draft: &Draft<'_>,
+    known: &Known,
+    arguments: &ReadArguments,
+) -> Result<Result<ReadData, NfsStatus>, Halt>
+    requires { Knows draft.now (λ k. IsKnown k.state known.now) }
+    ensures { MatchResult result
+        (λ found. Knows draft.now (λ k.
+        read_object draft.now.ctx (object_at k.state known.now) arguments.now ≡ found))
+        (StopsAt draft.now (addresses.Inode known.now.number)) }
+{
+    match readable(draft.ctx(), known) {
+        Ok(file) => Ok(Ok(read(draft, &file, arguments.offset, arguments.count)?)),
+        Err(status) => Ok(Err(status)),
     }
 }
 
-/// The reply where the handle names nothing.
-fn nothing_named(status: NfsStatus) -> ReadReply
-    ensures { result ≡ record { attributes = None; result = Err status } }
+/// The checks of READ.
+fn readable(ctx: &Ctx, known: &Known) -> Result<File, NfsStatus>
+    ensures known { IfOk result (λ file. file.known ≡ known.now) }
+    ensures checks { (content : Content) (a : ReadArguments) → type_of content ≡ known.now.attributes.kind →
+        read_object ctx.now (shell known.now content) a ≡ read_found content a result }
 {
-    ReadReply {
-        attributes: None,
-        result: Err(status),
-    }
-}
-
-/// The end with this reply.
-fn answer(
-    alloc: Global,
-    arguments: &ReadArguments,
-    ctx: &Ctx,
-    view: &View,
-    reply: ReadReply,
-) -> Result<Outcome, AllocError>
-    requires { HoldsUnchanged (Call.Nfs (NfsCall.Read arguments.now)) ctx.now view.now
-        (Reply.Nfs (NfsReply.Read reply)) }
-    ensures attempts { IfOk result
-        (λ outcome. Attempts (Call.Nfs (NfsCall.Read arguments.now)) ctx.now view.now outcome) }
-    ensures done { IfOk result (AsksFor []) }
-{
-    let call = Call::Nfs(NfsCall::Read(arguments.clone()?));
-    unchanged(alloc, call, ctx, view, Reply::Nfs(NfsReply::Read(reply)))
+    let file = regular(known)?;
+    permitted(ctx, known, Right::ToRead)?;
+    Ok(file)
 }

@@ -1,129 +1,126 @@
 //! WRITE: bytes into a file (RFC 1813, 3.3.7).
 
-ghost use Rattle.std.specs.Prelude.{◌≡◌, [], Err, IfOk, None};
-ghost use Rattle.nfs_inodes.specs.Found.{Names, found_at};
-ghost use Rattle.nfs_objects.specs.Attempt.{Attempts, AsksFor};
-ghost use Rattle.nfs_objects.specs.Endings.{HoldsUnchanged, Rewrites};
-ghost use Rattle.nfs_data.specs.Wanted.{wanted};
+ghost use Rattle.std.specs.Prelude.{◌≡◌, ◌+◌, ◌==◌, ◌||◌, IfOk, MatchResult, None, nat_le};
+ghost use Rattle.nfs_machine.specs.Attributes.{type_of};
+ghost use Rattle.nfs_machine.specs.Data.{size_limit};
+ghost use Rattle.nfs_machine.specs.DataSteps.{write_count, write_object};
+ghost use Rattle.nfs_machine.specs.State.{Content};
+ghost use Rattle.nfs_machine.specs.declared.calls.Call.TheVariants as calls;
+ghost use Rattle.nfs_objects.specs.Attempt.{Ends, EndsFirst, Stops};
+ghost use Rattle.nfs_objects.specs.Begins.{Begins};
+ghost use Rattle.nfs_objects.specs.Calls.{named_by};
+ghost use Rattle.nfs_objects.specs.Knows.{Does, Knows};
+ghost use Rattle.nfs_inodes.specs.Known.{Names, shell};
+ghost use Rattle.nfs_data.specs.Writes.{HasRoom, IsWriteEnd, answer_to, write_found};
 
-use nfs_inodes::{Found, attributes, resolve, wcc, weak, write};
-use nfs_machine::{Call, Ctx, Reply};
-use nfs_objects::{Inode, Outcome, View, needed, rewritten, unchanged};
-use nfs_wire::{NfsCall, NfsReply, NfsStatus, Wcc, WriteArguments, WriteReply};
-use std::alloc::{AllocError, Global};
+use nfs_inodes::{
+    File, Known, Right, SIZE_LIMIT, TRANSFER_LIMIT, changeable, exports, named, permitted, regular,
+    verifier, wcc, write,
+};
+use nfs_machine::{Ctx, Reply};
+use nfs_objects::{Change, Draft, Halt, LivingExport};
+use nfs_wire::{NfsCall, NfsReply, NfsStatus, Wcc, WriteArguments, WriteReply, Written};
 
-/// Tries WRITE with these arguments on a view.
-pub(crate) fn attempt(
-    alloc: Global,
-    arguments: &WriteArguments,
-    ctx: &Ctx,
-    view: &View,
-) -> Result<Outcome, AllocError>
-    ensures attempts { IfOk result
-        (λ outcome. Attempts (Call.Nfs (NfsCall.Write arguments.now)) ctx.now view.now outcome) }
-    ensures asks { IfOk result (AsksFor (wanted ctx.now view.now.entries (NfsCall.Write arguments.now))) }
+/// Tries WRITE.
+pub(crate) fn attempt(mut draft: Draft<'_>, arguments: &WriteArguments) -> Result<Change, Halt>
+    requires { Begins (calls.Nfs (NfsCall.Write arguments.now)) draft }
+    ensures ends { Ends (calls.Nfs (NfsCall.Write arguments.now)) draft.entry.ctx draft.entry.view result }
+    ensures first { EndsFirst (calls.Nfs (NfsCall.Write arguments.now)) draft.entry.view result }
 {
-    match resolve(ctx, view, arguments.file.as_slice()) {
-        Found::BadHandle => answer(
-            alloc,
-            arguments,
-            ctx,
-            view,
-            nothing_named(NfsStatus::BadHandle),
-        ),
-        Found::Stale => answer(alloc, arguments, ctx, view, nothing_named(NfsStatus::Stale)),
-        Found::Inode(number, inode) => write_to(alloc, arguments, ctx, view, number, inode),
-        Found::Unread(address) => needed(alloc, address),
-    }
+    let (wcc, result) = match named(&draft, arguments.file.as_slice())? {
+        Ok(known) => {
+            let result = store(&mut draft, &known, arguments)?;
+            (wcc(&draft, &known)?, result)
+        }
+        Err(status) => (nothing_shown(), Err(status)),
+    };
+    let reply = WriteReply { wcc, result };
+    Ok(draft.answer(Reply::Nfs(NfsReply::Write(reply))))
 }
 
-/// The reply where the handle names nothing.
-fn nothing_named(status: NfsStatus) -> WriteReply
-    ensures { result ≡ record { wcc = record { before = None; after = None }; result = Err status } }
-{
-    WriteReply {
-        wcc: Wcc {
-            before: None,
-            after: None,
-        },
-        result: Err(status),
-    }
-}
-
-/// The end of a WRITE to the inode that the handle names.
-fn write_to(
-    alloc: Global,
-    arguments: &WriteArguments,
-    ctx: &Ctx,
-    view: &View,
-    number: u64,
-    inode: &Inode,
-) -> Result<Outcome, AllocError>
-    requires { Names number inode.now ≡ found_at ctx.now view.now.entries arguments.now.file }
-    ensures attempts { IfOk result
-        (λ outcome. Attempts (Call.Nfs (NfsCall.Write arguments.now)) ctx.now view.now outcome) }
-    ensures done { IfOk result (AsksFor []) }
-{
-    match write(alloc, ctx, inode, arguments)? {
-        Ok((written, Some(changed))) => {
-            let reply = WriteReply {
-                wcc: wcc(weak(inode), attributes(number, &changed)),
-                result: Ok(written),
-            };
-            store(alloc, arguments, ctx, view, number, changed, reply)
-        }
-        Ok((written, None)) => {
-            let reply = WriteReply {
-                wcc: wcc(weak(inode), attributes(number, inode)),
-                result: Ok(written),
-            };
-            answer(alloc, arguments, ctx, view, reply)
-        }
-        Err(status) => {
-            let reply = WriteReply {
-                wcc: wcc(weak(inode), attributes(number, inode)),
-                result: Err(status),
-            };
-            answer(alloc, arguments, ctx, view, reply)
-        }
-    }
-}
-
-/// The end of a WRITE after which this inode stands at the number.
+/// What WRITE answers, and the file after it.
 fn store(
-    alloc: Global,
+    draft: &mut Draft<'_>,
+    known: &Known,
     arguments: &WriteArguments,
-    ctx: &Ctx,
-    view: &View,
-    number: u64,
-    inode: Inode,
-    reply: WriteReply,
-) -> Result<Outcome, AllocError>
-    requires { Rewrites (Call.Nfs (NfsCall.Write arguments.now)) ctx.now view.now number inode
-        (Reply.Nfs (NfsReply.Write reply)) }
-    ensures attempts { IfOk result
-        (λ outcome. Attempts (Call.Nfs (NfsCall.Write arguments.now)) ctx.now view.now outcome) }
-    ensures done { IfOk result (AsksFor []) }
+) -> Result<Result<Written, NfsStatus>, Halt>
+    requires begins { Begins (calls.Nfs (NfsCall.Write arguments.now)) draft.old }
+    requires names { Knows draft.old (λ k. Names draft.old.ctx arguments.now.file k known.now) }
+    ensures { MatchResult result
+        (Does draft.old draft.new (IsWriteEnd draft.old.ctx arguments.now))
+        (Stops draft.old.modes (named_by (calls.Nfs (NfsCall.Write arguments.now))) draft.old.view) }
 {
-    let call = Call::Nfs(NfsCall::Write(arguments.clone()?));
-    let reply = Reply::Nfs(NfsReply::Write(reply));
-    rewritten(alloc, call, ctx, view, number, inode, reply)
+    let file = match writable(draft.ctx(), exports(draft)?, known, arguments) {
+        Ok(file) => file,
+        Err(status) => return Ok(Err(status)),
+    };
+    let answer = answer_to(draft.ctx(), arguments);
+    if answer.count > 0 {
+        let bytes = &arguments.data.as_slice()[..answer.count as usize];
+        write(draft, &file, arguments.offset as usize, bytes)?;
+    }
+    Ok(Ok(answer))
 }
 
-/// The end of a WRITE that changes nothing.
-fn answer(
-    alloc: Global,
-    arguments: &WriteArguments,
+/// The checks of WRITE.
+fn writable(
     ctx: &Ctx,
-    view: &View,
-    reply: WriteReply,
-) -> Result<Outcome, AllocError>
-    requires { HoldsUnchanged (Call.Nfs (NfsCall.Write arguments.now)) ctx.now view.now
-        (Reply.Nfs (NfsReply.Write reply)) }
-    ensures attempts { IfOk result
-        (λ outcome. Attempts (Call.Nfs (NfsCall.Write arguments.now)) ctx.now view.now outcome) }
-    ensures done { IfOk result (AsksFor []) }
+    exports: &[LivingExport],
+    known: &Known,
+    arguments: &WriteArguments,
+) -> Result<File, NfsStatus>
+    ensures known { IfOk result (λ file. file.known ≡ known.now) }
+    ensures checks { (content : Content) → type_of content ≡ known.now.attributes.kind →
+        write_object exports.now ctx.now (shell known.now content) arguments.now
+        ≡ write_found ctx.now arguments.now known.now content result }
+    ensures room { IfOk result (λ _. HasRoom arguments.now) }
 {
-    let call = Call::Nfs(NfsCall::Write(arguments.clone()?));
-    unchanged(alloc, call, ctx, view, Reply::Nfs(NfsReply::Write(reply)))
+    let file = regular(known)?;
+    if arguments.count as usize != arguments.data.len() {
+        return Err(NfsStatus::Invalid);
+    }
+    changeable(exports, known)?;
+    permitted(ctx, known, Right::ToWrite)?;
+    if !ends_within(arguments) {
+        return Err(NfsStatus::FileTooBig);
+    }
+    Ok(file)
+}
+
+/// Whether what is written ends within the largest file.
+fn ends_within(arguments: &WriteArguments) -> bool
+    ensures { result ≡ ((write_count arguments.now == 0)
+        || nat_le (arguments.now.offset + write_count arguments.now) size_limit) }
+{
+    let count = count_of(arguments);
+    let offset = arguments.offset;
+    count == 0 || (offset <= SIZE_LIMIT && offset + u64::from(count) <= SIZE_LIMIT)
+}
+
+/// How many bytes are written.
+fn count_of(arguments: &WriteArguments) -> u32
+    ensures { result ≡ write_count arguments.now }
+{
+    arguments.count.min(TRANSFER_LIMIT)
+}
+
+/// What a WRITE answers that passed its checks.
+fn answer_to(ctx: &Ctx, arguments: &WriteArguments) -> Written
+    ensures { result ≡ answer_to ctx.now arguments.now }
+{
+    Written {
+        count: count_of(arguments),
+        committed: arguments.stable,
+        verifier: verifier(ctx),
+    }
+}
+
+/// What is shown where a handle names nothing.
+fn nothing_shown() -> Wcc
+    ensures { result ≡ record { before = None; after = None } }
+{
+    Wcc {
+        before: None,
+        after: None,
+    }
 }

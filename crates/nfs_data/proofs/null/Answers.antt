@@ -1,5 +1,7 @@
-use Rattle.nfs_data.proofs.Nothing.{null_holds}
+use Rattle.nfs_data.proofs.Answered.{null-promised}
 use Rattle.nfs_data.proofs.null.Goals as goal
 
-pub unchanged-requires : goal.unchanged-requires
-unchanged-requires c = null_holds _ _
+pub returns-clause-ends : goal.returns-clause-ends
+returns-clause-ends c =
+    rw c.answer.ensures.value
+    (null-promised c.args.draft c.requires c.answer.ensures.held c.answer.ensures.given)

@@ -1,12 +1,22 @@
-use Rattle.nfs_data.proofs.Shown.{bad_handle_holds, stale_holds, names_holds}
+use Rattle.std.proofs.Common.{refl, sym}
+use Rattle.std.proofs.lemmas.Result.{err_from_is_err_and}
+use Rattle.nfs_wire.specs.declared.calls.NfsCall.TheVariants as nfs
+use Rattle.nfs_machine.specs.declared.calls.Call.TheVariants as calls
+use Rattle.nfs_data.proofs.Answered.{getattr-promised}
+use Rattle.nfs_inodes.proofs.Ending.{means-as, naming}
 use Rattle.nfs_data.proofs.getattr.attempt.Goals as goal
 
-pub answer-requires : goal.answer-requires
-answer-requires c = bad_handle_holds c.args.ctx.now c.args.view.now c.args.object.now (rw c.as_slice.ensures at c.in-BadHandle.ensures)
+pub returns-in_err-found-clause-ends : goal.returns-in_err-found-clause-ends
+returns-in_err-found-clause-ends c =
+    let p = err_from_is_err_and c.from_residual.result c.from_residual.ensures.1 in
+    rw (p.1, p.2)
+    (naming c.args.draft (calls.Nfs (nfs.Getattr c.args.object.now)) _ c.requires c.args.object.now _
+    c.as_slice.ensures refl c.in_err-found.ensures.stops)
 
-pub answer-requires-in-Stale : goal.answer-requires-in-Stale
-answer-requires-in-Stale c = stale_holds c.args.ctx.now c.args.view.now c.args.object.now (rw c.as_slice.ensures at c.in-Stale.ensures)
-
-pub answer-requires-in-Inode : goal.answer-requires-in-Inode
-answer-requires-in-Inode c =
-    names_holds c.args.ctx.now c.args.view.now c.args.object.now c.in-Inode.number c.in-Inode.inode.now c.attributes.result (rw c.as_slice.ensures at c.in-Inode.ensures) c.attributes.ensures
+pub returns-clause-ends : goal.returns-clause-ends
+returns-clause-ends c =
+    rw c.answer.ensures.value
+    (getattr-promised c.args.draft c.args.object.now c.in_ok-found.found c.attributes_in-attributes.result c.requires
+    c.answer.ensures.held c.answer.ensures.given
+    (means-as c.args.draft c.args.object.now _ _ _ c.as_slice.ensures refl c.in_ok-found.ensures.means)
+    (sym c.attributes_in-attributes.ensures))
