@@ -1,3 +1,2 @@
 pub mod Creating
-pub mod Few
 pub mod Looked

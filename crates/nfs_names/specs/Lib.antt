@@ -1,3 +1,5 @@
 pub mod Calls
-pub mod Shown
-pub mod Wanted
+pub mod Checking
+pub mod Creates
+pub mod Lookup
+pub mod Stopping

@@ -1,345 +1,219 @@
 //! CREATE: a new file under a name (RFC 1813, 3.3.8).
 
-ghost use Rattle.std.specs.Prelude.{◌≡◌, [], IfOk, None, Ok, Some, Err, option_map, slice_get};
+ghost use Rattle.std.specs.Prelude.{◌≡◌, [], IfOk, List, MatchResult, None, Ok, ℕ, option_map};
+ghost use Rattle.nfs_machine.specs.Attributes.{entries_of};
 ghost use Rattle.nfs_machine.specs.Checks.{entry_of};
-ghost use Rattle.nfs_objects.specs.Attempt.{Attempts, AsksFor};
-ghost use Rattle.nfs_objects.specs.Endings.{Creates, HoldsUnchanged, Rewrites};
-ghost use Rattle.nfs_objects.specs.Entries.{leaf_of};
-ghost use Rattle.nfs_objects.specs.Values.{seen_at};
-ghost use Rattle.nfs_inodes.specs.Found.{Names, found_at};
-ghost use Rattle.nfs_inodes.specs.Lent.{lent};
-ghost use Rattle.nfs_names.specs.Shown.{ShowsMade, ShowsWcc};
-ghost use Rattle.nfs_names.specs.Wanted.{AsksAs, directory_checked, new_judged, new_wanted, unless_known, wanted};
+ghost use Rattle.nfs_machine.specs.NameSteps.{create_over};
+ghost use Rattle.nfs_machine.specs.State.{Content, Socket};
+ghost use Rattle.nfs_machine.specs.Times.{time_of};
+ghost use Rattle.nfs_machine.specs.declared.calls.Call.TheVariants as calls;
+ghost use Rattle.nfs_objects.specs.Asks.{Lives};
+ghost use Rattle.nfs_objects.specs.Attempt.{Ends, EndsFirst, Stops};
+ghost use Rattle.nfs_objects.specs.Begins.{Begins};
+ghost use Rattle.nfs_objects.specs.Calls.{named_by};
+ghost use Rattle.nfs_objects.specs.Knows.{Does, Knows, Turns};
+ghost use Rattle.nfs_objects.specs.declared.address.Addr.TheVariants as addresses;
+ghost use Rattle.nfs_inodes.specs.Known.{IsKnown, Names, content_at, shell};
+ghost use Rattle.nfs_inodes.specs.Stops.{StopsAt};
+ghost use Rattle.nfs_names.specs.Checking.{ComesTo};
+ghost use Rattle.nfs_names.specs.Creates.{IsCreateEnd, IsNewEnd, IsOverEnd, create_checked, file_over};
+ghost use Rattle.nfs_names.specs.Creates.{made_at, size_checked, sized};
+ghost use Rattle.nfs_names.specs.Stopping.{StopsAny, StopsUnlessKnown};
 
 use nfs_inodes::{
-    Found, Right, attributes, attributes_given, changeable, create_over, directory,
-    given_attributes, handle, new_file, new_name_checked, permitted, resolve, wcc, weak, with_name,
+    Directory, File, Known, Right, SIZE_LIMIT, attributes_given, changeable, directory, entry,
+    exports, given_attributes, handle, is_verifier, make_file, named, next_cookie, object,
+    permitted, plain_name_checked, regular, resize, wcc,
 };
-use nfs_machine::{Call, Ctx, Reply};
-use nfs_objects::{
-    Addr, Creation, Directory, Inode, Outcome, View, created, living, needed, rewritten, unchanged,
-};
+use nfs_machine::{Ctx, Reply};
+use nfs_objects::{Change, Draft, Halt, LivingExport, Mode};
 use nfs_wire::{CreateArguments, CreateHow, Made, MadeReply, NfsCall, NfsReply, NfsStatus, Wcc};
-use std::alloc::{AllocError, Global};
 
-/// Tries CREATE on a view.
-pub(crate) fn attempt(
-    alloc: Global,
-    arguments: &CreateArguments,
-    ctx: &Ctx,
-    view: &View,
-) -> Result<Outcome, AllocError>
-    ensures attempts { IfOk result
-        (λ outcome. Attempts (Call.Nfs (NfsCall.Create arguments.now)) ctx.now view.now outcome) }
-    ensures asks { IfOk result (AsksAs (wanted ctx.now view.now (NfsCall.Create arguments.now))) }
+/// Tries CREATE.
+pub(crate) fn attempt(mut draft: Draft<'_>, arguments: &CreateArguments) -> Result<Change, Halt>
+    requires { Begins (calls.Nfs (NfsCall.Create arguments.now)) draft }
+    ensures ends { Ends (calls.Nfs (NfsCall.Create arguments.now)) draft.entry.ctx draft.entry.view result }
+    ensures first { EndsFirst (calls.Nfs (NfsCall.Create arguments.now)) draft.entry.view result }
 {
-    match resolve(ctx, view, arguments.place.directory.as_slice()) {
-        Found::BadHandle => answer(
-            alloc,
-            arguments,
-            ctx,
-            view,
-            nothing_named(NfsStatus::BadHandle),
-        ),
-        Found::Stale => answer(alloc, arguments, ctx, view, nothing_named(NfsStatus::Stale)),
-        Found::Inode(number, inode) => create_in(alloc, arguments, ctx, view, number, inode),
-        Found::Unread(address) => needed(alloc, address),
+    match named(&draft, arguments.place.directory.as_slice())? {
+        Ok(directory) => {
+            let result = create(&mut draft, &directory, arguments)?;
+            let shown = wcc(&draft, &directory)?;
+            Ok(draft.answer(reply(shown, result)))
+        }
+        Err(status) => Ok(draft.answer(reply(nothing_shown(), Err(status)))),
     }
 }
 
-/// The same where the directory's handle names this inode.
-fn create_in(
-    alloc: Global,
+/// What CREATE answers, and the store after it.
+fn create(
+    draft: &mut Draft<'_>,
+    known: &Known,
     arguments: &CreateArguments,
-    ctx: &Ctx,
-    view: &View,
-    number: u64,
-    inode: &Inode,
-) -> Result<Outcome, AllocError>
-    requires { Names number inode.now ≡ found_at ctx.now view.now.entries arguments.now.place.directory }
-    ensures attempts { IfOk result
-        (λ outcome. Attempts (Call.Nfs (NfsCall.Create arguments.now)) ctx.now view.now outcome) }
-    ensures asks { IfOk result (AsksAs (wanted ctx.now view.now (NfsCall.Create arguments.now))) }
+) -> Result<Result<Made, NfsStatus>, Halt>
+    requires begins { Begins (calls.Nfs (NfsCall.Create arguments.now)) draft.old }
+    requires names { Knows draft.old (λ k. Names draft.old.ctx arguments.now.place.directory k known.now) }
+    ensures { MatchResult result
+        (Does draft.old draft.new (IsCreateEnd draft.old.ctx arguments.now))
+        (Stops draft.old.modes (named_by (calls.Nfs (NfsCall.Create arguments.now))) draft.old.view) }
 {
     let name = arguments.place.name.as_slice();
-    let directory = match directory_checked(ctx, inode, name) {
+    let directory = match addable(draft.ctx(), exports(draft)?, known, name) {
         Ok(directory) => directory,
-        Err(status) => {
-            let reply = refused(number, inode, status);
-            return answer(alloc, arguments, ctx, view, reply);
-        }
+        Err(status) => return Ok(Err(status)),
     };
-    match directory.entries.find(name) {
-        Some(leaf) => create_over_entry(
-            alloc,
-            arguments,
-            ctx,
-            view,
-            number,
-            inode,
-            directory,
-            leaf.number,
-        ),
-        None => create_new(alloc, arguments, ctx, view, number, inode, directory),
+    match entry(draft, &directory, name)? {
+        Some(number) => create_over(draft, number, &arguments.how),
+        None => create_new(draft, &directory, name, &arguments.how),
     }
 }
 
-/// The directory that may get a new name, or the status of the first check that fails.
-fn directory_checked<'a>(
+/// The checks of a directory that may get a new name: where they pass, the rest decides.
+fn addable(
     ctx: &Ctx,
-    inode: &'a Inode,
+    exports: &[LivingExport],
+    known: &Known,
     name: &[u8],
-) -> Result<&'a Directory, NfsStatus>
-    ensures { lent result ≡ directory_checked ctx.now inode.now name.now }
+) -> Result<Directory, NfsStatus>
+    ensures known { IfOk result (λ directory. directory.known ≡ known.now) }
+    ensures checks { ComesTo (create_checked exports.now ctx.now name.now) known.now result }
 {
-    let directory = directory(inode)?;
-    new_name_checked(name)?;
-    changeable(ctx, inode)?;
-    permitted(ctx, inode, Right::ToChange)?;
+    let directory = directory(known)?;
+    plain_name_checked(NfsStatus::Exists, NfsStatus::Exists, name)?;
+    changeable(exports, known)?;
+    permitted(ctx, known, Right::ToChange)?;
     Ok(directory)
 }
 
 /// CREATE where the name leads to this number.
-fn create_over_entry(
-    alloc: Global,
-    arguments: &CreateArguments,
-    ctx: &Ctx,
-    view: &View,
+fn create_over(
+    draft: &mut Draft<'_>,
     number: u64,
-    inode: &Inode,
-    directory: &Directory,
-    entry: u64,
-) -> Result<Outcome, AllocError>
-    requires names { Names number inode.now ≡ found_at ctx.now view.now.entries arguments.now.place.directory }
-    requires checked { directory_checked ctx.now inode.now arguments.now.place.name ≡ Ok directory.now }
-    requires leads { option_map (λ e. e.number) (entry_of directory.now.entries arguments.now.place.name)
-        ≡ Some entry }
-    ensures attempts { IfOk result
-        (λ outcome. Attempts (Call.Nfs (NfsCall.Create arguments.now)) ctx.now view.now outcome) }
-    ensures asks { IfOk result
-        (AsksFor (unless_known (Addr.Inode entry) (seen_at view.now.entries (Addr.Inode entry)))) }
+    how: &CreateHow,
+) -> Result<Result<Made, NfsStatus>, Halt>
+    requires none { draft.old.writes ≡ [] }
+    requires alone { draft.old.modes.inodes ≡ Mode.Exclusive }
+    requires lives { Lives draft.old.view (addresses.Inode number) }
+    ensures { MatchResult result
+        (Does draft.old draft.new (IsOverEnd draft.old.ctx how.now number))
+        (StopsAny draft.old) }
 {
-    let Some(known) = view.find(Addr::Inode(entry)) else {
-        return needed(alloc, Addr::Inode(entry));
+    let Some(object) = object(draft, number)? else {
+        return Ok(Err(NfsStatus::Exists));
     };
-    let object = match living(known) {
-        Some(object) => object,
-        None => {
-            let reply = refused(number, inode, NfsStatus::Exists);
-            return answer(alloc, arguments, ctx, view, reply);
-        }
+    let Ok(file) = regular(&object) else {
+        return Ok(Err(NfsStatus::Exists));
     };
-    match create_over(alloc, ctx, &arguments.how, object)? {
-        Ok(Some(changed)) => {
-            let made = made(alloc, ctx, entry, &changed)?;
-            let reply = done(number, inode, inode, made);
-            store(alloc, arguments, ctx, view, entry, changed, reply)
+    let size = match size_over(draft.ctx(), &object, how) {
+        Ok(size) => size,
+        Err(status) => return Ok(Err(status)),
+    };
+    give_size(draft, &file, size)?;
+    Ok(Ok(made(draft, number)?))
+}
+
+/// The size that CREATE gives the file that is there, if it gives one; or why this file is no answer to it.
+fn size_over(ctx: &Ctx, file: &Known, how: &CreateHow) -> Result<Option<u64>, NfsStatus>
+    ensures { (content : Content) (bytes : List ℕ) →
+        create_over ctx.now how.now (shell file.now content) (Ok bytes)
+        ≡ file_over (time_of ctx.now.moment) (shell file.now content) bytes result }
+{
+    match how {
+        CreateHow::Unchecked(given) => {
+            if let Some(size) = given.size {
+                size_allowed(ctx, file, size)?;
+            }
+            Ok(given.size)
         }
-        Ok(None) => {
-            let made = made(alloc, ctx, entry, object)?;
-            let reply = done(number, inode, inode, made);
-            answer(alloc, arguments, ctx, view, reply)
-        }
-        Err(status) => {
-            let reply = refused(number, inode, status);
-            answer(alloc, arguments, ctx, view, reply)
-        }
+        CreateHow::Exclusive(verifier) if is_verifier(file, verifier) => Ok(None),
+        CreateHow::Exclusive(_) | CreateHow::Guarded(_) => Err(NfsStatus::Exists),
+    }
+}
+
+/// Whether the caller may give the file this size.
+fn size_allowed(ctx: &Ctx, file: &Known, size: u64) -> Result<(), NfsStatus>
+    ensures { result ≡ size_checked ctx.now (shell file.now Socket) size }
+{
+    permitted(ctx, file, Right::ToWrite)?;
+    if size > SIZE_LIMIT {
+        return Err(NfsStatus::FileTooBig);
+    }
+    Ok(())
+}
+
+/// Cuts the file off, or fills it up, where a size is given.
+fn give_size(draft: &mut Draft<'_>, file: &File, size: Option<u64>) -> Result<(), Halt>
+    requires { draft.old.modes.inodes ≡ Mode.Exclusive }
+    ensures { MatchResult result
+        (λ _. Turns draft.old draft.new (sized (time_of draft.old.ctx.moment) file.now.known.number size))
+        (StopsAt draft.old (addresses.Inode file.now.known.number)) }
+{
+    match size {
+        Some(size) => resize(draft, file, size as usize),
+        None => Ok(()),
     }
 }
 
 /// CREATE where nothing has the name.
 fn create_new(
-    alloc: Global,
-    arguments: &CreateArguments,
-    ctx: &Ctx,
-    view: &View,
-    number: u64,
-    inode: &Inode,
+    draft: &mut Draft<'_>,
     directory: &Directory,
-) -> Result<Outcome, AllocError>
-    requires names { Names number inode.now ≡ found_at ctx.now view.now.entries arguments.now.place.directory }
-    requires checked { directory_checked ctx.now inode.now arguments.now.place.name ≡ Ok directory.now }
-    requires absent { entry_of directory.now.entries arguments.now.place.name ≡ None }
-    ensures attempts { IfOk result
-        (λ outcome. Attempts (Call.Nfs (NfsCall.Create arguments.now)) ctx.now view.now outcome) }
-    ensures asks { IfOk result
-        (AsksAs (new_wanted view.now.reserved (new_judged ctx.now arguments.now.how directory.now.last_cookie))) }
+    name: &[u8],
+    how: &CreateHow,
+) -> Result<Result<Made, NfsStatus>, Halt>
+    requires none { draft.old.writes ≡ [] }
+    requires alone { draft.old.modes.inodes ≡ Mode.Exclusive }
+    requires known { Knows draft.old (λ k. IsKnown k.state directory.now.known) }
+    requires lives { Lives draft.old.view (addresses.Inode directory.now.known.number) }
+    requires absent { Knows draft.old (λ k. option_map (λ e. e.number)
+        (entry_of (entries_of (content_at k.state directory.now.known.number)) name.now) ≡ None) }
+    ensures { MatchResult result
+        (Does draft.old draft.new (IsNewEnd draft.old.ctx how.now directory.now.known name.now))
+        (StopsAny draft.old) }
 {
-    match new_judged(ctx, &arguments.how, directory.last_cookie) {
-        Ok(()) => {}
-        Err(status) => {
-            let reply = refused(number, inode, status);
-            return answer(alloc, arguments, ctx, view, reply);
-        }
+    if let Err(status) = given_attributes(draft.ctx(), &attributes_given(how)) {
+        return Ok(Err(status));
     }
-    match view.fresh() {
-        Some(reserved) => create_file(
-            alloc,
-            arguments,
-            ctx,
-            view,
-            number,
-            inode,
-            directory,
-            reserved.number,
-            reserved.generation,
-        ),
-        None => Ok(Outcome::Fresh(1)),
-    }
-}
-
-/// CREATE of a file that gets this number and this generation.
-fn create_file(
-    alloc: Global,
-    arguments: &CreateArguments,
-    ctx: &Ctx,
-    view: &View,
-    number: u64,
-    inode: &Inode,
-    directory: &Directory,
-    fresh: u64,
-    generation: u64,
-) -> Result<Outcome, AllocError>
-    requires names { Names number inode.now ≡ found_at ctx.now view.now.entries arguments.now.place.directory }
-    requires checked { directory_checked ctx.now inode.now arguments.now.place.name ≡ Ok directory.now }
-    requires absent { entry_of directory.now.entries arguments.now.place.name ≡ None }
-    requires judged { Ok tt ≡ new_judged ctx.now arguments.now.how directory.now.last_cookie }
-    requires first { slice_get view.now.reserved 0 ≡ Some (record { number = fresh; generation = generation }) }
-    ensures attempts { IfOk result
-        (λ outcome. Attempts (Call.Nfs (NfsCall.Create arguments.now)) ctx.now view.now outcome) }
-    ensures done { IfOk result (AsksFor []) }
-{
-    let object = new_file(alloc, ctx, &arguments.how, inode.export, generation)?;
-    let wider = with_name(ctx, inode, directory, &arguments.place.name, fresh)?;
-    let made = made(alloc, ctx, fresh, &object)?;
-    let reply = done(number, inode, &wider, made);
-    let creation = Creation {
-        place: number,
-        directory: wider,
-        number: fresh,
-        object,
+    let Some(cookie) = next_cookie(draft, directory)? else {
+        return Ok(Err(NfsStatus::NoSpace));
     };
-    store_new(alloc, arguments, ctx, view, creation, reply)
+    let reserved = make_file(draft, directory, name, cookie, how)?;
+    Ok(Ok(made(draft, reserved.number)?))
 }
 
-/// Judges a new file: what it is given, and whether the directory has a cookie for it.
-fn new_judged(ctx: &Ctx, how: &CreateHow, last_cookie: u64) -> Result<(), NfsStatus>
-    ensures { result ≡ new_judged ctx.now how.now last_cookie }
+/// What is told of what lives at a number: its handle and its attributes (RFC 1813, 3.3.8: post_op_fh3).
+fn made(draft: &Draft<'_>, number: u64) -> Result<Made, Halt>
+    ensures { MatchResult result
+        (λ made. Knows draft.now (λ k. made ≡ made_at k.state draft.now.ctx number))
+        (StopsUnlessKnown draft.now (addresses.Inode number)) }
 {
-    given_attributes(ctx, &attributes_given(how))?;
-    if last_cookie == u64::MAX {
-        return Err(NfsStatus::NoSpace);
-    }
-    Ok(())
-}
-
-/// What is told of a file of this number.
-fn made(alloc: Global, ctx: &Ctx, number: u64, inode: &Inode) -> Result<Made, AllocError>
-    ensures { IfOk result (ShowsMade ctx.now number inode.now) }
-{
-    Ok(Made {
-        object: Some(handle(alloc, ctx, number, inode)?),
-        attributes: Some(attributes(number, inode)),
-    })
-}
-
-/// The reply where the directory's handle names nothing.
-fn nothing_named(status: NfsStatus) -> MadeReply
-    ensures { result ≡ record { directory = record { before = None; after = None }; result = Err status } }
-{
-    MadeReply {
-        directory: Wcc {
-            before: None,
-            after: None,
-        },
-        result: Err(status),
+    match object(draft, number)? {
+        Some(known) => Ok(Made {
+            object: Some(handle(draft.alloc(), draft.ctx(), &known)?),
+            attributes: Some(known.attributes),
+        }),
+        None => Ok(Made {
+            object: None,
+            attributes: None,
+        }),
     }
 }
 
-/// The reply of a CREATE that changes nothing in the directory of this number.
-fn refused(number: u64, inode: &Inode, status: NfsStatus) -> MadeReply
-    ensures directory { ShowsWcc number inode.now inode.now result.directory }
-    ensures status { result.result ≡ Err status }
+/// What is shown where a handle names nothing.
+fn nothing_shown() -> Wcc
+    ensures { result ≡ record { before = None; after = None } }
 {
-    MadeReply {
-        directory: wcc(weak(inode), attributes(number, inode)),
-        result: Err(status),
+    Wcc {
+        before: None,
+        after: None,
     }
 }
 
-/// The reply of a CREATE, with the directory of this number before and after it.
-fn done(number: u64, before: &Inode, after: &Inode, made: Made) -> MadeReply
-    ensures directory { ShowsWcc number before.now after.now result.directory }
-    ensures made { result.result ≡ Ok made }
+fn reply(directory: Wcc, made: Result<Made, NfsStatus>) -> Reply
+    ensures { result ≡ Reply.Nfs (NfsReply.Create (record { directory = directory; result = made })) }
 {
-    MadeReply {
-        directory: wcc(weak(before), attributes(number, after)),
-        result: Ok(made),
-    }
-}
-
-/// The end of a CREATE after which this file stands at the number.
-fn store(
-    alloc: Global,
-    arguments: &CreateArguments,
-    ctx: &Ctx,
-    view: &View,
-    number: u64,
-    file: Inode,
-    reply: MadeReply,
-) -> Result<Outcome, AllocError>
-    requires { Rewrites (Call.Nfs (NfsCall.Create arguments.now)) ctx.now view.now number file
-        (Reply.Nfs (NfsReply.Create reply)) }
-    ensures attempts { IfOk result
-        (λ outcome. Attempts (Call.Nfs (NfsCall.Create arguments.now)) ctx.now view.now outcome) }
-    ensures done { IfOk result (AsksFor []) }
-{
-    let call = call(arguments)?;
-    let reply = Reply::Nfs(NfsReply::Create(reply));
-    rewritten(alloc, call, ctx, view, number, file, reply)
-}
-
-/// The end of a CREATE that made a file.
-fn store_new(
-    alloc: Global,
-    arguments: &CreateArguments,
-    ctx: &Ctx,
-    view: &View,
-    creation: Creation,
-    reply: MadeReply,
-) -> Result<Outcome, AllocError>
-    requires { Creates (Call.Nfs (NfsCall.Create arguments.now)) ctx.now view.now creation
-        (Reply.Nfs (NfsReply.Create reply)) }
-    ensures attempts { IfOk result
-        (λ outcome. Attempts (Call.Nfs (NfsCall.Create arguments.now)) ctx.now view.now outcome) }
-    ensures done { IfOk result (AsksFor []) }
-{
-    let call = call(arguments)?;
-    let reply = Reply::Nfs(NfsReply::Create(reply));
-    created(alloc, call, ctx, view, creation, reply)
-}
-
-/// The end of a CREATE that changes nothing.
-fn answer(
-    alloc: Global,
-    arguments: &CreateArguments,
-    ctx: &Ctx,
-    view: &View,
-    reply: MadeReply,
-) -> Result<Outcome, AllocError>
-    requires { HoldsUnchanged (Call.Nfs (NfsCall.Create arguments.now)) ctx.now view.now
-        (Reply.Nfs (NfsReply.Create reply)) }
-    ensures attempts { IfOk result
-        (λ outcome. Attempts (Call.Nfs (NfsCall.Create arguments.now)) ctx.now view.now outcome) }
-    ensures done { IfOk result (AsksFor []) }
-{
-    let call = call(arguments)?;
-    unchanged(alloc, call, ctx, view, Reply::Nfs(NfsReply::Create(reply)))
-}
-
-/// A CREATE with these arguments, which are shared.
-fn call(arguments: &CreateArguments) -> Result<Call, AllocError>
-    ensures { IfOk result (λ call. call ≡ Call.Nfs (NfsCall.Create arguments.now)) }
-{
-    Ok(Call::Nfs(NfsCall::Create(arguments.clone()?)))
+    Reply::Nfs(NfsReply::Create(MadeReply {
+        directory,
+        result: made,
+    }))
 }

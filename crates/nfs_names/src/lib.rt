@@ -1,44 +1,48 @@
-//! The procedures of NFS version 3 on names (RFC 1813, section 3.3), each as an attempt on a view.
+//! The procedures of NFS version 3 on names (RFC 1813, section 3.3), each as straight code over a draft.
 //!
-//! An attempt is a function of its arguments: it reads the view and nothing else, and comes to the addresses that it
-//! still needs, or to a `Done`. Its contract is the promise that a `Done` keeps by its type, which is that the answer
-//! is a step of the machine in every sound store that the view fits, and exactly what is asked for. So far the
-//! procedures are LOOKUP and CREATE. It stands on `nfs_objects` for views and ends, on `nfs_inodes` for what handles
-//! and names lead to and what is shown of inodes, and on `nfs_machine` for the steps.
+//! A procedure asks what a handle names, makes its checks, reads and changes directories by the readers and makers of
+//! `nfs_inodes`, and answers; what it lacks it halts with. So far the procedures are LOOKUP and CREATE.
 #![tactic(auto)]
 
 ghost use Rattle.std.specs.Prelude.{◌≡◌, true, IfOk};
-ghost use Rattle.nfs_objects.specs.Attempt.{Attempts};
-ghost use Rattle.nfs_objects.specs.Rounds.{AsksFew};
+ghost use Rattle.nfs_machine.specs.declared.calls.Call.TheVariants as calls;
+ghost use Rattle.nfs_objects.specs.Attempt.{AsksFirst, Attempts, Ends, EndsFirst};
+ghost use Rattle.nfs_objects.specs.Modes.{Suits, modes_of};
 ghost use Rattle.nfs_names.specs.Calls.{is_name_call};
-ghost use Rattle.nfs_names.specs.Wanted.{AsksAs, wanted};
 
 mod create;
 mod lookup;
 
-use nfs_machine::{Call, Ctx};
-use nfs_objects::{Outcome, View};
+use nfs_machine::Ctx;
+use nfs_objects::{CHANGING, Change, Draft, Halt, Outcome, READING, View, outcome};
 use nfs_wire::NfsCall;
 use std::alloc::{AllocError, Global};
 
-/// Tries a call on names on a view.
-///
-/// LOOKUP asks for the directory, and then for the object that the name leads to, unless the view has them; what is
-/// refused before is answered without asking. CREATE asks for the same, and for a new number where a file is made.
+/// Tries a call on names on a view, which holds all that it has as the call wants.
 ///
 /// # Errors
 ///
 /// `AllocError` where the memory for what the call comes to was refused.
 pub fn attempt(alloc: Global, call: &NfsCall, ctx: &Ctx, view: &View) -> Result<Outcome, AllocError>
-    requires { is_name_call call.now ≡ true }
-    ensures attempts { IfOk result (λ outcome. Attempts (Call.Nfs call.now) ctx.now view.now outcome) }
-    ensures asks { IfOk result (AsksAs (wanted ctx.now view.now call.now)) }
-    // The view and all that is asked for lie among the store's addresses and at most 256 others.
-    ensures few { AsksFew (λ v. wanted ctx.now v call.now) }
+    requires names { is_name_call call.now ≡ true }
+    requires suits { Suits (modes_of (calls.Nfs call.now)) view.now }
+    ensures attempts { IfOk result (Attempts (calls.Nfs call.now) ctx.now view.now) }
+    ensures first { IfOk result (AsksFirst (calls.Nfs call.now) view.now) }
+{
+    outcome(ended(alloc, call, ctx, view))
+}
+
+fn ended(alloc: Global, call: &NfsCall, ctx: &Ctx, view: &View) -> Result<Change, Halt>
+    requires names { is_name_call call.now ≡ true }
+    requires suits { Suits (modes_of (calls.Nfs call.now)) view.now }
+    ensures ends { Ends (calls.Nfs call.now) ctx.now view.now result }
+    ensures first { EndsFirst (calls.Nfs call.now) view.now result }
 {
     match call {
-        NfsCall::Create(arguments) => create::attempt(alloc, arguments, ctx, view),
-        NfsCall::Lookup(place) => lookup::attempt(alloc, place, ctx, view),
+        NfsCall::Lookup(place) => lookup::attempt(Draft::new(alloc, ctx, view, READING), place),
+        NfsCall::Create(arguments) => {
+            create::attempt(Draft::new(alloc, ctx, view, CHANGING), arguments)
+        }
         _ => unreachable!(),
     }
 }

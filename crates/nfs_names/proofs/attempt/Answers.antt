@@ -1,9 +1,6 @@
--- What is asked for does not hang on how the call ends.
-use Rattle.nfs_names.proofs.Few.{asks_few}
+use Rattle.nfs_machine.specs.declared.calls.Call.TheVariants as calls
 use Rattle.nfs_names.proofs.attempt.Goals as goal
 
-pub returns-in-Create-clause-few : goal.returns-in-Create-clause-few
-returns-in-Create-clause-few c = asks_few c.args.ctx.now c.args.call.now c.requires
-
-pub returns-in-Lookup-clause-few : goal.returns-in-Lookup-clause-few
-returns-in-Lookup-clause-few c = asks_few c.args.ctx.now c.args.call.now c.requires
+pub returns-clause-attempts : goal.returns-clause-attempts
+returns-clause-attempts c =
+    c.outcome.ensures.attempts (calls.Nfs c.args.call.now) c.args.ctx.now c.args.view.now c.ended.ensures.ends

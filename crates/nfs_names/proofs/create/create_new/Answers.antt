@@ -1,12 +1,53 @@
-use Rattle.std.proofs.Common.{arith}
-use Rattle.nfs_names.proofs.Creating.{new_refused_holds, none-reserved}
+use Rattle.std.proofs.Common.{inr}
+use Rattle.std.proofs.lemmas.Result.{err_from_is_err_and}
+use Rattle.nfs_wire.specs.declared.status.NfsStatus.TheVariants as status
+use Rattle.nfs_objects.proofs.Promised.{does-nothing}
+use Rattle.nfs_objects.specs.declared.address.Addr.TheVariants as addresses
+use Rattle.nfs_names.proofs.Creating.{later-stops, new-does, no-space, not-given, not-refused}
+use Rattle.nfs_names.specs.Creates.{IsNewEnd}
 use Rattle.nfs_names.proofs.create.create_new.Goals as goal
 
-pub answer-requires : goal.answer-requires
-answer-requires c =
-    new_refused_holds c.args.ctx.now c.args.view.now c.args.arguments.now c.args.number c.args.inode.now c.requires.names
-    c.args.directory.now c.requires.checked c.requires.absent
-    c.in-Err.status c.refused-reply.result c.in-Err.ensures c.refused-reply.ensures.directory c.refused-reply.ensures.status
+pub returns-in-Err : goal.returns-in-Err
+returns-in-Err c =
+    let d = c.args.draft.now in
+    let x = c.args.directory.now.known in
+    does-nothing d (IsNewEnd d.ctx c.args.how.now x c.args.name.now) c.in-Err.status
+    (not-given d c.args.how.now x c.args.name.now c.in-Err.status
+    (rw (c.ctx.ensures, c.attributes_given.ensures, c.in-Err.is) at c.given_attributes.ensures))
 
-pub returns-in-None-clause-attempts : goal.returns-in-None-clause-attempts
-returns-in-None-clause-attempts c = (none-reserved _ c.in-None.ensures, omega arith)
+pub returns-in_err-cookie : goal.returns-in_err-cookie
+returns-in_err-cookie c =
+    let p = err_from_is_err_and c.from_residual.result c.from_residual.ensures.1 in
+    rw (p.1, p.2) (λ named. c.in_err-cookie.ensures named (inr c.requires.lives))
+
+pub returns-in_default-2 : goal.returns-in_default-2
+returns-in_default-2 c =
+    let d = c.args.draft.now in
+    let x = c.args.directory.now.known in
+    let passes = not-refused c.given_attributes.result c.in_default.not-Err in
+    does-nothing d (IsNewEnd d.ctx c.args.how.now x c.args.name.now) status.NoSpace
+    (no-space d c.args.how.now x c.args.name.now
+    (rw (c.ctx.ensures, c.attributes_given.ensures, passes) at c.given_attributes.ensures)
+    (rw c.in_default-2.is at c.in_ok-cookie.ensures))
+
+pub returns-in_err-reserved : goal.returns-in_err-reserved
+returns-in_err-reserved c =
+    let p = err_from_is_err_and c.from_residual-in_err-reserved.result c.from_residual-in_err-reserved.ensures.1 in
+    rw (p.1, p.2) (λ named. c.in_err-reserved.ensures.turns named (inr c.requires.lives))
+
+pub returns-in_err-made : goal.returns-in_err-made
+returns-in_err-made c =
+    let p = err_from_is_err_and c.from_residual-in_err-made.result c.from_residual-in_err-made.ensures.1 in
+    rw (p.1, p.2) (later-stops c.args.draft.now c.make_file.new.draft _
+    (addresses.Inode c.in_ok-reserved.reserved.number) _ c.in_ok-reserved.ensures.turns.1
+    (inr c.in_ok-reserved.ensures.known) c.in_err-made.ensures)
+
+pub returns : goal.returns
+returns c =
+    let passes = not-refused c.given_attributes.result c.in_default.not-Err in
+    new-does c.args.draft.now c.args.how.now c.args.directory.now.known c.args.name.now
+    (rw (c.ctx.ensures, c.attributes_given.ensures, passes) at c.given_attributes.ensures)
+    c.make_file.new.draft c.in-Some.cookie (rw c.in-Some.is at c.in_ok-cookie.ensures)
+    c.requires.known c.args.directory.now.kind c.requires.absent
+    c.in_ok-reserved.reserved c.in_ok-reserved.ensures.turns.0 c.in_ok-reserved.ensures.turns.1
+    c.in_ok-made.field-0 c.in_ok-made.ensures
