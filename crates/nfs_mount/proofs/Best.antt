@@ -1,140 +1,129 @@
 -- The best of the first exports stays the best, or the next one becomes it: what two exports leave of the same names is
 -- the shorter, the more names they have themselves.
-use Rattle.std.proofs.Common.{◌≡◌, ℕ, ◌+◌, ◌<◌, ◌≤◌, true, false, cond, nat_lt, List, ◌++◌, length, map, get_or, option_map, Option, Some, None, ◌⊎◌, inl, inr, refl, sym, ◌∙◌, ap, subst, arith, length-append, MatchOption}
+use Rattle.std.proofs.Common.{◌≡◌, ◌==◌, ℕ, ◌+◌, ◌<◌, ◌≤◌, true, false, cond, nat_lt, List, ◌++◌}
+use Rattle.std.proofs.Common.{length, Option, Some, None, inl, inr, refl, sym, ◌∙◌, ap, subst, arith}
+use Rattle.std.proofs.Common.{length-append, MatchOption}
 use Rattle.std.proofs.lemmas.Bool.Decides.{nat_tests}
 use Rattle.std.proofs.lemmas.Bool.{cases_lt}
-use Rattle.std.proofs.lemmas.List.{length-map}
-use Rattle.std.proofs.lemmas.Option.{slice_get-map, slice_get_read}
-use Rattle.std.specs.List.{slice_get}
-use Rattle.nfs_machine.specs.Exports.{ExportValue, LivingExport, admits, export_at, export_value, opening_exports}
-use Rattle.nfs_machine.proofs.Exported.{export-all, export-number}
-use Rattle.nfs_machine.proofs.Ordered.{all-numbered, opened-at, opened-zero, with_number}
-use Rattle.nfs_machine.specs.MountSteps.{LongestMatch, Matches}
+use Rattle.std.proofs.lemmas.List.Folds.{find_at}
+use Rattle.std.proofs.lemmas.Option.{slice_get_within}
+use Rattle.std.specs.List.{position_or_len, slice_get}
+use Rattle.nfs_machine.specs.Exports.{LivingExport, admits, export_at}
+use Rattle.nfs_machine.specs.MountSteps.{NoExport}
 use Rattle.nfs_machine.specs.Paths.{parts}
-use Rattle.nfs_machine.specs.declared.exports.Export.{Export}
+use Rattle.nfs_machine.specs.WellFormed.{AllApart}
+use Rattle.nfs_objects.proofs.ExportTables.{found-by-number}
+use Rattle.nfs_mount.specs.Choices.{IsChosen, IsLead, LeadsNot, deeper_of}
 use Rattle.nfs_mount.specs.declared.choice.Choice.{Choice}
-use Rattle.nfs_mount.specs.Choices.{IsLead, LeadsNot, deeper_of}
 
--- of the exports with these first numbers, this is the one that leads there and leaves the least, or none does
-abbrev pub IsBestOf : ℕ → List ExportValue → List ℕ → List (List ℕ) → Option Choice → Type 0
-IsBestOf count exports host names None = (number : ℕ) (rest : List (List ℕ)) → number ≤ count →
-    Matches (opening_exports exports) host names number rest → ⊥
-IsBestOf count exports host names (Some best) =
-    Matches (opening_exports exports) host names best.number best.rest × (best.depth + length best.rest ≡ length names)
-    × ((number : ℕ) (rest : List (List ℕ)) → number ≤ count →
-    Matches (opening_exports exports) host names number rest → length best.rest ≤ length rest)
+module _ (exports : List LivingExport) (host : List ℕ) (names : List (List ℕ)) where
+  -- of what this export leaves, if it leads there
+  abbrev OfLead : LivingExport → (List (List ℕ) → Type 0) → Type 0
+  OfLead e P = (rest : List (List ℕ)) → admits e.value host ≡ true → names ≡ parts e.path ++ rest → P rest
 
-below_or_at : (n i : ℕ) → n ≤ i + 1 → (n ≤ i) ⊎ (n ≡ i + 1)
-below_or_at n i le = elim (cases_lt n (i + 1)) [ inl less ↦ inl (omega arith) | inr more ↦ inr (omega arith) ]
+  -- of what each of the first exports leaves that leads there
+  abbrev OfLeads : ℕ → (List (List ℕ) → Type 0) → Type 0
+  OfLeads count P = (i : ℕ) (e : LivingExport) → i < count → slice_get exports i ≡ Some e → OfLead e P
 
-module _ (exports : List ExportValue) (host : List ℕ) (names : List (List ℕ)) where
-  -- the export at a place has the number one above it
-  at_number : (i : ℕ) (e : ExportValue) → slice_get exports i ≡ Some e →
-      export_at (opening_exports exports) (i + 1) ≡ Some (with_number (i + 1) e)
-  at_number i e at =
-      let next : 1 + i ≡ i + 1 = omega arith in
-      subst (λ n. export_at (opening_exports exports) n ≡ Some (with_number n e)) next
-      (opened-at exports i ∙ ap (option_map (with_number (1 + i))) at)
-
-  -- what leads there by a number is the export with it
-  leads_by : (i : ℕ) (e : ExportValue) (rest : List (List ℕ)) → slice_get exports i ≡ Some e →
-      Matches (opening_exports exports) host names (i + 1) rest → (admits e host ≡ true) ×
-      (names ≡ parts e.path ++ rest)
-  leads_by i e rest at leads =
-      let both : Some (with_number (i + 1) e) ≡ Some leads.export = sym (at_number i e at) ∙ leads.stands in
-      let same : leads.export ≡ with_number (i + 1) e = cc in (
-        subst (λ (x : LivingExport). admits x.value host ≡ true) same leads.admitted,
-        subst (λ (x : LivingExport). names ≡ parts x.path ++ rest) same leads.begins,
-      )
-
-  leads_to : (i : ℕ) (e : ExportValue) (c : Choice) → slice_get exports i ≡ Some e →
-      IsLead (i + 1) e host names c →
-      Matches (opening_exports exports) host names c.number c.rest
-  leads_to i e c at lead = record {
-    export = with_number (i + 1) e;
-    stands = ap (export_at (opening_exports exports)) lead.number_is ∙ at_number i e at;
-    admitted = lead.admitted;
-    begins = lead.begins;
-  }
+  -- of the first exports, this one leads there and leaves the least, or none does
+  abbrev pub IsBestOf : ℕ → Option Choice → Type 0
+  IsBestOf count None = OfLeads count (λ rest. ⊥)
+  IsBestOf count (Some best) =
+      (i : ℕ) × (e : LivingExport) × (slice_get exports i ≡ Some e) × IsLead e host names best
+      × OfLeads count (λ rest. length best.rest ≤ length rest)
 
   sizes : (front rest : List (List ℕ)) → names ≡ front ++ rest → length front + length rest ≡ length names
   sizes front rest e = omega (arith, length-append front rest, ap length e)
 
   -- as the invariant of the best so far, one export later
-  module _ (i : ℕ) (e : ExportValue) (at : slice_get exports i ≡ Some e) where
-    upto : (P : List (List ℕ) → Type 0) →
-        ((number : ℕ) (rest : List (List ℕ)) → number ≤ i →
-        Matches (opening_exports exports) host names number rest → P rest)
-        → ((rest : List (List ℕ)) → admits e host ≡ true → names ≡ parts e.path ++ rest → P rest)
-        → (number : ℕ) (rest : List (List ℕ)) → number ≤ i + 1 →
-        Matches (opening_exports exports) host names number rest → P rest
-    upto P old new number rest le leads =
-        elim (below_or_at number i le) [
-          | inl less ↦ old number rest less leads
-          | inr same ↦ (let l = leads_by i e rest at
-              (subst (λ n. Matches (opening_exports exports) host names n rest) same leads) in new rest l.0 l.1)
-        ]
+  module _ (i : ℕ) (e : LivingExport) (at : slice_get exports i ≡ Some e) where
+    upto : (P : List (List ℕ) → Type 0) → OfLeads i P → OfLead e P → OfLeads (i + 1) P
+    upto P old new k x less there = elim (cases_lt k i) [
+      | inl below ↦ old k x below there
+      | inr above ↦ (let same : k ≡ i = omega (arith, less, above) in
+          let both : Some e ≡ Some x = sym at ∙ ap (slice_get exports) (sym same) ∙ there in
+          let is : e ≡ x = cc in subst (λ (y : LivingExport). OfLead y P) is new)
+    ]
 
-    pub best_step : (best other : Option Choice) → IsBestOf i exports host names best
-        → MatchOption other (LeadsNot e host names) (λ c. IsLead (i + 1) e host names c)
-        → IsBestOf (i + 1) exports host names (deeper_of best other)
+    depth-is : (c : Choice) → IsLead e host names c → c.depth + length c.rest ≡ length names
+    depth-is c lead = omega (arith, sizes (parts e.path) c.rest lead.begins, lead.depth_is)
+
+    -- what is deeper leaves less
+    leaves : (c : Choice) → IsLead e host names c → OfLead e (λ rest. length c.rest ≤ length rest)
+    leaves c lead rest admitted begins =
+        omega (arith, depth-is c lead, lead.depth_is, sizes (parts e.path) rest begins)
+
+    pub best_step : (best other : Option Choice) → IsBestOf i best
+        → MatchOption other (LeadsNot e host names) (IsLead e host names) → IsBestOf (i + 1) (deeper_of best other)
     best_step None None old not = upto (λ rest. ⊥) old not
     best_step None (Some c) old lead = (
-      leads_to i e c at lead,
-      omega (arith, sizes (parts e.path) c.rest lead.begins, lead.depth_is),
-      upto (λ rest. length c.rest ≤ length rest) (λ number rest le leads. absurd (old number rest le leads)) (λ rest a b. omega (arith, sizes (parts e.path) c.rest lead.begins, sizes (parts e.path) rest b)),
+      i,
+      e,
+      at,
+      lead,
+      upto (λ rest. length c.rest ≤ length rest)
+          (λ k x less there rest admitted begins. absurd (old k x less there rest admitted begins)) (leaves c lead),
     )
-    best_step (Some b) None old not = (old.0, old.1, upto (λ rest. length b.rest ≤ length rest) old.2 (λ rest a begins. absurd (not rest a begins)))
+    best_step (Some b) None old not = (
+      old.0,
+      old.1,
+      old.2,
+      old.3,
+      upto (λ rest. length b.rest ≤ length rest) old.4
+          (λ rest admitted begins. absurd (not rest admitted begins)),
+    )
     best_step (Some b) (Some c) old lead =
-        elim (nat_lt b.depth c.depth) as (λ t. nat_lt b.depth c.depth ≡ t → IsBestOf (i + 1) exports host names (cond t (Some c) (Some b))) [
-          | true ↦ λ less. (
-            leads_to i e c at lead,
-            omega (arith, sizes (parts e.path) c.rest lead.begins, lead.depth_is),
-            (let d : b.depth < c.depth = grind (arith, nat_tests) in
-                upto (λ rest. length c.rest ≤ length rest)
-                (λ number rest le leads. omega (arith, sizes (parts e.path) c.rest lead.begins, lead.depth_is, old.1, old.2 number rest le leads))
-                (λ rest a begins. omega (arith, sizes (parts e.path) c.rest lead.begins, sizes (parts e.path) rest begins))),
-          )
-          | false ↦ λ more. (
+        let own : b.depth + length b.rest ≡ length names =
+        omega (arith, sizes (parts (old.1).path) b.rest (old.3).begins, (old.3).depth_is) in
+        elim (nat_lt b.depth c.depth) as
+        (λ t. nat_lt b.depth c.depth ≡ t → IsBestOf (i + 1) (cond t (Some c) (Some b))) [
+          | true ↦ λ less. (let d : b.depth < c.depth = grind (arith, nat_tests) in (
+            i,
+            e,
+            at,
+            lead,
+            upto (λ rest. length c.rest ≤ length rest)
+                (λ k x below there rest admitted begins.
+                omega (arith, own, depth-is c lead, d, old.4 k x below there rest admitted begins)) (leaves c lead),
+          ))
+          | false ↦ λ more. (let d : c.depth ≤ b.depth = grind (arith, nat_tests) in (
             old.0,
             old.1,
-            (let d : c.depth ≤ b.depth = grind (arith, nat_tests) in
-                upto (λ rest. length b.rest ≤ length rest) old.2 (λ rest a begins. omega (arith, lead.depth_is, old.1, sizes (parts e.path) rest begins))),
-          )
+            old.2,
+            old.3,
+            upto (λ rest. length b.rest ≤ length rest) old.4
+                (λ rest admitted begins. omega (arith, own, d, lead.depth_is, sizes (parts e.path) rest begins)),
+          ))
         ] refl
 
-  number_within : (number : ℕ) (rest : List (List ℕ)) →
-      Matches (opening_exports exports) host names number rest → number ≤ length exports
-  number_within number rest leads =
-      let all = all-numbered (λ (e : LivingExport). e.number ≤ length exports) exports 1
-      (λ n e low high. omega (arith, high)) in
-      let within = export-all (λ (e : LivingExport). e.number ≤ length exports) (opening_exports exports) number
-      leads.export all leads.stands in
-      omega (arith, within, export-number (opening_exports exports) number leads.export leads.stands)
+  -- what leads there stands at a place
+  place-of : (number : ℕ) (e : LivingExport) → export_at exports number ≡ Some e → (i : ℕ) ×
+      (i < length exports) × (slice_get exports i ≡ Some e)
+  place-of number e stands =
+      let at = sym (find_at (λ (x : LivingExport). x.number == number) exports) ∙ stands in (
+        position_or_len (λ (x : LivingExport). x.number == number) exports,
+        slice_get_within exports (position_or_len (λ (x : LivingExport). x.number == number) exports) e at,
+        at,
+      )
 
   -- the best of all is chosen
-  pub best_of_all : (count : ℕ) (best : Option Choice) → length exports ≤ count → IsBestOf count exports host names best
-      → MatchOption best ((number : ℕ) (rest : List (List ℕ)) →
-      Matches (opening_exports exports) host names number rest → ⊥)
-      (λ c. LongestMatch (opening_exports exports) host names c.number c.rest)
-  best_of_all count None all none = λ number rest leads. none number rest (omega (arith, number_within number rest leads)) leads
-  best_of_all count (Some c) all best =
-      record { matches = best.0; longest = λ number rest leads. best.2 number rest (omega (arith, number_within number rest leads)) leads }
-
--- numbers are from 1, so none leads there before the first was seen
-pub none_first : (exports : List ExportValue) (host : List ℕ) (names : List (List ℕ)) (number : ℕ)
-    (rest : List (List ℕ)) → number ≤ 0 → Matches (opening_exports exports) host names number rest → ⊥
-none_first exports host names number rest le leads =
-    let zero : 0 ≡ number = omega (arith, le) in
-    let both : None ≡ Some leads.export =
-    sym (opened-zero exports) ∙ ap (export_at (opening_exports exports)) zero ∙ leads.stands in
-    cc
-
--- the export at a place of the list
-pub item_at : (exports : List ExportValue) (list : List Export) (i : ℕ) (e : Export) → map export_value list ≡ exports → i < length list → e ≡ get_or list i e
-    → slice_get exports i ≡ Some (export_value e)
-item_at exports list i e is less at =
-    ap (λ l. slice_get l i) (sym is) ∙ slice_get-map export_value list i ∙ ap (option_map export_value) (slice_get_read list (length list) i e refl less at)
-
-pub all_seen : (exports : List ExportValue) (list : List Export) (i : ℕ) → map export_value list ≡ exports → length list ≤ i → length exports ≤ i
-all_seen exports list i is le = omega (arith, ap length is, length-map list export_value)
+  pub best_of_all : (count : ℕ) (best : Option Choice) → length exports ≤ count → AllApart exports →
+      IsBestOf count best → MatchOption best (NoExport exports host names) (IsChosen exports host names)
+  best_of_all count None all apart none = λ number rest matches.
+      let place = place-of number matches.export matches.stands in
+      none place.0 matches.export (omega (arith, place.1)) place.2 rest matches.admitted matches.begins
+  best_of_all count (Some c) all apart best = (
+    (best.1).number,
+    record {
+      matches = record {
+        export = best.1;
+        stands = found-by-number exports best.0 best.1 apart best.2;
+        admitted = (best.3).admitted;
+        begins = (best.3).begins;
+      };
+      longest = λ number rest matches.
+          let place = place-of number matches.export matches.stands in
+          best.4 place.0 matches.export (omega (arith, place.1)) place.2 rest matches.admitted matches.begins;
+    },
+    sym (best.3).root_is,
+  )

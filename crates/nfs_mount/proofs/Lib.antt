@@ -1,7 +1,5 @@
-pub mod Answered
 pub mod Best
-pub mod Few
 pub mod Fronts
+pub mod Mounted
 pub mod Parts
-pub mod Stored
 pub mod Walked

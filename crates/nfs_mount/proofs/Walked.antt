@@ -1,143 +1,147 @@
--- A walk goes through the directories that the view shows, entry by entry, and ends where nothing lives, at what is no directory, or with its names.
-use Rattle.std.proofs.Common.{◌≡◌, ◌==◌, ℕ, true, false, List, [], ◌∷◌, length, find, option_map, Option, Some, None, Result, Ok, Err, refl, sym, ◌∙◌, ap, subst, arith}
+-- A walk goes on where names lead, and ends where nothing lives, at what is no directory, or with its names.
+use Rattle.std.proofs.Common.{◌≡◌, ℕ, false, cond, List, [], ◌∷◌, Option, Some, None, Result, Ok, Err}
+use Rattle.std.proofs.Common.{IsSome, option_map, refl, sym, ◌∙◌, ap, subst}
+use Rattle.std.specs.FinMap.{get}
 use Rattle.std.specs.Prelude.{ok_or}
-use Rattle.std.proofs.lemmas.Bool.Decides.{nat_tests}
+use Rattle.nfs_wire.specs.declared.status.NfsStatus.{NfsStatus}
 use Rattle.side_wire.specs.declared.mount.MountStatus.{MountStatus}
 use Rattle.side_wire.specs.declared.mount.MountStatus.TheVariants.{NoEntry, NotDirectory}
-use Rattle.nfs_machine.specs.Attributes.{is_directory}
-use Rattle.nfs_machine.specs.Bytes.{same_bytes}
-use Rattle.nfs_machine.specs.Checks.{entry_of}
-use Rattle.nfs_machine.specs.MountSteps.{entries_at, walk}
+use Rattle.nfs_machine.proofs.Facts.{is-directory}
+use Rattle.nfs_machine.specs.Attributes.{entries_of, is_directory}
+use Rattle.nfs_machine.specs.Checks.{DirectoryEntries, entries_in, entry_of}
+use Rattle.nfs_machine.specs.MountSteps.{directory_at, walk, ◌>>=◌}
+use Rattle.nfs_machine.specs.Resolve.{Named}
+use Rattle.nfs_machine.specs.State.{Content, Regular, Directory, Link, BlockDevice, CharacterDevice, Socket, Fifo}
 use Rattle.nfs_machine.specs.State.{Entry, Living}
-use Rattle.nfs_objects.specs.Entries.{leaf_of}
-use Rattle.nfs_objects.specs.Stands.{content_of, inode_of, living_of, living_of_inode}
-use Rattle.nfs_objects.specs.Values.{ViewValue, seen_at}
+use Rattle.nfs_wire.specs.declared.attributes.Attributes.{Attributes}
+use Rattle.nfs_machine.specs.Attributes.{type_of}
+use Rattle.nfs_objects.specs.Knows.{Knows, Possible}
+use Rattle.nfs_objects.specs.Asks.{Lives}
+use Rattle.nfs_objects.specs.Stands.{Represents}
+use Rattle.nfs_objects.specs.Store.{with_writes}
 use Rattle.nfs_objects.specs.declared.address.Addr.TheVariants as addresses
-use Rattle.nfs_objects.specs.declared.directory.Directory.{Directory}
-use Rattle.nfs_objects.specs.declared.directory.Leaf.{Leaf}
-use Rattle.nfs_objects.specs.declared.object.Content.{Content}
-use Rattle.nfs_objects.specs.declared.object.Content.TheVariants as contents
-use Rattle.nfs_objects.specs.declared.object.Inode.{Inode}
-use Rattle.nfs_objects.specs.declared.object.Object.{Object}
-use Rattle.nfs_objects.specs.declared.object.Object.TheVariants as objects
-use Rattle.nfs_mount.specs.Needs.{next_reads}
-use Rattle.nfs_mount.specs.Walks.{Agrees, ComesTo, EndsAt}
-use Rattle.nfs_objects.proofs.Listed.{no-leaf}
+use Rattle.nfs_objects.specs.Values.{DraftValue}
+use Rattle.nfs_objects.specs.declared.change.Halt.{Halt}
+use Rattle.nfs_inodes.specs.Known.{ChecksDirectory, IsKnown, IsObject, content_at, listed, object_at}
+use Rattle.nfs_inodes.specs.declared.found.Known.{Known}
+use Rattle.nfs_mount.specs.Targets.{Finds, walk_end}
 
--- the entry of a name, as a walk looks it up
-abbrev pub entry_named : List Entry → List ℕ → Result Entry MountStatus
-entry_named entries name = ok_or (entry_of entries name) NoEntry
+no-directory : (c : Content) (e : NfsStatus) → entries_in c ≡ Err e → is_directory c ≡ false
+no-directory (Directory entries last) e is = cc
+no-directory (Regular bytes) e is = refl
+no-directory (Link text) e is = refl
+no-directory (BlockDevice device) e is = refl
+no-directory (CharacterDevice device) e is = refl
+no-directory Socket e is = refl
+no-directory Fifo e is = refl
 
-named-found : (es : List Entry) (name : List ℕ) (e : Entry) → find (λ (x : Entry). same_bytes x.name name) es ≡ Some e → entry_named es name ≡ Ok e
-named-found es name e at = ap (λ o. ok_or o NoEntry) at
+-- what names lead to behind a name's entry
+abbrev pub behind : (ℕ → Option Living) → Option ℕ → List (List ℕ) → Result Named MountStatus
+behind find number names = elim number [ None ↦ Err NoEntry | Some n ↦ walk find n names ]
 
-named-absent : (es : List Entry) (name : List ℕ) → find (λ (x : Entry). same_bytes x.name name) es ≡ None → entry_named es name ≡ Err NoEntry
-named-absent es name none = ap (λ o. ok_or o NoEntry) none
+named-behind : (find : ℕ → Option Living) (entry : Option Entry) (names : List (List ℕ)) →
+    (ok_or entry NoEntry >>= λ e. walk find e.number names) ≡
+    behind find (option_map (λ (e : Entry). e.number) entry) names
+named-behind find None names = refl
+named-behind find (Some e) names = refl
 
-mapped-some : (o : Option Entry) (leaf : Leaf) → Some leaf ≡ option_map leaf_of o → (e : Entry) × (o ≡ Some e) × (leaf.number ≡ e.number)
-mapped-some None leaf is = cc
-mapped-some (Some e) leaf is = (e, refl, (let same : leaf ≡ leaf_of e = cc in ap (λ (l : Leaf). l.number) same))
-
-some_inode : (o : Option Object) (i : Inode) → Some i ≡ inode_of o → o ≡ Some (objects.Inode i)
-some_inode None i is = cc
-some_inode (Some (objects.Inode j)) i is = ap (λ x. Some (objects.Inode x)) (let same : j ≡ i = cc in same)
-some_inode (Some (objects.Mounts table)) i is = cc
-
-no_inode : (o : Option Object) → None ≡ inode_of o → living_of o ≡ None
-no_inode o is = ap (option_map living_of_inode) (sym is)
-
-entries-directory : (i : Inode) (c : Content) (d : Directory) → i.content ≡ c → c ≡ contents.Directory d → entries_at (Some (living_of_inode i)) ≡ Ok (living_of_inode i, d.entries)
-entries-directory i c d is of = rw (is, of) refl
-
-entries-other : (i : Inode) (c : Content) → i.content ≡ c → is_directory (content_of c) ≡ false → entries_at (Some (living_of_inode i)) ≡ Err NotDirectory
-entries-other i (contents.Directory d) is of = cc
-entries-other i (contents.Regular bytes) is of = rw is refl
-entries-other i (contents.Link text) is of = rw is refl
-entries-other i (contents.BlockDevice device) is of = rw is refl
-entries-other i (contents.CharacterDevice device) is of = rw is refl
-entries-other i contents.Socket is of = rw is refl
-entries-other i contents.Fifo is of = rw is refl
-
-module _ (at : ℕ → Option Living) (number : ℕ) where
-  pub walk-refused : (status : MountStatus) (names : List (List ℕ)) → entries_at (at number) ≡ Err status → walk at number names ≡ Err status
+module _ (find : ℕ → Option Living) (number : ℕ) where
+  stopped : (e : MountStatus) → directory_at (find number) ≡ Err e → (names : List (List ℕ)) → walk find number names ≡ Err e
   unfolding walk
-  walk-refused status [] e = rw e refl
-  walk-refused status (name ∷ names) e = rw e refl
+  stopped e is [] = rw is refl
+  stopped e is (name ∷ names) = rw is refl
 
-  walk-end : (o : Living) (es : List Entry) → entries_at (at number) ≡ Ok (o, es) → walk at number [] ≡ Ok (record { number = number; object = o })
-  unfolding walk
-  walk-end o es e = rw e refl
+  pub walk-absent : find number ≡ None → (names : List (List ℕ)) → walk find number names ≡ Err NoEntry
+  walk-absent none = stopped NoEntry (ap directory_at none)
 
-  walk-on : (o : Living) (es : List Entry) (name : List ℕ) (names : List (List ℕ)) (e : Entry) → entries_at (at number) ≡ Ok (o, es) → entry_named es name ≡ Ok e
-      → walk at number (name ∷ names) ≡ walk at e.number names
-  unfolding walk
-  walk-on o es name names e is named = rw (is, named) refl
+  module _ (o : Living) (lives : find number ≡ Some o) where
+    pub walk-other : (e : NfsStatus) → entries_in o.content ≡ Err e → (names : List (List ℕ)) →
+        walk find number names ≡ Err NotDirectory
+    walk-other e is = stopped NotDirectory (ap directory_at lives
+        ∙ ap (λ b. cond b (Ok o) (Err NotDirectory)) (no-directory o.content e is))
 
-  walk-absent : (o : Living) (es : List Entry) (name : List ℕ) (names : List (List ℕ)) → entries_at (at number) ≡ Ok (o, es) → entry_named es name ≡ Err NoEntry
-      → walk at number (name ∷ names) ≡ Err NoEntry
-  unfolding walk
-  walk-absent o es name names is named = rw (is, named) refl
+    module _ (listed : DirectoryEntries) (is : entries_in o.content ≡ Ok listed) where
+      entries : directory_at (find number) ≡ Ok o
+      entries = ap directory_at lives
+          ∙ ap (λ c. cond (is_directory c) (Ok o) (Err NotDirectory)) (is-directory o.content listed is)
 
-module _ (view : ViewValue) (root : ℕ) (start : List (List ℕ)) (number : ℕ) (names : List (List ℕ)) (known : Option Object)
-    (comes : ComesTo view root start number names) (seen : Some known ≡ seen_at view.entries (addresses.Inode number)) where
-  pub refused-none : None ≡ inode_of known → (at : ℕ → Option Living) → Agrees view at → walk at root start ≡ Err NoEntry
-  refused-none none at agrees = comes at agrees ∙ walk-refused at number NoEntry names (ap entries_at (agrees number known (sym seen) ∙ no_inode known none))
+      pub walk-end : walk find number [] ≡ Ok (record { number = number; object = o })
+      unfolding walk
+      walk-end = rw entries refl
 
-  module _ (i : Inode) (is : Some i ≡ inode_of known) where
-    here : (at : ℕ → Option Living) → Agrees view at → at number ≡ Some (living_of_inode i)
-    here at agrees = agrees number known (sym seen) ∙ ap living_of (some_inode known i is)
+      pub walk-on : (name : List ℕ) (names : List (List ℕ)) → walk find number (name ∷ names) ≡
+          behind find (option_map (λ (e : Entry). e.number) (entry_of (entries_of o.content) name)) names
+      unfolding walk
+      walk-on name names = rw entries (named-behind find (entry_of (entries_of o.content) name) names)
 
-    pub refused-other : is_directory (content_of i.content) ≡ false → (at : ℕ → Option Living) → Agrees view at → walk at root start ≡ Err NotDirectory
-    refused-other other at agrees = comes at agrees ∙ walk-refused at number NotDirectory names (ap entries_at (here at agrees) ∙ entries-other i i.content refl other)
+-- ---- as far as a draft knows
+module _ (d : DraftValue) (root : ℕ) (start : List (List ℕ)) where
+  abbrev pub Ended : Result (Result Known MountStatus) Halt → Type 0
+  Ended = Finds d (λ found m. walk (get m.objects) root start ≡ walk_end m found)
 
-    module _ (d : Directory) (of : i.content ≡ contents.Directory d) where
-      entries : (at : ℕ → Option Living) → Agrees view at → entries_at (at number) ≡ Ok (living_of_inode i, d.entries)
-      entries at agrees = ap entries_at (here at agrees) ∙ entries-directory i i.content d refl of
+  -- the walk goes on at this number with these names
+  abbrev pub GoesOn : ℕ → List (List ℕ) → Type 0
+  GoesOn number names =
+      Knows d (λ k. walk (get k.state.objects) root start ≡ walk (get k.state.objects) number names)
 
-      pub ends : names ≡ [] → EndsAt view root start number i
-      ends none = record {
-        comes = subst (λ ns. ComesTo view root start number ns) none comes;
-        seen = sym seen ∙ ap (λ o. Some o) (some_inode known i is);
-        directory = ap (λ c. is_directory (content_of c)) of;
-      }
+  module _ (number : ℕ) (names : List (List ℕ)) (on : GoesOn number names) where
+    pub nothing-there : Knows d (λ k. IsObject k.state number None) → Ended (Ok (Err NoEntry))
+    nothing-there none = λ s k w formed. on s k w ∙ walk-absent (get k.state.objects) number (none s k w) names
 
-      module _ (name : List ℕ) (rest : List (List ℕ)) (more : names ≡ name ∷ rest) where
-        pub refused-absent : None ≡ option_map leaf_of (find (λ (x : Entry). same_bytes x.name name) d.entries) → (at : ℕ → Option Living) → Agrees view at
-            → walk at root start ≡ Err NoEntry
-        refused-absent absent at agrees =
-            comes at agrees ∙ ap (walk at number) more
-            ∙ walk-absent at number (living_of_inode i) d.entries name rest (entries at agrees) (named-absent d.entries name (no-leaf _ absent))
+    module _ (x : Known) (there : Knows d (λ k. IsObject k.state number (Some x))) where
+      pub known-there : Knows d (λ k. IsKnown k.state x)
+      known-there s k w = (there s k w).1
 
-        pub comes-on : (leaf : Leaf) → Some leaf ≡ option_map leaf_of (find (λ (x : Entry). same_bytes x.name name) d.entries) → ComesTo view root start leaf.number rest
-        comes-on leaf found at agrees =
-            let e = mapped-some _ leaf found in
-            comes at agrees ∙ ap (walk at number) more
-            ∙ walk-on at number (living_of_inode i) d.entries name rest e.0 (entries at agrees) (named-found d.entries name e.0 e.1)
-            ∙ ap (λ n. walk at n rest) (sym e.2)
+      here : Knows d (λ k. get k.state.objects number ≡ Some (object_at k.state x))
+      here s k w = ap (get k.state.objects) (sym (there s k w).0) ∙ (known-there s k w).lives
 
--- a walk without names ends at a directory
-pub ended : (view : ViewValue) (root : ℕ) (names : List (List ℕ)) (number : ℕ) (i : Inode) → EndsAt view root names number i
-    → (at : ℕ → Option Living) → Agrees view at → walk at root names ≡ Ok (record { number = number; object = living_of_inode i })
-ended view root names number i e at agrees =
-    e.comes at agrees ∙ of i.content refl
-  where
-    lives : at number ≡ Some (living_of_inode i)
-    lives = agrees number (Some (objects.Inode i)) e.seen
+      kind : Knows d (λ k. type_of (content_at k.state x.number) ≡ x.attributes.kind)
+      kind s k w = ap (λ (a : Attributes). a.kind) (sym (known-there s k w).shows)
 
-    of : (c : Content) → i.content ≡ c → walk at number [] ≡ Ok (record { number = number; object = living_of_inode i })
-    of (contents.Directory d) is = walk-end at number (living_of_inode i) d.entries (ap entries_at lives ∙ entries-directory i (contents.Directory d) d is refl)
-    of (contents.Regular bytes) is = let no : false ≡ true = ap (λ c. is_directory (content_of c)) (sym is) ∙ e.directory in cc
-    of (contents.Link text) is = let no : false ≡ true = ap (λ c. is_directory (content_of c)) (sym is) ∙ e.directory in cc
-    of (contents.BlockDevice device) is = let no : false ≡ true = ap (λ c. is_directory (content_of c)) (sym is) ∙ e.directory in cc
-    of (contents.CharacterDevice device) is = let no : false ≡ true = ap (λ c. is_directory (content_of c)) (sym is) ∙ e.directory in cc
-    of contents.Socket is = let no : false ≡ true = ap (λ c. is_directory (content_of c)) (sym is) ∙ e.directory in cc
-    of contents.Fifo is = let no : false ≡ true = ap (λ c. is_directory (content_of c)) (sym is) ∙ e.directory in cc
+      pub other-there : (e : NfsStatus) → ((c : Content) → type_of c ≡ x.attributes.kind → entries_in c ≡ Err e) →
+          Ended (Ok (Err NotDirectory))
+      other-there e checks = λ s k w formed.
+          on s k w ∙ walk-other (get k.state.objects) number (object_at k.state x) (here s k w) e
+          (checks (content_at k.state x.number) (kind s k w)) names
 
--- what is read next, by whether a name is left
-pub reads-last : (number : ℕ) (left : List (List ℕ)) → true ≡ (length left == 0) → next_reads number left ≡ addresses.Inode number ∷ addresses.Mounts ∷ []
-reads-last number [] is = refl
-reads-last number (name ∷ left) is = absurd (grind (arith, nat_tests))
+      -- what a check told
+      pub other-told : {A : Type 0} (r : Result A NfsStatus) → ((x : A) → r ≡ Ok x → ⊥) → ChecksDirectory x r →
+          Ended (Ok (Err NotDirectory))
+      other-told (Ok a) not checks = absurd (not a refl)
+      other-told (Err e) not checks = other-there e checks
 
-pub reads-more : (number : ℕ) (left : List (List ℕ)) → false ≡ (length left == 0) → next_reads number left ≡ addresses.Inode number ∷ []
-reads-more number [] is = absurd (grind (arith, nat_tests))
-reads-more number (name ∷ left) is = refl
+      module _ (checks : (c : Content) → type_of c ≡ x.attributes.kind → entries_in c ≡ Ok (listed c)) where
+        pub end-there : names ≡ [] → Ended (Ok (Ok x))
+        end-there none = λ s k w formed.
+            on s k w ∙ ap (walk (get k.state.objects) number) none
+            ∙ walk-end (get k.state.objects) number (object_at k.state x) (here s k w)
+            (listed (content_at k.state x.number)) (checks (content_at k.state x.number) (kind s k w))
+            ∙ ap (λ n. Ok (record { number = n; object = object_at k.state x })) (sym (there s k w).0)
+
+        module _ (name : List ℕ) (rest : List (List ℕ)) (more : names ≡ name ∷ rest) (next : Option ℕ)
+            (leads : Knows d (λ k. option_map (λ (e : Entry). e.number)
+            (entry_of (entries_of (content_at k.state x.number)) name) ≡ next)) where
+          step : Knows d (λ k. walk (get k.state.objects) root start ≡ behind (get k.state.objects) next rest)
+          step s k w =
+              on s k w ∙ ap (walk (get k.state.objects) number) more
+              ∙ walk-on (get k.state.objects) number (object_at k.state x) (here s k w)
+              (listed (content_at k.state x.number)) (checks (content_at k.state x.number) (kind s k w)) name rest
+              ∙ ap (λ n. behind (get k.state.objects) n rest) (leads s k w)
+
+          pub name-absent : next ≡ None → Ended (Ok (Err NoEntry))
+          name-absent none = λ s k w formed. step s k w ∙ ap (λ n. behind (get k.state.objects) n rest) none
+
+          pub name-there : (n : ℕ) → next ≡ Some n → GoesOn n rest
+          name-there n is s k w = step s k w ∙ ap (λ o. behind (get k.state.objects) o rest) is
+
+-- the number of what is known there lives where its number does: each store says so for itself
+pub lives-known : (d : DraftValue) (number : ℕ) (x y : Known) → y ≡ x → Knows d (λ k. IsObject k.state number (Some x)) →
+    d.writes ≡ [] → Lives d.view (addresses.Inode number) → Lives d.view (addresses.Inode y.number)
+lives-known d number x y same there none lives s k fits stands sound formed =
+    let w : Possible d s k = record {
+      fits = fits;
+      stands = subst (λ ws. Represents (with_writes s ws) k) (sym none) stands;
+      sound = sound;
+    } in
+    subst (λ n. IsSome (s.at (addresses.Inode n))) (sym (ap (λ (z : Known). z.number) same ∙ (there s k w).0))
+    (lives s k fits stands sound formed)

@@ -1,6 +1,4 @@
 pub mod Calls
 pub mod Choices
 pub mod Fronts
-pub mod Needs
-pub mod Tables
-pub mod Walks
+pub mod Targets

@@ -1,34 +1,27 @@
-//! The procedures of MOUNT version 3 (RFC 1813, appendix I), each as an attempt on a view.
+//! The procedures of MOUNT version 3 (RFC 1813, appendix I), each as straight code over a draft.
 //!
 //! An attempt is a function of its arguments: it reads the view and nothing else, and comes to the addresses that it
-//! still needs, or to a `Done`. Its contract is the promise that a `Done` keeps by its type, which is that the answer
-//! is a step of the machine in every sound store that the view fits, and what is asked for. So far the procedures are
-//! NULL and MNT. It stands on `nfs_objects` for views and ends, and on `nfs_machine` for exports, handles and the
-//! steps.
+//! still needs, or to a change. Its contract is the promise that a `Done` keeps by its type, which is that the answer
+//! is a step of the machine in every sound store that the view fits, and what may be asked for. So far the procedures
+//! are NULL and MNT. It stands on `nfs_inodes` for objects and directories, on `nfs_objects` for drafts and the tables
+//! of exports and mounts, and on `nfs_machine` for the steps.
 #![tactic(auto)]
 
 ghost use Rattle.std.specs.Prelude.{◌≡◌, true, [], IfOk};
 ghost use Rattle.nfs_mount.specs.Calls.{is_mount_call};
-ghost use Rattle.nfs_mount.specs.Needs.{MountAsks};
-ghost use Rattle.nfs_objects.specs.Rounds.{AsksFewOfSound};
-ghost use Rattle.nfs_objects.specs.Attempt.{AsksFor, Attempts};
+ghost use Rattle.nfs_objects.specs.Attempt.{AsksFirst, Attempts};
+ghost use Rattle.nfs_objects.specs.Modes.{Suits, modes_of};
 
 mod choice;
 mod mount;
 mod paths;
-mod tables;
 
 use nfs_machine::{Call, Ctx, Reply};
-use nfs_objects::{Outcome, View, unchanged};
+use nfs_objects::{Draft, MOUNTING, Outcome, READING, View, outcome};
 use side_wire::{MountCall, MountReply};
 use std::alloc::{AllocError, Global};
 
-/// Tries a call of one of this crate's procedures on a view.
-///
-/// NULL asks for nothing. MNT refuses a path that no directory can have, or that no export leads the host to, without
-/// asking. Else it walks from the root of the longest such export, through the directories that the view shows, and
-/// asks for what stands where the walk comes to, with the table of mounts where no name is left, as far as the view
-/// has not got them.
+/// Tries a call of one of this crate's procedures on a view, which holds what it has as the call wants.
 ///
 /// # Errors
 ///
@@ -39,25 +32,20 @@ pub fn attempt(
     ctx: &Ctx,
     view: &View,
 ) -> Result<Outcome, AllocError>
-    requires { is_mount_call call.now ≡ true }
-    ensures attempts { IfOk result (λ outcome. Attempts (Call.Mount call.now) ctx.now view.now outcome) }
-    ensures asks { IfOk result (MountAsks ctx.now view.now call.now) }
-    // In every sound store that the view fits, it and all that is asked for lie among the store's addresses and at
-    // most 256 others.
-    ensures few { AsksFewOfSound ctx.now.exports (λ v. MountAsks ctx.now v call.now) }
+    requires served { is_mount_call call.now ≡ true }
+    requires suits { Suits (modes_of (Call.Mount call.now)) view.now }
+    ensures attempts { IfOk result (Attempts (Call.Mount call.now) ctx.now view.now) }
+    ensures first { IfOk result (AsksFirst (Call.Mount call.now) view.now) }
 {
     match call {
-        MountCall::Null => null(alloc, ctx, view),
-        MountCall::Mnt(path) => mount::mnt(alloc, path, ctx, view),
+        MountCall::Null => {
+            let draft = Draft::new(alloc, ctx, view, READING);
+            outcome(Ok(draft.answer(Reply::Mount(MountReply::Null))))
+        }
+        MountCall::Mnt(path) => {
+            let draft = Draft::new(alloc, ctx, view, MOUNTING);
+            outcome(mount::attempt(draft, path))
+        }
         _ => unreachable!(),
     }
-}
-
-/// NULL does nothing (RFC 1813, 5.2.0).
-fn null(alloc: Global, ctx: &Ctx, view: &View) -> Result<Outcome, AllocError>
-    ensures attempts { IfOk result (λ outcome. Attempts (Call.Mount MountCall.Null) ctx.now view.now outcome) }
-    ensures asks { IfOk result (AsksFor []) }
-{
-    let call = Call::Mount(MountCall::Null);
-    unchanged(alloc, call, ctx, view, Reply::Mount(MountReply::Null))
 }

@@ -1,174 +1,108 @@
 //! MNT (RFC 1813, appendix I, 5.2.1).
 
-ghost use Rattle.std.specs.Prelude.{◌≡◌, [], ◌∷◌, IfOk, Err, None, is_none};
-ghost use Rattle.nfs_machine.specs.Exports.{opening_exports};
-ghost use Rattle.nfs_machine.specs.MountSteps.{LongestMatch, path_fault};
-ghost use Rattle.nfs_machine.specs.Paths.{parts};
-ghost use Rattle.nfs_objects.specs.Attempt.{Attempts, IsDone, IsNeed};
-ghost use Rattle.nfs_objects.specs.Endings.{HoldsUnchanged, only_answered};
-ghost use Rattle.nfs_objects.specs.Values.{seen_at};
-ghost use Rattle.nfs_mount.specs.Needs.{IsDoneOrNeeds, MntAsks, lacking};
-ghost use Rattle.nfs_mount.specs.Walks.{IsTargetOf, Walks};
+ghost use Rattle.std.specs.Prelude.{◌≡◌, [], MatchResult};
+ghost use Rattle.std.specs.FinMap.{get};
+ghost use Rattle.nfs_machine.specs.MountSteps.{walk};
+ghost use Rattle.nfs_objects.specs.Asks.{Lives};
+ghost use Rattle.nfs_objects.specs.Attempt.{Ends, EndsFirst, HaltsFirst, unless_seen};
+ghost use Rattle.nfs_objects.specs.Modes.{modes_of};
+ghost use Rattle.nfs_mount.specs.Targets.{AddsMount, Finds, IsTarget, MountStops, walk_end};
 
-use crate::choice::{Choice, choose};
+use crate::choice::choose;
 use crate::paths::{Names, path_fault};
-use crate::tables::{store_mounts, with_mount};
 use bytes::Bytes;
-use nfs_machine::{Call, Ctx, Handle, Reply};
-use nfs_objects::{Addr, Inode, Mode, Outcome, View, living, unchanged};
+use nfs_inodes::{Known, directory, entry, exports, handle, object};
+use nfs_machine::{Call, Reply};
+use nfs_objects::{Addr, Change, Draft, Halt, Mode, MountTable};
 use side_wire::{MountCall, MountReply, MountStatus};
-use std::alloc::{AllocError, Global};
 
-/// MNT of a path: the handle of the directory that it names, and the path is listed for the caller's host. A path that
-/// is no path of any directory, or that no export leads to, is refused before an address is asked for.
-pub fn mnt(alloc: Global, path: &Bytes, ctx: &Ctx, view: &View) -> Result<Outcome, AllocError>
-    ensures attempts { IfOk result
-        (λ outcome. Attempts (Call.Mount (MountCall.Mnt path.now)) ctx.now view.now outcome) }
-    ensures asks { IfOk result (MntAsks ctx.now view.now path.now) }
+/// Tries MNT of a path: the handle of the directory that it names, and the path is listed for the caller's host.
+pub fn attempt(draft: Draft<'_>, path: &Bytes) -> Result<Change, Halt>
+    requires none { draft.writes ≡ [] }
+    requires quiet { draft.messages ≡ [] }
+    requires modes { draft.modes ≡ modes_of (Call.Mount (MountCall.Mnt path.now)) }
+    ensures ends { Ends (Call.Mount (MountCall.Mnt path.now)) draft.entry.ctx draft.entry.view result }
+    ensures first { EndsFirst (Call.Mount (MountCall.Mnt path.now)) draft.entry.view result }
 {
+    let mut draft = draft;
+    let directory = match target(&draft, path)? {
+        Ok(directory) => directory,
+        Err(status) => return Ok(draft.answer(Reply::Mount(MountReply::Mnt(Err(status))))),
+    };
+    add_mount(&mut draft, path)?;
+    let handle = handle(draft.alloc(), draft.ctx(), &directory)?;
+    Ok(draft.answer(Reply::Mount(MountReply::Mnt(Ok(handle)))))
+}
+
+/// The directory that a path names for the caller, or the status of MNT for it. The exports are read first.
+///
+/// # Errors
+///
+/// `Need` of the exports or of a directory that the path leads through, and `Memory`.
+fn target(draft: &Draft<'_>, path: &Bytes) -> Result<Result<Known, MountStatus>, Halt>
+    requires { draft.now.writes ≡ [] }
+    ensures found { Finds draft.now (λ found. IsTarget draft.now.ctx path.now found) result }
+    ensures first { HaltsFirst draft.now.modes (unless_seen draft.now.view Addr.Exports) result }
+{
+    let exports = exports(draft)?;
     if let Some(fault) = path_fault(path) {
-        return refuse(alloc, path, ctx, view, fault);
+        return Ok(Err(fault));
     }
-    match choose(ctx, path) {
-        Some(choice) => enter(alloc, path, ctx, view, choice),
-        None => refuse(alloc, path, ctx, view, MountStatus::Access),
-    }
-}
-
-/// MNT of a path that an export leads to.
-fn enter(
-    alloc: Global,
-    path: &Bytes,
-    ctx: &Ctx,
-    view: &View,
-    choice: Choice<'_>,
-) -> Result<Outcome, AllocError>
-    requires fault { path_fault path.now ≡ None }
-    requires chosen { LongestMatch (opening_exports ctx.now.exports) ctx.now.host (parts path.now)
-        choice.number choice.rest }
-    ensures attempts { IfOk result
-        (λ outcome. Attempts (Call.Mount (MountCall.Mnt path.now)) ctx.now view.now outcome) }
-    ensures asks { IfOk result (MntAsks ctx.now view.now path.now) }
-{
-    match walk(view, choice.number, choice.rest) {
-        Walked::Found(number, inode) => grant(alloc, path, ctx, view, number, inode),
-        Walked::Refused(status) => refuse(alloc, path, ctx, view, status),
-        Walked::Unread(number, true) => ask(alloc, view, &[Addr::Inode(number), Addr::Mounts]),
-        Walked::Unread(number, false) => ask(alloc, view, &[Addr::Inode(number)]),
+    match choose(exports, &draft.ctx().host, path) {
+        Some(choice) => walk(draft, choice.root, choice.rest),
+        None => Ok(Err(MountStatus::Access)),
     }
 }
 
-/// What a walk comes to, as far as the view shows.
-#[derive(Clone, Copy, Debug)]
-enum Walked<'a> {
-    /// The directory that the names lead to, with its number.
-    Found(u64, &'a Inode),
-    /// The names lead to no directory.
-    Refused(MountStatus),
-    /// What stands at this number decides, and the view has not shown it; and whether no name is left to walk from
-    /// there.
-    Unread(u64, bool),
-}
-
-/// Walks names from a root, through the directories that the view shows. No link is followed.
-fn walk<'a>(view: &'a View, root: u64, mut names: Names<'_>) -> Walked<'a>
-    ensures { Walks view.now root names.entry result }
+/// The directory that names lead to from a number, or why there is none. No link is followed.
+///
+/// # Errors
+///
+/// `Need` of a directory that the names lead through, and `Memory`.
+fn walk(
+    draft: &Draft<'_>,
+    root: u64,
+    mut names: Names<'_>,
+) -> Result<Result<Known, MountStatus>, Halt>
+    requires none { draft.now.writes ≡ [] }
+    requires lives { Lives draft.now.view (Addr.Inode root) }
+    ensures { Finds draft.now (λ found m. walk (get m.objects) root names.entry ≡ walk_end m found) result }
 {
     let mut number = root;
     'names: loop {
-        let Some(known) = view.find(Addr::Inode(number)) else {
-            return Walked::Unread(number, names.is_done());
+        let Some(object) = object(draft, number)? else {
+            return Ok(Err(MountStatus::NoEntry));
         };
-        let Some(inode) = living(known) else {
-            return Walked::Refused(MountStatus::NoEntry);
-        };
-        let Some(directory) = inode.directory() else {
-            return Walked::Refused(MountStatus::NotDirectory);
+        let Ok(directory) = directory(&object) else {
+            return Ok(Err(MountStatus::NotDirectory));
         };
         let Some(name) = names.next() else {
-            return Walked::Found(number, inode);
+            return Ok(Ok(object));
         };
-        let Some(leaf) = directory.entries.find(name) else {
-            return Walked::Refused(MountStatus::NoEntry);
+        let Some(next) = entry(draft, &directory, name)? else {
+            return Ok(Err(MountStatus::NoEntry));
         };
-        number = leaf.number;
+        number = next;
     }
 }
 
-/// MNT of a path that names this inode.
-fn grant(
-    alloc: Global,
-    path: &Bytes,
-    ctx: &Ctx,
-    view: &View,
-    number: u64,
-    inode: &Inode,
-) -> Result<Outcome, AllocError>
-    requires { IsTargetOf ctx.now view.now path.now number inode.now }
-    ensures attempts { IfOk result
-        (λ outcome. Attempts (Call.Mount (MountCall.Mnt path.now)) ctx.now view.now outcome) }
-    ensures asks { IfOk result (IsDoneOrNeeds (lacking view.now (Addr.Mounts ∷ []))) }
+/// Lists the path last for the caller's host, unless it is listed.
+///
+/// # Errors
+///
+/// `Need` of the table of mounts, and `Memory`.
+fn add_mount(draft: &mut Draft<'_>, path: &Bytes) -> Result<(), Halt>
+    requires { draft.old.modes.mounts ≡ Mode.Exclusive }
+    ensures { MatchResult result (λ _. AddsMount draft.old draft.new path.now) (MountStops draft.old) }
 {
-    let Some(known) = view.find(Addr::Mounts) else {
-        return ask(alloc, view, &[Addr::Mounts]);
+    let host = draft.ctx().host.as_slice();
+    let path = path.as_slice();
+    let alloc = draft.alloc();
+    let table = match draft.mounts()? {
+        Some(table) if table.is_listed(host, path) => return Ok(()),
+        Some(table) => table.with_mount(alloc, host, path)?,
+        None => MountTable::new(alloc).with_mount(alloc, host, path)?,
     };
-    let handle = Handle {
-        export: inode.export,
-        start: ctx.start,
-        fileid: number,
-        generation: inode.generation,
-    };
-    let table = with_mount(alloc, known, &ctx.host, path)?;
-    let bytes = Bytes::copy_from_slice(alloc, &handle.bytes())?;
-    let call = Call::Mount(MountCall::Mnt(path.clone()?));
-    let reply = Reply::Mount(MountReply::Mnt(Ok(bytes)));
-    match table {
-        Some(table) => store_mounts(alloc, call, ctx, view, table, reply),
-        None => unchanged(alloc, call, ctx, view, reply),
-    }
-}
-
-/// A refusal changes nothing.
-fn refuse(
-    alloc: Global,
-    path: &Bytes,
-    ctx: &Ctx,
-    view: &View,
-    status: MountStatus,
-) -> Result<Outcome, AllocError>
-    requires { HoldsUnchanged (Call.Mount (MountCall.Mnt path.now)) ctx.now view.now
-        (Reply.Mount (MountReply.Mnt (Err status))) }
-    ensures attempts { IfOk result
-        (λ outcome. Attempts (Call.Mount (MountCall.Mnt path.now)) ctx.now view.now outcome) }
-    ensures done { IfOk result
-        (IsDone (only_answered (Call.Mount (MountCall.Mnt path.now)) ctx.now view.now
-        (Reply.Mount (MountReply.Mnt (Err status))))) }
-{
-    let call = Call::Mount(MountCall::Mnt(path.clone()?));
-    unchanged(
-        alloc,
-        call,
-        ctx,
-        view,
-        Reply::Mount(MountReply::Mnt(Err(status))),
-    )
-}
-
-/// Asks for those of these addresses that the view has not.
-fn ask(alloc: Global, view: &View, addresses: &[Addr]) -> Result<Outcome, AllocError>
-    ensures { IfOk result (IsNeed (lacking view.now addresses.now)) }
-{
-    let asked = addresses
-        .iter()
-        .copied()
-        .filter(|address| lacks(view, *address))
-        .map(|address| (address, Mode::Exclusive))
-        .collect(alloc)?;
-    Ok(Outcome::Need(asked))
-}
-
-fn lacks(view: &View, address: Addr) -> bool
-    ensures { result ≡ is_none (seen_at view.now.entries address) }
-{
-    view.find(address).is_none()
+    draft.put_mounts(table)?;
+    Ok(())
 }

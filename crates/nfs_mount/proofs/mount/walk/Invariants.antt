@@ -1,9 +1,14 @@
 use Rattle.std.proofs.Common.{length}
-use Rattle.nfs_mount.specs.Walks.{ComesTo}
+use Rattle.nfs_objects.specs.Asks.{Lives}
+use Rattle.nfs_objects.specs.declared.address.Addr.TheVariants as addresses
+use Rattle.nfs_mount.proofs.Walked.{GoesOn}
 use Rattle.nfs_mount.proofs.mount.walk.Given as goal
 
 abbrev pub invariant-names : goal.invariant-names
-invariant-names l = ComesTo l.view l.root l.initial.names l.number l.names
+invariant-names l = record {
+  on : GoesOn l.draft l.root l.initial.names l.number l.names;
+  lives : Lives l.draft.view (addresses.Inode l.number);
+}
 
 abbrev pub decreases-names : goal.decreases-names
 decreases-names l = length l.names

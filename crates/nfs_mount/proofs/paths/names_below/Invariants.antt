@@ -1,4 +1,4 @@
--- The names that were taken from both are the same, so what is behind the export's front stays.
+-- The names that were taken from both are the same, so what is rest_behind the export's front stays.
 use Rattle.std.proofs.Common.{◌≡◌}
 use Rattle.nfs_machine.specs.Paths.{parts}
 use Rattle.nfs_mount.proofs.Fronts.{rest_behind}

@@ -1,0 +1,45 @@
+-- What MNT of a path comes to, as far as a draft knows (RFC 1813, 5.2.1).
+use Rattle.std.specs.Prelude.{◌≡◌, ℕ, List, Result, Ok, Err}
+use Rattle.side_wire.specs.declared.mount.MountCall.TheVariants as mount
+use Rattle.side_wire.specs.declared.mount.MountStatus.{MountStatus}
+use Rattle.nfs_machine.specs.MountSteps.{MntAnswers, Target, with_mount}
+use Rattle.nfs_machine.specs.Resolve.{Named}
+use Rattle.nfs_machine.specs.State.{State}
+use Rattle.nfs_machine.specs.WellFormed.{WellFormed}
+use Rattle.nfs_machine.specs.declared.calls.Call.TheVariants as calls
+use Rattle.nfs_machine.specs.declared.context.Ctx.{Ctx}
+use Rattle.nfs_objects.specs.Attempt.{Stops}
+use Rattle.nfs_objects.specs.Calls.{named_by}
+use Rattle.nfs_objects.specs.Knows.{Knows, Possible, Turns}
+use Rattle.nfs_objects.specs.MountTables.{mounted}
+use Rattle.nfs_objects.specs.Stands.{Kept}
+use Rattle.nfs_objects.specs.Store.{Store}
+use Rattle.nfs_objects.specs.Values.{DraftValue}
+use Rattle.nfs_objects.specs.declared.change.Halt.{Halt}
+use Rattle.nfs_inodes.specs.Known.{target}
+use Rattle.nfs_inodes.specs.declared.found.Known.{Known}
+
+-- it stops a call of MOUNT
+abbrev pub MountStops : DraftValue → Halt → Type 0
+MountStops d halt = Stops d.modes (named_by (calls.Mount mount.Null)) d.view halt
+
+-- what is found is so in each well-formed state, whatever the store; what halts stops the call
+abbrev pub Finds : {A : Type 0} → DraftValue → (A → State → Type 0) → Result A Halt → Type 0
+Finds d found (Ok x) = (s : Store) (k : Kept) → Possible d s k → WellFormed k.state → found x k.state
+Finds d found (Err halt) = MountStops d halt
+
+-- the end of a walk
+abbrev pub walk_end : State → Result Known MountStatus → Result Named MountStatus
+walk_end m (Ok x) = Ok (target m x)
+walk_end m (Err e) = Err e
+
+-- the path names this directory for the caller, or MNT of it is refused so
+abbrev pub IsTarget : Ctx → List ℕ → Result Known MountStatus → State → Type 0
+IsTarget ctx path (Ok x) m = Target m ctx path (walk_end m (Ok x))
+IsTarget ctx path (Err e) m = MntAnswers m ctx path (Err e) m
+
+-- the path is listed for the caller's host from now on, and nothing else changes
+pub record AddsMount (old new : DraftValue) (path : List ℕ) : Type 0 where
+  pub op : Kept → Kept
+  pub turns : Turns old new op
+  pub adds : Knows old (λ k. op k ≡ record k { state = with_mount k.state (mounted old.ctx.host path) })
