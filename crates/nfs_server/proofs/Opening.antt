@@ -1,28 +1,28 @@
 -- The slots that a server starts with stand for the machine's opening state: the roots live, and nothing else.
-use Rattle.std.proofs.Common.{◌≡◌, ℕ, zero, suc, ◌+◌, ◌<◌, ◌≤◌, inl, inr, nat_le, ◌&&◌, if◌then◌else◌, List, [], ◌∷◌, ◌++◌, length, length-append, map, Option, Some, None, refl, sym, ◌∙◌, ap, subst, arith}
+use Rattle.std.proofs.Common.{◌≡◌, ℕ, zero, suc, ◌+◌, ◌<◌, ◌≤◌, inl, inr, true, nat_le, ◌&&◌, if◌then◌else◌, List, [], ◌∷◌, ◌++◌, length, length-append, map, Option, Some, None, refl, sym, ◌∙◌, ap, subst, arith}
 use Rattle.std.proofs.lemmas.Bool.Decides.{nat_tests}
+use Rattle.std.proofs.lemmas.List.{length-map}
 use Rattle.std.proofs.lemmas.Option.{slice_get_past}
 use Rattle.std.specs.List.{slice_get}
 use Rattle.std.specs.FinMap.{get}
 use Rattle.nfs_wire.specs.declared.attributes.Time.{Time}
-use Rattle.nfs_machine.proofs.Opened.{le_or, opening_formed, root_found, root_none, is_root-opened, root_range}
-use Rattle.nfs_machine.specs.Attributes.{links_of}
+use Rattle.nfs_machine.proofs.Opened.{le_or, only_roots, opening_formed, root_found, root_none, is_root-opened, root_range}
+use Rattle.nfs_machine.specs.Attributes.{is_directory, links_of}
 use Rattle.nfs_machine.specs.ExportFaults.{AreFaultless}
-use Rattle.nfs_machine.specs.Exports.{ExportValue, export_value, opening_exports}
-use Rattle.nfs_machine.specs.declared.context.Limits.{Limits}
-use Rattle.nfs_machine.specs.declared.exports.Export.{Export}
-use Rattle.std.proofs.lemmas.List.{length-map}
-use Rattle.nfs_machine.specs.Opening.{opening, opening_root, opening_roots, time_of}
+use Rattle.nfs_machine.specs.Exports.{ExportValue, opening_exports}
+use Rattle.nfs_machine.specs.Opening.{opening, opening_roots}
+use Rattle.nfs_machine.specs.State.{Living}
+use Rattle.nfs_machine.specs.Times.{time_of}
 use Rattle.nfs_machine.specs.WellFormed.{IsParent}
 use Rattle.nfs_machine.specs.declared.moment.Moment.{Moment}
-use Rattle.nfs_objects.specs.Stands.{content_of, living_of}
-use Rattle.nfs_objects.specs.declared.directory.Directory.{Directory as DirectoryInode}
-use Rattle.nfs_objects.specs.declared.object.Content.{Content}
-use Rattle.nfs_objects.specs.declared.object.Content.TheVariants as contents
+use Rattle.nfs_objects.specs.Stands.{Kept, inode_of, links_kept, living_of, parent_kept}
 use Rattle.nfs_objects.specs.declared.object.Inode.{Inode}
+use Rattle.nfs_objects.specs.ExportTables.{ExportTableValue}
+use Rattle.nfs_objects.specs.declared.object.Object.{Object}
 use Rattle.nfs_objects.specs.declared.object.Object.TheVariants as objects
+use Rattle.nfs_server.specs.Objects.{ObjectsValue}
 use Rattle.nfs_server.specs.Plain.{PlainValue, StandsFor}
-use Rattle.nfs_server.specs.Roots.{root_of, root_slot, root_slots}
+use Rattle.nfs_server.specs.Roots.{opening_objects, root_of, root_slot, root_slots}
 use Rattle.nfs_server.specs.Slots.{SlotValue, empty_slot, object_in, last_in}
 
 get_front : (xs ys : List SlotValue) (k : ℕ) → k < length xs → slice_get (xs ++ ys) k ≡ slice_get xs k
@@ -60,16 +60,6 @@ module _ (time : Time) where
   slot_none : (n k : ℕ) → n < k → slice_get (root_slots n time) k ≡ None
   slot_none n k h = slice_get_past (root_slots n time) k (omega (arith, slots_len n, h))
 
--- the parent that a directory keeps; of what is none, 0
-abbrev parent_of : Content → ℕ
-parent_of (contents.Directory d) = d.parent
-parent_of (contents.Regular bytes) = 0
-parent_of (contents.Link text) = 0
-parent_of (contents.BlockDevice device) = 0
-parent_of (contents.CharacterDevice device) = 0
-parent_of contents.Socket = 0
-parent_of contents.Fifo = 0
-
 module _ (es : List ExportValue) (moment : Moment) where
   abbrev time : Time
   time = time_of moment
@@ -101,31 +91,55 @@ module _ (es : List ExportValue) (moment : Moment) where
         | inr h ↦ (let e : last_given (suc n) ≡ 0 = grind (arith, nat_tests) in e) ∙ sym (ap last_in (slot_none time (length es) (suc n) h))
       ]
 
-  root-there : (n : ℕ) (i : Inode) → object_in (slice_get slots n) ≡ Some (objects.Inode i) → root_of n time ≡ i
-  root-there zero i is = let none : None ≡ Some (objects.Inode i) = sym (ap object_in (slot_zero time (length es))) ∙ is in cc
-  root-there (suc n) i is =
+  given : (n : ℕ) (i : Inode) → object_in (slice_get slots n) ≡ Some (objects.Inode i) → i.generation ≤ last_in (slice_get slots n)
+  given zero i is = let none : None ≡ Some (objects.Inode i) = sym (ap object_in (slot_zero time (length es))) ∙ is in absurd cc
+  given (suc n) i is =
       elim (le_or (suc n) (length es)) [
-        | inl h ↦ (let some : Some (objects.Inode (root_of (suc n) time)) ≡ Some (objects.Inode i) = sym (ap object_in (slot_root time (length es) (suc n) (omega arith) h)) ∙ is in cc)
+        | inl h ↦
+            let some : Some (objects.Inode (root_of (suc n) time)) ≡ Some (objects.Inode i) = sym (ap object_in (slot_root time (length es) (suc n) (omega arith) h)) ∙ is in
+            let same : root_of (suc n) time ≡ i = cc in
+            omega (arith, ap (λ (j : Inode). j.generation) same, ap last_in (slot_root time (length es) (suc n) (omega arith) h))
         | inr h ↦ (let none : None ≡ Some (objects.Inode i) = sym (ap object_in (slot_none time (length es) (suc n) h)) ∙ is in absurd cc)
       ]
 
-  own_parent : (n : ℕ) (d : DirectoryInode) → get (opening_roots 1 es time) n ≡ Some (opening_root n time) → contents.Directory (record { parent = n; last_cookie = 2; entries = [] }) ≡ contents.Directory d
-      → IsParent (opening es moment) n d.parent
-  own_parent n d at is =
-      let own : n ≡ d.parent = ap parent_of is in
-      let within = root_range es moment n (opening_root n time) at in
-      let root = is_root-opened es moment n within.0 within.1 in
-      subst (IsParent (opening es moment) n) own
-      (record { directory = opening_root n time; lives = at; named_in = inl (refl, root) })
+  abbrev kept : Kept
+  kept = record {
+    state = opening es moment;
+    links = λ n. links_kept (inode_of (object_in (slice_get slots n)));
+    parents = λ n. parent_kept (inode_of (object_in (slice_get slots n)));
+  }
 
-  pub opening_stands : (p : PlainValue) → p.slots ≡ slots → p.mounts ≡ None → p.setting.exports ≡ es →
-      AreFaultless es →
-      StandsFor p (opening es moment)
-  opening_stands p is none exports faultless =
-      subst (λ (q : PlainValue). StandsFor q (opening es moment)) (let slots_is = sym is in let mounts_is = sym none in λ i. record { slots = slots_is i; mounts = mounts_is i; setting = p.setting })
+  abbrev LivesAt : ℕ → Living → Type 0
+  LivesAt n o = get (opening_roots 1 es time) n ≡ Some o
+
+  -- each root has the links that are kept
+  links : (n : ℕ) (o : Living) → LivesAt n o → kept.links n ≡ links_of kept.state n o.content
+  links n o at =
+      let within = root_range es moment n o at in
+      ap (λ (s : Option SlotValue). links_kept (inode_of (object_in s))) (slot_root time (length es) n within.0 within.1)
+      ∙ ap (λ (x : Living). links_of kept.state n x.content) (only_roots es moment n o at).0
+
+  -- and is its own parent
+  parents : (n : ℕ) (o : Living) → LivesAt n o → is_directory o.content ≡ true → IsParent kept.state n (kept.parents n)
+  parents n o at of =
+      let within = root_range es moment n o at in
+      let own : kept.parents n ≡ n = ap (λ (s : Option SlotValue). parent_kept (inode_of (object_in s))) (slot_root time (length es) n within.0 within.1) in
+      subst (IsParent kept.state n) (sym own)
+      (record { directory = o; lives = at; named_in = inl (refl, is_root-opened es moment n within.0 within.1) })
+
+  pub opening_stands : (p : PlainValue) → p.objects ≡ opening_objects es time → AreFaultless es → StandsFor p (opening es moment)
+  opening_stands p is faultless =
+      subst (λ (o : ObjectsValue). StandsFor (record { objects = o; setting = p.setting }) (opening es moment)) (sym is)
       (record {
+        links = kept.links;
+        parents = kept.parents;
         represents = record {
+          exports = refl;
+          last_export = refl;
           objects = lives;
+          links = λ n. refl;
+          parents = λ n. refl;
+          given = given;
           mounts = refl;
           spent = λ n g. ap (nat_le g) (lasts n);
           no_locks = refl;
@@ -134,19 +148,19 @@ module _ (es : List ExportValue) (moment : Moment) where
           no_granted = refl;
           no_spent_grants = λ n. refl;
         };
-        sound = record {
-          links = λ n i is. subst (λ (j : Inode). j.links ≡ links_of (opening es moment) n (content_of j.content)) (root-there n i is) refl;
-          parents = λ n i d is of. (let r = root-there n i is in own_parent n d (lives n ∙ ap living_of is ∙ ap (λ j. living_of (Some (objects.Inode j))) (sym r)) (ap (λ (j : Inode). j.content) r ∙ of));
-          well_formed = opening_formed es moment faultless;
-        };
-        exports = ap opening_exports (sym exports);
+        sound = record { links = links; parents = parents };
+        formed = opening_formed es moment faultless;
       })
 
-pub opening_of : (made : List SlotValue) (list : List Export) (es : List ExportValue) (moment : Moment) (start : ℕ)
-    (limits : Limits) → made ≡ root_slots (length list) (time_of moment) → map export_value list ≡ es →
-    AreFaultless es
-    → StandsFor (record { slots = made; mounts = None; setting = record { start = start; exports = es; limits = limits } }) (opening es moment)
-opening_of made list es moment start limits is exports faultless =
-    opening_stands es moment (record { slots = made; mounts = None; setting = record { start = start; exports = es; limits = limits } })
-    (is ∙ ap (λ n. root_slots n (time_of moment)) (sym (length-map list export_value) ∙ ap length exports)) refl
-    refl faultless
+abbrev objects_of : List SlotValue → Object → ObjectsValue
+objects_of slots o = record { slots = slots; exports = Some o; mounts = None }
+
+-- the roots of so many exports and their table are what a server opens with
+pub opened : {X : Type 0} (value : X → ExportValue) (list : List X) (es : List ExportValue) (time : Time) (slots was : List SlotValue) (o : Object) (t : ExportTableValue)
+    → map value list ≡ es → slots ≡ was → was ≡ root_slots (length list) time → o ≡ objects.Exports t → t.exports ≡ opening_exports es → t.last ≡ length es
+    → objects_of slots o ≡ opening_objects es time
+opened value list es time slot_list was o t listed is roots object exports last =
+    let count : length list ≡ length es = sym (length-map list value) ∙ ap length listed in
+    let table : t ≡ record { exports = opening_exports es; last = length es } = λ i. record { exports = exports i; last = last i } in
+    ap (λ (l : List SlotValue). objects_of l o) (is ∙ roots ∙ ap (λ n. root_slots n time) count)
+    ∙ ap (λ (x : Object). objects_of (root_slots (length es) time) x) (object ∙ ap (λ (x : ExportTableValue). objects.Exports x) table)

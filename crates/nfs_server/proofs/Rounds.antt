@@ -1,34 +1,22 @@
--- What the loops that grow a view and the slots keep.
-use Rattle.std.proofs.Common.{◌≡◌, ◌≢◌, ℕ, zero, suc, ◌+◌, ◌<◌, ◌≤◌, List, [], ◌∷◌, ◌++◌, length, length-append, map, replicate, take, refl, sym, ◌∙◌, ap, subst, append_assoc, append-nil, arith}
-use Rattle.std.proofs.Common.{get_or, set, None, Some}
+-- What the loops that grow the slots, make the roots and make the writes keep.
+use Rattle.std.proofs.Common.{◌≡◌, ℕ, zero, suc, ◌+◌, ◌<◌, ◌≤◌, List, [], ◌∷◌, ◌++◌, length, length-append, map, replicate, take, refl, sym, ◌∙◌, ap, subst, append_assoc, append-nil, arith}
+use Rattle.std.proofs.Common.{get_or, set, Option, Some}
 use Rattle.std.proofs.Math.Seq.{take-append_seam}
 use Rattle.std.proofs.lemmas.List.{map-append, map-set, take_all, take_more, take-map}
-use Rattle.std.specs.List.{AllByRecursion}
-use Rattle.nfs_objects.specs.Fits.{Fits}
-use Rattle.nfs_objects.specs.Store.{Store, with_write, with_writes}
-use Rattle.nfs_objects.specs.Values.{ViewValue, write_stored}
-use Rattle.nfs_objects.specs.declared.address.Addr.{Addr}
-use Rattle.nfs_objects.specs.declared.address.Addr.TheVariants.{Inode, Mounts}
-use Rattle.nfs_objects.specs.declared.object.Object.{Object}
-use Rattle.nfs_objects.specs.declared.done.Write.{Write}
-use Rattle.std.specs.Prelude.{Option}
-use Rattle.nfs_server.specs.Plain.{HasRoom, store_in}
-use Rattle.nfs_server.specs.Slots.{SlotValue, empty_slot}
 use Rattle.nfs_machine.proofs.Modes.{all-joined}
-use Rattle.nfs_server.proofs.Stores.{store_room}
-use Rattle.nfs_server.proofs.Views.{fits_more, fits_reserved, none_behind, last_behind}
-use Rattle.nfs_server.specs.Roots.{root_of, root_slots}
-use Rattle.nfs_server.specs.Slots.{generation_in, put_in, slot_value}
-use Rattle.nfs_server.specs.declared.slots.Slot.{Slot}
-use Rattle.nfs_objects.specs.declared.view.Reserved.{Reserved}
+use Rattle.nfs_objects.specs.Store.{Store, with_write, with_writes}
+use Rattle.nfs_objects.specs.Values.{write_value}
+use Rattle.nfs_objects.specs.declared.address.Addr.{Addr}
+use Rattle.nfs_objects.specs.declared.address.Addr.TheVariants.{Exports, Inode, Mounts}
+use Rattle.nfs_objects.specs.declared.change.Write.{Write}
 use Rattle.nfs_objects.specs.declared.object.Inode.{Inode as InodeObject}
+use Rattle.nfs_objects.specs.declared.object.Object.{Object}
 use Rattle.nfs_objects.specs.declared.object.Object.TheVariants as objects
+use Rattle.nfs_server.specs.Objects.{ObjectsValue, store_of}
+use Rattle.nfs_server.specs.Roots.{root_of, root_slots}
+use Rattle.nfs_server.specs.Slots.{SlotValue, HasSlot, HaveSlots, empty_slot, generation_in, put_in, slot_value}
+use Rattle.nfs_server.specs.declared.slots.Slot.{Slot}
 use Rattle.nfs_wire.specs.declared.attributes.Time.{Time}
-
--- so many entries were added, and the view fits
-pub record Filling (s : Store) (initial view : ViewValue) (count : ℕ) : Type 0 where
-  pub fits : Fits view s
-  pub len : length view.entries ≡ length initial.entries + count
 
 -- empty slots were added
 pub record Growing (initial slots : List SlotValue) : Type 0 where
@@ -61,75 +49,45 @@ growing_join initial slots more count g is = record {
 growing_len : (initial slots : List SlotValue) → Growing initial slots → length initial ≤ length slots
 growing_len initial slots g = omega (arith, simp length-append at (ap length g.grown))
 
-room_more : (slots more : List SlotValue) → length slots ≤ length more → (a : Addr) → HasRoom slots a → HasRoom more a
+room_more : (slots more : List SlotValue) → length slots ≤ length more → (a : Addr) → HasSlot slots a → HasSlot more a
+room_more slots more le Exports h = tt
 room_more slots more le (Inode n) h = omega (arith, h)
 room_more slots more le Mounts h = tt
 
-abbrev pub AllRoom : List SlotValue → List (Addr × Option Object) → Type 0
-AllRoom slots ws = AllByRecursion (λ (w : Addr × Option Object). HasRoom slots w.0) ws
-
-all_room_more : (slots more : List SlotValue) → length slots ≤ length more → (ws : List (Addr × Option Object)) → AllRoom slots ws → AllRoom more ws
+all_room_more : (slots more : List SlotValue) → length slots ≤ length more → (ws : List (Addr × Option Object)) → HaveSlots slots ws → HaveSlots more ws
 all_room_more slots more le [] all = tt
 all_room_more slots more le (w ∷ ws) all = (room_more slots more le w.0 all.0, all_room_more slots more le ws all.1)
 
 -- there is room for the first of the writes
 pub record Making (initial slots : List SlotValue) (writes : List (Addr × Option Object)) : Type 0 where
   pub growing : Growing initial slots
-  pub room : AllRoom slots writes
+  pub room : HaveSlots slots writes
 
 pub making_more : (initial slots more : List SlotValue) (writes later : List (Addr × Option Object)) (w : Addr × Option Object) (count : ℕ) → Making initial slots writes
-    → more ≡ slots ++ replicate count empty_slot → HasRoom more w.0 → later ≡ writes ++ w ∷ [] → Making initial more later
+    → more ≡ slots ++ replicate count empty_slot → HasSlot more w.0 → later ≡ writes ++ w ∷ [] → Making initial more later
 making_more initial slots more writes later w count m is room last = record {
   growing = growing_join initial slots more count m.growing is;
   room =
-      subst (AllRoom more) (sym last)
-      (all-joined (λ (x : Addr × Option Object). HasRoom more x.0) writes (w ∷ []) (all_room_more slots more (growing_len slots more (record { count = count; grown = is })) writes m.room) (room, tt));
+      subst (HaveSlots more) (sym last)
+      (all-joined (λ (x : Addr × Option Object). HasSlot more x.0) writes (w ∷ []) (all_room_more slots more (growing_len slots more (record { count = count; grown = is })) writes m.room) (room, tt));
 }
-
-pub making_store : (initial slots : List SlotValue) → Growing initial slots → (mounts : Option Object) → store_in slots mounts ≡ store_in initial mounts
-making_store initial slots g mounts = ap (λ (l : List SlotValue). store_in l mounts) g.grown ∙ store_room initial g.count mounts
 
 -- some of the writes are made, and the rest are still to be
-pub record Installing (initial slots : List SlotValue) (before mounts : Option Object) (all rest : List (Addr × Option Object)) : Type 0 where
-  pub same : with_writes (store_in slots mounts) rest ≡ with_writes (store_in initial before) all
-  pub room : AllRoom slots rest
+pub record Installing (initial now : ObjectsValue) (all rest : List (Addr × Option Object)) : Type 0 where
+  pub same : with_writes (store_of now) rest ≡ with_writes (store_of initial) all
+  pub room : HaveSlots now.slots rest
 
-pub installing_more : (initial slots later : List SlotValue) (before mounts then : Option Object) (all rest left : List (Addr × Option Object)) (w : Addr × Option Object) → Installing initial slots before mounts all rest
-    → rest ≡ w ∷ left → store_in later then ≡ with_write (store_in slots mounts) w.0 w.1 → length later ≡ length slots → Installing initial later before then all left
-installing_more initial slots later before mounts then all rest left w i is made len =
-    let here = subst (λ (ws : List (Addr × Option Object)). Installing initial slots before mounts all ws) is i in
+pub installing_more : (initial now later : ObjectsValue) (all rest left : List (Addr × Option Object)) (w : Addr × Option Object) → Installing initial now all rest
+    → rest ≡ w ∷ left → store_of later ≡ with_write (store_of now) w.0 w.1 → length later.slots ≡ length now.slots → Installing initial later all left
+installing_more initial now later all rest left w i is made len =
+    let here = subst (λ (ws : List (Addr × Option Object)). Installing initial now all ws) is i in
     record {
       same = ap (λ (s : Store). with_writes s left) made ∙ here.same;
-      room = all_room_more slots later (omega (arith, len)) left here.room.1;
+      room = all_room_more now.slots later.slots (omega (arith, len)) left here.room.1;
     }
 
-pub installing_room : (initial slots : List SlotValue) (before mounts : Option Object) (all rest left : List (Addr × Option Object)) (w : Addr × Option Object) → Installing initial slots before mounts all rest
-    → rest ≡ w ∷ left → HasRoom slots w.0
-installing_room initial slots before mounts all rest left w i is = (subst (AllRoom slots) is i.room).0
-
-pub some_length : {X : Type 0} (xs : List X) → xs ≢ [] → 0 < length xs
-some_length [] some = absurd (some refl)
-some_length (x ∷ xs) some = omega arith
-
-len_more : (v w : ViewValue) (e : Addr × Option Object) (rs : List Reserved) → w ≡ record { entries = v.entries ++ e ∷ []; reserved = rs } → length w.entries ≡ length v.entries + 1
-len_more v w e rs is = ap (λ (x : ViewValue). length x.entries) is ∙ length-append v.entries (e ∷ [])
-
-pub filling_more : (s : Store) (initial v w : ViewValue) (a : Addr) (o : Option Object) (count : ℕ) → w ≡ record { entries = v.entries ++ (a, o) ∷ []; reserved = v.reserved } → o ≡ s.at a
-    → Filling s initial v count → Filling s initial w (count + 1)
-filling_more s initial v w a o count is stands f = record {
-  fits = fits_more v w s a o f.fits stands is;
-  len = (let n : length v.entries ≡ length initial.entries + count = f.len in omega (arith, len_more v w (a, o) v.reserved is));
-}
-
-pub filling_reserved : (slots : List SlotValue) (mounts : Option Object) (initial v w : ViewValue) (number count : ℕ)
-    → w ≡ record { entries = v.entries ++ (Inode number, None) ∷ []; reserved = v.reserved ++ record { number = number; generation = 1 } ∷ [] } → length slots ≤ number
-    → Filling (store_in slots mounts) initial v count → Filling (store_in slots mounts) initial w (count + 1)
-filling_reserved slots mounts initial v w number count is past f =
-    let r : Reserved = record { number = number; generation = 1 } in
-    record {
-      fits = fits_reserved v w (store_in slots mounts) r f.fits (none_behind slots mounts number past) (omega (arith, last_behind slots mounts number past)) is;
-      len = (let n : length v.entries ≡ length initial.entries + count = f.len in omega (arith, len_more v w (Inode number, None) (v.reserved ++ r ∷ []) is));
-    }
+pub installing_room : (initial now : ObjectsValue) (all rest left : List (Addr × Option Object)) (w : Addr × Option Object) → Installing initial now all rest → rest ≡ w ∷ left → HasSlot now.slots w.0
+installing_room initial now all rest left w i is = (subst (HaveSlots now.slots) is i.room).0
 
 pub root_more : (slots more : List SlotValue) (index export : ℕ) (time : Time) (o : Object) (i : InodeObject) → slots ≡ root_slots index time → more ≡ slots ++ record { object = Some o; last = 1 } ∷ []
     → o ≡ objects.Inode i → i ≡ root_of export time → export ≡ index + 1 → more ≡ root_slots (index + 1) time
@@ -162,10 +120,10 @@ pub truncate_view : (xs ys : List Slot) (values : List SlotValue) (n : ℕ) → 
 truncate_view xs ys values n is cut = ap (map slot_value) cut ∙ sym (take-map slot_value n xs) ∙ ap (take n) is
 
 pub making_item : (initial slots more : List SlotValue) (writes : List Write) (index : ℕ) (item : Write) → index < length writes → item ≡ get_or writes index item
-    → Making initial slots (map write_stored (take index writes)) → (count : ℕ) × (more ≡ slots ++ replicate count empty_slot) → HasRoom more item.address → Making initial more (map write_stored (take (index + 1) writes))
+    → Making initial slots (map write_value (take index writes)) → (count : ℕ) × (more ≡ slots ++ replicate count empty_slot) → HasSlot more item.address → Making initial more (map write_value (take (index + 1) writes))
 making_item initial slots more writes index item h is m grown room =
-    making_more initial slots more (map write_stored (take index writes)) (map write_stored (take (index + 1) writes)) (write_stored item) grown.0 m grown.1 room
-    (ap (map write_stored) (take_more writes index item h) ∙ map-append write_stored (take index writes) (get_or writes index item ∷ []) ∙ ap (λ (w : Write). map write_stored (take index writes) ++ write_stored w ∷ []) (sym is))
+    making_more initial slots more (map write_value (take index writes)) (map write_value (take (index + 1) writes)) (write_value item) grown.0 m grown.1 room
+    (ap (map write_value) (take_more writes index item h) ∙ map-append write_value (take index writes) (get_or writes index item ∷ []) ∙ ap (λ (w : Write). map write_value (take index writes) ++ write_value w ∷ []) (sym is))
 
 pub making_none : (initial : List SlotValue) → Making initial initial []
 making_none initial = record { growing = growing_none initial; room = tt }
@@ -176,13 +134,12 @@ making_back initial slots more writes count is m grown =
     let g = growing_join initial slots more grown.0 m.growing grown.1 in
     ap (λ n. take n more) is ∙ ap (take (length initial)) g.grown ∙ take-append_seam initial (replicate g.count empty_slot)
 
-pub making_all : (initial slots : List SlotValue) (writes : List Write) (index : ℕ) → length writes ≤ index → Making initial slots (map write_stored (take index writes)) → AllRoom slots (map write_stored writes)
-making_all initial slots writes index h m = subst (λ (ws : List Write). AllRoom slots (map write_stored ws)) (take_all index writes h) m.room
+pub making_all : (initial slots : List SlotValue) (writes : List Write) (index : ℕ) → length writes ≤ index → Making initial slots (map write_value (take index writes)) → HaveSlots slots (map write_value writes)
+making_all initial slots writes index h m = subst (λ (ws : List Write). HaveSlots slots (map write_value ws)) (take_all index writes h) m.room
 
 pub nil_of_len : {X : Type 0} (xs : List X) (n : ℕ) → n ≡ length xs → n ≡ 0 → xs ≡ []
 nil_of_len [] n len none = refl
 nil_of_len (x ∷ xs) n len none = absurd (omega (arith, len, none))
 
-pub installed_all : (initial slots : List SlotValue) (before mounts : Option Object) (all rest : List (Addr × Option Object)) → Installing initial slots before mounts all rest → rest ≡ []
-    → store_in slots mounts ≡ with_writes (store_in initial before) all
-installed_all initial slots before mounts all rest i none = (subst (λ (ws : List (Addr × Option Object)). Installing initial slots before mounts all ws) none i).same
+pub installed_all : (initial now : ObjectsValue) (all rest : List (Addr × Option Object)) → Installing initial now all rest → rest ≡ [] → store_of now ≡ with_writes (store_of initial) all
+installed_all initial now all rest i none = (subst (λ (ws : List (Addr × Option Object)). Installing initial now all ws) none i).same

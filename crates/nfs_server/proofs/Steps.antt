@@ -15,8 +15,7 @@ use Rattle.nfs_wire.specs.declared.calls.NfsCall.{NfsCall}
 use Rattle.nfs_wire.specs.declared.replies.NfsReply.{NfsReply}
 use Rattle.nfs_machine.proofs.Short.{replies_short, refusals_short}
 use Rattle.nfs_machine.specs.Laws.{IsShort}
-use Rattle.nfs_machine.proofs.Kept.{steps_keep_exports}
-use Rattle.nfs_machine.specs.Exports.{ExportValue, opening_exports}
+use Rattle.nfs_machine.proofs.Kept.{steps_keep_form}
 use Rattle.nfs_machine.specs.MountSteps.{MountStep, MntAnswers}
 use Rattle.nfs_machine.specs.NlmSteps.{NlmStep}
 use Rattle.nfs_machine.specs.State.{State}
@@ -28,23 +27,24 @@ use Rattle.nfs_machine.specs.declared.calls.Reply.{Reply}
 use Rattle.nfs_machine.specs.declared.calls.Reply.TheVariants as replies
 use Rattle.nfs_machine.specs.declared.context.Ctx.{Ctx}
 use Rattle.nfs_objects.specs.Fits.{Fits}
-use Rattle.nfs_objects.specs.Promise.{IsPromised}
-use Rattle.nfs_objects.specs.Sound.{Sound, HasExports}
-use Rattle.nfs_objects.specs.Stands.{Represents}
+use Rattle.nfs_objects.specs.Promise.{IsPromised, IsStep}
+use Rattle.nfs_objects.specs.Stands.{Kept, Represents}
 use Rattle.nfs_objects.specs.Store.{Store, with_writes}
-use Rattle.nfs_objects.specs.Values.{DoneValue}
+use Rattle.nfs_objects.specs.Values.{ChangeValue, DoneValue, ViewValue, change_value, done_value, write_value}
+use Rattle.nfs_objects.specs.declared.change.Change.{Change}
+use Rattle.nfs_objects.specs.declared.change.Write.{Write}
+use Rattle.std.specs.Prelude.{map}
 use Rattle.nfs_server.specs.Built.{IsBuilt}
-use Rattle.nfs_server.specs.Executed.{MakesStep}
+use Rattle.nfs_server.specs.Executed.{IsAlike, IsReady, MakesStep, RunsTo}
+use Rattle.nfs_server.specs.declared.plain.Ended.{Ended}
+use Rattle.nfs_server.specs.Slots.{HaveSlots}
 use Rattle.nfs_server.proofs.Sizes.{mount_refused_size, mounted_size}
 use Rattle.std.specs.Prelude.{Option, Some, None, IfSome}
 use Rattle.nfs_machine.specs.Refusal.{nfs_refusal, refusal_of}
 use Rattle.nfs_machine.specs.declared.calls.Refusal.TheVariants as refusals
-use Rattle.nfs_machine.specs.Run.{Setting}
-use Rattle.nfs_objects.specs.declared.address.Addr.{Addr}
-use Rattle.nfs_objects.specs.declared.object.Object.{Object}
-use Rattle.nfs_server.specs.Slots.{SlotValue}
 use Rattle.nfs_server.specs.Forms.{HasForm, RefusalHasForm}
-use Rattle.nfs_server.specs.Plain.{PlainValue, Stands, StandsFor, store_in, store_of}
+use Rattle.nfs_server.specs.Objects.{ObjectsValue, store_of}
+use Rattle.nfs_server.specs.Plain.{PlainValue, Stands, StandsFor}
 use Rattle.nfs_machine.specs.RpcReplies.{success_message}
 
 result_form : (old : State) (ctx : Ctx) (path : List ℕ) (r : Result (List ℕ) MountStatus) (new : State) → MntAnswers old ctx path r new → HasForm (replies.Mount (mount_replies.Mnt r))
@@ -74,44 +74,65 @@ step_form old ctx (calls.Nlm call) (replies.Nfs reply) messages new built formed
 step_form old ctx (calls.Nlm call) (replies.Mount reply) messages new built formed step = absurd step
 step_form old ctx (calls.Nlm call) (replies.Nlm reply) messages new built formed step = nlm_form old ctx call reply messages new built step
 
-module _ (d : DoneValue) (old : PlainValue) (promised : IsPromised d) (fits : Fits d.view (store_of old)) (exports : d.ctx.exports ≡ old.setting.exports) where
-  pub reply_form : IsBuilt d.call → Stands old → HasForm d.reply
-  reply_form built (m, stands) =
-      let step = promised.kept (store_of old) m stands.represents stands.sound
-      (subst (λ (es : List ExportValue). HasExports es m) (sym exports) stands.exports) fits in
-      step_form m d.ctx d.call d.reply d.messages step.new built stands.sound.well_formed step.step
+-- what the store stands for, with what is kept beside the state
+abbrev kept_of : (m : State) (p : PlainValue) → StandsFor p m → Kept
+kept_of m p stands = record { state = m; links = stands.links; parents = stands.parents }
 
-  module _ (new : PlainValue) (made : store_of new ≡ with_writes (store_of old) d.writes) (setting : new.setting ≡ old.setting) where
+-- the end of a call that ran on the present store
+module _ (d : DoneValue) (old : PlainValue) (promised : IsPromised d) (fits : Fits d.view (store_of old.objects)) where
+  step_of : (m : State) (stands : StandsFor old m) → IsStep d (store_of old.objects) (kept_of m old stands)
+  step_of m stands = promised.kept (store_of old.objects) (kept_of m old stands) fits stands.represents stands.sound stands.formed
+
+  pub reply_form : IsBuilt d.call → Stands old → HasForm d.change.reply
+  reply_form built (m, stands) =
+      let s = step_of m stands in
+      step_form m d.ctx d.call d.change.reply d.change.messages s.new.state built stands.formed s.step
+
+  module _ (new : PlainValue) (made : store_of new.objects ≡ with_writes (store_of old.objects) d.change.writes) where
     abbrev Stepped : State → Type 0
-    Stepped m = (after : State) × Step m d.ctx d.call d.reply d.messages after × StandsFor new after
+    Stepped m = (after : State) × Step m d.ctx d.call d.change.reply d.change.messages after × StandsFor new after
 
     stepped : (m : State) → StandsFor old m → Stepped m
     stepped m stands =
-        let step = promised.kept (store_of old) m stands.represents stands.sound
-        (subst (λ (es : List ExportValue). HasExports es m) (sym exports) stands.exports) fits in (
-          step.new,
-          step.step,
+        let s = step_of m stands in (
+          s.new.state,
+          s.step,
           record {
-            represents = subst (λ (s : Store). Represents s step.new) (sym made) step.stands;
-            sound = subst (λ (s : Store). Sound s step.new) (sym made) step.sound;
-            exports = (steps_keep_exports m d.ctx d.call d.reply d.messages step.new step.step).exports
-                ∙ stands.exports ∙ ap (λ (s : Setting). opening_exports s.exports) (sym setting);
+            links = s.new.links;
+            parents = s.new.parents;
+            represents = subst (λ (store : Store). Represents store s.new) (sym made) s.stands;
+            sound = s.sound;
+            formed = steps_keep_form m d.ctx d.call d.change.reply d.change.messages s.new.state s.step stands.formed;
           },
         )
 
     pub stands_on : Stands old → Stands new
     stands_on (m, stands) = let s = stepped m stands in (s.0, s.2)
 
-    pub makes_step : (xid : ℕ) (answer : List ℕ) → answer ≡ success_message xid d.reply →
+    pub makes_step : (xid : ℕ) (answer : List ℕ) → new.setting ≡ old.setting → answer ≡ success_message xid d.change.reply →
         MakesStep d.ctx d.call xid old new answer
-    makes_step xid answer answered = record { setting = setting; reply = d.reply; messages = d.messages; answered = answered; each = stepped }
+    makes_step xid answer setting answered = record { setting = setting; reply = d.change.reply; messages = d.change.messages; answered = answered; each = stepped }
 
--- room and then the writes: the store is the old one with the writes
-pub store_made : (slots middle first : List SlotValue) (mounts before : Option Object) (setting : Setting) (old : PlainValue) (writes all : List (Addr × Option Object))
-    → store_in slots mounts ≡ with_writes (store_in middle before) writes → ((m : Option Object) → store_in middle m ≡ store_in first m)
-    → record { slots = first; mounts = before; setting = setting } ≡ old → writes ≡ all → store_in slots mounts ≡ with_writes (store_of old) all
-store_made slots middle first mounts before setting old writes all made room is same =
-    made ∙ ap (λ (s : Store). with_writes s writes) (room before ∙ ap store_of is) ∙ ap (with_writes (store_of old)) same
+-- where room is made, the store stands for what it stood for
+module _ (old new : PlainValue) (alike : IsAlike old new) where
+  pub stands_alike : (m : State) → StandsFor old m → StandsFor new m
+  stands_alike m stands = record {
+    links = stands.links;
+    parents = stands.parents;
+    represents = subst (λ (s : Store). Represents s (kept_of m old stands)) (sym alike.store) stands.represents;
+    sound = stands.sound;
+    formed = stands.formed;
+  }
+
+  -- and a step from there is one from before
+  pub makes_step_alike : (later : PlainValue) (ctx : Ctx) (call : Call) (xid : ℕ) (answer : List ℕ) → MakesStep ctx call xid new later answer → MakesStep ctx call xid old later answer
+  makes_step_alike later ctx call xid answer made = record {
+    setting = made.setting ∙ alike.setting;
+    reply = made.reply;
+    messages = made.messages;
+    answered = made.answered;
+    each = λ m stands. made.each m (stands_alike m stands);
+  }
 
 by_status : (call : NfsCall) (r : Option NfsReply) → nfs_refusal call ≡ r → RefusalHasForm (elim r [ None ↦ refusals.SystemError | Some reply ↦ refusals.Reply (replies.Nfs reply) ])
 by_status call None is = tt
@@ -125,3 +146,53 @@ refusal_form (calls.Mount (mount.Mnt path)) built = (tt, omega (arith, mount_ref
 refusal_form (calls.Mount call) built = tt
 refusal_form (calls.Nlm nlm.Null) built = tt
 refusal_form (calls.Nlm call) built = cc
+
+-- a call that ran on the present store has a reply of its form
+pub runs_form : (call : Call) (ctx : Ctx) (p : PlainValue) (view : ViewValue) (change : Change) → RunsTo call ctx (store_of p.objects) view (change_value change)
+    → IsBuilt call → Stands p → HasForm change.reply
+runs_form call ctx p view change runs built stands = reply_form (done_value call ctx view (change_value change)) p runs.promised runs.fits built stands
+
+pub is_ready : (call : Call) (xid : ℕ) (old new : PlainValue) (ended : Ended) → RunsTo call ended.ctx (store_of old.objects) ended.view (change_value ended.change)
+    → IsAlike old new → HaveSlots new.objects.slots (change_value ended.change).writes → ended.answer.items ≡ success_message xid ended.change.reply → IsReady call xid new ended
+is_ready call xid old new ended runs alike room answered = record {
+  runs = subst (λ (s : Store). RunsTo call ended.ctx s ended.view (change_value ended.change)) (sym alike.store) runs;
+  room = room;
+  answered = answered;
+}
+
+-- ---- the writes of a call's end
+module _ (p now : PlainValue) (d : DoneValue) (change : Change) (same : p ≡ now) (is : d.change ≡ change_value change) where
+  pub install_room : HaveSlots now.objects.slots d.change.writes → HaveSlots p.objects.slots (map write_value change.writes.items)
+  install_room room =
+      subst (λ (q : PlainValue). HaveSlots q.objects.slots (map write_value change.writes.items)) (sym same)
+      (subst (λ (v : ChangeValue). HaveSlots now.objects.slots v.writes) is room)
+
+  module _ (o : ObjectsValue) (made : store_of o ≡ with_writes (store_of p.objects) (map write_value change.writes.items)) where
+    made_of : store_of o ≡ with_writes (store_of p.objects) d.change.writes
+    made_of = made ∙ ap (λ (v : ChangeValue). with_writes (store_of p.objects) v.writes) (sym is)
+
+    pub installed_store : store_of o ≡ with_writes (store_of now.objects) d.change.writes
+    installed_store = made_of ∙ ap (λ (q : PlainValue). with_writes (store_of q.objects) d.change.writes) same
+
+    pub installed_stands : IsPromised d → Fits d.view (store_of now.objects) → Stands p → Stands (record { objects = o; setting = p.setting })
+    installed_stands promised fits stands =
+        stands_on d p promised (subst (λ (q : PlainValue). Fits d.view (store_of q.objects)) (sym same) fits) (record { objects = o; setting = p.setting }) made_of stands
+
+pub commit_step : (call : Call) (xid : ℕ) (old new : PlainValue) (ended : Ended) (d : DoneValue) → d ≡ done_value call ended.ctx ended.view (change_value ended.change)
+    → IsReady call xid old ended → new.setting ≡ old.setting → store_of new.objects ≡ with_writes (store_of old.objects) d.change.writes
+    → MakesStep ended.ctx call xid old new ended.answer.items
+commit_step call xid old new ended d is ready setting made =
+    makes_step (done_value call ended.ctx ended.view (change_value ended.change)) old ready.runs.promised ready.runs.fits new
+    (made ∙ ap (λ (e : DoneValue). with_writes (store_of old.objects) e.change.writes) is) xid ended.answer.items setting ready.answered
+
+-- ---- room is made in these objects
+module _ (p now : PlainValue) (same : p ≡ now) (o : ObjectsValue) where
+  pub stands_same : o ≡ p.objects → Stands p → Stands (record { objects = o; setting = p.setting })
+  stands_same is stands = subst (λ (q : ObjectsValue). Stands (record { objects = q; setting = p.setting })) (sym is) stands
+
+  module _ (made : store_of o ≡ store_of p.objects) where
+    pub alike : IsAlike now (record { objects = o; setting = p.setting })
+    alike = record { setting = ap (λ (q : PlainValue). q.setting) same; store = made ∙ ap (λ (q : PlainValue). store_of q.objects) same }
+
+    pub stands_room : Stands p → Stands (record { objects = o; setting = p.setting })
+    stands_room (m, stands) = (m, stands_alike p (record { objects = o; setting = p.setting }) (record { setting = refl; store = made }) m stands)

@@ -4,11 +4,13 @@ use Rattle.std.proofs.lemmas.Bool.Decides.{nat_tests}
 use Rattle.std.specs.List.{slice_get}
 use Rattle.nfs_objects.specs.Store.{put_at, give, with_write}
 use Rattle.nfs_objects.specs.declared.address.Addr.{Addr}
-use Rattle.nfs_objects.specs.declared.address.Addr.TheVariants.{Inode, Mounts}
+use Rattle.nfs_objects.specs.declared.address.Addr.TheVariants.{Exports, Inode, Mounts}
 use Rattle.nfs_objects.specs.declared.object.Object.{Object}
 use Rattle.nfs_objects.specs.declared.object.Object.TheVariants as objects
-use Rattle.nfs_server.specs.Plain.{object_at, store_in}
-use Rattle.nfs_server.specs.Slots.{SlotValue, empty_slot, object_in, last_in, put_in}
+use Rattle.nfs_server.specs.Objects.{ObjectsValue, object_at, store_of}
+use Rattle.nfs_server.specs.Slots.{HasSlot, SlotValue, empty_slot, object_in, last_in, put_in}
+use Rattle.std.specs.Prelude.{Result, Ok, Err, OnOk}
+use Rattle.std.specs.declared.alloc.AllocError.{AllocError}
 
 room_empty : {X : Type 0} (f : Option SlotValue → X) → f (Some empty_slot) ≡ f None → (count n : ℕ) → f (slice_get (replicate count empty_slot) n) ≡ f None
 room_empty f e zero n = refl
@@ -20,13 +22,15 @@ room_at f e [] count n = room_empty f e count n
 room_at f e (s ∷ slots) count zero = refl
 room_at f e (s ∷ slots) count (suc n) = room_at f e slots count n
 
-room_object : (slots : List SlotValue) (count : ℕ) (mounts : Option Object) (a : Addr) → object_at (slots ++ replicate count empty_slot) mounts a ≡ object_at slots mounts a
-room_object slots count mounts (Inode n) = room_at object_in refl slots count n
-room_object slots count mounts Mounts = refl
+room_object : (o : ObjectsValue) (count : ℕ) (a : Addr) →
+    object_at (record o { slots = o.slots ++ replicate count empty_slot }) a ≡ object_at o a
+room_object o count Exports = refl
+room_object o count (Inode n) = room_at object_in refl o.slots count n
+room_object o count Mounts = refl
 
 -- empty slots are as none
-pub store_room : (slots : List SlotValue) (count : ℕ) (mounts : Option Object) → store_in (slots ++ replicate count empty_slot) mounts ≡ store_in slots mounts
-store_room slots count mounts = λ i. record { at = λ a. room_object slots count mounts a i; last = λ n. room_at last_in refl slots count n i }
+pub store_room : (o : ObjectsValue) (count : ℕ) → store_of (record o { slots = o.slots ++ replicate count empty_slot }) ≡ store_of o
+store_room o count = λ i. record { at = λ a. room_object o count a i; last = λ n. room_at last_in refl o.slots count n i }
 
 set_here : (slots : List SlotValue) (n : ℕ) (s : SlotValue) → n < length slots → slice_get (set slots n s) n ≡ Some s
 set_here [] n s h = absurd (omega (arith, h))
@@ -54,10 +58,15 @@ set_at f slots n k s h =
       | false ↦ λ e. (let apart : n ≢ k = grind (arith, nat_tests) in ap f (set_there slots n k s apart))
     ] refl
 
-put_object : (slots : List SlotValue) (mounts o : Option Object) (n : ℕ) → n < length slots → (a : Addr)
-    → object_at (set slots n (put_in (get_or slots n empty_slot) o)) mounts a ≡ put_at (object_at slots mounts) (Inode n) o a
-put_object slots mounts o n h (Inode k) = set_at object_in slots n k (put_in (get_or slots n empty_slot) o) h
-put_object slots mounts o n h Mounts = refl
+-- the objects when this is put into a slot
+abbrev with_slot : ObjectsValue → ℕ → Option Object → ObjectsValue
+with_slot o n x = record o { slots = set o.slots n (put_in (get_or o.slots n empty_slot) x) }
+
+put_object : (o : ObjectsValue) (x : Option Object) (n : ℕ) → n < length o.slots → (a : Addr)
+    → object_at (with_slot o n x) a ≡ put_at (object_at o) (Inode n) x a
+put_object o x n h Exports = refl
+put_object o x n h (Inode k) = set_at object_in o.slots n k (put_in (get_or o.slots n empty_slot) x) h
+put_object o x n h Mounts = refl
 
 -- where nothing is given the last generation stays
 same_last : (slots : List SlotValue) (n k : ℕ) → n < length slots → cond (nat_eq n k) (max (get_or slots n empty_slot).last 0) (last_in (slice_get slots k)) ≡ last_in (slice_get slots k)
@@ -85,16 +94,41 @@ put_last : (slots : List SlotValue) (o : Option Object) (n : ℕ) → n < length
 put_last slots None n h k = set_at last_in slots n k (put_in (get_or slots n empty_slot) None) h ∙ same_last slots n k h
 put_last slots (Some (objects.Inode i)) n h k = set_at last_in slots n k (put_in (get_or slots n empty_slot) (Some (objects.Inode i))) h ∙ given_last slots n k i.generation h
 put_last slots (Some (objects.Mounts t)) n h k = set_at last_in slots n k (put_in (get_or slots n empty_slot) (Some (objects.Mounts t))) h ∙ same_last slots n k h
+put_last slots (Some (objects.Exports t)) n h k = set_at last_in slots n k (put_in (get_or slots n empty_slot) (Some (objects.Exports t))) h ∙ same_last slots n k h
 
 -- what is put into a slot is written to the store
-pub store_put : (slots : List SlotValue) (mounts o : Option Object) (n : ℕ) → n < length slots
-    → store_in (set slots n (put_in (get_or slots n empty_slot) o)) mounts ≡ with_write (store_in slots mounts) (Inode n) o
-store_put slots mounts o n h = λ i. record { at = λ a. put_object slots mounts o n h a i; last = λ k. put_last slots o n h k i }
+pub store_put : (o : ObjectsValue) (x : Option Object) (n : ℕ) → n < length o.slots → store_of (with_slot o n x) ≡ with_write (store_of o) (Inode n) x
+store_put o x n h = λ i. record { at = λ a. put_object o x n h a i; last = λ k. put_last o.slots x n h k i }
 
-mounts_object : (slots : List SlotValue) (mounts o : Option Object) (a : Addr) → object_at slots o a ≡ put_at (object_at slots mounts) Mounts o a
-mounts_object slots mounts o (Inode n) = refl
-mounts_object slots mounts o Mounts = refl
+exports_object : (o : ObjectsValue) (x : Option Object) (a : Addr) → object_at (record o { exports = x }) a ≡ put_at (object_at o) Exports x a
+exports_object o x Exports = refl
+exports_object o x (Inode n) = refl
+exports_object o x Mounts = refl
 
--- and so are the mounts
-pub store_mounts : (slots : List SlotValue) (mounts o : Option Object) → store_in slots o ≡ with_write (store_in slots mounts) Mounts o
-store_mounts slots mounts o = λ i. record { at = λ a. mounts_object slots mounts o a i; last = λ k. last_in (slice_get slots k) }
+mounts_object : (o : ObjectsValue) (x : Option Object) (a : Addr) → object_at (record o { mounts = x }) a ≡ put_at (object_at o) Mounts x a
+mounts_object o x Exports = refl
+mounts_object o x (Inode n) = refl
+mounts_object o x Mounts = refl
+
+-- and so are the tables
+pub store_exports : (o : ObjectsValue) (x : Option Object) → store_of (record o { exports = x }) ≡ with_write (store_of o) Exports x
+store_exports o x = λ i. record { at = λ a. exports_object o x a i; last = λ k. last_in (slice_get o.slots k) }
+
+pub store_mounts : (o : ObjectsValue) (x : Option Object) → store_of (record o { mounts = x }) ≡ with_write (store_of o) Mounts x
+store_mounts o x = λ i. record { at = λ a. mounts_object o x a i; last = λ k. last_in (slice_get o.slots k) }
+
+-- ---- of objects that are these
+pub put_slot : (o now : ObjectsValue) (a : Addr) (n : ℕ) → o ≡ now → a ≡ Inode n → HasSlot now.slots a → n < length o.slots
+put_slot o now a n same is h = subst (λ (b : Addr). HasSlot o.slots b) is (subst (λ (x : ObjectsValue). HasSlot x.slots a) (sym same) h)
+
+pub put_inode : (o now : ObjectsValue) (a : Addr) (n : ℕ) (x : Option Object) (slots : List SlotValue) → o ≡ now → a ≡ Inode n → HasSlot now.slots a
+    → slots ≡ set o.slots n (put_in (get_or o.slots n empty_slot) x) → store_of (record o { slots = slots }) ≡ with_write (store_of now) a x
+put_inode o now a n x slots same is h put =
+    ap (λ (l : List SlotValue). store_of (record o { slots = l })) put ∙ store_put o x n (put_slot o now a n same is h)
+    ∙ ap (λ (p : ObjectsValue). with_write (store_of p) (Inode n) x) same ∙ ap (λ (b : Addr). with_write (store_of now) b x) (sym is)
+
+pub room_made : (o now : ObjectsValue) (result : Result (Unit {0}) AllocError) (slots : List SlotValue) → o ≡ now
+    → OnOk result ((count : ℕ) × (slots ≡ o.slots ++ replicate count empty_slot)) → OnOk result (store_of (record o { slots = slots }) ≡ store_of now)
+room_made o now (Ok u) slots same (count, grown) =
+    ap (λ (l : List SlotValue). store_of (record o { slots = l })) grown ∙ store_room o count ∙ ap (λ (p : ObjectsValue). store_of p) same
+room_made o now (Err e) slots same grown = tt

@@ -14,6 +14,7 @@ use Rattle.clap.specs.declared.parser.matches.ArgMatches.{ArgMatches}
 use Rattle.nfs_machine.specs.ExportFaults.{export_fault, export_of}
 use Rattle.nfs_machine.specs.declared.exports.ExportError.{ExportError}
 use Rattle.nfs_machine.specs.declared.exports.ExportText.{ExportText}
+use Rattle.nfs_server.specs.Hosts.{IsHost}
 use Rattle.nfs_server.specs.declared.exit.Exit.{Exit}
 use Rattle.nfs_server.specs.declared.exit.Exit.TheVariants.{CommandLine, NoTransport, Exports, Memory, StandardStream}
 use Rattle.nfs_server.specs.declared.options.Options.{Options}
@@ -68,10 +69,6 @@ ReadsFlag text is_set =
     (text ≡ Some (codes "true") → is_set ≡ true)
     × (text ≡ Some (codes "false") → is_set ≡ false)
     × (text ≡ None → is_set ≡ false)
-
--- a host has 1 to 255 bytes
-abbrev pub IsHost : Text → Type 0
-IsHost host = (1 ≤ length host) × (length host ≤ 255)
 
 abbrev pub host_of : List Row → Text
 host_of rows = unwrap_or (first_of (codes "host") rows) (codes "127.0.0.1")

@@ -5,6 +5,8 @@ pub mod CommandLine
 pub mod Executed
 pub mod Exits
 pub mod Forms
+pub mod Hosts
+pub mod Objects
 pub mod Plain
 pub mod Roots
 pub mod Served

@@ -1,10 +1,12 @@
--- The slots that a server starts with: none at 0, and the root of each export at the export's number.
-use Rattle.std.specs.Prelude.{ℕ, zero, suc, List, [], ◌∷◌, ◌++◌, Some, None}
+-- What a server starts with: no object at number 0, the root of each export at the export's number, and the exports.
+use Rattle.std.specs.Prelude.{ℕ, zero, suc, List, [], ◌∷◌, ◌++◌, length, Some, None}
 use Rattle.nfs_wire.specs.declared.attributes.Time.{Time}
+use Rattle.nfs_machine.specs.Exports.{ExportValue, opening_exports}
 use Rattle.nfs_machine.specs.State.{octal}
 use Rattle.nfs_objects.specs.declared.object.Content.TheVariants as contents
 use Rattle.nfs_objects.specs.declared.object.Inode.{Inode}
 use Rattle.nfs_objects.specs.declared.object.Object.TheVariants as objects
+use Rattle.nfs_server.specs.Objects.{ObjectsValue}
 use Rattle.nfs_server.specs.Slots.{SlotValue, empty_slot}
 
 -- its own parent, mode 0777; "." and ".." have the cookies 1 and 2, and are its two links
@@ -31,3 +33,11 @@ root_slot number time = record { object = Some (objects.Inode (root_of number ti
 unfoldable pub root_slots : ℕ → Time → List SlotValue
 root_slots zero time = empty_slot ∷ []
 root_slots (suc n) time = root_slots n time ++ root_slot (suc n) time ∷ []
+
+-- the objects that a server of these exports starts with
+abbrev pub opening_objects : List ExportValue → Time → ObjectsValue
+opening_objects exports time = record {
+  slots = root_slots (length exports) time;
+  exports = Some (objects.Exports (record { exports = opening_exports exports; last = length exports }));
+  mounts = None;
+}

@@ -1,8 +1,11 @@
 -- Slots: what stands at each number, and the greatest generation that the number was given.
-use Rattle.std.specs.Prelude.{ℕ, max, Option, Some, None, option_map}
+use Rattle.std.specs.Prelude.{ℕ, ◌<◌, max, List, length, Option, Some, None, option_map}
+use Rattle.std.specs.List.{AllByRecursion}
 use Rattle.std.specs.Arc.{arc_value}
+use Rattle.nfs_objects.specs.declared.address.Addr.{Addr}
+use Rattle.nfs_objects.specs.declared.address.Addr.TheVariants as addresses
 use Rattle.nfs_objects.specs.declared.object.Object.{Object}
-use Rattle.nfs_objects.specs.declared.object.Object.TheVariants.{Inode, Mounts}
+use Rattle.nfs_objects.specs.declared.object.Object.TheVariants.{Inode}
 use Rattle.nfs_server.specs.declared.slots.Slot.{Slot}
 
 pub record SlotValue : Type 0 where
@@ -26,10 +29,18 @@ last_in (Some slot) = slot.last
 
 -- the generation of an inode
 abbrev pub generation_in : Option Object → ℕ
-generation_in None = 0
 generation_in (Some (Inode i)) = i.generation
-generation_in (Some (Mounts table)) = 0
+generation_in o = 0
 
 -- the slot when this is put there
 abbrev pub put_in : SlotValue → Option Object → SlotValue
 put_in slot o = record { object = o; last = max slot.last (generation_in o) }
+
+-- there is a slot for what is to stand at the address, if it wants one
+abbrev pub HasSlot : List SlotValue → Addr → Type 0
+HasSlot slots (addresses.Inode n) = n < length slots
+HasSlot slots a = Unit {0}
+
+-- and so for all writes
+abbrev pub HaveSlots : List SlotValue → List (Addr × Option Object) → Type 0
+HaveSlots slots writes = AllByRecursion (λ (w : Addr × Option Object). HasSlot slots w.0) writes

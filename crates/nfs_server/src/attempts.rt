@@ -3,6 +3,7 @@
 ghost use Rattle.std.specs.Prelude.{◌≡◌, IfOk};
 ghost use Rattle.nfs_names.specs.Calls.{is_name_call};
 ghost use Rattle.nfs_objects.specs.Attempt.{Attempts};
+ghost use Rattle.nfs_objects.specs.Modes.{Suits, modes_of};
 ghost use Rattle.nfs_server.specs.Built.{IsBuilt};
 
 use crate::nlm;
@@ -19,20 +20,22 @@ pub(crate) fn attempt(
     ctx: &Ctx,
     view: &View,
 ) -> Result<Outcome, AllocError>
-    requires { IsBuilt call.now }
-    ensures { IfOk result (λ outcome. Attempts call.now ctx.now view.now outcome) }
+    requires built { IsBuilt call.now }
+    requires suits { Suits (modes_of call.now) view.now }
+    ensures { IfOk result (Attempts call.now ctx.now view.now) }
 {
     match call {
         Call::Nfs(call) => attempt_nfs(alloc, call, ctx, view),
         Call::Mount(call) => attempt_mount(alloc, call, ctx, view),
-        Call::Nlm(call) => nlm::attempt(alloc, call, ctx, view),
+        Call::Nlm(call) => Ok(nlm::attempt(alloc, call)),
     }
 }
 
 /// The same for NFS: on names, or on attributes and data.
 fn attempt_nfs(alloc: Global, call: &NfsCall, ctx: &Ctx, view: &View) -> Result<Outcome, AllocError>
-    requires { IsBuilt (Call.Nfs call.now) }
-    ensures { IfOk result (λ outcome. Attempts (Call.Nfs call.now) ctx.now view.now outcome) }
+    requires built { IsBuilt (Call.Nfs call.now) }
+    requires suits { Suits (modes_of (Call.Nfs call.now)) view.now }
+    ensures { IfOk result (Attempts (Call.Nfs call.now) ctx.now view.now) }
 {
     if is_on_names(call) {
         nfs_names::attempt(alloc, call, ctx, view)
@@ -48,8 +51,9 @@ fn attempt_mount(
     ctx: &Ctx,
     view: &View,
 ) -> Result<Outcome, AllocError>
-    requires { IsBuilt (Call.Mount call.now) }
-    ensures { IfOk result (λ outcome. Attempts (Call.Mount call.now) ctx.now view.now outcome) }
+    requires built { IsBuilt (Call.Mount call.now) }
+    requires suits { Suits (modes_of (Call.Mount call.now)) view.now }
+    ensures { IfOk result (Attempts (Call.Mount call.now) ctx.now view.now) }
 {
     nfs_mount::attempt(alloc, call, ctx, view)
 }

@@ -4,12 +4,14 @@ ghost use Rattle.std.specs.Prelude.{◌≡◌, ◌==◌, [], false, map, slice_g
 ghost use Rattle.std.specs.Prelude.{IfErr, IfOk, MatchResult};
 ghost use Rattle.std.specs.List.{slice_split};
 ghost use Rattle.clap.specs.Words.{app_of, found_of, rows_of, rule_of};
-ghost use Rattle.nfs_server.specs.CommandLine.{Configures, ReadsOptions, Refuses, IsHost, IsParsedFrom};
+ghost use Rattle.nfs_server.specs.CommandLine.{Configures, ReadsOptions, Refuses, IsParsedFrom};
 ghost use Rattle.nfs_server.specs.CommandLine.{IsHostRefusal, IsReadingFault, IsRefusal, IsValueRefusal};
 ghost use Rattle.nfs_server.specs.CommandLine.{export_parts, host_of, nfsd, parts_of};
 ghost use Rattle.nfs_server.specs.CommandLine.{flag_rule, number_rule, option_rule};
+ghost use Rattle.nfs_server.specs.Hosts.{IsHost};
 
 use crate::exit::Exit;
+use crate::host::Host;
 use crate::options::Options;
 use bytes::Bytes;
 use clap::builder::ValueParser;
@@ -26,9 +28,6 @@ const DEFAULT_HOST: &str = "127.0.0.1";
 
 /// The total that FSSTAT tells where the command line says none, in bytes.
 const DEFAULT_BYTES: u64 = 1_099_511_627_776;
-
-/// The greatest length of a host, in bytes.
-const MAX_HOST: usize = 255;
 
 /// What is said of a host of another length.
 const BAD_HOST: &str = "the value of '--host <TEXT>' must have 1 to 255 bytes";
@@ -155,7 +154,7 @@ pub fn configure<S: AsStr>(alloc: Global, words: &[S]) -> Result<Options, Exit>
 {
     let mut command = command(alloc)?;
     let matches = parse(&mut command, words)?;
-    let host = host(&mut command, &matches)?;
+    let host = named_host(alloc, &mut command, &matches)?;
     if !matches.get_flag("stdio") {
         return Err(Exit::NoTransport);
     }
@@ -171,21 +170,24 @@ fn parse<'a, S: AsStr>(command: &mut Command<'a>, words: &'a [S]) -> Result<ArgM
 }
 
 // The host that the options name, or the default.
-fn host<'a>(command: &mut Command<'a>, matches: &ArgMatches<'a>) -> Result<&'a str, Exit>
-    ensures { MatchResult result (λ host. (host.now ≡ host_of (rows_of (found_of matches.now))) × IsHost host.now)
+fn named_host(
+    alloc: Global,
+    command: &mut Command<'_>,
+    matches: &ArgMatches<'_>,
+) -> Result<Host, Exit>
+    ensures { MatchResult result (λ host. (host ≡ host_of (rows_of (found_of matches.now))) × IsHost host)
         (IsHostRefusal (rows_of (found_of matches.now))) }
 {
-    let host = matches.get_str("host").unwrap_or(DEFAULT_HOST);
-    if host.is_empty() || host.len() > MAX_HOST {
-        return Err(refusal(command, BAD_HOST)?);
+    let text = matches.get_str("host").unwrap_or(DEFAULT_HOST);
+    match Host::new(Bytes::copy_from_slice(alloc, text.as_bytes())?) {
+        Some(host) => Ok(host),
+        None => Err(refusal(command, BAD_HOST)?),
     }
-    Ok(host)
 }
 
 // The options of a command line that is taken.
-fn read_options(alloc: Global, matches: &ArgMatches<'_>, host: &str) -> Result<Options, Exit>
-    requires host_has_length { IsHost host.now }
-    requires host_is { host.now ≡ host_of (rows_of (found_of matches.now)) }
+fn read_options(alloc: Global, matches: &ArgMatches<'_>, host: Host) -> Result<Options, Exit>
+    requires { host ≡ host_of (rows_of (found_of matches.now)) }
     ensures { MatchResult result (ReadsOptions (rows_of (found_of matches.now)))
         (IsRefusal (rows_of (found_of matches.now))) }
 {
@@ -194,7 +196,7 @@ fn read_options(alloc: Global, matches: &ArgMatches<'_>, host: &str) -> Result<O
         exports: Exports::new(alloc, list)?,
         start: matches.get_one("start"),
         clock: matches.get_one("clock"),
-        host: Bytes::copy_from_slice(alloc, host.as_bytes())?,
+        host,
         bytes: matches.get_one("bytes").unwrap_or(DEFAULT_BYTES),
     })
 }

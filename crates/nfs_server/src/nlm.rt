@@ -1,32 +1,27 @@
 //! NLM version 4 as an attempt: NULL, the one procedure that is there (RFC 1813, appendix II).
 
-ghost use Rattle.std.specs.Prelude.{IfOk};
+ghost use Rattle.std.specs.Prelude.{◌≡◌};
 ghost use Rattle.nfs_objects.specs.Attempt.{Attempts};
+ghost use Rattle.nfs_machine.specs.declared.context.Ctx.{Ctx};
+ghost use Rattle.nfs_objects.specs.Values.{ViewValue};
 ghost use Rattle.nfs_server.specs.Built.{IsBuilt};
 
-use nfs_machine::{Call, Ctx, Reply};
-use nfs_objects::{Outcome, View, unchanged};
+use nfs_machine::{Call, Reply};
+use nfs_objects::{Change, Outcome};
 use side_wire::{NlmCall, NlmReply};
-use std::alloc::{AllocError, Global};
+use std::alloc::Global;
 
-/// What the call comes to on what was read.
-pub(crate) fn attempt(
-    alloc: Global,
-    call: &NlmCall,
-    ctx: &Ctx,
-    view: &View,
-) -> Result<Outcome, AllocError>
+/// What the call comes to, whatever was read.
+pub(crate) fn attempt(alloc: Global, call: &NlmCall) -> Outcome
     requires { IsBuilt (Call.Nlm call.now) }
-    ensures { IfOk result (λ outcome. Attempts (Call.Nlm call.now) ctx.now view.now outcome) }
+    ensures { (ctx : Ctx) (view : ViewValue) → Attempts (Call.Nlm call.now) ctx view result }
 {
     match call {
-        NlmCall::Null => unchanged(
-            alloc,
-            Call::Nlm(NlmCall::Null),
-            ctx,
-            view,
-            Reply::Nlm(NlmReply::Null),
-        ),
+        NlmCall::Null => Outcome::Done(Change {
+            writes: Vec::new(alloc),
+            messages: Vec::new(alloc),
+            reply: Reply::Nlm(NlmReply::Null),
+        }),
         _ => unreachable!(),
     }
 }

@@ -1,8 +1,6 @@
 //! What the program is asked to serve.
 
-ghost use Rattle.std.specs.Prelude.{◌≤◌, length};
-
-use bytes::Bytes;
+use crate::host::Host;
 use nfs_machine::Exports;
 
 /// What the command line asks for.
@@ -15,8 +13,7 @@ pub struct Options {
     /// The second of every moment; None where the machine's clock gives the moments.
     pub clock: Option<u32>,
     /// The peer's host.
-    pub host: Bytes,
+    pub host: Host,
     /// The total that FSSTAT tells, in bytes.
     pub bytes: u64,
-    pub ghost host_has_length: { (1 ≤ length host) × (length host ≤ 255) },
 }

@@ -3,64 +3,68 @@
 //! It stands for a state of the machine at every moment, and each call that it executes is one step from there. A call
 //! that there is no memory for changes nothing.
 
-ghost use Rattle.std.specs.Prelude.{◌≡◌, ℕ, ◌+◌, ◌≤◌, length, option_map, IfOk, OnOk, OnErr};
-ghost use Rattle.std.specs.Arc.{arc_value};
+ghost use Rattle.std.specs.Prelude.{◌≡◌, [], ◌++◌, None, map, IfOk, OnOk, OnErr};
+ghost use Rattle.std.specs.List.{AllByRecursion};
 ghost use Rattle.nfs_machine.specs.Opening.{opening};
-ghost use Rattle.nfs_objects.specs.Fits.{Fits};
 ghost use Rattle.nfs_machine.specs.Refusal.{refusal_of};
+ghost use Rattle.nfs_machine.specs.RpcReplies.{refusal_message, success_message};
+ghost use Rattle.nfs_machine.specs.Run.{FromHost, context_of};
+ghost use Rattle.nfs_objects.specs.Asks.{EachOnce};
+ghost use Rattle.nfs_objects.specs.Fits.{Fits};
+ghost use Rattle.nfs_objects.specs.Store.{with_writes};
+ghost use Rattle.nfs_objects.specs.Values.{change_value, seen_at};
 ghost use Rattle.nfs_server.specs.Asked.{IsAsked};
 ghost use Rattle.nfs_server.specs.Built.{IsBuilt};
-ghost use Rattle.nfs_server.specs.Executed.{MakesStep, RunsTo};
-ghost use Rattle.nfs_machine.specs.Run.{FromHost, context_of};
-ghost use Rattle.nfs_server.specs.Plain.{StandsFor, store_of};
-ghost use Rattle.nfs_server.specs.Roots.{root_of, root_slots};
+ghost use Rattle.nfs_server.specs.Executed.{IsAlike, IsReady, MakesStep, RunsTo};
+ghost use Rattle.nfs_server.specs.Forms.{HasForm};
+ghost use Rattle.nfs_server.specs.Objects.{Reserves, shown_in, store_of};
+ghost use Rattle.nfs_server.specs.Plain.{Stands, StandsFor};
 ghost use Rattle.nfs_server.specs.Served.{IsAnswered, answer_bytes};
-ghost use Rattle.nfs_machine.specs.RpcReplies.{refusal_message};
+ghost use Rattle.nfs_server.specs.Slots.{HaveSlots};
 
 use crate::answers;
 use crate::asking::{Asked, Unasked, read_record};
 use crate::attempts::attempt;
-use crate::slots::{Slot, Slots};
-use crate::writes::{copy_writes, install, make_room};
-use bytes::Bytes;
+use crate::host::Host;
+use crate::objects::Objects;
 use nfs_machine::{Call, Ctx, Exports, Limits, Moment};
-use nfs_objects::{
-    Addr, Content, Directory, Done, Entries, Inode, Mode, Object, Outcome, Reserved, View, share,
-};
+use nfs_objects::{Addr, Change, Done, Mode, Outcome, Reserved, View};
 use nfs_rpc::{Ids, Record};
-use nfs_wire::Time;
 use std::alloc::{AllocError, Global};
 use std::marker::Model;
-use std::sync::Arc;
 
 /// The objects of one caller, in memory, and what the server was started with.
 #[derive(Drop)]
 pub struct Plain {
-    slots: Slots,
-    mounts: Option<Arc<Object>>,
+    objects: Objects,
     start: u64,
     exports: Exports,
     limits: Limits,
 }
 
 impl Model for Plain {
-    ghost use Rattle.std.specs.Prelude.{option_map};
-    ghost use Rattle.std.specs.Arc.{arc_value};
     ghost use Rattle.nfs_server.specs.Plain.{PlainValue, Stands};
 
     ghost Value = { PlainValue };
 
     ghost view = { λ p. record {
-      slots = p.slots;
-      mounts = option_map arc_value p.mounts;
+      objects = p.objects;
       setting = record { start = p.start; exports = p.exports; limits = p.limits };
     } };
 
     ghost invariant = { λ p. Stands (record {
-      slots = p.slots;
-      mounts = option_map arc_value p.mounts;
+      objects = p.objects;
       setting = record { start = p.start; exports = p.exports; limits = p.limits };
     }) };
+}
+
+/// A call that came to its end: what its commit takes, and the answer.
+#[derive(Drop)]
+struct Ended {
+    ctx: Ctx,
+    view: View,
+    change: Change,
+    answer: Vec<u8>,
 }
 
 impl Plain {
@@ -80,14 +84,9 @@ impl Plain {
             (λ plain. plain.setting ≡ record { start = start; exports = exports; limits = limits }) }
         ensures opening { IfOk result (λ plain. StandsFor plain (opening exports moment)) }
     {
-        let time = Time {
-            seconds: moment.seconds,
-            nanoseconds: moment.nanoseconds,
-        };
-        let slots = root_slots(alloc, exports.list().len(), time)?;
+        let objects = Objects::opening(alloc, &exports, moment.time())?;
         Ok(Plain {
-            slots,
-            mounts: None,
+            objects,
             start,
             exports,
             limits,
@@ -104,23 +103,17 @@ impl Plain {
     pub fn answer(
         &mut self,
         alloc: Global,
-        host: &Bytes,
+        host: &Host,
         message: Record,
         moment: Moment,
     ) -> Result<Option<Vec<u8>>, AllocError>
-        requires { (1 ≤ length host.now) × (length host.now ≤ 255) }
         ensures ok { IfOk result
             (λ answer. IsAnswered (FromHost (record { host = host.now; bytes = message; moment = moment }))
             self.old self.new (answer_bytes answer)) }
         ensures err { OnErr result (self.new ≡ self.old) }
     {
         match read_record(&message) {
-            Ok(asked) => {
-                let answer = self.answer_call(alloc, host, &message, &asked, moment);
-                // A call of `drop`, since a drop at the arm's end is proved for every variant of a call, in minutes.
-                drop(asked);
-                answer
-            }
+            Ok(asked) => self.answer_call(alloc, host, &message, asked, moment),
             Err(Unasked::Early(fault)) => answers::early(alloc, fault),
             Err(Unasked::Memory) => Err(AllocError),
         }
@@ -130,185 +123,183 @@ impl Plain {
     fn answer_call(
         &mut self,
         alloc: Global,
-        host: &Bytes,
+        host: &Host,
         message: &Record,
-        asked: &Asked,
+        asked: Asked,
         moment: Moment,
     ) -> Result<Option<Vec<u8>>, AllocError>
-        requires { IsAsked message.now asked.now }
+        requires { IsAsked message.now asked }
         ensures ok { IfOk result
             (λ answer. IsAnswered (FromHost (record { host = host.now; bytes = message.now; moment = moment }))
             self.old self.new (answer_bytes answer)) }
         ensures err { OnErr result (self.new ≡ self.old) }
     {
-        match self.execute(alloc, host, asked, moment) {
-            Ok(answer) => Ok(Some(answer)),
+        match self.prepare(alloc, host, &asked, moment) {
+            Ok(ended) => Ok(Some(self.commit(asked, ended))),
             Err(AllocError) => refuse(alloc, asked),
         }
     }
 
-    /// Executes a call and gives its answer. An error changes nothing.
-    fn execute(
+    /// Does what may want memory: brings the call to its end, makes the answer, and makes room for the writes. An
+    /// error changes nothing.
+    fn prepare(
         &mut self,
         alloc: Global,
-        host: &Bytes,
+        host: &Host,
         asked: &Asked,
         moment: Moment,
-    ) -> Result<Vec<u8>, AllocError>
+    ) -> Result<Ended, AllocError>
         requires { IsBuilt asked.now.call }
-        ensures ok { IfOk result
-            (λ answer. MakesStep (context_of self.old.setting host.now asked.now.ids moment)
-            asked.now.call asked.now.xid self.old self.new answer.items) }
+        ensures ctx { IfOk result (λ ended. ended.ctx ≡ context_of self.old.setting host.now asked.now.ids moment) }
+        ensures ready { IfOk result (λ ended. IsReady asked.now.call asked.now.xid self.new ended) }
+        ensures same { OnOk result (IsAlike self.old self.new) }
         ensures err { OnErr result (self.new ≡ self.old) }
     {
         let ctx = self.context(host, asked.ids, moment)?;
-        let done = self.run(alloc, &asked.call, &ctx)?;
-        self.commit(alloc, asked.xid, done)
+        let mut view = View::new(alloc);
+        let change = self.run(alloc, &asked.call, &ctx, &mut view)?;
+        match self.make_ready(alloc, asked.xid, &change) {
+            Ok(answer) => Ok(Ended {
+                ctx,
+                view,
+                change,
+                answer,
+            }),
+            Err(refused) => {
+                drop(change);
+                Err(refused)
+            }
+        }
+    }
+
+    /// Makes the answer of a call's end, and room for its writes. An error changes nothing.
+    fn make_ready(
+        &mut self,
+        alloc: Global,
+        xid: u32,
+        change: &Change,
+    ) -> Result<Vec<u8>, AllocError>
+        requires { Stands self.old → HasForm change.now.reply }
+        ensures answered { IfOk result (λ answer. answer.items ≡ success_message xid change.now.reply) }
+        ensures room { OnOk result (HaveSlots self.new.objects.slots (change_value change.now).writes) }
+        ensures same { OnOk result (IsAlike self.old self.new) }
+        ensures err { OnErr result (self.new ≡ self.old) }
+    {
+        let objects = &mut self.objects;
+        let answer = answers::success(alloc, xid, &change.reply)?;
+        objects.make_room(&change.writes)?;
+        Ok(answer)
     }
 
     /// What a call from the host is made under.
-    fn context(&self, host: &Bytes, ids: Ids, moment: Moment) -> Result<Ctx, AllocError>
+    fn context(&self, host: &Host, ids: Ids, moment: Moment) -> Result<Ctx, AllocError>
         ensures { IfOk result (λ ctx. ctx ≡ context_of self.now.setting host.now ids moment) }
     {
         Ok(Ctx {
-            host: host.clone()?,
+            host: host.text().clone()?,
             ids,
             moment,
             start: self.start,
-            exports: self.exports.clone()?,
             limits: self.limits,
         })
     }
 
     /// Attempts the call on a growing view, until it is done.
-    fn run(&self, alloc: Global, call: &Call, ctx: &Ctx) -> Result<Done, AllocError>
-        requires { IsBuilt call.now }
-        ensures { IfOk result (λ done. RunsTo call.now ctx.now (store_of self.now) done) }
+    fn run(
+        &self,
+        alloc: Global,
+        call: &Call,
+        ctx: &Ctx,
+        view: &mut View,
+    ) -> Result<Change, AllocError>
+        requires built { IsBuilt call.now }
+        requires nothing { view.old ≡ record { entries = []; reserved = [] } }
+        ensures { IfOk result
+            (λ change. RunsTo call.now ctx.now (store_of self.now.objects) view.new (change_value change)) }
     {
-        let mut view = View::new(alloc);
         'rounds: loop {
             // Each round adds to the view, which is shorter than 2^64: so rounds come to an end.
             let _known = view.len();
-            match attempt(alloc, call, ctx, &view)? {
-                Outcome::Need(addresses) => self.fill(&mut view, &addresses)?,
-                Outcome::Fresh(count) => self.reserve(&mut view, count)?,
-                Outcome::Done(done) => return Ok(done),
+            match attempt(alloc, call, ctx, view)? {
+                Outcome::Need(asked) => self.fill(view, &asked)?,
+                Outcome::Fresh(_) => self.reserve(view)?,
+                Outcome::Done(change) => return Ok(change),
             }
         }
     }
 
-    /// Shows what stands at each of these addresses.
-    fn fill(&self, view: &mut View, addresses: &[(Addr, Mode)]) -> Result<(), AllocError>
-        requires { Fits view.old (store_of self.now) }
-        ensures fits { OnOk result (Fits view.new (store_of self.now)) }
-        ensures len { OnOk result (length view.new.entries ≡ length view.old.entries + length addresses.now) }
+    /// Shows what stands at each of these addresses, held in the mode that is asked.
+    fn fill(&self, view: &mut View, asked: &[(Addr, Mode)]) -> Result<(), AllocError>
+        requires once { EachOnce asked.now }
+        requires unseen { AllByRecursion (λ a. seen_at view.old.entries a.0 ≡ None) asked.now }
+        ensures { OnOk result
+            (view.new ≡ record {
+              entries = view.old.entries ++ map (shown_in (store_of self.now.objects)) asked.now;
+              reserved = view.old.reserved;
+            }) }
     {
-        for (address, _) in addresses {
-            let object = self.share(*address)?;
-            view.add(*address, object)?;
+        for (address, mode) in asked {
+            let object = self.objects.share(*address)?;
+            view.add(*address, *mode, object)?;
         }
         Ok(())
     }
 
-    /// Gives so many numbers that were never given: those behind the last slot.
-    fn reserve(&self, view: &mut View, count: u32) -> Result<(), AllocError>
-        requires { Fits view.old (store_of self.now) }
-        ensures fits { OnOk result (Fits view.new (store_of self.now)) }
-        ensures len { OnOk result (length view.new.entries ≡ length view.old.entries + count) }
+    /// Gives a number that was never given, and that the view does not have: one behind the last slot.
+    ///
+    /// # Errors
+    ///
+    /// There is no memory for it, or no number is left.
+    fn reserve(&self, view: &mut View) -> Result<(), AllocError>
+        ensures { OnOk result (Reserves (store_of self.now.objects) view.old view.new) }
     {
-        let first = self.slots.len() as u64;
-        for index in 0..count {
-            let reserved = Reserved {
-                number: first + u64::from(index),
-                generation: 1,
-            };
-            view.add_reserved(reserved)?;
+        for number in self.objects.next_number()..u64::MAX {
+            if view.find(Addr::Inode(number)).is_none() {
+                return view.add_reserved(Reserved {
+                    number,
+                    generation: 1,
+                });
+            }
         }
-        Ok(())
+        Err(AllocError)
     }
 
-    /// One more owner of what stands at an address.
-    fn share(&self, address: Addr) -> Result<Option<Arc<Object>>, AllocError>
-        ensures { IfOk result (λ o. option_map arc_value o ≡ (store_of self.now).at address) }
+    /// Makes the writes of a call that came to its end, for which there is room, and gives its answer.
+    fn commit(&mut self, asked: Asked, ended: Ended) -> Vec<u8>
+        requires { IsReady asked.call asked.xid self.old ended }
+        ensures { MakesStep ended.ctx asked.call asked.xid self.old self.new result.items }
     {
-        match address {
-            Addr::Inode(number) => self.slots.share(number),
-            Addr::Mounts => share(&self.mounts),
-        }
+        let Ended {
+            ctx,
+            view,
+            change,
+            answer,
+        } = ended;
+        self.install(Done::new(asked.call, ctx, view, change));
+        answer
     }
 
-    /// Makes the answer, a copy of the writes and room for them; then it makes the writes, which cannot fail. An
-    /// error changes nothing.
-    fn commit(&mut self, alloc: Global, xid: u32, done: Done) -> Result<Vec<u8>, AllocError>
-        requires fits { Fits done.view (store_of self.old) }
-        requires exports { done.ctx.exports ≡ self.old.setting.exports }
-        requires built { IsBuilt done.call }
-        ensures ok { IfOk result (λ answer. MakesStep done.ctx done.call xid self.old self.new answer.items) }
-        ensures err { OnErr result (self.new ≡ self.old) }
+    /// Makes the writes of a call's end, for which there is room.
+    fn install(&mut self, done: Done)
+        requires fits { Fits done.view (store_of self.old.objects) }
+        requires room { HaveSlots self.old.objects.slots done.change.writes }
+        ensures setting { self.new.setting ≡ self.old.setting }
+        ensures store { store_of self.new.objects ≡ with_writes (store_of self.old.objects) done.change.writes }
     {
-        let _ = &self.slots;
-        done.promise();
-        let answer = answers::success(alloc, xid, done.reply())?;
-        let writes = copy_writes(alloc, done.writes())?;
-        make_room(&mut self.slots, &writes)?;
-        install(&mut self.slots, &mut self.mounts, writes);
-        Ok(answer)
+        let Change { writes, reply, .. } = done.into_change();
+        drop(reply);
+        self.objects.install(writes);
     }
 }
 
 /// The answer to a call that there was no memory for.
-fn refuse(alloc: Global, asked: &Asked) -> Result<Option<Vec<u8>>, AllocError>
-    requires { IsBuilt asked.now.call }
+fn refuse(alloc: Global, asked: Asked) -> Result<Option<Vec<u8>>, AllocError>
+    requires { IsBuilt asked.call }
     ensures { IfOk result
-        (λ answer. answer_bytes answer ≡ refusal_message asked.now.xid (refusal_of asked.now.call)) }
+        (λ answer. answer_bytes answer ≡ refusal_message asked.xid (refusal_of asked.call)) }
 {
     let refusal = asked.call.refusal()?;
     let answer = answers::refuse(alloc, asked.xid, &refusal);
     drop(refusal);
     Ok(Some(answer?))
-}
-
-/// The slots of so many roots, made at this time, behind an empty one.
-fn root_slots(alloc: Global, count: usize, time: Time) -> Result<Slots, AllocError>
-    ensures { IfOk result (λ slots. slots ≡ root_slots count time) }
-{
-    let mut slots = Slots::new(alloc);
-    slots.push(Slot {
-        object: None,
-        last: 0,
-    })?;
-    for index in 0..count {
-        let Ok(export) = u32::try_from(index + 1) else {
-            return Err(AllocError);
-        };
-        let root = Arc::new(alloc, Object::Inode(root(alloc, export, time)))?;
-        slots.push(Slot {
-            object: Some(root),
-            last: 1,
-        })?;
-    }
-    Ok(slots)
-}
-
-/// The root of an export.
-fn root(alloc: Global, export: u32, time: Time) -> Inode
-    ensures { result ≡ root_of export time }
-{
-    Inode {
-        export,
-        generation: 1,
-        content: Content::Directory(Directory {
-            parent: u64::from(export),
-            last_cookie: 2,
-            entries: Entries::new(alloc),
-        }),
-        mode: 0o777,
-        uid: 0,
-        gid: 0,
-        links: 2,
-        accessed: time,
-        modified: time,
-        changed: time,
-        verifier: None,
-    }
 }

@@ -8,8 +8,8 @@ ghost use Rattle.nfs_rpc.specs.Streams.{one_more};
 ghost use Rattle.nfs_server.specs.Served.{EndsBy, FailsToRead, Goes, Stops, ServedIsRun, ServesAll, ServesFront};
 ghost use Rattle.nfs_server.specs.Taken.{Takes};
 
+use crate::host::Host;
 use crate::plain::Plain;
-use bytes::Bytes;
 use nfs_machine::Moments;
 use nfs_rpc::stream::{Sink, Source};
 use nfs_rpc::{Record, RecordError, Records};
@@ -62,12 +62,11 @@ enum Taken {
 pub fn serve_plain<C: Moments, R: Source, W: Sink>(
     alloc: Global,
     plain: &mut Plain,
-    host: &Bytes,
+    host: &Host,
     clock: &mut C,
     reader: &mut R,
     writer: &mut W,
 ) -> Result<Served, StreamFault>
-    requires { (1 ≤ length host.now) × (length host.now ≤ 255) }
     // Answers are those of a run of the machine, from every state that the store stands for.
     ensures ok { IfOk result (λ _. (input : List ℕ) → R.unread reader.old ≡ Some input
         → ServesAll C.gives host.now input clock.old clock.new plain.old plain.new
@@ -109,14 +108,13 @@ pub fn served_is_a_run()
 fn serve_pieces<C: Moments, R: Source, W: Sink>(
     alloc: Global,
     plain: &mut Plain,
-    host: &Bytes,
+    host: &Host,
     clock: &mut C,
     reader: &mut R,
     writer: &mut W,
     records: &mut Records,
     buffer: &mut [u8],
 ) -> Result<Served, StreamFault>
-    requires host { (1 ≤ length host.now) × (length host.now ≤ 255) }
     requires buffer { 0 < length buffer.old }
     requires records { Holds records.old [] [] }
     ensures ok { IfOk result (λ _. (input : List ℕ) → R.unread reader.old ≡ Some input
@@ -179,12 +177,11 @@ fn take_piece<R: Source>(
 fn serve_records<C: Moments, W: Sink>(
     alloc: Global,
     plain: &mut Plain,
-    host: &Bytes,
+    host: &Host,
     clock: &mut C,
     writer: &mut W,
     records: &mut Records,
 ) -> Result<(), StreamFault>
-    requires { (1 ≤ length host.now) × (length host.now ≤ 255) }
     ensures goes { OnOk result
         (Goes C.gives host.now records.old.queued clock.old clock.new plain.old plain.new
         (W.written writer.old) (W.written writer.new)) }
@@ -211,12 +208,11 @@ fn serve_records<C: Moments, W: Sink>(
 fn serve_record<C: Moments, W: Sink>(
     alloc: Global,
     plain: &mut Plain,
-    host: &Bytes,
+    host: &Host,
     clock: &mut C,
     writer: &mut W,
     message: Record,
 ) -> Result<(), StreamFault>
-    requires { (1 ≤ length host.now) × (length host.now ≤ 255) }
     ensures sent { OnOk result (W.all_sent writer.old ≡ true → W.all_sent writer.new ≡ true) }
     ensures goes { OnOk result
         (Goes C.gives host.now (message ∷ []) clock.old clock.new plain.old plain.new

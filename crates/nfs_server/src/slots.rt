@@ -107,11 +107,8 @@ impl Slots {
 fn generation(object: &Option<Arc<Object>>) -> u64
     ensures { result ≡ generation_in (option_map arc_value object.now) }
 {
-    match object {
-        Some(object) => match &**object {
-            Object::Inode(inode) => inode.generation,
-            Object::Mounts(_) => 0,
-        },
-        None => 0,
+    match object.as_deref() {
+        Some(Object::Inode(inode)) => inode.generation,
+        _ => 0,
     }
 }

@@ -1,8 +1,6 @@
 //! Whole streams through a server of `/data` for every host, started with number 7 at (1000, 0), where every moment is
 //! (1000, 0). Calls and replies are worked out by hand from RFC 5531, sections 9 and 11, and RFC 1813.
 
-ghost use Rattle.std.specs.Prelude.{◌≤◌, length};
-
 mod clocks;
 mod command_lines;
 mod create;
@@ -21,7 +19,9 @@ mod want_of_memory;
 use bytes::Bytes;
 use nfs_machine::{ExportText, Exports, Limits, Moment};
 use nfs_rpc::stream::Counted;
-use nfs_server::{FixedClock, Options, Plain, Served, StreamFault, serve_options, serve_plain};
+use nfs_server::{
+    FixedClock, Host, Options, Plain, Served, StreamFault, serve_options, serve_plain,
+};
 use std::alloc::{AllocError, Global};
 use std::io::{Read, Write};
 use std::process::Abort;
@@ -74,10 +74,11 @@ fn both(alloc: Global, first: &[u32], others: &[u32]) -> Result<Vec<u8>, AllocEr
     Ok(bytes)
 }
 
-fn host() -> Bytes
-    ensures { (1 ≤ length result) × (length result ≤ 255) }
-{
-    Bytes::from_static(b"10.0.0.1")
+fn host() -> Host {
+    let Some(host) = Host::new(Bytes::from_static(b"10.0.0.1")) else {
+        unreachable!()
+    };
+    host
 }
 
 /// `/data` for every host, in this mode.

@@ -36,7 +36,7 @@ fn the_defaults(rt: HostRuntime) {
     let options = options(&rt, rt.alloc(), &SERVE);
     assert_eq!(rt; options.start, None);
     assert_eq!(rt; options.clock, None);
-    assert!(rt; options.host.as_slice() == b"127.0.0.1".as_slice());
+    assert!(rt; options.host.text().as_slice() == b"127.0.0.1".as_slice());
     assert_eq!(rt; options.bytes, 1_099_511_627_776);
     let list = options.exports.list();
     assert_eq!(rt; list.len(), 1);
@@ -63,7 +63,7 @@ fn each_option(rt: HostRuntime) {
     let options = options(&rt, rt.alloc(), &words);
     assert_eq!(rt; options.start, Some(u64::MAX));
     assert_eq!(rt; options.clock, Some(u32::MAX));
-    assert!(rt; options.host.as_slice() == b"10.0.0.1".as_slice());
+    assert!(rt; options.host.text().as_slice() == b"10.0.0.1".as_slice());
     assert_eq!(rt; options.bytes, 5);
     let list = options.exports.list();
     assert_eq!(rt; list.len(), 1);

@@ -2,8 +2,8 @@ use Rattle.std.proofs.Common.{sym, ◌∙◌}
 use Rattle.nfs_server.proofs.Built.{built-data}
 use Rattle.nfs_server.proofs.attempts.attempt_nfs.Goals as goal
 
-pub attempt-requires : goal.attempt-requires
-attempt-requires c = sym c.is_on_names.ensures ∙ c.if-is_on_names.true
+pub attempt-requires-clause-names : goal.attempt-requires-clause-names
+attempt-requires-clause-names c = sym c.is_on_names.ensures ∙ c.if-is_on_names.true
 
-pub attempt-requires-else-is_on_names : goal.attempt-requires-else-is_on_names
-attempt-requires-else-is_on_names c = built-data _ c.requires (sym c.is_on_names.ensures ∙ c.if-is_on_names.false)
+pub attempt-requires-else-is_on_names-clause-data : goal.attempt-requires-else-is_on_names-clause-data
+attempt-requires-else-is_on_names-clause-data c = built-data _ c.requires.built (sym c.is_on_names.ensures ∙ c.if-is_on_names.false)

@@ -1,5 +1,7 @@
-use Rattle.nfs_server.proofs.Nothing.{nlm_null_holds}
+use Rattle.std.proofs.Common.{ap, map}
+use Rattle.nfs_objects.specs.Values.{write_value}
+use Rattle.nfs_server.proofs.Nothing.{nlm_null_promised}
 use Rattle.nfs_server.proofs.nlm.attempt.Goals as goal
 
-pub unchanged-requires : goal.unchanged-requires
-unchanged-requires c = nlm_null_holds _ _
+pub returns : goal.returns
+returns c = nlm_null_promised _ _ _ c.in-Null.is (ap (map write_value) c.new.ensures.items) c.new-in-Null.ensures.items

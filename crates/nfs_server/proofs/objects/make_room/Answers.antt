@@ -1,6 +1,6 @@
 use Rattle.std.proofs.Common.{◌∙◌}
-use Rattle.nfs_server.proofs.Rounds.{making_none, making_item, making_back, making_all, making_store}
-use Rattle.nfs_server.proofs.writes.make_room.Goals as goal
+use Rattle.nfs_server.proofs.Rounds.{making_none, making_item, making_back, making_all}
+use Rattle.nfs_server.proofs.objects.make_room.Goals as goal
 
 pub loop-write-init : goal.loop-write-init
 loop-write-init c = making_none _
@@ -14,5 +14,5 @@ returns-in-Err-clause-err c = c.truncate.ensures ∙ making_back _ _ _ _ _ c.len
 pub returns-clause-room : goal.returns-clause-room
 returns-clause-room c = making_all _ _ _ _ c.loop-write-test.false c.loop-write.invariant
 
-pub returns-clause-same : goal.returns-clause-same
-returns-clause-same c = making_store _ _ c.loop-write.invariant.growing
+pub returns-clause-grown : goal.returns-clause-grown
+returns-clause-grown c = (c.loop-write.invariant.growing.count, c.loop-write.invariant.growing.grown)

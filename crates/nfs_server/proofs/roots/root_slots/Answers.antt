@@ -1,6 +1,6 @@
 use Rattle.std.proofs.Common.{arith}
 use Rattle.nfs_server.proofs.Rounds.{root_more, root_none}
-use Rattle.nfs_server.proofs.plain.root_slots.Goals as goal
+use Rattle.nfs_server.proofs.roots.root_slots.Goals as goal
 
 pub loop-index-init : goal.loop-index-init
 loop-index-init c = root_none _ _ _ c.new-slots.ensures c.in_ok-push.ensures.ok

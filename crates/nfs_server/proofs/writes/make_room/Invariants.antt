@@ -1,7 +1,0 @@
-use Rattle.std.proofs.Common.{map, take}
-use Rattle.nfs_objects.specs.Values.{write_stored}
-use Rattle.nfs_server.proofs.Rounds.{Making}
-use Rattle.nfs_server.proofs.writes.make_room.Given as goal
-
-abbrev pub invariant-loop-write : goal.invariant-loop-write
-invariant-loop-write l = Making l.initial.slots l.slots (map write_stored (take l.write-index l.writes))
