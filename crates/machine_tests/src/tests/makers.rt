@@ -1,0 +1,267 @@
+//! Changes of objects: bytes, links, names, and new files (RFC 1813, 2.5: mtime, ctime).
+
+ghost use Rattle.std.specs.Prelude.{◌≡◌, [], IfOk};
+ghost use Rattle.nfs_objects.specs.Modes.{Suits};
+ghost use Rattle.nfs_objects.specs.declared.modes.Mode.TheVariants.{Exclusive};
+
+use super::*;
+use nfs_inodes::{
+    File, add_entry, attributes_given, lose_link, make_file, next_cookie, object, read, regular,
+    resize, take_entry, write,
+};
+use nfs_objects::object::living;
+use nfs_objects::{Draft, Reserved};
+use nfs_wire::{CreateHow, Verifier};
+use std::test::Fail;
+
+/// One nanosecond after the last change.
+const LATER: Time = Time {
+    seconds: 1000,
+    nanoseconds: 1,
+};
+
+/// Regular file 9.
+fn file(draft: &Draft<'_>) -> Result<Option<File>, Halt> {
+    match object(draft, 9)? {
+        Some(known) => Ok(regular(&known).ok()),
+        None => Ok(None),
+    }
+}
+
+/// Whether file 9 has these bytes.
+fn holds(draft: &Draft<'_>, bytes: &[u8]) -> Result<bool, Halt> {
+    let Some(file) = file(draft)? else {
+        return Ok(false);
+    };
+    let found = read(draft, &file, 0, 100)?;
+    Ok(found.eof && found.data.as_slice() == bytes)
+}
+
+/// Whether file 9 has these bytes once its size is so.
+fn is_resized(draft: &mut Draft<'_>, size: usize, bytes: &[u8]) -> Result<bool, Halt>
+    requires { draft.old.modes.inodes ≡ Exclusive }
+{
+    let Some(file) = file(draft)? else {
+        return Ok(false);
+    };
+    resize(draft, &file, size)?;
+    holds(draft, bytes)
+}
+
+#[test]
+fn a_file_is_cut_off(rt: HostRuntime) -> Result<(), Fail> {
+    let (ctx, view) = (ctx(1), viewed(rt.alloc(), 9, hello())?);
+    let mut draft = Draft::new(rt.alloc(), &ctx, &view, CHANGING);
+    assert!(rt; matches!(is_resized(&mut draft, 3, b"hel"), Ok(true)));
+    Ok(())
+}
+
+#[test]
+fn a_file_is_filled_up_with_zeros(rt: HostRuntime) -> Result<(), Fail> {
+    let (ctx, view) = (ctx(1), viewed(rt.alloc(), 9, hello())?);
+    let mut draft = Draft::new(rt.alloc(), &ctx, &view, CHANGING);
+    assert!(rt; matches!(is_resized(&mut draft, 7, b"hello\0\0"), Ok(true)));
+    Ok(())
+}
+
+/// Whether file 9 has these bytes once others were written at the offset.
+fn is_written(draft: &mut Draft<'_>, offset: u8, more: &[u8; 2], bytes: &[u8]) -> Result<bool, Halt>
+    requires { draft.old.modes.inodes ≡ Exclusive }
+{
+    let Some(file) = file(draft)? else {
+        return Ok(false);
+    };
+    write(draft, &file, offset as usize, more)?;
+    holds(draft, bytes)
+}
+
+#[test]
+fn bytes_are_written_over_others(rt: HostRuntime) -> Result<(), Fail> {
+    let (ctx, view) = (ctx(1), viewed(rt.alloc(), 9, hello())?);
+    let mut draft = Draft::new(rt.alloc(), &ctx, &view, CHANGING);
+    assert!(rt; matches!(is_written(&mut draft, 1, b"ip", b"hiplo"), Ok(true)));
+    Ok(())
+}
+
+#[test]
+fn bytes_are_written_behind_a_gap(rt: HostRuntime) -> Result<(), Fail> {
+    let (ctx, view) = (ctx(1), viewed(rt.alloc(), 9, hello())?);
+    let mut draft = Draft::new(rt.alloc(), &ctx, &view, CHANGING);
+    assert!(rt; matches!(is_written(&mut draft, 7, b"!!", b"hello\0\0!!"), Ok(true)));
+    Ok(())
+}
+
+/// Whether object 9 has so many links, and was modified and changed at these times.
+fn is_at(draft: &Draft<'_>, links: u32, modified: Time, changed: Time) -> Result<bool, Halt> {
+    match object(draft, 9)? {
+        Some(Known { attributes, .. }) => Ok(
+            attributes.links == links
+                && attributes.modified == modified
+                && attributes.changed == changed,
+        ),
+        None => Ok(false),
+    }
+}
+
+#[test]
+fn other_bytes_have_a_later_time(rt: HostRuntime) -> Result<(), Fail> {
+    let (ctx, view) = (ctx(1), viewed(rt.alloc(), 9, hello())?);
+    let mut draft = Draft::new(rt.alloc(), &ctx, &view, CHANGING);
+    assert!(rt; matches!(is_resized(&mut draft, 5, b"hello"), Ok(true)));
+    assert!(rt; matches!(is_at(&draft, 1, LATER, LATER), Ok(true)));
+    Ok(())
+}
+
+/// What is in it stays, and so does its time.
+#[test]
+fn one_of_two_links_goes(rt: HostRuntime) -> Result<(), Fail> {
+    let mut linked = hello();
+    linked.links = 2;
+    let (ctx, view) = (ctx(1), viewed(rt.alloc(), 9, linked)?);
+    let mut draft = Draft::new(rt.alloc(), &ctx, &view, CHANGING);
+    assert!(rt; lose_link(&mut draft, 9, 2).is_ok());
+    assert!(rt; matches!(is_at(&draft, 1, TIME, LATER), Ok(true)));
+    Ok(())
+}
+
+#[test]
+fn an_object_goes_with_its_last_link(rt: HostRuntime) -> Result<(), Fail> {
+    let (ctx, view) = (ctx(1), viewed(rt.alloc(), 9, hello())?);
+    let mut draft = Draft::new(rt.alloc(), &ctx, &view, CHANGING);
+    assert!(rt; lose_link(&mut draft, 9, 1).is_ok());
+    assert!(rt; matches!(object(&draft, 9), Ok(None)));
+    Ok(())
+}
+
+/// Directory 9 without names.
+fn place(alloc: Global) -> Result<View, AllocError>
+    ensures changes { IfOk result (Suits CHANGING) }
+{
+    let content = Content::Directory(directory(Entries::new(alloc), 2));
+    viewed(alloc, 9, inode(content, 0o777))
+}
+
+/// Directory 9.
+fn known_place(draft: &Draft<'_>) -> Result<Option<nfs_inodes::Directory>, Halt> {
+    match object(draft, 9)? {
+        Some(known) => Ok(nfs_inodes::directory(&known).ok()),
+        None => Ok(None),
+    }
+}
+
+/// What the name leads to in directory 9.
+fn led(draft: &Draft<'_>, name: &[u8]) -> Option<u64> {
+    let content = &living(draft.find(Addr::Inode(9)).ok()?)?.content;
+    match content {
+        Content::Directory(directory) => Some(directory.entries.find(name)?.number),
+        _ => None,
+    }
+}
+
+/// Adds `a`, which leads to 7, and `b`, which leads to 8, to directory 9, and takes `b` out.
+fn come_and_go(draft: &mut Draft<'_>) -> Result<(), Halt>
+    requires { draft.old.modes.inodes ≡ Exclusive }
+{
+    let Some(place) = known_place(draft)? else {
+        return Ok(());
+    };
+    add_entry(draft, &place, b"a", 7, 3)?;
+    add_entry(draft, &place, b"b", 8, 4)?;
+    take_entry(draft, &place, b"b")
+}
+
+/// The cookie of the next entry of directory 9.
+fn next(draft: &Draft<'_>) -> Result<Option<u64>, Halt> {
+    match known_place(draft)? {
+        Some(place) => next_cookie(draft, &place),
+        None => Ok(None),
+    }
+}
+
+/// The cookies of names that went are not used again (RFC 1813, 3.3.16).
+#[test]
+fn names_come_and_go(rt: HostRuntime) -> Result<(), Fail> {
+    let (ctx, view) = (ctx(1), place(rt.alloc())?);
+    let mut draft = Draft::new(rt.alloc(), &ctx, &view, CHANGING);
+    assert!(rt; come_and_go(&mut draft).is_ok());
+    assert_eq!(rt; (led(&draft, b"a"), led(&draft, b"b")), (Some(7), None));
+    assert!(rt; matches!(next(&draft), Ok(Some(5))));
+    Ok(())
+}
+
+const RESERVED: Reserved = Reserved {
+    number: 10,
+    generation: 4,
+};
+
+/// A file of 3 bytes.
+fn sized() -> CreateHow {
+    CreateHow::Unchecked(SetAttributes {
+        size: Some(3),
+        ..NOTHING
+    })
+}
+
+#[test]
+fn a_file_that_is_made_exclusively_is_given_nothing(rt: HostRuntime) {
+    let exclusive = CreateHow::Exclusive(Verifier { bytes: [1; 8] });
+    assert!(rt; attributes_given(&exclusive) == NOTHING);
+    assert!(rt; attributes_given(&sized()).size == Some(3));
+}
+
+/// Makes the file `x` in directory 9.
+fn make(draft: &mut Draft<'_>) -> Result<Option<Reserved>, Halt>
+    requires none { draft.old.writes ≡ [] }
+    requires alone { draft.old.modes.inodes ≡ Exclusive }
+{
+    match known_place(draft)? {
+        Some(place) => Ok(Some(make_file(draft, &place, b"x", 3, &sized())?)),
+        None => Ok(None),
+    }
+}
+
+/// Whether number 10 is a file of 3 zeros, of user 1 and group 1, with mode 0644.
+fn is_made(draft: &Draft<'_>) -> Result<bool, Halt> {
+    let Some(known) = object(draft, 10)? else {
+        return Ok(false);
+    };
+    Ok(
+        known.generation == 4
+            && known.attributes.kind == FileType::Regular
+            && (known.attributes.uid, known.attributes.gid) == (1, 1)
+            && (known.attributes.mode, known.attributes.size) == (0o644, 3),
+    )
+}
+
+#[test]
+fn a_new_file_wants_a_number(rt: HostRuntime) -> Result<(), Fail> {
+    let (ctx, view) = (ctx(1), place(rt.alloc())?);
+    let mut draft = Draft::new(rt.alloc(), &ctx, &view, CHANGING);
+    assert!(rt; matches!(make(&mut draft), Err(Halt::Fresh(1))));
+    Ok(())
+}
+
+/// Directory 9 without names, and a number to give.
+fn place_and_number(alloc: Global) -> Result<View, AllocError>
+    ensures changes { IfOk result (Suits CHANGING) }
+{
+    let content = Content::Directory(directory(Entries::new(alloc), 2));
+    let mut view = View::new(alloc);
+    view.add(
+        Addr::Inode(9),
+        Mode::Exclusive,
+        Some(Arc::new(alloc, Object::Inode(inode(content, 0o777)))?),
+    )?;
+    view.add_reserved(RESERVED)?;
+    Ok(view)
+}
+
+#[test]
+fn a_new_file_has_the_number_that_was_reserved(rt: HostRuntime) -> Result<(), Fail> {
+    let (ctx, view) = (ctx(1), place_and_number(rt.alloc())?);
+    let mut draft = Draft::new(rt.alloc(), &ctx, &view, CHANGING);
+    assert!(rt; matches!(make(&mut draft), Ok(Some(RESERVED))));
+    assert_eq!(rt; led(&draft, b"x"), Some(10));
+    assert!(rt; matches!(is_made(&draft), Ok(true)));
+    Ok(())
+}

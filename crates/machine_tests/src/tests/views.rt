@@ -1,0 +1,79 @@
+//! Modes, and views: what was read, numbers to give, and growth that is refused.
+
+use super::*;
+use nfs_objects::Reserved;
+use nfs_objects::modes::covers;
+use nfs_objects::object::{living, mount_table};
+use std::test::Fail;
+
+#[test]
+fn what_is_held_alone_may_be_used_in_each_mode(rt: HostRuntime) {
+    for (held, wanted, want) in [
+        (Mode::Shared, Mode::Shared, true),
+        (Mode::Shared, Mode::Exclusive, false),
+        (Mode::Exclusive, Mode::Shared, true),
+        (Mode::Exclusive, Mode::Exclusive, true),
+    ] {
+        assert_eq!(rt; covers(held, wanted), want, "{held:?} {wanted:?}");
+    }
+}
+
+#[test]
+fn the_exports_are_shared_always(rt: HostRuntime) {
+    for modes in [READING, CHANGING, MOUNTING] {
+        assert_eq!(rt; modes.at(Addr::Exports), Mode::Shared);
+    }
+    assert_eq!(rt; READING.at(Addr::Inode(1)), Mode::Shared);
+    assert_eq!(rt; CHANGING.at(Addr::Inode(1)), Mode::Exclusive);
+    assert_eq!(rt; CHANGING.at(Addr::Mounts), Mode::Shared);
+    assert_eq!(rt; MOUNTING.at(Addr::Mounts), Mode::Exclusive);
+}
+
+#[test]
+fn a_view_shows_what_was_read(rt: HostRuntime) -> Result<(), Fail> {
+    let view = viewed(rt.alloc(), 9, fifo(0o600))?;
+    assert_eq!(rt; view.len(), 2);
+    let known = view.find(Addr::Inode(9)).ok_or("it was read")?;
+    assert!(rt; living(known).is_some_and(|inode| inode.uid == 5));
+    assert!(rt; mount_table(known).is_none());
+    assert!(rt; view.find(Addr::Mounts).is_none());
+    Ok(())
+}
+
+#[test]
+fn a_view_shows_that_nothing_is_there(rt: HostRuntime) -> Result<(), Fail> {
+    let mut view = View::new(rt.alloc());
+    assert!(rt; view.is_empty());
+    view.add(Addr::Mounts, Mode::Shared, None)?;
+    let known = view.find(Addr::Mounts).ok_or("it was read")?;
+    assert!(rt; known.is_none());
+    Ok(())
+}
+
+const RESERVED: Reserved = Reserved {
+    number: 2,
+    generation: 7,
+};
+
+#[test]
+fn a_number_to_give_is_known_to_be_free(rt: HostRuntime) -> Result<(), Fail> {
+    let mut view = View::new(rt.alloc());
+    assert!(rt; view.fresh().is_none());
+    view.add_reserved(RESERVED)?;
+    assert_eq!(rt; view.fresh(), Some(RESERVED));
+    let known = view.find(Addr::Inode(2)).ok_or("it is known")?;
+    assert!(rt; known.is_none());
+    Ok(())
+}
+
+/// What is refused for want of memory leaves the view as it was, whichever allocation it is.
+#[test]
+fn a_refused_growth_changes_nothing(rt: HostRuntime) {
+    let mut view = View::new(rt.alloc());
+    let read = view.add(Addr::Mounts, Mode::Shared, None).is_ok();
+    assert_eq!(rt; view.find(Addr::Mounts).is_some(), read);
+    let given = view.add_reserved(RESERVED).is_ok();
+    assert_eq!(rt; view.fresh().is_some(), given);
+    assert_eq!(rt; view.find(Addr::Inode(2)).is_some(), given);
+    assert_eq!(rt; view.find(Addr::Mounts).is_some(), read);
+}
