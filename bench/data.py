@@ -10,12 +10,7 @@ import sys
 import nfsd
 
 FILE_BYTES = 1_048_576
-CREATED, WRITTEN, DATA = 276, 164, 132  # the bytes of a reply with its mark; READ's without the data
-
-
-def create():
-    """CREATE UNCHECKED of `x` in the root, with no attributes given (RFC 1813, 3.3.8)."""
-    return nfsd.call(0, nfsd.CREATE, nfsd.ROOT + struct.pack(">I4s7I", 1, b"x", 0, 0, 0, 0, 0, 0, 0))
+WRITTEN, DATA = 164, 132  # the bytes of a reply with its mark; READ's without the data
 
 
 def write(xid, offset, data):
@@ -42,12 +37,12 @@ def tell(name, size, count, passed):
 
 def measure(size, count):
     data = b"x" * size
-    writes = [create()] + [write(xid, offset, data) for xid, offset in offsets(count, size)]
-    tell("WRITE", size, count, nfsd.seconds(writes, CREATED + count * WRITTEN))
-    fill = [create()] + [write(xid, offset, b"x" * 65_536) for xid, offset in offsets(16, 65_536)]
-    filled = nfsd.seconds(fill, CREATED + 16 * WRITTEN)
+    writes = [nfsd.create(0, b"x")] + [write(xid, offset, data) for xid, offset in offsets(count, size)]
+    tell("WRITE", size, count, nfsd.seconds(writes, nfsd.CREATED + count * WRITTEN))
+    fill = [nfsd.create(0, b"x")] + [write(xid, offset, b"x" * 65_536) for xid, offset in offsets(16, 65_536)]
+    filled = nfsd.seconds(fill, nfsd.CREATED + 16 * WRITTEN)
     reads = fill + [read(xid, offset, size) for xid, offset in offsets(count, size)]
-    passed = nfsd.seconds(reads, CREATED + 16 * WRITTEN + count * (DATA + size))
+    passed = nfsd.seconds(reads, nfsd.CREATED + 16 * WRITTEN + count * (DATA + size))
     tell("READ ", size, count, max(passed - filled, 1e-9))
 
 

@@ -11,7 +11,7 @@ import nfsd
 def main():
     count = int(sys.argv[1]) if len(sys.argv) > 1 else 100_000
     records = (nfsd.call(xid, nfsd.GETATTR, nfsd.ROOT) for xid in range(count))
-    passed = nfsd.seconds(records, count * 116)
+    passed = nfsd.seconds(records, count * nfsd.SHOWN)
     print(f"{count} calls in {passed:.3f} s: {count / passed:,.0f} calls a second")
 
 

@@ -1,15 +1,20 @@
-"""Records of calls, and a run of `nfsd --stdio` over them. Shared by the benchmarks of this folder.
+"""Records of calls, and runs of `nfsd --stdio` over them. Shared by the benchmarks of this folder.
 
 The program is taken from crates/nfsd/out/nfsd: `rt run` in crates/nfsd builds it.
 """
+import fcntl
+import os
 import pathlib
 import struct
 import subprocess
 import tempfile
 import time
 
-NULL, GETATTR, READ, WRITE, CREATE = 0, 1, 6, 7, 8
+NFS = 100003
+NULL, GETATTR, LOOKUP, READ, WRITE, CREATE = 0, 1, 3, 6, 7, 8
 PROGRAM = pathlib.Path(__file__).resolve().parent.parent / "crates/nfsd/out/nfsd"
+OPTIONS = ["--stdio", "--export", "/data,rw,*", "--start", "7", "--clock", "1000"]
+SHOWN, FOUND, CREATED = 116, 244, 276  # the bytes of a good reply of GETATTR, LOOKUP and CREATE, with its mark
 
 
 def handle(fileid):
@@ -21,20 +26,82 @@ ROOT = handle(1)
 FILE = handle(2)  # the first new file
 
 
-def call(xid, procedure, arguments=b""):
-    """A call of NFS with AUTH_NONE (RFC 5531, section 9), as one fragment."""
-    body = struct.pack(">10I", xid, 0, 2, 100003, 3, procedure, 0, 0, 0, 0) + arguments
+def call(xid, procedure, arguments=b"", program=NFS):
+    """A call of version 3 of a program with AUTH_NONE (RFC 5531, section 9), as one fragment."""
+    body = struct.pack(">10I", xid, 0, 2, program, 3, procedure, 0, 0, 0, 0) + arguments
     return struct.pack(">I", 0x80000000 | len(body)) + body
 
 
+def place(name):
+    """A name in the root (RFC 1813, 3.3.3: diropargs3)."""
+    return ROOT + struct.pack(">I", len(name)) + name + bytes(-len(name) % 4)
+
+
+def create(xid, name, behind=b""):
+    """CREATE UNCHECKED of a name in the root, with no attributes given (RFC 1813, 3.3.8), and bytes behind its arguments."""
+    return call(xid, CREATE, place(name) + bytes(28) + behind)
+
+
+def lookup(xid, name):
+    """LOOKUP of a name in the root (RFC 1813, 3.3.3)."""
+    return call(xid, LOOKUP, place(name))
+
+
+class Server:
+    """A run of nfsd, on a processor of its own where there are two, that answers batches of records."""
+
+    def __init__(self, program=PROGRAM):
+        self.replies = tempfile.TemporaryFile()
+        self.written = 0
+        self.process = subprocess.Popen(
+            [program, *OPTIONS], stdin=subprocess.PIPE, stdout=self.replies, preexec_fn=self.alone
+        )
+        fcntl.fcntl(self.process.stdin, fcntl.F_SETPIPE_SZ, 1 << 20)
+
+    @staticmethod
+    def alone():
+        """The last processor is the server's."""
+        os.sched_setaffinity(0, [max(os.sched_getaffinity(0))])
+
+    def __enter__(self):
+        others = os.sched_getaffinity(0) - {max(os.sched_getaffinity(0))}
+        if others:
+            os.sched_setaffinity(0, others)
+        return self
+
+    def __exit__(self, *error):
+        self.process.stdin.close()
+        status = self.process.wait()
+        os.sched_setaffinity(0, range(os.cpu_count()))
+        assert status == 0 or error[0], "the server ends well"
+
+    def answer(self, records, reply_bytes):
+        """The seconds that it needs for these records. Its replies have this length in all."""
+        records = b"".join(records)
+        self.written += reply_bytes
+        begin = time.perf_counter()
+        self.process.stdin.write(records)
+        self.process.stdin.flush()
+        while os.fstat(self.replies.fileno()).st_size < self.written:
+            assert self.process.poll() is None, "the server runs"
+        passed = time.perf_counter() - begin
+        assert os.fstat(self.replies.fileno()).st_size == self.written, "each call is answered, and none is refused"
+        return passed
+
+    def resident(self):
+        """The bytes of memory that it has at present."""
+        status = pathlib.Path(f"/proc/{self.process.pid}/status").read_text()
+        line = next(line for line in status.splitlines() if line.startswith("VmRSS:"))
+        return int(line.split()[1]) * 1024
+
+
 def seconds(records, reply_bytes):
-    """The seconds that nfsd needs for these records. Its replies have this length in all."""
-    arguments = [PROGRAM, "--stdio", "--export", "/data,rw,*", "--start", "7", "--clock", "1000"]
+    """The seconds that nfsd needs for these records, from its start to its end. Its replies have this length in all."""
     with tempfile.TemporaryFile() as calls, tempfile.TemporaryFile() as replies:
         calls.writelines(records)
         calls.seek(0)
         begin = time.perf_counter()
-        subprocess.run(arguments, stdin=calls, stdout=replies, check=True)
+        subprocess.run([PROGRAM, *OPTIONS], stdin=calls, stdout=replies, check=True)
         passed = time.perf_counter() - begin
         assert replies.seek(0, 2) == reply_bytes, "each call is answered, and none is refused"
     return passed

@@ -1,0 +1,64 @@
+#!/usr/bin/env python3
+"""Prints how many GETATTR, LOOKUP and CREATE `nfsd --stdio` answers a second on one processor, in directories of 100 and
+of 10,000 names. Of several programs, which take turns, it prints also how many times as quick as the first each is.
+A benchmark, not a test.
+
+usage: bench/calls.py [PROGRAM..]
+"""
+import sys
+
+import nfsd
+
+TURNS = 5
+GETATTRS, LOOKUPS, CREATES = 100_000, 50_000, 200
+
+
+def name(number):
+    return b"name%08d" % number
+
+
+def fill(server, names):
+    """Makes so many names."""
+    server.answer((nfsd.create(xid, name(xid)) for xid in range(names)), names * nfsd.CREATED)
+
+
+def read(program, names):
+    """The seconds for GETATTRs of the root, which has so many names, and for LOOKUPs of each of them in turn."""
+    with nfsd.Server(program) as server:
+        fill(server, names)
+        getattrs = [nfsd.call(xid, nfsd.GETATTR, nfsd.ROOT) for xid in range(GETATTRS)]
+        lookups = [nfsd.lookup(xid, name(xid * 7919 % names)) for xid in range(LOOKUPS)]
+        return server.answer(getattrs, GETATTRS * nfsd.SHOWN), server.answer(lookups, LOOKUPS * nfsd.FOUND)
+
+
+def make(program, names):
+    """The seconds for CREATEs in the root, which has so many names half way through."""
+    with nfsd.Server(program) as server:
+        first = names - CREATES // 2
+        fill(server, first)
+        creates = [nfsd.create(xid, name(xid)) for xid in range(first, first + CREATES)]
+        return server.answer(creates, CREATES * nfsd.CREATED)
+
+
+def main():
+    programs = sys.argv[1:] or [nfsd.PROGRAM]
+    for names in (100, 10_000):
+        best = {}
+        for _ in range(TURNS):
+            for program in programs:
+                getattrs, lookups = read(program, names)
+                creates = make(program, names)
+                for what, count, passed in (
+                    ("GETATTR", GETATTRS, getattrs),
+                    ("LOOKUP", LOOKUPS, lookups),
+                    ("CREATE", CREATES, creates),
+                ):
+                    rate = count / passed
+                    best[what, program] = max(rate, best.get((what, program), 0))
+        for (what, program), rate in sorted(best.items(), key=lambda item: item[0][0]):
+            ratio = f", {rate / best[what, programs[0]]:.2f} times the first" if len(programs) > 1 else ""
+            print(f"{what:7} among {names:6} names: {rate:9,.0f} calls a second{ratio} ({program})")
+
+
+if __name__ == "__main__":
+    main()
