@@ -1,4 +1,5 @@
 pub mod Bounded
+pub mod Compared
 pub mod Drafted
 pub mod ExportTables
 pub mod Knows

@@ -1,7 +1,7 @@
 -- The map of a view's entries: what a look-up finds is what the view shows.
 use Rattle.std.specs.Prelude.{◌≡◌, ◌++◌, Bool, true, false, List, [], ◌∷◌, Some, None, option_map, map}
-use Rattle.std.specs.Prelude.{refl}
-use Rattle.std.proofs.Common.{cond, ◌∙◌, ap}
+use Rattle.std.specs.Prelude.{OnOk, Result, Ok, refl}
+use Rattle.std.proofs.Common.{cond, ◌∙◌, ap, subst}
 use Rattle.std.proofs.lemmas.List.{map-append}
 use Rattle.std.specs.Arc.{arc_value}
 use Rattle.std.specs.Cmp.{nat_eq_equiv}
@@ -28,6 +28,21 @@ tests (Inode n) Mounts = refl
 tests Mounts Exports = refl
 tests Mounts (Inode m) = refl
 tests Mounts Mounts = refl
+
+pub tested : (a b : Addr) → same_address a b ≡ is_addr a b
+tested Exports Exports = refl
+tested Exports (Inode m) = refl
+tested Exports Mounts = refl
+tested (Inode n) Exports = refl
+tested (Inode n) (Inode m) = refl
+tested (Inode n) Mounts = refl
+tested Mounts Exports = refl
+tested Mounts (Inode m) = refl
+tested Mounts Mounts = refl
+
+-- what holds of a good end holds where it was one
+pub so-ok : {T E P : Type 0} {r : Result T E} {x : T} → r ≡ Ok x → OnOk r P → P
+so-ok {P = P} is holds = subst (λ r. OnOk r P) is holds
 
 module _ (a : Addr) where
   pub lookup-shown : (pairs : List (Addr × Entry)) →

@@ -3,6 +3,7 @@ pub mod Attempt
 pub mod Begins
 pub mod Bound
 pub mod Calls
+pub mod Derived
 pub mod Drafts
 pub mod Edits
 pub mod Entries
@@ -12,6 +13,9 @@ pub mod Knows
 pub mod Modes
 pub mod MountTables
 pub mod Promise
+pub mod Rooms
+pub mod Same
+pub mod SameLaws
 pub mod Sound
 pub mod Stands
 pub mod Store

@@ -140,6 +140,32 @@ impl Clone for Entries {
     }
 }
 
+impl PartialEq for Entries {
+    ghost use Rattle.std.specs.Bool.{Decides};
+    ghost use Rattle.std.specs.Cmp.{decided, partial_equiv_from_equiv};
+    ghost use Rattle.nfs_objects.specs.Same.{same_entry};
+    ghost use Rattle.nfs_objects.specs.SameLaws.{entries_decide};
+
+    ghost eq = { pointwise same_entry };
+
+    ghost laws = { partial_equiv_from_equiv (decided (pointwise same_entry) entries_decide) };
+
+    fn eq(&self, other: &Entries) -> bool
+        ensures test { result ≡ pointwise same_entry self.now other.now }
+        ensures same { Decides result (self.now ≡ other.now) }
+    {
+        self.map.as_slice() == other.map.as_slice()
+    }
+}
+
+impl Eq for Entries {
+    ghost use Rattle.std.specs.Cmp.{decided};
+    ghost use Rattle.nfs_objects.specs.Same.{same_entry};
+    ghost use Rattle.nfs_objects.specs.SameLaws.{entries_decide};
+
+    ghost laws = { decided (pointwise same_entry) entries_decide };
+}
+
 /// A directory (RFC 1813, 2.1).
 #[derive(Debug, Drop)]
 pub struct Directory {
@@ -160,4 +186,32 @@ impl Clone for Directory {
             entries: self.entries.clone()?,
         })
     }
+}
+
+impl PartialEq for Directory {
+    ghost use Rattle.std.specs.Bool.{Decides};
+    ghost use Rattle.std.specs.Cmp.{decided, partial_equiv_from_equiv};
+    ghost use Rattle.nfs_objects.specs.Same.{same_directory};
+    ghost use Rattle.nfs_objects.specs.SameLaws.{directory_decides};
+
+    ghost eq = { same_directory };
+
+    ghost laws = { partial_equiv_from_equiv (decided same_directory directory_decides) };
+
+    fn eq(&self, other: &Directory) -> bool
+        ensures test { result ≡ same_directory self.now other.now }
+        ensures same { Decides result (self.now ≡ other.now) }
+    {
+        self.parent == other.parent
+            && self.last_cookie == other.last_cookie
+            && self.entries == other.entries
+    }
+}
+
+impl Eq for Directory {
+    ghost use Rattle.std.specs.Cmp.{decided};
+    ghost use Rattle.nfs_objects.specs.Same.{same_directory};
+    ghost use Rattle.nfs_objects.specs.SameLaws.{directory_decides};
+
+    ghost laws = { decided same_directory directory_decides };
 }

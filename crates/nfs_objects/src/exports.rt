@@ -64,6 +64,36 @@ impl LivingExport {
     }
 }
 
+impl PartialEq for LivingExport {
+    ghost use Rattle.std.specs.Bool.{Decides};
+    ghost use Rattle.std.specs.Cmp.{decided, partial_equiv_from_equiv};
+    ghost use Rattle.nfs_objects.specs.Same.{same_living};
+    ghost use Rattle.nfs_objects.specs.SameLaws.{living_decides};
+
+    ghost eq = { same_living };
+
+    ghost laws = { partial_equiv_from_equiv (decided same_living living_decides) };
+
+    fn eq(&self, other: &LivingExport) -> bool
+        ensures test { result ≡ same_living self.now other.now }
+        ensures same { Decides result (self.now ≡ other.now) }
+    {
+        self.number == other.number
+            && self.root == other.root
+            && self.export.path == other.export.path
+            && self.export.read_only == other.export.read_only
+            && self.export.hosts == other.export.hosts
+    }
+}
+
+impl Eq for LivingExport {
+    ghost use Rattle.std.specs.Cmp.{decided};
+    ghost use Rattle.nfs_objects.specs.Same.{same_living};
+    ghost use Rattle.nfs_objects.specs.SameLaws.{living_decides};
+
+    ghost laws = { decided same_living living_decides };
+}
+
 /// The living exports in the order given, and the greatest number that an export ever had. Copies share one list. A
 /// list of exports that replaces another gives each path that stays the number and the root that it has, and each new
 /// path a number above the greatest, so that no handle ever names an object of another export.
@@ -93,6 +123,32 @@ impl Clone for ExportTable {
             last: self.last,
         })
     }
+}
+
+impl PartialEq for ExportTable {
+    ghost use Rattle.std.specs.Bool.{Decides};
+    ghost use Rattle.std.specs.Cmp.{decided, partial_equiv_from_equiv};
+    ghost use Rattle.nfs_objects.specs.Same.{same_exports};
+    ghost use Rattle.nfs_objects.specs.SameLaws.{exports_decide};
+
+    ghost eq = { same_exports };
+
+    ghost laws = { partial_equiv_from_equiv (decided same_exports exports_decide) };
+
+    fn eq(&self, other: &ExportTable) -> bool
+        ensures test { result ≡ same_exports self.now other.now }
+        ensures same { Decides result (self.now ≡ other.now) }
+    {
+        self.last == other.last && self.list == other.list
+    }
+}
+
+impl Eq for ExportTable {
+    ghost use Rattle.std.specs.Cmp.{decided};
+    ghost use Rattle.nfs_objects.specs.Same.{same_exports};
+    ghost use Rattle.nfs_objects.specs.SameLaws.{exports_decide};
+
+    ghost laws = { decided same_exports exports_decide };
 }
 
 impl ExportTable {

@@ -29,4 +29,4 @@ pub use mounts::{MOUNT_LIMIT, Mount, MountTable, Mounts};
 pub use nfs_machine::Handle;
 pub use object::{Content, Inode, Object};
 pub use refusal::{outcome, settled};
-pub use view::{Entry, Reserved, View, share};
+pub use view::{Entry, Reserved, RoomyView, View, share};

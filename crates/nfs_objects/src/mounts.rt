@@ -3,6 +3,8 @@
 ghost use Rattle.std.specs.Prelude.{◌≡◌, ◌==◌, ◌<◌, ◌≤◌, [], ◌∷◌, ◌++◌, false, IfOk};
 ghost use Rattle.std.specs.Prelude.{OnOk, drop, length, map};
 ghost use Rattle.std.specs.Arc.{arc_value};
+ghost use Rattle.std.specs.Cmp.Lexicographic.{pointwise};
+ghost use Rattle.nfs_objects.specs.Same.{same_mount};
 
 use bytes::Bytes;
 use indexmap::{Equivalent, IndexSet};
@@ -309,6 +311,47 @@ impl MountTable {
             len: self.len - 1,
         })
     }
+}
+
+impl PartialEq for MountTable {
+    ghost use Rattle.std.specs.Bool.{Decides};
+    ghost use Rattle.std.specs.Cmp.{decided, partial_equiv_from_equiv};
+    ghost use Rattle.std.specs.Cmp.Lexicographic.{pointwise};
+    ghost use Rattle.nfs_objects.specs.Same.{same_mount};
+    ghost use Rattle.nfs_objects.specs.SameLaws.{mounts_decide};
+
+    ghost eq = { pointwise same_mount };
+
+    ghost laws = { partial_equiv_from_equiv (decided (pointwise same_mount) mounts_decide) };
+
+    fn eq(&self, other: &MountTable) -> bool
+        ensures test { result ≡ pointwise same_mount self.now other.now }
+        ensures same { Decides result (self.now ≡ other.now) }
+    {
+        are_same(self.iter(), other.iter())
+    }
+}
+
+impl Eq for MountTable {
+    ghost use Rattle.std.specs.Cmp.{decided};
+    ghost use Rattle.std.specs.Cmp.Lexicographic.{pointwise};
+    ghost use Rattle.nfs_objects.specs.Same.{same_mount};
+    ghost use Rattle.nfs_objects.specs.SameLaws.{mounts_decide};
+
+    ghost laws = { decided (pointwise same_mount) mounts_decide };
+}
+
+/// Whether these are the same mounts in the same order, in whatever pieces.
+fn are_same<'a>(mut mounts: Mounts<'a>, mut others: Mounts<'a>) -> bool
+    ensures { result ≡ pointwise same_mount mounts.entry others.entry }
+{
+    while let Some(mount) = mounts.next() {
+        match others.next() {
+            Some(other) if mount == other => {}
+            _ => return false,
+        }
+    }
+    others.next().is_none()
 }
 
 /// Adds one more owner of each of these pieces.

@@ -43,6 +43,40 @@ impl Clone for Content {
     }
 }
 
+impl PartialEq for Content {
+    ghost use Rattle.std.specs.Bool.{Decides};
+    ghost use Rattle.std.specs.Cmp.{decided, partial_equiv_from_equiv};
+    ghost use Rattle.nfs_objects.specs.Same.{same_content};
+    ghost use Rattle.nfs_objects.specs.SameLaws.{content_decides};
+
+    ghost eq = { same_content };
+
+    ghost laws = { partial_equiv_from_equiv (decided same_content content_decides) };
+
+    fn eq(&self, other: &Content) -> bool
+        ensures test { result ≡ same_content self.now other.now }
+        ensures same { Decides result (self.now ≡ other.now) }
+    {
+        match (self, other) {
+            (Content::Regular(a), Content::Regular(b)) => a == b,
+            (Content::Directory(a), Content::Directory(b)) => a == b,
+            (Content::Link(a), Content::Link(b)) => a == b,
+            (Content::BlockDevice(a), Content::BlockDevice(b)) => a == b,
+            (Content::CharacterDevice(a), Content::CharacterDevice(b)) => a == b,
+            (Content::Socket, Content::Socket) | (Content::Fifo, Content::Fifo) => true,
+            _ => false,
+        }
+    }
+}
+
+impl Eq for Content {
+    ghost use Rattle.std.specs.Cmp.{decided};
+    ghost use Rattle.nfs_objects.specs.Same.{same_content};
+    ghost use Rattle.nfs_objects.specs.SameLaws.{content_decides};
+
+    ghost laws = { decided same_content content_decides };
+}
+
 /// An object of the file system.
 #[derive(Debug, Drop)]
 pub struct Inode {
@@ -97,12 +131,79 @@ impl Clone for Inode {
     }
 }
 
+impl PartialEq for Inode {
+    ghost use Rattle.std.specs.Bool.{Decides};
+    ghost use Rattle.std.specs.Cmp.{decided, partial_equiv_from_equiv};
+    ghost use Rattle.nfs_objects.specs.Same.{same_inode};
+    ghost use Rattle.nfs_objects.specs.SameLaws.{inode_decides};
+
+    ghost eq = { same_inode };
+
+    ghost laws = { partial_equiv_from_equiv (decided same_inode inode_decides) };
+
+    fn eq(&self, other: &Inode) -> bool
+        ensures test { result ≡ same_inode self.now other.now }
+        ensures same { Decides result (self.now ≡ other.now) }
+    {
+        self.export == other.export
+            && self.generation == other.generation
+            && self.mode == other.mode
+            && self.uid == other.uid
+            && self.gid == other.gid
+            && self.links == other.links
+            && self.accessed == other.accessed
+            && self.modified == other.modified
+            && self.changed == other.changed
+            && self.verifier == other.verifier
+            && self.content == other.content
+    }
+}
+
+impl Eq for Inode {
+    ghost use Rattle.std.specs.Cmp.{decided};
+    ghost use Rattle.nfs_objects.specs.Same.{same_inode};
+    ghost use Rattle.nfs_objects.specs.SameLaws.{inode_decides};
+
+    ghost laws = { decided same_inode inode_decides };
+}
+
 /// What stands at an address.
 #[derive(Debug, Drop)]
 pub enum Object {
     Exports(ExportTable),
     Inode(Inode),
     Mounts(MountTable),
+}
+
+impl PartialEq for Object {
+    ghost use Rattle.std.specs.Bool.{Decides};
+    ghost use Rattle.std.specs.Cmp.{decided, partial_equiv_from_equiv};
+    ghost use Rattle.nfs_objects.specs.Same.{same_object};
+    ghost use Rattle.nfs_objects.specs.SameLaws.{object_decides};
+
+    ghost eq = { same_object };
+
+    ghost laws = { partial_equiv_from_equiv (decided same_object object_decides) };
+
+    fn eq(&self, other: &Object) -> bool
+        ensures test { result ≡ same_object self.now other.now }
+        ensures same { Decides result (self.now ≡ other.now) }
+    {
+        match (self, other) {
+            (Object::Exports(a), Object::Exports(b)) => a == b,
+            (Object::Inode(a), Object::Inode(b)) => a == b,
+            (Object::Mounts(a), Object::Mounts(b)) => a == b,
+            _ => false,
+        }
+    }
+}
+
+impl Eq for Object {
+    ghost use Rattle.std.specs.Cmp.{decided};
+    ghost use Rattle.nfs_objects.specs.Same.{same_object};
+    ghost use Rattle.nfs_objects.specs.SameLaws.{object_decides};
+
+    ghost laws = { decided same_object object_decides };
 }
 
 /// The living exports; none where nothing stands, or what is no such table.

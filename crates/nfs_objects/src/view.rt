@@ -1,6 +1,7 @@
 //! What a call has read of the store.
 
-ghost use Rattle.std.specs.Prelude.{◌≡◌, [], ◌∷◌, ◌++◌, map, IfOk, IfSome, None, OnErr, OnOk, Some};
+ghost use Rattle.std.specs.Prelude.{◌≡◌, [], ◌∷◌, ◌++◌, map, IfOk, IfSome, MatchResult, None, OnErr};
+ghost use Rattle.std.specs.Prelude.{OnOk, Some};
 ghost use Rattle.std.specs.Prelude.{option_map};
 ghost use Rattle.std.specs.Prelude.{slice_get, length, ◌==◌};
 ghost use Rattle.std.specs.Arc.{arc_value};
@@ -11,7 +12,8 @@ use crate::address::Addr;
 use crate::modes::Mode;
 use crate::object::Object;
 use indexmap::IndexMap;
-use std::alloc::{AllocError, Global};
+use indexmap::map::IntoIter;
+use std::alloc::{AllocError, AllocFailed, Global};
 use std::marker::Model;
 use std::sync::Arc;
 
@@ -20,6 +22,31 @@ use std::sync::Arc;
 pub struct Entry {
     pub mode: Mode,
     pub object: Option<Arc<Object>>,
+}
+
+impl PartialEq for Entry {
+    ghost use Rattle.std.specs.Bool.{Decides};
+    ghost use Rattle.std.specs.Cmp.{partial_equiv_from_equiv};
+    ghost use Rattle.nfs_objects.specs.Same.{same_held};
+    ghost use Rattle.nfs_objects.specs.SameLaws.{held_equivalence};
+
+    ghost eq = { same_held };
+
+    ghost laws = { partial_equiv_from_equiv held_equivalence };
+
+    fn eq(&self, other: &Entry) -> bool
+        ensures test { result ≡ same_held self.now other.now }
+        ensures same { Decides result ((self.now.mode ≡ other.now.mode) ×
+            (option_map arc_value self.now.object ≡ option_map arc_value other.now.object)) }
+    {
+        self.mode == other.mode && self.object == other.object
+    }
+}
+
+impl Eq for Entry {
+    ghost use Rattle.nfs_objects.specs.SameLaws.{held_equivalence};
+
+    ghost laws = { held_equivalence };
 }
 
 /// A number that a new object may take, with its generation.
@@ -50,6 +77,32 @@ impl Model for View {
       entries = map seen_of v.entries.entries;
       reserved = v.reserved.items;
     }) };
+}
+
+impl PartialEq for View {
+    ghost use Rattle.std.specs.Bool.{Decides};
+    ghost use Rattle.std.specs.Cmp.{decided, partial_equiv_from_equiv};
+    ghost use Rattle.nfs_objects.specs.Same.{same_view};
+    ghost use Rattle.nfs_objects.specs.SameLaws.{view_decides};
+
+    ghost eq = { same_view };
+
+    ghost laws = { partial_equiv_from_equiv (decided same_view view_decides) };
+
+    fn eq(&self, other: &View) -> bool
+        ensures test { result ≡ same_view self.now other.now }
+        ensures same { Decides result (self.now ≡ other.now) }
+    {
+        self.reserved == other.reserved && self.entries.as_slice() == other.entries.as_slice()
+    }
+}
+
+impl Eq for View {
+    ghost use Rattle.std.specs.Cmp.{decided};
+    ghost use Rattle.nfs_objects.specs.Same.{same_view};
+    ghost use Rattle.nfs_objects.specs.SameLaws.{view_decides};
+
+    ghost laws = { decided same_view view_decides };
 }
 
 impl View {
@@ -131,6 +184,112 @@ impl View {
         self.entries.insert(Addr::Inode(reserved.number), entry)?;
         self.reserved.push(reserved)?;
         Ok(())
+    }
+
+    /// The same view with room for so many more entries and numbers.
+    ///
+    /// # Errors
+    ///
+    /// The view as it was, where the memory was refused.
+    pub fn make_room(mut self, count: usize) -> Result<RoomyView, AllocFailed<View>>
+        ensures { MatchResult result
+            (λ roomy. roomy ≡ record { view = self; room = count })
+            (λ refused. refused.value ≡ self) }
+    {
+        let Ok(()) = self.entries.reserve(count) else {
+            return Err(AllocFailed { value: self });
+        };
+        let Ok(()) = self.reserved.reserve(count) else {
+            return Err(AllocFailed { value: self });
+        };
+        Ok(RoomyView {
+            entries: self.entries,
+            reserved: self.reserved,
+            room: count,
+        })
+    }
+
+    /// The addresses with their entries, and the numbers that may be given, both in order of adding.
+    pub fn into_parts(self) -> (IntoIter<Addr, Entry>, Vec<Reserved>)
+        ensures { self ≡ record { entries = map seen_of result.0; reserved = result.1.items } }
+    {
+        (self.entries.into_iter(), self.reserved)
+    }
+}
+
+/// A view with room: it takes so many more entries and numbers with no memory.
+#[derive(Drop)]
+pub struct RoomyView {
+    entries: IndexMap<Addr, Entry>,
+    reserved: Vec<Reserved>,
+    room: usize,
+}
+
+impl Model for RoomyView {
+    ghost use Rattle.std.specs.Prelude.{length, map};
+    ghost use Rattle.std.specs.Vec.{vec_capacity};
+    ghost use Rattle.indexmap.specs.IndexMap.{spare};
+    ghost use Rattle.nfs_objects.specs.Rooms.{HasRoom, RoomyValue};
+    ghost use Rattle.nfs_objects.specs.Values.{seen_of};
+
+    ghost Value = { RoomyValue };
+
+    ghost view = { λ v. record {
+      view = record { entries = map seen_of v.entries.entries; reserved = v.reserved.items };
+      room = v.room;
+    } };
+
+    ghost invariant = { λ v. HasRoom
+        (record { entries = map seen_of v.entries.entries; reserved = v.reserved.items })
+        v.room (spare v.entries) (length v.reserved.items) (vec_capacity v.reserved) };
+}
+
+impl RoomyView {
+    ghost use Rattle.std.specs.Prelude.{◌-◌, ◌<◌};
+    ghost use Rattle.nfs_objects.specs.Rooms.{with_entry, with_number};
+
+    /// Adds what is known of an address. It cannot fail.
+    pub fn put(&mut self, address: Addr, mode: Mode, object: Option<Arc<Object>>)
+        requires room { 0 < self.old.room }
+        requires unseen { seen_at self.old.view.entries address ≡ None }
+        ensures { self.new ≡ record {
+          view = with_entry self.old.view (record
+              { address = address; mode = mode; object = option_map arc_value object });
+          room = self.old.room - 1;
+        } }
+    {
+        self.room -= 1;
+        self.entries
+            .insert(address, Entry { mode, object })
+            .unwrap();
+    }
+
+    /// Adds a number that may be given, whose address is empty. It cannot fail.
+    pub fn put_reserved(&mut self, reserved: Reserved)
+        requires room { 0 < self.old.room }
+        requires unseen { seen_at self.old.view.entries (Addr.Inode reserved.number) ≡ None }
+        ensures { self.new ≡ record
+            { view = with_number self.old.view reserved; room = self.old.room - 1 } }
+    {
+        let entry = Entry {
+            mode: Mode::Exclusive,
+            object: None,
+        };
+        self.room -= 1;
+        self.entries
+            .insert(Addr::Inode(reserved.number), entry)
+            .unwrap();
+        self.reserved.push(reserved).unwrap();
+    }
+
+    /// The view; the room that is left is kept with it, but no longer known.
+    pub fn into_view(self) -> View
+        ensures { result ≡ self.view }
+    {
+        View {
+            entries: self.entries,
+            reserved: self.reserved,
+        }
     }
 }
 
