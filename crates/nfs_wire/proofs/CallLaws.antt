@@ -1,8 +1,5 @@
 -- NFS's tables are those of a program, so its laws are those of every program.
-use Rattle.std.proofs.Common.{◌≡◌, ◌≢◌, ℕ, Result, Err, refl, ap, lit<}
-use Rattle.std.specs.Result.{IsErrAnd}
-use Rattle.nfs_xdr.specs.declared.XdrError.{XdrError}
-use Rattle.nfs_xdr.specs.declared.XdrError.TheVariants.{Short, TooLong, BadValue, Memory}
+use Rattle.std.proofs.Common.{◌≡◌, ℕ, refl, ap, lit<}
 use Rattle.nfs_xdr.specs.Types.{Value}
 use Rattle.nfs_xdr.proofs.ProgramLaws as program
 use Rattle.nfs_xdr.proofs.ProgramLaws.{Makers, made}
@@ -10,11 +7,7 @@ use Rattle.nfs_wire.proofs.ArgumentLaws.{setattr_of, place_of, access_of, read_o
 use Rattle.nfs_wire.proofs.ArgumentLaws.{symlink_of, mknod_of, rename_of, link_of, readdir_of, readdirplus_of}
 use Rattle.nfs_wire.proofs.ArgumentLaws.{commit_of, setattr_again, write_again, create_again, mkdir_again}
 use Rattle.nfs_wire.proofs.ArgumentLaws.{symlink_again, mknod_again}
-use Rattle.nfs_wire.specs.ArgumentsError.{arguments_error}
 use Rattle.nfs_wire.specs.Calls.{arguments, arguments_type, procedure_of, arguments_of, IsProcedure, SpellsOneCall}
-use Rattle.nfs_wire.specs.declared.arguments.ArgumentsError.{ArgumentsError}
-use Rattle.nfs_wire.specs.declared.arguments.ArgumentsError.TheVariants.{Garbage}
-use Rattle.nfs_wire.specs.declared.arguments.ArgumentsError.TheVariants as told
 use Rattle.nfs_wire.specs.declared.calls.NfsCall.{NfsCall}
 use Rattle.nfs_wire.specs.declared.calls.NfsCall.TheVariants.{Null, Getattr, Setattr, Lookup, Access, Readlink, Read}
 use Rattle.nfs_wire.specs.declared.calls.NfsCall.TheVariants.{Write, Create, Mkdir, Symlink, Mknod, Remove, Rmdir}
@@ -140,19 +133,3 @@ call_of-arguments_of (Commit a) = refl
 
 pub spells_one_call : SpellsOneCall
 spells_one_call = program.spells_one_call arguments procedure_of arguments_of call_of call_of-arguments_of
-
--- what is answered as garbage was no want of memory
-pub is_not_memory : (result : Result NfsCall ArgumentsError) (e : XdrError) →
-    IsErrAnd result (λ answer. answer ≡ arguments_error e) → result ≡ Err Garbage → e ≢ Memory
-is_not_memory = program.is_not_memory arguments_error Garbage (λ is. cc)
-
--- and what is answered as want of memory was it
-only_memory : (e : XdrError) → arguments_error e ≡ told.Memory → e ≡ Memory
-only_memory Short is = absurd cc
-only_memory TooLong is = absurd cc
-only_memory BadValue is = absurd cc
-only_memory Memory is = refl
-
-pub is_memory : (result : Result NfsCall ArgumentsError) (e : XdrError)
-    → IsErrAnd result (λ answer. answer ≡ arguments_error e) → result ≡ Err told.Memory → e ≡ Memory
-is_memory = program.is_memory arguments_error told.Memory only_memory

@@ -1,5 +1,4 @@
 pub mod Arguments
-pub mod ArgumentsError
 pub mod Attributes
 pub mod Calls
 pub mod Parts

@@ -9,10 +9,9 @@ mod items;
 mod names;
 mod pages;
 
-use crate::arguments::{ArgumentsError, are_bytes};
 use crate::attributes::{DeviceNumber, SetAttributes, Time};
 use bytes::Bytes;
-use nfs_xdr::{SharedReader, XdrError};
+use nfs_xdr::{ArgumentsError, SharedReader, XdrError, are_bytes};
 
 /// A name in a directory (`diropargs3`).
 #[derive(Clone, Debug, Drop, PartialEq, Eq)]

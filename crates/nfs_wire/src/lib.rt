@@ -12,7 +12,6 @@
 //! `specs/Replies`; and a function in `replies/`, with an arm of `append_result`.
 #![tactic(auto)]
 
-pub mod arguments;
 pub mod attributes;
 pub mod calls;
 mod clones;
@@ -20,7 +19,6 @@ pub mod entries;
 pub mod replies;
 pub mod status;
 
-pub use arguments::ArgumentsError;
 pub use attributes::{
     Attributes, DeviceNumber, FileType, SetAttributes, SetTime, Time, Wcc, WeakAttributes,
 };
@@ -31,6 +29,7 @@ pub use calls::{
     Verifier, WriteArguments, one_call_is_spelled, read_args,
 };
 pub use entries::{FullEntry, FullNames, Names, PageEntry};
+pub use nfs_xdr::ArgumentsError;
 pub use replies::{
     AccessReply, CommitReply, FileSystem, Found, FsinfoReply, FsstatReply, LinkedReply,
     LookupReply, Made, MadeReply, NfsReply, Page, PagePlus, PathLimits, PathconfReply, ReadData,

@@ -4,11 +4,13 @@ use Rattle.std.proofs.Common.{◌≡◌, ◌≢◌, ◌⊎◌, inl, inr, ℕ, ze
 use Rattle.std.proofs.Common.{◌++◌, Result, Ok, Err, IsOkAnd, refl, sym, subst, ap, ◌∙◌}
 use Rattle.std.specs.Result.{IsErrAnd}
 use Rattle.nfs_xdr.specs.declared.XdrError.{XdrError}
-use Rattle.nfs_xdr.specs.declared.XdrError.TheVariants.{BadValue, Memory}
+use Rattle.nfs_xdr.specs.declared.XdrError.TheVariants.{Short, TooLong, BadValue, Memory}
+use Rattle.nfs_xdr.specs.declared.arguments.ArgumentsError.{ArgumentsError}
+use Rattle.nfs_xdr.specs.declared.arguments.ArgumentsError.TheVariants as told
 use Rattle.nfs_xdr.specs.Types.{Xdr, Value, Spells}
 use Rattle.nfs_xdr.specs.Laws.{IsBytes}
 use Rattle.nfs_xdr.specs.Programs.{type_at, SpellsCall, IsFrontedBy, IsGarbage, SpellsOneCall, CallHoldsBytes}
-use Rattle.nfs_xdr.specs.Programs.{ReadsCall}
+use Rattle.nfs_xdr.specs.Programs.{ReadsCall, arguments_error}
 use Rattle.nfs_xdr.specs.Reading.{read, holds_bytes, HoldsBytes}
 use Rattle.nfs_xdr.proofs.NoMemory.{no_want}
 use Rattle.nfs_xdr.proofs.Spelling.{spelling_is_unique, reading_finds_spelling, refusal_means_unspelled}
@@ -126,21 +128,23 @@ made other [] makers n value = other
 made other (t ∷ ts) makers zero value = makers.0 value
 made other (t ∷ ts) makers (suc n) value = made other ts makers.1 n value
 
--- What is answered as garbage was no want of memory, where the two have different answers.
-pub is_not_memory : {C E : Type 0} (told : XdrError → E) (garbage : E) → told Memory ≢ garbage →
-    (result : Result C E) (e : XdrError) → IsErrAnd result (λ answer. answer ≡ told e) →
-    result ≡ Err garbage → e ≢ Memory
-is_not_memory {C} {E} told garbage apart result e gives is memory =
-    let P : Result C E → Type 0 = λ r. IsErrAnd r (λ answer. answer ≡ told e) in
-    let answered : garbage ≡ told e = subst P is gives in
-    apart (sym (answered ∙ ap told memory))
+-- what is answered as garbage was no want of memory
+pub is_not_memory : {C : Type 0} (result : Result C ArgumentsError) (e : XdrError) →
+    IsErrAnd result (λ answer. answer ≡ arguments_error e) → result ≡ Err told.Garbage → e ≢ Memory
+is_not_memory {C} result e gives is memory =
+    let P : Result C ArgumentsError → Type 0 = λ r. IsErrAnd r (λ answer. answer ≡ arguments_error e) in
+    let answered : told.Garbage ≡ told.Memory = subst P is gives ∙ ap arguments_error memory in
+    absurd cc
 
--- And what is answered as want of memory was it, where nothing else has that answer.
-pub is_memory : {C E : Type 0} (told : XdrError → E) (memory : E) →
-    ((e : XdrError) → told e ≡ memory → e ≡ Memory)
-    → (result : Result C E) (e : XdrError) → IsErrAnd result (λ answer. answer ≡ told e) →
-    result ≡ Err memory
-    → e ≡ Memory
-is_memory {C} {E} told memory only result e gives is =
-    let P : Result C E → Type 0 = λ r. IsErrAnd r (λ answer. answer ≡ told e) in
-    only e (sym (subst P is gives))
+only_memory : (e : XdrError) → arguments_error e ≡ told.Memory → e ≡ Memory
+only_memory Short is = absurd cc
+only_memory TooLong is = absurd cc
+only_memory BadValue is = absurd cc
+only_memory Memory is = refl
+
+-- and what is answered as want of memory was it
+pub is_memory : {C : Type 0} (result : Result C ArgumentsError) (e : XdrError)
+    → IsErrAnd result (λ answer. answer ≡ arguments_error e) → result ≡ Err told.Memory → e ≡ Memory
+is_memory {C} result e gives is =
+    let P : Result C ArgumentsError → Type 0 = λ r. IsErrAnd r (λ answer. answer ≡ arguments_error e) in
+    only_memory e (sym (subst P is gives))

@@ -3,6 +3,8 @@
 use Rattle.std.specs.Prelude.{◌≡◌, ◌⊎◌, ℕ, true, List, ◌++◌, slice_index_or, Result, Ok, Err}
 use Rattle.nfs_xdr.specs.declared.XdrError.{XdrError}
 use Rattle.nfs_xdr.specs.declared.XdrError.TheVariants.{BadValue, Memory}
+use Rattle.nfs_xdr.specs.declared.arguments.ArgumentsError.{ArgumentsError}
+use Rattle.nfs_xdr.specs.declared.arguments.ArgumentsError.TheVariants as told
 use Rattle.nfs_xdr.specs.Reading.{read, holds_bytes, HoldsBytes}
 use Rattle.nfs_xdr.specs.Types.{Xdr, Void, Value, Spells}
 
@@ -52,3 +54,8 @@ ReadsCall is_procedure types procedure_of arguments_of procedure old new (Err e)
     (read (type_at types procedure) old ≡ Err e)
     ⊎ ((e ≡ Memory) × HoldsBytes (type_at types procedure) old)
     ⊎ ((e ≡ BadValue) × (is_procedure procedure → ⊥))
+
+-- what the caller is told of an error in reading: want of memory, or garbage (RFC 5531, section 9: GARBAGE_ARGS)
+abbrev pub arguments_error : XdrError → ArgumentsError
+arguments_error Memory = told.Memory
+arguments_error _ = told.Garbage

@@ -18,12 +18,14 @@ ghost use Rattle.std.specs.Prelude.{◌≡◌};
 use std::alloc::{AllocError, AllocFailed};
 use thiserror::Error;
 
+mod arguments;
 mod items;
 mod laws;
 mod reading;
 mod shared;
 mod writing;
 
+pub use arguments::{ArgumentsError, are_bytes};
 pub use laws::{
     reading_finds_spelling, refusal_means_unspelled, spelled_has_spelling, spelling_is_read,
     spelling_is_unique, writing_appends, writing_spells,

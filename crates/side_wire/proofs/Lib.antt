@@ -1,4 +1,3 @@
 pub mod MessageLaws
 pub mod MountLaws
 pub mod NlmLaws
-pub mod ArgumentsErrorLaws

@@ -1,4 +1,3 @@
-pub mod ArgumentsError
 pub mod Messages
 pub mod Mount
 pub mod Nlm

@@ -12,19 +12,18 @@
 //! `proofs/MountLaws` or `proofs/NlmLaws`.
 #![tactic(auto)]
 
-pub mod arguments;
 mod clones;
 pub mod message;
 pub mod mount;
 pub mod nlm;
 
-pub use arguments::ArgumentsError;
 pub use message::{
     Callback, Message, NlmLock, callbacks_are_calls, read_granted_result, write_message,
 };
 pub use mount::{
     ExportList, ExportNode, Groups, MountBody, MountCall, MountList, MountReply, MountStatus,
 };
+pub use nfs_xdr::ArgumentsError;
 pub use nlm::{
     CancelArguments, FreeAllArguments, LockArguments, LockHolder, NlmCall, NlmReply, NlmResult,
     NlmShare, NlmStatus, ShareAccess, ShareArguments, ShareMode, TestArguments, TestResult,

@@ -13,11 +13,10 @@ ghost use Rattle.side_wire.specs.NlmTypes.{nlm4_lock, lock_value, nlm4_testargs,
 ghost use Rattle.nfs_xdr.specs.Programs.{IsFrontedBy};
 ghost use Rattle.nfs_xdr.specs.Writing.{WritesResult};
 
-use crate::arguments::{ArgumentsError, are_bytes};
 use crate::nlm::items::{read_plain_result, write_plain_result, write_test_result};
 use crate::nlm::{NlmResult, TestArguments, TestResult};
 use bytes::Bytes;
-use nfs_xdr::{SharedReader, Writer, XdrError};
+use nfs_xdr::{ArgumentsError, SharedReader, Writer, XdrError, are_bytes};
 
 /// That the message is a call (`CALL`, RFC 5531, 9).
 const CALL: u32 = 0;

@@ -12,10 +12,9 @@ ghost use Rattle.side_wire.specs.Mount.{mount_arguments, mount_result_bytes, Has
 mod lists;
 mod results;
 
-use crate::arguments::{ArgumentsError, are_bytes};
 use bytes::Bytes;
 pub use lists::{ExportList, ExportNode, Groups, MountBody, MountList};
-use nfs_xdr::{Part, SharedReader, Writer, XdrError};
+use nfs_xdr::{ArgumentsError, Part, SharedReader, Writer, XdrError, are_bytes};
 
 /// A status other than MNT3_OK (`mountstat3`).
 #[derive(Clone, Copy, Debug, PartialEq, Eq)]

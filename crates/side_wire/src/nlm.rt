@@ -12,10 +12,9 @@ pub(crate) mod items;
 mod parts;
 mod procedures;
 
-use crate::arguments::{ArgumentsError, are_bytes};
 use crate::message::NlmLock;
 use bytes::Bytes;
-use nfs_xdr::{SharedReader, Writer, XdrError};
+use nfs_xdr::{ArgumentsError, SharedReader, Writer, XdrError, are_bytes};
 
 /// What became of a call (`nlm4_stats`).
 #[derive(Clone, Copy, Debug, PartialEq, Eq)]

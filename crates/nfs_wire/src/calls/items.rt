@@ -4,9 +4,8 @@ ghost use Rattle.nfs_xdr.specs.Reading.{ReadsFront, Shares};
 ghost use Rattle.nfs_wire.specs.Arguments.{nfs_fh3, filename3, diropargs3, verf3, place_value, verifier_value};
 ghost use Rattle.nfs_wire.specs.Parts.{place_parts_value};
 
-use crate::arguments::are_bytes;
 use crate::calls::{Place, Verifier};
-use nfs_xdr::{Part, SharedReader, XdrError};
+use nfs_xdr::{Part, SharedReader, XdrError, are_bytes};
 
 /// The bound of a string that has none of its own: what its length word can say.
 pub(super) const UNBOUNDED: usize = u32::MAX as usize;

@@ -1,8 +1,9 @@
 use Rattle.std.proofs.Common.{subst}
 use Rattle.nfs_xdr.specs.Laws.{IsBytes}
 use Rattle.nfs_xdr.proofs.ProgramLaws.{IsFrontedBy-read, IsGarbage-told, CallHoldsBytes-told}
+use Rattle.nfs_xdr.proofs.ProgramLaws.{is_not_memory, is_memory}
 use Rattle.nfs_wire.specs.Calls.{IsProcedure, arguments, procedure_of, arguments_of}
-use Rattle.nfs_wire.proofs.CallLaws.{procedure_of-is, is_not_memory, is_memory}
+use Rattle.nfs_wire.proofs.CallLaws.{procedure_of-is}
 use Rattle.nfs_wire.proofs.calls.read_args.Goals as goal
 
 pub returns-in_err-read_call-clause-garbage : goal.returns-in_err-read_call-clause-garbage

@@ -3,7 +3,7 @@ use Rattle.nfs_xdr.specs.Laws.{IsBytes}
 use Rattle.nfs_xdr.proofs.Spelling.{reading_finds_spelling}
 use Rattle.nfs_xdr.proofs.ProgramLaws.{refused_told, held_told}
 use Rattle.side_wire.specs.NlmTypes.{nlm4_res, result_value}
-use Rattle.side_wire.proofs.ArgumentsErrorLaws.{is_not_memory, is_memory}
+use Rattle.nfs_xdr.proofs.ProgramLaws.{is_not_memory, is_memory}
 use Rattle.side_wire.proofs.message.read_granted_result.Goals as goal
 
 pub returns-in_err-read_plain_result-clause-garbage : goal.returns-in_err-read_plain_result-clause-garbage

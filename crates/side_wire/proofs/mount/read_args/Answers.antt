@@ -3,7 +3,7 @@ use Rattle.nfs_xdr.specs.Laws.{IsBytes}
 use Rattle.side_wire.specs.Mount.{mount_arguments, IsMountProcedure, mount_procedure_of, mount_arguments_of}
 use Rattle.side_wire.proofs.MountLaws.{mount_procedure_of-is}
 use Rattle.nfs_xdr.proofs.ProgramLaws.{IsFrontedBy-read, IsGarbage-told, CallHoldsBytes-told}
-use Rattle.side_wire.proofs.ArgumentsErrorLaws.{is_not_memory, is_memory}
+use Rattle.nfs_xdr.proofs.ProgramLaws.{is_not_memory, is_memory}
 use Rattle.side_wire.proofs.mount.read_args.Goals as goal
 
 pub returns-in_err-read_call-clause-garbage : goal.returns-in_err-read_call-clause-garbage

@@ -1,8 +1,8 @@
-//! What reading arguments answers beside a call.
+//! What reading the arguments of a program's call answers beside the call.
 
 ghost use Rattle.nfs_xdr.specs.Laws.{IsBytes};
 
-use nfs_xdr::XdrError;
+use crate::XdrError;
 use thiserror::Error;
 
 /// Why arguments were not read.
@@ -18,7 +18,7 @@ pub enum ArgumentsError {
 
 impl From<XdrError> for ArgumentsError {
     ghost use Rattle.std.specs.Prelude.{◌≡◌};
-    ghost use Rattle.side_wire.specs.ArgumentsError.{arguments_error};
+    ghost use Rattle.nfs_xdr.specs.Programs.{arguments_error};
 
     ghost from_gives = { λ error answer. answer ≡ arguments_error error };
 
@@ -31,6 +31,6 @@ impl From<XdrError> for ArgumentsError {
 }
 
 /// The items of a slice are bytes, which is what the laws of reading ask of what is read.
-pub(crate) fn are_bytes(bytes: &[u8])
+pub fn are_bytes(bytes: &[u8])
     ensures { IsBytes bytes.now }
 {}
