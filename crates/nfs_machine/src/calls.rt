@@ -7,7 +7,7 @@ use side_wire::{MountCall, MountReply, NlmCall, NlmReply};
 use std::alloc::AllocError;
 
 /// What a caller asks.
-#[derive(Debug, Drop, PartialEq, Eq)]
+#[derive(Drop, PartialEq, Eq)]
 pub enum Call {
     Nfs(NfsCall),
     Mount(MountCall),
@@ -15,7 +15,7 @@ pub enum Call {
 }
 
 /// What the machine answers.
-#[derive(Debug, Drop, PartialEq, Eq)]
+#[derive(Drop, PartialEq, Eq)]
 pub enum Reply {
     Nfs(NfsReply),
     Mount(MountReply),
@@ -23,7 +23,7 @@ pub enum Reply {
 }
 
 /// What a call that cannot be executed for want of memory is answered.
-#[derive(Debug, Drop, PartialEq, Eq)]
+#[derive(Drop, PartialEq, Eq)]
 pub enum Refusal {
     /// By a status of the procedure's own.
     Reply(Reply),

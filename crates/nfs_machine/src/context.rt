@@ -8,14 +8,14 @@ use nfs_rpc::Ids;
 use std::alloc::AllocError;
 
 /// Figures that the server was started with.
-#[derive(Clone, Copy, Debug, PartialEq, Eq)]
+#[derive(Clone, Copy, PartialEq, Eq)]
 pub struct Limits {
     /// The total space that FSSTAT tells, in bytes.
     pub total_bytes: u64,
 }
 
 /// Who calls and when, and what the server was started with.
-#[derive(Debug, Drop, PartialEq, Eq)]
+#[derive(Drop, PartialEq, Eq)]
 pub struct Ctx {
     /// The peer's address text, without a port.
     pub host: Bytes,

@@ -19,7 +19,7 @@ pub struct Export {
 }
 
 /// An export as it was given.
-#[derive(Debug, Drop)]
+#[derive(Drop)]
 pub struct ExportText {
     /// `/`, or parts led by slashes; at most 1,024 bytes.
     pub path: Bytes,

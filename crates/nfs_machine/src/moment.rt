@@ -8,7 +8,7 @@ use nfs_wire::Time;
 const NANOSECONDS: u32 = 1_000_000_000;
 
 /// A time since 1970: seconds, and nanoseconds below 1,000,000,000.
-#[derive(Clone, Copy, Debug, PartialEq, Eq)]
+#[derive(Clone, Copy, PartialEq, Eq)]
 pub struct Moment {
     pub seconds: u32,
     pub nanoseconds: u32,

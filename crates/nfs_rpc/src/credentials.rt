@@ -9,7 +9,7 @@ use std::marker::Model;
 pub const GIDS_LIMIT: usize = 16;
 
 /// The groups of a caller besides the first, at most 16. A clause sees them as a list.
-#[derive(Clone, Copy, Debug, PartialEq, Eq)]
+#[derive(Clone, Copy, PartialEq, Eq)]
 pub struct Gids {
     groups: [u32; GIDS_LIMIT],
     count: usize,
@@ -84,7 +84,7 @@ impl Gids {
 }
 
 /// Who calls: the user, the group, and further groups.
-#[derive(Clone, Copy, Debug, PartialEq, Eq)]
+#[derive(Clone, Copy, PartialEq, Eq)]
 pub struct Ids {
     pub uid: u32,
     pub gid: u32,

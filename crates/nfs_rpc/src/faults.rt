@@ -3,7 +3,7 @@
 ghost use Rattle.std.specs.Prelude.{◌≡◌};
 
 /// Why a call is not carried out (RFC 5531, section 9).
-#[derive(Clone, Copy, Debug, PartialEq, Eq)]
+#[derive(Clone, Copy, PartialEq, Eq)]
 pub enum Fault {
     /// RPC_MISMATCH: the RPC version is not 2.
     RpcMismatch,
@@ -22,7 +22,7 @@ pub enum Fault {
 }
 
 /// What a call is answered, before its results.
-#[derive(Clone, Copy, Debug, PartialEq, Eq)]
+#[derive(Clone, Copy, PartialEq, Eq)]
 pub enum Answer {
     /// SUCCESS: the call was carried out, and its results follow.
     Success,
@@ -31,7 +31,7 @@ pub enum Answer {
 }
 
 /// How a record ends that is no call to be carried out.
-#[derive(Clone, Copy, Debug, PartialEq, Eq)]
+#[derive(Clone, Copy, PartialEq, Eq)]
 pub enum Early {
     /// It is no call, or its header can't be read: there is no answer.
     Drop,

@@ -65,7 +65,7 @@ pub trait Sink: Counts {
 ///
 /// A call that was interrupted has failed like any other, and so has a write that took none of some bytes. Each call
 /// makes one call of the stream, and a failed one is not made again.
-#[derive(Debug, Drop)]
+#[derive(Drop)]
 pub struct Counted<S> {
     stream: S,
     failures: u64,

@@ -59,7 +59,7 @@ pub struct Attributes {
 }
 
 /// How a time is set (`set_atime` and `set_mtime`).
-#[derive(Clone, Copy, Debug, PartialEq, Eq)]
+#[derive(Clone, Copy, PartialEq, Eq)]
 pub enum SetTime {
     Leave,
     ToServer,
@@ -67,7 +67,7 @@ pub enum SetTime {
 }
 
 /// The attributes that a caller sets (`sattr3`). What is absent is left as it is.
-#[derive(Clone, Copy, Debug, PartialEq, Eq)]
+#[derive(Clone, Copy, PartialEq, Eq)]
 pub struct SetAttributes {
     pub mode: Option<u32>,
     pub uid: Option<u32>,
@@ -79,7 +79,7 @@ pub struct SetAttributes {
 }
 
 /// What a caller compares to see whether its cache is still true (`wcc_attr`).
-#[derive(Clone, Copy, Debug, PartialEq, Eq)]
+#[derive(Clone, Copy, PartialEq, Eq)]
 pub struct WeakAttributes {
     /// In bytes.
     pub size: u64,
@@ -88,7 +88,7 @@ pub struct WeakAttributes {
 }
 
 /// An object before and after a call (`wcc_data`).
-#[derive(Clone, Copy, Debug, PartialEq, Eq)]
+#[derive(Clone, Copy, PartialEq, Eq)]
 pub struct Wcc {
     pub before: Option<WeakAttributes>,
     pub after: Option<Attributes>,

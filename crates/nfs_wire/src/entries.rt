@@ -9,7 +9,7 @@ use std::alloc::AllocError;
 use std::marker::Model;
 
 /// A name in a directory (`entry3`).
-#[derive(Clone, Debug, Drop, PartialEq, Eq)]
+#[derive(Clone, Drop, PartialEq, Eq)]
 pub struct PageEntry {
     pub fileid: u64,
     pub name: Bytes,
@@ -18,7 +18,7 @@ pub struct PageEntry {
 }
 
 /// A name in a directory, and what it names (`entryplus3`).
-#[derive(Clone, Debug, Drop, PartialEq, Eq)]
+#[derive(Clone, Drop, PartialEq, Eq)]
 pub struct FullEntry {
     pub entry: PageEntry,
     pub attributes: Option<Attributes>,
@@ -27,13 +27,13 @@ pub struct FullEntry {
 }
 
 /// The entries of a page of READDIR. A clause sees them as a list.
-#[derive(Debug, Drop)]
+#[derive(Drop)]
 pub struct Names {
     names: Vec<PageEntry>,
 }
 
 /// The entries of a page of READDIRPLUS. A clause sees them as a list.
-#[derive(Debug, Drop)]
+#[derive(Drop)]
 pub struct FullNames {
     entries: Vec<FullEntry>,
 }

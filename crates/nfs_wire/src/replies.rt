@@ -19,14 +19,14 @@ use bytes::Bytes;
 use nfs_xdr::{Writer, XdrError};
 
 /// The result of SETATTR (RFC 1813, 3.3.2).
-#[derive(Clone, Copy, Debug, PartialEq, Eq)]
+#[derive(Clone, Copy, PartialEq, Eq)]
 pub struct SetattrReply {
     pub wcc: Wcc,
     pub result: Result<(), NfsStatus>,
 }
 
 /// What LOOKUP found.
-#[derive(Clone, Debug, Drop, PartialEq, Eq)]
+#[derive(Clone, Drop, PartialEq, Eq)]
 pub struct Found {
     /// The object's handle.
     pub object: Bytes,
@@ -35,7 +35,7 @@ pub struct Found {
 }
 
 /// The result of LOOKUP (RFC 1813, 3.3.3).
-#[derive(Debug, Drop, PartialEq, Eq)]
+#[derive(Drop, PartialEq, Eq)]
 pub struct LookupReply {
     /// The directory's attributes.
     pub directory: Option<Attributes>,
@@ -43,7 +43,7 @@ pub struct LookupReply {
 }
 
 /// The result of ACCESS (RFC 1813, 3.3.4).
-#[derive(Clone, Copy, Debug, PartialEq, Eq)]
+#[derive(Clone, Copy, PartialEq, Eq)]
 pub struct AccessReply {
     pub attributes: Option<Attributes>,
     /// A bit for each right that is granted.
@@ -51,7 +51,7 @@ pub struct AccessReply {
 }
 
 /// The result of READLINK (RFC 1813, 3.3.5).
-#[derive(Debug, Drop, PartialEq, Eq)]
+#[derive(Drop, PartialEq, Eq)]
 pub struct ReadlinkReply {
     pub attributes: Option<Attributes>,
     /// What the link says.
@@ -59,7 +59,7 @@ pub struct ReadlinkReply {
 }
 
 /// What READ read.
-#[derive(Clone, Debug, Drop, PartialEq, Eq)]
+#[derive(Clone, Drop, PartialEq, Eq)]
 pub struct ReadData {
     /// In bytes.
     pub count: u32,
@@ -69,14 +69,14 @@ pub struct ReadData {
 }
 
 /// The result of READ (RFC 1813, 3.3.6).
-#[derive(Debug, Drop, PartialEq, Eq)]
+#[derive(Drop, PartialEq, Eq)]
 pub struct ReadReply {
     pub attributes: Option<Attributes>,
     pub result: Result<ReadData, NfsStatus>,
 }
 
 /// What WRITE wrote.
-#[derive(Clone, Copy, Debug, PartialEq, Eq)]
+#[derive(Clone, Copy, PartialEq, Eq)]
 pub struct Written {
     /// In bytes.
     pub count: u32,
@@ -85,14 +85,14 @@ pub struct Written {
 }
 
 /// The result of WRITE (RFC 1813, 3.3.7).
-#[derive(Clone, Copy, Debug, PartialEq, Eq)]
+#[derive(Clone, Copy, PartialEq, Eq)]
 pub struct WriteReply {
     pub wcc: Wcc,
     pub result: Result<Written, NfsStatus>,
 }
 
 /// What CREATE, MKDIR, SYMLINK or MKNOD made.
-#[derive(Debug, Drop, PartialEq, Eq)]
+#[derive(Drop, PartialEq, Eq)]
 pub struct Made {
     /// The new object's handle.
     pub object: Option<Bytes>,
@@ -101,21 +101,21 @@ pub struct Made {
 }
 
 /// The result of CREATE, MKDIR, SYMLINK or MKNOD (RFC 1813, 3.3.8 to 3.3.11).
-#[derive(Debug, Drop, PartialEq, Eq)]
+#[derive(Drop, PartialEq, Eq)]
 pub struct MadeReply {
     pub directory: Wcc,
     pub result: Result<Made, NfsStatus>,
 }
 
 /// The result of REMOVE or RMDIR (RFC 1813, 3.3.12 and 3.3.13).
-#[derive(Clone, Copy, Debug, PartialEq, Eq)]
+#[derive(Clone, Copy, PartialEq, Eq)]
 pub struct RemovedReply {
     pub directory: Wcc,
     pub result: Result<(), NfsStatus>,
 }
 
 /// The result of RENAME (RFC 1813, 3.3.14).
-#[derive(Clone, Copy, Debug, PartialEq, Eq)]
+#[derive(Clone, Copy, PartialEq, Eq)]
 pub struct RenamedReply {
     /// The directory of the old name.
     pub from: Wcc,
@@ -125,7 +125,7 @@ pub struct RenamedReply {
 }
 
 /// The result of LINK (RFC 1813, 3.3.15).
-#[derive(Clone, Copy, Debug, PartialEq, Eq)]
+#[derive(Clone, Copy, PartialEq, Eq)]
 pub struct LinkedReply {
     /// The file's attributes.
     pub attributes: Option<Attributes>,
@@ -134,7 +134,7 @@ pub struct LinkedReply {
 }
 
 /// A page of a directory.
-#[derive(Clone, Debug, Drop, PartialEq, Eq)]
+#[derive(Clone, Drop, PartialEq, Eq)]
 pub struct Page {
     pub verifier: Verifier,
     pub entries: Names,
@@ -143,7 +143,7 @@ pub struct Page {
 }
 
 /// The result of READDIR (RFC 1813, 3.3.16).
-#[derive(Debug, Drop, PartialEq, Eq)]
+#[derive(Drop, PartialEq, Eq)]
 pub struct ReaddirReply {
     /// The directory's attributes.
     pub attributes: Option<Attributes>,
@@ -151,7 +151,7 @@ pub struct ReaddirReply {
 }
 
 /// A page of a directory with attributes and handles.
-#[derive(Clone, Debug, Drop, PartialEq, Eq)]
+#[derive(Clone, Drop, PartialEq, Eq)]
 pub struct PagePlus {
     pub verifier: Verifier,
     pub entries: FullNames,
@@ -160,7 +160,7 @@ pub struct PagePlus {
 }
 
 /// The result of READDIRPLUS (RFC 1813, 3.3.17).
-#[derive(Debug, Drop, PartialEq, Eq)]
+#[derive(Drop, PartialEq, Eq)]
 pub struct ReaddirplusReply {
     /// The directory's attributes.
     pub attributes: Option<Attributes>,
@@ -168,7 +168,7 @@ pub struct ReaddirplusReply {
 }
 
 /// The room of a file system.
-#[derive(Clone, Copy, Debug, PartialEq, Eq)]
+#[derive(Clone, Copy, PartialEq, Eq)]
 pub struct Space {
     pub total_bytes: u64,
     pub free_bytes: u64,
@@ -183,14 +183,14 @@ pub struct Space {
 }
 
 /// The result of FSSTAT (RFC 1813, 3.3.18).
-#[derive(Clone, Copy, Debug, PartialEq, Eq)]
+#[derive(Clone, Copy, PartialEq, Eq)]
 pub struct FsstatReply {
     pub attributes: Option<Attributes>,
     pub result: Result<Space, NfsStatus>,
 }
 
 /// What a file system can do. Sizes are in bytes.
-#[derive(Clone, Copy, Debug, PartialEq, Eq)]
+#[derive(Clone, Copy, PartialEq, Eq)]
 pub struct FileSystem {
     pub read_most: u32,
     pub read_preferred: u32,
@@ -207,14 +207,14 @@ pub struct FileSystem {
 }
 
 /// The result of FSINFO (RFC 1813, 3.3.19).
-#[derive(Clone, Copy, Debug, PartialEq, Eq)]
+#[derive(Clone, Copy, PartialEq, Eq)]
 pub struct FsinfoReply {
     pub attributes: Option<Attributes>,
     pub result: Result<FileSystem, NfsStatus>,
 }
 
 /// What names and links of an object may be.
-#[derive(Clone, Copy, Debug, PartialEq, Eq)]
+#[derive(Clone, Copy, PartialEq, Eq)]
 pub struct PathLimits {
     pub most_links: u32,
     /// In bytes.
@@ -228,14 +228,14 @@ pub struct PathLimits {
 }
 
 /// The result of PATHCONF (RFC 1813, 3.3.20).
-#[derive(Clone, Copy, Debug, PartialEq, Eq)]
+#[derive(Clone, Copy, PartialEq, Eq)]
 pub struct PathconfReply {
     pub attributes: Option<Attributes>,
     pub result: Result<PathLimits, NfsStatus>,
 }
 
 /// The result of COMMIT (RFC 1813, 3.3.21).
-#[derive(Clone, Copy, Debug, PartialEq, Eq)]
+#[derive(Clone, Copy, PartialEq, Eq)]
 pub struct CommitReply {
     pub wcc: Wcc,
     pub result: Result<Verifier, NfsStatus>,
@@ -243,7 +243,7 @@ pub struct CommitReply {
 
 /// The results of a call of NFS version 3. What is shown both when a call was done and when it was refused stands
 /// beside the result.
-#[derive(Debug, Drop, PartialEq, Eq)]
+#[derive(Drop, PartialEq, Eq)]
 pub enum NfsReply {
     /// Procedure 0 (RFC 1813, 3.3.0).
     Null,

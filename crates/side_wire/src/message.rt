@@ -34,7 +34,7 @@ const NLM_VERSION: u32 = 4;
 const AUTH_NONE: u32 = 0;
 
 /// A lock as a caller names it (`nlm4_lock`).
-#[derive(Clone, Debug, Drop, PartialEq, Eq)]
+#[derive(Clone, Drop, PartialEq, Eq)]
 pub struct NlmLock {
     pub caller_name: Bytes,
     pub file: Bytes,
@@ -49,7 +49,7 @@ pub struct NlmLock {
 }
 
 /// A call of NLM that the server makes.
-#[derive(Debug, Drop, PartialEq, Eq)]
+#[derive(Drop, PartialEq, Eq)]
 pub enum Callback {
     /// A waiting request is held now. Procedure 5, GRANTED.
     Granted(TestArguments),
@@ -68,7 +68,7 @@ pub enum Callback {
 }
 
 /// A call that the server makes, and the host to which it goes.
-#[derive(Clone, Debug, Drop, PartialEq, Eq)]
+#[derive(Clone, Drop, PartialEq, Eq)]
 pub struct Message {
     pub host: Bytes,
     pub call: Callback,

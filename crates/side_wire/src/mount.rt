@@ -31,7 +31,7 @@ pub enum MountStatus {
 }
 
 /// A call of MOUNT version 3.
-#[derive(Debug, Drop, PartialEq, Eq)]
+#[derive(Drop, PartialEq, Eq)]
 pub enum MountCall {
     /// Procedure 0 (RFC 1813, 5.2.0).
     Null,
@@ -48,7 +48,7 @@ pub enum MountCall {
 }
 
 /// The results of a call of MOUNT version 3.
-#[derive(Debug, Drop, PartialEq, Eq)]
+#[derive(Drop, PartialEq, Eq)]
 pub enum MountReply {
     /// Procedure 0 (RFC 1813, 5.2.0).
     Null,

@@ -32,7 +32,7 @@ pub enum NlmStatus {
 }
 
 /// Who holds a lock, and on which bytes (`nlm4_holder`).
-#[derive(Clone, Debug, Drop, PartialEq, Eq)]
+#[derive(Clone, Drop, PartialEq, Eq)]
 pub struct LockHolder {
     pub exclusive: bool,
     /// The process within the caller (`svid`).
@@ -46,7 +46,7 @@ pub struct LockHolder {
 }
 
 /// What became of a TEST (`nlm4_testrply`).
-#[derive(Debug, Drop, PartialEq, Eq)]
+#[derive(Drop, PartialEq, Eq)]
 pub enum TestStatus {
     Granted,
     /// With one who holds what conflicts.
@@ -62,7 +62,7 @@ pub enum TestStatus {
 }
 
 /// The result of TEST (`nlm4_testres`).
-#[derive(Clone, Debug, Drop, PartialEq, Eq)]
+#[derive(Clone, Drop, PartialEq, Eq)]
 pub struct TestResult {
     /// What the caller gave, of at most 1024 bytes.
     pub cookie: Bytes,
@@ -70,7 +70,7 @@ pub struct TestResult {
 }
 
 /// The result of every other procedure that has one (`nlm4_res`, and but for its sequence `nlm4_shareres`).
-#[derive(Clone, Debug, Drop, PartialEq, Eq)]
+#[derive(Clone, Drop, PartialEq, Eq)]
 pub struct NlmResult {
     /// What the caller gave, of at most 1024 bytes.
     pub cookie: Bytes,
@@ -78,7 +78,7 @@ pub struct NlmResult {
 }
 
 /// The arguments of TEST and GRANTED (`nlm4_testargs`).
-#[derive(Clone, Debug, Drop, PartialEq, Eq)]
+#[derive(Clone, Drop, PartialEq, Eq)]
 pub struct TestArguments {
     pub cookie: Bytes,
     pub exclusive: bool,
@@ -86,7 +86,7 @@ pub struct TestArguments {
 }
 
 /// The arguments of LOCK and NM_LOCK (`nlm4_lockargs`).
-#[derive(Clone, Debug, Drop, PartialEq, Eq)]
+#[derive(Clone, Drop, PartialEq, Eq)]
 pub struct LockArguments {
     pub cookie: Bytes,
     /// Whether the call waits where the lock conflicts.
@@ -98,7 +98,7 @@ pub struct LockArguments {
 }
 
 /// The arguments of CANCEL (`nlm4_cancargs`).
-#[derive(Clone, Debug, Drop, PartialEq, Eq)]
+#[derive(Clone, Drop, PartialEq, Eq)]
 pub struct CancelArguments {
     pub cookie: Bytes,
     pub block: bool,
@@ -107,7 +107,7 @@ pub struct CancelArguments {
 }
 
 /// The arguments of UNLOCK (`nlm4_unlockargs`).
-#[derive(Clone, Debug, Drop, PartialEq, Eq)]
+#[derive(Clone, Drop, PartialEq, Eq)]
 pub struct UnlockArguments {
     pub cookie: Bytes,
     pub lock: NlmLock,
@@ -132,7 +132,7 @@ pub enum ShareAccess {
 }
 
 /// A share as a caller names it (`nlm4_share`).
-#[derive(Clone, Debug, Drop, PartialEq, Eq)]
+#[derive(Clone, Drop, PartialEq, Eq)]
 pub struct NlmShare {
     pub caller_name: Bytes,
     /// The file's handle.
@@ -144,7 +144,7 @@ pub struct NlmShare {
 }
 
 /// The arguments of SHARE and UNSHARE (`nlm4_shareargs`).
-#[derive(Clone, Debug, Drop, PartialEq, Eq)]
+#[derive(Clone, Drop, PartialEq, Eq)]
 pub struct ShareArguments {
     pub cookie: Bytes,
     pub share: NlmShare,
@@ -152,7 +152,7 @@ pub struct ShareArguments {
 }
 
 /// The arguments of FREE_ALL (`nlm4_notify`).
-#[derive(Clone, Debug, Drop, PartialEq, Eq)]
+#[derive(Clone, Drop, PartialEq, Eq)]
 pub struct FreeAllArguments {
     /// The caller whose locks and shares are freed.
     pub name: Bytes,
@@ -160,7 +160,7 @@ pub struct FreeAllArguments {
 }
 
 /// A call of NLM version 4 (RFC 1813, 6.2).
-#[derive(Debug, Drop, PartialEq, Eq)]
+#[derive(Drop, PartialEq, Eq)]
 pub enum NlmCall {
     /// Procedure 0, NULL.
     Null,
@@ -205,7 +205,7 @@ pub enum NlmCall {
 }
 
 /// The results of a call of NLM version 4 (RFC 1813, 6.2).
-#[derive(Debug, Drop, PartialEq, Eq)]
+#[derive(Drop, PartialEq, Eq)]
 pub enum NlmReply {
     /// Procedure 0, NULL.
     Null,

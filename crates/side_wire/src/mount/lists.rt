@@ -8,7 +8,7 @@ use std::alloc::AllocError;
 use std::marker::Model;
 
 /// What a host has mounted (`mountbody`).
-#[derive(Clone, Debug, Drop, PartialEq, Eq)]
+#[derive(Clone, Drop, PartialEq, Eq)]
 pub struct MountBody {
     /// At most 255 bytes.
     pub hostname: Bytes,
@@ -17,19 +17,19 @@ pub struct MountBody {
 }
 
 /// What hosts have mounted (`mountlist`). A clause sees it as a list.
-#[derive(Debug, Drop)]
+#[derive(Drop)]
 pub struct MountList {
     mounts: Vec<MountBody>,
 }
 
 /// The names of hosts that may mount an export, each of at most 255 bytes (`groups`). A clause sees them as a list.
-#[derive(Debug, Drop)]
+#[derive(Drop)]
 pub struct Groups {
     hosts: Vec<Bytes>,
 }
 
 /// An exported directory (`exportnode`).
-#[derive(Clone, Debug, Drop, PartialEq, Eq)]
+#[derive(Clone, Drop, PartialEq, Eq)]
 pub struct ExportNode {
     /// Its path, of at most 1024 bytes.
     pub directory: Bytes,
@@ -38,7 +38,7 @@ pub struct ExportNode {
 }
 
 /// The exported directories (`exports`). A clause sees them as a list.
-#[derive(Debug, Drop)]
+#[derive(Drop)]
 pub struct ExportList {
     exports: Vec<ExportNode>,
 }
