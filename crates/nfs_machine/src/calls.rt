@@ -31,18 +31,6 @@ pub enum Refusal {
     SystemError,
 }
 
-impl Clone for Call {
-    ghost is_clone = { λ call copy. copy ≡ call };
-
-    fn clone(&self) -> Result<Call, AllocError> {
-        Ok(match self {
-            Call::Nfs(call) => Call::Nfs(call.clone()?),
-            Call::Mount(call) => Call::Mount(call.clone()?),
-            Call::Nlm(call) => Call::Nlm(call.clone()?),
-        })
-    }
-}
-
 impl Clone for Reply {
     ghost is_clone = { λ reply copy. copy ≡ reply };
 

@@ -14,7 +14,7 @@ use bytes::Bytes;
 use nfs_xdr::{ArgumentsError, SharedReader, XdrError, are_bytes};
 
 /// A name in a directory (`diropargs3`).
-#[derive(Clone, Drop, PartialEq, Eq)]
+#[derive(Drop, PartialEq, Eq)]
 pub struct Place {
     /// The handle of the directory.
     pub directory: Bytes,
@@ -28,7 +28,7 @@ pub struct Verifier {
 }
 
 /// The arguments of SETATTR (RFC 1813, 3.3.2).
-#[derive(Clone, Drop, PartialEq, Eq)]
+#[derive(Drop, PartialEq, Eq)]
 pub struct SetattrArguments {
     /// The object's handle.
     pub object: Bytes,
@@ -38,7 +38,7 @@ pub struct SetattrArguments {
 }
 
 /// The arguments of ACCESS (RFC 1813, 3.3.4).
-#[derive(Clone, Drop, PartialEq, Eq)]
+#[derive(Drop, PartialEq, Eq)]
 pub struct AccessArguments {
     /// The object's handle.
     pub object: Bytes,
@@ -47,7 +47,7 @@ pub struct AccessArguments {
 }
 
 /// The arguments of READ (RFC 1813, 3.3.6).
-#[derive(Clone, Drop, PartialEq, Eq)]
+#[derive(Drop, PartialEq, Eq)]
 pub struct ReadArguments {
     /// The file's handle.
     pub file: Bytes,
@@ -66,7 +66,7 @@ pub enum Stability {
 }
 
 /// The arguments of WRITE (RFC 1813, 3.3.7).
-#[derive(Clone, Drop, PartialEq, Eq)]
+#[derive(Drop, PartialEq, Eq)]
 pub struct WriteArguments {
     /// The file's handle.
     pub file: Bytes,
@@ -87,21 +87,21 @@ pub enum CreateHow {
 }
 
 /// The arguments of CREATE (RFC 1813, 3.3.8).
-#[derive(Clone, Drop, PartialEq, Eq)]
+#[derive(Drop, PartialEq, Eq)]
 pub struct CreateArguments {
     pub place: Place,
     pub how: CreateHow,
 }
 
 /// The arguments of MKDIR (RFC 1813, 3.3.9).
-#[derive(Clone, Drop, PartialEq, Eq)]
+#[derive(Drop, PartialEq, Eq)]
 pub struct MkdirArguments {
     pub place: Place,
     pub attributes: SetAttributes,
 }
 
 /// The arguments of SYMLINK (RFC 1813, 3.3.10).
-#[derive(Clone, Drop, PartialEq, Eq)]
+#[derive(Drop, PartialEq, Eq)]
 pub struct SymlinkArguments {
     pub place: Place,
     pub attributes: SetAttributes,
@@ -129,21 +129,21 @@ pub enum Special {
 }
 
 /// The arguments of MKNOD (RFC 1813, 3.3.11).
-#[derive(Clone, Drop, PartialEq, Eq)]
+#[derive(Drop, PartialEq, Eq)]
 pub struct MknodArguments {
     pub place: Place,
     pub what: Special,
 }
 
 /// The arguments of RENAME (RFC 1813, 3.3.14).
-#[derive(Clone, Drop, PartialEq, Eq)]
+#[derive(Drop, PartialEq, Eq)]
 pub struct RenameArguments {
     pub from: Place,
     pub to: Place,
 }
 
 /// The arguments of LINK (RFC 1813, 3.3.15).
-#[derive(Clone, Drop, PartialEq, Eq)]
+#[derive(Drop, PartialEq, Eq)]
 pub struct LinkArguments {
     /// The file's handle.
     pub file: Bytes,
@@ -152,7 +152,7 @@ pub struct LinkArguments {
 }
 
 /// The arguments of READDIR (RFC 1813, 3.3.16).
-#[derive(Clone, Drop, PartialEq, Eq)]
+#[derive(Drop, PartialEq, Eq)]
 pub struct ReaddirArguments {
     /// The directory's handle.
     pub directory: Bytes,
@@ -164,7 +164,7 @@ pub struct ReaddirArguments {
 }
 
 /// The arguments of READDIRPLUS (RFC 1813, 3.3.17).
-#[derive(Clone, Drop, PartialEq, Eq)]
+#[derive(Drop, PartialEq, Eq)]
 pub struct ReaddirplusArguments {
     /// The directory's handle.
     pub directory: Bytes,
@@ -178,7 +178,7 @@ pub struct ReaddirplusArguments {
 }
 
 /// The arguments of COMMIT (RFC 1813, 3.3.21).
-#[derive(Clone, Drop, PartialEq, Eq)]
+#[derive(Drop, PartialEq, Eq)]
 pub struct CommitArguments {
     /// The file's handle.
     pub file: Bytes,

@@ -1,44 +1,12 @@
-//! Copies of calls and replies, which share their byte strings. Each copy is equal to what it is a copy of.
+//! Copies of replies, which share their byte strings. Each copy is equal to what it is a copy of.
 
 ghost use Rattle.std.specs.Prelude.{◌≡◌};
 
-use crate::calls::NfsCall;
 use crate::replies::{
     LookupReply, Made, MadeReply, NfsReply, ReadReply, ReaddirReply, ReaddirplusReply,
     ReadlinkReply,
 };
 use std::alloc::AllocError;
-
-impl Clone for NfsCall {
-    ghost is_clone = { λ call copy. copy ≡ call };
-
-    fn clone(&self) -> Result<NfsCall, AllocError> {
-        Ok(match self {
-            NfsCall::Null => NfsCall::Null,
-            NfsCall::Getattr(object) => NfsCall::Getattr(object.clone()?),
-            NfsCall::Setattr(arguments) => NfsCall::Setattr(arguments.clone()?),
-            NfsCall::Lookup(place) => NfsCall::Lookup(place.clone()?),
-            NfsCall::Access(arguments) => NfsCall::Access(arguments.clone()?),
-            NfsCall::Readlink(object) => NfsCall::Readlink(object.clone()?),
-            NfsCall::Read(arguments) => NfsCall::Read(arguments.clone()?),
-            NfsCall::Write(arguments) => NfsCall::Write(arguments.clone()?),
-            NfsCall::Create(arguments) => NfsCall::Create(arguments.clone()?),
-            NfsCall::Mkdir(arguments) => NfsCall::Mkdir(arguments.clone()?),
-            NfsCall::Symlink(arguments) => NfsCall::Symlink(arguments.clone()?),
-            NfsCall::Mknod(arguments) => NfsCall::Mknod(arguments.clone()?),
-            NfsCall::Remove(place) => NfsCall::Remove(place.clone()?),
-            NfsCall::Rmdir(place) => NfsCall::Rmdir(place.clone()?),
-            NfsCall::Rename(arguments) => NfsCall::Rename(arguments.clone()?),
-            NfsCall::Link(arguments) => NfsCall::Link(arguments.clone()?),
-            NfsCall::Readdir(arguments) => NfsCall::Readdir(arguments.clone()?),
-            NfsCall::Readdirplus(arguments) => NfsCall::Readdirplus(arguments.clone()?),
-            NfsCall::Fsstat(object) => NfsCall::Fsstat(object.clone()?),
-            NfsCall::Fsinfo(object) => NfsCall::Fsinfo(object.clone()?),
-            NfsCall::Pathconf(object) => NfsCall::Pathconf(object.clone()?),
-            NfsCall::Commit(arguments) => NfsCall::Commit(arguments.clone()?),
-        })
-    }
-}
 
 impl Clone for NfsReply {
     ghost is_clone = { λ reply copy. copy ≡ reply };

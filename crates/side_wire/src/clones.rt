@@ -1,26 +1,11 @@
-//! Copies of calls and replies, which share their byte strings. Each copy is equal to what it is a copy of.
+//! Copies of replies and callbacks, which share their byte strings. Each copy is equal to what it is a copy of.
 
 ghost use Rattle.std.specs.Prelude.{◌≡◌};
 
 use crate::message::Callback;
-use crate::mount::{MountCall, MountReply};
-use crate::nlm::{NlmCall, NlmReply, TestStatus};
+use crate::mount::MountReply;
+use crate::nlm::{NlmReply, TestStatus};
 use std::alloc::AllocError;
-
-impl Clone for MountCall {
-    ghost is_clone = { λ call copy. copy ≡ call };
-
-    fn clone(&self) -> Result<MountCall, AllocError> {
-        Ok(match self {
-            MountCall::Null => MountCall::Null,
-            MountCall::Mnt(path) => MountCall::Mnt(path.clone()?),
-            MountCall::Dump => MountCall::Dump,
-            MountCall::Unmount(path) => MountCall::Unmount(path.clone()?),
-            MountCall::UnmountAll => MountCall::UnmountAll,
-            MountCall::Export => MountCall::Export,
-        })
-    }
-}
 
 impl Clone for MountReply {
     ghost is_clone = { λ reply copy. copy ≡ reply };
@@ -36,35 +21,6 @@ impl Clone for MountReply {
             MountReply::Unmount => MountReply::Unmount,
             MountReply::UnmountAll => MountReply::UnmountAll,
             MountReply::Export(exports) => MountReply::Export(exports.clone()?),
-        })
-    }
-}
-
-impl Clone for NlmCall {
-    ghost is_clone = { λ call copy. copy ≡ call };
-
-    fn clone(&self) -> Result<NlmCall, AllocError> {
-        Ok(match self {
-            NlmCall::Null => NlmCall::Null,
-            NlmCall::Test(arguments) => NlmCall::Test(arguments.clone()?),
-            NlmCall::Lock(arguments) => NlmCall::Lock(arguments.clone()?),
-            NlmCall::Cancel(arguments) => NlmCall::Cancel(arguments.clone()?),
-            NlmCall::Unlock(arguments) => NlmCall::Unlock(arguments.clone()?),
-            NlmCall::Granted(arguments) => NlmCall::Granted(arguments.clone()?),
-            NlmCall::TestMsg(arguments) => NlmCall::TestMsg(arguments.clone()?),
-            NlmCall::LockMsg(arguments) => NlmCall::LockMsg(arguments.clone()?),
-            NlmCall::CancelMsg(arguments) => NlmCall::CancelMsg(arguments.clone()?),
-            NlmCall::UnlockMsg(arguments) => NlmCall::UnlockMsg(arguments.clone()?),
-            NlmCall::GrantedMsg(arguments) => NlmCall::GrantedMsg(arguments.clone()?),
-            NlmCall::TestRes(result) => NlmCall::TestRes(result.clone()?),
-            NlmCall::LockRes(result) => NlmCall::LockRes(result.clone()?),
-            NlmCall::CancelRes(result) => NlmCall::CancelRes(result.clone()?),
-            NlmCall::UnlockRes(result) => NlmCall::UnlockRes(result.clone()?),
-            NlmCall::GrantedRes(result) => NlmCall::GrantedRes(result.clone()?),
-            NlmCall::Share(arguments) => NlmCall::Share(arguments.clone()?),
-            NlmCall::Unshare(arguments) => NlmCall::Unshare(arguments.clone()?),
-            NlmCall::NmLock(arguments) => NlmCall::NmLock(arguments.clone()?),
-            NlmCall::FreeAll(arguments) => NlmCall::FreeAll(arguments.clone()?),
         })
     }
 }

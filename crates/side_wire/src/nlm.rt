@@ -86,7 +86,7 @@ pub struct TestArguments {
 }
 
 /// The arguments of LOCK and NM_LOCK (`nlm4_lockargs`).
-#[derive(Clone, Drop, PartialEq, Eq)]
+#[derive(Drop, PartialEq, Eq)]
 pub struct LockArguments {
     pub cookie: Bytes,
     /// Whether the call waits where the lock conflicts.
@@ -98,7 +98,7 @@ pub struct LockArguments {
 }
 
 /// The arguments of CANCEL (`nlm4_cancargs`).
-#[derive(Clone, Drop, PartialEq, Eq)]
+#[derive(Drop, PartialEq, Eq)]
 pub struct CancelArguments {
     pub cookie: Bytes,
     pub block: bool,
@@ -107,7 +107,7 @@ pub struct CancelArguments {
 }
 
 /// The arguments of UNLOCK (`nlm4_unlockargs`).
-#[derive(Clone, Drop, PartialEq, Eq)]
+#[derive(Drop, PartialEq, Eq)]
 pub struct UnlockArguments {
     pub cookie: Bytes,
     pub lock: NlmLock,
@@ -132,7 +132,7 @@ pub enum ShareAccess {
 }
 
 /// A share as a caller names it (`nlm4_share`).
-#[derive(Clone, Drop, PartialEq, Eq)]
+#[derive(Drop, PartialEq, Eq)]
 pub struct NlmShare {
     pub caller_name: Bytes,
     /// The file's handle.
@@ -144,7 +144,7 @@ pub struct NlmShare {
 }
 
 /// The arguments of SHARE and UNSHARE (`nlm4_shareargs`).
-#[derive(Clone, Drop, PartialEq, Eq)]
+#[derive(Drop, PartialEq, Eq)]
 pub struct ShareArguments {
     pub cookie: Bytes,
     pub share: NlmShare,
@@ -152,7 +152,7 @@ pub struct ShareArguments {
 }
 
 /// The arguments of FREE_ALL (`nlm4_notify`).
-#[derive(Clone, Drop, PartialEq, Eq)]
+#[derive(Drop, PartialEq, Eq)]
 pub struct FreeAllArguments {
     /// The caller whose locks and shares are freed.
     pub name: Bytes,

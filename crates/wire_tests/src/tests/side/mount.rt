@@ -266,13 +266,6 @@ fn exports_are_written_with_their_hosts(rt: HostRuntime) -> Result<(), Fail> {
     Ok(())
 }
 
-#[test]
-fn a_call_is_copied(rt: HostRuntime) -> Result<(), Fail> {
-    let call = MountCall::Unmount(Bytes::copy_from_slice(rt.alloc(), b"/data")?);
-    assert!(rt; call.clone()? == call);
-    Ok(())
-}
-
 /// Whether a reply of these exports can be copied.
 fn are_copied(exports: ExportList) -> bool {
     MountReply::Export(exports).clone().is_ok()

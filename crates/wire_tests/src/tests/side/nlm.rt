@@ -8,7 +8,7 @@ mod values;
 use crate::tests::{joined, record};
 use nfs_xdr::SharedReader;
 use side_wire::{ArgumentsError, NlmCall, nlm};
-use std::alloc::{AllocError, Global};
+use std::alloc::Global;
 use std::test::Fail;
 
 /// Why the bytes are no arguments of the procedure.
@@ -27,19 +27,14 @@ fn are_arguments(alloc: Global, procedure: u32, bytes: &[u8]) -> Result<bool, Fa
     Ok(refusal(alloc, procedure, bytes)?.is_none())
 }
 
-/// Whether the bytes are read as arguments of the procedure, which are a copy of these.
+/// Whether the bytes are read as the call of the procedure.
 fn is_call(alloc: Global, procedure: u32, bytes: &[u8], call: NlmCall) -> Result<bool, Fail> {
-    let copy: Result<NlmCall, AllocError> = call.clone();
+    let is_call = is_read_as(alloc, procedure, bytes, &call);
     drop(call);
-    let is_call = match &copy {
-        Ok(copy) => is_read_as(alloc, procedure, bytes, copy),
-        Err(AllocError) => Err(Fail::from("a copy")),
-    };
-    drop(copy);
     is_call
 }
 
-/// Whether the bytes are read as this call of the procedure.
+/// The same of a call that is lent.
 fn is_read_as(alloc: Global, procedure: u32, bytes: &[u8], call: &NlmCall) -> Result<bool, Fail> {
     let record = record(alloc, bytes)?;
     let read = nlm::read_args(procedure, SharedReader::new(&record));
@@ -57,6 +52,20 @@ fn is_read(
     back: &[u32],
     call: NlmCall,
 ) -> Result<bool, Fail> {
+    let is_read = is_read_alone(alloc, procedure, front, middle, back, &call);
+    drop(call);
+    is_read
+}
+
+/// The same of a call that is lent.
+fn is_read_alone(
+    alloc: Global,
+    procedure: u32,
+    front: &[u32],
+    middle: &[u32],
+    back: &[u32],
+    call: &NlmCall,
+) -> Result<bool, Fail> {
     let mut arguments = joined(alloc, front, middle, back)?;
     for length in 0..arguments.len() {
         if !are_garbage(alloc, procedure, &arguments.as_slice()[..length])? {
@@ -64,7 +73,7 @@ fn is_read(
         }
     }
     arguments.push(7)?;
-    is_call(alloc, procedure, arguments.as_slice(), call)
+    is_read_as(alloc, procedure, arguments.as_slice(), call)
 }
 
 /// Whether the words are no arguments of the procedure.
