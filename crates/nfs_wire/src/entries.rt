@@ -5,11 +5,10 @@ ghost use Rattle.std.specs.Cmp.Lexicographic.{pointwise, lists_per, lists_equiv}
 
 use crate::attributes::Attributes;
 use bytes::Bytes;
-use std::alloc::AllocError;
 use std::marker::Model;
 
 /// A name in a directory (`entry3`).
-#[derive(Clone, Drop, PartialEq, Eq)]
+#[derive(Drop, PartialEq, Eq)]
 pub struct PageEntry {
     pub fileid: u64,
     pub name: Bytes,
@@ -18,7 +17,7 @@ pub struct PageEntry {
 }
 
 /// A name in a directory, and what it names (`entryplus3`).
-#[derive(Clone, Drop, PartialEq, Eq)]
+#[derive(Drop, PartialEq, Eq)]
 pub struct FullEntry {
     pub entry: PageEntry,
     pub attributes: Option<Attributes>,
@@ -54,26 +53,6 @@ impl Model for FullNames {
     ghost Value = { List FullEntry };
 
     ghost view = { λ n. n.entries.items };
-}
-
-impl Clone for Names {
-    ghost is_clone = { λ names copy. copy ≡ names };
-
-    fn clone(&self) -> Result<Names, AllocError> {
-        Ok(Names {
-            names: self.names.clone()?,
-        })
-    }
-}
-
-impl Clone for FullNames {
-    ghost is_clone = { λ names copy. copy ≡ names };
-
-    fn clone(&self) -> Result<FullNames, AllocError> {
-        Ok(FullNames {
-            entries: self.entries.clone()?,
-        })
-    }
 }
 
 impl PartialEq for Names {

@@ -14,7 +14,6 @@
 
 pub mod attributes;
 pub mod calls;
-mod clones;
 pub mod entries;
 pub mod replies;
 pub mod status;

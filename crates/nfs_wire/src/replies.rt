@@ -26,7 +26,7 @@ pub struct SetattrReply {
 }
 
 /// What LOOKUP found.
-#[derive(Clone, Drop, PartialEq, Eq)]
+#[derive(Drop, PartialEq, Eq)]
 pub struct Found {
     /// The object's handle.
     pub object: Bytes,
@@ -59,7 +59,7 @@ pub struct ReadlinkReply {
 }
 
 /// What READ read.
-#[derive(Clone, Drop, PartialEq, Eq)]
+#[derive(Drop, PartialEq, Eq)]
 pub struct ReadData {
     /// In bytes.
     pub count: u32,
@@ -134,7 +134,7 @@ pub struct LinkedReply {
 }
 
 /// A page of a directory.
-#[derive(Clone, Drop, PartialEq, Eq)]
+#[derive(Drop, PartialEq, Eq)]
 pub struct Page {
     pub verifier: Verifier,
     pub entries: Names,
@@ -151,7 +151,7 @@ pub struct ReaddirReply {
 }
 
 /// A page of a directory with attributes and handles.
-#[derive(Clone, Drop, PartialEq, Eq)]
+#[derive(Drop, PartialEq, Eq)]
 pub struct PagePlus {
     pub verifier: Verifier,
     pub entries: FullNames,

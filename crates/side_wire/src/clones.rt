@@ -1,58 +1,10 @@
-//! Copies of replies and callbacks, which share their byte strings. Each copy is equal to what it is a copy of.
+//! Copies of callbacks, which share their byte strings. Each copy is equal to what it is a copy of.
 
 ghost use Rattle.std.specs.Prelude.{◌≡◌};
 
 use crate::message::Callback;
-use crate::mount::MountReply;
-use crate::nlm::{NlmReply, TestStatus};
+use crate::nlm::TestStatus;
 use std::alloc::AllocError;
-
-impl Clone for MountReply {
-    ghost is_clone = { λ reply copy. copy ≡ reply };
-
-    fn clone(&self) -> Result<MountReply, AllocError> {
-        Ok(match self {
-            MountReply::Null => MountReply::Null,
-            MountReply::Mnt(mounted) => MountReply::Mnt(match mounted {
-                Ok(handle) => Ok(handle.clone()?),
-                Err(status) => Err(*status),
-            }),
-            MountReply::Dump(mounts) => MountReply::Dump(mounts.clone()?),
-            MountReply::Unmount => MountReply::Unmount,
-            MountReply::UnmountAll => MountReply::UnmountAll,
-            MountReply::Export(exports) => MountReply::Export(exports.clone()?),
-        })
-    }
-}
-
-impl Clone for NlmReply {
-    ghost is_clone = { λ reply copy. copy ≡ reply };
-
-    fn clone(&self) -> Result<NlmReply, AllocError> {
-        Ok(match self {
-            NlmReply::Null => NlmReply::Null,
-            NlmReply::Test(result) => NlmReply::Test(result.clone()?),
-            NlmReply::Lock(result) => NlmReply::Lock(result.clone()?),
-            NlmReply::Cancel(result) => NlmReply::Cancel(result.clone()?),
-            NlmReply::Unlock(result) => NlmReply::Unlock(result.clone()?),
-            NlmReply::Granted(result) => NlmReply::Granted(result.clone()?),
-            NlmReply::TestMsg => NlmReply::TestMsg,
-            NlmReply::LockMsg => NlmReply::LockMsg,
-            NlmReply::CancelMsg => NlmReply::CancelMsg,
-            NlmReply::UnlockMsg => NlmReply::UnlockMsg,
-            NlmReply::GrantedMsg => NlmReply::GrantedMsg,
-            NlmReply::TestRes => NlmReply::TestRes,
-            NlmReply::LockRes => NlmReply::LockRes,
-            NlmReply::CancelRes => NlmReply::CancelRes,
-            NlmReply::UnlockRes => NlmReply::UnlockRes,
-            NlmReply::GrantedRes => NlmReply::GrantedRes,
-            NlmReply::Share(result) => NlmReply::Share(result.clone()?),
-            NlmReply::Unshare(result) => NlmReply::Unshare(result.clone()?),
-            NlmReply::NmLock(result) => NlmReply::NmLock(result.clone()?),
-            NlmReply::FreeAll => NlmReply::FreeAll,
-        })
-    }
-}
 
 impl Clone for TestStatus {
     ghost is_clone = { λ status copy. copy ≡ status };

@@ -136,16 +136,6 @@ fn each_fault_has_a_text(rt: HostRuntime) -> Result<(), Fail> {
     Ok(())
 }
 
-/// Whether a copy of the reply is the reply.
-fn is_copied_reply(reply: &Reply) -> bool {
-    reply.clone().is_ok_and(|copy| copy == *reply)
-}
-
-#[test]
-fn a_copy_of_a_reply_is_equal(rt: HostRuntime) {
-    assert!(rt; is_copied_reply(&Reply::Nlm(NlmReply::Null)));
-}
-
 /// Whether the call is refused by this for want of memory.
 fn is_refused(call: Call, want: Refusal) -> bool {
     let is = is_refusal(&call, &want);

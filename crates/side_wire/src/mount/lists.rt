@@ -4,11 +4,10 @@ ghost use Rattle.std.specs.Prelude.{◌≡◌};
 ghost use Rattle.std.specs.Cmp.Lexicographic.{pointwise, lists_per, lists_equiv};
 
 use bytes::Bytes;
-use std::alloc::AllocError;
 use std::marker::Model;
 
 /// What a host has mounted (`mountbody`).
-#[derive(Clone, Drop, PartialEq, Eq)]
+#[derive(Drop, PartialEq, Eq)]
 pub struct MountBody {
     /// At most 255 bytes.
     pub hostname: Bytes,
@@ -29,7 +28,7 @@ pub struct Groups {
 }
 
 /// An exported directory (`exportnode`).
-#[derive(Clone, Drop, PartialEq, Eq)]
+#[derive(Drop, PartialEq, Eq)]
 pub struct ExportNode {
     /// Its path, of at most 1024 bytes.
     pub directory: Bytes,
@@ -67,36 +66,6 @@ impl Model for ExportList {
     ghost Value = { List ExportNode };
 
     ghost view = { λ l. l.exports.items };
-}
-
-impl Clone for MountList {
-    ghost is_clone = { λ list copy. copy ≡ list };
-
-    fn clone(&self) -> Result<MountList, AllocError> {
-        Ok(MountList {
-            mounts: self.mounts.clone()?,
-        })
-    }
-}
-
-impl Clone for Groups {
-    ghost is_clone = { λ groups copy. copy ≡ groups };
-
-    fn clone(&self) -> Result<Groups, AllocError> {
-        Ok(Groups {
-            hosts: self.hosts.clone()?,
-        })
-    }
-}
-
-impl Clone for ExportList {
-    ghost is_clone = { λ list copy. copy ≡ list };
-
-    fn clone(&self) -> Result<ExportList, AllocError> {
-        Ok(ExportList {
-            exports: self.exports.clone()?,
-        })
-    }
 }
 
 impl PartialEq for MountList {

@@ -266,17 +266,6 @@ fn exports_are_written_with_their_hosts(rt: HostRuntime) -> Result<(), Fail> {
     Ok(())
 }
 
-/// Whether a reply of these exports can be copied.
-fn are_copied(exports: ExportList) -> bool {
-    MountReply::Export(exports).clone().is_ok()
-}
-
-#[test]
-fn a_reply_is_copied(rt: HostRuntime) -> Result<(), Fail> {
-    assert!(rt; are_copied(exports(rt.alloc())?));
-    Ok(())
-}
-
 #[test]
 fn exports_are_equal_and_taken_apart(rt: HostRuntime) -> Result<(), Fail> {
     let list = exports(rt.alloc())?;

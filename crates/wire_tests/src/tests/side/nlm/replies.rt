@@ -184,14 +184,3 @@ fn further_statuses_of_a_test_have_their_numbers(rt: HostRuntime) -> Result<(), 
     assert!(rt; has_number_of_test(rt.alloc(), TestStatus::Failed, 9)?);
     Ok(())
 }
-
-/// Whether the reply can be copied.
-fn is_copied(reply: NlmReply) -> bool {
-    reply.clone().is_ok()
-}
-
-#[test]
-fn a_reply_is_copied(rt: HostRuntime) -> Result<(), Fail> {
-    assert!(rt; is_copied(NlmReply::Cancel(result(NlmStatus::Denied))));
-    Ok(())
-}
