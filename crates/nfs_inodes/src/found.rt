@@ -23,7 +23,7 @@ use nfs_wire::{Attributes, NfsStatus, Verifier, Wcc, WeakAttributes};
 use std::alloc::{AllocError, Global};
 
 /// A living object, but for what it contains.
-#[derive(Clone, Copy, Debug)]
+#[derive(Clone, Copy)]
 pub struct Known {
     pub number: u64,
     pub export: u32,

@@ -6,14 +6,14 @@ ghost use Rattle.nfs_wire.specs.declared.attributes.FileType.TheVariants as type
 use crate::found::Known;
 
 /// A living directory.
-#[derive(Clone, Copy, Debug)]
+#[derive(Clone, Copy)]
 pub struct Directory {
     pub known: Known,
     pub ghost kind: { known.attributes.kind ≡ types.Directory },
 }
 
 /// A living regular file.
-#[derive(Clone, Copy, Debug)]
+#[derive(Clone, Copy)]
 pub struct File {
     pub known: Known,
     pub ghost kind: { known.attributes.kind ≡ types.Regular },

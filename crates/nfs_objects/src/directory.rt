@@ -53,7 +53,7 @@ impl<'a> Equivalent<Bytes> for Name<'a> {
 }
 
 /// The names of a directory in order of adding, so in rising order of cookie. A clause sees them as a list.
-#[derive(Debug, Drop)]
+#[derive(Drop)]
 pub struct Entries {
     map: IndexMap<Bytes, Leaf>,
 }
@@ -167,7 +167,7 @@ impl Eq for Entries {
 }
 
 /// A directory (RFC 1813, 2.1).
-#[derive(Debug, Drop)]
+#[derive(Drop)]
 pub struct Directory {
     /// The number of the directory that it is named in; of a root, its own.
     pub parent: u64,

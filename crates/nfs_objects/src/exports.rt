@@ -10,7 +10,7 @@ use std::marker::Model;
 use std::sync::Arc;
 
 /// An export that lives. A clause sees it as the machine does: its number, its root's, and the export as it is given.
-#[derive(Debug, Drop)]
+#[derive(Drop)]
 pub struct LivingExport {
     number: u32,
     root: u64,
@@ -97,7 +97,7 @@ impl Eq for LivingExport {
 /// The living exports in the order given, and the greatest number that an export ever had. Copies share one list. A
 /// list of exports that replaces another gives each path that stays the number and the root that it has, and each new
 /// path a number above the greatest, so that no handle ever names an object of another export.
-#[derive(Debug, Drop)]
+#[derive(Drop)]
 pub struct ExportTable {
     list: Arc<Vec<LivingExport>>,
     last: u32,

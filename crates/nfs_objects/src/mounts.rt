@@ -20,7 +20,7 @@ pub const MOUNT_LIMIT: usize = 65536;
 const PIECE_LIMIT: usize = 256;
 
 /// A host that mounted a path, as it sent it. A clause sees it as the machine does.
-#[derive(Debug, Drop, PartialEq, Eq, Hash)]
+#[derive(Drop, PartialEq, Eq, Hash)]
 pub struct Mount {
     host: Bytes,
     path: Bytes,
@@ -102,7 +102,7 @@ impl<'a> Equivalent<Mount> for Sought<'a> {
 }
 
 /// A part of a table: mounts in order of adding.
-#[derive(Debug, Drop)]
+#[derive(Drop)]
 struct Piece {
     mounts: IndexSet<Mount>,
 }
@@ -181,7 +181,7 @@ impl Piece {
 
 /// The mounts in order of adding, at most `MOUNT_LIMIT`; each is found by its hash. A table is never changed: one more
 /// mount makes another one, which shares with it all but some hundreds.
-#[derive(Debug, Drop)]
+#[derive(Drop)]
 pub struct MountTable {
     pieces: Vec<Arc<Piece>>,
     len: usize,

@@ -14,7 +14,7 @@ use std::alloc::AllocError;
 use std::sync::Arc;
 
 /// What an object is and contains.
-#[derive(Debug, Drop)]
+#[derive(Drop)]
 pub enum Content {
     /// The bytes of a file.
     Regular(Bytes),
@@ -78,7 +78,7 @@ impl Eq for Content {
 }
 
 /// An object of the file system.
-#[derive(Debug, Drop)]
+#[derive(Drop)]
 pub struct Inode {
     /// The number of its export, from 1.
     pub export: u32,
@@ -168,7 +168,7 @@ impl Eq for Inode {
 }
 
 /// What stands at an address.
-#[derive(Debug, Drop)]
+#[derive(Drop)]
 pub enum Object {
     Exports(ExportTable),
     Inode(Inode),
