@@ -1,3 +1,10 @@
 pub mod Answered
+pub mod Asking
+pub mod Changing
+pub mod Committing
+pub mod Granting
 pub mod Reading
+pub mod Setting
+pub mod Spaces
+pub mod Telling
 pub mod Writing

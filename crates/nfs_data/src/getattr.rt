@@ -4,6 +4,7 @@ ghost use Rattle.std.specs.Prelude.{◌≡◌, Err, Ok};
 ghost use Rattle.nfs_machine.specs.declared.calls.Call.TheVariants as calls;
 ghost use Rattle.nfs_objects.specs.Attempt.{Ends, EndsFirst};
 ghost use Rattle.nfs_objects.specs.Begins.{Begins};
+ghost use Rattle.nfs_objects.specs.Only.{EndsFirstOnly};
 
 use bytes::Bytes;
 use nfs_inodes::{Known, named};
@@ -16,6 +17,7 @@ pub(crate) fn attempt(draft: Draft<'_>, object: &Bytes) -> Result<Change, Halt>
     requires { Begins (calls.Nfs (NfsCall.Getattr object.now)) draft }
     ensures ends { Ends (calls.Nfs (NfsCall.Getattr object.now)) draft.entry.ctx draft.entry.view result }
     ensures first { EndsFirst (calls.Nfs (NfsCall.Getattr object.now)) draft.entry.view result }
+    ensures only { EndsFirstOnly (calls.Nfs (NfsCall.Getattr object.now)) draft.entry.view result }
 {
     let found = named(&draft, object.as_slice())?;
     let attributes = attributes_in(found);

@@ -1,7 +1,8 @@
 //! The procedures of NFS version 3 on attributes and data (RFC 1813, section 3.3), each as straight code over a draft.
 //!
 //! A procedure asks what a handle names, makes its checks, reads and writes by the readers and makers of `nfs_inodes`,
-//! and answers; what it lacks it halts with. So far the procedures are NULL, GETATTR, READ and WRITE.
+//! and answers; what it lacks it halts with. The procedures are NULL, GETATTR, SETATTR, ACCESS, READLINK, READ,
+//! WRITE, FSSTAT, FSINFO, PATHCONF and COMMIT.
 #![tactic(auto)]
 
 ghost use Rattle.std.specs.Prelude.{◌≡◌, true, IfOk};
@@ -9,10 +10,17 @@ ghost use Rattle.nfs_machine.specs.declared.calls.Call.TheVariants as calls;
 ghost use Rattle.nfs_objects.specs.Attempt.{AsksFirst, Attempts, Ends, EndsFirst};
 ghost use Rattle.nfs_objects.specs.Begins.{Begins};
 ghost use Rattle.nfs_objects.specs.Modes.{Suits, modes_of};
-ghost use Rattle.nfs_data.specs.Calls.{is_data_call};
+ghost use Rattle.nfs_objects.specs.Only.{AsksFirstOnly, EndsFirstOnly};
+ghost use Rattle.nfs_data.specs.Calls.{is_data_call, reads_attributes};
 
+mod access;
+mod commit;
+mod file_systems;
+mod fsstat;
 mod getattr;
 mod read;
+mod readlink;
+mod setattr;
 mod write;
 
 use nfs_machine::{Ctx, Reply};
@@ -30,6 +38,7 @@ pub fn attempt(alloc: Global, call: &NfsCall, ctx: &Ctx, view: &View) -> Result<
     requires suits { Suits (modes_of (calls.Nfs call.now)) view.now }
     ensures attempts { IfOk result (Attempts (calls.Nfs call.now) ctx.now view.now) }
     ensures first { IfOk result (AsksFirst (calls.Nfs call.now) view.now) }
+    ensures only { reads_attributes call.now ≡ true → IfOk result (AsksFirstOnly (calls.Nfs call.now) view.now) }
 {
     outcome(ended(alloc, call, ctx, view))
 }
@@ -39,17 +48,39 @@ fn ended(alloc: Global, call: &NfsCall, ctx: &Ctx, view: &View) -> Result<Change
     requires suits { Suits (modes_of (calls.Nfs call.now)) view.now }
     ensures ends { Ends (calls.Nfs call.now) ctx.now view.now result }
     ensures first { EndsFirst (calls.Nfs call.now) view.now result }
+    ensures only { reads_attributes call.now ≡ true → EndsFirstOnly (calls.Nfs call.now) view.now result }
 {
     match call {
         NfsCall::Null => null(Draft::new(alloc, ctx, view, READING)),
         NfsCall::Getattr(object) => {
             getattr::attempt(Draft::new(alloc, ctx, view, READING), object)
         }
+        NfsCall::Setattr(arguments) => {
+            setattr::attempt(Draft::new(alloc, ctx, view, CHANGING), arguments)
+        }
+        NfsCall::Access(arguments) => {
+            access::attempt(Draft::new(alloc, ctx, view, READING), arguments)
+        }
+        NfsCall::Readlink(object) => {
+            readlink::attempt(Draft::new(alloc, ctx, view, READING), object)
+        }
         NfsCall::Read(arguments) => {
             read::attempt(Draft::new(alloc, ctx, view, READING), arguments)
         }
         NfsCall::Write(arguments) => {
             write::attempt(Draft::new(alloc, ctx, view, CHANGING), arguments)
+        }
+        NfsCall::Fsinfo(object) => {
+            file_systems::fsinfo(Draft::new(alloc, ctx, view, READING), object)
+        }
+        NfsCall::Pathconf(object) => {
+            file_systems::pathconf(Draft::new(alloc, ctx, view, READING), object)
+        }
+        NfsCall::Commit(arguments) => {
+            commit::attempt(Draft::new(alloc, ctx, view, READING), arguments)
+        }
+        NfsCall::Fsstat(object) => {
+            fsstat::attempt(Draft::new(alloc, ctx, view, READING), object)
         }
         _ => unreachable!(),
     }
@@ -60,6 +91,7 @@ fn null(draft: Draft<'_>) -> Result<Change, Halt>
     requires { Begins (calls.Nfs NfsCall.Null) draft }
     ensures ends { Ends (calls.Nfs NfsCall.Null) draft.entry.ctx draft.entry.view result }
     ensures first { EndsFirst (calls.Nfs NfsCall.Null) draft.entry.view result }
+    ensures only { EndsFirstOnly (calls.Nfs NfsCall.Null) draft.entry.view result }
 {
     Ok(draft.answer(Reply::Nfs(NfsReply::Null)))
 }

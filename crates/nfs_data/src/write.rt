@@ -116,7 +116,7 @@ fn answer_to(ctx: &Ctx, arguments: &WriteArguments) -> Written
 }
 
 /// What is shown where a handle names nothing.
-fn nothing_shown() -> Wcc
+pub(crate) fn nothing_shown() -> Wcc
     ensures { result ≡ record { before = None; after = None } }
 {
     Wcc {

@@ -1,5 +1,6 @@
 -- How readers halt, as their callers see it.
 use Rattle.std.proofs.Common.{◌≡◌, ℕ, List, [], ◌∷◌, Option, Some, None, Result, Err, IsSome, inl, inr, option_map, refl, sym, ◌∙◌, ap, subst}
+use Rattle.std.proofs.Common.{Ok}
 use Rattle.nfs_machine.specs.Handles.{handle_of}
 use Rattle.nfs_machine.specs.declared.handle.Handle.{Handle}
 use Rattle.nfs_objects.proofs.Knows.{among-first, among-next, lacks-stops, turned-stops}
@@ -8,6 +9,7 @@ use Rattle.nfs_objects.specs.Asks.{IsFresh, Lacks, Lives}
 use Rattle.nfs_objects.specs.Attempt.{HaltsFirst, object_wanted, unless_seen}
 use Rattle.nfs_objects.specs.Calls.{IsAmong, objects_at}
 use Rattle.nfs_objects.specs.Knows.{Turns}
+use Rattle.nfs_objects.specs.Only.{AsksNothing}
 use Rattle.nfs_objects.specs.Stands.{Kept}
 use Rattle.nfs_objects.specs.Values.{DraftValue, Seen, known_at, seen_at, shown_at, written_at}
 use Rattle.nfs_objects.specs.declared.address.Addr.{Addr}
@@ -15,7 +17,7 @@ use Rattle.nfs_objects.specs.declared.address.Addr.TheVariants as addresses
 use Rattle.nfs_objects.specs.declared.change.Halt.{Halt}
 use Rattle.nfs_objects.specs.declared.change.Halt.TheVariants.{Need, Fresh, Memory, Status}
 use Rattle.nfs_objects.specs.declared.object.Object.{Object}
-use Rattle.nfs_inodes.specs.Stops.{IsBrought, StopsAt, StopsBringing, wanted_first}
+use Rattle.nfs_inodes.specs.Stops.{IsBrought, ReadsAt, StopsAt, StopsBringing, wanted_first}
 
 -- what a draft lacks stops the call
 pub lacking-stops : (d : DraftValue) (a : Addr) (halt : Halt) → Lacks d a halt → StopsAt d a halt
@@ -69,6 +71,12 @@ module _ (A : Type 0) (d : DraftValue) (bytes : List ℕ) where
   pub exports-first : (halt : Halt) → Lacks d addresses.Exports halt → First (Err halt)
   exports-first halt lacks = subst (λ w. HaltsFirst {A = A} d.modes (past w) (Err halt)) (sym (lacking-unseen d addresses.Exports halt lacks)) lacks.asked
 
+  pub exports-once : (halt : Halt) → Lacks d addresses.Exports halt
+      → wanted_first d.view (bytes ∷ []) ≡ None → ⊥
+  exports-once halt lacks none =
+      let wants : wanted_first d.view (bytes ∷ []) ≡ Some addresses.Exports =
+      ap past (lacking-unseen d addresses.Exports halt lacks) in cc
+
   module _ (none : d.writes ≡ []) (known : IsSome (known_at d addresses.Exports)) where
     wants : (o : Option Handle) → handle_of bytes ≡ o
         → wanted_first d.view (bytes ∷ []) ≡ elim o [ None ↦ None | Some h ↦ unless_seen d.view (addresses.Inode h.fileid) ]
@@ -87,6 +95,22 @@ module _ (A : Type 0) (d : DraftValue) (bytes : List ℕ) where
       pub lacking-first : (halt : Halt) → Lacks d (addresses.Inode h.fileid) halt → First (Err halt)
       lacking-first halt lacks =
           subst (λ w. HaltsFirst {A = A} d.modes w (Err halt)) (sym (wants (Some h) is ∙ lacking-unseen d (addresses.Inode h.fileid) halt lacks)) lacks.asked
+
+      pub lacking-once : (halt : Halt) → Lacks d (addresses.Inode h.fileid) halt
+          → wanted_first d.view (bytes ∷ []) ≡ None → ⊥
+      lacking-once halt lacks nothing =
+          let wanted-is : wanted_first d.view (bytes ∷ []) ≡ Some (addresses.Inode h.fileid) = wants (Some h) is
+          ∙ lacking-unseen d (addresses.Inode h.fileid) halt lacks in cc
+
+never-both : (o : Option (Option Object)) → o ≡ None → IsSome o → ⊥
+never-both None none some = cc
+never-both (Some x) none some = cc
+
+-- what the draft knows it does not lack
+pub known-never_lacking : {A : Type 0} (d : DraftValue) (a : Addr) (r : Result A Halt) → IsSome (known_at d a)
+    → ReadsAt d a r → AsksNothing r
+known-never_lacking d a (Ok x) known reads = tt
+known-never_lacking d a (Err halt) known lacks = absurd (never-both (known_at d a) lacks.unknown known)
 
 -- ---- a handle that the call brings
 pub brought-among : (handles : List (List ℕ)) (bytes : List ℕ) (h : Handle) → handle_of bytes ≡ Some h → IsBrought bytes handles

@@ -5,6 +5,7 @@ use Rattle.std.specs.FinMap.{get}
 use Rattle.nfs_wire.specs.declared.attributes.FileType.TheVariants as types
 use Rattle.nfs_wire.specs.declared.status.NfsStatus.TheVariants as status
 use Rattle.nfs_machine.proofs.Changes.{find-all}
+use Rattle.nfs_machine.proofs.Facts.{are_none}
 use Rattle.nfs_machine.specs.Attributes.{entries_of, is_directory}
 use Rattle.nfs_machine.specs.Bytes.{same_bytes}
 use Rattle.nfs_machine.specs.Checks.{entry_of}
@@ -34,6 +35,10 @@ entry-there d n name i number has is s k w = ap (λ c. under c name) (contains d
 pub cookie-there : (d : DraftValue) (n : ℕ) (i : Option Inode) (last : ℕ) → HasInode d n i → last ≡ last_cookie_of (content_in i)
     → Knows d (λ k. last_cookie_of (content_at k.state n) ≡ last)
 cookie-there d n i last has is s k w = ap last_cookie_of (contains d n i has s k w.fits w.stands) ∙ sym is
+
+pub empty-there : (d : DraftValue) (n : ℕ) (i : Option Inode) (empty : Bool) → HasInode d n i → empty ≡ are_none (entries_of (content_in i))
+    → Knows d (λ k. are_none (entries_of (content_at k.state n)) ≡ empty)
+empty-there d n i empty has is s k w = ap (λ c. are_none (entries_of c)) (contains d n i has s k w.fits w.stands) ∙ sym is
 
 -- ---- what a name leads to stands in each store
 module _ (d : DraftValue) (x : Known) (none : d.writes ≡ []) (known : Knows d (λ k. IsKnown k.state x)) where

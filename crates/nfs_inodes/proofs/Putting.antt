@@ -1,41 +1,63 @@
 -- What makers write is their change of what the store stands for.
-use Rattle.std.proofs.Common.{◌≡◌, ℕ, ◌-◌, ◌<◌, ◌^◌, true, false, Bool, cond, List, [], ◌∷◌, ◌++◌, Option, Some, None, IsSome, Result, Ok, Err, option_map, slice_get, find, inr, refl, sym, ◌∙◌, ap, subst}
+use Rattle.std.proofs.Common.{◌≡◌, ℕ, ◌+◌, ◌-◌, ◌*◌, ◌/◌, ◌<◌, ◌^◌, ◌&&◌, drop}
+use Rattle.std.proofs.Common.{length, length-append, max, replicate, take, arith, true, false, Bool, cond, List, []}
+use Rattle.std.proofs.Common.{◌∷◌, ◌++◌, Option, Some, None, IsSome, Result, Ok, Err, option_map, slice_get}
+use Rattle.std.proofs.Common.{find, inl, inr, ◌==◌, refl, sym, ◌∙◌, ap, subst}
 use Rattle.std.proofs.lemmas.Bool.{lt-leb}
+use Rattle.std.proofs.lemmas.List.{length-drop, length-replicate, length-take}
 use Rattle.std.specs.List.{AllByRecursion}
-use Rattle.std.specs.Prelude.{is_some}
+use Rattle.std.specs.Prelude.{MatchResult, is_some}
 use Rattle.nfs_wire.specs.declared.attributes.Time.{Time}
 use Rattle.nfs_wire.specs.declared.status.NfsStatus.{NfsStatus}
+use Rattle.std.specs.Cmp.{unsigned_Decides}
+use Rattle.std.specs.FinMap.{get}
+use Rattle.nfs_machine.specs.Attributes.{block, used_of}
 use Rattle.nfs_machine.specs.Bytes.{same_bytes}
+use Rattle.nfs_machine.specs.Data.{resized, written}
 use Rattle.nfs_machine.specs.Checks.{DirectoryEntries, bytes_in, entries_in}
 use Rattle.nfs_machine.specs.RemoveSteps.{without}
-use Rattle.nfs_machine.specs.Shown.{touched, with_content}
+use Rattle.nfs_machine.specs.Shown.{touched, with_content, with_object}
 use Rattle.nfs_machine.specs.State.{Entry, Living, State}
 use Rattle.nfs_machine.specs.State as machine
 use Rattle.nfs_machine.specs.Times.{touch}
 use Rattle.nfs_objects.proofs.Promised.{turns-both, turns-none}
 use Rattle.nfs_objects.proofs.Seen.{shown-stands, written-append}
 use Rattle.nfs_objects.proofs.Turns.{edit-turns, free-turns, new-turns}
-use Rattle.nfs_objects.specs.Asks.{IsFirst}
+use Rattle.nfs_objects.specs.Asks.{IsFirst, Lives}
 use Rattle.nfs_objects.specs.Drafts.{MayGive}
-use Rattle.nfs_objects.specs.Edits.{edited, freed, with_living, with_new}
+use Rattle.nfs_objects.proofs.Tallies.{get-removed}
+use Rattle.nfs_objects.specs.Edits.{counted_anew, edited, freed, recounted, with_living, with_new}
 use Rattle.nfs_objects.specs.Entries.{leaf_of}
 use Rattle.nfs_objects.specs.Fits.{Fits, vacant}
 use Rattle.nfs_objects.specs.Knows.{Knows, Turns}
-use Rattle.nfs_objects.specs.Stands.{Kept, Represents, content_of, inode_of, living_of, living_of_inode, parent_in}
+use Rattle.nfs_objects.specs.Stands.{IsFitting, Kept, Represents, content_of, inode_of, living_of, living_of_inode}
+use Rattle.nfs_objects.specs.Stands.{parent_in}
 use Rattle.nfs_objects.specs.Store.{Store, with_writes}
+use Rattle.nfs_objects.specs.Sums.{exchanged, exchanged_at, group_of, in_export, is_same_usage, moved, no_usage}
+use Rattle.nfs_objects.specs.Sums.{one_using, shares_of}
 use Rattle.nfs_objects.specs.Values.{DraftValue, Seen, ViewValue, is_addr, known_at, seen_at, with_written}
 use Rattle.nfs_objects.specs.declared.address.Addr.{Addr}
 use Rattle.nfs_objects.specs.declared.address.Addr.TheVariants as addresses
+use Rattle.nfs_objects.specs.declared.change.Halt.{Halt}
 use Rattle.nfs_objects.specs.declared.directory.Directory.{Directory}
 use Rattle.nfs_objects.specs.declared.object.Content.{Content}
 use Rattle.nfs_objects.specs.declared.object.Content.TheVariants as contents
 use Rattle.nfs_objects.specs.declared.object.Inode.{Inode}
 use Rattle.nfs_objects.specs.declared.object.Object.{Object}
 use Rattle.nfs_objects.specs.declared.object.Object.TheVariants as objects
+use Rattle.nfs_objects.specs.declared.usage.Usage.{Usage}
 use Rattle.nfs_objects.specs.declared.view.Reserved.{Reserved}
+use Rattle.nfs_inodes.proofs.Counting.{no-share}
+use Rattle.nfs_inodes.proofs.Halting.{stops-before}
+use Rattle.nfs_inodes.proofs.Keeping.{changed-is, put-there}
 use Rattle.nfs_inodes.proofs.Standing.{lives-there}
+use Rattle.nfs_inodes.specs.Counts.{IsShareOf, KeepsInodes, uncounted}
 use Rattle.nfs_inodes.specs.Known.{HasInode}
-use Rattle.nfs_inodes.specs.Makes.{IsFree, bytes_changed, changed_at, name_added, name_taken, with_bytes, with_name, without_name}
+use Rattle.nfs_inodes.specs.Sets.{attributes_changed, with_settings}
+use Rattle.nfs_inodes.specs.declared.setting.Settings.{Settings}
+use Rattle.nfs_inodes.specs.Makes.{IsFree, bytes_changed, changed_at, changed_with, name_added, name_taken, removed, with_bytes, with_name, without_name}
+use Rattle.nfs_inodes.specs.Stops.{StopsAt, StopsCounting, StopsMaking}
+use Rattle.nfs_inodes.specs.declared.usage.Share.{Share}
 
 -- the same change, in each store
 pub turns-as : (old new : DraftValue) (f g : Kept → Kept)
@@ -48,7 +70,7 @@ turns-as old new f g same turns = record {
   turns = λ s k fits stands. subst (Represents (with_writes s new.writes)) (same s k fits stands) (turns.turns s k fits stands);
 }
 
-known-inode : (d : DraftValue) (n : ℕ) (i : Inode) → HasInode d n (Some i) → known_at d (addresses.Inode n) ≡ Some (Some (objects.Inode i))
+pub known-inode : (d : DraftValue) (n : ℕ) (i : Inode) → HasInode d n (Some i) → known_at d (addresses.Inode n) ≡ Some (Some (objects.Inode i))
 known-inode d n i has = has.known ∙ by has.object has.is
   where
     by : (o : Option Object) → Some i ≡ inode_of o → Some o ≡ Some (Some (objects.Inode i))
@@ -56,6 +78,7 @@ known-inode d n i has = has.known ∙ by has.object has.is
     by (Some (objects.Exports table)) e = cc
     by (Some (objects.Inode j)) e = let same : i ≡ j = cc in ap (λ x. Some (Some (objects.Inode x))) (sym same)
     by (Some (objects.Mounts table)) e = cc
+    by (Some (objects.Usage u)) e = cc
 
 -- what is of another kind stays
 abbrev read-so : (List ℕ → Option Living) → Result (List ℕ) NfsStatus → Option Living
@@ -99,44 +122,79 @@ pub no-entry : (o : Option Entry) → false ≡ is_some (option_map leaf_of o) �
 no-entry None e = refl
 no-entry (Some x) e = cc
 
+-- the file of an inode, with other bytes
+with-bytes : (i : Inode) (old content : List ℕ) (now : Time) (change : List ℕ → List ℕ)
+    → i.content ≡ contents.Regular old → content ≡ change old
+    → with_bytes now change (living_of_inode i) ≡ Some
+    (with_content (living_of_inode i) now (machine.Regular content))
+with-bytes i old content now change was is =
+    ap (λ c. with_bytes now change (record (living_of_inode i) { content = content_of c })) was
+    ∙ ap (λ b. Some (with_content (living_of_inode i) now (machine.Regular b))) (sym is)
+
 module _ (d : DraftValue) (n : ℕ) where
   abbrev put : Inode → DraftValue
   put j = with_written d (addresses.Inode n) (Some (objects.Inode j))
 
-  -- ---- a change that may leave the object
-  module _ (change : Living → Option Living) where
+  -- ---- a change that may leave the object, with a count of links that comes of the one before it
+  module _ (change : Living → Option Living) (links : ℕ → ℕ) where
     abbrev over : Kept → Option Living → Kept
-    over k o = elim o [ None ↦ k | Some o ↦ elim (change o) [ None ↦ k | Some p ↦ with_living k n p (k.links n) (k.parents n) ] ]
+    over k o = elim o [ None ↦ k | Some o ↦ elim (change o) [ None ↦ k | Some p ↦ with_living k n p (links (k.links n)) (k.parents n) ] ]
 
     abbrev into : Kept → Option Living → Kept
-    into k p = elim p [ None ↦ k | Some p ↦ with_living k n p (k.links n) (k.parents n) ]
+    into k p = elim p [ None ↦ k | Some p ↦ with_living k n p (links (k.links n)) (k.parents n) ]
 
+    abbrev op : Kept → Kept
+    op k = changed_with k n (links (k.links n)) change
+
+    pub none-turns-with : HasInode d n None → Turns d d op
+    none-turns-with has = turns-as d d (λ k. k) op (λ s k fits stands. sym (ap (over k) (lives-there d n None has s k fits stands))) (turns-none d)
+
+    pub same-turns-with : (i : Inode) → HasInode d n (Some i) → change (living_of_inode i) ≡ None → Turns d d op
+    same-turns-with i has is =
+        turns-as d d (λ k. k) op (λ s k fits stands. sym (ap (over k) (lives-there d n (Some i) has s k fits stands) ∙ ap (into k) is)) (turns-none d)
+
+    pub put-turns-with : (i j : Inode) → HasInode d n (Some i) → change (living_of_inode i) ≡ Some (living_of_inode j) → j.links ≡ links i.links → parent_in j.content ≡ parent_in i.content
+        → j.generation ≡ i.generation → IsFitting n j → Turns d (put j) op
+    put-turns-with i j has is linked under generation fits =
+        turns-as d (put j) (λ k. edited k n (λ o. living_of_inode j) links) op
+        (λ s k fit stands. (let lives = lives-there d n (Some i) has s k fit stands in
+        ap (λ (o : Option Living). elim o [ None ↦ k | Some o ↦ with_living k n (living_of_inode j) (links (k.links n)) (k.parents n) ]) lives
+        ∙ sym (ap (over k) lives ∙ ap (into k) is)))
+        (edit-turns d n i j (λ o. living_of_inode j) links (known-inode d n i has) refl linked under generation fits)
+
+  -- the same where the count stays
+  module _ (change : Living → Option Living) where
     pub none-turns : HasInode d n None → Turns d d (λ k. changed_at k n change)
-    none-turns has = turns-as d d (λ k. k) (λ k. changed_at k n change) (λ s k fits stands. sym (ap (over k) (lives-there d n None has s k fits stands))) (turns-none d)
+    none-turns = none-turns-with change (λ l. l)
 
     pub same-turns : (i : Inode) → HasInode d n (Some i) → change (living_of_inode i) ≡ None → Turns d d (λ k. changed_at k n change)
-    same-turns i has is =
-        turns-as d d (λ k. k) (λ k. changed_at k n change) (λ s k fits stands. sym (ap (over k) (lives-there d n (Some i) has s k fits stands) ∙ ap (into k) is)) (turns-none d)
+    same-turns = same-turns-with change (λ l. l)
 
     pub put-turns : (i j : Inode) → HasInode d n (Some i) → change (living_of_inode i) ≡ Some (living_of_inode j) → j.links ≡ i.links → parent_in j.content ≡ parent_in i.content
-        → j.generation ≡ i.generation → Turns d (put j) (λ k. changed_at k n change)
-    put-turns i j has is linked under generation =
-        turns-as d (put j) (λ k. edited k n (λ o. living_of_inode j) (λ l. l)) (λ k. changed_at k n change)
-        (λ s k fits stands. (let lives = lives-there d n (Some i) has s k fits stands in
-        ap (λ (o : Option Living). elim o [ None ↦ k | Some o ↦ with_living k n (living_of_inode j) (k.links n) (k.parents n) ]) lives
-        ∙ sym (ap (over k) lives ∙ ap (into k) is)))
-        (edit-turns d n i j (λ o. living_of_inode j) (λ l. l) (known-inode d n i has) refl linked under generation)
+        → j.generation ≡ i.generation → IsFitting n j → Turns d (put j) (λ k. changed_at k n change)
+    put-turns = put-turns-with change (λ l. l)
 
   -- ---- the bytes of a file
-  pub written-turns : (new : DraftValue) (i j : Inode) (old content : List ℕ) (now : Time) (change : List ℕ → List ℕ) → HasInode d n (Some i) → i.content ≡ contents.Regular old
+  bytes-turns : (new : DraftValue) (i j : Inode) (old content : List ℕ) (now : Time) (change : List ℕ → List ℕ)
+      → HasInode d n (Some i) → i.content ≡ contents.Regular old
       → content ≡ change old → j ≡ record i { content = contents.Regular content; modified = touch i.changed now; changed = touch i.changed now } → new ≡ put j
-      → Turns d new (bytes_changed now n change)
-  written-turns new i j old content now change has was is made put-is =
+      → IsFitting n j → Turns d new (λ k. changed_at k n (with_bytes now change))
+  bytes-turns new i j old content now change has was is made put-is fits =
       let j1 : Inode = record i { content = contents.Regular content; modified = touch i.changed now; changed = touch i.changed now } in
-      subst (λ (x : DraftValue). Turns d x (bytes_changed now n change)) (sym (put-is ∙ ap put made))
+      subst (λ (x : DraftValue). Turns d x (λ k. changed_at k n (with_bytes now change)))
+      (sym (put-is ∙ ap put made))
       (put-turns (with_bytes now change) i j1 has
-      (ap (λ c. with_bytes now change (record (living_of_inode i) { content = content_of c })) was ∙ ap (λ b. Some (with_content (living_of_inode i) now (machine.Regular b))) (sym is))
-      refl (sym (ap parent_in was)) refl)
+      (with-bytes i old content now change was is)
+      refl (sym (ap parent_in was)) refl (subst (IsFitting n) made fits))
+
+  -- ---- the attributes of an object
+  pub set-turns : (new : DraftValue) (i j : Inode) (set : Settings) → HasInode d n (Some i)
+      → j ≡ record i { mode = set.mode; uid = set.uid; gid = set.gid; accessed = set.accessed; modified = set.modified; changed = set.changed; verifier = None } → new ≡ put j
+      → IsFitting n j → Turns d new (attributes_changed n set)
+  set-turns new i j set has made put-is fits =
+      let j1 : Inode = record i { mode = set.mode; uid = set.uid; gid = set.gid; accessed = set.accessed; modified = set.modified; changed = set.changed; verifier = None } in
+      subst (λ (x : DraftValue). Turns d x (attributes_changed n set)) (sym (put-is ∙ ap put made))
+      (put-turns (λ o. Some (with_settings set o)) i j1 has refl refl refl refl (subst (IsFitting n) made fits))
 
   -- ---- an object with one link less
   pub unlinked-none : (now : Time) → HasInode d n None → Turns d d (λ k. edited k n (λ o. touched o now) (λ l. l - 1))
@@ -146,28 +204,32 @@ module _ (d : DraftValue) (n : ℕ) where
       (lives-there d n None has s k fits stands)))
       (turns-none d)
 
-  pub unlinked-turns : (new : DraftValue) (i j : Inode) (now : Time) → HasInode d n (Some i) → j ≡ record i { links = i.links - 1; changed = touch i.changed now } → new ≡ put j
+  pub unlinked-turns : (new : DraftValue) (i j : Inode) (now : Time) → HasInode d n (Some i)
+      → j ≡ record i { links = i.links - 1; changed = touch i.changed now } → new ≡ put j → IsFitting n j
       → Turns d new (λ k. edited k n (λ o. touched o now) (λ l. l - 1))
-  unlinked-turns new i j now has made put-is =
+  unlinked-turns new i j now has made put-is fits =
       subst (λ (x : DraftValue). Turns d x (λ k. edited k n (λ o. touched o now) (λ l. l - 1))) (sym (put-is ∙ ap put made))
-      (edit-turns d n i (record i { links = i.links - 1; changed = touch i.changed now }) (λ o. touched o now) (λ l. l - 1) (known-inode d n i has) refl refl refl refl)
+      (edit-turns d n i (record i { links = i.links - 1; changed = touch i.changed now }) (λ o. touched o now)
+      (λ l. l - 1) (known-inode d n i has) refl refl refl refl (subst (IsFitting n) made fits))
 
-  pub freed-turns : (new : DraftValue) → new ≡ with_written d (addresses.Inode n) None → Turns d new (λ k. freed k n)
+  freed-turns : (new : DraftValue) → new ≡ with_written d (addresses.Inode n) None → Turns d new (λ k. freed k n)
   freed-turns new is = subst (λ (x : DraftValue). Turns d x (λ k. freed k n)) (sym is) (free-turns d n)
 
   -- ---- the names of a directory
   pub taken-turns : (new : DraftValue) (i j : Inode) (old narrower : Directory) (now : Time) (name : List ℕ) → HasInode d n (Some i) → i.content ≡ contents.Directory old
       → narrower ≡ record old { entries = without old.entries name }
       → j ≡ record i { content = contents.Directory narrower; modified = touch i.changed now; changed = touch i.changed now } → new ≡ put j
-      → Turns d new (name_taken now n name)
-  taken-turns new i j old narrower now name has was is made put-is =
+      → IsFitting n j → Turns d new (name_taken now n name)
+  taken-turns new i j old narrower now name has was is made put-is fits =
       let made-as : Directory → Inode = λ x. record i { content = contents.Directory x; modified = touch i.changed now; changed = touch i.changed now } in
       let less : Directory = record old { entries = without old.entries name } in
       subst (λ (x : DraftValue). Turns d x (name_taken now n name)) (sym (put-is ∙ ap put (made ∙ ap made-as is)))
       (put-turns (without_name now name) i (made-as less) has
-      (ap (λ c. without_name now name (record (living_of_inode i) { content = content_of c })) was) refl (sym (ap parent_in was)) refl)
+      (ap (λ c. without_name now name (record (living_of_inode i) { content = content_of c })) was) refl
+      (sym (ap parent_in was)) refl
+      (subst (IsFitting n) (made ∙ ap made-as is) fits))
 
-  module _ (i : Inode) (old : Directory) (now : Time) (name : List ℕ) (number cookie : ℕ) (has : HasInode d n (Some i)) (was : i.content ≡ contents.Directory old) where
+  module _ (i : Inode) (old : Directory) (now : Time) (name : List ℕ) (number cookie links : ℕ) (has : HasInode d n (Some i)) (was : i.content ≡ contents.Directory old) where
     abbrev new-entry : Entry
     new-entry = record { name = name; number = number; cookie = cookie }
 
@@ -177,18 +239,20 @@ module _ (d : DraftValue) (n : ℕ) where
     added-change : (f : Option Entry) → find (λ (e : Entry). same_bytes e.name name) old.entries ≡ f → with_name now new-entry (living_of_inode i) ≡ over-entry f
     added-change f is = ap (λ c. with_name now new-entry (record (living_of_inode i) { content = content_of c })) was ∙ ap over-entry is
 
-    pub kept-turns : (e : Entry) → find (λ (e : Entry). same_bytes e.name name) old.entries ≡ Some e → Turns d d (name_added now n new-entry)
-    kept-turns e there = same-turns (with_name now new-entry) i has (added-change (Some e) there)
+    pub kept-turns : (e : Entry) → find (λ (e : Entry). same_bytes e.name name) old.entries ≡ Some e → Turns d d (name_added now n links new-entry)
+    kept-turns e there = same-turns-with (with_name now new-entry) (λ l. links) i has (added-change (Some e) there)
 
     pub added-turns : (new : DraftValue) (j : Inode) (wider : Directory) → find (λ (e : Entry). same_bytes e.name name) old.entries ≡ None
         → wider ≡ record old { last_cookie = cookie; entries = old.entries ++ new-entry ∷ [] }
-        → j ≡ record i { content = contents.Directory wider; modified = touch i.changed now; changed = touch i.changed now } → new ≡ put j
-        → Turns d new (name_added now n new-entry)
-    added-turns new j wider absent is made put-is =
-        let made-as : Directory → Inode = λ x. record i { content = contents.Directory x; modified = touch i.changed now; changed = touch i.changed now } in
+        → j ≡ record i { content = contents.Directory wider; modified = touch i.changed now; changed = touch i.changed now; links = links } → new ≡ put j
+        → IsFitting n j → Turns d new (name_added now n links new-entry)
+    added-turns new j wider absent is made put-is fits =
+        let made-as : Directory → Inode = λ x. record i { content = contents.Directory x; modified = touch i.changed now; changed = touch i.changed now; links = links } in
         let more : Directory = record old { last_cookie = cookie; entries = old.entries ++ new-entry ∷ [] } in
-        subst (λ (x : DraftValue). Turns d x (name_added now n new-entry)) (sym (put-is ∙ ap put (made ∙ ap made-as is)))
-        (put-turns (with_name now new-entry) i (made-as more) has (added-change None absent) refl (sym (ap parent_in was)) refl)
+        subst (λ (x : DraftValue). Turns d x (name_added now n links new-entry)) (sym (put-is ∙ ap put (made ∙ ap made-as is)))
+        (put-turns-with (with_name now new-entry) (λ l. links) i (made-as more) has (added-change None absent) refl
+        (sym (ap parent_in was)) refl
+        (subst (IsFitting n) (made ∙ ap made-as is) fits))
 
   -- what was known stays known
   pub knows-on : (new : DraftValue) (o : Option Object) → new ≡ with_written d (addresses.Inode n) o → (a : Addr) → IsSome (known_at d a) → IsSome (known_at new a)
@@ -219,15 +283,261 @@ first-free d r none first number generation s k w =
     }
 
 -- a new object with the number and generation that were reserved, once its directory has its name
-pub made-turns : (old mid new : DraftValue) (f : Kept → Kept) (r : Reserved) (i : Inode) (o : Living) → Turns old mid f → new ≡ with_written mid (addresses.Inode r.number) (Some (objects.Inode i))
-    → living_of_inode i ≡ o → i.links ≡ 1 → parent_in i.content ≡ 0 → Turns old new (λ k. with_new (f k) r.number o 1 0)
-made-turns old mid new f r i o turns is lives linked under =
-    turns-both old mid new f (λ k. with_new k r.number o 1 0) turns
-    (subst (λ (x : DraftValue). Turns mid x (λ k. with_new k r.number o 1 0)) (sym is)
-    (subst (λ (l : Living). Turns mid (with_written mid (addresses.Inode r.number) (Some (objects.Inode i))) (λ k. with_new k r.number l 1 0)) lives
-    (subst (λ l. Turns mid (with_written mid (addresses.Inode r.number) (Some (objects.Inode i))) (λ k. with_new k r.number (living_of_inode i) l 0)) linked
-    (subst (λ p. Turns mid (with_written mid (addresses.Inode r.number) (Some (objects.Inode i))) (λ k. with_new k r.number (living_of_inode i) i.links p)) under
-    (new-turns mid r.number i)))))
+put-new-turns : (old mid new : DraftValue) (f : Kept → Kept) (r : Reserved) (i : Inode) (o : Living)
+    (links parent : ℕ)
+    → Turns old mid f → new ≡ with_written mid (addresses.Inode r.number) (Some (objects.Inode i))
+    → living_of_inode i ≡ o → i.links ≡ links → parent_in i.content ≡ parent → IsFitting r.number i
+    → Turns old new (λ k. with_new (f k) r.number o links parent)
+put-new-turns old mid new f r i o links parent turns is lives linked under fits =
+    let put : DraftValue = with_written mid (addresses.Inode r.number) (Some (objects.Inode i)) in
+    turns-both old mid new f (λ k. with_new k r.number o links parent) turns
+    (subst (λ (x : DraftValue). Turns mid x (λ k. with_new k r.number o links parent)) (sym is)
+    (subst (λ (l : Living). Turns mid put (λ k. with_new k r.number l links parent)) lives
+    (subst (λ l. Turns mid put (λ k. with_new k r.number (living_of_inode i) l parent)) linked
+    (subst (λ p. Turns mid put (λ k. with_new k r.number (living_of_inode i) i.links p)) under
+    (new-turns mid r.number i fits)))))
+
+-- ---- what is counted anew
+-- shares that are the same in each export
+same-shares : (n : ℕ) (usage : ℕ → ℕ → Usage) (a b c d : ℕ → Usage) → ((e : ℕ) → a e ≡ c e)
+    → ((e : ℕ) → b e ≡ d e)
+    → exchanged_at n a b usage ≡ exchanged_at n c d usage
+same-shares n usage a b c d before after = λ i. exchanged_at n (λ e. before e i) (λ e. after e i) usage
+
+has-kept : (d mid : DraftValue) (n : ℕ) (i : Option Inode) → KeepsInodes d mid → HasInode d n i
+    → HasInode mid n i
+has-kept d mid n i keeps has = record { object = has.object; known = keeps n ∙ has.known; is = has.is }
+
+-- the object at a number has another share of this export
+abbrev counted : (number export : ℕ) → (before after : Usage) → Kept → Kept
+counted number export before after k = recounted number (in_export export before) (in_export export after) k
+
+-- the bytes of a file, once its group is counted anew
+module _ (d mid new : DraftValue) (n : ℕ) (i j : Inode) (old content : List ℕ) (now : Time)
+    (change : List ℕ → List ℕ) where
+  abbrev file : Living
+  file = with_content (living_of_inode i) now (machine.Regular content)
+
+  pub written-turns : (share : Share) (after : Usage) → HasInode d n (Some i) → i.content ≡ contents.Regular old
+      → content ≡ change old
+      → j ≡ record i {
+        content = contents.Regular content;
+        modified = touch i.changed now;
+        changed = touch
+            i.changed now;
+      }
+      → IsShareOf i share → after ≡ one_using (used_of (machine.Regular content))
+      → Turns d mid (recounted n (in_export share.export share.usage) (in_export share.export after))
+      → KeepsInodes d mid
+      → new ≡ with_written mid (addresses.Inode n) (Some (objects.Inode j)) → IsFitting n j
+      → Turns d new (bytes_changed now n change)
+  written-turns share after has was is made shares uses counts keeps put-is fits =
+      turns-as d new (λ k. changed_at (counted n share.export share.usage after k) n (with_bytes now change))
+      (bytes_changed now n change) (λ s k stand represents.
+      let lives : get k.state.objects n ≡ Some (living_of_inode i) = lives-there d n (Some i) has s k stand
+      represents in
+      let changed = with-bytes i old content now change was is in
+      changed-is (counted n share.export share.usage after k) n (k.links n) (with_bytes now change) (living_of_inode i)
+      file lives changed
+      ∙ ap (λ u. record (with_living k n file (k.links n) (k.parents n)) { usage = u })
+      (same-shares n k.usage (in_export share.export share.usage) (in_export share.export after)
+      (shares_of (get k.state.objects n)) (shares_of (get (with_object k.state n file).objects n))
+      (λ e. ap (λ (x : Share). in_export x.export x.usage e) shares ∙ ap (λ p. shares_of p e) (sym lives))
+      (λ e. ap (λ (x : Share). in_export x.export after e) shares ∙ ap (λ u. in_export i.export u e) uses
+      ∙ ap (λ p. shares_of p e) (sym (put-there k.state n file))))
+      ∙ ap (λ (q : Kept). counted_anew n (get k.state.objects n) q)
+      (sym (changed-is k n (k.links n) (with_bytes now change) (living_of_inode i) file lives changed)))
+      (turns-both d mid new (counted n share.export share.usage after)
+      (λ k. changed_at k n (with_bytes now change)) counts
+      (bytes-turns mid n new i j old content now change (has-kept d mid n (Some i) keeps has) was is made put-is fits))
+
+-- ---- why it may be asked for
+pub object-stops : (d : DraftValue) (n : ℕ) (halt : Halt) → StopsAt d (addresses.Inode n) halt
+    → StopsCounting d n halt
+object-stops d n halt stops = λ named bounded lives. stops named bounded
+
+pub making-stops : (d : DraftValue) (a : Addr) (export : ℕ) (halt : Halt) → StopsAt d a halt
+    → StopsMaking d a export halt
+making-stops d a export halt stops = λ named bounded usage. stops named bounded
+
+pub counting-stops : (old mid : DraftValue) (op : Kept → Kept) (a : Addr) (export number : ℕ) (halt : Halt)
+    → Turns old mid op
+    → StopsAt mid (addresses.Usage export (group_of number)) halt → StopsMaking old a export halt
+counting-stops old mid op a export number halt turns stops = λ named bounded usage.
+    stops-before old mid op (addresses.Usage export (group_of number)) halt turns stops named (inl (usage number))
+
+pub all-stops : {A : Type 0} (d : DraftValue) (n : ℕ) (P : A → Type 0) (r : Result A Halt)
+    → MatchResult r P (StopsAt d (addresses.Inode n))
+    → MatchResult r P (StopsCounting d n)
+all-stops d n P (Ok x) does = does
+all-stops d n P (Err halt) stops = object-stops d n halt stops
+
+pub usage-stops : (d : DraftValue) (n : ℕ) (i : Inode) (share : Share) (halt : Halt) → HasInode d n (Some i)
+    → IsShareOf i share
+    → StopsAt d (addresses.Usage share.export (group_of n)) halt → StopsCounting d n halt
+usage-stops d n i share halt has shares stops = λ named bounded lives.
+    stops named (inr (subst (λ e. Lives d.view (addresses.Usage e (group_of n)))
+    (sym (ap (λ (x : Share). x.export) shares))
+    (lives i (known-inode d n i has))))
+
+-- what stays is counted as it was
+same-counts : (d : DraftValue) (n : ℕ) (op : Kept → Kept) → Turns d d op
+    → ((s : Store) (k : Kept) → Fits d.view s → Represents (with_writes s d.writes) k → op k ≡ k)
+    → Turns d d (λ k. counted_anew n (get k.state.objects n) (op k))
+same-counts d n op turns same =
+    turns-as d d (λ k. k) (λ k. counted_anew n (get k.state.objects n) (op k)) (λ s k stand represents.
+    sym (ap (λ (q : Kept). counted_anew n (get k.state.objects n) q) (same s k stand represents)
+    ∙ ap (λ u. record k { usage = u }) (as-before k)))
+    (turns-none d)
+  where
+    itself : (u : Usage) → is_same_usage u u ≡ true
+    itself u = ap (λ b. b && (u.objects == u.objects)) ((unsigned_Decides u.used u.used).1 refl)
+        ∙ (unsigned_Decides u.objects u.objects).1 refl
+
+    stays : (share u : Usage) (b : Bool) → cond b (exchanged share share u) u ≡ u
+    stays share u true = ap (λ b. cond b u (moved share share u)) (itself share)
+    stays share u false = refl
+
+    as-before : (k : Kept) → (counted_anew n (get k.state.objects n) k).usage ≡ k.usage
+    as-before k = λ i e g. stays (shares_of (get k.state.objects n) e) (k.usage e g) (group_of n == g) i
+
+module _ (d : DraftValue) (n : ℕ) (change : Living → Option Living) where
+  pub none-counted : HasInode d n None
+      → Turns d d (λ k. counted_anew n (get k.state.objects n) (changed_at k n change))
+  none-counted has = same-counts d n (λ k. changed_at k n change) (none-turns d n change has)
+      (λ s k stand represents. ap (over d n change (λ l. l) k) (lives-there d n None has s k stand represents))
+
+  pub same-counted : (i : Inode) → HasInode d n (Some i) → change (living_of_inode i) ≡ None
+      → Turns d d (λ k. counted_anew n (get k.state.objects n) (changed_at k n change))
+  same-counted i has is = same-counts d n (λ k. changed_at k n change) (same-turns d n change i has is)
+      (λ s k stand represents. ap (over d n change (λ l. l) k) (lives-there d n (Some i) has s k stand represents)
+      ∙ ap (into d n change (λ l. l) k) is)
+
+-- ---- sizes
+resized-length : (bytes : List ℕ) (size : ℕ) → length (resized bytes size) ≡ size
+resized-length bytes size =
+    omega (
+      arith,
+      length-append (take size bytes) (replicate (size - length bytes) 0),
+      length-take size bytes,
+      length-replicate {A = ℕ} (size - length bytes) 0,
+    )
+
+pub resized-size : (old : List ℕ) (size : ℕ) (content : List ℕ) → content ≡ resized old size
+    → one_using ((size + 4095) / block * block) ≡ one_using (used_of (machine.Regular content))
+resized-size old size content is = ap (λ s. one_using ((s + 4095) / block * block))
+    (sym (ap length is ∙ resized-length old size))
+
+longest : (a b c : ℕ) → a + b + (c - (a + b)) ≡ max c (a + b)
+longest a b c = omega arith
+
+written-length : (old : List ℕ) (offset : ℕ) (more : List ℕ)
+    → length (written old offset more) ≡ max (length old) (offset + length more)
+written-length old offset more =
+    length-append (resized old offset ++ more) (drop (offset + length more) old)
+    ∙ ap (λ n. n + length (drop (offset + length more) old))
+    (length-append (resized old offset) more ∙ ap (λ n. n + length more) (resized-length old offset))
+    ∙ ap (λ n. offset + length more + n) (length-drop (offset + length more) old)
+    ∙ longest offset (length more) (length old)
+
+pub written-size : (old : List ℕ) (offset : ℕ) (more : List ℕ) (content : List ℕ) (size : ℕ)
+    → content ≡ written old offset more
+    → size ≡ max (length old) (offset + length more)
+    → one_using ((size + 4095) / block * block) ≡ one_using (used_of (machine.Regular content))
+written-size old offset more content size is sized =
+    ap (λ s. one_using ((s + 4095) / block * block)) (sized ∙ sym (ap length is ∙ written-length old offset more))
+
+-- an object that is counted no more
+pub uncounted-none : (d : DraftValue) (n : ℕ) → HasInode d n None → Turns d d (uncounted n)
+uncounted-none d n has =
+    turns-as d d (λ k. k) (uncounted n) (λ s k stand represents.
+    sym (ap (λ u. record k { usage = u }) (as-before k (lives-there d n None has s k stand represents))))
+    (turns-none d)
+  where
+    stays : (u : Usage) (b : Bool) → cond b (exchanged no_usage no_usage u) u ≡ u
+    stays u true = refl
+    stays u false = refl
+
+    group-stays : (k : Kept) → get k.state.objects n ≡ None → (e g : ℕ)
+        → (uncounted n k).usage e g ≡ k.usage e g
+    group-stays k lives e g =
+        ap (λ p. cond (group_of n == g) (exchanged (shares_of p e) no_usage (k.usage e g)) (k.usage e g)) lives
+        ∙ stays (k.usage e g) (group_of n == g)
+
+    as-before : (k : Kept) → get k.state.objects n ≡ None → (uncounted n k).usage ≡ k.usage
+    as-before k lives = λ i e g. group-stays k lives e g i
+
+pub uncounted-some : (d mid : DraftValue) (n : ℕ) (i : Inode) (share : Share) (none : Usage) → HasInode d n (Some i)
+    → IsShareOf i share → none ≡ no_usage
+    → Turns d mid (counted n share.export share.usage none) → Turns d mid (uncounted n)
+uncounted-some d mid n i share none has shares is counts =
+    turns-as d mid (counted n share.export share.usage none) (uncounted n) (λ s k stand represents.
+    ap (λ u. record k { usage = u })
+    (same-shares n k.usage (in_export share.export share.usage) (in_export share.export none)
+    (shares_of (get k.state.objects n)) (λ e. no_usage)
+    (λ e. ap (λ (x : Share). in_export x.export x.usage e) shares
+    ∙ ap (λ p. shares_of p e) (sym (lives-there d n (Some i) has s k stand represents)))
+    (λ e. ap (λ u. in_export share.export u e) is ∙ sym (no-share share.export e)))) counts
+
+-- the same of a result that is handed on
+pub uncounted-result : {A : Type 0} (d mid : DraftValue) (n : ℕ) (i : Inode) (share : Share) (none : Usage)
+    (r : Result A Halt) → HasInode d n (Some i) → IsShareOf i share
+    → none ≡ no_usage → MatchResult r (λ _. Turns d mid (counted n share.export share.usage none))
+    (StopsAt d (addresses.Usage share.export (group_of n)))
+    → MatchResult r (λ _. Turns d mid (uncounted n)) (StopsCounting d n)
+uncounted-result d mid n i share none (Ok x) has shares is counts = uncounted-some d mid n i share none has
+    shares is counts
+uncounted-result d mid n i share none (Err halt) has shares is stops = usage-stops d n i share halt has shares stops
+
+pub removed-turns : (d mid new : DraftValue) (n : ℕ) → Turns d mid (uncounted n)
+    → new ≡ with_written mid (addresses.Inode n) None
+    → Turns d new (removed n)
+removed-turns d mid new n counts is =
+    turns-as d new (λ k. freed (uncounted n k) n) (removed n) (λ s k stand represents.
+    ap (λ u. record (freed k n) { usage = u })
+    (same-shares n k.usage (shares_of (get k.state.objects n)) (λ e. no_usage)
+    (shares_of (get k.state.objects n)) (shares_of (get (freed k n).state.objects n))
+    (λ e. refl) (λ e. ap (λ p. shares_of p e) (sym (gone k)))))
+    (turns-both d mid new (uncounted n) (λ k. freed k n) counts (freed-turns mid n new is))
+  where
+    gone : (k : Kept) → get (freed k n).state.objects n ≡ None
+    gone k = get-removed k.state.objects n n
+        ∙ ap (λ b. cond b None (get k.state.objects n)) ((unsigned_Decides n n).1 refl)
+
+pub knows-kept : (d mid : DraftValue) (n : ℕ) → KeepsInodes d mid → IsSome (known_at d (addresses.Inode n))
+    → IsSome (known_at mid (addresses.Inode n))
+knows-kept d mid n keeps some = subst (λ x. IsSome x) (sym (keeps n)) some
+
+pub keeps-known : (d mid : DraftValue) (n : ℕ) (i : Option Inode) → HasInode d n i → KeepsInodes d mid
+    → IsSome (known_at mid (addresses.Inode n))
+keeps-known d mid n i has keeps = subst (λ x. IsSome x) (sym (keeps n ∙ has.known)) refl
+
+-- the inode keeps its generation
+pub keeps-generation : (d mid : DraftValue) (n : ℕ) (i : Inode) (generation : ℕ) → HasInode d n (Some i)
+    → KeepsInodes d mid → generation ≡ i.generation
+    → MayGive mid n generation
+keeps-generation d mid n i generation has keeps is = inl (i, keeps n ∙ known-inode d n i has, sym is)
+
+-- a new object, once its directory has its name and it is counted
+pub made-turns : (old mid late new : DraftValue) (f : Kept → Kept) (r : Reserved) (i : Inode) (o : Living)
+    (links parent export : ℕ) (after : Usage) → Turns old mid f
+    → Turns mid late (recounted r.number (in_export export no_usage) (in_export export after))
+    → new ≡ with_written late (addresses.Inode r.number) (Some (objects.Inode i))
+    → living_of_inode i ≡ o → i.links ≡ links → parent_in i.content ≡ parent → IsFitting r.number i
+    → export ≡ o.export → after ≡ one_using (used_of o.content)
+    → Turns old new (λ k. counted_anew r.number None (with_new (f k) r.number o links parent))
+made-turns old mid late new f r i o links parent export after turns counts is lives linked under fits exported uses =
+    turns-as old new (λ k. with_new (counted r.number export no_usage after (f k)) r.number o links parent)
+    (λ k. counted_anew r.number None (with_new (f k) r.number o links parent))
+    (λ s k stand represents.
+    ap (λ u. record (with_new (f k) r.number o links parent) { usage = u })
+    (same-shares r.number (f k).usage (in_export export no_usage) (in_export export after) (shares_of None)
+    (shares_of (get (with_object (f k).state r.number o).objects r.number))
+    (λ e. sym (no-share export e))
+    (λ e. ap (λ x. in_export x after e) exported ∙ ap (λ u. in_export o.export u e) uses
+    ∙ ap (λ p. shares_of p e) (sym (put-there (f k).state r.number o)))))
+    (put-new-turns old late new (λ k. counted r.number export no_usage after (f k)) r i o links parent
+    (turns-both old mid late f (counted r.number export no_usage after) turns counts) is lives linked under fits)
 
 -- the number may be given, as it might before
 pub may-give : (old new : DraftValue) (r : Reserved) (generation : ℕ) → new.view ≡ old.view → IsFirst old r → generation ≡ r.generation → MayGive new r.number generation

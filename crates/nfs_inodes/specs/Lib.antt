@@ -1,4 +1,12 @@
+pub mod Asked
+pub mod Counts
+pub mod Gathers
 pub mod Known
+pub mod Links
+pub mod Listing
 pub mod Makes
+pub mod Removes
+pub mod Renames
 pub mod Rights
+pub mod Sets
 pub mod Stops

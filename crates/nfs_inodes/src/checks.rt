@@ -1,8 +1,9 @@
 //! The checks that procedures share; each tells the status of a call that fails it (RFC 1813, 2.6).
 
-ghost use Rattle.std.specs.Prelude.{◌≡◌, IfOk};
-ghost use Rattle.nfs_machine.specs.Checks.{changeable, permitted};
-ghost use Rattle.nfs_machine.specs.State.{Socket};
+ghost use Rattle.std.specs.Prelude.{◌≡◌, IfOk, not};
+ghost use Rattle.nfs_machine.specs.Checks.{changeable, holding, is_writable, permitted};
+ghost use Rattle.nfs_machine.specs.State.{Content, Socket};
+ghost use Rattle.nfs_machine.specs.Attributes.{is_directory, type_of};
 ghost use Rattle.nfs_inodes.specs.Known.{ChecksDirectory, ChecksRegular, shell};
 ghost use Rattle.nfs_inodes.specs.Rights.{right_of};
 
@@ -43,6 +44,31 @@ pub fn regular(known: &Known) -> Result<File, NfsStatus>
     }
 }
 
+/// Whether the object may be changed: its export is there and not read only.
+pub fn is_writable(exports: &[LivingExport], known: &Known) -> bool
+    ensures { result ≡ is_writable exports.now (shell known.now Socket) }
+{
+    match export_at(exports, known.export) {
+        Some(export) => !export.is_read_only(),
+        None => false,
+    }
+}
+
+/// The object is anything but a directory.
+///
+/// # Errors
+///
+/// `status` where it is one.
+pub fn no_directory(status: NfsStatus, known: &Known) -> Result<(), NfsStatus>
+    ensures { (content : Content) → type_of content ≡ known.now.attributes.kind →
+        holding (not (is_directory content)) status ≡ result }
+{
+    match known.attributes.kind {
+        FileType::Directory => Err(status),
+        _ => Ok(()),
+    }
+}
+
 /// The object may be changed: its export is there and not read only.
 ///
 /// # Errors
@@ -51,9 +77,10 @@ pub fn regular(known: &Known) -> Result<File, NfsStatus>
 pub fn changeable(exports: &[LivingExport], known: &Known) -> Result<(), NfsStatus>
     ensures { result ≡ changeable exports.now (shell known.now Socket) }
 {
-    match export_at(exports, known.export) {
-        Some(export) if !export.is_read_only() => Ok(()),
-        _ => Err(NfsStatus::ReadOnly),
+    if is_writable(exports, known) {
+        Ok(())
+    } else {
+        Err(NfsStatus::ReadOnly)
     }
 }
 

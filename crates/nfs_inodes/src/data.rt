@@ -1,6 +1,7 @@
-//! What is read of a file, and the bounds of what is written (RFC 1813, 3.3.6 and 3.3.7).
+//! What is read of files and links, and the bounds of what is written (RFC 1813, 3.3.5 to 3.3.7).
 
 ghost use Rattle.std.specs.Prelude.{◌≡◌, ℕ, [], IfOk, MatchResult};
+ghost use Rattle.nfs_machine.specs.Checks.{text_in};
 ghost use Rattle.nfs_machine.specs.Data.{read_at};
 ghost use Rattle.nfs_machine.specs.DataSteps.{verifier_of};
 ghost use Rattle.nfs_objects.specs.Knows.{Knows};
@@ -8,12 +9,12 @@ ghost use Rattle.nfs_objects.specs.Stands.{content_of};
 ghost use Rattle.nfs_inodes.specs.Known.{bytes_of, content_at};
 ghost use Rattle.nfs_inodes.specs.Stops.{StopsAt};
 
-use crate::found::inode;
+use crate::found::{Known, inode};
 use crate::kinds::File;
 use bytes::Bytes;
 use nfs_machine::Ctx;
 use nfs_objects::{Addr, Content, Draft, Halt};
-use nfs_wire::{ReadData, Verifier};
+use nfs_wire::{NfsStatus, ReadData, Verifier};
 use std::alloc::AllocError;
 
 /// The most that one READ or WRITE carries, in bytes (RFC 1813, 3.3.19: rtmax, wtmax).
@@ -69,6 +70,31 @@ fn nothing_read() -> ReadData
         count: 0,
         eof: true,
         data: Bytes::new(),
+    }
+}
+
+/// The text of a link, with no copy; `Invalid` where the object is none.
+///
+/// # Errors
+///
+/// `Need` of what holds the text, and `Memory`.
+pub fn text(draft: &Draft<'_>, known: &Known) -> Result<Result<Bytes, NfsStatus>, Halt>
+    ensures { MatchResult result
+        (λ text. Knows draft.now (λ k. text_in (content_at k.state known.now.number) ≡ text))
+        (StopsAt draft.now (Addr.Inode known.now.number)) }
+{
+    match inode(draft, known.number)? {
+        Some(inode) => Ok(text_in(&inode.content)?),
+        None => Ok(Err(NfsStatus::Invalid)),
+    }
+}
+
+fn text_in(content: &Content) -> Result<Result<Bytes, NfsStatus>, AllocError>
+    ensures { IfOk result (λ text. text_in (content_of content.now) ≡ text) }
+{
+    match content {
+        Content::Link(text) => Ok(Ok(text.clone()?)),
+        _ => Ok(Err(NfsStatus::Invalid)),
     }
 }
 

@@ -1,6 +1,6 @@
 //! What names lead to (RFC 1813, 3.3.3).
 
-ghost use Rattle.std.specs.Prelude.{◌≡◌, [], IfOk, IfSome, MatchResult, ok_or, option_map};
+ghost use Rattle.std.specs.Prelude.{◌≡◌, ◌==◌, [], length, IfOk, IfSome, MatchResult, ok_or, option_map};
 ghost use Rattle.nfs_wire.specs.declared.status.NfsStatus.TheVariants as status;
 ghost use Rattle.nfs_machine.specs.Attributes.{entries_of};
 ghost use Rattle.nfs_machine.specs.Checks.{entry_of};
@@ -9,7 +9,7 @@ ghost use Rattle.nfs_objects.specs.Asks.{Lives};
 ghost use Rattle.nfs_objects.specs.Knows.{Knows};
 ghost use Rattle.nfs_objects.specs.Stands.{content_of, parent_in};
 ghost use Rattle.nfs_inodes.specs.Known.{IsKnown, content_at, last_cookie_of, next_cookie};
-ghost use Rattle.nfs_inodes.specs.Stops.{StopsAt};
+ghost use Rattle.nfs_inodes.specs.Stops.{ReadsAt, StopsAt};
 
 use crate::found::inode;
 use crate::kinds::Directory;
@@ -46,13 +46,14 @@ fn entry_in(content: &Content, name: &[u8]) -> Option<u64>
     }
 }
 
-/// The parent of a directory.
-fn parent(draft: &Draft<'_>, directory: &Directory) -> Result<u64, Halt>
-    ensures { MatchResult result
-        (λ parent. Knows draft.now (λ k. k.parents directory.now.known.number ≡ parent))
-        (StopsAt draft.now (Addr.Inode directory.now.known.number)) }
+/// The parent of the directory at a number; a root is its own.
+pub(crate) fn parent(draft: &Draft<'_>, number: u64) -> Result<u64, Halt>
+    ensures parent { MatchResult result
+        (λ parent. Knows draft.now (λ k. k.parents number ≡ parent))
+        (StopsAt draft.now (Addr.Inode number)) }
+    ensures reads { ReadsAt draft.now (Addr.Inode number) result }
 {
-    match inode(draft, directory.known.number)? {
+    match inode(draft, number)? {
         Some(inode) => Ok(parent_of(&inode.content)),
         None => Ok(0),
     }
@@ -87,9 +88,35 @@ pub fn leads_to(draft: &Draft<'_>, directory: &Directory, name: &[u8]) -> Result
         return Ok(Some(directory.known.number));
     }
     if is_above(name) {
-        return Ok(Some(parent(draft, directory)?));
+        return Ok(Some(parent(draft, directory.known.number)?));
     }
     entry(draft, directory, name)
+}
+
+/// Whether a directory has no entry.
+///
+/// # Errors
+///
+/// `Need` of the directory's address, and `Memory`.
+pub fn is_empty(draft: &Draft<'_>, directory: &Directory) -> Result<bool, Halt>
+    ensures { MatchResult result
+        (λ empty. Knows draft.now (λ k.
+        (length (entries_of (content_at k.state directory.now.known.number)) == 0) ≡ empty))
+        (StopsAt draft.now (Addr.Inode directory.now.known.number)) }
+{
+    match inode(draft, directory.known.number)? {
+        Some(inode) => Ok(is_empty_in(&inode.content)),
+        None => Ok(true),
+    }
+}
+
+fn is_empty_in(content: &Content) -> bool
+    ensures { result ≡ (length (entries_of (content_of content.now)) == 0) }
+{
+    match content {
+        Content::Directory(directory) => directory.entries.is_empty(),
+        _ => true,
+    }
 }
 
 /// The cookie of a directory's next entry, one above the greatest that it ever used (RFC 1813, 3.3.16); None where it

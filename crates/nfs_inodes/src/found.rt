@@ -1,7 +1,7 @@
 //! What lives at a number, and what a handle names (RFC 1813, 2.6: NFS3ERR_BADHANDLE, NFS3ERR_STALE).
 
-ghost use Rattle.std.specs.Prelude.{◌≡◌, ◌∷◌, [], ◌==◌, ◌&&◌, false, IfErr, IfOk, MatchResult};
-ghost use Rattle.std.specs.Prelude.{None, Some};
+ghost use Rattle.std.specs.Prelude.{◌≡◌, ◌∷◌, [], ◌==◌, ◌&&◌, false, IfErr, IfOk, IfSome, IsSome};
+ghost use Rattle.std.specs.Prelude.{MatchResult, None, Some};
 ghost use Rattle.std.specs.Prelude.{option_copied};
 ghost use Rattle.nfs_machine.specs.Bytes.{same_bytes};
 ghost use Rattle.nfs_machine.specs.Exports.{export_admits, export_at};
@@ -10,9 +10,11 @@ ghost use Rattle.nfs_machine.specs.State.{Socket};
 ghost use Rattle.nfs_objects.specs.Asks.{Lives};
 ghost use Rattle.nfs_objects.specs.Attempt.{HaltsFirst, unless_seen};
 ghost use Rattle.nfs_objects.specs.Knows.{Knows};
+ghost use Rattle.nfs_objects.specs.Only.{AsksNothing};
+ghost use Rattle.nfs_objects.specs.Values.{known_at};
 ghost use Rattle.nfs_inodes.specs.Known.{HasInode, IsKnownOf, IsObject, Means, is_handle_of, shell};
 ghost use Rattle.nfs_inodes.specs.Known.{weak_of};
-ghost use Rattle.nfs_inodes.specs.Stops.{ReadsAt, StopsAt, StopsBringing, wanted_first};
+ghost use Rattle.nfs_inodes.specs.Stops.{BringsUsage, ReadsAt, StopsAt, StopsBringing, wanted_first};
 
 use crate::attributes::{device, file_type, size, used};
 use bytes::Bytes;
@@ -65,6 +67,7 @@ pub fn object(draft: &Draft<'_>, number: u64) -> Result<Option<Known>, Halt>
     ensures object { MatchResult result
         (λ x. Knows draft.now (λ k. IsObject k.state number x))
         (StopsAt draft.now (Addr.Inode number)) }
+    ensures number { IfOk result (λ x. IfSome x (λ x. x.number ≡ number)) }
     ensures reads { ReadsAt draft.now (Addr.Inode number) result }
 {
     match inode(draft, number)? {
@@ -111,10 +114,17 @@ pub fn wcc(draft: &Draft<'_>, before: &Known) -> Result<Wcc, Halt>
         (StopsAt draft.now (Addr.Inode before.now.number)) }
 {
     let after = shown(draft, before.number)?;
-    Ok(Wcc {
+    Ok(wcc_of(before, after))
+}
+
+/// The same of attributes that are known.
+pub fn wcc_of(before: &Known, after: Option<Attributes>) -> Wcc
+    ensures { result ≡ record { before = Some (weak_of before.now); after = after } }
+{
+    Wcc {
         before: Some(weak(before)),
         after,
-    })
+    }
 }
 
 /// What a handle names for the caller, or the status of a call that brings it. The exports are read first, and then the
@@ -127,8 +137,12 @@ pub fn named(draft: &Draft<'_>, handle: &[u8]) -> Result<Result<Known, NfsStatus
     requires { draft.now.writes ≡ [] }
     ensures means { IfOk result (λ found. Knows draft.now (Means draft.now.ctx handle.now found)) }
     ensures lives { IfOk result (λ found. IfOk found (λ x. Lives draft.now.view (Addr.Inode x.number))) }
+    ensures usage { IfOk result (λ found. IfOk found (λ x. BringsUsage handle.now x.export)) }
     ensures stops { IfErr result (StopsBringing draft.now handle.now) }
     ensures first { HaltsFirst draft.now.modes (wanted_first draft.now.view (handle.now ∷ [])) result }
+    ensures once { wanted_first draft.now.view (handle.now ∷ []) ≡ None → AsksNothing result }
+    ensures reads { IfOk result (λ found. IsSome (known_at draft.now Addr.Exports)
+        × IfOk found (λ x. IsSome (known_at draft.now (Addr.Inode x.number)))) }
 {
     let exports = exports(draft)?;
     let Some(handle) = Handle::read(handle) else {

@@ -6,26 +6,47 @@
 //! be there: then it changes nothing, as its contract says. No inode is shown above this crate.
 #![tactic(auto)]
 
+pub mod asked;
 mod attributes;
 pub mod checks;
 mod content;
 pub mod data;
 pub mod entries;
 pub mod found;
+pub mod gather;
 pub mod kinds;
+pub mod linking;
+pub mod listing;
 pub mod makers;
 pub mod making;
 pub mod names;
 pub mod permission;
+pub mod removing;
+pub mod renaming;
+pub mod setting;
 pub mod times;
+pub mod tree;
+mod usage;
 
-pub use checks::{changeable, directory, permitted, regular};
-pub use data::{SIZE_LIMIT, TRANSFER_LIMIT, read, verifier};
-pub use entries::{entry, leads_to, next_cookie};
-pub use found::{Known, exports, handle, is_verifier, named, object, shown, wcc};
+pub use asked::{directory_wanted, file_wanted, link_wanted, special_wanted};
+pub use attributes::BLOCK;
+pub use checks::{changeable, directory, is_writable, no_directory, permitted, regular};
+pub use data::{SIZE_LIMIT, TRANSFER_LIMIT, read, text, verifier};
+pub use entries::{entry, is_empty, leads_to, next_cookie};
+pub use found::{Known, exports, handle, is_verifier, named, object, shown, wcc, wcc_of};
+pub use gather::read_objects;
 pub use kinds::{Directory, File};
-pub use makers::{add_entry, lose_link, make_file, resize, take_entry, write};
-pub use making::{attributes_given, given_attributes};
+pub use linking::add_link;
+pub use listing::{EntriesLeft, EntryName, Listed, entries_left};
+pub use makers::{add_entry, lose_link, make_object, resize, take_entry, write};
+pub use making::{
+    LINK_LIMIT, MAX_TEXT, MODE_LIMIT, NewContent, Wanted, given_attributes, kind_checked,
+};
 pub use names::{MAX_NAME, name_checked, plain_name_checked};
-pub use permission::{Right, may};
-pub use times::{is_time, now, time_set, touch};
+pub use permission::{Right, class_bits, is_member, may, reads, runs};
+pub use removing::take_name;
+pub use renaming::{give_name, leave, rehome};
+pub use setting::{Settings, set_attributes};
+pub use times::{is_client_time, is_server_time, is_time, now, time_set, touch};
+pub use tree::is_within;
+pub use usage::export_usage;

@@ -4,25 +4,26 @@ ghost use Rattle.std.specs.Prelude.{◌≡◌, ◌+◌, ◌-◌, ◌<◌, ◌^�
 ghost use Rattle.std.specs.Prelude.{length};
 ghost use Rattle.nfs_machine.specs.Data.{resized, written};
 ghost use Rattle.nfs_machine.specs.Making.{new_object};
-ghost use Rattle.nfs_machine.specs.NameSteps.{wanted_file};
 ghost use Rattle.nfs_machine.specs.Shown.{touched};
 ghost use Rattle.nfs_machine.specs.Times.{time_of};
-ghost use Rattle.nfs_objects.specs.Edits.{edited, freed};
+ghost use Rattle.nfs_objects.specs.Edits.{edited};
 ghost use Rattle.nfs_objects.specs.Asks.{IsFirst};
 ghost use Rattle.nfs_objects.specs.Knows.{Knows, Turns};
 ghost use Rattle.nfs_objects.specs.Values.{known_at};
 ghost use Rattle.nfs_objects.specs.declared.address.Addr.{Addr as Address};
+ghost use Rattle.nfs_inodes.specs.Asked.{wanted_as};
 ghost use Rattle.nfs_inodes.specs.Makes.{IsFree, bytes_changed, link_lost, made_under, name_added, name_taken};
-ghost use Rattle.nfs_inodes.specs.Stops.{StopsAt};
+ghost use Rattle.nfs_inodes.specs.Makes.{removed};
+ghost use Rattle.nfs_inodes.specs.Stops.{StopsAt, StopsCounting, StopsMaking};
 
 use crate::content::{resized, with_content, written};
 use crate::found::inode;
 use crate::kinds::{Directory, File};
-use crate::making::new_file;
+use crate::making::{Wanted, links_with, new_inode};
 use crate::times::{now, touch};
+use crate::usage::{Share, count, counted, recount, share_of, uncount};
 use bytes::Bytes;
-use nfs_objects::{Addr, Content, Draft, Halt, Leaf, Mode, Reserved};
-use nfs_wire::CreateHow;
+use nfs_objects::{Addr, Content, Draft, Halt, Leaf, Mode, Reserved, Usage};
 
 /// Writes bytes at an offset of a file; a gap before it is zeros. The bytes end below 2^64.
 ///
@@ -35,7 +36,7 @@ pub fn write(draft: &mut Draft<'_>, file: &File, offset: usize, bytes: &[u8]) ->
     ensures { MatchResult result
         (λ _. Turns draft.old draft.new (bytes_changed (time_of draft.old.ctx.moment) file.now.known.number
         (λ old. written old offset bytes.now)))
-        (StopsAt draft.old (Addr.Inode file.now.known.number)) }
+        (StopsCounting draft.old file.now.known.number) }
 {
     let number = file.known.number;
     let Some(inode) = inode(draft, number)? else {
@@ -44,8 +45,12 @@ pub fn write(draft: &mut Draft<'_>, file: &File, offset: usize, bytes: &[u8]) ->
     let Content::Regular(old) = &inode.content else {
         return Ok(());
     };
+    let share = share_of(inode);
+    let size = old.len().max(offset + bytes.len());
+    let usage = counted(draft, number, share, Usage::of_one(size as u64))?;
     let content = written(draft.alloc(), old.as_slice(), offset, bytes)?;
     let new = with_content(inode, now(draft.ctx()), Content::Regular(content));
+    count(draft, share.export, number, usage)?;
     Ok(draft.put(number, new)?)
 }
 
@@ -59,7 +64,7 @@ pub fn resize(draft: &mut Draft<'_>, file: &File, size: usize) -> Result<(), Hal
     ensures { MatchResult result
         (λ _. Turns draft.old draft.new (bytes_changed (time_of draft.old.ctx.moment) file.now.known.number
         (λ old. resized old size)))
-        (StopsAt draft.old (Addr.Inode file.now.known.number)) }
+        (StopsCounting draft.old file.now.known.number) }
 {
     let number = file.known.number;
     let Some(inode) = inode(draft, number)? else {
@@ -68,8 +73,11 @@ pub fn resize(draft: &mut Draft<'_>, file: &File, size: usize) -> Result<(), Hal
     let Content::Regular(old) = &inode.content else {
         return Ok(());
     };
+    let share = share_of(inode);
+    let usage = counted(draft, number, share, Usage::of_one(size as u64))?;
     let content = resized(draft.alloc(), old.as_slice(), size)?;
     let new = with_content(inode, now(draft.ctx()), Content::Regular(content));
+    count(draft, share.export, number, usage)?;
     Ok(draft.put(number, new)?)
 }
 
@@ -82,7 +90,7 @@ pub fn lose_link(draft: &mut Draft<'_>, number: u64, links: u32) -> Result<(), H
     requires { draft.old.modes.inodes ≡ Mode.Exclusive }
     ensures { MatchResult result
         (λ _. Turns draft.old draft.new (link_lost (time_of draft.old.ctx.moment) number links))
-        (StopsAt draft.old (Addr.Inode number)) }
+        (StopsCounting draft.old number) }
 {
     if links <= 1 {
         free(draft, number)
@@ -93,10 +101,10 @@ pub fn lose_link(draft: &mut Draft<'_>, number: u64, links: u32) -> Result<(), H
 
 fn free(draft: &mut Draft<'_>, number: u64) -> Result<(), Halt>
     requires { draft.old.modes.inodes ≡ Mode.Exclusive }
-    ensures { MatchResult result (λ _. Turns draft.old draft.new (λ k. freed k number))
-        (StopsAt draft.old (Addr.Inode number)) }
+    ensures { MatchResult result (λ _. Turns draft.old draft.new (removed number))
+        (StopsCounting draft.old number) }
 {
-    inode(draft, number)?;
+    uncount(draft, number)?;
     Ok(draft.free(number)?)
 }
 
@@ -144,7 +152,8 @@ pub fn take_entry(draft: &mut Draft<'_>, directory: &Directory, name: &[u8]) -> 
     Ok(draft.put(place, new)?)
 }
 
-/// Adds a name to a directory that has it not, last and with this cookie. The name is copied.
+/// Adds a name to a directory that has it not, last and with this cookie; the directory has so many links then. The
+/// name is copied.
 ///
 /// # Errors
 ///
@@ -155,10 +164,11 @@ pub fn add_entry(
     name: &[u8],
     number: u64,
     cookie: u64,
+    links: u32,
 ) -> Result<(), Halt>
     requires { draft.old.modes.inodes ≡ Mode.Exclusive }
     ensures turns { MatchResult result
-        (λ _. Turns draft.old draft.new (name_added (time_of draft.old.ctx.moment) directory.now.known.number
+        (λ _. Turns draft.old draft.new (name_added (time_of draft.old.ctx.moment) directory.now.known.number links
         (record { name = name.now; number = number; cookie = cookie })))
         (StopsAt draft.old (Addr.Inode directory.now.known.number)) }
     ensures known { OnOk result ((a : Address) → IsSome (known_at draft.old a) → IsSome (known_at draft.new a)) }
@@ -179,35 +189,37 @@ pub fn add_entry(
         last_cookie: cookie,
         entries: old.entries.with_entry(&name, Leaf { number, cookie })?,
     });
-    let new = with_content(inode, now(draft.ctx()), wider);
+    let mut new = with_content(inode, now(draft.ctx()), wider);
+    new.links = links;
     Ok(draft.put(place, new)?)
 }
 
-/// Makes the file that CREATE makes, under a new name of a directory: its number and generation are those that the view
+/// Makes what is asked for, under a new name of a directory: its number and generation are those that the view
 /// reserved. The name is copied.
 ///
 /// # Errors
 ///
 /// `Fresh` where none is reserved; `Need` of what has to be held for it, and `Memory`. The draft is of no use then.
-pub fn make_file(
+pub fn make_object(
     draft: &mut Draft<'_>,
     directory: &Directory,
     name: &[u8],
     cookie: u64,
-    how: &CreateHow,
+    wanted: &Wanted<'_>,
 ) -> Result<Reserved, Halt>
     requires none { draft.old.writes ≡ [] }
     requires alone { draft.old.modes.inodes ≡ Mode.Exclusive }
     ensures turns { MatchResult result
         (λ r. Knows draft.old (λ k. IsFree k.state r) × Turns draft.old draft.new
-        (made_under (time_of draft.old.ctx.moment) directory.now.known.number cookie name.now r
-        (new_object draft.old.ctx directory.now.known.export r.generation (wanted_file how.now))))
-        (StopsAt draft.old (Addr.Inode directory.now.known.number)) }
+        (made_under (time_of draft.old.ctx.moment) directory.now.known.number directory.now.known.attributes.links
+        cookie name.now r
+        (new_object draft.old.ctx directory.now.known.export r.generation (wanted_as wanted.now))))
+        (StopsMaking draft.old (Addr.Inode directory.now.known.number) directory.now.known.export) }
     ensures known { IfOk result (λ r. IsSome (known_at draft.new (Addr.Inode r.number))) }
 {
     let reserved = draft.fresh()?;
     let Reserved { number, generation } = reserved;
-    make_reserved(draft, directory, name, cookie, how, number, generation)?;
+    make_reserved(draft, directory, name, cookie, wanted, number, generation)?;
     Ok(reserved)
 }
 
@@ -217,7 +229,7 @@ fn make_reserved(
     directory: &Directory,
     name: &[u8],
     cookie: u64,
-    how: &CreateHow,
+    wanted: &Wanted<'_>,
     number: u64,
     generation: u64,
 ) -> Result<(), Halt>
@@ -226,14 +238,19 @@ fn make_reserved(
     requires first { IsFirst draft.old (record { number = number; generation = generation }) }
     ensures turns { MatchResult result
         (λ _. Knows draft.old (λ k. IsFree k.state (record { number = number; generation = generation })) ×
-        Turns draft.old draft.new (made_under (time_of draft.old.ctx.moment) directory.now.known.number cookie
-        name.now (record { number = number; generation = generation })
-        (new_object draft.old.ctx directory.now.known.export generation (wanted_file how.now))))
-        (StopsAt draft.old (Addr.Inode directory.now.known.number)) }
+        Turns draft.old draft.new (made_under (time_of draft.old.ctx.moment) directory.now.known.number
+        directory.now.known.attributes.links cookie name.now (record { number = number; generation = generation })
+        (new_object draft.old.ctx directory.now.known.export generation (wanted_as wanted.now))))
+        (StopsMaking draft.old (Addr.Inode directory.now.known.number) directory.now.known.export) }
     ensures known { OnOk result (IsSome (known_at draft.new (Addr.Inode number))) }
 {
-    let export = directory.known.export;
-    let file = new_file(draft.alloc(), draft.ctx(), how, export, generation)?;
-    add_entry(draft, directory, name, number, cookie)?;
-    Ok(draft.put(number, file)?)
+    let object = new_inode(draft.alloc(), draft.ctx(), directory, wanted, generation)?;
+    let links = links_with(directory.known.attributes.links, &wanted.content);
+    add_entry(draft, directory, name, number, cookie, links)?;
+    let nothing = Share {
+        export: directory.known.export,
+        usage: Usage::none(),
+    };
+    recount(draft, number, nothing, Usage::of_one(object.content.size()))?;
+    Ok(draft.put(number, object)?)
 }

@@ -1,25 +1,63 @@
-//! What new objects are given (RFC 1813, 3.3.8).
+//! New objects: what is asked for, the checks of it, and what they are given (RFC 1813, 3.3.8 to 3.3.11).
 
-ghost use Rattle.std.specs.Prelude.{◌≡◌, ◌==◌, ◌||◌, ◌&&◌, IfOk, None, replicate, unwrap_or};
+ghost use Rattle.std.specs.Prelude.{◌≡◌, ◌==◌, ◌||◌, ◌&&◌, IfOk, length, nat_le, not, replicate};
+ghost use Rattle.std.specs.Prelude.{unwrap_or, ℕ};
+ghost use Rattle.std.specs.List.{list_any};
+ghost use Rattle.nfs_machine.specs.Making.{given_attributes, kind_checked, new_object};
 ghost use Rattle.nfs_machine.specs.Permission.{is_member};
-ghost use Rattle.nfs_machine.specs.NameSteps.{given_attributes, new_object, wanted_file};
-ghost use Rattle.nfs_objects.specs.Stands.{content_of, living_of_inode, parent_in, verifier_of};
+ghost use Rattle.nfs_machine.specs.State.{Link};
+ghost use Rattle.nfs_machine.specs.declared.context.Ctx.{Ctx as Context};
+ghost use Rattle.nfs_objects.specs.Stands.{content_of, living_of_inode, parent_in};
+ghost use Rattle.nfs_inodes.specs.Asked.{content_asked, mode_asked, wanted_as};
+ghost use Rattle.nfs_inodes.specs.Makes.{first_links, first_parent, links_with};
 
 use crate::data::SIZE_LIMIT;
+use crate::kinds::Directory;
 use crate::permission::is_member;
 use crate::times::{is_time, now, time_set};
 use bytes::Bytes;
 use nfs_machine::Ctx;
-use nfs_objects::{Content, Inode};
+use nfs_objects::{Content, Entries, Inode};
 use nfs_rpc::Ids;
-use nfs_wire::{CreateHow, NfsStatus, SetAttributes, SetTime, Verifier};
+use nfs_wire::{DeviceNumber, NfsStatus, SetAttributes, Verifier};
 use std::alloc::{AllocError, Global};
 
-/// The mode of a new file that is given none.
-const FILE_MODE: u32 = 0o644;
+/// What a new object contains. What is lent is copied when the object is made.
+#[derive(Clone, Copy)]
+pub enum NewContent<'a> {
+    /// So many zeros, in bytes.
+    Regular(u64),
+    /// No entry.
+    Directory,
+    /// The text of a symbolic link.
+    Link(&'a [u8]),
+    BlockDevice(DeviceNumber),
+    CharacterDevice(DeviceNumber),
+    Socket,
+    Fifo,
+}
+
+/// What a new object is to be.
+#[derive(Clone, Copy)]
+pub struct Wanted<'a> {
+    pub content: NewContent<'a>,
+    /// A size among them is for regular files alone, and stands in their content.
+    pub attributes: SetAttributes,
+    /// Of an exclusive CREATE (RFC 1813, 3.3.8).
+    pub verifier: Option<Verifier>,
+}
+
+/// The greatest count of links that a directory may have (RFC 1813, 3.3.20: linkmax).
+pub const LINK_LIMIT: u32 = 32_000;
+
+/// The most bytes of a symbolic link's text.
+pub const MAX_TEXT: usize = 4_096;
 
 /// A mode has twelve bits (RFC 1813, 2.5: fattr3); it is below this.
-const MODE_LIMIT: u32 = 0o10000;
+pub const MODE_LIMIT: u32 = 0o10000;
+
+/// The cookie of `..`, the greatest that a new directory has used (RFC 1813, 3.3.16).
+const ABOVE_COOKIE: u64 = 2;
 
 /// Judges the attributes that a new object is given (RFC 1813, 2.5: sattr3).
 ///
@@ -53,91 +91,134 @@ fn may_give(ids: &Ids, given: &SetAttributes) -> bool
     ids.uid == 0 || (uid == ids.uid && is_member(ids, gid))
 }
 
-/// The file that CREATE makes, filled with zeros up to the size that is given.
+/// Judges an object of this content in a directory of so many links.
+///
+/// # Errors
+///
+/// `TooManyLinks` for a directory where no link is left to its parent; `Invalid` for a link whose text is empty or
+/// holds a NUL, and `NameTooLong` above `MAX_TEXT` bytes; `Permission` for a device where the caller is not the user 0.
+pub fn kind_checked(ctx: &Ctx, links: u32, content: &NewContent<'_>) -> Result<(), NfsStatus>
+    ensures { result ≡ kind_checked ctx.now links (content_asked content.now) }
+{
+    match content {
+        NewContent::Directory if links >= LINK_LIMIT => Err(NfsStatus::TooManyLinks),
+        NewContent::Link(text) => text_checked(text),
+        NewContent::BlockDevice(_) | NewContent::CharacterDevice(_) if ctx.ids.uid != 0 => {
+            Err(NfsStatus::Permission)
+        }
+        _ => Ok(()),
+    }
+}
+
+/// Judges the text of a link.
+fn text_checked(text: &[u8]) -> Result<(), NfsStatus>
+    ensures { (ctx : Context) (links : ℕ) → result ≡ kind_checked ctx links (Link text.now) }
+{
+    if !is_text(text) {
+        Err(NfsStatus::Invalid)
+    } else if text.len() > MAX_TEXT {
+        Err(NfsStatus::NameTooLong)
+    } else {
+        Ok(())
+    }
+}
+
+fn is_text(text: &[u8]) -> bool
+    ensures { result ≡ (nat_le 1 (length text.now) && not (list_any (λ byte. byte == 0) text.now)) }
+{
+    !text.is_empty() && !has_nul(text)
+}
+
+fn has_nul(text: &[u8]) -> bool
+    ensures { result ≡ list_any (λ byte. byte == 0) text.now }
+{
+    text.iter().any(|byte| *byte == 0)
+}
+
+/// The links of a directory that had so many, once an object of this content came: the `..` of a directory leads
+/// there.
+pub(crate) fn links_with(links: u32, content: &NewContent<'_>) -> u32
+    ensures { result ≡ links_with links (content_asked content.now) }
+{
+    match content {
+        NewContent::Directory => links.saturating_add(1),
+        _ => links,
+    }
+}
+
+/// A new object in a directory: what is given, and else the caller's ids, the mode of its kind and the call's moment.
 ///
 /// # Errors
 ///
 /// `AllocError` where the memory for the content was refused.
-pub(crate) fn new_file(
+pub(crate) fn new_inode(
     alloc: Global,
     ctx: &Ctx,
-    how: &CreateHow,
-    export: u32,
+    directory: &Directory,
+    wanted: &Wanted<'_>,
     generation: u64,
 ) -> Result<Inode, AllocError>
-    ensures living { IfOk result
-        (λ file. living_of_inode file ≡ new_object ctx.now export generation (wanted_file how.now)) }
-    ensures links { IfOk result (λ file. file.links ≡ 1) }
-    ensures parent { IfOk result (λ file. parent_in file.content ≡ 0) }
-{
-    let given = attributes_given(how);
-    let content = zeros(alloc, given.size.unwrap_or(0) as usize)?;
-    let mut file = new_object(
-        ctx,
-        export,
-        generation,
-        FILE_MODE,
-        Content::Regular(content),
-        &given,
-    );
-    file.verifier = verifier_given(how);
-    Ok(file)
-}
-
-/// A new object with one link and no verifier: what is given, and else the caller's ids, the mode of its kind and the
-/// call's moment.
-fn new_object(
-    ctx: &Ctx,
-    export: u32,
-    generation: u64,
-    mode: u32,
-    content: Content,
-    given: &SetAttributes,
-) -> Inode
-    ensures living { living_of_inode result ≡ new_object ctx.now export generation
-        (record { mode = mode; content = content_of content; attributes = given.now; verifier = None }) }
-    ensures links { result.links ≡ 1 }
+    ensures living { IfOk result (λ inode.
+        living_of_inode inode ≡ new_object ctx.now directory.now.known.export generation (wanted_as wanted.now)) }
+    ensures links { IfOk result (λ inode. inode.links ≡ first_links (content_asked wanted.now.content)) }
+    ensures parent { IfOk result (λ inode.
+        parent_in inode.content ≡ first_parent directory.now.known.number (content_asked wanted.now.content)) }
 {
     let now = now(ctx);
-    Inode {
-        export,
+    let given = &wanted.attributes;
+    Ok(Inode {
+        export: directory.known.export,
         generation,
-        content,
-        mode: given.mode.unwrap_or(mode) % MODE_LIMIT,
+        content: new_content(alloc, &wanted.content, directory.known.number)?,
+        mode: given.mode.unwrap_or(mode_of(&wanted.content)) % MODE_LIMIT,
         uid: given.uid.unwrap_or(ctx.ids.uid),
         gid: given.gid.unwrap_or(ctx.ids.gid),
-        links: 1,
+        links: first_links(&wanted.content),
         accessed: time_set(now, now, given.accessed),
         modified: time_set(now, now, given.modified),
         changed: now,
-        verifier: None,
+        verifier: wanted.verifier,
+    })
+}
+
+/// The content of a new object in a directory with this number.
+fn new_content(alloc: Global, content: &NewContent<'_>, parent: u64) -> Result<Content, AllocError>
+    ensures content { IfOk result (λ made. content_of made ≡ content_asked content.now) }
+    ensures parent { IfOk result (λ made. parent_in made ≡ first_parent parent (content_asked content.now)) }
+{
+    Ok(match content {
+        NewContent::Regular(size) => Content::Regular(zeros(alloc, *size as usize)?),
+        NewContent::Directory => Content::Directory(nfs_objects::Directory {
+            parent,
+            last_cookie: ABOVE_COOKIE,
+            entries: Entries::new(alloc),
+        }),
+        NewContent::Link(text) => Content::Link(Bytes::copy_from_slice(alloc, text)?),
+        NewContent::BlockDevice(device) => Content::BlockDevice(*device),
+        NewContent::CharacterDevice(device) => Content::CharacterDevice(*device),
+        NewContent::Socket => Content::Socket,
+        NewContent::Fifo => Content::Fifo,
+    })
+}
+
+/// The mode of an object that is given none.
+fn mode_of(content: &NewContent<'_>) -> u32
+    ensures { result ≡ mode_asked content.now }
+{
+    match content {
+        NewContent::Directory => 0o755,
+        NewContent::Link(_) => 0o777,
+        _ => 0o644,
     }
 }
 
-/// The attributes that CREATE gives a new file.
-pub fn attributes_given(how: &CreateHow) -> SetAttributes
-    ensures { result ≡ (wanted_file how.now).attributes }
+/// How many links a new object has: a directory those of its name and of `.`.
+fn first_links(content: &NewContent<'_>) -> u32
+    ensures { result ≡ first_links (content_asked content.now) }
 {
-    match how {
-        CreateHow::Unchecked(given) | CreateHow::Guarded(given) => *given,
-        CreateHow::Exclusive(_) => SetAttributes {
-            mode: None,
-            uid: None,
-            gid: None,
-            size: None,
-            accessed: SetTime::Leave,
-            modified: SetTime::Leave,
-        },
-    }
-}
-
-/// The verifier that a new file keeps.
-fn verifier_given(how: &CreateHow) -> Option<Verifier>
-    ensures { verifier_of result ≡ (wanted_file how.now).verifier }
-{
-    match how {
-        CreateHow::Unchecked(_) | CreateHow::Guarded(_) => None,
-        CreateHow::Exclusive(verifier) => Some(*verifier),
+    match content {
+        NewContent::Directory => 2,
+        _ => 1,
     }
 }
 

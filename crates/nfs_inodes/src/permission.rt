@@ -39,8 +39,8 @@ pub fn may(ids: &Ids, known: &Known, right: Right) -> bool
         )
 }
 
-/// The three bits of the caller's class.
-fn class_bits(ids: &Ids, known: &Known) -> u32
+/// The three bits of the caller's class: of the owner, else of the group, else of all others.
+pub fn class_bits(ids: &Ids, known: &Known) -> u32
     ensures { result ≡ class_bits ids.now (shell known.now Socket) }
 {
     if ids.uid == known.attributes.uid {
@@ -53,7 +53,7 @@ fn class_bits(ids: &Ids, known: &Known) -> u32
 }
 
 /// Whether the group is the caller's own, or one of its further groups.
-pub(crate) fn is_member(ids: &Ids, gid: u32) -> bool
+pub fn is_member(ids: &Ids, gid: u32) -> bool
     ensures { result ≡ is_member ids.now gid }
 {
     ids.gid == gid || is_among(ids.gids.as_slice(), gid)
@@ -83,7 +83,8 @@ fn class_may(right: Right, is_owner: bool, bits: u32) -> bool
     }
 }
 
-fn reads(bits: u32) -> bool
+/// Whether three bits have r.
+pub fn reads(bits: u32) -> bool
     ensures { result ≡ reads bits }
 {
     bits / 4 % 2 == 1
@@ -95,7 +96,8 @@ fn writes(bits: u32) -> bool
     bits / 2 % 2 == 1
 }
 
-fn runs(bits: u32) -> bool
+/// Whether three bits have x.
+pub fn runs(bits: u32) -> bool
     ensures { result ≡ runs bits }
 {
     bits % 2 == 1

@@ -1,6 +1,6 @@
 pub mod Asked
 pub mod Changes
-mod Bounds
+pub mod Bounds
 pub mod Checked
 pub mod Choosing
 mod LongestMatch
@@ -48,7 +48,7 @@ mod ReplySizes
 pub mod Roots
 pub mod Runs
 mod RunWorked
-mod SideReplies
+pub mod SideReplies
 pub mod Sums
 pub mod Texts
 mod Visited
@@ -63,4 +63,4 @@ pub mod Short
 mod Statuses
 pub mod Counted
 mod Given
-mod MountSizes
+pub mod MountSizes

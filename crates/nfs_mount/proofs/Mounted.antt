@@ -34,7 +34,8 @@ use Rattle.nfs_inodes.proofs.Standing.{some-stands}
 use Rattle.nfs_inodes.specs.Known.{shell, target}
 use Rattle.nfs_inodes.specs.declared.found.Known.{Known}
 use Rattle.nfs_mount.specs.Choices.{IsChosen}
-use Rattle.nfs_mount.specs.Targets.{AddsMount, Finds, IsTarget, walk_end}
+use Rattle.nfs_mount.specs.Changes.{AddsMount}
+use Rattle.nfs_mount.specs.Targets.{Finds, IsTarget, walk_end}
 use Rattle.nfs_mount.specs.declared.choice.Choice.{Choice}
 
 -- ---- the directory that the path names
@@ -107,7 +108,7 @@ module _ (d : DraftValue) (path : List ℕ) (mounts : List MountBody) (known : K
   listed-adds listed = record {
     op = λ k. k;
     turns = turns-none d;
-    adds = λ s k w. ap (λ m. record k { state = m }) (sym (after true listed s k w));
+    changes = λ s k w. ap (λ m. record k { state = m }) (sym (after true listed s k w));
   }
 
   pub new-adds : is_mounted mounts (mounted d.ctx.host path) ≡ false → (new : DraftValue) →
@@ -115,7 +116,7 @@ module _ (d : DraftValue) (path : List ℕ) (mounts : List MountBody) (known : K
   new-adds other new turns = record {
     op = λ k. with_mounts k (newest (mounts ++ mounted d.ctx.host path ∷ []));
     turns = turns;
-    adds = λ s k w. ap (λ m. record k { state = m }) (sym (after false other s k w));
+    changes = λ s k w. ap (λ m. record k { state = m }) (sym (after false other s k w));
   }
 
   pub table-adds : is_mounted mounts (mounted d.ctx.host path) ≡ false → (table : List MountBody) →
@@ -125,13 +126,14 @@ module _ (d : DraftValue) (path : List ℕ) (mounts : List MountBody) (known : K
       new-adds other new (subst (λ l. Turns d new (λ k. with_mounts k l)) made
       (subst (λ (n : DraftValue). Turns d n (λ k. with_mounts k table)) (sym is) (mounts-turns d table)))
 
--- other mounts change neither links nor parents
-mounts-sound : (k : Kept) (mounts : List MountBody) → Sound k → Sound (with_mounts k mounts)
+-- other mounts change neither links nor parents, nor what objects use
+pub mounts-sound : (k : Kept) (mounts : List MountBody) → Sound k → Sound (with_mounts k mounts)
 mounts-sound k mounts sound = record {
   links = sound.links;
   parents = λ n o lives is.
       let p = sound.parents n o lives is in
       record { directory = p.directory; lives = p.lives; named_in = p.named_in };
+  usage = sound.usage;
 }
 
 mounted-sound : (k : Kept) (m : MountBody) → Sound k → Sound (record k { state = with_mount k.state m })
@@ -144,13 +146,6 @@ mounted-sound k m sound =
 
 -- ---- the answer
 module _ (d : DraftValue) (none : d.writes ≡ []) (quiet : d.messages ≡ []) where
-  pub null-promised : Held d.view d.writes → Given d.view d.writes → IsPromised (done_value (calls.Mount mount.Null)
-      d.ctx d.view (record { writes = d.writes; messages = d.messages; reply = answers.Mount replies.Null }))
-  unfolding MountStep
-  null-promised held given =
-      promised-unchanged d none quiet (calls.Mount mount.Null) (answers.Mount replies.Null) held given
-      (λ s k w formed. record { reply_is = refl; no_message = refl; state_is = refl })
-
   module _ (path : List ℕ) where
     abbrev pub AnswersWith : DraftValue → Result (List ℕ) MountStatus → Type 0
     AnswersWith new result = IsPromised (done_value (calls.Mount (mount.Mnt path)) d.ctx d.view
@@ -171,11 +166,11 @@ module _ (d : DraftValue) (none : d.writes ≡ []) (quiet : d.messages ≡ []) w
         promised d new adds.op none quiet adds.turns (calls.Mount (mount.Mnt path))
         (answers.Mount (replies.Mnt (Ok handle))) held given
         (λ s k w formed. (
-          subst Sound (sym (adds.adds s k w)) (mounted-sound k (mounted d.ctx.host path) w.sound),
+          subst Sound (sym (adds.changes s k w)) (mounted-sound k (mounted d.ctx.host path) w.sound),
           λ after. (
             Ok handle,
             refl,
             refl,
-            (target k.state x, named s k w formed, is, ap (λ (y : Kept). y.state) (adds.adds s k w)),
+            (target k.state x, named s k w formed, is, ap (λ (y : Kept). y.state) (adds.changes s k w)),
           ),
         ))

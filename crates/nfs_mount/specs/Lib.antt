@@ -1,4 +1,4 @@
-pub mod Calls
+pub mod Changes
 pub mod Choices
 pub mod Fronts
 pub mod Targets

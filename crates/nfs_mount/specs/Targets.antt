@@ -2,7 +2,7 @@
 use Rattle.std.specs.Prelude.{◌≡◌, ℕ, List, Result, Ok, Err}
 use Rattle.side_wire.specs.declared.mount.MountCall.TheVariants as mount
 use Rattle.side_wire.specs.declared.mount.MountStatus.{MountStatus}
-use Rattle.nfs_machine.specs.MountSteps.{MntAnswers, Target, with_mount}
+use Rattle.nfs_machine.specs.MountSteps.{MntAnswers, Target}
 use Rattle.nfs_machine.specs.Resolve.{Named}
 use Rattle.nfs_machine.specs.State.{State}
 use Rattle.nfs_machine.specs.WellFormed.{WellFormed}
@@ -10,8 +10,7 @@ use Rattle.nfs_machine.specs.declared.calls.Call.TheVariants as calls
 use Rattle.nfs_machine.specs.declared.context.Ctx.{Ctx}
 use Rattle.nfs_objects.specs.Attempt.{Stops}
 use Rattle.nfs_objects.specs.Calls.{named_by}
-use Rattle.nfs_objects.specs.Knows.{Knows, Possible, Turns}
-use Rattle.nfs_objects.specs.MountTables.{mounted}
+use Rattle.nfs_objects.specs.Knows.{Possible}
 use Rattle.nfs_objects.specs.Stands.{Kept}
 use Rattle.nfs_objects.specs.Store.{Store}
 use Rattle.nfs_objects.specs.Values.{DraftValue}
@@ -37,9 +36,3 @@ walk_end m (Err e) = Err e
 abbrev pub IsTarget : Ctx → List ℕ → Result Known MountStatus → State → Type 0
 IsTarget ctx path (Ok x) m = Target m ctx path (walk_end m (Ok x))
 IsTarget ctx path (Err e) m = MntAnswers m ctx path (Err e) m
-
--- the path is listed for the caller's host from now on, and nothing else changes
-pub record AddsMount (old new : DraftValue) (path : List ℕ) : Type 0 where
-  pub op : Kept → Kept
-  pub turns : Turns old new op
-  pub adds : Knows old (λ k. op k ≡ record k { state = with_mount k.state (mounted old.ctx.host path) })

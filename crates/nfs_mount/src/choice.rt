@@ -44,10 +44,10 @@ fn lead<'a>(export: &LivingExport, host: &Bytes, path: &'a [u8]) -> Option<Choic
     if !export.admits(host) {
         return None;
     }
-    let rest = names_below(path, export.path())?;
+    let rest = names_below(path, export.path().as_slice())?;
     Some(Choice {
         root: export.root(),
-        depth: Names::of(export.path()).count(),
+        depth: Names::of(export.path().as_slice()).count(),
         rest,
     })
 }

@@ -2,26 +2,28 @@
 //!
 //! An attempt is a function of its arguments: it reads the view and nothing else, and comes to the addresses that it
 //! still needs, or to a change. Its contract is the promise that a `Done` keeps by its type, which is that the answer
-//! is a step of the machine in every sound store that the view fits, and what may be asked for. So far the procedures
-//! are NULL and MNT. It stands on `nfs_inodes` for objects and directories, on `nfs_objects` for drafts and the tables
-//! of exports and mounts, and on `nfs_machine` for the steps.
+//! is a step of the machine in every sound store that the view fits, and what may be asked for. All six procedures are
+//! here. It stands on `nfs_inodes` for objects and directories, on `nfs_objects` for drafts and the tables of exports
+//! and mounts, and on `nfs_machine` for the steps.
 #![tactic(auto)]
 
-ghost use Rattle.std.specs.Prelude.{◌≡◌, true, [], IfOk};
-ghost use Rattle.nfs_mount.specs.Calls.{is_mount_call};
-ghost use Rattle.nfs_objects.specs.Attempt.{AsksFirst, Attempts};
+ghost use Rattle.std.specs.Prelude.{IfOk};
+ghost use Rattle.nfs_objects.specs.Attempt.{AsksFirst, Attempts, Ends, EndsFirst};
+ghost use Rattle.nfs_objects.specs.Begins.{Begins};
 ghost use Rattle.nfs_objects.specs.Modes.{Suits, modes_of};
 
 mod choice;
+mod lists;
 mod mount;
 mod paths;
+mod unmount;
 
 use nfs_machine::{Call, Ctx, Reply};
-use nfs_objects::{Draft, MOUNTING, Outcome, READING, View, outcome};
+use nfs_objects::{Change, Draft, Halt, MOUNTING, Outcome, READING, View, outcome};
 use side_wire::{MountCall, MountReply};
 use std::alloc::{AllocError, Global};
 
-/// Tries a call of one of this crate's procedures on a view, which holds what it has as the call wants.
+/// Tries a call on a view, which holds what it has as the call wants.
 ///
 /// # Errors
 ///
@@ -32,20 +34,35 @@ pub fn attempt(
     ctx: &Ctx,
     view: &View,
 ) -> Result<Outcome, AllocError>
-    requires served { is_mount_call call.now ≡ true }
-    requires suits { Suits (modes_of (Call.Mount call.now)) view.now }
+    requires { Suits (modes_of (Call.Mount call.now)) view.now }
     ensures attempts { IfOk result (Attempts (Call.Mount call.now) ctx.now view.now) }
     ensures first { IfOk result (AsksFirst (Call.Mount call.now) view.now) }
 {
+    outcome(ended(alloc, call, ctx, view))
+}
+
+fn ended(alloc: Global, call: &MountCall, ctx: &Ctx, view: &View) -> Result<Change, Halt>
+    requires { Suits (modes_of (Call.Mount call.now)) view.now }
+    ensures ends { Ends (Call.Mount call.now) ctx.now view.now result }
+    ensures first { EndsFirst (Call.Mount call.now) view.now result }
+{
     match call {
-        MountCall::Null => {
-            let draft = Draft::new(alloc, ctx, view, READING);
-            outcome(Ok(draft.answer(Reply::Mount(MountReply::Null))))
+        MountCall::Null => null(Draft::new(alloc, ctx, view, READING)),
+        MountCall::Mnt(path) => mount::attempt(Draft::new(alloc, ctx, view, MOUNTING), path),
+        MountCall::Dump => lists::attempt_dump(Draft::new(alloc, ctx, view, READING)),
+        MountCall::Unmount(path) => {
+            unmount::attempt_path(Draft::new(alloc, ctx, view, MOUNTING), path)
         }
-        MountCall::Mnt(path) => {
-            let draft = Draft::new(alloc, ctx, view, MOUNTING);
-            outcome(mount::attempt(draft, path))
-        }
-        _ => unreachable!(),
+        MountCall::UnmountAll => unmount::attempt_all(Draft::new(alloc, ctx, view, MOUNTING)),
+        MountCall::Export => lists::attempt_export(Draft::new(alloc, ctx, view, READING)),
     }
+}
+
+/// NULL does nothing (RFC 1813, 5.2.0).
+fn null(draft: Draft<'_>) -> Result<Change, Halt>
+    requires { Begins (Call.Mount MountCall.Null) draft }
+    ensures ends { Ends (Call.Mount MountCall.Null) draft.entry.ctx draft.entry.view result }
+    ensures first { EndsFirst (Call.Mount MountCall.Null) draft.entry.view result }
+{
+    Ok(draft.answer(Reply::Mount(MountReply::Null)))
 }

@@ -5,8 +5,9 @@ ghost use Rattle.std.specs.FinMap.{get};
 ghost use Rattle.nfs_machine.specs.MountSteps.{walk};
 ghost use Rattle.nfs_objects.specs.Asks.{Lives};
 ghost use Rattle.nfs_objects.specs.Attempt.{Ends, EndsFirst, HaltsFirst, unless_seen};
-ghost use Rattle.nfs_objects.specs.Modes.{modes_of};
-ghost use Rattle.nfs_mount.specs.Targets.{AddsMount, Finds, IsTarget, MountStops, walk_end};
+ghost use Rattle.nfs_objects.specs.Begins.{Begins};
+ghost use Rattle.nfs_mount.specs.Changes.{AddsMount};
+ghost use Rattle.nfs_mount.specs.Targets.{Finds, IsTarget, MountStops, walk_end};
 
 use crate::choice::choose;
 use crate::paths::{Names, path_fault};
@@ -18,9 +19,7 @@ use side_wire::{MountCall, MountReply, MountStatus};
 
 /// Tries MNT of a path: the handle of the directory that it names, and the path is listed for the caller's host.
 pub fn attempt(draft: Draft<'_>, path: &Bytes) -> Result<Change, Halt>
-    requires none { draft.writes ≡ [] }
-    requires quiet { draft.messages ≡ [] }
-    requires modes { draft.modes ≡ modes_of (Call.Mount (MountCall.Mnt path.now)) }
+    requires { Begins (Call.Mount (MountCall.Mnt path.now)) draft }
     ensures ends { Ends (Call.Mount (MountCall.Mnt path.now)) draft.entry.ctx draft.entry.view result }
     ensures first { EndsFirst (Call.Mount (MountCall.Mnt path.now)) draft.entry.view result }
 {

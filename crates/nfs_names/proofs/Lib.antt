@@ -1,2 +1,9 @@
 pub mod Creating
+pub mod Linked
+pub mod Listed
 pub mod Looked
+pub mod Made
+pub mod Making
+pub mod Paged
+pub mod Removed
+pub mod Renaming

@@ -49,7 +49,7 @@ module _ (d : DraftValue) (x : Known) (name : List ℕ) (known : Knows d (λ k. 
   found-is checked comes s k w = comes (content_at k.state x.number)
       (found_under k.state d.ctx x.number (k.parents x.number) name) (kind-is k.state x (known s k w))
 
-  pub check-refused : (e : NfsStatus) → ComesTo (searched d.ctx name) x (Err e) → Finds (Err e)
+  pub check-refused : (e : NfsStatus) → ComesTo {B = Directory} (searched d.ctx name) x (Err e) → Finds (Err e)
   check-refused e comes = found-is (Err e) comes
 
   module _ (directory : Directory) (comes : ComesTo (searched d.ctx name) x (Ok directory)) where

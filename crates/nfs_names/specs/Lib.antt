@@ -1,5 +1,10 @@
 pub mod Calls
 pub mod Checking
 pub mod Creates
+pub mod Links
 pub mod Lookup
+pub mod Making
+pub mod Pages
+pub mod Removes
+pub mod Renames
 pub mod Stopping

@@ -6,10 +6,7 @@ use Rattle.nfs_objects.specs.Calls.{IsAmong}
 use Rattle.nfs_objects.specs.Values.{DraftValue, known_at}
 use Rattle.nfs_objects.specs.declared.address.Addr.{Addr}
 use Rattle.nfs_objects.specs.declared.change.Halt.{Halt}
-
--- it stops the call, whatever that names
-abbrev pub StopsAny : DraftValue → Halt → Type 0
-StopsAny d halt = (named : List Addr) → Stops d.modes named d.view halt
+pub use Rattle.nfs_inodes.specs.Stops.{StopsAny}
 
 -- it stops each call that names the address, whose view shows that something stands there, or that knows the address
 abbrev pub StopsUnlessKnown : DraftValue → Addr → Halt → Type 0

@@ -1,7 +1,8 @@
 //! The procedures of NFS version 3 on names (RFC 1813, section 3.3), each as straight code over a draft.
 //!
 //! A procedure asks what a handle names, makes its checks, reads and changes directories by the readers and makers of
-//! `nfs_inodes`, and answers; what it lacks it halts with. So far the procedures are LOOKUP and CREATE.
+//! `nfs_inodes`, and answers; what it lacks it halts with. The procedures are LOOKUP, CREATE, MKDIR, SYMLINK,
+//! MKNOD, REMOVE, RMDIR, RENAME, LINK, READDIR and READDIRPLUS.
 #![tactic(auto)]
 
 ghost use Rattle.std.specs.Prelude.{◌≡◌, true, IfOk};
@@ -10,9 +11,22 @@ ghost use Rattle.nfs_objects.specs.Attempt.{AsksFirst, Attempts, Ends, EndsFirst
 ghost use Rattle.nfs_objects.specs.Modes.{Suits, modes_of};
 ghost use Rattle.nfs_names.specs.Calls.{is_name_call};
 
+mod checking;
 mod create;
+mod link;
 mod lookup;
+mod make;
+mod mkdir;
+mod mknod;
+mod over;
+mod page;
+mod readdir;
+mod readdirplus;
+mod remove;
+mod rename;
+mod symlink;
 
+use crate::remove::Taking;
 use nfs_machine::Ctx;
 use nfs_objects::{CHANGING, Change, Draft, Halt, Outcome, READING, View, outcome};
 use nfs_wire::NfsCall;
@@ -32,6 +46,26 @@ pub fn attempt(alloc: Global, call: &NfsCall, ctx: &Ctx, view: &View) -> Result<
     outcome(ended(alloc, call, ctx, view))
 }
 
+/// Whether the call is one that this crate attempts.
+pub fn is_name_call(call: &NfsCall) -> bool
+    ensures { result ≡ is_name_call call.now }
+{
+    matches!(
+        call,
+        NfsCall::Lookup(_)
+            | NfsCall::Create(_)
+            | NfsCall::Mkdir(_)
+            | NfsCall::Symlink(_)
+            | NfsCall::Mknod(_)
+            | NfsCall::Remove(_)
+            | NfsCall::Rmdir(_)
+            | NfsCall::Rename(_)
+            | NfsCall::Link(_)
+            | NfsCall::Readdir(_)
+            | NfsCall::Readdirplus(_)
+    )
+}
+
 fn ended(alloc: Global, call: &NfsCall, ctx: &Ctx, view: &View) -> Result<Change, Halt>
     requires names { is_name_call call.now ≡ true }
     requires suits { Suits (modes_of (calls.Nfs call.now)) view.now }
@@ -42,6 +76,38 @@ fn ended(alloc: Global, call: &NfsCall, ctx: &Ctx, view: &View) -> Result<Change
         NfsCall::Lookup(place) => lookup::attempt(Draft::new(alloc, ctx, view, READING), place),
         NfsCall::Create(arguments) => {
             create::attempt(Draft::new(alloc, ctx, view, CHANGING), arguments)
+        }
+        NfsCall::Mkdir(arguments) => {
+            mkdir::attempt(Draft::new(alloc, ctx, view, CHANGING), arguments)
+        }
+        NfsCall::Symlink(arguments) => {
+            symlink::attempt(Draft::new(alloc, ctx, view, CHANGING), arguments)
+        }
+        NfsCall::Mknod(arguments) => {
+            mknod::attempt(Draft::new(alloc, ctx, view, CHANGING), arguments)
+        }
+        NfsCall::Rename(arguments) => {
+            let draft = Draft::new(alloc, ctx, view, CHANGING);
+            rename::attempt(draft, view.len(), arguments)
+        }
+        NfsCall::Remove(place) => {
+            remove::attempt(
+                Draft::new(alloc, ctx, view, CHANGING),
+                Taking::Remove,
+                place,
+            )
+        }
+        NfsCall::Rmdir(place) => {
+            remove::attempt(Draft::new(alloc, ctx, view, CHANGING), Taking::Rmdir, place)
+        }
+        NfsCall::Link(arguments) => {
+            link::attempt(Draft::new(alloc, ctx, view, CHANGING), arguments)
+        }
+        NfsCall::Readdir(arguments) => {
+            readdir::attempt(Draft::new(alloc, ctx, view, READING), arguments)
+        }
+        NfsCall::Readdirplus(arguments) => {
+            readdirplus::attempt(Draft::new(alloc, ctx, view, READING), arguments)
         }
         _ => unreachable!(),
     }

@@ -1,7 +1,8 @@
 -- A call asks for few addresses where nothing stands: each of them is one that it names, and is asked for once.
-use Rattle.std.proofs.Common.{◌≡◌, ℕ, ◌+◌, ◌<◌, ◌≤◌, true, false, Bool, cond, ◌||◌, List, []}
-use Rattle.std.proofs.Common.{◌∷◌, ◌++◌, length, Option, Some, None, IsSome, is_some, ◌⊎◌, inl, inr}
-use Rattle.std.proofs.Common.{refl, sym, ◌∙◌, ap, subst, arith}
+use Rattle.std.proofs.Common.{◌≡◌, ℕ, zero, suc, ◌+◌, ◌*◌, ◌<◌, ◌≤◌, true, false, Bool, cond}
+use Rattle.std.proofs.Common.{◌||◌, List, []}
+use Rattle.std.proofs.Common.{◌∷◌, ◌++◌, length, Option, Some, None, IsSome, is_some, inl, inr}
+use Rattle.std.proofs.Common.{length-append, refl, sym, ◌∙◌, ap, subst, arith}
 use Rattle.std.proofs.lemmas.List.{append-nil, append_assoc, map-append}
 use Rattle.std.proofs.lemmas.List.Sums.{count_by-le-length, sum_by-append, sum_by-cons, sum_by_push}
 use Rattle.std.specs.List.{AllByRecursion, count_by}
@@ -21,7 +22,7 @@ use Rattle.nfs_objects.specs.Asks.{EachOnce, MayAsk}
 use Rattle.nfs_objects.specs.Attempt.{Attempts}
 use Rattle.nfs_objects.specs.Bound.{AsksFew, Given, Gives, Grows, NamesFew, Read, Round, WasAsked, asked_count}
 use Rattle.nfs_objects.specs.Bound.{empty_count, held, view_after, with_round}
-use Rattle.nfs_objects.specs.Calls.{IsAmong, named_by, nfs_handles, nlm_handles, objects_at}
+use Rattle.nfs_objects.specs.Calls.{IsAmong, named_by, nfs_handles, nlm_handles, objects_at, usages_of}
 use Rattle.nfs_objects.specs.Fits.{Fits, vacant}
 use Rattle.nfs_objects.specs.Modes.{modes_of}
 use Rattle.nfs_objects.specs.Sound.{Sound}
@@ -33,7 +34,6 @@ use Rattle.nfs_objects.specs.declared.address.Addr.TheVariants as addresses
 use Rattle.nfs_objects.specs.declared.change.Outcome.{Outcome}
 use Rattle.nfs_objects.specs.declared.change.Outcome.TheVariants.{Need, Fresh, Done}
 use Rattle.nfs_objects.specs.declared.modes.Mode.{Mode}
-use Rattle.nfs_objects.specs.declared.modes.Modes.{Modes}
 use Rattle.nfs_objects.specs.declared.object.Object.{Object}
 use Rattle.nfs_objects.specs.declared.view.Reserved.{Reserved}
 
@@ -344,17 +344,27 @@ asks-few call ctx rounds outcome s k grows attempts fits stands sound formed =
     (bounded call ctx s k stands sound formed rounds grows fits)
 
 -- ---- what a call names
-objects-few : (handles : List (List ℕ)) → length (objects_at handles) ≤ length handles
+usages-few : (export count : ℕ) → length (usages_of export count) ≡ count
+unfolding usages_of
+usages-few export zero = refl
+usages-few export (suc count) = ap suc (usages-few export count)
+
+objects-few : (handles : List (List ℕ)) → length (objects_at handles) ≤ 65 * length handles
 objects-few [] = omega arith
 objects-few (handle ∷ handles) =
     let rest = objects-few handles in
     elim (handle_of handle) as (λ (h : Option Handle).
     length (elim h as (λ (o : Option Handle). List Addr) [
       | None ↦ objects_at handles
-      | Some x ↦ addresses.Inode x.fileid ∷ objects_at handles
-    ]) ≤ length (handle ∷ handles)) [
+      | Some x ↦ addresses.Inode x.fileid ∷ usages_of x.export 64 ++ objects_at handles
+    ]) ≤ 65 * length (handle ∷ handles)) [
       | None ↦ omega (arith, rest)
-      | Some h ↦ omega (arith, rest)
+      | Some h ↦ omega (
+        arith,
+        rest,
+        length-append (usages_of h.export 64) (objects_at handles),
+        usages-few h.export 64,
+      )
     ]
 
 nfs-handles-few : (call : NfsCall) → length (nfs_handles call) ≤ 2

@@ -104,9 +104,11 @@ module _ (d : DraftValue) (is : IsDraft d.modes d.view d.writes) where
   given-with (addresses.Inode n) (Some (objects.Inode i)) (inr reserved) = inr reserved
   given-with (addresses.Inode n) (Some (objects.Exports table)) may = tt
   given-with (addresses.Inode n) (Some (objects.Mounts table)) may = tt
+  given-with (addresses.Inode n) (Some (objects.Usage u)) may = tt
   given-with (addresses.Inode n) None may = tt
   given-with addresses.Exports o may = tt
   given-with addresses.Mounts o may = tt
+  given-with (addresses.Usage e g) o may = tt
 
   pub drafted : (a : Addr) (o : Option Object) → mode_at d.modes a ≡ Exclusive → IsSome (known_at d a) →
       MayWrite d a o

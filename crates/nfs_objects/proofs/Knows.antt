@@ -1,6 +1,10 @@
 -- How what a draft knows, and why it halts, goes from a reader to the procedure.
-use Rattle.std.proofs.Common.{◌≡◌, ℕ, List, [], ◌∷◌, Option, Some, None, Result, Ok, Err, ◌⊎◌, inl}
-use Rattle.std.proofs.Common.{inr, refl, sym, ◌∙◌, ap, subst}
+use Rattle.std.proofs.Common.{◌≡◌, ◌≢◌, ◌==◌, ◌<◌, ℕ, zero, suc, true, false, List, [], ◌∷◌}
+use Rattle.std.proofs.Common.{◌++◌}
+use Rattle.std.proofs.Common.{Option, Some, None, Result, Ok, Err, ◌⊎◌, inl}
+use Rattle.std.proofs.Common.{inr, refl, sym, ◌∙◌, ap, subst, arith}
+use Rattle.std.specs.Cmp.{unsigned_Decides}
+use Rattle.std.proofs.Math.Nat.{mod-lt}
 use Rattle.nfs_wire.specs.declared.status.NfsStatus.{NfsStatus}
 use Rattle.nfs_machine.specs.Handles.{handle_of}
 use Rattle.nfs_machine.specs.State.{State}
@@ -10,11 +14,12 @@ use Rattle.nfs_machine.specs.declared.handle.Handle.{Handle}
 use Rattle.nfs_objects.proofs.Seen.{unknown-unseen}
 use Rattle.nfs_objects.specs.Asks.{Asks, IsFresh, Lacks, Lives}
 use Rattle.nfs_objects.specs.Attempt.{Ends, IsSettled, Stops}
-use Rattle.nfs_objects.specs.Calls.{IsAmong, objects_at}
+use Rattle.nfs_objects.specs.Calls.{IsAmong, objects_at, usages_of}
 use Rattle.nfs_objects.specs.Knows.{Comes, Halts, IsNoStatus, Knows, Possible, Tells, Turns, unsettled}
 use Rattle.nfs_objects.specs.Modes.{mode_at}
 use Rattle.nfs_objects.specs.Stands.{Kept}
 use Rattle.nfs_objects.specs.Store.{Store}
+use Rattle.nfs_objects.specs.Sums.{group_of}
 use Rattle.nfs_objects.specs.Values.{DraftValue, ViewValue, seen_at}
 use Rattle.nfs_objects.specs.declared.address.Addr.{Addr}
 use Rattle.nfs_objects.specs.declared.address.Addr.TheVariants as addresses
@@ -111,17 +116,61 @@ pub among-first : (handle : List ℕ) (handles : List (List ℕ)) (h : Handle) �
 among-first handle handles h is =
     subst
     (λ o. IsAmong
-    (elim o [ None ↦ objects_at handles | Some x ↦ addresses.Inode x.fileid ∷ objects_at handles ])
+    (elim o [
+      | None ↦ objects_at handles
+      | Some x ↦ addresses.Inode x.fileid ∷ usages_of x.export 64 ++ objects_at handles
+    ])
     (addresses.Inode h.fileid)) (sym is) (inl refl)
+
+among-behind : (more addresses : List Addr) (a : Addr) → IsAmong addresses a → IsAmong (more ++ addresses) a
+among-behind [] addresses a among = among
+among-behind (b ∷ more) addresses a among = inr (among-behind more addresses a among)
+
+among-front : (front more : List Addr) (a : Addr) → IsAmong front a → IsAmong (front ++ more) a
+among-front [] more a among = absurd among
+among-front (b ∷ front) more a (inl same) = inl same
+among-front (b ∷ front) more a (inr among) = inr (among-front front more a among)
+
+among-usages : (export count group : ℕ) → group < count →
+    IsAmong (usages_of export count) (addresses.Usage export group)
+unfolding usages_of
+among-usages export zero group below = absurd (omega (arith, below))
+among-usages export (suc count) group below =
+    elim (count == group) as (λ b. (count == group) ≡ b →
+    IsAmong (addresses.Usage export count ∷ usages_of export count) (addresses.Usage export group)) [
+      | true ↦ λ same. inl (ap (addresses.Usage export) ((unsigned_Decides count group).0 same))
+      | false ↦ λ other. inr (among-usages export count group
+          (let apart : count ≢ group = λ e.
+          (let no : true ≡ false = sym ((unsigned_Decides count group).1 e) ∙ other in cc) in
+          omega (arith, below, apart)))
+    ] refl
+
+-- what each group of its export uses is named with the object of a handle
+pub among-counted : (handle : List ℕ) (handles : List (List ℕ)) (h : Handle) (number : ℕ)
+    → handle_of handle ≡ Some h →
+    IsAmong (objects_at (handle ∷ handles)) (addresses.Usage h.export (group_of number))
+among-counted handle handles h number is =
+    subst
+    (λ o. IsAmong
+    (elim o [
+      | None ↦ objects_at handles
+      | Some x ↦ addresses.Inode x.fileid ∷ usages_of x.export 64 ++ objects_at handles
+    ])
+    (addresses.Usage h.export (group_of number))) (sym is)
+    (inr (among-front (usages_of h.export 64) (objects_at handles) (addresses.Usage h.export (group_of number))
+    (among-usages h.export 64 (group_of number) (mod-lt number (let p : 0 < 64 = omega arith in p)))))
 
 pub among-next : (handle : List ℕ) (handles : List (List ℕ)) (a : Addr) → IsAmong (objects_at handles) a →
     IsAmong (objects_at (handle ∷ handles)) a
 among-next handle handles a among =
     elim (handle_of handle) as
     (λ (o : Option Handle). IsAmong
-    (elim o [ None ↦ objects_at handles | Some x ↦ addresses.Inode x.fileid ∷ objects_at handles ]) a) [
+    (elim o [
+      | None ↦ objects_at handles
+      | Some x ↦ addresses.Inode x.fileid ∷ usages_of x.export 64 ++ objects_at handles
+    ]) a) [
       | None ↦ among
-      | Some x ↦ inr among
+      | Some x ↦ inr (among-behind (usages_of x.export 64) (objects_at handles) a among)
     ]
 
 -- ---- chains of checks: a check that passed, and one that failed

@@ -2,10 +2,14 @@ pub mod Bounded
 pub mod Compared
 pub mod Drafted
 pub mod ExportTables
+pub mod Grouped
 pub mod Knows
 pub mod Listed
 pub mod Looked
 pub mod MountTables
 pub mod Promised
+pub mod Rising
 pub mod Seen
+pub mod Summed
+pub mod Tallies
 pub mod Turns

@@ -1,7 +1,7 @@
 -- The map of a view's entries: what a look-up finds is what the view shows.
 use Rattle.std.specs.Prelude.{◌≡◌, ◌++◌, Bool, true, false, List, [], ◌∷◌, Some, None, option_map, map}
 use Rattle.std.specs.Prelude.{OnOk, Result, Ok, refl}
-use Rattle.std.proofs.Common.{cond, ◌∙◌, ap, subst}
+use Rattle.std.proofs.Common.{cond, nat_eq, ◌&&◌, ◌∙◌, ap, subst}
 use Rattle.std.proofs.lemmas.List.{map-append}
 use Rattle.std.specs.Arc.{arc_value}
 use Rattle.std.specs.Cmp.{nat_eq_equiv}
@@ -10,7 +10,7 @@ use Rattle.indexmap.proofs.CallerLemmas.{insert_entry-new}
 use Rattle.indexmap.specs.IndexMap.{IndexMap, insert_entry}
 use Rattle.nfs_objects.specs.contracts.address.AddrPartialEq.TheImpl.{eq-value}
 use Rattle.nfs_objects.specs.declared.address.Addr.{Addr}
-use Rattle.nfs_objects.specs.declared.address.Addr.TheVariants.{Exports, Inode, Mounts}
+use Rattle.nfs_objects.specs.declared.address.Addr.TheVariants.{Exports, Inode, Mounts, Usage}
 use Rattle.nfs_objects.specs.declared.view.Entry.{Entry}
 use Rattle.nfs_objects.specs.Values.{Seen, is_addr, seen_at, seen_of, shown_at}
 
@@ -22,23 +22,38 @@ pub tests : (a b : Addr) → same_address a b ≡ is_addr b a
 tests Exports Exports = refl
 tests Exports (Inode m) = refl
 tests Exports Mounts = refl
+tests Exports (Usage f h) = refl
 tests (Inode n) Exports = refl
 tests (Inode n) (Inode m) = nat_eq_equiv.symm n m
 tests (Inode n) Mounts = refl
+tests (Inode n) (Usage f h) = refl
 tests Mounts Exports = refl
 tests Mounts (Inode m) = refl
 tests Mounts Mounts = refl
+tests Mounts (Usage f h) = refl
+tests (Usage e g) Exports = refl
+tests (Usage e g) (Inode m) = refl
+tests (Usage e g) Mounts = refl
+tests (Usage e g) (Usage f h) =
+    ap (λ b. b && nat_eq g h) (nat_eq_equiv.symm e f) ∙ ap (λ b. nat_eq f e && b) (nat_eq_equiv.symm g h)
 
 pub tested : (a b : Addr) → same_address a b ≡ is_addr a b
 tested Exports Exports = refl
 tested Exports (Inode m) = refl
 tested Exports Mounts = refl
+tested Exports (Usage f h) = refl
 tested (Inode n) Exports = refl
 tested (Inode n) (Inode m) = refl
 tested (Inode n) Mounts = refl
+tested (Inode n) (Usage f h) = refl
 tested Mounts Exports = refl
 tested Mounts (Inode m) = refl
 tested Mounts Mounts = refl
+tested Mounts (Usage f h) = refl
+tested (Usage e g) Exports = refl
+tested (Usage e g) (Inode m) = refl
+tested (Usage e g) Mounts = refl
+tested (Usage e g) (Usage f h) = refl
 
 -- what holds of a good end holds where it was one
 pub so-ok : {T E P : Type 0} {r : Result T E} {x : T} → r ≡ Ok x → OnOk r P → P

@@ -1,13 +1,15 @@
 -- Tables of mounts in pieces: what is true of the pieces is true of all mounts.
-use Rattle.std.proofs.Common.{◌≡◌, ℕ, ◌+◌, ◌-◌, ◌<◌, ◌≤◌, Bool, false, cond, ◌&&◌}
-use Rattle.std.proofs.Common.{◌||◌, List, [], ◌∷◌, ◌++◌, length, drop, map, nat_eq, refl, sym, ap}
-use Rattle.std.proofs.Common.{◌∙◌, arith, length-append}
+use Rattle.std.proofs.Common.{◌≡◌, ℕ, ◌+◌, ◌-◌, ◌<◌, ◌≤◌, Bool, true, false, cond, not, ◌&&◌}
+use Rattle.std.proofs.Common.{◌||◌, List, [], ◌∷◌, ◌++◌, length, drop, filter, map, take, get_or, nat_eq}
+use Rattle.std.proofs.Common.{refl, sym, ap, subst, ◌∙◌, arith, length-append}
 use Rattle.std.specs.Cmp.Lexicographic.{nat_list_eq_equiv, pointwise}
 use Rattle.std.specs.List.{list_any}
 use Rattle.std.proofs.lemmas.Bool.{or_parts}
-use Rattle.std.proofs.lemmas.List.{drop-append-le, length-drop}
+use Rattle.std.proofs.lemmas.List.{append-nil, drop-append-le, length-drop, map_more, nil_from_length, take_all}
 use Rattle.std.proofs.lemmas.List.Concat.{flat_map-append}
-use Rattle.std.proofs.lemmas.List.Folds.{list_any-append}
+use Rattle.std.proofs.lemmas.List.Elements.{filter-append}
+use Rattle.std.proofs.lemmas.List.Folds.{flat_map-map, length-flat_map-take, list_any-append}
+use Rattle.std.proofs.lemmas.List.Sums.{count_by-le-length, length-filter}
 use Rattle.indexmap.specs.IndexSet.{insert_key}
 use Rattle.nfs_machine.specs.MountSteps.{is_mounted, is_of, newest}
 use Rattle.nfs_objects.specs.MountTables.{AreFilled, AreInPieces, joined}
@@ -75,10 +77,6 @@ module _ {X : Type 0} where
 
   pub joined-last : (front : List (List X)) (last : List X) → joined (front ++ last ∷ []) ≡ joined front ++ last
   joined-last front last = joined-append front (last ∷ []) ∙ ap (λ xs. joined front ++ xs) (append-nil last)
-    where
-      append-nil : (xs : List X) → xs ++ [] ≡ xs
-      append-nil [] = refl
-      append-nil (x ∷ xs) = ap (λ ys. x ∷ ys) (append-nil xs)
 
   pub filled-append : (a b : List (List X)) → AreFilled a → AreFilled b → AreFilled (a ++ b)
   filled-append [] b none more = more
@@ -129,3 +127,108 @@ module _ {X : Type 0} where
 
   pub rest_one : (xs : List X) → 2 ≤ length xs → 0 < length (drop 1 xs)
   rest_one xs many = (let left = length-drop 1 xs in omega (arith, left, many))
+
+-- ---- what passes a test
+-- where no one passes, all are left without those that do
+pub all-stay : {X : Type 0} (p : X → Bool) (xs : List X) → list_any p xs ≡ false →
+    xs ≡ filter (λ x. not (p x)) xs
+all-stay p [] none = refl
+all-stay p (x ∷ xs) none =
+    elim (p x) as
+    (λ b. (b || list_any p xs) ≡ false → x ∷ xs ≡ cond (not b) (x ∷ filter (λ y. not (p y)) xs)
+    (filter (λ y. not (p y)) xs)) [
+      | true ↦ λ no. cc
+      | false ↦ λ others. ap (λ ys. x ∷ ys) (all-stay p xs others)
+    ] none
+
+-- of the pieces that were seen, what passes is kept, in pieces that are not empty; so many are kept
+pub record AreSifted {X : Type 0} (p : X → Bool) (seen kept : List (List X)) (count : ℕ) : Type 0 where
+  pub same : joined kept ≡ filter p (joined seen)
+  pub filled : AreFilled kept
+  pub counted : count ≡ length (joined kept)
+
+module _ {X : Type 0} (p : X → Bool) where
+  pub sifted-none : AreSifted p [] [] 0
+  sifted-none = record { same = refl; filled = tt; counted = refl }
+
+  -- they are no more than were seen
+  sifted-few : (seen kept : List (List X)) (count : ℕ) → AreSifted p seen kept count →
+      count ≤ length (joined seen)
+  sifted-few seen kept count sifted = omega (
+    arith,
+    sifted.counted,
+    ap length sifted.same,
+    length-filter p (joined seen),
+    count_by-le-length p (joined seen),
+  )
+
+  module _ (seen kept : List (List X)) (count : ℕ) (sifted : AreSifted p seen kept count) (piece rest : List X)
+      (passes : rest ≡ filter p piece) where
+    one-more-seen : filter p (joined (seen ++ piece ∷ [])) ≡ joined kept ++ rest
+    one-more-seen =
+        ap (filter p) (joined-last seen piece) ∙ filter-append p (joined seen) piece
+        ∙ (λ i. sym sifted.same i ++ sym passes i)
+
+    sifted-more : 0 < length rest → AreSifted p (seen ++ piece ∷ []) (kept ++ rest ∷ []) (count + length rest)
+    sifted-more some = record {
+      same = joined-last kept rest ∙ sym one-more-seen;
+      filled = filled-append kept (rest ∷ []) sifted.filled (some, tt);
+      counted =
+          ap (λ n. n + length rest) sifted.counted ∙ sym (length-append (joined kept) rest)
+          ∙ sym (ap length (joined-last kept rest));
+    }
+
+    sifted-same : length rest ≡ 0 → AreSifted p (seen ++ piece ∷ []) kept count
+    sifted-same none = record {
+      same = sym (one-more-seen ∙ ap (λ xs. joined kept ++ xs) (nil_from_length rest none)
+          ∙ append-nil (joined kept));
+      filled = sifted.filled;
+      counted = sifted.counted;
+    }
+
+-- the same of the pieces at the first places
+module _ {A X : Type 0} (f : A → List X) (p : X → Bool) (pieces : List A) where
+  module _ (i : ℕ) (piece : A) (kept : List (List X)) (count : ℕ) (rest : List X)
+      (sifted : AreSifted p (map f (take i pieces)) kept count) (within : i < length pieces)
+      (at : piece ≡ get_or pieces i piece) (passes : rest ≡ filter p (f piece)) where
+    next : map f (take (i + 1) pieces) ≡ map f (take i pieces) ++ f piece ∷ []
+    next =
+        map_more f pieces i piece within ∙ ap (λ x. map f (take i pieces) ++ f x ∷ []) (sym at)
+
+    pub sifted-next : 0 < length rest →
+        AreSifted p (map f (take (i + 1) pieces)) (kept ++ rest ∷ []) (count + length rest)
+    sifted-next some =
+        subst (λ seen. AreSifted p seen (kept ++ rest ∷ []) (count + length rest)) (sym next)
+        (sifted-more p (map f (take i pieces)) kept count sifted (f piece) rest passes some)
+
+    pub sifted-on : length rest ≡ 0 → AreSifted p (map f (take (i + 1) pieces)) kept count
+    sifted-on none =
+        subst (λ seen. AreSifted p seen kept count) (sym next)
+        (sifted-same p (map f (take i pieces)) kept count sifted (f piece) rest passes none)
+
+    -- there is room for the rest
+    pub sifted-room : count + length rest ≤ length (joined (map f pieces))
+    sifted-room = omega (
+      arith,
+      sifted-few p (map f (take i pieces)) kept count sifted,
+      ap length passes,
+      length-filter p (f piece),
+      count_by-le-length p (f piece),
+      length-flat_map-take f pieces i piece within,
+      ap (λ x. length (f x)) at,
+      ap length (flat_map-map (λ xs. xs) f (take i pieces)),
+      ap length (flat_map-map (λ xs. xs) f pieces),
+    )
+
+  -- all were seen
+  pub sifted-all : (i : ℕ) (kept : List (List X)) (count : ℕ) → length pieces ≤ i →
+      AreSifted p (map f (take i pieces)) kept count → AreSifted p (map f pieces) kept count
+  sifted-all i kept count all = subst (λ seen. AreSifted p (map f seen) kept count) (take_all i pieces all)
+
+  pub sifted-pieces : (kept : List (List X)) (count was : ℕ) → AreSifted p (map f pieces) kept count →
+      AreInPieces (map f pieces) was → AreInPieces kept count
+  sifted-pieces kept count was sifted held = record {
+    counted = sifted.counted;
+    bounded = omega (arith, sifted-few p (map f pieces) kept count sifted, held.counted, held.bounded);
+    filled = sifted.filled;
+  }

@@ -1,12 +1,13 @@
 -- What a draft knows of an address stands there in each store that its view fits, once the draft is written.
 use Rattle.std.specs.Prelude.{◌≡◌, ◌++◌, true, false, List, [], ◌∷◌, Option, Some, None, option_map}
 use Rattle.std.specs.Prelude.{refl}
-use Rattle.std.proofs.Common.{cond, sym, ◌∙◌, ap, arith, subst}
+use Rattle.std.proofs.Common.{cond, ◌==◌, ◌&&◌, sym, ◌∙◌, ap, arith, subst}
+use Rattle.std.proofs.lemmas.Bool.{and_parts}
 use Rattle.std.proofs.lemmas.Bool.Decides.{nat_tests}
 use Rattle.std.specs.Cmp.{unsigned_Decides}
 use Rattle.std.specs.List.{AllByRecursion}
 use Rattle.nfs_objects.specs.declared.address.Addr.{Addr}
-use Rattle.nfs_objects.specs.declared.address.Addr.TheVariants.{Exports, Inode, Mounts}
+use Rattle.nfs_objects.specs.declared.address.Addr.TheVariants.{Exports, Inode, Mounts, Usage}
 use Rattle.nfs_objects.specs.declared.object.Inode as stored
 use Rattle.nfs_objects.specs.declared.object.Object.{Object}
 use Rattle.nfs_objects.specs.declared.object.Object.TheVariants as objects
@@ -21,17 +22,27 @@ pub is_addr-same : (a b : Addr) → is_addr a b ≡ true → a ≡ b
 is_addr-same Exports Exports e = refl
 is_addr-same Exports (Inode m) e = cc
 is_addr-same Exports Mounts e = cc
+is_addr-same Exports (Usage f h) e = cc
 is_addr-same (Inode n) Exports e = cc
 is_addr-same (Inode n) (Inode m) e = ap (λ k. Inode k) (let same : n ≡ m = grind (arith, nat_tests) in same)
 is_addr-same (Inode n) Mounts e = cc
+is_addr-same (Inode n) (Usage f h) e = cc
 is_addr-same Mounts Exports e = cc
 is_addr-same Mounts (Inode m) e = cc
 is_addr-same Mounts Mounts e = refl
+is_addr-same Mounts (Usage f h) e = cc
+is_addr-same (Usage e g) Exports is = cc
+is_addr-same (Usage e g) (Inode m) is = cc
+is_addr-same (Usage e g) Mounts is = cc
+is_addr-same (Usage e g) (Usage f h) is =
+    let both = and_parts (e == f) (g == h) is in
+    ap (λ x. Usage x g) ((unsigned_Decides e f).0 both.0) ∙ ap (Usage f) ((unsigned_Decides g h).0 both.1)
 
 pub is_addr-refl : (a : Addr) → is_addr a a ≡ true
 is_addr-refl Exports = refl
 is_addr-refl (Inode n) = (unsigned_Decides n n).1 refl
 is_addr-refl Mounts = refl
+is_addr-refl (Usage e g) = ap (λ b. b && (g == g)) ((unsigned_Decides e e).1 refl) ∙ (unsigned_Decides g g).1 refl
 
 -- a fact of each, and of one more
 pub all-append : {X : Type 0} (P : X → Type 0) (xs : List X) (x : X) → AllByRecursion P xs → P x →
@@ -199,3 +210,4 @@ is_inode None o e = cc
 is_inode (Some (objects.Exports table)) o e = cc
 is_inode (Some (objects.Inode j)) o e = let same : o ≡ j = cc in ap (λ x. Some (objects.Inode x)) (sym same)
 is_inode (Some (objects.Mounts table)) o e = cc
+is_inode (Some (objects.Usage u)) o e = cc

@@ -1,9 +1,10 @@
 -- What one write of an inode does to what the store stands for.
-use Rattle.std.proofs.Common.{◌≡◌, ◌==◌, ℕ, ◌<◌, ◌≤◌, true, false, cond, ◌||◌, ◌&&◌, max}
+use Rattle.std.proofs.Common.{◌≡◌, ◌==◌, ℕ, ◌<◌, ◌≤◌, Bool, true, false, cond, option_map}
+use Rattle.std.proofs.Common.{◌||◌, ◌&&◌, max}
 use Rattle.std.proofs.Common.{nat_le, List, Option, Some, None, inl, inr, refl, sym, ◌∙◌, ap, subst, arith}
 use Rattle.std.proofs.Math.Bool.{or-false}
 use Rattle.std.proofs.Math.Nat.{le-max_left, le-max_right}
-use Rattle.std.proofs.lemmas.Bool.{le-leb, lt-leb}
+use Rattle.std.proofs.lemmas.Bool.{and_parts, le-leb, lt-leb}
 use Rattle.std.proofs.lemmas.Bool.Decides.{leb_tells}
 use Rattle.std.specs.Cmp.{nat_eq_equiv, unsigned_Decides}
 use Rattle.std.specs.FinMap.{FinMap, empty, get, insert, remove}
@@ -15,18 +16,22 @@ use Rattle.nfs_machine.proofs.Sums.{get-inserted}
 use Rattle.nfs_machine.specs.FileLists.{grants_but}
 use Rattle.nfs_machine.specs.State.{Living, PendingGrant}
 use Rattle.nfs_objects.proofs.Seen.{known-stands, writes-append}
-use Rattle.nfs_objects.specs.Edits.{edited, freed, set_at, with_living, with_mounts, with_new}
+use Rattle.nfs_objects.specs.Edits.{edited, freed, recounted, set_at, with_living, with_mounts, with_new}
 use Rattle.nfs_objects.specs.Fits.{Fits}
 use Rattle.nfs_objects.specs.Knows.{Turns}
-use Rattle.nfs_objects.specs.Stands.{Kept, Represents, inode_of, links_kept, living_of, living_of_inode, parent_in}
+use Rattle.nfs_objects.specs.Stands.{IsFitting, Kept, Represents, inode_of, links_kept, living_of}
+use Rattle.nfs_objects.specs.Stands.{living_of_inode, parent_in}
 use Rattle.nfs_objects.specs.Stands.{parent_kept}
 use Rattle.nfs_objects.specs.Store.{Store, give, put_at, with_write, with_writes}
+use Rattle.nfs_objects.specs.Sums.{exchanged, exchanged_at, group_of, in_export, is_none, is_same_usage}
+use Rattle.nfs_objects.specs.Sums.{moved, no_usage, stored_usage, usage_of}
 use Rattle.nfs_objects.specs.Values.{DraftValue, known_at, with_written}
 use Rattle.nfs_objects.specs.declared.address.Addr.{Addr}
 use Rattle.nfs_objects.specs.declared.address.Addr.TheVariants as addresses
 use Rattle.nfs_objects.specs.declared.object.Inode.{Inode}
 use Rattle.nfs_objects.specs.declared.object.Object.{Object}
 use Rattle.nfs_objects.specs.declared.object.Object.TheVariants as objects
+use Rattle.nfs_objects.specs.declared.usage.Usage.{Usage}
 
 -- what stands where an inode was put
 lives-put : (at : Addr → Option Object) (living : FinMap nat_cmp Living) (number : ℕ) (i : Inode) →
@@ -74,10 +79,27 @@ last-kept last number generation n within =
       | false ↦ λ e. refl
     ] refl
 
+-- what stands somewhere fits
+fits-put : (at : Addr → Option Object) (number : ℕ) (new : Inode) →
+    ((n : ℕ) (i : Inode) → at (addresses.Inode n) ≡ Some (objects.Inode i) → IsFitting n i)
+    → IsFitting number new
+    → (n : ℕ) (i : Inode) → put_at at (addresses.Inode number) (Some (objects.Inode new))
+    (addresses.Inode n) ≡ Some
+    (objects.Inode i) → IsFitting n i
+fits-put at number new fits here n i is =
+    elim (number == n) as (λ b. (number == n) ≡ b
+    → cond b (Some (objects.Inode new)) (at (addresses.Inode n)) ≡ Some
+    (objects.Inode i) → IsFitting n i) [
+      | true ↦ λ same there. (let e : new ≡ i = cc in
+          subst (IsFitting n) e (subst (λ q. IsFitting q new) ((unsigned_Decides number n).0 same) here))
+      | false ↦ λ other there. fits n i there
+    ] refl is
+
 pub put-stands : (s : Store) (k : Kept) (n : ℕ) (i : Inode) → Represents s k → i.generation ≤ s.last n
+    → IsFitting n i
     → Represents (with_write s (addresses.Inode n) (Some (objects.Inode i)))
     (with_living k n (living_of_inode i) i.links (parent_in i.content))
-put-stands s k n i stands within = record {
+put-stands s k n i stands within fits = record {
   exports = stands.exports;
   last_export = stands.last_export;
   objects = lives-put s.at k.state.objects n i stands.objects;
@@ -86,6 +108,8 @@ put-stands s k n i stands within = record {
   given = given-put s n i (give s.last (addresses.Inode n) (Some (objects.Inode i))) stands.given
       (λ q. (let e = last-kept s.last n i.generation q within in omega (arith, e)))
       (let e = last-kept s.last n i.generation n within in omega (arith, e, within));
+  fits = fits-put s.at n i stands.fits fits;
+  usage = stands.usage;
   mounts = stands.mounts;
   spent = λ q g. stands.spent q g ∙ ap (λ l. nat_le g l) (sym (last-kept s.last n i.generation q within));
   no_locks = stands.no_locks;
@@ -115,6 +139,9 @@ free-stands s k n stands = record {
   parents = kept-put (λ o. parent_kept (inode_of o)) s.at k.parents n None stands.parents;
   given = λ q i at. elim (n == q) as (λ b. cond b None (s.at (addresses.Inode q)) ≡ Some (objects.Inode i) →
       i.generation ≤ s.last q) [ true ↦ λ e. cc | false ↦ λ e. stands.given q i e ] at;
+  fits = λ q i at. elim (n == q) as (λ b. cond b None (s.at (addresses.Inode q)) ≡ Some (objects.Inode i) →
+      IsFitting q i) [ true ↦ λ e. cc | false ↦ λ e. stands.fits q i e ] at;
+  usage = stands.usage;
   mounts = stands.mounts;
   spent = stands.spent;
   no_locks = none-removed n k.state.locks stands.no_locks;
@@ -141,10 +168,10 @@ below_max g a b = elim (leb_tells g a) [
     max-lt : (x y z : ℕ) → x < z → y < z → max x y < z
     max-lt x y z h k = omega (arith, h, k)
 
-pub new-stands : (s : Store) (k : Kept) (n : ℕ) (i : Inode) → Represents s k
+pub new-stands : (s : Store) (k : Kept) (n : ℕ) (i : Inode) → Represents s k → IsFitting n i
     → Represents (with_write s (addresses.Inode n) (Some (objects.Inode i)))
     (with_new k n (living_of_inode i) i.links (parent_in i.content))
-new-stands s k n i stands = record {
+new-stands s k n i stands fits = record {
   exports = stands.exports;
   last_export = stands.last_export;
   objects = lives-put s.at k.state.objects n i stands.objects;
@@ -154,6 +181,8 @@ new-stands s k n i stands = record {
       (λ q. more q)
       (subst (λ b. i.generation ≤ cond b (max (s.last n) i.generation) (s.last n))
       (sym ((unsigned_Decides n n).1 refl)) (le-max_right (s.last n) i.generation));
+  fits = fits-put s.at n i stands.fits fits;
+  usage = stands.usage;
   mounts = stands.mounts;
   spent = λ q g.
       ap (λ b. b || ((q == n) && nat_le g i.generation)) (stands.spent q g)
@@ -184,6 +213,8 @@ mounts-stand s k table stands = record {
   links = stands.links;
   parents = stands.parents;
   given = stands.given;
+  fits = stands.fits;
+  usage = stands.usage;
   mounts = refl;
   spent = stands.spent;
   no_locks = stands.no_locks;
@@ -192,6 +223,72 @@ mounts-stand s k table stands = record {
   no_granted = stands.no_granted;
   no_spent_grants = stands.no_spent_grants;
 }
+
+-- what stands for a usage is that usage
+usage-stored : (u : Usage) → usage_of (stored_usage u) ≡ u
+usage-stored u =
+    elim (is_none u) as (λ b. is_none u ≡ b → usage_of (cond b None (Some (objects.Usage u))) ≡ u) [
+      | true ↦ λ none. (let both = and_parts (u.used == 0) (u.objects == 0) none in
+          λ i. record {
+            used = sym ((unsigned_Decides u.used 0).0 both.0) i;
+            objects = sym ((unsigned_Decides u.objects 0).0 both.1) i;
+          })
+      | false ↦ λ some. refl
+    ] refl
+
+-- what a group's objects use
+module _ (s : Store) (k : Kept) (e n : ℕ) (before after : Usage) where
+  abbrev share : Usage → ℕ → Usage
+  share u = in_export e u
+
+  abbrev written : Usage
+  written = exchanged before after (k.usage e (group_of n))
+
+  abbrev now : Kept
+  now = recounted n (share before) (share after) k
+
+  usage-put : ((p q : ℕ) → s.at (addresses.Usage p q) ≡ stored_usage (k.usage p q)) → (p q : ℕ)
+      → put_at s.at (addresses.Usage e (group_of n)) (stored_usage written) (addresses.Usage p q) ≡
+      stored_usage (now.usage p q)
+  usage-put stands p q =
+      elim (group_of n == q) as (λ b. (group_of n == q) ≡ b →
+      cond ((e == p) && b) (stored_usage written) (s.at (addresses.Usage p q))
+      ≡ stored_usage (cond b (exchanged (share before p) (share after p) (k.usage p q)) (k.usage p q))) [
+        | true ↦ λ group. elim (e == p) as (λ b. (e == p) ≡ b →
+            cond (b && true) (stored_usage written) (s.at (addresses.Usage p q))
+            ≡ stored_usage (exchanged (cond b before no_usage) (cond b after no_usage) (k.usage p q))) [
+              | true ↦ λ export. ap (λ u. stored_usage (exchanged before after u))
+                  (ap (λ x. k.usage x (group_of n)) ((unsigned_Decides e p).0 export)
+                  ∙ ap (k.usage p) ((unsigned_Decides (group_of n) q).0 group))
+              | false ↦ λ export. stands p q
+            ] refl
+        | false ↦ λ group.
+            ap (λ b. cond b (stored_usage written) (s.at (addresses.Usage p q))) (and-false (e == p)) ∙ stands p q
+      ] refl
+    where
+      and-false : (b : Bool) → (b && false) ≡ false
+      and-false true = refl
+      and-false false = refl
+
+  pub usage-stands : Represents s k →
+      Represents (with_write s (addresses.Usage e (group_of n)) (stored_usage written)) now
+  usage-stands stands = record {
+    exports = stands.exports;
+    last_export = stands.last_export;
+    objects = stands.objects;
+    links = stands.links;
+    parents = stands.parents;
+    given = stands.given;
+    fits = stands.fits;
+    usage = usage-put stands.usage;
+    mounts = stands.mounts;
+    spent = stands.spent;
+    no_locks = stands.no_locks;
+    no_shares = stands.no_shares;
+    no_waiting = stands.no_waiting;
+    no_granted = stands.no_granted;
+    no_spent_grants = stands.no_spent_grants;
+  }
 
 module _ (d : DraftValue) where
   turns-written : (a : Addr) (o : Option Object) (op : Kept → Kept)
@@ -214,6 +311,65 @@ module _ (d : DraftValue) where
       turns-written addresses.Mounts (Some (objects.Mounts table)) (λ k. with_mounts k table)
       (λ s k fits stands. mounts-stand (with_writes s d.writes) k table stands)
 
+  -- what stands for a group is what is known of it
+  pub usage-known : (e g : ℕ) (u : Usage) → option_map usage_of (known_at d (addresses.Usage e g)) ≡ Some u
+      → (s : Store) (k : Kept) → Fits d.view s → Represents (with_writes s d.writes) k → k.usage e g ≡ u
+  usage-known e g u known s k fits stands =
+      by (known_at d (addresses.Usage e g)) refl known
+    where
+      by : (o : Option (Option Object)) → known_at d (addresses.Usage e g) ≡ o →
+          option_map usage_of o ≡ Some u → k.usage e g ≡ u
+      by None is found = cc
+      by (Some o) is found =
+          let there : o ≡ stored_usage (k.usage e g) =
+          sym (known-stands d s (addresses.Usage e g) o fits is) ∙ stands.usage e g in
+          let here : usage_of o ≡ u = cc in
+          sym (usage-stored (k.usage e g)) ∙ ap usage_of (sym there) ∙ here
+
+  -- the draft with another usage of the group of a number
+  pub usage-turns : (e n : ℕ) (before after u : Usage) → is_same_usage before after ≡ false
+      → option_map usage_of (known_at d (addresses.Usage e (group_of n))) ≡ Some u
+      → Turns d (with_written d (addresses.Usage e (group_of n)) (stored_usage (moved before after u)))
+      (λ k. recounted n (in_export e before) (in_export e after) k)
+  usage-turns e n before after u other known =
+      turns-written (addresses.Usage e (group_of n)) (stored_usage (moved before after u))
+      (λ k. recounted n (in_export e before) (in_export e after) k) (λ s k fits stands.
+      let is : exchanged before after (k.usage e (group_of n)) ≡ moved before after u =
+      ap (λ b. cond b (k.usage e (group_of n)) (moved before after (k.usage e (group_of n)))) other
+      ∙ ap (moved before after) (usage-known e (group_of n) u known s k fits stands) in
+      subst (λ (v : Usage). Represents
+      (with_write (with_writes s d.writes) (addresses.Usage e (group_of n)) (stored_usage v))
+      (recounted n (in_export e before) (in_export e after) k)) is
+      (usage-stands (with_writes s d.writes) k e n before after stands))
+
+  -- shares that are the same change nothing
+  pub same-turns : (e n : ℕ) (before after : Usage) → is_same_usage before after ≡ true
+      → Turns d d (λ k. recounted n (in_export e before) (in_export e after) k)
+  same-turns e n before after same = record {
+    ctx = refl;
+    view = refl;
+    modes = refl;
+    messages = refl;
+    turns = λ s k fits stands.
+        subst (λ u. Represents (with_writes s d.writes) (record k { usage = u })) (stays k) stands;
+  }
+    where
+      at : (k : Kept) (p q : ℕ) → exchanged_at n (in_export e before) (in_export e after) k.usage p
+          q ≡ k.usage p q
+      at k p q =
+          elim (group_of n == q) as (λ b.
+          cond b (exchanged (in_export e before p) (in_export e after p) (k.usage p q)) (k.usage p q) ≡ k.usage p q) [
+            | true ↦ elim (e == p) as (λ b.
+                exchanged (cond b before no_usage) (cond b after no_usage) (k.usage p q) ≡ k.usage p q) [
+                  | true ↦ ap (λ b. cond b (k.usage p q) (moved before after (k.usage p q))) same
+                  | false ↦ refl
+                ]
+            | false ↦ refl
+          ]
+
+      stays : (k : Kept) → k.usage ≡ exchanged_at n (in_export e before) (in_export e after) k.usage
+      stays k = λ i p q. sym (at k p q) i
+
 module _ (d : DraftValue) (n : ℕ) where
   -- the draft after it
   abbrev next : Option Object → DraftValue
@@ -228,9 +384,9 @@ module _ (d : DraftValue) (n : ℕ) where
   pub edit-turns : (i j : Inode) (object : Living → Living) (links : ℕ → ℕ) →
       known_at d (addresses.Inode n) ≡ Some (Some (objects.Inode i))
       → living_of_inode j ≡ object (living_of_inode i) → j.links ≡ links i.links →
-      parent_in j.content ≡ parent_in i.content → j.generation ≡ i.generation
+      parent_in j.content ≡ parent_in i.content → j.generation ≡ i.generation → IsFitting n j
       → Turns d (next (Some (objects.Inode j))) (λ k. edited k n object links)
-  edit-turns i j object links known is linked under generation = turns-next (Some (objects.Inode j))
+  edit-turns i j object links known is linked under generation fitting = turns-next (Some (objects.Inode j))
       (λ k. edited k n object links) (λ s k fits stands.
       let at : (with_writes s d.writes).at (addresses.Inode n) ≡ Some (objects.Inode i) =
       known-stands d s (addresses.Inode n) (Some (objects.Inode i)) fits known in
@@ -238,7 +394,7 @@ module _ (d : DraftValue) (n : ℕ) where
       let counted : k.links n ≡ i.links = stands.links n ∙ ap (λ o. links_kept (inode_of o)) at in
       let below : k.parents n ≡ parent_in i.content = stands.parents n ∙ ap (λ o. parent_kept (inode_of o)) at in
       let put = put-stands (with_writes s d.writes) k n j stands
-      (subst (λ g. g ≤ (with_writes s d.writes).last n) (sym generation) (stands.given n i at)) in
+      (subst (λ g. g ≤ (with_writes s d.writes).last n) (sym generation) (stands.given n i at)) fitting in
       let same : edited k n object links ≡ with_living k n (living_of_inode j) j.links (parent_in j.content) =
       ap
       (λ (o : Option Living). elim o [
@@ -256,8 +412,8 @@ module _ (d : DraftValue) (n : ℕ) where
   pub free-turns : Turns d (next None) (λ k. freed k n)
   free-turns = turns-next None (λ k. freed k n) (λ s k fits stands. free-stands (with_writes s d.writes) k n stands)
 
-  pub new-turns : (i : Inode) → Turns d (next (Some (objects.Inode i)))
+  pub new-turns : (i : Inode) → IsFitting n i → Turns d (next (Some (objects.Inode i)))
       (λ k. with_new k n (living_of_inode i) i.links (parent_in i.content))
-  new-turns i = turns-next (Some (objects.Inode i))
+  new-turns i fitting = turns-next (Some (objects.Inode i))
       (λ k. with_new k n (living_of_inode i) i.links (parent_in i.content))
-      (λ s k fits stands. new-stands (with_writes s d.writes) k n i stands)
+      (λ s k fits stands. new-stands (with_writes s d.writes) k n i stands fitting)

@@ -1,5 +1,6 @@
 -- What calls name.
-use Rattle.std.specs.Prelude.{◌≡◌, ℕ, Bool, true, false, List, [], ◌∷◌, Some, None, ◌⊎◌}
+use Rattle.std.specs.Prelude.{◌≡◌, ℕ, zero, suc, Bool, true, false, List, [], ◌∷◌, ◌++◌, Some, None}
+use Rattle.std.specs.Prelude.{◌⊎◌}
 use Rattle.nfs_wire.specs.declared.calls.NfsCall.{NfsCall}
 use Rattle.nfs_wire.specs.declared.calls.NfsCall.TheVariants as nfs
 use Rattle.side_wire.specs.declared.mount.MountCall.TheVariants as mount
@@ -64,16 +65,22 @@ is_null (calls.Mount mount.Null) = true
 is_null (calls.Nlm nlm.Null) = true
 is_null call = false
 
--- the addresses of the objects that handles name
+-- the addresses of what the first so many groups of an export use
+unfoldable pub usages_of : (export count : ℕ) → List Addr
+usages_of export zero = []
+usages_of export (suc group) = addresses.Usage export group ∷ usages_of export group
+
+-- the addresses of the objects that handles name, and of what all groups of their exports use: a new object is counted
+-- in a group that may be empty
 abbrev pub objects_at : List (List ℕ) → List Addr
 objects_at [] = []
 objects_at (handle ∷ handles) = elim (handle_of handle) [
   | None ↦ objects_at handles
-  | Some h ↦ addresses.Inode h.fileid ∷ objects_at handles
+  | Some h ↦ addresses.Inode h.fileid ∷ usages_of h.export 64 ++ objects_at handles
 ]
 
--- The addresses that a call names whether anything stands there or not: the exports, the objects of its handles, and
--- those that are its program's alone.
+-- The addresses that a call names whether anything stands there or not: the exports, the objects of its handles with
+-- what their exports use, and those that are its program's alone.
 abbrev pub named_by : Call → List Addr
 named_by (calls.Nfs call) = addresses.Exports ∷ objects_at (nfs_handles call)
 named_by (calls.Mount call) = addresses.Exports ∷ addresses.Mounts ∷ []

@@ -10,8 +10,10 @@ pub mod Entries
 pub mod ExportTables
 pub mod Fits
 pub mod Knows
+pub mod Leaving
 pub mod Modes
 pub mod MountTables
+pub mod Only
 pub mod Promise
 pub mod Rooms
 pub mod Same
@@ -19,4 +21,5 @@ pub mod SameLaws
 pub mod Sound
 pub mod Stands
 pub mod Store
+pub mod Sums
 pub mod Values

@@ -22,6 +22,7 @@ abbrev pub mode_at : Modes → Addr → Mode
 mode_at modes addresses.Exports = Shared
 mode_at modes (addresses.Inode n) = modes.inodes
 mode_at modes addresses.Mounts = modes.mounts
+mode_at modes (addresses.Usage e g) = modes.inodes
 
 -- alone, where it may be changed
 abbrev pub mode_for : (changes : Bool) → Mode

@@ -12,6 +12,7 @@ use Rattle.nfs_machine.specs.Bytes.{same_bytes}
 use Rattle.nfs_machine.specs.Exports.{ExportValue, LivingExport}
 use Rattle.nfs_machine.specs.State.{Entry}
 use Rattle.nfs_objects.specs.ExportTables.{ExportTableValue}
+use Rattle.nfs_objects.specs.Sums.{is_same_usage}
 use Rattle.nfs_objects.specs.Values.{Seen, ViewValue, is_addr}
 use Rattle.nfs_objects.specs.declared.directory.Directory.{Directory}
 use Rattle.nfs_objects.specs.declared.modes.Mode.{Mode}
@@ -81,6 +82,7 @@ abbrev pub same_object : Object → Object → Bool
 same_object (objects.Exports a) (objects.Exports b) = same_exports a b
 same_object (objects.Inode a) (objects.Inode b) = same_inode a b
 same_object (objects.Mounts a) (objects.Mounts b) = pointwise same_mount a b
+same_object (objects.Usage a) (objects.Usage b) = is_same_usage a b
 same_object a b = false
 
 -- ---- views

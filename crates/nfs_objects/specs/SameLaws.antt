@@ -19,6 +19,7 @@ use Rattle.nfs_objects.specs.Same.{same_content, same_device, same_directory, sa
 use Rattle.nfs_objects.specs.Same.{same_inode, same_living, same_mode, same_mount, same_number, same_object}
 use Rattle.nfs_objects.specs.Same.{held_value, same_held, same_owner, same_pair, same_seen, same_time, same_times}
 use Rattle.nfs_objects.specs.Same.{same_verifier, same_view}
+use Rattle.nfs_objects.specs.Sums.{is_same_usage}
 use Rattle.nfs_objects.specs.Values.{Seen, ViewValue, is_addr}
 use Rattle.nfs_objects.specs.declared.address.Addr.{Addr}
 use Rattle.nfs_objects.specs.declared.address.Addr.TheVariants as addresses
@@ -30,6 +31,7 @@ use Rattle.nfs_objects.specs.declared.object.Content.TheVariants as contents
 use Rattle.nfs_objects.specs.declared.object.Inode.{Inode}
 use Rattle.nfs_objects.specs.declared.object.Object.{Object}
 use Rattle.nfs_objects.specs.declared.object.Object.TheVariants as objects
+use Rattle.nfs_objects.specs.declared.usage.Usage.{Usage}
 use Rattle.nfs_objects.specs.declared.view.Entry.{Entry as ViewEntry}
 use Rattle.nfs_objects.specs.declared.view.Reserved.{Reserved}
 
@@ -256,16 +258,22 @@ pub mounts_decide : (a b : List MountBody) → Decides (pointwise same_mount a b
 mounts_decide = pointwise_decides mount_decides
 
 -- ---- objects
+pub usage_decides : (a b : Usage) → Decides (is_same_usage a b) (a ≡ b)
+usage_decides = from_self is_same_usage (λ a b e. grind rules)
+    (λ a. both _ _ (nat_own a.used) (nat_own a.objects))
+
 object_same : (a b : Object) → same_object a b ≡ true → a ≡ b
 object_same (objects.Exports a) (objects.Exports b) e = ap objects.Exports ((exports_decide a b).0 e)
 object_same (objects.Inode a) (objects.Inode b) e = ap objects.Inode ((inode_decides a b).0 e)
 object_same (objects.Mounts a) (objects.Mounts b) e = ap objects.Mounts ((mounts_decide a b).0 e)
+object_same (objects.Usage a) (objects.Usage b) e = ap objects.Usage ((usage_decides a b).0 e)
 object_same a b e = cc
 
 object_own : (a : Object) → same_object a a ≡ true
 object_own (objects.Exports a) = (exports_decide a a).1 refl
 object_own (objects.Inode a) = (inode_decides a a).1 refl
 object_own (objects.Mounts a) = (mounts_decide a a).1 refl
+object_own (objects.Usage a) = (usage_decides a a).1 refl
 
 pub object_decides : (a b : Object) → Decides (same_object a b) (a ≡ b)
 object_decides = from_self same_object object_same object_own
@@ -275,12 +283,15 @@ address_same : (a b : Addr) → is_addr a b ≡ true → a ≡ b
 address_same addresses.Exports addresses.Exports e = refl
 address_same (addresses.Inode a) (addresses.Inode b) e = ap addresses.Inode ((unsigned_Decides a b).0 e)
 address_same addresses.Mounts addresses.Mounts e = refl
+address_same (addresses.Usage e g) (addresses.Usage f h) p = λ i. addresses.Usage
+    ((unsigned_Decides e f).0 (first_so (e == f) _ p) i) ((unsigned_Decides g h).0 (second_so (e == f) _ p) i)
 address_same a b e = cc
 
 address_own : (a : Addr) → is_addr a a ≡ true
 address_own addresses.Exports = refl
 address_own (addresses.Inode n) = nat_own n
 address_own addresses.Mounts = refl
+address_own (addresses.Usage e g) = both _ _ (nat_own e) (nat_own g)
 
 pub address_decides : (a b : Addr) → Decides (is_addr a b) (a ≡ b)
 address_decides = from_self is_addr address_same address_own

@@ -5,6 +5,7 @@ use Rattle.nfs_machine.specs.Attributes.{links_of, is_directory}
 use Rattle.nfs_machine.specs.State.{Living}
 use Rattle.nfs_machine.specs.WellFormed.{IsParent}
 use Rattle.nfs_objects.specs.Stands.{Kept}
+use Rattle.nfs_objects.specs.Sums.{usage_in}
 
 pub record Sound (k : Kept) : Type 0 where
   -- the count of links that is kept of an object is the count that it has
@@ -12,3 +13,5 @@ pub record Sound (k : Kept) : Type 0 where
   -- the parent that is kept of a directory is its parent
   pub parents : (n : ℕ) (o : Living) → get k.state.objects n ≡ Some o → is_directory o.content ≡ true →
       IsParent k.state n (k.parents n)
+  -- the usage that is kept of a group is that of its objects
+  pub usage : (e g : ℕ) → k.usage e g ≡ usage_in k.state e g

@@ -1,8 +1,10 @@
 -- The state that a store stands for.
-use Rattle.std.specs.Prelude.{◌≡◌, ◌≤◌, ℕ, false, List, [], Option, Some, None, option_map, unwrap_or}
+use Rattle.std.specs.Prelude.{◌≡◌, ◌<◌, ◌≤◌, ◌^◌, ℕ, false, List, [], Option, Some, None}
+use Rattle.std.specs.Prelude.{option_map, unwrap_or}
 use Rattle.std.specs.Prelude.{nat_le}
 use Rattle.std.specs.FinMap.{empty, get}
 use Rattle.nfs_wire.specs.declared.calls.Verifier.{Verifier}
+use Rattle.nfs_machine.specs.Attributes.{size_of}
 use Rattle.nfs_machine.specs.Exports.{LivingExport}
 use Rattle.nfs_machine.specs.State.{Living, State}
 use Rattle.nfs_machine.specs.State as machine
@@ -14,6 +16,8 @@ use Rattle.nfs_objects.specs.declared.object.Object.{Object}
 use Rattle.nfs_objects.specs.declared.object.Object.TheVariants as stored
 use Rattle.nfs_objects.specs.ExportTables.{ExportTableValue}
 use Rattle.nfs_objects.specs.Store.{Store}
+use Rattle.nfs_objects.specs.Sums.{stored_usage}
+use Rattle.nfs_objects.specs.declared.usage.Usage.{Usage}
 use Rattle.side_wire.specs.declared.mount.lists.MountBody.{MountBody}
 
 -- the machine's content; it does not keep the parent of a directory, which follows from the names
@@ -81,6 +85,8 @@ pub record Kept : Type 0 where
   pub state : State
   pub links : ℕ → ℕ
   pub parents : ℕ → ℕ
+  -- and what the groups of each export's objects use
+  pub usage : (export group : ℕ) → Usage
 
 abbrev pub links_kept : Option Inode → ℕ
 links_kept None = 0
@@ -94,8 +100,13 @@ abbrev pub parent_kept : Option Inode → ℕ
 parent_kept None = 0
 parent_kept (Some i) = parent_in i.content
 
+-- its number has 64 bits, and its size 63
+abbrev pub IsFitting : ℕ → Inode → Type 0
+IsFitting number i = (number < 2 ^ 64) × (size_of (content_of i.content) < 2 ^ 63)
+
 -- The store stands for this: it has the table of exports and that of mounts, what is at each number lives, with its
--- links and its parent, and spent are the generations of each number up to the last, that of what lives among them.
+-- links and its parent, and each group's usage stands for it, but for that of no object; and spent are the generations
+-- of each number up to the last, that of what lives among them.
 pub record Represents (s : Store) (k : Kept) : Type 0 where
   pub exports : k.state.exports ≡ exports_of (s.at addresses.Exports)
   pub last_export : k.state.last_export ≡ (export_table_of (s.at addresses.Exports)).last
@@ -103,6 +114,8 @@ pub record Represents (s : Store) (k : Kept) : Type 0 where
   pub links : (n : ℕ) → k.links n ≡ links_kept (inode_of (s.at (addresses.Inode n)))
   pub parents : (n : ℕ) → k.parents n ≡ parent_kept (inode_of (s.at (addresses.Inode n)))
   pub given : (n : ℕ) (i : Inode) → s.at (addresses.Inode n) ≡ Some (stored.Inode i) → i.generation ≤ s.last n
+  pub fits : (n : ℕ) (i : Inode) → s.at (addresses.Inode n) ≡ Some (stored.Inode i) → IsFitting n i
+  pub usage : (e g : ℕ) → s.at (addresses.Usage e g) ≡ stored_usage (k.usage e g)
   pub mounts : k.state.mounts ≡ mounts_of (s.at addresses.Mounts)
   pub spent : (n g : ℕ) → k.state.spent n g ≡ nat_le g (s.last n)
   pub no_locks : k.state.locks ≡ empty

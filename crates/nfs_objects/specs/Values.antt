@@ -1,6 +1,6 @@
 -- What clauses see of views and of what a call comes to.
 use Rattle.std.specs.Prelude.{Bool, true, false, List, [], ◌∷◌, ◌++◌, map, Option, Some, None, option_map}
-use Rattle.std.specs.Prelude.{if◌then◌else◌, ◌==◌}
+use Rattle.std.specs.Prelude.{if◌then◌else◌, ◌==◌, ◌&&◌}
 use Rattle.std.specs.Borrow.{Bor}
 use Rattle.std.specs.Arc.{arc_value}
 use Rattle.std.specs.declared.sync.Arc.{Arc}
@@ -9,7 +9,7 @@ use Rattle.nfs_machine.specs.declared.context.Ctx.{Ctx}
 use Rattle.nfs_machine.specs.declared.calls.Call.{Call}
 use Rattle.nfs_machine.specs.declared.calls.Reply.{Reply}
 use Rattle.nfs_objects.specs.declared.address.Addr.{Addr}
-use Rattle.nfs_objects.specs.declared.address.Addr.TheVariants.{Exports, Inode, Mounts}
+use Rattle.nfs_objects.specs.declared.address.Addr.TheVariants.{Exports, Inode, Mounts, Usage}
 use Rattle.nfs_objects.specs.declared.change.Change.{Change}
 use Rattle.nfs_objects.specs.declared.change.Write.{Write}
 use Rattle.nfs_objects.specs.declared.modes.Mode.{Mode}
@@ -79,6 +79,7 @@ abbrev pub is_addr : Addr → Addr → Bool
 is_addr Exports Exports = true
 is_addr (Inode n) (Inode m) = n == m
 is_addr Mounts Mounts = true
+is_addr (Usage e g) (Usage f h) = (e == f) && (g == h)
 is_addr a b = false
 
 -- what is known of an address, in whatever mode it is held

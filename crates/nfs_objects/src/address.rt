@@ -12,6 +12,13 @@ pub enum Addr {
     Inode(u64),
     /// The table of mounts.
     Mounts,
+    /// What a group of objects uses.
+    Usage {
+        /// The number of their export, from 1.
+        export: u32,
+        /// Below `GROUPS`.
+        group: u8,
+    },
 }
 
 /// Whether two addresses are one.

@@ -2,12 +2,15 @@
 
 ghost use Rattle.std.specs.Prelude.{◌≡◌, [], ◌∷◌, ◌++◌, ◌==◌, length, IfOk, None, find, not};
 ghost use Rattle.std.specs.Prelude.{option_map, slice_get};
+ghost use Rattle.std.specs.Prelude.{ℕ, ◌<◌, ◌≤◌, ◌^◌, drop};
 ghost use Rattle.std.proofs.Common.{ap, nat_eq, rules};
 ghost use Rattle.std.specs.Cmp.Lexicographic.{bytes_decides, nat_list_eq_equiv, pointwise};
 ghost use Rattle.std.specs.Cmp.Rules.{hashing};
 ghost use Rattle.std.specs.Hash as fed;
 ghost use Rattle.nfs_machine.specs.Bytes.{same_bytes};
+ghost use Rattle.nfs_machine.specs.Pages.{behind};
 ghost use Rattle.nfs_machine.specs.RemoveSteps.{without};
+ghost use Rattle.nfs_machine.specs.WellFormed.{CookiesRise};
 ghost use Rattle.nfs_objects.specs.Entries.{entry, leaf_of, shown_entry};
 
 use bytes::Bytes;
@@ -104,6 +107,19 @@ impl Entries {
         ensures { option_map shown_entry result ≡ slice_get self.now index }
     {
         self.map.get_index(index)
+    }
+
+    /// The place of the first entry behind a cookie, where cookies rise; without such an entry, how many names there
+    /// are. It is found by a binary search.
+    pub fn place_behind(&self, cookie: u64) -> usize
+        ensures within { result ≤ length self.now }
+        ensures small { length self.now < 2 ^ 63 }
+        ensures behind { (below last : ℕ) → CookiesRise below self.now last →
+            drop result self.now ≡ behind cookie self.now }
+    {
+        self.map
+            .as_slice()
+            .partition_point(|_name, leaf| leaf.cookie <= cookie)
     }
 
     /// The same with this entry last. The entries themselves stay as they are.

@@ -1,14 +1,15 @@
 //! What a call has read, and what it would write.
 
 ghost use Rattle.std.specs.Prelude.{◌≡◌, ◌∷◌, ◌++◌, [], IsSome, MatchResult, OnErr, OnOk, option_map};
-ghost use Rattle.std.specs.Prelude.{option_copied};
+ghost use Rattle.std.specs.Prelude.{MatchOption, is_some, option_copied};
 ghost use Rattle.std.specs.Arc.{arc_value};
 ghost use Rattle.nfs_objects.specs.Asks.{IsFirst, IsFresh, IsNeed, Lacks};
 ghost use Rattle.nfs_objects.specs.Knows.{Knows};
 ghost use Rattle.nfs_objects.specs.Modes.{Suits, mode_at};
 ghost use Rattle.nfs_objects.specs.Drafts.{MayGive, MayWrite};
 ghost use Rattle.nfs_objects.specs.Promise.{Given, Held};
-ghost use Rattle.nfs_objects.specs.Stands.{mounts_in};
+ghost use Rattle.nfs_objects.specs.Stands.{IsFitting, mounts_in};
+ghost use Rattle.nfs_objects.specs.Sums.{stored_usage, usage_of};
 ghost use Rattle.nfs_objects.specs.Values.{change_value, known_at, new_draft, pointed, with_written, written_at};
 
 use crate::address::{Addr, is_same};
@@ -17,6 +18,7 @@ use crate::exports::LivingExport;
 use crate::modes::{Mode, Modes};
 use crate::mounts::MountTable;
 use crate::object::{Inode, Object, export_list, mount_table};
+use crate::usage::{Usage, usage_known};
 use crate::view::{Reserved, View};
 use nfs_machine::{Ctx, Reply};
 use side_wire::Message;
@@ -77,6 +79,13 @@ impl<'a> Draft<'a> {
         self.ctx
     }
 
+    /// How the call holds what it reads.
+    pub fn modes(&self) -> Modes
+        ensures { result ≡ self.now.modes }
+    {
+        self.modes
+    }
+
     /// Whence its memory comes.
     pub fn alloc(&self) -> Global {
         self.alloc
@@ -99,6 +108,30 @@ impl<'a> Draft<'a> {
             Some(object) => Ok(object),
             None => Err(lacking(self.alloc, address, self.modes.at(address))),
         }
+    }
+
+    /// Whether it knows what would stand at an address.
+    pub fn knows(&self, address: Addr) -> bool
+        ensures { result ≡ is_some (known_at self.now address) }
+    {
+        match self.written(address) {
+            Some(_) => true,
+            None => self.view.find(address).is_some(),
+        }
+    }
+
+    /// The wish for what stands at an address, where the draft does not know it.
+    pub fn lacked(&self, address: Addr) -> Option<(Addr, Mode)>
+        ensures { MatchOption result (IsSome (known_at self.now address))
+            (λ wish. (known_at self.now address ≡ None) × (wish ≡ (address, mode_at self.now.modes address))) }
+    {
+        if let Some(_object) = self.written(address) {
+            return None;
+        }
+        if let Some(_object) = self.view.find(address) {
+            return None;
+        }
+        Some((address, self.modes.at(address)))
     }
 
     /// What was written to an address last.
@@ -152,8 +185,11 @@ impl<'a> Draft<'a> {
         requires known { IsSome (known_at self.old (Addr.Inode number)) }
         requires given { MayGive self.old number inode.generation }
         ensures ok { OnOk result (self.new ≡ with_written self.old (Addr.Inode number) (Some (Object.Inode inode))) }
+        ensures fits { OnOk result (IsFitting number inode) }
         ensures err { OnErr result (self.new ≡ self.old) }
     {
+        // The size brings its bound.
+        let _size = inode.content.size();
         let object = Arc::new(self.alloc, Object::Inode(inode))?;
         self.write(Addr::Inode(number), Some(object))
     }
@@ -185,6 +221,39 @@ impl<'a> Draft<'a> {
     {
         let object = Arc::new(self.alloc, Object::Mounts(table))?;
         self.write(Addr::Mounts, Some(object))
+    }
+
+    /// What a group of an export's objects uses.
+    ///
+    /// # Errors
+    ///
+    /// `Need` of its address where it was not read, and `Memory`.
+    pub fn usage(&self, export: u32, group: u8) -> Result<Usage, Halt>
+        ensures { MatchResult result
+            (λ usage. option_map usage_of (known_at self.now (Addr.Usage export group)) ≡ Some usage)
+            (Lacks self.now (Addr.Usage export group)) }
+    {
+        Ok(usage_known(self.find(Addr::Usage { export, group })?))
+    }
+
+    /// Puts what a group of an export's objects uses in the place of what was read; where it is that of no object,
+    /// nothing stands there.
+    ///
+    /// # Errors
+    ///
+    /// `AllocError` where the memory was refused. It changes nothing.
+    pub fn put_usage(&mut self, export: u32, group: u8, usage: Usage) -> Result<(), AllocError>
+        requires alone { self.old.modes.inodes ≡ Mode.Exclusive }
+        requires known { IsSome (known_at self.old (Addr.Usage export group)) }
+        ensures ok { OnOk result (self.new ≡ with_written self.old (Addr.Usage export group) (stored_usage usage)) }
+        ensures err { OnErr result (self.new ≡ self.old) }
+    {
+        let address = Addr::Usage { export, group };
+        if usage.is_none() {
+            return self.write(address, None);
+        }
+        let object = Arc::new(self.alloc, Object::Usage(usage))?;
+        self.write(address, Some(object))
     }
 
     fn write(&mut self, address: Addr, object: Option<Arc<Object>>) -> Result<(), AllocError>

@@ -1,7 +1,9 @@
 //! The exports that live.
 
 ghost use Rattle.std.specs.Prelude.{◌≡◌, IfOk, length, option_copied};
-ghost use Rattle.nfs_machine.specs.Exports.{export_value};
+ghost use Rattle.std.specs.List.{list_any};
+ghost use Rattle.nfs_machine.specs.Bytes.{same_bytes};
+ghost use Rattle.nfs_machine.specs.Exports.{every_host, export_value};
 
 use bytes::Bytes;
 use nfs_machine::{Export, Exports};
@@ -43,7 +45,7 @@ impl LivingExport {
     }
 
     /// Its path, as it was given.
-    pub fn path(&self) -> &[u8]
+    pub fn path(&self) -> &Bytes
         ensures { result.now ≡ self.now.path }
     {
         &self.export.path
@@ -54,6 +56,22 @@ impl LivingExport {
         ensures { result ≡ self.now.read_only }
     {
         self.export.read_only
+    }
+
+    /// The hosts that may use it, as they were given: address texts, or `*` for every host.
+    pub fn hosts(&self) -> &[Bytes]
+        ensures { result.now ≡ self.now.hosts }
+    {
+        &self.export.hosts
+    }
+
+    /// Whether every host may use it: `*` is listed. It takes no memory.
+    pub fn admits_all(&self) -> bool
+        ensures { result ≡ list_any (λ host. same_bytes host every_host) self.now.hosts }
+    {
+        self.hosts()
+            .iter()
+            .any(|host| host.as_slice() == b"*".as_slice())
     }
 
     /// Whether this host may use it: it is listed, or `*` is. It takes no memory.

@@ -21,6 +21,7 @@ pub enum Mode {
 /// The strongest modes that a call may need, in which it holds all that it reads. The exports are always shared.
 #[derive(Clone, Copy, Debug, PartialEq, Eq)]
 pub struct Modes {
+    /// Of inodes, and of what groups of them use.
     pub inodes: Mode,
     pub mounts: Mode,
 }
@@ -52,6 +53,7 @@ impl Modes {
             Addr::Exports => Mode::Shared,
             Addr::Inode(_) => self.inodes,
             Addr::Mounts => self.mounts,
+            Addr::Usage { .. } => self.inodes,
         }
     }
 

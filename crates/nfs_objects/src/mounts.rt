@@ -1,9 +1,11 @@
 //! The table of mounts (RFC 1813, appendix I, 5.2).
 
 ghost use Rattle.std.specs.Prelude.{◌≡◌, ◌==◌, ◌<◌, ◌≤◌, [], ◌∷◌, ◌++◌, false, IfOk};
-ghost use Rattle.std.specs.Prelude.{OnOk, drop, length, map};
+ghost use Rattle.std.specs.Prelude.{OnOk, drop, filter, length, map, not};
 ghost use Rattle.std.specs.Arc.{arc_value};
 ghost use Rattle.std.specs.Cmp.Lexicographic.{pointwise};
+ghost use Rattle.std.specs.List.{list_any};
+ghost use Rattle.nfs_objects.specs.Leaving.{leaves};
 ghost use Rattle.nfs_objects.specs.Same.{same_mount};
 
 use bytes::Bytes;
@@ -101,6 +103,27 @@ impl<'a> Equivalent<Mount> for Sought<'a> {
     }
 }
 
+/// The mounts that a host takes back: that of one path (RFC 1813, 5.2.3), or all that it has (5.2.4).
+#[derive(Clone, Copy)]
+pub enum Leaving<'a> {
+    Path { host: &'a [u8], path: &'a [u8] },
+    Host(&'a [u8]),
+}
+
+impl<'a> Leaving<'a> {
+    /// Whether the mount is one of them.
+    fn has(self, mount: &Mount) -> bool
+        ensures { result ≡ leaves self.entry mount.now }
+    {
+        match self {
+            Leaving::Path { host, path } => {
+                mount.host.as_slice() == host && mount.path.as_slice() == path
+            }
+            Leaving::Host(host) => mount.host.as_slice() == host,
+        }
+    }
+}
+
 /// A part of a table: mounts in order of adding.
 #[derive(Drop)]
 struct Piece {
@@ -153,6 +176,25 @@ impl Piece {
     {
         let mut mounts = self.mounts.clone()?;
         mounts.insert(mount)?;
+        Ok(Piece { mounts })
+    }
+
+    /// Whether a mount of it leaves. That of one path is found by its hash.
+    fn has(&self, leaving: Leaving<'_>) -> bool
+        ensures { result ≡ list_any (leaves leaving.entry) self.now }
+    {
+        match leaving {
+            Leaving::Path { host, path } => self.is_listed(host, path),
+            Leaving::Host(_) => self.as_slice().iter().any(|mount| leaving.has(mount)),
+        }
+    }
+
+    /// A piece without the mounts that leave.
+    fn without(&self, leaving: Leaving<'_>) -> Result<Piece, AllocError>
+        ensures { IfOk result (λ piece. piece ≡ filter (λ m. not (leaves leaving.entry m)) self.now) }
+    {
+        let mut mounts = self.mounts.clone()?;
+        mounts.retain(|mount| !leaving.has(mount));
         Ok(Piece { mounts })
     }
 
@@ -243,7 +285,14 @@ impl MountTable {
     pub fn is_listed(&self, host: &[u8], path: &[u8]) -> bool
         ensures { result ≡ is_mounted self.now (mounted host.now path.now) }
     {
-        self.pieces.iter().any(|piece| piece.is_listed(host, path))
+        self.has(Leaving::Path { host, path })
+    }
+
+    /// Whether a mount of the table leaves. It takes no memory, and that of one path is found by its hash.
+    pub fn has(&self, leaving: Leaving<'_>) -> bool
+        ensures { result ≡ list_any (leaves leaving.entry) self.now }
+    {
+        self.pieces.iter().any(|piece| piece.has(leaving))
     }
 
     /// A table with this mount last; beyond `MOUNT_LIMIT` mounts the first goes. The table itself stays as it is. The
@@ -295,6 +344,27 @@ impl MountTable {
             Some((last, front)) if last.len() < PIECE_LIMIT => Ok((front, last.with_mount(mount)?)),
             _ => Ok((&self.pieces, Piece::new(alloc).with_mount(mount)?)),
         }
+    }
+
+    /// A table without the mounts that leave. It shares with this one the pieces that lose none.
+    ///
+    /// # Errors
+    ///
+    /// `AllocError` where the memory for the table was refused.
+    pub fn without(&self, alloc: Global, leaving: Leaving<'_>) -> Result<MountTable, AllocError>
+        ensures { IfOk result (λ table. table ≡ filter (λ m. not (leaves leaving.entry m)) self.now) }
+    {
+        let mut pieces = Vec::new(alloc);
+        let mut len = 0;
+        for piece in &self.pieces {
+            let rest = rest_of(alloc, piece, leaving)?;
+            if rest.len() == 0 {
+                continue;
+            }
+            len += rest.len();
+            pieces.push(rest)?;
+        }
+        Ok(MountTable { pieces, len })
     }
 
     /// A table without the first mount.
@@ -363,6 +433,21 @@ fn share_pieces(owners: &mut Vec<Arc<Piece>>, pieces: &[Arc<Piece>]) -> Result<(
         owners.push(Arc::try_clone(piece)?)?;
     }
     Ok(())
+}
+
+/// The piece itself where none of its mounts leaves, and else one of those that stay.
+fn rest_of(
+    alloc: Global,
+    piece: &Arc<Piece>,
+    leaving: Leaving<'_>,
+) -> Result<Arc<Piece>, AllocError>
+    ensures { IfOk result
+        (λ rest. arc_value rest ≡ filter (λ m. not (leaves leaving.entry m)) (arc_value piece.now)) }
+{
+    if !piece.has(leaving) {
+        return Arc::try_clone(piece);
+    }
+    Ok(Arc::new(alloc, piece.without(leaving)?)?)
 }
 
 /// Lends the mounts of a table, in order of adding.

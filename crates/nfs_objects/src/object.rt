@@ -8,6 +8,7 @@ ghost use Rattle.nfs_objects.specs.Stands.{content_of, exports_of, inode_of, tab
 use crate::directory::Directory;
 use crate::exports::{ExportTable, LivingExport};
 use crate::mounts::MountTable;
+use crate::usage::Usage;
 use bytes::Bytes;
 use nfs_wire::{DeviceNumber, Time, Verifier};
 use std::alloc::AllocError;
@@ -40,6 +41,30 @@ impl Clone for Content {
             Content::Socket => Content::Socket,
             Content::Fifo => Content::Fifo,
         })
+    }
+}
+
+/// The size of a directory, in bytes.
+pub const DIRECTORY_SIZE: u64 = 4096;
+
+impl Content {
+    ghost use Rattle.std.specs.Prelude.{◌<◌, ◌^◌};
+    ghost use Rattle.nfs_machine.specs.Attributes.{size_of};
+
+    /// Its size, in bytes (RFC 1813, 2.5: size).
+    pub fn size(&self) -> u64
+        ensures value { result ≡ size_of (content_of self.now) }
+        ensures small { result < 2 ^ 63 }
+    {
+        match self {
+            Content::Regular(bytes) => bytes.len() as u64,
+            Content::Directory(_) => DIRECTORY_SIZE,
+            Content::Link(text) => text.len() as u64,
+            Content::BlockDevice(_) => 0,
+            Content::CharacterDevice(_) => 0,
+            Content::Socket => 0,
+            Content::Fifo => 0,
+        }
     }
 }
 
@@ -173,6 +198,8 @@ pub enum Object {
     Exports(ExportTable),
     Inode(Inode),
     Mounts(MountTable),
+    /// What a group of objects uses.
+    Usage(Usage),
 }
 
 impl PartialEq for Object {
@@ -193,6 +220,7 @@ impl PartialEq for Object {
             (Object::Exports(a), Object::Exports(b)) => a == b,
             (Object::Inode(a), Object::Inode(b)) => a == b,
             (Object::Mounts(a), Object::Mounts(b)) => a == b,
+            (Object::Usage(a), Object::Usage(b)) => a == b,
             _ => false,
         }
     }
@@ -222,7 +250,7 @@ pub fn living(known: &Option<Arc<Object>>) -> Option<&Inode>
 {
     match &**known.as_ref()? {
         Object::Inode(inode) => Some(inode),
-        Object::Exports(_) | Object::Mounts(_) => None,
+        Object::Exports(_) | Object::Mounts(_) | Object::Usage(_) => None,
     }
 }
 
@@ -232,6 +260,6 @@ pub fn mount_table(known: &Option<Arc<Object>>) -> Option<&MountTable>
 {
     match &**known.as_ref()? {
         Object::Mounts(table) => Some(table),
-        Object::Exports(_) | Object::Inode(_) => None,
+        Object::Exports(_) | Object::Inode(_) | Object::Usage(_) => None,
     }
 }

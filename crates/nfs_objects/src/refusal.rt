@@ -5,6 +5,7 @@ ghost use Rattle.nfs_machine.specs.declared.calls.Call.{Call};
 ghost use Rattle.nfs_machine.specs.declared.context.Ctx.{Ctx};
 ghost use Rattle.nfs_objects.specs.Attempt.{AsksFirst, Attempts, Ends, EndsFirst, IsSettled};
 ghost use Rattle.nfs_objects.specs.Knows.{Settles};
+ghost use Rattle.nfs_objects.specs.Only.{AsksFirstOnly, EndsFirstOnly};
 ghost use Rattle.nfs_objects.specs.Values.{ViewValue};
 
 use crate::change::{Change, Halt, Outcome};
@@ -29,6 +30,8 @@ pub fn outcome(ended: Result<Change, Halt>) -> Result<Outcome, AllocError>
         IfOk result (Attempts call ctx view) }
     ensures first { (call : Call) (view : ViewValue) → EndsFirst call view ended →
         IfOk result (AsksFirst call view) }
+    ensures only { (call : Call) (view : ViewValue) → EndsFirstOnly call view ended →
+        IfOk result (AsksFirstOnly call view) }
 {
     match ended {
         Ok(change) => Ok(Outcome::Done(change)),

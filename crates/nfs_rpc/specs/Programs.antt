@@ -1,5 +1,5 @@
 -- The programs that are served (RFC 1813, sections 2.1 and 5.1, and the protocol NLM of its appendix II).
-use Rattle.std.specs.Prelude.{ℕ, Bool, ◌&&◌, ◌||◌, nat_le, ◌==◌, if◌then◌else◌, Option, Some, None}
+use Rattle.std.specs.Prelude.{ℕ, Bool, nat_le, ◌==◌, if◌then◌else◌, Option, Some, None}
 use Rattle.nfs_rpc.specs.declared.programs.Program.{Program}
 use Rattle.nfs_rpc.specs.declared.programs.Program.TheVariants.{Nfs, Mount, Nlm}
 
@@ -22,8 +22,8 @@ program_of number =
     else (if number == 100005 then Some Mount
     else (if number == 100021 then Some Nlm else None))
 
--- the procedures that are there: NULL, GETATTR, LOOKUP, READ, WRITE and CREATE; NULL and MNT; NULL
+-- the procedures that are there: all of NFS and of MOUNT (RFC 1813, 3.3 and 5.2); of NLM, NULL
 abbrev pub is_built : Program → ℕ → Bool
-is_built Nfs procedure = nat_le procedure 1 || (procedure == 3) || (nat_le 6 procedure && nat_le procedure 8)
-is_built Mount procedure = nat_le procedure 1
+is_built Nfs procedure = nat_le procedure 21
+is_built Mount procedure = nat_le procedure 5
 is_built Nlm procedure = procedure == 0

@@ -54,8 +54,8 @@ impl Program {
         ensures { result ≡ is_built self procedure }
     {
         match self {
-            Program::Nfs => procedure <= 1 || procedure == 3 || (6 <= procedure && procedure <= 8),
-            Program::Mount => procedure <= 1,
+            Program::Nfs => procedure <= 21,
+            Program::Mount => procedure <= 5,
             Program::Nlm => procedure == 0,
         }
     }

@@ -5,8 +5,12 @@ use Rattle.std.specs.declared.alloc.Global.{Global}
 use Rattle.std.specs.declared.vec.Vec.{Vec}
 use Rattle.nfs_rpc.specs.declared.faults.Early.{Early}
 use Rattle.nfs_rpc.specs.declared.credentials.Ids.{Ids}
+use Rattle.side_wire.specs.Mount.{IsHostName}
+use Rattle.nfs_machine.proofs.Bounds.{spelled_calls_fit}
 use Rattle.nfs_machine.specs.Refusal.{refusal_of}
 use Rattle.nfs_machine.specs.Run.{Arrival, FromHost, Received, Setting, context_of}
+use Rattle.nfs_machine.specs.SideLaws.{AskedFits}
+use Rattle.nfs_machine.specs.declared.context.Ctx.{Ctx}
 use Rattle.nfs_machine.specs.declared.moment.Moment.{Moment}
 use Rattle.nfs_server.specs.Asked.{IsAsked}
 use Rattle.nfs_server.specs.Executed.{MakesStep}
@@ -40,6 +44,14 @@ module _ (host bytes : List ℕ) (moment : Moment) (asked : Asked) (is : IsAsked
 
   context_is : (setting : Setting) → context_of setting host asked.ids moment ≡ context_of setting host is.header.ids moment
   context_is setting = ap (λ (ids : Ids). context_of setting host ids moment) (sym is.ids)
+
+  -- what it asks is within the bounds of its program, where its host's name is
+  pub asked_fits : (setting : Setting) (ctx : Ctx) → ctx ≡ context_of setting host asked.ids moment → IsHostName ctx.host
+      → AskedFits ctx asked.call
+  asked_fits setting ctx under fits =
+      spelled_calls_fit setting arrival ctx asked.call
+      (subst IsHostName (ap (λ (c : Ctx). c.host) under) fits)
+      (record { header = is.header; read = is.read; is_call = is.is_call; made_under = under ∙ context_is setting })
 
   pub refused_answered : (old new : PlainValue) (answer : List ℕ) → new ≡ old →
       answer ≡ refusal_message asked.xid (refusal_of asked.call) → IsAnswered arrival old new answer

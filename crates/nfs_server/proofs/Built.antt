@@ -8,10 +8,7 @@ use Rattle.nfs_rpc.specs.declared.programs.Program.{Program}
 use Rattle.nfs_wire.specs.declared.calls.NfsCall.{NfsCall}
 use Rattle.nfs_wire.specs.declared.calls.NfsCall.TheVariants as nfs
 use Rattle.nfs_data.specs.Calls.{is_data_call}
-use Rattle.nfs_mount.specs.Calls.{is_mount_call}
 use Rattle.nfs_names.specs.Calls.{is_name_call}
-use Rattle.side_wire.specs.declared.mount.MountCall.{MountCall}
-use Rattle.side_wire.specs.declared.mount.MountCall.TheVariants as mount
 use Rattle.nfs_rpc.specs.declared.programs.Program.TheVariants as programs
 use Rattle.nfs_machine.specs.Run.{IsCall}
 use Rattle.nfs_machine.specs.declared.calls.Call.{Call}
@@ -55,14 +52,23 @@ asked-built bytes asked is =
 pub built-data : (call : NfsCall) → IsBuilt (calls.Nfs call) → is_name_call call ≡ false → is_data_call call ≡ true
 built-data nfs.Null built other = refl
 built-data (nfs.Getattr object) built other = refl
-built-data (nfs.Lookup place) built other = sym other
-built-data (nfs.Create a) built other = sym other
+built-data (nfs.Setattr a) built other = refl
+built-data (nfs.Access a) built other = refl
+built-data (nfs.Readlink link) built other = refl
 built-data (nfs.Read a) built other = refl
 built-data (nfs.Write a) built other = refl
-built-data call built other = built
-
--- a call of MOUNT that is built is one that has an attempt
-pub built-mount : (call : MountCall) → IsBuilt (calls.Mount call) → is_mount_call call ≡ true
-built-mount mount.Null built = refl
-built-mount (mount.Mnt path) built = refl
-built-mount call built = built
+built-data (nfs.Fsstat object) built other = refl
+built-data (nfs.Fsinfo object) built other = refl
+built-data (nfs.Pathconf object) built other = refl
+built-data (nfs.Commit a) built other = refl
+built-data (nfs.Lookup place) built other = sym other
+built-data (nfs.Create a) built other = sym other
+built-data (nfs.Mkdir a) built other = sym other
+built-data (nfs.Symlink a) built other = sym other
+built-data (nfs.Mknod a) built other = sym other
+built-data (nfs.Remove place) built other = sym other
+built-data (nfs.Rmdir place) built other = sym other
+built-data (nfs.Rename a) built other = sym other
+built-data (nfs.Link a) built other = sym other
+built-data (nfs.Readdir a) built other = sym other
+built-data (nfs.Readdirplus a) built other = sym other

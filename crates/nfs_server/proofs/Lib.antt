@@ -1,4 +1,5 @@
 pub mod Answering
+pub mod Bounds
 pub mod Built
 pub mod Garbage
 pub mod Joins

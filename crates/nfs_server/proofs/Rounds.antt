@@ -1,20 +1,22 @@
 -- What the loops that grow the slots, make the roots and make the writes keep.
 use Rattle.std.proofs.Common.{◌≡◌, ℕ, zero, suc, ◌+◌, ◌<◌, ◌≤◌, List, [], ◌∷◌, ◌++◌, length, length-append, map, replicate, take, refl, sym, ◌∙◌, ap, subst, append_assoc, append-nil, arith}
-use Rattle.std.proofs.Common.{get_or, set, Option, Some}
+use Rattle.std.proofs.Common.{get_or, set, Option, Some, None}
 use Rattle.std.proofs.Math.Seq.{take-append_seam}
 use Rattle.std.proofs.lemmas.List.{map-append, map-set, take_all, take_more, take-map}
 use Rattle.nfs_machine.proofs.Modes.{all-joined}
 use Rattle.nfs_objects.specs.Store.{Store, with_write, with_writes}
 use Rattle.nfs_objects.specs.Values.{write_value}
 use Rattle.nfs_objects.specs.declared.address.Addr.{Addr}
-use Rattle.nfs_objects.specs.declared.address.Addr.TheVariants.{Exports, Inode, Mounts}
 use Rattle.nfs_objects.specs.declared.change.Write.{Write}
 use Rattle.nfs_objects.specs.declared.object.Inode.{Inode as InodeObject}
 use Rattle.nfs_objects.specs.declared.object.Object.{Object}
 use Rattle.nfs_objects.specs.declared.object.Object.TheVariants as objects
-use Rattle.nfs_server.specs.Objects.{ObjectsValue, store_of}
+use Rattle.nfs_server.specs.Objects.{HaveRoom, ObjectsValue, store_of}
 use Rattle.nfs_server.specs.Roots.{root_of, root_slots}
-use Rattle.nfs_server.specs.Slots.{SlotValue, HasSlot, HaveSlots, empty_slot, generation_in, put_in, slot_value}
+use Rattle.nfs_server.specs.Slots.{SlotValue, HasSlot, HaveSlots, Reaches, empty_slot, generation_in, put_in, slot_of}
+use Rattle.nfs_server.specs.Slots.{slot_value}
+use Rattle.nfs_server.specs.declared.slots.Kind.{Kind}
+use Rattle.nfs_server.specs.declared.slots.Kind.TheVariants as kinds
 use Rattle.nfs_server.specs.declared.slots.Slot.{Slot}
 use Rattle.nfs_wire.specs.declared.attributes.Time.{Time}
 
@@ -49,45 +51,59 @@ growing_join initial slots more count g is = record {
 growing_len : (initial slots : List SlotValue) → Growing initial slots → length initial ≤ length slots
 growing_len initial slots g = omega (arith, simp length-append at (ap length g.grown))
 
-room_more : (slots more : List SlotValue) → length slots ≤ length more → (a : Addr) → HasSlot slots a → HasSlot more a
-room_more slots more le Exports h = tt
-room_more slots more le (Inode n) h = omega (arith, h)
-room_more slots more le Mounts h = tt
+reaches_more : (slots more : List SlotValue) → length slots ≤ length more → (n : Option ℕ) → Reaches slots n
+    → Reaches more n
+reaches_more slots more le None h = tt
+reaches_more slots more le (Some n) h = omega (arith, h, le)
 
-all_room_more : (slots more : List SlotValue) → length slots ≤ length more → (ws : List (Addr × Option Object)) → HaveSlots slots ws → HaveSlots more ws
-all_room_more slots more le [] all = tt
-all_room_more slots more le (w ∷ ws) all = (room_more slots more le w.0 all.0, all_room_more slots more le ws all.1)
+all_room_more : (kind : Kind) (slots more : List SlotValue) → length slots ≤ length more
+    → (ws : List (Addr × Option Object)) → HaveSlots kind slots ws → HaveSlots kind more ws
+all_room_more kind slots more le [] all = tt
+all_room_more kind slots more le (w ∷ ws) all =
+    (reaches_more slots more le (slot_of kind w.0) all.0, all_room_more kind slots more le ws all.1)
 
 -- there is room for the first of the writes
-pub record Making (initial slots : List SlotValue) (writes : List (Addr × Option Object)) : Type 0 where
+pub record Making (kind : Kind) (initial slots : List SlotValue) (writes : List (Addr × Option Object)) : Type 0 where
   pub growing : Growing initial slots
-  pub room : HaveSlots slots writes
+  pub room : HaveSlots kind slots writes
 
-pub making_more : (initial slots more : List SlotValue) (writes later : List (Addr × Option Object)) (w : Addr × Option Object) (count : ℕ) → Making initial slots writes
-    → more ≡ slots ++ replicate count empty_slot → HasSlot more w.0 → later ≡ writes ++ w ∷ [] → Making initial more later
-making_more initial slots more writes later w count m is room last = record {
+pub making_more : (kind : Kind) (initial slots more : List SlotValue) (writes later : List (Addr × Option Object))
+    (w : Addr × Option Object) (count : ℕ) → Making kind initial slots writes
+    → more ≡ slots ++ replicate count empty_slot → HasSlot kind more w.0 → later ≡ writes ++ w ∷ []
+    → Making kind initial more later
+making_more kind initial slots more writes later w count m is room last = record {
   growing = growing_join initial slots more count m.growing is;
   room =
-      subst (HaveSlots more) (sym last)
-      (all-joined (λ (x : Addr × Option Object). HasSlot more x.0) writes (w ∷ []) (all_room_more slots more (growing_len slots more (record { count = count; grown = is })) writes m.room) (room, tt));
+      subst (HaveSlots kind more) (sym last)
+      (all-joined (λ (x : Addr × Option Object). HasSlot kind more x.0) writes (w ∷ [])
+      (all_room_more kind slots more (growing_len slots more (record { count = count; grown = is })) writes m.room)
+      (room, tt));
 }
 
 -- some of the writes are made, and the rest are still to be
 pub record Installing (initial now : ObjectsValue) (all rest : List (Addr × Option Object)) : Type 0 where
   pub same : with_writes (store_of now) rest ≡ with_writes (store_of initial) all
-  pub room : HaveSlots now.slots rest
+  pub room : HaveRoom now rest
 
 pub installing_more : (initial now later : ObjectsValue) (all rest left : List (Addr × Option Object)) (w : Addr × Option Object) → Installing initial now all rest
-    → rest ≡ w ∷ left → store_of later ≡ with_write (store_of now) w.0 w.1 → length later.slots ≡ length now.slots → Installing initial later all left
-installing_more initial now later all rest left w i is made len =
+    → rest ≡ w ∷ left → store_of later ≡ with_write (store_of now) w.0 w.1
+    → length later.slots ≡ length now.slots → length later.usages ≡ length now.usages
+    → Installing initial later all left
+installing_more initial now later all rest left w i is made len wide =
     let here = subst (λ (ws : List (Addr × Option Object)). Installing initial now all ws) is i in
     record {
       same = ap (λ (s : Store). with_writes s left) made ∙ here.same;
-      room = all_room_more now.slots later.slots (omega (arith, len)) left here.room.1;
+      room = record {
+        slots = all_room_more kinds.Inodes now.slots later.slots (omega (arith, len)) left here.room.slots.1;
+        usages = all_room_more kinds.Usages now.usages later.usages (omega (arith, wide)) left here.room.usages.1;
+      };
     }
 
-pub installing_room : (initial now : ObjectsValue) (all rest left : List (Addr × Option Object)) (w : Addr × Option Object) → Installing initial now all rest → rest ≡ w ∷ left → HasSlot now.slots w.0
-installing_room initial now all rest left w i is = (subst (HaveSlots now.slots) is i.room).0
+pub installing_room : (initial now : ObjectsValue) (all rest left : List (Addr × Option Object))
+    (w : Addr × Option Object) → Installing initial now all rest → rest ≡ w ∷ left
+    → HasSlot kinds.Inodes now.slots w.0 × HasSlot kinds.Usages now.usages w.0
+installing_room initial now all rest left w i is =
+    let room = subst (HaveRoom now) is i.room in (room.slots.0, room.usages.0)
 
 pub root_more : (slots more : List SlotValue) (index export : ℕ) (time : Time) (o : Object) (i : InodeObject) → slots ≡ root_slots index time → more ≡ slots ++ record { object = Some o; last = 1 } ∷ []
     → o ≡ objects.Inode i → i ≡ root_of export time → export ≡ index + 1 → more ≡ root_slots (index + 1) time
@@ -119,23 +135,31 @@ put_view xs values n old new o m g is h was made most given =
 pub truncate_view : (xs ys : List Slot) (values : List SlotValue) (n : ℕ) → map slot_value xs ≡ values → ys ≡ take n xs → map slot_value ys ≡ take n values
 truncate_view xs ys values n is cut = ap (map slot_value) cut ∙ sym (take-map slot_value n xs) ∙ ap (take n) is
 
-pub making_item : (initial slots more : List SlotValue) (writes : List Write) (index : ℕ) (item : Write) → index < length writes → item ≡ get_or writes index item
-    → Making initial slots (map write_value (take index writes)) → (count : ℕ) × (more ≡ slots ++ replicate count empty_slot) → HasSlot more item.address → Making initial more (map write_value (take (index + 1) writes))
-making_item initial slots more writes index item h is m grown room =
-    making_more initial slots more (map write_value (take index writes)) (map write_value (take (index + 1) writes)) (write_value item) grown.0 m grown.1 room
+pub making_item : (kind : Kind) (initial slots more : List SlotValue) (writes : List Write) (index : ℕ) (item : Write)
+    → index < length writes → item ≡ get_or writes index item
+    → Making kind initial slots (map write_value (take index writes))
+    → (count : ℕ) × (more ≡ slots ++ replicate count empty_slot) → HasSlot kind more item.address
+    → Making kind initial more (map write_value (take (index + 1) writes))
+making_item kind initial slots more writes index item h is m grown room =
+    making_more kind initial slots more (map write_value (take index writes))
+    (map write_value (take (index + 1) writes)) (write_value item) grown.0 m grown.1 room
     (ap (map write_value) (take_more writes index item h) ∙ map-append write_value (take index writes) (get_or writes index item ∷ []) ∙ ap (λ (w : Write). map write_value (take index writes) ++ write_value w ∷ []) (sym is))
 
-pub making_none : (initial : List SlotValue) → Making initial initial []
-making_none initial = record { growing = growing_none initial; room = tt }
+pub making_none : (kind : Kind) (initial : List SlotValue) → Making kind initial initial []
+making_none kind initial = record { growing = growing_none initial; room = tt }
 
-pub making_back : (initial slots more : List SlotValue) (writes : List (Addr × Option Object)) (count : ℕ) → count ≡ length initial → Making initial slots writes
+pub making_back : (kind : Kind) (initial slots more : List SlotValue) (writes : List (Addr × Option Object))
+    (count : ℕ) → count ≡ length initial → Making kind initial slots writes
     → (n : ℕ) × (more ≡ slots ++ replicate n empty_slot) → take count more ≡ initial
-making_back initial slots more writes count is m grown =
+making_back kind initial slots more writes count is m grown =
     let g = growing_join initial slots more grown.0 m.growing grown.1 in
     ap (λ n. take n more) is ∙ ap (take (length initial)) g.grown ∙ take-append_seam initial (replicate g.count empty_slot)
 
-pub making_all : (initial slots : List SlotValue) (writes : List Write) (index : ℕ) → length writes ≤ index → Making initial slots (map write_value (take index writes)) → HaveSlots slots (map write_value writes)
-making_all initial slots writes index h m = subst (λ (ws : List Write). HaveSlots slots (map write_value ws)) (take_all index writes h) m.room
+pub making_all : (kind : Kind) (initial slots : List SlotValue) (writes : List Write) (index : ℕ)
+    → length writes ≤ index → Making kind initial slots (map write_value (take index writes))
+    → HaveSlots kind slots (map write_value writes)
+making_all kind initial slots writes index h m = subst (λ (ws : List Write). HaveSlots kind slots (map write_value ws))
+    (take_all index writes h) m.room
 
 pub nil_of_len : {X : Type 0} (xs : List X) (n : ℕ) → n ≡ length xs → n ≡ 0 → xs ≡ []
 nil_of_len [] n len none = refl

@@ -1,8 +1,6 @@
 -- Answers are short: each part of a result has a bound.
-use Rattle.std.proofs.Common.{◌≡◌, ℕ, ◌<◌, ◌≤◌, List, ◌++◌, length, length-append, Ok, Err, ap, arith}
-use Rattle.std.proofs.lemmas.List.{length-replicate}
+use Rattle.std.proofs.Common.{◌≡◌, ℕ, ◌<◌, ◌≤◌, List, ◌++◌, length, length-append, Err, ap, arith}
 use Rattle.std.specs.Int.{w32, to_be_bytes}
-use Rattle.nfs_xdr.specs.Types.{padding}
 use Rattle.nfs_xdr.specs.Writing.{appended, with_word, with_hyper, with_padded, with_arm}
 use Rattle.nfs_rpc.specs.Messages.{reply_of}
 use Rattle.nfs_rpc.specs.declared.faults.Answer.TheVariants.{Success}
@@ -20,14 +18,10 @@ unfolding appended with_word with_hyper with_padded with_arm
 mount_refused_size mount_status.Permission = omega arith
 mount_refused_size _ = omega arith
 
-pub mounted_size : (handle : List ℕ) → length handle ≤ 64 → length (mount_result_bytes (mount.Mnt (Ok handle))) ≤ 1000
-unfolding appended with_word with_hyper with_padded with_arm
-mounted_size handle h = simp (length-append, length-replicate) (let p : padding (length handle) ≤ 3 = omega arith in omega (arith, h, p))
-
-pub results_size : (reply : Reply) → HasForm reply → length (results_of reply) ≤ 70000
-results_size (replies.Nfs reply) form = form.short
+pub results_size : (reply : Reply) → HasForm reply → length (results_of reply) ≤ 100000000
+results_size (replies.Nfs reply) form = omega (arith, form.short)
 results_size (replies.Mount reply) form = form.1
-results_size (replies.Nlm reply) form = form.1
+results_size (replies.Nlm reply) form = omega (arith, form.1)
 
 pub answer_size : (start header whole : List ℕ) (xid : ℕ) (reply : Reply) → HasForm reply → start ≡ to_be_bytes w32 0 → header ≡ start ++ reply_of xid Success → whole ≡ header ++ results_of reply
     → length whole < 2147483652

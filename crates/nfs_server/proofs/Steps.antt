@@ -1,12 +1,8 @@
 -- A call's end, at the present store, is one step of the machine, and its reply has its form.
-use Rattle.std.proofs.Common.{refl, ◌≡◌, ℕ, ◌≤◌, List, length, Result, Ok, Err, sym, ◌∙◌, ap, subst, arith}
+use Rattle.std.proofs.Common.{refl, ◌≡◌, ℕ, List, sym, ◌∙◌, ap, subst, arith}
 use Rattle.nfs_xdr.specs.Writing.{appended}
 use Rattle.side_wire.specs.declared.message.Message.{Message}
-use Rattle.side_wire.specs.declared.mount.MountCall.{MountCall}
 use Rattle.side_wire.specs.declared.mount.MountCall.TheVariants as mount
-use Rattle.side_wire.specs.declared.mount.MountReply.{MountReply}
-use Rattle.side_wire.specs.declared.mount.MountReply.TheVariants as mount_replies
-use Rattle.side_wire.specs.declared.mount.MountStatus.{MountStatus}
 use Rattle.side_wire.specs.declared.mount.MountStatus.TheVariants as mount_status
 use Rattle.side_wire.specs.declared.nlm.NlmCall.{NlmCall}
 use Rattle.side_wire.specs.declared.nlm.NlmCall.TheVariants as nlm
@@ -16,8 +12,8 @@ use Rattle.nfs_wire.specs.declared.replies.NfsReply.{NfsReply}
 use Rattle.nfs_machine.proofs.Short.{replies_short, refusals_short}
 use Rattle.nfs_machine.specs.Laws.{IsShort}
 use Rattle.nfs_machine.proofs.Kept.{steps_keep_form}
-use Rattle.nfs_machine.specs.MountSteps.{MountStep, MntAnswers}
 use Rattle.nfs_machine.specs.NlmSteps.{NlmStep}
+use Rattle.nfs_machine.specs.SideLaws.{AskedFits}
 use Rattle.nfs_machine.specs.State.{State}
 use Rattle.nfs_machine.specs.Step.{Step}
 use Rattle.nfs_machine.specs.WellFormed.{WellFormed}
@@ -32,51 +28,39 @@ use Rattle.nfs_objects.specs.Stands.{Kept, Represents}
 use Rattle.nfs_objects.specs.Store.{Store, with_writes}
 use Rattle.nfs_objects.specs.Values.{ChangeValue, DoneValue, ViewValue, change_value, done_value, write_value}
 use Rattle.nfs_objects.specs.declared.change.Change.{Change}
-use Rattle.nfs_objects.specs.declared.change.Write.{Write}
 use Rattle.std.specs.Prelude.{map}
 use Rattle.nfs_server.specs.Built.{IsBuilt}
 use Rattle.nfs_server.specs.Executed.{IsAlike, IsReady, MakesStep, RunsTo}
 use Rattle.nfs_server.specs.declared.plain.Ended.{Ended}
-use Rattle.nfs_server.specs.Slots.{HaveSlots}
-use Rattle.nfs_server.proofs.Sizes.{mount_refused_size, mounted_size}
+use Rattle.nfs_server.proofs.Bounds.{mount-form, step-within}
+use Rattle.nfs_server.proofs.Sizes.{mount_refused_size}
 use Rattle.std.specs.Prelude.{Option, Some, None, IfSome}
 use Rattle.nfs_machine.specs.Refusal.{nfs_refusal, refusal_of}
 use Rattle.nfs_machine.specs.declared.calls.Refusal.TheVariants as refusals
 use Rattle.nfs_server.specs.Forms.{HasForm, RefusalHasForm}
-use Rattle.nfs_server.specs.Objects.{ObjectsValue, store_of}
-use Rattle.nfs_server.specs.Plain.{PlainValue, Stands, StandsFor}
+use Rattle.nfs_server.specs.Objects.{HaveRoom, ObjectsValue, store_of}
+use Rattle.nfs_server.specs.Plain.{IsWithinBounds, PlainValue, Stands, StandsFor}
 use Rattle.nfs_machine.specs.RpcReplies.{success_message}
-
-result_form : (old : State) (ctx : Ctx) (path : List ℕ) (r : Result (List ℕ) MountStatus) (new : State) → MntAnswers old ctx path r new → HasForm (replies.Mount (mount_replies.Mnt r))
-result_form old ctx path (Ok handle) new (found, target, is, then) =
-    let short : length handle ≤ 64 = subst (λ (h : List ℕ). length h ≤ 64) (sym is) (omega arith) in (short, omega (arith, mounted_size handle short))
-result_form old ctx path (Err e) new answers = (tt, omega (arith, mount_refused_size e))
-
-mount_form : (old : State) (ctx : Ctx) (call : MountCall) (reply : MountReply) (messages : List Message) (new : State) → IsBuilt (calls.Mount call) → MountStep old ctx call reply messages new → HasForm (replies.Mount reply)
-unfolding MountStep appended
-mount_form old ctx mount.Null reply messages new built step = subst (λ (r : MountReply). HasForm (replies.Mount r)) (sym step.reply_is) (tt, omega arith)
-mount_form old ctx (mount.Mnt path) reply messages new built step = subst (λ (r : MountReply). HasForm (replies.Mount r)) (sym step.1) (result_form old ctx path step.0 new step.3)
-mount_form old ctx call reply messages new built step = cc
 
 nlm_form : (old : State) (ctx : Ctx) (call : NlmCall) (reply : NlmReply) (messages : List Message) (new : State) → IsBuilt (calls.Nlm call) → NlmStep old ctx call reply messages new → HasForm (replies.Nlm reply)
 unfolding NlmStep appended
 nlm_form old ctx nlm.Null reply messages new built step = subst (λ (r : NlmReply). HasForm (replies.Nlm r)) (sym step.reply_is) (tt, omega arith)
 nlm_form old ctx call reply messages new built step = cc
 
-step_form : (old : State) (ctx : Ctx) (call : Call) (reply : Reply) (messages : List Message) (new : State) → IsBuilt call → WellFormed old → Step old ctx call reply messages new → HasForm reply
-step_form old ctx (calls.Nfs call) (replies.Nfs reply) messages new built formed step = replies_short old ctx call reply messages new formed step
-step_form old ctx (calls.Nfs call) (replies.Mount reply) messages new built formed step = absurd step
-step_form old ctx (calls.Nfs call) (replies.Nlm reply) messages new built formed step = absurd step
-step_form old ctx (calls.Mount call) (replies.Nfs reply) messages new built formed step = absurd step
-step_form old ctx (calls.Mount call) (replies.Mount reply) messages new built formed step = mount_form old ctx call reply messages new built step
-step_form old ctx (calls.Mount call) (replies.Nlm reply) messages new built formed step = absurd step
-step_form old ctx (calls.Nlm call) (replies.Nfs reply) messages new built formed step = absurd step
-step_form old ctx (calls.Nlm call) (replies.Mount reply) messages new built formed step = absurd step
-step_form old ctx (calls.Nlm call) (replies.Nlm reply) messages new built formed step = nlm_form old ctx call reply messages new built step
+step_form : (old : State) (ctx : Ctx) (call : Call) (reply : Reply) (messages : List Message) (new : State) → IsBuilt call → IsWithinBounds old → WellFormed old → Step old ctx call reply messages new → HasForm reply
+step_form old ctx (calls.Nfs call) (replies.Nfs reply) messages new built within formed step = replies_short old ctx call reply messages new formed step
+step_form old ctx (calls.Nfs call) (replies.Mount reply) messages new built within formed step = absurd step
+step_form old ctx (calls.Nfs call) (replies.Nlm reply) messages new built within formed step = absurd step
+step_form old ctx (calls.Mount call) (replies.Nfs reply) messages new built within formed step = absurd step
+step_form old ctx (calls.Mount call) (replies.Mount reply) messages new built within formed step = mount-form old ctx call reply messages new within formed step
+step_form old ctx (calls.Mount call) (replies.Nlm reply) messages new built within formed step = absurd step
+step_form old ctx (calls.Nlm call) (replies.Nfs reply) messages new built within formed step = absurd step
+step_form old ctx (calls.Nlm call) (replies.Mount reply) messages new built within formed step = absurd step
+step_form old ctx (calls.Nlm call) (replies.Nlm reply) messages new built within formed step = nlm_form old ctx call reply messages new built step
 
 -- what the store stands for, with what is kept beside the state
 abbrev kept_of : (m : State) (p : PlainValue) → StandsFor p m → Kept
-kept_of m p stands = record { state = m; links = stands.links; parents = stands.parents }
+kept_of m p stands = record { state = m; links = stands.links; parents = stands.parents; usage = stands.usage }
 
 -- the end of a call that ran on the present store
 module _ (d : DoneValue) (old : PlainValue) (promised : IsPromised d) (fits : Fits d.view (store_of old.objects)) where
@@ -84,9 +68,9 @@ module _ (d : DoneValue) (old : PlainValue) (promised : IsPromised d) (fits : Fi
   step_of m stands = promised.kept (store_of old.objects) (kept_of m old stands) fits stands.represents stands.sound stands.formed
 
   pub reply_form : IsBuilt d.call → Stands old → HasForm d.change.reply
-  reply_form built (m, stands) =
+  reply_form built (m, stands, within) =
       let s = step_of m stands in
-      step_form m d.ctx d.call d.change.reply d.change.messages s.new.state built stands.formed s.step
+      step_form m d.ctx d.call d.change.reply d.change.messages s.new.state built within stands.formed s.step
 
   module _ (new : PlainValue) (made : store_of new.objects ≡ with_writes (store_of old.objects) d.change.writes) where
     abbrev Stepped : State → Type 0
@@ -100,14 +84,17 @@ module _ (d : DoneValue) (old : PlainValue) (promised : IsPromised d) (fits : Fi
           record {
             links = s.new.links;
             parents = s.new.parents;
+            usage = s.new.usage;
             represents = subst (λ (store : Store). Represents store s.new) (sym made) s.stands;
             sound = s.sound;
             formed = steps_keep_form m d.ctx d.call d.change.reply d.change.messages s.new.state s.step stands.formed;
           },
         )
 
-    pub stands_on : Stands old → Stands new
-    stands_on (m, stands) = let s = stepped m stands in (s.0, s.2)
+    pub stands_on : AskedFits d.ctx d.call → Stands old → Stands new
+    stands_on asked (m, stands, within) =
+        let s = stepped m stands in
+        (s.0, s.2, step-within m d.ctx d.call d.change.reply d.change.messages s.0 s.1 asked within)
 
     pub makes_step : (xid : ℕ) (answer : List ℕ) → new.setting ≡ old.setting → answer ≡ success_message xid d.change.reply →
         MakesStep d.ctx d.call xid old new answer
@@ -119,6 +106,7 @@ module _ (old new : PlainValue) (alike : IsAlike old new) where
   stands_alike m stands = record {
     links = stands.links;
     parents = stands.parents;
+    usage = stands.usage;
     represents = subst (λ (s : Store). Represents s (kept_of m old stands)) (sym alike.store) stands.represents;
     sound = stands.sound;
     formed = stands.formed;
@@ -153,7 +141,8 @@ pub runs_form : (call : Call) (ctx : Ctx) (p : PlainValue) (view : ViewValue) (c
 runs_form call ctx p view change runs built stands = reply_form (done_value call ctx view (change_value change)) p runs.promised runs.fits built stands
 
 pub is_ready : (call : Call) (xid : ℕ) (old new : PlainValue) (ended : Ended) → RunsTo call ended.ctx (store_of old.objects) ended.view (change_value ended.change)
-    → IsAlike old new → HaveSlots new.objects.slots (change_value ended.change).writes → ended.answer.items ≡ success_message xid ended.change.reply → IsReady call xid new ended
+    → IsAlike old new → HaveRoom new.objects (change_value ended.change).writes
+    → ended.answer.items ≡ success_message xid ended.change.reply → IsReady call xid new ended
 is_ready call xid old new ended runs alike room answered = record {
   runs = subst (λ (s : Store). RunsTo call ended.ctx s ended.view (change_value ended.change)) (sym alike.store) runs;
   room = room;
@@ -162,10 +151,10 @@ is_ready call xid old new ended runs alike room answered = record {
 
 -- ---- the writes of a call's end
 module _ (p now : PlainValue) (d : DoneValue) (change : Change) (same : p ≡ now) (is : d.change ≡ change_value change) where
-  pub install_room : HaveSlots now.objects.slots d.change.writes → HaveSlots p.objects.slots (map write_value change.writes.items)
+  pub install_room : HaveRoom now.objects d.change.writes → HaveRoom p.objects (map write_value change.writes.items)
   install_room room =
-      subst (λ (q : PlainValue). HaveSlots q.objects.slots (map write_value change.writes.items)) (sym same)
-      (subst (λ (v : ChangeValue). HaveSlots now.objects.slots v.writes) is room)
+      subst (λ (q : PlainValue). HaveRoom q.objects (map write_value change.writes.items)) (sym same)
+      (subst (λ (v : ChangeValue). HaveRoom now.objects v.writes) is room)
 
   module _ (o : ObjectsValue) (made : store_of o ≡ with_writes (store_of p.objects) (map write_value change.writes.items)) where
     made_of : store_of o ≡ with_writes (store_of p.objects) d.change.writes
@@ -174,9 +163,9 @@ module _ (p now : PlainValue) (d : DoneValue) (change : Change) (same : p ≡ no
     pub installed_store : store_of o ≡ with_writes (store_of now.objects) d.change.writes
     installed_store = made_of ∙ ap (λ (q : PlainValue). with_writes (store_of q.objects) d.change.writes) same
 
-    pub installed_stands : IsPromised d → Fits d.view (store_of now.objects) → Stands p → Stands (record { objects = o; setting = p.setting })
-    installed_stands promised fits stands =
-        stands_on d p promised (subst (λ (q : PlainValue). Fits d.view (store_of q.objects)) (sym same) fits) (record { objects = o; setting = p.setting }) made_of stands
+    pub installed_stands : IsPromised d → AskedFits d.ctx d.call → Fits d.view (store_of now.objects) → Stands p → Stands (record { objects = o; setting = p.setting })
+    installed_stands promised asked fits stands =
+        stands_on d p promised (subst (λ (q : PlainValue). Fits d.view (store_of q.objects)) (sym same) fits) (record { objects = o; setting = p.setting }) made_of asked stands
 
 pub commit_step : (call : Call) (xid : ℕ) (old new : PlainValue) (ended : Ended) (d : DoneValue) → d ≡ done_value call ended.ctx ended.view (change_value ended.change)
     → IsReady call xid old ended → new.setting ≡ old.setting → store_of new.objects ≡ with_writes (store_of old.objects) d.change.writes
@@ -195,4 +184,4 @@ module _ (p now : PlainValue) (same : p ≡ now) (o : ObjectsValue) where
     alike = record { setting = ap (λ (q : PlainValue). q.setting) same; store = made ∙ ap (λ (q : PlainValue). store_of q.objects) same }
 
     pub stands_room : Stands p → Stands (record { objects = o; setting = p.setting })
-    stands_room (m, stands) = (m, stands_alike p (record { objects = o; setting = p.setting }) (record { setting = refl; store = made }) m stands)
+    stands_room (m, stands, within) = (m, stands_alike p (record { objects = o; setting = p.setting }) (record { setting = refl; store = made }) m stands, within)

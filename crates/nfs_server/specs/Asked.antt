@@ -1,6 +1,8 @@
 -- What a record asks, as it is read.
 use Rattle.std.specs.Prelude.{◌≡◌, ℕ, List, ◌++◌, Result, Ok, Err}
 use Rattle.nfs_xdr.specs.Programs.{CallHoldsBytes}
+use Rattle.nfs_xdr.specs.declared.arguments.ArgumentsError.{ArgumentsError}
+use Rattle.nfs_xdr.specs.declared.arguments.ArgumentsError.TheVariants as unread
 use Rattle.nfs_wire.specs.Calls as nfs
 use Rattle.side_wire.specs.Mount.{mount_arguments}
 use Rattle.side_wire.specs.Nlm.{nlm_arguments}
@@ -14,8 +16,6 @@ use Rattle.nfs_machine.specs.RpcReplies.{FirstFault}
 use Rattle.nfs_server.specs.declared.asking.Asked.{Asked}
 use Rattle.nfs_server.specs.declared.asking.Unasked.{Unasked}
 use Rattle.nfs_server.specs.declared.asking.Unasked.TheVariants as unasked
-use Rattle.nfs_server.specs.declared.asking.Unread.{Unread}
-use Rattle.nfs_server.specs.declared.asking.Unread.TheVariants as unread
 
 -- a front of the bytes spells arguments of the procedure that hold bytes
 abbrev pub ArgumentsHoldBytes : Program → ℕ → List ℕ → Type 0
@@ -24,7 +24,7 @@ ArgumentsHoldBytes Mount procedure bytes = CallHoldsBytes mount_arguments proced
 ArgumentsHoldBytes Nlm procedure bytes = CallHoldsBytes nlm_arguments procedure bytes
 
 -- garbage is what spells no call of the procedure; there is no memory only for one that is spelled and holds bytes
-abbrev pub ReadsArguments : Program → ℕ → List ℕ → Result Call Unread → Type 0
+abbrev pub ReadsArguments : Program → ℕ → List ℕ → Result Call ArgumentsError → Type 0
 ReadsArguments program procedure bytes (Ok call) = IsCall program procedure bytes call
 ReadsArguments program procedure bytes (Err unread.Garbage) = (call : Call) → IsCall program procedure bytes call →
     ⊥

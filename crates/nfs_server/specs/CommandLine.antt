@@ -1,12 +1,12 @@
 -- The command line: which words are taken, and what they ask for.
-use Rattle.std.specs.Prelude.{◌≡◌, ◌≤◌, ◌<◌, ◌^◌, ◌⊎◌, ◌==◌, ℕ, Bool, true, false}
-use Rattle.std.specs.Prelude.{List, [], length, map, drop, Option, Some, None, unwrap_or, slice_get, codes, pos}
+use Rattle.std.specs.Prelude.{◌≡◌, ◌<◌, ◌^◌, ◌⊎◌, ◌==◌, ℕ, Bool, true, false}
+use Rattle.std.specs.Prelude.{List, [], map, drop, Option, Some, None, unwrap_or, slice_get, codes, pos}
 use Rattle.std.specs.List.{slice_split}
 use Rattle.std.specs.Option.{SomeIff}
 use Rattle.std.specs.Str.Parse.{IsNumeral, digits_value, without_leading_plus}
 use Rattle.clap.specs.Words.{App, IsAmong, Row, Rule, Text, all_of, fault_of, first_of, found_of, kind_of}
 use Rattle.clap.specs.Words.{matches_of, new_app, new_rule, one_of, rows_of, with_rule}
-use Rattle.clap.specs.declared.builder.action.ArgAction.TheVariants.{SetTrue}
+use Rattle.clap.specs.declared.builder.action.ArgAction.TheVariants.{Append, SetTrue}
 use Rattle.clap.specs.declared.builder.value_parser.ValueParser.{ValueParser}
 use Rattle.clap.specs.declared.builder.value_parser.ValueParser.TheVariants.{Signed, Unsigned}
 use Rattle.clap.specs.declared.error.kind.ErrorKind.TheVariants.{ValueValidation}
@@ -33,11 +33,11 @@ option_rule name = record (new_rule name) { long = Some name; value_names = 1 }
 abbrev pub number_rule : Text → ValueParser → Rule
 number_rule name parser = record (option_rule name) { parser = Some parser }
 
--- the program's options
+-- the program's options; `--export` may be given more than once
 unfoldable pub nfsd : App
 nfsd =
     let stdio = flag_rule (codes "stdio") in
-    let export = record (option_rule (codes "export")) { required = true } in
+    let export = record (option_rule (codes "export")) { required = true; action = Some Append } in
     let start = number_rule (codes "start") (Unsigned 0 18446744073709551615) in
     let clock = number_rule (codes "clock") (Signed (pos 0) (pos 4294967295)) in
     let host = option_rule (codes "host") in

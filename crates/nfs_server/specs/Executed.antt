@@ -12,9 +12,8 @@ use Rattle.nfs_objects.specs.Modes.{Suits, modes_of}
 use Rattle.nfs_objects.specs.Promise.{IsPromised}
 use Rattle.nfs_objects.specs.Store.{Store}
 use Rattle.nfs_objects.specs.Values.{ChangeValue, ViewValue, change_value, done_value}
-use Rattle.nfs_server.specs.Objects.{store_of}
+use Rattle.nfs_server.specs.Objects.{HaveRoom, store_of}
 use Rattle.nfs_server.specs.Plain.{PlainValue, StandsFor}
-use Rattle.nfs_server.specs.Slots.{HaveSlots}
 use Rattle.nfs_server.specs.declared.plain.Ended.{Ended}
 
 -- the view is true of the store, and holds all that it has as the call wants
@@ -30,7 +29,7 @@ pub record RunsTo (call : Call) (ctx : Ctx) (s : Store) (view : ViewValue) (chan
 -- the call came to its end on the present store, its answer is made, and there are slots for its writes
 pub record IsReady (call : Call) (xid : ℕ) (p : PlainValue) (ended : Ended) : Type 0 where
   pub runs : RunsTo call ended.ctx (store_of p.objects) ended.view (change_value ended.change)
-  pub room : HaveSlots p.objects.slots (change_value ended.change).writes
+  pub room : HaveRoom p.objects (change_value ended.change).writes
   pub answered : ended.answer.items ≡ success_message xid ended.change.reply
 
 -- room may have been made, and nothing else

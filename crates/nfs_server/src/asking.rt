@@ -4,7 +4,7 @@ ghost use Rattle.nfs_server.specs.Asked.{ReadsArguments, ReadsRecord};
 
 use nfs_machine::Call;
 use nfs_rpc::{Early, Fault, Ids, Program, Record, read_call};
-use nfs_xdr::SharedReader;
+use nfs_xdr::{ArgumentsError, SharedReader};
 use side_wire::{mount, nlm};
 
 /// A call that came in.
@@ -24,15 +24,6 @@ pub(crate) enum Unasked {
     Memory,
 }
 
-/// Why arguments were not read.
-#[derive(Clone, Copy)]
-enum Unread {
-    /// They are no arguments of the procedure.
-    Garbage,
-    /// There is no memory to share their bytes.
-    Memory,
-}
-
 /// Reads the call that a record is, or its first fault.
 pub(crate) fn read_record(message: &Record) -> Result<Asked, Unasked>
     ensures { ReadsRecord message.now result }
@@ -44,11 +35,11 @@ pub(crate) fn read_record(message: &Record) -> Result<Asked, Unasked>
     let (xid, ids) = (header.xid, header.ids);
     match read_arguments(header.program, header.procedure, header.arguments) {
         Ok(call) => Ok(Asked { xid, ids, call }),
-        Err(Unread::Garbage) => Err(Unasked::Early(Early::Answer {
+        Err(ArgumentsError::Garbage) => Err(Unasked::Early(Early::Answer {
             xid,
             fault: Fault::GarbageArguments,
         })),
-        Err(Unread::Memory) => Err(Unasked::Memory),
+        Err(ArgumentsError::Memory) => Err(Unasked::Memory),
     }
 }
 
@@ -57,24 +48,12 @@ fn read_arguments(
     program: Program,
     procedure: u32,
     arguments: SharedReader<'_>,
-) -> Result<Call, Unread>
+) -> Result<Call, ArgumentsError>
     ensures { ReadsArguments program procedure arguments.entry result }
 {
     match program {
-        Program::Nfs => match nfs_wire::read_args(procedure, arguments) {
-            Ok(call) => Ok(Call::Nfs(call)),
-            Err(nfs_wire::ArgumentsError::Garbage) => Err(Unread::Garbage),
-            Err(nfs_wire::ArgumentsError::Memory) => Err(Unread::Memory),
-        },
-        Program::Mount => match mount::read_args(procedure, arguments) {
-            Ok(call) => Ok(Call::Mount(call)),
-            Err(side_wire::ArgumentsError::Garbage) => Err(Unread::Garbage),
-            Err(side_wire::ArgumentsError::Memory) => Err(Unread::Memory),
-        },
-        Program::Nlm => match nlm::read_args(procedure, arguments) {
-            Ok(call) => Ok(Call::Nlm(call)),
-            Err(side_wire::ArgumentsError::Garbage) => Err(Unread::Garbage),
-            Err(side_wire::ArgumentsError::Memory) => Err(Unread::Memory),
-        },
+        Program::Nfs => Ok(Call::Nfs(nfs_wire::read_args(procedure, arguments)?)),
+        Program::Mount => Ok(Call::Mount(mount::read_args(procedure, arguments)?)),
+        Program::Nlm => Ok(Call::Nlm(nlm::read_args(procedure, arguments)?)),
     }
 }

@@ -1,7 +1,6 @@
 //! The attempt of a call, by its program.
 
 ghost use Rattle.std.specs.Prelude.{◌≡◌, IfOk};
-ghost use Rattle.nfs_names.specs.Calls.{is_name_call};
 ghost use Rattle.nfs_objects.specs.Attempt.{Attempts};
 ghost use Rattle.nfs_objects.specs.Modes.{Suits, modes_of};
 ghost use Rattle.nfs_server.specs.Built.{IsBuilt};
@@ -10,7 +9,6 @@ use crate::nlm;
 use nfs_machine::{Call, Ctx};
 use nfs_objects::{Outcome, View};
 use nfs_wire::NfsCall;
-use side_wire::MountCall;
 use std::alloc::{AllocError, Global};
 
 /// What the call comes to on what was read.
@@ -26,7 +24,7 @@ pub(crate) fn attempt(
 {
     match call {
         Call::Nfs(call) => attempt_nfs(alloc, call, ctx, view),
-        Call::Mount(call) => attempt_mount(alloc, call, ctx, view),
+        Call::Mount(call) => nfs_mount::attempt(alloc, call, ctx, view),
         Call::Nlm(call) => Ok(nlm::attempt(alloc, call)),
     }
 }
@@ -37,30 +35,9 @@ fn attempt_nfs(alloc: Global, call: &NfsCall, ctx: &Ctx, view: &View) -> Result<
     requires suits { Suits (modes_of (Call.Nfs call.now)) view.now }
     ensures { IfOk result (Attempts (Call.Nfs call.now) ctx.now view.now) }
 {
-    if is_on_names(call) {
+    if nfs_names::is_name_call(call) {
         nfs_names::attempt(alloc, call, ctx, view)
     } else {
         nfs_data::attempt(alloc, call, ctx, view)
     }
-}
-
-/// The same for MOUNT.
-fn attempt_mount(
-    alloc: Global,
-    call: &MountCall,
-    ctx: &Ctx,
-    view: &View,
-) -> Result<Outcome, AllocError>
-    requires built { IsBuilt (Call.Mount call.now) }
-    requires suits { Suits (modes_of (Call.Mount call.now)) view.now }
-    ensures { IfOk result (Attempts (Call.Mount call.now) ctx.now view.now) }
-{
-    nfs_mount::attempt(alloc, call, ctx, view)
-}
-
-/// Whether the call is on names.
-fn is_on_names(call: &NfsCall) -> bool
-    ensures { result ≡ is_name_call call.now }
-{
-    matches!(call, NfsCall::Lookup(_) | NfsCall::Create(_))
 }

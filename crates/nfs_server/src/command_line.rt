@@ -82,13 +82,16 @@ fn command<'a>(alloc: Global) -> Result<Command<'a>, AllocError>
             "stdio",
             "Serve records from standard input to standard output",
         ))?
-        .arg(option(
-            alloc,
-            "export",
-            "PATH,MODE,HOST[,HOST..]",
-            "Export PATH, for writing too (rw) or not (ro), to these hosts, or to all (*)",
-        )
-        .required(true))?
+        .arg(
+            option(
+                alloc,
+                "export",
+                "PATH,MODE,HOST[,HOST..]",
+                "Export PATH, for writing too (rw) or not (ro), to these hosts, or to all (*); once or more",
+            )
+            .required(true)
+            .action(ArgAction::Append),
+        )?
         .arg(number(
             alloc,
             "start",

@@ -6,12 +6,13 @@ ghost use Rattle.std.specs.Arc.{arc_value};
 ghost use Rattle.nfs_machine.specs.ExportFaults.{AreFaultless};
 ghost use Rattle.nfs_objects.specs.Store.{with_write, with_writes};
 ghost use Rattle.nfs_objects.specs.Values.{write_value};
-ghost use Rattle.nfs_server.specs.Objects.{store_of};
-ghost use Rattle.nfs_server.specs.Roots.{opening_objects};
+ghost use Rattle.nfs_server.specs.Objects.{HaveRoom, store_of};
+ghost use Rattle.nfs_server.specs.Roots.{HoldsRoots, opening_objects};
 ghost use Rattle.nfs_server.specs.Slots.{HasSlot, HaveSlots, empty_slot};
+ghost use Rattle.nfs_server.specs.declared.slots.Kind.TheVariants as kinds;
 
-use crate::roots::root_slots;
-use crate::slots::Slots;
+use crate::roots::{root_slots, root_usages};
+use crate::slots::{Kind, Slots, slot_of, usage_index};
 use nfs_machine::Exports;
 use nfs_objects::{Addr, ExportTable, Object, Write, share};
 use nfs_wire::Time;
@@ -19,10 +20,11 @@ use std::alloc::{AllocError, Global};
 use std::marker::Model;
 use std::sync::Arc;
 
-/// What stands at each number, and the tables of exports and of mounts.
+/// What stands at each number, what each group of objects uses, and the tables of exports and of mounts.
 #[derive(Drop)]
 pub(crate) struct Objects {
     slots: Slots,
+    usages: Slots,
     exports: Option<Arc<Object>>,
     mounts: Option<Arc<Object>>,
 }
@@ -36,6 +38,7 @@ impl Model for Objects {
 
     ghost view = { λ o. record {
       slots = o.slots;
+      usages = o.usages;
       exports = option_map arc_value o.exports;
       mounts = option_map arc_value o.mounts;
     } };
@@ -48,13 +51,17 @@ impl Objects {
         exports: &Exports,
         time: Time,
     ) -> Result<Objects, AllocError>
-        ensures objects { IfOk result (λ objects. objects ≡ opening_objects exports.now time) }
+        ensures objects { IfOk result (λ objects. objects ≡ opening_objects exports.now time objects.usages) }
+        ensures usages { IfOk result (λ objects. HoldsRoots (length exports.now) objects.usages) }
         ensures faultless { AreFaultless exports.now }
     {
-        let slots = root_slots(alloc, exports.list().len(), time)?;
+        let count = exports.list().len();
+        let slots = root_slots(alloc, count, time)?;
+        let usages = root_usages(alloc, count)?;
         let table = ExportTable::opening(alloc, exports)?;
         Ok(Objects {
             slots,
+            usages,
             exports: Some(Arc::new(alloc, Object::Exports(table))?),
             mounts: None,
         })
@@ -75,21 +82,30 @@ impl Objects {
             Addr::Exports => share(&self.exports),
             Addr::Inode(number) => self.slots.share(number),
             Addr::Mounts => share(&self.mounts),
+            Addr::Usage { export, group } => self.usages.share(usage_index(export, group)),
         }
     }
 
     /// Makes room for all of the writes. An error changes nothing.
     pub(crate) fn make_room(&mut self, writes: &[Write]) -> Result<(), AllocError>
-        ensures room { OnOk result (HaveSlots self.new.slots (map write_value writes.now)) }
+        ensures room { OnOk result (HaveRoom self.new (map write_value writes.now)) }
         ensures same { OnOk result (store_of self.new ≡ store_of self.old) }
         ensures err { OnErr result (self.new ≡ self.old) }
     {
-        make_room(&mut self.slots, writes)
+        let count = self.slots.len();
+        make_room(&mut self.slots, Kind::Inodes, writes)?;
+        match make_room(&mut self.usages, Kind::Usages, writes) {
+            Ok(()) => Ok(()),
+            Err(refused) => {
+                self.slots.truncate(count);
+                Err(refused)
+            }
+        }
     }
 
     /// Makes the writes, one after the other.
     pub(crate) fn install(&mut self, writes: Vec<Write>)
-        requires { HaveSlots self.old.slots (map write_value writes.items) }
+        requires { HaveRoom self.old (map write_value writes.items) }
         ensures { store_of self.new ≡ with_writes (store_of self.old) (map write_value writes.items) }
     {
         let mut writes = writes.into_iter();
@@ -100,28 +116,33 @@ impl Objects {
 
     /// Makes one write.
     fn put(&mut self, write: Write)
-        requires { HasSlot self.old.slots write.address }
+        requires slot { HasSlot kinds.Inodes self.old.slots write.address }
+        requires usage { HasSlot kinds.Usages self.old.usages write.address }
         ensures store { store_of self.new
             ≡ with_write (store_of self.old) write.address (option_map arc_value write.object) }
         ensures len { length self.new.slots ≡ length self.old.slots }
+        ensures usages { length self.new.usages ≡ length self.old.usages }
     {
         match write.address {
             Addr::Exports => self.exports = write.object,
             Addr::Inode(number) => self.slots.put(number, write.object),
             Addr::Mounts => self.mounts = write.object,
+            Addr::Usage { export, group } => {
+                self.usages.put(usage_index(export, group), write.object)
+            }
         }
     }
 }
 
-/// Makes slots for all of the writes. An error changes nothing.
-fn make_room(slots: &mut Slots, writes: &[Write]) -> Result<(), AllocError>
-    ensures room { OnOk result (HaveSlots slots.new (map write_value writes.now)) }
+/// Makes slots of one kind for all of the writes. An error changes nothing.
+fn make_room(slots: &mut Slots, kind: Kind, writes: &[Write]) -> Result<(), AllocError>
+    ensures room { OnOk result (HaveSlots kind slots.new (map write_value writes.now)) }
     ensures grown { OnOk result ((count : ℕ) × (slots.new ≡ slots.old ++ replicate count empty_slot)) }
     ensures err { OnErr result (slots.new ≡ slots.old) }
 {
     let count = slots.len();
     for write in writes {
-        match make_one(slots, write.address) {
+        match make_one(slots, kind, write.address) {
             Ok(()) => {}
             Err(refused) => {
                 slots.truncate(count);
@@ -132,14 +153,13 @@ fn make_room(slots: &mut Slots, writes: &[Write]) -> Result<(), AllocError>
     Ok(())
 }
 
-/// Makes a slot for what is to stand at an address. An error may leave some empty slots.
-fn make_one(slots: &mut Slots, address: Addr) -> Result<(), AllocError>
+/// Makes a slot of one kind for what is to stand at an address, if it wants one. An error may leave some empty slots.
+fn make_one(slots: &mut Slots, kind: Kind, address: Addr) -> Result<(), AllocError>
     ensures grown { (count : ℕ) × (slots.new ≡ slots.old ++ replicate count empty_slot) }
-    ensures ok { OnOk result (HasSlot slots.new address) }
+    ensures ok { OnOk result (HasSlot kind slots.new address) }
 {
-    match address {
-        Addr::Inode(number) => slots.make_room(number),
-        Addr::Exports => Ok(()),
-        Addr::Mounts => Ok(()),
+    match slot_of(kind, address) {
+        Some(number) => slots.make_room(number),
+        None => Ok(()),
     }
 }

@@ -5,10 +5,12 @@
 
 ghost use Rattle.std.specs.Prelude.{◌≡◌, [], ◌++◌, None, map, IfOk, OnOk, OnErr};
 ghost use Rattle.std.specs.List.{AllByRecursion};
+ghost use Rattle.side_wire.specs.Mount.{IsHostName};
 ghost use Rattle.nfs_machine.specs.Opening.{opening};
 ghost use Rattle.nfs_machine.specs.Refusal.{refusal_of};
 ghost use Rattle.nfs_machine.specs.RpcReplies.{refusal_message, success_message};
 ghost use Rattle.nfs_machine.specs.Run.{FromHost, context_of};
+ghost use Rattle.nfs_machine.specs.SideLaws.{AskedFits};
 ghost use Rattle.nfs_objects.specs.Asks.{EachOnce};
 ghost use Rattle.nfs_objects.specs.Fits.{Fits};
 ghost use Rattle.nfs_objects.specs.Store.{with_writes};
@@ -17,10 +19,9 @@ ghost use Rattle.nfs_server.specs.Asked.{IsAsked};
 ghost use Rattle.nfs_server.specs.Built.{IsBuilt};
 ghost use Rattle.nfs_server.specs.Executed.{IsAlike, IsReady, MakesStep, RunsTo};
 ghost use Rattle.nfs_server.specs.Forms.{HasForm};
-ghost use Rattle.nfs_server.specs.Objects.{Reserves, shown_in, store_of};
+ghost use Rattle.nfs_server.specs.Objects.{HaveRoom, Reserves, shown_in, store_of};
 ghost use Rattle.nfs_server.specs.Plain.{Stands, StandsFor};
 ghost use Rattle.nfs_server.specs.Served.{IsAnswered, answer_bytes};
-ghost use Rattle.nfs_server.specs.Slots.{HaveSlots};
 
 use crate::answers;
 use crate::asking::{Asked, Unasked, read_record};
@@ -151,6 +152,7 @@ impl Plain {
     ) -> Result<Ended, AllocError>
         requires { IsBuilt asked.now.call }
         ensures ctx { IfOk result (λ ended. ended.ctx ≡ context_of self.old.setting host.now asked.now.ids moment) }
+        ensures host { IfOk result (λ ended. IsHostName ended.ctx.host) }
         ensures ready { IfOk result (λ ended. IsReady asked.now.call asked.now.xid self.new ended) }
         ensures same { OnOk result (IsAlike self.old self.new) }
         ensures err { OnErr result (self.new ≡ self.old) }
@@ -181,7 +183,7 @@ impl Plain {
     ) -> Result<Vec<u8>, AllocError>
         requires { Stands self.old → HasForm change.now.reply }
         ensures answered { IfOk result (λ answer. answer.items ≡ success_message xid change.now.reply) }
-        ensures room { OnOk result (HaveSlots self.new.objects.slots (change_value change.now).writes) }
+        ensures room { OnOk result (HaveRoom self.new.objects (change_value change.now).writes) }
         ensures same { OnOk result (IsAlike self.old self.new) }
         ensures err { OnErr result (self.new ≡ self.old) }
     {
@@ -193,7 +195,8 @@ impl Plain {
 
     /// What a call from the host is made under.
     fn context(&self, host: &Host, ids: Ids, moment: Moment) -> Result<Ctx, AllocError>
-        ensures { IfOk result (λ ctx. ctx ≡ context_of self.now.setting host.now ids moment) }
+        ensures value { IfOk result (λ ctx. ctx ≡ context_of self.now.setting host.now ids moment) }
+        ensures host { IfOk result (λ ctx. IsHostName ctx.host) }
     {
         Ok(Ctx {
             host: host.text().clone()?,
@@ -266,7 +269,8 @@ impl Plain {
 
     /// Makes the writes of a call that came to its end, for which there is room, and gives its answer.
     fn commit(&mut self, asked: Asked, ended: Ended) -> Vec<u8>
-        requires { IsReady asked.call asked.xid self.old ended }
+        requires ready { IsReady asked.call asked.xid self.old ended }
+        requires fits { AskedFits ended.ctx asked.call }
         ensures { MakesStep ended.ctx asked.call asked.xid self.old self.new result.items }
     {
         let Ended {
@@ -282,7 +286,8 @@ impl Plain {
     /// Makes the writes of a call's end, for which there is room.
     fn install(&mut self, done: Done)
         requires fits { Fits done.view (store_of self.old.objects) }
-        requires room { HaveSlots self.old.objects.slots done.change.writes }
+        requires room { HaveRoom self.old.objects done.change.writes }
+        requires asked { AskedFits done.ctx done.call }
         ensures setting { self.new.setting ≡ self.old.setting }
         ensures store { store_of self.new.objects ≡ with_writes (store_of self.old.objects) done.change.writes }
     {

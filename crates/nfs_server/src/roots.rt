@@ -1,10 +1,11 @@
-//! The roots that a server opens with.
+//! The roots that a server opens with, and what they use.
 
 ghost use Rattle.std.specs.Prelude.{◌≡◌, IfOk};
-ghost use Rattle.nfs_server.specs.Roots.{root_of, root_slots};
+ghost use Rattle.nfs_server.specs.Roots.{HoldsRoots, root_of, root_slots};
 
-use crate::slots::{Slot, Slots};
-use nfs_objects::{Content, Directory, Entries, Inode, Object};
+use crate::slots::{Slot, Slots, usage_index};
+use nfs_objects::usage::group_of;
+use nfs_objects::{Content, DIRECTORY_SIZE, Directory, Entries, Inode, Object, Usage};
 use nfs_wire::Time;
 use std::alloc::{AllocError, Global};
 use std::sync::Arc;
@@ -29,6 +30,24 @@ pub(crate) fn root_slots(alloc: Global, count: usize, time: Time) -> Result<Slot
         })?;
     }
     Ok(slots)
+}
+
+/// What each group uses with so many roots, each of which is one object with the size of a directory.
+pub(crate) fn root_usages(alloc: Global, count: usize) -> Result<Slots, AllocError>
+    ensures { IfOk result (HoldsRoots count) }
+{
+    let mut usages = Slots::new(alloc);
+    for index in 0..count {
+        let Ok(export) = u32::try_from(index + 1) else {
+            return Err(AllocError);
+        };
+        let place = usage_index(export, group_of(u64::from(export)));
+        let usage = Object::Usage(Usage::of_one(DIRECTORY_SIZE));
+        let object = Arc::new(alloc, usage)?;
+        usages.make_room(place)?;
+        usages.put(place, Some(object));
+    }
+    Ok(usages)
 }
 
 /// The root of an export.

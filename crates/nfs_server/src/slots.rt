@@ -4,14 +4,49 @@ ghost use Rattle.std.specs.Prelude.{◌≡◌, ℕ, ◌^◌, ◌<◌, ◌≤◌,
 ghost use Rattle.std.specs.Prelude.{take, replicate, slice_get, slice_set, slice_index_or};
 ghost use Rattle.std.specs.Prelude.{option_map, None, IfOk, OnOk, OnErr};
 ghost use Rattle.std.specs.Arc.{arc_value};
-ghost use Rattle.nfs_server.specs.Slots.{slot_value, empty_slot, object_in, generation_in, put_in};
+ghost use Rattle.nfs_server.specs.Slots.{slot_of, slot_value, empty_slot, object_in, generation_in, put_in};
+ghost use Rattle.nfs_server.specs.Slots.{usage_index};
 
-use nfs_objects::{Object, share};
+use nfs_objects::{Addr, Object, share};
 use std::alloc::{AllocError, Global};
 use std::marker::Model;
 use std::sync::Arc;
 
-/// What stands at one number, and the greatest generation that it was given; 0 was never given.
+/// What a list of slots is for.
+#[derive(Clone, Copy, Debug, PartialEq, Eq)]
+pub(crate) enum Kind {
+    /// Inodes, by their numbers.
+    Inodes,
+    /// What groups of objects use, by `usage_index`.
+    Usages,
+}
+
+/// The slot of an address among those of one kind, if it has one there.
+pub(crate) fn slot_of(kind: Kind, address: Addr) -> Option<u64>
+    ensures { result ≡ slot_of kind address }
+{
+    match kind {
+        Kind::Inodes => match address {
+            Addr::Inode(number) => Some(number),
+            _ => None,
+        },
+        Kind::Usages => match address {
+            Addr::Usage { export, group } => Some(usage_index(export, group)),
+            _ => None,
+        },
+    }
+}
+
+/// The slot of what a group of an export's objects uses.
+pub(crate) fn usage_index(export: u32, group: u8) -> u64
+    ensures value { result ≡ usage_index export group }
+    ensures small { group < 256 }
+{
+    u64::from(export) * 256 + u64::from(group)
+}
+
+/// What stands at one number, and the greatest generation that it was given; 0 was never given. What a group uses has
+/// no generation.
 #[derive(Drop)]
 pub(crate) struct Slot {
     pub object: Option<Arc<Object>>,

@@ -1,18 +1,29 @@
 //! Whole streams through a server of `/data` for every host, started with number 7 at (1000, 0), where every moment is
 //! (1000, 0). Calls and replies are worked out by hand from RFC 5531, sections 9 and 11, and RFC 1813.
 
+mod attributes;
 mod clocks;
 mod command_lines;
 mod create;
 mod credentials;
 mod exit_lines;
 mod from_options;
+mod fsstat;
+mod handles;
+mod links;
 mod lookup;
+mod mounts;
+mod names;
+mod new_objects;
+mod pages;
 mod permission;
 mod read_and_write;
 mod readers_and_writers;
 mod record_answers;
+mod removals;
+mod renames;
 mod scripts;
+mod shown;
 mod stream_faults;
 mod want_of_memory;
 
@@ -81,16 +92,26 @@ fn host() -> Host {
     host
 }
 
-/// `/data` for every host, in this mode.
-fn exports(alloc: Global, mode: &'static [u8]) -> Result<Exports, AllocError> {
+/// An export of this path and mode for one host, or for all.
+fn export(
+    alloc: Global,
+    path: &'static [u8],
+    mode: &'static [u8],
+    host: &'static [u8],
+) -> Result<ExportText, AllocError> {
     let mut hosts = Vec::new(alloc);
-    hosts.push(Bytes::from_static(b"*"))?;
-    let mut list = Vec::new(alloc);
-    list.push(ExportText {
-        path: Bytes::from_static(b"/data"),
+    hosts.push(Bytes::from_static(host))?;
+    Ok(ExportText {
+        path: Bytes::from_static(path),
         mode: Bytes::from_static(mode),
         hosts,
-    })?;
+    })
+}
+
+/// `/data` for every host, in this mode.
+fn exports(alloc: Global, mode: &'static [u8]) -> Result<Exports, AllocError> {
+    let mut list = Vec::new(alloc);
+    list.push(export(alloc, b"/data", mode, b"*")?)?;
     Exports::new(alloc, list).map_err(|_| AllocError)
 }
 
@@ -101,6 +122,11 @@ fn opened(alloc: Global) -> Result<Plain, AllocError> {
 
 /// The opening state of an export in this mode.
 fn opened_as(alloc: Global, mode: &'static [u8]) -> Result<Plain, AllocError> {
+    opened_with(alloc, exports(alloc, mode)?)
+}
+
+/// The opening state of these exports.
+fn opened_with(alloc: Global, exports: Exports) -> Result<Plain, AllocError> {
     let limits = Limits {
         total_bytes: 1 << 40,
     };
@@ -108,7 +134,7 @@ fn opened_as(alloc: Global, mode: &'static [u8]) -> Result<Plain, AllocError> {
         seconds: 1000,
         nanoseconds: 0,
     };
-    Plain::new(alloc, 7, exports(alloc, mode)?, limits, moment)
+    Plain::new(alloc, 7, exports, limits, moment)
 }
 
 /// Serves a stream from this store on.

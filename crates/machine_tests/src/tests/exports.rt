@@ -14,7 +14,9 @@ fn two(alloc: Global) -> Result<ExportTable, Fail> {
 
 /// The number, the root's, and the path.
 fn is_export(export: &LivingExport, number: u32, path: &[u8]) -> bool {
-    export.number() == number && export.root() == u64::from(number) && export.path() == path
+    export.number() == number
+        && export.root() == u64::from(number)
+        && export.path().as_slice() == path
 }
 
 #[test]

@@ -1,18 +1,24 @@
 //! Changes of objects: bytes, links, names, and new files (RFC 1813, 2.5: mtime, ctime).
 
-ghost use Rattle.std.specs.Prelude.{◌≡◌, [], IfOk};
+ghost use Rattle.std.specs.Prelude.{◌≡◌, ◌<◌, [], IfOk};
 ghost use Rattle.nfs_objects.specs.Modes.{Suits};
 ghost use Rattle.nfs_objects.specs.declared.modes.Mode.TheVariants.{Exclusive};
 
 use super::*;
 use nfs_inodes::{
-    File, add_entry, attributes_given, lose_link, make_file, next_cookie, object, read, regular,
+    File, add_entry, file_wanted, lose_link, make_object, next_cookie, object, read, regular,
     resize, take_entry, write,
 };
 use nfs_objects::object::living;
-use nfs_objects::{Draft, Reserved};
+use nfs_objects::{Draft, Reserved, Usage};
 use nfs_wire::{CreateHow, Verifier};
 use std::test::Fail;
+
+/// What the group of number 9 uses.
+const GROUP: Addr = Addr::Usage {
+    export: 1,
+    group: 9,
+};
 
 /// One nanosecond after the last change.
 const LATER: Time = Time {
@@ -124,12 +130,89 @@ fn one_of_two_links_goes(rt: HostRuntime) -> Result<(), Fail> {
     Ok(())
 }
 
+/// Object 9, and what its group uses.
+fn grouped(alloc: Global, inode: Inode, usage: Usage) -> Result<View, AllocError>
+    ensures changes { IfOk result (Suits CHANGING) }
+{
+    let mut view = View::new(alloc);
+    view.add(
+        Addr::Inode(9),
+        Mode::Exclusive,
+        Some(Arc::new(alloc, Object::Inode(inode))?),
+    )?;
+    view.add(
+        GROUP,
+        Mode::Exclusive,
+        Some(Arc::new(alloc, Object::Usage(usage))?),
+    )?;
+    Ok(view)
+}
+
+/// So many objects of one block each.
+fn blocks(objects: u128) -> Usage
+    requires { objects < 1000 }
+{
+    Usage {
+        used: objects * 4096,
+        objects,
+    }
+}
+
 #[test]
 fn an_object_goes_with_its_last_link(rt: HostRuntime) -> Result<(), Fail> {
-    let (ctx, view) = (ctx(1), viewed(rt.alloc(), 9, hello())?);
+    let (ctx, view) = (ctx(1), grouped(rt.alloc(), hello(), blocks(3))?);
     let mut draft = Draft::new(rt.alloc(), &ctx, &view, CHANGING);
     assert!(rt; lose_link(&mut draft, 9, 1).is_ok());
     assert!(rt; matches!(object(&draft, 9), Ok(None)));
+    assert!(rt; matches!(draft.usage(1, 9), Ok(usage) if usage == blocks(2)));
+    Ok(())
+}
+
+#[test]
+fn an_empty_group_has_no_usage(rt: HostRuntime) -> Result<(), Fail> {
+    let (ctx, view) = (ctx(1), grouped(rt.alloc(), hello(), blocks(1))?);
+    let mut draft = Draft::new(rt.alloc(), &ctx, &view, CHANGING);
+    assert!(rt; lose_link(&mut draft, 9, 1).is_ok());
+    assert!(rt; matches!(draft.find(GROUP), Ok(None)));
+    Ok(())
+}
+
+/// Space is used in whole blocks (RFC 1813, 2.5: used).
+#[test]
+fn bytes_in_a_block_stay_counted(rt: HostRuntime) -> Result<(), Fail> {
+    let (ctx, view) = (ctx(1), grouped(rt.alloc(), hello(), blocks(3))?);
+    let mut draft = Draft::new(rt.alloc(), &ctx, &view, CHANGING);
+    assert!(rt; matches!(is_written(&mut draft, 1, b"ip", b"hiplo"), Ok(true)));
+    assert!(rt; matches!(draft.usage(1, 9), Ok(usage) if usage == blocks(3)));
+    Ok(())
+}
+
+#[test]
+fn a_second_block_is_counted(rt: HostRuntime) -> Result<(), Fail> {
+    let (ctx, view) = (ctx(1), grouped(rt.alloc(), hello(), blocks(3))?);
+    let mut draft = Draft::new(rt.alloc(), &ctx, &view, CHANGING);
+    assert!(rt; matches!(is_resized(&mut draft, 4097, b""), Ok(false)));
+    assert!(rt;
+        matches!(draft.usage(1, 9), Ok(usage) if usage.used == 4 * 4096 && usage.objects == 3)
+    );
+    Ok(())
+}
+
+/// A change that uses as much asks for no usage.
+#[test]
+fn a_usage_that_stays_is_not_asked_for(rt: HostRuntime) -> Result<(), Fail> {
+    let (ctx, view) = (ctx(1), viewed(rt.alloc(), 9, hello())?);
+    let mut draft = Draft::new(rt.alloc(), &ctx, &view, CHANGING);
+    assert!(rt; matches!(is_resized(&mut draft, 4, b"hell"), Ok(true)));
+    Ok(())
+}
+
+/// A change that uses more does.
+#[test]
+fn a_usage_is_asked_for_where_it_changes(rt: HostRuntime) -> Result<(), Fail> {
+    let (ctx, view) = (ctx(1), viewed(rt.alloc(), 9, hello())?);
+    let mut draft = Draft::new(rt.alloc(), &ctx, &view, CHANGING);
+    assert!(rt; asks(&is_resized(&mut draft, 4097, b""), GROUP, Mode::Exclusive));
     Ok(())
 }
 
@@ -165,8 +248,8 @@ fn come_and_go(draft: &mut Draft<'_>) -> Result<(), Halt>
     let Some(place) = known_place(draft)? else {
         return Ok(());
     };
-    add_entry(draft, &place, b"a", 7, 3)?;
-    add_entry(draft, &place, b"b", 8, 4)?;
+    add_entry(draft, &place, b"a", 7, 3, 2)?;
+    add_entry(draft, &place, b"b", 8, 4, 2)?;
     take_entry(draft, &place, b"b")
 }
 
@@ -194,6 +277,12 @@ const RESERVED: Reserved = Reserved {
     generation: 4,
 };
 
+/// What the group of that number uses.
+const NEW_GROUP: Addr = Addr::Usage {
+    export: 1,
+    group: 10,
+};
+
 /// A file of 3 bytes.
 fn sized() -> CreateHow {
     CreateHow::Unchecked(SetAttributes {
@@ -205,8 +294,8 @@ fn sized() -> CreateHow {
 #[test]
 fn a_file_that_is_made_exclusively_is_given_nothing(rt: HostRuntime) {
     let exclusive = CreateHow::Exclusive(Verifier { bytes: [1; 8] });
-    assert!(rt; attributes_given(&exclusive) == NOTHING);
-    assert!(rt; attributes_given(&sized()).size == Some(3));
+    assert!(rt; file_wanted(&exclusive).attributes == NOTHING);
+    assert!(rt; file_wanted(&sized()).attributes.size == Some(3));
 }
 
 /// Makes the file `x` in directory 9.
@@ -215,7 +304,7 @@ fn make(draft: &mut Draft<'_>) -> Result<Option<Reserved>, Halt>
     requires alone { draft.old.modes.inodes ≡ Exclusive }
 {
     match known_place(draft)? {
-        Some(place) => Ok(Some(make_file(draft, &place, b"x", 3, &sized())?)),
+        Some(place) => Ok(Some(make_object(draft, &place, b"x", 3, &file_wanted(&sized()))?)),
         None => Ok(None),
     }
 }
@@ -241,7 +330,7 @@ fn a_new_file_wants_a_number(rt: HostRuntime) -> Result<(), Fail> {
     Ok(())
 }
 
-/// Directory 9 without names, and a number to give.
+/// Directory 9 without names, and a number to give, whose group is empty.
 fn place_and_number(alloc: Global) -> Result<View, AllocError>
     ensures changes { IfOk result (Suits CHANGING) }
 {
@@ -253,6 +342,7 @@ fn place_and_number(alloc: Global) -> Result<View, AllocError>
         Some(Arc::new(alloc, Object::Inode(inode(content, 0o777)))?),
     )?;
     view.add_reserved(RESERVED)?;
+    view.add(NEW_GROUP, Mode::Exclusive, None)?;
     Ok(view)
 }
 
@@ -263,5 +353,6 @@ fn a_new_file_has_the_number_that_was_reserved(rt: HostRuntime) -> Result<(), Fa
     assert!(rt; matches!(make(&mut draft), Ok(Some(RESERVED))));
     assert_eq!(rt; led(&draft, b"x"), Some(10));
     assert!(rt; matches!(is_made(&draft), Ok(true)));
+    assert!(rt; matches!(draft.usage(1, 10), Ok(usage) if usage == blocks(1)));
     Ok(())
 }

@@ -1,7 +1,7 @@
-//! Tables of mounts (RFC 1813, appendix I, 5.2): their order, and how many are kept.
+//! Tables of mounts (RFC 1813, appendix I, 5.2): their order, and who is listed.
 
 use super::*;
-use nfs_objects::{MOUNT_LIMIT, Mount, MountTable};
+use nfs_objects::{Mount, MountTable};
 use std::test::Fail;
 
 /// The table with one more mount of `/data`, unless the host has it mounted.
@@ -63,34 +63,4 @@ fn a_new_table_has_no_mount(rt: HostRuntime) {
     let table = MountTable::new(rt.alloc());
     assert!(rt; table.is_empty());
     assert!(rt; table.iter().next().is_none());
-}
-
-/// The host with this number.
-fn host(number: usize) -> [u8; 8] {
-    number.to_be_bytes()
-}
-
-/// The hosts with the numbers below this mounted `/data`, each in its turn.
-fn many(alloc: Global, count: usize) -> Result<MountTable, Fail> {
-    let mut table = MountTable::new(alloc);
-    for number in 0..count {
-        table = mounted(alloc, &table, &host(number))?;
-    }
-    Ok(table)
-}
-
-/// One mount more than are kept, and another one behind it.
-#[test]
-fn the_first_of_too_many_mounts_goes(rt: HostRuntime) -> Result<(), Fail> {
-    let table = many(rt.alloc(), MOUNT_LIMIT + 2)?;
-    assert_eq!(rt; table.len(), 65_536);
-    assert!(rt; !table.is_listed(&host(1), b"/data"));
-    assert!(rt;
-        table
-            .iter()
-            .next()
-            .is_some_and(|first| is_mount(first, &host(2)))
-    );
-    assert!(rt; table.is_listed(&host(MOUNT_LIMIT + 1), b"/data"));
-    Ok(())
 }

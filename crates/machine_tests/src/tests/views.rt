@@ -77,3 +77,40 @@ fn a_refused_growth_changes_nothing(rt: HostRuntime) {
     assert_eq!(rt; view.find(Addr::Inode(2)).is_some(), given);
     assert_eq!(rt; view.find(Addr::Mounts).is_some(), read);
 }
+
+/// Room for two entries takes an address and a number with no memory, and the view that has them is taken apart.
+#[test]
+fn a_view_takes_what_it_has_room_for(rt: HostRuntime) -> Result<(), Fail> {
+    let mut roomy = View::new(rt.alloc()).make_room(2).map_err(|_| AllocError)?;
+    roomy.put(Addr::Mounts, Mode::Shared, None);
+    roomy.put_reserved(RESERVED);
+    let view = roomy.into_view();
+    assert_eq!(rt; view.len(), 2);
+    assert!(rt;
+        view.find(Addr::Mounts)
+            .is_some_and(|object| object.is_none())
+    );
+    assert_eq!(rt; view.fresh(), Some(RESERVED));
+    let (mut entries, reserved) = view.into_parts();
+    let (first, _) = entries.next().ok_or("the first stands first")?;
+    let (second, entry) = entries.next().ok_or("and the number's behind it")?;
+    assert_eq!(rt; first, Addr::Mounts);
+    assert_eq!(rt; second, Addr::Inode(2));
+    assert_eq!(rt; entry.mode, Mode::Exclusive);
+    assert_eq!(rt; reserved.as_slice(), [RESERVED].as_slice());
+    Ok(())
+}
+
+/// Where the room is refused the view is handed back as it was.
+#[test]
+fn refused_room_hands_the_view_back(rt: HostRuntime) -> Result<(), Fail> {
+    let view = viewed(rt.alloc(), 9, fifo(0o600))?;
+    let view = match view.make_room(16) {
+        Ok(roomy) => roomy.into_view(),
+        Err(refused) => refused.value,
+    };
+    assert_eq!(rt; view.len(), 2);
+    let known = view.find(Addr::Inode(9)).ok_or("it was read")?;
+    assert!(rt; living(known).is_some());
+    Ok(())
+}

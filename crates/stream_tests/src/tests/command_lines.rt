@@ -74,6 +74,25 @@ fn each_option(rt: HostRuntime) {
 }
 
 #[test]
+fn exports_in_the_order_given(rt: HostRuntime) {
+    let words = [
+        "nfsd",
+        "--export",
+        "/b,ro,10.0.0.1",
+        "--stdio",
+        "--export",
+        "/a,rw,*",
+    ];
+    let options = options(&rt, rt.alloc(), &words);
+    let list = options.exports.list();
+    assert_eq!(rt; list.len(), 2);
+    assert!(rt; list[0].path.as_slice() == b"/b".as_slice());
+    assert!(rt; list[0].read_only);
+    assert!(rt; list[1].path.as_slice() == b"/a".as_slice());
+    assert!(rt; !list[1].read_only);
+}
+
+#[test]
 fn the_length_of_a_host(rt: HostRuntime) -> Result<(), Fail> {
     let alloc = rt.alloc();
     let long = "h".repeat(alloc, 256)?;
@@ -91,10 +110,6 @@ fn the_length_of_a_host(rt: HostRuntime) -> Result<(), Fail> {
 fn refused_command_lines(rt: HostRuntime) -> Result<(), Fail> {
     let alloc = rt.alloc();
     let refused = [
-        (
-            ["--export", "/more,rw,*"].as_slice(),
-            "error: the argument '--export <PATH,MODE,HOST[,HOST..]>' cannot be used multiple times\n",
-        ),
         (
             ["--stdio"].as_slice(),
             "error: the argument '--stdio' cannot be used multiple times\n",
@@ -199,6 +214,47 @@ fn the_first_fault_is_told(rt: HostRuntime) -> Result<(), Fail> {
     for (words, status, beginning) in refused {
         assert!(rt; is_refused(alloc, words, status, beginning)?, "{beginning}");
     }
+    Ok(())
+}
+
+/// Of several exports: too many before all else, then the first that is at fault, and of its faults the first.
+#[test]
+fn the_first_export_at_fault_is_told(rt: HostRuntime) -> Result<(), Fail> {
+    let alloc = rt.alloc();
+    let refused = [
+        ("/b,rw", "nfsd: export 2: no host"),
+        ("/b,rx,*", "nfsd: export 2: bad mode"),
+        ("b,rx", "nfsd: export 2: bad path"),
+        ("/data,ro,10.0.0.1", "nfsd: export 2: double path"),
+        ("/data,ro", "nfsd: export 2: no host"),
+    ];
+    for (export, line) in refused {
+        let words = with(alloc, &SERVE, &["--export", export, "--export", "c"])?;
+        assert!(rt; is_refused(alloc, &words, 1, line)?, "{line}");
+    }
+    Ok(())
+}
+
+/// A command line of `/data` and of so many exports more, all of them at fault.
+fn with_more_exports(alloc: Global, count: usize) -> Result<Vec<&'static str>, Fail> {
+    let mut words = SERVE.to_vec(alloc)?;
+    for _ in 0..count {
+        words.extend_from_slice(&["--export", "/data,rx"])?;
+    }
+    Ok(words)
+}
+
+#[test]
+fn exports_that_are_64_are_not_too_many(rt: HostRuntime) -> Result<(), Fail> {
+    let words = with_more_exports(rt.alloc(), 63)?;
+    assert!(rt; is_refused(rt.alloc(), &words, 1, "nfsd: export 2: bad mode")?);
+    Ok(())
+}
+
+#[test]
+fn more_than_64_exports_are_too_many(rt: HostRuntime) -> Result<(), Fail> {
+    let words = with_more_exports(rt.alloc(), 64)?;
+    assert!(rt; is_refused(rt.alloc(), &words, 1, "nfsd: too many exports")?);
     Ok(())
 }
 

@@ -1,6 +1,7 @@
 //! CREATE in the root (RFC 1813, 3.3.8).
 
 use super::scripts::*;
+use super::shown::*;
 use super::*;
 
 /// UNCHECKED with size 0.
@@ -25,7 +26,7 @@ fn an_unchecked_file_stays(rt: HostRuntime) -> Result<(), Fail> {
 /// Size 0 for a file that is empty already.
 #[test]
 fn an_unchecked_file_gets_its_size(rt: HostRuntime) -> Result<(), Fail> {
-    let later = Shown { changed: 1, ..NEW };
+    let later = NEW.at(1);
     let mut script = Script::on_new(rt.alloc())?;
     script.call(CREATE, &ROOT, &X, &EMPTIED)?;
     script.answer(&MADE, &later.after(), &root_before(1), &root_after(1))?;
@@ -42,6 +43,36 @@ fn an_exclusive_file_is_its_maker_s(rt: HostRuntime) -> Result<(), Fail> {
     script.answer(&MADE, &NEW.after(), &root_before(1), &root_after(1))?;
     script.call(CREATE, &ROOT, &X, &[2, 0, 2])?;
     script.answer(&[NFS3ERR_EXIST], &root_before(1), &root_after(1), &[])?;
+    script.is_followed(&rt)
+}
+
+/// A verifier for a file that was made without one.
+#[test]
+fn an_exclusive_name_is_there(rt: HostRuntime) -> Result<(), Fail> {
+    let mut script = Script::on_new(rt.alloc())?;
+    script.refuses(CREATE, root(2, 1), &X, &[2, 0, 0], NFS3ERR_EXIST)?;
+    script.is_followed(&rt)
+}
+
+/// The file is written to, and gets another name.
+fn is_its_maker_s(script: &mut Script) -> Result<(), AllocError> {
+    let how = [2, 0x12345678, 0x9abcdef0];
+    let later = Shown {
+        changed: 2,
+        ..HELLO
+    };
+    let moves = root(2, 1).to(root(2, 2));
+    script.makes(CREATE, root(2, 0).to(root(2, 1)), &X, &how, NEW)?;
+    script.call(WRITE, &FILE, &[0, 0, 5, 2], &[5, 0x68656c6c, 0x6f000000])?;
+    script.answer(&[NFS3_OK], &NEW.before(), &HELLO.after(), &[5, 2, 0, 7])?;
+    script.renames(moves, &X, moves, &Y, NFS3_OK)?;
+    script.makes(CREATE, root(2, 2).stays(), &Y, &how, later)
+}
+
+#[test]
+fn an_exclusive_file_stays_its_maker_s(rt: HostRuntime) -> Result<(), Fail> {
+    let mut script = Script::new(rt.alloc());
+    is_its_maker_s(&mut script)?;
     script.is_followed(&rt)
 }
 

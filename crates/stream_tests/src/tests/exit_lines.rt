@@ -5,21 +5,22 @@ use nfs_server::Exit;
 use std::test::Fail;
 
 #[test]
-fn each_exit_has_a_line(rt: HostRuntime) -> Result<(), Fail> {
+fn each_exit_has_a_status_and_a_line(rt: HostRuntime) -> Result<(), Fail> {
     let alloc = rt.alloc();
     let told = [
-        (Exit::NoTransport, "nfsd: no transport"),
-        (Exit::Memory, "nfsd: out of memory"),
-        (Exit::StandardStream, "nfsd: standard stream failed"),
+        (Exit::NoTransport, 2, "nfsd: no transport"),
+        (Exit::Memory, 1, "nfsd: out of memory"),
+        (Exit::StandardStream, 1, "nfsd: standard stream failed"),
     ];
-    for (exit, line) in told {
+    for (exit, status, line) in told {
+        assert_eq!(rt; exit.status(), status);
         assert_eq!(rt; exit.to_string(alloc)?.as_str(), line);
     }
     Ok(())
 }
 
 #[test]
-fn each_fault_of_exports_has_a_line(rt: HostRuntime) -> Result<(), Fail> {
+fn each_fault_of_exports_has_its_line_and_status_1(rt: HostRuntime) -> Result<(), Fail> {
     let alloc = rt.alloc();
     let told = [
         (ExportError::BadPath(1), "nfsd: export 1: bad path"),
@@ -29,7 +30,9 @@ fn each_fault_of_exports_has_a_line(rt: HostRuntime) -> Result<(), Fail> {
         (ExportError::TooMany, "nfsd: too many exports"),
     ];
     for (fault, line) in told {
-        assert_eq!(rt; Exit::from(fault).to_string(alloc)?.as_str(), line);
+        let exit = Exit::from(fault);
+        assert_eq!(rt; exit.status(), 1);
+        assert_eq!(rt; exit.to_string(alloc)?.as_str(), line);
     }
     Ok(())
 }

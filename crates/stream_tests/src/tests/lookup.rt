@@ -1,6 +1,7 @@
 //! LOOKUP in the root and in a file (RFC 1813, 3.3.3), and handles that name nothing (2.6).
 
 use super::scripts::*;
+use super::shown::*;
 use super::*;
 
 #[test]

@@ -1,10 +1,11 @@
 //! Who may read and write a file of user 100 and group 200, which this user made with a mode (RFC 1813, 4.4).
 
 use super::scripts::*;
+use super::shown::*;
 use super::*;
 
 /// A new file of this mode.
-fn file(mode: u32) -> Shown {
+pub(super) fn file(mode: u32) -> Shown {
     Shown {
         mode,
         uid: 100,
@@ -14,7 +15,7 @@ fn file(mode: u32) -> Shown {
 }
 
 /// The file `x` of this mode is made for user 100.
-fn on_mode(alloc: Global, mode: u32) -> Result<Script, AllocError> {
+pub(super) fn on_mode(alloc: Global, mode: u32) -> Result<Script, AllocError> {
     let how = [1, 1, mode, 0, 0, 0, 0, 0];
     let mut script = Script::new(alloc);
     script.call_by(&user(100, 200), CREATE, &ROOT, &X, &how)?;
@@ -44,6 +45,7 @@ fn is_written(rt: &(impl Abort + AllocGlobal), mode: u32, credential: &[u32]) ->
     let new = Shown {
         size: 1,
         used: 0x1000,
+        modified: 1,
         changed: 1,
         ..old
     };

@@ -1,6 +1,7 @@
 //! READ and WRITE of files (RFC 1813, 3.3.6 and 3.3.7).
 
 use super::scripts::*;
+use super::shown::*;
 use super::*;
 
 /// `hello` as opaque data, with its length.
@@ -49,6 +50,7 @@ fn the_middle_of_a_file_is_read(rt: HostRuntime) -> Result<(), Fail> {
 fn a_gap_is_zeros(rt: HostRuntime) -> Result<(), Fail> {
     let later = Shown {
         size: 9,
+        modified: 2,
         changed: 2,
         ..HELLO
     };
@@ -63,10 +65,7 @@ fn a_gap_is_zeros(rt: HostRuntime) -> Result<(), Fail> {
 
 #[test]
 fn a_write_in_the_middle_leaves_the_rest(rt: HostRuntime) -> Result<(), Fail> {
-    let later = Shown {
-        changed: 2,
-        ..HELLO
-    };
+    let later = HELLO.at(2);
     let data = [5, 0x6875726c, 0x6f000000];
     let mut script = Script::on_hello(rt.alloc())?;
     script.call(WRITE, &FILE, &[0, 1, 2, 1], &[2, 0x75720000])?;
@@ -104,6 +103,7 @@ fn a_file_has_at_most_1048576_bytes(rt: HostRuntime) -> Result<(), Fail> {
     let full = Shown {
         size: 0x100000,
         used: 0x100000,
+        modified: 1,
         changed: 1,
         ..NEW
     };
@@ -121,6 +121,7 @@ fn at_most_65536_bytes_are_written(rt: HostRuntime) -> Result<(), Fail> {
     let later = Shown {
         size: 0x10000,
         used: 0x10000,
+        modified: 1,
         changed: 1,
         ..NEW
     };

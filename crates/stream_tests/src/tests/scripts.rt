@@ -1,11 +1,11 @@
 //! What a new server is sent and what it must answer, put together from words as RFC 5531, sections 9 and 11, and
 //! RFC 1813, 2.5, 2.6 and 3.3, say.
-//!
-//! Every moment is (1000, 0), so a change of an object makes its times 1 ns later than they were. The first new
-//! object of a server has the number 2 and the generation 1, since the root has the number 1: RFC 1813 leaves the
-//! choice open.
 
+use super::shown::*;
 use super::*;
+
+/// GETATTR.
+pub(super) const ATTRIBUTES: u32 = 1;
 
 pub(super) const LOOKUP: u32 = 3;
 
@@ -14,6 +14,20 @@ pub(super) const READ: u32 = 6;
 pub(super) const WRITE: u32 = 7;
 
 pub(super) const CREATE: u32 = 8;
+
+pub(super) const MKDIR: u32 = 9;
+
+pub(super) const SYMLINK: u32 = 10;
+
+pub(super) const MKNOD: u32 = 11;
+
+pub(super) const REMOVE: u32 = 12;
+
+pub(super) const RMDIR: u32 = 13;
+
+pub(super) const RENAME: u32 = 14;
+
+pub(super) const LINK: u32 = 15;
 
 pub(super) const NFS3_OK: u32 = 0;
 
@@ -27,6 +41,8 @@ pub(super) const NFS3ERR_EXIST: u32 = 17;
 
 pub(super) const NFS3ERR_NOTDIR: u32 = 20;
 
+pub(super) const NFS3ERR_ISDIR: u32 = 21;
+
 pub(super) const NFS3ERR_INVAL: u32 = 22;
 
 pub(super) const NFS3ERR_FBIG: u32 = 27;
@@ -35,9 +51,13 @@ pub(super) const NFS3ERR_ROFS: u32 = 30;
 
 pub(super) const NFS3ERR_NAMETOOLONG: u32 = 63;
 
+pub(super) const NFS3ERR_NOTEMPTY: u32 = 66;
+
 pub(super) const NFS3ERR_STALE: u32 = 70;
 
 pub(super) const NFS3ERR_BADHANDLE: u32 = 10001;
+
+pub(super) const NFS3ERR_BADTYPE: u32 = 10007;
 
 /// Handles with their length: 32 bytes with mark, export 1, start 7, fileid and generation.
 pub(super) const ROOT: [u32; 9] = [32, 0x4e464433, 1, 0, 7, 0, 1, 0, 1];
@@ -53,13 +73,47 @@ pub(super) const STALE: [u32; 9] = [32, 0x4e464433, 1, 0, 7, 0, 1, 0, 2];
 /// The first 31 bytes of the root's handle.
 pub(super) const CUT: [u32; 9] = [31, 0x4e464433, 1, 0, 7, 0, 1, 0, 0];
 
-/// The name `x`, with its length.
+/// Names with their lengths: `x`, `y`, `p` and `q`.
 pub(super) const X: [u32; 2] = [1, 0x78000000];
+
+pub(super) const Y: [u32; 2] = [1, 0x79000000];
+
+pub(super) const P: [u32; 2] = [1, 0x70000000];
+
+pub(super) const Q: [u32; 2] = [1, 0x71000000];
+
+/// `.` and `..`.
+pub(super) const DOT: [u32; 2] = [1, 0x2e000000];
+
+pub(super) const DOTS: [u32; 2] = [2, 0x2e2e0000];
+
+/// What is no name: no bytes, `a/b`, and `a`, NUL, `b`.
+pub(super) const EMPTY: [u32; 1] = [0];
+
+pub(super) const SLASH: [u32; 2] = [3, 0x612f6200];
+
+pub(super) const NUL: [u32; 2] = [3, 0x61006200];
 
 /// How a file is made, with no attributes given (RFC 1813, 3.3.8).
 pub(super) const UNCHECKED: [u32; 7] = [0, 0, 0, 0, 0, 0, 0];
 
 pub(super) const GUARDED: [u32; 7] = [1, 0, 0, 0, 0, 0, 0];
+
+/// No attributes given: `sattr3`.
+pub(super) const AS_USUAL: [u32; 6] = [0, 0, 0, 0, 0, 0];
+
+/// What MKNOD makes: a FIFO, with no attributes given.
+pub(super) const A_FIFO: [u32; 7] = [NF3FIFO, 0, 0, 0, 0, 0, 0];
+
+/// What SYMLINK makes: a link whose text is `x`, with no attributes given.
+pub(super) const TO_X: [u32; 8] = [0, 0, 0, 0, 0, 0, 1, 0x78000000];
+
+/// A name of 256 bytes, with its length.
+pub(super) fn long_name() -> [u32; 65] {
+    let mut name = [0x61616161; 65];
+    name[0] = 256;
+    name
+}
 
 /// AUTH_SYS of user 0 and group 0.
 pub(super) const USER_0: [u32; 7] = [1, 20, 0, 0, 0, 0, 0];
@@ -69,85 +123,6 @@ pub(super) fn user(uid: u32, gid: u32) -> [u32; 7] {
     [1, 20, 0, 0, uid, gid, 0]
 }
 
-/// The root as it is after a call, with the nanoseconds of its last change: `post_op_attr`.
-pub(super) fn root_after(changed: u32) -> [u32; 22] {
-    [
-        1, 2, 0o777, 2, 0, 0, 0, 0x1000, 0, 0x1000, 0, 0, 0, 1, 0, 1, 1000, 0, 1000, changed, 1000,
-        changed,
-    ]
-}
-
-/// The root as it was before a call: `pre_op_attr`.
-pub(super) fn root_before(changed: u32) -> [u32; 7] {
-    [1, 0, 0x1000, 1000, changed, 1000, changed]
-}
-
-/// What is told of the file 2.
-#[derive(Clone, Copy)]
-pub(super) struct Shown {
-    pub mode: u32,
-    pub uid: u32,
-    pub gid: u32,
-    pub size: u32,
-    /// The size rounded up to 4096.
-    pub used: u32,
-    /// The nanoseconds of its last change.
-    pub changed: u32,
-}
-
-/// A new file of user 0.
-pub(super) const NEW: Shown = Shown {
-    mode: 0o644,
-    uid: 0,
-    gid: 0,
-    size: 0,
-    used: 0,
-    changed: 0,
-};
-
-/// The file after `hello` was written to it.
-pub(super) const HELLO: Shown = Shown {
-    size: 5,
-    used: 0x1000,
-    changed: 1,
-    ..NEW
-};
-
-impl Shown {
-    /// The file as it is after a call: `post_op_attr`.
-    pub(super) fn after(self) -> [u32; 22] {
-        [
-            1,
-            1,
-            self.mode,
-            1,
-            self.uid,
-            self.gid,
-            0,
-            self.size,
-            0,
-            self.used,
-            0,
-            0,
-            0,
-            1,
-            0,
-            2,
-            1000,
-            0,
-            1000,
-            self.changed,
-            1000,
-            self.changed,
-        ]
-    }
-
-    /// The file as it was before a call: `pre_op_attr`.
-    pub(super) fn before(self) -> [u32; 7] {
-        [1, 0, self.size, 1000, self.changed, 1000, self.changed]
-    }
-}
-
 /// The calls that a new server is sent, and the replies that it must give.
 #[derive(Drop)]
 pub(super) struct Script {
@@ -155,6 +130,8 @@ pub(super) struct Script {
     replies: Vec<u8>,
     /// The transaction id of the last call.
     xid: u32,
+    /// The credential of calls, AUTH_SYS.
+    pub caller: [u32; 7],
 }
 
 impl Script {
@@ -163,7 +140,13 @@ impl Script {
             calls: Vec::new(alloc),
             replies: Vec::new(alloc),
             xid: 0,
+            caller: USER_0,
         }
+    }
+
+    /// What its bytes are kept by.
+    pub(super) fn allocator(&self) -> Global {
+        *self.calls.allocator()
     }
 
     /// The file `x` is made for user 0.
@@ -183,7 +166,137 @@ impl Script {
         Ok(script)
     }
 
-    /// Adds a call by user 0: a handle, and two further parts of the arguments.
+    /// User 0 made the file `x` (2), and the directory `p` (3) with the directory `q` (4) in it.
+    pub(super) fn on_tree(alloc: Global) -> Result<Script, AllocError> {
+        let mut script = Script::on_new(alloc)?;
+        script.makes(
+            MKDIR,
+            root(2, 1).to(root(3, 2)),
+            &P,
+            &AS_USUAL,
+            directory(3, 2, 0),
+        )?;
+        let upper = directory(3, 2, 0).to(directory(3, 3, 1));
+        script.makes(MKDIR, upper, &Q, &AS_USUAL, directory(4, 2, 0))?;
+        Ok(script)
+    }
+
+    /// LOOKUP of a name in a directory, which leads to this object.
+    pub(super) fn finds(
+        &mut self,
+        within: Shown,
+        name: &[u32],
+        object: Shown,
+    ) -> Result<(), AllocError> {
+        self.call(LOOKUP, &within.handle(), name, &[])?;
+        self.answer(
+            &[NFS3_OK],
+            &object.handle(),
+            &object.after(),
+            &within.after(),
+        )
+    }
+
+    /// LOOKUP of a name that is not in a directory.
+    pub(super) fn misses(&mut self, within: Shown, name: &[u32]) -> Result<(), AllocError> {
+        self.call(LOOKUP, &within.handle(), name, &[])?;
+        self.answer(&[NFS3ERR_NOENT], &within.after(), &[], &[])
+    }
+
+    /// GETATTR of a handle that names nothing.
+    pub(super) fn names_nothing(&mut self, handle: &[u32], error: u32) -> Result<(), AllocError> {
+        self.call(ATTRIBUTES, handle, &[], &[])?;
+        self.answer(&[error], &[], &[], &[])
+    }
+
+    /// A call that makes this object under a name, with what it says of the object.
+    pub(super) fn makes(
+        &mut self,
+        procedure: u32,
+        within: Change,
+        name: &[u32],
+        how: &[u32],
+        object: Shown,
+    ) -> Result<(), AllocError> {
+        let mut made = MADE;
+        made[8] = object.number;
+        self.call(procedure, &within.before.handle(), name, how)?;
+        self.answer(
+            &made,
+            &object.after(),
+            &within.before.before(),
+            &within.after.after(),
+        )
+    }
+
+    /// A call on a name in a directory that is refused, and leaves the directory as it is.
+    pub(super) fn refuses(
+        &mut self,
+        procedure: u32,
+        within: Shown,
+        name: &[u32],
+        how: &[u32],
+        error: u32,
+    ) -> Result<(), AllocError> {
+        self.call(procedure, &within.handle(), name, how)?;
+        self.answer(&[error], &within.before(), &within.after(), &[])
+    }
+
+    /// REMOVE or RMDIR of a name, which is done.
+    pub(super) fn takes(
+        &mut self,
+        procedure: u32,
+        within: Change,
+        name: &[u32],
+    ) -> Result<(), AllocError> {
+        self.call(procedure, &within.before.handle(), name, &[])?;
+        self.answer(
+            &[NFS3_OK],
+            &within.before.before(),
+            &within.after.after(),
+            &[],
+        )
+    }
+
+    /// LINK of an object under a name in a directory is answered by this status, and the object is so after it.
+    pub(super) fn links(
+        &mut self,
+        object: Shown,
+        within: Change,
+        name: &[u32],
+        status: u32,
+    ) -> Result<(), AllocError> {
+        self.call(LINK, &object.handle(), &within.before.handle(), name)?;
+        self.answer(
+            &[status],
+            &object.after(),
+            &within.before.before(),
+            &within.after.after(),
+        )
+    }
+
+    /// RENAME of a name in a directory to a name in this or another is answered by this status.
+    pub(super) fn renames(
+        &mut self,
+        from: Change,
+        name: &[u32],
+        to: Change,
+        new_name: &[u32],
+        status: u32,
+    ) -> Result<(), AllocError> {
+        let alloc = self.allocator();
+        let target = joined(alloc, &to.before.handle(), new_name)?;
+        let first = joined(alloc, &[status], &from.before.before())?;
+        self.call(RENAME, &from.before.handle(), name, &target)?;
+        self.answer(
+            &first,
+            &from.after.after(),
+            &to.before.before(),
+            &to.after.after(),
+        )
+    }
+
+    /// Adds a call by the caller: a handle, and two further parts of the arguments.
     pub(super) fn call(
         &mut self,
         procedure: u32,
@@ -191,7 +304,8 @@ impl Script {
         second: &[u32],
         third: &[u32],
     ) -> Result<(), AllocError> {
-        self.call_by(&USER_0, procedure, handle, second, third)
+        let caller = self.caller;
+        self.call_by(&caller, procedure, handle, second, third)
     }
 
     /// Adds a call with this credential.
@@ -247,6 +361,14 @@ impl Script {
         assert_eq!(rt; end, Ok(Served));
         Ok(())
     }
+}
+
+/// The first words, and the others behind them.
+pub(super) fn joined(alloc: Global, first: &[u32], others: &[u32]) -> Result<Vec<u32>, AllocError> {
+    let mut words = Vec::new(alloc);
+    words.extend_from_slice(first)?;
+    words.extend_from_slice(others)?;
+    Ok(words)
 }
 
 /// Adds these words.

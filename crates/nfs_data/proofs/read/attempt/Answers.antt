@@ -3,7 +3,7 @@ use Rattle.std.proofs.lemmas.Result.{err_from_is_err_and}
 use Rattle.nfs_wire.specs.declared.calls.NfsCall.TheVariants as nfs
 use Rattle.nfs_machine.specs.declared.calls.Call.TheVariants as calls
 use Rattle.nfs_inodes.proofs.Ending.{lives-as, means-as, naming, reading}
-use Rattle.nfs_data.proofs.Reading.{read-promised, refused-promised}
+use Rattle.nfs_data.proofs.Telling.{read-tells, refused-promised, told-promised}
 use Rattle.nfs_data.proofs.read.attempt.Goals as goal
 use Rattle.nfs_data.proofs.read.attempt.Goals.{in-Ok+in_ok-read_of-in-Ok, in-Err}
 
@@ -30,12 +30,14 @@ returns-in_err-read_of-in-Ok-clause-ends c =
 pub returns-clause-ends : goal.returns-clause-ends
 returns-clause-ends c = elim c.match-branch-2.branch [
   | in-Ok+in_ok-read_of-in-Ok w ↦ rw (c.answer.ensures.value, w.attributes-is)
-      (read-promised c.args.draft c.args.arguments.now c.requires c.answer.ensures.held c.answer.ensures.given
+      (told-promised (read-tells c.args.arguments.now) c.args.draft c.requires c.answer.ensures.held
+      c.answer.ensures.given
       w.in-Ok.known w.in_ok-read_of-in-Ok.field-0
       (means-as c.args.draft c.args.arguments.now.file _ _ (Ok w.in-Ok.known) c.as_slice.ensures w.in-Ok.is
       c.in_ok-known.ensures.means) w.in_ok-read_of-in-Ok.ensures)
   | in-Err w ↦ rw (c.answer.ensures.value, w.attributes-is)
-      (refused-promised c.args.draft c.args.arguments.now c.requires c.answer.ensures.held c.answer.ensures.given
+      (refused-promised (read-tells c.args.arguments.now) c.args.draft c.requires c.answer.ensures.held
+      c.answer.ensures.given
       w.in-Err.status
       (means-as c.args.draft c.args.arguments.now.file _ _ (Err w.in-Err.status) c.as_slice.ensures w.in-Err.is
       c.in_ok-known.ensures.means))

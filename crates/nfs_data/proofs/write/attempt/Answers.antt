@@ -7,7 +7,7 @@ use Rattle.nfs_objects.specs.Values.{DraftValue}
 use Rattle.nfs_objects.specs.declared.address.Addr.TheVariants as addresses
 use Rattle.nfs_inodes.proofs.Halting.{stops-before}
 use Rattle.nfs_inodes.proofs.Ending.{lives-as, means-as, naming, reading}
-use Rattle.nfs_data.proofs.Writing.{refused-promised, write-promised}
+use Rattle.nfs_data.proofs.Changing.{changed-promised, refused-promised, write-changes}
 use Rattle.nfs_data.proofs.write.attempt.Goals as goal
 use Rattle.nfs_data.proofs.write.attempt.Goals.{in-Ok+in_ok-result-in-Ok+in_ok-wcc-in-Ok, in-Err}
 
@@ -35,7 +35,7 @@ returns-in_err-wcc-in-Ok-clause-ends c =
 pub returns-clause-ends : goal.returns-clause-ends
 returns-clause-ends c = elim c.match-branch-2.branch [
   | in-Ok+in_ok-result-in-Ok+in_ok-wcc-in-Ok w ↦ rw (c.answer.ensures.value, w.result-is, w.draft-is)
-      (write-promised c.args.draft c.args.arguments.now c.requires w.store.new.draft w.in-Ok.known
+      (changed-promised (write-changes c.args.arguments.now) c.args.draft c.requires w.store.new.draft w.in-Ok.known
       w.in_ok-wcc-in-Ok.field-0 w.in_ok-result-in-Ok.result
       (subst (λ (d : DraftValue). Held d.view d.writes) w.draft-is c.answer.ensures.held)
       (subst (λ (d : DraftValue). Given d.view d.writes) w.draft-is c.answer.ensures.given)
@@ -43,7 +43,7 @@ returns-clause-ends c = elim c.match-branch-2.branch [
       c.in_ok-known.ensures.means) w.in_ok-result-in-Ok.ensures
       w.in_ok-wcc-in-Ok.ensures)
   | in-Err w ↦ rw (c.answer.ensures.value, w.result-is, w.draft-is, w.nothing_shown.ensures)
-      (refused-promised c.args.draft c.args.arguments.now c.requires w.in-Err.status
+      (refused-promised (write-changes c.args.arguments.now) c.args.draft c.requires w.in-Err.status
       (subst (λ (d : DraftValue). Held d.view d.writes) w.draft-is c.answer.ensures.held)
       (subst (λ (d : DraftValue). Given d.view d.writes) w.draft-is c.answer.ensures.given)
       (means-as c.args.draft c.args.arguments.now.file _ _ (Err w.in-Err.status) c.as_slice.ensures w.in-Err.is

@@ -14,6 +14,7 @@ use Rattle.nfs_objects.specs.Calls.{named_by}
 use Rattle.nfs_objects.specs.Knows.{Turns}
 use Rattle.nfs_objects.specs.Values.{DraftValue}
 use Rattle.nfs_objects.specs.declared.address.Addr.TheVariants as addresses
+use Rattle.nfs_inodes.proofs.Counting.{usage-lives-first}
 use Rattle.nfs_inodes.proofs.Standing.{known-lives}
 use Rattle.nfs_inodes.specs.Makes.{bytes_changed}
 use Rattle.nfs_inodes.specs.declared.found.Known.{Known}
@@ -43,7 +44,8 @@ returns-in_err-write c =
     let p = err_from_is_err_and c.from_residual-in_err-write.result c.from_residual-in_err-write.ensures.1 in
     rw (p.1, p.2) (c.in_err-write.ensures (named_by (calls.Nfs (nfs.Write c.args.arguments.now)))
     (inr (subst (λ (y : Known). Lives c.args.draft.now.view (addresses.Inode y.number)) (sym c.in-Ok.ensures.known)
-    (known-lives c.args.draft.now c.args.known.now c.requires.begins.none (λ s k w. (c.requires.names s k w).known)))))
+    (known-lives c.args.draft.now c.args.known.now c.requires.begins.none (λ s k w. (c.requires.names s k w).known))))
+    (usage-lives-first c.args.draft.now c.in-Ok.file.known.number c.requires.begins.none))
 
 pub returns-in-Err : goal.returns-in-Err
 returns-in-Err c =

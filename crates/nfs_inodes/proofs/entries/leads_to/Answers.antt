@@ -7,7 +7,7 @@ returns-then-is_self-clause-lives c = known-lives c.args.draft.now c.args.direct
 
 pub returns-then-is_above-clause-lives : goal.returns-then-is_above-clause-lives
 returns-then-is_above-clause-lives c =
-    parent-lives c.args.draft.now c.args.directory.now.known c.requires.none c.requires.known c.in_ok-parent.field-0 c.args.directory.now.kind c.in_ok-parent.ensures
+    parent-lives c.args.draft.now c.args.directory.now.known c.requires.none c.requires.known c.in_ok-parent.field-0 c.args.directory.now.kind c.in_ok-parent.ensures.parent
 
 pub returns-clause-leads : goal.returns-clause-leads
 returns-clause-leads c =

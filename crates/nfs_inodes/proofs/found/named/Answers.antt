@@ -1,9 +1,13 @@
-use Rattle.std.proofs.Common.{sym, subst}
+use Rattle.std.proofs.Common.{◌≡◌, IfSome, IsSome, sym, subst}
 use Rattle.std.proofs.lemmas.Result.{err_from_is_err_and}
-use Rattle.nfs_inodes.proofs.Halting.{bad-first, exports-first, exports-stop, lacking-first, object-first, object-stops}
+use Rattle.nfs_inodes.proofs.Halting.{bad-first, exports-first, exports-once, exports-stop, lacking-first, lacking-once, object-first, object-stops}
+use Rattle.nfs_inodes.proofs.Counting.{brings-usage}
 use Rattle.nfs_inodes.proofs.Naming.{bad-handle, named-there, nothing-there}
 use Rattle.nfs_inodes.proofs.Standing.{known-lives}
+use Rattle.nfs_objects.specs.Values.{known_at}
+use Rattle.nfs_objects.specs.declared.address.Addr.TheVariants as addresses
 use Rattle.nfs_inodes.specs.Known.{IsObject}
+use Rattle.nfs_inodes.specs.declared.found.Known.{Known}
 use Rattle.nfs_inodes.proofs.found.named.Goals as goal
 
 pub returns-in_err-exports-clause-stops : goal.returns-in_err-exports-clause-stops
@@ -51,3 +55,23 @@ pub returns-then-is_target-clause-lives : goal.returns-then-is_target-clause-liv
 returns-then-is_target-clause-lives c =
     known-lives c.args.draft.now c.in-Some-2.known c.requires
     (λ s k w. (subst (IsObject k.state c.in-Some.handle.fileid) c.in-Some-2.is (c.in_ok-known.ensures.object s k w)).1)
+
+pub returns-in_err-exports-clause-once : goal.returns-in_err-exports-clause-once
+returns-in_err-exports-clause-once c = λ nothing. absurd (exports-once (Unit {0}) c.args.draft.now c.args.handle.now _ c.in_err-exports.ensures.reads nothing)
+
+pub returns-in_err-known-clause-once : goal.returns-in_err-known-clause-once
+returns-in_err-known-clause-once c = λ nothing.
+    absurd (lacking-once (Unit {0}) c.args.draft.now c.args.handle.now c.requires c.in_ok-exports.ensures.reads c.in-Some.handle (sym c.in-Some.ensures) _ c.in_err-known.ensures.reads nothing)
+
+pub returns-then-is_target-clause-reads : goal.returns-then-is_target-clause-reads
+returns-then-is_target-clause-reads c =
+    let same : c.in-Some-2.known.number ≡ c.in-Some.handle.fileid =
+    subst (λ o. IfSome o (λ (x : Known). x.number ≡ c.in-Some.handle.fileid)) c.in-Some-2.is c.in_ok-known.ensures.number in (
+      c.in_ok-exports.ensures.reads,
+      subst (λ n. IsSome (known_at c.args.draft.now (addresses.Inode n))) (sym same) c.in_ok-known.ensures.reads,
+    )
+
+pub returns-then-is_target-clause-usage : goal.returns-then-is_target-clause-usage
+returns-then-is_target-clause-usage c =
+    brings-usage c.args.handle.now c.in-Some.handle c.in-Some-2.known _ (sym c.in-Some.ensures)
+    (sym (rw c.ctx.ensures at c.if-is_target.ensures))

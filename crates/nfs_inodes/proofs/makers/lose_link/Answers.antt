@@ -3,20 +3,28 @@ use Rattle.std.specs.Prelude.{MatchResult}
 use Rattle.std.proofs.lemmas.Bool.{le-leb, lt-leb}
 use Rattle.nfs_machine.specs.Shown.{touched}
 use Rattle.nfs_machine.specs.Times.{time_of}
-use Rattle.nfs_objects.specs.Edits.{edited, freed}
+use Rattle.nfs_objects.specs.Edits.{edited}
 use Rattle.nfs_objects.specs.Knows.{Turns}
-use Rattle.nfs_objects.specs.declared.address.Addr.TheVariants as addresses
-use Rattle.nfs_inodes.specs.Stops.{StopsAt}
+use Rattle.nfs_inodes.specs.Makes.{removed}
+use Rattle.nfs_inodes.specs.Stops.{StopsCounting}
+use Rattle.nfs_inodes.proofs.Putting.{all-stops}
 use Rattle.nfs_inodes.proofs.makers.lose_link.Goals as goal
 
 pub returns-then-links-le1 : goal.returns-then-links-le1
 returns-then-links-le1 c =
-    subst (λ b. MatchResult c.free.result (λ _. Turns c.args.draft.now c.free.new.draft (λ k. cond b (freed k c.args.number)
-    (edited k c.args.number (λ o. touched o (time_of c.args.draft.now.ctx.moment)) (λ l. l - 1)))) (StopsAt c.args.draft.now (addresses.Inode c.args.number)))
+    subst (λ b. MatchResult c.free.result
+    (λ _. Turns c.args.draft.now c.free.new.draft (λ k. cond b (removed c.args.number k)
+    (edited k c.args.number (λ o. touched o (time_of c.args.draft.now.ctx.moment)) (λ l. l - 1))))
+    (StopsCounting c.args.draft.now c.args.number))
     (sym (le-leb c.args.links 1 c.if-links-le1.true)) c.free.ensures
 
 pub returns-else-links-le1 : goal.returns-else-links-le1
 returns-else-links-le1 c =
-    subst (λ b. MatchResult c.unlink.result (λ _. Turns c.args.draft.now c.unlink.new.draft (λ k. cond b (freed k c.args.number)
-    (edited k c.args.number (λ o. touched o (time_of c.args.draft.now.ctx.moment)) (λ l. l - 1)))) (StopsAt c.args.draft.now (addresses.Inode c.args.number)))
-    (sym (lt-leb c.args.links 1 c.if-links-le1.false)) c.unlink.ensures
+    subst (λ b. MatchResult c.unlink.result
+    (λ _. Turns c.args.draft.now c.unlink.new.draft (λ k. cond b (removed c.args.number k)
+    (edited k c.args.number (λ o. touched o (time_of c.args.draft.now.ctx.moment)) (λ l. l - 1))))
+    (StopsCounting c.args.draft.now c.args.number))
+    (sym (lt-leb c.args.links 1 c.if-links-le1.false))
+    (all-stops c.args.draft.now c.args.number (λ _. Turns c.args.draft.now c.unlink.new.draft
+    (λ k. edited k c.args.number (λ o. touched o (time_of c.args.draft.now.ctx.moment)) (λ l. l - 1)))
+    c.unlink.result c.unlink.ensures)

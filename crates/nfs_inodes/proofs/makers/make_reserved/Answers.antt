@@ -1,29 +1,63 @@
-use Rattle.std.proofs.Common.{ap, ◌∙◌}
+use Rattle.std.proofs.Common.{◌+◌, ◌*◌, ◌/◌, ap, refl, ◌∙◌}
+use Rattle.std.proofs.lemmas.Result.{err_from_is_err_and}
+use Rattle.nfs_machine.specs.Attributes.{block, used_of}
 use Rattle.nfs_machine.specs.State.{Living}
+use Rattle.nfs_objects.specs.Sums.{one_using}
 use Rattle.nfs_objects.specs.declared.address.Addr.TheVariants as addresses
 use Rattle.nfs_objects.specs.declared.modes.Modes.{Modes}
-use Rattle.nfs_inodes.proofs.Putting.{first-free, knows-on, made-turns, may-give}
+use Rattle.nfs_inodes.proofs.Putting.{counting-stops, first-free, knows-kept, knows-on, made-turns, making-stops}
+use Rattle.nfs_inodes.proofs.Putting.{may-give}
 use Rattle.nfs_inodes.proofs.makers.make_reserved.Goals as goal
 
+pub returns-in_err-add_entry-clause-turns : goal.returns-in_err-add_entry-clause-turns
+returns-in_err-add_entry-clause-turns c =
+    let p = err_from_is_err_and c.from_residual-in_err-add_entry.result c.from_residual-in_err-add_entry.ensures.1 in
+    rw (p.1, p.2) (making-stops c.args.draft.now (addresses.Inode c.args.directory.now.known.number)
+    c.args.directory.now.known.export _
+    c.in_err-add_entry.ensures.turns)
+
+pub recount-requires : goal.recount-requires
+recount-requires c = ap (λ (m : Modes). m.inodes) c.in_ok-add_entry.ensures.turns.modes ∙ c.requires.alone
+
+pub returns-in_err-recount-clause-turns : goal.returns-in_err-recount-clause-turns
+returns-in_err-recount-clause-turns c =
+    let p = err_from_is_err_and c.from_residual-in_err-recount.result c.from_residual-in_err-recount.ensures.1 in
+    rw (p.1, p.2) (counting-stops c.args.draft.now c.add_entry.new.draft _
+    (addresses.Inode c.args.directory.now.known.number)
+    c.args.directory.now.known.export c.args.number _ c.in_ok-add_entry.ensures.turns c.in_err-recount.ensures.turns)
+
 pub put-requires-clause-alone : goal.put-requires-clause-alone
-put-requires-clause-alone c = ap (λ (m : Modes). m.inodes) c.in_ok-add_entry.ensures.turns.modes ∙ c.requires.alone
+put-requires-clause-alone c =
+    ap (λ (m : Modes). m.inodes) (c.in_ok-recount.ensures.turns.modes ∙ c.in_ok-add_entry.ensures.turns.modes)
+    ∙ c.requires.alone
 
 pub put-requires-clause-known : goal.put-requires-clause-known
-put-requires-clause-known c = c.in_ok-add_entry.ensures.known (addresses.Inode c.args.number) c.requires.first.known
+put-requires-clause-known c =
+    knows-kept c.add_entry.new.draft c.recount.new.draft c.args.number c.in_ok-recount.ensures.keeps
+    (c.in_ok-add_entry.ensures.known (addresses.Inode c.args.number) c.requires.first.known)
 
 pub put-requires-clause-given : goal.put-requires-clause-given
 put-requires-clause-given c =
-    may-give c.args.draft.now c.add_entry.new.draft (record { number = c.args.number; generation = c.args.generation }) _ c.in_ok-add_entry.ensures.turns.view c.requires.first
-    (ap (λ (o : Living). o.generation) c.in_ok-file.ensures.living)
+    may-give c.args.draft.now c.recount.new.draft (record { number = c.args.number; generation = c.args.generation }) _
+    (c.in_ok-recount.ensures.turns.view ∙ c.in_ok-add_entry.ensures.turns.view) c.requires.first
+    (ap (λ (o : Living). o.generation) c.in_ok-object.ensures.living)
 
 pub returns-clause-turns : goal.returns-clause-turns
 returns-clause-turns c = (
   first-free c.args.draft.now (record { number = c.args.number; generation = c.args.generation }) c.requires.none c.requires.first c.ranges.number.fits c.ranges.generation.fits,
-  made-turns c.args.draft.now c.add_entry.new.draft c.put.new.self _ (record { number = c.args.number; generation = c.args.generation }) c.in_ok-file.file _ c.in_ok-add_entry.ensures.turns c.in_ok-put.ensures.ok
-      (rw c.ctx.ensures at c.in_ok-file.ensures.living) c.in_ok-file.ensures.links c.in_ok-file.ensures.parent,
+  made-turns c.args.draft.now c.add_entry.new.draft c.recount.new.draft c.put.new.self _
+      (record { number = c.args.number; generation = c.args.generation }) c.in_ok-object.object _ _ _
+      c.args.directory.now.known.export c.of_one.result
+      (rw c.links_with-links.ensures at c.in_ok-add_entry.ensures.turns)
+      (rw c.none.ensures at c.in_ok-recount.ensures.turns) c.in_ok-put.ensures.ok
+      (rw c.ctx.ensures at c.in_ok-object.ensures.living) c.in_ok-object.ensures.links c.in_ok-object.ensures.parent
+      c.in_ok-put.ensures.fits refl
+      (c.of_one.ensures ∙ ap (λ s. one_using ((s + 4095) / block * block)) c.size.ensures.value
+      ∙ ap (λ (o : Living). one_using (used_of o.content)) (rw c.ctx.ensures at c.in_ok-object.ensures.living)),
 )
 
 pub returns-clause-known : goal.returns-clause-known
 returns-clause-known c =
-    knows-on c.add_entry.new.draft c.args.number c.put.new.self _ c.in_ok-put.ensures.ok (addresses.Inode c.args.number)
-    (c.in_ok-add_entry.ensures.known (addresses.Inode c.args.number) c.requires.first.known)
+    knows-on c.recount.new.draft c.args.number c.put.new.self _ c.in_ok-put.ensures.ok (addresses.Inode c.args.number)
+    (knows-kept c.add_entry.new.draft c.recount.new.draft c.args.number c.in_ok-recount.ensures.keeps
+    (c.in_ok-add_entry.ensures.known (addresses.Inode c.args.number) c.requires.first.known))

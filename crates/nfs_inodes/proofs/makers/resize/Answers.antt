@@ -1,26 +1,74 @@
-use Rattle.std.proofs.Common.{subst}
+use Rattle.std.proofs.Common.{ap, refl, subst, ◌∙◌}
+use Rattle.std.proofs.lemmas.Result.{err_from_is_err_and}
 use Rattle.std.specs.Prelude.{option_copied}
 use Rattle.nfs_machine.specs.Data.{resized}
 use Rattle.nfs_machine.specs.Times.{time_of}
-use Rattle.nfs_inodes.proofs.Putting.{no-file, none-turns, same-turns, written-turns}
+use Rattle.nfs_objects.specs.declared.modes.Modes.{Modes}
+use Rattle.nfs_inodes.proofs.Counting.{count-known}
+use Rattle.nfs_inodes.proofs.Putting.{keeps-generation, keeps-known, no-file, none-counted, object-stops, same-counted}
+use Rattle.nfs_inodes.proofs.Putting.{resized-size, usage-stops, written-turns}
 use Rattle.nfs_inodes.specs.Known.{HasInode}
 use Rattle.nfs_inodes.specs.Makes.{with_bytes}
 use Rattle.nfs_inodes.proofs.makers.resize.Goals as goal
 
+pub returns-in_err-inode : goal.returns-in_err-inode
+returns-in_err-inode c =
+    let p = err_from_is_err_and c.from_residual.result c.from_residual.ensures.1 in
+    rw (p.1, p.2) (object-stops c.args.draft.now c.args.file.now.known.number _ c.in_err-inode.ensures.inode)
+
 pub returns-in_default : goal.returns-in_default
 returns-in_default c =
-    none-turns c.args.draft.now c.args.file.now.known.number (with_bytes (time_of c.args.draft.now.ctx.moment) (λ old. resized old c.args.size))
+    none-counted c.args.draft.now c.args.file.now.known.number
+    (with_bytes (time_of c.args.draft.now.ctx.moment) (λ old. resized old c.args.size))
     (subst (λ o. HasInode c.args.draft.now c.args.file.now.known.number (option_copied o)) c.in_default.is c.in_ok-inode.ensures.inode)
 
 pub returns-in_default-content : goal.returns-in_default-content
 returns-in_default-content c =
-    same-turns c.args.draft.now c.args.file.now.known.number (with_bytes (time_of c.args.draft.now.ctx.moment) (λ old. resized old c.args.size)) c.in-Some.inode.now
+    same-counted c.args.draft.now c.args.file.now.known.number
+    (with_bytes (time_of c.args.draft.now.ctx.moment) (λ old. resized old c.args.size)) c.in-Some.inode.now
     (subst (λ o. HasInode c.args.draft.now c.args.file.now.known.number (option_copied o)) c.in-Some.is c.in_ok-inode.ensures.inode)
     (no-file c.in-Some.inode.now.content _ c.in_default-content.not-Regular)
 
+pub returns-in_err-usage : goal.returns-in_err-usage
+returns-in_err-usage c =
+    let p = err_from_is_err_and c.from_residual-in_err-usage.result c.from_residual-in_err-usage.ensures.1 in
+    rw (p.1, p.2) (usage-stops c.args.draft.now c.args.file.now.known.number c.in-Some.inode.now
+    c.share_of-share.result _
+    (subst (λ o. HasInode c.args.draft.now c.args.file.now.known.number (option_copied o)) c.in-Some.is
+    c.in_ok-inode.ensures.inode)
+    c.share_of-share.ensures c.in_err-usage.ensures)
+
+pub count-requires-clause-known : goal.count-requires-clause-known
+count-requires-clause-known c = count-known c.args.draft.now c.share_of-share.result.export c.args.file.now.known.number
+    c.share_of-share.result.usage c.of_one.result _ c.in_ok-usage.ensures
+
+pub put-requires-clause-alone : goal.put-requires-clause-alone
+put-requires-clause-alone c = ap (λ (m : Modes). m.inodes)
+    (c.in_ok-count.ensures.turns c.share_of-share.result.usage c.of_one.result c.in_ok-usage.ensures).modes
+    ∙ c.requires
+
+pub put-requires-clause-known : goal.put-requires-clause-known
+put-requires-clause-known c =
+    keeps-known c.args.draft.now c.count.new.draft c.args.file.now.known.number _ c.in_ok-inode.ensures.inode
+    c.in_ok-count.ensures.keeps
+
+pub put-requires-clause-given : goal.put-requires-clause-given
+put-requires-clause-given c =
+    keeps-generation c.args.draft.now c.count.new.draft c.args.file.now.known.number c.in-Some.inode.now _
+    (subst (λ o. HasInode c.args.draft.now c.args.file.now.known.number (option_copied o)) c.in-Some.is
+    c.in_ok-inode.ensures.inode)
+    c.in_ok-count.ensures.keeps (rw c.with_content-new.ensures refl)
+
 pub returns : goal.returns
 returns c =
-    written-turns c.args.draft.now c.args.file.now.known.number c.put.new.self c.in-Some.inode.now c.with_content-new.result c.in-Regular.old c.in_ok-content.content
-    (time_of c.args.draft.now.ctx.moment) (λ old. resized old c.args.size)
+    written-turns c.args.draft.now c.count.new.draft c.put.new.self c.args.file.now.known.number c.in-Some.inode.now
+    c.with_content-new.result c.in-Regular.old c.in_ok-content.content
+    (time_of c.args.draft.now.ctx.moment) (λ old. resized old c.args.size) c.share_of-share.result c.of_one.result
     (subst (λ o. HasInode c.args.draft.now c.args.file.now.known.number (option_copied o)) c.in-Some.is c.in_ok-inode.ensures.inode)
-    c.in-Regular.is (rw c.as_slice.ensures at c.in_ok-content.ensures) (rw (c.now.ensures, c.ctx.ensures) at c.with_content-new.ensures) c.in_ok-put.ensures.ok
+    c.in-Regular.is (rw c.as_slice.ensures at c.in_ok-content.ensures)
+    (rw (c.now.ensures, c.ctx.ensures) at c.with_content-new.ensures)
+    c.share_of-share.ensures (c.of_one.ensures ∙ resized-size c.in-Regular.old c.args.size c.in_ok-content.content
+    (rw c.as_slice.ensures at c.in_ok-content.ensures))
+    (c.in_ok-count.ensures.turns c.share_of-share.result.usage c.of_one.result c.in_ok-usage.ensures)
+    c.in_ok-count.ensures.keeps
+    c.in_ok-put.ensures.ok c.in_ok-put.ensures.fits

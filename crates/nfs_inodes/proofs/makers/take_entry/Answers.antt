@@ -22,4 +22,4 @@ returns c =
     taken-turns c.args.draft.now c.args.directory.now.known.number c.put.new.self c.in-Some.inode.now c.with_content-new.result c.in-Directory.old _ (time_of c.args.draft.now.ctx.moment) c.args.name.now
     (subst (λ o. HasInode c.args.draft.now c.args.directory.now.known.number (option_copied o)) c.in-Some.is c.in_ok-inode.ensures.inode)
     c.in-Directory.is (ap (λ es. record c.in-Directory.old { entries = es }) c.in_ok-without_name.ensures)
-    (rw (c.now.ensures, c.ctx.ensures) at c.with_content-new.ensures) c.in_ok-put.ensures.ok
+    (rw (c.now.ensures, c.ctx.ensures) at c.with_content-new.ensures) c.in_ok-put.ensures.ok c.in_ok-put.ensures.fits

@@ -13,3 +13,4 @@ returns c =
     unlinked-turns c.args.draft.now c.args.number c.put.new.self c.in-Some.inode.now _ (time_of c.args.draft.now.ctx.moment)
     (subst (λ o. HasInode c.args.draft.now c.args.number (option_copied o)) c.in-Some.is c.in_ok-inode.ensures.inode) (unlinked-same _ c.in-Some.inode.now _ _ (time_of c.args.draft.now.ctx.moment) c.in_ok-new.ensures.cases
     c.saturating_sub.ensures (rw (c.now.ensures, c.ctx.ensures) at c.touch-new.ensures)) c.in_ok-put.ensures.ok
+    c.in_ok-put.ensures.fits

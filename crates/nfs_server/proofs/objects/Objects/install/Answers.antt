@@ -7,7 +7,8 @@ use Rattle.nfs_server.proofs.Rounds.{installing_more, installed_all, nil_of_len}
 use Rattle.nfs_server.proofs.objects.Objects.install.Goals as goal
 
 pub writes-preserved : goal.writes-preserved
-writes-preserved c = installing_more _ _ _ _ _ _ (write_value c.in-Some.write) c.writes.invariant (ap (map write_value) c.in-Some.ensures.items) c.put.ensures.store c.put.ensures.len
+writes-preserved c = installing_more _ _ _ _ _ _ (write_value c.in-Some.write) c.writes.invariant
+    (ap (map write_value) c.in-Some.ensures.items) c.put.ensures.store c.put.ensures.len c.put.ensures.usages
 
 pub returns : goal.returns
 returns c =

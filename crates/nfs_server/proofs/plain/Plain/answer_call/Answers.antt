@@ -1,9 +1,6 @@
-use Rattle.std.proofs.Common.{sym, subst}
-use Rattle.nfs_machine.specs.declared.context.Ctx.{Ctx}
-use Rattle.nfs_server.proofs.Answering.{executed_answered, refused_result}
+use Rattle.nfs_server.proofs.Answering.{asked_fits, executed_answered, refused_result}
 use Rattle.nfs_server.proofs.Built.{asked-built}
 use Rattle.nfs_server.proofs.Steps.{makes_step_alike}
-use Rattle.nfs_server.specs.Executed.{MakesStep}
 use Rattle.nfs_server.proofs.plain.Plain.answer_call.Goals as goal
 
 pub prepare-requires : goal.prepare-requires
@@ -11,6 +8,10 @@ prepare-requires c = asked-built _ _ c.requires
 
 pub refuse-requires : goal.refuse-requires
 refuse-requires c = asked-built _ _ c.requires
+
+pub commit-requires-clause-fits : goal.commit-requires-clause-fits
+commit-requires-clause-fits c =
+    asked_fits _ _ _ _ c.requires c.args.self.now.setting _ c.in-Ok.ensures.ctx c.in-Ok.ensures.host
 
 pub returns-in-Ok-clause-ok : goal.returns-in-Ok-clause-ok
 returns-in-Ok-clause-ok c =

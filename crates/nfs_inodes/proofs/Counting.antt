@@ -1,0 +1,180 @@
+-- Objects that are counted anew: what that does to the store, and why it may be asked for.
+use Rattle.std.proofs.Common.{◌≡◌, ◌==◌, ℕ, ◌&&◌, true, false, Bool, cond, List, [], ◌∷◌, Option}
+use Rattle.std.proofs.Common.{Some, None, IsSome, IfSome, Result, Ok, Err, IfOk, option_map, inl, inr, refl, sym}
+use Rattle.std.proofs.Common.{◌∙◌, ap, subst}
+use Rattle.std.proofs.lemmas.Bool.{and_parts}
+use Rattle.std.specs.Cmp.{unsigned_Decides}
+use Rattle.std.specs.FinMap.{get}
+use Rattle.std.specs.Prelude.{OnOk}
+use Rattle.nfs_wire.specs.declared.status.NfsStatus.{NfsStatus}
+use Rattle.nfs_machine.specs.Attributes.{is_directory, links_of}
+use Rattle.nfs_machine.specs.Handles.{handle_of}
+use Rattle.nfs_machine.specs.State.{Living, State}
+use Rattle.nfs_machine.specs.WellFormed.{IsParent, WellFormed}
+use Rattle.nfs_machine.specs.declared.handle.Handle.{Handle}
+use Rattle.nfs_objects.proofs.Knows.{among-counted, among-next}
+use Rattle.nfs_objects.proofs.Seen.{known-stands, written-append}
+use Rattle.nfs_objects.proofs.Summed.{AllFit, counted-sums, stays-counted, usage-lives}
+use Rattle.nfs_objects.proofs.Turns.{same-turns, usage-turns}
+use Rattle.nfs_objects.specs.Calls.{objects_at}
+use Rattle.nfs_objects.specs.Edits.{counted_anew, recounted}
+use Rattle.nfs_objects.specs.Fits.{Fits}
+use Rattle.nfs_objects.specs.Knows.{Possible, Turns}
+use Rattle.nfs_objects.specs.Sound.{Sound}
+use Rattle.nfs_objects.specs.Stands.{Kept, Represents, living_of, living_of_inode}
+use Rattle.nfs_objects.specs.Store.{Store, with_writes}
+use Rattle.nfs_objects.specs.Sums.{group_of, in_export, no_usage, shares_of, stored_usage, usage_of}
+use Rattle.nfs_objects.specs.Values.{DraftValue, known_at, with_written}
+use Rattle.nfs_objects.specs.declared.address.Addr.TheVariants as addresses
+use Rattle.nfs_objects.specs.declared.object.Object.{Object}
+use Rattle.nfs_objects.specs.declared.object.Object.TheVariants as objects
+use Rattle.nfs_objects.specs.declared.usage.Usage.{Usage}
+use Rattle.nfs_inodes.specs.Counts.{IsCount, KeepsInodes}
+use Rattle.nfs_inodes.specs.Known.{is_handle_of}
+use Rattle.nfs_objects.specs.declared.change.Halt.{Halt}
+use Rattle.nfs_inodes.specs.Stops.{BringsUsage, IsBrought, NamesUsage, StopsBringing, StopsNaming, UsageLives}
+use Rattle.nfs_inodes.specs.declared.found.Known.{Known}
+
+-- ---- shares
+-- nothing has no share, of whatever export
+pub no-share : (export e : ℕ) → no_usage ≡ in_export export no_usage e
+no-share export e =
+    elim (export == e) as (λ b. no_usage ≡ cond b no_usage no_usage) [ true ↦ refl | false ↦ refl ]
+
+-- ---- results that are handed on
+pub on-ok : {A E : Type 0} {P Q : Type 0} (r : Result A E) → (P → Q) → OnOk r P → OnOk r Q
+on-ok (Ok x) f p = f p
+on-ok (Err e) f p = tt
+
+-- ---- writes of usages
+keeps-inodes : (d : DraftValue) (export group : ℕ) (o : Option Object)
+    → KeepsInodes d (with_written d (addresses.Usage export group) o)
+keeps-inodes d export group o n = written-append d.writes _ (addresses.Usage export group) o (addresses.Inode n)
+
+pub put-keeps : (d new : DraftValue) (export group : ℕ) (o : Option Object)
+    → new ≡ with_written d (addresses.Usage export group) o
+    → KeepsInodes d new
+put-keeps d new export group o is = subst (KeepsInodes d) (sym is) (keeps-inodes d export group o)
+
+pub put-counts : (d new : DraftValue) (export number : ℕ) (u : Usage)
+    → new ≡ with_written d (addresses.Usage export (group_of number)) (stored_usage u)
+    → (before after : Usage) → IsCount d export number before after (Some u)
+    → Turns d new (recounted number (in_export export before) (in_export export after))
+put-counts d new export number u is before after count =
+    let was = count.1 in
+    subst (λ (x : DraftValue). Turns d x (recounted number (in_export export before) (in_export export after)))
+    (ap (λ (v : Usage). with_written d (addresses.Usage export (group_of number)) (stored_usage v))
+    (sym count.3) ∙ sym is)
+    (usage-turns d export number before after was count.0 count.2)
+
+pub none-counts : (d : DraftValue) (export number : ℕ) (before after : Usage)
+    → IsCount d export number before after None
+    → Turns d d (recounted number (in_export export before) (in_export export after))
+none-counts d export number before after count = same-turns d export number before after count
+
+-- what was read is known
+pub count-known : (d : DraftValue) (export number : ℕ) (before after : Usage) (usage : Option Usage)
+    → IsCount d export number before after usage
+    → IfSome usage (λ u. IsSome (known_at d (addresses.Usage export (group_of number))))
+count-known d export number before after None count = tt
+count-known d export number before after (Some u) count = by (known_at d (addresses.Usage export (group_of number)))
+    count.1 count.2
+  where
+    by : (o : Option (Option Object)) (was : Usage) → option_map usage_of o ≡ Some was → IsSome o
+    by None was e = cc
+    by (Some o) was e = refl
+
+-- ---- what its group uses stands there where the object does
+-- it lived there before, in the same export
+pub record LivedIn (m : State) (n export : ℕ) : Type 0 where
+  pub object : Living
+  pub lives : get m.objects n ≡ Some object
+  pub same : object.export ≡ export
+
+module _ (old d : DraftValue) (none : old.writes ≡ []) (op : Kept → Kept) (turns : Turns old d op) (n : ℕ) where
+  pub counted-lives : ((s : Store) (k : Kept) → Possible old s k → WellFormed k.state → (o : Living) →
+      get (op k).state.objects n ≡ Some o → LivedIn k.state n o.export) → UsageLives d n
+  counted-lives lived i known s k fits stands sound formed =
+      let before : Fits old.view s = subst (λ v. Fits v s) turns.view fits in
+      let w : Possible old s k = record {
+        fits = before;
+        stands = subst (λ ws. Represents (with_writes s ws) k)
+            (sym none) stands;
+        sound = sound;
+      } in
+      let at : (with_writes s d.writes).at (addresses.Inode n) ≡ Some (objects.Inode i) = known-stands d s
+      (addresses.Inode n) (Some (objects.Inode i)) fits known in
+      let was = lived s k w formed (living_of_inode i)
+      ((turns.turns s k before w.stands).objects n ∙ ap living_of at) in
+      subst (λ e. IsSome (s.at (addresses.Usage e (group_of n)))) was.same
+      (usage-lives s k n was.object stands sound was.lives)
+
+-- with no write, what is known there lives there
+pub usage-lives-first : (d : DraftValue) (n : ℕ) → d.writes ≡ [] → UsageLives d n
+usage-lives-first d n none =
+    counted-lives d d none (λ k. k)
+    (record { ctx = refl; view = refl; modes = refl; messages = refl; turns = λ s k fits stands. stands }) n
+    (λ s k w formed o at. record { object = o; lives = at; same = refl })
+
+-- ---- who brings a handle names what the groups of its export use
+usage-among : (handles : List (List ℕ)) (bytes : List ℕ) (h : Handle) → handle_of bytes ≡ Some h
+    → IsBrought bytes handles
+    → NamesUsage (objects_at handles) h.export
+usage-among [] bytes h is brought number = absurd brought
+usage-among (x ∷ handles) bytes h is (inl here) number = among-counted x handles h number (ap handle_of here ∙ is)
+usage-among (x ∷ handles) bytes h is (inr there) number =
+    among-next x handles (addresses.Usage h.export (group_of number)) (usage-among handles bytes h is there number)
+
+pub brings-usage : (bytes : List ℕ) (h : Handle) (x : Known) (admitted : Bool) → handle_of bytes ≡ Some h
+    → (admitted && is_handle_of h x) ≡ true
+    → BringsUsage bytes x.export
+brings-usage bytes h x admitted is passes = λ handles brought.
+    subst (NamesUsage (objects_at handles))
+    (sym ((unsigned_Decides x.export h.export).0 ((and_parts (x.generation == h.generation) (x.export == h.export)
+    ((and_parts admitted (is_handle_of h x) passes).1)).1)))
+    (usage-among handles bytes h is brought)
+
+-- the same of the handle that a call brings
+pub brings-as : (handle bytes : List ℕ) (found : Result Known NfsStatus) (x : Known) → bytes ≡ handle
+    → found ≡ Ok x
+    → IfOk found (λ y. BringsUsage bytes y.export) → BringsUsage handle x.export
+brings-as handle bytes found x same is brings =
+    subst (λ h. BringsUsage h x.export) same
+    (subst (λ f. IfOk f (λ (y : Known). BringsUsage bytes y.export)) is brings)
+
+-- so what may be asked for since the call names it stops who brings the handle
+pub usage-brings : (d : DraftValue) (handle : List ℕ) (export : ℕ) (halt : Halt) → BringsUsage handle export
+    → StopsNaming d export halt → StopsBringing d handle halt
+usage-brings d handle export halt brings stops = λ handles brought. stops _
+    (λ number. inr (brings handles brought number))
+
+-- ---- what every store stands for, by its parts
+-- links and parents are right
+pub record NamesSound (k : Kept) : Type 0 where
+  pub links : (n : ℕ) (o : Living) → get k.state.objects n ≡ Some o → k.links n ≡ links_of k.state n o.content
+  pub parents : (n : ℕ) (o : Living) → get k.state.objects n ≡ Some o → is_directory o.content ≡ true
+      → IsParent k.state n (k.parents n)
+
+pub names-sound : (k : Kept) → Sound k → NamesSound k
+names-sound k sound = record { links = sound.links; parents = sound.parents }
+
+-- one number has changed
+module _ (k new : Kept) (n : ℕ)
+    (others : (q : ℕ) → (n == q) ≡ false → get new.state.objects q ≡ get k.state.objects q)
+    (same : new.usage ≡ k.usage) (sound : Sound k) (names : NamesSound new) where
+  -- and is counted anew
+  pub sound-counted : AllFit new.state → Sound (counted_anew n (get k.state.objects n) new)
+  sound-counted fit = record {
+    links = names.links;
+    parents = names.parents;
+    usage = counted-sums k new n others sound.usage (λ e g. ap (λ f. f e g) same) fit;
+  }
+
+  -- or has the share that it had
+  pub sound-stays : ((e : ℕ) → shares_of (get new.state.objects n) e ≡ shares_of (get k.state.objects n) e)
+      → Sound new
+  sound-stays alike = record {
+    links = names.links;
+    parents = names.parents;
+    usage = λ e g. ap (λ f. f e g) same ∙ sound.usage e g ∙ sym (stays-counted k new n others alike e g);
+  }

@@ -1,0 +1,50 @@
+-- Objects that are read at once.
+use Rattle.std.specs.Prelude.{◌≡◌, ℕ, List, map, None, IsSome, ◌⊎◌}
+use Rattle.std.specs.List.{AllByRecursion}
+use Rattle.nfs_machine.specs.State.{Entry}
+use Rattle.nfs_objects.specs.Asks.{EachOnce, Lives}
+use Rattle.nfs_objects.specs.Bound.{WasAsked}
+use Rattle.nfs_objects.specs.Modes.{mode_at}
+use Rattle.nfs_objects.specs.Values.{DraftValue, ViewValue, known_at, seen_at}
+use Rattle.nfs_objects.specs.declared.address.Addr.{Addr}
+use Rattle.nfs_objects.specs.declared.address.Addr.TheVariants as addresses
+use Rattle.nfs_objects.specs.declared.change.Halt.{Halt}
+use Rattle.nfs_objects.specs.declared.change.Halt.TheVariants.{Need, Memory}
+use Rattle.nfs_objects.specs.declared.modes.Mode.{Mode}
+use Rattle.nfs_inodes.specs.declared.gather.Wishes.{Wishes}
+
+-- something stands at the number of each entry in every sound store that the view fits
+abbrev pub EachLives : ViewValue → List Entry → Type 0
+EachLives view entries = AllByRecursion (λ (e : Entry). Lives view (addresses.Inode e.number)) entries
+
+-- the draft knows what stands at each entry's number
+abbrev pub EachKnown : DraftValue → List Entry → Type 0
+EachKnown d entries = AllByRecursion (λ (e : Entry). IsSome (known_at d (addresses.Inode e.number))) entries
+
+-- the draft knows what stands at an address, or it is among these
+abbrev pub IsKnownOrAsked : DraftValue → List (Addr × Mode) → Addr → Type 0
+IsKnownOrAsked d asked a = IsSome (known_at d a) ⊎ WasAsked asked (a, mode_at d.modes a)
+
+-- at once all is asked for that the draft lacks of what stands at the entries' numbers; or there is no memory
+abbrev pub AsksAll : DraftValue → List Entry → Halt → Type 0
+AsksAll d entries (Need asked) =
+    AllByRecursion (λ (e : Entry). IsKnownOrAsked d asked.items (addresses.Inode e.number)) entries
+AsksAll d entries Memory = Unit {0}
+AsksAll d entries halt = ⊥
+
+-- the wish for what stands at a number
+abbrev pub wish : DraftValue → ℕ → Addr × Mode
+wish d n = (addresses.Inode n, mode_at d.modes (addresses.Inode n))
+
+-- it may be asked for, whatever the call names
+pub record MayWish (d : DraftValue) (a : Addr × Mode) : Type 0 where
+  pub unseen : seen_at d.view.entries a.0 ≡ None
+  pub mode : a.1 ≡ mode_at d.modes a.0
+  pub lives : Lives d.view a.0
+
+-- each number of these is asked for once, and so is all that the draft lacks of what stands at the entries' numbers
+pub record Gathers (d : DraftValue) (entries : List Entry) (wishes : Wishes) : Type 0 where
+  pub wished : wishes.asked.items ≡ map (wish d) wishes.numbers.keys
+  pub once : EachOnce wishes.asked.items
+  pub each : AllByRecursion (MayWish d) wishes.asked.items
+  pub all : AllByRecursion (λ (e : Entry). IsKnownOrAsked d wishes.asked.items (addresses.Inode e.number)) entries

@@ -1,0 +1,82 @@
+//! Objects that are read at once.
+
+ghost use Rattle.std.specs.Prelude.{◌≡◌, [], ◌∷◌, ◌++◌, List, IfErr, OnOk, take};
+ghost use Rattle.nfs_machine.specs.State.{Entry};
+ghost use Rattle.nfs_objects.specs.Asks.{Lives};
+ghost use Rattle.nfs_objects.specs.Attempt.{Stops};
+ghost use Rattle.nfs_objects.specs.Values.{DraftValue};
+ghost use Rattle.nfs_inodes.specs.Gathers.{AsksAll, EachKnown, EachLives, Gathers};
+
+use crate::listing::EntriesLeft;
+use indexmap::IndexSet;
+use nfs_objects::{Addr, Draft, Halt, Mode};
+use std::alloc::{AllocError, Global};
+
+/// Reads the objects of the first `count` entries, so that each of them is known.
+///
+/// # Errors
+///
+/// `Need` of all those objects that are not known yet, each once; and `Memory`.
+pub fn read_objects(draft: &Draft<'_>, left: &EntriesLeft<'_>, count: usize) -> Result<(), Halt>
+    requires { EachLives draft.now.view left.now }
+    ensures known { OnOk result (EachKnown draft.now (take count left.now)) }
+    ensures asks { IfErr result (AsksAll draft.now (take count left.now)) }
+    ensures stops { IfErr result (λ halt. (named : List Addr) →
+        Stops draft.now.modes named draft.now.view halt) }
+{
+    let mut wishes = Wishes::new(draft.alloc());
+    for index in 0..count {
+        if let Some(entry) = left.get(index) {
+            wishes.add(draft, entry.number)?;
+        }
+    }
+    wishes.ask()
+}
+
+/// What is asked for so far, each address once.
+#[derive(Drop)]
+struct Wishes {
+    numbers: IndexSet<u64>,
+    asked: Vec<(Addr, Mode)>,
+}
+
+impl Wishes {
+    fn new(alloc: Global) -> Wishes
+        ensures { (d : DraftValue) → Gathers d [] result }
+    {
+        Wishes {
+            numbers: IndexSet::new(alloc),
+            asked: Vec::new(alloc),
+        }
+    }
+
+    /// Asks for what stands at a number besides, where the draft lacks it.
+    fn add(&mut self, draft: &Draft<'_>, number: u64) -> Result<(), AllocError>
+        requires { Lives draft.now.view (Addr.Inode number) }
+        ensures { (entries : List Entry) (e : Entry) → e.number ≡ number → Gathers draft.now entries self.old →
+            OnOk result (Gathers draft.now (entries ++ e ∷ []) self.new) }
+    {
+        if let Some(wish) = draft.lacked(Addr::Inode(number)) {
+            if self.numbers.insert(number)? {
+                self.asked.push(wish)?;
+            }
+        }
+        Ok(())
+    }
+
+    /// Asks, if there is anything to ask for.
+    fn ask(self) -> Result<(), Halt>
+        ensures known { (d : DraftValue) (entries : List Entry) → Gathers d entries self →
+            OnOk result (EachKnown d entries) }
+        ensures asks { (d : DraftValue) (entries : List Entry) → Gathers d entries self →
+            IfErr result (AsksAll d entries) }
+        ensures stops { (d : DraftValue) (entries : List Entry) → Gathers d entries self →
+            IfErr result (λ halt. (named : List Addr) → Stops d.modes named d.view halt) }
+    {
+        if self.asked.is_empty() {
+            Ok(())
+        } else {
+            Err(Halt::Need(self.asked))
+        }
+    }
+}

@@ -1,0 +1,54 @@
+//! Names that objects get beside those that they have (RFC 1813, 3.3.15).
+
+ghost use Rattle.std.specs.Prelude.{◌≡◌, MatchResult};
+ghost use Rattle.nfs_machine.specs.Times.{time_of};
+ghost use Rattle.nfs_objects.specs.Knows.{Turns};
+ghost use Rattle.nfs_inodes.specs.Links.{link_gained, linked_so};
+ghost use Rattle.nfs_inodes.specs.Stops.{StopsAt, StopsAtBoth};
+
+use crate::found::inode;
+use crate::kinds::Directory;
+use crate::makers::add_entry;
+use crate::times::{now, touch};
+use nfs_objects::{Addr, Draft, Halt, Mode};
+
+/// Gives an object a name in a directory that has it not, last and with this cookie; so many links it has then. The
+/// name is copied.
+///
+/// # Errors
+///
+/// `Need` of what has to be held for it, and `Memory`. The draft is of no use then.
+pub fn add_link(
+    draft: &mut Draft<'_>,
+    directory: &Directory,
+    name: &[u8],
+    cookie: u64,
+    number: u64,
+    links: u32,
+) -> Result<(), Halt>
+    requires { draft.old.modes.inodes ≡ Mode.Exclusive }
+    ensures { MatchResult result
+        (λ _. Turns draft.old draft.new (link_gained (time_of draft.old.ctx.moment) directory.now.known.number
+        directory.now.known.attributes.links (record { name = name.now; number = number; cookie = cookie }) links))
+        (StopsAtBoth draft.old (Addr.Inode directory.now.known.number) (Addr.Inode number)) }
+{
+    let kept = directory.known.attributes.links;
+    add_entry(draft, directory, name, number, cookie, kept)?;
+    set_links(draft, number, links)
+}
+
+/// The count of an object's links changes, and its ctime with it.
+fn set_links(draft: &mut Draft<'_>, number: u64, links: u32) -> Result<(), Halt>
+    requires { draft.old.modes.inodes ≡ Mode.Exclusive }
+    ensures { MatchResult result
+        (λ _. Turns draft.old draft.new (linked_so (time_of draft.old.ctx.moment) number links))
+        (StopsAt draft.old (Addr.Inode number)) }
+{
+    let Some(inode) = inode(draft, number)? else {
+        return Ok(());
+    };
+    let mut new = inode.clone()?;
+    new.links = links;
+    new.changed = touch(new.changed, now(draft.ctx()));
+    Ok(draft.put(number, new)?)
+}

@@ -1,0 +1,71 @@
+//! Names that are taken away, and the links that go with them (RFC 1813, 3.3.12 and 3.3.13).
+
+ghost use Rattle.std.specs.Prelude.{◌≡◌, [], MatchResult};
+ghost use Rattle.nfs_machine.specs.Times.{time_of};
+ghost use Rattle.nfs_objects.specs.Knows.{Turns};
+ghost use Rattle.nfs_inodes.specs.Removes.{directory_lost, name_lost, subdirectory_lost};
+ghost use Rattle.nfs_inodes.specs.Stops.{StopsAt, StopsAtBoth, StopsLosing};
+
+use crate::found::{Known, inode};
+use crate::kinds::Directory;
+use crate::makers::{lose_link, take_entry};
+use nfs_objects::{Addr, Draft, Halt, Mode};
+use nfs_wire::FileType;
+
+/// Takes a name out of a directory, and with it a link of the object that it leads to: a directory goes with it, and
+/// anything else with its last link.
+///
+/// # Errors
+///
+/// `Need` of what has to be held for it, and `Memory`. The draft is of no use then.
+pub fn take_name(
+    draft: &mut Draft<'_>,
+    directory: &Directory,
+    name: &[u8],
+    object: &Known,
+) -> Result<(), Halt>
+    requires none { draft.old.writes ≡ [] }
+    requires alone { draft.old.modes.inodes ≡ Mode.Exclusive }
+    ensures { MatchResult result
+        (λ _. Turns draft.old draft.new
+        (name_lost (time_of draft.old.ctx.moment) directory.now.known.number name.now object.now))
+        (StopsAtBoth draft.old (Addr.Inode directory.now.known.number) (Addr.Inode object.now.number)) }
+{
+    take_entry(draft, directory, name)?;
+    match object.attributes.kind {
+        FileType::Directory => lose_directory(draft, directory, object.number),
+        _ => lose_link(draft, object.number, object.attributes.links),
+    }
+}
+
+/// A directory goes with its only name, which was in this one.
+fn lose_directory(draft: &mut Draft<'_>, directory: &Directory, number: u64) -> Result<(), Halt>
+    requires { draft.old.modes.inodes ≡ Mode.Exclusive }
+    ensures { MatchResult result
+        (λ _. Turns draft.old draft.new
+        (directory_lost (time_of draft.old.ctx.moment) directory.now.known.number number))
+        (StopsLosing draft.old (Addr.Inode directory.now.known.number) number) }
+{
+    lose_link(draft, number, 1)?;
+    lose_subdirectory(draft, directory)
+}
+
+/// Takes one of a directory's links away, since a directory in it goes (RFC 1813, 2.5: nlink).
+///
+/// # Errors
+///
+/// `Need` of what has to be held for it, and `Memory`. The draft is of no use then.
+pub fn lose_subdirectory(draft: &mut Draft<'_>, directory: &Directory) -> Result<(), Halt>
+    requires { draft.old.modes.inodes ≡ Mode.Exclusive }
+    ensures { MatchResult result
+        (λ _. Turns draft.old draft.new (subdirectory_lost directory.now.known.number))
+        (StopsAt draft.old (Addr.Inode directory.now.known.number)) }
+{
+    let number = directory.known.number;
+    let Some(inode) = inode(draft, number)? else {
+        return Ok(());
+    };
+    let mut new = inode.clone()?;
+    new.links = new.links.saturating_sub(1);
+    Ok(draft.put(number, new)?)
+}

@@ -1,0 +1,47 @@
+//! The tree of directories: each but a root is named in its parent.
+
+ghost use Rattle.std.specs.Prelude.{◌≡◌, ◌≤◌, ◌↔◌, [], true, length, MatchResult};
+ghost use Rattle.nfs_machine.specs.RenameSteps.{IsWithin};
+ghost use Rattle.nfs_machine.specs.WellFormed.{WellFormed};
+ghost use Rattle.nfs_objects.specs.Knows.{Knows};
+ghost use Rattle.nfs_inodes.specs.Known.{IsKnown};
+ghost use Rattle.nfs_inodes.specs.Stops.{StopsAny};
+
+use crate::entries::parent;
+use crate::kinds::Directory;
+use nfs_objects::{Draft, Halt};
+
+/// Whether a directory is the one at the upper number, or below it. It reads each directory on the way up to the root,
+/// where no more addresses than these were read so far.
+///
+/// # Errors
+///
+/// `Need` of a directory on the way, and `Memory`.
+pub fn is_within(
+    draft: &Draft<'_>,
+    reads: usize,
+    upper: u64,
+    directory: &Directory,
+) -> Result<bool, Halt>
+    requires reads { length draft.now.view.entries ≤ reads }
+    requires none { draft.now.writes ≡ [] }
+    requires known { Knows draft.now (λ k. IsKnown k.state directory.now.known) }
+    ensures { MatchResult result
+        (λ within. Knows draft.now (λ k. WellFormed k.state →
+        (within ≡ true) ↔ IsWithin k.state upper directory.now.known.number))
+        (StopsAny draft.now) }
+{
+    let mut number = directory.known.number;
+    // no directory stands twice on the way up, and each was read
+    for _level in 0..=reads {
+        if number == upper {
+            return Ok(true);
+        }
+        let above = parent(draft, number)?;
+        if above == number {
+            return Ok(false);
+        }
+        number = above;
+    }
+    Ok(false)
+}

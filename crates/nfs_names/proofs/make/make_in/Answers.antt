@@ -1,0 +1,55 @@
+use Rattle.std.proofs.Common.{inr}
+use Rattle.std.proofs.lemmas.Result.{err_from_is_err_and}
+use Rattle.nfs_objects.proofs.Promised.{does-nothing}
+use Rattle.nfs_inodes.proofs.Halting.{exports-stop}
+use Rattle.nfs_inodes.proofs.Standing.{known-lives}
+use Rattle.nfs_inodes.specs.Asked.{asked_as}
+use Rattle.nfs_names.proofs.Making.{new-ends, refused-end, there-ends}
+use Rattle.nfs_names.specs.Making.{IsMakeEnd, there_as}
+use Rattle.nfs_names.proofs.make.make_in.Goals as goal
+
+pub returns-in_err-exports : goal.returns-in_err-exports
+returns-in_err-exports c =
+    let p = err_from_is_err_and c.from_residual.result c.from_residual.ensures.1 in
+    rw (p.1, p.2) (exports-stop c.args.draft.now c.args.place.now.directory _ c.in_err-exports.ensures.exports)
+
+pub returns-in-Err : goal.returns-in-Err
+returns-in-Err c =
+    let d = c.args.draft.now in
+    let asked = asked_as c.args.asked in
+    let there = there_as c.args.there d.ctx in
+    does-nothing d (IsMakeEnd d.ctx c.args.place.now asked there) c.in-Err.status
+    (refused-end d c.args.place.now asked there c.args.known.now c.requires.names _ c.in_ok-exports.ensures.exports
+    c.in-Err.status (rw (c.ctx.ensures, c.as_slice-name.ensures, c.in-Err.is) at c.addable.ensures.checks))
+
+pub returns-in_err-number : goal.returns-in_err-number
+returns-in_err-number c =
+    let p = err_from_is_err_and c.from_residual-in_err-number.result c.from_residual-in_err-number.ensures.1 in
+    let entry = rw c.in-Ok.ensures.known at c.in_err-number.ensures.entry in
+    rw (p.1, p.2) (λ handles brought. entry _ (inr
+    (known-lives c.args.draft.now c.args.known.now c.requires.none (λ s k w. (c.requires.names s k w).known))))
+
+pub make_new-requires-clause-lives : goal.make_new-requires-clause-lives
+make_new-requires-clause-lives c =
+    rw c.in-Ok.ensures.known
+    (known-lives c.args.draft.now c.args.known.now c.requires.none (λ s k w. (c.requires.names s k w).known))
+
+pub returns-in-Some : goal.returns-in-Some
+returns-in-Some c =
+    let d = c.args.draft.now in
+    there-ends d c.args.place.now (asked_as c.args.asked) (there_as c.args.there d.ctx) c.args.known.now
+    c.requires.names _ c.in_ok-exports.ensures.exports c.in-Ok.accepted
+    (rw (c.ctx.ensures, c.as_slice-name.ensures, c.in-Ok.is) at c.addable.ensures.checks) _ c.in-Ok.ensures.wanted
+    c.make_there.new.draft c.make_there.result c.in-Some.number
+    (rw (c.in-Ok.ensures.known, c.as_slice-name.ensures, c.in-Some.is) at c.in_ok-number.ensures.entry)
+    c.make_there.ensures
+
+pub returns-in-None : goal.returns-in-None
+returns-in-None c =
+    let d = c.args.draft.now in
+    new-ends d c.args.place.now (asked_as c.args.asked) (there_as c.args.there d.ctx) c.args.known.now
+    c.requires.names _ c.in_ok-exports.ensures.exports c.in-Ok.accepted
+    (rw (c.ctx.ensures, c.as_slice-name.ensures, c.in-Ok.is) at c.addable.ensures.checks) _ c.in-Ok.ensures.wanted
+    c.make_new.new.draft c.make_new.result c.requires.usage
+    (rw (c.in-Ok.ensures.known, c.as_slice-name.ensures, c.in-None.is) at c.in_ok-number.ensures.entry)
+    (rw (c.in-Ok.ensures.known, c.as_slice-name.ensures) at c.make_new.ensures)

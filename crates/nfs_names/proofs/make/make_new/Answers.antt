@@ -1,0 +1,53 @@
+use Rattle.std.proofs.Common.{inr}
+use Rattle.std.proofs.lemmas.Result.{err_from_is_err_and}
+use Rattle.nfs_wire.specs.declared.status.NfsStatus.TheVariants as status
+use Rattle.nfs_objects.proofs.Promised.{does-nothing}
+use Rattle.nfs_objects.specs.declared.address.Addr.TheVariants as addresses
+use Rattle.nfs_inodes.specs.Asked.{wanted_as}
+use Rattle.nfs_names.proofs.Making.{later-stops, new-does, no-space, not-given, not-refused}
+use Rattle.nfs_names.specs.Making.{IsNewEnd}
+use Rattle.nfs_names.proofs.make.make_new.Goals as goal
+
+pub returns-in-Err : goal.returns-in-Err
+returns-in-Err c =
+    let d = c.args.draft.now in
+    let x = c.args.directory.now.known in
+    does-nothing d (IsNewEnd d.ctx (wanted_as c.args.wanted.now) x c.args.name.now) c.in-Err.status
+    (not-given d c.args.wanted.now x c.args.name.now c.in-Err.status
+    (rw (c.ctx.ensures, c.in-Err.is) at c.judged.ensures))
+
+pub returns-in_err-cookie : goal.returns-in_err-cookie
+returns-in_err-cookie c =
+    let p = err_from_is_err_and c.from_residual.result c.from_residual.ensures.1 in
+    rw (p.1, p.2) (λ named usage. c.in_err-cookie.ensures named (inr c.requires.lives))
+
+pub returns-in_default-2 : goal.returns-in_default-2
+returns-in_default-2 c =
+    let d = c.args.draft.now in
+    let x = c.args.directory.now.known in
+    let passes = not-refused c.judged.result c.in_default.not-Err in
+    does-nothing d (IsNewEnd d.ctx (wanted_as c.args.wanted.now) x c.args.name.now) status.NoSpace
+    (no-space d c.args.wanted.now x c.args.name.now (rw (c.ctx.ensures, passes) at c.judged.ensures)
+    (rw c.in_default-2.is at c.in_ok-cookie.ensures))
+
+pub returns-in_err-reserved : goal.returns-in_err-reserved
+returns-in_err-reserved c =
+    let p = err_from_is_err_and c.from_residual-in_err-reserved.result c.from_residual-in_err-reserved.ensures.1 in
+    rw (p.1, p.2) (λ named usage. c.in_err-reserved.ensures.turns named (inr c.requires.lives) usage)
+
+pub returns-in_err-made : goal.returns-in_err-made
+returns-in_err-made c =
+    let p = err_from_is_err_and c.from_residual-in_err-made.result c.from_residual-in_err-made.ensures.1 in
+    rw (p.1, p.2) (λ named usage. later-stops c.args.draft.now c.make_object.new.draft _
+    (addresses.Inode c.in_ok-reserved.reserved.number) _ c.in_ok-reserved.ensures.turns.1
+    (inr c.in_ok-reserved.ensures.known) c.in_err-made.ensures named)
+
+pub returns : goal.returns
+returns c =
+    let passes = not-refused c.judged.result c.in_default.not-Err in
+    new-does c.args.draft.now c.args.wanted.now c.args.directory.now.known c.args.name.now
+    (rw (c.ctx.ensures, passes) at c.judged.ensures)
+    c.make_object.new.draft c.in-Some.cookie (rw c.in-Some.is at c.in_ok-cookie.ensures)
+    c.requires.known c.args.directory.now.kind c.requires.absent
+    c.in_ok-reserved.reserved c.in_ok-reserved.ensures.turns.0 c.in_ok-reserved.ensures.turns.1
+    c.in_ok-made.field-0 c.in_ok-made.ensures

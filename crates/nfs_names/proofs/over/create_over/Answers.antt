@@ -1,0 +1,54 @@
+use Rattle.std.proofs.Common.{inl, inr}
+use Rattle.std.proofs.lemmas.Result.{err_from_is_err_and}
+use Rattle.nfs_wire.specs.declared.status.NfsStatus.TheVariants as status
+use Rattle.nfs_objects.proofs.Promised.{does-nothing}
+use Rattle.nfs_objects.specs.declared.address.Addr.TheVariants as addresses
+use Rattle.nfs_inodes.proofs.Counting.{usage-lives-first}
+use Rattle.nfs_inodes.proofs.Standing.{known-lives}
+use Rattle.nfs_names.proofs.Creating.{no-answer-over, none-regular, nothing-over, over-does}
+use Rattle.nfs_names.proofs.Making.{later-stops}
+use Rattle.nfs_names.specs.Creates.{IsOverEnd}
+use Rattle.nfs_names.proofs.over.create_over.Goals as goal
+
+pub returns-in_default : goal.returns-in_default
+returns-in_default c =
+    let d = c.args.draft.now in
+    does-nothing d (IsOverEnd d.ctx c.args.how.now c.args.number) status.Exists
+    (nothing-over d c.args.how.now c.args.number (rw c.in_default.is at c.in_ok-object.ensures.object))
+
+pub returns-in_default-regular : goal.returns-in_default-regular
+returns-in_default-regular c =
+    let d = c.args.draft.now in
+    does-nothing d (IsOverEnd d.ctx c.args.how.now c.args.number) status.Exists
+    (none-regular d c.args.how.now c.args.number c.in-Some.object (rw c.in-Some.is at c.in_ok-object.ensures.object)
+    c.regular.result c.regular.ensures.checks c.in_default-regular.not-Ok)
+
+pub returns-in-Err : goal.returns-in-Err
+returns-in-Err c =
+    let d = c.args.draft.now in
+    does-nothing d (IsOverEnd d.ctx c.args.how.now c.args.number) c.in-Err.status
+    (no-answer-over d c.args.how.now c.args.number c.in-Some.object
+    (rw c.in-Some.is at c.in_ok-object.ensures.object) c.in-Ok.file c.in-Ok.ensures.checks c.size_over.result
+    (rw c.ctx.ensures at c.size_over.ensures) c.in-Err.status c.in-Err.is)
+
+pub returns-in_err-give_size : goal.returns-in_err-give_size
+returns-in_err-give_size c =
+    let p = err_from_is_err_and c.from_residual-in_err-give_size.result
+    c.from_residual-in_err-give_size.ensures.1 in
+    let there = rw c.in-Some.is at c.in_ok-object.ensures.object in
+    rw (p.1, p.2) (λ named. (rw c.in-Ok.ensures.known at c.in_err-give_size.ensures) named
+    (inr (known-lives c.args.draft.now c.in-Some.object c.requires.none (λ s k w. (there s k w).1)))
+    (usage-lives-first c.args.draft.now c.in-Some.object.number c.requires.none))
+
+pub returns-in_err-made : goal.returns-in_err-made
+returns-in_err-made c =
+    let p = err_from_is_err_and c.from_residual-in_err-made.result c.from_residual-in_err-made.ensures.1 in
+    rw (p.1, p.2) (later-stops c.args.draft.now c.give_size.new.draft _ (addresses.Inode c.args.number) _
+    c.in_ok-give_size.ensures (inl c.requires.lives) c.in_err-made.ensures)
+
+pub returns : goal.returns
+returns c =
+    over-does c.args.draft.now c.args.how.now c.args.number c.in-Some.object
+    (rw c.in-Some.is at c.in_ok-object.ensures.object) c.in-Ok.file c.in-Ok.ensures.checks c.size_over.result
+    (rw c.ctx.ensures at c.size_over.ensures) c.give_size.new.draft c.in-Ok-size_over.size c.in-Ok-size_over.is
+    (rw c.in-Ok.ensures.known at c.in_ok-give_size.ensures) c.in_ok-made.field-0 c.in_ok-made.ensures

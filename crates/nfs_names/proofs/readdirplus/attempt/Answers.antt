@@ -1,0 +1,47 @@
+use Rattle.std.proofs.Common.{Ok, Err, refl, subst}
+use Rattle.std.proofs.lemmas.Result.{err_from_is_err_and}
+use Rattle.nfs_wire.specs.declared.calls.NfsCall.TheVariants as nfs
+use Rattle.nfs_machine.specs.declared.calls.Call.TheVariants as calls
+use Rattle.nfs_objects.specs.Calls.{named_by}
+use Rattle.nfs_inodes.proofs.Ending.{halting, means-as, naming}
+use Rattle.nfs_names.proofs.Listed.{full-promised, full-refused}
+use Rattle.nfs_names.specs.Pages.{Lists, full_page}
+use Rattle.nfs_names.proofs.readdirplus.attempt.Goals as goal
+
+pub returns-in_err-directory-clause-ends : goal.returns-in_err-directory-clause-ends
+returns-in_err-directory-clause-ends c =
+    let p = err_from_is_err_and c.from_residual.result c.from_residual.ensures.1 in
+    rw (p.1, p.2)
+    (naming c.args.draft (calls.Nfs (nfs.Readdirplus c.args.arguments.now)) _ c.requires
+    c.args.arguments.now.directory _ c.as_slice.ensures refl c.in_err-directory.ensures.stops)
+
+pub listed-requires-clause-known : goal.listed-requires-clause-known
+listed-requires-clause-known c = λ s k w.
+    (means-as c.args.draft c.args.arguments.now.directory _ _ (Ok c.in-Ok.directory) c.as_slice.ensures c.in-Ok.is
+    c.in_ok-directory.ensures.means s k w).known
+
+pub returns-in_err-page-in-Ok-clause-ends : goal.returns-in_err-page-in-Ok-clause-ends
+returns-in_err-page-in-Ok-clause-ends c =
+    let p = err_from_is_err_and c.from_residual-in_err-page-in-Ok.result
+    c.from_residual-in_err-page-in-Ok.ensures.1 in
+    rw (p.1, p.2)
+    (halting c.args.draft (calls.Nfs (nfs.Readdirplus c.args.arguments.now)) _ c.requires
+    (c.in_err-page-in-Ok.ensures (named_by (calls.Nfs (nfs.Readdirplus c.args.arguments.now)))))
+
+pub returns-in_ok-page-in-Ok-clause-ends : goal.returns-in_ok-page-in-Ok-clause-ends
+returns-in_ok-page-in-Ok-clause-ends c =
+    rw (c.answer.ensures.value, c.reply.ensures)
+    (full-promised c.args.draft c.args.arguments.now c.requires c.answer.ensures.held c.answer.ensures.given
+    c.in-Ok.directory c.in_ok-page-in-Ok.page
+    (means-as c.args.draft c.args.arguments.now.directory _ _ (Ok c.in-Ok.directory) c.as_slice.ensures c.in-Ok.is
+    c.in_ok-directory.ensures.means)
+    (subst (λ asked. Lists c.args.draft c.in-Ok.directory asked (λ m. full_page m c.args.draft.ctx)
+    c.in_ok-page-in-Ok.page) c.asked.ensures c.in_ok-page-in-Ok.ensures))
+
+pub returns-in-Err-clause-ends : goal.returns-in-Err-clause-ends
+returns-in-Err-clause-ends c =
+    rw (c.answer-in-Err.ensures.value, c.reply-in-Err.ensures)
+    (full-refused c.args.draft c.args.arguments.now c.requires c.answer-in-Err.ensures.held
+    c.answer-in-Err.ensures.given c.in-Err.status
+    (means-as c.args.draft c.args.arguments.now.directory _ _ (Err c.in-Err.status) c.as_slice.ensures c.in-Err.is
+    c.in_ok-directory.ensures.means))

@@ -1,0 +1,55 @@
+use Rattle.std.proofs.Common.{inr}
+use Rattle.std.proofs.lemmas.Result.{err_from_is_err_and}
+use Rattle.nfs_objects.proofs.Promised.{does-nothing}
+use Rattle.nfs_inodes.proofs.Standing.{known-lives}
+use Rattle.nfs_names.proofs.Removed.{refused-end, taken-does, untaken-end}
+use Rattle.nfs_names.specs.Removes.{IsTakenEnd}
+use Rattle.nfs_names.proofs.remove.take.Goals as goal
+
+pub returns-in_err-exports : goal.returns-in_err-exports
+returns-in_err-exports c =
+    let p = err_from_is_err_and c.from_residual.result c.from_residual.ensures.1 in
+    rw (p.1, p.2) c.in_err-exports.ensures.exports
+
+pub returns-in-Err : goal.returns-in-Err
+returns-in-Err c =
+    let d = c.args.draft.now in
+    does-nothing d (IsTakenEnd c.args.taking d.ctx c.args.place.now) c.in-Err.status
+    (refused-end c.args.taking d c.args.place.now c.args.known.now c.requires.names _ c.in_ok-exports.ensures.exports
+    c.in-Err.status
+    (rw (c.ctx.ensures, c.as_slice-name.ensures, c.above.ensures, c.in-Err.is) at c.changed_directory.ensures.checks))
+
+pub returns-in_err-object : goal.returns-in_err-object
+returns-in_err-object c =
+    let p = err_from_is_err_and c.from_residual-in_err-object.result c.from_residual-in_err-object.ensures.1 in
+    rw (p.1, p.2) (λ named bounded. c.in_err-object.ensures named)
+
+pub returns-in-Err-2 : goal.returns-in-Err-2
+returns-in-Err-2 c =
+    let d = c.args.draft.now in
+    does-nothing d (IsTakenEnd c.args.taking d.ctx c.args.place.now) c.in-Err-2.status
+    (untaken-end c.args.taking d c.args.place.now c.args.known.now c.requires.names _ c.in_ok-exports.ensures.exports
+    c.in-Ok.directory c.in-Ok.ensures.known
+    (rw (c.ctx.ensures, c.as_slice-name.ensures, c.above.ensures, c.in-Ok.is) at c.changed_directory.ensures.checks)
+    c.in-Err-2.status
+    (rw (c.in-Ok.ensures.known, c.as_slice-name.ensures, c.in-Err-2.is) at c.in_ok-object.ensures))
+
+pub returns-in_err-take_name : goal.returns-in_err-take_name
+returns-in_err-take_name c =
+    let p = err_from_is_err_and c.from_residual-in_err-take_name.result c.from_residual-in_err-take_name.ensures.1 in
+    let takable = rw c.in-Ok-2.is at c.in_ok-object.ensures in
+    rw (p.1, p.2) (λ named bounded. c.in_err-take_name.ensures named
+    (inr (rw c.in-Ok.ensures.known (known-lives c.args.draft.now c.args.known.now c.requires.none
+    (λ s k w. (c.requires.names s k w).known))))
+    (inr (known-lives c.args.draft.now c.in-Ok-2.object c.requires.none (λ s k w. (takable s k w).known))))
+
+pub returns : goal.returns
+returns c =
+    let d = c.args.draft.now in
+    taken-does c.args.taking d c.args.place.now c.args.known.now c.requires.names _ c.in_ok-exports.ensures.exports
+    c.in-Ok.directory c.in-Ok.ensures.known
+    (rw (c.ctx.ensures, c.as_slice-name.ensures, c.above.ensures, c.in-Ok.is) at c.changed_directory.ensures.checks)
+    c.in-Ok-2.object
+    (rw (c.in-Ok.ensures.known, c.as_slice-name.ensures, c.in-Ok-2.is) at c.in_ok-object.ensures)
+    c.take_name.new.draft
+    (rw (c.in-Ok.ensures.known, c.as_slice-name.ensures) at c.in_ok-take_name.ensures)

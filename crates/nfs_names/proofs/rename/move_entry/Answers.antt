@@ -1,0 +1,28 @@
+use Rattle.std.proofs.Common.{inr, sym}
+use Rattle.std.proofs.lemmas.Result.{err_from_is_err_and}
+use Rattle.nfs_objects.specs.declared.modes.Mode.TheVariants as modes
+use Rattle.nfs_names.proofs.Renaming.{moves-one, moves-two, turned-modes}
+use Rattle.nfs_names.proofs.rename.move_entry.Goals as goal
+
+pub returns-then-is_one_directory : goal.returns-then-is_one_directory
+returns-then-is_one_directory c =
+    moves-one c.args.draft.now c.give_name.new.draft c.args.arguments.now c.args.renaming.now c.args.cookie
+    c.give_name.result (sym c.if-is_one_directory.ensures) c.requires.to
+    (rw (c.as_slice-old_name.ensures, c.as_slice-new_name.ensures, c.links_given-links.ensures)
+    at c.give_name.ensures)
+
+pub returns-in_err-leave : goal.returns-in_err-leave
+returns-in_err-leave c =
+    let p = err_from_is_err_and c.from_residual.result c.from_residual.ensures.1 in
+    rw (p.1, p.2) (λ named. c.in_err-leave.ensures named (inr c.requires.from))
+
+pub give_name-requires-2 : goal.give_name-requires-2
+give_name-requires-2 c =
+    turned-modes c.args.draft.now c.leave.new.draft _ modes.Exclusive c.in_ok-leave.ensures c.requires.alone
+
+pub returns : goal.returns
+returns c =
+    moves-two c.args.draft.now c.give_name-2.new.draft c.args.arguments.now c.args.renaming.now c.args.cookie
+    c.give_name-2.result c.leave.new.draft (sym c.if-is_one_directory.ensures) c.requires.to
+    (rw (c.as_slice-old_name.ensures, c.links_left.ensures) at c.in_ok-leave.ensures)
+    (rw (c.as_slice-new_name.ensures, c.links_given-links.ensures) at c.give_name-2.ensures)

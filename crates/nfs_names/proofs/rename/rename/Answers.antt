@@ -1,0 +1,64 @@
+use Rattle.std.proofs.Common.{Err, inl, refl}
+use Rattle.std.proofs.lemmas.Result.{err_from_is_err_and}
+use Rattle.nfs_wire.specs.declared.calls.NfsCall.TheVariants as nfs
+use Rattle.nfs_wire.specs.declared.status.NfsStatus.TheVariants as status
+use Rattle.nfs_machine.specs.declared.calls.Call.TheVariants as calls
+use Rattle.nfs_objects.specs.Calls.{named_by}
+use Rattle.nfs_names.proofs.Renaming.{check-refused, is-renaming, no-source, settled-does, stops-named}
+use Rattle.nfs_names.specs.Renames.{IsRenameEnd}
+use Rattle.nfs_names.proofs.rename.rename.Goals as goal
+
+pub returns-in_err-exports : goal.returns-in_err-exports
+returns-in_err-exports c =
+    let p = err_from_is_err_and c.from_residual.result c.from_residual.ensures.1 in
+    rw (p.1, p.2) (c.in_err-exports.ensures.exports (named_by (calls.Nfs (nfs.Rename c.args.arguments.now)))
+    (inl (inl refl)))
+
+pub returns-in-Err : goal.returns-in-Err
+returns-in-Err c =
+    let d = c.args.draft.now in
+    let a = c.args.arguments.now in
+    settled-does d a (Err c.in-Err.status)
+    (check-refused d a c.args.from.now c.args.to.now c.requires.from c.requires.to _ c.in_ok-exports.ensures.exports
+    c.in-Err.status
+    (rw (c.ctx.ensures, c.in-Err.is) at c.movable.ensures.checks))
+
+pub object_under-requires-clause-known : goal.object_under-requires-clause-known
+object_under-requires-clause-known c = rw c.in-Ok.ensures.from (λ s k w. (c.requires.from s k w).known)
+
+pub returns-in_default : goal.returns-in_default
+returns-in_default c =
+    let d = c.args.draft.now in
+    let a = c.args.arguments.now in
+    settled-does d a (Err status.NoEntry)
+    (no-source d a c.args.from.now c.args.to.now c.requires.from c.requires.to _ c.in_ok-exports.ensures.exports
+    c.in-Ok.places
+    (rw (c.ctx.ensures, c.in-Ok.is) at c.movable.ensures.checks)
+    (rw (c.in-Ok.ensures.from, c.as_slice.ensures, c.in_default.is) at c.in_ok-moved.ensures))
+
+pub returns-in_err-moved : goal.returns-in_err-moved
+returns-in_err-moved c =
+    let p = err_from_is_err_and c.from_residual-in_err-moved.result c.from_residual-in_err-moved.ensures.1 in
+    rw (p.1, p.2) (c.in_err-moved.ensures (named_by (calls.Nfs (nfs.Rename c.args.arguments.now))))
+
+pub object_under-requires-2-clause-known : goal.object_under-requires-2-clause-known
+object_under-requires-2-clause-known c = rw c.in-Ok.ensures.to (λ s k w. (c.requires.to s k w).known)
+
+pub returns-in_err-replaced : goal.returns-in_err-replaced
+returns-in_err-replaced c =
+    let p = err_from_is_err_and c.from_residual-in_err-replaced.result c.from_residual-in_err-replaced.ensures.1 in
+    rw (p.1, p.2) (c.in_err-replaced.ensures (named_by (calls.Nfs (nfs.Rename c.args.arguments.now))))
+
+pub rename_found-requires-clause-finds : goal.rename_found-requires-clause-finds
+rename_found-requires-clause-finds c =
+    is-renaming c.args.draft.now c.args.arguments.now c.args.from.now c.args.to.now c.requires.from c.requires.to _
+    c.in_ok-exports.ensures.exports c.in-Ok.places
+    (rw (c.ctx.ensures, c.in-Ok.is) at c.movable.ensures.checks) c.in-Ok.ensures.from c.in-Ok.ensures.to
+    c.in-Ok.ensures.one c.in-Some.moved c.in_ok-replaced.replaced
+    (rw (c.in-Ok.ensures.from, c.as_slice.ensures, c.in-Some.is) at c.in_ok-moved.ensures)
+    (rw (c.in-Ok.ensures.to, c.as_slice-2.ensures) at c.in_ok-replaced.ensures)
+
+pub returns : goal.returns
+returns c =
+    stops-named c.args.draft.now c.rename_found.new.draft (IsRenameEnd c.args.draft.now.ctx c.args.arguments.now)
+    (named_by (calls.Nfs (nfs.Rename c.args.arguments.now))) c.rename_found.result c.rename_found.ensures

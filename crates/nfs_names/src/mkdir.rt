@@ -1,0 +1,22 @@
+//! MKDIR: a new directory under a name (RFC 1813, 3.3.9).
+
+ghost use Rattle.nfs_machine.specs.declared.calls.Call.TheVariants as calls;
+ghost use Rattle.nfs_objects.specs.Attempt.{Ends, EndsFirst};
+ghost use Rattle.nfs_objects.specs.Begins.{Begins};
+
+use crate::make::{There, make};
+use nfs_inodes::directory_wanted;
+use nfs_machine::Reply;
+use nfs_objects::{Change, Draft, Halt};
+use nfs_wire::{MkdirArguments, NfsCall, NfsReply};
+
+/// Tries MKDIR.
+pub(crate) fn attempt(mut draft: Draft<'_>, arguments: &MkdirArguments) -> Result<Change, Halt>
+    requires { Begins (calls.Nfs (NfsCall.Mkdir arguments.now)) draft }
+    ensures ends { Ends (calls.Nfs (NfsCall.Mkdir arguments.now)) draft.entry.ctx draft.entry.view result }
+    ensures first { EndsFirst (calls.Nfs (NfsCall.Mkdir arguments.now)) draft.entry.view result }
+{
+    let wanted = directory_wanted(&arguments.attributes);
+    let reply = make(&mut draft, &arguments.place, Ok(wanted), There::Refused)?;
+    Ok(draft.answer(Reply::Nfs(NfsReply::Mkdir(reply))))
+}

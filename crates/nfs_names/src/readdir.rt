@@ -1,0 +1,102 @@
+//! READDIR: the names of a directory, page by page (RFC 1813, 3.3.16).
+
+ghost use Rattle.std.specs.Prelude.{◌≡◌, [], map, IfOk, MatchResult};
+ghost use Rattle.nfs_machine.specs.PageSteps.{page_entry};
+ghost use Rattle.nfs_machine.specs.declared.calls.Call.TheVariants as calls;
+ghost use Rattle.nfs_objects.specs.Attempt.{Ends, EndsFirst};
+ghost use Rattle.nfs_objects.specs.Begins.{Begins};
+ghost use Rattle.nfs_objects.specs.Knows.{Knows};
+ghost use Rattle.nfs_inodes.specs.Known.{IsKnown};
+ghost use Rattle.nfs_inodes.specs.Listing.{listed_entry};
+ghost use Rattle.nfs_names.specs.Pages.{Lists, front_page, names_asked, names_page};
+ghost use Rattle.nfs_names.specs.Stopping.{StopsAny};
+
+use crate::page::{Budget, Front, PageAsked, page_in};
+use nfs_inodes::{Known, Listed, named, verifier};
+use nfs_machine::Reply;
+use nfs_objects::{Change, Draft, Halt};
+use nfs_wire::{
+    Attributes, Names, NfsCall, NfsReply, NfsStatus, Page, PageEntry, ReaddirArguments,
+    ReaddirReply,
+};
+use std::alloc::{AllocError, Global};
+
+/// Tries READDIR.
+pub(crate) fn attempt(draft: Draft<'_>, arguments: &ReaddirArguments) -> Result<Change, Halt>
+    requires { Begins (calls.Nfs (NfsCall.Readdir arguments.now)) draft }
+    ensures ends { Ends (calls.Nfs (NfsCall.Readdir arguments.now)) draft.entry.ctx draft.entry.view result }
+    ensures first { EndsFirst (calls.Nfs (NfsCall.Readdir arguments.now)) draft.entry.view result }
+{
+    match named(&draft, arguments.directory.as_slice())? {
+        Ok(directory) => {
+            let page = listed(&draft, &directory, &asked(arguments))?;
+            Ok(draft.answer(reply(Some(directory.attributes), page)))
+        }
+        Err(status) => Ok(draft.answer(reply(None, Err(status)))),
+    }
+}
+
+fn asked(arguments: &ReaddirArguments) -> PageAsked
+    ensures { result ≡ names_asked arguments.now }
+{
+    PageAsked {
+        cookie: arguments.cookie,
+        verifier: arguments.verifier,
+        budget: Budget::Names(arguments.count),
+    }
+}
+
+/// The names that are asked for in a directory, or why none are listed.
+fn listed(
+    draft: &Draft<'_>,
+    known: &Known,
+    asked: &PageAsked,
+) -> Result<Result<Page, NfsStatus>, Halt>
+    requires none { draft.now.writes ≡ [] }
+    requires known { Knows draft.now (λ k. IsKnown k.state known.now) }
+    ensures { MatchResult result
+        (Lists draft.now known.now asked.now (λ _. names_page draft.now.ctx))
+        (StopsAny draft.now) }
+{
+    match page_in(draft, known, asked)? {
+        Ok(front) => Ok(Ok(Page {
+            verifier: verifier(draft.ctx()),
+            entries: names(draft.alloc(), &front)?,
+            eof: front.eof,
+        })),
+        Err(status) => Ok(Err(status)),
+    }
+}
+
+/// The entries of a page, as READDIR lists them.
+fn names(alloc: Global, front: &Front<'_>) -> Result<Names, AllocError>
+    ensures { IfOk result (λ names. names ≡ map page_entry (front_page front.now).entries) }
+{
+    let mut names = Vec::with_capacity(alloc, front.count)?;
+    for index in 0..front.count {
+        if let Some(entry) = front.left.get(index) {
+            names.push(page_entry(&entry)?)?;
+        }
+    }
+    Ok(Names::from_vec(names))
+}
+
+/// An entry as READDIR lists it.
+pub(crate) fn page_entry(entry: &Listed<'_>) -> Result<PageEntry, AllocError>
+    ensures { IfOk result (λ shown. shown ≡ page_entry (listed_entry entry.now)) }
+{
+    Ok(PageEntry {
+        fileid: entry.number,
+        name: entry.share_name()?,
+        cookie: entry.cookie,
+    })
+}
+
+fn reply(attributes: Option<Attributes>, page: Result<Page, NfsStatus>) -> Reply
+    ensures { result ≡ Reply.Nfs (NfsReply.Readdir (record { attributes = attributes; result = page })) }
+{
+    Reply::Nfs(NfsReply::Readdir(ReaddirReply {
+        attributes,
+        result: page,
+    }))
+}

@@ -1,0 +1,162 @@
+//! REMOVE and RMDIR: a name is taken away (RFC 1813, 3.3.12 and 3.3.13).
+
+ghost use Rattle.std.specs.Prelude.{◌≡◌, [], MatchResult};
+ghost use Rattle.nfs_machine.specs.RemoveSteps.{empty_directory};
+ghost use Rattle.nfs_objects.specs.Attempt.{Ends, EndsFirst};
+ghost use Rattle.nfs_objects.specs.Begins.{Begins};
+ghost use Rattle.nfs_objects.specs.Knows.{Does, Knows};
+ghost use Rattle.nfs_inodes.specs.Known.{IsKnown, Names, content_at};
+ghost use Rattle.nfs_inodes.specs.Stops.{StopsAt};
+ghost use Rattle.nfs_names.specs.Removes.{IsTakable, IsTakenEnd, above, call_of, judged, reply_of};
+ghost use Rattle.nfs_names.specs.Stopping.{StopsAny};
+
+use crate::checking::changed_directory;
+use crate::make::nothing_shown;
+use nfs_inodes::{
+    Directory, Known, directory, entry, exports, is_empty, named, no_directory, object, take_name,
+    wcc,
+};
+use nfs_machine::Reply;
+use nfs_objects::{Addr, Change, Draft, Halt, Mode};
+use nfs_wire::{NfsReply, NfsStatus, Place, RemovedReply, Wcc};
+
+/// How a name is taken away.
+#[derive(Clone, Copy)]
+pub(crate) enum Taking {
+    /// From anything but a directory.
+    Remove,
+    /// From a directory that has no entry.
+    Rmdir,
+}
+
+/// Tries REMOVE or RMDIR.
+pub(crate) fn attempt(mut draft: Draft<'_>, taking: Taking, place: &Place) -> Result<Change, Halt>
+    requires { Begins (call_of taking place.now) draft }
+    ensures ends { Ends (call_of taking place.now) draft.entry.ctx draft.entry.view result }
+    ensures first { EndsFirst (call_of taking place.now) draft.entry.view result }
+{
+    match named(&draft, place.directory.as_slice())? {
+        Ok(directory) => {
+            let result = take(&mut draft, taking, &directory, place)?;
+            let shown = wcc(&draft, &directory)?;
+            Ok(draft.answer(reply(taking, shown, result)))
+        }
+        Err(status) => Ok(draft.answer(reply(taking, nothing_shown(), Err(status)))),
+    }
+}
+
+/// What REMOVE or RMDIR answers, and the store after it.
+fn take(
+    draft: &mut Draft<'_>,
+    taking: Taking,
+    known: &Known,
+    place: &Place,
+) -> Result<Result<(), NfsStatus>, Halt>
+    requires none { draft.old.writes ≡ [] }
+    requires alone { draft.old.modes.inodes ≡ Mode.Exclusive }
+    requires names { Knows draft.old (λ k. Names draft.old.ctx place.now.directory k known.now) }
+    ensures { MatchResult result
+        (Does draft.old draft.new (IsTakenEnd taking draft.old.ctx place.now))
+        (StopsAt draft.old Addr.Exports) }
+{
+    let name = place.name.as_slice();
+    let own = NfsStatus::Invalid;
+    let directory = match changed_directory(
+        own,
+        above(taking),
+        draft.ctx(),
+        exports(draft)?,
+        known,
+        name,
+    ) {
+        Ok(directory) => directory,
+        Err(status) => return Ok(Err(status)),
+    };
+    let object = match takable(draft, taking, &directory, name)? {
+        Ok(object) => object,
+        Err(status) => return Ok(Err(status)),
+    };
+    take_name(draft, &directory, name, &object)?;
+    Ok(Ok(()))
+}
+
+/// The status of a call that would take `..` away.
+fn above(taking: Taking) -> NfsStatus
+    ensures { result ≡ above taking }
+{
+    match taking {
+        Taking::Remove => NfsStatus::Invalid,
+        Taking::Rmdir => NfsStatus::Exists,
+    }
+}
+
+/// The object that the name leads to, where it may be taken away.
+fn takable(
+    draft: &Draft<'_>,
+    taking: Taking,
+    directory: &Directory,
+    name: &[u8],
+) -> Result<Result<Known, NfsStatus>, Halt>
+    requires none { draft.now.writes ≡ [] }
+    requires known { Knows draft.now (λ k. IsKnown k.state directory.now.known) }
+    ensures { MatchResult result
+        (λ found. Knows draft.now (λ k. IsTakable taking k.state directory.now.known.number name.now found))
+        (StopsAny draft.now) }
+{
+    let Some(number) = entry(draft, directory, name)? else {
+        return Ok(Err(NfsStatus::NoEntry));
+    };
+    let Some(object) = object(draft, number)? else {
+        return Ok(Err(NfsStatus::NoEntry));
+    };
+    let verdict = judged(draft, taking, &object)?;
+    match verdict {
+        Ok(()) => Ok(Ok(object)),
+        Err(status) => Ok(Err(status)),
+    }
+}
+
+/// Whether an object may be taken away.
+fn judged(draft: &Draft<'_>, taking: Taking, object: &Known) -> Result<Result<(), NfsStatus>, Halt>
+    requires known { Knows draft.now (λ k. IsKnown k.state object.now) }
+    ensures { MatchResult result
+        (λ verdict. Knows draft.now (λ k. judged taking (content_at k.state object.now.number) ≡ verdict))
+        (StopsAt draft.now (Addr.Inode object.now.number)) }
+{
+    match taking {
+        Taking::Remove => Ok(no_directory(NfsStatus::IsDirectory, object)),
+        Taking::Rmdir => empty_directory(draft, object),
+    }
+}
+
+/// Whether an object is a directory that has no entry.
+fn empty_directory(draft: &Draft<'_>, object: &Known) -> Result<Result<(), NfsStatus>, Halt>
+    requires known { Knows draft.now (λ k. IsKnown k.state object.now) }
+    ensures { MatchResult result
+        (λ verdict. Knows draft.now (λ k. empty_directory (content_at k.state object.now.number) ≡ verdict))
+        (StopsAt draft.now (Addr.Inode object.now.number)) }
+{
+    let directory = match directory(object) {
+        Ok(directory) => directory,
+        Err(status) => return Ok(Err(status)),
+    };
+    let empty = is_empty(draft, &directory)?;
+    if empty {
+        Ok(Ok(()))
+    } else {
+        Ok(Err(NfsStatus::NotEmpty))
+    }
+}
+
+fn reply(taking: Taking, directory: Wcc, taken: Result<(), NfsStatus>) -> Reply
+    ensures { result ≡ Reply.Nfs (reply_of taking (record { directory = directory; result = taken })) }
+{
+    let removed = RemovedReply {
+        directory,
+        result: taken,
+    };
+    Reply::Nfs(match taking {
+        Taking::Remove => NfsReply::Remove(removed),
+        Taking::Rmdir => NfsReply::Rmdir(removed),
+    })
+}

@@ -1,0 +1,22 @@
+//! SYMLINK: a new symbolic link under a name (RFC 1813, 3.3.10).
+
+ghost use Rattle.nfs_machine.specs.declared.calls.Call.TheVariants as calls;
+ghost use Rattle.nfs_objects.specs.Attempt.{Ends, EndsFirst};
+ghost use Rattle.nfs_objects.specs.Begins.{Begins};
+
+use crate::make::{There, make};
+use nfs_inodes::link_wanted;
+use nfs_machine::Reply;
+use nfs_objects::{Change, Draft, Halt};
+use nfs_wire::{NfsCall, NfsReply, SymlinkArguments};
+
+/// Tries SYMLINK.
+pub(crate) fn attempt(mut draft: Draft<'_>, arguments: &SymlinkArguments) -> Result<Change, Halt>
+    requires { Begins (calls.Nfs (NfsCall.Symlink arguments.now)) draft }
+    ensures ends { Ends (calls.Nfs (NfsCall.Symlink arguments.now)) draft.entry.ctx draft.entry.view result }
+    ensures first { EndsFirst (calls.Nfs (NfsCall.Symlink arguments.now)) draft.entry.view result }
+{
+    let wanted = link_wanted(&arguments.attributes, arguments.text.as_slice());
+    let reply = make(&mut draft, &arguments.place, Ok(wanted), There::Refused)?;
+    Ok(draft.answer(Reply::Nfs(NfsReply::Symlink(reply))))
+}
