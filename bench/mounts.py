@@ -1,6 +1,7 @@
 #!/usr/bin/env python3
-"""Mounts as many long paths as the table of `nfsd --stdio` keeps, and then more, each of which drops the oldest. Prints
-the time of a mount before and at the limit, and the resident memory. A benchmark, not a test.
+"""Mounts as many long paths as the table of `nfsd --stdio` keeps, and then more, each of which drops the oldest. Lists
+them, takes some of them back one by one, and then all. Prints the time of each, and the resident memory. A benchmark,
+not a test.
 
 usage: bench/mounts.py [LIMIT [MORE]]      (65536 and 2000 where they are left out)
 """
@@ -12,7 +13,7 @@ import time
 
 import nfsd
 
-MOUNT, MNT = 100005, 1
+MOUNT, MNT, DUMP, UMNT, UMNTALL = 100005, 1, 2, 3, 4
 BATCH = 64  # records that are written before their replies are read
 
 
@@ -24,28 +25,38 @@ def paths():
             yield b"/" * front + b"data" + b"/" * (slashes - front)
 
 
-def mnt(xid, path):
-    """MNT (RFC 1813, 5.2.1)."""
+def named(xid, procedure, path):
+    """MNT or UMNT of a path (RFC 1813, 5.2.1 and 5.2.3)."""
     padding = b"\0" * (-len(path) % 4)
-    return nfsd.call(xid, MNT, struct.pack(">I", len(path)) + path + padding, MOUNT)
+    return nfsd.call(xid, procedure, struct.pack(">I", len(path)) + path + padding, MOUNT)
 
 
-def read_reply(replies):
-    """Reads a reply, and checks that the mount was granted."""
+def reply(replies):
+    """The results of a reply, of a call that is accepted."""
     (mark,) = struct.unpack(">I", replies.read(4))
     body = replies.read(mark & 0x7FFFFFFF)
-    assert body[20:28] == b"\0" * 8, "the call is accepted, and the path is mounted"
+    assert body[20:24] == b"\0" * 4, "the call is accepted"
+    return body[24:]
 
 
-def mount(server, records):
-    """The seconds that these mounts take."""
+def answered(server, records):
+    """The seconds that these calls take, each of which is OK where it has a status."""
     begin = time.perf_counter()
     while batch := list(itertools.islice(records, BATCH)):
         server.stdin.write(b"".join(batch))
         server.stdin.flush()
         for _ in batch:
-            read_reply(server.stdout)
+            assert reply(server.stdout)[:4] in (b"", b"\0" * 4)
     return time.perf_counter() - begin
+
+
+def dumped(server):
+    """The seconds that DUMP takes (RFC 1813, 5.2.2), and how many bytes its list has."""
+    begin = time.perf_counter()
+    server.stdin.write(nfsd.call(1, DUMP, b"", MOUNT))
+    server.stdin.flush()
+    size = len(reply(server.stdout))
+    return time.perf_counter() - begin, size
 
 
 def resident(server):
@@ -56,18 +67,23 @@ def resident(server):
 
 
 def tell(name, server, count, passed):
-    """Prints what these mounts come to."""
+    """Prints what these calls come to."""
     each, kept = passed / count * 1e3, resident(server)
-    print(f"{name}: {count} mounts in {passed:.3f} s: {each:.3f} ms each, {kept:,.0f} MB resident")
+    print(f"{name}: {count} calls in {passed:.3f} s: {each:.3f} ms each, {kept:,.0f} MB resident")
 
 
 def main():
     limit = int(sys.argv[1]) if len(sys.argv) > 1 else 65_536
     more = int(sys.argv[2]) if len(sys.argv) > 2 else 2_000
-    records = (mnt(xid, path) for xid, path in enumerate(paths()))
+    records = (named(xid, MNT, path) for xid, path in enumerate(paths()))
+    taken = (named(xid, UMNT, path) for xid, path in enumerate(itertools.islice(paths(), more, limit, 16)))
     with subprocess.Popen([nfsd.PROGRAM, *nfsd.OPTIONS], stdin=subprocess.PIPE, stdout=subprocess.PIPE) as server:
-        tell("up to the limit", server, limit, mount(server, itertools.islice(records, limit)))
-        tell("at the limit", server, more, mount(server, itertools.islice(records, more)))
+        tell("MNT up to the limit", server, limit, answered(server, itertools.islice(records, limit)))
+        tell("MNT at the limit", server, more, answered(server, itertools.islice(records, more)))
+        passed, size = dumped(server)
+        tell(f"DUMP of {size:,} bytes", server, 1, passed)
+        tell("UMNT of a sixteenth", server, len(range(more, limit, 16)), answered(server, taken))
+        tell("UMNTALL", server, 1, answered(server, iter([nfsd.call(1, UMNTALL, b"", MOUNT)])))
         server.stdin.close()
 
 

@@ -11,10 +11,11 @@ import tempfile
 import time
 
 NFS = 100003
-NULL, GETATTR, LOOKUP, READ, WRITE, CREATE = 0, 1, 3, 6, 7, 8
+NULL, GETATTR, LOOKUP, READ, WRITE, CREATE, MKDIR, REMOVE, RMDIR, RENAME = 0, 1, 3, 6, 7, 8, 9, 12, 13, 14
 PROGRAM = pathlib.Path(__file__).resolve().parent.parent / "crates/nfsd/out/nfsd"
 OPTIONS = ["--stdio", "--export", "/data,rw,*", "--start", "7", "--clock", "1000"]
 SHOWN, FOUND, CREATED = 116, 244, 276  # the bytes of a good reply of GETATTR, LOOKUP and CREATE, with its mark
+TAKEN, RENAMED = 148, 264  # those of REMOVE and of RENAME; MKDIR has CREATE's, and RMDIR has REMOVE's
 
 
 def handle(fileid):
@@ -40,6 +41,26 @@ def place(name):
 def create(xid, name, behind=b""):
     """CREATE UNCHECKED of a name in the root, with no attributes given (RFC 1813, 3.3.8), and bytes behind its arguments."""
     return call(xid, CREATE, place(name) + bytes(28) + behind)
+
+
+def mkdir(xid, name):
+    """MKDIR of a name in the root, with no attributes given (RFC 1813, 3.3.9)."""
+    return call(xid, MKDIR, place(name) + bytes(24))
+
+
+def remove(xid, name):
+    """REMOVE of a name in the root (RFC 1813, 3.3.12)."""
+    return call(xid, REMOVE, place(name))
+
+
+def rmdir(xid, name):
+    """RMDIR of a name in the root (RFC 1813, 3.3.13)."""
+    return call(xid, RMDIR, place(name))
+
+
+def rename(xid, old, new):
+    """RENAME of a name in the root to another (RFC 1813, 3.3.14)."""
+    return call(xid, RENAME, place(old) + place(new))
 
 
 def lookup(xid, name):

@@ -8,8 +8,11 @@ import sys
 
 ACCEPTED = ["SUCCESS", "PROG_UNAVAIL", "PROG_MISMATCH", "PROC_UNAVAIL", "GARBAGE_ARGS", "SYSTEM_ERR"]
 KINDS = [None, "file", "directory", "block device", "character device", "link", "socket", "FIFO"]
-NAMES = {(100003, 0): "NULL", (100003, 1): "GETATTR", (100003, 3): "LOOKUP", (100003, 6): "READ", (100003, 7): "WRITE",
-         (100003, 8): "CREATE", (100005, 0): "NULL of MOUNT", (100005, 1): "MNT", (100021, 0): "NULL of NLM"}
+NFS = ["NULL", "GETATTR", "SETATTR", "LOOKUP", "ACCESS", "READLINK", "READ", "WRITE", "CREATE", "MKDIR", "SYMLINK", "MKNOD",
+       "REMOVE", "RMDIR", "RENAME", "LINK", "READDIR", "READDIRPLUS", "FSSTAT", "FSINFO", "PATHCONF", "COMMIT"]
+MOUNT = ["NULL of MOUNT", "MNT", "DUMP", "UMNT", "UMNTALL", "EXPORT"]
+NAMES = ({(100003, number): name for number, name in enumerate(NFS)}
+         | {(100005, number): name for number, name in enumerate(MOUNT)} | {(100021, 0): "NULL of NLM"})
 
 
 class Words:
@@ -40,6 +43,36 @@ class Words:
     def optional(self):
         return self.attributes() if self.take("I") else "attributes not shown"
 
+    def text(self):
+        return self.opaque().decode(errors="backslashreplace")
+
+    def entries(self, read):
+        """A list: each entry behind a TRUE, and a FALSE at the end."""
+        found = []
+        while self.take("I"):
+            found.append(read())
+        return found
+
+    def mount(self):
+        """mountbody (RFC 1813, 5.2.2)."""
+        return f"{self.text()} has {self.text()}"
+
+    def export(self):
+        """exportnode (RFC 1813, 5.2.5)."""
+        path, hosts = self.text(), self.entries(self.text)
+        return f"{path} for {', '.join(hosts) or 'every host'}"
+
+    def page_entry(self, is_full):
+        """An entry of READDIR, or of READDIRPLUS, with its cookie (RFC 1813, 3.3.16 and 3.3.17)."""
+        self.take("Q")
+        name, cookie = self.opaque(), self.take("Q")
+        told = f"{name!r} (cookie {cookie})"
+        if is_full:
+            told += f" {self.optional()}"
+            if self.take("I"):
+                self.opaque()
+        return told
+
     def wcc(self):
         if self.take("I"):
             self.take("Q4I")
@@ -60,8 +93,12 @@ def records(stream):
 
 def result(name, words):
     """What stands behind the accepted status, for a result that is OK."""
-    if name.startswith("NULL"):
+    if name.startswith("NULL") or name.startswith("UMNT"):
         return ""
+    if name == "DUMP":
+        return "; ".join(words.entries(words.mount)) or "nothing is mounted"
+    if name == "EXPORT":
+        return "; ".join(words.entries(words.export))
     status = words.take("I")
     if status:
         return f"status {status}"
@@ -71,9 +108,41 @@ def result(name, words):
         return f"OK: the handle of the root is {words.opaque().hex()}"
     if name == "LOOKUP":
         return f"OK: handle {words.opaque().hex()}, {words.optional()}"
-    if name == "CREATE":
+    if name in ("CREATE", "MKDIR", "SYMLINK", "MKNOD"):
         words.take("I")
         return f"OK: handle {words.opaque().hex()}, {words.optional()}"
+    if name in ("REMOVE", "RMDIR"):
+        return f"OK: in the {words.wcc()}"
+    if name == "RENAME":
+        return f"OK: from the {words.wcc()}; to the {words.wcc()}"
+    if name == "LINK":
+        return f"OK: {words.optional()}"
+    if name == "SETATTR":
+        return f"OK: {words.wcc()}"
+    if name == "ACCESS":
+        shown = words.optional()
+        return f"OK: rights {words.take('I')}; {shown}"
+    if name == "READLINK":
+        shown = words.optional()
+        return f"OK: {words.opaque()!r}; {shown}"
+    if name == "FSSTAT":
+        words.optional()
+        total, free, _, files, free_files, _ = words.take("6Q")
+        return f"OK: {free} of {total} bytes and {free_files} of {files} files are free"
+    if name == "FSINFO":
+        words.optional()
+        return f"OK: READ and WRITE take {words.take('I')} bytes at most"
+    if name == "PATHCONF":
+        words.optional()
+        return "OK: {} links, names of {} bytes".format(*words.take("2I"))
+    if name == "COMMIT":
+        return f"OK: {words.wcc()}"
+    if name in ("READDIR", "READDIRPLUS"):
+        shown = words.optional()
+        words.take("Q")
+        listed = "; ".join(words.entries(lambda: words.page_entry(name == "READDIRPLUS")))
+        end = ", the end of the directory" if words.take("I") else ""
+        return f"OK: {listed or 'no entry'}{end}; {shown}"
     if name == "READ":
         shown = words.optional()
         _, eof = words.take("2I")

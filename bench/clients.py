@@ -1,0 +1,65 @@
+#!/usr/bin/env python3
+"""Tries the server with clients that others wrote: Debian's libnfs-utils (apt-get install libnfs-utils).
+
+    bench/clients.py [PORT]
+
+It starts a bridge on 127.0.0.1:PORT (20490), copies a file of 1 MiB there and back with nfs-cp, makes 1,000 files, which
+nfs-ls must list, and reads one with nfs-cat.
+"""
+import os
+import pathlib
+import subprocess
+import sys
+import tempfile
+
+BRIDGE = pathlib.Path(__file__).resolve().parent / "bridge.py"
+
+
+def url(path, port):
+    """The URL by which libnfs finds a file of the export, with no port mapper."""
+    return f"nfs://127.0.0.1/data/{path}?nfsport={port}&mountport={port}"
+
+
+def run(*words):
+    """What a command prints. It must end well."""
+    return subprocess.run(words, check=True, stdout=subprocess.PIPE).stdout
+
+
+def copies(folder, port):
+    """A file goes there and back."""
+    sent, received = folder / "sent", folder / "received"
+    sent.write_bytes(os.urandom(1 << 20))
+    run("nfs-cp", sent, url("large", port))
+    run("nfs-cp", url("large", port), received)
+    assert received.read_bytes() == sent.read_bytes(), "the bytes come back"
+    print("nfs-cp: 1 MiB came back as it was")
+
+
+def lists(folder, port):
+    """A thousand files are listed, and one is read."""
+    small = folder / "small"
+    small.write_bytes(b"hello\n")
+    names = {f"file{number:04}" for number in range(1000)}
+    for name in sorted(names):
+        run("nfs-cp", small, url(name, port))
+    listed = {line.split()[-1] for line in run("nfs-ls", url("", port)).decode().splitlines()}
+    assert listed == names | {"large"}, "all names are listed"
+    print(f"nfs-ls: {len(listed)} names")
+    assert run("nfs-cat", url("file0500", port)) == b"hello\n"
+    print("nfs-cat: hello")
+
+
+def main():
+    port = int(sys.argv[1]) if len(sys.argv) > 1 else 20490
+    with subprocess.Popen([sys.executable, BRIDGE, str(port)], stdout=subprocess.PIPE) as bridge:
+        bridge.stdout.readline()
+        try:
+            with tempfile.TemporaryDirectory() as folder:
+                copies(pathlib.Path(folder), port)
+                lists(pathlib.Path(folder), port)
+        finally:
+            bridge.terminate()
+
+
+if __name__ == "__main__":
+    main()

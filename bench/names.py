@@ -1,0 +1,61 @@
+#!/usr/bin/env python3
+"""Prints how many calls a second `nfsd --stdio` answers on one processor that change names: CREATE and REMOVE in turn,
+MKDIR and RMDIR in turn, and RENAME, in directories that keep 100 and 10,000 names. The name that goes is the oldest. Of
+several programs, which take turns, it prints also how many times as quick as the first each is. A benchmark, not a test.
+
+usage: bench/names.py [PROGRAM..]
+"""
+import sys
+
+import nfsd
+
+TURNS = 5
+CHANGES = 200
+
+
+def name(number):
+    return b"name%08d" % number
+
+
+def make_and_take(program, names, make, take):
+    """The calls a second of so many pairs, in the root with so many names of the same kind."""
+    with nfsd.Server(program) as server:
+        server.answer((make(xid, name(xid)) for xid in range(names)), names * nfsd.CREATED)
+        pairs = (
+            record
+            for number in range(CHANGES)
+            for record in (make(2 * number, name(names + number)), take(2 * number + 1, name(number)))
+        )
+        return 2 * CHANGES / server.answer(pairs, CHANGES * (nfsd.CREATED + nfsd.TAKEN))
+
+
+def rename(program, names):
+    """The calls a second of so many RENAMEs, in the root with so many files."""
+    with nfsd.Server(program) as server:
+        server.answer((nfsd.create(xid, name(xid)) for xid in range(names)), names * nfsd.CREATED)
+        renames = (nfsd.rename(number, name(number), name(names + number)) for number in range(CHANGES))
+        return CHANGES / server.answer(renames, CHANGES * nfsd.RENAMED)
+
+
+MEASURES = {
+    "CREATE and REMOVE": lambda program, names: make_and_take(program, names, nfsd.create, nfsd.remove),
+    "MKDIR and RMDIR": lambda program, names: make_and_take(program, names, nfsd.mkdir, nfsd.rmdir),
+    "RENAME": rename,
+}
+
+
+def main():
+    programs = sys.argv[1:] or [nfsd.PROGRAM]
+    for names in (100, 10_000):
+        best = {}
+        for _ in range(TURNS):
+            for program in programs:
+                for what, measure in MEASURES.items():
+                    best[what, program] = max(measure(program, names), best.get((what, program), 0))
+        for (what, program), rate in sorted(best.items(), key=lambda item: item[0][0]):
+            ratio = f", {rate / best[what, programs[0]]:.2f} times the first" if len(programs) > 1 else ""
+            print(f"{what:17} among {names:6} names: {rate:9,.0f} calls a second{ratio} ({program})")
+
+
+if __name__ == "__main__":
+    main()
