@@ -12,12 +12,13 @@ use Rattle.nfs_machine.specs.Run.{Arrival, FromHost, Received, Setting, context_
 use Rattle.nfs_machine.specs.SideLaws.{AskedFits}
 use Rattle.nfs_machine.specs.declared.context.Ctx.{Ctx}
 use Rattle.nfs_machine.specs.declared.moment.Moment.{Moment}
-use Rattle.nfs_server.specs.Asked.{IsAsked}
+use Rattle.nfs_engine.specs.Answers.{answer_bytes}
+use Rattle.nfs_engine.specs.Asked.{IsAsked}
 use Rattle.nfs_server.specs.Executed.{MakesStep}
 use Rattle.nfs_server.specs.Plain.{PlainValue}
-use Rattle.nfs_server.specs.Served.{IsAnswered, answer_bytes}
+use Rattle.nfs_server.specs.Served.{IsAnswered}
 use Rattle.nfs_machine.specs.RpcReplies.{FirstFault, fault_message, refusal_message, success_message}
-use Rattle.nfs_server.specs.declared.asking.Asked.{Asked}
+use Rattle.nfs_engine.specs.declared.asking.Asked.{Asked}
 
 pub early_answered : (received : Received) (p : PlainValue) (fault : Early) (answer : List ℕ) →
     FirstFault received.bytes fault → answer ≡ fault_message fault → IsAnswered (FromHost received) p p answer

@@ -1,7 +1,5 @@
 pub mod Answering
-pub mod Bounds
 pub mod Built
-pub mod Garbage
 pub mod Joins
 pub mod Loops
 pub mod Nothing
@@ -9,7 +7,6 @@ pub mod Opening
 pub mod Parsed
 pub mod Pieces
 pub mod Rounds
-pub mod Sizes
 pub mod Steps
 pub mod Stores
 pub mod Views

@@ -19,7 +19,7 @@ use Rattle.nfs_machine.specs.declared.exports.ExportError.{ExportError}
 use Rattle.nfs_machine.specs.declared.exports.ExportError.TheVariants as export
 use Rattle.nfs_machine.specs.declared.exports.ExportText.{ExportText}
 use Rattle.nfs_server.specs.CommandLine.{AreRefused, Configures, IsHostRefusal, IsParsedFrom, IsRefusal, IsTaken, IsValueRefusal, ReadsOptions, ReadsFlag, ReadsNumber, Refuses, export_parts, exports_of, host_of, nfsd, parts_of}
-use Rattle.nfs_server.specs.Hosts.{IsHost}
+use Rattle.nfs_engine.specs.Hosts.{IsHost}
 use Rattle.nfs_server.specs.Exits.{exit_of_command, exit_of_exports, exit_of_kind}
 use Rattle.nfs_server.specs.declared.exit.Exit.{Exit}
 use Rattle.nfs_server.specs.declared.options.Options.{Options}

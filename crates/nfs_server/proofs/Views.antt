@@ -7,8 +7,8 @@ use Rattle.nfs_machine.proofs.Modes.{all-joined}
 use Rattle.nfs_machine.specs.declared.calls.Call.{Call}
 use Rattle.nfs_objects.proofs.Seen.{seen-before, seen-last}
 use Rattle.nfs_objects.specs.Asks.{Asks, EachOnce, MayAsk}
-use Rattle.nfs_objects.specs.Fits.{Fits, vacant}
-use Rattle.nfs_objects.specs.Modes.{Suits, covers, mode_at, modes_of}
+use Rattle.nfs_objects.specs.Fits.{vacant}
+use Rattle.nfs_objects.specs.Modes.{covers, mode_at, modes_of}
 use Rattle.nfs_objects.specs.Store.{Store}
 use Rattle.nfs_objects.specs.Values.{Seen, ViewValue, is_addr, seen_at, shown_at}
 use Rattle.std.specs.Prelude.{Result, Ok, Err, OnOk, is_some, option_map}
@@ -30,7 +30,7 @@ use Rattle.std.specs.declared.alloc.Global.{Global}
 use Rattle.nfs_server.specs.Executed.{IsViewOf}
 use Rattle.nfs_server.specs.Plain.{PlainValue}
 use Rattle.nfs_server.specs.Objects.{ObjectsValue, Reserves, shown_in, store_of}
-use Rattle.nfs_server.specs.Slots.{SlotValue, object_in, last_in}
+use Rattle.nfs_server.specs.Slots.{object_in, last_in}
 
 -- behind entries that do not show the address
 seen_behind : (es more : List Seen) (a : Addr) → seen_at es a ≡ None → seen_at (es ++ more) a ≡ seen_at more a

@@ -14,7 +14,7 @@ use Rattle.clap.specs.declared.parser.matches.ArgMatches.{ArgMatches}
 use Rattle.nfs_machine.specs.ExportFaults.{export_fault, export_of}
 use Rattle.nfs_machine.specs.declared.exports.ExportError.{ExportError}
 use Rattle.nfs_machine.specs.declared.exports.ExportText.{ExportText}
-use Rattle.nfs_server.specs.Hosts.{IsHost}
+use Rattle.nfs_engine.specs.Hosts.{IsHost}
 use Rattle.nfs_server.specs.declared.exit.Exit.{Exit}
 use Rattle.nfs_server.specs.declared.exit.Exit.TheVariants.{CommandLine, NoTransport, Exports, Memory, StandardStream}
 use Rattle.nfs_server.specs.declared.options.Options.{Options}

@@ -1,11 +1,7 @@
-pub mod Asked
-pub mod Built
 pub mod Clocks
 pub mod CommandLine
 pub mod Executed
 pub mod Exits
-pub mod Forms
-pub mod Hosts
 pub mod Objects
 pub mod Plain
 pub mod Roots

@@ -1,14 +1,12 @@
 -- The store of one caller, and the state that it stands for.
-use Rattle.std.specs.Prelude.{ℕ, ◌≤◌, length}
-use Rattle.std.specs.List.{AllByRecursion}
-use Rattle.nfs_machine.specs.Exports.{LivingExport}
+use Rattle.std.specs.Prelude.{ℕ}
 use Rattle.nfs_machine.specs.Run.{Setting}
-use Rattle.nfs_machine.specs.SideLaws.{ExportsFit, MountsFit}
 use Rattle.nfs_machine.specs.State.{State}
 use Rattle.nfs_machine.specs.WellFormed.{WellFormed}
 use Rattle.nfs_objects.specs.Sound.{Sound}
 use Rattle.nfs_objects.specs.Stands.{Represents}
 use Rattle.nfs_objects.specs.declared.usage.Usage.{Usage}
+use Rattle.nfs_engine.specs.Bounds.{IsWithinBounds}
 use Rattle.nfs_server.specs.Objects.{ObjectsValue, store_of}
 
 -- the objects, and what the server was started with
@@ -25,13 +23,6 @@ pub record StandsFor (p : PlainValue) (m : State) : Type 0 where
       (record { state = m; links = links; parents = parents; usage = usage })
   pub sound : Sound (record { state = m; links = links; parents = parents; usage = usage })
   pub formed : WellFormed m
-
--- what is mounted and exported is within the bounds of MOUNT (RFC 1813, 5.1.4), and no export has more hosts than it
--- may be given
-pub record IsWithinBounds (m : State) : Type 0 where
-  pub mounts : MountsFit m
-  pub exports : ExportsFit m.exports
-  pub hosts : AllByRecursion (λ (e : LivingExport). length e.hosts ≤ 1024) m.exports
 
 -- it stands for a state, whose lists are within bounds
 abbrev pub Stands : PlainValue → Type 0

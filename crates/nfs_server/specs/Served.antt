@@ -1,9 +1,7 @@
 -- What serving the records of a stream comes to.
 use Rattle.std.specs.Prelude.{◌≡◌, ◌⊎◌, ◌≤◌, ◌-◌, ◌^◌, ℕ}
-use Rattle.std.specs.Prelude.{List, [], ◌∷◌, ◌++◌, length, Option, Some, None}
+use Rattle.std.specs.Prelude.{List, [], ◌∷◌, ◌++◌, length, Option, Some}
 use Rattle.std.specs.Io.KnownBytes.{Appends}
-use Rattle.std.specs.declared.vec.Vec.{Vec}
-use Rattle.std.specs.declared.alloc.Global.{Global}
 use Rattle.nfs_rpc.specs.Records.{IsStream, IsTooLarge}
 use Rattle.nfs_rpc.specs.Streams.{one_more}
 use Rattle.nfs_machine.specs.Run.{Setting, Arrival, Record, Run}
@@ -132,11 +130,6 @@ pub record IsAnswered (arrival : Arrival) (old new : PlainValue) (answer : List 
   pub setting : new.setting ≡ old.setting
   pub each : (m : State) → StandsFor old m → (records : List Record) × (after : State)
       × AnswersArrival old.setting m arrival answer records after × StandsFor new after
-
--- the bytes of an answer; nothing for what is dropped
-abbrev pub answer_bytes : Option (Vec ℕ Global) → List ℕ
-answer_bytes None = []
-answer_bytes (Some bytes) = bytes.items
 
 -- what was served is a run of the machine
 abbrev pub ServedIsRun : Type 0

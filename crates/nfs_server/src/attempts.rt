@@ -3,7 +3,7 @@
 ghost use Rattle.std.specs.Prelude.{◌≡◌, IfOk};
 ghost use Rattle.nfs_objects.specs.Attempt.{Attempts};
 ghost use Rattle.nfs_objects.specs.Modes.{Suits, modes_of};
-ghost use Rattle.nfs_server.specs.Built.{IsBuilt};
+ghost use Rattle.nfs_engine.specs.Built.{IsBuilt};
 
 use crate::nlm;
 use nfs_machine::{Call, Ctx};

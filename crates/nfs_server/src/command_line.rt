@@ -8,15 +8,15 @@ ghost use Rattle.nfs_server.specs.CommandLine.{Configures, ReadsOptions, Refuses
 ghost use Rattle.nfs_server.specs.CommandLine.{IsHostRefusal, IsReadingFault, IsRefusal, IsValueRefusal};
 ghost use Rattle.nfs_server.specs.CommandLine.{export_parts, host_of, nfsd, parts_of};
 ghost use Rattle.nfs_server.specs.CommandLine.{flag_rule, number_rule, option_rule};
-ghost use Rattle.nfs_server.specs.Hosts.{IsHost};
+ghost use Rattle.nfs_engine.specs.Hosts.{IsHost};
 
 use crate::exit::Exit;
-use crate::host::Host;
 use crate::options::Options;
 use bytes::Bytes;
 use clap::builder::ValueParser;
 use clap::error::ErrorKind;
 use clap::{Arg, ArgAction, ArgMatches, Command, value_parser};
+use nfs_engine::Host;
 use nfs_machine::{ExportText, Exports};
 use std::alloc::{AllocError, Global};
 use std::convert::AsStr;

@@ -5,13 +5,10 @@
 //! and on `nfs_data`, `nfs_names` and `nfs_mount` for what each call comes to.
 #![tactic(auto)]
 
-mod answers;
-mod asking;
 mod attempts;
 pub mod clock;
 pub mod command_line;
 pub mod exit;
-pub mod host;
 mod nlm;
 mod objects;
 pub mod options;
@@ -25,7 +22,7 @@ pub mod stdio;
 pub use clock::{FixedClock, MachineClock, ServerClock, start_number};
 pub use command_line::{arguments, configure};
 pub use exit::Exit;
-pub use host::Host;
+pub use nfs_engine::Host;
 pub use options::Options;
 pub use plain::Plain;
 pub use serve::{Served, StreamFault, serve_plain, served_is_a_run};

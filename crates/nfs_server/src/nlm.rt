@@ -4,7 +4,7 @@ ghost use Rattle.std.specs.Prelude.{◌≡◌};
 ghost use Rattle.nfs_objects.specs.Attempt.{Attempts};
 ghost use Rattle.nfs_machine.specs.declared.context.Ctx.{Ctx};
 ghost use Rattle.nfs_objects.specs.Values.{ViewValue};
-ghost use Rattle.nfs_server.specs.Built.{IsBuilt};
+ghost use Rattle.nfs_engine.specs.Built.{IsBuilt};
 
 use nfs_machine::{Call, Reply};
 use nfs_objects::{Change, Outcome};

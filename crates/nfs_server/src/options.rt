@@ -1,6 +1,6 @@
 //! What the program is asked to serve.
 
-use crate::host::Host;
+use nfs_engine::Host;
 use nfs_machine::Exports;
 
 /// What the command line asks for.

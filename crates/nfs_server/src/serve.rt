@@ -8,8 +8,8 @@ ghost use Rattle.nfs_rpc.specs.Streams.{one_more};
 ghost use Rattle.nfs_server.specs.Served.{EndsBy, FailsToRead, Goes, Stops, ServedIsRun, ServesAll, ServesFront};
 ghost use Rattle.nfs_server.specs.Taken.{Takes};
 
-use crate::host::Host;
 use crate::plain::Plain;
+use nfs_engine::Host;
 use nfs_machine::Moments;
 use nfs_rpc::stream::{Sink, Source};
 use nfs_rpc::{Record, RecordError, Records};

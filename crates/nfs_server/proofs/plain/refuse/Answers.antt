@@ -1,6 +1,6 @@
 use Rattle.std.proofs.Common.{sym, subst}
-use Rattle.nfs_server.specs.Forms.{RefusalHasForm}
-use Rattle.nfs_server.proofs.Steps.{refusal_form}
+use Rattle.nfs_engine.specs.Forms.{RefusalHasForm}
+use Rattle.nfs_engine.proofs.Formed.{refusal_form}
 use Rattle.nfs_server.proofs.plain.refuse.Goals as goal
 
 pub refuse-answer-requires : goal.refuse-answer-requires

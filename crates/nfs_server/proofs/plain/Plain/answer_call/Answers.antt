@@ -1,5 +1,5 @@
 use Rattle.nfs_server.proofs.Answering.{asked_fits, executed_answered, refused_result}
-use Rattle.nfs_server.proofs.Built.{asked-built}
+use Rattle.nfs_engine.proofs.Built.{asked-built}
 use Rattle.nfs_server.proofs.Steps.{makes_step_alike}
 use Rattle.nfs_server.proofs.plain.Plain.answer_call.Goals as goal
 

@@ -1,4 +1,4 @@
-use Rattle.nfs_server.proofs.Bounds.{opening-within}
+use Rattle.nfs_engine.proofs.Bounds.{opening-within}
 use Rattle.nfs_server.proofs.Opening.{opening_stands_at}
 use Rattle.nfs_server.proofs.plain.Plain.new.Goals as goal
 

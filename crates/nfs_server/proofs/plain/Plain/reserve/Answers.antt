@@ -1,7 +1,7 @@
 use Rattle.std.proofs.Common.{ap, arith, length}
 use Rattle.nfs_objects.specs.declared.address.Addr.TheVariants.{Inode}
 use Rattle.nfs_server.specs.Plain.{PlainValue}
-use Rattle.nfs_server.proofs.Views.{none_seen, reserves_behind, reserves_result}
+use Rattle.nfs_server.proofs.Views.{none_seen, reserves_result}
 use Rattle.nfs_server.proofs.plain.Plain.reserve.Goals as goal
 
 pub add_reserved-requires : goal.add_reserved-requires

@@ -34,8 +34,8 @@ use Rattle.nfs_machine.specs.declared.context.Ctx.{Ctx}
 use Rattle.nfs_machine.specs.declared.exports.ExportError.TheVariants.{BadPath, BadMode, NoHost, DoublePath, TooMany}
 use Rattle.nfs_machine.specs.declared.exports.ExportText.{ExportText}
 use Rattle.nfs_machine.specs.declared.moment.Moment.{Moment}
-use Rattle.nfs_server.specs.Forms.{HasForm}
-use Rattle.nfs_server.specs.Plain.{IsWithinBounds}
+use Rattle.nfs_engine.specs.Forms.{HasForm}
+use Rattle.nfs_engine.specs.Bounds.{IsWithinBounds}
 
 -- ---- exports without fault
 abbrev HasBounds : ExportValue → Type 0

@@ -13,9 +13,9 @@ use Rattle.nfs_rpc.specs.declared.programs.Program.TheVariants.{Nfs, Mount, Nlm}
 use Rattle.nfs_machine.specs.Run.{IsCall}
 use Rattle.nfs_machine.specs.declared.calls.Call.{Call}
 use Rattle.nfs_machine.specs.RpcReplies.{FirstFault}
-use Rattle.nfs_server.specs.declared.asking.Asked.{Asked}
-use Rattle.nfs_server.specs.declared.asking.Unasked.{Unasked}
-use Rattle.nfs_server.specs.declared.asking.Unasked.TheVariants as unasked
+use Rattle.nfs_engine.specs.declared.asking.Asked.{Asked}
+use Rattle.nfs_engine.specs.declared.asking.Unasked.{Unasked}
+use Rattle.nfs_engine.specs.declared.asking.Unasked.TheVariants as unasked
 
 -- a front of the bytes spells arguments of the procedure that hold bytes
 abbrev pub ArgumentsHoldBytes : Program → ℕ → List ℕ → Type 0

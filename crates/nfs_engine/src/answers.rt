@@ -1,8 +1,8 @@
 //! The bytes of answers, each one fragment.
 
 ghost use Rattle.std.specs.Prelude.{◌≡◌, ◌++◌, IfOk, OnOk};
-ghost use Rattle.nfs_server.specs.Forms.{HasForm, RefusalHasForm};
-ghost use Rattle.nfs_server.specs.Served.{answer_bytes};
+ghost use Rattle.nfs_engine.specs.Forms.{HasForm, RefusalHasForm};
+ghost use Rattle.nfs_engine.specs.Answers.{answer_bytes};
 ghost use Rattle.nfs_machine.specs.RpcReplies.{failure_message, fault_message, refusal_message, results_of};
 ghost use Rattle.nfs_machine.specs.RpcReplies.{success_message};
 
@@ -16,7 +16,7 @@ use std::alloc::{AllocError, Global};
 const CAPACITY: usize = 256;
 
 /// A call that was carried out is answered by its results.
-pub(crate) fn success(alloc: Global, xid: u32, reply: &Reply) -> Result<Vec<u8>, AllocError>
+pub fn success(alloc: Global, xid: u32, reply: &Reply) -> Result<Vec<u8>, AllocError>
     requires { HasForm reply.now }
     ensures { IfOk result (λ bytes. bytes.items ≡ success_message xid reply.now) }
 {
@@ -34,7 +34,7 @@ fn write_success(alloc: Global, xid: u32, reply: &Reply) -> Result<Vec<u8>, XdrE
 }
 
 /// A call that was not carried out is answered by its fault.
-pub(crate) fn failure(alloc: Global, xid: u32, fault: Fault) -> Result<Vec<u8>, AllocError>
+pub fn failure(alloc: Global, xid: u32, fault: Fault) -> Result<Vec<u8>, AllocError>
     ensures { IfOk result (λ bytes. bytes.items ≡ failure_message xid fault) }
 {
     let mut writer = start_record(alloc, CAPACITY).map_err(|_| AllocError)?;
@@ -43,7 +43,7 @@ pub(crate) fn failure(alloc: Global, xid: u32, fault: Fault) -> Result<Vec<u8>, 
 }
 
 /// A record with a fault is answered by it, or dropped.
-pub(crate) fn early(alloc: Global, early: Early) -> Result<Option<Vec<u8>>, AllocError>
+pub fn early(alloc: Global, early: Early) -> Result<Option<Vec<u8>>, AllocError>
     ensures { IfOk result (λ answer. answer_bytes answer ≡ fault_message early) }
 {
     match early {
@@ -53,7 +53,7 @@ pub(crate) fn early(alloc: Global, early: Early) -> Result<Option<Vec<u8>>, Allo
 }
 
 /// A call that there was no memory for is answered by its refusal.
-pub(crate) fn refuse(alloc: Global, xid: u32, refusal: &Refusal) -> Result<Vec<u8>, AllocError>
+pub fn refuse(alloc: Global, xid: u32, refusal: &Refusal) -> Result<Vec<u8>, AllocError>
     requires { RefusalHasForm refusal.now }
     ensures { IfOk result (λ bytes. bytes.items ≡ refusal_message xid refusal.now) }
 {

@@ -10,7 +10,7 @@ use Rattle.side_wire.specs.declared.mount.MountStatus.{MountStatus}
 use Rattle.side_wire.specs.declared.mount.MountStatus.TheVariants as mount_status
 use Rattle.nfs_machine.specs.declared.calls.Reply.{Reply}
 use Rattle.nfs_machine.specs.declared.calls.Reply.TheVariants as replies
-use Rattle.nfs_server.specs.Forms.{HasForm}
+use Rattle.nfs_engine.specs.Forms.{HasForm}
 use Rattle.nfs_machine.specs.RpcReplies.{results_of}
 
 pub mount_refused_size : (s : MountStatus) → length (mount_result_bytes (mount.Mnt (Err s))) ≤ 1000

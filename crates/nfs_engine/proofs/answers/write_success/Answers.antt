@@ -1,5 +1,5 @@
-use Rattle.nfs_server.proofs.Sizes.{answer_size}
-use Rattle.nfs_server.proofs.answers.write_success.Goals as goal
+use Rattle.nfs_engine.proofs.Sizes.{answer_size}
+use Rattle.nfs_engine.proofs.answers.write_success.Goals as goal
 
 pub finish_record-requires-clause-size : goal.finish_record-requires-clause-size
 finish_record-requires-clause-size c =

@@ -1,5 +1,5 @@
-use Rattle.nfs_server.proofs.Garbage.{garbage_early}
-use Rattle.nfs_server.proofs.asking.read_record.Goals as goal
+use Rattle.nfs_engine.proofs.Garbage.{garbage_early}
+use Rattle.nfs_engine.proofs.asking.read_record.Goals as goal
 
 pub returns-in-Err-Garbage : goal.returns-in-Err-Garbage
 returns-in-Err-Garbage c = garbage_early _ _ c.in-Ok.ensures (rw c.in-Err-Garbage.field-0-is at c.in-Err-Garbage.ensures)

@@ -1,6 +1,6 @@
 //! What a record asks.
 
-ghost use Rattle.nfs_server.specs.Asked.{ReadsArguments, ReadsRecord};
+ghost use Rattle.nfs_engine.specs.Asked.{ReadsArguments, ReadsRecord};
 
 use nfs_machine::Call;
 use nfs_rpc::{Early, Fault, Ids, Program, Record, read_call};
@@ -9,7 +9,7 @@ use side_wire::{mount, nlm};
 
 /// A call that came in.
 #[derive(Drop)]
-pub(crate) struct Asked {
+pub struct Asked {
     pub xid: u32,
     pub ids: Ids,
     pub call: Call,
@@ -17,7 +17,7 @@ pub(crate) struct Asked {
 
 /// Why a record asks nothing that can be executed.
 #[derive(Clone, Copy)]
-pub(crate) enum Unasked {
+pub enum Unasked {
     /// It has a fault.
     Early(Early),
     /// There is no memory to share its arguments' bytes.
@@ -25,7 +25,7 @@ pub(crate) enum Unasked {
 }
 
 /// Reads the call that a record is, or its first fault.
-pub(crate) fn read_record(message: &Record) -> Result<Asked, Unasked>
+pub fn read_record(message: &Record) -> Result<Asked, Unasked>
     ensures { ReadsRecord message.now result }
 {
     let header = match read_call(message) {

@@ -1,7 +1,7 @@
 //! The host that calls.
 
 ghost use Rattle.std.specs.Prelude.{◌≡◌, SomeIff};
-ghost use Rattle.nfs_server.specs.Hosts.{IsHost};
+ghost use Rattle.nfs_engine.specs.Hosts.{IsHost};
 
 use bytes::Bytes;
 use std::marker::Model;
@@ -17,7 +17,7 @@ pub struct Host {
 
 impl Model for Host {
     ghost use Rattle.std.specs.Prelude.{ℕ, List};
-    ghost use Rattle.nfs_server.specs.Hosts.{IsHost};
+    ghost use Rattle.nfs_engine.specs.Hosts.{IsHost};
 
     ghost Value = { List ℕ };
 

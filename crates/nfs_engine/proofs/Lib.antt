@@ -1,0 +1,5 @@
+pub mod Bounds
+pub mod Built
+pub mod Formed
+pub mod Garbage
+pub mod Sizes
