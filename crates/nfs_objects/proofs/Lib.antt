@@ -2,6 +2,7 @@ pub mod Bounded
 pub mod Compared
 pub mod Drafted
 pub mod ExportTables
+pub mod Exported
 pub mod Grouped
 pub mod Knows
 pub mod Listed

@@ -9,11 +9,12 @@ use Rattle.std.specs.FinMap.{FinMap, get, remove}
 use Rattle.std.specs.Ordering.{nat_cmp}
 use Rattle.nfs_machine.specs.Attributes.{size_of, used_of}
 use Rattle.nfs_machine.specs.State.{Living, State}
+use Rattle.nfs_objects.proofs.Exported.{exported-there, living-stands}
 use Rattle.nfs_objects.proofs.Tallies.{part, same-without, split-total, total, total-bound}
 use Rattle.nfs_objects.specs.Edits.{counted_anew}
 use Rattle.nfs_objects.specs.Knows.{Possible, Turns}
 use Rattle.nfs_objects.specs.Sound.{Sound}
-use Rattle.nfs_objects.specs.Stands.{Kept, Represents, living_of, living_of_inode}
+use Rattle.nfs_objects.specs.Stands.{Kept, Represents}
 use Rattle.nfs_objects.specs.Store.{Store}
 use Rattle.nfs_objects.specs.Sums.{exchanged, group_of, is_counted, is_none, is_same_usage, moved, no_usage}
 use Rattle.nfs_objects.specs.Sums.{one_using, shares_of, stored_usage, usage_in}
@@ -29,17 +30,10 @@ abbrev pub AllFit : State → Type 0
 AllFit m = (n : ℕ) (o : Living) → get m.objects n ≡ Some o → (n < 2 ^ 64) × (size_of o.content < 2 ^ 63)
 
 pub all-fit : (s : Store) (k : Kept) → Represents s k → AllFit k.state
-all-fit s k stands n o at = by (s.at (addresses.Inode n)) refl (sym (stands.objects n) ∙ at)
-  where
-    by : (there : Option Object) → s.at (addresses.Inode n) ≡ there → living_of there ≡ Some o →
-        (n < 2 ^ 64) × (size_of o.content < 2 ^ 63)
-    by None is lives = cc
-    by (Some (objects.Exports table)) is lives = cc
-    by (Some (objects.Mounts table)) is lives = cc
-    by (Some (objects.Usage u)) is lives = cc
-    by (Some (objects.Inode i)) is lives =
-        let same : living_of_inode i ≡ o = cc in
-        subst (λ (x : Living). (n < 2 ^ 64) × (size_of x.content < 2 ^ 63)) same (stands.fits n i is)
+all-fit s k stands n o at =
+    let found = living-stands k.state.exports (s.at (addresses.Inode n)) o (sym (stands.objects n) ∙ at) in
+    subst (λ (x : Living). (n < 2 ^ 64) × (size_of x.content < 2 ^ 63)) found.is
+    (stands.fits n found.inode found.there.stands)
 
 -- so after a change too
 pub turned-fit : (old new : DraftValue) (op : Kept → Kept) → Turns old new op → (s : Store) (k : Kept) →
@@ -210,7 +204,8 @@ module _ (k new : Kept) (n : ℕ)
 pub usage-lives : (s : Store) (k : Kept) (n : ℕ) (o : Living) → Represents s k → Sound k →
     get k.state.objects n ≡ Some o → IsSome (s.at (addresses.Usage o.export (group_of n)))
 usage-lives s k n o stands sound at =
-    subst (λ (x : Option Object). IsSome x) (sym (stands.usage o.export (group_of n)))
+    subst (λ (x : Option Object). IsSome x)
+    (sym (stands.usage o.export (group_of n) (exported-there s k n o stands at)))
     (some (k.usage o.export (group_of n)) one)
   where
     itself : (q : ℕ) → (q == q) ≡ true

@@ -13,15 +13,16 @@ use Rattle.side_wire.specs.declared.mount.lists.MountBody.{MountBody}
 use Rattle.nfs_machine.proofs.Changes.{differs-remove}
 use Rattle.nfs_machine.proofs.FileMaps.{grants-none, no-list}
 use Rattle.nfs_machine.proofs.Sums.{get-inserted}
+use Rattle.nfs_machine.specs.Exports.{LivingExport}
 use Rattle.nfs_machine.specs.FileLists.{grants_but}
 use Rattle.nfs_machine.specs.State.{Living, PendingGrant}
+use Rattle.nfs_objects.proofs.Exported.{inode-lives}
 use Rattle.nfs_objects.proofs.Seen.{known-stands, writes-append}
 use Rattle.nfs_objects.specs.Edits.{edited, freed, recounted, set_at, with_living, with_mounts, with_new}
 use Rattle.nfs_objects.specs.Fits.{Fits}
-use Rattle.nfs_objects.specs.Knows.{Turns}
-use Rattle.nfs_objects.specs.Stands.{IsFitting, Kept, Represents, inode_of, links_kept, living_of}
-use Rattle.nfs_objects.specs.Stands.{living_of_inode, parent_in}
-use Rattle.nfs_objects.specs.Stands.{parent_kept}
+use Rattle.nfs_objects.specs.Knows.{ShowsExport, Turns}
+use Rattle.nfs_objects.specs.Stands.{IsFitting, Kept, Represents, inode_in, links_kept, lives_in, living_in}
+use Rattle.nfs_objects.specs.Stands.{living_of_inode, parent_in, parent_kept}
 use Rattle.nfs_objects.specs.Store.{Store, give, put_at, with_write, with_writes}
 use Rattle.nfs_objects.specs.Sums.{exchanged, exchanged_at, group_of, in_export, is_none, is_same_usage}
 use Rattle.nfs_objects.specs.Sums.{moved, no_usage, stored_usage, usage_of}
@@ -34,26 +35,40 @@ use Rattle.nfs_objects.specs.declared.object.Object.TheVariants as objects
 use Rattle.nfs_objects.specs.declared.usage.Usage.{Usage}
 
 -- what stands where an inode was put
-lives-put : (at : Addr → Option Object) (living : FinMap nat_cmp Living) (number : ℕ) (i : Inode) →
-    ((n : ℕ) → get living n ≡ living_of (at (addresses.Inode n)))
-    → (n : ℕ) → get (insert living number (living_of_inode i)) n ≡ living_of
+lives-put : (exports : List LivingExport) (at : Addr → Option Object) (living : FinMap nat_cmp Living) (number : ℕ)
+    (i : Inode) → lives_in exports i.export ≡ true
+    → ((n : ℕ) → get living n ≡ living_in exports (at (addresses.Inode n)))
+    → (n : ℕ) → get (insert living number (living_of_inode i)) n ≡ living_in exports
     (put_at at (addresses.Inode number) (Some (objects.Inode i)) (addresses.Inode n))
-lives-put at living number i stands n =
+lives-put exports at living number i lives stands n =
     get-inserted living number (living_of_inode i) n
     ∙ ap (λ b. cond b (Some (living_of_inode i)) (get living n)) (nat_eq_equiv.symm n number)
-    ∙ elim (number == n) as (λ b. cond b (Some (living_of_inode i)) (get living n) ≡ living_of
+    ∙ elim (number == n) as (λ b. cond b (Some (living_of_inode i)) (get living n) ≡ living_in exports
     (cond b (Some (objects.Inode i)) (at (addresses.Inode n)))) [
-      | true ↦ refl
+      | true ↦ sym (ap (option_map living_of_inode) (inode-lives exports i lives))
       | false ↦ stands n
     ]
 
 -- a function of what stands at each number, after a write at one
 kept-put : (f : Option Object → ℕ) (at : Addr → Option Object) (kept : ℕ → ℕ) (number : ℕ)
-    (o : Option Object) → ((n : ℕ) → kept n ≡ f (at (addresses.Inode n)))
-    → (n : ℕ) → set_at kept number (f o) n ≡ f (put_at at (addresses.Inode number) o (addresses.Inode n))
-kept-put f at kept number o was n =
-    elim (number == n) as (λ b. cond b (f o) (kept n) ≡ f (cond b o (at (addresses.Inode n))))
-    [ true ↦ refl | false ↦ was n ]
+    (o : Option Object) (value : ℕ) → f o ≡ value → ((n : ℕ) → kept n ≡ f (at (addresses.Inode n)))
+    → (n : ℕ) → set_at kept number value n ≡ f (put_at at (addresses.Inode number) o (addresses.Inode n))
+kept-put f at kept number o value is was n =
+    elim (number == n) as (λ b. cond b value (kept n) ≡ f (cond b o (at (addresses.Inode n))))
+    [ true ↦ sym is | false ↦ was n ]
+
+-- what an inode keeps, where its export lives
+module _ (k : Kept) (s : Store) (n : ℕ) (i : Inode) (lives : lives_in k.state.exports i.export ≡ true)
+    (stands : Represents s k) where
+  links-put : (q : ℕ) → set_at k.links n i.links q ≡ links_kept
+      (inode_in k.state.exports (put_at s.at (addresses.Inode n) (Some (objects.Inode i)) (addresses.Inode q)))
+  links-put = kept-put (λ o. links_kept (inode_in k.state.exports o)) s.at k.links n (Some (objects.Inode i)) i.links
+      (ap links_kept (inode-lives k.state.exports i lives)) stands.links
+
+  parents-put : (q : ℕ) → set_at k.parents n (parent_in i.content) q ≡ parent_kept
+      (inode_in k.state.exports (put_at s.at (addresses.Inode n) (Some (objects.Inode i)) (addresses.Inode q)))
+  parents-put = kept-put (λ o. parent_kept (inode_in k.state.exports o)) s.at k.parents n (Some (objects.Inode i))
+      (parent_in i.content) (ap parent_kept (inode-lives k.state.exports i lives)) stands.parents
 
 -- the generation of what stands somewhere is among those given
 given-put : (s : Store) (number : ℕ) (new : Inode) (last : ℕ → ℕ) →
@@ -96,15 +111,16 @@ fits-put at number new fits here n i is =
     ] refl is
 
 pub put-stands : (s : Store) (k : Kept) (n : ℕ) (i : Inode) → Represents s k → i.generation ≤ s.last n
-    → IsFitting n i
+    → IsFitting n i → lives_in k.state.exports i.export ≡ true
     → Represents (with_write s (addresses.Inode n) (Some (objects.Inode i)))
     (with_living k n (living_of_inode i) i.links (parent_in i.content))
-put-stands s k n i stands within fits = record {
+put-stands s k n i stands within fits lives = record {
+  table = stands.table;
   exports = stands.exports;
   last_export = stands.last_export;
-  objects = lives-put s.at k.state.objects n i stands.objects;
-  links = kept-put (λ o. links_kept (inode_of o)) s.at k.links n (Some (objects.Inode i)) stands.links;
-  parents = kept-put (λ o. parent_kept (inode_of o)) s.at k.parents n (Some (objects.Inode i)) stands.parents;
+  objects = lives-put k.state.exports s.at k.state.objects n i lives stands.objects;
+  links = links-put k s n i lives stands;
+  parents = parents-put k s n i lives stands;
   given = given-put s n i (give s.last (addresses.Inode n) (Some (objects.Inode i))) stands.given
       (λ q. (let e = last-kept s.last n i.generation q within in omega (arith, e)))
       (let e = last-kept s.last n i.generation n within in omega (arith, e, within));
@@ -130,13 +146,14 @@ none-removed {X = X} n lists none = ap (λ (m : FinMap nat_cmp (List X)). remove
 pub free-stands : (s : Store) (k : Kept) (n : ℕ) → Represents s k →
     Represents (with_write s (addresses.Inode n) None) (freed k n)
 free-stands s k n stands = record {
+  table = stands.table;
   exports = stands.exports;
   last_export = stands.last_export;
   objects = λ q. get-removed k.state.objects n q
-      ∙ elim (n == q) as (λ b. cond b None (get k.state.objects q) ≡ living_of
+      ∙ elim (n == q) as (λ b. cond b None (get k.state.objects q) ≡ living_in k.state.exports
       (cond b None (s.at (addresses.Inode q)))) [ true ↦ refl | false ↦ stands.objects q ];
-  links = kept-put (λ o. links_kept (inode_of o)) s.at k.links n None stands.links;
-  parents = kept-put (λ o. parent_kept (inode_of o)) s.at k.parents n None stands.parents;
+  links = kept-put (λ o. links_kept (inode_in k.state.exports o)) s.at k.links n None 0 refl stands.links;
+  parents = kept-put (λ o. parent_kept (inode_in k.state.exports o)) s.at k.parents n None 0 refl stands.parents;
   given = λ q i at. elim (n == q) as (λ b. cond b None (s.at (addresses.Inode q)) ≡ Some (objects.Inode i) →
       i.generation ≤ s.last q) [ true ↦ λ e. cc | false ↦ λ e. stands.given q i e ] at;
   fits = λ q i at. elim (n == q) as (λ b. cond b None (s.at (addresses.Inode q)) ≡ Some (objects.Inode i) →
@@ -169,14 +186,16 @@ below_max g a b = elim (leb_tells g a) [
     max-lt x y z h k = omega (arith, h, k)
 
 pub new-stands : (s : Store) (k : Kept) (n : ℕ) (i : Inode) → Represents s k → IsFitting n i
+    → lives_in k.state.exports i.export ≡ true
     → Represents (with_write s (addresses.Inode n) (Some (objects.Inode i)))
     (with_new k n (living_of_inode i) i.links (parent_in i.content))
-new-stands s k n i stands fits = record {
+new-stands s k n i stands fits lives = record {
+  table = stands.table;
   exports = stands.exports;
   last_export = stands.last_export;
-  objects = lives-put s.at k.state.objects n i stands.objects;
-  links = kept-put (λ o. links_kept (inode_of o)) s.at k.links n (Some (objects.Inode i)) stands.links;
-  parents = kept-put (λ o. parent_kept (inode_of o)) s.at k.parents n (Some (objects.Inode i)) stands.parents;
+  objects = lives-put k.state.exports s.at k.state.objects n i lives stands.objects;
+  links = links-put k s n i lives stands;
+  parents = parents-put k s n i lives stands;
   given = given-put s n i (give s.last (addresses.Inode n) (Some (objects.Inode i))) stands.given
       (λ q. more q)
       (subst (λ b. i.generation ≤ cond b (max (s.last n) i.generation) (s.last n))
@@ -207,6 +226,7 @@ new-stands s k n i stands fits = record {
 pub mounts-stand : (s : Store) (k : Kept) (table : List MountBody) → Represents s k
     → Represents (with_write s addresses.Mounts (Some (objects.Mounts table))) (with_mounts k table)
 mounts-stand s k table stands = record {
+  table = stands.table;
   exports = stands.exports;
   last_export = stands.last_export;
   objects = stands.objects;
@@ -237,42 +257,45 @@ usage-stored u =
     ] refl
 
 -- what a group's objects use
-module _ (s : Store) (k : Kept) (e n : ℕ) (before after : Usage) where
+module _ (s : Store) (k : Kept) (e n : ℕ) (before after written : Usage)
+    (is : lives_in k.state.exports e ≡ true → written ≡ exchanged before after (k.usage e (group_of n)))
+    (stands : Represents s k) where
   abbrev share : Usage → ℕ → Usage
   share u = in_export e u
-
-  abbrev written : Usage
-  written = exchanged before after (k.usage e (group_of n))
 
   abbrev now : Kept
   now = recounted n (share before) (share after) k
 
-  usage-put : ((p q : ℕ) → s.at (addresses.Usage p q) ≡ stored_usage (k.usage p q)) → (p q : ℕ)
+  usage-put : (p q : ℕ) → lives_in k.state.exports p ≡ true
       → put_at s.at (addresses.Usage e (group_of n)) (stored_usage written) (addresses.Usage p q) ≡
       stored_usage (now.usage p q)
-  usage-put stands p q =
+  usage-put p q lives =
       elim (group_of n == q) as (λ b. (group_of n == q) ≡ b →
       cond ((e == p) && b) (stored_usage written) (s.at (addresses.Usage p q))
       ≡ stored_usage (cond b (exchanged (share before p) (share after p) (k.usage p q)) (k.usage p q))) [
         | true ↦ λ group. elim (e == p) as (λ b. (e == p) ≡ b →
             cond (b && true) (stored_usage written) (s.at (addresses.Usage p q))
             ≡ stored_usage (exchanged (cond b before no_usage) (cond b after no_usage) (k.usage p q))) [
-              | true ↦ λ export. ap (λ u. stored_usage (exchanged before after u))
-                  (ap (λ x. k.usage x (group_of n)) ((unsigned_Decides e p).0 export)
+              | true ↦ λ export.
+                  let same : e ≡ p = (unsigned_Decides e p).0 export in
+                  ap stored_usage (is (ap (lives_in k.state.exports) same ∙ lives))
+                  ∙ ap (λ u. stored_usage (exchanged before after u))
+                  (ap (λ x. k.usage x (group_of n)) same
                   ∙ ap (k.usage p) ((unsigned_Decides (group_of n) q).0 group))
-              | false ↦ λ export. stands p q
+              | false ↦ λ export. stands.usage p q lives
             ] refl
         | false ↦ λ group.
-            ap (λ b. cond b (stored_usage written) (s.at (addresses.Usage p q))) (and-false (e == p)) ∙ stands p q
+            ap (λ b. cond b (stored_usage written) (s.at (addresses.Usage p q))) (and-false (e == p))
+            ∙ stands.usage p q lives
       ] refl
     where
       and-false : (b : Bool) → (b && false) ≡ false
       and-false true = refl
       and-false false = refl
 
-  pub usage-stands : Represents s k →
-      Represents (with_write s (addresses.Usage e (group_of n)) (stored_usage written)) now
-  usage-stands stands = record {
+  pub usage-stands : Represents (with_write s (addresses.Usage e (group_of n)) (stored_usage written)) now
+  usage-stands = record {
+    table = stands.table;
     exports = stands.exports;
     last_export = stands.last_export;
     objects = stands.objects;
@@ -280,7 +303,7 @@ module _ (s : Store) (k : Kept) (e n : ℕ) (before after : Usage) where
     parents = stands.parents;
     given = stands.given;
     fits = stands.fits;
-    usage = usage-put stands.usage;
+    usage = usage-put;
     mounts = stands.mounts;
     spent = stands.spent;
     no_locks = stands.no_locks;
@@ -311,10 +334,11 @@ module _ (d : DraftValue) where
       turns-written addresses.Mounts (Some (objects.Mounts table)) (λ k. with_mounts k table)
       (λ s k fits stands. mounts-stand (with_writes s d.writes) k table stands)
 
-  -- what stands for a group is what is known of it
+  -- what stands for a group of a living export is what is known of it
   pub usage-known : (e g : ℕ) (u : Usage) → option_map usage_of (known_at d (addresses.Usage e g)) ≡ Some u
-      → (s : Store) (k : Kept) → Fits d.view s → Represents (with_writes s d.writes) k → k.usage e g ≡ u
-  usage-known e g u known s k fits stands =
+      → (s : Store) (k : Kept) → Fits d.view s → Represents (with_writes s d.writes) k
+      → lives_in k.state.exports e ≡ true → k.usage e g ≡ u
+  usage-known e g u known s k fits stands lives =
       by (known_at d (addresses.Usage e g)) refl known
     where
       by : (o : Option (Option Object)) → known_at d (addresses.Usage e g) ≡ o →
@@ -322,7 +346,7 @@ module _ (d : DraftValue) where
       by None is found = cc
       by (Some o) is found =
           let there : o ≡ stored_usage (k.usage e g) =
-          sym (known-stands d s (addresses.Usage e g) o fits is) ∙ stands.usage e g in
+          sym (known-stands d s (addresses.Usage e g) o fits is) ∙ stands.usage e g lives in
           let here : usage_of o ≡ u = cc in
           sym (usage-stored (k.usage e g)) ∙ ap usage_of (sym there) ∙ here
 
@@ -334,13 +358,9 @@ module _ (d : DraftValue) where
   usage-turns e n before after u other known =
       turns-written (addresses.Usage e (group_of n)) (stored_usage (moved before after u))
       (λ k. recounted n (in_export e before) (in_export e after) k) (λ s k fits stands.
-      let is : exchanged before after (k.usage e (group_of n)) ≡ moved before after u =
-      ap (λ b. cond b (k.usage e (group_of n)) (moved before after (k.usage e (group_of n)))) other
-      ∙ ap (moved before after) (usage-known e (group_of n) u known s k fits stands) in
-      subst (λ (v : Usage). Represents
-      (with_write (with_writes s d.writes) (addresses.Usage e (group_of n)) (stored_usage v))
-      (recounted n (in_export e before) (in_export e after) k)) is
-      (usage-stands (with_writes s d.writes) k e n before after stands))
+      usage-stands (with_writes s d.writes) k e n before after (moved before after u)
+      (λ lives. sym (ap (λ b. cond b (k.usage e (group_of n)) (moved before after (k.usage e (group_of n)))) other
+      ∙ ap (moved before after) (usage-known e (group_of n) u known s k fits stands lives))) stands)
 
   -- shares that are the same change nothing
   pub same-turns : (e n : ℕ) (before after : Usage) → is_same_usage before after ≡ true
@@ -380,21 +400,25 @@ module _ (d : DraftValue) (n : ℕ) where
       Represents (with_write (with_writes s d.writes) (addresses.Inode n) o) (op k)) → Turns d (next o) op
   turns-next = turns-written d (addresses.Inode n)
 
-  -- one inode in the place of another, of the same generation and with the same parent
+  -- one inode in the place of another, of the same living export, the same generation and with the same parent
   pub edit-turns : (i j : Inode) (object : Living → Living) (links : ℕ → ℕ) →
-      known_at d (addresses.Inode n) ≡ Some (Some (objects.Inode i))
-      → living_of_inode j ≡ object (living_of_inode i) → j.links ≡ links i.links →
+      known_at d (addresses.Inode n) ≡ Some (Some (objects.Inode i)) → ShowsExport d i.export
+      → j.export ≡ i.export → living_of_inode j ≡ object (living_of_inode i) → j.links ≡ links i.links →
       parent_in j.content ≡ parent_in i.content → j.generation ≡ i.generation → IsFitting n j
       → Turns d (next (Some (objects.Inode j))) (λ k. edited k n object links)
-  edit-turns i j object links known is linked under generation fitting = turns-next (Some (objects.Inode j))
-      (λ k. edited k n object links) (λ s k fits stands.
+  edit-turns i j object links known live exported is linked under generation fitting =
+      turns-next (Some (objects.Inode j)) (λ k. edited k n object links) (λ s k fits stands.
       let at : (with_writes s d.writes).at (addresses.Inode n) ≡ Some (objects.Inode i) =
       known-stands d s (addresses.Inode n) (Some (objects.Inode i)) fits known in
-      let lives : get k.state.objects n ≡ Some (living_of_inode i) = stands.objects n ∙ ap living_of at in
-      let counted : k.links n ≡ i.links = stands.links n ∙ ap (λ o. links_kept (inode_of o)) at in
-      let below : k.parents n ≡ parent_in i.content = stands.parents n ∙ ap (λ o. parent_kept (inode_of o)) at in
+      let there : inode_in k.state.exports ((with_writes s d.writes).at (addresses.Inode n)) ≡ Some i =
+      ap (inode_in k.state.exports) at ∙ inode-lives k.state.exports i (live s k fits stands) in
+      let lives : get k.state.objects n ≡ Some (living_of_inode i) =
+      stands.objects n ∙ ap (option_map living_of_inode) there in
+      let counted : k.links n ≡ i.links = stands.links n ∙ ap links_kept there in
+      let below : k.parents n ≡ parent_in i.content = stands.parents n ∙ ap parent_kept there in
       let put = put-stands (with_writes s d.writes) k n j stands
-      (subst (λ g. g ≤ (with_writes s d.writes).last n) (sym generation) (stands.given n i at)) fitting in
+      (subst (λ g. g ≤ (with_writes s d.writes).last n) (sym generation) (stands.given n i at)) fitting
+      (ap (lives_in k.state.exports) exported ∙ live s k fits stands) in
       let same : edited k n object links ≡ with_living k n (living_of_inode j) j.links (parent_in j.content) =
       ap
       (λ (o : Option Living). elim o [
@@ -412,8 +436,19 @@ module _ (d : DraftValue) (n : ℕ) where
   pub free-turns : Turns d (next None) (λ k. freed k n)
   free-turns = turns-next None (λ k. freed k n) (λ s k fits stands. free-stands (with_writes s d.writes) k n stands)
 
-  pub new-turns : (i : Inode) → IsFitting n i → Turns d (next (Some (objects.Inode i)))
-      (λ k. with_new k n (living_of_inode i) i.links (parent_in i.content))
-  new-turns i fitting = turns-next (Some (objects.Inode i))
-      (λ k. with_new k n (living_of_inode i) i.links (parent_in i.content))
-      (λ s k fits stands. new-stands (with_writes s d.writes) k n i stands fitting)
+  -- a new inode, once the draft was changed so; the exports stayed, and its own lived before
+  pub new-turns : (old : DraftValue) (f : Kept → Kept) → Turns old d f → ((k : Kept) →
+      (f k).state.exports ≡ k.state.exports) → (i : Inode) → IsFitting n i → ShowsExport old i.export
+      → Turns old (next (Some (objects.Inode i)))
+      (λ k. with_new (f k) n (living_of_inode i) i.links (parent_in i.content))
+  new-turns old f turns stay i fitting live = record {
+    ctx = turns.ctx;
+    view = turns.view;
+    modes = turns.modes;
+    messages = turns.messages;
+    turns = λ s k fits stands.
+        subst (λ (x : Store). Represents x (with_new (f k) n (living_of_inode i) i.links (parent_in i.content)))
+        (sym (writes-append d.writes s (addresses.Inode n) (Some (objects.Inode i))))
+        (new-stands (with_writes s d.writes) (f k) n i (turns.turns s k fits stands) fitting
+        (ap (λ es. lives_in es i.export) (stay k) ∙ live s k fits stands));
+  }

@@ -1,5 +1,5 @@
 -- What a draft knows of the state, what it may halt with, and what a change of it does to the state.
-use Rattle.std.specs.Prelude.{◌≡◌, List, [], Result, Ok, Err}
+use Rattle.std.specs.Prelude.{◌≡◌, ℕ, true, List, [], Result, Ok, Err}
 use Rattle.nfs_wire.specs.declared.status.NfsStatus.{NfsStatus}
 use Rattle.nfs_machine.specs.Answers.{state_after}
 use Rattle.nfs_machine.specs.State.{State}
@@ -7,7 +7,7 @@ use Rattle.nfs_machine.specs.WellFormed.{WellFormed}
 use Rattle.nfs_objects.specs.Asks.{Asks}
 use Rattle.nfs_objects.specs.Fits.{Fits}
 use Rattle.nfs_objects.specs.Sound.{Sound}
-use Rattle.nfs_objects.specs.Stands.{Kept, Represents}
+use Rattle.nfs_objects.specs.Stands.{Kept, Represents, lives_in}
 use Rattle.nfs_objects.specs.Store.{Store, with_writes}
 use Rattle.nfs_objects.specs.Values.{DraftValue}
 use Rattle.nfs_objects.specs.declared.address.Addr.{Addr}
@@ -23,6 +23,14 @@ pub record Possible (d : DraftValue) (s : Store) (k : Kept) : Type 0 where
 -- a fact of the state, which is true whatever the store
 abbrev pub Knows : DraftValue → (Kept → Type 0) → Type 0
 Knows d fact = (s : Store) (k : Kept) → Possible d s k → fact k
+
+-- the same, whether what the store stands for is sound or not
+abbrev pub Shows : DraftValue → (Kept → Type 0) → Type 0
+Shows d fact = (s : Store) (k : Kept) → Fits d.view s → Represents (with_writes s d.writes) k → fact k
+
+-- the draft shows that the export with this number lives
+abbrev pub ShowsExport : DraftValue → (number : ℕ) → Type 0
+ShowsExport d number = Shows d (λ k. lives_in k.state.exports number ≡ true)
 
 -- why a call is not done: it asks, there is no memory, or a check failed, and then so
 abbrev pub Halts : DraftValue → (named : List Addr) → (refused : NfsStatus → Kept → Type 0) → Halt → Type 0

@@ -1,11 +1,11 @@
 -- The state that a store stands for.
-use Rattle.std.specs.Prelude.{◌≡◌, ◌<◌, ◌≤◌, ◌^◌, ℕ, false, List, [], Option, Some, None}
-use Rattle.std.specs.Prelude.{option_map, unwrap_or}
-use Rattle.std.specs.Prelude.{nat_le}
+use Rattle.std.specs.Prelude.{◌≡◌, ◌<◌, ◌≤◌, ◌^◌, ℕ, Bool, false, true, List, []}
+use Rattle.std.specs.Prelude.{Option, Some, None, IsSome, is_some, option_map, unwrap_or}
+use Rattle.std.specs.Prelude.{nat_le, if◌then◌else◌}
 use Rattle.std.specs.FinMap.{empty, get}
 use Rattle.nfs_wire.specs.declared.calls.Verifier.{Verifier}
 use Rattle.nfs_machine.specs.Attributes.{size_of}
-use Rattle.nfs_machine.specs.Exports.{LivingExport}
+use Rattle.nfs_machine.specs.Exports.{LivingExport, export_at}
 use Rattle.nfs_machine.specs.State.{Living, State}
 use Rattle.nfs_machine.specs.State as machine
 use Rattle.nfs_objects.specs.declared.address.Addr.TheVariants as addresses
@@ -54,9 +54,17 @@ abbrev pub inode_of : Option Object → Option Inode
 inode_of (Some (stored.Inode i)) = Some i
 inode_of o = None
 
+-- whether the export with this number lives
+abbrev pub lives_in : List LivingExport → ℕ → Bool
+lives_in exports number = is_some (export_at exports number)
+
+-- the inode that stands there, if its export lives: what belongs to no living export stands for nothing
+abbrev pub inode_in : List LivingExport → Option Object → Option Inode
+inode_in exports o = elim (inode_of o) [ None ↦ None | Some i ↦ if lives_in exports i.export then Some i else None ]
+
 -- what lives where this stands
-abbrev pub living_of : Option Object → Option Living
-living_of o = option_map living_of_inode (inode_of o)
+abbrev pub living_in : List LivingExport → Option Object → Option Living
+living_in exports o = option_map living_of_inode (inode_in exports o)
 
 -- the table of mounts that stands there
 abbrev pub table_of : Option Object → Option (List MountBody)
@@ -104,18 +112,20 @@ parent_kept (Some i) = parent_in i.content
 abbrev pub IsFitting : ℕ → Inode → Type 0
 IsFitting number i = (number < 2 ^ 64) × (size_of (content_of i.content) < 2 ^ 63)
 
--- The store stands for this: it has the table of exports and that of mounts, what is at each number lives, with its
--- links and its parent, and each group's usage stands for it, but for that of no object; and spent are the generations
--- of each number up to the last, that of what lives among them.
+-- The store stands for this: it has a table of exports, and that of mounts. What is at each number lives if its export
+-- does, with its links and its parent, and of each living export each group's usage stands for it, but for that of no
+-- object. Spent are the generations of each number up to the last, that of what stands there among them.
 pub record Represents (s : Store) (k : Kept) : Type 0 where
+  pub table : IsSome (s.at addresses.Exports)
   pub exports : k.state.exports ≡ exports_of (s.at addresses.Exports)
   pub last_export : k.state.last_export ≡ (export_table_of (s.at addresses.Exports)).last
-  pub objects : (n : ℕ) → get k.state.objects n ≡ living_of (s.at (addresses.Inode n))
-  pub links : (n : ℕ) → k.links n ≡ links_kept (inode_of (s.at (addresses.Inode n)))
-  pub parents : (n : ℕ) → k.parents n ≡ parent_kept (inode_of (s.at (addresses.Inode n)))
+  pub objects : (n : ℕ) → get k.state.objects n ≡ living_in k.state.exports (s.at (addresses.Inode n))
+  pub links : (n : ℕ) → k.links n ≡ links_kept (inode_in k.state.exports (s.at (addresses.Inode n)))
+  pub parents : (n : ℕ) → k.parents n ≡ parent_kept (inode_in k.state.exports (s.at (addresses.Inode n)))
   pub given : (n : ℕ) (i : Inode) → s.at (addresses.Inode n) ≡ Some (stored.Inode i) → i.generation ≤ s.last n
   pub fits : (n : ℕ) (i : Inode) → s.at (addresses.Inode n) ≡ Some (stored.Inode i) → IsFitting n i
-  pub usage : (e g : ℕ) → s.at (addresses.Usage e g) ≡ stored_usage (k.usage e g)
+  pub usage : (e g : ℕ) → lives_in k.state.exports e ≡ true →
+      s.at (addresses.Usage e g) ≡ stored_usage (k.usage e g)
   pub mounts : k.state.mounts ≡ mounts_of (s.at addresses.Mounts)
   pub spent : (n g : ℕ) → k.state.spent n g ≡ nat_le g (s.last n)
   pub no_locks : k.state.locks ≡ empty
