@@ -18,6 +18,7 @@ use Rattle.nfs_machine.specs.RenameSteps as machine
 use Rattle.nfs_machine.specs.RenameSteps.{IsWithin, below}
 use Rattle.nfs_machine.specs.State.{Entry, Living, State}
 use Rattle.nfs_machine.specs.WellFormed.{IsParent, Leads, WellFormed, is_root}
+use Rattle.nfs_objects.proofs.Exported.{object-stands}
 use Rattle.nfs_objects.proofs.Seen.{is_addr-same}
 use Rattle.nfs_objects.specs.Asks.{Lives}
 use Rattle.nfs_objects.specs.Knows.{Knows, Possible}
@@ -26,7 +27,7 @@ use Rattle.nfs_objects.specs.Store.{Store, with_writes}
 use Rattle.nfs_objects.specs.Values.{DraftValue, Seen, is_addr, known_at, seen_at, shown_at, written_at}
 use Rattle.nfs_objects.specs.declared.address.Addr.{Addr}
 use Rattle.nfs_objects.specs.declared.address.Addr.TheVariants as addresses
-use Rattle.nfs_inodes.proofs.Standing.{directory-kind, kind-is, known-lives, some-stands}
+use Rattle.nfs_inodes.proofs.Standing.{directory-kind, kind-is, known-lives}
 use Rattle.nfs_inodes.specs.Known.{IsKnown, content_at}
 use Rattle.nfs_inodes.specs.declared.kinds.Directory.{Directory}
 
@@ -272,7 +273,7 @@ module _ (d : DraftValue) (upper : ℕ) (directory : Directory) (none : d.writes
             sound = sound;
           } in
           let p = parent-of s k w parent (is s k w) in
-          some-stands (s.at (addresses.Inode parent)) p.directory (sym (stands.objects parent) ∙ p.lives);
+          object-stands s k parent p.directory stands p.lives;
       directory = λ s k w. parent-kind k.state number parent (c.directory s k w) (parent-of s k w parent (is s k w));
       same = λ s k w formed.
           let o = living-directory (get k.state.objects number) (c.directory s k w) in

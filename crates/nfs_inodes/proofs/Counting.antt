@@ -13,7 +13,7 @@ use Rattle.nfs_machine.specs.State.{Living, State}
 use Rattle.nfs_machine.specs.WellFormed.{IsParent, WellFormed}
 use Rattle.nfs_machine.specs.declared.handle.Handle.{Handle}
 use Rattle.nfs_objects.proofs.Knows.{among-counted, among-next}
-use Rattle.nfs_objects.proofs.Seen.{known-stands, written-append}
+use Rattle.nfs_objects.proofs.Seen.{written-append}
 use Rattle.nfs_objects.proofs.Summed.{AllFit, counted-sums, stays-counted, usage-lives}
 use Rattle.nfs_objects.proofs.Turns.{same-turns, usage-turns}
 use Rattle.nfs_objects.specs.Calls.{objects_at}
@@ -21,7 +21,7 @@ use Rattle.nfs_objects.specs.Edits.{counted_anew, recounted}
 use Rattle.nfs_objects.specs.Fits.{Fits}
 use Rattle.nfs_objects.specs.Knows.{Possible, Turns}
 use Rattle.nfs_objects.specs.Sound.{Sound}
-use Rattle.nfs_objects.specs.Stands.{Kept, Represents, living_of, living_of_inode}
+use Rattle.nfs_objects.specs.Stands.{Kept, Represents, living_of_inode}
 use Rattle.nfs_objects.specs.Store.{Store, with_writes}
 use Rattle.nfs_objects.specs.Sums.{group_of, in_export, no_usage, shares_of, stored_usage, usage_of}
 use Rattle.nfs_objects.specs.Values.{DraftValue, known_at, with_written}
@@ -29,6 +29,7 @@ use Rattle.nfs_objects.specs.declared.address.Addr.TheVariants as addresses
 use Rattle.nfs_objects.specs.declared.object.Object.{Object}
 use Rattle.nfs_objects.specs.declared.object.Object.TheVariants as objects
 use Rattle.nfs_objects.specs.declared.usage.Usage.{Usage}
+use Rattle.nfs_inodes.proofs.Standing.{lives-there}
 use Rattle.nfs_inodes.specs.Counts.{IsCount, KeepsInodes}
 use Rattle.nfs_inodes.specs.Known.{is_handle_of}
 use Rattle.nfs_objects.specs.declared.change.Halt.{Halt}
@@ -49,7 +50,10 @@ on-ok (Err e) f p = tt
 -- ---- writes of usages
 keeps-inodes : (d : DraftValue) (export group : ℕ) (o : Option Object)
     → KeepsInodes d (with_written d (addresses.Usage export group) o)
-keeps-inodes d export group o n = written-append d.writes _ (addresses.Usage export group) o (addresses.Inode n)
+keeps-inodes d export group o = record {
+  inodes = λ n. written-append d.writes _ (addresses.Usage export group) o (addresses.Inode n);
+  exports = written-append d.writes _ (addresses.Usage export group) o addresses.Exports;
+}
 
 pub put-keeps : (d new : DraftValue) (export group : ℕ) (o : Option Object)
     → new ≡ with_written d (addresses.Usage export group) o
@@ -94,7 +98,7 @@ pub record LivedIn (m : State) (n export : ℕ) : Type 0 where
 module _ (old d : DraftValue) (none : old.writes ≡ []) (op : Kept → Kept) (turns : Turns old d op) (n : ℕ) where
   pub counted-lives : ((s : Store) (k : Kept) → Possible old s k → WellFormed k.state → (o : Living) →
       get (op k).state.objects n ≡ Some o → LivedIn k.state n o.export) → UsageLives d n
-  counted-lives lived i known s k fits stands sound formed =
+  counted-lives lived i has s k fits stands sound formed =
       let before : Fits old.view s = subst (λ v. Fits v s) turns.view fits in
       let w : Possible old s k = record {
         fits = before;
@@ -102,10 +106,8 @@ module _ (old d : DraftValue) (none : old.writes ≡ []) (op : Kept → Kept) (t
             (sym none) stands;
         sound = sound;
       } in
-      let at : (with_writes s d.writes).at (addresses.Inode n) ≡ Some (objects.Inode i) = known-stands d s
-      (addresses.Inode n) (Some (objects.Inode i)) fits known in
       let was = lived s k w formed (living_of_inode i)
-      ((turns.turns s k before w.stands).objects n ∙ ap living_of at) in
+      (lives-there d n (Some i) has s (op k) fits (turns.turns s k before w.stands)) in
       subst (λ e. IsSome (s.at (addresses.Usage e (group_of n)))) was.same
       (usage-lives s k n was.object stands sound was.lives)
 

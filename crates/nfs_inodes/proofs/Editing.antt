@@ -15,7 +15,7 @@ use Rattle.nfs_objects.specs.declared.address.Addr.TheVariants as addresses
 use Rattle.nfs_objects.specs.declared.object.Inode.{Inode}
 use Rattle.nfs_objects.specs.declared.object.Object.TheVariants as objects
 use Rattle.nfs_inodes.proofs.Putting.{known-inode, turns-as}
-use Rattle.nfs_inodes.proofs.Standing.{lives-there}
+use Rattle.nfs_inodes.proofs.Standing.{lives-there, shows-export}
 use Rattle.nfs_inodes.specs.Known.{HasInode}
 
 module _ (object : Living → Living) (links : ℕ → ℕ) where
@@ -34,12 +34,13 @@ module _ (object : Living → Living) (links : ℕ → ℕ) where
 
     pub edited-turns : (new : DraftValue) (i j : Inode) → HasInode d n (Some i) → living_of_inode j ≡ object
         (living_of_inode i) → j.links ≡ links i.links
-        → parent_in j.content ≡ parent_in i.content → j.generation ≡ i.generation →
+        → parent_in j.content ≡ parent_in i.content → j.generation ≡ i.generation → j.export ≡ i.export →
         new ≡ with_written d (addresses.Inode n) (Some (objects.Inode j)) → IsFitting n j
         → Turns d new (λ k. edited k n object links)
-    edited-turns new i j has is linked under generation put-is fits =
+    edited-turns new i j has is linked under generation exported put-is fits =
         subst (λ (x : DraftValue). Turns d x (λ k. edited k n object links)) (sym put-is)
-        (edit-turns d n i j object links (known-inode d n i has) is linked under generation fits)
+        (edit-turns d n i j object links (known-inode d n i has) (shows-export d n i has) exported is linked under
+        generation fits)
 
 -- an inode with so many links and another time of change, made of a copy
 pub linked-turns : (d new : DraftValue) (n : ℕ) (i copy : Inode) (links : ℕ) (changed now : Time) →
@@ -52,4 +53,5 @@ linked-turns d new n i copy links changed now has same is put-is fits =
     edited-turns (λ o. touched o now) (λ l. links) d n new i (record copy { links = links; changed = changed }) has
     (ap (λ (t : Time). record (living_of_inode copy) { changed = t }) is
     ∙ ap (λ (x : Inode). touched (living_of_inode x) now) same) refl
-    (ap (λ (x : Inode). parent_in x.content) same) (ap (λ (x : Inode). x.generation) same) put-is fits
+    (ap (λ (x : Inode). parent_in x.content) same) (ap (λ (x : Inode). x.generation) same)
+    (ap (λ (x : Inode). x.export) same) put-is fits

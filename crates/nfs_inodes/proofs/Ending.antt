@@ -5,7 +5,7 @@ use Rattle.nfs_machine.specs.declared.calls.Call.{Call}
 use Rattle.nfs_objects.specs.Asks.{Lives}
 use Rattle.nfs_objects.specs.Attempt.{Ends, Stops}
 use Rattle.nfs_objects.specs.Calls.{named_by, objects_at}
-use Rattle.nfs_objects.specs.Knows.{Knows}
+use Rattle.nfs_objects.specs.Knows.{Knows, ShowsExport}
 use Rattle.nfs_objects.specs.Values.{DraftValue, ViewValue}
 use Rattle.nfs_objects.specs.declared.address.Addr.TheVariants as addresses
 use Rattle.nfs_objects.specs.declared.change.Halt.{Halt}
@@ -38,3 +38,7 @@ pub lives-as : (view : ViewValue) (found : Result Known NfsStatus) (x : Known) �
     → IfOk found (λ y. Lives view (addresses.Inode y.number))
     → Lives view (addresses.Inode x.number)
 lives-as view found x is lives = subst (λ f. IfOk f (λ (y : Known). Lives view (addresses.Inode y.number))) is lives
+
+pub exported-as : (d : DraftValue) (found : Result Known NfsStatus) (x : Known) → found ≡ Ok x
+    → IfOk found (λ y. ShowsExport d y.export) → ShowsExport d x.export
+exported-as d found x is exported = subst (λ f. IfOk f (λ (y : Known). ShowsExport d y.export)) is exported

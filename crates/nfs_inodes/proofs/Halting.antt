@@ -3,6 +3,7 @@ use Rattle.std.proofs.Common.{◌≡◌, ℕ, List, [], ◌∷◌, Option, Some,
 use Rattle.std.proofs.Common.{Ok}
 use Rattle.nfs_machine.specs.Handles.{handle_of}
 use Rattle.nfs_machine.specs.declared.handle.Handle.{Handle}
+use Rattle.nfs_objects.proofs.Exported.{table-lives}
 use Rattle.nfs_objects.proofs.Knows.{among-first, among-next, lacks-stops, turned-stops}
 use Rattle.nfs_objects.proofs.Seen.{unknown-unseen}
 use Rattle.nfs_objects.specs.Asks.{IsFresh, Lacks, Lives}
@@ -17,7 +18,7 @@ use Rattle.nfs_objects.specs.declared.address.Addr.TheVariants as addresses
 use Rattle.nfs_objects.specs.declared.change.Halt.{Halt}
 use Rattle.nfs_objects.specs.declared.change.Halt.TheVariants.{Need, Fresh, Memory, Status}
 use Rattle.nfs_objects.specs.declared.object.Object.{Object}
-use Rattle.nfs_inodes.specs.Stops.{IsBrought, ReadsAt, StopsAt, StopsBringing, wanted_first}
+use Rattle.nfs_inodes.specs.Stops.{IsBrought, KnowsAt, ReadsAt, ReadsInode, StopsAt, StopsBringing, wanted_first}
 
 -- what a draft lacks stops the call
 pub lacking-stops : (d : DraftValue) (a : Addr) (halt : Halt) → Lacks d a halt → StopsAt d a halt
@@ -111,6 +112,22 @@ pub known-never_lacking : {A : Type 0} (d : DraftValue) (a : Addr) (r : Result A
     → ReadsAt d a r → AsksNothing r
 known-never_lacking d a (Ok x) known reads = tt
 known-never_lacking d a (Err halt) known lacks = absurd (never-both (known_at d a) lacks.unknown known)
+
+pub reads-at : {A : Type 0} (d : DraftValue) (n : ℕ) (r : Result A Halt) → IsSome (known_at d addresses.Exports)
+    → ReadsInode d n r → ReadsAt d (addresses.Inode n) r
+reads-at d n (Ok x) known reads = reads.object
+reads-at d n (Err halt) known (inl lacks) = absurd (never-both (known_at d addresses.Exports) lacks.unknown known)
+reads-at d n (Err halt) known (inr lacks) = lacks
+
+pub known-never_asked : {A : Type 0} (d : DraftValue) (n : ℕ) (r : Result A Halt) → KnowsAt d n →
+    ReadsInode d n r → AsksNothing r
+known-never_asked d n r known reads = known-never_lacking d (addresses.Inode n) r known.object
+    (reads-at d n r known.exports reads)
+
+-- each store has exports, so a lack of them stops each call
+pub exports-stop-at : (d : DraftValue) (a : Addr) (halt : Halt) → StopsAt d addresses.Exports halt →
+    StopsAt d a halt
+exports-stop-at d a halt stops = λ named bounded. stops named (inr (table-lives d.view))
 
 -- ---- a handle that the call brings
 pub brought-among : (handles : List (List ℕ)) (bytes : List ℕ) (h : Handle) → handle_of bytes ≡ Some h → IsBrought bytes handles

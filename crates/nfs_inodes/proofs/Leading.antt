@@ -12,6 +12,7 @@ use Rattle.nfs_machine.specs.Checks.{entry_of}
 use Rattle.nfs_machine.specs.NameSteps.{leads_to}
 use Rattle.nfs_machine.specs.State.{Content, Entry}
 use Rattle.nfs_machine.specs.WellFormed.{Leads}
+use Rattle.nfs_objects.proofs.Exported.{object-stands}
 use Rattle.nfs_objects.specs.Asks.{Lives}
 use Rattle.nfs_objects.specs.Knows.{Knows, Possible}
 use Rattle.nfs_objects.specs.Stands.{Kept, Represents}
@@ -20,7 +21,7 @@ use Rattle.nfs_objects.specs.Values.{DraftValue}
 use Rattle.nfs_objects.specs.declared.address.Addr.TheVariants as addresses
 use Rattle.nfs_objects.specs.declared.change.Halt.{Halt}
 use Rattle.nfs_objects.specs.declared.object.Inode.{Inode}
-use Rattle.nfs_inodes.proofs.Standing.{contains, content_in, directory-kind, kind-is, some-stands}
+use Rattle.nfs_inodes.proofs.Standing.{contains, content_in, directory-kind, kind-is}
 use Rattle.nfs_inodes.specs.Known.{HasInode, IsKnown, content_at, last_cookie_of, object_at}
 use Rattle.nfs_inodes.specs.declared.found.Known.{Known}
 
@@ -59,14 +60,14 @@ module _ (d : DraftValue) (x : Known) (none : d.writes ≡ []) (known : Knows d 
       let found = some-entry (entry_of (entries_of (content_at k.state x.number)) name) n (is s k w) in
       let leads = find-all (Leads k.state (object_at k.state x)) (λ (f : Entry). same_bytes f.name name) (entries_of (content_at k.state x.number)) found.0
       (formed.names x.number (object_at k.state x) (known s k w).lives).leads found.1 in
-      some-stands (s.at (addresses.Inode n)) leads.object (sym (stands.objects n) ∙ ap (get k.state.objects) (sym found.2) ∙ leads.lives)
+      object-stands s k n leads.object stands (ap (get k.state.objects) (sym found.2) ∙ leads.lives)
 
   pub parent-lives : (n : ℕ) → x.attributes.kind ≡ types.Directory → Knows d (λ k. k.parents x.number ≡ n) → Lives d.view (addresses.Inode n)
   parent-lives n kind is = λ s k fits stands sound formed.
       let w : Possible d s k = record { fits = fits; stands = on-store s k stands; sound = sound } in
       let directory : is_directory (content_at k.state x.number) ≡ true = directory-kind (content_at k.state x.number) (kind-is k.state x (known s k w) ∙ kind) in
       let parent = sound.parents x.number (object_at k.state x) (known s k w).lives directory in
-      some-stands (s.at (addresses.Inode n)) parent.directory (sym (stands.objects n) ∙ ap (get k.state.objects) (sym (is s k w)) ∙ parent.lives)
+      object-stands s k n parent.directory stands (ap (get k.state.objects) (sym (is s k w)) ∙ parent.lives)
 
 -- ---- ".", ".." and other names
 module _ (n parent : ℕ) (es : List Entry) (name : List ℕ) where

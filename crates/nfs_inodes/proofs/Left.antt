@@ -12,6 +12,7 @@ use Rattle.nfs_machine.specs.Pages.{all_entries, behind}
 use Rattle.nfs_machine.specs.State.{Content, Regular, Directory, Link, BlockDevice, CharacterDevice, Socket, Fifo}
 use Rattle.nfs_machine.specs.State.{Entry, Living, State}
 use Rattle.nfs_machine.specs.WellFormed.{CookiesRise, Leads, WellFormed}
+use Rattle.nfs_objects.proofs.Exported.{object-stands}
 use Rattle.nfs_objects.proofs.Seen.{all-map}
 use Rattle.nfs_objects.specs.Fits.{Fits}
 use Rattle.nfs_objects.specs.Knows.{Knows, Possible}
@@ -21,7 +22,7 @@ use Rattle.nfs_objects.specs.Store.{Store, with_writes}
 use Rattle.nfs_objects.specs.Values.{DraftValue}
 use Rattle.nfs_objects.specs.declared.address.Addr.TheVariants as addresses
 use Rattle.nfs_objects.specs.declared.object.Inode.{Inode}
-use Rattle.nfs_inodes.proofs.Standing.{contains, content_in, directory-kind, kind-is, parent-there, some-stands}
+use Rattle.nfs_inodes.proofs.Standing.{contains, content_in, directory-kind, kind-is, parent-there}
 use Rattle.nfs_inodes.specs.Gathers.{EachLives}
 use Rattle.nfs_inodes.specs.Known.{HasInode, IsKnown, content_at, object_at}
 use Rattle.nfs_inodes.specs.declared.found.Known.{Known}
@@ -132,16 +133,11 @@ left-lives d x cookie left none known kind is = each-apart d left (λ s k fits s
     directory-kind (content_at k.state x.number) (kind-is k.state x (known s k w) ∙ kind) in
     let parent = sound.parents x.number o lives directory in
     let names = all-map (Leads k.state o) (λ (e : Entry). IsSome (s.at (addresses.Inode e.number)))
-    (λ e leads. some-stands (s.at (addresses.Inode e.number)) leads.object
-    (sym (stands.objects e.number) ∙ leads.lives))
+    (λ e leads. object-stands s k e.number leads.object stands leads.lives)
     (entries_of (content_at k.state x.number)) (formed.names x.number o lives).leads in
     subst (λ es. AllByRecursion (λ (e : Entry). IsSome (s.at (addresses.Inode e.number))) es) (is s k w formed)
     (all-filter (λ (e : Entry). IsSome (s.at (addresses.Inode e.number))) (λ e. ltb cookie e.cookie)
     (all_entries x.number (k.parents x.number) (entries_of (content_at k.state x.number))) (
-      some-stands (s.at (addresses.Inode x.number)) o (sym (stands.objects x.number) ∙ lives),
-      (
-        some-stands (s.at (addresses.Inode (k.parents x.number))) parent.directory
-            (sym (stands.objects (k.parents x.number)) ∙ parent.lives),
-        names,
-      ),
+      object-stands s k x.number o stands lives,
+      (object-stands s k (k.parents x.number) parent.directory stands parent.lives, names),
     )))

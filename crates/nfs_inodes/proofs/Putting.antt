@@ -20,6 +20,7 @@ use Rattle.nfs_machine.specs.Shown.{touched, with_content, with_object}
 use Rattle.nfs_machine.specs.State.{Entry, Living, State}
 use Rattle.nfs_machine.specs.State as machine
 use Rattle.nfs_machine.specs.Times.{touch}
+use Rattle.nfs_objects.proofs.Exported.{inode-stands}
 use Rattle.nfs_objects.proofs.Promised.{turns-both, turns-none}
 use Rattle.nfs_objects.proofs.Seen.{shown-stands, written-append}
 use Rattle.nfs_objects.proofs.Turns.{edit-turns, free-turns, new-turns}
@@ -29,8 +30,8 @@ use Rattle.nfs_objects.proofs.Tallies.{get-removed}
 use Rattle.nfs_objects.specs.Edits.{counted_anew, edited, freed, recounted, with_living, with_new}
 use Rattle.nfs_objects.specs.Entries.{leaf_of}
 use Rattle.nfs_objects.specs.Fits.{Fits, vacant}
-use Rattle.nfs_objects.specs.Knows.{Knows, Turns}
-use Rattle.nfs_objects.specs.Stands.{IsFitting, Kept, Represents, content_of, inode_of, living_of, living_of_inode}
+use Rattle.nfs_objects.specs.Knows.{Knows, ShowsExport, Turns}
+use Rattle.nfs_objects.specs.Stands.{IsFitting, Kept, Represents, content_of, living_in, living_of_inode}
 use Rattle.nfs_objects.specs.Stands.{parent_in}
 use Rattle.nfs_objects.specs.Store.{Store, with_writes}
 use Rattle.nfs_objects.specs.Sums.{exchanged, exchanged_at, group_of, in_export, is_same_usage, moved, no_usage}
@@ -50,7 +51,7 @@ use Rattle.nfs_objects.specs.declared.view.Reserved.{Reserved}
 use Rattle.nfs_inodes.proofs.Counting.{no-share}
 use Rattle.nfs_inodes.proofs.Halting.{stops-before}
 use Rattle.nfs_inodes.proofs.Keeping.{changed-is, put-there}
-use Rattle.nfs_inodes.proofs.Standing.{lives-there}
+use Rattle.nfs_inodes.proofs.Standing.{lives-there, shows-export}
 use Rattle.nfs_inodes.specs.Counts.{IsShareOf, KeepsInodes, uncounted}
 use Rattle.nfs_inodes.specs.Known.{HasInode}
 use Rattle.nfs_inodes.specs.Sets.{attributes_changed, with_settings}
@@ -71,14 +72,7 @@ turns-as old new f g same turns = record {
 }
 
 pub known-inode : (d : DraftValue) (n : ℕ) (i : Inode) → HasInode d n (Some i) → known_at d (addresses.Inode n) ≡ Some (Some (objects.Inode i))
-known-inode d n i has = has.known ∙ by has.object has.is
-  where
-    by : (o : Option Object) → Some i ≡ inode_of o → Some o ≡ Some (Some (objects.Inode i))
-    by None e = cc
-    by (Some (objects.Exports table)) e = cc
-    by (Some (objects.Inode j)) e = let same : i ≡ j = cc in ap (λ x. Some (Some (objects.Inode x))) (sym same)
-    by (Some (objects.Mounts table)) e = cc
-    by (Some (objects.Usage u)) e = cc
+known-inode d n i has = has.known ∙ ap Some (inode-stands has.exports has.object i (sym has.is)).stands
 
 -- what is of another kind stays
 abbrev read-so : (List ℕ → Option Living) → Result (List ℕ) NfsStatus → Option Living
@@ -154,13 +148,14 @@ module _ (d : DraftValue) (n : ℕ) where
         turns-as d d (λ k. k) op (λ s k fits stands. sym (ap (over k) (lives-there d n (Some i) has s k fits stands) ∙ ap (into k) is)) (turns-none d)
 
     pub put-turns-with : (i j : Inode) → HasInode d n (Some i) → change (living_of_inode i) ≡ Some (living_of_inode j) → j.links ≡ links i.links → parent_in j.content ≡ parent_in i.content
-        → j.generation ≡ i.generation → IsFitting n j → Turns d (put j) op
-    put-turns-with i j has is linked under generation fits =
+        → j.generation ≡ i.generation → j.export ≡ i.export → IsFitting n j → Turns d (put j) op
+    put-turns-with i j has is linked under generation exported fits =
         turns-as d (put j) (λ k. edited k n (λ o. living_of_inode j) links) op
         (λ s k fit stands. (let lives = lives-there d n (Some i) has s k fit stands in
         ap (λ (o : Option Living). elim o [ None ↦ k | Some o ↦ with_living k n (living_of_inode j) (links (k.links n)) (k.parents n) ]) lives
         ∙ sym (ap (over k) lives ∙ ap (into k) is)))
-        (edit-turns d n i j (λ o. living_of_inode j) links (known-inode d n i has) refl linked under generation fits)
+        (edit-turns d n i j (λ o. living_of_inode j) links (known-inode d n i has) (shows-export d n i has) exported
+        refl linked under generation fits)
 
   -- the same where the count stays
   module _ (change : Living → Option Living) where
@@ -171,7 +166,8 @@ module _ (d : DraftValue) (n : ℕ) where
     same-turns = same-turns-with change (λ l. l)
 
     pub put-turns : (i j : Inode) → HasInode d n (Some i) → change (living_of_inode i) ≡ Some (living_of_inode j) → j.links ≡ i.links → parent_in j.content ≡ parent_in i.content
-        → j.generation ≡ i.generation → IsFitting n j → Turns d (put j) (λ k. changed_at k n change)
+        → j.generation ≡ i.generation → j.export ≡ i.export → IsFitting n j
+        → Turns d (put j) (λ k. changed_at k n change)
     put-turns = put-turns-with change (λ l. l)
 
   -- ---- the bytes of a file
@@ -185,7 +181,7 @@ module _ (d : DraftValue) (n : ℕ) where
       (sym (put-is ∙ ap put made))
       (put-turns (with_bytes now change) i j1 has
       (with-bytes i old content now change was is)
-      refl (sym (ap parent_in was)) refl (subst (IsFitting n) made fits))
+      refl (sym (ap parent_in was)) refl refl (subst (IsFitting n) made fits))
 
   -- ---- the attributes of an object
   pub set-turns : (new : DraftValue) (i j : Inode) (set : Settings) → HasInode d n (Some i)
@@ -194,7 +190,7 @@ module _ (d : DraftValue) (n : ℕ) where
   set-turns new i j set has made put-is fits =
       let j1 : Inode = record i { mode = set.mode; uid = set.uid; gid = set.gid; accessed = set.accessed; modified = set.modified; changed = set.changed; verifier = None } in
       subst (λ (x : DraftValue). Turns d x (attributes_changed n set)) (sym (put-is ∙ ap put made))
-      (put-turns (λ o. Some (with_settings set o)) i j1 has refl refl refl refl (subst (IsFitting n) made fits))
+      (put-turns (λ o. Some (with_settings set o)) i j1 has refl refl refl refl refl (subst (IsFitting n) made fits))
 
   -- ---- an object with one link less
   pub unlinked-none : (now : Time) → HasInode d n None → Turns d d (λ k. edited k n (λ o. touched o now) (λ l. l - 1))
@@ -210,7 +206,8 @@ module _ (d : DraftValue) (n : ℕ) where
   unlinked-turns new i j now has made put-is fits =
       subst (λ (x : DraftValue). Turns d x (λ k. edited k n (λ o. touched o now) (λ l. l - 1))) (sym (put-is ∙ ap put made))
       (edit-turns d n i (record i { links = i.links - 1; changed = touch i.changed now }) (λ o. touched o now)
-      (λ l. l - 1) (known-inode d n i has) refl refl refl refl (subst (IsFitting n) made fits))
+      (λ l. l - 1) (known-inode d n i has) (shows-export d n i has) refl refl refl refl refl
+      (subst (IsFitting n) made fits))
 
   freed-turns : (new : DraftValue) → new ≡ with_written d (addresses.Inode n) None → Turns d new (λ k. freed k n)
   freed-turns new is = subst (λ (x : DraftValue). Turns d x (λ k. freed k n)) (sym is) (free-turns d n)
@@ -226,7 +223,7 @@ module _ (d : DraftValue) (n : ℕ) where
       subst (λ (x : DraftValue). Turns d x (name_taken now n name)) (sym (put-is ∙ ap put (made ∙ ap made-as is)))
       (put-turns (without_name now name) i (made-as less) has
       (ap (λ c. without_name now name (record (living_of_inode i) { content = content_of c })) was) refl
-      (sym (ap parent_in was)) refl
+      (sym (ap parent_in was)) refl refl
       (subst (IsFitting n) (made ∙ ap made-as is) fits))
 
   module _ (i : Inode) (old : Directory) (now : Time) (name : List ℕ) (number cookie links : ℕ) (has : HasInode d n (Some i)) (was : i.content ≡ contents.Directory old) where
@@ -251,7 +248,7 @@ module _ (d : DraftValue) (n : ℕ) where
         let more : Directory = record old { last_cookie = cookie; entries = old.entries ++ new-entry ∷ [] } in
         subst (λ (x : DraftValue). Turns d x (name_added now n links new-entry)) (sym (put-is ∙ ap put (made ∙ ap made-as is)))
         (put-turns-with (with_name now new-entry) (λ l. links) i (made-as more) has (added-change None absent) refl
-        (sym (ap parent_in was)) refl
+        (sym (ap parent_in was)) refl refl
         (subst (IsFitting n) (made ∙ ap made-as is) fits))
 
   -- what was known stays known
@@ -278,24 +275,44 @@ first-free d r none first number generation s k w =
     record {
       number_fits = number;
       generation_fits = generation;
-      free = stands.objects r.number ∙ ap living_of at;
+      free = stands.objects r.number ∙ ap (living_in k.state.exports) at;
       never_given = stands.spent r.number r.generation ∙ lt-leb r.generation (s.last r.number) is.1;
     }
 
 -- a new object with the number and generation that were reserved, once its directory has its name
 put-new-turns : (old mid new : DraftValue) (f : Kept → Kept) (r : Reserved) (i : Inode) (o : Living)
     (links parent : ℕ)
-    → Turns old mid f → new ≡ with_written mid (addresses.Inode r.number) (Some (objects.Inode i))
+    → Turns old mid f → ((k : Kept) → (f k).state.exports ≡ k.state.exports) → ShowsExport old o.export
+    → new ≡ with_written mid (addresses.Inode r.number) (Some (objects.Inode i))
     → living_of_inode i ≡ o → i.links ≡ links → parent_in i.content ≡ parent → IsFitting r.number i
     → Turns old new (λ k. with_new (f k) r.number o links parent)
-put-new-turns old mid new f r i o links parent turns is lives linked under fits =
+put-new-turns old mid new f r i o links parent turns stay live is lives linked under fits =
     let put : DraftValue = with_written mid (addresses.Inode r.number) (Some (objects.Inode i)) in
-    turns-both old mid new f (λ k. with_new k r.number o links parent) turns
-    (subst (λ (x : DraftValue). Turns mid x (λ k. with_new k r.number o links parent)) (sym is)
-    (subst (λ (l : Living). Turns mid put (λ k. with_new k r.number l links parent)) lives
-    (subst (λ l. Turns mid put (λ k. with_new k r.number (living_of_inode i) l parent)) linked
-    (subst (λ p. Turns mid put (λ k. with_new k r.number (living_of_inode i) i.links p)) under
-    (new-turns mid r.number i fits)))))
+    subst (λ (x : DraftValue). Turns old x (λ k. with_new (f k) r.number o links parent)) (sym is)
+    (subst (λ (l : Living). Turns old put (λ k. with_new (f k) r.number l links parent)) lives
+    (subst (λ l. Turns old put (λ k. with_new (f k) r.number (living_of_inode i) l parent)) linked
+    (subst (λ p. Turns old put (λ k. with_new (f k) r.number (living_of_inode i) i.links p)) under
+    (new-turns mid r.number old f turns stay i fits
+    (subst (ShowsExport old) (sym (ap (λ (l : Living). l.export) lives)) live)))))
+
+-- a change of what lives at a number leaves the exports
+pub exports-stay : (k : Kept) (n links : ℕ) (change : Living → Option Living) →
+    (changed_with k n links change).state.exports ≡ k.state.exports
+exports-stay k n links change = by (get k.state.objects n)
+  where
+    into : Option Living → Kept
+    into p = elim p [ None ↦ k | Some p ↦ with_living k n p links (k.parents n) ]
+
+    made : (p : Option Living) → (into p).state.exports ≡ k.state.exports
+    made None = refl
+    made (Some p) = refl
+
+    by : (o : Option Living) → (elim o as (λ (x : Option Living). Kept) [
+      | None ↦ k
+      | Some o ↦ into (change o)
+    ]).state.exports ≡ k.state.exports
+    by None = refl
+    by (Some o) = made (change o)
 
 -- ---- what is counted anew
 -- shares that are the same in each export
@@ -306,7 +323,13 @@ same-shares n usage a b c d before after = λ i. exchanged_at n (λ e. before e 
 
 has-kept : (d mid : DraftValue) (n : ℕ) (i : Option Inode) → KeepsInodes d mid → HasInode d n i
     → HasInode mid n i
-has-kept d mid n i keeps has = record { object = has.object; known = keeps n ∙ has.known; is = has.is }
+has-kept d mid n i keeps has = record {
+  exports = has.exports;
+  living = record { object = has.living.object; known = keeps.exports ∙ has.living.known; is = has.living.is };
+  object = has.object;
+  known = keeps.inodes n ∙ has.known;
+  is = has.is;
+}
 
 -- the object at a number has another share of this export
 abbrev counted : (number export : ℕ) → (before after : Usage) → Kept → Kept
@@ -378,7 +401,7 @@ pub usage-stops : (d : DraftValue) (n : ℕ) (i : Inode) (share : Share) (halt :
 usage-stops d n i share halt has shares stops = λ named bounded lives.
     stops named (inr (subst (λ e. Lives d.view (addresses.Usage e (group_of n)))
     (sym (ap (λ (x : Share). x.export) shares))
-    (lives i (known-inode d n i has))))
+    (lives i has)))
 
 -- what stays is counted as it was
 same-counts : (d : DraftValue) (n : ℕ) (op : Kept → Kept) → Turns d d op
@@ -506,27 +529,29 @@ removed-turns d mid new n counts is =
 
 pub knows-kept : (d mid : DraftValue) (n : ℕ) → KeepsInodes d mid → IsSome (known_at d (addresses.Inode n))
     → IsSome (known_at mid (addresses.Inode n))
-knows-kept d mid n keeps some = subst (λ x. IsSome x) (sym (keeps n)) some
+knows-kept d mid n keeps some = subst (λ x. IsSome x) (sym (keeps.inodes n)) some
 
 pub keeps-known : (d mid : DraftValue) (n : ℕ) (i : Option Inode) → HasInode d n i → KeepsInodes d mid
     → IsSome (known_at mid (addresses.Inode n))
-keeps-known d mid n i has keeps = subst (λ x. IsSome x) (sym (keeps n ∙ has.known)) refl
+keeps-known d mid n i has keeps = subst (λ x. IsSome x) (sym (keeps.inodes n ∙ has.known)) refl
 
 -- the inode keeps its generation
 pub keeps-generation : (d mid : DraftValue) (n : ℕ) (i : Inode) (generation : ℕ) → HasInode d n (Some i)
     → KeepsInodes d mid → generation ≡ i.generation
     → MayGive mid n generation
-keeps-generation d mid n i generation has keeps is = inl (i, keeps n ∙ known-inode d n i has, sym is)
+keeps-generation d mid n i generation has keeps is = inl (i, keeps.inodes n ∙ known-inode d n i has, sym is)
 
 -- a new object, once its directory has its name and it is counted
 pub made-turns : (old mid late new : DraftValue) (f : Kept → Kept) (r : Reserved) (i : Inode) (o : Living)
     (links parent export : ℕ) (after : Usage) → Turns old mid f
+    → ((k : Kept) → (f k).state.exports ≡ k.state.exports) → ShowsExport old o.export
     → Turns mid late (recounted r.number (in_export export no_usage) (in_export export after))
     → new ≡ with_written late (addresses.Inode r.number) (Some (objects.Inode i))
     → living_of_inode i ≡ o → i.links ≡ links → parent_in i.content ≡ parent → IsFitting r.number i
     → export ≡ o.export → after ≡ one_using (used_of o.content)
     → Turns old new (λ k. counted_anew r.number None (with_new (f k) r.number o links parent))
-made-turns old mid late new f r i o links parent export after turns counts is lives linked under fits exported uses =
+made-turns old mid late new f r i o links parent export after turns stay live counts is lives linked under fits exported
+    uses =
     turns-as old new (λ k. with_new (counted r.number export no_usage after (f k)) r.number o links parent)
     (λ k. counted_anew r.number None (with_new (f k) r.number o links parent))
     (λ s k stand represents.
@@ -537,7 +562,8 @@ made-turns old mid late new f r i o links parent export after turns counts is li
     (λ e. ap (λ x. in_export x after e) exported ∙ ap (λ u. in_export o.export u e) uses
     ∙ ap (λ p. shares_of p e) (sym (put-there (f k).state r.number o)))))
     (put-new-turns old late new (λ k. counted r.number export no_usage after (f k)) r i o links parent
-    (turns-both old mid late f (counted r.number export no_usage after) turns counts) is lives linked under fits)
+    (turns-both old mid late f (counted r.number export no_usage after) turns counts) stay live is lives linked under
+    fits)
 
 -- the number may be given, as it might before
 pub may-give : (old new : DraftValue) (r : Reserved) (generation : ℕ) → new.view ≡ old.view → IsFirst old r → generation ≡ r.generation → MayGive new r.number generation

@@ -16,8 +16,7 @@ use Rattle.nfs_objects.proofs.Turns.{put-stands}
 use Rattle.nfs_objects.specs.Drafts.{MayGive}
 use Rattle.nfs_objects.specs.Edits.{with_living}
 use Rattle.nfs_objects.specs.Knows.{Turns}
-use Rattle.nfs_objects.specs.Stands.{IsFitting, Kept, Represents, content_of, inode_of, links_kept, living_of, living_of_inode}
-use Rattle.nfs_objects.specs.Stands.{parent_in, parent_kept}
+use Rattle.nfs_objects.specs.Stands.{IsFitting, Kept, Represents, content_of, lives_in, living_of_inode, parent_in}
 use Rattle.nfs_objects.specs.Store.{Store, with_write, with_writes}
 use Rattle.nfs_objects.specs.Values.{DraftValue, with_written}
 use Rattle.nfs_objects.specs.declared.address.Addr.TheVariants as addresses
@@ -27,7 +26,7 @@ use Rattle.nfs_objects.specs.declared.object.Content.TheVariants as contents
 use Rattle.nfs_objects.specs.declared.object.Inode.{Inode}
 use Rattle.nfs_objects.specs.declared.object.Object.TheVariants as objects
 use Rattle.nfs_inodes.proofs.Putting.{known-inode, put-turns-with, turns-as}
-use Rattle.nfs_inodes.proofs.Standing.{lives-there}
+use Rattle.nfs_inodes.proofs.Standing.{links-there, lives-there, parent-there, shows-export}
 use Rattle.nfs_inodes.specs.Known.{HasInode}
 use Rattle.nfs_inodes.specs.Makes.{changed_with, without_name}
 use Rattle.nfs_inodes.specs.Renames.{name_given, name_left, rehomed, staying, with_name_given}
@@ -85,7 +84,7 @@ module _ (d : DraftValue) (n : ℕ) where
     as-made change x y same made parent is fits =
         subst (λ (z : DraftValue). Turns d z (λ k. changed_with k n links change))
         (sym (put-is ∙ ap put (made ∙ ap made-as same)))
-        (put-turns-with d n change (λ l. links) i (made-as x) has is refl (parent ∙ sym (ap parent_in was)) refl
+        (put-turns-with d n change (λ l. links) i (made-as x) has is refl (parent ∙ sym (ap parent_in was)) refl refl
         (subst (IsFitting n) (made ∙ ap made-as same) fits))
 
     pub left-turns : (narrower : Directory) (name : List ℕ) →
@@ -132,13 +131,15 @@ module _ (d : DraftValue) (n : ℕ) where
       turns = λ s k fits stands.
           let at : (with_writes s d.writes).at (addresses.Inode n) ≡ Some (objects.Inode i) =
           known-stands d s (addresses.Inode n) (Some (objects.Inode i)) fits (known-inode d n i has) in
-          let lives : get k.state.objects n ≡ Some (living_of_inode i) = stands.objects n ∙ ap living_of at in
-          let links : k.links n ≡ i.links = stands.links n ∙ ap (λ o. links_kept (inode_of o)) at in
-          let parent : k.parents n ≡ parent_in i.content =
-          stands.parents n ∙ ap (λ o. parent_kept (inode_of o)) at in
+          let lives : get k.state.objects n ≡ Some (living_of_inode i) =
+          lives-there d n (Some i) has s k fits stands in
+          let links : k.links n ≡ i.links = links-there d n (Some i) has s k fits stands in
+          let parent : k.parents n ≡ parent_in i.content = parent-there d n (Some i) has s k fits stands in
+          let exported : j.export ≡ i.export = ap (λ (o : Living). o.export) is in
           let generation : j.generation ≡ i.generation = ap (λ (o : Living). o.generation) is in
           let stood = put-stands (with_writes s d.writes) k n j stands
-          (subst (λ g. g ≤ (with_writes s d.writes).last n) (sym generation) (stands.given n i at)) fit in
+          (subst (λ g. g ≤ (with_writes s d.writes).last n) (sym generation) (stands.given n i at)) fit
+          (ap (lives_in k.state.exports) exported ∙ shows-export d n i has s k fits stands) in
           let same : rehomed now n directory k ≡ with_living k n (living_of_inode j) j.links (parent_in j.content) =
           ap (homes k) lives
           ∙ ap (λ l. with_living k n (touched (living_of_inode i) now) l

@@ -1,23 +1,27 @@
 -- What stands at a number is what lives there.
-use Rattle.std.proofs.Common.{◌≡◌, ℕ, true, [], Option, Some, None, Ok, IsSome, option_map, refl, sym, ◌∙◌, ap, subst}
+use Rattle.std.proofs.Common.{◌≡◌, ℕ, true, List, [], Option, Some, None, Ok, option_map, refl, sym, ◌∙◌}
+use Rattle.std.proofs.Common.{ap, subst}
 use Rattle.std.specs.FinMap.{get}
 use Rattle.nfs_wire.specs.declared.attributes.Attributes.{Attributes}
 use Rattle.nfs_wire.specs.declared.attributes.FileType.TheVariants as types
 use Rattle.nfs_machine.specs.Attributes.{attributes_of, is_directory, links_of, type_of}
 use Rattle.nfs_machine.specs.Checks.{bytes_in, entries_in}
+use Rattle.nfs_machine.specs.Exports.{LivingExport}
 use Rattle.nfs_machine.specs.Shown.{attributes_at, weak}
 use Rattle.nfs_machine.specs.State.{Content, Regular, Directory, Link, BlockDevice, CharacterDevice, Socket, Fifo, Living, State}
+use Rattle.nfs_objects.proofs.Exported.{inode-stands, object-stands}
 use Rattle.nfs_objects.proofs.Seen.{known-stands}
 use Rattle.nfs_objects.specs.Asks.{Lives}
 use Rattle.nfs_objects.specs.Fits.{Fits}
-use Rattle.nfs_objects.specs.Knows.{Knows, Possible}
-use Rattle.nfs_objects.specs.Stands.{Kept, Represents, content_of, inode_of, links_kept, living_of, living_of_inode, parent_kept}
+use Rattle.nfs_objects.specs.Knows.{Knows, Possible, Shows, ShowsExport}
+use Rattle.nfs_objects.specs.Stands.{Kept, Represents, content_of, exports_of, inode_in, links_kept, lives_in}
+use Rattle.nfs_objects.specs.Stands.{living_of_inode, parent_kept}
 use Rattle.nfs_objects.specs.Store.{Store, with_writes}
 use Rattle.nfs_objects.specs.Values.{DraftValue}
 use Rattle.nfs_objects.specs.declared.address.Addr.TheVariants as addresses
 use Rattle.nfs_objects.specs.declared.object.Inode.{Inode}
-use Rattle.nfs_objects.specs.declared.object.Object.{Object}
-use Rattle.nfs_inodes.specs.Known.{HasInode, IsKnown, IsKnownOf, IsObject, bytes_of, content_at, listed, object_at, shell, weak_of}
+use Rattle.nfs_inodes.specs.Known.{HasExports, HasInode, IsKnown, IsKnownOf, IsObject, bytes_of, content_at}
+use Rattle.nfs_inodes.specs.Known.{listed, object_at, shell, weak_of}
 use Rattle.nfs_inodes.specs.declared.found.Known.{Known}
 
 -- what an inode that stands there contains
@@ -28,10 +32,30 @@ content_in (Some i) = content_of i.content
 abbrev content_living : Option Living → Content
 content_living o = elim o [ None ↦ Socket | Some l ↦ l.content ]
 
+-- the exports that are known live
+pub exports-there : (d : DraftValue) (exports : List LivingExport) → HasExports d exports →
+    Shows d (λ k. k.state.exports ≡ exports)
+exports-there d exports has s k fits stands =
+    stands.exports ∙ ap exports_of (known-stands d s addresses.Exports has.object fits has.known) ∙ sym has.is
+
+-- and so does the export of what is found
+pub shows-export : (d : DraftValue) (n : ℕ) (i : Inode) → HasInode d n (Some i) → ShowsExport d i.export
+shows-export d n i has s k fits stands =
+    ap (λ es. lives_in es i.export) (exports-there d has.exports has.living s k fits stands)
+    ∙ (inode-stands has.exports has.object i (sym has.is)).lives
+
+pub shows-known : (d : DraftValue) (n : ℕ) (i : Inode) (x : Known) → HasInode d n (Some i) → IsKnownOf n i x →
+    ShowsExport d x.export
+shows-known d n i x has of = subst (ShowsExport d) (sym (ap (λ (o : Living). o.export) of.shell_is))
+    (shows-export d n i has)
+
 module _ (d : DraftValue) (n : ℕ) (i : Option Inode) (has : HasInode d n i) (s : Store) (k : Kept) (fits : Fits d.view s)
     (stands : Represents (with_writes s d.writes) k) where
-  pub stands-there : inode_of ((with_writes s d.writes).at (addresses.Inode n)) ≡ i
-  stands-there = ap inode_of (known-stands d s (addresses.Inode n) has.object fits has.known) ∙ sym has.is
+  pub stands-there : inode_in k.state.exports ((with_writes s d.writes).at (addresses.Inode n)) ≡ i
+  stands-there =
+      ap (λ es. inode_in es ((with_writes s d.writes).at (addresses.Inode n)))
+      (exports-there d has.exports has.living s k fits stands)
+      ∙ ap (inode_in has.exports) (known-stands d s (addresses.Inode n) has.object fits has.known) ∙ sym has.is
 
   pub lives-there : get k.state.objects n ≡ option_map living_of_inode i
   lives-there = stands.objects n ∙ ap (option_map living_of_inode) stands-there
@@ -75,11 +99,6 @@ shown-some m n x is =
 pub shown-none : (m : State) (n : ℕ) → IsObject m n None → attributes_at m n ≡ None
 shown-none m n is = ap (λ o. option_map (attributes_of m n) o) is
 
--- what is known to live stands in each store
-pub some-stands : (o : Option Object) (x : Living) → living_of o ≡ Some x → IsSome o
-some-stands None x e = cc
-some-stands (Some o) x e = refl
-
 -- a draft with no write stands on the store itself
 pub possible : (d : DraftValue) (s : Store) (k : Kept) → d.writes ≡ [] → Possible d s k → Represents s k
 possible d s k none w = subst (λ ws. Represents (with_writes s ws) k) none w.stands
@@ -87,7 +106,7 @@ possible d s k none w = subst (λ ws. Represents (with_writes s ws) k) none w.st
 pub known-lives : (d : DraftValue) (x : Known) → d.writes ≡ [] → Knows d (λ k. IsKnown k.state x) → Lives d.view (addresses.Inode x.number)
 known-lives d x none is s k fits stands sound formed =
     let w : Possible d s k = record { fits = fits; stands = subst (λ ws. Represents (with_writes s ws) k) (sym none) stands; sound = sound } in
-    some-stands (s.at (addresses.Inode x.number)) (object_at k.state x) (sym (stands.objects x.number) ∙ (is s k w).lives)
+    object-stands s k x.number (object_at k.state x) stands (is s k w).lives
 
 -- what the machine shows of an object before a call
 pub weak-is : (m : State) (x : Known) → IsKnown m x → weak (object_at m x) ≡ weak_of x

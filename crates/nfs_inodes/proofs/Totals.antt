@@ -12,6 +12,7 @@ use Rattle.nfs_objects.specs.Asks.{Asks, EachOnce, Lacks, MayAsk}
 use Rattle.nfs_objects.specs.Calls.{IsAmong}
 use Rattle.nfs_objects.specs.Knows.{Knows}
 use Rattle.nfs_objects.specs.Modes.{mode_at}
+use Rattle.nfs_objects.specs.Stands.{lives_in}
 use Rattle.nfs_objects.specs.Sums.{export_usage, group_of, no_usage, together, usage_of}
 use Rattle.nfs_objects.specs.Values.{DraftValue, is_addr, known_at}
 use Rattle.nfs_objects.specs.declared.address.Addr.{Addr}
@@ -107,19 +108,24 @@ module _ (d : DraftValue) (export : ℕ) where
       (let same : group_of group ≡ group = omega (arith, below) in same) (names group)))
 
   -- ---- the sums
-  pub total-none : (total : Usage) → total ≡ no_usage → Knows d (λ k. total ≡ first_groups k.state export 0)
-  total-none total none = λ s k w. none ∙ no-groups k.state export
+  -- so much do the first so many groups use, if the export lives
+  abbrev pub IsTotal : (count : ℕ) → Usage → Type 0
+  IsTotal count total = Knows d (λ k. lives_in k.state.exports export ≡ true →
+      total ≡ first_groups k.state export count)
+
+  pub total-none : (total : Usage) → total ≡ no_usage → IsTotal 0 total
+  total-none total none = λ s k w lives. none ∙ no-groups k.state export
 
   pub total-more : (group : ℕ) (total usage more : Usage)
-      → Knows d (λ k. total ≡ first_groups k.state export group)
+      → IsTotal group total
       → option_map usage_of (known_at d (addresses.Usage export group)) ≡ Some usage
       → more ≡ together total usage
-      → Knows d (λ k. more ≡ first_groups k.state export (group + 1))
-  total-more group total usage more was known is = λ s k w.
-      is ∙ ap (λ (t : Usage). together t usage) (was s k w)
+      → IsTotal (group + 1) more
+  total-more group total usage more was known is = λ s k w lives.
+      is ∙ ap (λ (t : Usage). together t usage) (was s k w lives)
       ∙ next-group k.state export group usage
-      (sym (w.sound.usage export group) ∙ usage-known d export group usage known s k w.fits w.stands)
+      (sym (w.sound.usage export group) ∙ usage-known d export group usage known s k w.fits w.stands lives)
 
-  pub total-all : (total : Usage) → Knows d (λ k. total ≡ first_groups k.state export 64)
-      → Knows d (λ k. total ≡ export_usage k.state export)
-  total-all total was = λ s k w. was s k w ∙ all-groups k.state export
+  pub total-all : (total : Usage) → IsTotal 64 total
+      → Knows d (λ k. lives_in k.state.exports export ≡ true → total ≡ export_usage k.state export)
+  total-all total was = λ s k w lives. was s k w lives ∙ all-groups k.state export

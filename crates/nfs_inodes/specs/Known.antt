@@ -7,13 +7,14 @@ use Rattle.nfs_wire.specs.declared.attributes.WeakAttributes.{WeakAttributes}
 use Rattle.nfs_wire.specs.declared.status.NfsStatus.{NfsStatus}
 use Rattle.nfs_machine.specs.Attributes.{attributes_of, entries_of, type_of}
 use Rattle.nfs_machine.specs.Checks.{DirectoryEntries, bytes_in, entries_in, object_of}
+use Rattle.nfs_machine.specs.Exports.{LivingExport}
 use Rattle.nfs_machine.specs.PageSteps.{IsParentOf}
 use Rattle.nfs_machine.specs.Resolve.{Named, resolve}
 use Rattle.nfs_machine.specs.Shown.{attributes_at, shown, wcc}
 use Rattle.nfs_machine.specs.State.{Content, Regular, Directory, Socket, Living, State}
 use Rattle.nfs_machine.specs.declared.context.Ctx.{Ctx}
 use Rattle.nfs_machine.specs.declared.handle.Handle.{Handle}
-use Rattle.nfs_objects.specs.Stands.{Kept, content_of, inode_of, living_of_inode, verifier_of}
+use Rattle.nfs_objects.specs.Stands.{Kept, content_of, exports_of, inode_in, living_of_inode, verifier_of}
 use Rattle.nfs_objects.specs.Values.{DraftValue, known_at}
 use Rattle.nfs_objects.specs.declared.address.Addr.TheVariants as addresses
 use Rattle.nfs_objects.specs.declared.object.Inode.{Inode}
@@ -53,11 +54,19 @@ abbrev pub IsObject : State → ℕ → Option Known → Type 0
 IsObject m number None = get m.objects number ≡ None
 IsObject m number (Some x) = (x.number ≡ number) × IsKnown m x
 
--- the draft knows that this inode stands at a number, or that none does
+-- the draft knows that these exports live
+pub record HasExports (d : DraftValue) (exports : List LivingExport) : Type 0 where
+  pub object : Option Object
+  pub known : known_at d addresses.Exports ≡ Some object
+  pub is : exports ≡ exports_of object
+
+-- the draft knows that this inode stands at a number and its export lives, or that none of a living export does
 pub record HasInode (d : DraftValue) (number : ℕ) (inode : Option Inode) : Type 0 where
+  pub exports : List LivingExport
+  pub living : HasExports d exports
   pub object : Option Object
   pub known : known_at d (addresses.Inode number) ≡ Some object
-  pub is : inode ≡ inode_of object
+  pub is : inode ≡ inode_in exports object
 
 -- what is known of an inode: its object, and its attributes with the links that it counts
 pub record IsKnownOf (number : ℕ) (i : Inode) (x : Known) : Type 0 where

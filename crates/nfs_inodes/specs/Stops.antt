@@ -10,7 +10,7 @@ use Rattle.nfs_objects.specs.declared.address.Addr.{Addr}
 use Rattle.nfs_objects.specs.declared.address.Addr.TheVariants as addresses
 use Rattle.nfs_objects.specs.declared.change.Halt.{Halt}
 use Rattle.nfs_objects.specs.declared.object.Inode.{Inode}
-use Rattle.nfs_objects.specs.declared.object.Object.TheVariants as objects
+use Rattle.nfs_inodes.specs.Known.{HasInode}
 
 -- It stops each call that names the address, and each whose view shows that something stands there. It is no status.
 abbrev pub StopsAt : DraftValue → Addr → Halt → Type 0
@@ -18,7 +18,7 @@ StopsAt d a halt = (named : List Addr) → IsAmong named a ⊎ Lives d.view a �
 
 -- what the group of a number uses stands there, if the draft knows an object at the number
 abbrev pub UsageLives : DraftValue → (number : ℕ) → Type 0
-UsageLives d number = (i : Inode) → known_at d (addresses.Inode number) ≡ Some (Some (objects.Inode i)) →
+UsageLives d number = (i : Inode) → HasInode d number (Some i) →
     Lives d.view (addresses.Usage i.export (group_of number))
 
 -- the same, where what its group uses may be asked for with it
@@ -68,6 +68,16 @@ StopsBringing d handle halt = (handles : List (List ℕ)) → IsBrought handle h
 -- the draft knows what is at the address, or asks for it
 abbrev pub ReadsAt : {A : Type 0} → DraftValue → Addr → Result A Halt → Type 0
 ReadsAt d a result = MatchResult result (λ x. IsSome (known_at d a)) (Lacks d a)
+
+-- the draft knows the exports, and what stands at a number
+pub record KnowsAt (d : DraftValue) (number : ℕ) : Type 0 where
+  pub exports : IsSome (known_at d addresses.Exports)
+  pub object : IsSome (known_at d (addresses.Inode number))
+
+-- the draft knows both, or asks for the one that it lacks
+abbrev pub ReadsInode : {A : Type 0} → DraftValue → (number : ℕ) → Result A Halt → Type 0
+ReadsInode d number result = MatchResult result (λ x. KnowsAt d number)
+    (λ halt. Lacks d addresses.Exports halt ⊎ Lacks d (addresses.Inode number) halt)
 
 -- what a call with these handles wants first: the exports, and then the first handle's object
 abbrev pub wanted_first : ViewValue → List (List ℕ) → Option Addr

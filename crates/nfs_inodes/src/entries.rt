@@ -9,7 +9,7 @@ ghost use Rattle.nfs_objects.specs.Asks.{Lives};
 ghost use Rattle.nfs_objects.specs.Knows.{Knows};
 ghost use Rattle.nfs_objects.specs.Stands.{content_of, parent_in};
 ghost use Rattle.nfs_inodes.specs.Known.{IsKnown, content_at, last_cookie_of, next_cookie};
-ghost use Rattle.nfs_inodes.specs.Stops.{ReadsAt, StopsAt};
+ghost use Rattle.nfs_inodes.specs.Stops.{ReadsInode, StopsAt};
 
 use crate::found::inode;
 use crate::kinds::Directory;
@@ -51,7 +51,7 @@ pub(crate) fn parent(draft: &Draft<'_>, number: u64) -> Result<u64, Halt>
     ensures parent { MatchResult result
         (λ parent. Knows draft.now (λ k. k.parents number ≡ parent))
         (StopsAt draft.now (Addr.Inode number)) }
-    ensures reads { ReadsAt draft.now (Addr.Inode number) result }
+    ensures reads { ReadsInode draft.now number result }
 {
     match inode(draft, number)? {
         Some(inode) => Ok(parent_of(&inode.content)),

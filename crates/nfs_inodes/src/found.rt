@@ -2,27 +2,31 @@
 
 ghost use Rattle.std.specs.Prelude.{◌≡◌, ◌∷◌, [], ◌==◌, ◌&&◌, false, IfErr, IfOk, IfSome, IsSome};
 ghost use Rattle.std.specs.Prelude.{MatchResult, None, Some};
-ghost use Rattle.std.specs.Prelude.{option_copied};
+ghost use Rattle.std.specs.Prelude.{option_copied, option_map};
+ghost use Rattle.std.specs.Arc.{arc_value};
 ghost use Rattle.nfs_machine.specs.Bytes.{same_bytes};
 ghost use Rattle.nfs_machine.specs.Exports.{export_admits, export_at};
 ghost use Rattle.nfs_machine.specs.Shown.{attributes_at, handle_at};
 ghost use Rattle.nfs_machine.specs.State.{Socket};
 ghost use Rattle.nfs_objects.specs.Asks.{Lives};
 ghost use Rattle.nfs_objects.specs.Attempt.{HaltsFirst, unless_seen};
-ghost use Rattle.nfs_objects.specs.Knows.{Knows};
+ghost use Rattle.nfs_objects.specs.Knows.{Knows, ShowsExport};
 ghost use Rattle.nfs_objects.specs.Only.{AsksNothing};
+ghost use Rattle.nfs_objects.specs.Stands.{inode_in};
 ghost use Rattle.nfs_objects.specs.Values.{known_at};
-ghost use Rattle.nfs_inodes.specs.Known.{HasInode, IsKnownOf, IsObject, Means, is_handle_of, shell};
-ghost use Rattle.nfs_inodes.specs.Known.{weak_of};
-ghost use Rattle.nfs_inodes.specs.Stops.{BringsUsage, ReadsAt, StopsAt, StopsBringing, wanted_first};
+ghost use Rattle.nfs_inodes.specs.Known.{HasExports, HasInode, IsKnownOf, IsObject, Means};
+ghost use Rattle.nfs_inodes.specs.Known.{is_handle_of, shell, weak_of};
+ghost use Rattle.nfs_inodes.specs.Stops.{BringsUsage, ReadsAt, ReadsInode, StopsAt, StopsBringing};
+ghost use Rattle.nfs_inodes.specs.Stops.{wanted_first};
 
 use crate::attributes::{device, file_type, size, used};
 use bytes::Bytes;
 use nfs_machine::{Ctx, Handle};
 use nfs_objects::object::{export_list, living};
-use nfs_objects::{Addr, Draft, Halt, Inode, LivingExport};
+use nfs_objects::{Addr, Draft, Halt, Inode, LivingExport, Object};
 use nfs_wire::{Attributes, NfsStatus, Verifier, Wcc, WeakAttributes};
 use std::alloc::{AllocError, Global};
+use std::sync::Arc;
 
 /// A living object, but for what it contains.
 #[derive(Clone, Copy)]
@@ -44,6 +48,7 @@ pub fn exports<'d>(draft: &'d Draft<'_>) -> Result<&'d [LivingExport], Halt>
     ensures exports { MatchResult result
         (λ list. Knows draft.now (λ k. k.state.exports ≡ list.now))
         (StopsAt draft.now Addr.Exports) }
+    ensures table { IfOk result (λ list. HasExports draft.now list.now) }
     ensures reads { ReadsAt draft.now Addr.Exports result }
     ensures first { draft.now.writes ≡ [] →
         HaltsFirst draft.now.modes (unless_seen draft.now.view Addr.Exports) result }
@@ -62,13 +67,14 @@ pub(crate) fn export_at(exports: &[LivingExport], number: u32) -> Option<&Living
 ///
 /// # Errors
 ///
-/// `Need` of the number's address, and `Memory`.
+/// `Need` of the exports, or of the number's address; and `Memory`.
 pub fn object(draft: &Draft<'_>, number: u64) -> Result<Option<Known>, Halt>
     ensures object { MatchResult result
         (λ x. Knows draft.now (λ k. IsObject k.state number x))
         (StopsAt draft.now (Addr.Inode number)) }
     ensures number { IfOk result (λ x. IfSome x (λ x. x.number ≡ number)) }
-    ensures reads { ReadsAt draft.now (Addr.Inode number) result }
+    ensures exported { IfOk result (λ x. IfSome x (λ x. ShowsExport draft.now x.export)) }
+    ensures reads { ReadsInode draft.now number result }
 {
     match inode(draft, number)? {
         Some(inode) => Ok(Some(known_of(number, inode))),
@@ -76,14 +82,25 @@ pub fn object(draft: &Draft<'_>, number: u64) -> Result<Option<Known>, Halt>
     }
 }
 
-/// The inode at a number.
+/// The inode at a number, if its export lives.
 pub(crate) fn inode<'d>(draft: &'d Draft<'_>, number: u64) -> Result<Option<&'d Inode>, Halt>
     ensures inode { MatchResult result
         (λ inode. HasInode draft.now number (option_copied inode))
         (StopsAt draft.now (Addr.Inode number)) }
-    ensures reads { ReadsAt draft.now (Addr.Inode number) result }
+    ensures reads { ReadsInode draft.now number result }
 {
-    Ok(living(draft.find(Addr::Inode(number))?))
+    let exports = exports(draft)?;
+    let object = draft.find(Addr::Inode(number))?;
+    Ok(exported(exports, object))
+}
+
+/// The inode that stands where this is known. What belongs to no export that lives stands for nothing.
+fn exported<'d>(exports: &[LivingExport], known: &'d Option<Arc<Object>>) -> Option<&'d Inode>
+    ensures { option_copied result ≡ inode_in exports.now (option_map arc_value known.now) }
+{
+    let inode = living(known)?;
+    export_at(exports, inode.export)?;
+    Some(inode)
 }
 
 /// The attributes of what lives at a number.
@@ -137,6 +154,7 @@ pub fn named(draft: &Draft<'_>, handle: &[u8]) -> Result<Result<Known, NfsStatus
     requires { draft.now.writes ≡ [] }
     ensures means { IfOk result (λ found. Knows draft.now (Means draft.now.ctx handle.now found)) }
     ensures lives { IfOk result (λ found. IfOk found (λ x. Lives draft.now.view (Addr.Inode x.number))) }
+    ensures exported { IfOk result (λ found. IfOk found (λ x. ShowsExport draft.now x.export)) }
     ensures usage { IfOk result (λ found. IfOk found (λ x. BringsUsage handle.now x.export)) }
     ensures stops { IfErr result (StopsBringing draft.now handle.now) }
     ensures first { HaltsFirst draft.now.modes (wanted_first draft.now.view (handle.now ∷ [])) result }

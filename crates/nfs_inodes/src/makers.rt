@@ -8,7 +8,7 @@ ghost use Rattle.nfs_machine.specs.Shown.{touched};
 ghost use Rattle.nfs_machine.specs.Times.{time_of};
 ghost use Rattle.nfs_objects.specs.Edits.{edited};
 ghost use Rattle.nfs_objects.specs.Asks.{IsFirst};
-ghost use Rattle.nfs_objects.specs.Knows.{Knows, Turns};
+ghost use Rattle.nfs_objects.specs.Knows.{Knows, ShowsExport, Turns};
 ghost use Rattle.nfs_objects.specs.Values.{known_at};
 ghost use Rattle.nfs_objects.specs.declared.address.Addr.{Addr as Address};
 ghost use Rattle.nfs_inodes.specs.Asked.{wanted_as};
@@ -209,6 +209,7 @@ pub fn make_object(
 ) -> Result<Reserved, Halt>
     requires none { draft.old.writes ≡ [] }
     requires alone { draft.old.modes.inodes ≡ Mode.Exclusive }
+    requires exported { ShowsExport draft.old directory.now.known.export }
     ensures turns { MatchResult result
         (λ r. Knows draft.old (λ k. IsFree k.state r) × Turns draft.old draft.new
         (made_under (time_of draft.old.ctx.moment) directory.now.known.number directory.now.known.attributes.links
@@ -235,6 +236,7 @@ fn make_reserved(
 ) -> Result<(), Halt>
     requires none { draft.old.writes ≡ [] }
     requires alone { draft.old.modes.inodes ≡ Mode.Exclusive }
+    requires exported { ShowsExport draft.old directory.now.known.export }
     requires first { IsFirst draft.old (record { number = number; generation = generation }) }
     ensures turns { MatchResult result
         (λ _. Knows draft.old (λ k. IsFree k.state (record { number = number; generation = generation })) ×

@@ -1,11 +1,10 @@
 //! Setting attributes of objects (RFC 1813, 3.3.2).
 
-ghost use Rattle.std.specs.Prelude.{◌≡◌, IfOk, IsSome, MatchResult, None, OnOk};
+ghost use Rattle.std.specs.Prelude.{◌≡◌, IfOk, MatchResult, None, OnOk};
 ghost use Rattle.nfs_objects.specs.Knows.{Turns};
 ghost use Rattle.nfs_objects.specs.Only.{AsksNothing};
-ghost use Rattle.nfs_objects.specs.Values.{known_at};
 ghost use Rattle.nfs_inodes.specs.Sets.{attributes_changed};
-ghost use Rattle.nfs_inodes.specs.Stops.{StopsAt};
+ghost use Rattle.nfs_inodes.specs.Stops.{KnowsAt, StopsAt};
 
 use crate::found::inode;
 use nfs_objects::{Addr, Draft, Halt, Inode, Mode};
@@ -35,8 +34,8 @@ pub fn set_attributes(draft: &mut Draft<'_>, number: u64, settings: &Settings) -
     ensures turns { MatchResult result
         (λ _. Turns draft.old draft.new (attributes_changed number settings.now))
         (StopsAt draft.old (Addr.Inode number)) }
-    ensures once { IsSome (known_at draft.old (Addr.Inode number)) → AsksNothing result }
-    ensures known { OnOk result (IsSome (known_at draft.new (Addr.Inode number))) }
+    ensures once { KnowsAt draft.old number → AsksNothing result }
+    ensures known { OnOk result (KnowsAt draft.new number) }
 {
     let Some(inode) = inode(draft, number)? else {
         return Ok(());

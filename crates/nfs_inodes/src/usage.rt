@@ -1,8 +1,9 @@
 //! What the objects of an export use, kept right as they change (RFC 1813, 3.3.18).
 
-ghost use Rattle.std.specs.Prelude.{◌≡◌, IfOk, IfSome, IsSome, MatchResult, OnErr, OnOk};
+ghost use Rattle.std.specs.Prelude.{◌≡◌, IfOk, IfSome, IsSome, MatchResult, OnErr, OnOk, true};
 ghost use Rattle.nfs_objects.specs.Edits.{recounted};
 ghost use Rattle.nfs_objects.specs.Knows.{Knows, Turns};
+ghost use Rattle.nfs_objects.specs.Stands.{lives_in};
 ghost use Rattle.nfs_objects.specs.Sums.{export_usage, group_of, in_export};
 ghost use Rattle.nfs_objects.specs.Values.{known_at};
 ghost use Rattle.nfs_objects.specs.declared.usage.Usage.{Usage as Sums};
@@ -112,14 +113,15 @@ pub(crate) fn uncount(draft: &mut Draft<'_>, number: u64) -> Result<(), Halt>
     recount(draft, number, share, Usage::none())
 }
 
-/// What all objects of an export use together, each sum within its 128 bits.
+/// What all objects of an export that lives use together, each sum within its 128 bits.
 ///
 /// # Errors
 ///
 /// `Need` of what the groups of the export use, of all that were not read at once; and `Memory`.
 pub fn export_usage(draft: &Draft<'_>, export: u32) -> Result<Usage, Halt>
     ensures { MatchResult result
-        (λ usage. Knows draft.now (λ k. usage ≡ export_usage k.state export))
+        (λ usage. Knows draft.now (λ k. lives_in k.state.exports export ≡ true →
+        usage ≡ export_usage k.state export))
         (StopsNaming draft.now export) }
 {
     let unread = unread(draft, export)?;

@@ -1,14 +1,16 @@
-use Rattle.std.proofs.Common.{sym, ◌∙◌, ap}
 use Rattle.std.proofs.lemmas.Result.{err_from_is_err_and}
-use Rattle.nfs_objects.proofs.Seen.{known-stands}
-use Rattle.nfs_objects.specs.Stands.{exports_of}
 use Rattle.nfs_objects.specs.declared.address.Addr.TheVariants as addresses
 use Rattle.nfs_inodes.proofs.Halting.{known-first, lacking-first-at, lacking-stops}
+use Rattle.nfs_inodes.proofs.Standing.{exports-there}
 use Rattle.nfs_inodes.proofs.found.exports.Goals as goal
 
 pub returns-clause-exports : goal.returns-clause-exports
 returns-clause-exports c = λ s k w.
-    w.stands.exports ∙ ap exports_of (known-stands c.args.draft.now s addresses.Exports _ w.fits c.in_ok-find.ensures) ∙ sym c.export_list.ensures
+    exports-there c.args.draft.now c.export_list.result.now
+    (record { object = _; known = c.in_ok-find.ensures; is = c.export_list.ensures }) s k w.fits w.stands
+
+pub returns-clause-table : goal.returns-clause-table
+returns-clause-table c = record { object = _; known = c.in_ok-find.ensures; is = c.export_list.ensures }
 
 pub returns-clause-first : goal.returns-clause-first
 returns-clause-first c = λ none. known-first _ c.args.draft.now addresses.Exports _ _ none c.in_ok-find.ensures

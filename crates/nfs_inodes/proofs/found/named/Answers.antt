@@ -1,9 +1,11 @@
-use Rattle.std.proofs.Common.{◌≡◌, IfSome, IsSome, sym, subst}
+use Rattle.std.proofs.Common.{◌≡◌, Err, IfSome, IsSome, sym, subst}
 use Rattle.std.proofs.lemmas.Result.{err_from_is_err_and}
-use Rattle.nfs_inodes.proofs.Halting.{bad-first, exports-first, exports-once, exports-stop, lacking-first, lacking-once, object-first, object-stops}
+use Rattle.nfs_inodes.proofs.Halting.{bad-first, exports-first, exports-once, exports-stop, lacking-first}
+use Rattle.nfs_inodes.proofs.Halting.{lacking-once, object-first, object-stops, reads-at}
 use Rattle.nfs_inodes.proofs.Counting.{brings-usage}
 use Rattle.nfs_inodes.proofs.Naming.{bad-handle, named-there, nothing-there}
 use Rattle.nfs_inodes.proofs.Standing.{known-lives}
+use Rattle.nfs_objects.specs.Knows.{ShowsExport}
 use Rattle.nfs_objects.specs.Values.{known_at}
 use Rattle.nfs_objects.specs.declared.address.Addr.TheVariants as addresses
 use Rattle.nfs_inodes.specs.Known.{IsObject}
@@ -34,7 +36,10 @@ returns-in_err-known-clause-stops c =
 pub returns-in_err-known-clause-first : goal.returns-in_err-known-clause-first
 returns-in_err-known-clause-first c =
     let p = err_from_is_err_and c.from_residual-in_err-known.result c.from_residual-in_err-known.ensures.1 in
-    rw (p.1, p.2) (lacking-first _ c.args.draft.now c.args.handle.now c.requires c.in_ok-exports.ensures.reads c.in-Some.handle (sym c.in-Some.ensures) _ c.in_err-known.ensures.reads)
+    rw (p.1, p.2) (lacking-first _ c.args.draft.now c.args.handle.now c.requires c.in_ok-exports.ensures.reads
+    c.in-Some.handle (sym c.in-Some.ensures) _
+    (reads-at {A = Unit {0}} c.args.draft.now c.in-Some.handle.fileid (Err _) c.in_ok-exports.ensures.reads
+    c.in_err-known.ensures.reads))
 
 pub returns-in_default-2-clause-means : goal.returns-in_default-2-clause-means
 returns-in_default-2-clause-means c =
@@ -43,7 +48,8 @@ returns-in_default-2-clause-means c =
 
 pub returns-in_default-2-clause-first : goal.returns-in_default-2-clause-first
 returns-in_default-2-clause-first c =
-    object-first _ c.args.draft.now c.args.handle.now c.requires c.in_ok-exports.ensures.reads c.in-Some.handle (sym c.in-Some.ensures) _ c.in_ok-known.ensures.reads
+    object-first _ c.args.draft.now c.args.handle.now c.requires c.in_ok-exports.ensures.reads c.in-Some.handle
+    (sym c.in-Some.ensures) _ c.in_ok-known.ensures.reads.object
 
 pub returns-then-is_target-clause-means : goal.returns-then-is_target-clause-means
 returns-then-is_target-clause-means c =
@@ -61,17 +67,26 @@ returns-in_err-exports-clause-once c = λ nothing. absurd (exports-once (Unit {0
 
 pub returns-in_err-known-clause-once : goal.returns-in_err-known-clause-once
 returns-in_err-known-clause-once c = λ nothing.
-    absurd (lacking-once (Unit {0}) c.args.draft.now c.args.handle.now c.requires c.in_ok-exports.ensures.reads c.in-Some.handle (sym c.in-Some.ensures) _ c.in_err-known.ensures.reads nothing)
+    absurd (lacking-once (Unit {0}) c.args.draft.now c.args.handle.now c.requires c.in_ok-exports.ensures.reads
+    c.in-Some.handle (sym c.in-Some.ensures) _
+    (reads-at {A = Unit {0}} c.args.draft.now c.in-Some.handle.fileid (Err _) c.in_ok-exports.ensures.reads
+    c.in_err-known.ensures.reads) nothing)
 
 pub returns-then-is_target-clause-reads : goal.returns-then-is_target-clause-reads
 returns-then-is_target-clause-reads c =
     let same : c.in-Some-2.known.number ≡ c.in-Some.handle.fileid =
     subst (λ o. IfSome o (λ (x : Known). x.number ≡ c.in-Some.handle.fileid)) c.in-Some-2.is c.in_ok-known.ensures.number in (
       c.in_ok-exports.ensures.reads,
-      subst (λ n. IsSome (known_at c.args.draft.now (addresses.Inode n))) (sym same) c.in_ok-known.ensures.reads,
+      subst (λ n. IsSome (known_at c.args.draft.now (addresses.Inode n))) (sym same)
+          c.in_ok-known.ensures.reads.object,
     )
 
 pub returns-then-is_target-clause-usage : goal.returns-then-is_target-clause-usage
 returns-then-is_target-clause-usage c =
     brings-usage c.args.handle.now c.in-Some.handle c.in-Some-2.known _ (sym c.in-Some.ensures)
     (sym (rw c.ctx.ensures at c.if-is_target.ensures))
+
+pub returns-then-is_target-clause-exported : goal.returns-then-is_target-clause-exported
+returns-then-is_target-clause-exported c =
+    subst (λ o. IfSome o (λ (x : Known). ShowsExport c.args.draft.now x.export)) c.in-Some-2.is
+    c.in_ok-known.ensures.exported

@@ -5,8 +5,8 @@ use Rattle.nfs_machine.specs.State.{Living}
 use Rattle.nfs_objects.specs.Sums.{one_using}
 use Rattle.nfs_objects.specs.declared.address.Addr.TheVariants as addresses
 use Rattle.nfs_objects.specs.declared.modes.Modes.{Modes}
-use Rattle.nfs_inodes.proofs.Putting.{counting-stops, first-free, knows-kept, knows-on, made-turns, making-stops}
-use Rattle.nfs_inodes.proofs.Putting.{may-give}
+use Rattle.nfs_inodes.proofs.Putting.{counting-stops, exports-stay, first-free, knows-kept, knows-on, made-turns}
+use Rattle.nfs_inodes.proofs.Putting.{making-stops, may-give}
 use Rattle.nfs_inodes.proofs.makers.make_reserved.Goals as goal
 
 pub returns-in_err-add_entry-clause-turns : goal.returns-in_err-add_entry-clause-turns
@@ -49,6 +49,7 @@ returns-clause-turns c = (
       (record { number = c.args.number; generation = c.args.generation }) c.in_ok-object.object _ _ _
       c.args.directory.now.known.export c.of_one.result
       (rw c.links_with-links.ensures at c.in_ok-add_entry.ensures.turns)
+      (λ k. exports-stay k c.args.directory.now.known.number _ _) c.requires.exported
       (rw c.none.ensures at c.in_ok-recount.ensures.turns) c.in_ok-put.ensures.ok
       (rw c.ctx.ensures at c.in_ok-object.ensures.living) c.in_ok-object.ensures.links c.in_ok-object.ensures.parent
       c.in_ok-put.ensures.fits refl

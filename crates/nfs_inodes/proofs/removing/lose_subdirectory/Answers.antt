@@ -21,4 +21,5 @@ returns c =
     c.in_ok-inode.ensures.inode)
     (ap living_of_inode copy) (c.saturating_sub.ensures ∙ ap (λ (i : Inode). i.links - 1) copy)
     (ap (λ (i : Inode). parent_in i.content) copy)
-    (ap (λ (i : Inode). i.generation) copy) c.in_ok-put.ensures.ok c.in_ok-put.ensures.fits
+    (ap (λ (i : Inode). i.generation) copy) (ap (λ (i : Inode). i.export) copy)
+    c.in_ok-put.ensures.ok c.in_ok-put.ensures.fits

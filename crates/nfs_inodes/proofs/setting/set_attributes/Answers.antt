@@ -20,5 +20,6 @@ returns-clause-turns c =
 
 pub returns-clause-known : goal.returns-clause-known
 returns-clause-known c =
-    knows-on c.args.draft.now c.args.number c.put.new.self _ c.in_ok-put.ensures.ok
-    (addresses.Inode c.args.number) c.in_ok-inode.ensures.reads
+    let reads = c.in_ok-inode.ensures.reads in
+    let on = knows-on c.args.draft.now c.args.number c.put.new.self _ c.in_ok-put.ensures.ok in
+    record { exports = on addresses.Exports reads.exports; object = on (addresses.Inode c.args.number) reads.object }

@@ -13,7 +13,7 @@ loop-level-preserved c =
     climbs-next c.args.draft.now c.args.upper c.args.directory.now c.requires.none c.requires.known c.loop-level.number
     c.loop-level._level c.loop-level.invariant
     (apart c.loop-level.number c.args.upper c.if-number-upper.false) c.in_ok-above.above c.in_ok-above.ensures.parent
-    c.in_ok-above.ensures.reads
+    c.in_ok-above.ensures.reads.object
     (apart c.in_ok-above.above c.loop-level.number c.if-above-number.false)
 
 pub returns-then-number-upper : goal.returns-then-number-upper
@@ -40,7 +40,7 @@ returns c =
           tells-end d c.args.upper c.args.directory.now c.requires.none c.requires.known w.in_ok-above.above
           (at._level + 1) (climbs-next d c.args.upper c.args.directory.now c.requires.none c.requires.known at.number
           at._level at.invariant (apart at.number c.args.upper w.if-number-upper.false) w.in_ok-above.above
-          w.in_ok-above.ensures.parent w.in_ok-above.ensures.reads
+          w.in_ok-above.ensures.parent w.in_ok-above.ensures.reads.object
           (apart w.in_ok-above.above at.number w.if-above-number.false)) c.args.reads c.requires.reads
           (omega (arith, w.loop-level-test.true))
     ]

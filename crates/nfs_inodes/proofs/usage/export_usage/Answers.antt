@@ -1,8 +1,6 @@
 use Rattle.std.proofs.Common.{◌≡◌, arith, subst}
 use Rattle.std.proofs.lemmas.Result.{err_from_is_err_and}
-use Rattle.nfs_objects.proofs.Grouped.{first_groups}
-use Rattle.nfs_objects.specs.Knows.{Knows}
-use Rattle.nfs_inodes.proofs.Totals.{group-stops, not-empty, total-all, total-more, total-none, unread-asks}
+use Rattle.nfs_inodes.proofs.Totals.{IsTotal, group-stops, not-empty, total-all, total-more, total-none, unread-asks}
 use Rattle.nfs_inodes.proofs.usage.export_usage.Goals as goal
 
 pub returns-then-not-is_empty : goal.returns-then-not-is_empty
@@ -27,5 +25,5 @@ loop-group-preserved c =
 pub returns : goal.returns
 returns c =
     total-all c.args.draft.now c.args.export c.loop-group.total
-    (subst (λ n. Knows c.args.draft.now (λ k. c.loop-group.total ≡ first_groups k.state c.args.export n))
+    (subst (λ n. IsTotal c.args.draft.now c.args.export n c.loop-group.total)
     (let whole : c.loop-group.group ≡ 64 = omega arith in whole) c.loop-group.invariant)
