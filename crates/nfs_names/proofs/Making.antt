@@ -32,6 +32,7 @@ use Rattle.nfs_machine.specs.WellFormed.{WellFormed}
 use Rattle.nfs_machine.specs.declared.calls.Call.TheVariants as calls
 use Rattle.nfs_machine.specs.declared.calls.Reply.TheVariants as answers
 use Rattle.nfs_machine.specs.declared.context.Ctx.{Ctx}
+use Rattle.nfs_objects.proofs.Exported.{table-lives}
 use Rattle.nfs_objects.proofs.Knows.{failed, passed, turned-stops}
 use Rattle.nfs_objects.proofs.Promised.{answer-ending, does-as, possible-after, promised, turns-none}
 use Rattle.nfs_objects.proofs.Summed.{AllFit, turned-fit}
@@ -44,9 +45,11 @@ use Rattle.nfs_objects.specs.Stands.{Kept}
 use Rattle.nfs_objects.specs.Store.{Store}
 use Rattle.nfs_objects.specs.Values.{DraftValue, done_value, known_at}
 use Rattle.nfs_objects.specs.declared.address.Addr.{Addr}
+use Rattle.nfs_objects.specs.declared.address.Addr.TheVariants as addresses
 use Rattle.nfs_objects.specs.declared.change.Halt.{Halt}
 use Rattle.nfs_objects.specs.declared.view.Reserved.{Reserved}
 use Rattle.nfs_inodes.proofs.Counting.{usage-brings}
+use Rattle.nfs_inodes.proofs.Halting.{lacking-stops}
 use Rattle.nfs_inodes.proofs.Keeping.{choice-of, fresh-of, made-is, made-sound, room-of}
 use Rattle.nfs_inodes.proofs.Standing.{directory-listed, kind-is}
 use Rattle.nfs_inodes.specs.Asked.{content_asked, wanted_as}
@@ -354,9 +357,11 @@ module _ (d : DraftValue) (asked : rust.Wanted) (x : Known) (name : List ℕ) wh
       }
 
 -- ---- how it halts
-pub reading-stops : (d : DraftValue) (a : Addr) (halt : Halt) → StopsAt d a halt → Lacks d a halt →
-    StopsUnlessKnown d a halt
-reading-stops d a halt stops lacks = λ named bounded. elim bounded [
+pub reading-stops : (d : DraftValue) (a : Addr) (halt : Halt) → StopsAt d a halt →
+    Lacks d addresses.Exports halt ⊎ Lacks d a halt → StopsUnlessKnown d a halt
+reading-stops d a halt stops (inl lacks) = λ named bounded.
+    lacking-stops d addresses.Exports halt lacks named (inr (table-lives d.view))
+reading-stops d a halt stops (inr lacks) = λ named bounded. elim bounded [
   | inl there ↦ stops named there
   | inr some ↦ (let no = rw lacks.unknown at some in cc)
 ]

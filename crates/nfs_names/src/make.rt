@@ -5,7 +5,7 @@ ghost use Rattle.nfs_machine.specs.Attributes.{entries_of};
 ghost use Rattle.nfs_machine.specs.Checks.{entry_of};
 ghost use Rattle.nfs_objects.specs.Asks.{Lives};
 ghost use Rattle.nfs_objects.specs.Attempt.{HaltsFirst};
-ghost use Rattle.nfs_objects.specs.Knows.{Does, Knows};
+ghost use Rattle.nfs_objects.specs.Knows.{Does, Knows, ShowsExport};
 ghost use Rattle.nfs_objects.specs.declared.address.Addr.TheVariants as addresses;
 ghost use Rattle.nfs_inodes.specs.Asked.{asked_as, wanted_as};
 ghost use Rattle.nfs_inodes.specs.Known.{IsKnown, Names, content_at};
@@ -76,6 +76,7 @@ fn make_in(
     requires none { draft.old.writes ≡ [] }
     requires alone { draft.old.modes.inodes ≡ Mode.Exclusive }
     requires names { Knows draft.old (λ k. Names draft.old.ctx place.now.directory k known.now) }
+    requires exported { ShowsExport draft.old known.now.export }
     requires usage { BringsUsage place.now.directory known.now.export }
     ensures { MatchResult result
         (Does draft.old draft.new (IsMakeEnd draft.old.ctx place.now (asked_as asked.entry)
@@ -149,6 +150,7 @@ fn make_new(
     requires none { draft.old.writes ≡ [] }
     requires alone { draft.old.modes.inodes ≡ Mode.Exclusive }
     requires known { Knows draft.old (λ k. IsKnown k.state directory.now.known) }
+    requires exported { ShowsExport draft.old directory.now.known.export }
     requires lives { Lives draft.old.view (addresses.Inode directory.now.known.number) }
     requires absent { Knows draft.old (λ k. option_map (λ e. e.number)
         (entry_of (entries_of (content_at k.state directory.now.known.number)) name.now) ≡ None) }

@@ -2,7 +2,7 @@ use Rattle.std.proofs.Common.{Ok, Err}
 use Rattle.std.proofs.lemmas.Result.{err_from_is_err_and}
 use Rattle.nfs_objects.specs.declared.address.Addr.TheVariants as addresses
 use Rattle.nfs_inodes.proofs.Counting.{brings-as}
-use Rattle.nfs_inodes.proofs.Ending.{lives-as, means-as}
+use Rattle.nfs_inodes.proofs.Ending.{exported-as, lives-as, means-as}
 use Rattle.nfs_inodes.specs.Asked.{asked_as}
 use Rattle.nfs_names.proofs.Making.{bringing-stops, made-replies, refused-replies}
 use Rattle.nfs_names.specs.Making.{there_as}
@@ -17,6 +17,10 @@ pub make_in-requires-clause-names : goal.make_in-requires-clause-names
 make_in-requires-clause-names c =
     means-as c.args.draft.now c.args.place.now.directory _ _ (Ok c.in-Ok.known) c.as_slice.ensures
     c.in-Ok.is c.in_ok-known.ensures.means
+
+pub make_in-requires-clause-exported : goal.make_in-requires-clause-exported
+make_in-requires-clause-exported c =
+    exported-as c.args.draft.now _ c.in-Ok.known c.in-Ok.is c.in_ok-known.ensures.exported
 
 pub make_in-requires-clause-usage : goal.make_in-requires-clause-usage
 make_in-requires-clause-usage c =

@@ -29,6 +29,9 @@ returns-in_err-number c =
     rw (p.1, p.2) (λ handles brought. entry _ (inr
     (known-lives c.args.draft.now c.args.known.now c.requires.none (λ s k w. (c.requires.names s k w).known))))
 
+pub make_new-requires-clause-exported : goal.make_new-requires-clause-exported
+make_new-requires-clause-exported c = rw c.in-Ok.ensures.known c.requires.exported
+
 pub make_new-requires-clause-lives : goal.make_new-requires-clause-lives
 make_new-requires-clause-lives c =
     rw c.in-Ok.ensures.known
