@@ -1,6 +1,6 @@
 -- The answer of FSSTAT is a step.
 use Rattle.std.proofs.Common.{◌≡◌, ℕ, ◌-◌, ◌<◌, ◌^◌, min, List, [], Option, Some, None, Result, Ok}
-use Rattle.std.proofs.Common.{Err}
+use Rattle.std.proofs.Common.{Err, true}
 use Rattle.std.proofs.Common.{refl, sym, ap, ◌∙◌, arith}
 use Rattle.std.specs.FinMap.{values}
 use Rattle.nfs_wire.specs.declared.attributes.Attributes.{Attributes}
@@ -20,7 +20,8 @@ use Rattle.nfs_machine.specs.declared.calls.Reply.TheVariants as answers
 use Rattle.nfs_objects.proofs.Knows.{failed, passed}
 use Rattle.nfs_objects.proofs.Promised.{promised-unchanged}
 use Rattle.nfs_objects.specs.Begins.{Begins}
-use Rattle.nfs_objects.specs.Knows.{Knows}
+use Rattle.nfs_objects.specs.Knows.{Knows, ShowsExport}
+use Rattle.nfs_objects.specs.Stands.{lives_in}
 use Rattle.nfs_objects.specs.Promise.{Given, Held, IsPromised}
 use Rattle.nfs_objects.specs.Sums.{export_usage}
 use Rattle.nfs_objects.specs.Values.{DraftValue, done_value}
@@ -84,13 +85,14 @@ module _ (d : DraftValue) (object : List ℕ) (begins : Begins (calls.Nfs (nfs.F
   }
 
   pub space-promised : (x : Known) (usage : Usage) (space : Space) → Knows d (λ k. Names d.ctx object k x)
-      → Knows d (λ k. usage ≡ export_usage k.state x.export)
+      → Knows d (λ k. lives_in k.state.exports x.export ≡ true → usage ≡ export_usage k.state x.export)
+      → ShowsExport d x.export
       → ((m : State) (export : ℕ) → usage ≡ export_usage m export → space ≡ left m export)
       → IsAnswer (Some x.attributes) (Ok space)
-  space-promised x usage space names uses tells =
+  space-promised x usage space names uses live tells =
       promised-unchanged d begins.none begins.quiet (calls.Nfs (nfs.Fsstat object)) _ held given (λ s k w formed.
       fsstat-step k.state (Some x.attributes) (Ok space) (names s k w).shows
-      (passed _ (names s k w).names (ap (λ y. Ok y) (sym (tells k.state x.export (uses s k w))))))
+      (passed _ (names s k w).names (ap (λ y. Ok y) (sym (tells k.state x.export (uses s k w (live s k w.fits w.stands)))))))
 
   pub no-space-promised : (e : NfsStatus) → Knows d (λ k. NamesNothing d.ctx object k e) → IsAnswer None (Err e)
   no-space-promised e refused =

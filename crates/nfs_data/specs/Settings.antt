@@ -1,5 +1,5 @@
 -- What a SETATTR comes to (RFC 1813, 3.3.2).
-use Rattle.std.specs.Prelude.{◌≡◌, ◌%◌, ℕ, Option, Some, None, Result, Ok, Err, IsSome}
+use Rattle.std.specs.Prelude.{◌≡◌, ◌%◌, ℕ, Option, Some, None, Result, Ok, Err}
 use Rattle.std.specs.Prelude.{is_some, option_map, unwrap_or, if◌then◌else◌}
 use Rattle.nfs_wire.specs.declared.attributes.SetAttributes.{SetAttributes}
 use Rattle.nfs_wire.specs.declared.attributes.Time.{Time}
@@ -13,8 +13,6 @@ use Rattle.nfs_machine.specs.State.{Content, Regular, Living, State}
 use Rattle.nfs_machine.specs.Times.{time_of, time_set, touch}
 use Rattle.nfs_machine.specs.declared.context.Ctx.{Ctx}
 use Rattle.nfs_objects.specs.Stands.{Kept}
-use Rattle.nfs_objects.specs.Values.{DraftValue, known_at}
-use Rattle.nfs_objects.specs.declared.address.Addr.TheVariants as addresses
 use Rattle.nfs_inodes.specs.Known.{bytes_of, shell}
 use Rattle.nfs_inodes.specs.Makes.{bytes_changed}
 use Rattle.nfs_inodes.specs.Sets.{with_settings}
@@ -25,10 +23,6 @@ use Rattle.nfs_data.specs.declared.setattr.NewSize.{NewSize}
 -- this is the state after it, or why nothing is set
 abbrev pub IsSetEnd : Ctx → SetattrArguments → State → Result (Unit {0} × State) NfsStatus → Type 0
 IsSetEnd ctx a m end = end ≡ setattr_end m ctx a
-
--- the draft knows the exports and the object
-abbrev pub KnowsObject : DraftValue → Known → Type 0
-KnowsObject d x = IsSome (known_at d addresses.Exports) × IsSome (known_at d (addresses.Inode x.number))
 
 -- the size that is set is that of this file
 abbrev pub IsSizeOf : Known → Option ℕ → Option NewSize → Type 0

@@ -1,6 +1,6 @@
 //! SETATTR: new attributes of an object (RFC 1813, 3.3.2).
 
-ghost use Rattle.std.specs.Prelude.{◌≡◌, ◌%◌, ◌==◌, ◌||◌, ◌&&◌, true, not, IfOk, IfSome, IsSome};
+ghost use Rattle.std.specs.Prelude.{◌≡◌, ◌%◌, ◌==◌, ◌||◌, ◌&&◌, true, not, IfOk, IfSome};
 ghost use Rattle.std.specs.Prelude.{MatchResult, if◌then◌else◌, is_none, is_some, option_map, unwrap_or};
 ghost use Rattle.nfs_machine.specs.AttributeSteps.{set_object};
 ghost use Rattle.nfs_machine.specs.Attributes.{type_of};
@@ -13,11 +13,9 @@ ghost use Rattle.nfs_objects.specs.Begins.{Begins};
 ghost use Rattle.nfs_objects.specs.Calls.{named_by};
 ghost use Rattle.nfs_objects.specs.Knows.{Does, Knows, Turns};
 ghost use Rattle.nfs_objects.specs.Only.{AsksNothing, EndsFirstOnly};
-ghost use Rattle.nfs_objects.specs.Values.{known_at};
-ghost use Rattle.nfs_objects.specs.declared.address.Addr.TheVariants as addresses;
 ghost use Rattle.nfs_inodes.specs.Known.{Names, shell};
-ghost use Rattle.nfs_inodes.specs.Stops.{StopsCounting};
-ghost use Rattle.nfs_data.specs.Settings.{IsSetEnd, IsSizeOf, KnowsObject, content_found};
+ghost use Rattle.nfs_inodes.specs.Stops.{KnowsAt, StopsCounting};
+ghost use Rattle.nfs_data.specs.Settings.{IsSetEnd, IsSizeOf, content_found};
 ghost use Rattle.nfs_data.specs.Settings.{content_set, set_found, settings_after, size_set};
 
 use crate::write::nothing_shown;
@@ -75,8 +73,8 @@ fn set(
     ensures does { MatchResult result
         (Does draft.old draft.new (IsSetEnd draft.old.ctx arguments.now))
         (Stops draft.old.modes (named_by (calls.Nfs (NfsCall.Setattr arguments.now))) draft.old.view) }
-    ensures only { is_none arguments.now.attributes.size ≡ true → KnowsObject draft.old known.now →
-        AsksNothing result × IfOk result (λ _. IsSome (known_at draft.new (addresses.Inode known.now.number))) }
+    ensures only { is_none arguments.now.attributes.size ≡ true → KnowsAt draft.old known.now.number →
+        AsksNothing result × IfOk result (λ _. KnowsAt draft.new known.now.number) }
 {
     let size = match settable(draft.ctx(), exports(draft)?, known, arguments) {
         Ok(size) => size,

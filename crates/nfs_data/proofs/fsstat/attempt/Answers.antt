@@ -3,7 +3,7 @@ use Rattle.std.proofs.lemmas.Result.{err_from_is_err_and}
 use Rattle.nfs_wire.specs.declared.calls.NfsCall.TheVariants as nfs
 use Rattle.nfs_machine.specs.declared.calls.Call.TheVariants as calls
 use Rattle.nfs_inodes.proofs.Counting.{brings-as, usage-brings}
-use Rattle.nfs_inodes.proofs.Ending.{means-as, naming}
+use Rattle.nfs_inodes.proofs.Ending.{exported-as, means-as, naming}
 use Rattle.nfs_data.proofs.Spaces.{no-space-promised, space-promised}
 use Rattle.nfs_data.proofs.fsstat.attempt.Goals as goal
 
@@ -31,7 +31,8 @@ returns-in_ok-usage-in-Ok-clause-ends c =
     (space-promised c.args.draft c.args.object.now c.requires c.answer.ensures.held c.answer.ensures.given
     c.in-Ok.known c.in_ok-usage-in-Ok.usage c.space_left.result
     (means-as c.args.draft c.args.object.now _ _ (Ok c.in-Ok.known) c.as_slice.ensures c.in-Ok.is
-    c.in_ok-known.ensures.means) c.in_ok-usage-in-Ok.ensures (rw c.ctx.ensures at c.space_left.ensures))
+    c.in_ok-known.ensures.means) c.in_ok-usage-in-Ok.ensures
+    (exported-as c.args.draft _ c.in-Ok.known c.in-Ok.is c.in_ok-known.ensures.exported) (rw c.ctx.ensures at c.space_left.ensures))
 
 pub returns-in-Err-clause-ends : goal.returns-in-Err-clause-ends
 returns-in-Err-clause-ends c =

@@ -5,7 +5,7 @@ use Rattle.nfs_machine.specs.declared.calls.Call.TheVariants as calls
 use Rattle.nfs_objects.specs.Promise.{Given, Held}
 use Rattle.nfs_objects.specs.Values.{DraftValue}
 use Rattle.nfs_objects.specs.declared.address.Addr.TheVariants as addresses
-use Rattle.nfs_inodes.proofs.Halting.{known-never_lacking, stops-before}
+use Rattle.nfs_inodes.proofs.Halting.{known-never_asked, stops-before}
 use Rattle.nfs_inodes.proofs.Ending.{halting, lives-as, means-as, naming, reading}
 use Rattle.nfs_inodes.specs.Known.{weak_of}
 use Rattle.nfs_data.proofs.Asking.{knows-object}
@@ -54,7 +54,7 @@ returns-in_err-after-in-Ok-clause-only c =
     let p = err_from_is_err_and c.from_residual-in_err-after-in-Ok.result
     c.from_residual-in_err-after-in-Ok.ensures.1 in
     λ none nothing. rw (p.1, p.2)
-    (known-never_lacking {A = Unit {0}} c.set.new.draft (addresses.Inode c.in-Ok.known.number) (Err _)
+    (known-never_asked {A = Unit {0}} c.set.new.draft c.in-Ok.known.number (Err _)
     ((c.in_ok-done-in-Ok.ensures.only none
     (knows-object c.args.draft _ c.in-Ok.known c.in-Ok.is c.in_ok-known.ensures.reads)).1)
     c.in_err-after-in-Ok.ensures.reads)

@@ -1,14 +1,15 @@
-use Rattle.std.proofs.Common.{Err, IsSome, inl, inr, refl, sym, option_map, subst}
+use Rattle.std.proofs.Common.{Err, inl, inr, refl, sym, option_map, subst}
 use Rattle.std.proofs.lemmas.Result.{err_from_is_err_and}
 use Rattle.nfs_wire.specs.declared.calls.NfsCall.TheVariants as nfs
 use Rattle.nfs_machine.specs.Times.{time_of}
 use Rattle.nfs_machine.specs.declared.calls.Call.TheVariants as calls
 use Rattle.nfs_objects.specs.Calls.{named_by}
-use Rattle.nfs_objects.specs.Values.{DraftValue, known_at}
+use Rattle.nfs_objects.specs.Values.{DraftValue}
 use Rattle.nfs_objects.specs.declared.address.Addr.TheVariants as addresses
 use Rattle.nfs_inodes.proofs.Counting.{usage-lives-first}
 use Rattle.nfs_inodes.proofs.Halting.{known-never_lacking, stops-before}
 use Rattle.nfs_inodes.proofs.Standing.{known-lives}
+use Rattle.nfs_inodes.specs.Stops.{KnowsAt}
 use Rattle.nfs_data.proofs.Setting.{Checks, file-as, none-as, refused-does, set-does}
 use Rattle.nfs_data.specs.Settings.{size_set}
 use Rattle.nfs_data.specs.declared.setattr.NewSize.{NewSize}
@@ -25,7 +26,7 @@ returns-in_err-exports-clause-only c =
     let p = err_from_is_err_and c.from_residual.result c.from_residual.ensures.1 in
     λ none knows. rw (p.1, p.2) (
       known-never_lacking {A = Unit {0}} c.args.draft.now addresses.Exports
-          (Err _) knows.0 c.in_err-exports.ensures.reads,
+          (Err _) knows.exports c.in_err-exports.ensures.reads,
       tt,
     )
 
@@ -38,7 +39,7 @@ returns-in-Err-clause-does c =
     c.settable.ensures.checks) c.in-Err.status c.in-Err.is
 
 pub returns-in-Err-clause-only : goal.returns-in-Err-clause-only
-returns-in-Err-clause-only c = λ none knows. (tt, knows.1)
+returns-in-Err-clause-only c = λ none knows. (tt, knows)
 
 pub resize_to-requires-clause-file : goal.resize_to-requires-clause-file
 resize_to-requires-clause-file c = file-as c.args.known.now c.args.arguments.now.attributes.size c.in-Ok.size
@@ -79,10 +80,10 @@ returns-in_err-set_attributes-clause-only c =
     c.from_residual-in_err-set_attributes.ensures.1 in
     λ none knows. rw (p.1, p.2) (
       c.in_err-set_attributes.ensures.once
-          (subst (λ (d : DraftValue). IsSome (known_at d (addresses.Inode c.args.known.now.number)))
+          (subst (λ (d : DraftValue). KnowsAt d c.args.known.now.number)
           (sym (c.in_ok-resize_to.ensures.only
           (none-as c.args.known.now c.args.arguments.now.attributes.size c.in-Ok.size c.in-Ok.ensures.size none)).0)
-          knows.1),
+          knows),
       tt,
     )
 
