@@ -16,6 +16,7 @@ use Rattle.nfs_machine.specs.State.{Socket}
 use Rattle.nfs_machine.specs.WellFormed.{AllApart, HasRoot, WellFormed}
 use Rattle.nfs_machine.specs.declared.calls.Call.TheVariants as calls
 use Rattle.nfs_machine.specs.declared.calls.Reply.TheVariants as answers
+use Rattle.nfs_objects.proofs.Exported.{object-stands}
 use Rattle.nfs_objects.proofs.Promised.{promised, promised-unchanged, turns-none}
 use Rattle.nfs_objects.proofs.Turns.{mounts-turns}
 use Rattle.nfs_objects.specs.Asks.{Lives}
@@ -30,7 +31,6 @@ use Rattle.nfs_objects.specs.Values.{DraftValue, done_value, with_written}
 use Rattle.nfs_objects.specs.declared.address.Addr.TheVariants as addresses
 use Rattle.nfs_objects.specs.declared.change.Halt.{Halt}
 use Rattle.nfs_objects.specs.declared.object.Object.TheVariants as objects
-use Rattle.nfs_inodes.proofs.Standing.{some-stands}
 use Rattle.nfs_inodes.specs.Known.{shell, target}
 use Rattle.nfs_inodes.specs.declared.found.Known.{Known}
 use Rattle.nfs_mount.specs.Choices.{IsChosen}
@@ -67,8 +67,7 @@ module _ (d : DraftValue) (path : List ℕ) where
           } in
           let c = chosen-in s k w formed in
           let r = export-all (HasRoot k.state) k.state.exports c.0 c.1.matches.export formed.exports.rooted c.1.matches.stands in
-          some-stands (s.at (addresses.Inode choice.root)) r.root
-          (sym (stands.objects choice.root) ∙ ap (get k.state.objects) (sym c.2) ∙ r.lives)
+          object-stands s k choice.root r.root stands (ap (get k.state.objects) (sym c.2) ∙ r.lives)
 
       pub walked : (r : Result (Result Known MountStatus) Halt) →
           Finds d (λ found m. walk (get m.objects) choice.root choice.rest ≡ walk_end m found) r → Finds d (IsTarget d.ctx path) r
