@@ -2,6 +2,7 @@
 use Rattle.std.proofs.Common.{◌≡◌, ℕ, zero, suc, ◌+◌, ◌==◌, ◌<◌, ◌≤◌, ◌⊎◌, inl, inr}
 use Rattle.std.proofs.Common.{true, false, cond, nat_le, nat_lt, set, get_or, replicate, ◌&&◌, if◌then◌else◌}
 use Rattle.std.proofs.Common.{List, [], ◌∷◌, ◌++◌, length, length-append, map, Option, Some, None, refl, sym}
+use Rattle.std.proofs.Common.{option_map}
 use Rattle.std.proofs.Common.{◌∙◌, ap, subst, arith}
 use Rattle.std.proofs.lemmas.Bool.Decides.{nat_tests}
 use Rattle.std.proofs.lemmas.List.{length-map}
@@ -24,7 +25,8 @@ use Rattle.nfs_machine.specs.State.{Living}
 use Rattle.nfs_machine.specs.Times.{time_of}
 use Rattle.nfs_machine.specs.WellFormed.{IsParent}
 use Rattle.nfs_machine.specs.declared.moment.Moment.{Moment}
-use Rattle.nfs_objects.specs.Stands.{IsFitting, Kept, inode_of, links_kept, living_of, parent_kept}
+use Rattle.nfs_objects.proofs.Exported.{inode-as}
+use Rattle.nfs_objects.specs.Stands.{IsFitting, Kept, inode_in, inode_of, links_kept, living_of_inode, parent_kept}
 use Rattle.nfs_objects.specs.declared.object.Inode.{Inode}
 use Rattle.nfs_objects.proofs.Summed.{both-sums, counted-by, used-by}
 use Rattle.nfs_objects.proofs.Tallies.{insert-total, none-total, total}
@@ -215,6 +217,10 @@ module _ (es : List ExportValue) (moment : Moment) where
   abbrev slots : List SlotValue
   slots = root_slots (length es) time
 
+  -- what lives where this stands, if every export does
+  abbrev living_of : Option Object → Option Living
+  living_of o = option_map living_of_inode (inode_of o)
+
   lives : (n : ℕ) → get (opening_roots 1 es time) n ≡ living_of (object_in (slice_get slots n))
   lives zero = root_none time es 1 zero (inl (omega arith)) ∙ sym (ap (λ (s : Option SlotValue). living_of (object_in s)) (slot_zero time (length es)))
   lives (suc n) =
@@ -226,6 +232,13 @@ module _ (es : List ExportValue) (moment : Moment) where
             root_none time es 1 (suc n) (inr (omega (arith, h)))
             ∙ sym (ap (λ (s : Option SlotValue). living_of (object_in s)) (slot_none time (length es) (suc n) h))
       ]
+
+  -- and the export of each root does
+  exported : AreFaultless es → (n : ℕ) →
+      inode_of (object_in (slice_get slots n)) ≡ inode_in (opening_exports es) (object_in (slice_get slots n))
+  exported faultless n = sym (inode-as (opening_exports es) (object_in (slice_get slots n))
+      (λ i is. (opening_formed es moment faultless).exported n (living_of_inode i)
+      (lives n ∙ ap (option_map living_of_inode) is)))
 
   -- the last generation that a number was given
   abbrev last_given : ℕ → ℕ
@@ -304,14 +317,15 @@ module _ (es : List ExportValue) (moment : Moment) where
         parents = kept.parents;
         usage = kept.usage;
         represents = record {
+          table = refl;
           exports = refl;
           last_export = refl;
-          objects = lives;
-          links = λ n. refl;
-          parents = λ n. refl;
+          objects = λ n. lives n ∙ ap (option_map living_of_inode) (exported faultless n);
+          links = λ n. ap links_kept (exported faultless n);
+          parents = λ n. ap parent_kept (exported faultless n);
           given = given;
           fits = fitting (opened-apart es faultless).0;
-          usage = holds;
+          usage = λ e g live. holds e g;
           mounts = refl;
           spent = λ n g. ap (nat_le g) (lasts n);
           no_locks = refl;
