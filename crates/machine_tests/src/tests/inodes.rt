@@ -242,6 +242,22 @@ fn a_handle_names_one_object_of_one_export(rt: HostRuntime) -> Result<(), Fail> 
     Ok(())
 }
 
+/// Number 9 is of export 2, which does not live: it stands for nothing, whatever the handle says.
+#[test]
+fn an_object_of_no_living_export_is_not_found(rt: HostRuntime) -> Result<(), Fail> {
+    let mut inode = fifo(0o600);
+    inode.export = 2;
+    let (ctx, view) = (ctx(1), viewed(rt.alloc(), 9, inode)?);
+    let draft = Draft::new(rt.alloc(), &ctx, &view, READING);
+    assert!(rt; matches!(object(&draft, 9), Ok(None)));
+    let handle = Handle {
+        export: 2,
+        ..HANDLE
+    };
+    assert!(rt; refused(&draft, &handle.bytes()) == Some(NfsStatus::Stale));
+    Ok(())
+}
+
 /// The exports are asked for before the object.
 #[test]
 fn a_handle_is_read_in_two_rounds(rt: HostRuntime) -> Result<(), Fail> {

@@ -1,6 +1,7 @@
 //! Changes of objects: bytes, links, names, and new files (RFC 1813, 2.5: mtime, ctime).
 
-ghost use Rattle.std.specs.Prelude.{◌≡◌, ◌<◌, [], IfOk};
+ghost use Rattle.std.specs.Prelude.{◌≡◌, ◌<◌, [], IfOk, IfSome};
+ghost use Rattle.nfs_objects.specs.Knows.{ShowsExport};
 ghost use Rattle.nfs_objects.specs.Modes.{Suits};
 ghost use Rattle.nfs_objects.specs.declared.modes.Mode.TheVariants.{Exclusive};
 
@@ -130,11 +131,13 @@ fn one_of_two_links_goes(rt: HostRuntime) -> Result<(), Fail> {
     Ok(())
 }
 
-/// Object 9, and what its group uses.
+/// The exports, object 9, and what its group uses.
 fn grouped(alloc: Global, inode: Inode, usage: Usage) -> Result<View, AllocError>
     ensures changes { IfOk result (Suits CHANGING) }
 {
+    let exports = Object::Exports(table(alloc, b"rw")?);
     let mut view = View::new(alloc);
+    view.add(Addr::Exports, Mode::Shared, Some(Arc::new(alloc, exports)?))?;
     view.add(
         Addr::Inode(9),
         Mode::Exclusive,
@@ -225,7 +228,9 @@ fn place(alloc: Global) -> Result<View, AllocError>
 }
 
 /// Directory 9.
-fn known_place(draft: &Draft<'_>) -> Result<Option<nfs_inodes::Directory>, Halt> {
+fn known_place(draft: &Draft<'_>) -> Result<Option<nfs_inodes::Directory>, Halt>
+    ensures { IfOk result (λ place. IfSome place (λ place. ShowsExport draft.now place.known.export)) }
+{
     match object(draft, 9)? {
         Some(known) => Ok(nfs_inodes::directory(&known).ok()),
         None => Ok(None),
@@ -330,12 +335,14 @@ fn a_new_file_wants_a_number(rt: HostRuntime) -> Result<(), Fail> {
     Ok(())
 }
 
-/// Directory 9 without names, and a number to give, whose group is empty.
+/// The exports, directory 9 without names, and a number to give, whose group is empty.
 fn place_and_number(alloc: Global) -> Result<View, AllocError>
     ensures changes { IfOk result (Suits CHANGING) }
 {
+    let exports = Object::Exports(table(alloc, b"rw")?);
     let content = Content::Directory(directory(Entries::new(alloc), 2));
     let mut view = View::new(alloc);
+    view.add(Addr::Exports, Mode::Shared, Some(Arc::new(alloc, exports)?))?;
     view.add(
         Addr::Inode(9),
         Mode::Exclusive,
