@@ -21,7 +21,7 @@ use nfs_objects::{Addr, Content, Draft, Halt};
 ///
 /// # Errors
 ///
-/// `Need` of the directory's address, and `Memory`.
+/// `Need` of the exports or the directory's address, and `Memory`.
 pub fn entry(draft: &Draft<'_>, directory: &Directory, name: &[u8]) -> Result<Option<u64>, Halt>
     requires none { draft.now.writes ≡ [] }
     requires known { Knows draft.now (λ k. IsKnown k.state directory.now.known) }
@@ -73,7 +73,7 @@ fn parent_of(content: &Content) -> u64
 ///
 /// # Errors
 ///
-/// `Need` of the directory's address, and `Memory`.
+/// `Need` of the exports or the directory's address, and `Memory`.
 pub fn leads_to(draft: &Draft<'_>, directory: &Directory, name: &[u8]) -> Result<Option<u64>, Halt>
     requires none { draft.now.writes ≡ [] }
     requires known { Knows draft.now (λ k. IsKnown k.state directory.now.known) }
@@ -97,7 +97,7 @@ pub fn leads_to(draft: &Draft<'_>, directory: &Directory, name: &[u8]) -> Result
 ///
 /// # Errors
 ///
-/// `Need` of the directory's address, and `Memory`.
+/// `Need` of the exports or the directory's address, and `Memory`.
 pub fn is_empty(draft: &Draft<'_>, directory: &Directory) -> Result<bool, Halt>
     ensures { MatchResult result
         (λ empty. Knows draft.now (λ k.
@@ -124,7 +124,7 @@ fn is_empty_in(content: &Content) -> bool
 ///
 /// # Errors
 ///
-/// `Need` of the directory's address, and `Memory`.
+/// `Need` of the exports or the directory's address, and `Memory`.
 pub fn next_cookie(draft: &Draft<'_>, directory: &Directory) -> Result<Option<u64>, Halt>
     ensures { MatchResult result
         (λ cookie. Knows draft.now (λ k.

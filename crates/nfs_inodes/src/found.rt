@@ -67,7 +67,7 @@ pub(crate) fn export_at(exports: &[LivingExport], number: u32) -> Option<&Living
 ///
 /// # Errors
 ///
-/// `Need` of the exports, or of the number's address; and `Memory`.
+/// `Need` of the exports or the number's address, and `Memory`.
 pub fn object(draft: &Draft<'_>, number: u64) -> Result<Option<Known>, Halt>
     ensures object { MatchResult result
         (λ x. Knows draft.now (λ k. IsObject k.state number x))
@@ -107,7 +107,7 @@ fn exported<'d>(exports: &[LivingExport], known: &'d Option<Arc<Object>>) -> Opt
 ///
 /// # Errors
 ///
-/// `Need` of the number's address, and `Memory`.
+/// `Need` of the exports or the number's address, and `Memory`.
 pub fn shown(draft: &Draft<'_>, number: u64) -> Result<Option<Attributes>, Halt>
     ensures { MatchResult result
         (λ shown. Knows draft.now (λ k. attributes_at k.state number ≡ shown))
@@ -123,7 +123,7 @@ pub fn shown(draft: &Draft<'_>, number: u64) -> Result<Option<Attributes>, Halt>
 ///
 /// # Errors
 ///
-/// `Need` of the number's address, and `Memory`.
+/// `Need` of the exports or the number's address, and `Memory`.
 pub fn wcc(draft: &Draft<'_>, before: &Known) -> Result<Wcc, Halt>
     ensures { MatchResult result
         (λ wcc. Knows draft.now (λ k. wcc ≡ record

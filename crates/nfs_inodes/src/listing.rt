@@ -131,7 +131,7 @@ fn name_at<'d>(names: Option<&'d Entries>, place: usize) -> Option<Listed<'d>>
 ///
 /// # Errors
 ///
-/// `Need` of the directory's address, and `Memory`.
+/// `Need` of the exports or the directory's address, and `Memory`.
 pub fn entries_left<'d>(
     draft: &'d Draft<'_>,
     directory: &Directory,

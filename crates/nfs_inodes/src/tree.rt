@@ -16,7 +16,7 @@ use nfs_objects::{Draft, Halt};
 ///
 /// # Errors
 ///
-/// `Need` of a directory on the way, and `Memory`.
+/// `Need` of the exports or a directory on the way, and `Memory`.
 pub fn is_within(
     draft: &Draft<'_>,
     reads: usize,
