@@ -62,32 +62,38 @@ const CHANGED_NEVER: [u32; 8] = [0, 0, 0, 0, 0, 2, 5, 1_000_000_000];
 /// A SETATTR is answered by this status, and shows the object before and after it.
 fn sets(
     script: &mut Script,
-    object: Change,
+    old: &Shown,
+    new: &Shown,
     set: &[u32],
     guard: &[u32],
     status: u32,
 ) -> Result<(), AllocError> {
-    script.call(SETATTR, &object.before.handle(), set, guard)?;
-    script.answer(
-        &[status],
-        &object.before.before(),
-        &object.after.after(),
-        &[],
-    )
+    script.call(SETATTR, &old.handle(), set, guard)?;
+    script.answer(&[status], &old.before(), &new.after(), &[])
 }
 
 /// A SETATTR is done.
-fn takes(script: &mut Script, object: Change, set: &[u32]) -> Result<(), AllocError> {
-    sets(script, object, set, &ANYHOW, NFS3_OK)
+fn takes(
+    script: &mut Script,
+    old: &Shown,
+    new: &Shown,
+    set: &[u32],
+) -> Result<(), AllocError> {
+    sets(script, old, new, set, &ANYHOW, NFS3_OK)
 }
 
 /// A SETATTR is refused.
-fn refuses(script: &mut Script, object: Shown, set: &[u32], error: u32) -> Result<(), AllocError> {
-    sets(script, object.stays(), set, &ANYHOW, error)
+fn refuses(
+    script: &mut Script,
+    object: &Shown,
+    set: &[u32],
+    error: u32,
+) -> Result<(), AllocError> {
+    sets(script, object, object, set, &ANYHOW, error)
 }
 
 /// A READ from the beginning of the file gives these results.
-fn reads(script: &mut Script, object: Shown, results: &[u32]) -> Result<(), AllocError> {
+fn reads(script: &mut Script, object: &Shown, results: &[u32]) -> Result<(), AllocError> {
     script.call(READ, &object.handle(), &[0, 0, 9], &[])?;
     script.answer(&[NFS3_OK], &object.after(), results, &[])
 }
@@ -106,17 +112,10 @@ fn a_guard_is_compared(script: &mut Script) -> Result<(), AllocError> {
     };
     script.call(WRITE, &FILE, &[0, 0, 3, 2], &[3, 0x61626300])?;
     script.answer(&[NFS3_OK], &NEW.before(), &written.after(), &[3, 2, 0, 7])?;
-    let stays = written.stays();
-    sets(script, stays, &mode(0o600), &guard(0), NFS3ERR_NOT_SYNC)?;
-    sets(script, stays, &mode(0o600), &[1, 999, 1], NFS3ERR_NOT_SYNC)?;
-    sets(script, written.to(set), &mode(0o600), &guard(1), NFS3_OK)?;
-    sets(
-        script,
-        set.stays(),
-        &mode(0o644),
-        &guard(1),
-        NFS3ERR_NOT_SYNC,
-    )
+    sets(script, &written, &written, &mode(0o600), &guard(0), NFS3ERR_NOT_SYNC)?;
+    sets(script, &written, &written, &mode(0o600), &[1, 999, 1], NFS3ERR_NOT_SYNC)?;
+    sets(script, &written, &set, &mode(0o600), &guard(1), NFS3_OK)?;
+    sets(script, &set, &set, &mode(0o644), &guard(1), NFS3ERR_NOT_SYNC)
 }
 
 #[test]
@@ -136,7 +135,7 @@ fn a_verifier_is_forgotten(script: &mut Script) -> Result<(), AllocError> {
     script.makes(CREATE, root(2, 0).to(root(2, 1)), &X, &[2, 0, 1], NEW)?;
     script.makes(CREATE, root(2, 1).stays(), &X, &[2, 0, 1], NEW)?;
     script.refuses(CREATE, root(2, 1), &X, &[2, 0, 2], NFS3ERR_EXIST)?;
-    takes(script, NEW.to(set), &mode(0o600))?;
+    takes(script, &NEW, &set, &mode(0o600))?;
     script.refuses(CREATE, root(2, 1), &X, &[2, 0, 1], NFS3ERR_EXIST)
 }
 
@@ -163,15 +162,15 @@ fn a_size_is_set(script: &mut Script) -> Result<(), AllocError> {
     let same = hello(6, 0x1000, 4);
     let empty = hello(0, 0, 5);
     let full = hello(0x100000, 0x100000, 6);
-    takes(script, HELLO.to(cut), &size(3))?;
-    reads(script, cut, &[3, 1, 3, 0x68656c00])?;
-    takes(script, cut.to(filled), &size(6))?;
-    reads(script, filled, &[6, 1, 6, 0x68656c00, 0])?;
-    takes(script, filled.to(same), &size(6))?;
-    takes(script, same.to(empty), &size(0))?;
-    reads(script, empty, &[0, 1, 0])?;
-    takes(script, empty.to(full), &size(0x100000))?;
-    refuses(script, full, &size(0x100001), NFS3ERR_FBIG)
+    takes(script, &HELLO, &cut, &size(3))?;
+    reads(script, &cut, &[3, 1, 3, 0x68656c00])?;
+    takes(script, &cut, &filled, &size(6))?;
+    reads(script, &filled, &[6, 1, 6, 0x68656c00, 0])?;
+    takes(script, &filled, &same, &size(6))?;
+    takes(script, &same, &empty, &size(0))?;
+    reads(script, &empty, &[0, 1, 0])?;
+    takes(script, &empty, &full, &size(0x100000))?;
+    refuses(script, &full, &size(0x100001), NFS3ERR_FBIG)
 }
 
 #[test]
@@ -232,8 +231,8 @@ fn attributes_are_set(script: &mut Script) -> Result<(), AllocError> {
         changed: 2,
         ..root(2, 1)
     };
-    takes(script, NEW.to(given), &[1, 0o17600, 1, 8, 1, 9, 0, 0, 0])?;
-    takes(script, root(2, 1).to(top), &[1, 0o755, 1, 8, 1, 9, 0, 0, 0])
+    takes(script, &NEW, &given, &[1, 0o17600, 1, 8, 1, 9, 0, 0, 0])?;
+    takes(script, &root(2, 1), &top, &[1, 0o755, 1, 8, 1, 9, 0, 0, 0])
 }
 
 #[test]
@@ -265,13 +264,13 @@ fn an_owner_sets(script: &mut Script) -> Result<(), AllocError> {
         ..grown
     };
     script.caller = user(100, 9);
-    takes(script, file(0o640).to(closed), &mode(0))?;
-    refuses(script, closed, &owner(101), NFS3ERR_PERM)?;
-    refuses(script, closed, &owner(0), NFS3ERR_PERM)?;
-    refuses(script, closed, &group(201), NFS3ERR_PERM)?;
-    takes(script, closed.to(mine), &[0, 1, 100, 1, 200, 0, 0, 0])?;
-    takes(script, mine.to(grown), &size(1))?;
-    takes(script, grown.to(given), &group(9))
+    takes(script, &file(0o640), &closed, &mode(0))?;
+    refuses(script, &closed, &owner(101), NFS3ERR_PERM)?;
+    refuses(script, &closed, &owner(0), NFS3ERR_PERM)?;
+    refuses(script, &closed, &group(201), NFS3ERR_PERM)?;
+    takes(script, &closed, &mine, &[0, 1, 100, 1, 200, 0, 0, 0])?;
+    takes(script, &mine, &grown, &size(1))?;
+    takes(script, &grown, &given, &group(9))
 }
 
 #[test]
@@ -285,20 +284,20 @@ fn files_of_the_caller(rt: HostRuntime) -> Result<(), Fail> {
 fn others_are_refused(script: &mut Script) -> Result<(), AllocError> {
     let old = file(0o640);
     script.caller = user(9, 9);
-    refuses(script, old, &mode(0o640), NFS3ERR_PERM)?;
-    refuses(script, old, &READ_THEN, NFS3ERR_PERM)?;
-    refuses(script, old, &CHANGED_THEN, NFS3ERR_PERM)?;
-    refuses(script, old, &owner(100), NFS3ERR_PERM)?;
-    refuses(script, old, &owner(9), NFS3ERR_PERM)?;
-    refuses(script, old, &group(200), NFS3ERR_PERM)?;
-    refuses(script, old, &group(9), NFS3ERR_PERM)?;
-    refuses(script, old, &size(0), NFS3ERR_ACCES)?;
-    refuses(script, old, &READ_NOW, NFS3ERR_ACCES)?;
-    refuses(script, old, &CHANGED_NOW, NFS3ERR_ACCES)?;
+    refuses(script, &old, &mode(0o640), NFS3ERR_PERM)?;
+    refuses(script, &old, &READ_THEN, NFS3ERR_PERM)?;
+    refuses(script, &old, &CHANGED_THEN, NFS3ERR_PERM)?;
+    refuses(script, &old, &owner(100), NFS3ERR_PERM)?;
+    refuses(script, &old, &owner(9), NFS3ERR_PERM)?;
+    refuses(script, &old, &group(200), NFS3ERR_PERM)?;
+    refuses(script, &old, &group(9), NFS3ERR_PERM)?;
+    refuses(script, &old, &size(0), NFS3ERR_ACCES)?;
+    refuses(script, &old, &READ_NOW, NFS3ERR_ACCES)?;
+    refuses(script, &old, &CHANGED_NOW, NFS3ERR_ACCES)?;
     let both = [1, 0o640, 0, 0, 1, 0, 0, 0, 0];
     let large = [1, 0o640, 0, 0, 1, 0, 0x100001, 0, 0];
-    refuses(script, old, &both, NFS3ERR_PERM)?;
-    refuses(script, old, &large, NFS3ERR_FBIG)
+    refuses(script, &old, &both, NFS3ERR_PERM)?;
+    refuses(script, &old, &large, NFS3ERR_FBIG)
 }
 
 #[test]
@@ -318,9 +317,9 @@ fn a_writer_sets(script: &mut Script) -> Result<(), AllocError> {
         ..old.at(2)
     };
     script.caller = user(9, 9);
-    takes(script, old.to(read), &READ_NOW)?;
-    takes(script, read.to(grown), &size(1))?;
-    refuses(script, grown, &READ_THEN, NFS3ERR_PERM)
+    takes(script, &old, &read, &READ_NOW)?;
+    takes(script, &read, &grown, &size(1))?;
+    refuses(script, &grown, &READ_THEN, NFS3ERR_PERM)
 }
 
 #[test]
@@ -333,13 +332,12 @@ fn files_that_others_write(rt: HostRuntime) -> Result<(), Fail> {
 /// A guard that differs is told before what can't be set, and that before a size above the greatest.
 fn what_cannot_be_set(script: &mut Script) -> Result<(), AllocError> {
     let never = [0, 0, 0, 1, 0, 0x100001, 0, 2, 5, 1_000_000_000];
-    let stays = NEW.stays();
-    refuses(script, NEW, &READ_NEVER, NFS3ERR_INVAL)?;
-    refuses(script, NEW, &CHANGED_NEVER, NFS3ERR_INVAL)?;
-    refuses(script, NEW, &never, NFS3ERR_INVAL)?;
-    sets(script, stays, &never, &guard(1), NFS3ERR_NOT_SYNC)?;
-    refuses(script, root(2, 1), &size(0x1000), NFS3ERR_INVAL)?;
-    refuses(script, root(2, 1), &size(0x100001), NFS3ERR_INVAL)
+    refuses(script, &NEW, &READ_NEVER, NFS3ERR_INVAL)?;
+    refuses(script, &NEW, &CHANGED_NEVER, NFS3ERR_INVAL)?;
+    refuses(script, &NEW, &never, NFS3ERR_INVAL)?;
+    sets(script, &NEW, &NEW, &never, &guard(1), NFS3ERR_NOT_SYNC)?;
+    refuses(script, &root(2, 1), &size(0x1000), NFS3ERR_INVAL)?;
+    refuses(script, &root(2, 1), &size(0x100001), NFS3ERR_INVAL)
 }
 
 #[test]
@@ -354,21 +352,21 @@ fn what_is_no_attribute(rt: HostRuntime) -> Result<(), Fail> {
 fn a_read_only_export_stays(rt: HostRuntime) -> Result<(), Fail> {
     let mut script = Script::new(rt.alloc());
     let top = root(2, 0);
-    sets(&mut script, top.stays(), &mode(0), &guard(1), NFS3ERR_ROFS)?;
-    refuses(&mut script, top, &AS_USUAL, NFS3ERR_ROFS)?;
-    grants(&mut script, top, 63, 3)?;
-    commits(&mut script, top, NFS3ERR_INVAL, &[])?;
+    sets(&mut script, &top, &top, &mode(0), &guard(1), NFS3ERR_ROFS)?;
+    refuses(&mut script, &top, &AS_USUAL, NFS3ERR_ROFS)?;
+    grants(&mut script, &top, 63, 3)?;
+    commits(&mut script, &top, NFS3ERR_INVAL, &[])?;
     script.is_followed_as(&rt, b"ro")
 }
 
 /// The rights of ACCESS that are asked of an object and granted.
-fn grants(script: &mut Script, object: Shown, asked: u32, granted: u32) -> Result<(), AllocError> {
+fn grants(script: &mut Script, object: &Shown, asked: u32, granted: u32) -> Result<(), AllocError> {
     script.call(ACCESS, &object.handle(), &[asked], &[])?;
     script.answer(&[NFS3_OK], &object.after(), &[granted], &[])
 }
 
 /// A READ of the file is refused.
-fn is_not_read(script: &mut Script, object: Shown) -> Result<(), AllocError> {
+fn is_not_read(script: &mut Script, object: &Shown) -> Result<(), AllocError> {
     script.call(READ, &object.handle(), &[0, 0, 9], &[])?;
     script.answer(&[NFS3ERR_ACCES], &object.after(), &[], &[])
 }
@@ -381,19 +379,19 @@ fn rights_to_a_file(script: &mut Script) -> Result<(), AllocError> {
         ..file(0o641)
     };
     script.caller = user(300, 200);
-    grants(script, old, 63, 1)?;
+    grants(script, &old, 63, 1)?;
     script.caller = user(100, 200);
-    grants(script, old, 63, 13)?;
+    grants(script, &old, 63, 13)?;
     script.caller = user(9, 9);
-    grants(script, old, 63, 0)?;
-    is_not_read(script, old)?;
+    grants(script, &old, 63, 0)?;
+    is_not_read(script, &old)?;
     script.caller = USER_0;
-    grants(script, old, 63, 13)?;
-    takes(script, old.to(new), &mode(0o641))?;
-    grants(script, new, 63, 45)?;
+    grants(script, &old, 63, 13)?;
+    takes(script, &old, &new, &mode(0o641))?;
+    grants(script, &new, 63, 45)?;
     script.caller = user(9, 9);
-    grants(script, new, 63, 32)?;
-    reads(script, new, &[0, 1, 0])
+    grants(script, &new, 63, 32)?;
+    reads(script, &new, &[0, 1, 0])
 }
 
 #[test]
@@ -407,16 +405,16 @@ fn rights_to_files(rt: HostRuntime) -> Result<(), Fail> {
 fn rights_of_an_owner(script: &mut Script) -> Result<(), AllocError> {
     let old = file(0o077);
     script.caller = user(100, 200);
-    grants(script, old, 63, 13)?;
-    grants(script, old, 0, 0)?;
-    grants(script, old, 1, 1)?;
-    grants(script, old, 4, 4)?;
-    grants(script, old, 8, 8)?;
-    grants(script, old, 0xfffffff2, 0)?;
+    grants(script, &old, 63, 13)?;
+    grants(script, &old, 0, 0)?;
+    grants(script, &old, 1, 1)?;
+    grants(script, &old, 4, 4)?;
+    grants(script, &old, 8, 8)?;
+    grants(script, &old, 0xfffffff2, 0)?;
     script.caller = user(300, 200);
-    grants(script, old, 0xffffffff, 45)?;
+    grants(script, &old, 0xffffffff, 45)?;
     script.caller = USER_0;
-    grants(script, old, 63, 45)
+    grants(script, &old, 63, 45)
 }
 
 #[test]
@@ -448,7 +446,7 @@ fn others_have(
         &[],
     )?;
     script.caller = user(9, 9);
-    grants(script, given, 63, rights)
+    grants(script, &given, 63, rights)
 }
 
 /// A directory needs r for its names, x to be searched, and both w and x to be changed, for its owner too.
@@ -459,7 +457,7 @@ fn rights_to_a_directory(script: &mut Script) -> Result<(), AllocError> {
         changed: 7,
         ..root(2, 0)
     };
-    grants(script, root(2, 0), 63, 31)?;
+    grants(script, &root(2, 0), 63, 31)?;
     others_have(script, 0o770, 1, 0)?;
     others_have(script, 0o774, 2, 1)?;
     others_have(script, 0o771, 3, 2)?;
@@ -468,9 +466,9 @@ fn rights_to_a_directory(script: &mut Script) -> Result<(), AllocError> {
     others_have(script, 0o775, 6, 3)?;
     others_have(script, 0o077, 7, 31)?;
     script.caller = user(100, 9);
-    grants(script, last, 63, 0)?;
+    grants(script, &last, 63, 0)?;
     script.caller = USER_0;
-    grants(script, last, 63, 31)
+    grants(script, &last, 63, 31)
 }
 
 #[test]
@@ -490,7 +488,7 @@ const LINK_TO_X: Shown = Shown {
 };
 
 /// READLINK of what is no link.
-fn is_no_link(script: &mut Script, object: Shown) -> Result<(), AllocError> {
+fn is_no_link(script: &mut Script, object: &Shown) -> Result<(), AllocError> {
     script.call(READLINK, &object.handle(), &[], &[])?;
     script.answer(&[NFS3ERR_INVAL], &object.after(), &[], &[])
 }
@@ -505,13 +503,13 @@ fn a_link_is_read(script: &mut Script) -> Result<(), AllocError> {
     let other = Shown { number: 3, ..NEW };
     script.makes(SYMLINK, root(2, 0).to(root(2, 1)), &Y, &TO_X, LINK_TO_X)?;
     script.makes(CREATE, root(2, 1).to(root(2, 2)), &X, &GUARDED, other)?;
-    refuses(script, LINK_TO_X, &size(1), NFS3ERR_INVAL)?;
-    takes(script, LINK_TO_X.to(closed), &mode(0))?;
+    refuses(script, &LINK_TO_X, &size(1), NFS3ERR_INVAL)?;
+    takes(script, &LINK_TO_X, &closed, &mode(0))?;
     script.caller = user(9, 9);
     script.call(READLINK, &FILE, &[], &[])?;
     script.answer(&[NFS3_OK], &closed.after(), &X, &[])?;
-    is_no_link(script, other)?;
-    is_no_link(script, root(2, 2))
+    is_no_link(script, &other)?;
+    is_no_link(script, &root(2, 2))
 }
 
 #[test]
@@ -524,7 +522,7 @@ fn links(rt: HostRuntime) -> Result<(), Fail> {
 /// A COMMIT of 3 bytes from 2 on is answered so, and changes nothing.
 fn commits(
     script: &mut Script,
-    object: Shown,
+    object: &Shown,
     status: u32,
     verifier: &[u32],
 ) -> Result<(), AllocError> {
@@ -534,10 +532,10 @@ fn commits(
 
 /// Files alone, but by all, even where none may read them.
 fn a_file_is_committed(script: &mut Script) -> Result<(), AllocError> {
-    commits(script, file(0), NFS3_OK, &[0, 7])?;
+    commits(script, &file(0), NFS3_OK, &[0, 7])?;
     script.caller = user(9, 9);
-    commits(script, file(0), NFS3_OK, &[0, 7])?;
-    commits(script, root(2, 1), NFS3ERR_INVAL, &[])
+    commits(script, &file(0), NFS3_OK, &[0, 7])?;
+    commits(script, &root(2, 1), NFS3ERR_INVAL, &[])
 }
 
 #[test]
@@ -557,7 +555,7 @@ const FILE_SYSTEM: [u32; 12] = [
 const PATHS: [u32; 6] = [32_000, 255, 1, 1, 0, 1];
 
 /// FSINFO and PATHCONF of an object.
-fn is_told(script: &mut Script, object: Shown) -> Result<(), AllocError> {
+fn is_told(script: &mut Script, object: &Shown) -> Result<(), AllocError> {
     script.call(FSINFO, &object.handle(), &[], &[])?;
     script.answer(&[NFS3_OK], &object.after(), &FILE_SYSTEM, &[])?;
     script.call(PATHCONF, &object.handle(), &[], &[])?;
@@ -569,8 +567,8 @@ fn is_told(script: &mut Script, object: Shown) -> Result<(), AllocError> {
 fn file_systems(rt: HostRuntime) -> Result<(), Fail> {
     let mut script = on_mode(rt.alloc(), 0)?;
     script.caller = user(9, 9);
-    is_told(&mut script, root(2, 1))?;
-    is_told(&mut script, file(0))?;
+    is_told(&mut script, &root(2, 1))?;
+    is_told(&mut script, &file(0))?;
     script.is_followed(&rt)
 }
 

@@ -2,37 +2,45 @@
 
 use nfs_machine::ExportError;
 use nfs_server::Exit;
+use std::process::Abort;
 use std::test::Fail;
+
+/// The program ends with this status and line.
+fn is_told(
+    rt: &(impl Abort + AllocGlobal),
+    exit: &Exit,
+    status: u8,
+    line: &str,
+) -> Result<(), Fail> {
+    assert_eq!(rt; exit.status(), status);
+    assert_eq!(rt; exit.to_string(rt.alloc())?.as_str(), line);
+    Ok(())
+}
+
+/// A fault of exports has this line and status 1.
+fn is_refused(
+    rt: &(impl Abort + AllocGlobal),
+    fault: ExportError,
+    line: &str,
+) -> Result<(), Fail> {
+    let exit = Exit::from(fault);
+    let told = is_told(rt, &exit, 1, line);
+    drop(exit);
+    told
+}
 
 #[test]
 fn each_exit_has_a_status_and_a_line(rt: HostRuntime) -> Result<(), Fail> {
-    let alloc = rt.alloc();
-    let told = [
-        (Exit::NoTransport, 2, "nfsd: no transport"),
-        (Exit::Memory, 1, "nfsd: out of memory"),
-        (Exit::StandardStream, 1, "nfsd: standard stream failed"),
-    ];
-    for (exit, status, line) in told {
-        assert_eq!(rt; exit.status(), status);
-        assert_eq!(rt; exit.to_string(alloc)?.as_str(), line);
-    }
-    Ok(())
+    is_told(&rt, &Exit::NoTransport, 2, "nfsd: no transport")?;
+    is_told(&rt, &Exit::Memory, 1, "nfsd: out of memory")?;
+    is_told(&rt, &Exit::StandardStream, 1, "nfsd: standard stream failed")
 }
 
 #[test]
 fn each_fault_of_exports_has_its_line_and_status_1(rt: HostRuntime) -> Result<(), Fail> {
-    let alloc = rt.alloc();
-    let told = [
-        (ExportError::BadPath(1), "nfsd: export 1: bad path"),
-        (ExportError::BadMode(1), "nfsd: export 1: bad mode"),
-        (ExportError::NoHost(1), "nfsd: export 1: no host"),
-        (ExportError::DoublePath(2), "nfsd: export 2: double path"),
-        (ExportError::TooMany, "nfsd: too many exports"),
-    ];
-    for (fault, line) in told {
-        let exit = Exit::from(fault);
-        assert_eq!(rt; exit.status(), 1);
-        assert_eq!(rt; exit.to_string(alloc)?.as_str(), line);
-    }
-    Ok(())
+    is_refused(&rt, ExportError::BadPath(1), "nfsd: export 1: bad path")?;
+    is_refused(&rt, ExportError::BadMode(1), "nfsd: export 1: bad mode")?;
+    is_refused(&rt, ExportError::NoHost(1), "nfsd: export 1: no host")?;
+    is_refused(&rt, ExportError::DoublePath(2), "nfsd: export 2: double path")?;
+    is_refused(&rt, ExportError::TooMany, "nfsd: too many exports")
 }

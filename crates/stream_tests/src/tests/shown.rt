@@ -107,7 +107,7 @@ pub(super) struct Change {
 
 impl Shown {
     /// The object as it is after a call: `post_op_attr`.
-    pub(super) fn after(self) -> [u32; 22] {
+    pub(super) fn after(&self) -> [u32; 22] {
         [
             1,
             self.kind,
@@ -135,12 +135,12 @@ impl Shown {
     }
 
     /// The object as it was before a call: `pre_op_attr`.
-    pub(super) fn before(self) -> [u32; 7] {
+    pub(super) fn before(&self) -> [u32; 7] {
         [1, 0, self.size, 1000, self.modified, 1000, self.changed]
     }
 
     /// Its handle with its length: 32 bytes with mark, export 1, start 7, fileid and generation.
-    pub(super) fn handle(self) -> [u32; 9] {
+    pub(super) fn handle(&self) -> [u32; 9] {
         [32, 0x4e464433, 1, 0, 7, 0, self.number, 0, 1]
     }
 
