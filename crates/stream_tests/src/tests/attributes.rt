@@ -73,22 +73,12 @@ fn sets(
 }
 
 /// A SETATTR is done.
-fn takes(
-    script: &mut Script,
-    old: &Shown,
-    new: &Shown,
-    set: &[u32],
-) -> Result<(), AllocError> {
+fn takes(script: &mut Script, old: &Shown, new: &Shown, set: &[u32]) -> Result<(), AllocError> {
     sets(script, old, new, set, &ANYHOW, NFS3_OK)
 }
 
 /// A SETATTR is refused.
-fn refuses(
-    script: &mut Script,
-    object: &Shown,
-    set: &[u32],
-    error: u32,
-) -> Result<(), AllocError> {
+fn refuses(script: &mut Script, object: &Shown, set: &[u32], error: u32) -> Result<(), AllocError> {
     sets(script, object, object, set, &ANYHOW, error)
 }
 
@@ -112,10 +102,31 @@ fn a_guard_is_compared(script: &mut Script) -> Result<(), AllocError> {
     };
     script.call(WRITE, &FILE, &[0, 0, 3, 2], &[3, 0x61626300])?;
     script.answer(&[NFS3_OK], &NEW.before(), &written.after(), &[3, 2, 0, 7])?;
-    sets(script, &written, &written, &mode(0o600), &guard(0), NFS3ERR_NOT_SYNC)?;
-    sets(script, &written, &written, &mode(0o600), &[1, 999, 1], NFS3ERR_NOT_SYNC)?;
+    sets(
+        script,
+        &written,
+        &written,
+        &mode(0o600),
+        &guard(0),
+        NFS3ERR_NOT_SYNC,
+    )?;
+    sets(
+        script,
+        &written,
+        &written,
+        &mode(0o600),
+        &[1, 999, 1],
+        NFS3ERR_NOT_SYNC,
+    )?;
     sets(script, &written, &set, &mode(0o600), &guard(1), NFS3_OK)?;
-    sets(script, &set, &set, &mode(0o644), &guard(1), NFS3ERR_NOT_SYNC)
+    sets(
+        script,
+        &set,
+        &set,
+        &mode(0o644),
+        &guard(1),
+        NFS3ERR_NOT_SYNC,
+    )
 }
 
 #[test]

@@ -18,11 +18,7 @@ fn is_told(
 }
 
 /// A fault of exports has this line and status 1.
-fn is_refused(
-    rt: &(impl Abort + AllocGlobal),
-    fault: ExportError,
-    line: &str,
-) -> Result<(), Fail> {
+fn is_refused(rt: &(impl Abort + AllocGlobal), fault: ExportError, line: &str) -> Result<(), Fail> {
     let exit = Exit::from(fault);
     let told = is_told(rt, &exit, 1, line);
     drop(exit);
@@ -33,7 +29,12 @@ fn is_refused(
 fn each_exit_has_a_status_and_a_line(rt: HostRuntime) -> Result<(), Fail> {
     is_told(&rt, &Exit::NoTransport, 2, "nfsd: no transport")?;
     is_told(&rt, &Exit::Memory, 1, "nfsd: out of memory")?;
-    is_told(&rt, &Exit::StandardStream, 1, "nfsd: standard stream failed")
+    is_told(
+        &rt,
+        &Exit::StandardStream,
+        1,
+        "nfsd: standard stream failed",
+    )
 }
 
 #[test]
@@ -41,6 +42,10 @@ fn each_fault_of_exports_has_its_line_and_status_1(rt: HostRuntime) -> Result<()
     is_refused(&rt, ExportError::BadPath(1), "nfsd: export 1: bad path")?;
     is_refused(&rt, ExportError::BadMode(1), "nfsd: export 1: bad mode")?;
     is_refused(&rt, ExportError::NoHost(1), "nfsd: export 1: no host")?;
-    is_refused(&rt, ExportError::DoublePath(2), "nfsd: export 2: double path")?;
+    is_refused(
+        &rt,
+        ExportError::DoublePath(2),
+        "nfsd: export 2: double path",
+    )?;
     is_refused(&rt, ExportError::TooMany, "nfsd: too many exports")
 }
