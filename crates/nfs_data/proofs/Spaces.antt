@@ -92,7 +92,8 @@ module _ (d : DraftValue) (object : List ℕ) (begins : Begins (calls.Nfs (nfs.F
   space-promised x usage space names uses live tells =
       promised-unchanged d begins.none begins.quiet (calls.Nfs (nfs.Fsstat object)) _ held given (λ s k w formed.
       fsstat-step k.state (Some x.attributes) (Ok space) (names s k w).shows
-      (passed _ (names s k w).names (ap (λ y. Ok y) (sym (tells k.state x.export (uses s k w (live s k w.fits w.stands)))))))
+      (passed _ (names s k w).names
+      (ap (λ y. Ok y) (sym (tells k.state x.export (uses s k w (live s k w.fits w.stands)))))))
 
   pub no-space-promised : (e : NfsStatus) → Knows d (λ k. NamesNothing d.ctx object k e) → IsAnswer None (Err e)
   no-space-promised e refused =

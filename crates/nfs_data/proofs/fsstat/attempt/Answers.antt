@@ -32,7 +32,8 @@ returns-in_ok-usage-in-Ok-clause-ends c =
     c.in-Ok.known c.in_ok-usage-in-Ok.usage c.space_left.result
     (means-as c.args.draft c.args.object.now _ _ (Ok c.in-Ok.known) c.as_slice.ensures c.in-Ok.is
     c.in_ok-known.ensures.means) c.in_ok-usage-in-Ok.ensures
-    (exported-as c.args.draft _ c.in-Ok.known c.in-Ok.is c.in_ok-known.ensures.exported) (rw c.ctx.ensures at c.space_left.ensures))
+    (exported-as c.args.draft _ c.in-Ok.known c.in-Ok.is c.in_ok-known.ensures.exported)
+    (rw c.ctx.ensures at c.space_left.ensures))
 
 pub returns-in-Err-clause-ends : goal.returns-in-Err-clause-ends
 returns-in-Err-clause-ends c =
