@@ -1,0 +1,4 @@
+mod Apart
+pub mod Caches
+pub mod Hosts
+pub mod Lists

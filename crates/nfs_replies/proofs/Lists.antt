@@ -1,0 +1,131 @@
+-- Lists of kept replies: what is not kept stays so, and each record stays once.
+use Rattle.std.proofs.Common.{◌≡◌, ◌≤◌, ◌+◌, ℕ, zero, suc, Bool, true, false, cond, not, List, []}
+use Rattle.std.proofs.Common.{◌∷◌, ◌++◌}
+use Rattle.std.proofs.Common.{Option, Some, None, option_map, length, take, find, filter, refl, sym, ap, ◌∙◌}
+use Rattle.std.proofs.Common.{subst, arith}
+use Rattle.std.proofs.lemmas.List.{length-append}
+use Rattle.std.proofs.lemmas.List.Elements.{filter-append}
+use Rattle.std.proofs.lemmas.List.Sums.{length-filter}
+use Rattle.std.specs.Cmp.Lexicographic.{bytes_decides}
+use Rattle.nfs_replies.specs.Kept.{Kept, after, is_for, reply_for, same_bytes}
+use Rattle.nfs_replies.specs.Kept.Event.{Executed, Repeated}
+use Rattle.nfs_replies.specs.Replies.{EachOnce}
+
+module _ {X : Type 0} (p q : X → Bool) where
+  -- what a list does not have, no part of it has
+  pub find-take : (n : ℕ) (xs : List X) → find p xs ≡ None → find p (take n xs) ≡ None
+  find-take zero xs none = refl
+  find-take (suc n) [] none = refl
+  find-take (suc n) (x ∷ xs) none = elim (p x) as (λ b. cond b (Some x) (find p xs) ≡ None →
+      cond b (Some x) (find p (take n xs)) ≡ None) [
+        | true ↦ λ h. h
+        | false ↦ λ h. find-take n xs h
+      ] none
+
+  pub find-filter : (xs : List X) → find p xs ≡ None → find p (filter q xs) ≡ None
+  find-filter [] none = refl
+  find-filter (x ∷ xs) none = elim (q x) as (λ b. find p (cond b (x ∷ filter q xs) (filter q xs)) ≡ None) [
+    | true ↦ elim (p x) as (λ b. cond b (Some x) (find p xs) ≡ None →
+        cond b (Some x) (find p (filter q xs)) ≡ None) [
+          | true ↦ λ h. h
+          | false ↦ λ h. find-filter xs h
+        ] none
+    | false ↦ find-filter xs (elim (p x) as (λ b. cond b (Some x) (find p xs) ≡ None → find p xs ≡ None) [
+      | true ↦ λ h. absurd cc
+      | false ↦ λ h. h
+    ] none)
+  ]
+
+module _ {X : Type 0} (p : X → Bool) where
+  abbrev others : X → Bool
+  others x = not (p x)
+
+  pub filter-none : (xs : List X) → find p xs ≡ None → filter p xs ≡ []
+  filter-none [] none = refl
+  filter-none (x ∷ xs) none = elim (p x) as (λ b. cond b (Some x) (find p xs) ≡ None →
+      cond b (x ∷ filter p xs) (filter p xs) ≡ []) [
+        | true ↦ λ h. absurd cc
+        | false ↦ λ h. filter-none xs h
+      ] none
+
+  -- the others are all where none passes
+  pub others-all : (xs : List X) → filter p xs ≡ [] → filter others xs ≡ xs
+  others-all [] none = refl
+  others-all (x ∷ xs) none = elim (p x) as (λ b. cond b (x ∷ filter p xs) (filter p xs) ≡ [] →
+      cond (not b) (x ∷ filter others xs) (filter others xs) ≡ x ∷ xs) [
+        | true ↦ λ h. absurd cc
+        | false ↦ λ h. ap (λ rest. x ∷ rest) (others-all xs h)
+      ] none
+
+  -- some of a list are no more than all
+  pub length-filter_take : (n : ℕ) (xs : List X) → length (filter p (take n xs)) ≤ length (filter p xs)
+  length-filter_take zero xs = omega arith
+  length-filter_take (suc n) [] = omega arith
+  length-filter_take (suc n) (x ∷ xs) =
+      let rest = length-filter_take n xs in
+      elim (p x) as (λ b. length (cond b (x ∷ filter p (take n xs)) (filter p (take n xs))) ≤
+      length (cond b (x ∷ filter p xs) (filter p xs))) [
+        | true ↦ omega (arith, rest)
+        | false ↦ rest
+      ]
+
+  pub length-filter_halves : (q : X → Bool) (xs : List X) →
+      length (filter p (filter q xs)) + length (filter p (filter (λ x. not (q x)) xs)) ≡ length (filter p xs)
+  length-filter_halves q [] = omega arith
+  length-filter_halves q (x ∷ xs) =
+      let rest = length-filter_halves q xs in
+      elim (q x) as (λ b. length (filter p (cond b (x ∷ filter q xs) (filter q xs))) +
+      length (filter p (cond (not b) (x ∷ filter (λ x. not (q x)) xs) (filter (λ x. not (q x)) xs)))
+      ≡ length (cond (p x) (x ∷ filter p xs) (filter p xs))) [
+        | true ↦ elim (p x) as (λ b. length (cond b (x ∷ filter p (filter q xs)) (filter p (filter q xs))) +
+            length (filter p (filter (λ x. not (q x)) xs)) ≡ length (cond b (x ∷ filter p xs) (filter p xs))) [
+              | true ↦ omega (arith, rest)
+              | false ↦ rest
+            ]
+        | false ↦ elim (p x) as (λ b. length (filter p (filter q xs)) +
+            length (cond b (x ∷ filter p (filter (λ x. not (q x)) xs)) (filter p (filter (λ x. not (q x)) xs)))
+            ≡ length (cond b (x ∷ filter p xs) (filter p xs))) [
+              | true ↦ omega (arith, rest)
+              | false ↦ rest
+            ]
+      ]
+
+-- no reply is no entry
+pub none-found : (o : Option Kept) → option_map (λ (kept : Kept). kept.reply) o ≡ None → o ≡ None
+none-found None none = refl
+none-found (Some kept) none = cc
+
+module _ (capacity : ℕ) (host bytes : List ℕ) where
+  -- a repeat of what is not kept changes nothing
+  pub after-unkept : (list : List Kept) → reply_for bytes list ≡ None →
+      after capacity (Repeated host bytes) list ≡ list
+  after-unkept list none =
+      let empty = filter-none (is_for bytes) list (none-found (find (is_for bytes) list) none) in
+      ap (λ front. front ++ filter (λ kept. not (is_for bytes kept)) list) empty
+      ∙ others-all (is_for bytes) list empty
+
+  pub once-repeated : (list : List Kept) → EachOnce list → EachOnce (after capacity (Repeated host bytes) list)
+  once-repeated list once other =
+      let p = is_for other in
+      let front = filter (is_for bytes) list in
+      let rest = filter (λ kept. not (is_for bytes kept)) list in
+      let joined = sym (length-filter p (front ++ rest)) ∙ ap length (filter-append p front rest)
+      ∙ length-append (filter p front) (filter p rest) ∙ length-filter_halves p (is_for bytes) list
+      ∙ length-filter p list in
+      rw joined (once other)
+
+  pub once-executed : (reply : List ℕ) (list : List Kept) → reply_for bytes list ≡ None → EachOnce list →
+      EachOnce (after capacity (Executed host bytes reply) list)
+  once-executed reply list none once other =
+      let p = is_for other in
+      let new : Kept = record { bytes = bytes; reply = reply } in
+      let fewer = length-filter_take p capacity (new ∷ list) in
+      let bound : length (filter p (new ∷ list)) ≤ 1 = (elim (same_bytes other bytes) as
+      (λ b. same_bytes other bytes ≡ b → length (cond b (new ∷ filter p list) (filter p list)) ≤ 1) [
+        | true ↦ λ same. (let is : other ≡ bytes = (bytes_decides other bytes).0 same in
+            let empty : filter p list ≡ [] = subst (λ b. filter (is_for b) list ≡ []) (sym is)
+            (filter-none (is_for bytes) list (none-found (find (is_for bytes) list) none)) in
+            rw empty (omega arith))
+        | false ↦ λ same. rw (length-filter p list) (once other)
+      ]) refl in
+      rw (sym (length-filter p (take capacity (new ∷ list)))) (omega (arith, fewer, bound))

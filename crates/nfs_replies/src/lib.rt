@@ -1,0 +1,21 @@
+//! The replies of calls that changed something, kept for each host, so that a call that comes again is answered as
+//! before and not executed again.
+//!
+//! A repeat is a record with the same bytes, its xid included, from the same host. Each host has a list of its own,
+//! with the newest reply in front and a capacity that is the same for all, so no host pushes out another's replies. How
+//! many hosts have a list is not bounded.
+//!
+//! A list shares the buffers of its records and replies, and keeps them alive: of one host at most as many of each as
+//! the capacity says. At 1,024 replies, records of 73,728 bytes each are 72 MiB.
+//!
+//! Lists are found by the hash of the host, and replies by that of the whole record. The hashers have a fixed seed, so
+//! a host that picks records whose hashes are equal makes the look-ups in its own list slower.
+#![tactic(auto)]
+
+mod capacity;
+pub mod laws;
+mod replies;
+pub mod worked;
+
+pub use capacity::Capacity;
+pub use replies::Replies;

@@ -1,0 +1,154 @@
+//! The replies that are kept, a list for each host.
+
+ghost use Rattle.std.specs.Prelude.{◌≡◌, ◌<◌, [], IfErr, IfOk, IsSome, None, OnErr, OnOk};
+ghost use Rattle.std.specs.Option.{option_copied};
+ghost use Rattle.lru.specs.LruCache.{lru_cache};
+ghost use Rattle.nfs_replies.specs.Kept.{reply_for};
+ghost use Rattle.nfs_replies.specs.Kept.Event.{Executed, Repeated};
+ghost use Rattle.nfs_replies.specs.Replies.{Follows, kept_of, list_of};
+
+use crate::capacity::Capacity;
+use bytes::Bytes;
+use indexmap::IndexMap;
+use lru::LruCache;
+use std::alloc::{AllocError, AllocFailed, Global};
+use std::marker::Model;
+
+/// The replies that are kept, a list for each host, with the newest in front. A host with an empty list and a host with
+/// none are the same to every clause.
+#[derive(Drop)]
+pub struct Replies {
+    capacity: Capacity,
+    lists: IndexMap<Bytes, LruCache<Bytes, Bytes>>,
+}
+
+impl Model for Replies {
+    ghost use Rattle.std.specs.Prelude.{map};
+    ghost use Rattle.nfs_replies.specs.Replies.{AreListed, RepliesValue, host_replies};
+
+    ghost Value = { RepliesValue };
+
+    ghost view = { λ r. record { capacity = r.capacity; hosts = map host_replies r.lists.entries } };
+
+    ghost invariant = { λ r. AreListed r.capacity r.lists.entries };
+}
+
+impl Replies {
+    /// No reply, and this capacity for the list of each host. It takes no memory.
+    pub fn new(alloc: Global, capacity: Capacity) -> Replies
+        ensures { result ≡ record { capacity = capacity; hosts = [] } }
+    {
+        Replies {
+            capacity,
+            lists: IndexMap::new(alloc),
+        }
+    }
+
+    /// The reply that is kept for a record of these bytes from this host, shared and not copied; it comes to the front
+    /// of the host's list. None where there is none, and then nothing changes.
+    ///
+    /// # Errors
+    ///
+    /// Only where a reply is kept and can't be shared; nothing changes.
+    pub fn find(&mut self, host: &Bytes, bytes: &Bytes) -> Result<Option<Bytes>, AllocError>
+        ensures found { IfOk result (λ reply. reply ≡ reply_for bytes.now (kept_of self.old host.now)) }
+        ensures front { OnOk result (Follows (Repeated host.now bytes.now) self.old self.new) }
+        ensures absent { reply_for bytes.now (kept_of self.old host.now) ≡ None → self.new ≡ self.old }
+        ensures refused { OnErr result (IsSome (reply_for bytes.now (kept_of self.old host.now))) }
+        ensures err { OnErr result (self.new ≡ self.old) }
+    {
+        let Some(reply) = self.reply(host, bytes) else {
+            return Ok(None);
+        };
+        let reply = reply.clone()?;
+        self.bring_to_front(host, bytes);
+        Ok(Some(reply))
+    }
+
+    /// Keeps the reply to a record of these bytes from this host, in front of the host's list. Where the list exceeds
+    /// the capacity, its last reply goes.
+    ///
+    /// # Errors
+    ///
+    /// The record and the reply, where the memory was refused; nothing changes.
+    pub fn keep(
+        &mut self,
+        alloc: Global,
+        host: &Bytes,
+        bytes: Bytes,
+        reply: Bytes,
+    ) -> Result<(), AllocFailed<(Bytes, Bytes)>>
+        requires { reply_for bytes (kept_of self.old host.now) ≡ None }
+        ensures front { OnOk result (Follows (Executed host.now bytes reply) self.old self.new) }
+        ensures returned { IfErr result (λ refused. refused.value ≡ (bytes, reply)) }
+        ensures err { OnErr result (self.new ≡ self.old) }
+    {
+        match self.lists.get_mut(host) {
+            Some(list) => match list.put(bytes, reply) {
+                Ok(_) => Ok(()),
+                Err(refused) => Err(refused),
+            },
+            None => self.keep_first(alloc, host, bytes, reply),
+        }
+    }
+
+    /// The reply that is kept; the order stays.
+    fn reply(&self, host: &Bytes, bytes: &Bytes) -> Option<&Bytes>
+        ensures { option_copied result ≡ reply_for bytes.now (kept_of self.now host.now) }
+    {
+        self.lists.get(host)?.peek(bytes)
+    }
+
+    /// What is kept for a record goes to the front of its host's list.
+    fn bring_to_front(&mut self, host: &Bytes, bytes: &Bytes)
+        ensures { Follows (Repeated host.now bytes.now) self.old self.new }
+    {
+        if let Some(list) = self.lists.get_mut(host) {
+            list.promote(bytes);
+        }
+    }
+
+    /// Keeps the first reply of a host that has no list.
+    fn keep_first(
+        &mut self,
+        alloc: Global,
+        host: &Bytes,
+        bytes: Bytes,
+        reply: Bytes,
+    ) -> Result<(), AllocFailed<(Bytes, Bytes)>>
+        requires { list_of self.old host.now ≡ None }
+        ensures front { OnOk result (Follows (Executed host.now bytes reply) self.old self.new) }
+        ensures returned { IfErr result (λ refused. refused.value ≡ (bytes, reply)) }
+        ensures err { OnErr result (self.new ≡ self.old) }
+    {
+        let Ok(()) = self.lists.reserve(1) else {
+            return Err(AllocFailed {
+                value: (bytes, reply),
+            });
+        };
+        let Ok((host, mut list)) = new_list(alloc, host, &self.capacity) else {
+            return Err(AllocFailed {
+                value: (bytes, reply),
+            });
+        };
+        list.put(bytes, reply)?;
+        self.lists.insert(host, list).unwrap();
+        Ok(())
+    }
+}
+
+/// An empty list, with the host that it will be of. The host is copied, so that it keeps nothing alive that it was cut
+/// from.
+fn new_list(
+    alloc: Global,
+    host: &Bytes,
+    capacity: &Capacity,
+) -> Result<(Bytes, LruCache<Bytes, Bytes>), AllocError>
+    ensures host { IfOk result (λ made. made.0 ≡ host.now) }
+    ensures list { IfOk result (λ made. made.1 ≡ lru_cache [] capacity.now) }
+    ensures some { OnOk result (0 < capacity.now) }
+{
+    let host = Bytes::copy_from_slice(alloc, host.as_slice())?;
+    let list = LruCache::sparse(alloc, capacity.get())?;
+    Ok((host, list))
+}
