@@ -1,0 +1,3 @@
+//! What is expected is worked out by hand from the rules.
+
+mod replies;

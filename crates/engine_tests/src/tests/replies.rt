@@ -1,0 +1,180 @@
+//! Kept replies: calls that come again, of one host and of two, and growth that is refused.
+
+ghost use Rattle.std.specs.Prelude.{◌≡◌, None};
+ghost use Rattle.nfs_replies.specs.Kept.{reply_for};
+ghost use Rattle.nfs_replies.specs.Replies.{kept_of};
+
+use bytes::Bytes;
+use nfs_replies::{Capacity, Replies};
+use std::alloc::{AllocError, Global};
+use std::test::Fail;
+
+/// What a call is answered.
+const OK: &[u8] = b"OK";
+const EXIST: &[u8] = b"EXIST";
+
+/// Two hosts.
+const FIRST: &[u8] = b"10.0.0.1";
+const SECOND: &[u8] = b"10.0.0.2";
+
+/// Records: an xid, and a word in place of the call. The first two have the same xid.
+const CREATE: &[u8] = b"\0\0\0\x01CREATE a";
+const MKDIR: &[u8] = b"\0\0\0\x01MKDIR b";
+const REMOVE: &[u8] = b"\0\0\0\x02REMOVE a";
+
+/// Room for so many replies of each host.
+fn replies(alloc: Global, capacity: usize) -> Result<Replies, Fail> {
+    let capacity = Capacity::new(capacity).ok_or("a capacity")?;
+    Ok(Replies::new(alloc, capacity))
+}
+
+/// The reply that a record gets: the kept one, or else this one, which is kept then.
+fn answered(
+    alloc: Global,
+    replies: &mut Replies,
+    host: &'static [u8],
+    bytes: &'static [u8],
+    reply: &'static [u8],
+) -> Result<Bytes, AllocError> {
+    let host = Bytes::from_static(host);
+    let bytes = Bytes::from_static(bytes);
+    let reply = Bytes::from_static(reply);
+    if let Some(kept) = replies.find(&host, &bytes)? {
+        return Ok(kept);
+    }
+    replies.keep(alloc, &host, bytes, reply.clone()?)?;
+    Ok(reply)
+}
+
+/// A record of a host, what it is answered where it is executed, and what it has to be answered.
+#[derive(Clone, Copy)]
+struct Row {
+    host: &'static [u8],
+    record: &'static [u8],
+    executed: &'static [u8],
+    want: &'static [u8],
+}
+
+/// The record is executed, and so answered OK.
+fn done(host: &'static [u8], record: &'static [u8]) -> Row {
+    Row { host, record, executed: OK, want: OK }
+}
+
+/// The record comes again and is not executed: it would be answered EXIST.
+fn repeated(host: &'static [u8], record: &'static [u8]) -> Row {
+    Row { host, record, executed: EXIST, want: OK }
+}
+
+/// The record comes again and is executed.
+fn done_again(host: &'static [u8], record: &'static [u8]) -> Row {
+    Row { host, record, executed: EXIST, want: EXIST }
+}
+
+/// Whether each row's record is answered so, with room for so many replies of each host.
+fn are_answered(alloc: Global, capacity: usize, rows: &[Row]) -> Result<bool, Fail> {
+    let mut replies = replies(alloc, capacity)?;
+    for row in rows {
+        let got = answered(alloc, &mut replies, row.host, row.record, row.executed)?;
+        if got.as_slice() != row.want {
+            return Ok(false);
+        }
+    }
+    Ok(true)
+}
+
+#[test]
+fn the_newest_replies_are_kept(rt: HostRuntime) -> Result<(), Fail> {
+    let rows = [
+        done(FIRST, CREATE),
+        repeated(FIRST, CREATE),
+        done(FIRST, MKDIR),
+        repeated(FIRST, MKDIR),
+        done_again(FIRST, CREATE),
+    ];
+    assert!(rt; are_answered(rt.alloc(), 1, &rows)?);
+    Ok(())
+}
+
+#[test]
+fn what_comes_again_is_kept_longer(rt: HostRuntime) -> Result<(), Fail> {
+    let rows = [
+        done(FIRST, CREATE),
+        done(FIRST, MKDIR),
+        repeated(FIRST, CREATE),
+        done(FIRST, REMOVE),
+        repeated(FIRST, CREATE),
+        done_again(FIRST, MKDIR),
+    ];
+    assert!(rt; are_answered(rt.alloc(), 2, &rows)?);
+    Ok(())
+}
+
+#[test]
+fn hosts_do_not_push_out_each_others_replies(rt: HostRuntime) -> Result<(), Fail> {
+    let rows = [
+        done(FIRST, CREATE),
+        done_again(SECOND, CREATE),
+        done(SECOND, MKDIR),
+        repeated(FIRST, CREATE),
+        done(FIRST, REMOVE),
+        done_again(FIRST, CREATE),
+    ];
+    assert!(rt; are_answered(rt.alloc(), 1, &rows)?);
+    Ok(())
+}
+
+#[test]
+fn a_capacity_is_1_to_65536(rt: HostRuntime) {
+    for (replies, is_one) in [(0, false), (1, true), (65_536, true), (65_537, false)] {
+        assert_eq!(rt; Capacity::new(replies).is_some(), is_one, "{replies}");
+    }
+}
+
+/// The reply is kept, if need be by a second try. Where the first is refused, record and reply come back and nothing
+/// is kept.
+fn kept_at_last(
+    alloc: Global,
+    replies: &mut Replies,
+    host: &'static [u8],
+    bytes: &'static [u8],
+) -> Result<bool, AllocError>
+    requires { reply_for bytes.now (kept_of replies.old host.now) ≡ None }
+{
+    let host = Bytes::from_static(host);
+    let reply = Bytes::from_static(OK);
+    let Err(refused) = replies.keep(alloc, &host, Bytes::from_static(bytes), reply) else {
+        return Ok(true);
+    };
+    let (record, reply) = refused.value;
+    if record.as_slice() != bytes || reply.as_slice() != OK {
+        return Ok(false);
+    }
+    if replies.find(&host, &record)?.is_some() {
+        return Ok(false);
+    }
+    replies.keep(alloc, &host, record, reply)?;
+    Ok(true)
+}
+
+/// Made for runs in which one allocation is refused, whichever it is: the end is the same.
+#[test]
+fn a_refused_growth_changes_nothing(rt: HostRuntime) -> Result<(), Fail> {
+    let mut replies = replies(rt.alloc(), 2)?;
+    for (host, record) in [(FIRST, CREATE), (SECOND, CREATE), (FIRST, MKDIR), (FIRST, REMOVE)] {
+        let key = Bytes::from_static(host);
+        if replies.find(&key, &Bytes::from_static(record))?.is_none() {
+            assert!(rt; kept_at_last(rt.alloc(), &mut replies, host, record)?);
+        }
+    }
+    for (host, record, is_kept) in [
+        (FIRST, CREATE, false),
+        (SECOND, CREATE, true),
+        (FIRST, MKDIR, true),
+        (FIRST, REMOVE, true),
+    ] {
+        let key = Bytes::from_static(host);
+        let found = replies.find(&key, &Bytes::from_static(record))?;
+        assert_eq!(rt; found.is_some(), is_kept);
+    }
+    Ok(())
+}
