@@ -1,16 +1,15 @@
 -- A cache of the kit is the list of what it keeps: its look-up, its front and its end are the list's.
 use Rattle.std.proofs.Common.{◌≡◌, ◌≤◌, ◌-◌, ◌<◌, ℕ, zero, suc, Bool, true, false, cond, not}
-use Rattle.std.proofs.Common.{List, [], ◌∷◌, ◌++◌}
-use Rattle.std.proofs.Common.{Option, Some, None, option_map, length, take, map, find, filter, refl, sym, ap, ◌∙◌}
-use Rattle.std.proofs.Common.{subst, arith}
+use Rattle.std.proofs.Common.{List, [], ◌∷◌, ◌++◌, Option, Some, None, option_map, length, take, map, find}
+use Rattle.std.proofs.Common.{filter, refl, sym, ap, ◌∙◌, subst, arith}
 use Rattle.std.proofs.lemmas.List.{take-map}
 use Rattle.std.proofs.lemmas.List.Sums.{length-filter}
 use Rattle.std.specs.Map.{lookup, lookup_entry, remove_entry}
 use Rattle.std.specs.Option.{option_map_or}
 use Rattle.lru.proofs.Pairs.{lookup-lookup_entry}
 use Rattle.lru.specs.LruCache.{lru_cache, promoted, put_entries}
-use Rattle.nfs_replies.specs.Kept.{Event, Kept, after, is_for, reply_for, same_bytes}
-use Rattle.nfs_replies.specs.Kept.Event.{Executed, Repeated}
+use Rattle.nfs_replies.specs.Kept.{ReplyEvent, KeptReply, after, is_for, reply_for, same_bytes}
+use Rattle.nfs_replies.specs.Kept.ReplyEvent.{Replied, Repeated}
 use Rattle.nfs_replies.specs.Replies.{Cache, EachOnce, IsListed, kept_in}
 use Rattle.nfs_replies.proofs.Lists.{once-executed, once-repeated, others-all}
 
@@ -18,19 +17,19 @@ abbrev Pairs : Type 0
 Pairs = List (List ℕ × List ℕ)
 
 -- a cache with these pairs keeps this
-abbrev pub kept : Pairs → List Kept
+abbrev pub kept : Pairs → List KeptReply
 kept pairs = map (λ pair. record { bytes = pair.0; reply = pair.1 }) pairs
 
 module _ (bytes : List ℕ) where
   abbrev test : List ℕ → Bool
   test = same_bytes bytes
 
-  abbrev rest : Kept → Bool
+  abbrev rest : KeptReply → Bool
   rest k = not (is_for bytes k)
 
   pub reply_for-kept : (pairs : Pairs) → reply_for bytes (kept pairs) ≡ lookup test pairs
   reply_for-kept [] = refl
-  reply_for-kept (p ∷ pairs) = elim (test p.0) as (λ b. option_map (λ (k : Kept). k.reply)
+  reply_for-kept (p ∷ pairs) = elim (test p.0) as (λ b. option_map (λ (k : KeptReply). k.reply)
       (cond b (Some (record { bytes = p.0; reply = p.1 })) (find (is_for bytes) (kept pairs))) ≡
       cond b (Some p.1) (lookup test pairs)) [
         | true ↦ refl
@@ -51,7 +50,7 @@ module _ (bytes : List ℕ) where
       (filter rest (kept pairs) ≡ kept (remove_entry test pairs))
   front [] once = (refl, refl)
   front (p ∷ pairs) once =
-      let k : Kept = record { bytes = p.0; reply = p.1 } in
+      let k : KeptReply = record { bytes = p.0; reply = p.1 } in
       elim (test p.0) as (λ b. length (cond b (k ∷ filter (is_for bytes) (kept pairs))
       (filter (is_for bytes) (kept pairs))) ≤ 1 →
       (cond b (k ∷ filter (is_for bytes) (kept pairs)) (filter (is_for bytes) (kept pairs)) ≡
@@ -86,7 +85,7 @@ module _ (bytes : List ℕ) where
   no-entry None h = refl
   no-entry (Some e) h = cc
 
-  put-first : (capacity : ℕ) (new : Kept) (pairs : Pairs) → 0 < capacity →
+  put-first : (capacity : ℕ) (new : KeptReply) (pairs : Pairs) → 0 < capacity →
       new ∷ kept (take (capacity - 1) pairs) ≡ take capacity (new ∷ kept pairs)
   put-first zero new pairs some = absurd (omega arith)
   put-first (suc n) new pairs some =
@@ -97,7 +96,7 @@ module _ (bytes : List ℕ) where
   -- to put a pair that is not there is what a new reply does
   pub kept-put : (host reply : List ℕ) (cache : Cache) → 0 < cache.cap →
       reply_for bytes (kept_in cache) ≡ None → kept (put_entries same_bytes cache bytes reply) ≡
-      after cache.cap (Executed host bytes reply) (kept_in cache)
+      after cache.cap (Replied host bytes reply) (kept_in cache)
   kept-put host reply cache some none =
       let absent = no-entry (lookup_entry test cache.entries)
       (lookup-lookup_entry test cache.entries ∙ sym (reply_for-kept cache.entries) ∙ none) in
@@ -106,7 +105,7 @@ module _ (bytes : List ℕ) where
       ∙ put-first cache.cap (record { bytes = bytes; reply = reply }) cache.entries some
 
 module _ (capacity : ℕ) (host bytes : List ℕ) (was : Cache) (is : IsListed capacity was) where
-  abbrev pub IsLeftBy : Event → Cache → Type 0
+  abbrev pub IsLeftBy : ReplyEvent → Cache → Type 0
   IsLeftBy event new = IsListed capacity new × (kept_in new ≡ after capacity event (kept_in was))
 
   -- what is true of a cache stays so when what is kept for a record comes to the front
@@ -125,9 +124,9 @@ module _ (capacity : ℕ) (host bytes : List ℕ) (was : Cache) (is : IsListed c
 
   -- and when a new reply is put
   pub put-left : (reply : List ℕ) (new : Cache) → reply_for bytes (kept_in was) ≡ None →
-      new ≡ lru_cache (put_entries same_bytes was bytes reply) was.cap → IsLeftBy (Executed host bytes reply) new
+      new ≡ lru_cache (put_entries same_bytes was bytes reply) was.cap → IsLeftBy (Replied host bytes reply) new
   put-left reply new none by =
-      let event = Executed host bytes reply in
+      let event = Replied host bytes reply in
       let left = kept-put bytes host reply was (subst (λ n. 0 < n) (sym is.bound) is.roomy) none
       ∙ ap (λ n. after n event (kept_in was)) is.bound in
       subst (IsLeftBy event) (sym by) (

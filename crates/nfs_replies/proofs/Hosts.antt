@@ -1,17 +1,16 @@
 -- The map of hosts: one cache written is one event, and no other host's list changes.
-use Rattle.std.proofs.Common.{◌≡◌, ℕ, true, false, cond, List, [], ◌∷◌}
-use Rattle.std.proofs.Common.{Option, Some, None, IfSome, IsSome, option_map, map, find, refl, sym, ap, ◌∙◌}
-use Rattle.std.proofs.Common.{subst}
+use Rattle.std.proofs.Common.{◌≡◌, ℕ, true, false, cond, List, [], ◌∷◌, Option, Some, None, IfSome}
+use Rattle.std.proofs.Common.{IsSome, option_map, map, find, refl, sym, ap, ◌∙◌, subst}
 use Rattle.indexmap.specs.IndexMap.{IndexMap, Updates, WritesThrough}
 use Rattle.std.proofs.lemmas.Map.Steps.{set_value_same}
 use Rattle.std.specs.Cmp.Lexicographic.{bytes_decides}
 use Rattle.std.specs.Map.{lookup}
 use Rattle.std.specs.Option.{option_map_or}
-use Rattle.nfs_replies.specs.Kept.{Event, Kept, Lists, after, host_of, lists_after, reply_for, same_bytes}
-use Rattle.nfs_replies.specs.Kept.Event.{Repeated}
+use Rattle.nfs_replies.specs.Kept.{ReplyEvent, KeptReply, KeptLists, after, host_of, lists_after, reply_for, same_bytes}
+use Rattle.nfs_replies.specs.Kept.ReplyEvent.{Repeated}
 use Rattle.nfs_replies.proofs.Caches.{reply_for-kept}
 use Rattle.nfs_replies.proofs.Lists.{after-unkept}
-use Rattle.nfs_replies.specs.Replies.{AreListed, Cache, Follows, HostReplies, IsListed, RepliesValue, host_replies}
+use Rattle.nfs_replies.specs.Replies.{AreListed, Cache, IsAfter, HostReplies, IsListed, RepliesValue, host_replies}
 use Rattle.nfs_replies.specs.Replies.{kept_in, kept_of, list_of}
 
 abbrev Hosts : Type 0
@@ -22,7 +21,7 @@ abbrev pub shown : ℕ → Hosts → RepliesValue
 shown capacity hosts = record { capacity = capacity; hosts = map host_replies hosts }
 
 -- the list that stands at a host, or does not
-abbrev pub listed : Option Cache → List Kept
+abbrev pub listed : Option Cache → List KeptReply
 listed o = option_map_or kept_in o []
 
 pub list_of-shown : (capacity : ℕ) (hosts : Hosts) (host : List ℕ) →
@@ -37,7 +36,7 @@ list_of-shown capacity (h ∷ hosts) host = elim (same_bytes host h.0) as
       | false ↦ list_of-shown capacity hosts host
     ]
 
-abbrev value : Option (List Kept) → List Kept
+abbrev value : Option (List KeptReply) → List KeptReply
 value o = option_map_or (λ list. list) o []
 
 value-list : (o : Option HostReplies) → option_map_or (λ (h : HostReplies). h.list) o [] ≡
@@ -67,7 +66,7 @@ none-stands capacity hosts host none = by (lookup (same_bytes host) hosts)
     by (Some cache) e = cc
 
 -- an event changes its host's list alone: what is left of it is what the event leaves
-module _ (capacity : ℕ) (event : Event) (lists : Lists) (left : List Kept)
+module _ (capacity : ℕ) (event : ReplyEvent) (lists : KeptLists) (left : List KeptReply)
     (is-left : left ≡ after capacity event (lists (host_of event))) where
   at-event : (q : List ℕ) →
       cond (same_bytes (host_of event) q) left (lists q) ≡ lists_after capacity event lists q
@@ -79,9 +78,9 @@ module _ (capacity : ℕ) (event : Event) (lists : Lists) (left : List Kept)
       ]) refl
 
 -- a repeat of what is not kept changes nothing
-pub follows-unkept : (replies : RepliesValue) (host bytes : List ℕ) →
-    reply_for bytes (kept_of replies host) ≡ None → Follows (Repeated host bytes) replies replies
-follows-unkept replies host bytes none = record {
+pub is-after-unkept : (replies : RepliesValue) (host bytes : List ℕ) →
+    reply_for bytes (kept_of replies host) ≡ None → IsAfter (Repeated host bytes) replies replies
+is-after-unkept replies host bytes none = record {
   lists = λ i q. (same q ∙ at-event capacity event lists (lists host) unchanged q) i;
   capacity = refl;
 }
@@ -89,10 +88,10 @@ follows-unkept replies host bytes none = record {
     capacity : ℕ
     capacity = replies.capacity
 
-    event : Event
+    event : ReplyEvent
     event = Repeated host bytes
 
-    lists : Lists
+    lists : KeptLists
     lists = kept_of replies
 
     unchanged : lists host ≡ after capacity event (lists host)
@@ -105,15 +104,15 @@ follows-unkept replies host bytes none = record {
           | false ↦ λ is. refl
         ]) refl
 
-module _ (capacity : ℕ) (event : Event) (old new : Hosts) (cache : Cache)
+module _ (capacity : ℕ) (event : ReplyEvent) (old new : Hosts) (cache : Cache)
     (writes : (q : List ℕ) → lookup (same_bytes q) new ≡
     cond (same_bytes (host_of event) q) (Some cache) (lookup (same_bytes q) old)) where
   -- a cache at the event's host that keeps what the event leaves is all that the event does
-  pub follows-written : kept_in cache ≡ after capacity event (listed (lookup (same_bytes (host_of event)) old)) →
-      Follows event (shown capacity old) (shown capacity new)
-  follows-written left = record { lists = λ i q. at q i; capacity = refl }
+  pub is-after-written : kept_in cache ≡ after capacity event (listed (lookup (same_bytes (host_of event)) old)) →
+      IsAfter event (shown capacity old) (shown capacity new)
+  is-after-written left = record { lists = λ i q. at q i; capacity = refl }
     where
-      lists : Lists
+      lists : KeptLists
       lists = kept_of (shown capacity old)
 
       at : (q : List ℕ) → kept_of (shown capacity new) q ≡ lists_after capacity event lists q
@@ -163,16 +162,16 @@ no-list-at capacity hosts host found = no-list (list_of (shown capacity hosts) h
     (list_of-shown capacity hosts host ∙ ap (option_map kept_in) (sym found))
 
 -- a cache that was lent is left by an event
-module _ {S : Type 0} (capacity : ℕ) (event : Event) (old new : IndexMap (List ℕ) Cache S) (was cache : Cache)
+module _ {S : Type 0} (capacity : ℕ) (event : ReplyEvent) (old new : IndexMap (List ℕ) Cache S) (was cache : Cache)
     (found : Some was ≡ lookup (same_bytes (host_of event)) old.entries)
     (through : WritesThrough same_bytes (same_bytes (host_of event)) old cache new) where
   writes : (q : List ℕ) → lookup (same_bytes q) new.entries ≡
       cond (same_bytes (host_of event) q) (Some cache) (lookup (same_bytes q) old.entries)
   writes = (through.3 (subst IsSome found refl)).0
 
-  pub follows-lent : kept_in cache ≡ after capacity event (kept_in was) →
-      Follows event (shown capacity old.entries) (shown capacity new.entries)
-  follows-lent left = follows-written capacity event old.entries new.entries cache writes
+  pub is-after-lent : kept_in cache ≡ after capacity event (kept_in was) →
+      IsAfter event (shown capacity old.entries) (shown capacity new.entries)
+  is-after-lent left = is-after-written capacity event old.entries new.entries cache writes
       (left ∙ ap (λ o. after capacity event (listed o)) found)
 
   pub listed-lent : AreListed capacity old.entries → IsListed capacity cache → AreListed capacity new.entries
@@ -191,7 +190,7 @@ pub listed-at : (capacity : ℕ) (hosts : Hosts) (host : List ℕ) (cache : Cach
 listed-at capacity hosts host cache each found = subst (λ o. IfSome o (IsListed capacity)) (sym found) (each host)
 
 -- a cache comes for a host that has none
-module _ {S : Type 0} (capacity : ℕ) (event : Event) (host : List ℕ) (old : Hosts)
+module _ {S : Type 0} (capacity : ℕ) (event : ReplyEvent) (host : List ℕ) (old : Hosts)
     (roomy new : IndexMap (List ℕ) Cache S) (cache : Cache) (is : host ≡ host_of event)
     (same : roomy.entries ≡ old)
     (updates : Updates same_bytes roomy new host (Some cache)) where
@@ -201,9 +200,9 @@ module _ {S : Type 0} (capacity : ℕ) (event : Event) (host : List ℕ) (old : 
       ∙ ap (λ h. cond (same_bytes h q) (Some cache) (lookup (same_bytes q) roomy.entries)) is
       ∙ ap (λ es. cond (same_bytes (host_of event) q) (Some cache) (lookup (same_bytes q) es)) same
 
-  pub follows-new : lookup (same_bytes (host_of event)) old ≡ None → kept_in cache ≡ after capacity event [] →
-      Follows event (shown capacity old) (shown capacity new.entries)
-  follows-new none left = follows-written capacity event old new.entries cache comes
+  pub is-after-new : lookup (same_bytes (host_of event)) old ≡ None → kept_in cache ≡ after capacity event [] →
+      IsAfter event (shown capacity old) (shown capacity new.entries)
+  is-after-new none left = is-after-written capacity event old new.entries cache comes
       (left ∙ ap (λ o. after capacity event (listed o)) (sym none))
 
   pub listed-new : AreListed capacity old → IsListed capacity cache → AreListed capacity new.entries

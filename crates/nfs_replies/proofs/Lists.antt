@@ -1,14 +1,13 @@
 -- Lists of kept replies: what is not kept stays so, and each record stays once.
 use Rattle.std.proofs.Common.{◌≡◌, ◌≤◌, ◌+◌, ℕ, zero, suc, Bool, true, false, cond, not, List, []}
-use Rattle.std.proofs.Common.{◌∷◌, ◌++◌}
-use Rattle.std.proofs.Common.{Option, Some, None, option_map, length, take, find, filter, refl, sym, ap, ◌∙◌}
-use Rattle.std.proofs.Common.{subst, arith}
+use Rattle.std.proofs.Common.{◌∷◌, ◌++◌, Option, Some, None, option_map, length, take, find, filter, refl}
+use Rattle.std.proofs.Common.{sym, ap, ◌∙◌, subst, arith}
 use Rattle.std.proofs.lemmas.List.{length-append}
 use Rattle.std.proofs.lemmas.List.Elements.{filter-append}
 use Rattle.std.proofs.lemmas.List.Sums.{length-filter}
 use Rattle.std.specs.Cmp.Lexicographic.{bytes_decides}
-use Rattle.nfs_replies.specs.Kept.{Kept, after, is_for, reply_for, same_bytes}
-use Rattle.nfs_replies.specs.Kept.Event.{Executed, Repeated}
+use Rattle.nfs_replies.specs.Kept.{KeptReply, after, is_for, reply_for, same_bytes}
+use Rattle.nfs_replies.specs.Kept.ReplyEvent.{Replied, Repeated}
 use Rattle.nfs_replies.specs.Replies.{EachOnce}
 
 module _ {X : Type 0} (p q : X → Bool) where
@@ -91,20 +90,20 @@ module _ {X : Type 0} (p : X → Bool) where
       ]
 
 -- no reply is no entry
-pub none-found : (o : Option Kept) → option_map (λ (kept : Kept). kept.reply) o ≡ None → o ≡ None
+pub none-found : (o : Option KeptReply) → option_map (λ (kept : KeptReply). kept.reply) o ≡ None → o ≡ None
 none-found None none = refl
 none-found (Some kept) none = cc
 
 module _ (capacity : ℕ) (host bytes : List ℕ) where
   -- a repeat of what is not kept changes nothing
-  pub after-unkept : (list : List Kept) → reply_for bytes list ≡ None →
+  pub after-unkept : (list : List KeptReply) → reply_for bytes list ≡ None →
       after capacity (Repeated host bytes) list ≡ list
   after-unkept list none =
       let empty = filter-none (is_for bytes) list (none-found (find (is_for bytes) list) none) in
       ap (λ front. front ++ filter (λ kept. not (is_for bytes kept)) list) empty
       ∙ others-all (is_for bytes) list empty
 
-  pub once-repeated : (list : List Kept) → EachOnce list → EachOnce (after capacity (Repeated host bytes) list)
+  pub once-repeated : (list : List KeptReply) → EachOnce list → EachOnce (after capacity (Repeated host bytes) list)
   once-repeated list once other =
       let p = is_for other in
       let front = filter (is_for bytes) list in
@@ -114,11 +113,11 @@ module _ (capacity : ℕ) (host bytes : List ℕ) where
       ∙ length-filter p list in
       rw joined (once other)
 
-  pub once-executed : (reply : List ℕ) (list : List Kept) → reply_for bytes list ≡ None → EachOnce list →
-      EachOnce (after capacity (Executed host bytes reply) list)
+  pub once-executed : (reply : List ℕ) (list : List KeptReply) → reply_for bytes list ≡ None → EachOnce list →
+      EachOnce (after capacity (Replied host bytes reply) list)
   once-executed reply list none once other =
       let p = is_for other in
-      let new : Kept = record { bytes = bytes; reply = reply } in
+      let new : KeptReply = record { bytes = bytes; reply = reply } in
       let fewer = length-filter_take p capacity (new ∷ list) in
       let bound : length (filter p (new ∷ list)) ≤ 1 = (elim (same_bytes other bytes) as
       (λ b. same_bytes other bytes ≡ b → length (cond b (new ∷ filter p list) (filter p list)) ≤ 1) [

@@ -1,7 +1,6 @@
 -- Which replies are kept, so that a call that comes again is answered as before and not executed again.
 use Rattle.std.specs.Prelude.{ℕ, Bool, if◌then◌else◌, List, [], ◌∷◌, ◌++◌, Option, nat_eq, not, take}
-use Rattle.std.specs.Prelude.{filter, find}
-use Rattle.std.specs.Prelude.{fold, option_map}
+use Rattle.std.specs.Prelude.{filter, find, fold, option_map}
 use Rattle.std.specs.Cmp.Lexicographic.{pointwise}
 
 -- two texts are the same bytes
@@ -9,56 +8,56 @@ abbrev pub same_bytes : List ℕ → List ℕ → Bool
 same_bytes a b = pointwise nat_eq a b
 
 -- a reply, with the bytes of the record that it answered
-pub record Kept : Type 0 where
+pub record KeptReply : Type 0 where
   pub bytes : List ℕ
   pub reply : List ℕ
 
 -- whether it is kept for this record
-abbrev pub is_for : (bytes : List ℕ) → Kept → Bool
+abbrev pub is_for : (bytes : List ℕ) → KeptReply → Bool
 is_for bytes kept = same_bytes bytes kept.bytes
 
 -- the reply that a list keeps for a record
-abbrev pub reply_for : (bytes : List ℕ) → List Kept → Option (List ℕ)
+abbrev pub reply_for : (bytes : List ℕ) → List KeptReply → Option (List ℕ)
 reply_for bytes list = option_map (λ kept. kept.reply) (find (is_for bytes) list)
 
 -- what the replies of a host depend on: a record of its was a call that changes something, was executed and got this
 -- reply; or it came again, and its reply was still kept
-pub data Event : Type 0 where
-  Executed : (host bytes reply : List ℕ) → Event
-  Repeated : (host bytes : List ℕ) → Event
+pub data ReplyEvent : Type 0 where
+  Replied : (host bytes reply : List ℕ) → ReplyEvent
+  Repeated : (host bytes : List ℕ) → ReplyEvent
 
 -- whose event it is
-abbrev pub host_of : Event → List ℕ
-host_of (Executed host bytes reply) = host
+abbrev pub host_of : ReplyEvent → List ℕ
+host_of (Replied host bytes reply) = host
 host_of (Repeated host bytes) = host
 
 -- a host's list, newest first, after one more event of its own: a new reply goes to the front, and what exceeds the
 -- capacity goes from the end; what came again goes to the front
-abbrev pub after : (capacity : ℕ) → Event → List Kept → List Kept
-after capacity (Executed host bytes reply) list = take capacity (record { bytes = bytes; reply = reply } ∷ list)
+abbrev pub after : (capacity : ℕ) → ReplyEvent → List KeptReply → List KeptReply
+after capacity (Replied host bytes reply) list = take capacity (record { bytes = bytes; reply = reply } ∷ list)
 after capacity (Repeated host bytes) list =
     filter (is_for bytes) list ++ filter (λ kept. not (is_for bytes kept)) list
 
 -- a host's list after all its events, of which the first comes first
-abbrev pub after_all : (capacity : ℕ) → List Event → List Kept
+abbrev pub after_all : (capacity : ℕ) → List ReplyEvent → List KeptReply
 after_all capacity events = fold (λ list event. after capacity event list) [] events
 
 -- whether it is an event of this host
-abbrev pub is_of : (host : List ℕ) → Event → Bool
+abbrev pub is_of : (host : List ℕ) → ReplyEvent → Bool
 is_of host event = same_bytes (host_of event) host
 
 -- the events of one host, in their order
-abbrev pub events_of : (host : List ℕ) → List Event → List Event
+abbrev pub events_of : (host : List ℕ) → List ReplyEvent → List ReplyEvent
 events_of host events = filter (is_of host) events
 
 -- the list of each host
-abbrev pub Lists : Type 0
-Lists = (host : List ℕ) → List Kept
+abbrev pub KeptLists : Type 0
+KeptLists = (host : List ℕ) → List KeptReply
 
 -- the lists after an event: that of its own host changes, and no other
-abbrev pub lists_after : (capacity : ℕ) → Event → Lists → Lists
+abbrev pub lists_after : (capacity : ℕ) → ReplyEvent → KeptLists → KeptLists
 lists_after capacity event lists host = if is_of host event then after capacity event (lists host) else lists host
 
 -- the lists after all these events, of which the first comes first
-abbrev pub lists_after_all : (capacity : ℕ) → List Event → Lists
+abbrev pub lists_after_all : (capacity : ℕ) → List ReplyEvent → KeptLists
 lists_after_all capacity events = fold (λ lists event. lists_after capacity event lists) (λ _. []) events

@@ -3,12 +3,12 @@ use Rattle.std.specs.Prelude.{◌≡◌, ◌<◌, ◌≤◌, ℕ, count_by, List
 use Rattle.std.specs.Map.{lookup}
 use Rattle.std.specs.Option.{option_map_or}
 use Rattle.lru.specs.LruCache.{LruCache}
-use Rattle.nfs_replies.specs.Kept.{Event, Kept, Lists, is_for, lists_after, same_bytes}
+use Rattle.nfs_replies.specs.Kept.{ReplyEvent, KeptReply, KeptLists, is_for, lists_after, same_bytes}
 
 -- the list of one host
 pub record HostReplies : Type 0 where
   pub host : List ℕ
-  pub list : List Kept
+  pub list : List KeptReply
 
 -- the lists of the hosts that have one, and how many replies each of them may have; `kept_of` has the list of any host
 pub record RepliesValue : Type 0 where
@@ -20,11 +20,11 @@ abbrev pub list_of : RepliesValue → (host : List ℕ) → Option HostReplies
 list_of replies host = find (λ h. same_bytes host h.host) replies.hosts
 
 -- the replies that are kept for a host, the newest first
-abbrev pub kept_of : RepliesValue → Lists
+abbrev pub kept_of : RepliesValue → KeptLists
 kept_of replies host = option_map_or (λ h. h.list) (list_of replies host) []
 
 -- what an event does to the lists, and that the capacity stays
-pub record Follows (event : Event) (old new : RepliesValue) : Type 0 where
+pub record IsAfter (event : ReplyEvent) (old new : RepliesValue) : Type 0 where
   pub lists : kept_of new ≡ lists_after old.capacity event (kept_of old)
   pub capacity : new.capacity ≡ old.capacity
 
@@ -32,7 +32,7 @@ pub record Follows (event : Event) (old new : RepliesValue) : Type 0 where
 abbrev pub Cache : Type 0
 Cache = LruCache (List ℕ) (List ℕ)
 
-abbrev pub kept_in : Cache → List Kept
+abbrev pub kept_in : Cache → List KeptReply
 kept_in cache = map (λ pair. record { bytes = pair.0; reply = pair.1 }) cache.entries
 
 -- what stands at a host
@@ -40,7 +40,7 @@ abbrev pub host_replies : List ℕ × Cache → HostReplies
 host_replies pair = record { host = pair.0; list = kept_in pair.1 }
 
 -- no record has two replies
-abbrev pub EachOnce : List Kept → Type 0
+abbrev pub EachOnce : List KeptReply → Type 0
 EachOnce list = (bytes : List ℕ) → count_by (is_for bytes) list ≤ 1
 
 -- what is true of the cache of each host: it has the capacity, which is not 0, and each record once

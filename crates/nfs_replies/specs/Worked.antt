@@ -1,8 +1,8 @@
 -- Worked values of the definitions: what each says in a case that a reader can follow by hand. A record is here its xid
 -- and, in place of the rest, a word for its call.
 use Rattle.std.specs.Prelude.{◌≡◌, ℕ, List, [], ◌∷◌, Option, Some, None, codes}
-use Rattle.nfs_replies.specs.Kept.{Event, lists_after_all, reply_for}
-use Rattle.nfs_replies.specs.Kept.Event.{Executed, Repeated}
+use Rattle.nfs_replies.specs.Kept.{ReplyEvent, lists_after_all, reply_for}
+use Rattle.nfs_replies.specs.Kept.ReplyEvent.{Replied, Repeated}
 
 -- two hosts
 abbrev pub first : List ℕ
@@ -28,32 +28,32 @@ abbrev pub exists : List ℕ
 exists = codes "EXIST"
 
 -- the first host's calls are executed
-abbrev pub created : Event
-created = Executed first create done
+abbrev pub created : ReplyEvent
+created = Replied first create done
 
-abbrev pub made : Event
-made = Executed first mkdir done
+abbrev pub made : ReplyEvent
+made = Replied first mkdir done
 
-abbrev pub removed : Event
-removed = Executed first remove done
+abbrev pub removed : ReplyEvent
+removed = Replied first remove done
 
 -- the first comes again
-abbrev pub again : Event
+abbrev pub again : ReplyEvent
 again = Repeated first create
 
 -- a call of the second host is executed
-abbrev pub elsewhere : Event
-elsewhere = Executed second mkdir done
+abbrev pub elsewhere : ReplyEvent
+elsewhere = Replied second mkdir done
 
 -- the reply that a host's record finds behind these events
-abbrev pub found : (capacity : ℕ) → List Event → (host bytes : List ℕ) → Option (List ℕ)
+abbrev pub found : (capacity : ℕ) → List ReplyEvent → (host bytes : List ℕ) → Option (List ℕ)
 found capacity events host bytes = reply_for bytes (lists_after_all capacity events host)
 
 -- one host, with room for one reply and for two
 pub record WorkedReplies : Type 0 where
   pub nothing_yet : found 1 [] first create ≡ None
   pub kept : found 1 (created ∷ []) first create ≡ Some done
-  pub whatever_the_status : found 1 (Executed first create exists ∷ []) first create ≡ Some exists
+  pub whatever_the_status : found 1 (Replied first create exists ∷ []) first create ≡ Some exists
   pub pushed_out : found 1 (created ∷ made ∷ []) first create ≡ None
   pub both_fit : found 2 (created ∷ made ∷ []) first create ≡ Some done
   pub same_xid : found 2 (created ∷ []) first mkdir ≡ None
@@ -64,6 +64,6 @@ pub record WorkedReplies : Type 0 where
 -- two hosts, with room for one reply of each
 pub record WorkedHosts : Type 0 where
   pub others_reply : found 1 (created ∷ []) second create ≡ None
-  pub own_replies : found 1 (created ∷ Executed second create exists ∷ []) second create ≡ Some exists
+  pub own_replies : found 1 (created ∷ Replied second create exists ∷ []) second create ≡ Some exists
   pub not_pushed_out : found 1 (created ∷ elsewhere ∷ []) first create ≡ Some done
   pub by_its_own : found 1 (created ∷ elsewhere ∷ again ∷ removed ∷ []) first create ≡ None

@@ -4,8 +4,8 @@ ghost use Rattle.std.specs.Prelude.{◌≡◌, ◌<◌, [], IfErr, IfOk, IsSome,
 ghost use Rattle.std.specs.Option.{option_copied};
 ghost use Rattle.lru.specs.LruCache.{lru_cache};
 ghost use Rattle.nfs_replies.specs.Kept.{reply_for};
-ghost use Rattle.nfs_replies.specs.Kept.Event.{Executed, Repeated};
-ghost use Rattle.nfs_replies.specs.Replies.{Follows, kept_of, list_of};
+ghost use Rattle.nfs_replies.specs.Kept.ReplyEvent.{Replied, Repeated};
+ghost use Rattle.nfs_replies.specs.Replies.{IsAfter, kept_of, list_of};
 
 use crate::capacity::Capacity;
 use bytes::Bytes;
@@ -52,7 +52,7 @@ impl Replies {
     /// Only where a reply is kept and can't be shared; nothing changes.
     pub fn find(&mut self, host: &Bytes, bytes: &Bytes) -> Result<Option<Bytes>, AllocError>
         ensures found { IfOk result (λ reply. reply ≡ reply_for bytes.now (kept_of self.old host.now)) }
-        ensures front { OnOk result (Follows (Repeated host.now bytes.now) self.old self.new) }
+        ensures front { OnOk result (IsAfter (Repeated host.now bytes.now) self.old self.new) }
         ensures absent { reply_for bytes.now (kept_of self.old host.now) ≡ None → self.new ≡ self.old }
         ensures refused { OnErr result (IsSome (reply_for bytes.now (kept_of self.old host.now))) }
         ensures err { OnErr result (self.new ≡ self.old) }
@@ -79,7 +79,7 @@ impl Replies {
         reply: Bytes,
     ) -> Result<(), AllocFailed<(Bytes, Bytes)>>
         requires { reply_for bytes (kept_of self.old host.now) ≡ None }
-        ensures front { OnOk result (Follows (Executed host.now bytes reply) self.old self.new) }
+        ensures front { OnOk result (IsAfter (Replied host.now bytes reply) self.old self.new) }
         ensures returned { IfErr result (λ refused. refused.value ≡ (bytes, reply)) }
         ensures err { OnErr result (self.new ≡ self.old) }
     {
@@ -101,7 +101,7 @@ impl Replies {
 
     /// What is kept for a record goes to the front of its host's list.
     fn bring_to_front(&mut self, host: &Bytes, bytes: &Bytes)
-        ensures { Follows (Repeated host.now bytes.now) self.old self.new }
+        ensures { IsAfter (Repeated host.now bytes.now) self.old self.new }
     {
         if let Some(list) = self.lists.get_mut(host) {
             list.promote(bytes);
@@ -117,7 +117,7 @@ impl Replies {
         reply: Bytes,
     ) -> Result<(), AllocFailed<(Bytes, Bytes)>>
         requires { list_of self.old host.now ≡ None }
-        ensures front { OnOk result (Follows (Executed host.now bytes reply) self.old self.new) }
+        ensures front { OnOk result (IsAfter (Replied host.now bytes reply) self.old self.new) }
         ensures returned { IfErr result (λ refused. refused.value ≡ (bytes, reply)) }
         ensures err { OnErr result (self.new ≡ self.old) }
     {

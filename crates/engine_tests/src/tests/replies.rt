@@ -11,15 +11,19 @@ use std::test::Fail;
 
 /// What a call is answered.
 const OK: &[u8] = b"OK";
+
 const EXIST: &[u8] = b"EXIST";
 
 /// Two hosts.
 const FIRST: &[u8] = b"10.0.0.1";
+
 const SECOND: &[u8] = b"10.0.0.2";
 
 /// Records: an xid, and a word in place of the call. The first two have the same xid.
 const CREATE: &[u8] = b"\0\0\0\x01CREATE a";
+
 const MKDIR: &[u8] = b"\0\0\0\x01MKDIR b";
+
 const REMOVE: &[u8] = b"\0\0\0\x02REMOVE a";
 
 /// Room for so many replies of each host.
@@ -57,17 +61,32 @@ struct Row {
 
 /// The record is executed, and so answered OK.
 fn done(host: &'static [u8], record: &'static [u8]) -> Row {
-    Row { host, record, executed: OK, want: OK }
+    Row {
+        host,
+        record,
+        executed: OK,
+        want: OK,
+    }
 }
 
 /// The record comes again and is not executed: it would be answered EXIST.
 fn repeated(host: &'static [u8], record: &'static [u8]) -> Row {
-    Row { host, record, executed: EXIST, want: OK }
+    Row {
+        host,
+        record,
+        executed: EXIST,
+        want: OK,
+    }
 }
 
 /// The record comes again and is executed.
 fn done_again(host: &'static [u8], record: &'static [u8]) -> Row {
-    Row { host, record, executed: EXIST, want: EXIST }
+    Row {
+        host,
+        record,
+        executed: EXIST,
+        want: EXIST,
+    }
 }
 
 /// Whether each row's record is answered so, with room for so many replies of each host.
@@ -160,7 +179,12 @@ fn kept_at_last(
 #[test]
 fn a_refused_growth_changes_nothing(rt: HostRuntime) -> Result<(), Fail> {
     let mut replies = replies(rt.alloc(), 2)?;
-    for (host, record) in [(FIRST, CREATE), (SECOND, CREATE), (FIRST, MKDIR), (FIRST, REMOVE)] {
+    for (host, record) in [
+        (FIRST, CREATE),
+        (SECOND, CREATE),
+        (FIRST, MKDIR),
+        (FIRST, REMOVE),
+    ] {
         let key = Bytes::from_static(host);
         if replies.find(&key, &Bytes::from_static(record))?.is_none() {
             assert!(rt; kept_at_last(rt.alloc(), &mut replies, host, record)?);

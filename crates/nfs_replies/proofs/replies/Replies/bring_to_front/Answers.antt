@@ -2,9 +2,9 @@ use Rattle.std.proofs.Common.{◌≡◌, Some, None, sym, ap, ◌∙◌}
 use Rattle.std.specs.Map.{lookup}
 use Rattle.std.specs.Option.{option_copied_mut}
 use Rattle.nfs_replies.specs.Kept.{same_bytes}
-use Rattle.nfs_replies.specs.Kept.Event.{Repeated}
+use Rattle.nfs_replies.specs.Kept.ReplyEvent.{Repeated}
 use Rattle.nfs_replies.proofs.Caches.{promoted-left}
-use Rattle.nfs_replies.proofs.Hosts.{follows-lent, follows-unkept, listed-at, listed-lent, reply-at}
+use Rattle.nfs_replies.proofs.Hosts.{is-after-lent, is-after-unkept, listed-at, listed-lent, reply-at}
 use Rattle.nfs_replies.proofs.replies.Replies.bring_to_front.Goals as goal
 use Rattle.nfs_replies.proofs.replies.Replies.bring_to_front.Goals.{in-Some, in_default}
 
@@ -37,11 +37,11 @@ returns c = elim c.match-get_mut.branch [
       sym (ap option_copied_mut w.in-Some.is) ∙ c.get_mut.ensures.value in
       let is = listed-at fields.capacity fields.lists.entries host was c.self.invariant found in
       let left = promoted-left fields.capacity host bytes was is new w.promote.ensures.entries in
-      rw (w.self-inside-is, ← c.self.view_is) (follows-lent fields.capacity (Repeated host bytes) fields.lists
+      rw (w.self-inside-is, ← c.self.view_is) (is-after-lent fields.capacity (Repeated host bytes) fields.lists
       (c.get_mut.follows.lender new) was new found (c.get_mut.follows.holds new) left.1))
   | in_default w ↦ (
       let fields = c.self.inside in
-      rw (w.self-inside-is, c.get_mut.follows.holds-at-none, ← c.self.view_is) (follows-unkept _ c.args.host.now
+      rw (w.self-inside-is, c.get_mut.follows.holds-at-none, ← c.self.view_is) (is-after-unkept _ c.args.host.now
       c.args.bytes.now (reply-at fields.capacity fields.lists.entries c.args.host.now c.args.bytes.now None
       w.in_default.ensures.value)))
 ]

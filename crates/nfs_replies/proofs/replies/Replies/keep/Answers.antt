@@ -1,15 +1,15 @@
 use Rattle.std.proofs.Common.{◌≡◌, Some, None, sym, ap, subst, ◌∙◌}
 use Rattle.std.specs.Map.{lookup}
 use Rattle.std.specs.Option.{option_copied_mut}
-use Rattle.nfs_replies.specs.Kept.{Event, reply_for, same_bytes}
-use Rattle.nfs_replies.specs.Kept.Event.{Executed}
+use Rattle.nfs_replies.specs.Kept.{ReplyEvent, reply_for, same_bytes}
+use Rattle.nfs_replies.specs.Kept.ReplyEvent.{Replied}
 use Rattle.nfs_replies.specs.Replies.{IsListed, RepliesValue, kept_of}
 use Rattle.nfs_replies.proofs.Caches.{IsLeftBy, put-left, reply_for-kept}
-use Rattle.nfs_replies.proofs.Hosts.{follows-lent, listed-at, listed-lent, no-list-at, reply-at, same-lent}
+use Rattle.nfs_replies.proofs.Hosts.{is-after-lent, listed-at, listed-lent, no-list-at, reply-at, same-lent}
 use Rattle.nfs_replies.proofs.replies.Replies.keep.Goals as goal
 
-abbrev event : goal.Joined-put-2 → Event
-event c = Executed c.args.host.now c.args.bytes c.args.reply
+abbrev event : goal.Joined-put-2 → ReplyEvent
+event c = Replied c.args.host.now c.args.bytes c.args.reply
 
 -- the list that was lent stands at the host
 found : (c : goal.Joined-put-2) →
@@ -42,7 +42,7 @@ invariant_of-self c =
 pub returns-in-Ok-clause-front : goal.returns-in-Ok-clause-front
 returns-in-Ok-clause-front c =
     let new = c.put.new.self in
-    rw (← c.self.view_is) (follows-lent c.self.inside.capacity (event c) c.self.inside.lists
+    rw (← c.self.view_is) (is-after-lent c.self.inside.capacity (event c) c.self.inside.lists
     (c.get_mut.follows.lender new) c.in-Some.list.now new (found c) (c.get_mut.follows.holds new) (left c).1)
 
 -- a list that takes no reply stays as it was

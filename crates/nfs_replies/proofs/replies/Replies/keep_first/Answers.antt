@@ -1,15 +1,15 @@
 use Rattle.std.proofs.Common.{◌≡◌, [], Some, None, refl, sym, ap, subst, ◌∙◌}
 use Rattle.indexmap.specs.IndexMap.{Updates}
 use Rattle.lru.specs.LruCache.{lru_cache, put_entries}
-use Rattle.nfs_replies.specs.Kept.{Event, same_bytes}
-use Rattle.nfs_replies.specs.Kept.Event.{Executed}
+use Rattle.nfs_replies.specs.Kept.{ReplyEvent, same_bytes}
+use Rattle.nfs_replies.specs.Kept.ReplyEvent.{Replied}
 use Rattle.nfs_replies.specs.Replies.{Cache, RepliesValue, list_of}
 use Rattle.nfs_replies.proofs.Caches.{IsLeftBy, empty-listed, put-left}
-use Rattle.nfs_replies.proofs.Hosts.{follows-new, listed-new, none-stands}
+use Rattle.nfs_replies.proofs.Hosts.{is-after-new, listed-new, none-stands}
 use Rattle.nfs_replies.proofs.replies.Replies.keep_first.Goals as goal
 
-abbrev event : goal.Joined-unwrap → Event
-event c = Executed c.args.host.now c.args.bytes c.args.reply
+abbrev event : goal.Joined-unwrap → ReplyEvent
+event c = Replied c.args.host.now c.args.bytes c.args.reply
 
 -- the new list has this reply alone
 left : (c : goal.Joined-unwrap) → IsLeftBy c.self.inside.capacity c.args.host.now c.args.bytes
@@ -40,6 +40,6 @@ returns-clause-front c =
     let fields = c.self.inside in
     let none = subst (λ (replies : RepliesValue). list_of replies c.args.host.now ≡ None) (sym c.self.view_is)
     c.requires in
-    rw (← c.self.view_is) (follows-new fields.capacity (event c) c.in-Ok-new_list.host fields.lists.entries
+    rw (← c.self.view_is) (is-after-new fields.capacity (event c) c.in-Ok-new_list.host fields.lists.entries
     c.reserve.new.self c.insert.new.self c.put.new.self c.in-Ok-new_list.ensures.host c.reserve.ensures.entries
     (inserted c) (none-stands fields.capacity fields.lists.entries c.args.host.now none) (left c).1)
