@@ -1,4 +1,5 @@
 pub mod Kept
+pub mod Keys
 pub mod Laws
 pub mod Replies
 pub mod Worked

@@ -8,11 +8,12 @@
 //! A list shares the buffers of its records and replies, and keeps them alive: of one host at most as many of each as
 //! the capacity says. At 1,024 replies, records of 73,728 bytes each are 72 MiB.
 //!
-//! Lists are found by the hash of the host, and replies by that of the whole record. The hashers have a fixed seed, so
-//! a host that picks records whose hashes are equal makes the look-ups in its own list slower.
+//! Lists are found by the hash of the host, and replies by that of the record's head; all bytes of a record are
+//! compared. A host that sends many records with the same head makes the look-ups in its own list slower.
 #![tactic(auto)]
 
 mod capacity;
+mod key;
 pub mod laws;
 mod replies;
 pub mod worked;

@@ -2,12 +2,13 @@
 
 ghost use Rattle.std.specs.Prelude.{◌≡◌, ◌<◌, [], IfErr, IfOk, IsSome, None, OnErr, OnOk};
 ghost use Rattle.std.specs.Option.{option_copied};
-ghost use Rattle.lru.specs.LruCache.{lru_cache};
-ghost use Rattle.nfs_replies.specs.Kept.{reply_for};
+ghost use Rattle.lru.specs.LruCache.{lru_cache, put_entries};
+ghost use Rattle.nfs_replies.specs.Kept.{reply_for, same_bytes};
 ghost use Rattle.nfs_replies.specs.Kept.ReplyEvent.{Replied, Repeated};
 ghost use Rattle.nfs_replies.specs.Replies.{IsAfter, kept_of, list_of};
 
 use crate::capacity::Capacity;
+use crate::key::{Key, Sought, handed_back};
 use bytes::Bytes;
 use indexmap::IndexMap;
 use lru::LruCache;
@@ -19,7 +20,7 @@ use std::marker::Model;
 #[derive(Drop)]
 pub struct Replies {
     capacity: Capacity,
-    lists: IndexMap<Bytes, LruCache<Bytes, Bytes>>,
+    lists: IndexMap<Bytes, LruCache<Key, Bytes>>,
 }
 
 impl Model for Replies {
@@ -84,9 +85,9 @@ impl Replies {
         ensures err { OnErr result (self.new ≡ self.old) }
     {
         match self.lists.get_mut(host) {
-            Some(list) => match list.put(bytes, reply) {
+            Some(list) => match list.put(Key::new(bytes), reply) {
                 Ok(_) => Ok(()),
-                Err(refused) => Err(refused),
+                Err(refused) => Err(handed_back(refused)),
             },
             None => self.keep_first(alloc, host, bytes, reply),
         }
@@ -96,7 +97,7 @@ impl Replies {
     fn reply(&self, host: &Bytes, bytes: &Bytes) -> Option<&Bytes>
         ensures { option_copied result ≡ reply_for bytes.now (kept_of self.now host.now) }
     {
-        self.lists.get(host)?.peek(bytes)
+        self.lists.get(host)?.peek(Sought { bytes })
     }
 
     /// What is kept for a record goes to the front of its host's list.
@@ -104,7 +105,7 @@ impl Replies {
         ensures { IsAfter (Repeated host.now bytes.now) self.old self.new }
     {
         if let Some(list) = self.lists.get_mut(host) {
-            list.promote(bytes);
+            list.promote(Sought { bytes });
         }
     }
 
@@ -126,14 +127,34 @@ impl Replies {
                 value: (bytes, reply),
             });
         };
-        let Ok((host, mut list)) = new_list(alloc, host, &self.capacity) else {
-            return Err(AllocFailed {
-                value: (bytes, reply),
-            });
-        };
-        list.put(bytes, reply)?;
+        let (host, list) = first_list(alloc, host, &self.capacity, bytes, reply)?;
         self.lists.insert(host, list).unwrap();
         Ok(())
+    }
+}
+
+/// A list of this reply alone, with the host that it will be of.
+fn first_list(
+    alloc: Global,
+    host: &Bytes,
+    capacity: &Capacity,
+    bytes: Bytes,
+    reply: Bytes,
+) -> Result<(Bytes, LruCache<Key, Bytes>), AllocFailed<(Bytes, Bytes)>>
+    ensures host { IfOk result (λ made. made.0 ≡ host.now) }
+    ensures list { IfOk result (λ made. made.1 ≡ lru_cache
+        (put_entries same_bytes (lru_cache [] capacity.now) bytes reply) capacity.now) }
+    ensures some { OnOk result (0 < capacity.now) }
+    ensures returned { IfErr result (λ refused. refused.value ≡ (bytes, reply)) }
+{
+    let Ok((host, mut list)) = new_list(alloc, host, capacity) else {
+        return Err(AllocFailed {
+            value: (bytes, reply),
+        });
+    };
+    match list.put(Key::new(bytes), reply) {
+        Ok(_) => Ok((host, list)),
+        Err(refused) => Err(handed_back(refused)),
     }
 }
 
@@ -143,7 +164,7 @@ fn new_list(
     alloc: Global,
     host: &Bytes,
     capacity: &Capacity,
-) -> Result<(Bytes, LruCache<Bytes, Bytes>), AllocError>
+) -> Result<(Bytes, LruCache<Key, Bytes>), AllocError>
     ensures host { IfOk result (λ made. made.0 ≡ host.now) }
     ensures list { IfOk result (λ made. made.1 ≡ lru_cache [] capacity.now) }
     ensures some { OnOk result (0 < capacity.now) }

@@ -1,6 +1,7 @@
 use Rattle.std.proofs.Common.{◌≡◌, Some, None, sym, ap, subst, ◌∙◌}
 use Rattle.std.specs.Map.{lookup}
 use Rattle.std.specs.Option.{option_copied_mut}
+use Rattle.lru.specs.LruCache.{lru_cache, put_entries}
 use Rattle.nfs_replies.specs.Kept.{ReplyEvent, reply_for, same_bytes}
 use Rattle.nfs_replies.specs.Kept.ReplyEvent.{Replied}
 use Rattle.nfs_replies.specs.Replies.{IsListed, RepliesValue, kept_of}
@@ -31,7 +32,9 @@ left c =
     ∙ sym (reply-at fields.capacity fields.lists.entries host c.args.bytes (Some was) (found c))
     ∙ subst (λ (replies : RepliesValue). reply_for c.args.bytes (kept_of replies host) ≡ None)
     (sym c.self.view_is) c.requires in
-    put-left fields.capacity host c.args.bytes was (is c) c.args.reply c.put.new.self none c.in-Ok.ensures.entries
+    put-left fields.capacity host c.args.bytes was (is c) c.args.reply c.put.new.self none
+    (c.in-Ok.ensures.entries
+    ∙ ap (λ bytes. lru_cache (put_entries same_bytes was bytes c.args.reply) was.cap) c.new.ensures)
 
 pub invariant_of-self : goal.invariant_of-self
 invariant_of-self c =
