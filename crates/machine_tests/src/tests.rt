@@ -2,7 +2,7 @@
 //! are worked out by hand from RFC 1813.
 
 ghost use Rattle.std.specs.Prelude.{IfOk};
-ghost use Rattle.nfs_objects.specs.Modes.{Suits};
+ghost use Rattle.nfs_objects.specs.Modes.{Suits, changing, reading};
 
 mod drafts;
 mod exports;
@@ -161,8 +161,8 @@ fn ctx(user: u32) -> Ctx {
 
 /// A view of the exports: `/data`, that may be written.
 fn exported(alloc: Global) -> Result<View, AllocError>
-    ensures reads { IfOk result (Suits READING) }
-    ensures changes { IfOk result (Suits CHANGING) }
+    ensures reads { IfOk result (Suits reading) }
+    ensures changes { IfOk result (Suits changing) }
 {
     let exports = Object::Exports(table(alloc, b"rw")?);
     let mut view = View::new(alloc);
@@ -172,8 +172,8 @@ fn exported(alloc: Global) -> Result<View, AllocError>
 
 /// A view of the exports and of this inode, which is held alone.
 fn viewed(alloc: Global, number: u64, inode: Inode) -> Result<View, AllocError>
-    ensures reads { IfOk result (Suits READING) }
-    ensures changes { IfOk result (Suits CHANGING) }
+    ensures reads { IfOk result (Suits reading) }
+    ensures changes { IfOk result (Suits changing) }
 {
     let exports = Object::Exports(table(alloc, b"rw")?);
     let mut view = View::new(alloc);

@@ -43,7 +43,7 @@ pub fn attempt(alloc: Global, call: &NfsCall, ctx: &Ctx, view: &View) -> Result<
     outcome(ended(alloc, call, ctx, view))
 }
 
-fn ended(alloc: Global, call: &NfsCall, ctx: &Ctx, view: &View) -> Result<Change, Halt>
+fn ended<'a>(alloc: Global, call: &'a NfsCall, ctx: &'a Ctx, view: &'a View) -> Result<Change, Halt>
     requires data { is_data_call call.now ≡ true }
     requires suits { Suits (modes_of (calls.Nfs call.now)) view.now }
     ensures ends { Ends (calls.Nfs call.now) ctx.now view.now result }

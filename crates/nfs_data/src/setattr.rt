@@ -12,6 +12,7 @@ ghost use Rattle.nfs_objects.specs.Attempt.{Ends, EndsFirst, Stops};
 ghost use Rattle.nfs_objects.specs.Begins.{Begins};
 ghost use Rattle.nfs_objects.specs.Calls.{named_by};
 ghost use Rattle.nfs_objects.specs.Knows.{Does, Knows, Turns};
+ghost use Rattle.nfs_objects.specs.Modes.{changing};
 ghost use Rattle.nfs_objects.specs.Only.{AsksNothing, EndsFirstOnly};
 ghost use Rattle.nfs_inodes.specs.Known.{Names, shell};
 ghost use Rattle.nfs_inodes.specs.Stops.{KnowsAt, StopsCounting};
@@ -25,7 +26,7 @@ use nfs_inodes::{
     time_set, touch, wcc_of,
 };
 use nfs_machine::{Ctx, Reply};
-use nfs_objects::{Change, Draft, Halt, LivingExport, Mode};
+use nfs_objects::{Change, Draft, Halt, LivingExport};
 use nfs_rpc::Ids;
 use nfs_wire::{
     Attributes, NfsCall, NfsReply, NfsStatus, SetAttributes, SetattrArguments, SetattrReply, Time,
@@ -88,7 +89,7 @@ fn set(
 
 /// Gives a file its new size, if there is one.
 fn resize_to(draft: &mut Draft<'_>, number: u64, size: Option<NewSize>) -> Result<(), Halt>
-    requires alone { draft.old.modes.inodes ≡ Mode.Exclusive }
+    requires alone { draft.old.modes ≡ changing }
     requires file { IfSome size (λ new. new.file.known.number ≡ number) }
     ensures turns { MatchResult result
         (λ _. Turns draft.old draft.new

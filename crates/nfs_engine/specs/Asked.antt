@@ -1,5 +1,5 @@
 -- What a record asks, as it is read.
-use Rattle.std.specs.Prelude.{◌≡◌, ℕ, List, ◌++◌, Result, Ok, Err}
+use Rattle.std.specs.Prelude.{◌≡◌, ℕ, List, Result, Ok, Err}
 use Rattle.nfs_xdr.specs.Programs.{CallHoldsBytes}
 use Rattle.nfs_xdr.specs.declared.arguments.ArgumentsError.{ArgumentsError}
 use Rattle.nfs_xdr.specs.declared.arguments.ArgumentsError.TheVariants as unread

@@ -9,7 +9,7 @@ use Rattle.nfs_objects.specs.Knows.{Knows, ShowsExport}
 use Rattle.nfs_objects.specs.Values.{DraftValue, ViewValue}
 use Rattle.nfs_objects.specs.declared.address.Addr.TheVariants as addresses
 use Rattle.nfs_objects.specs.declared.change.Halt.{Halt}
-use Rattle.nfs_inodes.specs.Known.{Means}
+use Rattle.nfs_inodes.specs.Known.{HasNumber, Means}
 use Rattle.nfs_inodes.specs.Stops.{StopsAt, StopsBringing}
 use Rattle.nfs_inodes.specs.declared.found.Known.{Known}
 use Rattle.nfs_objects.specs.Begins.{Begins}
@@ -33,6 +33,12 @@ pub means-as : (d : DraftValue) (handle bytes : List ℕ) (found known : Result 
     → Knows d (Means d.ctx handle known)
 means-as d handle bytes found known same is means =
     subst (λ h. Knows d (Means d.ctx h known)) same (subst (λ f. Knows d (Means d.ctx bytes f)) is means)
+
+pub number-as : (handle bytes : List ℕ) (found : Result Known NfsStatus) (x : Known) → bytes ≡ handle
+    → found ≡ Ok x → IfOk found (λ (y : Known). HasNumber bytes y.number)
+    → HasNumber handle x.number
+number-as handle bytes found x same is has =
+    subst (λ h. HasNumber h x.number) same (subst (λ f. IfOk f (λ (y : Known). HasNumber bytes y.number)) is has)
 
 pub lives-as : (view : ViewValue) (found : Result Known NfsStatus) (x : Known) → found ≡ Ok x
     → IfOk found (λ y. Lives view (addresses.Inode y.number))

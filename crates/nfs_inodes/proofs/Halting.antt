@@ -55,22 +55,22 @@ module _ (d : DraftValue) (a : Addr) where
   lacking-unseen halt lacks = ap wanted (unknown-unseen d a lacks.unknown)
 
 pub known-first : (A : Type 0) (d : DraftValue) (a : Addr) (o : Option Object) (r : Result A Halt) → d.writes ≡ [] → known_at d a ≡ Some o
-    → HaltsFirst d.modes (unless_seen d.view a) r
+    → HaltsFirst d.modes d.view (unless_seen d.view a) r
 known-first A d a o r none known =
-    subst (λ w. HaltsFirst {A = A} d.modes w r) (sym (known-shown d a none (subst (λ x. IsSome x) (sym known) refl))) tt
+    subst (λ w. HaltsFirst {A = A} d.modes d.view w r) (sym (known-shown d a none (subst (λ x. IsSome x) (sym known) refl))) tt
 
-pub lacking-first-at : (A : Type 0) (d : DraftValue) (a : Addr) (halt : Halt) → Lacks d a halt → HaltsFirst {A = A} d.modes (unless_seen d.view a) (Err halt)
-lacking-first-at A d a halt lacks = subst (λ w. HaltsFirst {A = A} d.modes w (Err halt)) (sym (lacking-unseen d a halt lacks)) lacks.asked
+pub lacking-first-at : (A : Type 0) (d : DraftValue) (a : Addr) (halt : Halt) → Lacks d a halt → HaltsFirst {A = A} d.modes d.view (unless_seen d.view a) (Err halt)
+lacking-first-at A d a halt lacks = subst (λ w. HaltsFirst {A = A} d.modes d.view w (Err halt)) (sym (lacking-unseen d a halt lacks)) lacks.asked
 
 module _ (A : Type 0) (d : DraftValue) (bytes : List ℕ) where
   abbrev First : Result A Halt → Type 0
-  First r = HaltsFirst {A = A} d.modes (wanted_first d.view (bytes ∷ [])) r
+  First r = HaltsFirst {A = A} d.modes d.view (wanted_first d.view (bytes ∷ [])) r
 
   abbrev past : Option Addr → Option Addr
   past w = elim w [ Some a ↦ Some a | None ↦ object_wanted d.view (bytes ∷ []) ]
 
   pub exports-first : (halt : Halt) → Lacks d addresses.Exports halt → First (Err halt)
-  exports-first halt lacks = subst (λ w. HaltsFirst {A = A} d.modes (past w) (Err halt)) (sym (lacking-unseen d addresses.Exports halt lacks)) lacks.asked
+  exports-first halt lacks = subst (λ w. HaltsFirst {A = A} d.modes d.view (past w) (Err halt)) (sym (lacking-unseen d addresses.Exports halt lacks)) lacks.asked
 
   pub exports-once : (halt : Halt) → Lacks d addresses.Exports halt
       → wanted_first d.view (bytes ∷ []) ≡ None → ⊥
@@ -86,16 +86,16 @@ module _ (A : Type 0) (d : DraftValue) (bytes : List ℕ) where
         ∙ ap (λ (x : Option Handle). elim x [ None ↦ None | Some h ↦ unless_seen d.view (addresses.Inode h.fileid) ]) is
 
     pub bad-first : (r : Result A Halt) → handle_of bytes ≡ None → First r
-    bad-first r is = subst (λ w. HaltsFirst {A = A} d.modes w r) (sym (wants None is)) tt
+    bad-first r is = subst (λ w. HaltsFirst {A = A} d.modes d.view w r) (sym (wants None is)) tt
 
     module _ (h : Handle) (is : handle_of bytes ≡ Some h) where
       pub object-first : (r : Result A Halt) → IsSome (known_at d (addresses.Inode h.fileid)) → First r
       object-first r some =
-          subst (λ w. HaltsFirst {A = A} d.modes w r) (sym (wants (Some h) is ∙ known-shown d (addresses.Inode h.fileid) none some)) tt
+          subst (λ w. HaltsFirst {A = A} d.modes d.view w r) (sym (wants (Some h) is ∙ known-shown d (addresses.Inode h.fileid) none some)) tt
 
       pub lacking-first : (halt : Halt) → Lacks d (addresses.Inode h.fileid) halt → First (Err halt)
       lacking-first halt lacks =
-          subst (λ w. HaltsFirst {A = A} d.modes w (Err halt)) (sym (wants (Some h) is ∙ lacking-unseen d (addresses.Inode h.fileid) halt lacks)) lacks.asked
+          subst (λ w. HaltsFirst {A = A} d.modes d.view w (Err halt)) (sym (wants (Some h) is ∙ lacking-unseen d (addresses.Inode h.fileid) halt lacks)) lacks.asked
 
       pub lacking-once : (halt : Halt) → Lacks d (addresses.Inode h.fileid) halt
           → wanted_first d.view (bytes ∷ []) ≡ None → ⊥

@@ -15,23 +15,58 @@ use Rattle.nfs_machine.specs.WellFormed.{Leads}
 use Rattle.nfs_objects.proofs.Exported.{object-stands}
 use Rattle.nfs_objects.specs.Asks.{Lives}
 use Rattle.nfs_objects.specs.Knows.{Knows, Possible}
-use Rattle.nfs_objects.specs.Stands.{Kept, Represents}
+use Rattle.nfs_objects.specs.Modes.{led_at, led_in, number_under}
+use Rattle.nfs_objects.specs.Stands.{Kept, Represents, content_of, inode_of, lives_in}
 use Rattle.nfs_objects.specs.Store.{Store, with_writes}
-use Rattle.nfs_objects.specs.Values.{DraftValue}
+use Rattle.nfs_objects.specs.Values.{DraftValue, shown_at, written_at}
 use Rattle.nfs_objects.specs.declared.address.Addr.TheVariants as addresses
 use Rattle.nfs_objects.specs.declared.change.Halt.{Halt}
 use Rattle.nfs_objects.specs.declared.object.Inode.{Inode}
+use Rattle.nfs_objects.specs.declared.object.Object.{Object}
 use Rattle.nfs_inodes.proofs.Standing.{contains, content_in, directory-kind, kind-is}
 use Rattle.nfs_inodes.specs.Known.{HasInode, IsKnown, content_at, last_cookie_of, object_at}
 use Rattle.nfs_inodes.specs.declared.found.Known.{Known}
 
 -- the number that a name's entry leads to
 abbrev pub under : Content → List ℕ → Option ℕ
-under content name = option_map (λ (e : Entry). e.number) (entry_of (entries_of content) name)
+under content name = number_under content name
+
+abbrev inode_led : Option Inode → List ℕ → Option ℕ
+inode_led i name = elim i [ None ↦ None | Some i ↦ number_under (content_of i.content) name ]
+
+abbrev led_of : Option (Option Object) → List ℕ → Option ℕ
+led_of o name = elim o [ None ↦ None | Some object ↦ led_in object name ]
 
 pub entry-there : (d : DraftValue) (n : ℕ) (name : List ℕ) (i : Option Inode) (number : Option ℕ) → HasInode d n i → number ≡ under (content_in i) name
     → Knows d (λ k. under (content_at k.state n) name ≡ number)
 entry-there d n name i number has is s k w = ap (λ c. under c name) (contains d n i has s k w.fits w.stands) ∙ sym is
+
+-- the view shows it where nothing was written
+pub entry-led : (d : DraftValue) (n : ℕ) (name : List ℕ) (i : Inode) (number : Option ℕ) → d.writes ≡ [] →
+    HasInode d n (Some i) → number ≡ under (content_of i.content) name →
+    IfSome number (λ m. led_at d.view n name ≡ Some m)
+entry-led d n name i number none has is = by number (is ∙ sym stands ∙ sym (ap (λ o. led_of o name) shown))
+  where
+    shown : shown_at d.view.entries (addresses.Inode n) ≡ Some has.object
+    shown =
+        ap (λ ws. written_at (shown_at d.view.entries (addresses.Inode n)) ws (addresses.Inode n)) (sym none)
+        ∙ has.known
+
+    lives : (j : Option Inode) →
+        Some i ≡ elim j [ None ↦ None | Some k ↦ cond (lives_in has.exports k.export) (Some k) None ] → j ≡ Some i
+    lives None e = cc
+    lives (Some k) e =
+        elim (lives_in has.exports k.export) as (λ b. Some i ≡ cond b (Some k) None → Some k ≡ Some i) [
+          | true ↦ λ f. sym f
+          | false ↦ λ f. cc
+        ] e
+
+    stands : led_in has.object name ≡ under (content_of i.content) name
+    stands = ap (λ o. inode_led o name) (lives (inode_of has.object) has.is)
+
+    by : (m : Option ℕ) → m ≡ led_at d.view n name → IfSome m (λ k. led_at d.view n name ≡ Some k)
+    by None e = tt
+    by (Some k) e = sym e
 
 pub cookie-there : (d : DraftValue) (n : ℕ) (i : Option Inode) (last : ℕ) → HasInode d n i → last ≡ last_cookie_of (content_in i)
     → Knows d (λ k. last_cookie_of (content_at k.state n) ≡ last)

@@ -24,7 +24,7 @@ use Rattle.nfs_machine.specs.RemoveSteps.{losing_name, object_under, without, wi
 use Rattle.nfs_machine.specs.Shown.{touched, with_content, with_object}
 use Rattle.nfs_machine.specs.State.{Content, Regular, Directory, Link, BlockDevice, CharacterDevice, Socket, Fifo}
 use Rattle.nfs_machine.specs.State.{Entry, Living, State}
-use Rattle.nfs_machine.specs.WellFormed.{IsParent, Leads, WellFormed, is_root}
+use Rattle.nfs_machine.specs.WellFormed.{Leads, WellFormed, is_root}
 use Rattle.nfs_objects.proofs.Summed.{AllFit}
 use Rattle.nfs_objects.specs.Edits.{edited, freed, set_at, with_living}
 use Rattle.nfs_objects.specs.Sound.{Sound}
@@ -34,8 +34,8 @@ use Rattle.nfs_inodes.proofs.Keeping.{changed-is}
 use Rattle.nfs_inodes.proofs.SoundBut.{SoundBut, freed-sound, insert-same, put-sound, sound-as, taken-but}
 use Rattle.nfs_inodes.proofs.Standing.{kind-is}
 use Rattle.nfs_inodes.specs.Known.{IsKnown, content_at, object_at, target}
-use Rattle.nfs_inodes.specs.Makes.{changed_at, link_lost, name_taken, removed, without_name}
-use Rattle.nfs_inodes.specs.Removes.{directory_lost, is_directory_type, name_lost, subdirectory_lost}
+use Rattle.nfs_inodes.specs.Makes.{link_lost, name_taken, removed, without_name}
+use Rattle.nfs_inodes.specs.Removes.{is_directory_type, name_lost, subdirectory_lost}
 use Rattle.nfs_inodes.specs.declared.found.Known.{Known}
 
 -- ---- kinds

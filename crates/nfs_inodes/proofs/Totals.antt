@@ -40,7 +40,7 @@ once-append (b ∷ asked) a once apart = (
 
 module _ (d : DraftValue) (export : ℕ) where
   abbrev usage-at : ℕ → Addr × Mode
-  usage-at group = (addresses.Usage export group, mode_at d.modes (addresses.Usage export group))
+  usage-at group = (addresses.Usage export group, mode_at d.modes d.view (addresses.Usage export group))
 
   -- ---- what is asked for
   pub unread-none : (asked : List (Addr × Mode)) → asked ≡ [] → AreUnread d export 0 asked

@@ -41,7 +41,7 @@ pub record KeepsInodes (old new : DraftValue) : Type 0 where
 pub record IsUnread (d : DraftValue) (export count : ℕ) (asked : Addr × Mode) : Type 0 where
   pub group : ℕ
   pub below : group < count
-  pub address : asked ≡ (addresses.Usage export group, mode_at d.modes (addresses.Usage export group))
+  pub address : asked ≡ (addresses.Usage export group, mode_at d.modes d.view (addresses.Usage export group))
   pub unknown : known_at d (addresses.Usage export group) ≡ None
 
 -- such groups, each once

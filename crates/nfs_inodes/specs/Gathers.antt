@@ -23,7 +23,7 @@ EachKnown d entries = AllByRecursion (λ (e : Entry). IsSome (known_at d (addres
 
 -- the draft knows what stands at an address, or it is among these
 abbrev pub IsKnownOrAsked : DraftValue → List (Addr × Mode) → Addr → Type 0
-IsKnownOrAsked d asked a = IsSome (known_at d a) ⊎ WasAsked asked (a, mode_at d.modes a)
+IsKnownOrAsked d asked a = IsSome (known_at d a) ⊎ WasAsked asked (a, mode_at d.modes d.view a)
 
 -- at once all is asked for that the draft lacks of what stands at the entries' numbers; or there is no memory
 abbrev pub AsksAll : DraftValue → List Entry → Halt → Type 0
@@ -34,12 +34,12 @@ AsksAll d entries halt = ⊥
 
 -- the wish for what stands at a number
 abbrev pub wish : DraftValue → ℕ → Addr × Mode
-wish d n = (addresses.Inode n, mode_at d.modes (addresses.Inode n))
+wish d n = (addresses.Inode n, mode_at d.modes d.view (addresses.Inode n))
 
 -- it may be asked for, whatever the call names
 pub record MayWish (d : DraftValue) (a : Addr × Mode) : Type 0 where
   pub unseen : seen_at d.view.entries a.0 ≡ None
-  pub mode : a.1 ≡ mode_at d.modes a.0
+  pub mode : a.1 ≡ mode_at d.modes d.view a.0
   pub lives : Lives d.view a.0
 
 -- each number of these is asked for once, and so is all that the draft lacks of what stands at the entries' numbers

@@ -1,6 +1,6 @@
 -- What is known of a living object beside what it contains.
 use Rattle.std.specs.Prelude.{◌≡◌, ◌&&◌, Bool, ℕ, List, [], Option, Some, None, Result, Ok, Err}
-use Rattle.std.specs.Prelude.{MatchResult}
+use Rattle.std.specs.Prelude.{MatchResult, option_map}
 use Rattle.std.specs.Prelude.{◌==◌, ◌+◌, ◌^◌, nat_lt, if◌then◌else◌}
 use Rattle.std.specs.FinMap.{get}
 use Rattle.nfs_wire.specs.declared.attributes.WeakAttributes.{WeakAttributes}
@@ -8,6 +8,7 @@ use Rattle.nfs_wire.specs.declared.status.NfsStatus.{NfsStatus}
 use Rattle.nfs_machine.specs.Attributes.{attributes_of, entries_of, type_of}
 use Rattle.nfs_machine.specs.Checks.{DirectoryEntries, bytes_in, entries_in, object_of}
 use Rattle.nfs_machine.specs.Exports.{LivingExport}
+use Rattle.nfs_machine.specs.Handles.{handle_of}
 use Rattle.nfs_machine.specs.PageSteps.{IsParentOf}
 use Rattle.nfs_machine.specs.Resolve.{Named, resolve}
 use Rattle.nfs_machine.specs.Shown.{attributes_at, shown, wcc}
@@ -76,6 +77,10 @@ pub record IsKnownOf (number : ℕ) (i : Inode) (x : Known) : Type 0 where
       x.attributes ≡ record (attributes_of m number (living_of_inode i)) { links = i.links }
 
 -- ---- what a handle names
+-- it is a handle of this number
+abbrev pub HasNumber : List ℕ → (number : ℕ) → Type 0
+HasNumber handle number = option_map (λ h. h.fileid) (handle_of handle) ≡ Some number
+
 -- what the machine resolves a handle to that names this
 abbrev pub target : State → Known → Named
 target m x = record { number = x.number; object = object_at m x }

@@ -1,12 +1,14 @@
 //! What names lead to (RFC 1813, 3.3.3).
 
-ghost use Rattle.std.specs.Prelude.{◌≡◌, ◌==◌, [], length, IfOk, IfSome, MatchResult, ok_or, option_map};
+ghost use Rattle.std.specs.Prelude.{◌≡◌, ◌==◌, [], length, IfOk, IfSome, MatchResult, Some, ok_or};
+ghost use Rattle.std.specs.Prelude.{option_map};
 ghost use Rattle.nfs_wire.specs.declared.status.NfsStatus.TheVariants as status;
 ghost use Rattle.nfs_machine.specs.Attributes.{entries_of};
 ghost use Rattle.nfs_machine.specs.Checks.{entry_of};
 ghost use Rattle.nfs_machine.specs.NameSteps.{leads_to};
 ghost use Rattle.nfs_objects.specs.Asks.{Lives};
 ghost use Rattle.nfs_objects.specs.Knows.{Knows};
+ghost use Rattle.nfs_objects.specs.Modes.{led_at};
 ghost use Rattle.nfs_objects.specs.Stands.{content_of, parent_in};
 ghost use Rattle.nfs_inodes.specs.Known.{IsKnown, content_at, last_cookie_of, next_cookie};
 ghost use Rattle.nfs_inodes.specs.Stops.{ReadsInode, StopsAt};
@@ -30,19 +32,12 @@ pub fn entry(draft: &Draft<'_>, directory: &Directory, name: &[u8]) -> Result<Op
         (entry_of (entries_of (content_at k.state directory.now.known.number)) name.now) ≡ number))
         (StopsAt draft.now (Addr.Inode directory.now.known.number)) }
     ensures lives { IfOk result (λ number. IfSome number (λ n. Lives draft.now.view (Addr.Inode n))) }
+    ensures led { IfOk result (λ number. IfSome number (λ n.
+        led_at draft.now.view directory.now.known.number name.now ≡ Some n)) }
 {
     match inode(draft, directory.known.number)? {
-        Some(inode) => Ok(entry_in(&inode.content, name)),
+        Some(inode) => Ok(inode.content.number_under(name)),
         None => Ok(None),
-    }
-}
-
-fn entry_in(content: &Content, name: &[u8]) -> Option<u64>
-    ensures { result ≡ option_map (λ e. e.number) (entry_of (entries_of (content_of content.now)) name.now) }
-{
-    match content {
-        Content::Directory(directory) => Some(directory.entries.find(name)?.number),
-        _ => None,
     }
 }
 

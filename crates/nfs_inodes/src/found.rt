@@ -14,7 +14,7 @@ ghost use Rattle.nfs_objects.specs.Knows.{Knows, ShowsExport};
 ghost use Rattle.nfs_objects.specs.Only.{AsksNothing};
 ghost use Rattle.nfs_objects.specs.Stands.{inode_in};
 ghost use Rattle.nfs_objects.specs.Values.{known_at};
-ghost use Rattle.nfs_inodes.specs.Known.{HasExports, HasInode, IsKnownOf, IsObject, Means};
+ghost use Rattle.nfs_inodes.specs.Known.{HasExports, HasInode, HasNumber, IsKnownOf, IsObject, Means};
 ghost use Rattle.nfs_inodes.specs.Known.{is_handle_of, shell, weak_of};
 ghost use Rattle.nfs_inodes.specs.Stops.{BringsUsage, ReadsAt, ReadsInode, StopsAt, StopsBringing};
 ghost use Rattle.nfs_inodes.specs.Stops.{wanted_first};
@@ -51,7 +51,7 @@ pub fn exports<'d>(draft: &'d Draft<'_>) -> Result<&'d [LivingExport], Halt>
     ensures table { IfOk result (λ list. HasExports draft.now list.now) }
     ensures reads { ReadsAt draft.now Addr.Exports result }
     ensures first { draft.now.writes ≡ [] →
-        HaltsFirst draft.now.modes (unless_seen draft.now.view Addr.Exports) result }
+        HaltsFirst draft.now.modes draft.now.view (unless_seen draft.now.view Addr.Exports) result }
 {
     Ok(export_list(draft.find(Addr::Exports)?))
 }
@@ -154,10 +154,12 @@ pub fn named(draft: &Draft<'_>, handle: &[u8]) -> Result<Result<Known, NfsStatus
     requires { draft.now.writes ≡ [] }
     ensures means { IfOk result (λ found. Knows draft.now (Means draft.now.ctx handle.now found)) }
     ensures lives { IfOk result (λ found. IfOk found (λ x. Lives draft.now.view (Addr.Inode x.number))) }
+    ensures number { IfOk result (λ found. IfOk found (λ x. HasNumber handle.now x.number)) }
     ensures exported { IfOk result (λ found. IfOk found (λ x. ShowsExport draft.now x.export)) }
     ensures usage { IfOk result (λ found. IfOk found (λ x. BringsUsage handle.now x.export)) }
     ensures stops { IfErr result (StopsBringing draft.now handle.now) }
-    ensures first { HaltsFirst draft.now.modes (wanted_first draft.now.view (handle.now ∷ [])) result }
+    ensures first { HaltsFirst draft.now.modes draft.now.view (wanted_first draft.now.view (handle.now ∷ []))
+        result }
     ensures once { wanted_first draft.now.view (handle.now ∷ []) ≡ None → AsksNothing result }
     ensures reads { IfOk result (λ found. IsSome (known_at draft.now Addr.Exports)
         × IfOk found (λ x. IsSome (known_at draft.now (Addr.Inode x.number)))) }

@@ -3,6 +3,7 @@
 ghost use Rattle.std.specs.Prelude.{◌≡◌, MatchResult};
 ghost use Rattle.nfs_machine.specs.Times.{time_of};
 ghost use Rattle.nfs_objects.specs.Knows.{Turns};
+ghost use Rattle.nfs_objects.specs.Modes.{changing};
 ghost use Rattle.nfs_inodes.specs.Links.{link_gained, linked_so};
 ghost use Rattle.nfs_inodes.specs.Stops.{StopsAt, StopsAtBoth};
 
@@ -10,7 +11,7 @@ use crate::found::inode;
 use crate::kinds::Directory;
 use crate::makers::add_entry;
 use crate::times::{now, touch};
-use nfs_objects::{Addr, Draft, Halt, Mode};
+use nfs_objects::{Addr, Draft, Halt};
 
 /// Gives an object a name in a directory that has it not, last and with this cookie; so many links it has then. The
 /// name is copied.
@@ -26,7 +27,7 @@ pub fn add_link(
     number: u64,
     links: u32,
 ) -> Result<(), Halt>
-    requires { draft.old.modes.inodes ≡ Mode.Exclusive }
+    requires { draft.old.modes ≡ changing }
     ensures { MatchResult result
         (λ _. Turns draft.old draft.new (link_gained (time_of draft.old.ctx.moment) directory.now.known.number
         directory.now.known.attributes.links (record { name = name.now; number = number; cookie = cookie }) links))
@@ -39,7 +40,7 @@ pub fn add_link(
 
 /// The count of an object's links changes, and its ctime with it.
 fn set_links(draft: &mut Draft<'_>, number: u64, links: u32) -> Result<(), Halt>
-    requires { draft.old.modes.inodes ≡ Mode.Exclusive }
+    requires { draft.old.modes ≡ changing }
     ensures { MatchResult result
         (λ _. Turns draft.old draft.new (linked_so (time_of draft.old.ctx.moment) number links))
         (StopsAt draft.old (Addr.Inode number)) }

@@ -6,9 +6,11 @@ ghost use Rattle.nfs_machine.specs.Data.{resized, written};
 ghost use Rattle.nfs_machine.specs.Making.{new_object};
 ghost use Rattle.nfs_machine.specs.Shown.{touched};
 ghost use Rattle.nfs_machine.specs.Times.{time_of};
-ghost use Rattle.nfs_objects.specs.Edits.{edited};
 ghost use Rattle.nfs_objects.specs.Asks.{IsFirst};
+ghost use Rattle.nfs_objects.specs.Drafts.{MayChange};
+ghost use Rattle.nfs_objects.specs.Edits.{edited};
 ghost use Rattle.nfs_objects.specs.Knows.{Knows, ShowsExport, Turns};
+ghost use Rattle.nfs_objects.specs.Modes.{changing};
 ghost use Rattle.nfs_objects.specs.Values.{known_at};
 ghost use Rattle.nfs_objects.specs.declared.address.Addr.{Addr as Address};
 ghost use Rattle.nfs_inodes.specs.Asked.{wanted_as};
@@ -23,7 +25,7 @@ use crate::making::{Wanted, links_with, new_inode};
 use crate::times::{now, touch};
 use crate::usage::{Share, count, counted, recount, share_of, uncount};
 use bytes::Bytes;
-use nfs_objects::{Addr, Content, Draft, Halt, Leaf, Mode, Reserved, Usage};
+use nfs_objects::{Addr, Content, Draft, Halt, Leaf, Reserved, Usage};
 
 /// Writes bytes at an offset of a file; a gap before it is zeros. The bytes end below 2^64.
 ///
@@ -31,7 +33,7 @@ use nfs_objects::{Addr, Content, Draft, Halt, Leaf, Mode, Reserved, Usage};
 ///
 /// `Need` of what has to be held for it, and `Memory`. The draft is of no use then.
 pub fn write(draft: &mut Draft<'_>, file: &File, offset: usize, bytes: &[u8]) -> Result<(), Halt>
-    requires alone { draft.old.modes.inodes ≡ Mode.Exclusive }
+    requires alone { draft.old.modes ≡ changing }
     requires room { offset + length bytes.now < 2 ^ 64 }
     ensures { MatchResult result
         (λ _. Turns draft.old draft.new (bytes_changed (time_of draft.old.ctx.moment) file.now.known.number
@@ -60,7 +62,7 @@ pub fn write(draft: &mut Draft<'_>, file: &File, offset: usize, bytes: &[u8]) ->
 ///
 /// `Need` of what has to be held for it, and `Memory`. The draft is of no use then.
 pub fn resize(draft: &mut Draft<'_>, file: &File, size: usize) -> Result<(), Halt>
-    requires { draft.old.modes.inodes ≡ Mode.Exclusive }
+    requires { draft.old.modes ≡ changing }
     ensures { MatchResult result
         (λ _. Turns draft.old draft.new (bytes_changed (time_of draft.old.ctx.moment) file.now.known.number
         (λ old. resized old size)))
@@ -87,7 +89,7 @@ pub fn resize(draft: &mut Draft<'_>, file: &File, size: usize) -> Result<(), Hal
 ///
 /// `Need` of what has to be held for it, and `Memory`. The draft is of no use then.
 pub fn lose_link(draft: &mut Draft<'_>, number: u64, links: u32) -> Result<(), Halt>
-    requires { draft.old.modes.inodes ≡ Mode.Exclusive }
+    requires { MayChange draft.old (Addr.Inode number) }
     ensures { MatchResult result
         (λ _. Turns draft.old draft.new (link_lost (time_of draft.old.ctx.moment) number links))
         (StopsCounting draft.old number) }
@@ -100,7 +102,7 @@ pub fn lose_link(draft: &mut Draft<'_>, number: u64, links: u32) -> Result<(), H
 }
 
 fn free(draft: &mut Draft<'_>, number: u64) -> Result<(), Halt>
-    requires { draft.old.modes.inodes ≡ Mode.Exclusive }
+    requires { MayChange draft.old (Addr.Inode number) }
     ensures { MatchResult result (λ _. Turns draft.old draft.new (removed number))
         (StopsCounting draft.old number) }
 {
@@ -109,7 +111,7 @@ fn free(draft: &mut Draft<'_>, number: u64) -> Result<(), Halt>
 }
 
 fn unlink(draft: &mut Draft<'_>, number: u64) -> Result<(), Halt>
-    requires { draft.old.modes.inodes ≡ Mode.Exclusive }
+    requires { MayChange draft.old (Addr.Inode number) }
     ensures { MatchResult result
         (λ _. Turns draft.old draft.new
         (λ k. edited k number (λ o. touched o (time_of draft.old.ctx.moment)) (λ l. l - 1)))
@@ -130,7 +132,7 @@ fn unlink(draft: &mut Draft<'_>, number: u64) -> Result<(), Halt>
 ///
 /// `Need` of what has to be held for it, and `Memory`. The draft is of no use then.
 pub fn take_entry(draft: &mut Draft<'_>, directory: &Directory, name: &[u8]) -> Result<(), Halt>
-    requires { draft.old.modes.inodes ≡ Mode.Exclusive }
+    requires { draft.old.modes ≡ changing }
     ensures { MatchResult result
         (λ _. Turns draft.old draft.new
         (name_taken (time_of draft.old.ctx.moment) directory.now.known.number name.now))
@@ -166,7 +168,7 @@ pub fn add_entry(
     cookie: u64,
     links: u32,
 ) -> Result<(), Halt>
-    requires { draft.old.modes.inodes ≡ Mode.Exclusive }
+    requires { draft.old.modes ≡ changing }
     ensures turns { MatchResult result
         (λ _. Turns draft.old draft.new (name_added (time_of draft.old.ctx.moment) directory.now.known.number links
         (record { name = name.now; number = number; cookie = cookie })))
@@ -208,7 +210,7 @@ pub fn make_object(
     wanted: &Wanted<'_>,
 ) -> Result<Reserved, Halt>
     requires none { draft.old.writes ≡ [] }
-    requires alone { draft.old.modes.inodes ≡ Mode.Exclusive }
+    requires alone { draft.old.modes ≡ changing }
     requires exported { ShowsExport draft.old directory.now.known.export }
     ensures turns { MatchResult result
         (λ r. Knows draft.old (λ k. IsFree k.state r) × Turns draft.old draft.new
@@ -235,7 +237,7 @@ fn make_reserved(
     generation: u64,
 ) -> Result<(), Halt>
     requires none { draft.old.writes ≡ [] }
-    requires alone { draft.old.modes.inodes ≡ Mode.Exclusive }
+    requires alone { draft.old.modes ≡ changing }
     requires exported { ShowsExport draft.old directory.now.known.export }
     requires first { IsFirst draft.old (record { number = number; generation = generation }) }
     ensures turns { MatchResult result

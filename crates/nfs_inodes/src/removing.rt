@@ -3,13 +3,14 @@
 ghost use Rattle.std.specs.Prelude.{◌≡◌, [], MatchResult};
 ghost use Rattle.nfs_machine.specs.Times.{time_of};
 ghost use Rattle.nfs_objects.specs.Knows.{Turns};
+ghost use Rattle.nfs_objects.specs.Modes.{changing};
 ghost use Rattle.nfs_inodes.specs.Removes.{directory_lost, name_lost, subdirectory_lost};
 ghost use Rattle.nfs_inodes.specs.Stops.{StopsAt, StopsAtBoth, StopsLosing};
 
 use crate::found::{Known, inode};
 use crate::kinds::Directory;
 use crate::makers::{lose_link, take_entry};
-use nfs_objects::{Addr, Draft, Halt, Mode};
+use nfs_objects::{Addr, Draft, Halt};
 use nfs_wire::FileType;
 
 /// Takes a name out of a directory, and with it a link of the object that it leads to: a directory goes with it, and
@@ -25,7 +26,7 @@ pub fn take_name(
     object: &Known,
 ) -> Result<(), Halt>
     requires none { draft.old.writes ≡ [] }
-    requires alone { draft.old.modes.inodes ≡ Mode.Exclusive }
+    requires alone { draft.old.modes ≡ changing }
     ensures { MatchResult result
         (λ _. Turns draft.old draft.new
         (name_lost (time_of draft.old.ctx.moment) directory.now.known.number name.now object.now))
@@ -40,7 +41,7 @@ pub fn take_name(
 
 /// A directory goes with its only name, which was in this one.
 fn lose_directory(draft: &mut Draft<'_>, directory: &Directory, number: u64) -> Result<(), Halt>
-    requires { draft.old.modes.inodes ≡ Mode.Exclusive }
+    requires { draft.old.modes ≡ changing }
     ensures { MatchResult result
         (λ _. Turns draft.old draft.new
         (directory_lost (time_of draft.old.ctx.moment) directory.now.known.number number))
@@ -56,7 +57,7 @@ fn lose_directory(draft: &mut Draft<'_>, directory: &Directory, number: u64) -> 
 ///
 /// `Need` of what has to be held for it, and `Memory`. The draft is of no use then.
 pub fn lose_subdirectory(draft: &mut Draft<'_>, directory: &Directory) -> Result<(), Halt>
-    requires { draft.old.modes.inodes ≡ Mode.Exclusive }
+    requires { draft.old.modes ≡ changing }
     ensures { MatchResult result
         (λ _. Turns draft.old draft.new (subdirectory_lost directory.now.known.number))
         (StopsAt draft.old (Addr.Inode directory.now.known.number)) }

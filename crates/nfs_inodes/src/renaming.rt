@@ -5,6 +5,7 @@ ghost use Rattle.std.specs.Prelude.{option_copied};
 ghost use Rattle.nfs_machine.specs.Attributes.{is_directory};
 ghost use Rattle.nfs_machine.specs.Bytes.{same_bytes};
 ghost use Rattle.nfs_machine.specs.Times.{time_of, touch};
+ghost use Rattle.nfs_objects.specs.Drafts.{MayChange};
 ghost use Rattle.nfs_objects.specs.Knows.{Turns};
 ghost use Rattle.nfs_objects.specs.Stands.{content_of, parent_in};
 ghost use Rattle.nfs_inodes.specs.Renames.{name_given, name_left, rehomed, staying};
@@ -15,7 +16,7 @@ use crate::found::inode;
 use crate::kinds::Directory;
 use crate::times::{now, touch};
 use bytes::Bytes;
-use nfs_objects::{Addr, Content, Draft, Entries, Halt, Inode, Leaf, Mode};
+use nfs_objects::{Addr, Content, Draft, Entries, Halt, Inode, Leaf};
 use nfs_wire::Time;
 use std::alloc::AllocError;
 
@@ -30,7 +31,7 @@ pub fn leave(
     name: &[u8],
     links: u32,
 ) -> Result<(), Halt>
-    requires { draft.old.modes.inodes ≡ Mode.Exclusive }
+    requires { MayChange draft.old (Addr.Inode directory.now.known.number) }
     ensures { MatchResult result
         (λ _. Turns draft.old draft.new
         (name_left (time_of draft.old.ctx.moment) directory.now.known.number name.now links))
@@ -67,7 +68,7 @@ pub fn give_name(
     cookie: u64,
     links: u32,
 ) -> Result<(), Halt>
-    requires { draft.old.modes.inodes ≡ Mode.Exclusive }
+    requires { MayChange draft.old (Addr.Inode directory.now.known.number) }
     ensures { MatchResult result
         (λ _. Turns draft.old draft.new (name_given (time_of draft.old.ctx.moment) directory.now.known.number
         (option_copied left.entry) (record { name = name.now; number = number; cookie = cookie }) links))
@@ -124,7 +125,7 @@ fn relinked(inode: &Inode, now: Time, content: Content, links: u32) -> Inode
 ///
 /// `Need` of what has to be held for it, and `Memory`. The draft is of no use then.
 pub fn rehome(draft: &mut Draft<'_>, number: u64, directory: u64) -> Result<(), Halt>
-    requires { draft.old.modes.inodes ≡ Mode.Exclusive }
+    requires { MayChange draft.old (Addr.Inode number) }
     ensures { MatchResult result
         (λ _. Turns draft.old draft.new (rehomed (time_of draft.old.ctx.moment) number directory))
         (StopsAt draft.old (Addr.Inode number)) }

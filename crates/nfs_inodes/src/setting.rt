@@ -2,12 +2,13 @@
 
 ghost use Rattle.std.specs.Prelude.{◌≡◌, IfOk, MatchResult, None, OnOk};
 ghost use Rattle.nfs_objects.specs.Knows.{Turns};
+ghost use Rattle.nfs_objects.specs.Modes.{changing};
 ghost use Rattle.nfs_objects.specs.Only.{AsksNothing};
 ghost use Rattle.nfs_inodes.specs.Sets.{attributes_changed};
 ghost use Rattle.nfs_inodes.specs.Stops.{KnowsAt, StopsAt};
 
 use crate::found::inode;
-use nfs_objects::{Addr, Draft, Halt, Inode, Mode};
+use nfs_objects::{Addr, Draft, Halt, Inode};
 use nfs_wire::Time;
 use std::alloc::AllocError;
 
@@ -30,7 +31,7 @@ pub struct Settings {
 ///
 /// `Need` of what has to be held for it, and `Memory`. The draft is of no use then.
 pub fn set_attributes(draft: &mut Draft<'_>, number: u64, settings: &Settings) -> Result<(), Halt>
-    requires { draft.old.modes.inodes ≡ Mode.Exclusive }
+    requires { draft.old.modes ≡ changing }
     ensures turns { MatchResult result
         (λ _. Turns draft.old draft.new (attributes_changed number settings.now))
         (StopsAt draft.old (Addr.Inode number)) }

@@ -142,9 +142,8 @@ fn unread(draft: &Draft<'_>, export: u32) -> Result<Vec<(Addr, Mode)>, AllocErro
 {
     let mut unread = Vec::new(draft.alloc());
     for group in 0..GROUPS {
-        let address = Addr::Usage { export, group };
-        if !draft.knows(address) {
-            unread.push((address, draft.modes().at(address)))?;
+        if let Some(wish) = draft.lacked(Addr::Usage { export, group }) {
+            unread.push(wish)?;
         }
     }
     Ok(unread)

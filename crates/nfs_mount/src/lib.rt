@@ -41,7 +41,12 @@ pub fn attempt(
     outcome(ended(alloc, call, ctx, view))
 }
 
-fn ended(alloc: Global, call: &MountCall, ctx: &Ctx, view: &View) -> Result<Change, Halt>
+fn ended<'a>(
+    alloc: Global,
+    call: &'a MountCall,
+    ctx: &'a Ctx,
+    view: &'a View,
+) -> Result<Change, Halt>
     requires { Suits (modes_of (Call.Mount call.now)) view.now }
     ensures ends { Ends (Call.Mount call.now) ctx.now view.now result }
     ensures first { EndsFirst (Call.Mount call.now) view.now result }

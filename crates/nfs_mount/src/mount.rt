@@ -41,7 +41,7 @@ pub fn attempt(draft: Draft<'_>, path: &Bytes) -> Result<Change, Halt>
 fn target(draft: &Draft<'_>, path: &Bytes) -> Result<Result<Known, MountStatus>, Halt>
     requires { draft.now.writes ≡ [] }
     ensures found { Finds draft.now (λ found. IsTarget draft.now.ctx path.now found) result }
-    ensures first { HaltsFirst draft.now.modes (unless_seen draft.now.view Addr.Exports) result }
+    ensures first { HaltsFirst draft.now.modes draft.now.view (unless_seen draft.now.view Addr.Exports) result }
 {
     let exports = exports(draft)?;
     if let Some(fault) = path_fault(path) {

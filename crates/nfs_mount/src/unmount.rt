@@ -46,7 +46,7 @@ fn take_mounts(draft: &mut Draft<'_>, leaving: Leaving<'_>) -> Result<(), Halt>
     requires none { draft.old.writes ≡ [] }
     requires alone { draft.old.modes.mounts ≡ Mode.Exclusive }
     ensures takes { MatchResult result (λ _. TakesMounts draft.old draft.new leaving.entry) (MountStops draft.old) }
-    ensures first { HaltsFirst draft.old.modes (unless_seen draft.old.view Addr.Exports) result }
+    ensures first { HaltsFirst draft.old.modes draft.old.view (unless_seen draft.old.view Addr.Exports) result }
 {
     exports(draft)?;
     let Some(table) = draft.mounts()? else {

@@ -1,3 +1,4 @@
+pub mod Alone
 pub mod Creating
 pub mod Linked
 pub mod Listed

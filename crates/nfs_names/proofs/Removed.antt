@@ -28,7 +28,7 @@ use Rattle.nfs_objects.specs.Attempt.{HaltsFirst, first_wanted}
 use Rattle.nfs_objects.specs.Begins.{Begins}
 use Rattle.nfs_objects.specs.Calls.{IsAmong, named_by, objects_at}
 use Rattle.nfs_objects.specs.Knows.{Does, Knows, Possible, Turns, ending}
-use Rattle.nfs_objects.specs.Modes.{modes_of}
+use Rattle.nfs_objects.specs.Modes.{changing, modes_of}
 use Rattle.nfs_objects.specs.Promise.{Given, Held, IsPromised}
 use Rattle.nfs_objects.specs.Stands.{Kept}
 use Rattle.nfs_objects.specs.Store.{Store}
@@ -36,7 +36,6 @@ use Rattle.nfs_objects.specs.Values.{DraftValue, ViewValue, done_value}
 use Rattle.nfs_objects.specs.declared.address.Addr.{Addr}
 use Rattle.nfs_objects.specs.declared.address.Addr.TheVariants as addresses
 use Rattle.nfs_objects.specs.declared.change.Halt.{Halt}
-use Rattle.nfs_objects.specs.declared.modes.Mode.TheVariants as modes
 use Rattle.nfs_objects.proofs.Summed.{turned-fit}
 use Rattle.nfs_inodes.proofs.Losing.{lost-sound, lost-state}
 use Rattle.nfs_inodes.proofs.Standing.{directory-listed, kind-is}
@@ -54,9 +53,9 @@ use Rattle.nfs_names.specs.declared.remove.Taking.TheVariants.{Remove, Rmdir}
 
 -- ---- both procedures alike
 pub alone : (taking : Taking) (place : Place) (d : DraftValue) → Begins (call_of taking place) d →
-    d.modes.inodes ≡ modes.Exclusive
-alone Remove place d begins = ap (λ m. m.inodes) begins.modes
-alone Rmdir place d begins = ap (λ m. m.inodes) begins.modes
+    d.modes ≡ changing
+alone Remove place d begins = begins.modes
+alone Rmdir place d begins = begins.modes
 
 pub names-directory : (taking : Taking) (place : Place) → named_by (call_of taking place) ≡ addresses.Exports ∷
     objects_at (place.directory ∷ [])
@@ -283,28 +282,28 @@ module _ (taking : Taking) (d : DraftValue) (place : Place) (begins : Begins (ca
 -- ---- what is asked for first
 module _ (taking : Taking) (place : Place) (d : DraftValue) (begins : Begins (call_of taking place) d)
     (handle : List ℕ) (is : handle ≡ place.directory) where
-  first-asked : {A : Type 0} (r : Result A Halt) → HaltsFirst d.modes (wanted_first d.view (handle ∷ [])) r →
-      HaltsFirst (modes_of (call_of taking place)) (first_wanted (call_of taking place) d.view) r
+  first-asked : {A : Type 0} (r : Result A Halt) → HaltsFirst d.modes d.view (wanted_first d.view (handle ∷ [])) r →
+      HaltsFirst (modes_of (call_of taking place)) d.view (first_wanted (call_of taking place) d.view) r
   first-asked r first =
-      subst (λ modes. HaltsFirst modes (first_wanted (call_of taking place) d.view) r) begins.modes
-      (subst (λ wanted. HaltsFirst d.modes wanted r)
+      subst (λ modes. HaltsFirst modes d.view (first_wanted (call_of taking place) d.view) r) begins.modes
+      (subst (λ wanted. HaltsFirst d.modes d.view wanted r)
       (ap (λ h. wanted_first d.view (h ∷ [])) is ∙ wants taking place d.view) first)
 
   pub first-halted : (A B : Type 0) (halt : Halt) →
-      HaltsFirst {A = A} d.modes (wanted_first d.view (handle ∷ [])) (Err halt) →
-      HaltsFirst {A = B} (modes_of (call_of taking place)) (first_wanted (call_of taking place) d.view) (Err halt)
+      HaltsFirst {A = A} d.modes d.view (wanted_first d.view (handle ∷ [])) (Err halt) →
+      HaltsFirst {A = B} (modes_of (call_of taking place)) d.view (first_wanted (call_of taking place) d.view) (Err halt)
   first-halted A B halt first = first-asked (Err halt) (by (wanted_first d.view (handle ∷ [])) first)
     where
-      by : (w : Option Addr) → HaltsFirst {A = A} d.modes w (Err halt) → HaltsFirst {A = B} d.modes w (Err halt)
+      by : (w : Option Addr) → HaltsFirst {A = A} d.modes d.view w (Err halt) → HaltsFirst {A = B} d.modes d.view w (Err halt)
       by None first = tt
       by (Some a) first = first
 
   -- once it was read, any end will do
   pub first-read : {A B : Type 0} (x : A) (r : Result B Halt) →
-      HaltsFirst d.modes (wanted_first d.view (handle ∷ [])) (Ok x) →
-      HaltsFirst (modes_of (call_of taking place)) (first_wanted (call_of taking place) d.view) r
+      HaltsFirst d.modes d.view (wanted_first d.view (handle ∷ [])) (Ok x) →
+      HaltsFirst (modes_of (call_of taking place)) d.view (first_wanted (call_of taking place) d.view) r
   first-read x r first = first-asked r (by (wanted_first d.view (handle ∷ [])) first)
     where
-      by : (w : Option Addr) → HaltsFirst d.modes w (Ok x) → HaltsFirst d.modes w r
+      by : (w : Option Addr) → HaltsFirst d.modes d.view w (Ok x) → HaltsFirst d.modes d.view w r
       by None read = tt
       by (Some a) read = absurd read

@@ -51,12 +51,10 @@ use Rattle.nfs_objects.specs.Promise.{Given, Held, IsPromised}
 use Rattle.nfs_objects.specs.Sound.{Sound}
 use Rattle.nfs_objects.specs.Stands.{Kept}
 use Rattle.nfs_objects.specs.Store.{Store}
-use Rattle.nfs_objects.specs.Values.{DraftValue, done_value}
+use Rattle.nfs_objects.specs.Values.{DraftValue, ModesValue, ViewValue, done_value}
 use Rattle.nfs_objects.specs.declared.address.Addr.{Addr}
 use Rattle.nfs_objects.specs.declared.address.Addr.TheVariants as addresses
 use Rattle.nfs_objects.specs.declared.change.Halt.{Halt}
-use Rattle.nfs_objects.specs.declared.modes.Mode.{Mode}
-use Rattle.nfs_objects.specs.declared.modes.Modes.{Modes}
 use Rattle.nfs_objects.proofs.Summed.{AllFit, turned-fit}
 use Rattle.nfs_inodes.proofs.Lived.{LivesAsBefore, lived-both, lived-given, lived-left, lived-rehomed, lived-same}
 use Rattle.nfs_inodes.proofs.Lived.{usage-there}
@@ -717,10 +715,6 @@ pub stops-later : (old new : DraftValue) (op : Kept → Kept) (halt : Halt) → 
     StopsAny new halt → StopsAny old halt
 stops-later old new op halt turns stops = λ named. turned-stops old named new op halt turns (stops named)
 
-pub turned-modes : (old new : DraftValue) (op : Kept → Kept) (mode : Mode) → Turns old new op →
-    old.modes.inodes ≡ mode → new.modes.inodes ≡ mode
-turned-modes old new op mode turns is = ap (λ (m : Modes). m.inodes) turns.modes ∙ is
-
 -- a change after another, at the call's moment
 pub turned-both : (a b c : DraftValue) (f : Kept → Kept) (g : Time → Kept → Kept) → Turns a b f →
     Turns b c (g (time_of b.ctx.moment)) → Turns a c (λ k. g (time_of a.ctx.moment) (f k))
@@ -905,10 +899,10 @@ module _ (d : DraftValue) (a : RenameArguments) (begins : Begins (calls.Nfs (nfs
       (told k.state formed e (λ is_within. passed _ (source s k w).names (failed _ (refused s k w).refused))))
 
 -- ---- what is asked for first is known once the first handle names something
-pub first-known : {A B : Type 0} (modes other : Modes) (wanted : Option Addr) (x : A) (r : Result B Halt) →
-    HaltsFirst modes wanted (Ok x) → HaltsFirst other wanted r
-first-known modes other None x r first = tt
-first-known modes other (Some a) x r first = absurd first
+pub first-known : {A B : Type 0} (modes other : ModesValue) (view : ViewValue) (wanted : Option Addr) (x : A) (r : Result B Halt) →
+    HaltsFirst modes view wanted (Ok x) → HaltsFirst other view wanted r
+first-known modes other view None x r first = tt
+first-known modes other view (Some a) x r first = absurd first
 
 -- ---- how it halts
 pub stops-named : {A : Type 0} (d new : DraftValue) (IsEnd : State → Result (A × State) NfsStatus → Type 0)

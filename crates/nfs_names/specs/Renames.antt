@@ -17,7 +17,10 @@ use Rattle.nfs_machine.specs.RemoveSteps.{object_under}
 use Rattle.nfs_machine.specs.RenameSteps.{TellsWithin, rename_end}
 use Rattle.nfs_machine.specs.State.{Content, Living, State}
 use Rattle.nfs_machine.specs.declared.context.Ctx.{Ctx}
+use Rattle.nfs_objects.specs.Drafts.{MayChange}
 use Rattle.nfs_objects.specs.Stands.{Kept}
+use Rattle.nfs_objects.specs.Values.{DraftValue}
+use Rattle.nfs_objects.specs.declared.address.Addr.TheVariants as addresses
 use Rattle.nfs_inodes.specs.Known.{IsKnown, Names, content_at, listed, shell, target}
 use Rattle.nfs_inodes.specs.Makes.{link_lost}
 use Rattle.nfs_inodes.specs.Renames.{name_given, name_left, rehomed}
@@ -77,6 +80,13 @@ pub record IsRenaming (k : Kept) (ctx : Ctx) (a : RenameArguments) (r : Renaming
       (Ok (record { from = r.from; to = r.to }))
   pub moved : IsUnder k.state r.from.known a.from.name (Some r.moved)
   pub replaced : IsUnder k.state r.to.known a.to.name r.replaced
+
+-- what RENAME changes it may change: both directories, and what the names lead to there
+pub record MayRename (d : DraftValue) (r : Renaming) : Type 0 where
+  pub from : MayChange d (addresses.Inode r.from.known.number)
+  pub to : MayChange d (addresses.Inode r.to.known.number)
+  pub moved : MayChange d (addresses.Inode r.moved.number)
+  pub replaced : IfSome r.replaced (λ o. MayChange d (addresses.Inode o.number))
 
 -- ---- links
 abbrev pub is_directory_kind : FileType → Bool

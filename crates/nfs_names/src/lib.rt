@@ -28,7 +28,7 @@ mod symlink;
 
 use crate::remove::Taking;
 use nfs_machine::Ctx;
-use nfs_objects::{CHANGING, Change, Draft, Halt, Outcome, READING, View, outcome};
+use nfs_objects::{CHANGING, Change, Draft, Halt, Modes, Outcome, READING, View, outcome};
 use nfs_wire::NfsCall;
 use std::alloc::{AllocError, Global};
 
@@ -66,7 +66,7 @@ pub fn is_name_call(call: &NfsCall) -> bool
     )
 }
 
-fn ended(alloc: Global, call: &NfsCall, ctx: &Ctx, view: &View) -> Result<Change, Halt>
+fn ended<'a>(alloc: Global, call: &'a NfsCall, ctx: &'a Ctx, view: &'a View) -> Result<Change, Halt>
     requires names { is_name_call call.now ≡ true }
     requires suits { Suits (modes_of (calls.Nfs call.now)) view.now }
     ensures ends { Ends (calls.Nfs call.now) ctx.now view.now result }
@@ -87,7 +87,7 @@ fn ended(alloc: Global, call: &NfsCall, ctx: &Ctx, view: &View) -> Result<Change
             mknod::attempt(Draft::new(alloc, ctx, view, CHANGING), arguments)
         }
         NfsCall::Rename(arguments) => {
-            let draft = Draft::new(alloc, ctx, view, CHANGING);
+            let draft = Draft::new(alloc, ctx, view, Modes::renaming(arguments));
             rename::attempt(draft, view.len(), arguments)
         }
         NfsCall::Remove(place) => {

@@ -5,6 +5,7 @@ ghost use Rattle.nfs_machine.specs.declared.calls.Call.TheVariants as calls;
 ghost use Rattle.nfs_objects.specs.Attempt.{Ends, EndsFirst};
 ghost use Rattle.nfs_objects.specs.Begins.{Begins};
 ghost use Rattle.nfs_objects.specs.Knows.{Does, Knows};
+ghost use Rattle.nfs_objects.specs.Modes.{changing};
 ghost use Rattle.nfs_inodes.specs.Known.{Names};
 ghost use Rattle.nfs_inodes.specs.Stops.{StopsAt};
 ghost use Rattle.nfs_names.specs.Links.{IsLinkEnd, LinkComesTo};
@@ -16,7 +17,7 @@ use nfs_inodes::{
     shown, wcc,
 };
 use nfs_machine::{Ctx, Reply};
-use nfs_objects::{Addr, Change, Draft, Halt, LivingExport, Mode};
+use nfs_objects::{Addr, Change, Draft, Halt, LivingExport};
 use nfs_wire::{Attributes, LinkArguments, LinkedReply, NfsCall, NfsReply, NfsStatus, Wcc};
 
 /// Tries LINK.
@@ -59,7 +60,7 @@ fn link(
     arguments: &LinkArguments,
 ) -> Result<Result<(), NfsStatus>, Halt>
     requires none { draft.old.writes ≡ [] }
-    requires alone { draft.old.modes.inodes ≡ Mode.Exclusive }
+    requires alone { draft.old.modes ≡ changing }
     requires file { Knows draft.old (λ k. Names draft.old.ctx arguments.now.file k file.now) }
     requires directory { Knows draft.old (λ k. Names draft.old.ctx arguments.now.place.directory k known.now) }
     ensures { MatchResult result

@@ -6,6 +6,7 @@ ghost use Rattle.nfs_machine.specs.Checks.{entry_of};
 ghost use Rattle.nfs_objects.specs.Asks.{Lives};
 ghost use Rattle.nfs_objects.specs.Attempt.{HaltsFirst};
 ghost use Rattle.nfs_objects.specs.Knows.{Does, Knows, ShowsExport};
+ghost use Rattle.nfs_objects.specs.Modes.{changing};
 ghost use Rattle.nfs_objects.specs.declared.address.Addr.TheVariants as addresses;
 ghost use Rattle.nfs_inodes.specs.Asked.{asked_as, wanted_as};
 ghost use Rattle.nfs_inodes.specs.Known.{IsKnown, Names, content_at};
@@ -22,7 +23,7 @@ use nfs_inodes::{
     wcc,
 };
 use nfs_machine::Ctx;
-use nfs_objects::{Draft, Halt, LivingExport, Mode};
+use nfs_objects::{Draft, Halt, LivingExport};
 use nfs_wire::{CreateHow, Made, MadeReply, NfsStatus, Place, Wcc};
 
 /// What a call makes of a name that is there.
@@ -46,11 +47,12 @@ pub(crate) fn make(
     there: There<'_>,
 ) -> Result<MadeReply, Halt>
     requires none { draft.old.writes ≡ [] }
-    requires alone { draft.old.modes.inodes ≡ Mode.Exclusive }
+    requires alone { draft.old.modes ≡ changing }
     ensures answers { MatchResult result
         (MakesReply draft.old draft.new place.now (asked_as asked.entry) (there_as there.entry draft.old.ctx))
         (StopsBringing draft.old place.now.directory) }
-    ensures first { HaltsFirst draft.old.modes (wanted_first draft.old.view (place.now.directory ∷ [])) result }
+    ensures first { HaltsFirst draft.old.modes draft.old.view
+        (wanted_first draft.old.view (place.now.directory ∷ [])) result }
 {
     match named(draft, place.directory.as_slice())? {
         Ok(known) => {
@@ -74,7 +76,7 @@ fn make_in(
     there: There<'_>,
 ) -> Result<Result<Made, NfsStatus>, Halt>
     requires none { draft.old.writes ≡ [] }
-    requires alone { draft.old.modes.inodes ≡ Mode.Exclusive }
+    requires alone { draft.old.modes ≡ changing }
     requires names { Knows draft.old (λ k. Names draft.old.ctx place.now.directory k known.now) }
     requires exported { ShowsExport draft.old known.now.export }
     requires usage { BringsUsage place.now.directory known.now.export }
@@ -128,7 +130,7 @@ fn make_there(
     there: There<'_>,
 ) -> Result<Result<Made, NfsStatus>, Halt>
     requires none { draft.old.writes ≡ [] }
-    requires alone { draft.old.modes.inodes ≡ Mode.Exclusive }
+    requires alone { draft.old.modes ≡ changing }
     requires lives { Lives draft.old.view (addresses.Inode number) }
     ensures { MatchResult result
         (Does draft.old draft.new (IsThereEnd (there_as there.entry draft.old.ctx) number))
@@ -148,7 +150,7 @@ fn make_new(
     wanted: &Wanted<'_>,
 ) -> Result<Result<Made, NfsStatus>, Halt>
     requires none { draft.old.writes ≡ [] }
-    requires alone { draft.old.modes.inodes ≡ Mode.Exclusive }
+    requires alone { draft.old.modes ≡ changing }
     requires known { Knows draft.old (λ k. IsKnown k.state directory.now.known) }
     requires exported { ShowsExport draft.old directory.now.known.export }
     requires lives { Lives draft.old.view (addresses.Inode directory.now.known.number) }

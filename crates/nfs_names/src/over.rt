@@ -6,6 +6,7 @@ ghost use Rattle.nfs_machine.specs.State.{Content, Socket};
 ghost use Rattle.nfs_machine.specs.Times.{time_of};
 ghost use Rattle.nfs_objects.specs.Asks.{Lives};
 ghost use Rattle.nfs_objects.specs.Knows.{Does, Turns};
+ghost use Rattle.nfs_objects.specs.Modes.{changing};
 ghost use Rattle.nfs_objects.specs.declared.address.Addr.TheVariants as addresses;
 ghost use Rattle.nfs_inodes.specs.Known.{shell};
 ghost use Rattle.nfs_inodes.specs.Stops.{StopsCounting};
@@ -15,7 +16,7 @@ ghost use Rattle.nfs_names.specs.Stopping.{StopsAny};
 use crate::make::made;
 use nfs_inodes::{File, Known, Right, SIZE_LIMIT, is_verifier, object, permitted, regular, resize};
 use nfs_machine::Ctx;
-use nfs_objects::{Draft, Halt, Mode};
+use nfs_objects::{Draft, Halt};
 use nfs_wire::{CreateHow, Made, NfsStatus};
 
 /// CREATE where the name leads to this number.
@@ -25,7 +26,7 @@ pub(crate) fn create_over(
     how: &CreateHow,
 ) -> Result<Result<Made, NfsStatus>, Halt>
     requires none { draft.old.writes ≡ [] }
-    requires alone { draft.old.modes.inodes ≡ Mode.Exclusive }
+    requires alone { draft.old.modes ≡ changing }
     requires lives { Lives draft.old.view (addresses.Inode number) }
     ensures { MatchResult result
         (Does draft.old draft.new (IsOverEnd draft.old.ctx how.now number))
@@ -76,7 +77,7 @@ fn size_allowed(ctx: &Ctx, file: &Known, size: u64) -> Result<(), NfsStatus>
 
 /// Cuts the file off, or fills it up, where a size is given.
 fn give_size(draft: &mut Draft<'_>, file: &File, size: Option<u64>) -> Result<(), Halt>
-    requires { draft.old.modes.inodes ≡ Mode.Exclusive }
+    requires { draft.old.modes ≡ changing }
     ensures { MatchResult result
         (λ _. Turns draft.old draft.new (sized (time_of draft.old.ctx.moment) file.now.known.number size))
         (StopsCounting draft.old file.now.known.number) }

@@ -5,6 +5,7 @@ ghost use Rattle.nfs_machine.specs.RemoveSteps.{empty_directory};
 ghost use Rattle.nfs_objects.specs.Attempt.{Ends, EndsFirst};
 ghost use Rattle.nfs_objects.specs.Begins.{Begins};
 ghost use Rattle.nfs_objects.specs.Knows.{Does, Knows};
+ghost use Rattle.nfs_objects.specs.Modes.{changing};
 ghost use Rattle.nfs_inodes.specs.Known.{IsKnown, Names, content_at};
 ghost use Rattle.nfs_inodes.specs.Stops.{StopsAt};
 ghost use Rattle.nfs_names.specs.Removes.{IsTakable, IsTakenEnd, above, call_of, judged, reply_of};
@@ -17,7 +18,7 @@ use nfs_inodes::{
     wcc,
 };
 use nfs_machine::Reply;
-use nfs_objects::{Addr, Change, Draft, Halt, Mode};
+use nfs_objects::{Addr, Change, Draft, Halt};
 use nfs_wire::{NfsReply, NfsStatus, Place, RemovedReply, Wcc};
 
 /// How a name is taken away.
@@ -53,7 +54,7 @@ fn take(
     place: &Place,
 ) -> Result<Result<(), NfsStatus>, Halt>
     requires none { draft.old.writes ≡ [] }
-    requires alone { draft.old.modes.inodes ≡ Mode.Exclusive }
+    requires alone { draft.old.modes ≡ changing }
     requires names { Knows draft.old (λ k. Names draft.old.ctx place.now.directory k known.now) }
     ensures { MatchResult result
         (Does draft.old draft.new (IsTakenEnd taking draft.old.ctx place.now))

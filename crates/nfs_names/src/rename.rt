@@ -1,7 +1,7 @@
 //! RENAME: a name that moves (RFC 1813, 3.3.14).
 
 ghost use Rattle.std.specs.Prelude.{◌≡◌, ◌≤◌, ◌==◌, ◌||◌, ◌↔◌, [], true, false, length, not};
-ghost use Rattle.std.specs.Prelude.{IfOk, IfSome, MatchResult, is_some, nat_lt};
+ghost use Rattle.std.specs.Prelude.{IfOk, IfSome, MatchResult, Some, is_some, nat_lt};
 ghost use Rattle.std.specs.Option.{option_map_or};
 ghost use Rattle.nfs_machine.specs.Checks.{link_limit};
 ghost use Rattle.nfs_machine.specs.RenameSteps.{IsWithin, is_compatible};
@@ -12,12 +12,15 @@ ghost use Rattle.nfs_objects.specs.Asks.{Lives};
 ghost use Rattle.nfs_objects.specs.Attempt.{Ends, EndsFirst, Stops};
 ghost use Rattle.nfs_objects.specs.Begins.{Begins};
 ghost use Rattle.nfs_objects.specs.Calls.{named_by};
+ghost use Rattle.nfs_objects.specs.Drafts.{MayChange};
 ghost use Rattle.nfs_objects.specs.Knows.{Does, Knows, Turns};
+ghost use Rattle.nfs_objects.specs.Modes.{led_at};
 ghost use Rattle.nfs_objects.specs.declared.address.Addr.TheVariants as addresses;
-ghost use Rattle.nfs_inodes.specs.Known.{IsKnown, Names, content_at};
+ghost use Rattle.nfs_inodes.specs.Known.{HasNumber, IsKnown, Names, content_at};
 ghost use Rattle.nfs_inodes.specs.Stops.{UsageLives};
 ghost use Rattle.nfs_names.specs.Stopping.{StopsAny};
-ghost use Rattle.nfs_names.specs.Renames.{ComesToBoth, IsRenameEnd, IsRenaming, IsUnder, brings_directory};
+ghost use Rattle.nfs_names.specs.Renames.{ComesToBoth, IsRenameEnd, IsRenaming, IsUnder, MayRename};
+ghost use Rattle.nfs_names.specs.Renames.{brings_directory};
 ghost use Rattle.nfs_names.specs.Renames.{entry_moved, is_directory_kind, is_one_directory, links_given, links_left};
 ghost use Rattle.nfs_names.specs.Renames.{names_counted, rename_checked, renamed, replaced_lost, replaces_directory};
 
@@ -28,7 +31,7 @@ use nfs_inodes::{
     plain_name_checked, rehome, wcc,
 };
 use nfs_machine::{Ctx, Reply};
-use nfs_objects::{Change, Draft, Halt, LivingExport, Mode};
+use nfs_objects::{Change, Draft, Halt, LivingExport};
 use nfs_wire::{FileType, NfsCall, NfsReply, NfsStatus, RenameArguments, RenamedReply, Wcc};
 
 /// The directories of the two names.
@@ -74,6 +77,7 @@ fn attempt_from(
     requires reads { length draft.view.entries ≤ reads }
     requires begins { Begins (calls.Nfs (NfsCall.Rename arguments.now)) draft }
     requires names { Knows draft (λ k. Names draft.ctx arguments.now.from.directory k from.now) }
+    requires number { HasNumber arguments.now.from.directory from.now.number }
     ensures { Ends (calls.Nfs (NfsCall.Rename arguments.now)) draft.entry.ctx draft.entry.view result }
 {
     match named(&draft, arguments.to.directory.as_slice())? {
@@ -102,6 +106,8 @@ fn rename(
     requires begins { Begins (calls.Nfs (NfsCall.Rename arguments.now)) draft.old }
     requires from { Knows draft.old (λ k. Names draft.old.ctx arguments.now.from.directory k from.now) }
     requires to { Knows draft.old (λ k. Names draft.old.ctx arguments.now.to.directory k to.now) }
+    requires source { HasNumber arguments.now.from.directory from.now.number }
+    requires target { HasNumber arguments.now.to.directory to.now.number }
     ensures { MatchResult result
         (Does draft.old draft.new (IsRenameEnd draft.old.ctx arguments.now))
         (Stops draft.old.modes (named_by (calls.Nfs (NfsCall.Rename arguments.now))) draft.old.view) }
@@ -167,9 +173,11 @@ fn object_under(
 ) -> Result<Option<Known>, Halt>
     requires none { draft.now.writes ≡ [] }
     requires known { Knows draft.now (λ k. IsKnown k.state directory.now.known) }
-    ensures { MatchResult result
+    ensures finds { MatchResult result
         (λ found. Knows draft.now (λ k. IsUnder k.state directory.now.known name.now found))
         (StopsAny draft.now) }
+    ensures led { IfOk result (λ found. IfSome found (λ x.
+        led_at draft.now.view directory.now.known.number name.now ≡ Some x.number)) }
 {
     match entry(draft, directory, name)? {
         Some(number) => object(draft, number),
@@ -186,7 +194,7 @@ fn rename_found(
 ) -> Result<Result<(), NfsStatus>, Halt>
     requires reads { length draft.old.view.entries ≤ reads }
     requires none { draft.old.writes ≡ [] }
-    requires alone { draft.old.modes.inodes ≡ Mode.Exclusive }
+    requires alone { MayRename draft.old renaming.now }
     requires finds { Knows draft.old (λ k. IsRenaming k draft.old.ctx arguments.now renaming.now) }
     ensures { MatchResult result
         (Does draft.old draft.new (IsRenameEnd draft.old.ctx arguments.now))
@@ -289,7 +297,7 @@ fn move_name(
     cookie: u64,
 ) -> Result<(), Halt>
     requires none { draft.old.writes ≡ [] }
-    requires alone { draft.old.modes.inodes ≡ Mode.Exclusive }
+    requires alone { MayRename draft.old renaming.now }
     requires finds { Knows draft.old (λ k. IsRenaming k draft.old.ctx arguments.now renaming.now) }
     ensures { MatchResult result
         (λ _. Turns draft.old draft.new
@@ -308,7 +316,7 @@ fn move_entry(
     arguments: &RenameArguments,
     cookie: u64,
 ) -> Result<(), Halt>
-    requires alone { draft.old.modes.inodes ≡ Mode.Exclusive }
+    requires alone { MayRename draft.old renaming.now }
     requires from { Lives draft.old.view (addresses.Inode renaming.now.from.known.number) }
     requires to { Lives draft.old.view (addresses.Inode renaming.now.to.known.number) }
     ensures { MatchResult result
@@ -337,7 +345,7 @@ fn move_entry(
 
 /// Takes the new name from what had it.
 fn lose_replaced(draft: &mut Draft<'_>, renaming: &Renaming) -> Result<(), Halt>
-    requires alone { draft.old.modes.inodes ≡ Mode.Exclusive }
+    requires alone { IfSome renaming.now.replaced (λ o. MayChange draft.old (addresses.Inode o.number)) }
     requires lives { IfSome renaming.now.replaced (λ o. Lives draft.old.view (addresses.Inode o.number)) }
     requires counts { IfSome renaming.now.replaced (λ o. UsageLives draft.old o.number) }
     ensures { MatchResult result

@@ -8,13 +8,12 @@ use Rattle.nfs_objects.specs.Fits.{vacant}
 use Rattle.nfs_objects.specs.Drafts.{IsDraft, MayWrite}
 use Rattle.nfs_objects.specs.Modes.{Suits, covers, mode_at}
 use Rattle.nfs_objects.specs.Promise.{Given, Held, IsGeneration, IsGiven}
-use Rattle.nfs_objects.specs.Values.{DraftValue, Seen, ViewValue, held_at, is_addr, known_at, seen_at, shown_at}
-use Rattle.nfs_objects.specs.Values.{written_at}
+use Rattle.nfs_objects.specs.Values.{DraftValue, ModesValue, Seen, ViewValue, held_at, is_addr, known_at}
+use Rattle.nfs_objects.specs.Values.{seen_at, shown_at, written_at}
 use Rattle.nfs_objects.specs.declared.address.Addr.{Addr}
 use Rattle.nfs_objects.specs.declared.address.Addr.TheVariants as addresses
 use Rattle.nfs_objects.specs.declared.modes.Mode.{Mode}
 use Rattle.nfs_objects.specs.declared.modes.Mode.TheVariants.{Shared, Exclusive}
-use Rattle.nfs_objects.specs.declared.modes.Modes.{Modes}
 use Rattle.nfs_objects.specs.declared.object.Inode.{Inode}
 use Rattle.nfs_objects.specs.declared.object.Object.{Object}
 use Rattle.nfs_objects.specs.declared.object.Object.TheVariants as objects
@@ -44,8 +43,8 @@ alone Exclusive e = refl
 alone Shared e = cc
 
 -- where a view suits the modes, what it shows is held as they want
-suits-held : (modes : Modes) (view : ViewValue) (a : Addr) → Suits modes view → mode_at modes a ≡ Exclusive
-    → IsSome (shown_at view.entries a) → held_at view.entries a ≡ Some Exclusive
+suits-held : (modes : ModesValue) (view : ViewValue) (a : Addr) → Suits modes view
+    → mode_at modes view a ≡ Exclusive → IsSome (shown_at view.entries a) → held_at view.entries a ≡ Some Exclusive
 suits-held modes view a suits exclusive shown = at (seen_at view.entries a) refl shown
   where
     at : (s : Option Seen) → seen_at view.entries a ≡ s → IsSome
@@ -55,14 +54,15 @@ suits-held modes view a suits exclusive shown = at (seen_at view.entries a) refl
         let no : IsSome (option_map (λ (e : Seen). e.object) None) =
         subst (λ (s : Option Seen). IsSome (option_map (λ (e : Seen). e.object) s)) is some in cc
     at (Some x) is some =
-        let covered = seen-all (λ (e : Seen). covers e.mode (mode_at modes e.address) ≡ true) view.entries a x suits
+        let covered = seen-all (λ (e : Seen). covers e.mode (mode_at modes view e.address) ≡ true) view.entries a x
+        suits
         is in
         let same = seen-address view.entries a x is in
         ap (option_map (λ (e : Seen). e.mode)) is
         ∙
         ap Some
         (alone x.mode (subst (λ m. covers x.mode m ≡ true) exclusive
-        (subst (λ b. covers x.mode (mode_at modes b) ≡ true) same covered)))
+        (subst (λ b. covers x.mode (mode_at modes view b) ≡ true) same covered)))
 
 -- what is known and written is held
 held-known : (ws : List (Addr × Option Object)) (view : ViewValue) (a : Addr) (known : Option (Option Object)) →
@@ -110,7 +110,7 @@ module _ (d : DraftValue) (is : IsDraft d.modes d.view d.writes) where
   given-with addresses.Mounts o may = tt
   given-with (addresses.Usage e g) o may = tt
 
-  pub drafted : (a : Addr) (o : Option Object) → mode_at d.modes a ≡ Exclusive → IsSome (known_at d a) →
+  pub drafted : (a : Addr) (o : Option Object) → mode_at d.modes d.view a ≡ Exclusive → IsSome (known_at d a) →
       MayWrite d a o
       → IsDraft d.modes d.view (d.writes ++ (a, o) ∷ [])
   drafted a o exclusive some may = record {

@@ -20,22 +20,21 @@ use Rattle.nfs_objects.specs.Modes.{mode_at}
 use Rattle.nfs_objects.specs.Stands.{Kept}
 use Rattle.nfs_objects.specs.Store.{Store}
 use Rattle.nfs_objects.specs.Sums.{group_of}
-use Rattle.nfs_objects.specs.Values.{DraftValue, ViewValue, seen_at}
+use Rattle.nfs_objects.specs.Values.{DraftValue, ModesValue, ViewValue, seen_at}
 use Rattle.nfs_objects.specs.declared.address.Addr.{Addr}
 use Rattle.nfs_objects.specs.declared.address.Addr.TheVariants as addresses
 use Rattle.nfs_objects.specs.declared.change.Change.{Change}
 use Rattle.nfs_objects.specs.declared.change.Halt.{Halt}
 use Rattle.nfs_objects.specs.declared.change.Halt.TheVariants.{Need, Fresh, Memory, Status}
 use Rattle.nfs_objects.specs.declared.modes.Mode.{Mode}
-use Rattle.nfs_objects.specs.declared.modes.Modes.{Modes}
 
 -- one address that is asked for
-pub asks-one : (modes : Modes) (named : List Addr) (view : ViewValue) (a : Addr) (asked : List (Addr × Mode)) →
+pub asks-one : (modes : ModesValue) (named : List Addr) (view : ViewValue) (a : Addr) (asked : List (Addr × Mode)) →
     seen_at view.entries a ≡ None
-    → asked ≡ (a, mode_at modes a) ∷ [] → IsAmong named a ⊎ Lives view a → Asks modes named view asked
+    → asked ≡ (a, mode_at modes view a) ∷ [] → IsAmong named a ⊎ Lives view a → Asks modes named view asked
 asks-one modes named view a asked unseen is bounded =
     subst (Asks modes named view) (sym is) (record {
-      some = λ e. (let no : (a, mode_at modes a) ∷ [] ≡ [] = e in cc);
+      some = λ e. (let no : (a, mode_at modes view a) ∷ [] ≡ [] = e in cc);
       once = (tt, tt);
       each = (record { unseen = unseen; mode = refl; bounded = bounded }, tt);
     })

@@ -11,6 +11,7 @@ pub mod MountTables
 pub mod Promised
 pub mod Rising
 pub mod Seen
+pub mod Suiting
 pub mod Summed
 pub mod Tallies
 pub mod Turns

@@ -9,13 +9,17 @@ use Rattle.nfs_machine.specs.Step.{Step}
 use Rattle.nfs_machine.specs.WellFormed.{WellFormed}
 use Rattle.nfs_machine.specs.declared.calls.Call.{Call}
 use Rattle.nfs_machine.specs.declared.calls.Reply.{Reply}
+use Rattle.nfs_objects.specs.Drafts.{MayChange}
 use Rattle.nfs_objects.specs.Fits.{Fits}
 use Rattle.nfs_objects.specs.Knows.{Does, Turns, Possible, ending}
+use Rattle.nfs_objects.specs.Modes.{mode_at}
 use Rattle.nfs_objects.specs.Promise.{Given, Held, IsPromised}
 use Rattle.nfs_objects.specs.Sound.{Sound}
 use Rattle.nfs_objects.specs.Stands.{Kept, Represents}
 use Rattle.nfs_objects.specs.Store.{Store, with_writes}
 use Rattle.nfs_objects.specs.Values.{DraftValue, done_value}
+use Rattle.nfs_objects.specs.declared.address.Addr.{Addr}
+use Rattle.nfs_objects.specs.declared.modes.Mode.TheVariants.{Exclusive}
 
 -- nothing written
 pub turns-none : (d : DraftValue) → Turns d d (λ k. k)
@@ -31,6 +35,13 @@ turns-both a b c f g x y = record {
   messages = y.messages ∙ x.messages;
   turns = λ s k fits stands. y.turns s (f k) (subst (λ v. Fits v s) (sym x.view) fits) (x.turns s k fits stands);
 }
+
+-- what may be changed may be changed still
+pub turned-change : (old new : DraftValue) (op : Kept → Kept) → Turns old new op → (a : Addr) →
+    MayChange old a → MayChange new a
+turned-change old new op turns a may =
+    subst (λ modes. mode_at modes new.view a ≡ Exclusive) (sym turns.modes)
+    (subst (λ view. mode_at old.modes view a ≡ Exclusive) (sym turns.view) may)
 
 -- the store that was possible before is so afterwards
 pub possible-after : (old new : DraftValue) (op : Kept → Kept) → Turns old new op → (s : Store) (k : Kept) →

@@ -115,7 +115,7 @@ reserved-last view r all none =
     (reserved-more view (vacant r ∷ []) all) (seen-last view.entries (vacant r) none)
 
 -- ---- what the view shows, and what was written
-some-shown : (es : List Seen) (a : Addr) (o : Option Object) → shown_at es a ≡ Some o →
+pub some-shown : (es : List Seen) (a : Addr) (o : Option Object) → shown_at es a ≡ Some o →
     (x : Seen) × (seen_at es a ≡ Some x) × (x.object ≡ o)
 some-shown es a o shown =
     elim (seen_at es a) as (λ (s : Option Seen). option_map (λ (e : Seen). e.object) s ≡ Some o →

@@ -9,13 +9,12 @@ use Rattle.nfs_objects.specs.Modes.{mode_at}
 use Rattle.nfs_objects.specs.Sound.{Sound}
 use Rattle.nfs_objects.specs.Stands.{Kept, Represents}
 use Rattle.nfs_objects.specs.Store.{Store}
-use Rattle.nfs_objects.specs.Values.{DraftValue, ViewValue, is_addr, known_at, seen_at}
+use Rattle.nfs_objects.specs.Values.{DraftValue, ModesValue, ViewValue, is_addr, known_at, seen_at}
 use Rattle.nfs_objects.specs.declared.address.Addr.{Addr}
 use Rattle.nfs_objects.specs.declared.address.Addr.TheVariants as addresses
 use Rattle.nfs_objects.specs.declared.change.Halt.{Halt}
 use Rattle.nfs_objects.specs.declared.change.Halt.TheVariants.{Need, Fresh, Memory}
 use Rattle.nfs_objects.specs.declared.modes.Mode.{Mode}
-use Rattle.nfs_objects.specs.declared.modes.Modes.{Modes}
 use Rattle.nfs_objects.specs.declared.view.Reserved.{Reserved}
 
 -- something stands at the address in every sound store that the view fits
@@ -23,11 +22,11 @@ abbrev pub Lives : ViewValue → Addr → Type 0
 Lives view a = (s : Store) (k : Kept) → Fits view s → Represents s k → Sound k → WellFormed k.state →
     IsSome (s.at a)
 
--- An address may be asked for, in this mode: the view has it in no mode, so there is no upgrade; and the call names it,
--- or something stands there.
-pub record MayAsk (modes : Modes) (named : List Addr) (view : ViewValue) (a : Addr × Mode) : Type 0 where
+-- An address may be asked for, in this mode: the view has it in no mode, so there is no upgrade; what the call may
+-- change is asked for alone, and what it only reads shared; and the call names the address, or something stands there.
+pub record MayAsk (modes : ModesValue) (named : List Addr) (view : ViewValue) (a : Addr × Mode) : Type 0 where
   pub unseen : seen_at view.entries a.0 ≡ None
-  pub mode : a.1 ≡ mode_at modes a.0
+  pub mode : a.1 ≡ mode_at modes view a.0
   pub bounded : IsAmong named a.0 ⊎ Lives view a.0
 
 -- no address stands twice
@@ -36,7 +35,7 @@ EachOnce [] = Unit {0}
 EachOnce (a ∷ asked) = AllByRecursion (λ (b : Addr × Mode). is_addr a.0 b.0 ≡ false) asked × EachOnce asked
 
 -- addresses are asked for: at least one, each once, and each may be
-pub record Asks (modes : Modes) (named : List Addr) (view : ViewValue) (asked : List (Addr × Mode)) : Type 0 where
+pub record Asks (modes : ModesValue) (named : List Addr) (view : ViewValue) (asked : List (Addr × Mode)) : Type 0 where
   pub some : asked ≢ []
   pub once : EachOnce asked
   pub each : AllByRecursion (MayAsk modes named view) asked
@@ -50,7 +49,7 @@ IsNeed a mode halt = ⊥
 -- the draft does not know the address, and it is asked for
 pub record Lacks (d : DraftValue) (a : Addr) (halt : Halt) : Type 0 where
   pub unknown : known_at d a ≡ None
-  pub asked : IsNeed a (mode_at d.modes a) halt
+  pub asked : IsNeed a (mode_at d.modes d.view a) halt
 
 -- the number is the first that may be given, and the draft knows its address
 pub record IsFirst (d : DraftValue) (r : Reserved) : Type 0 where

@@ -7,7 +7,7 @@ use Rattle.nfs_objects.specs.Asks.{Asks, IsNeed}
 use Rattle.nfs_objects.specs.Calls.{handles_of, is_null, named_by}
 use Rattle.nfs_objects.specs.Modes.{mode_at, modes_of}
 use Rattle.nfs_objects.specs.Promise.{IsPromised}
-use Rattle.nfs_objects.specs.Values.{ViewValue, change_value, done_value, seen_at}
+use Rattle.nfs_objects.specs.Values.{ModesValue, ViewValue, change_value, done_value, seen_at}
 use Rattle.nfs_objects.specs.declared.address.Addr.{Addr}
 use Rattle.nfs_objects.specs.declared.address.Addr.TheVariants as addresses
 use Rattle.nfs_objects.specs.declared.change.Change.{Change}
@@ -16,7 +16,6 @@ use Rattle.nfs_objects.specs.declared.change.Halt.TheVariants as halts
 use Rattle.nfs_objects.specs.declared.change.Outcome.{Outcome}
 use Rattle.nfs_objects.specs.declared.change.Outcome.TheVariants.{Need, Fresh, Done}
 use Rattle.nfs_objects.specs.declared.modes.Mode.{Mode}
-use Rattle.nfs_objects.specs.declared.modes.Modes.{Modes}
 
 -- an attempt asks for addresses, or for one number where none is reserved; or it is done, and keeps the promise
 abbrev pub Attempts : Call → Ctx → ViewValue → Outcome → Type 0
@@ -56,12 +55,12 @@ IsAsked a outcome = ⊥
 abbrev pub AsksFirst : Call → ViewValue → Outcome → Type 0
 AsksFirst call view outcome = elim (first_wanted call view) [
   | None ↦ Unit {0}
-  | Some a ↦ IsAsked (a, mode_at (modes_of call) a) outcome
+  | Some a ↦ IsAsked (a, mode_at (modes_of call) view a) outcome
 ]
 
 -- ---- the same of what an attempt comes to before it is an outcome
 -- a call that is not done asks, or there is no memory; it answers each status
-abbrev pub Stops : Modes → (named : List Addr) → ViewValue → Halt → Type 0
+abbrev pub Stops : ModesValue → (named : List Addr) → ViewValue → Halt → Type 0
 Stops modes named view (halts.Need asked) = Asks modes named view asked.items
 Stops modes named view (halts.Fresh count) = (view.reserved ≡ []) × (count ≡ 1)
 Stops modes named view halts.Memory = Unit {0}
@@ -72,13 +71,13 @@ Ends call ctx view (Ok change) = IsPromised (done_value call ctx view (change_va
 Ends call ctx view (Err halt) = Stops (modes_of call) (named_by call) view halt
 
 -- this is asked for, if anything is wanted first
-abbrev pub HaltsFirst : {A : Type 0} → Modes → Option Addr → Result A Halt → Type 0
-HaltsFirst modes None result = Unit {0}
-HaltsFirst modes (Some a) (Ok x) = ⊥
-HaltsFirst modes (Some a) (Err halt) = IsNeed a (mode_at modes a) halt
+abbrev pub HaltsFirst : {A : Type 0} → ModesValue → ViewValue → Option Addr → Result A Halt → Type 0
+HaltsFirst modes view None result = Unit {0}
+HaltsFirst modes view (Some a) (Ok x) = ⊥
+HaltsFirst modes view (Some a) (Err halt) = IsNeed a (mode_at modes view a) halt
 
 abbrev pub EndsFirst : Call → ViewValue → Result Change Halt → Type 0
-EndsFirst call view result = HaltsFirst (modes_of call) (first_wanted call view) result
+EndsFirst call view result = HaltsFirst (modes_of call) view (first_wanted call view) result
 
 -- no status is left to answer
 abbrev pub IsSettled : {A : Type 0} → Result A Halt → Type 0

@@ -1,20 +1,24 @@
 -- What a draft keeps, and what may be written to it.
 use Rattle.std.specs.Prelude.{◌≡◌, ℕ, List, Option, Some, ◌⊎◌}
-use Rattle.nfs_objects.specs.Modes.{Suits}
+use Rattle.nfs_objects.specs.Modes.{Suits, mode_at}
 use Rattle.nfs_objects.specs.Promise.{Given, Held, IsReserved}
-use Rattle.nfs_objects.specs.Values.{DraftValue, ViewValue, known_at}
+use Rattle.nfs_objects.specs.Values.{DraftValue, ModesValue, ViewValue, known_at}
 use Rattle.nfs_objects.specs.declared.address.Addr.{Addr}
 use Rattle.nfs_objects.specs.declared.address.Addr.TheVariants as addresses
-use Rattle.nfs_objects.specs.declared.modes.Modes.{Modes}
+use Rattle.nfs_objects.specs.declared.modes.Mode.TheVariants.{Exclusive}
 use Rattle.nfs_objects.specs.declared.object.Inode.{Inode}
 use Rattle.nfs_objects.specs.declared.object.Object.{Object}
 use Rattle.nfs_objects.specs.declared.object.Object.TheVariants as objects
 
 -- what a draft keeps from its first write to its last
-pub record IsDraft (modes : Modes) (view : ViewValue) (writes : List (Addr × Option Object)) : Type 0 where
+pub record IsDraft (modes : ModesValue) (view : ViewValue) (writes : List (Addr × Option Object)) : Type 0 where
   pub suits : Suits modes view
   pub held : Held view writes
   pub given : Given view writes
+
+-- what stands at the address may be changed: the call wants it alone
+abbrev pub MayChange : DraftValue → Addr → Type 0
+MayChange d a = mode_at d.modes d.view a ≡ Exclusive
 
 -- an inode of this generation is known to live at the number
 abbrev pub KnowsGeneration : DraftValue → (number generation : ℕ) → Type 0

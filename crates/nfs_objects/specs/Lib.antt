@@ -11,6 +11,7 @@ pub mod ExportTables
 pub mod Fits
 pub mod Knows
 pub mod Leaving
+pub mod ModeLaws
 pub mod Modes
 pub mod MountTables
 pub mod Only

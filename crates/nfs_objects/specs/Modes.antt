@@ -1,15 +1,26 @@
--- How calls hold what they read: each address in one mode, the strongest that the call may need.
-use Rattle.std.specs.Prelude.{◌≡◌, Bool, true, false}
+-- How calls hold what they read: alone what they may change, and shared what they only read.
+use Rattle.std.specs.Prelude.{◌≡◌, ◌==◌, ◌&&◌, ◌||◌, Bool, true, false, not, ℕ, List, Option}
+use Rattle.std.specs.Prelude.{Some, None, option_map, if◌then◌else◌}
 use Rattle.std.specs.List.{AllByRecursion}
+use Rattle.std.specs.Option.{option_map_or}
+use Rattle.nfs_wire.specs.declared.calls.NfsCall.{NfsCall}
+use Rattle.nfs_wire.specs.declared.calls.NfsCall.TheVariants as nfs
+use Rattle.nfs_wire.specs.declared.calls.Place.{Place}
+use Rattle.nfs_wire.specs.declared.calls.RenameArguments.{RenameArguments}
+use Rattle.nfs_machine.specs.Attributes.{entries_of}
 use Rattle.nfs_machine.specs.Changing.{is_changing_mount, is_changing_nfs}
+use Rattle.nfs_machine.specs.Checks.{entry_of}
+use Rattle.nfs_machine.specs.Handles.{handle_of}
+use Rattle.nfs_machine.specs.State as machine
 use Rattle.nfs_machine.specs.declared.calls.Call.{Call}
 use Rattle.nfs_machine.specs.declared.calls.Call.TheVariants as calls
+use Rattle.nfs_objects.specs.Stands.{content_of, inode_of}
+use Rattle.nfs_objects.specs.Values.{ModesValue, Seen, ViewValue, shown_at}
 use Rattle.nfs_objects.specs.declared.address.Addr.{Addr}
 use Rattle.nfs_objects.specs.declared.address.Addr.TheVariants as addresses
 use Rattle.nfs_objects.specs.declared.modes.Mode.{Mode}
 use Rattle.nfs_objects.specs.declared.modes.Mode.TheVariants.{Shared, Exclusive}
-use Rattle.nfs_objects.specs.declared.modes.Modes.{Modes}
-use Rattle.nfs_objects.specs.Values.{Seen, ViewValue}
+use Rattle.nfs_objects.specs.declared.object.Object.{Object}
 
 -- whether what is held in a mode may be used in another
 abbrev pub covers : (held wanted : Mode) → Bool
@@ -17,25 +28,77 @@ covers Exclusive wanted = true
 covers Shared Shared = true
 covers Shared Exclusive = false
 
--- the mode of an address: a call never changes the exports
-abbrev pub mode_at : Modes → Addr → Mode
-mode_at modes addresses.Exports = Shared
-mode_at modes (addresses.Inode n) = modes.inodes
-mode_at modes addresses.Mounts = modes.mounts
-mode_at modes (addresses.Usage e g) = modes.inodes
+-- ---- what RENAME only reads
+-- the number that a name leads to among what an object contains
+abbrev pub number_under : machine.Content → List ℕ → Option ℕ
+number_under content name = option_map (λ e. e.number) (entry_of (entries_of content) name)
+
+-- the same of what stands somewhere
+abbrev pub led_in : Option Object → List ℕ → Option ℕ
+led_in object name = elim (inode_of object) [ None ↦ None | Some i ↦ number_under (content_of i.content) name ]
+
+-- the same of what stands at a number, as the view shows it
+abbrev pub led_at : ViewValue → (directory : ℕ) → List ℕ → Option ℕ
+led_at view directory name = elim (shown_at view.entries (addresses.Inode directory)) [
+  | None ↦ None
+  | Some object ↦ led_in object name
+]
+
+abbrev pub is_number : Option ℕ → ℕ → Bool
+is_number led n = option_map_or (λ m. m == n) led false
+
+-- the view has the directory of a name, and neither it nor what the name leads to there is at this number
+abbrev pub is_apart : ViewValue → Place → (number : ℕ) → Bool
+is_apart view place n = elim (handle_of place.directory) [
+  | None ↦ false
+  | Some h ↦ elim (shown_at view.entries (addresses.Inode h.fileid)) [
+    | None ↦ false
+    | Some object ↦ not (h.fileid == n || is_number (led_in object place.name) n)
+  ]
+]
+
+-- RENAME changes both directories and what its names lead to there; once the view has the two, it reads all others only
+-- to see which directories lie above its target
+abbrev pub only_reads : Option RenameArguments → ViewValue → (number : ℕ) → Bool
+only_reads None view n = false
+only_reads (Some a) view n = is_apart view a.from n && is_apart view a.to n
+
+-- ---- modes
+-- the mode in which an address is wanted: a call never changes the exports
+abbrev pub mode_at : ModesValue → ViewValue → Addr → Mode
+mode_at modes view addresses.Exports = Shared
+mode_at modes view (addresses.Inode n) = if only_reads modes.renames view n then Shared else modes.inodes
+mode_at modes view addresses.Mounts = modes.mounts
+mode_at modes view (addresses.Usage e g) = modes.inodes
 
 -- alone, where it may be changed
 abbrev pub mode_for : (changes : Bool) → Mode
 mode_for true = Exclusive
 mode_for false = Shared
 
+-- the names that a call moves
+abbrev pub renames_of : NfsCall → Option RenameArguments
+renames_of (nfs.Rename a) = Some a
+renames_of call = None
+
 -- A call of NFS may change objects. MNT reads directories and changes the mounts, as UMNT and UMNTALL do. NLM reads the
 -- file.
-abbrev pub modes_of : Call → Modes
-modes_of (calls.Nfs call) = record { inodes = mode_for (is_changing_nfs call); mounts = Shared }
-modes_of (calls.Mount call) = record { inodes = Shared; mounts = mode_for (is_changing_mount call) }
-modes_of (calls.Nlm call) = record { inodes = Shared; mounts = Shared }
+abbrev pub modes_of : Call → ModesValue
+modes_of (calls.Nfs call) = record
+    { inodes = mode_for (is_changing_nfs call); mounts = Shared; renames = renames_of call }
+modes_of (calls.Mount call) = record
+    { inodes = Shared; mounts = mode_for (is_changing_mount call); renames = None }
+modes_of (calls.Nlm call) = record { inodes = Shared; mounts = Shared; renames = None }
 
--- all that the view has is held as the modes want, or alone
-abbrev pub Suits : Modes → ViewValue → Type 0
-Suits modes view = AllByRecursion (λ (e : Seen). covers e.mode (mode_at modes e.address) ≡ true) view.entries
+-- those of calls that change nothing
+abbrev pub reading : ModesValue
+reading = record { inodes = Shared; mounts = Shared; renames = None }
+
+-- those of calls that may change each object that they read
+abbrev pub changing : ModesValue
+changing = record { inodes = Exclusive; mounts = Shared; renames = None }
+
+-- all that the view has is held as it is wanted, or alone
+abbrev pub Suits : ModesValue → ViewValue → Type 0
+Suits modes view =
+    AllByRecursion (λ (e : Seen). covers e.mode (mode_at modes view e.address) ≡ true) view.entries

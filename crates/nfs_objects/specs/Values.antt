@@ -1,10 +1,11 @@
 -- What clauses see of views and of what a call comes to.
 use Rattle.std.specs.Prelude.{Bool, true, false, List, [], ◌∷◌, ◌++◌, map, Option, Some, None, option_map}
-use Rattle.std.specs.Prelude.{if◌then◌else◌, ◌==◌, ◌&&◌}
+use Rattle.std.specs.Prelude.{if◌then◌else◌, ◌==◌, ◌&&◌, option_copied}
 use Rattle.std.specs.Borrow.{Bor}
 use Rattle.std.specs.Arc.{arc_value}
 use Rattle.std.specs.declared.sync.Arc.{Arc}
 use Rattle.side_wire.specs.declared.message.Message.{Message}
+use Rattle.nfs_wire.specs.declared.calls.RenameArguments.{RenameArguments}
 use Rattle.nfs_machine.specs.declared.context.Ctx.{Ctx}
 use Rattle.nfs_machine.specs.declared.calls.Call.{Call}
 use Rattle.nfs_machine.specs.declared.calls.Reply.{Reply}
@@ -29,11 +30,17 @@ pub record ViewValue : Type 0 where
   pub entries : List Seen
   pub reserved : List Reserved
 
+-- how a call holds what it reads: inodes and what groups of them use, the mounts, and which names it moves, if any
+pub record ModesValue : Type 0 where
+  pub inodes : Mode
+  pub mounts : Mode
+  pub renames : Option RenameArguments
+
 -- what a call stands on, how it holds what it reads, and what it would write and put
 pub record DraftValue : Type 0 where
   pub ctx : Ctx
   pub view : ViewValue
-  pub modes : Modes
+  pub modes : ModesValue
   pub writes : List (Addr × Option Object)
   pub messages : List Message
 
@@ -66,8 +73,12 @@ change_value change = record
 abbrev pub done_value : Call → Ctx → ViewValue → ChangeValue → DoneValue
 done_value call ctx view change = record { call = call; ctx = ctx; view = view; change = change }
 
+abbrev pub modes_value : Modes → ModesValue
+modes_value modes = record
+    { inodes = modes.inodes; mounts = modes.mounts; renames = option_copied modes.renames }
+
 -- a draft with no write
-abbrev pub new_draft : Ctx → ViewValue → Modes → DraftValue
+abbrev pub new_draft : Ctx → ViewValue → ModesValue → DraftValue
 new_draft ctx view modes = record { ctx = ctx; view = view; modes = modes; writes = []; messages = [] }
 
 -- the object behind the loan, if there is one

@@ -6,11 +6,12 @@ ghost use Rattle.std.specs.Arc.{arc_value};
 ghost use Rattle.nfs_objects.specs.Asks.{IsFirst, IsFresh, IsNeed, Lacks};
 ghost use Rattle.nfs_objects.specs.Knows.{Knows};
 ghost use Rattle.nfs_objects.specs.Modes.{Suits, mode_at};
-ghost use Rattle.nfs_objects.specs.Drafts.{MayGive, MayWrite};
+ghost use Rattle.nfs_objects.specs.Drafts.{MayChange, MayGive, MayWrite};
 ghost use Rattle.nfs_objects.specs.Promise.{Given, Held};
 ghost use Rattle.nfs_objects.specs.Stands.{IsFitting, mounts_in};
 ghost use Rattle.nfs_objects.specs.Sums.{stored_usage, usage_of};
-ghost use Rattle.nfs_objects.specs.Values.{change_value, known_at, new_draft, pointed, with_written, written_at};
+ghost use Rattle.nfs_objects.specs.Values.{change_value, known_at, modes_value, new_draft, pointed, with_written};
+ghost use Rattle.nfs_objects.specs.Values.{written_at};
 
 use crate::address::{Addr, is_same};
 use crate::change::{Change, Halt, Write};
@@ -33,7 +34,7 @@ pub struct Draft<'a> {
     alloc: Global,
     ctx: &'a Ctx,
     view: &'a View,
-    modes: Modes,
+    modes: Modes<'a>,
     writes: Vec<Write>,
     messages: Vec<Message>,
 }
@@ -41,26 +42,26 @@ pub struct Draft<'a> {
 impl<'a> Model for Draft<'a> {
     ghost use Rattle.std.specs.Prelude.{map};
     ghost use Rattle.nfs_objects.specs.Drafts.{IsDraft};
-    ghost use Rattle.nfs_objects.specs.Values.{DraftValue, write_value};
+    ghost use Rattle.nfs_objects.specs.Values.{DraftValue, modes_value, write_value};
 
     ghost Value = { DraftValue };
 
     ghost view = { λ d. record {
       ctx = d.ctx.now;
       view = d.view.now;
-      modes = d.modes;
+      modes = modes_value d.modes;
       writes = map write_value d.writes.items;
       messages = d.messages.items;
     } };
 
-    ghost invariant = { λ d. IsDraft d.modes d.view.now (map write_value d.writes.items) };
+    ghost invariant = { λ d. IsDraft (modes_value d.modes) d.view.now (map write_value d.writes.items) };
 }
 
 impl<'a> Draft<'a> {
     /// A draft with no write. The view holds all that it has as the modes want.
-    pub fn new(alloc: Global, ctx: &'a Ctx, view: &'a View, modes: Modes) -> Draft<'a>
-        requires { Suits modes view.now }
-        ensures { result ≡ new_draft ctx.now view.now modes }
+    pub fn new(alloc: Global, ctx: &'a Ctx, view: &'a View, modes: Modes<'a>) -> Draft<'a>
+        requires { Suits (modes_value modes) view.now }
+        ensures { result ≡ new_draft ctx.now view.now (modes_value modes.entry) }
     {
         Draft {
             alloc,
@@ -77,13 +78,6 @@ impl<'a> Draft<'a> {
         ensures { result.now ≡ self.now.ctx }
     {
         self.ctx
-    }
-
-    /// How the call holds what it reads.
-    pub fn modes(&self) -> Modes
-        ensures { result ≡ self.now.modes }
-    {
-        self.modes
     }
 
     /// Whence its memory comes.
@@ -106,7 +100,7 @@ impl<'a> Draft<'a> {
         }
         match self.view.find(address) {
             Some(object) => Ok(object),
-            None => Err(lacking(self.alloc, address, self.modes.at(address))),
+            None => Err(lacking(self.alloc, address, self.mode(address))),
         }
     }
 
@@ -123,7 +117,8 @@ impl<'a> Draft<'a> {
     /// The wish for what stands at an address, where the draft does not know it.
     pub fn lacked(&self, address: Addr) -> Option<(Addr, Mode)>
         ensures { MatchOption result (IsSome (known_at self.now address))
-            (λ wish. (known_at self.now address ≡ None) × (wish ≡ (address, mode_at self.now.modes address))) }
+            (λ wish. (known_at self.now address ≡ None) ×
+            (wish ≡ (address, mode_at self.now.modes self.now.view address))) }
     {
         if let Some(_object) = self.written(address) {
             return None;
@@ -131,7 +126,14 @@ impl<'a> Draft<'a> {
         if let Some(_object) = self.view.find(address) {
             return None;
         }
-        Some((address, self.modes.at(address)))
+        Some((address, self.mode(address)))
+    }
+
+    /// The mode in which an address is wanted.
+    fn mode(&self, address: Addr) -> Mode
+        ensures { result ≡ mode_at self.now.modes self.now.view address }
+    {
+        self.modes.at(self.view, address)
     }
 
     /// What was written to an address last.
@@ -181,7 +183,7 @@ impl<'a> Draft<'a> {
     ///
     /// `AllocError` where the memory was refused. It changes nothing.
     pub fn put(&mut self, number: u64, inode: Inode) -> Result<(), AllocError>
-        requires alone { self.old.modes.inodes ≡ Mode.Exclusive }
+        requires alone { MayChange self.old (Addr.Inode number) }
         requires known { IsSome (known_at self.old (Addr.Inode number)) }
         requires given { MayGive self.old number inode.generation }
         ensures ok { OnOk result (self.new ≡ with_written self.old (Addr.Inode number) (Some (Object.Inode inode))) }
@@ -200,7 +202,7 @@ impl<'a> Draft<'a> {
     ///
     /// `AllocError` where the memory was refused. It changes nothing.
     pub fn free(&mut self, number: u64) -> Result<(), AllocError>
-        requires alone { self.old.modes.inodes ≡ Mode.Exclusive }
+        requires alone { MayChange self.old (Addr.Inode number) }
         requires known { IsSome (known_at self.old (Addr.Inode number)) }
         ensures ok { OnOk result (self.new ≡ with_written self.old (Addr.Inode number) None) }
         ensures err { OnErr result (self.new ≡ self.old) }
@@ -257,7 +259,7 @@ impl<'a> Draft<'a> {
     }
 
     fn write(&mut self, address: Addr, object: Option<Arc<Object>>) -> Result<(), AllocError>
-        requires alone { mode_at self.old.modes address ≡ Mode.Exclusive }
+        requires alone { MayChange self.old address }
         requires known { IsSome (known_at self.old address) }
         requires given { MayWrite self.old address (option_map arc_value object) }
         ensures ok { OnOk result (self.new ≡ with_written self.old address (option_map arc_value object)) }

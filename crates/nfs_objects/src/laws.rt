@@ -3,6 +3,7 @@
 ghost use Rattle.nfs_objects.specs.Bound.{AsksFew, NamesFew};
 ghost use Rattle.nfs_objects.specs.Derived.{TellsApart, address_test, context_test, leaf_test, mode_test};
 ghost use Rattle.nfs_objects.specs.Derived.{mount_test, number_test};
+ghost use Rattle.nfs_objects.specs.ModeLaws.{GrowsSuitably, RenamesHoldTheirs, RenamesShareOthers, StartsSuitably};
 
 /// The view of a call, which grows by what its attempts ask for, and all that the next attempt asks for lie among the
 /// addresses where something stands and at most 201 others: those that the call names, and one of a new number. It is
@@ -11,6 +12,20 @@ ghost use Rattle.nfs_objects.specs.Derived.{mount_test, number_test};
 pub fn calls_ask_few()
     ensures asked { AsksFew }
     ensures named { NamesFew }
+{}
+
+/// A view that holds what it has as its call wants holds it so still, once some of what an attempt asked for was given
+/// in the modes that were asked: no call ever wants what it holds in a stronger mode. A new view holds nothing.
+pub fn grown_views_suit()
+    ensures first { StartsSuitably }
+    ensures grown { GrowsSuitably }
+{}
+
+/// RENAME wants alone both directories and what its names lead to there. Once its view has these, it asks for other
+/// inodes shared: those above its target, which it only reads.
+pub fn renames_share_what_they_only_read()
+    ensures alone { RenamesHoldTheirs }
+    ensures shared { RenamesShareOthers }
 {}
 
 /// The comparisons that are derived pass where both values are one, and nowhere else.

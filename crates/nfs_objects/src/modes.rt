@@ -1,13 +1,19 @@
 //! How a call holds the addresses that it reads.
 
-ghost use Rattle.std.specs.Prelude.{◌≡◌};
-ghost use Rattle.nfs_objects.specs.Modes.{covers, mode_at, modes_of, mode_for};
+ghost use Rattle.std.specs.Prelude.{◌≡◌, Some, option_copied, option_map};
+ghost use Rattle.std.specs.Arc.{arc_value};
 ghost use Rattle.nfs_machine.specs.Changing.{is_changing_mount, is_changing_nfs};
+ghost use Rattle.nfs_objects.specs.Modes.{covers, is_apart, is_number, led_in, mode_at, mode_for, modes_of};
+ghost use Rattle.nfs_objects.specs.Modes.{only_reads, renames_of};
+ghost use Rattle.nfs_objects.specs.Values.{modes_value};
 
 use crate::address::Addr;
-use nfs_machine::Call;
-use nfs_wire::NfsCall;
+use crate::object::{Object, living};
+use crate::view::View;
+use nfs_machine::{Call, Handle};
+use nfs_wire::{NfsCall, Place, RenameArguments};
 use side_wire::MountCall;
+use std::sync::Arc;
 
 /// How a call holds an address until it ends.
 #[derive(Clone, Copy, Debug, PartialEq, Eq)]
@@ -18,63 +24,128 @@ pub enum Mode {
     Exclusive,
 }
 
-/// The strongest modes that a call may need, in which it holds all that it reads. The exports are always shared.
-#[derive(Clone, Copy, Debug, PartialEq, Eq)]
-pub struct Modes {
+/// How a call holds what it reads: alone what it may change, and shared what it only reads. The exports are always
+/// shared.
+#[derive(Clone, Copy)]
+pub struct Modes<'a> {
     /// Of inodes, and of what groups of them use.
     pub inodes: Mode,
     pub mounts: Mode,
+    /// The names that RENAME moves: other inodes than theirs it only reads.
+    pub renames: Option<&'a RenameArguments>,
 }
 
 /// The modes of a call that changes nothing.
-pub const READING: Modes = Modes {
+pub const READING: Modes<'static> = Modes {
     inodes: Mode::Shared,
     mounts: Mode::Shared,
+    renames: None,
 };
 
-/// The modes of a call that changes objects.
-pub const CHANGING: Modes = Modes {
+/// The modes of a call that may change each object that it reads.
+pub const CHANGING: Modes<'static> = Modes {
     inodes: Mode::Exclusive,
     mounts: Mode::Shared,
+    renames: None,
 };
 
 /// The modes of a call that reads directories and changes the mounts.
-pub const MOUNTING: Modes = Modes {
+pub const MOUNTING: Modes<'static> = Modes {
     inodes: Mode::Shared,
     mounts: Mode::Exclusive,
+    renames: None,
 };
 
-impl Modes {
-    /// The mode of an address.
-    pub fn at(self, address: Addr) -> Mode
-        ensures { result ≡ mode_at self address }
+impl<'a> Modes<'a> {
+    /// The modes of RENAME, which reads the directories above its target and does not change them.
+    pub fn renaming(arguments: &'a RenameArguments) -> Modes<'a>
+        ensures { modes_value result ≡ record
+            { inodes = Mode.Exclusive; mounts = Mode.Shared; renames = Some arguments.now } }
+    {
+        Modes {
+            renames: Some(arguments),
+            ..CHANGING
+        }
+    }
+
+    /// The mode in which a call with this view wants an address.
+    pub fn at(self, view: &View, address: Addr) -> Mode
+        ensures { result ≡ mode_at (modes_value self.entry) view.now address }
     {
         match address {
             Addr::Exports => Mode::Shared,
-            Addr::Inode(_) => self.inodes,
+            Addr::Inode(number) => self.inode_mode(view, number),
             Addr::Mounts => self.mounts,
             Addr::Usage { .. } => self.inodes,
         }
     }
 
+    /// The mode in which the inode at a number is wanted.
+    fn inode_mode(self, view: &View, number: u64) -> Mode
+        ensures { result ≡ mode_at (modes_value self.entry) view.now (Addr.Inode number) }
+    {
+        match self.renames {
+            Some(arguments) if only_reads(view, arguments, number) => Mode::Shared,
+            _ => self.inodes,
+        }
+    }
+
     /// The modes of a call: it holds alone what it may change.
-    pub fn of(call: &Call) -> Modes
-        ensures { result ≡ modes_of call.now }
+    pub fn of(call: &'a Call) -> Modes<'a>
+        ensures { modes_value result ≡ modes_of call.now }
     {
         match call {
             Call::Nfs(call) => Modes {
                 inodes: nfs_mode(call),
-                mounts: Mode::Shared,
+                renames: renames(call),
+                ..READING
             },
             Call::Mount(call) => Modes {
-                inodes: Mode::Shared,
                 mounts: mount_mode(call),
+                ..READING
             },
-            Call::Nlm(_) => Modes {
-                inodes: Mode::Shared,
-                mounts: Mode::Shared,
-            },
+            Call::Nlm(_) => READING,
         }
+    }
+}
+
+/// Whether RENAME only reads the inode at a number, as far as its view shows what it changes.
+fn only_reads(view: &View, arguments: &RenameArguments, number: u64) -> bool
+    ensures { result ≡ only_reads (Some arguments.now) view.now number }
+{
+    is_apart(view, &arguments.from, number) && is_apart(view, &arguments.to, number)
+}
+
+/// Whether a view has the directory of a name, and neither it nor what the name leads to there is at a number.
+fn is_apart(view: &View, place: &Place, number: u64) -> bool
+    ensures { result ≡ is_apart view.now place.now number }
+{
+    let Some(handle) = Handle::read(place.directory.as_slice()) else {
+        return false;
+    };
+    let Some(object) = view.find(Addr::Inode(handle.fileid)) else {
+        return false;
+    };
+    !(handle.fileid == number || is_led(object, place.name.as_slice(), number))
+}
+
+/// Whether a name leads to a number in the directory that stands somewhere.
+fn is_led(object: &Option<Arc<Object>>, name: &[u8], number: u64) -> bool
+    ensures { result ≡ is_number (led_in (option_map arc_value object.now) name.now) number }
+{
+    match living(object) {
+        Some(inode) => inode.content.number_under(name) == Some(number),
+        None => false,
+    }
+}
+
+/// The names that a call moves.
+fn renames(call: &NfsCall) -> Option<&RenameArguments>
+    ensures { option_copied result ≡ renames_of call.now }
+{
+    match call {
+        NfsCall::Rename(arguments) => Some(arguments),
+        _ => None,
     }
 }
 

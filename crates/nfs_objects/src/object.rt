@@ -68,6 +68,20 @@ impl Content {
     }
 }
 
+impl Content {
+    ghost use Rattle.nfs_objects.specs.Modes.{number_under};
+
+    /// The number that a name leads to in it; None where there is no such entry.
+    pub fn number_under(&self, name: &[u8]) -> Option<u64>
+        ensures { result ≡ number_under (content_of self.now) name.now }
+    {
+        match self {
+            Content::Directory(directory) => Some(directory.entries.find(name)?.number),
+            _ => None,
+        }
+    }
+}
+
 impl PartialEq for Content {
     ghost use Rattle.std.specs.Bool.{Decides};
     ghost use Rattle.std.specs.Cmp.{decided, partial_equiv_from_equiv};

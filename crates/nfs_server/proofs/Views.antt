@@ -9,15 +9,15 @@ use Rattle.nfs_objects.proofs.Seen.{seen-before, seen-last}
 use Rattle.nfs_objects.specs.Asks.{Asks, EachOnce, MayAsk}
 use Rattle.nfs_objects.specs.Fits.{vacant}
 use Rattle.nfs_objects.specs.Modes.{covers, mode_at, modes_of}
+use Rattle.nfs_objects.proofs.Suiting.{suits-wider}
 use Rattle.nfs_objects.specs.Store.{Store}
-use Rattle.nfs_objects.specs.Values.{Seen, ViewValue, is_addr, seen_at, shown_at}
+use Rattle.nfs_objects.specs.Values.{ModesValue, Seen, ViewValue, is_addr, seen_at, shown_at}
 use Rattle.std.specs.Prelude.{Result, Ok, Err, OnOk, is_some, option_map}
 use Rattle.std.specs.declared.alloc.AllocError.{AllocError}
 use Rattle.nfs_objects.specs.declared.address.Addr.{Addr}
 use Rattle.nfs_objects.specs.declared.address.Addr.TheVariants.{Inode}
 use Rattle.nfs_objects.specs.declared.modes.Mode.{Mode}
 use Rattle.nfs_objects.specs.declared.modes.Mode.TheVariants.{Shared, Exclusive}
-use Rattle.nfs_objects.specs.declared.modes.Modes.{Modes}
 use Rattle.nfs_objects.specs.declared.object.Object.{Object}
 use Rattle.nfs_objects.specs.declared.view.Reserved.{Reserved}
 use Rattle.nfs_objects.specs.Attempt.{Attempts}
@@ -77,13 +77,13 @@ covers-same : (mode : Mode) → covers mode mode ≡ true
 covers-same Shared = refl
 covers-same Exclusive = refl
 
-module _ (modes : Modes) (named : List Addr) (view : ViewValue) where
+module _ (modes : ModesValue) (named : List Addr) (view : ViewValue) where
   pub all-unseen : (asked : List (Addr × Mode)) → AllByRecursion (MayAsk modes named view) asked → AllByRecursion (λ (a : Addr × Mode). seen_at view.entries a.0 ≡ None) asked
   all-unseen [] all = tt
   all-unseen (a ∷ asked) all = (all.0.unseen, all-unseen asked all.1)
 
   all-suit : (s : Store) (asked : List (Addr × Mode)) → AllByRecursion (MayAsk modes named view) asked
-      → AllByRecursion (λ (e : Seen). covers e.mode (mode_at modes e.address) ≡ true) (map (shown_in s) asked)
+      → AllByRecursion (λ (e : Seen). covers e.mode (mode_at modes view e.address) ≡ true) (map (shown_in s) asked)
   all-suit s [] all = tt
   all-suit s (a ∷ asked) all = (subst (λ (m : Mode). covers a.1 m ≡ true) all.0.mode (covers-same a.1), all-suit s asked all.1)
 
@@ -107,8 +107,8 @@ grows_filled call s named old new asked v asks is =
           entries = all-joined (λ (e : Seen). s.at e.address ≡ e.object) old.entries (map (shown_in s) asked) v.fits.entries (all-shown s asked);
           reserved = held-more s old.entries (map (shown_in s) asked) old.reserved v.fits.reserved;
         };
-        suits = all-joined (λ (e : Seen). covers e.mode (mode_at (modes_of call) e.address) ≡ true) old.entries
-            (map (shown_in s) asked) v.suits (all-suit (modes_of call) named old s asked asks.each);
+        suits = suits-wider old (map (shown_in s) asked) old.reserved (modes_of call) v.suits
+            (all-suit (modes_of call) named old s asked asks.each);
       };
       len = omega (arith, length-append old.entries (map (shown_in s) asked), length-map asked (shown_in s), some_length asked asks.some);
     })
@@ -125,7 +125,7 @@ grows_reserved call s old new v g =
           reserved = all-joined (IsHeld s (old.entries ++ vacant r ∷ [])) old.reserved (r ∷ [])
               (held-more s old.entries (vacant r ∷ []) old.reserved v.fits.reserved) ((seen-last old.entries (vacant r) g.unseen, g.never), tt);
         };
-        suits = all-joined (λ (e : Seen). covers e.mode (mode_at (modes_of call) e.address) ≡ true) old.entries (vacant r ∷ []) v.suits (refl, tt);
+        suits = suits-wider old (vacant r ∷ []) (old.reserved ++ r ∷ []) (modes_of call) v.suits (refl, tt);
       };
       len = omega (arith, length-append old.entries (vacant r ∷ []));
     })

@@ -1,6 +1,6 @@
 //! Drafts: what they ask for, and what becomes of refusals.
 
-ghost use Rattle.nfs_objects.specs.Modes.{Suits};
+ghost use Rattle.nfs_objects.specs.Modes.{Suits, reading};
 
 use super::*;
 use nfs_machine::Reply;
@@ -91,8 +91,8 @@ fn message() -> Message {
 }
 
 /// What a call comes to that sends one message.
-fn sent(alloc: Global, ctx: &Ctx, view: &View) -> Result<Change, AllocError>
-    requires { Suits READING view.now }
+fn sent<'a>(alloc: Global, ctx: &'a Ctx, view: &'a View) -> Result<Change, AllocError>
+    requires { Suits reading view.now }
 {
     let mut draft = Draft::new(alloc, ctx, view, READING);
     draft.send(message())?;

@@ -1,7 +1,7 @@
 //! What is shown of objects, what handles and names lead to, rights, names, and what a new object may be given.
 
 ghost use Rattle.std.specs.Prelude.{◌≡◌, [], IfOk};
-ghost use Rattle.nfs_objects.specs.Modes.{Suits};
+ghost use Rattle.nfs_objects.specs.Modes.{Suits, reading};
 
 use super::*;
 use nfs_inodes::{
@@ -110,8 +110,8 @@ fn a_new_name_is_not_one_that_each_directory_has(rt: HostRuntime) {
 }
 
 /// Directory 9 below directory 1, in which `a` leads to 7, with this greatest cookie.
-fn place(alloc: Global, last_cookie: u64) -> Result<View, AllocError>
-    ensures reads { IfOk result (Suits READING) }
+pub(super) fn place(alloc: Global, last_cookie: u64) -> Result<View, AllocError>
+    ensures reads { IfOk result (Suits reading) }
 {
     let a = Leaf {
         number: 7,

@@ -2,8 +2,7 @@
 
 ghost use Rattle.std.specs.Prelude.{◌≡◌, ◌<◌, [], IfOk, IfSome};
 ghost use Rattle.nfs_objects.specs.Knows.{ShowsExport};
-ghost use Rattle.nfs_objects.specs.Modes.{Suits};
-ghost use Rattle.nfs_objects.specs.declared.modes.Mode.TheVariants.{Exclusive};
+ghost use Rattle.nfs_objects.specs.Modes.{Suits, changing};
 
 use super::*;
 use nfs_inodes::{
@@ -46,7 +45,7 @@ fn holds(draft: &Draft<'_>, bytes: &[u8]) -> Result<bool, Halt> {
 
 /// Whether file 9 has these bytes once its size is so.
 fn is_resized(draft: &mut Draft<'_>, size: usize, bytes: &[u8]) -> Result<bool, Halt>
-    requires { draft.old.modes.inodes ≡ Exclusive }
+    requires { draft.old.modes ≡ changing }
 {
     let Some(file) = file(draft)? else {
         return Ok(false);
@@ -73,7 +72,7 @@ fn a_file_is_filled_up_with_zeros(rt: HostRuntime) -> Result<(), Fail> {
 
 /// Whether file 9 has these bytes once others were written at the offset.
 fn is_written(draft: &mut Draft<'_>, offset: u8, more: &[u8; 2], bytes: &[u8]) -> Result<bool, Halt>
-    requires { draft.old.modes.inodes ≡ Exclusive }
+    requires { draft.old.modes ≡ changing }
 {
     let Some(file) = file(draft)? else {
         return Ok(false);
@@ -133,7 +132,7 @@ fn one_of_two_links_goes(rt: HostRuntime) -> Result<(), Fail> {
 
 /// The exports, object 9, and what its group uses.
 fn grouped(alloc: Global, inode: Inode, usage: Usage) -> Result<View, AllocError>
-    ensures changes { IfOk result (Suits CHANGING) }
+    ensures changes { IfOk result (Suits changing) }
 {
     let exports = Object::Exports(table(alloc, b"rw")?);
     let mut view = View::new(alloc);
@@ -221,7 +220,7 @@ fn a_usage_is_asked_for_where_it_changes(rt: HostRuntime) -> Result<(), Fail> {
 
 /// Directory 9 without names.
 fn place(alloc: Global) -> Result<View, AllocError>
-    ensures changes { IfOk result (Suits CHANGING) }
+    ensures changes { IfOk result (Suits changing) }
 {
     let content = Content::Directory(directory(Entries::new(alloc), 2));
     viewed(alloc, 9, inode(content, 0o777))
@@ -248,7 +247,7 @@ fn led(draft: &Draft<'_>, name: &[u8]) -> Option<u64> {
 
 /// Adds `a`, which leads to 7, and `b`, which leads to 8, to directory 9, and takes `b` out.
 fn come_and_go(draft: &mut Draft<'_>) -> Result<(), Halt>
-    requires { draft.old.modes.inodes ≡ Exclusive }
+    requires { draft.old.modes ≡ changing }
 {
     let Some(place) = known_place(draft)? else {
         return Ok(());
@@ -306,7 +305,7 @@ fn a_file_that_is_made_exclusively_is_given_nothing(rt: HostRuntime) {
 /// Makes the file `x` in directory 9.
 fn make(draft: &mut Draft<'_>) -> Result<Option<Reserved>, Halt>
     requires none { draft.old.writes ≡ [] }
-    requires alone { draft.old.modes.inodes ≡ Exclusive }
+    requires alone { draft.old.modes ≡ changing }
 {
     match known_place(draft)? {
         Some(place) => Ok(Some(make_object(draft, &place, b"x", 3, &file_wanted(&sized()))?)),
@@ -337,7 +336,7 @@ fn a_new_file_wants_a_number(rt: HostRuntime) -> Result<(), Fail> {
 
 /// The exports, directory 9 without names, and a number to give, whose group is empty.
 fn place_and_number(alloc: Global) -> Result<View, AllocError>
-    ensures changes { IfOk result (Suits CHANGING) }
+    ensures changes { IfOk result (Suits changing) }
 {
     let exports = Object::Exports(table(alloc, b"rw")?);
     let content = Content::Directory(directory(Entries::new(alloc), 2));

@@ -1,9 +1,11 @@
 //! Modes, and views: what was read, numbers to give, and growth that is refused.
 
+use super::inodes::place;
 use super::*;
-use nfs_objects::Reserved;
 use nfs_objects::modes::covers;
 use nfs_objects::object::{living, mount_table};
+use nfs_objects::{Modes, Reserved};
+use nfs_wire::{Place, RenameArguments};
 use std::test::Fail;
 
 #[test]
@@ -20,13 +22,39 @@ fn what_is_held_alone_may_be_used_in_each_mode(rt: HostRuntime) {
 
 #[test]
 fn the_exports_are_shared_always(rt: HostRuntime) {
+    let view = View::new(rt.alloc());
     for modes in [READING, CHANGING, MOUNTING] {
-        assert_eq!(rt; modes.at(Addr::Exports), Mode::Shared);
+        assert_eq!(rt; modes.at(&view, Addr::Exports), Mode::Shared);
     }
-    assert_eq!(rt; READING.at(Addr::Inode(1)), Mode::Shared);
-    assert_eq!(rt; CHANGING.at(Addr::Inode(1)), Mode::Exclusive);
-    assert_eq!(rt; CHANGING.at(Addr::Mounts), Mode::Shared);
-    assert_eq!(rt; MOUNTING.at(Addr::Mounts), Mode::Exclusive);
+    assert_eq!(rt; READING.at(&view, Addr::Inode(1)), Mode::Shared);
+    assert_eq!(rt; CHANGING.at(&view, Addr::Inode(1)), Mode::Exclusive);
+    assert_eq!(rt; CHANGING.at(&view, Addr::Mounts), Mode::Shared);
+    assert_eq!(rt; MOUNTING.at(&view, Addr::Mounts), Mode::Exclusive);
+}
+
+/// A name in directory 9.
+fn in_directory(name: &'static [u8]) -> Place {
+    Place {
+        directory: Bytes::from_static(HANDLE),
+        name: Bytes::from_static(name),
+    }
+}
+
+#[test]
+fn rename_shares_what_lies_at_neither_name(rt: HostRuntime) -> Result<(), Fail> {
+    let arguments = RenameArguments {
+        from: in_directory(b"a"),
+        to: in_directory(b"b"),
+    };
+    let (modes, view) = (Modes::renaming(&arguments), place(rt.alloc(), 3)?);
+    assert_eq!(rt;
+        modes.at(&View::new(rt.alloc()), Addr::Inode(5)),
+        Mode::Exclusive
+    );
+    assert_eq!(rt; modes.at(&view, Addr::Inode(9)), Mode::Exclusive);
+    assert_eq!(rt; modes.at(&view, Addr::Inode(7)), Mode::Exclusive);
+    assert_eq!(rt; modes.at(&view, Addr::Inode(5)), Mode::Shared);
+    Ok(())
 }
 
 #[test]

@@ -1,4 +1,5 @@
-use Rattle.std.proofs.Common.{◌≡◌, Err, IfSome, IsSome, sym, subst}
+use Rattle.std.proofs.Common.{◌≡◌, Err, IfSome, IsSome, Some, ap, option_map, sym, subst, ◌∙◌}
+use Rattle.nfs_machine.specs.declared.handle.Handle.{Handle}
 use Rattle.std.proofs.lemmas.Result.{err_from_is_err_and}
 use Rattle.nfs_inodes.proofs.Halting.{bad-first, exports-first, exports-once, exports-stop, lacking-first}
 use Rattle.nfs_inodes.proofs.Halting.{lacking-once, object-first, object-stops, reads-at}
@@ -85,6 +86,12 @@ pub returns-then-is_target-clause-usage : goal.returns-then-is_target-clause-usa
 returns-then-is_target-clause-usage c =
     brings-usage c.args.handle.now c.in-Some.handle c.in-Some-2.known _ (sym c.in-Some.ensures)
     (sym (rw c.ctx.ensures at c.if-is_target.ensures))
+
+pub returns-then-is_target-clause-number : goal.returns-then-is_target-clause-number
+returns-then-is_target-clause-number c =
+    let same : c.in-Some-2.known.number ≡ c.in-Some.handle.fileid =
+    subst (λ o. IfSome o (λ (x : Known). x.number ≡ c.in-Some.handle.fileid)) c.in-Some-2.is c.in_ok-known.ensures.number in
+    ap (option_map (λ (h : Handle). h.fileid)) (sym c.in-Some.ensures) ∙ ap Some (sym same)
 
 pub returns-then-is_target-clause-exported : goal.returns-then-is_target-clause-exported
 returns-then-is_target-clause-exported c =

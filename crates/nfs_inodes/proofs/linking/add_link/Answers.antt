@@ -1,8 +1,7 @@
-use Rattle.std.proofs.Common.{refl, ap, ◌∙◌}
+use Rattle.std.proofs.Common.{refl, ◌∙◌}
 use Rattle.std.proofs.lemmas.Result.{err_from_is_err_and}
 use Rattle.nfs_machine.specs.Times.{time_of}
 use Rattle.nfs_objects.specs.declared.address.Addr.TheVariants as addresses
-use Rattle.nfs_objects.specs.declared.modes.Modes.{Modes}
 use Rattle.nfs_inodes.proofs.Composing.{turned-second}
 use Rattle.nfs_inodes.specs.Links.{link_gained, linked_so}
 use Rattle.nfs_inodes.specs.Makes.{name_added}
@@ -14,7 +13,7 @@ returns-in_err-add_entry c =
     rw (p.1, p.2) (λ named first second. c.in_err-add_entry.ensures.turns named first)
 
 pub set_links-requires : goal.set_links-requires
-set_links-requires c = ap (λ (m : Modes). m.inodes) c.in_ok-add_entry.ensures.turns.modes ∙ c.requires
+set_links-requires c = c.in_ok-add_entry.ensures.turns.modes ∙ c.requires
 
 pub returns : goal.returns
 returns c =

@@ -2,9 +2,9 @@ use Rattle.std.proofs.Common.{◌+◌, ◌*◌, ◌/◌, ap, refl, ◌∙◌}
 use Rattle.std.proofs.lemmas.Result.{err_from_is_err_and}
 use Rattle.nfs_machine.specs.Attributes.{block, used_of}
 use Rattle.nfs_machine.specs.State.{Living}
+use Rattle.nfs_objects.proofs.Suiting.{change-each}
 use Rattle.nfs_objects.specs.Sums.{one_using}
 use Rattle.nfs_objects.specs.declared.address.Addr.TheVariants as addresses
-use Rattle.nfs_objects.specs.declared.modes.Modes.{Modes}
 use Rattle.nfs_inodes.proofs.Putting.{counting-stops, exports-stay, first-free, knows-kept, knows-on, made-turns}
 use Rattle.nfs_inodes.proofs.Putting.{making-stops, may-give}
 use Rattle.nfs_inodes.proofs.makers.make_reserved.Goals as goal
@@ -17,7 +17,7 @@ returns-in_err-add_entry-clause-turns c =
     c.in_err-add_entry.ensures.turns)
 
 pub recount-requires : goal.recount-requires
-recount-requires c = ap (λ (m : Modes). m.inodes) c.in_ok-add_entry.ensures.turns.modes ∙ c.requires.alone
+recount-requires c = ap (λ m. m.inodes) (c.in_ok-add_entry.ensures.turns.modes ∙ c.requires.alone)
 
 pub returns-in_err-recount-clause-turns : goal.returns-in_err-recount-clause-turns
 returns-in_err-recount-clause-turns c =
@@ -28,8 +28,8 @@ returns-in_err-recount-clause-turns c =
 
 pub put-requires-clause-alone : goal.put-requires-clause-alone
 put-requires-clause-alone c =
-    ap (λ (m : Modes). m.inodes) (c.in_ok-recount.ensures.turns.modes ∙ c.in_ok-add_entry.ensures.turns.modes)
-    ∙ c.requires.alone
+    change-each c.recount.new.draft c.args.number
+    (c.in_ok-recount.ensures.turns.modes ∙ c.in_ok-add_entry.ensures.turns.modes ∙ c.requires.alone)
 
 pub put-requires-clause-known : goal.put-requires-clause-known
 put-requires-clause-known c =

@@ -1,9 +1,9 @@
-use Rattle.std.proofs.Common.{ap, refl, subst, ◌∙◌}
+use Rattle.std.proofs.Common.{refl, subst, ◌∙◌}
 use Rattle.std.proofs.lemmas.Result.{err_from_is_err_and}
 use Rattle.std.specs.Prelude.{option_copied}
 use Rattle.nfs_machine.specs.Data.{resized}
 use Rattle.nfs_machine.specs.Times.{time_of}
-use Rattle.nfs_objects.specs.declared.modes.Modes.{Modes}
+use Rattle.nfs_objects.proofs.Suiting.{change-each}
 use Rattle.nfs_inodes.proofs.Counting.{count-known}
 use Rattle.nfs_inodes.proofs.Putting.{keeps-generation, keeps-known, no-file, none-counted, object-stops, same-counted}
 use Rattle.nfs_inodes.proofs.Putting.{resized-size, usage-stops, written-turns}
@@ -43,9 +43,9 @@ count-requires-clause-known c = count-known c.args.draft.now c.share_of-share.re
     c.share_of-share.result.usage c.of_one.result _ c.in_ok-usage.ensures
 
 pub put-requires-clause-alone : goal.put-requires-clause-alone
-put-requires-clause-alone c = ap (λ (m : Modes). m.inodes)
-    (c.in_ok-count.ensures.turns c.share_of-share.result.usage c.of_one.result c.in_ok-usage.ensures).modes
-    ∙ c.requires
+put-requires-clause-alone c = change-each c.count.new.draft c.args.file.now.known.number
+    ((c.in_ok-count.ensures.turns c.share_of-share.result.usage c.of_one.result c.in_ok-usage.ensures).modes
+    ∙ c.requires)
 
 pub put-requires-clause-known : goal.put-requires-clause-known
 put-requires-clause-known c =

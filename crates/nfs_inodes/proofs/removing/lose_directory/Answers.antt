@@ -1,8 +1,8 @@
-use Rattle.std.proofs.Common.{refl, ap, ◌∙◌}
+use Rattle.std.proofs.Common.{refl, ◌∙◌}
 use Rattle.std.proofs.lemmas.Result.{err_from_is_err_and}
 use Rattle.nfs_machine.specs.Times.{time_of}
 use Rattle.nfs_objects.specs.declared.address.Addr.TheVariants as addresses
-use Rattle.nfs_objects.specs.declared.modes.Modes.{Modes}
+use Rattle.nfs_objects.proofs.Suiting.{change-each}
 use Rattle.nfs_inodes.proofs.Composing.{turned-losing}
 use Rattle.nfs_inodes.specs.Makes.{link_lost}
 use Rattle.nfs_inodes.specs.Removes.{directory_lost, subdirectory_lost}
@@ -14,7 +14,10 @@ returns-in_err-lose_link c =
     rw (p.1, p.2) (λ named first second counts. c.in_err-lose_link.ensures named second counts)
 
 pub lose_subdirectory-requires : goal.lose_subdirectory-requires
-lose_subdirectory-requires c = ap (λ (m : Modes). m.inodes) c.in_ok-lose_link.ensures.modes ∙ c.requires
+lose_subdirectory-requires c = c.in_ok-lose_link.ensures.modes ∙ c.requires
+
+pub lose_link-requires : goal.lose_link-requires
+lose_link-requires c = change-each c.args.draft.now c.args.number c.requires
 
 pub returns : goal.returns
 returns c =

@@ -1,8 +1,8 @@
-use Rattle.std.proofs.Common.{ap, ◌∙◌}
+use Rattle.std.proofs.Common.{◌∙◌}
 use Rattle.std.proofs.lemmas.Result.{err_from_is_err_and}
 use Rattle.nfs_machine.specs.Times.{time_of}
 use Rattle.nfs_objects.specs.declared.address.Addr.TheVariants as addresses
-use Rattle.nfs_objects.specs.declared.modes.Modes.{Modes}
+use Rattle.nfs_objects.proofs.Suiting.{change-each}
 use Rattle.nfs_inodes.proofs.Composing.{lost-directory, lost-other, turned-counting, turned-lost}
 use Rattle.nfs_inodes.proofs.Lived.{lived-taken, usage-there}
 use Rattle.nfs_inodes.specs.Makes.{link_lost, name_taken}
@@ -15,7 +15,7 @@ returns-in_err-take_entry c =
     rw (p.1, p.2) (λ named first second. c.in_err-take_entry.ensures named first)
 
 pub lose_directory-requires : goal.lose_directory-requires
-lose_directory-requires c = ap (λ (m : Modes). m.inodes) c.in_ok-take_entry.ensures.modes ∙ c.requires.alone
+lose_directory-requires c = c.in_ok-take_entry.ensures.modes ∙ c.requires.alone
 
 pub returns-in-Directory : goal.returns-in-Directory
 returns-in-Directory c =
@@ -32,7 +32,8 @@ returns-in-Directory c =
     (lived-taken now place c.args.name.now) x.number) c.lose_directory.ensures
 
 pub lose_link-requires : goal.lose_link-requires
-lose_link-requires c = ap (λ (m : Modes). m.inodes) c.in_ok-take_entry.ensures.modes ∙ c.requires.alone
+lose_link-requires c =
+    change-each c.take_entry.new.draft c.args.object.now.number (c.in_ok-take_entry.ensures.modes ∙ c.requires.alone)
 
 pub returns-in_default : goal.returns-in_default
 returns-in_default c =

@@ -1,20 +1,18 @@
-use Rattle.std.proofs.Common.{◌≡◌, false, is_some, Option, Some, None, refl}
+use Rattle.std.proofs.Common.{ap, ◌++◌, ◌∷◌, [], ◌∙◌}
+use Rattle.nfs_objects.specs.declared.address.Addr.{Addr}
+use Rattle.nfs_objects.specs.declared.modes.Mode.{Mode}
 use Rattle.nfs_inodes.proofs.Totals.{unread-more, unread-next}
 use Rattle.nfs_inodes.proofs.usage.unread.Goals as goal
-use Rattle.nfs_inodes.proofs.usage.unread.Goals.{then-not-knows+in_ok-push, else-not-knows}
-
-unknown-at : {X : Type 0} (o : Option X) → false ≡ is_some o → o ≡ None
-unknown-at None e = refl
-unknown-at (Some x) e = cc
+use Rattle.nfs_inodes.proofs.usage.unread.Goals.{in-Some+in_ok-push, in_default}
 
 pub loop-group-preserved : goal.loop-group-preserved
-loop-group-preserved c = elim c.if-not-knows.branch [
-  | then-not-knows+in_ok-push w ↦
+loop-group-preserved c = elim c.match-lacked.branch [
+  | in-Some+in_ok-push w ↦
       unread-more c.args.draft.now c.args.export c.loop-group.group c.loop-group.unread.items
-      c.if-not-knows.unread.items
-      c.loop-group.invariant (unknown-at _ w.if-not-knows.ensures)
-      (rw (w.unread-is, w.in_ok-push.ensures.items, w.at.ensures, w.modes.ensures) refl)
-  | else-not-knows w ↦
+      c.match-lacked.unread.items c.loop-group.invariant w.in-Some.ensures.0
+      (rw w.unread-is (w.in_ok-push.ensures.items
+      ∙ ap (λ (a : Addr × Mode). c.loop-group.unread.items ++ a ∷ []) w.in-Some.ensures.1))
+  | in_default w ↦
       rw w.unread-is
       (unread-next c.args.draft.now c.args.export c.loop-group.group c.loop-group.unread.items c.loop-group.invariant)
 ]

@@ -4,7 +4,7 @@ use Rattle.nfs_wire.specs.declared.calls.NfsCall.TheVariants as nfs
 use Rattle.nfs_machine.specs.declared.calls.Call.TheVariants as calls
 use Rattle.nfs_objects.specs.Attempt.{HaltsFirst}
 use Rattle.nfs_objects.specs.Modes.{modes_of}
-use Rattle.nfs_inodes.proofs.Ending.{halting, means-as}
+use Rattle.nfs_inodes.proofs.Ending.{halting, means-as, number-as}
 use Rattle.nfs_inodes.specs.Stops.{wanted_first}
 use Rattle.nfs_names.proofs.Renaming.{first-known, first-refused}
 use Rattle.nfs_names.proofs.rename.attempt.Goals as goal
@@ -22,12 +22,17 @@ attempt_from-requires-clause-names c =
     means-as c.args.draft c.args.arguments.now.from.directory _ _ (Ok c.in-Ok.from) c.as_slice.ensures c.in-Ok.is
     c.in_ok-from.ensures.means
 
+pub attempt_from-requires-clause-number : goal.attempt_from-requires-clause-number
+attempt_from-requires-clause-number c =
+    number-as c.args.arguments.now.from.directory _ _ c.in-Ok.from c.as_slice.ensures c.in-Ok.is
+    c.in_ok-from.ensures.number
+
 pub returns-in-Ok-clause-first : goal.returns-in-Ok-clause-first
 returns-in-Ok-clause-first c =
     first-known c.args.draft.modes (modes_of (calls.Nfs (nfs.Rename c.args.arguments.now)))
-    (wanted_first c.args.draft.view (c.args.arguments.now.from.directory ∷ [])) c.in_ok-from.field-0
+    c.args.draft.view (wanted_first c.args.draft.view (c.args.arguments.now.from.directory ∷ [])) c.in_ok-from.field-0
     c.attempt_from.result
-    (subst (λ h. HaltsFirst c.args.draft.modes (wanted_first c.args.draft.view (h ∷ [])) (Ok c.in_ok-from.field-0))
+    (subst (λ h. HaltsFirst c.args.draft.modes c.args.draft.view (wanted_first c.args.draft.view (h ∷ [])) (Ok c.in_ok-from.field-0))
     c.as_slice.ensures
     c.in_ok-from.ensures.first)
 

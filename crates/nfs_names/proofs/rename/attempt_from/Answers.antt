@@ -3,7 +3,7 @@ use Rattle.std.proofs.lemmas.Result.{err_from_is_err_and}
 use Rattle.nfs_wire.specs.declared.calls.NfsCall.TheVariants as nfs
 use Rattle.nfs_machine.specs.declared.calls.Call.TheVariants as calls
 use Rattle.nfs_objects.specs.declared.address.Addr.TheVariants as addresses
-use Rattle.nfs_inodes.proofs.Ending.{halting, lives-as, means-as, reading}
+use Rattle.nfs_inodes.proofs.Ending.{halting, lives-as, means-as, number-as, reading}
 use Rattle.nfs_inodes.proofs.Halting.{stops-before}
 use Rattle.nfs_inodes.proofs.Standing.{known-lives}
 use Rattle.nfs_names.proofs.Renaming.{rename-promised, second-refused}
@@ -21,6 +21,10 @@ pub rename-requires-clause-to : goal.rename-requires-clause-to
 rename-requires-clause-to c =
     means-as c.args.draft c.args.arguments.now.to.directory _ _ (Ok c.in-Ok.to) c.as_slice.ensures c.in-Ok.is
     c.in_ok-to.ensures.means
+
+pub rename-requires-clause-target : goal.rename-requires-clause-target
+rename-requires-clause-target c =
+    number-as c.args.arguments.now.to.directory _ _ c.in-Ok.to c.as_slice.ensures c.in-Ok.is c.in_ok-to.ensures.number
 
 pub returns-in_err-result-in-Ok : goal.returns-in_err-result-in-Ok
 returns-in_err-result-in-Ok c =

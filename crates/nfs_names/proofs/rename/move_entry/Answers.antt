@@ -1,7 +1,8 @@
 use Rattle.std.proofs.Common.{inr, sym}
 use Rattle.std.proofs.lemmas.Result.{err_from_is_err_and}
-use Rattle.nfs_objects.specs.declared.modes.Mode.TheVariants as modes
-use Rattle.nfs_names.proofs.Renaming.{moves-one, moves-two, turned-modes}
+use Rattle.nfs_objects.proofs.Promised.{turned-change}
+use Rattle.nfs_objects.specs.declared.address.Addr.TheVariants as addresses
+use Rattle.nfs_names.proofs.Renaming.{moves-one, moves-two}
 use Rattle.nfs_names.proofs.rename.move_entry.Goals as goal
 
 pub returns-then-is_one_directory : goal.returns-then-is_one_directory
@@ -18,7 +19,8 @@ returns-in_err-leave c =
 
 pub give_name-requires-2 : goal.give_name-requires-2
 give_name-requires-2 c =
-    turned-modes c.args.draft.now c.leave.new.draft _ modes.Exclusive c.in_ok-leave.ensures c.requires.alone
+    turned-change c.args.draft.now c.leave.new.draft _ c.in_ok-leave.ensures
+    (addresses.Inode c.args.renaming.now.to.known.number) c.requires.alone.to
 
 pub returns : goal.returns
 returns c =

@@ -1,12 +1,12 @@
 use Rattle.std.proofs.Common.{inr}
 use Rattle.std.proofs.lemmas.Result.{err_from_is_err_and}
 use Rattle.nfs_machine.specs.Times.{time_of}
-use Rattle.nfs_objects.proofs.Promised.{turns-both}
+use Rattle.nfs_objects.proofs.Promised.{turned-change, turns-both}
 use Rattle.nfs_objects.specs.declared.address.Addr.TheVariants as addresses
-use Rattle.nfs_objects.specs.declared.modes.Mode.TheVariants as modes
 use Rattle.nfs_inodes.proofs.Standing.{known-lives}
 use Rattle.nfs_inodes.specs.Renames.{rehomed}
-use Rattle.nfs_names.proofs.Renaming.{lives-on, moved-lived, over-counts, over-lives, stops-later, turned-after, turned-both, turned-modes}
+use Rattle.nfs_names.proofs.Renaming.{lives-on, moved-lived, over-counts, over-lives, stops-later, turned-after, turned-both}
+use Rattle.nfs_names.proofs.Alone.{replaced-changes}
 use Rattle.nfs_names.specs.Renames.{entry_moved, replaced_lost}
 use Rattle.nfs_names.proofs.rename.move_name.Goals as goal
 
@@ -21,8 +21,9 @@ move_entry-requires-clause-to c =
     (λ s k w. (c.requires.finds s k w).to.known)
 
 pub rehome-requires : goal.rehome-requires
-rehome-requires c = turned-modes c.args.draft.now c.move_entry.new.draft _ modes.Exclusive c.in_ok-move_entry.ensures
-    c.requires.alone
+rehome-requires c =
+    turned-change c.args.draft.now c.move_entry.new.draft _ c.in_ok-move_entry.ensures
+    (addresses.Inode c.args.renaming.now.moved.number) c.requires.alone.moved
 
 pub returns-in_err-rehome : goal.returns-in_err-rehome
 returns-in_err-rehome c =
@@ -35,8 +36,9 @@ returns-in_err-rehome c =
 
 pub lose_replaced-requires-clause-alone : goal.lose_replaced-requires-clause-alone
 lose_replaced-requires-clause-alone c =
-    turned-modes c.move_entry.new.draft c.rehome.new.draft _ modes.Exclusive c.in_ok-rehome.ensures
-    (turned-modes c.args.draft.now c.move_entry.new.draft _ modes.Exclusive c.in_ok-move_entry.ensures c.requires.alone)
+    replaced-changes c.args.draft.now c.rehome.new.draft _ c.args.renaming.now.replaced
+    (turns-both c.args.draft.now c.move_entry.new.draft c.rehome.new.draft _ _ c.in_ok-move_entry.ensures
+    c.in_ok-rehome.ensures) c.requires.alone.replaced
 
 pub lose_replaced-requires-clause-lives : goal.lose_replaced-requires-clause-lives
 lose_replaced-requires-clause-lives c =

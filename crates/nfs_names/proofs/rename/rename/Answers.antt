@@ -1,9 +1,10 @@
-use Rattle.std.proofs.Common.{Err, inl, refl}
+use Rattle.std.proofs.Common.{Err, Some, inl, refl}
 use Rattle.std.proofs.lemmas.Result.{err_from_is_err_and}
 use Rattle.nfs_wire.specs.declared.calls.NfsCall.TheVariants as nfs
 use Rattle.nfs_wire.specs.declared.status.NfsStatus.TheVariants as status
 use Rattle.nfs_machine.specs.declared.calls.Call.TheVariants as calls
 use Rattle.nfs_objects.specs.Calls.{named_by}
+use Rattle.nfs_names.proofs.Alone.{led-as, renaming-changes}
 use Rattle.nfs_names.proofs.Renaming.{check-refused, is-renaming, no-source, settled-does, stops-named}
 use Rattle.nfs_names.specs.Renames.{IsRenameEnd}
 use Rattle.nfs_names.proofs.rename.rename.Goals as goal
@@ -34,12 +35,12 @@ returns-in_default c =
     (no-source d a c.args.from.now c.args.to.now c.requires.from c.requires.to _ c.in_ok-exports.ensures.exports
     c.in-Ok.places
     (rw (c.ctx.ensures, c.in-Ok.is) at c.movable.ensures.checks)
-    (rw (c.in-Ok.ensures.from, c.as_slice.ensures, c.in_default.is) at c.in_ok-moved.ensures))
+    (rw (c.in-Ok.ensures.from, c.as_slice.ensures, c.in_default.is) at c.in_ok-moved.ensures.finds))
 
 pub returns-in_err-moved : goal.returns-in_err-moved
 returns-in_err-moved c =
     let p = err_from_is_err_and c.from_residual-in_err-moved.result c.from_residual-in_err-moved.ensures.1 in
-    rw (p.1, p.2) (c.in_err-moved.ensures (named_by (calls.Nfs (nfs.Rename c.args.arguments.now))))
+    rw (p.1, p.2) (c.in_err-moved.ensures.finds (named_by (calls.Nfs (nfs.Rename c.args.arguments.now))))
 
 pub object_under-requires-2-clause-known : goal.object_under-requires-2-clause-known
 object_under-requires-2-clause-known c = rw c.in-Ok.ensures.to (λ s k w. (c.requires.to s k w).known)
@@ -47,7 +48,7 @@ object_under-requires-2-clause-known c = rw c.in-Ok.ensures.to (λ s k w. (c.req
 pub returns-in_err-replaced : goal.returns-in_err-replaced
 returns-in_err-replaced c =
     let p = err_from_is_err_and c.from_residual-in_err-replaced.result c.from_residual-in_err-replaced.ensures.1 in
-    rw (p.1, p.2) (c.in_err-replaced.ensures (named_by (calls.Nfs (nfs.Rename c.args.arguments.now))))
+    rw (p.1, p.2) (c.in_err-replaced.ensures.finds (named_by (calls.Nfs (nfs.Rename c.args.arguments.now))))
 
 pub rename_found-requires-clause-finds : goal.rename_found-requires-clause-finds
 rename_found-requires-clause-finds c =
@@ -55,10 +56,20 @@ rename_found-requires-clause-finds c =
     c.in_ok-exports.ensures.exports c.in-Ok.places
     (rw (c.ctx.ensures, c.in-Ok.is) at c.movable.ensures.checks) c.in-Ok.ensures.from c.in-Ok.ensures.to
     c.in-Ok.ensures.one c.in-Some.moved c.in_ok-replaced.replaced
-    (rw (c.in-Ok.ensures.from, c.as_slice.ensures, c.in-Some.is) at c.in_ok-moved.ensures)
-    (rw (c.in-Ok.ensures.to, c.as_slice-2.ensures) at c.in_ok-replaced.ensures)
+    (rw (c.in-Ok.ensures.from, c.as_slice.ensures, c.in-Some.is) at c.in_ok-moved.ensures.finds)
+    (rw (c.in-Ok.ensures.to, c.as_slice-2.ensures) at c.in_ok-replaced.ensures.finds)
 
 pub returns : goal.returns
 returns c =
     stops-named c.args.draft.now c.rename_found.new.draft (IsRenameEnd c.args.draft.now.ctx c.args.arguments.now)
     (named_by (calls.Nfs (nfs.Rename c.args.arguments.now))) c.rename_found.result c.rename_found.ensures
+
+pub rename_found-requires-clause-alone : goal.rename_found-requires-clause-alone
+rename_found-requires-clause-alone c =
+    renaming-changes c.args.draft.now c.args.arguments.now c.requires.begins.modes c.args.from.now c.args.to.now
+    c.requires.source c.requires.target c.in-Ok.places c.in-Ok.ensures.from c.in-Ok.ensures.to c.in-Some.moved
+    c.in_ok-replaced.replaced
+    (led-as c.args.draft.now.view c.in-Ok.places.from.known c.args.from.now _ c.args.arguments.now.from.name _
+    (Some c.in-Some.moved) c.in-Ok.ensures.from c.as_slice.ensures c.in-Some.is c.in_ok-moved.ensures.led)
+    (led-as c.args.draft.now.view c.in-Ok.places.to.known c.args.to.now _ c.args.arguments.now.to.name _
+    c.in_ok-replaced.replaced c.in-Ok.ensures.to c.as_slice-2.ensures refl c.in_ok-replaced.ensures.led)

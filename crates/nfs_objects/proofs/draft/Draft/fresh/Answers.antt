@@ -1,7 +1,7 @@
 use Rattle.std.proofs.Common.{◌≡◌, sym, ap, ◌∙◌, refl, List, [], ◌∷◌, slice_get, None, map, subst}
 use Rattle.nfs_objects.proofs.Drafted.{is-first}
 use Rattle.nfs_objects.specs.Asks.{IsFirst}
-use Rattle.nfs_objects.specs.Values.{DraftValue, write_value}
+use Rattle.nfs_objects.specs.Values.{DraftValue, modes_value, write_value}
 use Rattle.nfs_objects.proofs.draft.Draft.fresh.Goals as goal
 
 none-first : {X : Type 0} (xs : List X) → None ≡ slice_get xs 0 → xs ≡ []
@@ -21,7 +21,7 @@ returns-in-Some c =
     (is-first (record {
       ctx = c.self.inside.ctx.now;
       view = c.self.inside.view.now;
-      modes = c.self.inside.modes;
+      modes = modes_value c.self.inside.modes;
       writes = map write_value c.self.inside.writes.items;
       messages = c.self.inside.messages.items;
     }) c.in-Some.reserved c.in-Some.ensures.first c.in-Some.ensures.kept)

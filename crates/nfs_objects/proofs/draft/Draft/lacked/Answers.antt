@@ -1,6 +1,5 @@
 use Rattle.std.proofs.Common.{IsSome, refl, sym, ap, ◌∙◌, subst}
 use Rattle.nfs_objects.proofs.Seen.{written-none, written-or}
-use Rattle.nfs_objects.specs.Modes.{mode_at}
 use Rattle.nfs_objects.specs.Values.{DraftValue, shown_at}
 use Rattle.nfs_objects.proofs.draft.Draft.lacked.Goals as goal
 
@@ -20,6 +19,5 @@ returns c = (
   written-none c.args.self.now.writes _ c.args.address (sym c.in_default.ensures)
       ∙ ap (λ (v : DraftValue). shown_at v.view.entries c.args.address) (sym c.self.view_is)
       ∙ sym c.in_default-find.ensures,
-  ap (λ mode. (c.args.address, mode)) (c.at.ensures
-      ∙ ap (λ (v : DraftValue). mode_at v.modes c.args.address) c.self.view_is),
+  ap (λ mode. (c.args.address, mode)) c.mode.ensures,
 )

@@ -1,0 +1,290 @@
+-- What a call holds it wants in no stronger mode later: what it only reads once its view shows what it changes, it only
+-- reads from then on.
+use Rattle.std.specs.Prelude.{◌≡◌, ◌++◌, ◌==◌, ◌||◌, ◌&&◌, not, ℕ, Bool, true, false, List, []}
+use Rattle.std.specs.Prelude.{◌∷◌, Option, Some, None}
+use Rattle.std.specs.Prelude.{IfSome, IsSome, option_map, refl}
+use Rattle.std.specs.List.{AllByRecursion}
+use Rattle.std.proofs.Common.{cond, sym, ◌∙◌, ap, subst, inl, inr}
+use Rattle.std.proofs.lemmas.Bool.{and_parts}
+use Rattle.std.specs.Cmp.{unsigned_Decides}
+use Rattle.nfs_wire.specs.declared.calls.NfsCall.TheVariants as nfs
+use Rattle.nfs_wire.specs.declared.calls.Place.{Place}
+use Rattle.nfs_wire.specs.declared.calls.RenameArguments.{RenameArguments}
+use Rattle.nfs_machine.proofs.Modes.{all-joined}
+use Rattle.nfs_machine.specs.Handles.{handle_of}
+use Rattle.nfs_machine.specs.declared.calls.Call.TheVariants as calls
+use Rattle.nfs_machine.specs.declared.handle.Handle.{Handle}
+use Rattle.nfs_objects.proofs.Seen.{all-map, seen-before, some-shown}
+use Rattle.nfs_objects.specs.Asks.{MayAsk}
+use Rattle.nfs_objects.specs.Bound.{Read, Given, WasAsked, held}
+use Rattle.nfs_objects.specs.Calls.{named_by}
+use Rattle.nfs_objects.specs.Drafts.{MayChange}
+use Rattle.nfs_objects.specs.Fits.{vacant}
+use Rattle.nfs_objects.specs.ModeLaws.{GrowsSuitably, IsShared, LiesAt, RenamesHoldTheirs, RenamesShareOthers}
+use Rattle.nfs_objects.specs.ModeLaws.{ShowsPlace, StartsSuitably}
+use Rattle.nfs_objects.specs.Modes.{Suits, changing, covers, is_apart, is_number, led_at, led_in, mode_at, modes_of}
+use Rattle.nfs_objects.specs.Modes.{only_reads}
+use Rattle.nfs_objects.specs.Values.{DraftValue, ModesValue, Seen, ViewValue, seen_at, shown_at}
+use Rattle.nfs_objects.specs.declared.address.Addr.{Addr}
+use Rattle.nfs_objects.specs.declared.address.Addr.TheVariants as addresses
+use Rattle.nfs_objects.specs.declared.change.Outcome.TheVariants.{Need, Fresh, Done}
+use Rattle.nfs_objects.specs.declared.modes.Mode.{Mode}
+use Rattle.nfs_objects.specs.declared.modes.Mode.TheVariants.{Shared, Exclusive}
+use Rattle.nfs_objects.specs.declared.object.Object.{Object}
+use Rattle.nfs_objects.specs.declared.view.Reserved.{Reserved}
+
+-- ---- what covers
+covers-self : (m : Mode) → covers m m ≡ true
+covers-self Shared = refl
+covers-self Exclusive = refl
+
+covers-both : (a b c : Mode) → covers a b ≡ true → covers b c ≡ true → covers a c ≡ true
+covers-both Exclusive b c x y = refl
+covers-both Shared Shared c x y = y
+covers-both Shared Exclusive c x y = cc
+
+covers-shared : (m : Mode) → covers m Shared ≡ true
+covers-shared Shared = refl
+covers-shared Exclusive = refl
+
+-- ---- a place
+-- what is_apart says of what stands at the directory's number
+abbrev beside_of : Place → (number fileid : ℕ) → Option (Option Object) → Bool
+beside_of place n fileid o = elim o [
+  | None ↦ false
+  | Some object ↦ not (fileid == n || is_number (led_in object place.name) n)
+]
+
+abbrev at-handle : ViewValue → Place → ℕ → Option Handle → Bool
+at-handle view place n o = elim o [
+  | None ↦ false
+  | Some h ↦ beside_of place n h.fileid (shown_at view.entries (addresses.Inode h.fileid))
+]
+
+abbrev led_of : Option (Option Object) → List ℕ → Option ℕ
+led_of o name = elim o [ None ↦ None | Some object ↦ led_in object name ]
+
+-- ---- a view with more entries
+module _ (view : ViewValue) (more : List Seen) (reserved : List Reserved) where
+  abbrev wider : ViewValue
+  wider = record { entries = view.entries ++ more; reserved = reserved }
+
+  shown-wider : (a : Addr) (o : Option Object) → shown_at view.entries a ≡ Some o →
+      shown_at wider.entries a ≡ Some o
+  shown-wider a o shown =
+      let s = some-shown view.entries a o shown in
+      ap (option_map (λ (e : Seen). e.object)) (seen-before view.entries more a s.0 s.1) ∙ ap Some s.2
+
+  -- what lies apart from a place does so still
+  apart-wider : (place : Place) (n : ℕ) → is_apart view place n ≡ true → is_apart wider place n ≡ true
+  apart-wider place n =
+      elim (handle_of place.directory) as
+      (λ (o : Option Handle). at-handle view place n o ≡ true → at-handle wider place n o ≡ true) [
+        | None ↦ λ e. cc
+        | Some h ↦ λ e. shown h (shown_at view.entries (addresses.Inode h.fileid)) refl e
+      ]
+    where
+      shown : (h : Handle) (o : Option (Option Object)) → shown_at view.entries (addresses.Inode h.fileid) ≡ o →
+          beside_of place n h.fileid (shown_at view.entries (addresses.Inode h.fileid)) ≡ true →
+          beside_of place n h.fileid (shown_at wider.entries (addresses.Inode h.fileid)) ≡ true
+      shown h None is e =
+          let no : beside_of place n h.fileid None ≡ true =
+          subst (λ x. beside_of place n h.fileid x ≡ true) is e in
+          cc
+      shown h (Some object) is e =
+          subst (λ x. beside_of place n h.fileid x ≡ true) (sym (shown-wider (addresses.Inode h.fileid) object is))
+          (subst (λ x. beside_of place n h.fileid x ≡ true) is e)
+
+  reads-wider : (renames : Option RenameArguments) (n : ℕ) → only_reads renames view n ≡ true →
+      only_reads renames wider n ≡ true
+  reads-wider None n e = cc
+  reads-wider (Some a) n e =
+      let both = and_parts (is_apart view a.from n) (is_apart view a.to n) e in
+      ap (λ b. b && is_apart wider a.to n) (apart-wider a.from n both.0) ∙ apart-wider a.to n both.1
+
+  covers-wider : (modes : ModesValue) (a : Addr) → covers (mode_at modes view a) (mode_at modes wider a) ≡ true
+  covers-wider modes addresses.Exports = refl
+  covers-wider modes (addresses.Inode n) =
+      elim (only_reads modes.renames view n) as (λ b. only_reads modes.renames view n ≡ b →
+      covers (cond b Shared modes.inodes) (mode_at modes wider (addresses.Inode n)) ≡ true) [
+        | true ↦ λ e. ap (λ b. covers Shared (cond b Shared modes.inodes)) (reads-wider modes.renames n e)
+        | false ↦ λ e.
+            elim (only_reads modes.renames wider n) as
+            (λ b. covers modes.inodes (cond b Shared modes.inodes) ≡ true) [
+              | true ↦ covers-shared modes.inodes
+              | false ↦ covers-self modes.inodes
+            ]
+      ] refl
+  covers-wider modes addresses.Mounts = covers-self modes.mounts
+  covers-wider modes (addresses.Usage e g) = covers-self modes.inodes
+
+  -- the view suits the modes with more entries that are held as it wanted them
+  pub suits-wider : (modes : ModesValue) → Suits modes view →
+      AllByRecursion (λ (e : Seen). covers e.mode (mode_at modes view e.address) ≡ true) more → Suits modes wider
+  suits-wider modes suits new =
+      all-map (λ (e : Seen). covers e.mode (mode_at modes view e.address) ≡ true)
+      (λ (e : Seen). covers e.mode (mode_at modes wider e.address) ≡ true)
+      (λ e was. covers-both e.mode (mode_at modes view e.address) (mode_at modes wider e.address) was
+      (covers-wider modes e.address)) (view.entries ++ more)
+      (all-joined (λ (e : Seen). covers e.mode (mode_at modes view e.address) ≡ true) view.entries more suits new)
+
+-- ---- what may be changed
+-- a call that may change an inode may change what its group uses
+pub change-counts : (d : DraftValue) (n : ℕ) → MayChange d (addresses.Inode n) → d.modes.inodes ≡ Exclusive
+change-counts d n =
+    elim (only_reads d.modes.renames d.view n) as
+    (λ b. cond b Shared d.modes.inodes ≡ Exclusive → d.modes.inodes ≡ Exclusive) [
+      | true ↦ λ e. cc
+      | false ↦ λ e. e
+    ]
+
+-- a call that may change each object that it reads
+pub change-each : (d : DraftValue) (n : ℕ) → d.modes ≡ changing → MayChange d (addresses.Inode n)
+change-each d n is = subst (λ modes. mode_at modes d.view (addresses.Inode n) ≡ Exclusive) (sym is) refl
+
+and-false : (b : Bool) → b && false ≡ false
+and-false true = refl
+and-false false = refl
+
+-- RENAME may change the directory of each name, and what the name leads to there
+module _ (d : DraftValue) (a : RenameArguments)
+    (modes : d.modes ≡ record { inodes = Exclusive; mounts = Shared; renames = Some a }) where
+  at-place : (n : ℕ) → only_reads (Some a) d.view n ≡ false → MayChange d (addresses.Inode n)
+  at-place n not_read =
+      subst (λ m. mode_at m d.view (addresses.Inode n) ≡ Exclusive) (sym modes)
+      (ap (λ b. cond b Shared Exclusive) not_read)
+
+  pub change-from : (n : ℕ) → is_apart d.view a.from n ≡ false → MayChange d (addresses.Inode n)
+  change-from n within = at-place n (ap (λ b. b && is_apart d.view a.to n) within)
+
+  pub change-to : (n : ℕ) → is_apart d.view a.to n ≡ false → MayChange d (addresses.Inode n)
+  change-to n within =
+      at-place n (ap (λ b. is_apart d.view a.from n && b) within ∙ and-false (is_apart d.view a.from n))
+
+-- the directory of a name is not apart from its place, and neither is what the name leads to there
+module _ (view : ViewValue) (place : Place) (h : Handle) (names : handle_of place.directory ≡ Some h) where
+  pub place-itself : (n : ℕ) → h.fileid ≡ n → is_apart view place n ≡ false
+  place-itself n same =
+      subst (λ (o : Option Handle). at-handle view place n o ≡ false) (sym names)
+      (elim (shown_at view.entries (addresses.Inode h.fileid)) as
+      (λ (o : Option (Option Object)). beside_of place n h.fileid o ≡ false) [
+        | None ↦ refl
+        | Some object ↦
+            ap (λ b. not (b || is_number (led_in object place.name) n)) ((unsigned_Decides h.fileid n).1 same)
+      ])
+
+  pub place-named : (n : ℕ) → led_at view h.fileid place.name ≡ Some n → is_apart view place n ≡ false
+  place-named n led =
+      subst (λ (o : Option Handle). at-handle view place n o ≡ false) (sym names)
+      (elim (shown_at view.entries (addresses.Inode h.fileid)) as
+      (λ (o : Option (Option Object)). led_of o place.name ≡ Some n → beside_of place n h.fileid o ≡ false) [
+        | None ↦ λ e. refl
+        | Some object ↦ λ e.
+            ap (λ (o : Option ℕ). not (h.fileid == n || is_number o n)) e
+            ∙ ap (λ b. not (h.fileid == n || b)) ((unsigned_Decides n n).1 refl)
+            ∙ ap not (or-true (h.fileid == n))
+      ] led)
+    where
+      or-true : (b : Bool) → b || true ≡ true
+      or-true true = refl
+      or-true false = refl
+
+-- ---- what is given
+-- what is held in the mode that was asked for
+asked-suits : (modes : ModesValue) (named : List Addr) (view : ViewValue) (asked : List (Addr × Mode)) →
+    AllByRecursion (MayAsk modes named view) asked → (e : Seen) → WasAsked asked (e.address, e.mode) →
+    covers e.mode (mode_at modes view e.address) ≡ true
+asked-suits modes named view [] all e was = absurd was
+asked-suits modes named view (a ∷ asked) all e (inl same) =
+    let is : e.mode ≡ mode_at modes view e.address =
+    sym (ap (λ (b : Addr × Mode). b.1) same) ∙ all.0.mode
+    ∙ ap (λ (b : Addr × Mode). mode_at modes view b.0) same in
+    subst (λ m. covers e.mode m ≡ true) is (covers-self e.mode)
+asked-suits modes named view (a ∷ asked) all e (inr rest) = asked-suits modes named view asked all.1 e rest
+
+pub all-asked : (modes : ModesValue) (named : List Addr) (view : ViewValue) (asked : List (Addr × Mode)) →
+    AllByRecursion (MayAsk modes named view) asked → (entries : List Seen) →
+    AllByRecursion (WasAsked asked) (held entries) →
+    AllByRecursion (λ (e : Seen). covers e.mode (mode_at modes view e.address) ≡ true) entries
+all-asked modes named view asked all [] were = tt
+all-asked modes named view asked all (e ∷ entries) were =
+    (asked-suits modes named view asked all e were.0, all-asked modes named view asked all entries were.1)
+
+pub starts-suitably : StartsSuitably
+starts-suitably call = tt
+
+pub grows-suitably : GrowsSuitably
+grows-suitably call ctx view (Need asked) (Read entries) attempts gives suits =
+    suits-wider view entries view.reserved (modes_of call) suits
+    (all-asked (modes_of call) (named_by call) view asked.items attempts.each entries gives.1)
+grows-suitably call ctx view (Need asked) (Given r) attempts gives suits = absurd gives
+grows-suitably call ctx view (Fresh count) (Read entries) attempts gives suits = absurd gives
+grows-suitably call ctx view (Fresh count) (Given r) attempts gives suits =
+    suits-wider view (vacant r ∷ []) (view.reserved ++ r ∷ []) (modes_of call) suits (refl, tt)
+grows-suitably call ctx view (Done change) (Read entries) attempts gives suits = absurd gives
+grows-suitably call ctx view (Done change) (Given r) attempts gives suits = absurd gives
+
+-- ---- what RENAME holds
+lies-within : (view : ViewValue) (place : Place) (n : ℕ) → LiesAt view place n → is_apart view place n ≡ false
+lies-within view place n lies = elim lies.lies [
+  | inl same ↦ place-itself view place lies.handle lies.names n same
+  | inr led ↦ place-named view place lies.handle lies.names n led
+]
+
+pub renames-hold : RenamesHoldTheirs
+renames-hold a view n (inl lies) =
+    ap (λ b. cond (b && is_apart view a.to n) Shared Exclusive) (lies-within view a.from n lies)
+renames-hold a view n (inr lies) =
+    ap (λ b. cond b Shared Exclusive)
+    (ap (λ b. is_apart view a.from n && b) (lies-within view a.to n lies) ∙ and-false (is_apart view a.from n))
+
+-- what the view has is not what it has not
+not-seen : (es : List Seen) (m n : ℕ) → IsSome (seen_at es (addresses.Inode m)) →
+    seen_at es (addresses.Inode n) ≡ None → (m == n) ≡ false
+not-seen es m n some none =
+    elim (m == n) as (λ b. (m == n) ≡ b → b ≡ false) [
+      | true ↦ λ same.
+          absurd (let is : IsSome (seen_at es (addresses.Inode n)) =
+          subst (λ k. IsSome (seen_at es (addresses.Inode k))) ((unsigned_Decides m n).0 same) some in
+          let no : IsSome {T = Seen} None = subst (λ s. IsSome s) none is in cc)
+      | false ↦ λ other. refl
+    ] refl
+
+abbrev object-shown : Option Seen → Option (Option Object)
+object-shown s = option_map (λ (e : Seen). e.object) s
+
+unseen-apart : (view : ViewValue) (place : Place) (n : ℕ) → ShowsPlace view place →
+    seen_at view.entries (addresses.Inode n) ≡ None → is_apart view place n ≡ true
+unseen-apart view place n shows none =
+    subst (λ (o : Option Handle). at-handle view place n o ≡ true) (sym shows.names)
+    (by (seen_at view.entries (addresses.Inode shows.handle.fileid)) shows.directory shows.object)
+  where
+    led : (o : Option ℕ) → IfSome o (λ m. IsSome (seen_at view.entries (addresses.Inode m))) →
+        is_number o n ≡ false
+    led None seen = refl
+    led (Some m) seen = not-seen view.entries m n seen none
+
+    by : (s : Option Seen) → IsSome s →
+        IfSome (led_of (object-shown s) place.name) (λ m. IsSome (seen_at view.entries (addresses.Inode m))) →
+        beside_of place n shows.handle.fileid (object-shown s) ≡ true
+    by None some object = cc
+    by (Some e) some object =
+        ap (λ b. not (b || is_number (led_in e.object place.name) n))
+        (not-seen view.entries shows.handle.fileid n shows.directory none)
+        ∙ ap not (led (led_in e.object place.name) object)
+
+pub renames-share : RenamesShareOthers
+renames-share a ctx view asked attempts from to =
+    all-map (MayAsk (modes_of (calls.Nfs (nfs.Rename a))) (named_by (calls.Nfs (nfs.Rename a))) view) IsShared shared
+    asked.items attempts.each
+  where
+    shared : (b : Addr × Mode) →
+        MayAsk (modes_of (calls.Nfs (nfs.Rename a))) (named_by (calls.Nfs (nfs.Rename a))) view b → IsShared b
+    shared (addresses.Inode n, mode) may =
+        may.mode
+        ∙ ap (λ b. cond b Shared Exclusive)
+        (ap (λ b. b && is_apart view a.to n) (unseen-apart view a.from n from may.unseen)
+        ∙ unseen-apart view a.to n to may.unseen)
+    shared (addresses.Exports, mode) may = tt
+    shared (addresses.Mounts, mode) may = tt
+    shared (addresses.Usage e g, mode) may = tt
