@@ -5,7 +5,7 @@ ghost use Rattle.std.specs.Prelude.{OnOk, Some};
 ghost use Rattle.std.specs.Prelude.{option_map};
 ghost use Rattle.std.specs.Prelude.{slice_get, length, ◌==◌};
 ghost use Rattle.std.specs.Arc.{arc_value};
-ghost use Rattle.nfs_objects.specs.Fits.{vacant};
+ghost use Rattle.nfs_objects.specs.Fits.{HoldsReserved, vacant};
 ghost use Rattle.nfs_objects.specs.Values.{pointed, seen_at, seen_of, shown_at};
 
 use crate::address::Addr;
@@ -138,12 +138,28 @@ impl View {
         Some(&self.entries.get(&address)?.object)
     }
 
+    /// The entry at a place, in order of adding.
+    pub fn entry(&self, index: usize) -> Option<(Addr, &Entry)>
+        ensures { option_map (λ e. seen_of (e.0, e.1.now)) result ≡ slice_get self.now.entries index }
+    {
+        let (address, entry) = self.entries.get_index(index)?;
+        Some((*address, entry))
+    }
+
     /// The first number that may be given.
     pub fn fresh(&self) -> Option<Reserved>
         ensures first { result ≡ slice_get self.now.reserved 0 }
         ensures kept { IfSome result (λ r. seen_at self.now.entries (Addr.Inode r.number) ≡ Some (vacant r)) }
     {
         self.reserved.first().copied()
+    }
+
+    /// The numbers that may be given, in order of adding.
+    pub fn reserved(&self) -> &[Reserved]
+        ensures reserved { result.now ≡ self.now.reserved }
+        ensures kept { HoldsReserved self.now }
+    {
+        &self.reserved
     }
 
     /// Adds what is known of an address. An error changes nothing.
