@@ -1,9 +1,10 @@
 //! The host that calls.
 
-ghost use Rattle.std.specs.Prelude.{◌≡◌, SomeIff};
+ghost use Rattle.std.specs.Prelude.{◌≡◌, IfOk, SomeIff};
 ghost use Rattle.nfs_engine.specs.Hosts.{IsHost};
 
 use bytes::Bytes;
+use std::alloc::AllocError;
 use std::marker::Model;
 
 /// The most bytes that a host has.
@@ -43,5 +44,14 @@ impl Host {
         ensures host { IsHost self.now }
     {
         &self.text
+    }
+
+    /// One more owner of its name.
+    pub fn share(&self) -> Result<Host, AllocError>
+        ensures { IfOk result (λ host. host ≡ self.now) }
+    {
+        Ok(Host {
+            text: self.text.clone()?,
+        })
     }
 }

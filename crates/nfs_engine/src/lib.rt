@@ -1,13 +1,50 @@
-//! What stands between a server's callers and the machine: what a record asks, and the bytes of its answer.
+//! The engine: what a record asks and the bytes of its answer, a book of what was executed with the store that it led
+//! to, sixteen shards of who holds what, and both as one.
 //!
 //! A record that came in is a call of a program that is built, or it has a first fault (`read_record`). A reply, a
-//! refusal and a fault are each one fragment (`answers`). It stands on `nfs_rpc` for headers, on `nfs_wire` and
-//! `side_wire` for arguments and results, and on `nfs_machine` for what each record is answered.
+//! refusal and a fault are each one fragment (`answers`). The `Book` has the present store with the records that led to
+//! it, and which calls are in progress. A `Shard` has the slots of a sixteenth of the addresses, with who holds them.
+//! The `Engine` is the book and the shards as one value, for one thread. It stands on `nfs_rpc` for headers, on
+//! `nfs_wire` and `side_wire` for arguments and results, on `nfs_machine` for what each record is answered, and on
+//! `nfs_objects` for what stands at addresses.
 #![tactic(auto)]
 
+pub mod admission;
 pub mod answers;
+pub mod arrival;
 pub mod asking;
+pub mod book;
+pub mod calls;
+pub mod engine;
+pub mod holders;
 pub mod host;
+pub mod journal;
+pub mod laws;
+pub mod leaving;
+mod objects;
+pub mod opening;
+pub mod outbox;
+pub mod records;
+pub mod release;
+pub mod running;
+pub mod shard;
+mod slot;
+mod starting;
+pub mod taking;
 
+pub use admission::{Admission, Faulted, Refused};
+pub use arrival::{Arrival, Executed, Reading, Received};
 pub use asking::{Asked, Unasked, read_record};
+pub use book::Book;
+pub use calls::{Finished, Pending, Txn};
+pub use engine::Engine;
+pub use holders::Holders;
 pub use host::Host;
+pub use journal::{Committed, Receipt};
+pub use opening::{Config, StartError};
+pub use outbox::Posted;
+pub use records::Era;
+pub use release::{Next, Release, Then};
+pub use running::AdmitError;
+pub use shard::{Had, ReserveError, SHARDS, Shard, shard_index};
+pub use taking::{Got, let_go};

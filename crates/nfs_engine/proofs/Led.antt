@@ -1,0 +1,164 @@
+-- A commit leads on: from wherever the old records led to the old store, the new ones lead to the new store.
+use Rattle.std.proofs.Common.{◌≡◌, ℕ, ◌+◌, ◌-◌, ◌^◌, List, [], ◌∷◌, ◌++◌, min, refl, sym}
+use Rattle.std.proofs.Common.{◌∙◌, ap, subst}
+use Rattle.nfs_machine.proofs.Bounds.{spelled_calls_fit}
+use Rattle.nfs_machine.proofs.Kept.{steps_keep_form}
+use Rattle.nfs_machine.proofs.Runs.{run-append}
+use Rattle.nfs_machine.specs.Run.{Executes, FromHost, Received, ReceivedAsks, Record, Run, Setting}
+use Rattle.nfs_machine.specs.SideLaws.{AskedFits}
+use Rattle.nfs_machine.specs.State.{State}
+use Rattle.nfs_machine.specs.declared.calls.Call.{Call}
+use Rattle.nfs_machine.specs.declared.context.Ctx.{Ctx}
+use Rattle.nfs_objects.specs.Promise.{IsPromised, IsStep}
+use Rattle.nfs_objects.specs.Stands.{Kept, Represents}
+use Rattle.nfs_objects.specs.Store.{Store, with_writes}
+use Rattle.nfs_objects.specs.declared.address.Addr.{Addr}
+use Rattle.nfs_engine.proofs.Bounds.{step-within}
+use Rattle.nfs_engine.proofs.Built.{asked-built}
+use Rattle.nfs_engine.proofs.Formed.{step_form}
+use Rattle.nfs_engine.specs.Book.{BookValue, Commits, IsRun, Leads, MayCommit, Rebases, StandsFor, Steps, book_value}
+use Rattle.nfs_engine.specs.Book.{store_in}
+use Rattle.nfs_engine.specs.Built.{IsBuilt}
+use Rattle.nfs_engine.specs.Calls.{FinishedValue, IsCalled, IsUnder}
+use Rattle.nfs_engine.specs.Commits.{SameJournal, Writes, counted_bytes, record_of}
+use Rattle.nfs_engine.specs.Forms.{HasForm}
+use Rattle.nfs_engine.specs.Journal.{JournalValue, OutboxValue, RecordsValue}
+use Rattle.nfs_engine.specs.Running.{CallsValue, without_call}
+use Rattle.nfs_engine.specs.Tables.{KeptValue, store_of}
+
+-- ---- what changes neither records nor store
+pub same_leads : (old new : BookValue) → new.records ≡ old.records → new.objects ≡ old.objects →
+    new.setting ≡ old.setting → Leads old new
+same_leads old new records objects setting base l = record {
+  state = l.state;
+  run = subst (λ (s : Setting). Run s base new.records l.state) (sym setting)
+      (subst (λ (rs : List Record). Run old.setting base rs l.state) (sym records) l.run);
+  stands = subst (λ (os : List (Addr × KeptValue)). StandsFor (store_of os) l.state) (sym objects) l.stands;
+}
+
+pub led_run : (old new : BookValue) → Leads old new → IsRun old → IsRun new
+led_run old new leads r = record { base = r.base; leads = leads r.base r.leads }
+
+pub rebases : (old new : BookValue) → new.records ≡ [] → new.objects ≡ old.objects → Rebases old new
+rebases old new none objects base l = record {
+  state = l.state;
+  run = subst (λ (rs : List Record). Run new.setting l.state rs l.state) (sym none) refl;
+  stands = subst (λ (os : List (Addr × KeptValue)). StandsFor (store_of os) l.state) (sym objects) l.stands;
+}
+
+pub rebased_run : (old new : BookValue) → Rebases old new → IsRun old → IsRun new
+rebased_run old new rebased r = record { base = r.leads.state; leads = rebased r.base r.leads }
+
+-- ---- what a call asks
+module _ (received : Received) (xid : ℕ) (call : Call) (ctx : Ctx) (called : IsCalled received xid call ctx) where
+  called_asks : (setting : Setting) → IsUnder setting ctx → ReceivedAsks setting received ctx call
+  called_asks setting under = record {
+    header = called.header;
+    read = called.read;
+    is_call = called.is_call;
+    made_under = λ i. record {
+      host = called.host i;
+      ids = sym called.ids i;
+      moment = called.moment i;
+      start = under.start i;
+      limits = under.limits i;
+    };
+  }
+
+  called_fits : (setting : Setting) → IsUnder setting ctx → AskedFits ctx call
+  called_fits setting under =
+      spelled_calls_fit setting (FromHost received) ctx call called.named.1
+      (called_asks setting under)
+
+  called_built : IsBuilt call
+  called_built =
+      asked-built received.bytes (record { xid = xid; ids = ctx.ids; call = call })
+      (record {
+        header = called.header;
+        read = called.read;
+        is_call = called.is_call;
+        xid = called.number;
+        ids = called.ids;
+      })
+
+-- ---- commits
+-- what the store stands for, with what is kept beside the state
+abbrev kept_of : (s : Store) (m : State) → StandsFor s m → Kept
+kept_of s m stands = record { state = m; links = stands.links; parents = stands.parents; usage = stands.usage }
+
+module _ (old : BookValue) (f : FinishedValue) (called : IsCalled f.received f.xid f.done.call f.done.ctx)
+    (promised : IsPromised f.done) (may : MayCommit old f.done) where
+  step_of : (m : State) (s : StandsFor (store_in old) m) → IsStep f.done (store_in old) (kept_of (store_in old) m s)
+  step_of m s = promised.kept (store_in old) (kept_of (store_in old) m s) may.fits s.represents s.sound s.formed
+
+  pub reply_form : IsRun old → HasForm f.done.change.reply
+  reply_form r =
+      let l = r.leads in
+      let s = step_of l.state l.stands in
+      step_form l.state f.done.ctx f.done.call f.done.change.reply f.done.change.messages s.new.state
+      (called_built f.received f.xid f.done.call f.done.ctx called) l.stands.within l.stands.formed s.step
+
+  module _ (new : BookValue) (commits : Commits old new f) where
+    stands_on : (m : State) (s : StandsFor (store_in old) m) → StandsFor (store_in new) (step_of m s).new.state
+    stands_on m s =
+        let k = step_of m s in
+        record {
+          links = k.new.links;
+          parents = k.new.parents;
+          usage = k.new.usage;
+          represents = subst (λ (x : Store). Represents x k.new) (sym commits.store) k.stands;
+          sound = k.sound;
+          formed = steps_keep_form m f.done.ctx f.done.call f.done.change.reply f.done.change.messages k.new.state
+              k.step s.formed;
+          within = step-within m f.done.ctx f.done.call f.done.change.reply f.done.change.messages k.new.state k.step
+              (called_fits f.received f.xid f.done.call f.done.ctx called old.setting may.under) s.within;
+        }
+
+    pub committed_steps : Steps old new f.done
+    committed_steps m s = ((step_of m s).new.state, (step_of m s).step, stands_on m s)
+
+    pub committed_leads : Leads old new
+    committed_leads base l =
+        let k = step_of l.state l.stands in
+        let e : Executes old.setting l.state (record_of f) k.new.state = record {
+          ctx = f.done.ctx;
+          call = f.done.call;
+          asks = called_asks f.received f.xid f.done.call f.done.ctx called old.setting may.under;
+          step = k.step;
+        } in
+        record {
+          state = k.new.state;
+          run = subst (λ (b : BookValue). Run b.setting base b.records k.new.state) (sym commits.rest)
+              (run-append old.setting base l.state k.new.state old.records (record_of f ∷ []) l.run
+              (k.new.state, e, refl));
+          stands = stands_on l.state l.stands;
+        }
+
+-- what is written to the journal, and the call that ends, are a commit of the book
+pub journal_commits : (j k l : JournalValue) (c d : CallsValue) (setting : Setting) (capacity era_records : ℕ)
+    (f : FinishedValue) → SameJournal j k → Writes k l f
+    → d ≡ record c { living = without_call c.living f.key f.id }
+    → Commits (book_value j c setting capacity era_records) (book_value l d setting capacity era_records) f
+journal_commits j k l c d setting capacity era_records f same writes ended =
+    let records : l.records ≡ record j.records {
+      list = j.records.list ++ record_of f ∷ [];
+      bytes = min (j.records.bytes + counted_bytes f) (2 ^ 64 - 1);
+      room = l.records.room;
+    } = writes.records ∙ ap (λ (r : RecordsValue). let x : RecordsValue = record r {
+      list = r.list ++ record_of f ∷ [];
+      bytes = min (r.bytes + counted_bytes f) (2 ^ 64 - 1);
+      room = l.records.room;
+    } in x) same.records in
+    let outbox : l.outbox ≡ record j.outbox {
+      waiting = j.outbox.waiting ++ f.done.change.messages;
+      room = l.outbox.room;
+    } = writes.outbox ∙ ap (λ (o : OutboxValue). let x : OutboxValue = record o {
+      waiting = o.waiting ++ f.done.change.messages;
+      room = l.outbox.room;
+    } in x) same.outbox in
+    record {
+      store = writes.store
+          ∙ ap (λ (os : List (Addr × KeptValue)). with_writes (store_of os) f.done.change.writes) same.objects;
+      rest = λ i. book_value (record { objects = l.objects; records = records i; outbox = outbox i }) (ended i) setting
+          capacity era_records;
+    }

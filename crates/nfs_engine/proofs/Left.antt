@@ -1,0 +1,169 @@
+-- What is left of a call that let go a shard.
+use Rattle.std.proofs.Common.{◌≡◌, ◌≢◌, ℕ, zero, suc, ◌<◌, ◌≤◌, ◌+◌, ◌==◌, ◌&&◌}
+use Rattle.std.proofs.Common.{Bool, true, false, cond, List, [], ◌∷◌, ◌++◌}
+use Rattle.std.proofs.Common.{get_or, set, length, replicate, take, slice_get, Option, Some, None, is_some}
+use Rattle.std.proofs.Common.{option_map, refl, sym, ◌∙◌, ap, subst, arith}
+use Rattle.std.specs.Cmp.{unsigned_Decides}
+use Rattle.std.specs.List.{AllByRecursion}
+use Rattle.std.proofs.lemmas.List.{get_or-set_other, get_or-set_same, take_all}
+use Rattle.nfs_objects.proofs.Seen.{all-append, is_addr-same}
+use Rattle.nfs_objects.specs.Values.{Seen, ViewValue, is_addr, seen_at}
+use Rattle.nfs_objects.specs.declared.address.Addr.{Addr}
+use Rattle.nfs_objects.specs.declared.modes.Mode.{Mode}
+use Rattle.nfs_engine.proofs.Going.{further}
+use Rattle.nfs_engine.proofs.Lifted.{any_default}
+use Rattle.nfs_engine.proofs.Reheld.{Reholds, Turn, let_go, lets_go_holds, lifted, only_in, reheld_holds}
+use Rattle.nfs_engine.proofs.Reheld.{reheld_others, reheld_tied}
+use Rattle.nfs_engine.specs.Book.{BookValue}
+use Rattle.nfs_engine.specs.Calls.{IsUnder, PendingValue}
+use Rattle.nfs_engine.specs.Engine.{EngineValue, HoldsNothing, IsEnd, IsLeaving, IsNext, Releases, Waits, IsTied}
+use Rattle.nfs_engine.specs.Engine.{KeepsOthers, LeadsTo, Lives, freed_more, held_among, is_free, kept_by, mode_in}
+use Rattle.nfs_engine.specs.Engine.{release_of, shard_among}
+use Rattle.nfs_engine.specs.Taking.{LetsGo}
+use Rattle.nfs_engine.specs.Releases.{ReleaseValue}
+use Rattle.nfs_engine.specs.Shards.{ShardValue, shard_of}
+use Rattle.nfs_engine.specs.declared.release.Next.{Next}
+use Rattle.nfs_engine.specs.declared.release.Next.TheVariants as next
+use Rattle.nfs_engine.specs.declared.release.Then.{Then}
+use Rattle.nfs_engine.specs.declared.release.Then.TheVariants.{Aborted, Ended}
+
+-- ---- which shards are free
+-- the shards of these entries are
+abbrev pub AreFree : ReleaseValue → List Seen → Type 0
+AreFree r es = AllByRecursion (λ (e : Seen). is_free r (shard_of e.address) ≡ true) es
+
+pub free_further : (r : ReleaseValue) (i : ℕ) (e : Seen) → AreFree r (take i r.view.entries) →
+    slice_get r.view.entries i ≡ Some e → is_free r (shard_of e.address) ≡ true →
+    AreFree r (take (i + 1) r.view.entries)
+free_further r i e free there one = subst (λ (es : List Seen). AreFree r es) (sym (further r.view.entries i e there))
+    (all-append (λ (e : Seen). is_free r (shard_of e.address) ≡ true) (take i r.view.entries) e free one)
+
+-- then nothing is held
+pub nothing_held : (r : ReleaseValue) (es : List Seen) → AreFree r es → (a : Addr) →
+    is_free r (shard_of a) ≡ false →
+    mode_in es a ≡ None
+nothing_held r [] free a kept = refl
+nothing_held r (e ∷ es) free a kept = elim (is_addr e.address a) as (λ t. is_addr e.address a ≡ t →
+    option_map (λ (x : Seen). x.mode) (cond t (Some e) (seen_at es a)) ≡ None) [
+      | true ↦ λ same. absurd (let no : true ≡ false = sym free.0 ∙
+          ap (λ (b : Addr). is_free r (shard_of b)) (is_addr-same e.address a same) ∙ kept in cc)
+      | false ↦ λ other. nothing_held r es free.1 a kept
+    ] refl
+
+pub holds_nothing : (r : ReleaseValue) → AreFree r r.view.entries → HoldsNothing r
+holds_nothing r free a = elim (is_free r (shard_of a)) as (λ t. is_free r (shard_of a) ≡ t →
+    elim t as (λ u. Option Mode) [ true ↦ None | false ↦ mode_in r.view.entries a ] ≡ None) [
+      | true ↦ λ is. refl
+      | false ↦ λ kept. nothing_held r r.view.entries free a kept
+    ] refl
+
+none_free : (n k : ℕ) → get_or (replicate n false) k false ≡ false
+none_free zero k = refl
+none_free (suc n) zero = refl
+none_free (suc n) (suc k) = none_free n k
+
+-- ---- one shard more is free
+abbrev kept_where : Bool → Option Mode → Option Mode
+kept_where t m = elim t [ true ↦ None | false ↦ m ]
+
+module _ (book : BookValue) (shards : List ShardValue) (k : ℕ) (was s : ShardValue) (within : k < length shards)
+    (r : ReleaseValue) (there : k < length r.done) (tied : IsTied (record { book = book; shards = shards }))
+    (leaving : IsLeaving (record { book = book; shards = shards }) r)
+    (go : LetsGo (get_or shards k was) s k r.id r.view.entries) where
+  abbrev pub before : EngineValue
+  before = record { book = book; shards = shards }
+
+  abbrev pub after : EngineValue
+  after = record { book = book; shards = set shards k s }
+
+  all : Reholds shards (set shards k s) r.id (only_in k (let_go k r.view.entries))
+  all = lifted shards k s r.id (let_go k r.view.entries) within (lets_go_holds (shard_among shards k) s k r.id
+      r.view.entries (subst (λ (x : ShardValue). LetsGo x s k r.id r.view.entries)
+      (any_default shards k was within) go))
+
+  pub left_others : KeepsOthers r.id before after
+  left_others = reheld_others book shards (set shards k s) r.id (only_in k (let_go k r.view.entries)) all
+
+  pub left_tied : IsTied after
+  left_tied = reheld_tied book shards (set shards k s) r.id (only_in k (let_go k r.view.entries)) all
+      leaving.holds.known tied
+
+  -- what was not read is not held
+  unread : (t : Bool) (x : Option Seen) →
+      cond (is_some x) None (kept_where t (option_map (λ (e : Seen). e.mode) x)) ≡ None
+  unread t (Some e) = refl
+  unread true None = refl
+  unread false None = refl
+
+  turned : (b : Addr) → only_in k (let_go k r.view.entries) b (kept_by r b) ≡ kept_by (freed_more r k) b
+  turned b = elim (shard_of b == k) as (λ t. (shard_of b == k) ≡ t →
+      cond t (cond (t && is_some (seen_at r.view.entries b)) None (kept_by r b)) (kept_by r b) ≡
+      kept_where (get_or (set r.done k true) (shard_of b) false) (mode_in r.view.entries b)) [
+        | true ↦ λ here. unread (get_or r.done (shard_of b) false) (seen_at r.view.entries b) ∙
+            sym (ap (λ t. kept_where t (mode_in r.view.entries b))
+            (ap (λ j. get_or (set r.done k true) j false) ((unsigned_Decides (shard_of b) k).0 here) ∙
+            get_or-set_same r.done k true false there))
+        | false ↦ λ other. ap (λ t. kept_where t (mode_in r.view.entries b))
+            (sym (get_or-set_other r.done k (shard_of b)
+            true false (λ is. (let both : (shard_of b == k) ≡ true = (unsigned_Decides (shard_of b) k).1 is in
+            let no : true ≡ false = sym both ∙ other in cc))))
+      ] refl
+
+  still : (t : Then) → LeadsTo before r.id t → LeadsTo after r.id t
+  still (Aborted p) l = (l.0, record { running = l.1.running; there = l.1.there; same = l.1.same }, l.2)
+  still Ended l = tt
+
+  pub left_leaving : IsLeaving after (freed_more r k)
+  left_leaving = record {
+    holds = reheld_holds book shards (set shards k s) r.id (only_in k (let_go k r.view.entries)) all (kept_by r)
+        (kept_by (freed_more r k)) leaving.holds turned;
+    after = still r.after leaving.after;
+  }
+
+-- all entries
+pub past_all : (r : ReleaseValue) (i : ℕ) → length r.view.entries ≤ i → AreFree r (take i r.view.entries) →
+    AreFree r r.view.entries
+past_all r i past free = subst (λ (es : List Seen). AreFree r es) (take_all i r.view.entries past) free
+
+-- behind a place where nothing is, nothing is
+none_past : (es : List Seen) (i : ℕ) → None ≡ slice_get es i → length es ≤ i
+none_past [] i is = omega arith
+none_past (e ∷ es) zero is = cc
+none_past (e ∷ es) (suc i) is = (let less = none_past es i is in omega arith)
+
+pub past_none : (r : ReleaseValue) (i : ℕ) → None ≡ slice_get r.view.entries i →
+    AreFree r (take i r.view.entries) →
+    AreFree r r.view.entries
+past_none r i is free = past_all r i (none_past r.view.entries i is) free
+
+-- ---- what a release comes to
+-- a call that holds nothing any more may begin again
+waits_then : (e : EngineValue) (r : ReleaseValue) (p : PendingValue) → IsLeaving e r → HoldsNothing r →
+    r.after ≡ Aborted p → Waits e p
+waits_then e r p leaving nothing is =
+    let led : LeadsTo e r.id (Aborted p) = subst (λ (t : Then). LeadsTo e r.id t) is leaving.after in
+    record {
+      fits = record { entries = tt; reserved = tt };
+      holds = record {
+        exactly = λ a. ap (held_among e.shards a) led.0 ∙ leaving.holds.exactly a ∙ nothing a;
+        known = (let known = leaving.holds.known in let same = led.0 in omega arith);
+      };
+      fresh = tt;
+      running = led.1;
+      under = led.2;
+    }
+
+pub ended_releases : (e : EngineValue) (r : ReleaseValue) (n : Next) → IsLeaving e r → HoldsNothing r →
+    IsEnd r n →
+    Releases e r n
+ended_releases e r (next.More left) leaving nothing is = absurd is
+ended_releases e r (next.Aborted p) leaving nothing is = (is, waits_then e r p leaving nothing is)
+ended_releases e r next.Ended leaving nothing is = (is, λ a. leaving.holds.exactly a ∙ nothing a)
+
+pub next_releases : (e : EngineValue) (r : ReleaseValue) (k : ℕ) (n : Next) → IsLeaving e (freed_more r k) →
+    k < length r.done → is_free r k ≡ false → IsNext (freed_more r k) n → Releases e r n
+next_releases e r k (next.More left) leaving within kept is =
+    (subst (λ (x : ReleaseValue). IsLeaving e x) (sym is.0) leaving, k, within, kept, is.0)
+next_releases e r k (next.Aborted p) leaving within kept is =
+    (is.1, waits_then e (freed_more r k) p leaving is.0 is.1)
+next_releases e r k next.Ended leaving within kept is = (is.1, λ a. leaving.holds.exactly a ∙ is.0 a)

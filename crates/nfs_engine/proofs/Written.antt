@@ -1,0 +1,101 @@
+-- What is put at an address is written to the store.
+use Rattle.std.proofs.Common.{◌≡◌, ℕ, ◌+◌, ◌≤◌, true, false, cond, max, ◌==◌, List, [], ◌∷◌}
+use Rattle.std.proofs.Common.{length, Option}
+use Rattle.std.proofs.Common.{Some, None, option_map, unwrap_or, refl, sym, ◌∙◌, ap, subst, arith}
+use Rattle.std.specs.Cmp.{unsigned_Decides}
+use Rattle.std.specs.Map.{lookup}
+use Rattle.indexmap.specs.IndexMap.{IndexMap, UpdatesBy}
+use Rattle.nfs_objects.specs.declared.address.Addr.{Addr}
+use Rattle.nfs_objects.specs.declared.address.Addr.TheVariants.{Exports, Inode, Mounts, Usage}
+use Rattle.nfs_objects.specs.declared.object.Object.{Object}
+use Rattle.nfs_objects.specs.declared.object.Object.TheVariants as objects
+use Rattle.nfs_objects.specs.Store.{Store, give, with_write, with_writes}
+use Rattle.nfs_objects.specs.Values.{is_addr}
+use Rattle.nfs_engine.proofs.Found.{found-changed, found-lookup, same_address, seen}
+use Rattle.nfs_engine.specs.Found.{Changes, found}
+use Rattle.nfs_engine.specs.Tables.{KeptValue, ObjectsValue, empty_kept, generation_in, kept_at, kept_value, store_of}
+use Rattle.nfs_engine.specs.declared.objects.Kept.{Kept}
+
+-- what is kept, as the map has it
+pub kept-lookup : (a : Addr) (es : List (Addr × Kept)) →
+    unwrap_or (option_map kept_value (lookup (same_address a) es)) empty_kept ≡ kept_at (seen kept_value es) a
+kept-lookup a es = ap (λ (o : Option KeptValue). unwrap_or o empty_kept) (sym (found-lookup kept_value a es))
+
+module _ (last : ℕ → ℕ) (k n : ℕ) where
+  given_there : (g : ℕ) → cond (k == n) (max (last k) g) (last n) ≡ cond (k == n) (max (last n) g) (last n)
+  given_there g =
+      elim (k == n) as
+      (λ b. (k == n) ≡ b → cond b (max (last k) g) (last n) ≡ cond b (max (last n) g) (last n)) [
+        | true ↦ λ e. ap (λ j. max (last j) g) ((unsigned_Decides k n).0 e)
+        | false ↦ λ e. refl
+      ] refl
+
+  given_nothing : cond (k == n) (max (last k) 0) (last n) ≡ last n
+  given_nothing =
+      elim (k == n) as (λ b. (k == n) ≡ b → cond b (max (last k) 0) (last n) ≡ last n) [
+        | true ↦ λ e.
+            (let none : max (last k) 0 ≡ last k = omega arith in none ∙ ap last ((unsigned_Decides k n).0 e))
+        | false ↦ λ e. refl
+      ] refl
+
+-- a write gives this last generation to a number
+filled_last : (last : Addr → ℕ) (a : Addr) (o : Option Object) (n : ℕ)
+    → cond (is_addr a (Inode n)) (max (last a) (generation_in o)) (last (Inode n))
+    ≡ give (λ k. last (Inode k)) a o n
+filled_last last (Inode k) (Some (objects.Inode i)) n = given_there (λ j. last (Inode j)) k n i.generation
+filled_last last (Inode k) (Some (objects.Mounts t)) n = given_nothing (λ j. last (Inode j)) k n
+filled_last last (Inode k) (Some (objects.Exports t)) n = given_nothing (λ j. last (Inode j)) k n
+filled_last last (Inode k) (Some (objects.Usage u)) n = given_nothing (λ j. last (Inode j)) k n
+filled_last last (Inode k) None n = given_nothing (λ j. last (Inode j)) k n
+filled_last last Exports o n = refl
+filled_last last Mounts o n = refl
+filled_last last (Usage e g) o n = refl
+
+-- what is kept of an object that is put there
+abbrev pub filled : KeptValue → Option Object → KeptValue
+filled k o = record { object = o; last = max k.last (generation_in o) }
+
+module _ (old new : List (Addr × KeptValue)) (a : Addr) (o : Option Object)
+    (h : Changes (found old) (found new) a (Some (filled (kept_at old a) o))) where
+  field_filled : {X : Type 0} (f : KeptValue → X) (b : Addr) →
+      f (kept_at new b) ≡ cond (is_addr a b) (f (filled (kept_at old a) o)) (f (kept_at old b))
+  field_filled f b =
+      ap (λ (x : Option KeptValue). f (unwrap_or x empty_kept)) (h b)
+      ∙ elim (is_addr a b) as (λ t. f (unwrap_or (cond t (Some (filled (kept_at old a) o)) (found old b)) empty_kept)
+      ≡ cond t (f (filled (kept_at old a) o)) (f (kept_at old b))) [ true ↦ refl | false ↦ refl ]
+
+  filled_store : store_of new ≡ with_write (store_of old) a o
+  filled_store = λ i. record {
+    at = λ b. field_filled (λ x. x.object) b i;
+    last = λ n. (field_filled (λ x. x.last) (Inode n) ∙ filled_last (λ b. (kept_at old b).last) a o n) i;
+  }
+
+-- an entry that is put into the map is written to the store
+pub put_store : {H : Type 0} (old new : IndexMap Addr Kept H) (a : Addr) (k : Kept) (o : Option Object)
+    → UpdatesBy same_address (same_address a) old new (Some k)
+    → kept_value k ≡ filled (kept_at (seen kept_value old.entries) a) o
+    → store_of (seen kept_value new.entries) ≡ with_write (store_of (seen kept_value old.entries)) a o
+put_store old new a k o updates is =
+    filled_store (seen kept_value old.entries) (seen kept_value new.entries) a o
+    (subst (λ (x : KeptValue).
+    Changes (found (seen kept_value old.entries)) (found (seen kept_value new.entries)) a (Some x)) is
+    (found-changed kept_value old new a (Some k) updates))
+
+-- some of the writes are made, and for the rest there is room
+pub record Installing (initial now : ObjectsValue) (all rest : List (Addr × Option Object)) : Type 0 where
+  pub same : with_writes (store_of now.slots) rest ≡ with_writes (store_of initial.slots) all
+  pub room : length rest ≤ now.room
+
+-- one more write is made
+pub installing_more : (initial now next : ObjectsValue) (all rest left : List (Addr × Option Object))
+    (w : Addr × Option Object) → Installing initial now all rest → rest ≡ w ∷ left
+    → store_of next.slots ≡ with_write (store_of now.slots) w.0 w.1
+    → now.room ≤ next.room + 1 → Installing initial next all left
+installing_more initial now next all rest left w i is made room = record {
+  same = ap (λ (x : Store). with_writes x left) made ∙ ap (with_writes (store_of now.slots)) (sym is) ∙ i.same;
+  room = omega (arith, i.room, ap (λ (l : List (Addr × Option Object)). length l) is, room);
+}
+
+pub installed_all : (initial now : ObjectsValue) (all rest : List (Addr × Option Object)) →
+    Installing initial now all rest → rest ≡ [] → store_of now.slots ≡ with_writes (store_of initial.slots) all
+installed_all initial now all rest i none = ap (with_writes (store_of now.slots)) (sym none) ∙ i.same

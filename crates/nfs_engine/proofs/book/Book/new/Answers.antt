@@ -1,0 +1,44 @@
+use Rattle.std.proofs.Common.{ap, refl}
+use Rattle.nfs_engine.proofs.Openings.{opened_lasts, opened_leads, opened_store}
+use Rattle.nfs_engine.specs.Running.{CallsValue}
+use Rattle.nfs_engine.specs.Tables.{store_of}
+use Rattle.nfs_engine.proofs.book.Book.new.Goals as goal
+
+pub invariant_of-book : goal.invariant_of-book
+invariant_of-book c = record {
+  base = _;
+  leads = opened_leads c.args.config.exports c.args.config.moment _
+      (opened_store _ _ _ _ _ _ c.args.config.moment c.new-journal.ensures.objects c.in_ok-objects.ensures
+      c.deref.ensures.value c.in_ok-writes.ensures.writes c.time.ensures)
+      c.new-journal.ensures.records.0 c.opening_writes.ensures.faultless;
+}
+
+pub returns-clause-book : goal.returns-clause-book
+returns-clause-book c = record {
+  capacity = c.if-not-is_limit.ensures.0 refl;
+  era_records = c.if-not-is_limit-2.ensures.0 refl;
+  leads = opened_leads c.args.config.exports c.args.config.moment _
+      (opened_store _ _ _ _ _ _ c.args.config.moment c.new-journal.ensures.objects c.in_ok-objects.ensures
+      c.deref.ensures.value c.in_ok-writes.ensures.writes c.time.ensures)
+      c.new-journal.ensures.records.0 c.opening_writes.ensures.faultless;
+  is = λ i. record {
+    objects = c.new-journal.result.objects.slots;
+    records = c.new-journal.ensures.records.0 i;
+    before = c.new-journal.ensures.records.1 i;
+    bytes = c.new-journal.ensures.records.2 i;
+    outbox = c.new-journal.ensures.outbox.0 i;
+    taken = c.new-journal.ensures.outbox.1 i;
+    living = ap (λ (v : CallsValue). v.living) c.new-calls.ensures i;
+    next_id = ap (λ (v : CallsValue). v.next_id) c.new-calls.ensures i;
+    setting = record
+        { start = c.args.config.start; exports = c.args.config.exports; limits = c.args.config.limits };
+    capacity = c.args.config.capacity;
+    era_records = c.args.config.era_records;
+  };
+}
+
+pub returns-clause-given : goal.returns-clause-given
+returns-clause-given c =
+    opened_lasts c.args.config.exports c.args.config.moment (store_of c.new-journal.result.objects.slots)
+    (opened_store _ _ _ _ _ _ c.args.config.moment c.new-journal.ensures.objects c.in_ok-objects.ensures
+    c.deref.ensures.value c.in_ok-writes.ensures.writes c.time.ensures)

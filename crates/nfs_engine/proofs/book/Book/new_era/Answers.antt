@@ -1,0 +1,18 @@
+use Rattle.std.proofs.Common.{ap, ◌∙◌}
+use Rattle.nfs_engine.proofs.Led.{rebased_run, rebases}
+use Rattle.nfs_engine.specs.Book.{BookValue}
+use Rattle.nfs_engine.specs.Journal.{JournalValue}
+use Rattle.nfs_engine.proofs.book.Book.new_era.Goals as goal
+
+pub invariant_of-self : goal.invariant_of-self
+invariant_of-self c =
+    rebased_run _ _
+    (rebases _ _ (ap (λ (j : JournalValue). j.records.list) c.new_era.ensures.rest)
+    (ap (λ (j : JournalValue). j.objects.slots) c.new_era.ensures.rest))
+    c.self.invariant
+
+pub returns-clause-rebases : goal.returns-clause-rebases
+returns-clause-rebases c =
+    rebases _ _ (ap (λ (j : JournalValue). j.records.list) c.new_era.ensures.rest)
+    (ap (λ (j : JournalValue). j.objects.slots) c.new_era.ensures.rest
+    ∙ ap (λ (b : BookValue). b.objects) c.self.view_is)

@@ -1,0 +1,57 @@
+use Rattle.std.proofs.Common.{List, Option, map, refl, sym, ap, subst}
+use Rattle.std.specs.List.{AllByRecursion}
+use Rattle.nfs_objects.specs.Values.{write_value}
+use Rattle.nfs_objects.specs.declared.address.Addr.{Addr}
+use Rattle.nfs_objects.specs.declared.object.Object.{Object}
+use Rattle.nfs_engine.proofs.Settled.{held_to_write, settled_leaving, settled_others, settled_tied}
+use Rattle.nfs_engine.specs.Engine.{IsFilled, IsHeldAmong}
+use Rattle.nfs_engine.specs.declared.release.Then.TheVariants.{Ended}
+use Rattle.nfs_engine.proofs.engine.Engine.commit.Goals as goal
+
+pub fill_all-requires : goal.fill_all-requires
+fill_all-requires c =
+    subst (λ (ws : List (Addr × Option Object)). AllByRecursion (λ (w : Addr × Option Object).
+    IsHeldAmong c.self.inside.shards w.0) ws) (sym c.in-Ok.ensures.leaves.writes)
+    (held_to_write c.self.inside.book c.self.inside.shards c.args.finished
+    (rw (← c.self.view_is) at c.requires) c.is_finished.ensures.promised)
+
+pub invariant_of-self-2 : goal.invariant_of-self-2
+invariant_of-self-2 c = settled_tied c.self.inside.book c.commit.new.self c.self.inside.shards c.fill_all.new.shards
+    c.free_all.new.shards c.args.finished (record {
+      id = c.in-Ok.committed.id;
+      view = c.in-Ok.committed.view;
+      done = c.written_shards-written.result;
+      after = Ended;
+    }) c.self.invariant (rw (← c.self.view_is) at c.requires) c.is_finished.ensures.promised c.run.ensures
+    c.in-Ok.ensures.commits (map write_value c.in-Ok.committed.writes.items) c.fill_all.ensures c.free_all.ensures
+    c.in-Ok.ensures.leaves.writes c.in-Ok.ensures.leaves.id c.in-Ok.ensures.leaves.view refl
+
+pub returns-clause-step : goal.returns-clause-step
+returns-clause-step c = rw (← c.self.view_is) c.in-Ok.ensures.step
+
+pub returns-clause-leads : goal.returns-clause-leads
+returns-clause-leads c = rw (← c.self.view_is) c.in-Ok.ensures.leads
+
+pub returns-clause-others : goal.returns-clause-others
+returns-clause-others c = rw (← c.self.view_is) (settled_others c.self.inside.book c.commit.new.self
+    c.self.inside.shards c.fill_all.new.shards
+    c.free_all.new.shards c.args.finished (record {
+      id = c.in-Ok.committed.id;
+      view = c.in-Ok.committed.view;
+      done = c.written_shards-written.result;
+      after = Ended;
+    }) c.self.invariant (rw (← c.self.view_is) at c.requires) c.is_finished.ensures.promised c.run.ensures
+    c.in-Ok.ensures.commits (map write_value c.in-Ok.committed.writes.items) c.fill_all.ensures c.free_all.ensures
+    c.in-Ok.ensures.leaves.writes c.in-Ok.ensures.leaves.id c.in-Ok.ensures.leaves.view refl)
+
+pub returns-clause-leaving : goal.returns-clause-leaving
+returns-clause-leaving c = settled_leaving c.self.inside.book c.commit.new.self c.self.inside.shards
+    c.fill_all.new.shards
+    c.free_all.new.shards c.args.finished (record {
+      id = c.in-Ok.committed.id;
+      view = c.in-Ok.committed.view;
+      done = c.written_shards-written.result;
+      after = Ended;
+    }) c.self.invariant (rw (← c.self.view_is) at c.requires) c.is_finished.ensures.promised c.run.ensures
+    c.in-Ok.ensures.commits (map write_value c.in-Ok.committed.writes.items) c.fill_all.ensures c.free_all.ensures
+    c.in-Ok.ensures.leaves.writes c.in-Ok.ensures.leaves.id c.in-Ok.ensures.leaves.view refl

@@ -1,0 +1,190 @@
+-- The book: the present store, what led to it, and which calls are in progress.
+use Rattle.std.specs.Prelude.{◌≡◌, ◌+◌, ◌-◌, ◌^◌, ℕ, min, List, [], ◌∷◌, ◌++◌, length}
+use Rattle.std.specs.Prelude.{map, Option, Some}
+use Rattle.std.specs.Prelude.{None, Result, Ok, Err, Bool, ◌||◌, nat_le}
+use Rattle.side_wire.specs.declared.message.Message.{Message}
+use Rattle.nfs_machine.specs.Run.{Record, Run, Setting, context_of}
+use Rattle.nfs_machine.specs.State.{State}
+use Rattle.nfs_machine.specs.Step.{Step}
+use Rattle.nfs_machine.specs.WellFormed.{WellFormed}
+use Rattle.nfs_objects.specs.Fits.{Fits}
+use Rattle.nfs_objects.specs.Sound.{Sound}
+use Rattle.nfs_objects.specs.Stands.{Represents}
+use Rattle.nfs_objects.specs.Store.{Store, with_writes}
+use Rattle.nfs_objects.specs.Values.{DoneValue}
+use Rattle.nfs_objects.specs.declared.address.Addr.{Addr}
+use Rattle.nfs_objects.specs.declared.usage.Usage.{Usage}
+use Rattle.nfs_engine.specs.Arrivals.{ArrivalValue, received_value, shared_value}
+use Rattle.nfs_engine.specs.Asked.{IsAsked}
+use Rattle.nfs_engine.specs.Bounds.{IsWithinBounds}
+use Rattle.nfs_engine.specs.Calls.{FinishedValue, IsUnder, PendingValue, TxnValue}
+use Rattle.nfs_engine.specs.Commits.{counted_bytes, record_of}
+use Rattle.nfs_engine.specs.Journal.{JournalValue}
+use Rattle.nfs_engine.specs.Running.{CallsValue, Joins, without_call}
+use Rattle.nfs_engine.specs.Tables.{KeptValue, store_of}
+use Rattle.nfs_engine.specs.declared.arrival.Reading.TheVariants as readings
+use Rattle.nfs_engine.specs.declared.asking.Asked.{Asked}
+use Rattle.nfs_engine.specs.declared.admission.Admission.{Admission}
+use Rattle.nfs_engine.specs.declared.admission.Admission.TheVariants.{Begin, Early}
+use Rattle.nfs_engine.specs.declared.admission.Refused.{Refused}
+use Rattle.nfs_engine.specs.declared.outbox.Posted.{Posted}
+use Rattle.nfs_engine.specs.declared.records.Era.{Era}
+use Rattle.nfs_engine.specs.declared.running.AdmitError.{AdmitError}
+use Rattle.nfs_engine.specs.declared.running.AdmitError.TheVariants.{Memory, Spent}
+use Rattle.nfs_engine.specs.declared.running.Running.{Running}
+
+pub record BookValue : Type 0 where
+  -- what is kept at each address
+  pub objects : List (Addr × KeptValue)
+  -- what was executed since the era began, in order, and how many records were before
+  pub records : List Record
+  pub before : ℕ
+  -- what the records are counted as
+  pub bytes : ℕ
+  -- the messages that were not yet taken, and how many were
+  pub outbox : List Message
+  pub taken : ℕ
+  -- the calls in progress, by their places
+  pub living : List (Option Running)
+  -- above the number of each call that ever came in
+  pub next_id : ℕ
+  -- what the server was started with
+  pub setting : Setting
+  pub capacity : ℕ
+  pub era_records : ℕ
+
+abbrev pub book_value : JournalValue → CallsValue → Setting → (capacity era_records : ℕ) → BookValue
+book_value journal calls setting capacity era_records = record {
+  objects = journal.objects.slots;
+  records = journal.records.list;
+  before = journal.records.before;
+  bytes = journal.records.bytes;
+  outbox = journal.outbox.waiting;
+  taken = journal.outbox.taken;
+  living = calls.living;
+  next_id = calls.next_id;
+  setting = setting;
+  capacity = capacity;
+  era_records = era_records;
+}
+
+-- the present store
+abbrev pub store_in : BookValue → Store
+store_in b = store_of b.objects
+
+-- the store stands for the state and for what is kept beside it, all sound and well formed; its lists are within bounds
+pub record StandsFor (s : Store) (m : State) : Type 0 where
+  pub links : ℕ → ℕ
+  pub parents : ℕ → ℕ
+  pub usage : (export group : ℕ) → Usage
+  pub represents : Represents s (record { state = m; links = links; parents = parents; usage = usage })
+  pub sound : Sound (record { state = m; links = links; parents = parents; usage = usage })
+  pub formed : WellFormed m
+  pub within : IsWithinBounds m
+
+-- the records lead from this state to one that the store stands for
+pub record LeadsFrom (base : State) (b : BookValue) : Type 0 where
+  pub state : State
+  pub run : Run b.setting base b.records state
+  pub stands : StandsFor (store_in b) state
+
+-- What is true of a book at every moment: from the state in which its era began, its records are a run of the machine
+-- to a state that its store stands for.
+pub record IsRun (b : BookValue) : Type 0 where
+  pub base : State
+  pub leads : LeadsFrom base b
+
+-- from wherever the old records led to the old store, the new ones lead to the new store
+abbrev pub Leads : BookValue → BookValue → Type 0
+Leads old new = (base : State) → LeadsFrom base old → LeadsFrom base new
+
+-- whatever state the store stood for, the call steps from it to one that the new store stands for
+abbrev pub Steps : BookValue → BookValue → DoneValue → Type 0
+Steps old new d =
+    (m : State) → StandsFor (store_in old) m → (after : State) ×
+    Step m d.ctx d.call d.change.reply d.change.messages after × StandsFor (store_in new) after
+
+-- ---- commits
+-- the writes are made, one record more, its messages are to be sent, and the call is no longer in progress
+pub record Commits (old new : BookValue) (f : FinishedValue) : Type 0 where
+  pub store : store_in new ≡ with_writes (store_in old) f.done.change.writes
+  pub rest : new ≡ record old {
+    objects = new.objects;
+    records = old.records ++ record_of f ∷ [];
+    bytes = min (old.bytes + counted_bytes f) (2 ^ 64 - 1);
+    outbox = old.outbox ++ f.done.change.messages;
+    living = without_call old.living f.key f.id;
+  }
+
+-- ---- admissions
+-- the call that a record asks begins under the next number, and has read nothing
+abbrev pub new_txn : BookValue → ArrivalValue → Asked → (key : ℕ) → TxnValue
+new_txn b a asked key = record {
+  id = b.next_id;
+  key = key;
+  received = a.received;
+  xid = asked.xid;
+  call = asked.call;
+  ctx = context_of b.setting a.received.host asked.ids a.received.moment;
+  view = record { entries = []; reserved = [] };
+}
+
+pub record Begins (old new : BookValue) (a : ArrivalValue) (t : TxnValue) : Type 0 where
+  pub asked : Asked
+  pub asks : a.reading ≡ readings.Asks asked
+  pub txn : t ≡ new_txn old a asked t.key
+  pub joins : Joins old.living new.living t.key t.id
+  pub rest : new ≡ record old { living = new.living; next_id = old.next_id + 1 }
+
+-- a record that asks a call begins; one with a fault has its answer
+abbrev pub IsAdmitted : BookValue → BookValue → ArrivalValue → Admission → Type 0
+IsAdmitted old new a (Begin txn) = Begins old new a txn
+IsAdmitted old new a (Early early) = (a.reading ≡ readings.Faulted early.answer) ×
+    (received_value early.received ≡ a.received) × (new ≡ old)
+
+-- only what asks a call is refused, and then all is as it was; numbers are spent only at their end
+pub record IsRefused (old new : BookValue) (a back : ArrivalValue) : Type 0 where
+  pub asked : Asked
+  pub asks : a.reading ≡ readings.Asks asked
+  pub handed : back ≡ a
+  pub unchanged : new ≡ old
+
+abbrev pub Admits : BookValue → BookValue → ArrivalValue → Result Admission (AdmitError × ArrivalValue) →
+    Type 0
+Admits old new a (Ok admission) = IsAdmitted old new a admission
+Admits old new a (Err (Memory, back)) = IsRefused old new a back
+Admits old new a (Err (Spent, back)) = IsRefused old new a back × (old.next_id ≡ 2 ^ 64 - 1)
+
+-- ---- what the book was asked
+-- the call is given up: it is what came in, and is no longer in progress
+pub record GivesUp (old new : BookValue) (p : PendingValue) (refused : Refused) : Type 0 where
+  pub received : received_value refused.received ≡ p.received
+  pub asked : refused.asked ≡ record { xid = p.xid; ids = p.ctx.ids; call = p.call }
+  pub asks : IsAsked p.received.bytes refused.asked
+  pub rest : new ≡ record old { living = without_call old.living p.key p.id }
+
+-- the oldest message is taken, under the next number; none only where there is none
+abbrev pub TakesMessage : BookValue → BookValue → Option Posted → Type 0
+TakesMessage old new None = (old.outbox ≡ []) × (new ≡ old)
+TakesMessage old new (Some posted) =
+    (old.outbox ≡ posted.message ∷ new.outbox) × (posted.number ≡ old.taken + 1) ×
+    (new ≡ record old { outbox = new.outbox; taken = old.taken + 1 })
+
+-- the records are the era's, and the next one has none
+pub record TakesEra (old new : BookValue) (era : Era) : Type 0 where
+  pub before : era.before ≡ old.before
+  pub records : map shared_value era.records.items ≡ old.records
+  pub rest : new ≡ record old { records = []; before = old.before + length old.records; bytes = 0 }
+
+-- where the old records led, the new ones begin
+abbrev pub Rebases : BookValue → BookValue → Type 0
+Rebases old new = (base : State) (l : LeadsFrom base old) → LeadsFrom l.state new
+
+-- an era is full at so many records, or at 67,108,864 bytes
+abbrev pub is_full : BookValue → Bool
+is_full b = nat_le b.era_records (length b.records) || nat_le 67108864 b.bytes
+
+-- the view of the call fits the present store, and it is made under what the server was started with
+pub record MayCommit (b : BookValue) (d : DoneValue) : Type 0 where
+  pub fits : Fits d.view (store_in b)
+  pub under : IsUnder b.setting d.ctx

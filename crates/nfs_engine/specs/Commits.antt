@@ -1,0 +1,97 @@
+-- Commits: what is made before one, and what one writes.
+use Rattle.std.specs.Prelude.{◌≡◌, ◌+◌, ◌-◌, ◌*◌, ◌^◌, ◌<◌, ◌≤◌, ℕ, min, []}
+use Rattle.std.specs.Prelude.{◌∷◌, ◌++◌, length, map, Option}
+use Rattle.nfs_machine.specs.RpcReplies.{success_message}
+use Rattle.nfs_machine.specs.Run.{FromHost, Record}
+use Rattle.nfs_objects.specs.Store.{with_writes}
+use Rattle.nfs_objects.specs.Values.{write_value}
+use Rattle.nfs_engine.specs.Arrivals.{shared_value}
+use Rattle.nfs_engine.specs.Calls.{FinishedValue}
+use Rattle.nfs_engine.specs.Journal.{JournalValue, Takes}
+use Rattle.nfs_engine.specs.Tables.{store_of}
+use Rattle.nfs_engine.specs.declared.journal.Committed.{Committed}
+use Rattle.nfs_engine.specs.declared.journal.Ready.{Ready}
+use Rattle.nfs_engine.specs.declared.journal.Receipt.{Receipt}
+use Rattle.nfs_engine.specs.declared.outbox.Posted.{Posted}
+use Rattle.nfs_engine.specs.declared.records.Era.{Era}
+
+-- what is recorded of a call
+abbrev pub record_of : FinishedValue → Record
+record_of f = record
+    { arrival = FromHost f.received; reply = f.done.change.reply; messages = f.done.change.messages }
+
+-- what a record is counted as: the bytes that came in, those of the answer, and 4,096 for each message, which is as
+-- much as one may have
+abbrev pub counted_bytes : FinishedValue → ℕ
+counted_bytes f =
+    length f.received.bytes + length (success_message f.xid f.done.change.reply) +
+    4096 * length f.done.change.messages
+
+-- the record and its messages have numbers up to 2^64 - 1, the record this one
+pub record HasNumbers (j : JournalValue) (f : FinishedValue) (number : ℕ) : Type 0 where
+  pub is : number ≡ j.records.before + length j.records.list + 1
+  pub fits : number < 2 ^ 64
+  pub messages : j.outbox.taken + length j.outbox.waiting + length f.done.change.messages < 2 ^ 64
+
+-- room may have been made, and nothing else
+pub record SameJournal (old new : JournalValue) : Type 0 where
+  pub objects : new.objects.slots ≡ old.objects.slots
+  pub records : new.records ≡ record old.records { room = new.records.room }
+  pub outbox : new.outbox ≡ record old.outbox { room = new.outbox.room }
+
+-- all that the call's commit wants is made, and there is room
+pub record IsReady (j : JournalValue) (f : FinishedValue) (ready : Ready) : Type 0 where
+  pub numbers : HasNumbers j f ready.number
+  pub answer : ready.answer.items ≡ success_message f.xid f.done.change.reply
+  pub writes : map write_value ready.writes.items ≡ f.done.change.writes
+  pub messages : ready.messages.items ≡ f.done.change.messages
+  pub executed : shared_value ready.executed ≡ record_of f
+  pub objects : length ready.writes.items ≤ j.objects.room
+  pub records : 0 < j.records.room
+  pub outbox : length ready.messages.items ≤ j.outbox.room
+
+-- the writes are made, one record more, and its messages are to be sent
+pub record Writes (old new : JournalValue) (f : FinishedValue) : Type 0 where
+  pub store : store_of new.objects.slots ≡ with_writes (store_of old.objects.slots) f.done.change.writes
+  pub records : new.records ≡ record old.records {
+    list = old.records.list ++ record_of f ∷ [];
+    bytes = min (old.records.bytes + counted_bytes f) (2 ^ 64 - 1);
+    room = new.records.room;
+  }
+  pub outbox : new.outbox ≡ record old.outbox {
+    waiting = old.outbox.waiting ++ f.done.change.messages;
+    room = new.outbox.room;
+  }
+
+-- the receipt is of this record, with the next number, and has the bytes of the reply
+pub record IsReceipt (number : ℕ) (f : FinishedValue) (receipt : Receipt) : Type 0 where
+  pub number_is : receipt.number ≡ number
+  pub executed : shared_value receipt.executed ≡ record_of f
+  pub answer : receipt.answer.items ≡ success_message f.xid f.done.change.reply
+
+-- what the call still holds, and what has to be written there
+pub record Leaves (f : FinishedValue) (committed : Committed) : Type 0 where
+  pub id : committed.id ≡ f.id
+  pub view : committed.view ≡ f.done.view
+  pub writes : map write_value committed.writes.items ≡ f.done.change.writes
+
+pub record IsCommitted (old : JournalValue) (f : FinishedValue) (committed : Committed) : Type 0 where
+  pub receipt : IsReceipt (old.records.before + length old.records.list + 1) f committed.receipt
+  pub leaves : Leaves f committed
+
+pub record TakesMessage (old new : JournalValue) (posted : Option Posted) : Type 0 where
+  pub takes : Takes old.outbox new.outbox posted
+  pub rest : new ≡ record old { outbox = new.outbox }
+
+-- the records are the era's, and the next one has none
+pub record TakesEra (old new : JournalValue) (era : Era) : Type 0 where
+  pub before : era.before ≡ old.records.before
+  pub records : map shared_value era.records.items ≡ old.records.list
+  pub rest : new ≡ record old {
+    records = record {
+      list = [];
+      before = old.records.before + length old.records.list;
+      bytes = 0;
+      room = new.records.room;
+    };
+  }

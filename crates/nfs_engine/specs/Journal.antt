@@ -1,0 +1,33 @@
+-- What the present store is, what led to it, and which messages are to be sent.
+use Rattle.std.specs.Prelude.{◌≡◌, ℕ, ◌+◌, List, [], ◌∷◌, Option, Some, None}
+use Rattle.side_wire.specs.declared.message.Message.{Message}
+use Rattle.nfs_machine.specs.Run.{Record}
+use Rattle.nfs_engine.specs.Tables.{ObjectsValue}
+use Rattle.nfs_engine.specs.declared.outbox.Posted.{Posted}
+
+-- what was executed since the era began, how many records were before, how many bytes are counted, and how many more
+-- records take no memory
+pub record RecordsValue : Type 0 where
+  pub list : List Record
+  pub before : ℕ
+  pub bytes : ℕ
+  pub room : ℕ
+
+-- the messages that were not yet taken, how many were, and how many more take no memory
+pub record OutboxValue : Type 0 where
+  pub waiting : List Message
+  pub taken : ℕ
+  pub room : ℕ
+
+-- the present objects, the records of the era, and the messages that are to be sent
+pub record JournalValue : Type 0 where
+  pub objects : ObjectsValue
+  pub records : RecordsValue
+  pub outbox : OutboxValue
+
+-- the oldest message is taken, under the next number; none only where there is none
+abbrev pub Takes : OutboxValue → OutboxValue → Option Posted → Type 0
+Takes old new None = (old.waiting ≡ []) × (new ≡ old)
+Takes old new (Some posted) =
+    (old.waiting ≡ posted.message ∷ new.waiting) × (posted.number ≡ old.taken + 1) ×
+    (new.taken ≡ old.taken + 1)

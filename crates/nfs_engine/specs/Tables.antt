@@ -1,0 +1,49 @@
+-- What is kept at each address, and the store that it is.
+use Rattle.std.specs.Prelude.{◌≡◌, ◌<◌, ℕ, List, Option, Some, None, option_map, unwrap_or}
+use Rattle.std.specs.Arc.{arc_value}
+use Rattle.nfs_objects.specs.declared.address.Addr.{Addr}
+use Rattle.nfs_objects.specs.declared.address.Addr.TheVariants.{Inode}
+use Rattle.nfs_objects.specs.declared.object.Object.{Object}
+use Rattle.nfs_objects.specs.declared.object.Object.TheVariants as objects
+use Rattle.nfs_objects.specs.Store.{Store}
+use Rattle.nfs_objects.specs.Values.{Seen}
+use Rattle.nfs_objects.specs.declared.view.Reserved.{Reserved}
+use Rattle.nfs_engine.specs.Found.{found}
+use Rattle.nfs_engine.specs.declared.objects.Kept.{Kept}
+
+-- an object, and the greatest generation that its number was given
+pub record KeptValue : Type 0 where
+  pub object : Option Object
+  pub last : ℕ
+
+abbrev pub kept_value : Kept → KeptValue
+kept_value k = record { object = option_map arc_value k.object; last = k.last }
+
+abbrev pub empty_kept : KeptValue
+empty_kept = record { object = None; last = 0 }
+
+-- what is kept at each address, and how many more addresses take no memory
+pub record ObjectsValue : Type 0 where
+  pub slots : List (Addr × KeptValue)
+  pub room : ℕ
+
+-- at an address that is not there nothing is kept
+abbrev pub kept_at : List (Addr × KeptValue) → Addr → KeptValue
+kept_at slots a = unwrap_or (found slots a) empty_kept
+
+-- the store that the objects are
+abbrev pub store_of : List (Addr × KeptValue) → Store
+store_of slots = record { at = λ a. (kept_at slots a).object; last = λ n. (kept_at slots (Inode n)).last }
+
+-- the generation of an inode
+abbrev pub generation_in : Option Object → ℕ
+generation_in (Some (objects.Inode i)) = i.generation
+generation_in o = 0
+
+-- what was read stands in the store
+abbrev pub Stands : Store → Seen → Type 0
+Stands s seen = s.at seen.address ≡ seen.object
+
+-- the number was given only smaller generations
+abbrev pub Unspent : Store → Reserved → Type 0
+Unspent s reserved = s.last reserved.number < reserved.generation

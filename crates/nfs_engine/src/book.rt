@@ -1,0 +1,264 @@
+//! The book: the present store with the records that led to it, and which calls are in progress.
+
+ghost use Rattle.std.specs.Prelude.{◌≡◌, ◌+◌, ◌≤◌, ℕ, length, map, IfErr, IfOk, OnOk};
+ghost use Rattle.std.specs.Bool.{Decides};
+ghost use Rattle.nfs_engine.specs.Arrivals.{received_value};
+ghost use Rattle.nfs_engine.specs.Asked.{IsAsked};
+ghost use Rattle.nfs_engine.specs.Book.{Admits, Commits, GivesUp, IsRun, Leads, MayCommit, Rebases, Steps, TakesEra};
+ghost use Rattle.nfs_engine.specs.Book.{TakesMessage, is_full, store_in};
+ghost use Rattle.nfs_engine.specs.Commits.{IsReceipt, Leaves};
+ghost use Rattle.nfs_engine.specs.Hosts.{IsHost};
+ghost use Rattle.nfs_engine.specs.Opening.{IsStartError, Opens, no_store};
+ghost use Rattle.nfs_engine.specs.Running.{living_count};
+ghost use Rattle.nfs_objects.specs.Store.{with_writes};
+ghost use Rattle.nfs_objects.specs.Values.{write_value};
+ghost use Rattle.nfs_machine.specs.Run.{context_of};
+ghost use Rattle.nfs_engine.specs.declared.arrival.Reading.TheVariants as readings;
+
+use crate::admission::{Admission, Faulted, Refused};
+use crate::arrival::{Arrival, Reading, Received};
+use crate::asking::Asked;
+use crate::calls::{Finished, Pending, Txn};
+use crate::host::Host;
+use crate::journal::{Committed, Journal};
+use crate::objects::Objects;
+use crate::opening::{Config, StartError, is_limit, opening_writes};
+use crate::outbox::Posted;
+use crate::records::Era;
+use crate::running::{AdmitError, Calls, Place};
+use nfs_machine::{Ctx, Exports, Limits, Moment};
+use nfs_objects::{View, Write};
+use nfs_rpc::Ids;
+use std::alloc::{AllocError, Global};
+use std::marker::Model;
+
+/// At how many bytes an era is full.
+const ERA_BYTES: u64 = 67_108_864;
+
+/// The present store, what was executed since the era began, the messages that are to be sent, and the calls in
+/// progress. Its type keeps that the records are a run of the machine to the store.
+#[derive(Drop)]
+pub struct Book {
+    journal: Journal,
+    calls: Calls,
+    start: u64,
+    exports: Exports,
+    limits: Limits,
+    capacity: u64,
+    era_records: u64,
+}
+
+impl Model for Book {
+    ghost use Rattle.nfs_engine.specs.Book.{BookValue, IsRun, book_value};
+
+    ghost Value = { BookValue };
+
+    ghost view = { λ b. book_value b.journal b.calls
+        (record { start = b.start; exports = b.exports; limits = b.limits }) b.capacity b.era_records };
+
+    ghost invariant = { λ b. IsRun (book_value b.journal b.calls
+        (record { start = b.start; exports = b.exports; limits = b.limits }) b.capacity b.era_records) };
+}
+
+impl Book {
+    /// The book of what an engine opens with: the exports, and the root of each. The writes that make it from nothing
+    /// are handed out too.
+    ///
+    /// # Errors
+    ///
+    /// The capacity, or the records of an era, are outside 1 to 65,536; or there is no memory.
+    pub fn new(alloc: Global, config: Config) -> Result<(Book, Vec<Write>), StartError>
+        ensures book { IfOk result (λ r. Opens config r.0) }
+        ensures store { IfOk result
+            (λ r. store_in r.0 ≡ with_writes no_store (map write_value r.1.items)) }
+        ensures given { IfOk result (λ r. (n : ℕ) → (store_in r.0).last n ≤ 1) }
+        ensures refused { IfErr result (IsStartError config) }
+    {
+        if !is_limit(config.capacity) {
+            return Err(StartError::Capacity);
+        }
+        if !is_limit(config.era_records) {
+            return Err(StartError::EraLimit);
+        }
+        let writes = opening_writes(alloc, &config.exports, config.moment.time())?;
+        let objects = Objects::opening(alloc, &writes)?;
+        let journal = Journal::new(alloc, objects);
+        let calls = Calls::new(alloc);
+        let book = Book {
+            journal,
+            calls,
+            start: config.start,
+            exports: config.exports,
+            limits: config.limits,
+            capacity: config.capacity,
+            era_records: config.era_records,
+        };
+        Ok((book, writes))
+    }
+
+    /// Admits a record that came in: its call is in progress, or it has a fault, which takes no memory.
+    ///
+    /// # Errors
+    ///
+    /// The call wants memory, or no number is left for it. Nothing is changed, and the arrival is handed back.
+    pub fn admit(
+        &mut self,
+        alloc: Global,
+        arrival: Arrival,
+    ) -> Result<Admission, (AdmitError, Arrival)>
+        ensures { Admits self.old self.new arrival result }
+    {
+        let (received, reading) = arrival.into_parts();
+        match reading {
+            Reading::Asks(asked) => self.begin(alloc, received, asked),
+            Reading::Faulted(answer) => Ok(Admission::Early(Faulted { received, answer })),
+        }
+    }
+
+    /// Begins the call that a record asks.
+    fn begin(
+        &mut self,
+        alloc: Global,
+        received: Received,
+        asked: Asked,
+    ) -> Result<Admission, (AdmitError, Arrival)>
+        requires { IsAsked (received_value received).bytes asked }
+        ensures { Admits self.old self.new
+            (record { received = received_value received; reading = readings.Asks asked }) result }
+    {
+        let Ok(ctx) = self.context(&received.host, asked.ids, received.moment) else {
+            return Err((AdmitError::Memory, Arrival::asking(received, asked)));
+        };
+        match self.calls.begin() {
+            Ok(Place { id, key }) => {
+                let Asked { xid, ids: _, call } = asked;
+                Ok(Admission::Begin(Txn {
+                    id,
+                    key,
+                    received,
+                    xid,
+                    call,
+                    ctx,
+                    view: View::new(alloc),
+                }))
+            }
+            Err(error) => Err((error, Arrival::asking(received, asked))),
+        }
+    }
+
+    /// What a call from the host is made under.
+    fn context(&self, host: &Host, ids: Ids, moment: Moment) -> Result<Ctx, AllocError>
+        ensures value { IfOk result (λ ctx. ctx ≡ context_of self.now.setting host.now ids moment) }
+        ensures host { IsHost host.now }
+    {
+        Ok(Ctx {
+            host: host.text().clone()?,
+            ids,
+            moment,
+            start: self.start,
+            limits: self.limits,
+        })
+    }
+
+    /// The call is no longer in progress: it is not executed.
+    pub fn give_up(&mut self, pending: Pending) -> Refused
+        ensures { GivesUp self.old self.new pending result }
+    {
+        let Pending {
+            id,
+            key,
+            received,
+            xid,
+            call,
+            ctx,
+        } = pending;
+        self.calls.end(key, id);
+        let asked = Asked {
+            xid,
+            ids: ctx.ids,
+            call,
+        };
+        Refused { received, asked }
+    }
+
+    /// Makes what is done the state, as one step of the machine from the present one.
+    ///
+    /// # Errors
+    ///
+    /// The memory for it was refused, or the number of its record or of one of its messages would be above 2^64 - 1.
+    /// Nothing is changed, and the call is handed back.
+    pub fn commit(&mut self, alloc: Global, finished: Finished) -> Result<Committed, Finished>
+        requires { MayCommit self.old finished.done }
+        ensures commits { OnOk result (Commits self.old self.new finished) }
+        ensures step { OnOk result (Steps self.old self.new finished.done) }
+        ensures leads { OnOk result (Leads self.old self.new) }
+        ensures receipt { IfOk result
+            (λ c. IsReceipt (self.old.before + length self.old.records + 1) finished c.receipt) }
+        ensures leaves { IfOk result (Leaves finished) }
+        ensures err { IfErr result (λ back. (back ≡ finished) × (self.new ≡ self.old)) }
+    {
+        finished.is_finished();
+        let Some(ready) = self.journal.make_ready(alloc, &finished) else {
+            return Err(finished);
+        };
+        self.calls.end(finished.key, finished.id);
+        Ok(self.journal.commit(finished, ready))
+    }
+
+    /// Whether a call may be committed: what it has read stands in the present store, its numbers were never given with
+    /// such generations, and it was made under what this server was started with. It compares by value.
+    pub fn fits(&self, finished: &Finished) -> bool
+        ensures { Decides result (MayCommit self.now finished.now.done) }
+    {
+        let ctx = finished.ctx();
+        ctx.start == self.start
+            && ctx.limits == self.limits
+            && self.journal.objects().fits(finished.view())
+    }
+
+    /// Takes the oldest message that was not yet taken.
+    pub fn take_message(&mut self) -> Option<Posted>
+        ensures { TakesMessage self.old self.new result }
+    {
+        self.journal.take_message()
+    }
+
+    /// Ends the era, whose records are handed out, and begins the next. All else goes on.
+    pub fn new_era(&mut self, alloc: Global) -> Era
+        ensures era { TakesEra self.old self.new result }
+        ensures rebases { Rebases self.old self.new }
+    {
+        self.journal.new_era(alloc)
+    }
+
+    /// How many records the era has, and what they are counted as: for each the bytes that came in, those of its
+    /// answer, and 4,096 for each message.
+    pub fn era_size(&self) -> (u64, u64)
+        ensures { result ≡ (length self.now.records, self.now.bytes) }
+    {
+        let records = self.journal.records();
+        (records.len() as u64, records.bytes())
+    }
+
+    /// Whether the era has as many records as it may have, or 67,108,864 bytes.
+    pub fn era_is_full(&self) -> bool
+        ensures { result ≡ is_full self.now }
+    {
+        let (records, bytes) = self.era_size();
+        records >= self.era_records || bytes >= ERA_BYTES
+    }
+
+    /// How many calls are in progress.
+    pub fn living(&self) -> usize
+        ensures { result ≡ living_count self.now.living }
+    {
+        self.calls.len()
+    }
+
+    /// The records are a run of the machine to a state that the store stands for.
+    pub fn run(&self)
+        ensures { IsRun self.now }
+    {
+        let _ = &self.calls;
+    }
+}

@@ -1,0 +1,273 @@
+//! Calls in progress.
+
+ghost use Rattle.std.specs.Prelude.{◌≡◌, MatchResult};
+ghost use Rattle.nfs_objects.specs.Promise.{IsPromised};
+ghost use Rattle.nfs_objects.specs.Values.{change_value, done_value};
+ghost use Rattle.nfs_engine.specs.Calls.{IsCalled, IsFinished, change_from, done_from, finished_of, txn_of};
+
+use crate::arrival::{Executed, Received};
+use nfs_machine::{Call, Ctx};
+use nfs_objects::{Change, View, Write};
+use std::alloc::Global;
+use std::marker::Model;
+use std::sync::Arc;
+
+/// A call in progress, with what it has read and how it holds that. It has to be spent.
+pub struct Txn {
+    pub(crate) id: u64,
+    pub(crate) key: usize,
+    pub(crate) received: Received,
+    pub(crate) xid: u32,
+    pub(crate) call: Call,
+    pub(crate) ctx: Ctx,
+    pub(crate) view: View,
+}
+
+impl Model for Txn {
+    ghost use Rattle.nfs_engine.specs.Arrivals.{received_value};
+    ghost use Rattle.nfs_engine.specs.Calls.{IsCalled, TxnValue};
+
+    ghost Value = { TxnValue };
+
+    ghost view = { λ t. record {
+      id = t.id;
+      key = t.key;
+      received = received_value t.received;
+      xid = t.xid;
+      call = t.call;
+      ctx = t.ctx;
+      view = t.view;
+    } };
+
+    ghost invariant = { λ t. IsCalled (received_value t.received) t.xid t.call t.ctx };
+}
+
+impl Txn {
+    /// The call.
+    pub fn call(&self) -> &Call
+        ensures { result.now ≡ self.now.call }
+    {
+        &self.call
+    }
+
+    /// What it is made under.
+    pub fn ctx(&self) -> &Ctx
+        ensures { result.now ≡ self.now.ctx }
+    {
+        &self.ctx
+    }
+
+    /// What it has read.
+    pub fn view(&self) -> &View
+        ensures { result.now ≡ self.now.view }
+    {
+        &self.view
+    }
+
+    /// It is what its record asks.
+    pub fn is_called(&self)
+        ensures { IsCalled self.now.received self.now.xid self.now.call self.now.ctx }
+    {
+        let _ = &self.call;
+    }
+
+    /// The call with what it is to change and answer, as its attempt on this view came to it.
+    ///
+    /// # Errors
+    ///
+    /// The call as it was, where the memory was refused.
+    pub fn done(self, alloc: Global, change: Change) -> Result<Finished, Txn>
+        requires { IsPromised (done_value self.call self.ctx self.view (change_value change)) }
+        ensures { MatchResult result
+            (λ finished. finished ≡ finished_of self (change_value change)) (λ txn. txn ≡ self) }
+    {
+        let Ok(received) = self.received.share() else {
+            drop(change);
+            return Err(self);
+        };
+        let Change {
+            writes,
+            messages,
+            reply,
+        } = change;
+        let executed = Executed {
+            received,
+            reply,
+            messages,
+        };
+        match Arc::new(alloc, executed) {
+            Ok(executed) => Ok(self.finish(writes, executed)),
+            Err(refused) => {
+                drop(refused);
+                drop(writes);
+                Err(self)
+            }
+        }
+    }
+
+    /// The call with its writes, and with what it is recorded as.
+    fn finish(self, writes: Vec<Write>, executed: Arc<Executed>) -> Finished
+        requires { IsFinished self.received self.xid (done_from self.call self.ctx self.view writes executed) executed }
+        ensures { result ≡ finished_of self (change_from writes executed) }
+    {
+        let Txn {
+            id,
+            key,
+            received,
+            xid,
+            call,
+            ctx,
+            view,
+        } = self;
+        Finished {
+            id,
+            key,
+            received,
+            xid,
+            call,
+            ctx,
+            view,
+            writes,
+            executed,
+        }
+    }
+}
+
+/// A call with what it is to change and answer. Its type keeps the promise, that this is a step of the machine from
+/// every sound store that its view fits. It has to be spent.
+pub struct Finished {
+    pub(crate) id: u64,
+    pub(crate) key: usize,
+    pub(crate) received: Received,
+    pub(crate) xid: u32,
+    pub(crate) call: Call,
+    pub(crate) ctx: Ctx,
+    pub(crate) view: View,
+    pub(crate) writes: Vec<Write>,
+    pub(crate) executed: Arc<Executed>,
+}
+
+impl Model for Finished {
+    ghost use Rattle.nfs_engine.specs.Arrivals.{received_value};
+    ghost use Rattle.nfs_engine.specs.Calls.{FinishedValue, IsFinished, done_from};
+
+    ghost Value = { FinishedValue };
+
+    ghost view = { λ f. record {
+      id = f.id;
+      key = f.key;
+      received = received_value f.received;
+      xid = f.xid;
+      done = done_from f.call f.ctx f.view f.writes f.executed;
+    } };
+
+    ghost invariant = { λ f. IsFinished (received_value f.received) f.xid
+        (done_from f.call f.ctx f.view f.writes f.executed) f.executed };
+}
+
+impl Finished {
+    /// What it is made under.
+    pub fn ctx(&self) -> &Ctx
+        ensures { result.now ≡ self.now.done.ctx }
+    {
+        &self.ctx
+    }
+
+    /// What it has read.
+    pub fn view(&self) -> &View
+        ensures { result.now ≡ self.now.done.view }
+    {
+        &self.view
+    }
+
+    /// It is what its record asks, and keeps the promise.
+    pub fn is_finished(&self)
+        ensures called { IsCalled self.now.received self.now.xid self.now.done.call self.now.done.ctx }
+        ensures promised { IsPromised self.now.done }
+    {
+        let _ = &self.call;
+    }
+
+    /// The call without what it was to change.
+    pub fn into_txn(self) -> Txn
+        ensures { result ≡ txn_of self }
+    {
+        let Finished {
+            id,
+            key,
+            received,
+            xid,
+            call,
+            ctx,
+            view,
+            writes,
+            executed,
+        } = self;
+        drop(writes);
+        drop(executed);
+        Txn {
+            id,
+            key,
+            received,
+            xid,
+            call,
+            ctx,
+            view,
+        }
+    }
+}
+
+/// A call in progress that holds nothing. It has to be spent.
+pub struct Pending {
+    pub(crate) id: u64,
+    pub(crate) key: usize,
+    pub(crate) received: Received,
+    pub(crate) xid: u32,
+    pub(crate) call: Call,
+    pub(crate) ctx: Ctx,
+}
+
+impl Model for Pending {
+    ghost use Rattle.nfs_engine.specs.Arrivals.{received_value};
+    ghost use Rattle.nfs_engine.specs.Calls.{IsCalled, PendingValue};
+
+    ghost Value = { PendingValue };
+
+    ghost view = { λ p. record {
+      id = p.id;
+      key = p.key;
+      received = received_value p.received;
+      xid = p.xid;
+      call = p.call;
+      ctx = p.ctx;
+    } };
+
+    ghost invariant = { λ p. IsCalled (received_value p.received) p.xid p.call p.ctx };
+}
+
+impl Pending {
+    ghost use Rattle.nfs_engine.specs.Calls.{again_of};
+
+    /// The same call, which begins anew: it has read nothing. It takes no memory.
+    pub fn again(self, alloc: Global) -> Txn
+        ensures { result ≡ again_of self }
+    {
+        let Pending {
+            id,
+            key,
+            received,
+            xid,
+            call,
+            ctx,
+        } = self;
+        Txn {
+            id,
+            key,
+            received,
+            xid,
+            call,
+            ctx,
+            view: View::new(alloc),
+        }
+    }
+}

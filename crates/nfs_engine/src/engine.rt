@@ -1,0 +1,311 @@
+//! The book and the sixteen shards as one, for one thread.
+
+ghost use Rattle.std.specs.Prelude.{◌≡◌, ◌<◌, ◌+◌, ℕ, None, IfErr, IfOk, OnErr, OnOk, count_by};
+ghost use Rattle.std.specs.Prelude.{is_some, length, map};
+ghost use Rattle.std.specs.Bool.{Decides};
+ghost use Rattle.std.specs.List.{AllByRecursion};
+ghost use Rattle.nfs_objects.specs.Values.{seen_at, write_value};
+ghost use Rattle.nfs_engine.specs.Book.{Admits, Commits, GivesUp, Leads, MayCommit, Rebases, Steps, TakesEra};
+ghost use Rattle.nfs_engine.specs.Book.{TakesMessage, is_full};
+ghost use Rattle.nfs_engine.specs.Calls.{again_of, txn_of};
+ghost use Rattle.nfs_engine.specs.Commits.{IsReceipt};
+ghost use Rattle.nfs_engine.specs.Engine.{AdmitsLiving, ArePlaces, Frees, IsAcquired, IsFilled, IsHeldAmong};
+ghost use Rattle.nfs_engine.specs.Engine.{IsLeaving, IsReleased, IsReserved, IsTied, KeepsAll, KeepsOthers, Lives};
+ghost use Rattle.nfs_engine.specs.Engine.{Releases, Waits, held_among, release_of};
+ghost use Rattle.nfs_engine.specs.Opening.{IsStartError, Opens};
+ghost use Rattle.nfs_engine.specs.Running.{living_count};
+
+use crate::admission::{Admission, Refused};
+use crate::arrival::Arrival;
+use crate::book::Book;
+use crate::calls::{Finished, Pending, Txn};
+use crate::journal::{Committed, Receipt};
+use crate::opening::{Config, StartError};
+use crate::outbox::Posted;
+use crate::records::Era;
+use crate::release::{Next, Release, Then};
+use crate::running::AdmitError;
+use crate::shard::{ReserveError, SHARDS, Shard, shard_index};
+use crate::starting::{new_shards, open_all};
+use crate::taking::{Got, let_go};
+use nfs_objects::{Addr, Mode, View, Write};
+use std::alloc::{AllocError, Global};
+use std::marker::Model;
+
+/// The book, and who holds what of its store.
+#[derive(Drop)]
+pub struct Engine {
+    book: Book,
+    shards: [Shard; SHARDS],
+}
+
+impl Model for Engine {
+    ghost use Rattle.nfs_engine.specs.Engine.{EngineValue, IsTied};
+
+    ghost Value = { EngineValue };
+
+    ghost view = { λ e. record { book = e.book; shards = e.shards } };
+
+    ghost invariant = { λ e. IsTied (record { book = e.book; shards = e.shards }) };
+}
+
+impl Engine {
+    /// The engine at its start: the exports, and the root of each. No call is in progress, and nothing is held.
+    ///
+    /// # Errors
+    ///
+    /// The capacity, or the records of an era, are outside 1 to 65,536; or there is no memory.
+    pub fn new(alloc: Global, config: Config) -> Result<Engine, StartError>
+        ensures opens { IfOk result (λ e. Opens config e.book) }
+        ensures free { IfOk result (λ e. (a : Addr) (j : ℕ) → held_among e.shards a j ≡ None) }
+        ensures refused { IfErr result (IsStartError config) }
+    {
+        let (book, writes) = match Book::new(alloc, config) {
+            Ok(opened) => opened,
+            Err(error) => return Err(error),
+        };
+        let mut shards = new_shards(alloc);
+        match open_all(&mut shards, alloc, writes) {
+            Ok(()) => Ok(Engine { book, shards }),
+            Err(AllocError) => Err(StartError::Memory),
+        }
+    }
+
+    /// The shards together are the book's store.
+    pub fn tie(&self)
+        ensures { IsTied self.now }
+    {
+        let _ = &self.book;
+    }
+
+    /// Reads an address for a call, which holds it from then on in this mode. Taken and errors change nothing.
+    pub fn acquire(
+        &mut self,
+        alloc: Global,
+        txn: &mut Txn,
+        address: Addr,
+        mode: Mode,
+    ) -> Result<Got, AllocError>
+        requires lives { Lives self.old txn.old }
+        requires unseen { seen_at txn.old.view.entries address ≡ None }
+        ensures lives { Lives self.new txn.new }
+        ensures others { KeepsOthers txn.old.id self.old self.new }
+        ensures book { self.new.book ≡ self.old.book }
+        ensures acquired { IsAcquired self.old txn.old txn.new address mode result }
+    {
+        let index = shard_index(address);
+        txn.acquire_in(alloc, &mut self.shards[index], address, mode)
+    }
+}
+
+impl Engine {
+    /// Gets a number of this shard for a call, held alone and empty from then on. An error changes nothing.
+    pub fn reserve(
+        &mut self,
+        alloc: Global,
+        txn: &mut Txn,
+        shard: usize,
+    ) -> Result<(), ReserveError>
+        requires lives { Lives self.old txn.old }
+        requires shard { shard < 16 }
+        ensures lives { Lives self.new txn.new }
+        ensures others { KeepsOthers txn.old.id self.old self.new }
+        ensures book { self.new.book ≡ self.old.book }
+        ensures reserved { IsReserved self.old txn.old txn.new shard result }
+    {
+        txn.reserve_in(alloc, &mut self.shards[shard])
+    }
+
+    /// Makes what is done the state, as one step of the machine from the present one. What the call holds in the shards
+    /// that it writes is let go.
+    ///
+    /// # Errors
+    ///
+    /// The memory for it was refused, or the number of its record or of one of its messages would be above 2^64 - 1.
+    /// Nothing is changed, and the call is handed back.
+    pub fn commit(
+        &mut self,
+        alloc: Global,
+        finished: Finished,
+    ) -> Result<(Receipt, Release), Finished>
+        requires { Lives self.old (txn_of finished) }
+        ensures commits { OnOk result (Commits self.old.book self.new.book finished) }
+        ensures step { OnOk result (Steps self.old.book self.new.book finished.done) }
+        ensures leads { OnOk result (Leads self.old.book self.new.book) }
+        ensures receipt { IfOk result
+            (λ r. IsReceipt (self.old.book.before + length self.old.book.records + 1) finished r.0) }
+        ensures others { OnOk result (KeepsOthers finished.id self.old self.new) }
+        ensures leaving { IfOk result (λ r. IsLeaving self.new r.1) }
+        ensures release { IfOk result (λ r. IsReleased finished r.1) }
+        ensures err { IfErr result (λ back. (back ≡ finished) × (self.new ≡ self.old)) }
+    {
+        finished.is_finished();
+        self.book.run();
+        let Committed {
+            receipt,
+            id,
+            view,
+            writes,
+        } = match self.book.commit(alloc, finished) {
+            Ok(committed) => committed,
+            Err(back) => return Err(back),
+        };
+        let written = written_shards(&writes);
+        fill_all(&mut self.shards, writes);
+        free_all(&mut self.shards, &written, id, &view);
+        let release = Release {
+            id,
+            view,
+            done: written,
+            after: Then::Ended,
+        };
+        Ok((receipt, release))
+    }
+}
+
+impl Engine {
+    /// Gives up an attempt: what the call has read and holds is to be released. It takes no memory.
+    pub fn abort(&self, txn: Txn) -> Release
+        requires { Lives self.now txn }
+        ensures leaving { IsLeaving self.now result }
+        ensures release { result ≡ release_of txn }
+    {
+        let _ = &self.book;
+        txn.abort()
+    }
+
+    /// Lets go, in one shard, what a call that left still holds. It takes no memory.
+    pub fn release(&mut self, release: Release) -> Next
+        requires { IsLeaving self.old release }
+        ensures others { KeepsOthers release.id self.old self.new }
+        ensures book { self.new.book ≡ self.old.book }
+        ensures next { Releases self.new release result }
+    {
+        let Some(shard) = release.next_shard() else {
+            return release.ended();
+        };
+        let_go(&mut self.shards[shard], shard, release.id, &release.view);
+        release.freed(shard).next()
+    }
+
+    /// The same call begins again, and has read nothing.
+    pub fn again(&self, alloc: Global, pending: Pending) -> Txn
+        requires { Waits self.now pending }
+        ensures lives { Lives self.now result }
+        ensures call { result ≡ again_of pending }
+    {
+        let _ = &self.book;
+        pending.again(alloc)
+    }
+
+    /// The call is no longer in progress: it is not executed.
+    pub fn give_up(&mut self, pending: Pending) -> Refused
+        requires { Waits self.old pending }
+        ensures gives_up { GivesUp self.old.book self.new.book pending result }
+        ensures others { KeepsOthers pending.id self.old self.new }
+        ensures shards { self.new.shards ≡ self.old.shards }
+    {
+        self.book.give_up(pending)
+    }
+
+    /// Admits a record that came in: its call is in progress, or it has a fault, which takes no memory.
+    ///
+    /// # Errors
+    ///
+    /// The call wants memory, or no number is left for it. Nothing is changed, and the arrival is handed back.
+    pub fn admit(
+        &mut self,
+        alloc: Global,
+        arrival: Arrival,
+    ) -> Result<Admission, (AdmitError, Arrival)>
+        ensures admits { Admits self.old.book self.new.book arrival result }
+        ensures lives { IfOk result (AdmitsLiving self.old self.new) }
+        ensures shards { self.new.shards ≡ self.old.shards }
+        ensures err { OnErr result (self.new ≡ self.old) }
+    {
+        self.book.admit(alloc, arrival)
+    }
+
+    /// Takes the oldest message that was not yet taken, with its number.
+    pub fn take_message(&mut self) -> Option<Posted>
+        ensures takes { TakesMessage self.old.book self.new.book result }
+        ensures others { KeepsAll self.old self.new }
+        ensures shards { self.new.shards ≡ self.old.shards }
+    {
+        self.book.take_message()
+    }
+
+    /// Ends the era, whose records are handed out, and begins the next. All else goes on.
+    pub fn new_era(&mut self, alloc: Global) -> Era
+        ensures era { TakesEra self.old.book self.new.book result }
+        ensures rebases { Rebases self.old.book self.new.book }
+        ensures others { KeepsAll self.old self.new }
+        ensures shards { self.new.shards ≡ self.old.shards }
+    {
+        self.book.new_era(alloc)
+    }
+
+    /// How many records the era has, and what they are counted as: for each the bytes that came in, those of its
+    /// answer, and 4,096 for each message.
+    pub fn era_size(&self) -> (u64, u64)
+        ensures { result ≡ (length self.now.book.records, self.now.book.bytes) }
+    {
+        self.book.era_size()
+    }
+
+    /// Whether the era has as many records as it may have, or 67,108,864 bytes.
+    pub fn era_is_full(&self) -> bool
+        ensures { result ≡ is_full self.now.book }
+    {
+        self.book.era_is_full()
+    }
+
+    /// Whether a call may be committed. It compares by value.
+    pub fn fits(&self, finished: &Finished) -> bool
+        ensures { Decides result (MayCommit self.now.book finished.now.done) }
+    {
+        self.book.fits(finished)
+    }
+
+    /// How many calls are in progress.
+    pub fn living(&self) -> usize
+        ensures { result ≡ living_count self.now.book.living }
+    {
+        self.book.living()
+    }
+}
+
+/// Which shards these writes are in.
+fn written_shards(writes: &[Write]) -> [bool; SHARDS]
+    ensures { ArePlaces (map write_value writes.now) result }
+{
+    let mut written = [false; SHARDS];
+    for write in writes {
+        written[shard_index(write.address)] = true;
+    }
+    written
+}
+
+/// Makes writes in the shards, each at an address that somebody holds.
+fn fill_all(shards: &mut [Shard; SHARDS], writes: Vec<Write>)
+    requires { AllByRecursion (λ w. IsHeldAmong shards.old w.0) (map write_value writes.items) }
+    ensures { IsFilled shards.old shards.new (map write_value writes.items) }
+{
+    let mut writes = writes.into_iter();
+    'writes: while let Some(write) = writes.next() {
+        let index = shard_index(write.address);
+        shards[index].fill(write.address, write.object);
+    }
+}
+
+/// Lets go all that a call has read in these shards.
+fn free_all(shards: &mut [Shard; SHARDS], which: &[bool; SHARDS], id: u64, view: &View)
+    ensures { Frees shards.old shards.new which.now id view.now.entries }
+{
+    for index in 0..SHARDS {
+        if !which[index] {
+            continue;
+        }
+        let_go(&mut shards[index], index, id, view);
+    }
+}

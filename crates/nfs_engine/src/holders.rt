@@ -1,0 +1,100 @@
+//! Who holds an address.
+
+ghost use Rattle.std.specs.Prelude.{◌≡◌, OnErr, OnOk, Some, None, not, ◌==◌};
+ghost use Rattle.std.specs.Bool.{Decides};
+ghost use Rattle.std.specs.List.{filter};
+ghost use Rattle.nfs_engine.specs.Holders.{CanHold, IsExcluder, Reholds, holders_value, nobody};
+
+use nfs_objects::Mode;
+use std::alloc::{AllocError, Global};
+
+/// Who holds an address, by their numbers: one alone, or several beside each other.
+#[derive(Drop)]
+pub enum Holders {
+    Nobody,
+    One(u64),
+    Several(Vec<u64>),
+}
+
+impl Holders {
+    /// Whether nobody does.
+    pub fn is_nobody(&self) -> bool
+        ensures { Decides result (holders_value self.now ≡ nobody) }
+    {
+        match self {
+            Holders::Nobody => true,
+            Holders::One(_) => false,
+            Holders::Several(holders) => holders.is_empty(),
+        }
+    }
+
+    /// One that holds the address in a mode that excludes this one.
+    pub fn excluder(&self, mode: Mode) -> Option<u64>
+        ensures { IsExcluder mode (holders_value self.now) result }
+    {
+        match self {
+            Holders::Nobody => None,
+            Holders::One(holder) => Some(*holder),
+            Holders::Several(holders) => match mode {
+                Mode::Shared => None,
+                Mode::Exclusive => holders.first().copied(),
+            },
+        }
+    }
+
+    /// One more holder, whom nobody excludes. An error changes nothing.
+    pub fn add(&mut self, alloc: Global, mode: Mode, id: u64) -> Result<(), AllocError>
+        requires { CanHold mode (holders_value self.old) }
+        ensures ok { OnOk result (Reholds (holders_value self.old) (holders_value self.new) id (Some mode)) }
+        ensures err { OnErr result (holders_value self.new ≡ holders_value self.old) }
+    {
+        match mode {
+            Mode::Exclusive => {
+                *self = Holders::One(id);
+                Ok(())
+            }
+            Mode::Shared => self.add_beside(alloc, id),
+        }
+    }
+
+    /// One more holder beside others. An error changes nothing.
+    fn add_beside(&mut self, alloc: Global, id: u64) -> Result<(), AllocError>
+        requires { CanHold Mode.Shared (holders_value self.old) }
+        ensures ok { OnOk result
+            (Reholds (holders_value self.old) (holders_value self.new) id (Some Mode.Shared)) }
+        ensures err { OnErr result (holders_value self.new ≡ holders_value self.old) }
+    {
+        if let Holders::Several(holders) = self {
+            holders.push(id)?;
+            return Ok(());
+        }
+        let mut holders = Vec::new(alloc);
+        holders.push(id)?;
+        *self = Holders::Several(holders);
+        Ok(())
+    }
+
+    /// A holder lets go.
+    pub fn remove(&mut self, id: u64)
+        ensures { Reholds (holders_value self.old) (holders_value self.new) id None }
+    {
+        match self {
+            Holders::Nobody => {}
+            Holders::One(holder) => {
+                if *holder == id {
+                    *self = Holders::Nobody;
+                }
+            }
+            Holders::Several(holders) => {
+                without(holders, id);
+            }
+        }
+    }
+}
+
+/// All but one.
+fn without(holders: &mut Vec<u64>, id: u64)
+    ensures { holders.new.items ≡ filter (λ h. not (h == id)) holders.old.items }
+{
+    holders.retain(|h| *h != id);
+}

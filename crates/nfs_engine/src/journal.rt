@@ -1,0 +1,199 @@
+//! The present store with the records that led to it, and commits of calls: first all that may want memory, then what
+//! cannot fail.
+
+ghost use Rattle.std.specs.Prelude.{◌≡◌, ◌+◌, ◌-◌, ◌*◌, ◌^◌, [], length, min, IfOk, IfSome};
+ghost use Rattle.nfs_engine.specs.Commits.{HasNumbers, IsCommitted, IsReady, SameJournal, TakesEra, TakesMessage};
+ghost use Rattle.nfs_engine.specs.Commits.{Writes};
+ghost use Rattle.nfs_engine.specs.Forms.{HasForm};
+
+use crate::answers;
+use crate::arrival::Executed;
+use crate::calls::Finished;
+use crate::objects::{Objects, copy_writes};
+use crate::outbox::{Outbox, Posted, copy_messages};
+use crate::records::{Era, Records};
+use nfs_objects::{View, Write};
+use side_wire::Message;
+use std::alloc::{AllocError, Global};
+use std::marker::Model;
+use std::sync::Arc;
+
+/// What a message is counted as, in bytes: as much as one may have.
+const MESSAGE_BYTES: u64 = 4096;
+
+/// What the caller of an executed call is told.
+#[derive(Drop)]
+pub struct Receipt {
+    /// The record's number, from 1 over all eras.
+    pub number: u64,
+    /// What was executed, shared with the record.
+    pub executed: Arc<Executed>,
+    /// The bytes of the answer.
+    pub answer: Vec<u8>,
+}
+
+/// What a call that was executed leaves: its receipt, what it still holds, and what has to be written there.
+pub struct Committed {
+    pub receipt: Receipt,
+    pub id: u64,
+    pub view: View,
+    pub writes: Vec<Write>,
+}
+
+/// What is made before a commit, so that it cannot fail.
+#[derive(Drop)]
+pub(crate) struct Ready {
+    pub number: u64,
+    pub answer: Vec<u8>,
+    pub writes: Vec<Write>,
+    pub messages: Vec<Message>,
+    pub executed: Arc<Executed>,
+}
+
+/// The present store, the records of the era, and the messages that are to be sent.
+#[derive(Drop)]
+pub(crate) struct Journal {
+    objects: Objects,
+    records: Records,
+    outbox: Outbox,
+}
+
+impl Model for Journal {
+    ghost use Rattle.nfs_engine.specs.Journal.{JournalValue};
+
+    ghost Value = { JournalValue };
+
+    ghost view = { λ j. record { objects = j.objects; records = j.records; outbox = j.outbox } };
+}
+
+impl Journal {
+    /// No record yet, and no message, over these objects.
+    pub(crate) fn new(alloc: Global, objects: Objects) -> Journal
+        ensures objects { result.objects ≡ objects }
+        ensures records { (result.records.list ≡ []) × (result.records.before ≡ 0) ×
+            (result.records.bytes ≡ 0) }
+        ensures outbox { (result.outbox.waiting ≡ []) × (result.outbox.taken ≡ 0) }
+    {
+        Journal {
+            objects,
+            records: Records::new(alloc),
+            outbox: Outbox::new(alloc),
+        }
+    }
+
+    /// The present objects.
+    pub(crate) fn objects(&self) -> &Objects
+        ensures { result.now ≡ self.now.objects }
+    {
+        &self.objects
+    }
+
+    /// The records of the era.
+    pub(crate) fn records(&self) -> &Records
+        ensures { result.now ≡ self.now.records }
+    {
+        &self.records
+    }
+
+    /// Makes all that a commit wants. None where there is no memory for it, or no number is left for the record or one
+    /// of its messages; nothing is changed.
+    pub(crate) fn make_ready(&mut self, alloc: Global, finished: &Finished) -> Option<Ready>
+        requires { HasForm finished.now.done.change.reply }
+        ensures same { SameJournal self.old self.new }
+        ensures ready { IfSome result (IsReady self.new finished.now) }
+    {
+        let number = self.records.next_number()?;
+        if !self.outbox.has_numbers(finished.executed.messages.len()) {
+            return None;
+        }
+        self.grow(alloc, number, finished).ok()
+    }
+
+    /// Makes all that a commit under this number wants. An error changes nothing.
+    fn grow(&mut self, alloc: Global, number: u64, finished: &Finished) -> Result<Ready, AllocError>
+        requires form { HasForm finished.now.done.change.reply }
+        requires numbers { HasNumbers self.old finished.now number }
+        ensures same { SameJournal self.old self.new }
+        ensures ready { IfOk result (IsReady self.new finished.now) }
+    {
+        let executed = Arc::try_clone(&finished.executed)?;
+        let answer = answers::success(alloc, finished.xid, &executed.reply)?;
+        let writes = copy_writes(alloc, &finished.writes)?;
+        let messages = copy_messages(alloc, &executed.messages)?;
+        self.objects.make_room(writes.len())?;
+        self.records.make_room()?;
+        self.outbox.make_room(messages.len())?;
+        Ok(Ready {
+            number,
+            answer,
+            writes,
+            messages,
+            executed,
+        })
+    }
+
+    /// Commits a call for which all is made.
+    pub(crate) fn commit(&mut self, finished: Finished, ready: Ready) -> Committed
+        requires { IsReady self.old finished ready }
+        ensures journal { Writes self.old self.new finished }
+        ensures committed { IsCommitted self.old finished result }
+    {
+        let Ready {
+            number,
+            answer,
+            writes,
+            messages,
+            executed,
+        } = ready;
+        let Finished {
+            id,
+            key: _,
+            received,
+            xid: _,
+            call,
+            ctx: _,
+            view,
+            writes: own,
+            executed: record,
+        } = finished;
+        let bytes = counted(received.message.len(), answer.len(), messages.len());
+        // A call of `drop`, since a drop at the end is proved for every variant of a call, in minutes.
+        drop(call);
+        self.objects.install(writes);
+        self.outbox.post(messages);
+        self.records.push(record, bytes);
+        Committed {
+            receipt: Receipt {
+                number,
+                executed,
+                answer,
+            },
+            id,
+            view,
+            writes: own,
+        }
+    }
+
+    /// Takes the oldest message.
+    pub(crate) fn take_message(&mut self) -> Option<Posted>
+        ensures { TakesMessage self.old self.new result }
+    {
+        self.outbox.take()
+    }
+
+    /// Ends the era, and begins the next.
+    pub(crate) fn new_era(&mut self, alloc: Global) -> Era
+        ensures { TakesEra self.old self.new result }
+    {
+        self.records.take(alloc)
+    }
+}
+
+/// What a record is counted as, of so many bytes that came in, of the answer and messages.
+fn counted(message: usize, answer: usize, messages: usize) -> u64
+    ensures { result ≡ min (message + answer + 4096 * messages) (2 ^ 64 - 1) }
+{
+    (message as u64)
+        .saturating_add(answer as u64)
+        .saturating_add((messages as u64).saturating_mul(MESSAGE_BYTES))
+}

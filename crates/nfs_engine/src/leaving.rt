@@ -1,0 +1,73 @@
+//! What a call that left still holds, and what comes then.
+
+ghost use Rattle.std.specs.Prelude.{◌≡◌, ◌<◌, false, length, MatchOption};
+ghost use Rattle.nfs_engine.specs.Engine.{HoldsNothing, IsEnd, IsNext, freed_more, is_free};
+
+use crate::release::{Next, Release, Then};
+use crate::shard::{SHARDS, shard_index};
+
+impl Release {
+    /// A shard in which something is still held.
+    pub fn next_shard(&self) -> Option<usize>
+        ensures { MatchOption result (HoldsNothing self.now)
+            (λ k. (k < 16) × (k < length self.now.done) × (is_free self.now k ≡ false)) }
+    {
+        for place in 0..self.view.len() {
+            let Some((address, _)) = self.view.entry(place) else {
+                break;
+            };
+            let index = shard_index(address);
+            if !self.done[index] {
+                return Some(index);
+            }
+        }
+        None
+    }
+
+    /// The same, with one shard more that is free of the call.
+    pub fn freed(self, shard: usize) -> Release
+        requires { shard < 16 }
+        ensures { result ≡ freed_more self shard }
+    {
+        let Release {
+            id,
+            view,
+            mut done,
+            after,
+        } = self;
+        done[shard] = true;
+        Release {
+            id,
+            view,
+            done,
+            after,
+        }
+    }
+
+    /// What it leads to, where nothing is held any more.
+    pub fn ended(self) -> Next
+        ensures { IsEnd self result }
+    {
+        let Release {
+            id: _,
+            view,
+            done: _,
+            after,
+        } = self;
+        drop(view);
+        match after {
+            Then::Aborted(pending) => Next::Aborted(pending),
+            Then::Ended => Next::Ended,
+        }
+    }
+
+    /// What comes next: more to release, or what it leads to.
+    pub fn next(self) -> Next
+        ensures { IsNext self result }
+    {
+        if self.next_shard().is_some() {
+            return Next::More(self);
+        }
+        self.ended()
+    }
+}

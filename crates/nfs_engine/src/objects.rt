@@ -1,0 +1,192 @@
+//! The objects of the present store, by address: first room for what is written, then writes, which cannot fail.
+
+ghost use Rattle.std.specs.Prelude.{◌≡◌, ◌+◌, ◌<◌, ◌≤◌, [], length, map, option_map, IfOk, IfSome};
+ghost use Rattle.std.specs.Prelude.{OnOk};
+ghost use Rattle.std.specs.Prelude.{option_copied, slice_get};
+ghost use Rattle.std.specs.Arc.{arc_value};
+ghost use Rattle.std.specs.Bool.{Decides};
+ghost use Rattle.std.specs.List.{AllByRecursion};
+ghost use Rattle.nfs_objects.specs.Fits.{Fits};
+ghost use Rattle.nfs_objects.specs.Store.{with_write, with_writes};
+ghost use Rattle.nfs_objects.specs.Values.{write_value};
+ghost use Rattle.nfs_engine.specs.Opening.{no_store};
+ghost use Rattle.nfs_engine.specs.Tables.{Stands, Unspent, generation_in, kept_at, store_of};
+
+use indexmap::IndexMap;
+use nfs_objects::{Addr, Object, Reserved, View, Write, share};
+use std::alloc::{AllocError, Global};
+use std::marker::Model;
+use std::sync::Arc;
+
+/// What is kept at an address.
+#[derive(Drop)]
+pub(crate) struct Kept {
+    pub object: Option<Arc<Object>>,
+    /// The greatest generation that the number was given; 0 was never given.
+    pub last: u64,
+}
+
+/// What stands at each address, and which generation its number was given last. An address that is not there is empty,
+/// and its number was never given.
+#[derive(Drop)]
+pub(crate) struct Objects {
+    slots: IndexMap<Addr, Kept>,
+}
+
+impl Model for Objects {
+    ghost use Rattle.std.specs.Prelude.{map};
+    ghost use Rattle.indexmap.specs.IndexMap.{spare};
+    ghost use Rattle.nfs_engine.specs.Tables.{ObjectsValue, kept_value};
+
+    ghost Value = { ObjectsValue };
+
+    ghost view = { λ t. record { slots = map (λ e. (e.0, kept_value e.1)) t.slots.entries; room = spare t.slots } };
+}
+
+impl Objects {
+    /// No object.
+    fn new(alloc: Global) -> Objects
+        ensures { result.slots ≡ [] }
+    {
+        Objects {
+            slots: IndexMap::new(alloc),
+        }
+    }
+
+    /// What these writes make of no object. They share their objects with it.
+    pub(crate) fn opening(alloc: Global, writes: &[Write]) -> Result<Objects, AllocError>
+        ensures { IfOk result
+            (λ objects. store_of objects.slots ≡ with_writes no_store (map write_value writes.now)) }
+    {
+        let mut objects = Objects::new(alloc);
+        let copies = copy_writes(alloc, writes)?;
+        objects.make_room(copies.len())?;
+        objects.install(copies);
+        Ok(objects)
+    }
+
+    /// What stands at an address.
+    pub(crate) fn find(&self, address: Addr) -> Option<&Arc<Object>>
+        ensures { option_map arc_value (option_copied result) ≡ (store_of self.now.slots).at address }
+    {
+        self.slots.get(&address)?.object.as_ref()
+    }
+
+    /// The greatest generation that the number of an address was given; 0 where it never was.
+    pub(crate) fn last(&self, address: Addr) -> u64
+        ensures { result ≡ (kept_at self.now.slots address).last }
+    {
+        match self.slots.get(&address) {
+            Some(kept) => kept.last,
+            None => 0,
+        }
+    }
+
+    /// Whether a view is true of these objects: what it has read stands there, and its numbers were never given with
+    /// such generations.
+    pub(crate) fn fits(&self, view: &View) -> bool
+        ensures { Decides result (Fits view.now (store_of self.now.slots)) }
+    {
+        self.shows(view) && self.may_give(view.reserved())
+    }
+
+    /// Whether all that a view has read stands here.
+    fn shows(&self, view: &View) -> bool
+        ensures { Decides result (AllByRecursion (Stands (store_of self.now.slots)) view.now.entries) }
+    {
+        for index in 0..view.len() {
+            if !self.shows_entry(view, index) {
+                return false;
+            }
+        }
+        true
+    }
+
+    /// Whether what a view has read at this place stands here, if there is an entry.
+    fn shows_entry(&self, view: &View, index: usize) -> bool
+        ensures { Decides result
+            (IfSome (slice_get view.now.entries index) (Stands (store_of self.now.slots))) }
+    {
+        match view.entry(index) {
+            Some((address, entry)) => is_same(self.find(address), &entry.object),
+            None => true,
+        }
+    }
+
+    /// Whether each of these numbers was given only smaller generations.
+    fn may_give(&self, numbers: &[Reserved]) -> bool
+        ensures { Decides result (AllByRecursion (Unspent (store_of self.now.slots)) numbers.now) }
+    {
+        for reserved in numbers {
+            if self.last(Addr::Inode(reserved.number)) >= reserved.generation {
+                return false;
+            }
+        }
+        true
+    }
+
+    /// Makes room for so many writes.
+    pub(crate) fn make_room(&mut self, count: usize) -> Result<(), AllocError>
+        ensures slots { self.new.slots ≡ self.old.slots }
+        ensures room { OnOk result (count ≤ self.new.room) }
+    {
+        self.slots.reserve(count)
+    }
+
+    /// Makes the writes, for which there is room, one after the other.
+    pub(crate) fn install(&mut self, writes: Vec<Write>)
+        requires { length writes.items ≤ self.old.room }
+        ensures { store_of self.new.slots ≡ with_writes (store_of self.old.slots) (map write_value writes.items) }
+    {
+        let mut writes = writes.into_iter();
+        'writes: while let Some(write) = writes.next() {
+            self.put(write.address, write.object);
+        }
+    }
+
+    /// Puts an object at an address, or takes away what stands there.
+    fn put(&mut self, address: Addr, object: Option<Arc<Object>>)
+        requires { 0 < self.old.room }
+        ensures store { store_of self.new.slots
+            ≡ with_write (store_of self.old.slots) address (option_map arc_value object) }
+        ensures room { self.old.room ≤ self.new.room + 1 }
+    {
+        let last = self.last(address).max(generation(&object));
+        self.slots.insert(address, Kept { object, last }).unwrap();
+    }
+}
+
+/// Whether both are the same object, or none.
+fn is_same(known: Option<&Arc<Object>>, other: &Option<Arc<Object>>) -> bool
+    ensures { Decides result (option_map arc_value other.now ≡ option_map arc_value (option_copied known.entry)) }
+{
+    match (known, other) {
+        (Some(known), Some(other)) => **known == **other,
+        (None, None) => true,
+        _ => false,
+    }
+}
+
+/// The generation of an inode; 0 where none stands.
+fn generation(object: &Option<Arc<Object>>) -> u64
+    ensures { result ≡ generation_in (option_map arc_value object.now) }
+{
+    match object.as_deref() {
+        Some(Object::Inode(inode)) => inode.generation,
+        _ => 0,
+    }
+}
+
+/// The same writes once more; they share their objects.
+pub(crate) fn copy_writes(alloc: Global, writes: &[Write]) -> Result<Vec<Write>, AllocError>
+    ensures { IfOk result (λ copies. map write_value copies.items ≡ map write_value writes.now) }
+{
+    let mut copies = Vec::with_capacity(alloc, writes.len())?;
+    for write in writes {
+        copies.push(Write {
+            address: write.address,
+            object: share(&write.object)?,
+        })?;
+    }
+    Ok(copies)
+}

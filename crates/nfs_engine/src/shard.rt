@@ -1,0 +1,284 @@
+//! A shard: what stands at its addresses, and who holds them.
+
+ghost use Rattle.std.specs.Prelude.{◌≡◌, ◌<◌, IsSome, MatchOption, OnErr, OnOk, None, Some, option_map};
+ghost use Rattle.std.specs.Prelude.{IfOk, ◌^◌, ◌≤◌, slice_index_or};
+ghost use Rattle.std.specs.Arc.{arc_value};
+ghost use Rattle.slab.specs.Slab.{ContainsKey, Updates};
+ghost use Rattle.nfs_engine.specs.Found.{Changes, found};
+ghost use Rattle.nfs_engine.specs.Locked.{IsLocked};
+ghost use Rattle.nfs_engine.specs.Numbers.{IsFree, Moves};
+ghost use Rattle.nfs_engine.specs.Shards.{Fills, IsHad, IsHeld, IsNew, IsReservedIn, Retakes, SameShard};
+ghost use Rattle.nfs_engine.specs.Shards.{empty_slot, key_in, number_at, numbered, shard_of, shard_value, slot_at};
+ghost use Rattle.nfs_engine.specs.Shards.{slot_value, slots_seen};
+
+use crate::holders::Holders;
+use crate::slot::{Slot, held_numbers, held_others};
+use indexmap::IndexMap;
+use nfs_objects::{Addr, Mode, Object, Reserved};
+use slab::Slab;
+use std::alloc::{AllocError, Global};
+use std::marker::Model;
+use std::sync::Arc;
+use thiserror::Error;
+
+/// How many shards there are.
+pub const SHARDS: usize = 16;
+
+/// The generation that a shard gives first. Those of the roots, 1, lie below it.
+const FIRST_GENERATION: u64 = 2;
+
+/// The shard in which an address stands. What a group of objects uses stands in the shard of that number; the tables
+/// of exports and of mounts stand in the first one.
+pub fn shard_index(address: Addr) -> usize
+    ensures which { result ≡ shard_of address }
+    ensures within { result < 16 }
+{
+    match address {
+        Addr::Exports | Addr::Mounts => 0,
+        Addr::Inode(number) => (number % 16) as usize,
+        Addr::Usage { export: _, group } => usize::from(group % 16),
+    }
+}
+
+/// The slots of the addresses of one shard. An address with no slot is empty, and nobody holds it; a slot that is so
+/// goes at once.
+///
+/// The numbers that the shard gives are those from 16 on that have its index modulo 16. A number that it gave has its
+/// slot in a slab, where a free key is found at once; all other addresses have theirs in a map, also numbers that some
+/// handle names and that nothing has.
+#[derive(Drop)]
+pub struct Shard {
+    index: u64,
+    numbers: Slab<Slot>,
+    others: IndexMap<Addr, Slot>,
+    /// Above each generation that was ever reserved here.
+    next_generation: u64,
+}
+
+impl Model for Shard {
+    ghost use Rattle.nfs_engine.specs.Shards.{IsSound, ShardValue, shard_value};
+
+    ghost Value = { ShardValue };
+
+    ghost view = { λ s. shard_value s.index s.numbers.slots s.others.entries s.next_generation };
+
+    ghost invariant = { λ s. IsSound (shard_value s.index s.numbers.slots s.others.entries s.next_generation) };
+}
+
+/// The key of a number that the shard with this index may give.
+fn key_in(index: u64, address: Addr) -> Option<usize>
+    ensures { result ≡ key_in index address }
+{
+    match address {
+        Addr::Inode(number) if number % 16 == index && number >= 16 => Some(
+            (number / 16 - 1) as usize,
+        ),
+        _ => None,
+    }
+}
+
+/// The number at a key; None where it would pass 2^64 - 1.
+fn number_at(index: u64, key: usize) -> Option<u64>
+    requires { index < 16 }
+    ensures { MatchOption result (2 ^ 64 ≤ number_at index key) (λ number. number ≡ number_at index key) }
+{
+    (key as u64)
+        .checked_add(1)?
+        .checked_mul(16)?
+        .checked_add(index)
+}
+
+/// Makes a slot for an address in the map. An error changes nothing.
+fn add_slot(others: &mut IndexMap<Addr, Slot>, address: Addr, slot: Slot) -> Result<(), AllocError>
+    ensures ok { OnOk result (Changes (found (slots_seen others.old.entries)) (found (slots_seen others.new.entries))
+        address (Some (slot_value slot))) }
+    ensures err { OnErr result (others.new.entries ≡ others.old.entries) }
+{
+    match others.insert(address, slot) {
+        Ok(_) => Ok(()),
+        Err(_) => Err(AllocError),
+    }
+}
+
+/// Takes the slot of an address out of the map.
+fn remove_other(others: &mut IndexMap<Addr, Slot>, address: Addr)
+    ensures { Changes (found (slots_seen others.old.entries)) (found (slots_seen others.new.entries)) address None }
+{
+    others.swap_remove(&address);
+}
+
+/// Takes the slot at a key out of the slab.
+fn remove_number(numbers: &mut Slab<Slot>, key: usize)
+    requires { ContainsKey numbers.old key }
+    ensures { Updates numbers.old numbers.new key None }
+{
+    numbers.remove(key);
+}
+
+/// Makes room for one more slot in the slab, at a key whose number has no slot. A number of the next key that has its
+/// slot in the map gets it in the slab.
+fn free_number(
+    numbers: &mut Slab<Slot>,
+    others: &mut IndexMap<Addr, Slot>,
+    index: u64,
+) -> Result<u64, AllocError>
+    requires { index < 16 }
+    ensures same { Moves (shard_value index numbers.old.slots others.old.entries 0)
+        (shard_value index numbers.new.slots others.new.entries 0) }
+    ensures free { IfOk result (λ number. IsFree index numbers.new others.new.entries number) }
+{
+    'keys: loop {
+        numbers.reserve(1)?;
+        let Some(number) = number_at(index, numbers.vacant_key()) else {
+            return Err(AllocError);
+        };
+        let Some(slot) = others.swap_remove(&Addr::Inode(number)) else {
+            return Ok(number);
+        };
+        numbers.insert_reserved(slot);
+    }
+}
+
+/// What asking for an address came to.
+#[derive(Drop)]
+pub enum Had {
+    /// It is held, and this stands there.
+    Yes(Option<Arc<Object>>),
+    /// This one holds it in a mode that excludes.
+    Taken(u64),
+}
+
+/// Why no number was reserved.
+#[derive(Clone, Copy, Debug, PartialEq, Eq, Error)]
+pub enum ReserveError {
+    /// There is no memory for it. Of 2^60 slots a shard has memory for none.
+    #[error("out of memory")]
+    Memory,
+    /// The last generation was given.
+    #[error("no generation is left")]
+    Spent,
+}
+
+impl Shard {
+    /// The shard with this index, empty.
+    pub fn new(alloc: Global, index: u64) -> Shard
+        requires { index < 16 }
+        ensures { IsNew index result }
+    {
+        Shard {
+            index,
+            numbers: Slab::new(alloc),
+            others: IndexMap::new(alloc),
+            next_generation: FIRST_GENERATION,
+        }
+    }
+
+    /// Takes an address for a holder. Taken and errors change nothing.
+    pub fn acquire(
+        &mut self,
+        alloc: Global,
+        address: Addr,
+        mode: Mode,
+        id: u64,
+    ) -> Result<Had, AllocError>
+        ensures { IsHad self.old self.new address mode id result }
+    {
+        if let Some(key) = self.key_of(address) {
+            return self.numbers[key].acquire(alloc, mode, id);
+        }
+        if let Some(slot) = self.others.get_mut(&address) {
+            return slot.acquire(alloc, mode, id);
+        }
+        let mut holders = Holders::Nobody;
+        holders.add(alloc, mode, id)?;
+        let slot = Slot {
+            object: None,
+            holders,
+        };
+        add_slot(&mut self.others, address, slot)?;
+        Ok(Had::Yes(None))
+    }
+
+    /// The key of an address that has its slot in the slab.
+    fn key_of(&self, address: Addr) -> Option<usize>
+        ensures { MatchOption result (numbered self.now address ≡ None) (λ key.
+            (key_in self.now.index address ≡ Some key) × IsSome (slice_index_or self.now.numbers key None)) }
+    {
+        let key = key_in(self.index, address)?;
+        self.numbers.contains(key).then_some(key)
+    }
+
+    /// Reserves a number of this shard where nothing stands and which nobody holds, with a generation above all that
+    /// were given here. It is held alone from then on. An error changes nothing.
+    pub fn reserve(&mut self, id: u64) -> Result<Reserved, ReserveError>
+        ensures { IsReservedIn self.old self.new id result }
+    {
+        if self.next_generation == u64::MAX {
+            return Err(ReserveError::Spent);
+        }
+        let Ok(number) = free_number(&mut self.numbers, &mut self.others, self.index) else {
+            return Err(ReserveError::Memory);
+        };
+        self.numbers.insert_reserved(Slot {
+            object: None,
+            holders: Holders::One(id),
+        });
+        let generation = self.next_generation;
+        self.next_generation += 1;
+        Ok(Reserved { number, generation })
+    }
+
+    /// A holder lets an address go.
+    pub fn release(&mut self, address: Addr, id: u64)
+        ensures { Retakes self.old self.new address id None }
+    {
+        if let Some(key) = self.key_of(address) {
+            if self.numbers[key].release(id) {
+                remove_number(&mut self.numbers, key);
+            }
+            return;
+        }
+        let Some(slot) = self.others.get_mut(&address) else {
+            return;
+        };
+        if slot.release(id) {
+            remove_other(&mut self.others, address);
+        }
+    }
+
+    /// Puts an object at an address that somebody holds, or takes away what stands there.
+    pub fn fill(&mut self, address: Addr, object: Option<Arc<Object>>)
+        requires { IsHeld self.old address }
+        ensures { Fills self.old self.new address (option_map arc_value object) }
+    {
+        if let Some(key) = self.key_of(address) {
+            self.numbers[key].object = object;
+            return;
+        }
+        let Some(slot) = self.others.get_mut(&address) else {
+            return;
+        };
+        slot.object = object;
+    }
+
+    /// Puts an object at an address that is empty, and that nobody holds. An error changes nothing.
+    pub fn open(&mut self, address: Addr, object: Arc<Object>) -> Result<(), AllocError>
+        requires { slot_at self.old address ≡ empty_slot }
+        ensures ok { OnOk result (Fills self.old self.new address (Some (arc_value object))) }
+        ensures err { OnErr result (SameShard self.old self.new) }
+    {
+        let slot = Slot {
+            object: Some(object),
+            holders: Holders::Nobody,
+        };
+        add_slot(&mut self.others, address, slot)?;
+        Ok(())
+    }
+
+    /// How many addresses are held; 2^64 - 1 where there are more.
+    pub fn locked(&self) -> usize
+        ensures { IsLocked self.now result }
+    {
+        held_numbers(&self.numbers).saturating_add(held_others(&self.others))
+    }
+}

@@ -1,0 +1,82 @@
+//! What stands at an address, and who holds it.
+
+ghost use Rattle.std.specs.Prelude.{◌≡◌, ◌-◌, ◌^◌, count_by, min};
+ghost use Rattle.std.specs.Bool.{Decides};
+ghost use Rattle.std.specs.List.{IsDistinct};
+ghost use Rattle.indexmap.specs.IndexMap.{keys};
+ghost use Rattle.slab.specs.Slab.{entries};
+ghost use Rattle.nfs_objects.specs.Values.{is_addr};
+ghost use Rattle.nfs_engine.specs.Locked.{is_held};
+ghost use Rattle.nfs_engine.specs.Shards.{IsSlotHad, IsSlotLeft, empty_slot, slot_value};
+
+use crate::holders::Holders;
+use crate::shard::Had;
+use indexmap::IndexMap;
+use nfs_objects::{Addr, Mode, Object, share};
+use slab::Slab;
+use std::alloc::{AllocError, Global};
+use std::sync::Arc;
+
+/// What stands at an address, and who holds it.
+#[derive(Drop)]
+pub(crate) struct Slot {
+    pub object: Option<Arc<Object>>,
+    pub holders: Holders,
+}
+
+impl Slot {
+    /// Whether nothing stands there and nobody holds it.
+    pub(crate) fn is_idle(&self) -> bool
+        ensures { Decides result (slot_value self.now ≡ empty_slot) }
+    {
+        self.object.is_none() && self.holders.is_nobody()
+    }
+
+    /// Takes the address for a holder. Taken and errors change nothing.
+    pub(crate) fn acquire(&mut self, alloc: Global, mode: Mode, id: u64) -> Result<Had, AllocError>
+        ensures { IsSlotHad (slot_value self.old) (slot_value self.new) mode id result }
+    {
+        if let Some(holder) = self.holders.excluder(mode) {
+            return Ok(Had::Taken(holder));
+        }
+        let object = share(&self.object)?;
+        self.holders.add(alloc, mode, id)?;
+        Ok(Had::Yes(object))
+    }
+
+    /// Lets the address go for a holder. Answers whether the slot is idle then.
+    pub(crate) fn release(&mut self, id: u64) -> bool
+        ensures left { IsSlotLeft (slot_value self.old) (slot_value self.new) id }
+        ensures idle { Decides result (slot_value self.new ≡ empty_slot) }
+    {
+        self.holders.remove(id);
+        self.is_idle()
+    }
+}
+
+/// How many slots of a slab are held; 2^64 - 1 where there are more.
+pub(crate) fn held_numbers(numbers: &Slab<Slot>) -> usize
+    ensures { result ≡ min (count_by (λ e. is_held (slot_value e.1)) (entries numbers.now)) (2 ^ 64 - 1) }
+{
+    let mut held: usize = 0;
+    for (_, slot) in numbers.iter() {
+        if !slot.holders.is_nobody() {
+            held = held.saturating_add(1);
+        }
+    }
+    held
+}
+
+/// How many slots of a map are held; 2^64 - 1 where there are more.
+pub(crate) fn held_others(others: &IndexMap<Addr, Slot>) -> usize
+    ensures value { result ≡ min (count_by (λ e. is_held (slot_value e.1)) others.now.entries) (2 ^ 64 - 1) }
+    ensures once { IsDistinct is_addr (keys others.now) }
+{
+    let mut held: usize = 0;
+    for (_, slot) in others.iter() {
+        if !slot.holders.is_nobody() {
+            held = held.saturating_add(1);
+        }
+    }
+    held
+}
