@@ -260,14 +260,21 @@ fn an_object_of_no_living_export_is_not_found(rt: HostRuntime) -> Result<(), Fai
 
 /// The exports are asked for before the object.
 #[test]
-fn a_handle_is_read_in_two_rounds(rt: HostRuntime) -> Result<(), Fail> {
-    let (ctx, none, view) = (ctx(1), View::new(rt.alloc()), exported(rt.alloc())?);
-    let first = Draft::new(rt.alloc(), &ctx, &none, READING);
-    assert!(rt; asks(&named(&first, &HANDLE.bytes()), Addr::Exports, Mode::Shared));
-    let second = Draft::new(rt.alloc(), &ctx, &view, READING);
+fn a_handle_asks_for_the_exports(rt: HostRuntime) -> Result<(), Fail> {
+    let (ctx, view) = (ctx(1), View::new(rt.alloc()));
+    let draft = Draft::new(rt.alloc(), &ctx, &view, READING);
+    assert!(rt; asks(&named(&draft, &HANDLE.bytes()), Addr::Exports, Mode::Shared));
+    Ok(())
+}
+
+/// The object is asked for where the exports are there.
+#[test]
+fn a_handle_asks_for_its_object(rt: HostRuntime) -> Result<(), Fail> {
+    let (ctx, view) = (ctx(1), exported(rt.alloc())?);
+    let draft = Draft::new(rt.alloc(), &ctx, &view, READING);
     assert!(rt;
         asks(
-            &named(&second, &HANDLE.bytes()),
+            &named(&draft, &HANDLE.bytes()),
             Addr::Inode(9),
             Mode::Shared
         )
