@@ -28,4 +28,5 @@ pub mod Sizes
 pub mod Slots
 pub mod Stepped
 pub mod Steps
+pub mod Unlocked
 pub mod Written

@@ -2,7 +2,7 @@
 use Rattle.std.specs.Prelude.{◌≡◌, ◌≢◌, ℕ, suc, ◌<◌, ◌≤◌, ◌-◌, ◌%◌, ◌^◌, ◌==◌}
 use Rattle.std.specs.Prelude.{◌&&◌, ◌||◌, List, [], ◌∷◌, Bool, true, false, Option, Some, None, Result}
 use Rattle.std.specs.Prelude.{Ok, Err, IsSome}
-use Rattle.std.specs.Prelude.{is_some, length, replicate, slice_index_or, slice_set}
+use Rattle.std.specs.Prelude.{◌+◌, is_some, length, min, replicate, slice_index_or, slice_set}
 use Rattle.std.specs.List.{AllByRecursion}
 use Rattle.nfs_objects.specs.Fits.{Fits}
 use Rattle.nfs_objects.specs.Rooms.{with_entry, with_number}
@@ -15,6 +15,7 @@ use Rattle.nfs_objects.specs.declared.view.Reserved.{Reserved}
 use Rattle.nfs_engine.specs.Book.{BookValue, store_in}
 use Rattle.nfs_engine.specs.Calls.{FinishedValue, IsUnder, PendingValue, TxnValue, again_of, pending_of}
 use Rattle.nfs_engine.specs.Holders.{Excludes, hold_of}
+use Rattle.nfs_engine.specs.Locked.{IsLocked}
 use Rattle.nfs_engine.specs.Releases.{ReleaseValue}
 use Rattle.nfs_engine.specs.Running.{running_at}
 use Rattle.nfs_engine.specs.Shards.{IsHeld, IsNew, ShardValue, SlotValue, empty_slot, shard_of, slot_at}
@@ -239,3 +240,16 @@ AdmitsLiving old new (Early fault) = new ≡ old
 abbrev pub AreNew : List ShardValue → (which : ℕ) → Type 0
 AreNew [] which = Unit {0}
 AreNew (s ∷ shards) which = IsNew which s × AreNew shards (suc which)
+
+-- ---- how much is held
+-- so many addresses of these shards are held
+abbrev pub LockedSum : List ShardValue → ℕ → Type 0
+LockedSum [] total = total ≡ 0
+LockedSum (s ∷ shards) total =
+    (n : ℕ) × (rest : ℕ) × IsLocked s n × LockedSum shards rest × (total ≡ n + rest)
+
+-- and that is the count, where it is a u64
+pub record CountsLocked (shards : List ShardValue) (count : ℕ) : Type 0 where
+  pub total : ℕ
+  pub sum : LockedSum shards total
+  pub count_is : count ≡ min total (2 ^ 64 - 1)

@@ -1,7 +1,7 @@
 //! The book and the sixteen shards as one, for one thread.
 
-ghost use Rattle.std.specs.Prelude.{◌≡◌, ◌<◌, ◌+◌, ℕ, None, IfErr, IfOk, OnErr, OnOk, count_by};
-ghost use Rattle.std.specs.Prelude.{is_some, length, map};
+ghost use Rattle.std.specs.Prelude.{◌≡◌, ◌<◌, ◌+◌, ℕ, None, IfErr, IfOk, OnErr, OnOk};
+ghost use Rattle.std.specs.Prelude.{length, map};
 ghost use Rattle.std.specs.Bool.{Decides};
 ghost use Rattle.std.specs.List.{AllByRecursion};
 ghost use Rattle.nfs_objects.specs.Values.{seen_at, write_value};
@@ -9,7 +9,8 @@ ghost use Rattle.nfs_engine.specs.Book.{Admits, Commits, GivesUp, Leads, MayComm
 ghost use Rattle.nfs_engine.specs.Book.{TakesMessage, is_full};
 ghost use Rattle.nfs_engine.specs.Calls.{again_of, txn_of};
 ghost use Rattle.nfs_engine.specs.Commits.{IsReceipt};
-ghost use Rattle.nfs_engine.specs.Engine.{AdmitsLiving, ArePlaces, Frees, IsAcquired, IsFilled, IsHeldAmong};
+ghost use Rattle.nfs_engine.specs.Engine.{AdmitsLiving, ArePlaces, CountsLocked, Frees, IsAcquired, IsFilled};
+ghost use Rattle.nfs_engine.specs.Engine.{IsHeldAmong};
 ghost use Rattle.nfs_engine.specs.Engine.{IsLeaving, IsReleased, IsReserved, IsTied, KeepsAll, KeepsOthers, Lives};
 ghost use Rattle.nfs_engine.specs.Engine.{Releases, Waits, held_among, release_of};
 ghost use Rattle.nfs_engine.specs.Opening.{IsStartError, Opens};
@@ -272,6 +273,26 @@ impl Engine {
         ensures { result ≡ living_count self.now.book.living }
     {
         self.book.living()
+    }
+
+    /// How many addresses are held; 2^64 - 1 where there are more. It looks at every slot.
+    pub fn locked(&self) -> usize
+        ensures { CountsLocked self.now.shards result }
+    {
+        let mut count: usize = 0;
+        for shard in self.shards.as_slice() {
+            count = count.saturating_add(shard.locked());
+        }
+        count
+    }
+
+    /// Ends the engine, where no call is in progress and no address is counted as held: then none is.
+    pub fn close(self)
+        requires living { living_count self.book.living ≡ 0 }
+        requires locked { CountsLocked self.shards 0 }
+        ensures { (a : Addr) (j : ℕ) → held_among self.shards a j ≡ None }
+    {
+        drop(self);
     }
 }
 

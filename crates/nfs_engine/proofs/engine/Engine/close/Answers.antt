@@ -1,0 +1,5 @@
+use Rattle.nfs_engine.proofs.Unlocked.{nothing_held}
+use Rattle.nfs_engine.proofs.engine.Engine.close.Goals as goal
+
+pub returns : goal.returns
+returns c = nothing_held c.args.self.shards c.requires.locked
