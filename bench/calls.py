@@ -40,24 +40,20 @@ def make(program, names):
         return server.answer(creates, CREATES * nfsd.CREATED)
 
 
+def rates(program, names):
+    getattrs, lookups = read(program, names)
+    creates = make(program, names)
+    return {"GETATTR": GETATTRS / getattrs, "LOOKUP": LOOKUPS / lookups, "CREATE": CREATES / creates}
+
+
 def main():
-    programs = sys.argv[1:] or [nfsd.PROGRAM]
     for names in (100, 10_000):
-        best = {}
-        for _ in range(TURNS):
-            for program in programs:
-                getattrs, lookups = read(program, names)
-                creates = make(program, names)
-                for what, count, passed in (
-                    ("GETATTR", GETATTRS, getattrs),
-                    ("LOOKUP", LOOKUPS, lookups),
-                    ("CREATE", CREATES, creates),
-                ):
-                    rate = count / passed
-                    best[what, program] = max(rate, best.get((what, program), 0))
-        for (what, program), rate in sorted(best.items(), key=lambda item: item[0][0]):
-            ratio = f", {rate / best[what, programs[0]]:.2f} times the first" if len(programs) > 1 else ""
-            print(f"{what:7} among {names:6} names: {rate:9,.0f} calls a second{ratio} ({program})")
+        nfsd.compare(
+            sys.argv[1:],
+            TURNS,
+            lambda program: rates(program, names),
+            lambda what, rate: f"{what:7} among {names:6} names: {rate:9,.0f} calls a second",
+        )
 
 
 if __name__ == "__main__":

@@ -1,55 +1,52 @@
 #!/usr/bin/env python3
-"""Feeds WRITE and READ records of 4 KiB and of 64 KiB through `nfsd --stdio`, over a file of 1 MiB, and prints calls and
-megabytes a second. A benchmark, not a test.
+"""Prints how many WRITEs and READs of 4 KiB and of 64 KiB `nfsd --stdio` answers a second on one processor, over a file of
+1 MiB, and how many megabytes that are. Of several programs, which take turns, it prints also how many times as quick as
+the first each is. A benchmark, not a test.
 
-usage: bench/data.py [MEGABYTES]      (how much is written, and how much is read, in each size)
+usage: bench/data.py [PROGRAM..]
 """
 import struct
 import sys
 
 import nfsd
 
+TURNS = 5
 FILE_BYTES = 1_048_576
+MEGABYTES = 16  # how much is written, and how much is read, in each size
 WRITTEN, DATA = 164, 132  # the bytes of a reply with its mark; READ's without the data
 
 
-def write(xid, offset, data):
+def write(file, xid, offset, data):
     """WRITE, UNSTABLE (RFC 1813, 3.3.7)."""
     arguments = struct.pack(">QIII", offset, len(data), 0, len(data)) + data
-    return nfsd.call(xid, nfsd.WRITE, nfsd.FILE + arguments)
+    return nfsd.call(xid, nfsd.WRITE, file + arguments)
 
 
-def read(xid, offset, count):
+def read(file, xid, offset, count):
     """READ (RFC 1813, 3.3.6)."""
-    return nfsd.call(xid, nfsd.READ, nfsd.FILE + struct.pack(">QI", offset, count))
+    return nfsd.call(xid, nfsd.READ, file + struct.pack(">QI", offset, count))
 
 
-def offsets(count, size):
-    """Transaction ids and where these calls begin: block by block through the file, and again."""
-    return ((xid, xid * size % FILE_BYTES) for xid in range(1, count + 1))
-
-
-def tell(name, size, count, passed):
-    """Prints what these calls come to; a megabyte is 1,000,000 bytes."""
-    rate = count / passed
-    print(f"{name} of {size:6} bytes: {count} calls in {passed:.3f} s: {rate:,.0f} calls, {rate * size / 1e6:,.1f} MB a second")
-
-
-def measure(size, count):
-    data = b"x" * size
-    writes = [nfsd.create(0, b"x")] + [write(xid, offset, data) for xid, offset in offsets(count, size)]
-    tell("WRITE", size, count, nfsd.seconds(writes, nfsd.CREATED + count * WRITTEN))
-    fill = [nfsd.create(0, b"x")] + [write(xid, offset, b"x" * 65_536) for xid, offset in offsets(16, 65_536)]
-    filled = nfsd.seconds(fill, nfsd.CREATED + 16 * WRITTEN)
-    reads = fill + [read(xid, offset, size) for xid, offset in offsets(count, size)]
-    passed = nfsd.seconds(reads, nfsd.CREATED + 16 * WRITTEN + count * (DATA + size))
-    tell("READ ", size, count, max(passed - filled, 1e-9))
+def rates(program, size):
+    """WRITEs a second through the whole file, block by block and again, and READs."""
+    count = MEGABYTES * FILE_BYTES // size
+    offsets = [xid * size % FILE_BYTES for xid in range(count)]
+    with nfsd.Server(program) as server:
+        file = server.make(b"x")
+        writes = [write(file, xid, offset, b"x" * size) for xid, offset in enumerate(offsets)]
+        reads = [read(file, xid, offset, size) for xid, offset in enumerate(offsets)]
+        written = server.answer(writes, count * WRITTEN)
+        return {"WRITE": count / written, "READ": count / server.answer(reads, count * (DATA + size))}
 
 
 def main():
-    megabytes = int(sys.argv[1]) if len(sys.argv) > 1 else 16
     for size in (4096, 65_536):
-        measure(size, megabytes * 1_048_576 // size)
+        nfsd.compare(
+            sys.argv[1:],
+            TURNS,
+            lambda program: rates(program, size),
+            lambda what, rate: f"{what:5} of {size:6} bytes: {rate:9,.0f} calls, {rate * size / 1e6:7,.1f} MB a second",
+        )
 
 
 if __name__ == "__main__":

@@ -45,16 +45,13 @@ MEASURES = {
 
 
 def main():
-    programs = sys.argv[1:] or [nfsd.PROGRAM]
     for names in (100, 10_000):
-        best = {}
-        for _ in range(TURNS):
-            for program in programs:
-                for what, measure in MEASURES.items():
-                    best[what, program] = max(measure(program, names), best.get((what, program), 0))
-        for (what, program), rate in sorted(best.items(), key=lambda item: item[0][0]):
-            ratio = f", {rate / best[what, programs[0]]:.2f} times the first" if len(programs) > 1 else ""
-            print(f"{what:17} among {names:6} names: {rate:9,.0f} calls a second{ratio} ({program})")
+        nfsd.compare(
+            sys.argv[1:],
+            TURNS,
+            lambda program: {what: measure(program, names) for what, measure in MEASURES.items()},
+            lambda what, rate: f"{what:17} among {names:6} names: {rate:9,.0f} calls a second",
+        )
 
 
 if __name__ == "__main__":

@@ -15,16 +15,12 @@ NULL, GETATTR, LOOKUP, READ, WRITE, CREATE, MKDIR, REMOVE, RMDIR, RENAME = 0, 1,
 PROGRAM = pathlib.Path(__file__).resolve().parent.parent / "crates/nfsd/out/nfsd"
 OPTIONS = ["--stdio", "--export", "/data,rw,*", "--start", "7", "--clock", "1000"]
 SHOWN, FOUND, CREATED = 116, 244, 276  # the bytes of a good reply of GETATTR, LOOKUP and CREATE, with its mark
+HANDLE = 36  # where the handle begins in CREATE's: behind the mark, 24 bytes of RPC, the status, and that there is one
 TAKEN, RENAMED = 148, 264  # those of REMOVE and of RENAME; MKDIR has CREATE's, and RMDIR has REMOVE's
 
 
-def handle(fileid):
-    """The handle of an object of export 1, with its length: mark, export, start 7, fileid, generation 1."""
-    return struct.pack(">IIIQQQ", 32, 0x4E464433, 1, 7, fileid, 1)
-
-
-ROOT = handle(1)
-FILE = handle(2)  # the first new file
+# The root's handle, with its length: mark, export 1, start 7, fileid 1, generation 1.
+ROOT = struct.pack(">IIIQQQ", 32, 0x4E464433, 1, 7, 1, 1)
 
 
 def call(xid, procedure, arguments=b"", program=NFS):
@@ -109,6 +105,12 @@ class Server:
         assert os.fstat(self.replies.fileno()).st_size == self.written, "each call is answered, and none is refused"
         return passed
 
+    def make(self, name):
+        """Makes a file in the root, and gives its handle, with its length, as the reply has it."""
+        begin = self.written
+        self.answer([create(0, name)], CREATED)
+        return os.pread(self.replies.fileno(), len(ROOT), begin + HANDLE)
+
     def resident(self):
         """The bytes of memory that it has at present."""
         status = pathlib.Path(f"/proc/{self.process.pid}/status").read_text()
@@ -126,3 +128,17 @@ def seconds(records, reply_bytes):
         passed = time.perf_counter() - begin
         assert replies.seek(0, 2) == reply_bytes, "each call is answered, and none is refused"
     return passed
+
+
+def compare(programs, turns, measure, line):
+    """Prints the best rates of so many turns, each thing that is measured and each program on a line; of several programs
+    also how many times as quick as the first each is. `measure(program)` gives the rates by the names of the things."""
+    programs = programs or [PROGRAM]
+    best = {}
+    for _ in range(turns):
+        for program in programs:
+            for what, rate in measure(program).items():
+                best[what, program] = max(rate, best.get((what, program), 0))
+    for (what, program), rate in sorted(best.items(), key=lambda item: item[0][0]):
+        ratio = f", {rate / best[what, programs[0]]:.2f} times the first" if len(programs) > 1 else ""
+        print(f"{line(what, rate)}{ratio} ({program})")
