@@ -1,4 +1,16 @@
-//! What is expected is worked out by hand from the rules.
+//! What is expected is worked out by hand from the rules and from RFC 5531 and RFC 1813. Where an engine is started, it
+//! is with number 7, every moment is (1000, 0), and `/data` is exported to every host.
 
+mod admissions;
+mod alone;
+mod arrivals;
+mod beside;
+mod eras;
+mod leaving;
+mod openings;
+mod records;
+mod refusals;
 mod replies;
+mod reserving;
 mod shards;
+mod taking;

@@ -1,0 +1,131 @@
+//! Records that came in: what asks a call, what has a fault, and what is dropped (RFC 5531, section 9).
+
+use super::records::{GETATTR, NULL, arrival, moment, spelled};
+use nfs_engine::{Arrival, Reading};
+use nfs_machine::Call;
+use nfs_wire::NfsCall;
+use std::alloc::{AllocError, Global};
+use std::test::Fail;
+
+/// The handle in GETATTR.
+const ROOT: &[u8] = b"NFD3\0\0\0\x01\0\0\0\0\0\0\0\x07\0\0\0\0\0\0\0\x01\0\0\0\0\0\0\0\x01";
+
+/// Whether it is NULL with this xid, for nobody, as it came in.
+fn asks_null(arrival: &Arrival, xid: u32) -> bool {
+    let received = arrival.received();
+    received.host.text().as_slice() == b"10.0.0.1".as_slice()
+        && received.message.len() == 40
+        && received.moment == moment()
+        && match arrival.reading() {
+            Reading::Asks(asked) => {
+                asked.xid == xid
+                    && (asked.ids.uid, asked.ids.gid) == (65534, 65534)
+                    && matches!(&asked.call, Call::Nfs(NfsCall::Null))
+            }
+            Reading::Faulted(_) => false,
+        }
+}
+
+/// Whether it asks the root's attributes.
+fn asks_attributes(arrival: &Arrival) -> bool {
+    match arrival.reading() {
+        Reading::Asks(asked) => match &asked.call {
+            Call::Nfs(NfsCall::Getattr(handle)) => handle.as_slice() == ROOT,
+            _ => false,
+        },
+        Reading::Faulted(_) => false,
+    }
+}
+
+/// Whether it has a fault, with this answer or none.
+fn is_faulted(arrival: &Arrival, answer: Option<&[u8]>) -> bool {
+    match arrival.reading() {
+        Reading::Asks(_) => false,
+        Reading::Faulted(written) => written.as_deref() == answer,
+    }
+}
+
+/// Whether the record of these words has a fault, with this answer or none.
+fn has_answer(alloc: Global, words: &[u32], answer: Option<&[u8]>) -> Result<bool, AllocError> {
+    let arrival = arrival(alloc, words)?;
+    let is_faulted = is_faulted(&arrival, answer);
+    drop(arrival);
+    Ok(is_faulted)
+}
+
+/// Whether the record of these words has a fault, which is answered by these.
+fn is_answered_by(alloc: Global, words: &[u32], answer: &[u32]) -> Result<bool, AllocError> {
+    let answer = spelled(alloc, answer)?;
+    has_answer(alloc, words, Some(answer.as_slice()))
+}
+
+#[test]
+fn null_is_asked(rt: HostRuntime) -> Result<(), Fail> {
+    let arrival = arrival(rt.alloc(), &NULL)?;
+    assert!(rt; asks_null(&arrival, 1));
+    drop(arrival);
+    Ok(())
+}
+
+#[test]
+fn attributes_are_asked(rt: HostRuntime) -> Result<(), Fail> {
+    let arrival = arrival(rt.alloc(), &GETATTR)?;
+    assert!(rt; asks_attributes(&arrival));
+    drop(arrival);
+    Ok(())
+}
+
+#[test]
+fn version_3_of_rpc(rt: HostRuntime) -> Result<(), Fail> {
+    let call = [4, 0, 3, 100003, 3, 0, 0, 0, 0, 0];
+    assert!(rt; is_answered_by(rt.alloc(), &call, &[0x80000018, 4, 1, 1, 0, 2, 2])?);
+    Ok(())
+}
+
+#[test]
+fn a_credential_of_another_flavor(rt: HostRuntime) -> Result<(), Fail> {
+    let call = [4, 0, 2, 100003, 3, 0, 6, 0, 0, 0];
+    assert!(rt; is_answered_by(rt.alloc(), &call, &[0x80000014, 4, 1, 1, 1, 1])?);
+    Ok(())
+}
+
+#[test]
+fn an_unknown_program(rt: HostRuntime) -> Result<(), Fail> {
+    let call = [4, 0, 2, 100000, 3, 0, 0, 0, 0, 0];
+    assert!(rt; is_answered_by(rt.alloc(), &call, &[0x80000018, 4, 1, 0, 0, 0, 1])?);
+    Ok(())
+}
+
+#[test]
+fn version_2_of_nfs(rt: HostRuntime) -> Result<(), Fail> {
+    let call = [4, 0, 2, 100003, 2, 0, 0, 0, 0, 0];
+    assert!(rt; is_answered_by(rt.alloc(), &call, &[0x80000020, 4, 1, 0, 0, 0, 2, 3, 3])?);
+    Ok(())
+}
+
+#[test]
+fn an_unknown_procedure(rt: HostRuntime) -> Result<(), Fail> {
+    let call = [4, 0, 2, 100003, 3, 22, 0, 0, 0, 0];
+    assert!(rt; is_answered_by(rt.alloc(), &call, &[0x80000018, 4, 1, 0, 0, 0, 3])?);
+    Ok(())
+}
+
+#[test]
+fn attributes_of_no_handle(rt: HostRuntime) -> Result<(), Fail> {
+    let call = [4, 0, 2, 100003, 3, 1, 0, 0, 0, 0];
+    assert!(rt; is_answered_by(rt.alloc(), &call, &[0x80000018, 4, 1, 0, 0, 0, 4])?);
+    Ok(())
+}
+
+/// Fewer than 12 bytes.
+#[test]
+fn the_beginning_of_a_call_is_dropped(rt: HostRuntime) -> Result<(), Fail> {
+    assert!(rt; has_answer(rt.alloc(), &[4, 0], None)?);
+    Ok(())
+}
+
+#[test]
+fn a_reply_is_dropped(rt: HostRuntime) -> Result<(), Fail> {
+    assert!(rt; has_answer(rt.alloc(), &[4, 1, 0, 0, 0, 0], None)?);
+    Ok(())
+}

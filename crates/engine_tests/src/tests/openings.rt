@@ -1,0 +1,108 @@
+//! What an engine starts with, and how it ends.
+
+ghost use Rattle.std.specs.Prelude.{◌≡◌};
+ghost use Rattle.nfs_engine.specs.Engine.{CountsLocked};
+ghost use Rattle.nfs_engine.specs.Running.{living_count};
+
+use super::records::moment;
+use bytes::Bytes;
+use nfs_engine::{Config, Engine, StartError};
+use nfs_machine::{ExportText, Exports, Limits};
+use std::alloc::{AllocError, Global};
+use std::process::Abort;
+use std::test::Fail;
+
+/// `/data` for every host.
+fn exports(alloc: Global) -> Result<Exports, AllocError> {
+    let mut hosts = Vec::new(alloc);
+    hosts.push(Bytes::from_static(b"*"))?;
+    let mut list = Vec::new(alloc);
+    list.push(ExportText {
+        path: Bytes::from_static(b"/data"),
+        mode: Bytes::from_static(b"rw"),
+        hosts,
+    })?;
+    Exports::new(alloc, list).map_err(|_| AllocError)
+}
+
+/// An engine that keeps so many replies, and whose era is full at so many records.
+fn started_at_once(alloc: Global, capacity: u64, era_records: u64) -> Result<Engine, StartError> {
+    let config = Config {
+        exports: exports(alloc)?,
+        start: 7,
+        moment: moment(),
+        capacity,
+        limits: Limits {
+            total_bytes: 1 << 40,
+        },
+        era_records,
+    };
+    Engine::new(alloc, config)
+}
+
+/// The same, if need be by a second try.
+fn started(alloc: Global, capacity: u64, era_records: u64) -> Result<Engine, StartError> {
+    match started_at_once(alloc, capacity, era_records) {
+        Err(StartError::Memory) => started_at_once(alloc, capacity, era_records),
+        started => started,
+    }
+}
+
+/// An engine at its start.
+pub(super) fn opened(alloc: Global) -> Result<Engine, StartError> {
+    started(alloc, 1024, 1024)
+}
+
+/// Ends an engine at rest: no call is in progress, and no address is held.
+pub(super) fn close(rt: &impl Abort, engine: Engine) {
+    assert!(rt; engine.living() == 0);
+    assert!(rt; engine.locked() == 0);
+    engine.close();
+}
+
+/// Why an engine with these limits does not start, if it does not.
+fn fault(alloc: Global, capacity: u64, era_records: u64) -> Option<StartError> {
+    started(alloc, capacity, era_records).err()
+}
+
+#[test]
+fn limits_are_1_to_65536(rt: HostRuntime) {
+    for (capacity, era_records, want) in [
+        (1, 1, None),
+        (65_536, 65_536, None),
+        (0, 1, Some(StartError::Capacity)),
+        (65_537, 1, Some(StartError::Capacity)),
+        (1, 0, Some(StartError::EraLimit)),
+        (1, 65_537, Some(StartError::EraLimit)),
+        (0, 0, Some(StartError::Capacity)),
+    ] {
+        assert_eq!(rt;
+            fault(rt.alloc(), capacity, era_records),
+            want,
+            "{capacity} {era_records}"
+        );
+    }
+}
+
+#[test]
+fn nothing_was_executed(rt: HostRuntime) -> Result<(), Fail> {
+    let mut engine = opened(rt.alloc())?;
+    assert_eq!(rt; engine.era_size(), (0, 0));
+    assert!(rt; !engine.era_is_full());
+    assert!(rt; engine.take_message().is_none());
+    close(&rt, engine);
+    Ok(())
+}
+
+/// An era of one record is not full while it has none.
+#[test]
+fn an_era_with_no_record_is_not_full(rt: HostRuntime) -> Result<(), Fail> {
+    let mut engine = started(rt.alloc(), 1, 1)?;
+    assert!(rt; !engine.era_is_full());
+    let era = engine.new_era(rt.alloc());
+    assert_eq!(rt; era.before, 0);
+    assert!(rt; era.records.is_empty());
+    assert!(rt; !engine.era_is_full());
+    close(&rt, engine);
+    Ok(())
+}
