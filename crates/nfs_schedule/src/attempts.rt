@@ -12,7 +12,7 @@ use nfs_wire::NfsCall;
 use std::alloc::{AllocError, Global};
 
 /// What the call comes to on what was read.
-pub(crate) fn attempt(
+pub fn attempt(
     alloc: Global,
     call: &Call,
     ctx: &Ctx,

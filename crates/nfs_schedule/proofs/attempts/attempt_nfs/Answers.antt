@@ -1,6 +1,6 @@
 use Rattle.std.proofs.Common.{sym, ◌∙◌}
-use Rattle.nfs_server.proofs.Built.{built-data}
-use Rattle.nfs_server.proofs.attempts.attempt_nfs.Goals as goal
+use Rattle.nfs_schedule.proofs.Built.{built-data}
+use Rattle.nfs_schedule.proofs.attempts.attempt_nfs.Goals as goal
 
 pub attempt-requires-clause-names : goal.attempt-requires-clause-names
 attempt-requires-clause-names c = sym c.is_name_call.ensures ∙ c.if-is_name_call.true

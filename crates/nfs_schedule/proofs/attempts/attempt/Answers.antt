@@ -1,7 +1,7 @@
 use Rattle.std.proofs.Common.{sym, subst}
 use Rattle.nfs_machine.specs.declared.calls.Call.{Call}
 use Rattle.nfs_objects.specs.Attempt.{Attempts}
-use Rattle.nfs_server.proofs.attempts.attempt.Goals as goal
+use Rattle.nfs_schedule.proofs.attempts.attempt.Goals as goal
 
 pub returns-in-Nlm : goal.returns-in-Nlm
 returns-in-Nlm c =
