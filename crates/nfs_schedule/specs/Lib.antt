@@ -1,0 +1,4 @@
+pub mod Answers
+pub mod Turns
+pub mod Workers
+pub mod Worlds

@@ -12,12 +12,7 @@ use nfs_wire::NfsCall;
 use std::alloc::{AllocError, Global};
 
 /// What the call comes to on what was read.
-pub fn attempt(
-    alloc: Global,
-    call: &Call,
-    ctx: &Ctx,
-    view: &View,
-) -> Result<Outcome, AllocError>
+pub fn attempt(alloc: Global, call: &Call, ctx: &Ctx, view: &View) -> Result<Outcome, AllocError>
     requires built { IsBuilt call.now }
     requires suits { Suits (modes_of call.now) view.now }
     ensures { IfOk result (Attempts call.now ctx.now view.now) }

@@ -1,9 +1,16 @@
 //! Workers that execute calls on one engine, step by step and in any order.
 //!
-//! `attempt` is what a call comes to on what it has read, by its program.
+//! `attempt` is what a call comes to on what it has read, by its program. A `Worker` thinks with no engine, and makes one
+//! step of the engine at each turn. A `World` has an engine with its workers.
 #![tactic(auto)]
 
+pub mod answer;
 pub mod attempts;
 mod nlm;
+pub mod worker;
+pub mod world;
 
+pub use answer::{Answer, Declined};
 pub use attempts::attempt;
+pub use worker::{Afterwards, Worker};
+pub use world::World;

@@ -1,0 +1,375 @@
+-- Each step of a worker, by what the engine does.
+use Rattle.std.proofs.Common.{◌≡◌, ℕ, true, false, List, [], ◌∷◌, Option, Some, None, Ok, Err, refl, sym, ◌∙◌, ap, subst}
+use Rattle.std.specs.Vec.Iter.{into_iter_items}
+use Rattle.std.specs.declared.alloc.AllocError.{AllocError}
+use Rattle.std.specs.declared.alloc.Global.{Global}
+use Rattle.std.specs.declared.vec.IntoIter.{IntoIter}
+use Rattle.nfs_machine.specs.Run.{Received}
+use Rattle.nfs_machine.specs.declared.calls.Call.{Call}
+use Rattle.nfs_machine.specs.declared.context.Ctx.{Ctx}
+use Rattle.nfs_objects.proofs.Seen.{all-append, all-map}
+use Rattle.nfs_objects.specs.Asks.{Asks, MayAsk}
+use Rattle.nfs_objects.specs.Calls.{named_by}
+use Rattle.nfs_objects.specs.Fits.{vacant}
+use Rattle.nfs_objects.specs.Modes.{covers, mode_at, modes_of}
+use Rattle.nfs_objects.specs.Rooms.{with_entry, with_number}
+use Rattle.nfs_objects.specs.Values.{Seen, ViewValue, is_addr}
+use Rattle.nfs_objects.specs.declared.address.Addr.{Addr}
+use Rattle.nfs_objects.specs.declared.modes.Mode.{Mode}
+use Rattle.nfs_objects.specs.declared.modes.Mode.TheVariants.{Shared, Exclusive}
+use Rattle.nfs_objects.specs.declared.object.Object.{Object}
+use Rattle.nfs_objects.specs.declared.view.Reserved.{Reserved}
+use Rattle.nfs_engine.proofs.Built.{asked-built}
+use Rattle.nfs_engine.proofs.Going.{seen_beside}
+use Rattle.nfs_engine.specs.Arrivals.{ArrivalValue, received_value}
+use Rattle.nfs_engine.specs.Book.{Begins, BookValue, GivesUp, store_in}
+use Rattle.nfs_engine.specs.Built.{IsBuilt}
+use Rattle.nfs_engine.specs.Calls.{FinishedValue, IsCalled, PendingValue, TxnValue, txn_of}
+use Rattle.nfs_engine.specs.Engine.{EngineValue, IsAcquired, IsLeaving, IsReleased, IsReserved, KeepsOthers, LeadsTo, Lives, Releases, Waits, held_among, release_of}
+use Rattle.nfs_engine.specs.Releases.{ReleaseValue}
+use Rattle.nfs_engine.specs.Running.{without_call}
+use Rattle.nfs_engine.specs.declared.admission.Refused as given
+use Rattle.nfs_engine.specs.declared.asking.Asked.{Asked}
+use Rattle.nfs_engine.specs.declared.journal.Receipt.{Receipt}
+use Rattle.nfs_engine.specs.declared.release.Next.TheVariants as next
+use Rattle.nfs_engine.specs.declared.release.Then.{Then}
+use Rattle.nfs_engine.specs.declared.shard.ReserveError.{ReserveError}
+use Rattle.nfs_engine.specs.declared.shard.ReserveError.TheVariants as refusals
+use Rattle.nfs_engine.specs.declared.taking.Got.TheVariants as got
+use Rattle.nfs_schedule.proofs.Others.{all_both}
+use Rattle.nfs_schedule.proofs.Rest.{places_same, places_without, rest_begun, rest_still, rest_with, rest_without}
+use Rattle.nfs_schedule.specs.Answers.{IsRefused}
+use Rattle.nfs_schedule.specs.Turns.{Declines, Effect, Executes, IsNamed, IsStep, KeepsStore, TakesFirst, after_all}
+use Rattle.nfs_schedule.specs.Workers.{Comes, IsSuited, MayTake, MayThink, Thinks, Wants, WorkerLives, after_key, worker_id, worker_key}
+use Rattle.nfs_schedule.specs.declared.answer.Answer.{Answer}
+use Rattle.nfs_schedule.specs.declared.answer.Answer.TheVariants as answers
+use Rattle.nfs_schedule.specs.declared.worker.Afterwards.{Afterwards}
+use Rattle.nfs_schedule.specs.declared.worker.Afterwards.TheVariants.{Again, GiveUp}
+use Rattle.nfs_schedule.specs.declared.worker.Worker.{Worker}
+use Rattle.nfs_schedule.specs.declared.worker.Worker.TheVariants.{Idle, Trying, Wanting, Wishing, Ready, Blocked, Failing}
+use Rattle.nfs_schedule.specs.declared.worker.Worker.TheVariants.{Leaving, PutOff, Refusing}
+
+-- ---- how what is read is held
+covers_itself : (m : Mode) → covers m m ≡ true
+covers_itself Shared = refl
+covers_itself Exclusive = refl
+
+-- what an attempt asks for may be taken
+pub wants_asked : (call : Call) (view : ViewValue) (asked : List (Addr × Mode)) →
+    Asks (modes_of call) (named_by call) view asked → Wants call view asked
+wants_asked call view asked asks = record {
+  once = asks.once;
+  each =
+      all-map (MayAsk (modes_of call) (named_by call) view) (MayTake call view) (λ a may. record {
+        unseen = may.unseen;
+        strong = subst (λ m. covers a.1 m ≡ true) may.mode (covers_itself a.1);
+      }) asked asks.each;
+}
+
+module _ (t u : TxnValue) (a : Addr × Mode) (others : List (Addr × Mode)) (o : Option Object)
+    (is : u ≡ record t { view = with_entry t.view (record { address = a.0; mode = a.1; object = o }) })
+    (suited : IsSuited t) (wants : Wants t.call t.view (a ∷ others)) where
+  abbrev entry : Seen
+  entry = record { address = a.0; mode = a.1; object = o }
+
+  abbrev taken : TxnValue
+  taken = record t { view = with_entry t.view entry }
+
+  suited_more : IsSuited u
+  suited_more = subst (λ (x : TxnValue). IsSuited x) (sym is)
+      (all-append (λ (e : Seen). covers e.mode (mode_at (modes_of t.call) e.address) ≡ true) t.view.entries entry suited
+      wants.each.0.strong)
+
+  wants_less : Wants u.call u.view others
+  wants_less = subst (λ (x : TxnValue). Wants x.call x.view others) (sym is) (record {
+    once = wants.once.1;
+    each =
+        all_both (λ (b : Addr × Mode). is_addr a.0 b.0 ≡ false) (MayTake t.call t.view) (MayTake taken.call taken.view)
+        others (λ b other may. record {
+          unseen = seen_beside t.view.entries entry b.0 other ∙ may.unseen;
+          strong = may.strong;
+        }) wants.once.0 wants.each.1;
+  })
+
+suited_number : (t u : TxnValue) (r : Reserved) → u ≡ record t { view = with_number t.view r } → IsSuited t → IsSuited u
+suited_number t u r is suited = subst (λ (x : TxnValue). IsSuited x) (sym is)
+    (all-append (λ (e : Seen). covers e.mode (mode_at (modes_of t.call) e.address) ≡ true) t.view.entries (vacant r)
+    suited refl)
+
+-- ---- steps of a call
+pub keeps_book : (e f : EngineValue) → f.book ≡ e.book → KeepsStore e f
+keeps_book e f same = subst (λ (b : BookValue). b ≡ record e.book { living = b.living; next_id = b.next_id })
+    (sym same) refl
+
+-- the call goes on, and the book is as it was
+pub goes_on : (id : ℕ) (e f : EngineValue) (shard : ℕ) (w v : Worker) → KeepsOthers id e f → worker_id w ≡ Some id →
+    worker_id v ≡ Some id → worker_key v ≡ worker_key w → f.book ≡ e.book → WorkerLives f v →
+    IsNamed e f shard w v None → IsStep e f shard w v None
+goes_on id e f shard w v k own still keys same lives named = record {
+  lives = lives;
+  rest = rest_with id e f w v k own still (places_same e f w v (ap (λ (b : BookValue). b.living) same) keys);
+  effect = keeps_book e f same;
+  named = named;
+}
+
+-- the engine is as it was
+pub stands_still : (e f : EngineValue) (shard : ℕ) (w v : Worker) → f ≡ e → worker_id v ≡ worker_id w →
+    worker_key v ≡ worker_key w → WorkerLives e v → IsNamed e f shard w v None → IsStep e f shard w v None
+stands_still e f shard w v same ids keys lives named = record {
+  lives = subst (λ (x : EngineValue). WorkerLives x v) (sym same) lives;
+  rest = rest_still e f w v same ids keys;
+  effect = keeps_book e f (ap (λ (x : EngineValue). x.book) same);
+  named = named;
+}
+
+-- ---- an address
+module _ (e f : EngineValue) (t u : TxnValue) (a : Addr × Mode) (wanted left : IntoIter (Addr × Mode) Global)
+    (items : into_iter_items wanted ≡ a ∷ into_iter_items left) (lives : WorkerLives e (Wanting t wanted))
+    (later : Lives f u) (k : KeepsOthers t.id e f) (same : f.book ≡ e.book) where
+  wants_first : Wants t.call t.view (a ∷ into_iter_items left)
+  wants_first = subst (λ (ws : List (Addr × Mode)). Wants t.call t.view ws) items lives.2
+
+  leads : (v : Worker) → TakesFirst e t (a ∷ into_iter_items left) v → TakesFirst e t (into_iter_items wanted) v
+  leads v first = subst (λ (ws : List (Addr × Mode)). TakesFirst e t ws v) (sym items) first
+
+  module _ (is : IsAcquired {E = AllocError} e t u a.0 a.1 (Ok got.Yes)) where
+    pub acquired_last : into_iter_items left ≡ [] → IsStep e f 0 (Wanting t wanted) (Trying u) None
+    acquired_last none =
+        goes_on t.id e f 0 (Wanting t wanted) (Trying u) k refl (ap (λ (x : TxnValue). Some x.id) is)
+        (ap (λ (x : TxnValue). Some x.key) is) same
+        (later, suited_more t u a (into_iter_items left) ((store_in e.book).at a.0) is lives.1 wants_first)
+        (same, leads (Trying u) (is, none), refl)
+
+    pub acquired_more : IsStep e f 0 (Wanting t wanted) (Wanting u left) None
+    acquired_more =
+        goes_on t.id e f 0 (Wanting t wanted) (Wanting u left) k refl (ap (λ (x : TxnValue). Some x.id) is)
+        (ap (λ (x : TxnValue). Some x.key) is) same (
+          later,
+          suited_more t u a (into_iter_items left) ((store_in e.book).at a.0) is lives.1 wants_first,
+          wants_less t u a (into_iter_items left) ((store_in e.book).at a.0) is lives.1 wants_first,
+        )
+        (same, leads (Wanting u left) (is, refl), refl)
+
+  pub taken_by : (h : ℕ) → IsAcquired {E = AllocError} e t u a.0 a.1 (Ok (got.Taken h)) →
+      IsStep e f 0 (Wanting t wanted) (Blocked u) None
+  taken_by h is =
+      goes_on t.id e f 0 (Wanting t wanted) (Blocked u) k refl (ap (λ (x : TxnValue). Some x.id) is.2)
+      (ap (λ (x : TxnValue). Some x.key) is.2) same later (same, leads (Blocked u) (h, is), refl)
+
+  pub acquire_fails : u ≡ t → IsStep e f 0 (Wanting t wanted) (Failing u) None
+  acquire_fails is =
+      goes_on t.id e f 0 (Wanting t wanted) (Failing u) k refl (ap (λ (x : TxnValue). Some x.id) is)
+      (ap (λ (x : TxnValue). Some x.key) is) same later (same, leads (Failing u) is, refl)
+
+-- ---- a number
+module _ (e f : EngineValue) (shard : ℕ) (t u : TxnValue) (lives : WorkerLives e (Wishing t)) (later : Lives f u)
+    (k : KeepsOthers t.id e f) (same : f.book ≡ e.book) where
+  pub reserved : IsReserved e t u shard (Ok tt) → IsStep e f shard (Wishing t) (Trying u) None
+  reserved is =
+      goes_on t.id e f shard (Wishing t) (Trying u) k refl (ap (λ (x : TxnValue). Some x.id) is.call)
+      (ap (λ (x : TxnValue). Some x.key) is.call) same (later, suited_number t u is.reserved is.call lives.1)
+      (same, is, refl)
+
+  unchanged : (error : ReserveError) → IsReserved e t u shard (Err error) → u ≡ t
+  unchanged refusals.Memory is = is
+  unchanged refusals.Spent is = is.1
+
+  pub reserve_fails : (error : ReserveError) → IsReserved e t u shard (Err error) →
+      IsStep e f shard (Wishing t) (Failing u) None
+  reserve_fails error is =
+      let still = unchanged error is in
+      goes_on t.id e f shard (Wishing t) (Failing u) k refl (ap (λ (x : TxnValue). Some x.id) still)
+      (ap (λ (x : TxnValue). Some x.key) still) same later (same, (error, is), refl)
+
+-- ---- a commit
+pub committed : (e f : EngineValue) (done : FinishedValue) (r : ReleaseValue) (receipt : Receipt) (after : Afterwards) →
+    Lives e (txn_of done) → KeepsOthers done.id e f → IsLeaving f r → IsReleased done r → Executes e f done receipt →
+    IsStep e f 0 (Ready done) (Leaving r after) (Some (answers.Executed receipt))
+committed e f done r receipt after lives k leaving released executes = record {
+  lives = leaving;
+  rest =
+      rest_with done.id e f (Ready done) (Leaving r after) k refl (ap Some released.id)
+      (places_without e f (Ready done) (Leaving r after) done.key done.id lives.running refl
+      (ap (λ (b : BookValue). b.living) executes.commits.rest));
+  effect = (done, executes);
+  named = (executes, released);
+}
+
+-- ---- a release
+module _ (e f : EngineValue) (r : ReleaseValue) (after : Afterwards) (k : KeepsOthers r.id e f)
+    (same : f.book ≡ e.book) where
+  pub released_all : Releases f r next.Ended → IsStep e f 0 (Leaving r after) Idle None
+  released_all is = record {
+    lives = tt;
+    rest =
+        rest_without r.id e f (Leaving r after) Idle k refl refl is.1
+        (places_same e f (Leaving r after) Idle (ap (λ (b : BookValue). b.living) same)
+        (sym (ap after_key is.0)));
+    effect = keeps_book e f same;
+    named = (same, is.0, refl);
+  }
+
+  pub released_more : (left : ReleaseValue) → Releases f r (next.More left) →
+      IsStep e f 0 (Leaving r after) (Leaving left after) None
+  released_more left is =
+      goes_on r.id e f 0 (Leaving r after) (Leaving left after) k refl (ap (λ (x : ReleaseValue). Some x.id) is.4)
+      (ap (λ (x : ReleaseValue). after_key x.after) is.4) same is.0
+      (same, (is.1, is.3, is.4, refl), refl)
+
+  module _ (leaving : IsLeaving e r) (p : PendingValue) (is : Releases f r (next.Aborted p)) where
+    own : p.id ≡ r.id
+    own = (subst (λ (x : Then). LeadsTo e r.id x) is.0 leaving.after).0
+
+    pub released_to : IsStep e f 0 (Leaving r after) (after_all p after) None
+    released_to = elim after as (λ (x : Afterwards). IsStep e f 0 (Leaving r x) (after_all p x) None) [
+      | Again ↦
+          goes_on r.id e f 0 (Leaving r Again) (PutOff p) k refl (ap Some own) (sym (ap after_key is.0)) same is.1
+          (same, (p, is.0, refl), refl)
+      | GiveUp ↦
+          goes_on r.id e f 0 (Leaving r GiveUp) (Refusing p) k refl (ap Some own) (sym (ap after_key is.0)) same is.1
+          (same, (p, is.0, refl), refl)
+    ]
+
+-- ---- the beginning and the end of a call
+pub not_executed : (e f : EngineValue) (received : Received) (asked : Asked) (answer : Answer) →
+    IsRefused received asked answer → KeepsStore e f → Effect e f (Some answer)
+not_executed e f received asked (answers.Executed receipt) is keeps = absurd is
+not_executed e f received asked (answers.Refused declined) is keeps = keeps
+not_executed e f received asked (answers.Early faulted) is keeps = keeps
+not_executed e f received asked (answers.Stopped stopped) is keeps = keeps
+
+pub begun : (e f : EngineValue) (a : ArrivalValue) (t : TxnValue) → Begins e.book f.book a t → Lives f t →
+    KeepsOthers t.id e f → f.shards ≡ e.shards → IsStep e f 0 Idle (Trying t) None
+begun e f a t b lives k shards = record {
+  lives = (lives, subst (λ (x : TxnValue). IsSuited x) (sym b.txn) tt);
+  rest = rest_begun e f (Trying t) t.id t.key k (ap (λ (x : TxnValue). x.id) b.txn) refl refl b.joins shards;
+  effect =
+      b.rest ∙ ap (λ n. record e.book { living = f.book.living; next_id = n })
+      (sym (ap (λ (x : BookValue). x.next_id) b.rest));
+  named = tt;
+}
+
+-- nothing is changed, and the worker stays idle
+pub answers_idle : (e f : EngineValue) (answer : Answer) → f ≡ e → Effect e f (Some answer) →
+    IsStep e f 0 Idle Idle (Some answer)
+answers_idle e f answer same effect = record {
+  lives = tt;
+  rest = rest_still e f Idle Idle same refl refl;
+  effect = effect;
+  named = tt;
+}
+
+pub given_up : (e f : EngineValue) (p : PendingValue) (refused : given.Refused) (answer : Answer) → Waits e p →
+    GivesUp e.book f.book p refused → KeepsOthers p.id e f → f.shards ≡ e.shards →
+    IsRefused (received_value refused.received) refused.asked answer →
+    IsStep e f 0 (Refusing p) Idle (Some answer)
+given_up e f p refused answer waits g k shards is =
+    let keeps : KeepsStore e f =
+    g.rest ∙ ap (λ n. record e.book { living = without_call e.book.living p.key p.id; next_id = n })
+    (sym (ap (λ (x : BookValue). x.next_id) g.rest))
+    ∙ ap (λ l. record e.book { living = l; next_id = f.book.next_id }) (sym (ap (λ (x : BookValue). x.living) g.rest)) in
+    record {
+      lives = tt;
+      rest =
+          rest_without p.id e f (Refusing p) Idle k refl refl
+          (λ a. ap (λ s. held_among s a p.id) shards ∙ waits.holds.exactly a)
+          (places_without e f (Refusing p) Idle p.key p.id waits.running refl
+          (ap (λ (x : BookValue). x.living) g.rest));
+      effect = not_executed e f (received_value refused.received) refused.asked answer is keeps;
+      named = declined answer (subst (λ (x : Received). IsRefused x refused.asked answer) g.received is);
+    }
+  where
+    declined : (x : Answer) → IsRefused p.received refused.asked x → Declines p Idle (Some x)
+    declined x r = subst (λ (y : Asked). IsRefused p.received y x) g.asked r
+
+-- ---- thinking
+-- what lived lives on, in every engine, and it is the same call
+pub record ThinksOn (e : EngineValue) (w v : Worker) : Type 0 where
+  pub lives : WorkerLives e v
+  pub ids : worker_id v ≡ worker_id w
+  pub keys : worker_key v ≡ worker_key w
+
+comes_on : (e : EngineValue) (t : TxnValue) (v : Worker) → Comes t v → WorkerLives e (Trying t) →
+    ThinksOn e (Trying t) v
+comes_on e t (Wanting u wanted) c lives =
+    subst (λ (x : TxnValue). ThinksOn e (Trying t) (Wanting x wanted)) (sym c.0) (record {
+      lives = (lives.0, lives.1, wants_asked t.call t.view (into_iter_items wanted) c.1);
+      ids = refl;
+      keys = refl;
+    })
+comes_on e t (Wishing u) c lives = subst (λ (x : TxnValue). ThinksOn e (Trying t) (Wishing x)) (sym c)
+    (record { lives = lives; ids = refl; keys = refl })
+comes_on e t (Ready d) c lives = record {
+  lives = subst (λ (x : TxnValue). Lives e x) (sym c) lives.0;
+  ids = ap (λ (x : TxnValue). Some x.id) c;
+  keys = ap (λ (x : TxnValue). Some x.key) c;
+}
+comes_on e t (Failing u) c lives = subst (λ (x : TxnValue). ThinksOn e (Trying t) (Failing x)) (sym c)
+    (record { lives = lives.0; ids = refl; keys = refl })
+comes_on e t Idle c lives = absurd c
+comes_on e t (Trying u) c lives = absurd c
+comes_on e t (Blocked u) c lives = absurd c
+comes_on e t (Leaving r after) c lives = absurd c
+comes_on e t (PutOff p) c lives = absurd c
+comes_on e t (Refusing p) c lives = absurd c
+
+same_on : (e : EngineValue) (w v : Worker) → v ≡ w → WorkerLives e w → ThinksOn e w v
+same_on e w v same lives = subst (λ (x : Worker). ThinksOn e w x) (sym same)
+    (record { lives = lives; ids = refl; keys = refl })
+
+pub thinks_on : (e : EngineValue) (w v : Worker) → Thinks w v → WorkerLives e w → ThinksOn e w v
+thinks_on e (Trying t) v c lives = comes_on e t v c lives
+thinks_on e Idle v c lives = same_on e Idle v c lives
+thinks_on e (Wanting t wanted) v c lives = same_on e (Wanting t wanted) v c lives
+thinks_on e (Wishing t) v c lives = same_on e (Wishing t) v c lives
+thinks_on e (Ready d) v c lives = same_on e (Ready d) v c lives
+thinks_on e (Blocked t) v c lives = same_on e (Blocked t) v c lives
+thinks_on e (Failing t) v c lives = same_on e (Failing t) v c lives
+thinks_on e (Leaving r after) v c lives = same_on e (Leaving r after) v c lives
+thinks_on e (PutOff p) v c lives = same_on e (PutOff p) v c lives
+thinks_on e (Refusing p) v c lives = same_on e (Refusing p) v c lives
+
+pub may_think : (e : EngineValue) (w : Worker) → WorkerLives e w → MayThink w
+may_think e (Trying t) lives = lives.1
+may_think e Idle lives = tt
+may_think e (Wanting t wanted) lives = tt
+may_think e (Wishing t) lives = tt
+may_think e (Ready d) lives = tt
+may_think e (Blocked t) lives = tt
+may_think e (Failing t) lives = tt
+may_think e (Leaving r after) lives = tt
+may_think e (PutOff p) lives = tt
+may_think e (Refusing p) lives = tt
+
+-- what is called is built
+pub called_built : (received : Received) (xid : ℕ) (call : Call) (ctx : Ctx) → IsCalled received xid call ctx →
+    IsBuilt call
+called_built received xid call ctx called =
+    asked-built received.bytes (record { xid = xid; ids = ctx.ids; call = call }) (record {
+      header = called.header;
+      read = called.read;
+      is_call = called.is_call;
+      xid = called.number;
+      ids = called.ids;
+    })
+
+-- ---- what is given up
+pub commit_fails : (e f : EngineValue) (done : FinishedValue) (t : TxnValue) → f ≡ e → t ≡ txn_of done →
+    Lives e (txn_of done) → IsStep e f 0 (Ready done) (Failing t) None
+commit_fails e f done t same is lives =
+    stands_still e f 0 (Ready done) (Failing t) same (ap (λ (x : TxnValue). Some x.id) is)
+    (ap (λ (x : TxnValue). Some x.key) is) (subst (λ (x : TxnValue). Lives e x) (sym is) lives) (is, same)
+
+module _ (e : EngineValue) (shard : ℕ) (t : TxnValue) (r : ReleaseValue) (is : r ≡ release_of t)
+    (leaving : IsLeaving e r) where
+  pub blocked_leaves : IsStep e e shard (Blocked t) (Leaving r Again) None
+  blocked_leaves =
+      stands_still e e shard (Blocked t) (Leaving r Again) refl (ap (λ (x : ReleaseValue). Some x.id) is)
+      (ap (λ (x : ReleaseValue). after_key x.after) is) leaving
+      (refl, ap (λ (x : ReleaseValue). Leaving x Again) is, refl)
+
+  pub failing_leaves : IsStep e e shard (Failing t) (Leaving r GiveUp) None
+  failing_leaves =
+      stands_still e e shard (Failing t) (Leaving r GiveUp) refl (ap (λ (x : ReleaseValue). Some x.id) is)
+      (ap (λ (x : ReleaseValue). after_key x.after) is) leaving
+      (refl, ap (λ (x : ReleaseValue). Leaving x GiveUp) is, refl)

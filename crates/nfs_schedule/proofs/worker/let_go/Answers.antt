@@ -1,0 +1,18 @@
+use Rattle.std.proofs.Common.{sym, subst, None}
+use Rattle.nfs_schedule.proofs.Steps.{released_all, released_more, released_to}
+use Rattle.nfs_schedule.specs.Turns.{IsStep}
+use Rattle.nfs_schedule.specs.declared.worker.Worker.{Worker}
+use Rattle.nfs_schedule.specs.declared.worker.Worker.TheVariants.{Leaving}
+use Rattle.nfs_schedule.proofs.worker.let_go.Goals as goal
+
+pub returns-in-More : goal.returns-in-More
+returns-in-More c = released_more _ _ _ _ c.in-More.ensures.others c.in-More.ensures.book _ c.in-More.ensures.next
+
+pub returns-in-Aborted : goal.returns-in-Aborted
+returns-in-Aborted c =
+    subst (λ (v : Worker). IsStep c.args.engine.now c.release.new.self 0 (Leaving c.args.release c.args.afterwards) v None)
+    (sym c.begin_again.ensures)
+    (released_to _ _ _ _ c.in-Aborted.ensures.others c.in-Aborted.ensures.book c.requires _ c.in-Aborted.ensures.next)
+
+pub returns-in-Ended : goal.returns-in-Ended
+returns-in-Ended c = released_all _ _ _ _ c.in-Ended.ensures.others c.in-Ended.ensures.book c.in-Ended.ensures.next

@@ -1,0 +1,143 @@
+-- What a turn does: the step that the worker's state names.
+use Rattle.std.specs.Prelude.{◌≡◌, ◌+◌, ℕ, false, List, [], ◌∷◌, Option, Some, None, Ok, Err, length}
+use Rattle.std.specs.Vec.Iter.{into_iter_items}
+use Rattle.nfs_engine.specs.Arrivals.{ArrivalValue, received_value}
+use Rattle.nfs_engine.specs.Book.{Begins, Commits, Leads, Steps}
+use Rattle.nfs_engine.specs.Calls.{FinishedValue, PendingValue, TxnValue, again_of, txn_of}
+use Rattle.nfs_engine.specs.Commits.{IsReceipt}
+use Rattle.nfs_engine.specs.Engine.{EngineValue, IsAcquired, IsReleased, IsReserved, freed_more, is_free, release_of}
+use Rattle.nfs_engine.specs.Releases.{ReleaseValue}
+use Rattle.nfs_engine.specs.declared.arrival.Reading.TheVariants as readings
+use Rattle.nfs_engine.specs.declared.asking.Asked.{Asked}
+use Rattle.nfs_engine.specs.declared.journal.Receipt.{Receipt}
+use Rattle.nfs_engine.specs.declared.release.Then.TheVariants as then
+use Rattle.nfs_engine.specs.declared.shard.ReserveError.{ReserveError}
+use Rattle.nfs_engine.specs.declared.taking.Got.TheVariants as got
+use Rattle.nfs_objects.specs.declared.address.Addr.{Addr}
+use Rattle.nfs_objects.specs.declared.modes.Mode.{Mode}
+use Rattle.std.specs.declared.alloc.AllocError.{AllocError}
+use Rattle.nfs_schedule.specs.Answers.{IsRefused}
+use Rattle.nfs_schedule.specs.Workers.{KeepsRest, Thinks, WorkerLives}
+use Rattle.nfs_schedule.specs.declared.answer.Answer.{Answer}
+use Rattle.nfs_schedule.specs.declared.answer.Answer.TheVariants as answers
+use Rattle.nfs_schedule.specs.declared.worker.Afterwards.{Afterwards}
+use Rattle.nfs_schedule.specs.declared.worker.Afterwards.TheVariants.{Again, GiveUp}
+use Rattle.nfs_schedule.specs.declared.worker.Worker.{Worker}
+use Rattle.nfs_schedule.specs.declared.worker.Worker.TheVariants.{Idle, Trying, Wanting, Wishing, Ready, Blocked, Failing}
+use Rattle.nfs_schedule.specs.declared.worker.Worker.TheVariants.{Leaving, PutOff, Refusing}
+
+-- ---- what is changed
+-- store, records and messages are as they were
+abbrev pub KeepsStore : EngineValue → EngineValue → Type 0
+KeepsStore e f = f.book ≡ record e.book { living = f.book.living; next_id = f.book.next_id }
+
+-- this call was executed: its record is the next one, and one step of the machine from the present state
+pub record Executes (e f : EngineValue) (done : FinishedValue) (receipt : Receipt) : Type 0 where
+  pub commits : Commits e.book f.book done
+  pub step : Steps e.book f.book done.done
+  pub leads : Leads e.book f.book
+  pub receipt_is : IsReceipt (e.book.before + length e.book.records + 1) done receipt
+
+-- only what is executed changes store, records and messages
+abbrev pub Effect : EngineValue → EngineValue → Option Answer → Type 0
+Effect e f (Some (answers.Executed receipt)) = (done : FinishedValue) × Executes e f done receipt
+Effect e f answer = KeepsStore e f
+
+-- ---- the step
+-- the oldest arrival: its call begins, or it is refused, or it has a fault
+abbrev pub Admits : EngineValue → EngineValue → ArrivalValue → Worker → Option Answer → Type 0
+Admits e f a (Trying t) None = Begins e.book f.book a t
+Admits e f a Idle (Some (answers.Early faulted)) = (a.reading ≡ readings.Faulted faulted.answer) ×
+    (received_value faulted.received ≡ a.received) × (f ≡ e)
+Admits e f a Idle (Some answer) = (asked : Asked) × (a.reading ≡ readings.Asks asked) ×
+    IsRefused a.received asked answer × (f ≡ e)
+Admits e f a next answer = ⊥
+
+-- a record that asks a call
+abbrev pub AsksCall : ArrivalValue → Type 0
+AsksCall a = (asked : Asked) × (a.reading ≡ readings.Asks asked)
+
+-- only an idle worker takes an arrival from the queue, the oldest
+abbrev pub Takes : EngineValue → EngineValue → (queue later : List ArrivalValue) → Worker → Option Answer → Type 0
+Takes e f [] later next answer = (later ≡ []) × (f ≡ e) × (next ≡ Idle) × (answer ≡ None)
+Takes e f (a ∷ rest) later next answer = (later ≡ rest) × Admits e f a next answer
+
+-- the first address that is wanted: the call has it, and wants the others; or somebody holds it; or there was no memory
+abbrev pub Acquires : EngineValue → TxnValue → Addr × Mode → List (Addr × Mode) → Worker → Type 0
+Acquires e t a others (Trying u) = IsAcquired {E = AllocError} e t u a.0 a.1 (Ok got.Yes) × (others ≡ [])
+Acquires e t a others (Wanting u wanted) =
+    IsAcquired {E = AllocError} e t u a.0 a.1 (Ok got.Yes) × (into_iter_items wanted ≡ others)
+Acquires e t a others (Blocked u) = (h : ℕ) × IsAcquired {E = AllocError} e t u a.0 a.1 (Ok (got.Taken h))
+Acquires e t a others (Failing u) = u ≡ t
+Acquires e t a others worker = ⊥
+
+abbrev pub TakesFirst : EngineValue → TxnValue → List (Addr × Mode) → Worker → Type 0
+TakesFirst e t [] next = next ≡ Trying t
+TakesFirst e t (a ∷ others) next = Acquires e t a others next
+
+-- a new number, or none
+abbrev pub Gains : EngineValue → (shard : ℕ) → TxnValue → Worker → Type 0
+Gains e shard t (Trying u) = IsReserved e t u shard (Ok tt)
+Gains e shard t (Failing u) = (error : ReserveError) × IsReserved e t u shard (Err error)
+Gains e shard t worker = ⊥
+
+-- the call is executed and answered, or there was no memory for it
+abbrev pub Ends : EngineValue → EngineValue → FinishedValue → Worker → Option Answer → Type 0
+Ends e f done (Leaving r after) (Some (answers.Executed receipt)) =
+    Executes e f done receipt × IsReleased done r
+Ends e f done (Failing t) None = (t ≡ txn_of done) × (f ≡ e)
+Ends e f done worker answer = ⊥
+
+-- what comes of a call that holds nothing any more
+abbrev pub after_all : PendingValue → Afterwards → Worker
+after_all p Again = PutOff p
+after_all p GiveUp = Refusing p
+
+-- one shard more is let go; or all is
+abbrev pub Follows : ReleaseValue → Afterwards → Worker → Type 0
+Follows r after (Leaving left still) = (k : ℕ) × (is_free r k ≡ false) × (left ≡ freed_more r k) × (still ≡ after)
+Follows r after Idle = r.after ≡ then.Ended
+Follows r after next = (p : PendingValue) × (r.after ≡ then.Aborted p) × (next ≡ after_all p after)
+
+-- the call is over, and was not executed
+abbrev pub Declines : PendingValue → Worker → Option Answer → Type 0
+Declines p Idle (Some answer) = IsRefused p.received
+    (record { xid = p.xid; ids = p.ctx.ids; call = p.call }) answer
+Declines p worker answer = ⊥
+
+-- the step that the worker's state names, what it leads to, and what is answered
+abbrev pub IsNamed : EngineValue → EngineValue → (shard : ℕ) → Worker → Worker → Option Answer → Type 0
+IsNamed e f shard Idle next answer = Unit {0}
+IsNamed e f shard (Trying t) next answer = (f ≡ e) × (next ≡ Trying t) × (answer ≡ None)
+IsNamed e f shard (Wanting t wanted) next answer =
+    (f.book ≡ e.book) × TakesFirst e t (into_iter_items wanted) next × (answer ≡ None)
+IsNamed e f shard (Wishing t) next answer = (f.book ≡ e.book) × Gains e shard t next × (answer ≡ None)
+IsNamed e f shard (Ready done) next answer = Ends e f done next answer
+IsNamed e f shard (Blocked t) next answer =
+    (f ≡ e) × (next ≡ Leaving (release_of t) Again) × (answer ≡ None)
+IsNamed e f shard (Failing t) next answer =
+    (f ≡ e) × (next ≡ Leaving (release_of t) GiveUp) × (answer ≡ None)
+IsNamed e f shard (Leaving r after) next answer = (f.book ≡ e.book) × Follows r after next × (answer ≡ None)
+IsNamed e f shard (PutOff p) next answer = (f ≡ e) × (next ≡ Trying (again_of p)) × (answer ≡ None)
+IsNamed e f shard (Refusing p) next answer = Declines p next answer
+
+-- a worker that has a call leaves the queue as it is
+abbrev pub KeepsQueue : EngineValue → EngineValue → (queue later : List ArrivalValue) → Worker → Worker →
+    Option Answer → Type 0
+KeepsQueue e f queue later Idle next answer = Takes e f queue later next answer
+KeepsQueue e f queue later worker next answer = later ≡ queue
+
+-- a step of a worker
+pub record IsStep (e f : EngineValue) (shard : ℕ) (old new : Worker) (answer : Option Answer) : Type 0 where
+  pub lives : WorkerLives f new
+  pub rest : KeepsRest e f old new
+  pub effect : Effect e f answer
+  pub named : IsNamed e f shard old new answer
+
+-- a worker thinks, and makes the step that its state then names
+pub record Turns (e f : EngineValue) (queue later : List ArrivalValue) (shard : ℕ) (old new : Worker)
+    (answer : Option Answer) : Type 0 where
+  pub thought : Worker
+  pub thinks : Thinks old thought
+  pub step : IsStep e f shard thought new answer
+  pub queued : KeepsQueue e f queue later thought new answer

@@ -1,0 +1,75 @@
+-- The engine with its workers: what it keeps, and what its steps do.
+use Rattle.std.specs.Prelude.{◌≡◌, ℕ, ◌-◌, ◌%◌, List, [], ◌∷◌, ◌++◌, map, Option, Some, None, IsSome, slice_get, slice_set}
+use Rattle.nfs_machine.specs.Run.{Record, Run}
+use Rattle.nfs_machine.specs.State.{State}
+use Rattle.nfs_objects.specs.declared.address.Addr.{Addr}
+use Rattle.nfs_engine.specs.Arrivals.{ArrivalValue, shared_value}
+use Rattle.nfs_engine.specs.Book.{LeadsFrom}
+use Rattle.nfs_engine.specs.Engine.{EngineValue, held_among}
+use Rattle.nfs_engine.specs.Running.{running_at}
+use Rattle.nfs_engine.specs.declared.outbox.Posted.{Posted}
+use Rattle.nfs_engine.specs.declared.records.Era.{Era}
+use Rattle.nfs_schedule.specs.Turns.{Turns}
+use Rattle.nfs_schedule.specs.Workers.{WorkerLives, worker_id, worker_key}
+use Rattle.nfs_schedule.specs.declared.answer.Answer.{Answer}
+use Rattle.nfs_schedule.specs.declared.worker.Worker.{Worker}
+
+pub record WorldValue : Type 0 where
+  pub engine : EngineValue
+  pub workers : List Worker
+  -- what came in and was not yet admitted, the oldest first
+  pub queue : List ArrivalValue
+  -- the eras that are over, the first one first
+  pub eras : List Era
+  -- the messages that were taken, the oldest first
+  pub taken : List Posted
+
+-- no call is in progress, and no address is held
+pub record IsAtRest (e : EngineValue) : Type 0 where
+  pub running : (key : ℕ) → running_at e.book.living key ≡ None
+  pub held : (a : Addr) (id : ℕ) → held_among e.shards a id ≡ None
+
+-- the number is that of one of the workers
+pub record IsSomeones (number : Worker → Option ℕ) (workers : List Worker) (n : ℕ) : Type 0 where
+  pub place : ℕ
+  pub worker : Worker
+  pub there : slice_get workers place ≡ Some worker
+  pub is : number worker ≡ Some n
+
+-- What each worker has lives in the engine, and no two workers have one call; each call in progress is a worker's, and so
+-- is each that holds an address.
+pub record IsKept (e : EngineValue) (workers : List Worker) : Type 0 where
+  pub lives : (i : ℕ) (w : Worker) → slice_get workers i ≡ Some w → WorkerLives e w
+  pub apart : (i j : ℕ) (w v : Worker) (id : ℕ) → slice_get workers i ≡ Some w → slice_get workers j ≡ Some v →
+      worker_id w ≡ Some id → worker_id v ≡ Some id → i ≡ j
+  pub running : (key : ℕ) → IsSome (running_at e.book.living key) → IsSomeones worker_key workers key
+  pub held : (a : Addr) (id : ℕ) → IsSome (held_among e.shards a id) → IsSomeones worker_id workers id
+
+-- the records of eras, one after the other
+abbrev pub records_of : List Era → List Record
+records_of [] = []
+records_of (era ∷ eras) = map shared_value era.records.items ++ records_of eras
+
+-- The records of all eras lead from this state to one that the store stands for: those of the eras that are over to
+-- where the present one began, and its own from there.
+pub record RunsFrom (base : State) (w : WorldValue) : Type 0 where
+  pub began : State
+  pub before : Run w.engine.book.setting base (records_of w.eras) began
+  pub present : LeadsFrom began w.engine.book
+
+-- from wherever the old records led to the old store, the new ones lead to the new store
+abbrev pub RunsOn : WorldValue → WorldValue → Type 0
+RunsOn old new = (base : State) → RunsFrom base old → RunsFrom base new
+
+-- ---- steps
+-- this worker, from 1, thinks, and makes the step that its state names; a new number is of the shard of its own
+pub record TakesTurn (old new : WorldValue) (worker : ℕ) (answer : Option Answer) : Type 0 where
+  pub was : Worker
+  pub there : slice_get old.workers (worker - 1) ≡ Some was
+  pub now : Worker
+  pub turns : Turns old.engine new.engine old.queue new.queue (worker % 16) was now answer
+  pub rest : new ≡ record old {
+    engine = new.engine;
+    queue = new.queue;
+    workers = slice_set old.workers (worker - 1) now;
+  }

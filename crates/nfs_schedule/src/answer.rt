@@ -1,0 +1,94 @@
+//! How what came in was answered.
+
+ghost use Rattle.std.specs.Prelude.{◌≡◌, IfSome};
+ghost use Rattle.nfs_engine.specs.Arrivals.{received_value};
+ghost use Rattle.nfs_engine.specs.Answers.{answer_bytes};
+ghost use Rattle.nfs_engine.specs.Asked.{IsAsked};
+ghost use Rattle.nfs_engine.specs.Built.{IsBuilt};
+ghost use Rattle.nfs_machine.specs.Refusal.{refusal_of};
+ghost use Rattle.nfs_machine.specs.RpcReplies.{refusal_message};
+ghost use Rattle.nfs_schedule.specs.Answers.{IsRefused, answered, reply_bytes};
+
+use nfs_engine::{Asked, Faulted, Receipt, Received, answers};
+use std::alloc::Global;
+
+/// A call that was not executed, for want of memory or of a number.
+#[derive(Drop)]
+pub struct Declined {
+    pub received: Received,
+    /// Its refusal; None where there was no memory for that.
+    pub answer: Option<Vec<u8>>,
+}
+
+/// How a record that came in was answered.
+#[derive(Drop)]
+pub enum Answer {
+    /// Its call was executed.
+    Executed(Receipt),
+    /// Its call was refused, and changed nothing.
+    Refused(Declined),
+    /// It has a fault.
+    Early(Faulted),
+    /// Its worker was stopped: it is not executed, and has no reply.
+    Stopped(Received),
+}
+
+impl Answer {
+    /// What came in.
+    pub fn received(&self) -> &Received
+        ensures { received_value result.now ≡ answered self.now }
+    {
+        match self {
+            Answer::Executed(receipt) => &receipt.executed.received,
+            Answer::Refused(declined) => &declined.received,
+            Answer::Early(faulted) => &faulted.received,
+            Answer::Stopped(received) => received,
+        }
+    }
+
+    /// The bytes of the reply; none where there is no reply.
+    pub fn bytes(&self) -> &[u8]
+        ensures { result.now ≡ reply_bytes self.now }
+    {
+        match self {
+            Answer::Executed(receipt) => &receipt.answer,
+            Answer::Refused(declined) => bytes_of(&declined.answer),
+            Answer::Early(faulted) => bytes_of(&faulted.answer),
+            Answer::Stopped(_) => &[],
+        }
+    }
+}
+
+/// The bytes, if there are any.
+fn bytes_of(answer: &Option<Vec<u8>>) -> &[u8]
+    ensures { result.now ≡ answer_bytes answer.now }
+{
+    match answer {
+        Some(bytes) => bytes,
+        None => &[],
+    }
+}
+
+/// The answer of a call that is not executed.
+pub(crate) fn refuse(alloc: Global, received: Received, asked: Asked) -> Answer
+    requires { IsAsked (received_value received).bytes asked }
+    ensures { IsRefused (received_value received) asked result }
+{
+    let answer = refusal(alloc, &asked);
+    drop(asked);
+    Answer::Refused(Declined { received, answer })
+}
+
+/// The bytes of a call's refusal; None where there is no memory for them.
+fn refusal(alloc: Global, asked: &Asked) -> Option<Vec<u8>>
+    requires { IsBuilt asked.now.call }
+    ensures { IfSome result
+        (λ bytes. bytes.items ≡ refusal_message asked.now.xid (refusal_of asked.now.call)) }
+{
+    let Ok(refusal) = asked.call.refusal() else {
+        return None;
+    };
+    let answer = answers::refuse(alloc, asked.xid, &refusal);
+    drop(refusal);
+    answer.ok()
+}
