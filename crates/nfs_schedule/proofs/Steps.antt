@@ -1,5 +1,5 @@
 -- Each step of a worker, by what the engine does.
-use Rattle.std.proofs.Common.{◌≡◌, ℕ, true, false, List, [], ◌∷◌, Option, Some, None, Ok, Err, refl, sym, ◌∙◌, ap, subst}
+use Rattle.std.proofs.Common.{◌≡◌, ℕ, true, false, List, [], ◌∷◌, ◌++◌, append-nil, append_assoc, Option, Some, None, Ok, Err, refl, sym, ◌∙◌, ap, subst}
 use Rattle.std.specs.Vec.Iter.{into_iter_items}
 use Rattle.std.specs.declared.alloc.AllocError.{AllocError}
 use Rattle.std.specs.declared.alloc.Global.{Global}
@@ -7,11 +7,13 @@ use Rattle.std.specs.declared.vec.IntoIter.{IntoIter}
 use Rattle.nfs_machine.specs.Run.{Received}
 use Rattle.nfs_machine.specs.declared.calls.Call.{Call}
 use Rattle.nfs_machine.specs.declared.context.Ctx.{Ctx}
-use Rattle.nfs_objects.proofs.Seen.{all-append, all-map}
+use Rattle.nfs_objects.proofs.Seen.{all-map}
+use Rattle.nfs_machine.proofs.Modes.{all-joined}
+use Rattle.nfs_objects.proofs.Suiting.{suits-wider}
 use Rattle.nfs_objects.specs.Asks.{Asks, MayAsk}
 use Rattle.nfs_objects.specs.Calls.{named_by}
 use Rattle.nfs_objects.specs.Fits.{vacant}
-use Rattle.nfs_objects.specs.Modes.{covers, mode_at, modes_of}
+use Rattle.nfs_objects.specs.Modes.{Suits, covers, mode_at, modes_of}
 use Rattle.nfs_objects.specs.Rooms.{with_entry, with_number}
 use Rattle.nfs_objects.specs.Values.{Seen, ViewValue, is_addr}
 use Rattle.nfs_objects.specs.declared.address.Addr.{Addr}
@@ -55,46 +57,63 @@ covers_itself Shared = refl
 covers_itself Exclusive = refl
 
 -- what an attempt asks for may be taken
-pub wants_asked : (call : Call) (view : ViewValue) (asked : List (Addr × Mode)) →
+pub wants_asked : (call : Call) (view : ViewValue) (asked : List (Addr × Mode)) → Suits (modes_of call) view →
     Asks (modes_of call) (named_by call) view asked → Wants call view asked
-wants_asked call view asked asks = record {
+wants_asked call view asked suited asks = record {
+  asking = view;
+  suited = suited;
+  taken = [];
+  strong = tt;
+  grew = ap (λ es. record view { entries = es }) (sym (append-nil view.entries));
   once = asks.once;
   each =
-      all-map (MayAsk (modes_of call) (named_by call) view) (MayTake call view) (λ a may. record {
+      all-map (MayAsk (modes_of call) (named_by call) view) (MayTake call view view) (λ a may. record {
         unseen = may.unseen;
         strong = subst (λ m. covers a.1 m ≡ true) may.mode (covers_itself a.1);
       }) asked asks.each;
 }
 
+-- what is taken as it was asked for suits
+wants_suits : (call : Call) (view : ViewValue) (wanted : List (Addr × Mode)) → Wants call view wanted →
+    Suits (modes_of call) view
+wants_suits call view wanted w = subst (λ (v : ViewValue). Suits (modes_of call) v) (sym w.grew)
+    (suits-wider w.asking w.taken w.asking.reserved (modes_of call) w.suited w.strong)
+
 module _ (t u : TxnValue) (a : Addr × Mode) (others : List (Addr × Mode)) (o : Option Object)
     (is : u ≡ record t { view = with_entry t.view (record { address = a.0; mode = a.1; object = o }) })
-    (suited : IsSuited t) (wants : Wants t.call t.view (a ∷ others)) where
+    (wants : Wants t.call t.view (a ∷ others)) where
   abbrev entry : Seen
   entry = record { address = a.0; mode = a.1; object = o }
 
   abbrev taken : TxnValue
   taken = record t { view = with_entry t.view entry }
 
-  suited_more : IsSuited u
-  suited_more = subst (λ (x : TxnValue). IsSuited x) (sym is)
-      (all-append (λ (e : Seen). covers e.mode (mode_at (modes_of t.call) e.address) ≡ true) t.view.entries entry suited
-      wants.each.0.strong)
-
   wants_less : Wants u.call u.view others
   wants_less = subst (λ (x : TxnValue). Wants x.call x.view others) (sym is) (record {
+    asking = wants.asking;
+    suited = wants.suited;
+    taken = wants.taken ++ entry ∷ [];
+    strong =
+        all-joined (λ (e : Seen). covers e.mode (mode_at (modes_of t.call) wants.asking e.address) ≡ true)
+        wants.taken (entry ∷ []) wants.strong (wants.each.0.strong, tt);
+    grew =
+        ap (λ (v : ViewValue). with_entry v entry) wants.grew
+        ∙ ap (λ es. record wants.asking { entries = es }) (append_assoc wants.asking.entries wants.taken (entry ∷ []));
     once = wants.once.1;
     each =
-        all_both (λ (b : Addr × Mode). is_addr a.0 b.0 ≡ false) (MayTake t.call t.view) (MayTake taken.call taken.view)
-        others (λ b other may. record {
+        all_both (λ (b : Addr × Mode). is_addr a.0 b.0 ≡ false) (MayTake t.call wants.asking t.view)
+        (MayTake t.call wants.asking taken.view) others (λ b other may. record {
           unseen = seen_beside t.view.entries entry b.0 other ∙ may.unseen;
           strong = may.strong;
         }) wants.once.0 wants.each.1;
   })
 
+  suited_more : IsSuited u
+  suited_more = wants_suits u.call u.view others wants_less
+
 suited_number : (t u : TxnValue) (r : Reserved) → u ≡ record t { view = with_number t.view r } → IsSuited t → IsSuited u
 suited_number t u r is suited = subst (λ (x : TxnValue). IsSuited x) (sym is)
-    (all-append (λ (e : Seen). covers e.mode (mode_at (modes_of t.call) e.address) ≡ true) t.view.entries (vacant r)
-    suited refl)
+    (suits-wider t.view (vacant r ∷ []) (t.view.reserved ++ r ∷ []) (modes_of t.call) suited (refl, tt))
 
 -- ---- steps of a call
 pub keeps_book : (e f : EngineValue) → f.book ≡ e.book → KeepsStore e f
@@ -137,7 +156,7 @@ module _ (e f : EngineValue) (t u : TxnValue) (a : Addr × Mode) (wanted left : 
     acquired_last none =
         goes_on t.id e f 0 (Wanting t wanted) (Trying u) k refl (ap (λ (x : TxnValue). Some x.id) is)
         (ap (λ (x : TxnValue). Some x.key) is) same
-        (later, suited_more t u a (into_iter_items left) ((store_in e.book).at a.0) is lives.1 wants_first)
+        (later, suited_more t u a (into_iter_items left) ((store_in e.book).at a.0) is wants_first)
         (same, leads (Trying u) (is, none), refl)
 
     pub acquired_more : IsStep e f 0 (Wanting t wanted) (Wanting u left) None
@@ -145,8 +164,8 @@ module _ (e f : EngineValue) (t u : TxnValue) (a : Addr × Mode) (wanted left : 
         goes_on t.id e f 0 (Wanting t wanted) (Wanting u left) k refl (ap (λ (x : TxnValue). Some x.id) is)
         (ap (λ (x : TxnValue). Some x.key) is) same (
           later,
-          suited_more t u a (into_iter_items left) ((store_in e.book).at a.0) is lives.1 wants_first,
-          wants_less t u a (into_iter_items left) ((store_in e.book).at a.0) is lives.1 wants_first,
+          suited_more t u a (into_iter_items left) ((store_in e.book).at a.0) is wants_first,
+          wants_less t u a (into_iter_items left) ((store_in e.book).at a.0) is wants_first,
         )
         (same, leads (Wanting u left) (is, refl), refl)
 
@@ -293,7 +312,7 @@ comes_on : (e : EngineValue) (t : TxnValue) (v : Worker) → Comes t v → Worke
     ThinksOn e (Trying t) v
 comes_on e t (Wanting u wanted) c lives =
     subst (λ (x : TxnValue). ThinksOn e (Trying t) (Wanting x wanted)) (sym c.0) (record {
-      lives = (lives.0, lives.1, wants_asked t.call t.view (into_iter_items wanted) c.1);
+      lives = (lives.0, lives.1, wants_asked t.call t.view (into_iter_items wanted) lives.1 c.1);
       ids = refl;
       keys = refl;
     })
