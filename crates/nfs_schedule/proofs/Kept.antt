@@ -1,19 +1,19 @@
--- A turn keeps what a world keeps.
-use Rattle.std.proofs.Common.{◌≡◌, ◌≢◌, ℕ, zero, suc, ◌<◌, ◌≤◌, ◌⊎◌, inl, inr, Bool, true, false, cond, List, [], ◌∷◌, ◌++◌, set, slice_get, Option, Some, None, IsSome, refl, sym, ◌∙◌, ap, subst, arith}
-use Rattle.nfs_machine.specs.Run.{Run, Setting}
-use Rattle.nfs_engine.proofs.Led.{same_leads}
+-- What a world keeps: each step keeps it.
+use Rattle.std.proofs.Common.{◌≡◌, ◌≢◌, ℕ, zero, suc, ◌+◌, ◌<◌, ◌≤◌, ◌⊎◌, inl, inr, List, [], ◌∷◌, ◌++◌, length, replicate, set, slice_get, Option, Some, None, IsSome, refl, sym, ◌∙◌, ap, subst, arith}
+use Rattle.std.proofs.lemmas.List.{replicate-append-replicate}
 use Rattle.nfs_engine.proofs.Lifted.{alike_or}
 use Rattle.nfs_engine.specs.Arrivals.{ArrivalValue}
-use Rattle.nfs_engine.specs.Book.{BookValue, Leads}
-use Rattle.nfs_engine.specs.Engine.{EngineValue, held_among}
+use Rattle.nfs_engine.specs.Engine.{EngineValue, KeepsAll, held_among}
 use Rattle.nfs_engine.specs.Running.{running_at}
-use Rattle.nfs_schedule.proofs.Others.{worker_known}
+use Rattle.nfs_engine.specs.Shards.{ShardValue}
+use Rattle.nfs_engine.specs.declared.running.Running.{Running}
+use Rattle.nfs_schedule.proofs.Others.{worker_known, worker_on}
 use Rattle.nfs_schedule.proofs.Steps.{thinks_on}
-use Rattle.nfs_schedule.specs.Turns.{Effect, KeepsStore, Turns}
+use Rattle.nfs_schedule.specs.Stops.{IsStop}
+use Rattle.nfs_schedule.specs.Turns.{Turns}
 use Rattle.nfs_schedule.specs.Workers.{KeepsRest, WorkerLives, worker_id, worker_key}
-use Rattle.nfs_schedule.specs.Worlds.{IsAtRest, IsKept, IsSomeones, RunsOn, TakesTurn, WorldValue, records_of}
+use Rattle.nfs_schedule.specs.Worlds.{IsAtRest, IsKept, IsSomeones}
 use Rattle.nfs_schedule.specs.declared.answer.Answer.{Answer}
-use Rattle.nfs_schedule.specs.declared.answer.Answer.TheVariants as answers
 use Rattle.nfs_schedule.specs.declared.worker.Worker.{Worker}
 use Rattle.nfs_schedule.specs.declared.worker.Worker.TheVariants.{Idle}
 
@@ -134,89 +134,121 @@ kept_turn e f queue later shard ws i w v answer kept at turns =
     kept_on e f ws i w v kept at turns.step.lives
     (rest_thought e f w turns.thought v on.ids on.keys turns.step.rest)
 
+-- ---- a stop
+pub kept_stop : (e f : EngineValue) (ws : List Worker) (i : ℕ) (w : Worker) (answer : Option Answer) → IsKept e ws →
+    slice_get ws i ≡ Some w → IsStop e f w answer → IsKept f (set ws i Idle)
+kept_stop e f ws i w answer kept at stop = kept_on e f ws i w Idle kept at tt stop.rest
+
+-- ---- a step that concerns the book alone
+abbrev next_of : Option ℕ → ℕ
+next_of None = 0
+next_of (Some j) = suc j
+
+other_than : (o : Option ℕ) (j : ℕ) → o ≡ Some j → j ≢ next_of o
+other_than None j is = λ same. (let none_is_one : None ≡ Some j = is in cc)
+other_than (Some i) j is = λ same. (let one : i ≡ j = cc in omega (arith, one, same))
+
+-- each call, and whoever holds an address, is as it was
+pub kept_all : (e f : EngineValue) (ws : List Worker) → KeepsAll e f → f.shards ≡ e.shards →
+    f.book.living ≡ e.book.living → IsKept e ws → IsKept f ws
+kept_all e f ws all shards living k = record {
+  lives = λ i w at. worker_on (next_of (worker_id w)) e f (all (next_of (worker_id w))) w
+      (λ j is. other_than (worker_id w) j is) (k.lives i w at);
+  apart = k.apart;
+  running = λ key some.
+      k.running key (subst (λ (l : List (Option Running)). IsSome (running_at l key)) living some);
+  held = λ a id some. k.held a id (subst (λ (s : List ShardValue). IsSome (held_among s a id)) shards some);
+}
+
 -- ---- workers that are idle
-pub kept_none : (e : EngineValue) (ws : List Worker) → ws ≡ [] → IsAtRest e → IsKept e ws
-kept_none e ws none rest = subst (λ (xs : List Worker). IsKept e xs) (sym none) (record {
-  lives = λ i w is. cc;
-  apart = λ i j w v id isw isv wx vx. cc;
-  running = λ key some. (let not_one : IsSome (running_at e.book.living key) = some in
-      let is_none = rest.running key in cc);
-  held = λ a id some. (let not_one : IsSome (held_among e.shards a id) = some in let is_none = rest.held a id in cc);
-})
-
-get_push : (ws : List Worker) (i : ℕ) (w : Worker) → slice_get (ws ++ Idle ∷ []) i ≡ Some w →
-    (slice_get ws i ≡ Some w) ⊎ (w ≡ Idle)
-get_push [] zero w is = inr (cc)
-get_push [] (suc i) w is = inl is
-get_push (x ∷ ws) zero w is = inl is
-get_push (x ∷ ws) (suc i) w is = get_push ws i w is
-
-got_push : (ws : List Worker) (i : ℕ) (w : Worker) → slice_get ws i ≡ Some w → slice_get (ws ++ Idle ∷ []) i ≡ Some w
-got_push [] i w is = cc
-got_push (x ∷ ws) zero w is = is
-got_push (x ∷ ws) (suc i) w is = got_push ws i w is
+pub all_idle : (n i : ℕ) (w : Worker) → slice_get (replicate n Idle) i ≡ Some w → w ≡ Idle
+all_idle zero i w is = cc
+all_idle (suc n) zero w is = cc
+all_idle (suc n) (suc i) w is = all_idle n i w is
 
 idle_has_none : (w : Worker) (id : ℕ) → w ≡ Idle → worker_id w ≡ Some id → ⊥
 idle_has_none w id idle is = let none : worker_id w ≡ None = ap worker_id idle in cc
 
-someones_push : (number : Worker → Option ℕ) (ws : List Worker) (n : ℕ) → IsSomeones number ws n →
-    IsSomeones number (ws ++ Idle ∷ []) n
-someones_push number ws n s = record {
-  place = s.place;
-  worker = s.worker;
-  there = got_push ws s.place s.worker s.there;
-  is = s.is;
+none_of : {X : Type 0} (o : Option X) → o ≡ None → IsSome o → ⊥
+none_of None is some = cc
+none_of (Some x) is some = cc
+
+pub kept_idle : (e : EngineValue) (n : ℕ) → IsAtRest e → IsKept e (replicate n Idle)
+kept_idle e n rest = record {
+  lives = λ i w is. subst (λ (x : Worker). WorkerLives e x) (sym (all_idle n i w is)) tt;
+  apart = λ i j w v id isw isv wx vx. absurd (idle_has_none w id (all_idle n i w isw) wx);
+  running = λ key some. absurd (none_of (running_at e.book.living key) (rest.running key) some);
+  held = λ a id some. absurd (none_of (held_among e.shards a id) (rest.held a id) some);
 }
 
-pub kept_push : (e : EngineValue) (ws : List Worker) → IsKept e ws → IsKept e (ws ++ Idle ∷ [])
-kept_push e ws k = record {
-  lives = λ i w is. elim (get_push ws i w is) [
-    | inl was ↦ k.lives i w was
-    | inr idle ↦ subst (λ (x : Worker). WorkerLives e x) (sym idle) tt
-  ];
-  apart = λ i j w v id isw isv wx vx. elim (get_push ws i w isw) [
-    | inl a ↦ elim (get_push ws j v isv) [
-      | inl b ↦ k.apart i j w v id a b wx vx
-      | inr idle ↦ absurd (idle_has_none v id idle vx)
-    ]
-    | inr idle ↦ absurd (idle_has_none w id idle wx)
-  ];
-  running = λ key some. someones_push worker_key ws key (k.running key some);
-  held = λ a id some. someones_push worker_id ws id (k.held a id some);
+pub kept_new : (e : EngineValue) (n : ℕ) (ws : List Worker) → ws ≡ replicate n Idle → IsAtRest e → IsKept e ws
+kept_new e n ws idle rest = subst (λ (l : List Worker). IsKept e l) (sym idle) (kept_idle e n rest)
+
+pub idle_more : (n : ℕ) (ws more : List Worker) → ws ≡ replicate n Idle → more ≡ ws ++ Idle ∷ [] →
+    more ≡ replicate (n + 1) Idle
+idle_more n ws more idle is =
+    is ∙ ap (λ (l : List Worker). l ++ Idle ∷ []) idle ∙ replicate-append-replicate n 1 Idle
+
+-- ---- the last worker, once it is idle
+got_first : (ws : List Worker) (i : ℕ) (w : Worker) → slice_get ws i ≡ Some w →
+    slice_get (ws ++ Idle ∷ []) i ≡ Some w
+got_first [] i w is = cc
+got_first (x ∷ ws) zero w is = is
+got_first (x ∷ ws) (suc i) w is = got_first ws i w is
+
+get_first : (ws : List Worker) (i : ℕ) (w : Worker) → slice_get (ws ++ Idle ∷ []) i ≡ Some w →
+    (slice_get ws i ≡ Some w) ⊎ (w ≡ Idle)
+get_first [] zero w is = inr (cc)
+get_first [] (suc i) w is = inl is
+get_first (x ∷ ws) zero w is = inl is
+get_first (x ∷ ws) (suc i) w is = get_first ws i w is
+
+got_last : (ws : List Worker) (w : Worker) → slice_get (ws ++ w ∷ []) (length ws) ≡ Some w
+got_last [] w = refl
+got_last (x ∷ ws) w = got_last ws w
+
+set_last : (ws : List Worker) (w v : Worker) → set (ws ++ w ∷ []) (length ws) v ≡ ws ++ v ∷ []
+set_last [] w v = refl
+set_last (x ∷ ws) w v = ap (λ l. x ∷ l) (set_last ws w v)
+
+-- whose number it is is not the idle one
+someones_first : (number : Worker → Option ℕ) (ws : List Worker) (n : ℕ) → number Idle ≡ None →
+    IsSomeones number (ws ++ Idle ∷ []) n → IsSomeones number ws n
+someones_first number ws n idle s = elim (get_first ws s.place s.worker s.there) [
+  | inl there ↦ record { place = s.place; worker = s.worker; there = there; is = s.is }
+  | inr is ↦ absurd (let none : Some n ≡ None = sym s.is ∙ ap number is ∙ idle in cc)
+]
+
+kept_first : (e : EngineValue) (ws : List Worker) → IsKept e (ws ++ Idle ∷ []) → IsKept e ws
+kept_first e ws k = record {
+  lives = λ i w at. k.lives i w (got_first ws i w at);
+  apart = λ i j w v id isw isv. k.apart i j w v id (got_first ws i w isw) (got_first ws j v isv);
+  running = λ key some. someones_first worker_key ws key refl (k.running key some);
+  held = λ a id some. someones_first worker_id ws id refl (k.held a id some);
 }
 
--- ---- the records
-store_leads : (e f : EngineValue) → KeepsStore e f → Leads e.book f.book × (f.book.setting ≡ e.book.setting)
-store_leads e f same = (
-  same_leads e.book f.book (ap (λ (b : BookValue). b.records) same) (ap (λ (b : BookValue). b.objects) same)
-      (ap (λ (b : BookValue). b.setting) same),
-  ap (λ (b : BookValue). b.setting) same,
-)
+pub kept_less : (e f : EngineValue) (ws : List Worker) (w : Worker) (answer : Option Answer) →
+    IsKept e (ws ++ w ∷ []) → IsStop e f w answer → IsKept f ws
+kept_less e f ws w answer kept stop =
+    kept_first f ws (subst (λ (l : List Worker). IsKept f l) (set_last ws w Idle)
+    (kept_stop e f (ws ++ w ∷ []) (length ws) w answer kept (got_last ws w) stop))
 
-effect_leads : (e f : EngineValue) (answer : Option Answer) → Effect e f answer →
-    Leads e.book f.book × (f.book.setting ≡ e.book.setting)
-effect_leads e f None is = store_leads e f is
-effect_leads e f (Some (answers.Executed receipt)) is =
-    (is.1.leads, ap (λ (b : BookValue). b.setting) is.1.commits.rest)
-effect_leads e f (Some (answers.Refused declined)) is = store_leads e f is
-effect_leads e f (Some (answers.Early faulted)) is = store_leads e f is
-effect_leads e f (Some (answers.Stopped received)) is = store_leads e f is
+pub last_lives : (e : EngineValue) (ws : List Worker) (w : Worker) → IsKept e (ws ++ w ∷ []) → WorkerLives e w
+last_lives e ws w kept = kept.lives (length ws) w (got_last ws w)
 
--- a turn's records lead on
-pub turn_runs : (old new : WorldValue) (worker : ℕ) (answer : Option Answer) → TakesTurn old new worker answer →
-    RunsOn old new
-turn_runs old new worker answer t base r =
-    let on = effect_leads old.engine new.engine answer t.turns.step.effect in
-    record {
-      began = r.began;
-      before =
-          subst (λ (w : WorldValue). Run new.engine.book.setting base (records_of w.eras) r.began) (sym t.rest)
-          (subst (λ (s : Setting). Run s base (records_of old.eras) r.began) (sym on.1) r.before);
-      present = on.0 r.began r.present;
-    }
+pub rest_none : (e : EngineValue) → IsKept e [] → IsAtRest e
+rest_none e k = record {
+  running = λ key. nobody (running_at e.book.living key) (λ some. no_one worker_key key (k.running key some));
+  held = λ a id. nobody (held_among e.shards a id) (λ some. no_one worker_id id (k.held a id some));
+}
+  where
+    no_one : (number : Worker → Option ℕ) (n : ℕ) → IsSomeones number [] n → ⊥
+    no_one number n s = (let none : None ≡ Some s.worker = s.there in cc)
 
--- one worker more, or not
-pub kept_if : (e : EngineValue) (ws next : List Worker) (b : Bool) → next ≡ cond b (ws ++ Idle ∷ []) ws →
-    IsKept e ws → IsKept e next
-kept_if e ws next true is k = subst (λ (xs : List Worker). IsKept e xs) (sym is) (kept_push e ws k)
-kept_if e ws next false is k = subst (λ (xs : List Worker). IsKept e xs) (sym is) k
+    nobody : {X : Type 0} (o : Option X) → (IsSome o → ⊥) → o ≡ None
+    nobody None empty = refl
+    nobody (Some x) empty = absurd (empty refl)
+
+pub rest_empty : (e : EngineValue) (ws : List Worker) → length ws ≡ 0 → IsKept e ws → IsAtRest e
+rest_empty e [] none k = rest_none e k
+rest_empty e (w ∷ ws) none k = absurd (omega (arith, none))

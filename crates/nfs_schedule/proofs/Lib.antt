@@ -1,6 +1,10 @@
 pub mod Built
+pub mod Driven
 pub mod Kept
 pub mod Nothing
+pub mod Ordered
 pub mod Others
 pub mod Rest
+pub mod Runs
 pub mod Steps
+pub mod Stopping

@@ -255,7 +255,7 @@ pub not_executed : (e f : EngineValue) (received : Received) (asked : Asked) (an
 not_executed e f received asked (answers.Executed receipt) is keeps = absurd is
 not_executed e f received asked (answers.Refused declined) is keeps = keeps
 not_executed e f received asked (answers.Early faulted) is keeps = keeps
-not_executed e f received asked (answers.Stopped stopped) is keeps = keeps
+not_executed e f received asked (answers.Unanswered unanswered) is keeps = keeps
 
 pub begun : (e f : EngineValue) (a : ArrivalValue) (t : TxnValue) → Begins e.book f.book a t → Lives f t →
     KeepsOthers t.id e f → f.shards ≡ e.shards → IsStep e f 0 Idle (Trying t) None

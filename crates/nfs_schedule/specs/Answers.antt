@@ -8,21 +8,21 @@ use Rattle.nfs_engine.specs.Answers.{answer_bytes}
 use Rattle.nfs_engine.specs.Arrivals.{received_value}
 use Rattle.nfs_engine.specs.declared.asking.Asked.{Asked}
 use Rattle.nfs_schedule.specs.declared.answer.Answer.{Answer}
-use Rattle.nfs_schedule.specs.declared.answer.Answer.TheVariants.{Executed, Refused, Early, Stopped}
+use Rattle.nfs_schedule.specs.declared.answer.Answer.TheVariants.{Executed, Refused, Early, Unanswered}
 
 -- what came in
 abbrev pub answered : Answer → machine.Received
 answered (Executed receipt) = received_value (arc_value receipt.executed).received
 answered (Refused declined) = received_value declined.received
 answered (Early faulted) = received_value faulted.received
-answered (Stopped received) = received_value received
+answered (Unanswered received) = received_value received
 
 -- the bytes of the reply, if there is one
 abbrev pub reply_bytes : Answer → List ℕ
 reply_bytes (Executed receipt) = receipt.answer.items
 reply_bytes (Refused declined) = answer_bytes declined.answer
 reply_bytes (Early faulted) = answer_bytes faulted.answer
-reply_bytes (Stopped received) = []
+reply_bytes (Unanswered received) = []
 
 -- what came in, which asks this, is refused: the answer is the refusal, or nothing where there was no memory for it
 abbrev pub IsRefused : machine.Received → Asked → Answer → Type 0

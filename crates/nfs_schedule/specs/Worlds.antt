@@ -1,18 +1,20 @@
 -- The engine with its workers: what it keeps, and what its steps do.
-use Rattle.std.specs.Prelude.{◌≡◌, ℕ, ◌-◌, ◌%◌, List, [], ◌∷◌, ◌++◌, map, Option, Some, None, IsSome, slice_get, slice_set}
+use Rattle.std.specs.Prelude.{◌≡◌, ℕ, ◌-◌, ◌%◌, List, [], ◌∷◌, ◌++◌, map, Option, Some, None, IsSome, option_to_list, slice_get, slice_set}
 use Rattle.nfs_machine.specs.Run.{Record, Run}
 use Rattle.nfs_machine.specs.State.{State}
 use Rattle.nfs_objects.specs.declared.address.Addr.{Addr}
 use Rattle.nfs_engine.specs.Arrivals.{ArrivalValue, shared_value}
-use Rattle.nfs_engine.specs.Book.{LeadsFrom}
+use Rattle.nfs_engine.specs.Book.{LeadsFrom, Rebases, TakesEra, TakesMessage}
 use Rattle.nfs_engine.specs.Engine.{EngineValue, held_among}
 use Rattle.nfs_engine.specs.Running.{running_at}
 use Rattle.nfs_engine.specs.declared.outbox.Posted.{Posted}
 use Rattle.nfs_engine.specs.declared.records.Era.{Era}
+use Rattle.nfs_schedule.specs.Stops.{IsStop}
 use Rattle.nfs_schedule.specs.Turns.{Turns}
 use Rattle.nfs_schedule.specs.Workers.{WorkerLives, worker_id, worker_key}
 use Rattle.nfs_schedule.specs.declared.answer.Answer.{Answer}
 use Rattle.nfs_schedule.specs.declared.worker.Worker.{Worker}
+use Rattle.nfs_schedule.specs.declared.worker.Worker.TheVariants.{Idle}
 
 pub record WorldValue : Type 0 where
   pub engine : EngineValue
@@ -73,3 +75,26 @@ pub record TakesTurn (old new : WorldValue) (worker : ℕ) (answer : Option Answ
     queue = new.queue;
     workers = slice_set old.workers (worker - 1) now;
   }
+
+-- this worker, from 1, is stopped, and is idle
+pub record Stops (old new : WorldValue) (worker : ℕ) (answer : Option Answer) : Type 0 where
+  pub was : Worker
+  pub there : slice_get old.workers (worker - 1) ≡ Some was
+  pub stop : IsStop old.engine new.engine was answer
+  pub rest : new ≡ record old {
+    engine = new.engine;
+    workers = slice_set old.workers (worker - 1) Idle;
+  }
+
+-- the oldest message is taken, if there is one
+pub record TakesOldest (old new : WorldValue) : Type 0 where
+  pub posted : Option Posted
+  pub takes : TakesMessage old.engine.book new.engine.book posted
+  pub rest : new ≡ record old { engine = new.engine; taken = old.taken ++ option_to_list posted }
+
+-- the era is over, and the next one begins where its records led
+pub record TurnsEra (old new : WorldValue) : Type 0 where
+  pub era : Era
+  pub takes : TakesEra old.engine.book new.engine.book era
+  pub rebases : Rebases old.engine.book new.engine.book
+  pub rest : new ≡ record old { engine = new.engine; eras = old.eras ++ era ∷ [] }

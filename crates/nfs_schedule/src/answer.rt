@@ -29,8 +29,8 @@ pub enum Answer {
     Refused(Declined),
     /// It has a fault.
     Early(Faulted),
-    /// Its worker was stopped: it is not executed, and has no reply.
-    Stopped(Received),
+    /// It is not executed, and has no reply: its worker was stopped.
+    Unanswered(Received),
 }
 
 impl Answer {
@@ -42,7 +42,7 @@ impl Answer {
             Answer::Executed(receipt) => &receipt.executed.received,
             Answer::Refused(declined) => &declined.received,
             Answer::Early(faulted) => &faulted.received,
-            Answer::Stopped(received) => received,
+            Answer::Unanswered(received) => received,
         }
     }
 
@@ -54,7 +54,7 @@ impl Answer {
             Answer::Executed(receipt) => &receipt.answer,
             Answer::Refused(declined) => bytes_of(&declined.answer),
             Answer::Early(faulted) => bytes_of(&faulted.answer),
-            Answer::Stopped(_) => &[],
+            Answer::Unanswered(_) => &[],
         }
     }
 }

@@ -1,16 +1,19 @@
 //! Workers that execute calls on one engine, step by step and in any order.
 //!
 //! `attempt` is what a call comes to on what it has read, by its program. A `Worker` thinks with no engine, and makes one
-//! step of the engine at each turn. A `World` has an engine with its workers.
+//! step of the engine at each turn. A `World` has an engine with its workers. `drive` makes the steps of a list of events.
 #![tactic(auto)]
 
 pub mod answer;
 pub mod attempts;
+pub mod driving;
 mod nlm;
+mod stop;
 pub mod worker;
 pub mod world;
 
 pub use answer::{Answer, Declined};
 pub use attempts::attempt;
+pub use driving::{Event, drive};
 pub use worker::{Afterwards, Worker};
 pub use world::World;

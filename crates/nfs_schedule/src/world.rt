@@ -1,16 +1,20 @@
 //! The engine with its workers, over any list of turns.
 
-ghost use Rattle.std.specs.Prelude.{◌≡◌, ◌<◌, ◌≤◌, [], ◌∷◌, ◌++◌, OnErr, OnOk, length};
-ghost use Rattle.nfs_schedule.specs.Turns.{Turns};
+ghost use Rattle.std.specs.Prelude.{◌≡◌, ◌<◌, ◌≤◌, [], ◌∷◌, ◌++◌, IfErr, IfOk, OnErr, OnOk, length, replicate};
+ghost use Rattle.nfs_schedule.specs.Order.{IsOrderly};
+ghost use Rattle.nfs_schedule.specs.Stops.{IsStop};
+ghost use Rattle.nfs_schedule.specs.Turns.{KeepsStore, Turns};
 ghost use Rattle.nfs_schedule.specs.Workers.{WorkerLives};
-ghost use Rattle.nfs_schedule.specs.Worlds.{IsAtRest, IsKept, RunsOn, TakesTurn};
+ghost use Rattle.nfs_schedule.specs.Worlds.{IsAtRest, IsKept, RunsOn, Stops, TakesOldest, TakesTurn, TurnsEra};
 
 use crate::answer::Answer;
+use crate::stop::stop;
 use crate::worker::Worker;
 use nfs_engine::{Arrival, Engine, Era, Posted};
-use std::alloc::{AllocError, AllocFailed, Global};
+use std::alloc::{AllocError, Global};
 use std::collections::VecDeque;
 use std::marker::Model;
+use std::mem;
 
 /// The engine and its workers, the records that wait to be admitted, the eras that are over, and the messages that were
 /// taken. It has to be spent.
@@ -39,35 +43,47 @@ impl Model for World {
 }
 
 impl World {
-    /// A world without workers. It takes no memory.
-    pub fn new(alloc: Global, engine: Engine) -> World
+    /// A world with so many workers, each idle, over an engine at rest. An error hands the engine back.
+    #[tactic(auto, using(crate::proofs::Kept::kept_new))]
+    pub fn new(alloc: Global, engine: Engine, workers: usize) -> Result<World, (AllocError, Engine)>
         requires { IsAtRest engine }
-        ensures { result ≡ record { engine = engine; workers = []; queue = []; eras = []; taken = [] } }
+        ensures ok { IfOk result (λ w. w ≡ record {
+          engine = engine;
+          workers = replicate workers Worker.Idle;
+          queue = [];
+          eras = [];
+          taken = [];
+        }) }
+        ensures err { IfErr result (λ e. e.1 ≡ engine) }
     {
-        World {
+        let workers = match idle_workers(alloc, workers) {
+            Ok(workers) => workers,
+            Err(error) => return Err((error, engine)),
+        };
+        Ok(World {
             engine,
-            workers: Vec::new(alloc),
+            workers,
             queue: VecDeque::new(alloc),
             eras: Vec::new(alloc),
             taken: Vec::new(alloc),
-        }
+        })
     }
 
-    /// One more worker, which is idle. An error changes nothing.
-    pub fn add_worker(&mut self) -> Result<(), AllocError>
-        ensures ok { OnOk result (self.new ≡ record self.old
-            { workers = self.old.workers ++ Worker.Idle ∷ [] }) }
-        ensures err { OnErr result (self.new ≡ self.old) }
+    /// Ends the world: stops every worker. What waits in the queue is dropped. It takes no memory.
+    pub fn end(self) -> Engine
+        ensures rest { IsAtRest result }
+        ensures store { KeepsStore self.engine result }
     {
-        match self.workers.push(Worker::Idle) {
-            Ok(()) => Ok(()),
-            Err(
-                AllocFailed {
-                    value: Worker::Idle,
-                },
-            ) => Err(AllocError),
-            Err(_) => unreachable!(),
-        }
+        let World {
+            engine,
+            workers,
+            queue: _,
+            eras: _,
+            taken: _,
+        } = self;
+        let mut engine = engine;
+        stop_all(&mut engine, workers);
+        engine
     }
 
     /// How many workers there are.
@@ -85,6 +101,37 @@ impl World {
         &self.engine
     }
 
+    /// What is true at every moment: the shards together are the store, no two calls hold what conflicts, whoever holds an
+    /// address is a worker's call, and what each such call has read still stands.
+    pub fn order(&self)
+        ensures { IsOrderly self.now }
+    {
+        self.engine.tie();
+    }
+
+    /// How many records came in that were not yet admitted.
+    pub fn waiting(&self) -> usize
+        ensures { result ≡ length self.now.queue }
+    {
+        self.queue.len()
+    }
+
+    /// The eras that are over, the first one first.
+    pub fn eras(&self) -> &[Era]
+        ensures { result.now ≡ self.now.eras }
+    {
+        &self.eras
+    }
+
+    /// The messages that were taken, the oldest first.
+    pub fn taken(&self) -> &[Posted]
+        ensures { result.now ≡ self.now.taken }
+    {
+        &self.taken
+    }
+}
+
+impl World {
     /// Puts a record that came in last in the queue. An error changes nothing.
     pub fn arrive(&mut self, arrival: Arrival) -> Result<(), AllocError>
         ensures ok { OnOk result (self.new ≡ record self.old { queue = self.old.queue ++ arrival ∷ [] }) }
@@ -109,6 +156,68 @@ impl World {
             worker % 16,
         )
     }
+
+    /// Stops this worker, from 1: what it has is given up with no reply, and it is idle. It takes no memory.
+    pub fn stop(&mut self, worker: usize) -> Option<Answer>
+        requires first { 0 < worker }
+        requires last { worker ≤ length self.old.workers }
+        ensures stops { Stops self.old self.new worker result }
+        ensures runs { RunsOn self.old self.new }
+    {
+        stop_at(&mut self.engine, &mut self.workers[worker - 1])
+    }
+
+    /// Takes the oldest message that was not yet taken, if there is one. An error changes nothing.
+    pub fn take_message(&mut self) -> Result<(), AllocError>
+        ensures ok { OnOk result (TakesOldest self.old self.new) }
+        ensures runs { OnOk result (RunsOn self.old self.new) }
+        ensures err { OnErr result (self.new ≡ self.old) }
+    {
+        self.taken.reserve(1)?;
+        let Some(posted) = self.engine.take_message() else {
+            return Ok(());
+        };
+        self.taken.push(posted).unwrap();
+        Ok(())
+    }
+
+    /// Ends the era, and begins the next. An error changes nothing.
+    pub fn new_era(&mut self, alloc: Global) -> Result<(), AllocError>
+        ensures ok { OnOk result (TurnsEra self.old self.new) }
+        ensures runs { OnOk result (RunsOn self.old self.new) }
+        ensures err { OnErr result (self.new ≡ self.old) }
+    {
+        self.eras.reserve(1)?;
+        let era = self.engine.new_era(alloc);
+        self.eras.push(era).unwrap();
+        Ok(())
+    }
+}
+
+/// So many idle workers.
+#[tactic(auto, using(crate::proofs::Kept::idle_more))]
+fn idle_workers(alloc: Global, count: usize) -> Result<Vec<Worker>, AllocError>
+    ensures { IfOk result (λ workers. workers.items ≡ replicate count Worker.Idle) }
+{
+    let mut workers = Vec::with_capacity(alloc, count)?;
+    for _made in 0..count {
+        workers.push_reserved(Worker::Idle);
+    }
+    Ok(workers)
+}
+
+/// Stops each of these workers, who are all that there are.
+#[tactic(auto, using(crate::proofs::Kept::rest_empty))]
+fn stop_all(engine: &mut Engine, workers: Vec<Worker>)
+    requires { IsKept engine.old workers.items }
+    ensures rest { IsAtRest engine.new }
+    ensures store { KeepsStore engine.old engine.new }
+{
+    let mut workers = workers;
+    'workers: while let Some(worker) = workers.pop() {
+        drop(stop(engine, worker));
+    }
+    workers.destroy_empty();
 }
 
 /// A worker thinks and makes the step that its state names, where it stands.
@@ -125,4 +234,13 @@ fn turn_at(
 {
     worker.think(alloc);
     worker.turn(alloc, engine, queue, shard)
+}
+
+/// Stops a worker where it stands.
+fn stop_at(engine: &mut Engine, worker: &mut Worker) -> Option<Answer>
+    requires { WorkerLives engine.old worker.old }
+    ensures idle { worker.new ≡ Worker.Idle }
+    ensures stop { IsStop engine.old engine.new worker.old result }
+{
+    stop(engine, mem::replace(worker, Worker::Idle))
 }

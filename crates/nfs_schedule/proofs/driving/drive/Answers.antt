@@ -1,0 +1,27 @@
+use Rattle.std.proofs.Common.{sym, subst, take, arith}
+use Rattle.nfs_schedule.proofs.Driven.{drives_further, drives_runs, has_worker}
+use Rattle.nfs_schedule.specs.Worlds.{RunsOn, WorldValue}
+use Rattle.nfs_schedule.proofs.driving.drive.Goals as goal
+
+pub happen-requires : goal.happen-requires
+happen-requires c =
+    has_worker c.args.world.now c.loop-index.world c.args.events.now c.loop-index.index c.index-events-index.result
+    c.args.answers.now.items c.loop-index.answers.items c.requires (omega arith) c.index-events-index.is
+    c.loop-index.invariant
+
+pub returns-in-Err-clause-runs : goal.returns-in-Err-clause-runs
+returns-in-Err-clause-runs c =
+    subst (λ (w : WorldValue). RunsOn c.args.world.now w) (sym c.in-Err.ensures.err.0)
+    (drives_runs c.args.world.now c.loop-index.world (take c.loop-index.index c.args.events.now)
+    c.args.answers.now.items c.loop-index.answers.items c.loop-index.invariant)
+
+pub loop-index-preserved : goal.loop-index-preserved
+loop-index-preserved c =
+    drives_further c.args.world.now c.loop-index.world c.happen.new.world c.args.events.now c.loop-index.index
+    c.index-events-index.result c.args.answers.now.items c.loop-index.answers.items c.happen.new.answers.items
+    (omega arith) c.index-events-index.is c.loop-index.invariant c.in_default.ensures.ok
+
+pub returns-clause-runs : goal.returns-clause-runs
+returns-clause-runs c =
+    drives_runs c.args.world.now c.loop-index.world (take c.loop-index.index c.args.events.now)
+    c.args.answers.now.items c.loop-index.answers.items c.loop-index.invariant

@@ -1,0 +1,37 @@
+-- What is true of a world at every moment.
+use Rattle.std.specs.Prelude.{◌≡◌, ℕ, Option, Some, None, IsSome, slice_get}
+use Rattle.nfs_objects.specs.Fits.{Fits}
+use Rattle.nfs_objects.specs.declared.address.Addr.{Addr}
+use Rattle.nfs_objects.specs.declared.modes.Mode.TheVariants.{Exclusive}
+use Rattle.nfs_engine.specs.Book.{store_in}
+use Rattle.nfs_engine.specs.Calls.{TxnValue, txn_of}
+use Rattle.nfs_engine.specs.Engine.{IsTied, held_among, mode_in}
+use Rattle.nfs_schedule.specs.Workers.{worker_id}
+use Rattle.nfs_schedule.specs.Worlds.{IsSomeones, WorldValue}
+use Rattle.nfs_schedule.specs.declared.worker.Worker.{Worker}
+use Rattle.nfs_schedule.specs.declared.worker.Worker.TheVariants.{Trying, Wanting, Wishing, Ready, Blocked, Failing}
+
+-- the call that a worker executes, with what it has read
+abbrev pub executed_by : Worker → Option TxnValue
+executed_by (Trying t) = Some t
+executed_by (Wanting t wanted) = Some t
+executed_by (Wishing t) = Some t
+executed_by (Ready f) = Some (txn_of f)
+executed_by (Blocked t) = Some t
+executed_by (Failing t) = Some t
+executed_by worker = None
+
+-- what a worker's call has read stands in the store, and the call holds just that
+pub record IsReading (w : WorldValue) (t : TxnValue) : Type 0 where
+  pub fits : Fits t.view (store_in w.engine.book)
+  pub holds : (a : Addr) → held_among w.engine.shards a t.id ≡ mode_in t.view.entries a
+
+-- The shards together are the store; who holds an address alone is the only one that holds it; whoever holds one is a
+-- worker's call; and what each worker's call has read stands.
+pub record IsOrderly (w : WorldValue) : Type 0 where
+  pub tied : IsTied w.engine
+  pub alone : (a : Addr) (i j : ℕ) → held_among w.engine.shards a i ≡ Some Exclusive →
+      IsSome (held_among w.engine.shards a j) → j ≡ i
+  pub held : (a : Addr) (id : ℕ) → IsSome (held_among w.engine.shards a id) → IsSomeones worker_id w.workers id
+  pub reads : (i : ℕ) (u : Worker) (t : TxnValue) → slice_get w.workers i ≡ Some u → executed_by u ≡ Some t →
+      IsReading w t

@@ -1,0 +1,73 @@
+-- What stopping a worker does.
+use Rattle.std.specs.Prelude.{◌≡◌, ℕ, Option, Some, None}
+use Rattle.nfs_machine.specs.Run.{Received}
+use Rattle.nfs_objects.specs.declared.address.Addr.{Addr}
+use Rattle.nfs_engine.specs.Arrivals.{received_value}
+use Rattle.nfs_engine.specs.Calls.{PendingValue}
+use Rattle.nfs_engine.specs.Engine.{EngineValue, KeepsOthers, Waits, held_among}
+use Rattle.nfs_engine.specs.Releases.{ReleaseValue}
+use Rattle.nfs_engine.specs.Running.{without_call}
+use Rattle.nfs_engine.specs.declared.release.Then.{Then}
+use Rattle.nfs_engine.specs.declared.release.Then.TheVariants as then
+use Rattle.nfs_schedule.specs.Turns.{KeepsStore}
+use Rattle.nfs_schedule.specs.Workers.{KeepsRest}
+use Rattle.nfs_schedule.specs.declared.answer.Answer.{Answer}
+use Rattle.nfs_schedule.specs.declared.answer.Answer.TheVariants as answers
+use Rattle.nfs_schedule.specs.declared.worker.Worker.{Worker}
+use Rattle.nfs_schedule.specs.declared.worker.Worker.TheVariants.{Idle, Trying, Wanting, Wishing, Ready, Blocked, Failing}
+use Rattle.nfs_schedule.specs.declared.worker.Worker.TheVariants.{Leaving, PutOff, Refusing}
+
+-- ---- what is told
+-- what came in of what a release leads to, if that is a call in progress
+abbrev pub after_received : Then → Option Received
+after_received (then.Aborted p) = Some p.received
+after_received then.Ended = None
+
+-- what came in of the worker's call, if it is in progress
+abbrev pub received_of : Worker → Option Received
+received_of Idle = None
+received_of (Trying t) = Some t.received
+received_of (Wanting t wanted) = Some t.received
+received_of (Wishing t) = Some t.received
+received_of (Ready f) = Some f.received
+received_of (Blocked t) = Some t.received
+received_of (Failing t) = Some t.received
+received_of (Leaving r after) = after_received r.after
+received_of (PutOff p) = Some p.received
+received_of (Refusing p) = Some p.received
+
+-- it came in, and has no reply
+abbrev pub IsUnanswered : Received → Answer → Type 0
+IsUnanswered received (answers.Unanswered unanswered) = received_value unanswered ≡ received
+IsUnanswered received answer = ⊥
+
+-- the worker's call has no reply; nothing is told where none is in progress
+abbrev pub IsStopped : Worker → Option Answer → Type 0
+IsStopped w None = received_of w ≡ None
+IsStopped w (Some answer) = (received : Received) × (received_of w ≡ Some received) × IsUnanswered received answer
+
+-- ---- what is changed
+-- the call was executed, or it is in progress, and may begin anew
+abbrev pub LeadsOn : EngineValue → ReleaseValue → Option PendingValue → Type 0
+LeadsOn f r None = r.after ≡ then.Ended
+LeadsOn f r (Some p) = (r.after ≡ then.Aborted p) × Waits f p
+
+-- all that the call held is let go, and the book is as it was
+pub record LetsAllGo (e f : EngineValue) (r : ReleaseValue) (left : Option PendingValue) : Type 0 where
+  pub others : KeepsOthers r.id e f
+  pub nothing : (a : Addr) → held_among f.shards a r.id ≡ None
+  pub book : f.book ≡ e.book
+  pub leads : LeadsOn f r left
+
+-- the call is no longer in progress and holds nothing, and the others are as they were
+pub record IsGone (e f : EngineValue) (key id : ℕ) : Type 0 where
+  pub others : KeepsOthers id e f
+  pub nothing : (a : Addr) → held_among f.shards a id ≡ None
+  pub book : f.book ≡ record e.book { living = without_call e.book.living key id }
+
+-- The worker's call, if it has one, is in progress no more and holds nothing; store, records and messages are as they
+-- were, and so is what other workers have.
+pub record IsStop (e f : EngineValue) (w : Worker) (answer : Option Answer) : Type 0 where
+  pub rest : KeepsRest e f w Idle
+  pub store : KeepsStore e f
+  pub stopped : IsStopped w answer
