@@ -1,9 +1,15 @@
+pub mod Alone
+pub mod Answering
 pub mod Built
 pub mod Driven
+pub mod Filling
+pub mod Joins
 pub mod Kept
+pub mod Loops
 pub mod Nothing
 pub mod Ordered
 pub mod Others
+pub mod Pieces
 pub mod Rest
 pub mod Runs
 pub mod Steps

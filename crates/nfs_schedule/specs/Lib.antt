@@ -1,7 +1,12 @@
 pub mod Answers
 pub mod Events
+pub mod Executions
+pub mod Gathered
 pub mod Order
+pub mod Served
+pub mod Serving
 pub mod Stops
+pub mod Taken
 pub mod Turns
 pub mod Workers
 pub mod Worlds

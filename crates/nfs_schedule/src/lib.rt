@@ -2,12 +2,17 @@
 //!
 //! `attempt` is what a call comes to on what it has read, by its program. A `Worker` thinks with no engine, and makes one
 //! step of the engine at each turn. A `World` has an engine with its workers. `drive` makes the steps of a list of events.
+//! `execute` brings one call to its answer with no worker, on an engine at rest, and `serve_stream` so each record of a
+//! stream.
 #![tactic(auto)]
 
 pub mod answer;
 pub mod attempts;
 pub mod driving;
+pub mod executing;
+mod gathering;
 mod nlm;
+pub mod serving;
 mod stop;
 pub mod worker;
 pub mod world;
@@ -15,5 +20,7 @@ pub mod world;
 pub use answer::{Answer, Declined};
 pub use attempts::attempt;
 pub use driving::{Event, drive};
+pub use executing::execute;
+pub use serving::{Served, StreamFault, serve_stream, served_is_a_run};
 pub use worker::{Afterwards, Worker};
 pub use world::World;

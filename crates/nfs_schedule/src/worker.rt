@@ -189,7 +189,7 @@ fn admit(alloc: Global, engine: &mut Engine, arrival: Arrival) -> (Worker, Optio
 }
 
 /// The answer to an arrival that was not admitted.
-fn refuse_arrival(alloc: Global, arrival: Arrival) -> Answer
+pub(crate) fn refuse_arrival(alloc: Global, arrival: Arrival) -> Answer
     requires { AsksCall arrival }
     ensures { (asked : Asked) → arrival.reading ≡ readings.Asks asked → IsRefused arrival.received asked result }
 {

@@ -1,0 +1,355 @@
+-- A call that is alone in the engine: it goes on, it ends, and leaves the engine at rest.
+use Rattle.std.proofs.Common.{◌≡◌, ◌≢◌, ℕ, zero, suc, ◌+◌, ◌<◌, Bool, true, false, List, [], ◌∷◌, length, Option, Some, None, IsSome, Ok, Err, refl, sym, ◌∙◌, ap, subst, arith}
+use Rattle.std.proofs.Common.{get_or, set, inl, inr}
+use Rattle.std.specs.Prelude.{slice_index_or, slice_set}
+use Rattle.std.specs.declared.alloc.AllocError.{AllocError}
+use Rattle.nfs_machine.specs.Run.{Received}
+use Rattle.nfs_machine.specs.declared.calls.Call.{Call}
+use Rattle.nfs_objects.specs.Modes.{Suits, modes_of}
+use Rattle.nfs_objects.specs.Rooms.{with_entry, with_number}
+use Rattle.nfs_objects.specs.Values.{ViewValue}
+use Rattle.nfs_objects.specs.declared.address.Addr.{Addr}
+use Rattle.nfs_objects.specs.declared.modes.Mode.{Mode}
+use Rattle.nfs_objects.specs.declared.modes.Mode.TheVariants.{Shared, Exclusive}
+use Rattle.nfs_engine.proofs.Lifted.{alike_or}
+use Rattle.nfs_engine.specs.Arrivals.{ArrivalValue, received_value}
+use Rattle.nfs_engine.specs.Book.{Begins, BookValue, Commits, GivesUp, Leads, Steps, new_txn, store_in}
+use Rattle.nfs_engine.specs.Calls.{FinishedValue, PendingValue, TxnValue, pending_of, txn_of}
+use Rattle.nfs_engine.specs.Commits.{IsReceipt}
+use Rattle.nfs_engine.specs.Engine.{EngineValue, IsAcquired, IsLeaving, IsReleased, IsReserved, IsRunning, KeepsOthers, LeadsTo, Lives, Releases, held_among, release_of, slot_among}
+use Rattle.nfs_engine.specs.Holders.{Excludes}
+use Rattle.nfs_engine.specs.Releases.{ReleaseValue}
+use Rattle.nfs_engine.specs.Running.{running_at, without_call}
+use Rattle.nfs_engine.specs.declared.admission.Refused as given
+use Rattle.nfs_engine.specs.declared.arrival.Reading.TheVariants as readings
+use Rattle.nfs_engine.specs.declared.asking.Asked.{Asked}
+use Rattle.nfs_engine.specs.declared.journal.Receipt.{Receipt}
+use Rattle.nfs_engine.specs.declared.release.Next.TheVariants as next
+use Rattle.nfs_engine.specs.declared.release.Then.{Then}
+use Rattle.nfs_engine.specs.declared.release.Then.TheVariants as then
+use Rattle.nfs_engine.specs.declared.running.Running.{Running}
+use Rattle.nfs_engine.specs.declared.shard.ReserveError.{ReserveError}
+use Rattle.nfs_engine.specs.declared.shard.ReserveError.TheVariants as refusals
+use Rattle.nfs_engine.specs.declared.taking.Got.TheVariants as got
+use Rattle.nfs_schedule.proofs.Filling.{Grows}
+use Rattle.nfs_schedule.proofs.Rest.{places_without}
+use Rattle.nfs_schedule.proofs.Steps.{keeps_book}
+use Rattle.nfs_schedule.specs.Answers.{IsRefused}
+use Rattle.nfs_schedule.specs.Executions.{Answers, Ends, Frees, GoesOn, HoldsAlone, IsAlone}
+use Rattle.nfs_schedule.specs.Turns.{Executes, KeepsStore}
+use Rattle.nfs_schedule.specs.Workers.{IsSuited}
+use Rattle.nfs_schedule.specs.Worlds.{IsAtRest}
+use Rattle.nfs_schedule.specs.declared.answer.Answer.{Answer}
+use Rattle.nfs_schedule.specs.declared.answer.Answer.TheVariants as answers
+use Rattle.nfs_schedule.specs.declared.worker.Worker.TheVariants.{Idle, Refusing}
+
+-- ---- a call that begins
+pub begins_alone : (e f : EngineValue) (a : ArrivalValue) (t : TxnValue) → IsAtRest e → Begins e.book f.book a t →
+    f.shards ≡ e.shards → IsAlone f t.id t.key
+begins_alone e f a t rest b shards = record {
+  running = λ k other. b.joins.others k other ∙ rest.running k;
+  held = λ x j other. ap (λ s. held_among s x j) shards ∙ rest.held x j;
+}
+
+pub begins_suited : (e f : EngineValue) (a : ArrivalValue) (t : TxnValue) → Begins e.book f.book a t → IsSuited t
+begins_suited e f a t b = subst (λ (x : TxnValue). IsSuited x) (sym b.txn) tt
+
+pub begins_keeps : (e f : EngineValue) (a : ArrivalValue) (t : TxnValue) → Begins e.book f.book a t → KeepsStore e f
+begins_keeps e f a t b =
+    b.rest ∙ ap (λ n. record e.book { living = f.book.living; next_id = n })
+    (sym (ap (λ (x : BookValue). x.next_id) b.rest))
+
+-- ---- a call that goes on
+pub goes_none : (e : EngineValue) (t : TxnValue) → Lives e t → HoldsAlone e t.id → GoesOn e e t t
+goes_none e t lives alone = record { lives = lives; alone = alone; book = refl; call = refl }
+
+pub goes_join : (e f g : EngineValue) (t u v : TxnValue) → GoesOn e f t u → GoesOn f g u v → GoesOn e g t v
+goes_join e f g t u v a b = record {
+  lives = b.lives;
+  alone = b.alone;
+  book = b.book ∙ a.book;
+  call = b.call ∙ ap (λ (x : TxnValue). record x { view = v.view }) a.call;
+}
+
+pub goes_step : (e f : EngineValue) (t u : TxnValue) (w : ViewValue) → HoldsAlone e t.id → Lives f u →
+    KeepsOthers t.id e f → f.book ≡ e.book → u ≡ record t { view = w } → GoesOn e f t u
+goes_step e f t u w alone lives k book is = record {
+  lives = lives;
+  alone = λ a j other.
+      let apart : j ≢ t.id = λ same. other (same ∙ sym (ap (λ (x : TxnValue). x.id) is)) in
+      k.holds a j apart ∙ alone a j apart;
+  book = book;
+  call = is ∙ ap (λ v. record t { view = v }) (sym (ap (λ (x : TxnValue). x.view) is));
+}
+
+-- nobody else holds the address
+pub never_taken : (e : EngineValue) (a : Addr) (mode : Mode) (id h : ℕ) → HoldsAlone e id →
+    Excludes mode (slot_among e.shards a).holders h → h ≢ id → ⊥
+never_taken e a Exclusive id h alone excludes other =
+    let none : IsSome {T = Mode} None = subst (λ (m : Option Mode). IsSome m) (alone a h other) excludes in cc
+never_taken e a Shared id h alone excludes other =
+    let none : None ≡ Some Exclusive = sym (alone a h other) ∙ excludes in cc
+
+module _ (e f : EngineValue) (t u : TxnValue) (lives : Lives f u) (k : KeepsOthers t.id e f) (book : f.book ≡ e.book)
+    (alone : HoldsAlone e t.id) where
+  pub goes_acquired : (a : Addr) (mode : Mode) → IsAcquired {E = AllocError} e t u a mode (Ok got.Yes) → GoesOn e f t u
+  goes_acquired a mode is =
+      goes_step e f t u (with_entry t.view (record { address = a; mode = mode; object = (store_in e.book).at a })) alone
+      lives k book is
+
+  pub goes_unchanged : u ≡ t → GoesOn e f t u
+  goes_unchanged is = goes_step e f t u t.view alone lives k book is
+
+  pub goes_reserved : (shard : ℕ) → IsReserved e t u shard (Ok tt) → GoesOn e f t u
+  goes_reserved shard is = goes_step e f t u (with_number t.view is.reserved) alone lives k book is.call
+
+  pub goes_unreserved : (shard : ℕ) (error : ReserveError) → IsReserved e t u shard (Err error) → GoesOn e f t u
+  goes_unreserved shard refusals.Memory is = goes_unchanged is
+  goes_unreserved shard refusals.Spent is = goes_unchanged is.1
+
+-- and suits its call where its view does
+pub suited_on : (e f : EngineValue) (t u : TxnValue) → GoesOn e f t u → Grows t.call t.view u.view → IsSuited u
+suited_on e f t u g grows =
+    subst (λ (c : Call). Suits (modes_of c) u.view) (sym (ap (λ (x : TxnValue). x.call) g.call)) grows.suits
+
+-- what goes on is alone still
+pub goes_alone : (e f : EngineValue) (t u : TxnValue) → IsAlone e t.id t.key → GoesOn e f t u → IsAlone f u.id u.key
+goes_alone e f t u alone g = record {
+  running = λ k other.
+      ap (λ (b : BookValue). running_at b.living k) g.book
+      ∙ alone.running k (λ same. other (same ∙ sym (ap (λ (x : TxnValue). x.key) g.call)));
+  held = g.alone;
+}
+
+-- ---- a release
+-- how many shards are not yet free
+abbrev pub still_held : List Bool → ℕ
+still_held [] = 0
+still_held (true ∷ done) = still_held done
+still_held (false ∷ done) = suc (still_held done)
+
+pub fewer_held : (done : List Bool) (k : ℕ) → k < length done → slice_index_or done k false ≡ false →
+    still_held (slice_set done k true) < still_held done
+fewer_held [] k h is = absurd (omega (arith, h))
+fewer_held (true ∷ done) zero h is = cc
+fewer_held (false ∷ done) zero h is = let less : still_held done < suc (still_held done) = omega arith in less
+fewer_held (true ∷ done) (suc k) h is = fewer_held done k (omega (arith, h)) is
+fewer_held (false ∷ done) (suc k) h is =
+    let fewer = fewer_held done k (omega (arith, h)) is in omega (arith, fewer)
+
+-- some shards are let go, and the rest are still to be
+pub record Releasing (e f : EngineValue) (r s : ReleaseValue) : Type 0 where
+  pub leaving : IsLeaving f s
+  pub alone : HoldsAlone f s.id
+  pub book : f.book ≡ e.book
+  pub after : s.after ≡ r.after
+
+pub releasing_none : (e : EngineValue) (r : ReleaseValue) → IsLeaving e r → HoldsAlone e r.id → Releasing e e r r
+releasing_none e r leaving alone = record { leaving = leaving; alone = alone; book = refl; after = refl }
+
+module _ (e f g : EngineValue) (r s : ReleaseValue) (l : Releasing e f r s) (k : KeepsOthers s.id f g)
+    (same : g.book ≡ f.book) where
+  alone_on : HoldsAlone g s.id
+  alone_on a j other = k.holds a j other ∙ l.alone a j other
+
+  pub releasing_more : (left : ReleaseValue) → Releases g s (next.More left) → Releasing e g r left
+  releasing_more left is = record {
+    leaving = is.0;
+    alone = subst (λ i. HoldsAlone g i) (sym (ap (λ (x : ReleaseValue). x.id) is.4)) alone_on;
+    book = same ∙ l.book;
+    after = ap (λ (x : ReleaseValue). x.after) is.4 ∙ l.after;
+  }
+
+  pub releasing_fewer : (left : ReleaseValue) → Releases g s (next.More left) → still_held left.done < still_held s.done
+  releasing_fewer left is =
+      subst (λ (x : ReleaseValue). still_held x.done < still_held s.done) (sym is.4) (fewer_held s.done is.1 is.2 is.3)
+
+  all_free : ((a : Addr) → held_among g.shards a s.id ≡ None) → (a : Addr) (j : ℕ) → held_among g.shards a j ≡ None
+  all_free own a j = alike_or j s.id
+      (λ here. ap (λ i. held_among g.shards a i) here ∙ own a)
+      (λ other. alone_on a j other)
+
+  pub frees_ended : Releases g s next.Ended → Frees e g r None
+  frees_ended is = record { book = same ∙ l.book; held = all_free is.1; is_left = sym l.after ∙ is.0 }
+
+  pub frees_aborted : (p : PendingValue) → Releases g s (next.Aborted p) → Frees e g r (Some p)
+  frees_aborted p is =
+      let own : p.id ≡ s.id = (subst (λ (x : Then). LeadsTo f s.id x) is.0 l.leaving.after).0 in
+      record {
+        book = same ∙ l.book;
+        held = all_free (λ a. ap (λ i. held_among g.shards a i) (sym own) ∙ is.1.holds.exactly a);
+        is_left = (sym l.after ∙ is.0, is.1);
+      }
+
+-- ---- the end of a call
+is_none : {X : Type 0} (o : Option X) → (IsSome o → ⊥) → o ≡ None
+is_none None never = refl
+is_none (Some x) never = absurd (never refl)
+
+-- ---- which calls are in progress
+taken_out : (l : List (Option Running)) (k : ℕ) → get_or (set l k None) k None ≡ None
+taken_out [] k = refl
+taken_out (x ∷ l) zero = refl
+taken_out (x ∷ l) (suc k) = taken_out l k
+
+-- a call that is over was the only one
+none_running : (e f : EngineValue) (id key : ℕ) → IsRunning e key id →
+    ((k : ℕ) → k ≢ key → running_at e.book.living k ≡ None) → f.book.living ≡ without_call e.book.living key id →
+    (p : PendingValue) → p.key ≡ key → (k : ℕ) → running_at f.book.living k ≡ None
+none_running e f id key r alone is p at k = is_none (running_at f.book.living k)
+    (λ some. elim (places_without e f (Refusing p) Idle key id r (ap Some at) is k some) [
+      | inl here ↦ cc
+      | inr was ↦ absurd (let none : IsSome {T = Running} None = subst (λ (o : Option Running). IsSome o)
+          (alone k (λ same. was.1 (ap Some (at ∙ sym same)))) was.0 in cc)
+    ])
+
+-- what was executed left the engine at rest
+pub rests_committed : (e f g : EngineValue) (d : FinishedValue) (r : ReleaseValue) (receipt : Receipt) →
+    Lives e (txn_of d) → IsAlone e d.id d.key → Executes e f d receipt → Frees f g r None → IsAtRest g
+rests_committed e f g d r receipt lives alone x free = record {
+  running = λ k. ap (λ (b : BookValue). running_at b.living k) free.book
+      ∙ none_running e f d.id d.key lives.running alone.running (ap (λ (b : BookValue). b.living) x.commits.rest)
+      (pending_of (txn_of d)) refl k;
+  held = free.held;
+}
+
+-- the others hold nothing, as the call holds what it had
+pub alone_committed : (e f : EngineValue) (d : FinishedValue) (r : ReleaseValue) → IsAlone e d.id d.key →
+    KeepsOthers d.id e f → IsReleased d r → HoldsAlone f r.id
+alone_committed e f d r alone k released = subst (λ i. HoldsAlone f i) (sym released.id)
+    (λ a j other. k.holds a j other ∙ alone.held a j other)
+
+pub executes_on : (e f g : EngineValue) (d : FinishedValue) (receipt : Receipt) → Executes e f d receipt →
+    g.book ≡ f.book → Executes e g d receipt
+executes_on e f g d receipt x same = record {
+  commits = subst (λ (b : BookValue). Commits e.book b d) (sym same) x.commits;
+  step = subst (λ (b : BookValue). Steps e.book b d.done) (sym same) x.step;
+  leads = subst (λ (b : BookValue). Leads e.book b) (sym same) x.leads;
+  receipt_is = x.receipt_is;
+}
+
+pub ends_executed : (e f g : EngineValue) (d : FinishedValue) (r : ReleaseValue) (receipt : Receipt) →
+    Executes e f d receipt → Frees f g r None → Ends e g (txn_of d) (answers.Executed receipt)
+ends_executed e f g d r receipt x free = record {
+  done = d;
+  call = refl;
+  executes = executes_on e f g d receipt x free.book;
+}
+
+-- ---- a call that is given up
+refused_ends : (e f : EngineValue) (t : TxnValue) (answer : Answer) → KeepsStore e f →
+    IsRefused t.received (record { xid = t.xid; ids = t.ctx.ids; call = t.call }) answer → Ends e f t answer
+refused_ends e f t (answers.Executed receipt) keeps is = absurd is
+refused_ends e f t (answers.Refused declined) keeps is = (keeps, is)
+refused_ends e f t (answers.Early faulted) keeps is = absurd is
+refused_ends e f t (answers.Unanswered received) keeps is = absurd is
+
+-- the engine as the release of a call left it, and as it is when the call is given up
+module _ (e f g : EngineValue) (t : TxnValue) (r : ReleaseValue) (p : PendingValue) (refused : given.Refused)
+    (lives : Lives e t) (alone : IsAlone e t.id t.key) (is : r ≡ release_of t) (free : Frees e f r (Some p))
+    (gives : GivesUp f.book g.book p refused) (shards : g.shards ≡ f.shards) where
+  own : p ≡ pending_of t
+  own =
+      let both : then.Aborted p ≡ then.Aborted (pending_of t) =
+      sym free.is_left.0 ∙ ap (λ (x : ReleaseValue). x.after) is in
+      cc
+
+  keeps : KeepsStore e g
+  keeps =
+      gives.rest ∙ ap (λ (b : BookValue). record b { living = without_call b.living p.key p.id }) free.book
+      ∙ ap (λ l. record e.book { living = l })
+      (sym (ap (λ (b : BookValue). b.living) gives.rest
+      ∙ ap (λ (b : BookValue). without_call b.living p.key p.id) free.book))
+      ∙ ap (λ n. record e.book { living = g.book.living; next_id = n })
+      (sym (ap (λ (b : BookValue). b.next_id) gives.rest ∙ ap (λ (b : BookValue). b.next_id) free.book))
+
+  pub rests_declined : IsAtRest g
+  rests_declined = record {
+    running = none_running e g t.id t.key lives.running alone.running
+        (ap (λ (b : BookValue). b.living) gives.rest
+        ∙ ap (λ (b : BookValue). without_call b.living p.key p.id) free.book
+        ∙ ap (λ (q : PendingValue). without_call e.book.living q.key q.id) own) (pending_of t) refl;
+    held = λ a j. ap (λ s. held_among s a j) shards ∙ free.held a j;
+  }
+
+  pub ends_declined : (answer : Answer) → IsRefused (received_value refused.received) refused.asked answer →
+      Ends e g t answer
+  ends_declined answer declined =
+      refused_ends e g t answer keeps
+      (subst (λ (q : PendingValue). IsRefused q.received (record { xid = q.xid; ids = q.ctx.ids; call = q.call }) answer)
+      own
+      (subst (λ (a : Asked). IsRefused p.received a answer) gives.asked
+      (subst (λ (x : Received). IsRefused x refused.asked answer) gives.received declined)))
+
+-- ---- a call that ends as it began
+executes_from : (e f g : EngineValue) (d : FinishedValue) (receipt : Receipt) → Executes f g d receipt →
+    f.book ≡ e.book → Executes e g d receipt
+executes_from e f g d receipt x same = record {
+  commits = subst (λ (b : BookValue). Commits b g.book d) same x.commits;
+  step = subst (λ (b : BookValue). Steps b g.book d.done) same x.step;
+  leads = subst (λ (b : BookValue). Leads b g.book) same x.leads;
+  receipt_is = subst (λ (b : BookValue). IsReceipt (b.before + length b.records + 1) d receipt) same x.receipt_is;
+}
+
+keeps_from : (e f g : EngineValue) → KeepsStore f g → f.book ≡ e.book → KeepsStore e g
+keeps_from e f g keeps same =
+    subst (λ (b : BookValue). g.book ≡ record b { living = g.book.living; next_id = g.book.next_id }) same keeps
+
+keeps_join : (e f g : EngineValue) → KeepsStore e f → KeepsStore f g → KeepsStore e g
+keeps_join e f g a b = b ∙ ap (λ (x : BookValue). record x { living = g.book.living; next_id = g.book.next_id }) a
+
+ends_moved : (e f g : EngineValue) (t u : TxnValue) (answer : Answer) → f.book ≡ e.book →
+    u ≡ record t { view = u.view } → Ends f g u answer → Ends e g t answer
+ends_moved e f g t u (answers.Executed receipt) book call x = record {
+  done = x.done;
+  call = x.call ∙ ap (λ (v : TxnValue). record v { view = x.done.done.view }) call;
+  executes = executes_from e f g x.done receipt x.executes book;
+}
+ends_moved e f g t u (answers.Refused declined) book call x = (
+  keeps_from e f g x.0 book,
+  subst (λ (v : TxnValue). IsRefused v.received (record { xid = v.xid; ids = v.ctx.ids; call = v.call }) (answers.Refused declined))
+      call x.1,
+)
+ends_moved e f g t u (answers.Early faulted) book call x = absurd x
+ends_moved e f g t u (answers.Unanswered received) book call x = absurd x
+
+pub ends_after : (e f g : EngineValue) (t u : TxnValue) (answer : Answer) → GoesOn e f t u → Ends f g u answer →
+    Ends e g t answer
+ends_after e f g t u answer on x = ends_moved e f g t u answer on.book on.call x
+
+-- ---- a record that came in
+module _ (e b g : EngineValue) (a : ArrivalValue) (t : TxnValue) (begins : Begins e.book b.book a t) where
+  pub answers_begun : (answer : Answer) → Ends b g t answer → Answers e g a answer
+  answers_begun (answers.Executed receipt) x =
+      let same : txn_of x.done ≡ record t { view = x.done.done.view } = x.call in
+      let began : txn_of x.done ≡ record (new_txn e.book a begins.asked t.key) { view = x.done.done.view } =
+      same ∙ ap (λ (v : TxnValue). record v { view = x.done.done.view }) begins.txn in
+      record {
+        asked = begins.asked;
+        asks = begins.asks;
+        begun = b;
+        begins = begins_keeps e b a t begins;
+        done = x.done;
+        received = ap (λ (v : TxnValue). v.received) began;
+        xid = ap (λ (v : TxnValue). v.xid) began;
+        call = ap (λ (v : TxnValue). v.call) began;
+        ctx = ap (λ (v : TxnValue). v.ctx) began;
+        executes = x.executes;
+      }
+  answers_begun (answers.Refused declined) x = (
+    begins.asked,
+    begins.asks,
+    keeps_join e b g (begins_keeps e b a t begins) x.0,
+    subst (λ (v : TxnValue). IsRefused v.received (record { xid = v.xid; ids = v.ctx.ids; call = v.call }) (answers.Refused declined))
+        begins.txn x.1,
+  )
+  answers_begun (answers.Early faulted) x = absurd x
+  answers_begun (answers.Unanswered received) x = absurd x
+
+pub answers_refused : (e f : EngineValue) (a : ArrivalValue) (asked : Asked) (answer : Answer) →
+    a.reading ≡ readings.Asks asked → f ≡ e → IsRefused a.received asked answer → Answers e f a answer
+answers_refused e f a asked (answers.Executed receipt) asks same is = absurd is
+answers_refused e f a asked (answers.Refused declined) asks same is =
+    (asked, asks, keeps_book e f (ap (λ (x : EngineValue). x.book) same), is)
+answers_refused e f a asked (answers.Early faulted) asks same is = absurd is
+answers_refused e f a asked (answers.Unanswered received) asks same is = absurd is

@@ -1,0 +1,178 @@
+-- Answering one list of records and then another answers both: arrivals, moments, answers and runs follow one another.
+use Rattle.std.proofs.Common.{ℕ, List, [], ◌∷◌, ◌++◌, Option, Some, None, inl, inr, refl, sym, ◌∙◌, ap, subst, append_assoc, append-nil}
+use Rattle.std.specs.Io.KnownBytes.{Appends}
+use Rattle.nfs_machine.specs.Run.{Setting, Arrival, FromHost, Record, Run}
+use Rattle.nfs_machine.specs.State.{State}
+use Rattle.nfs_machine.specs.declared.moment.Moment.{Moment}
+use Rattle.nfs_machine.proofs.Runs.{run-append}
+use Rattle.nfs_engine.specs.Engine.{EngineValue}
+use Rattle.nfs_schedule.specs.Serving.{AreFrom, AnswersArrival, Serves, Ticks}
+use Rattle.nfs_schedule.specs.Served.{IsState, Answered, AreAnswered, EndsBy, Goes, Stops, IsAnswered}
+use Rattle.nfs_schedule.specs.declared.serving.StreamFault.{StreamFault}
+
+-- an answer adds one step or none
+answer_run : (setting : Setting) (old new : State) (arrival : Arrival) (answer : List ℕ) (records : List Record) → AnswersArrival setting old arrival answer records new → Run setting old records new
+answer_run setting old new (FromHost received) answer records (inl early) = subst
+    (λ (rs : List Record). Run setting old rs new) (sym early.nothing) early.unchanged
+answer_run setting old new (FromHost received) answer records (inr (inl refused)) = subst
+    (λ (rs : List Record). Run setting old rs new) (sym refused.nothing) refused.unchanged
+answer_run setting old new (FromHost received) answer records (inr (inr executed)) = subst
+    (λ (rs : List Record). Run setting old rs new) (sym executed.one)
+    (new, record { ctx = executed.ctx; call = executed.call; asks = executed.asks; step = executed.step }, refl)
+
+pub served_run : (setting : Setting) (old new : State) (arrivals : List Arrival) (written : List ℕ) (records : List Record) → Serves setting old arrivals written records new → Run setting old records new
+served_run setting old new [] written records served = subst (λ (rs : List Record). Run setting old rs new) (sym served.1) served.2
+served_run setting old new (arrival ∷ arrivals) written records (answer, others, first, later, mid, w, r, now, then) =
+    subst (λ (rs : List Record). Run setting old rs new) (sym r)
+    (run-append setting old mid new first later (answer_run setting old mid arrival answer first now) (served_run setting mid new arrivals others later then))
+
+served_join : (setting : Setting) (first mid last : State) (earlier later : List Arrival) (w x : List ℕ) (r s : List Record) → Serves setting first earlier w r mid → Serves setting mid later x s last
+    → Serves setting first (earlier ++ later) (w ++ x) (r ++ s) last
+served_join setting first mid last [] later w x r s a b =
+    subst (λ (v : List ℕ). Serves setting first later (v ++ x) (r ++ s) last) (sym a.0)
+    (subst (λ (q : List Record). Serves setting first later x (q ++ s) last) (sym a.1) (subst (λ (m : State). Serves setting m later x s last) a.2 b))
+served_join setting first mid last (arrival ∷ earlier) later w x r s (answer, others, now, then, next, we, re, answers, serves) b = (
+  answer,
+  others ++ x,
+  now,
+  then ++ s,
+  next,
+  ap (λ v. v ++ x) we ∙ append_assoc answer others x,
+  ap (λ q. q ++ s) re ∙ append_assoc now then s,
+  answers,
+  served_join setting next mid last earlier later others x then s serves b,
+)
+
+pub appends_join : (a b c : Option (List ℕ)) (w x : List ℕ) → Appends a b w → Appends b c x → Appends a c (w ++ x)
+appends_join None b c w x p q = tt
+appends_join (Some s) None c w x p q = absurd p
+appends_join (Some s) (Some t) None w x p q = absurd q
+appends_join (Some s) (Some t) (Some u) w x p q = q ∙ ap (λ l. l ++ x) p ∙ append_assoc s w x
+
+pub appends_nothing : (a : Option (List ℕ)) → Appends a a []
+appends_nothing None = tt
+appends_nothing (Some x) = sym (append-nil x)
+
+module _ {Clock : Type 0} (gives : Clock → Moment → Clock → Type 0) (host : List ℕ) where
+  ticks_join : (first mid last : Clock) (earlier later : List Arrival) → Ticks gives first earlier mid → Ticks gives mid later last → Ticks gives first (earlier ++ later) last
+  ticks_join first mid last [] later a b = subst (λ (k : Clock). Ticks gives k later last) a b
+  ticks_join first mid last (arrival ∷ earlier) later a b = (a.0, a.1, ticks_join a.0 mid last earlier later a.2 b)
+
+  from_join : (c d : List (List ℕ)) (earlier later : List Arrival) → AreFrom host c earlier →
+      AreFrom host d later →
+      AreFrom host (c ++ d) (earlier ++ later)
+  from_join [] d [] later a b = b
+  from_join [] d (arrival ∷ earlier) later a b = absurd a
+  from_join (bytes ∷ c) d [] later a b = absurd a
+  from_join (bytes ∷ c) d (arrival ∷ earlier) later a b = (a.0, from_join c d earlier later a.1 b)
+
+  module _ (first mid last : Clock) (c d : List (List ℕ)) (old new newest : EngineValue) where
+    module _ (w x : List ℕ) (a : AreAnswered gives host c first mid old new w) (b : AreAnswered gives host d mid last new newest x) where
+      joined : (m : State) → IsState old m → Answered gives host (c ++ d) first last old newest (w ++ x) m
+      joined m stands =
+          let one = a.each m stands in
+          let two = b.each one.after one.stands in
+          let served : Serves old.book.setting one.after two.arrivals x two.records two.after = subst (λ (s : Setting). Serves s one.after two.arrivals x two.records two.after) a.setting two.served in
+          let serves = served_join old.book.setting m one.after two.after one.arrivals two.arrivals w x one.records two.records one.served served in
+          record {
+            arrivals = one.arrivals ++ two.arrivals;
+            records = one.records ++ two.records;
+            after = two.after;
+            came = from_join c d one.arrivals two.arrivals one.came two.came;
+            ticked = ticks_join first mid last one.arrivals two.arrivals one.ticked two.ticked;
+            served = serves;
+            run = served_run old.book.setting m two.after (one.arrivals ++ two.arrivals) (w ++ x) (one.records ++ two.records) serves;
+            stands = two.stands;
+          }
+
+      pub answered_join : AreAnswered gives host (c ++ d) first last old newest (w ++ x)
+      answered_join = record { setting = b.setting ∙ a.setting; each = joined }
+
+  -- nothing came, and nothing is answered
+  pub answered_nothing : (clock : Clock) (engine : EngineValue) → AreAnswered gives host [] clock clock engine engine []
+  answered_nothing clock engine = record {
+    setting = refl;
+    each = λ m stands. record {
+      arrivals = [];
+      records = [];
+      after = m;
+      came = tt;
+      ticked = refl;
+      served = (refl, refl, refl);
+      run = refl;
+      stands = stands;
+    };
+  }
+
+  pub goes_nothing : (clock : Clock) (engine : EngineValue) (written : Option (List ℕ)) → Goes gives host [] clock clock engine engine written written
+  goes_nothing clock engine written = record {
+    answers = [];
+    written = appends_nothing written;
+    answered = answered_nothing clock engine;
+  }
+
+  pub goes_join : (first mid last : Clock) (c d : List (List ℕ)) (old new newest : EngineValue) (before now after : Option (List ℕ))
+      → Goes gives host c first mid old new before now → Goes gives host d mid last new newest now after → Goes gives host (c ++ d) first last old newest before after
+  goes_join first mid last c d old new newest before now after a b = record {
+    answers = a.answers ++ b.answers;
+    written = appends_join before now after a.answers b.answers a.written b.written;
+    answered = answered_join first mid last c d old new newest a.answers b.answers a.answered b.answered;
+  }
+
+  -- serving went on, and stopped
+  pub stops_join : (fault : StreamFault) (first mid last : Clock) (c d : List (List ℕ)) (old new newest : EngineValue) (before now after : Option (List ℕ))
+      → Goes gives host c first mid old new before now → Stops gives host fault d mid last new newest now after → Stops gives host fault (c ++ d) first last old newest before after
+  stops_join fault first mid last c d old new newest before now after a b = record {
+    first = c ++ b.first;
+    others = b.others;
+    mid = b.mid;
+    between = b.between;
+    sent = a.answers ++ b.sent;
+    unsent = b.unsent;
+    whole = ap (λ l. c ++ l) b.whole ∙ sym (append_assoc c b.first b.others);
+    written = appends_join before now after a.answers b.sent a.written b.written;
+    answered = subst (λ (w : List ℕ). AreAnswered gives host (c ++ b.first) first b.mid old b.between w)
+        (sym (append_assoc a.answers b.sent b.unsent))
+        (answered_join first mid b.mid c b.first old new b.between a.answers (b.sent ++ b.unsent) a.answered b.answered);
+    ends = b.ends;
+  }
+
+  -- a fault after all of these records
+  pub goes_stops : (fault : StreamFault) (first last : Clock) (c : List (List ℕ)) (old new : EngineValue) (before after : Option (List ℕ)) → EndsBy gives fault [] [] last last new new
+      → Goes gives host c first last old new before after → Stops gives host fault c first last old new before after
+  goes_stops fault first last c old new before after ends a = record {
+    first = c;
+    others = [];
+    mid = last;
+    between = new;
+    sent = a.answers;
+    unsent = [];
+    whole = sym (append-nil c);
+    written = a.written;
+    answered = subst (λ (w : List ℕ). AreAnswered gives host c first last old new w) (sym (append-nil a.answers)) a.answered;
+    ends = ends;
+  }
+
+  -- one record is answered, at the clock's next moment
+  pub one_answered : (first last : Clock) (moment : Moment) (bytes : List ℕ) (old new : EngineValue) (answer : List ℕ)
+      → gives first moment last →
+      IsAnswered (FromHost (record { host = host; bytes = bytes; moment = moment })) old new answer
+      → AreAnswered gives host (bytes ∷ []) first last old new answer
+  one_answered first last moment bytes old new answer ticked a =
+      let arrival : Arrival = FromHost (record { host = host; bytes = bytes; moment = moment }) in
+      record {
+        setting = a.setting;
+        each = λ m stands.
+            let (records, after, answers, then) = a.each m stands in
+            let serves : Serves old.book.setting m (arrival ∷ []) answer records after = (answer, [], records, [], after, sym (append-nil answer), sym (append-nil records), answers, (refl, refl, refl)) in
+            record {
+              arrivals = arrival ∷ [];
+              records = records;
+              after = after;
+              came = ((refl, refl), tt);
+              ticked = (last, ticked, refl);
+              served = serves;
+              run = served_run old.book.setting m after (arrival ∷ []) answer records serves;
+              stands = then;
+            };
+      }

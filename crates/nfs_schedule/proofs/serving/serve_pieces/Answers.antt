@@ -1,0 +1,70 @@
+use Rattle.std.proofs.Common.{refl}
+use Rattle.std.proofs.lemmas.Result.{err_from_is_err_and}
+use Rattle.nfs_schedule.proofs.Joins.{goes_stops}
+use Rattle.nfs_schedule.proofs.Pieces.{all_taken, taking_none, fault_taking, fault_taken, taking_more, refused_large}
+use Rattle.nfs_schedule.proofs.Pieces.{ends_early, early_fault, later_fault, later_not_read, later_write, err_same}
+use Rattle.nfs_schedule.proofs.Pieces.{refused_other, refused_write}
+use Rattle.nfs_schedule.proofs.serving.serve_pieces.Goals as goal
+
+pub pieces-init : goal.pieces-init
+pieces-init g c = (
+  taking_none _ _ _ _ _ _ _ _ _ c.requires.records,
+  λ sent. sent,
+  c.new-gathered.ensures.items,
+  c.requires.rest,
+)
+
+pub returns-in-End-clause-ok : goal.returns-in-End-clause-ok
+returns-in-End-clause-ok g c = λ input is. all_taken _ _ _ _ _ _ _ _ _ _ _ _ _ _ _ _ c.pieces.invariant.0 _ _
+    (rw c.in-End.is at c.in_ok-taken.ensures.taken) input is
+
+pub returns-in_err-taken-clause-fault : goal.returns-in_err-taken-clause-fault
+returns-in_err-taken-clause-fault g c =
+    let p = err_from_is_err_and c.from_residual.result c.from_residual.ensures.1 in
+    rw (p.1, p.2)
+    (fault_taking _ _ _ _ _ _ _ _ _ _ _ _ _ _ _ _ c.pieces.invariant.0 _
+    (ends_early _ _ _ _ c.in_err-taken.ensures.fault)
+    (early_fault _ _ c.pieces.invariant.0.within c.in_err-taken.ensures.fault))
+
+pub returns-in_err-serve_records : goal.returns-in_err-serve_records
+returns-in_err-serve_records g c =
+    let p = err_from_is_err_and c.from_residual-in_err-serve_records.result
+    c.from_residual-in_err-serve_records.ensures.1 in
+    let fault = c.in_err-serve_records.ensures.fault in
+    rw (p.1, p.2)
+    (record {
+      rest = c.in_err-serve_records.ensures.rest;
+      ok = tt;
+      fault =
+          fault_taken _ _ _ _ _ _ _ _ _ _ _ _ _ _ _ _ c.pieces.invariant.0 _ _ c.in_ok-taken.taken c.in_default.not-End
+          c.in_ok-taken.ensures.taken _ _ _ _
+          c.in_err-serve_records.ensures.stops (later_fault _ _ fault);
+      read = λ e. absurd (later_not_read _ fault (err_same _ _ e));
+      write = λ e. later_write _ _ _ _ fault c.pieces.invariant.0.same_writer (err_same _ _ e);
+      sent = tt;
+    })
+
+pub returns-in-Refused : goal.returns-in-Refused
+returns-in-Refused g c = record {
+  rest = c.in_ok-serve_records.ensures.rest;
+  ok = tt;
+  fault =
+      fault_taken _ _ _ _ _ _ _ _ _ _ _ _ _ _ _ _ c.pieces.invariant.0 _ _ c.in_ok-taken.taken c.in_default.not-End
+      c.in_ok-taken.ensures.taken _ _ _ _
+      (goes_stops _ _ _ _ _ _ _ _ _ _ (refl, (refl, refl, refl)) c.in_ok-serve_records.ensures.goes)
+      (refused_large _ _ _ _ _ _ _ c.in-Refused.is c.in_ok-taken.ensures.taken.takes c.pieces.invariant.0.holds);
+  read = λ e. absurd (refused_other e);
+  write = λ e. absurd (refused_write e);
+  sent = tt;
+}
+
+pub pieces-preserved : goal.pieces-preserved
+pieces-preserved g c = (
+  taking_more _ _ _ _ _ _ _ _ _ _ _ _ _ _ _ _ c.pieces.invariant.0 _ _ c.in_ok-taken.taken c.in_default.not-End
+      c.in_ok-taken.ensures.taken c.in_default-taken.not-Refused _ _ _ _ _ _
+      c.in_ok-serve_records.ensures.goes c.in_ok-serve_records.ensures.all c.in_ok-serve_records.ensures.holds
+      c.in_ok-taken.ensures.ok c.in_ok-serve_records.ensures.ok,
+  λ sent. c.in_ok-serve_records.ensures.sent (c.pieces.invariant.1 sent),
+  c.in_ok-serve_records.ensures.none,
+  c.in_ok-serve_records.ensures.rest,
+)

@@ -1,0 +1,134 @@
+-- What serving the records of a stream comes to.
+use Rattle.std.specs.Prelude.{◌≡◌, ◌⊎◌, ◌+◌, ℕ}
+use Rattle.std.specs.Prelude.{List, [], ◌∷◌, ◌++◌, length, Option}
+use Rattle.std.specs.Io.KnownBytes.{Appends}
+use Rattle.nfs_rpc.specs.Records.{IsStream, IsTooLarge}
+use Rattle.nfs_machine.specs.Run.{Setting, Arrival, Record, Run}
+use Rattle.nfs_machine.specs.State.{State}
+use Rattle.nfs_machine.specs.declared.moment.Moment.{Moment}
+use Rattle.nfs_engine.specs.Book.{StandsFor, store_in}
+use Rattle.nfs_engine.specs.Engine.{EngineValue}
+use Rattle.nfs_schedule.specs.Serving.{AreFrom, AnswersArrival, Serves, Ticks}
+use Rattle.nfs_schedule.specs.declared.serving.StreamFault.{StreamFault}
+use Rattle.nfs_schedule.specs.declared.serving.StreamFault.TheVariants.{Read, Write, TooLarge, Memory}
+
+-- the state that the engine's store stands for
+abbrev pub IsState : EngineValue → State → Type 0
+IsState e m = StandsFor (store_in e.book) m
+
+-- Nothing is executed: the store, what is to be sent and how many records there ever were are as they were. The era may
+-- be over, and calls may have come and gone.
+pub record ExecutesNothing (old new : EngineValue) : Type 0 where
+  pub objects : new.book.objects ≡ old.book.objects
+  pub setting : new.book.setting ≡ old.book.setting
+  pub outbox : new.book.outbox ≡ old.book.outbox
+  pub count : new.book.before + length new.book.records ≡ old.book.before + length old.book.records
+
+-- These records came from the host, one after the other and each at the clock's next moment. From this state, which the
+-- store stood for, the bytes are their answers, what was executed is a run, and the store stands for its end.
+pub record Answered {Clock : Type 0} (gives : Clock → Moment → Clock → Type 0) (host : List ℕ)
+    (contents : List (List ℕ)) (clock later : Clock) (old new : EngineValue) (answers : List ℕ)
+    (m : State) : Type 0 where
+  pub arrivals : List Arrival
+  pub records : List Record
+  pub after : State
+  pub came : AreFrom host contents arrivals
+  pub ticked : Ticks gives clock arrivals later
+  pub served : Serves old.book.setting m arrivals answers records after
+  pub run : Run old.book.setting m records after
+  pub stands : IsState new after
+
+-- so from every state that the store stood for; what the server was started with stays
+pub record AreAnswered {Clock : Type 0} (gives : Clock → Moment → Clock → Type 0) (host : List ℕ)
+    (contents : List (List ℕ)) (clock later : Clock) (old new : EngineValue) (answers : List ℕ) : Type 0 where
+  pub setting : new.book.setting ≡ old.book.setting
+  pub each : (m : State) → IsState old m → Answered gives host contents clock later old new answers m
+
+-- the records were answered, and their answers were written
+pub record Goes {Clock : Type 0} (gives : Clock → Moment → Clock → Type 0) (host : List ℕ)
+    (contents : List (List ℕ)) (clock later : Clock) (old new : EngineValue)
+    (before after : Option (List ℕ)) : Type 0 where
+  pub answers : List ℕ
+  pub written : Appends before after answers
+  pub answered : AreAnswered gives host contents clock later old new answers
+
+-- none of these records is left, and nothing more was done
+abbrev pub Stays : {Clock : Type 0} → List (List ℕ) → (clock later : Clock) (old new : EngineValue) → Type 0
+Stays contents clock later old new = (contents ≡ []) × (later ≡ clock) × (new ≡ old)
+
+-- the first of these records came at the clock's next moment, and has no answer
+pub record IsUnanswered {Clock : Type 0} (gives : Clock → Moment → Clock → Type 0) (contents : List (List ℕ))
+    (clock later : Clock) (old new : EngineValue) : Type 0 where
+  pub hand : List ℕ
+  pub behind : List (List ℕ)
+  pub whole : contents ≡ hand ∷ behind
+  pub moment : Moment
+  pub ticked : gives clock moment later
+  pub nothing : ExecutesNothing old new
+
+-- What was done at a fault with the records that have no answer, and which bytes of the answers were not written. Read
+-- and TooLarge: none is left, and all is written. Memory: none is left, or the first one has no answer, and all is
+-- written. Write: some bytes may be left, and so may be records, of which the first may have come.
+abbrev pub EndsBy : {Clock : Type 0} → (Clock → Moment → Clock → Type 0) → StreamFault → List (List ℕ) →
+    (unsent : List ℕ) (clock later : Clock) (old new : EngineValue) → Type 0
+EndsBy gives Read others unsent clock later old new = (unsent ≡ []) × Stays others clock later old new
+EndsBy gives TooLarge others unsent clock later old new = (unsent ≡ []) × Stays others clock later old new
+EndsBy gives Write others unsent clock later old new =
+    ((later ≡ clock) × (new ≡ old)) ⊎ IsUnanswered gives others clock later old new
+EndsBy gives Memory others unsent clock later old new =
+    (unsent ≡ []) × (Stays others clock later old new ⊎ IsUnanswered gives others clock later old new)
+
+-- The first of the records were answered, and a beginning of their answers was written; behind them serving ended by the
+-- fault.
+pub record Stops {Clock : Type 0} (gives : Clock → Moment → Clock → Type 0) (host : List ℕ)
+    (fault : StreamFault) (contents : List (List ℕ)) (clock later : Clock) (old new : EngineValue)
+    (before after : Option (List ℕ)) : Type 0 where
+  pub first : List (List ℕ)
+  pub others : List (List ℕ)
+  pub mid : Clock
+  pub between : EngineValue
+  pub sent : List ℕ
+  pub unsent : List ℕ
+  pub whole : contents ≡ first ++ others
+  pub written : Appends before after sent
+  pub answered : AreAnswered gives host first clock mid old between (sent ++ unsent)
+  pub ends : EndsBy gives fault others unsent mid later between new
+
+-- all records of the input were served; bytes after the last whole record are left (RFC 5531, section 11)
+pub record ServesAll {Clock : Type 0} (gives : Clock → Moment → Clock → Type 0) (host input : List ℕ)
+    (clock later : Clock) (old new : EngineValue) (before after : Option (List ℕ)) : Type 0 where
+  pub contents : List (List ℕ)
+  pub rest : List ℕ
+  pub split : IsStream input contents rest
+  pub within : IsTooLarge input → ⊥
+  pub goes : Goes gives host contents clock later old new before after
+
+-- a record is too large where this is the fault, and none where a read failed
+abbrev pub IsFaultOf : StreamFault → List ℕ → Type 0
+IsFaultOf TooLarge fed = IsTooLarge fed
+IsFaultOf Read fed = IsTooLarge fed → ⊥
+IsFaultOf _ fed = Unit {0}
+
+-- a front of the input was taken in, and of its records the first were served
+pub record ServesFront {Clock : Type 0} (gives : Clock → Moment → Clock → Type 0) (host input : List ℕ)
+    (fault : StreamFault) (clock later : Clock) (old new : EngineValue) (before after : Option (List ℕ)) : Type 0 where
+  pub fed : List ℕ
+  pub ahead : List ℕ
+  pub contents : List (List ℕ)
+  pub rest : List ℕ
+  pub front : input ≡ fed ++ ahead
+  pub split : IsStream fed contents rest
+  pub stops : Stops gives host fault contents clock later old new before after
+  pub is_fault : IsFaultOf fault fed
+
+-- the record is answered so, from every state that the store stood for
+pub record IsAnswered (arrival : Arrival) (old new : EngineValue) (answer : List ℕ) : Type 0 where
+  pub setting : new.book.setting ≡ old.book.setting
+  pub each : (m : State) → IsState old m → (records : List Record) × (after : State)
+      × AnswersArrival old.book.setting m arrival answer records after × IsState new after
+
+-- what was served is a run of the machine
+abbrev pub ServedIsRun : Type 0
+ServedIsRun =
+    (setting : Setting) (old new : State) (arrivals : List Arrival) (written : List ℕ) (records : List Record)
+    → Serves setting old arrivals written records new → Run setting old records new

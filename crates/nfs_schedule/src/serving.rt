@@ -1,0 +1,309 @@
+//! Serving a stream of records, one after the other.
+
+ghost use Rattle.std.specs.Prelude.{◌≡◌, ℕ, ◌+◌, ◌-◌, ◌^◌, ◌<◌, ◌≤◌, ◌⊎◌, List};
+ghost use Rattle.std.specs.Prelude.{[], ◌∷◌, ◌++◌, true, length, Some, IfOk, IfErr, OnOk, OnErr, IsErrOf};
+ghost use Rattle.nfs_engine.specs.Answers.{answer_bytes};
+ghost use Rattle.nfs_machine.specs.Run.{FromHost};
+ghost use Rattle.nfs_rpc.specs.Records.{Holds};
+ghost use Rattle.nfs_rpc.specs.Streams.{one_more};
+ghost use Rattle.nfs_schedule.specs.Gathered.{Adds, FailsBy};
+ghost use Rattle.nfs_schedule.specs.Served.{ExecutesNothing, Goes, IsAnswered, ServedIsRun, ServesAll, ServesFront};
+ghost use Rattle.nfs_schedule.specs.Served.{Stops};
+ghost use Rattle.nfs_schedule.specs.Taken.{Takes};
+ghost use Rattle.nfs_schedule.specs.Worlds.{IsAtRest};
+
+use crate::answer::{Answer, Declined};
+use crate::executing::execute;
+use crate::gathering::{put, send};
+use nfs_engine::{Arrival, Engine, Host};
+use nfs_machine::{Moment, Moments};
+use nfs_rpc::stream::{Sink, Source};
+use nfs_rpc::{Record, RecordError, Records};
+use std::alloc::{AllocError, Global};
+use thiserror::Error;
+
+/// How many bytes are read at once.
+const BUFFER_SIZE: usize = 65_536;
+
+/// The whole input was served.
+#[derive(Clone, Copy, Debug, PartialEq, Eq)]
+pub struct Served;
+
+/// Why the input was not served to its end.
+#[derive(Clone, Copy, Debug, PartialEq, Eq, Error)]
+pub enum StreamFault {
+    /// A read failed, or 2^64 - 1 reads were made.
+    #[error("the input can't be read")]
+    Read,
+    /// A write failed, or took none of some bytes.
+    #[error("the output can't be written")]
+    Write,
+    /// A fragment header brings a record above the limit.
+    #[error("a record is too large")]
+    TooLarge,
+    /// There is no memory to take in a piece or a record, or to say that there is none.
+    #[error("out of memory")]
+    Memory,
+}
+
+/// What was taken in of the input.
+#[derive(Clone, Copy)]
+enum Taken {
+    /// Nothing: the input is at its end.
+    End,
+    /// A piece.
+    Piece,
+    /// A piece, in which a record is too large.
+    Refused,
+}
+
+/// Answers each record of the input, one after the other, to the end of the input. All answers are sent on before the
+/// next read. Bytes after the last whole record are left. Where an era is full, the next one begins between two records.
+///
+/// No call is in progress in the engine, and none is afterwards.
+///
+/// # Errors
+///
+/// `Read`, `TooLarge`: every whole record before the fault has its answer. `Write`: so has every record up to the one
+/// in hand, and of these answers a beginning is written. `Memory`: every record before the one in hand, which is not
+/// executed, or before the piece that was not taken in.
+pub fn serve_stream<C: Moments, R: Source, W: Sink>(
+    alloc: Global,
+    engine: &mut Engine,
+    host: &Host,
+    clock: &mut C,
+    reader: &mut R,
+    writer: &mut W,
+) -> Result<Served, StreamFault>
+    requires rest { IsAtRest engine.old }
+    ensures rest { IsAtRest engine.new }
+    // Answers are those of a run of the machine, from every state that the store stands for.
+    ensures ok { IfOk result (λ _. (input : List ℕ) → R.unread reader.old ≡ Some input
+        → ServesAll C.gives host.now input clock.old clock.new engine.old engine.new
+        (W.written writer.old) (W.written writer.new)) }
+    ensures fault { IfErr result (λ e. (input : List ℕ) → R.unread reader.old ≡ Some input
+        → ServesFront C.gives host.now input e clock.old clock.new engine.old engine.new
+        (W.written writer.old) (W.written writer.new)) }
+    // A fault of a stream is one that the stream counted, or there was no end of it.
+    ensures read { IsErrOf result StreamFault.Read →
+        (R.Counts.failures reader.new ≡ one_more (R.Counts.failures reader.old))
+        ⊎ ((input : List ℕ) → R.unread reader.old ≡ Some input → 2 ^ 64 - 1 ≤ length input) }
+    ensures write { IsErrOf result StreamFault.Write →
+        W.Counts.failures writer.new ≡ one_more (W.Counts.failures writer.old) }
+    // At the end every answer is sent.
+    ensures sent { OnOk result (W.all_sent writer.old ≡ true → W.all_sent writer.new ≡ true) }
+{
+    let mut records = Records::new(alloc);
+    let Ok(mut buffer) = Vec::from_elem(alloc, 0, BUFFER_SIZE) else {
+        return Err(StreamFault::Memory);
+    };
+    serve_pieces(
+        alloc,
+        engine,
+        host,
+        clock,
+        reader,
+        writer,
+        &mut records,
+        buffer.as_mut_slice(),
+    )
+}
+
+/// What was served, arrival by arrival, is a run of the machine over the records of what was executed.
+pub fn served_is_a_run()
+    ensures { ServedIsRun }
+{}
+
+/// Takes the input in piece by piece, as many bytes at once as the buffer has, and answers the records.
+fn serve_pieces<C: Moments, R: Source, W: Sink>(
+    alloc: Global,
+    engine: &mut Engine,
+    host: &Host,
+    clock: &mut C,
+    reader: &mut R,
+    writer: &mut W,
+    records: &mut Records,
+    buffer: &mut [u8],
+) -> Result<Served, StreamFault>
+    requires rest { IsAtRest engine.old }
+    requires buffer { 0 < length buffer.old }
+    requires records { Holds records.old [] [] }
+    ensures rest { IsAtRest engine.new }
+    ensures ok { IfOk result (λ _. (input : List ℕ) → R.unread reader.old ≡ Some input
+        → ServesAll C.gives host.now input clock.old clock.new engine.old engine.new
+        (W.written writer.old) (W.written writer.new)) }
+    ensures fault { IfErr result (λ e. (input : List ℕ) → R.unread reader.old ≡ Some input
+        → ServesFront C.gives host.now input e clock.old clock.new engine.old engine.new
+        (W.written writer.old) (W.written writer.new)) }
+    ensures read { IsErrOf result StreamFault.Read →
+        (R.Counts.failures reader.new ≡ one_more (R.Counts.failures reader.old))
+        ⊎ ((input : List ℕ) → R.unread reader.old ≡ Some input → 2 ^ 64 - 1 ≤ length input) }
+    ensures write { IsErrOf result StreamFault.Write →
+        W.Counts.failures writer.new ≡ one_more (W.Counts.failures writer.old) }
+    // At the end every answer is sent.
+    ensures sent { OnOk result (W.all_sent writer.old ≡ true → W.all_sent writer.new ≡ true) }
+{
+    let mut gathered = Vec::new(alloc);
+    'pieces: for _reads in 0..u64::MAX {
+        let taken = take_piece(reader, records, &gathered, buffer)?;
+        if let Taken::End = taken {
+            return Ok(Served);
+        }
+        serve_records(alloc, engine, host, clock, writer, records, &mut gathered)?;
+        if let Taken::Refused = taken {
+            return Err(StreamFault::TooLarge);
+        }
+    }
+    Err(StreamFault::Read)
+}
+
+/// Reads a piece and takes it in, when every record that had come is answered and every answer is sent. A fault leaves
+/// the records as they were.
+fn take_piece<R: Source>(
+    reader: &mut R,
+    records: &mut Records,
+    _gathered: &Vec<u8>,
+    buffer: &mut [u8],
+) -> Result<Taken, StreamFault>
+    requires buffer { 0 < length buffer.old }
+    requires answered { records.old.queued ≡ [] }
+    requires sent { _gathered.now.items ≡ [] }
+    ensures taken { IfOk result
+        (λ taken. Takes taken records.old records.new (R.unread reader.old) (R.unread reader.new)) }
+    ensures ok { OnOk result (R.Counts.failures reader.new ≡ R.Counts.failures reader.old) }
+    ensures err { OnErr result (records.new ≡ records.old) }
+    ensures fault { IfErr result (λ e.
+        ((e ≡ StreamFault.Read) × (R.Counts.failures reader.new ≡ one_more (R.Counts.failures reader.old)))
+        ⊎ (e ≡ StreamFault.Memory)) }
+{
+    let Ok(count) = reader.read(buffer) else {
+        return Err(StreamFault::Read);
+    };
+    if count == 0 {
+        return Ok(Taken::End);
+    }
+    match records.feed(&buffer[..count]) {
+        Ok(()) => Ok(Taken::Piece),
+        Err(RecordError::TooLarge) => Ok(Taken::Refused),
+        Err(RecordError::Memory) => Err(StreamFault::Memory),
+    }
+}
+
+/// Answers the whole records that have come, one after the other, to the last, and sends all answers on.
+fn serve_records<C: Moments, W: Sink>(
+    alloc: Global,
+    engine: &mut Engine,
+    host: &Host,
+    clock: &mut C,
+    writer: &mut W,
+    records: &mut Records,
+    gathered: &mut Vec<u8>,
+) -> Result<(), StreamFault>
+    requires rest { IsAtRest engine.old }
+    requires none { gathered.old.items ≡ [] }
+    ensures rest { IsAtRest engine.new }
+    ensures goes { OnOk result
+        (Goes C.gives host.now records.old.queued clock.old clock.new engine.old engine.new
+        (W.written writer.old) (W.written writer.new)) }
+    ensures all { OnOk result (records.new.queued ≡ []) }
+    ensures none { OnOk result (gathered.new.items ≡ []) }
+    ensures sent { OnOk result (W.all_sent writer.old ≡ true → W.all_sent writer.new ≡ true) }
+    ensures holds { OnOk result
+        ((stream : List ℕ) (given : List (List ℕ)) → Holds records.old stream given →
+        Holds records.new stream (given ++ records.old.queued)) }
+    ensures ok { OnOk result (W.Counts.failures writer.new ≡ W.Counts.failures writer.old) }
+    ensures stops { IfErr result
+        (λ e. Stops C.gives host.now e records.old.queued clock.old clock.new engine.old engine.new
+        (W.written writer.old) (W.written writer.new)) }
+    ensures fault { IfErr result (λ e.
+        ((e ≡ StreamFault.Write) × (W.Counts.failures writer.new ≡ one_more (W.Counts.failures writer.old)))
+        ⊎ (e ≡ StreamFault.Memory)) }
+{
+    'records: while let Some(record) = records.next() {
+        serve_record(alloc, engine, host, clock, writer, gathered, record)?;
+    }
+    send(writer, gathered)
+}
+
+/// Answers one record, at the clock's next moment. Its answer is gathered, or sent on.
+fn serve_record<C: Moments, W: Sink>(
+    alloc: Global,
+    engine: &mut Engine,
+    host: &Host,
+    clock: &mut C,
+    writer: &mut W,
+    gathered: &mut Vec<u8>,
+    message: Record,
+) -> Result<(), StreamFault>
+    requires rest { IsAtRest engine.old }
+    ensures rest { IsAtRest engine.new }
+    ensures sent { OnOk result (W.all_sent writer.old ≡ true → W.all_sent writer.new ≡ true) }
+    ensures adds { OnOk result
+        (Adds C.gives host.now message clock.old clock.new engine.old engine.new
+        (W.written writer.old) (W.written writer.new) gathered.old.items gathered.new.items) }
+    ensures ok { OnOk result (W.Counts.failures writer.new ≡ W.Counts.failures writer.old) }
+    ensures fails { IfErr result
+        (λ e. FailsBy C.gives host.now e message clock.old clock.new engine.old engine.new
+        (W.written writer.old) (W.written writer.new) gathered.old.items) }
+    ensures fault { IfErr result (λ e.
+        ((e ≡ StreamFault.Write) × (W.Counts.failures writer.new ≡ one_more (W.Counts.failures writer.old)))
+        ⊎ (e ≡ StreamFault.Memory)) }
+{
+    let moment = clock.moment();
+    begin_era(alloc, engine);
+    match answer(alloc, engine, host, message, moment) {
+        Ok(Some(answer)) => put(writer, gathered, answer.as_slice()),
+        Ok(None) => Ok(()),
+        Err(_) => {
+            send(writer, gathered)?;
+            Err(StreamFault::Memory)
+        }
+    }
+}
+
+/// Begins a new era where the present one is full. What was recorded in that one is dropped.
+fn begin_era(alloc: Global, engine: &mut Engine)
+    requires rest { IsAtRest engine.old }
+    ensures rest { IsAtRest engine.new }
+    ensures nothing { ExecutesNothing engine.old engine.new }
+{
+    if engine.era_is_full() {
+        drop(engine.new_era(alloc));
+    }
+}
+
+/// The answer to a record that came in from the host, at this moment. None where it is dropped.
+///
+/// # Errors
+///
+/// There is no memory to take the record in, or to say that there is none. It is not executed.
+fn answer(
+    alloc: Global,
+    engine: &mut Engine,
+    host: &Host,
+    message: Record,
+    moment: Moment,
+) -> Result<Option<Vec<u8>>, AllocError>
+    requires rest { IsAtRest engine.old }
+    ensures rest { IsAtRest engine.new }
+    ensures ok { IfOk result
+        (λ answer. IsAnswered (FromHost (record { host = host.now; bytes = message; moment = moment }))
+        engine.old engine.new (answer_bytes answer)) }
+    ensures err { OnErr result (ExecutesNothing engine.old engine.new) }
+{
+    let arrival = Arrival::read(alloc, host.share()?, message, moment)?;
+    arrival.reading();
+    match execute(alloc, engine, arrival) {
+        Answer::Executed(receipt) => Ok(Some(receipt.answer)),
+        Answer::Refused(declined) => {
+            let Declined { received, answer } = declined;
+            drop(received);
+            match answer {
+                Some(bytes) => Ok(Some(bytes)),
+                None => Err(AllocError),
+            }
+        }
+        Answer::Early(faulted) => Ok(faulted.answer),
+        _ => unreachable!(),
+    }
+}
