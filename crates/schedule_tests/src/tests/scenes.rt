@@ -1,0 +1,279 @@
+//! Scenes: what happens in a world, in order, and what must be answered, put together from words as RFC 5531, sections 9
+//! and 11, and RFC 1813, 3.3, say.
+
+use super::HOST;
+use std::alloc::{AllocError, Global};
+
+/// What happens next, or what has to be so then.
+#[derive(Clone, Copy)]
+pub(super) enum Move {
+    /// The record with this xid comes in from this host.
+    Arrive { from: &'static [u8], xid: u32 },
+    /// This worker, from 1, takes a turn.
+    Turn(usize),
+    /// This worker is stopped.
+    Stop(usize),
+    /// The oldest message is taken.
+    TakeMessage,
+    /// The era ends, and the next begins.
+    NewEra,
+    /// So many calls are in progress, and so many addresses are held.
+    Counts { living: usize, locked: usize },
+    /// The era has so many records.
+    Records(u64),
+    /// Each record that was refused, and not executed later, comes again, and worker 1 goes on to its end.
+    Settle,
+}
+
+/// How a record is answered.
+#[derive(Clone, Copy, PartialEq, Eq)]
+pub(super) enum Kind {
+    /// Its call was executed, as the record with this number.
+    Executed(u64),
+    /// Its call was refused, and changed nothing.
+    Refused,
+    /// It has a fault.
+    Early,
+    /// It is not executed, and has no reply.
+    Unanswered,
+}
+
+/// An answer that is wanted.
+#[derive(Drop)]
+pub(super) struct Wanted {
+    /// Of several ends that the scene may have, to which one it belongs; 0 where it belongs to all.
+    pub end: usize,
+    pub from: &'static [u8],
+    pub xid: u32,
+    pub kind: Kind,
+    pub bytes: Vec<u8>,
+}
+
+/// What happens in a world, and what must be answered, in order. Calls are made by user 0, and have the transaction ids
+/// 1, 2 and so on.
+#[derive(Drop)]
+pub(super) struct Scene {
+    records: Vec<Vec<u8>>,
+    pub moves: Vec<Move>,
+    pub wanted: Vec<Wanted>,
+    /// The last transaction id.
+    pub xid: u32,
+    /// The last of several ends that it may have, from 1; 0 where it has one.
+    pub end: usize,
+    /// How many of its moves are its opening.
+    pub opening: usize,
+}
+
+impl Scene {
+    pub(super) fn new(alloc: Global) -> Scene {
+        Scene {
+            records: Vec::new(alloc),
+            moves: Vec::new(alloc),
+            wanted: Vec::new(alloc),
+            xid: 0,
+            end: 0,
+            opening: 0,
+        }
+    }
+
+    /// What its parts are kept by.
+    fn allocator(&self) -> Global {
+        *self.records.allocator()
+    }
+
+    /// The first words, and the others behind them.
+    pub(super) fn joined(&self, first: &[u32], others: &[u32]) -> Result<Vec<u32>, AllocError> {
+        let mut words = Vec::new(self.allocator());
+        words.extend_from_slice(first)?;
+        words.extend_from_slice(others)?;
+        Ok(words)
+    }
+
+    /// The record with this transaction id; none where there is no such record.
+    pub(super) fn record(&self, xid: u32) -> &[u8] {
+        let place = (xid as usize).wrapping_sub(1);
+        match self.records.get(place) {
+            Some(record) => record,
+            None => &[],
+        }
+    }
+
+    /// A record of these words comes in behind its transaction id.
+    pub(super) fn words(&mut self, words: &[u32]) -> Result<(), AllocError> {
+        self.xid = self.xid.wrapping_add(1);
+        let mut record = Vec::new(self.allocator());
+        add_words(&mut record, &[self.xid])?;
+        add_words(&mut record, words)?;
+        self.records.push(record)?;
+        self.arrives(HOST, self.xid)
+    }
+
+    /// A call comes in: a handle, and two further parts of the arguments.
+    pub(super) fn call(
+        &mut self,
+        procedure: u32,
+        handle: &[u32],
+        second: &[u32],
+        third: &[u32],
+    ) -> Result<(), AllocError> {
+        let mut words = Vec::new(self.allocator());
+        words.extend_from_slice(&[0, 2, 100003, 3, procedure])?;
+        words.extend_from_slice(&USER_0)?;
+        words.extend_from_slice(handle)?;
+        words.extend_from_slice(second)?;
+        words.extend_from_slice(third)?;
+        self.words(&words)
+    }
+
+    /// The record with this transaction id comes in.
+    pub(super) fn arrives(&mut self, from: &'static [u8], xid: u32) -> Result<(), AllocError> {
+        self.moves.push(Move::Arrive { from, xid })?;
+        Ok(())
+    }
+
+    /// A worker takes so many turns.
+    pub(super) fn turns(&mut self, worker: usize, count: usize) -> Result<(), AllocError> {
+        for _turn in 0..count {
+            self.moves.push(Move::Turn(worker))?;
+        }
+        Ok(())
+    }
+
+    /// Worker 1 takes a turn, and then worker 2, so many times.
+    pub(super) fn rounds(&mut self, count: usize) -> Result<(), AllocError> {
+        for _round in 0..count {
+            self.moves.push(Move::Turn(1))?;
+            self.moves.push(Move::Turn(2))?;
+        }
+        Ok(())
+    }
+
+    /// A worker is stopped.
+    pub(super) fn stops(&mut self, worker: usize) -> Result<(), AllocError> {
+        self.moves.push(Move::Stop(worker))?;
+        Ok(())
+    }
+
+    /// The oldest message is taken.
+    pub(super) fn takes_message(&mut self) -> Result<(), AllocError> {
+        self.moves.push(Move::TakeMessage)?;
+        Ok(())
+    }
+
+    /// The era ends, and the next begins.
+    pub(super) fn new_era(&mut self) -> Result<(), AllocError> {
+        self.moves.push(Move::NewEra)?;
+        Ok(())
+    }
+
+    /// Each record that was refused, and not executed later, comes again, and worker 1 goes on to its end.
+    pub(super) fn settles(&mut self) -> Result<(), AllocError> {
+        self.moves.push(Move::Settle)?;
+        Ok(())
+    }
+
+    /// No call is in progress then, and no address is held.
+    pub(super) fn rests(&mut self) -> Result<(), AllocError> {
+        self.moves.push(Move::Counts {
+            living: 0,
+            locked: 0,
+        })?;
+        Ok(())
+    }
+
+    /// So many calls are in progress then, so many addresses are held, and the era has so many records.
+    pub(super) fn counts(
+        &mut self,
+        living: usize,
+        locked: usize,
+        records: u64,
+    ) -> Result<(), AllocError> {
+        self.moves.push(Move::Counts { living, locked })?;
+        self.moves.push(Move::Records(records))?;
+        Ok(())
+    }
+
+    /// The call with this transaction id is executed as the record with this number, and answered by results in four
+    /// parts.
+    pub(super) fn executed(
+        &mut self,
+        xid: u32,
+        number: u64,
+        first: &[u32],
+        second: &[u32],
+        third: &[u32],
+        fourth: &[u32],
+    ) -> Result<(), AllocError> {
+        let mut words = Vec::new(self.allocator());
+        words.extend_from_slice(&[xid, 1, 0, 0, 0, 0])?;
+        words.extend_from_slice(first)?;
+        words.extend_from_slice(second)?;
+        words.extend_from_slice(third)?;
+        words.extend_from_slice(fourth)?;
+        self.answered(xid, Kind::Executed(number), &words)
+    }
+
+    /// The record with this transaction id has a fault, and is answered by these words behind it.
+    pub(super) fn faulted(&mut self, xid: u32, words: &[u32]) -> Result<(), AllocError> {
+        let mut body = Vec::new(self.allocator());
+        body.push(xid)?;
+        body.extend_from_slice(words)?;
+        self.answered(xid, Kind::Early, &body)
+    }
+
+    /// The record with this transaction id has a fault, and no answer.
+    pub(super) fn dropped(&mut self, xid: u32) -> Result<(), AllocError> {
+        let nothing = Vec::new(self.allocator());
+        self.wants(xid, Kind::Early, nothing)
+    }
+
+    /// The call with this transaction id is not executed, and has no reply.
+    pub(super) fn unanswered(&mut self, xid: u32) -> Result<(), AllocError> {
+        let nothing = Vec::new(self.allocator());
+        self.wants(xid, Kind::Unanswered, nothing)
+    }
+
+    /// The record with this transaction id is answered so, by one fragment of these words.
+    fn answered(&mut self, xid: u32, kind: Kind, words: &[u32]) -> Result<(), AllocError> {
+        let Ok(count) = u32::try_from(words.len()) else {
+            return Err(AllocError);
+        };
+        let mark = 0x80000000 | count.wrapping_mul(4);
+        let mut bytes = Vec::new(self.allocator());
+        add_words(&mut bytes, &[mark])?;
+        add_words(&mut bytes, words)?;
+        self.wants(xid, kind, bytes)
+    }
+
+    fn wants(&mut self, xid: u32, kind: Kind, bytes: Vec<u8>) -> Result<(), AllocError> {
+        self.wanted.push(Wanted {
+            end: self.end,
+            from: HOST,
+            xid,
+            kind,
+            bytes,
+        })?;
+        Ok(())
+    }
+
+    /// The answers that follow are those of one end that the scene may have.
+    pub(super) fn ends_either(&mut self) {
+        self.end = self.end.wrapping_add(1);
+    }
+
+    /// The moves so far are its opening.
+    pub(super) fn is_open(&mut self) {
+        self.opening = self.moves.len();
+    }
+}
+
+/// AUTH_SYS of user 0 and group 0 (RFC 5531, appendix A), and a verifier.
+const USER_0: [u32; 9] = [1, 20, 0, 0, 0, 0, 0, 0, 0];
+
+/// Adds these words.
+fn add_words(bytes: &mut Vec<u8>, words: &[u32]) -> Result<(), AllocError> {
+    for word in words {
+        bytes.extend_from_slice(&word.to_be_bytes())?;
+    }
+    Ok(())
+}
