@@ -43,6 +43,7 @@ pub fn drive(
     ensures err { IfErr result (λ e. (e.0 < length events.now)
         × Drives world.old (take e.0 events.now) world.new answers.old.items answers.new.items) }
     ensures runs { RunsOn world.old world.new }
+    ensures workers { length world.new.workers ≡ length world.old.workers }
 {
     for (index, event) in events.iter().enumerate() {
         if let Err(error) = happen(alloc, world, event, answers) {

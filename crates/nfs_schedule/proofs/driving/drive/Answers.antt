@@ -1,5 +1,5 @@
-use Rattle.std.proofs.Common.{sym, subst, take, arith}
-use Rattle.nfs_schedule.proofs.Driven.{drives_further, drives_runs, has_worker}
+use Rattle.std.proofs.Common.{length, take, sym, ◌∙◌, ap, subst, arith}
+use Rattle.nfs_schedule.proofs.Driven.{drives_further, drives_runs, drives_workers, has_worker}
 use Rattle.nfs_schedule.specs.Worlds.{RunsOn, WorldValue}
 use Rattle.nfs_schedule.proofs.driving.drive.Goals as goal
 
@@ -24,4 +24,15 @@ loop-index-preserved c =
 pub returns-clause-runs : goal.returns-clause-runs
 returns-clause-runs c =
     drives_runs c.args.world.now c.loop-index.world (take c.loop-index.index c.args.events.now)
+    c.args.answers.now.items c.loop-index.answers.items c.loop-index.invariant
+
+pub returns-in-Err-clause-workers : goal.returns-in-Err-clause-workers
+returns-in-Err-clause-workers c =
+    ap (λ (w : WorldValue). length w.workers) c.in-Err.ensures.err.0
+    ∙ drives_workers c.args.world.now c.loop-index.world (take c.loop-index.index c.args.events.now)
+    c.args.answers.now.items c.loop-index.answers.items c.loop-index.invariant
+
+pub returns-clause-workers : goal.returns-clause-workers
+returns-clause-workers c =
+    drives_workers c.args.world.now c.loop-index.world (take c.loop-index.index c.args.events.now)
     c.args.answers.now.items c.loop-index.answers.items c.loop-index.invariant
