@@ -1,10 +1,11 @@
 //! Each scene begins with a new engine of `/data` for every host, started with number 7 at (1000, 0), and two idle
-//! workers. What is expected is worked out by hand from RFC 5531, sections 9 and 11, RFC 1813, and the steps of workers.
+//! workers. What is expected is worked out by hand from RFC 5531, sections 9 and 11, RFC 1813, and the steps of
+//! workers.
 //!
 //! A turn is one step. A worker admits the oldest record in one, takes each address that its call asks for in one (the
-//! exports first), a new number in one, and commits in one. What its commit wrote is let go with it; the rest goes shard
-//! by shard, a turn for each. A worker that is told that an address is taken gives up in one turn, lets go shard by
-//! shard, and begins again in one.
+//! exports first), a new number in one, and commits in one. What its commit wrote is let go with it; the rest goes
+//! shard by shard, a turn for each. A worker that is told that an address is taken gives up in one turn, lets go shard
+//! by shard, and begins again in one.
 //!
 //! The exports stand in shard 0, the root (1) and the first file of worker 1 (17) in shard 1, that of worker 2 (18) in
 //! shard 2, and what the group of an object uses in the object's own shard.

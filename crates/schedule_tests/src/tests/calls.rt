@@ -40,8 +40,8 @@ pub(super) const Y: Name = [1, 0x79000000];
 const GUARDED: [u32; 7] = [1, 0, 0, 0, 0, 0, 0];
 
 impl Scene {
-    /// Worker 1 makes the file `a`: it has the exports, the root, a number and what its group uses, commits, and lets go
-    /// the shard of the exports.
+    /// Worker 1 makes the file `a`: it has the exports, the root, a number and what its group uses, commits, and lets
+    /// go the shard of the exports.
     pub(super) fn on_file(alloc: Global) -> Result<Scene, AllocError> {
         let mut scene = Scene::new(alloc);
         scene.create(&A)?;
@@ -94,12 +94,7 @@ impl Scene {
 /// What is answered, each time of the call with a transaction id, which is executed as the record with a number.
 impl Scene {
     /// GETATTR is answered by these attributes.
-    pub(super) fn shown(
-        &mut self,
-        xid: u32,
-        number: u64,
-        object: Shown,
-    ) -> Result<(), AllocError> {
+    pub(super) fn shown(&mut self, xid: u32, number: u64, object: Shown) -> Result<(), AllocError> {
         self.executed(xid, number, &[NFS3_OK], &object.after()[1..], &[], &[])
     }
 
@@ -111,7 +106,14 @@ impl Scene {
         before: Shown,
         after: Shown,
     ) -> Result<(), AllocError> {
-        self.executed(xid, number, &[NFS3_OK], &before.before(), &after.after(), &[])
+        self.executed(
+            xid,
+            number,
+            &[NFS3_OK],
+            &before.before(),
+            &after.after(),
+            &[],
+        )
     }
 
     /// LOOKUP leads to this object.
@@ -165,7 +167,14 @@ impl Scene {
         before: Shown,
         after: Shown,
     ) -> Result<(), AllocError> {
-        self.executed(xid, number, &[NFS3_OK], &before.before(), &after.after(), &[])
+        self.executed(
+            xid,
+            number,
+            &[NFS3_OK],
+            &before.before(),
+            &after.after(),
+            &[],
+        )
     }
 
     /// RENAME is done.

@@ -6,9 +6,9 @@ use super::shown::*;
 use std::alloc::AllocError;
 use std::test::Fail;
 
-/// Worker 2 makes `x` and removes it: it would give the number 18 next. CREATE has the exports, the root, a number and
-/// what its group uses; REMOVE the exports, the root, the file and what its group uses. Both let go shard 0 behind their
-/// commits.
+/// Worker 2 makes `x` and removes it: it would give the number 18 next. CREATE has the exports, the root, a number
+/// and what its group uses; REMOVE the exports, the root, the file and what its group uses. Both let go shard 0
+/// behind their commits.
 fn a_file_goes(scene: &mut Scene) -> Result<(), AllocError> {
     scene.create(&X)?;
     scene.turns(2, 7)?;

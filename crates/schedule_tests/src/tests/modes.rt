@@ -55,7 +55,15 @@ fn the_first_is_stopped(scene: &mut Scene) -> Result<(), AllocError> {
     scene.turns(2, 5)?;
     scene.counts(0, 0, 1)?;
     scene.unanswered(1)?;
-    scene.set(2, 1, ROOT, Shown { changed: 1, ..SECOND_SET })
+    scene.set(
+        2,
+        1,
+        ROOT,
+        Shown {
+            changed: 1,
+            ..SECOND_SET
+        },
+    )
 }
 
 #[test]

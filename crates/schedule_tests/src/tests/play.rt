@@ -20,7 +20,10 @@ pub(super) enum Difference {
         locked: usize,
     },
     /// At this move, from 0, the era has so many records.
-    Records { at: usize, records: u64 },
+    Records {
+        at: usize,
+        records: u64,
+    },
     /// This answer, from 0, is another one, or is missing, or is one too many.
     Answer(usize),
 }

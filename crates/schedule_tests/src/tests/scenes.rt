@@ -1,5 +1,5 @@
-//! Scenes: what happens in a world, in order, and what must be answered, put together from words as RFC 5531, sections 9
-//! and 11, and RFC 1813, 3.3, say.
+//! Scenes: what happens in a world, in order, and what must be answered, put together from words as RFC 5531,
+//! sections 9 and 11, and RFC 1813, 3.3, say.
 
 use super::HOST;
 use std::alloc::{AllocError, Global};

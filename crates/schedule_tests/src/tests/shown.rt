@@ -1,8 +1,8 @@
 //! What replies show of objects of export 1 (RFC 1813, 2.5 and 2.6), and the handles of these. All belong to user 0.
 //!
 //! Every moment is (1000, 0), so a change of an object makes its times 1 ns later than they were. A worker gives new
-//! objects the numbers from 16 on that are its own number modulo 16, and the generations from 2 on in each of the sixteen
-//! sets of numbers: RFC 1813 leaves the choice open.
+//! objects the numbers from 16 on that are its own number modulo 16, and the generations from 2 on in each of the
+//! sixteen sets of numbers: RFC 1813 leaves the choice open.
 
 /// The types of objects: `ftype3`.
 const NF3REG: u32 = 1;
@@ -114,16 +114,6 @@ impl Shown {
 
     /// Its handle with its length: 32 bytes with mark, export 1, start 7, fileid and generation.
     pub(super) fn handle(&self) -> [u32; 9] {
-        [
-            32,
-            0x4e464433,
-            1,
-            0,
-            7,
-            0,
-            self.number,
-            0,
-            self.generation,
-        ]
+        [32, 0x4e464433, 1, 0, 7, 0, self.number, 0, self.generation]
     }
 }

@@ -1,7 +1,7 @@
 //! A worker that is stopped after any step: its call is executed, or it has no answer and changes nothing.
 
 use super::calls::*;
-use super::links::{LINKED, LEFT};
+use super::links::{LEFT, LINKED};
 use super::scenes::*;
 use super::shown::*;
 use std::alloc::AllocError;
@@ -40,9 +40,9 @@ fn a_rename_or_a_lookup_is_stopped(rt: HostRuntime) -> Result<(), Fail> {
     scene.may_be_stopped(&rt)
 }
 
-/// LINK by worker 1 and REMOVE by worker 2 are told in the fourth round that what the other has is taken. REMOVE gives up
-/// and lets go two shards; LINK does so too, begins again, has three addresses, commits, and lets go a shard. Then REMOVE
-/// begins again, has three addresses, commits, and lets go a shard.
+/// LINK by worker 1 and REMOVE by worker 2 are told in the fourth round that what the other has is taken. REMOVE
+/// gives up and lets go two shards; LINK does so too, begins again, has three addresses, commits, and lets go a
+/// shard. Then REMOVE begins again, has three addresses, commits, and lets go a shard.
 fn a_link_beside_a_removal(scene: &mut Scene) -> Result<(), AllocError> {
     scene.link(FIRST, &B)?;
     scene.remove(&A)?;

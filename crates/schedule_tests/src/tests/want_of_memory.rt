@@ -8,8 +8,8 @@ use super::shown::*;
 use std::alloc::{AllocError, Global};
 use std::test::Fail;
 
-/// RENAME of `a` to `b` by worker 1, and LOOKUP of `b` by worker 2, in turn and as long as it may take. Then `b` leads to
-/// the file. Where RENAME was refused, it comes behind the first LOOKUP, which finds nothing.
+/// RENAME of `a` to `b` by worker 1, and LOOKUP of `b` by worker 2, in turn and as long as it may take. Then `b`
+/// leads to the file. Where RENAME was refused, it comes behind the first LOOKUP, which finds nothing.
 fn a_rename_and_a_lookup(scene: &mut Scene) -> Result<(), AllocError> {
     scene.rename(&A, &B)?;
     scene.lookup(&B)?;
