@@ -1,6 +1,8 @@
 pub mod Answering
+pub mod Built
 pub mod Joins
 pub mod Loops
+pub mod Nothing
 pub mod Opening
 pub mod Parsed
 pub mod Pieces

@@ -2,12 +2,14 @@
 //!
 //! What `serve_plain` writes is, byte for byte, the answers of a run of the machine over the records of its input, in
 //! order. It stands on `nfs_rpc` for records and headers, on `nfs_wire` and `side_wire` for arguments and results,
-//! and on `nfs_schedule` for what each call comes to.
+//! and on `nfs_data`, `nfs_names` and `nfs_mount` for what each call comes to.
 #![tactic(auto)]
 
+mod attempts;
 pub mod clock;
 pub mod command_line;
 pub mod exit;
+mod nlm;
 mod objects;
 pub mod options;
 pub mod plain;

@@ -24,12 +24,12 @@ ghost use Rattle.nfs_server.specs.Objects.{HaveRoom, Reserves, shown_in, store_o
 ghost use Rattle.nfs_server.specs.Plain.{Stands, StandsFor};
 ghost use Rattle.nfs_server.specs.Served.{IsAnswered};
 
+use crate::attempts::attempt;
 use crate::objects::Objects;
 use nfs_engine::{Asked, Host, Unasked, answers, read_record};
 use nfs_machine::{Call, Ctx, Exports, Limits, Moment};
 use nfs_objects::{Addr, Change, Done, Mode, Outcome, Reserved, View};
 use nfs_rpc::{Ids, Record};
-use nfs_schedule::attempt;
 use std::alloc::{AllocError, Global};
 use std::marker::Model;
 

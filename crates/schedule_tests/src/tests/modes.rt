@@ -92,6 +92,20 @@ fn two_readers_stand_beside_each_other(rt: HostRuntime) -> Result<(), Fail> {
     scene.is_followed(&rt)
 }
 
+/// One GETATTR, whose six turns are one list of events.
+fn one_gets_attributes(scene: &mut Scene) -> Result<(), AllocError> {
+    scene.getattr(ROOT)?;
+    scene.shown(1, 1, ROOT)
+}
+
+#[test]
+fn a_list_is_driven_at_once(rt: HostRuntime) -> Result<(), Fail> {
+    let mut scene = Scene::new(rt.alloc());
+    one_gets_attributes(&mut scene)?;
+    assert_eq!(rt; scene.difference_at_once(rt.alloc())?, None);
+    Ok(())
+}
+
 /// While GETATTR has the root, SETATTR is told twice that it is taken, the second time after it gave up, let go shard 0
 /// and began again. GETATTR commits and lets go two shards. SETATTR begins a third time, and ends in seven turns.
 fn a_reader_has_the_root(scene: &mut Scene) -> Result<(), AllocError> {

@@ -116,6 +116,49 @@ impl Scene {
         Ok(played?.or(told))
     }
 
+    /// The first difference of a new world in which the first record comes in, worker 1 takes six turns, and worker 2
+    /// is stopped, all as one list of events.
+    pub(super) fn difference_at_once(
+        &self,
+        alloc: Global,
+    ) -> Result<Option<Difference>, AllocError> {
+        let mut world = new_world(alloc)?;
+        let mut answers = Vec::new(alloc);
+        let driven = self.drive_at_once(alloc, &mut world, &mut answers);
+        drop(world.end());
+        let told = self.difference_told(&answers);
+        drop(answers);
+        driven?;
+        Ok(told)
+    }
+
+    /// Drives a world of two workers by one list.
+    fn drive_at_once(
+        &self,
+        alloc: Global,
+        world: &mut World,
+        answers: &mut Vec<Answer>,
+    ) -> Result<(), AllocError> {
+        let received = received(alloc, HOST, self.record(1))?;
+        if world.workers() != 2 {
+            return Err(AllocError);
+        }
+        let events = [
+            Event::Arrive(received),
+            Event::Turn(1),
+            Event::Turn(1),
+            Event::Turn(1),
+            Event::Turn(1),
+            Event::Turn(1),
+            Event::Turn(1),
+            Event::Stop(2),
+        ];
+        match drive(alloc, world, &events, answers) {
+            Ok(()) => Ok(()),
+            Err((_, error)) => Err(error),
+        }
+    }
+
     /// Makes these moves, up to the first at which something is other than it has to be.
     fn play(
         &self,

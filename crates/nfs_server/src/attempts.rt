@@ -1,0 +1,43 @@
+//! The attempt of a call, by its program.
+
+ghost use Rattle.std.specs.Prelude.{◌≡◌, IfOk};
+ghost use Rattle.nfs_objects.specs.Attempt.{Attempts};
+ghost use Rattle.nfs_objects.specs.Modes.{Suits, modes_of};
+ghost use Rattle.nfs_engine.specs.Built.{IsBuilt};
+
+use crate::nlm;
+use nfs_machine::{Call, Ctx};
+use nfs_objects::{Outcome, View};
+use nfs_wire::NfsCall;
+use std::alloc::{AllocError, Global};
+
+/// What the call comes to on what was read.
+pub(crate) fn attempt(
+    alloc: Global,
+    call: &Call,
+    ctx: &Ctx,
+    view: &View,
+) -> Result<Outcome, AllocError>
+    requires built { IsBuilt call.now }
+    requires suits { Suits (modes_of call.now) view.now }
+    ensures { IfOk result (Attempts call.now ctx.now view.now) }
+{
+    match call {
+        Call::Nfs(call) => attempt_nfs(alloc, call, ctx, view),
+        Call::Mount(call) => nfs_mount::attempt(alloc, call, ctx, view),
+        Call::Nlm(call) => Ok(nlm::attempt(alloc, call)),
+    }
+}
+
+/// The same for NFS: on names, or on attributes and data.
+fn attempt_nfs(alloc: Global, call: &NfsCall, ctx: &Ctx, view: &View) -> Result<Outcome, AllocError>
+    requires built { IsBuilt (Call.Nfs call.now) }
+    requires suits { Suits (modes_of (Call.Nfs call.now)) view.now }
+    ensures { IfOk result (Attempts (Call.Nfs call.now) ctx.now view.now) }
+{
+    if nfs_names::is_name_call(call) {
+        nfs_names::attempt(alloc, call, ctx, view)
+    } else {
+        nfs_data::attempt(alloc, call, ctx, view)
+    }
+}
