@@ -67,11 +67,11 @@ def lookup(xid, name):
 class Server:
     """A run of nfsd, on a processor of its own where there are two, that answers batches of records."""
 
-    def __init__(self, program=PROGRAM):
+    def __init__(self, program=PROGRAM, *options):
         self.replies = tempfile.TemporaryFile()
         self.written = 0
         self.process = subprocess.Popen(
-            [program, *OPTIONS], stdin=subprocess.PIPE, stdout=self.replies, preexec_fn=self.alone
+            [program, *OPTIONS, *options], stdin=subprocess.PIPE, stdout=self.replies, preexec_fn=self.alone
         )
         fcntl.fcntl(self.process.stdin, fcntl.F_SETPIPE_SZ, 1 << 20)
 

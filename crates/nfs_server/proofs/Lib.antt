@@ -1,12 +1,2 @@
-pub mod Answering
-pub mod Built
-pub mod Joins
-pub mod Loops
-pub mod Nothing
-pub mod Opening
 pub mod Parsed
-pub mod Pieces
-pub mod Rounds
-pub mod Steps
-pub mod Stores
-pub mod Views
+pub mod Starting

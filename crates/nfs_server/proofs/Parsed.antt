@@ -18,7 +18,8 @@ use Rattle.nfs_machine.specs.Exports.{ExportValue}
 use Rattle.nfs_machine.specs.declared.exports.ExportError.{ExportError}
 use Rattle.nfs_machine.specs.declared.exports.ExportError.TheVariants as export
 use Rattle.nfs_machine.specs.declared.exports.ExportText.{ExportText}
-use Rattle.nfs_server.specs.CommandLine.{AreRefused, Configures, IsHostRefusal, IsParsedFrom, IsRefusal, IsTaken, IsValueRefusal, ReadsOptions, ReadsFlag, ReadsNumber, Refuses, export_parts, exports_of, host_of, nfsd, parts_of}
+use Rattle.nfs_engine.specs.Opening.{IsLimit}
+use Rattle.nfs_server.specs.CommandLine.{AreRefused, Configures, IsEra, IsEraRefusal, IsHostRefusal, IsParsedFrom, IsRefusal, IsTaken, IsValueRefusal, NamesEra, ReadsOptions, ReadsFlag, ReadsNumber, Refuses, export_parts, exports_of, host_of, nfsd, parts_of}
 use Rattle.nfs_engine.specs.Hosts.{IsHost}
 use Rattle.nfs_server.specs.Exits.{exit_of_command, exit_of_exports, exit_of_kind}
 use Rattle.nfs_server.specs.declared.exit.Exit.{Exit}
@@ -109,13 +110,55 @@ refuses_exports rows list e are (inr fault) = elim (exit_of_exports-cases e) [
   | inr is ↦ subst (IsRefusal rows) (sym is) (list, are, fault)
 ]
 
--- words whose matches are found, with a host of its length, are taken
-pub taken : (words : List Text) (m : ArgMatches) (host : Text) → IsParsedFrom words m
-    → (host ≡ host_of (rows_of (found_of m))) × IsHost host → IsTaken words
-taken words m host parsed is = record {
+host_taken : (words : List Text) (m : ArgMatches) (host : Text) → IsParsedFrom words m
+    → (host ≡ host_of (rows_of (found_of m))) × IsHost host → IsHost (host_of (matches_of nfsd words))
+host_taken words m host parsed is =
+    subst (λ (rows : List Row). IsHost (host_of rows)) parsed.rows (subst IsHost is.0 is.1)
+
+-- words whose matches are found, with a host of its length and an era within its bounds, are taken
+pub taken : (words : List Text) (m : ArgMatches) (host : Text) (era : ℕ) → IsParsedFrom words m
+    → (host ≡ host_of (rows_of (found_of m))) × IsHost host → IsEra (rows_of (found_of m)) era → IsTaken words
+taken words m host era parsed is its = record {
   faultless = parsed.faultless;
-  host = subst (λ (rows : List Row). IsHost (host_of rows)) parsed.rows (subst IsHost is.0 is.1);
+  host = host_taken words m host parsed is;
+  era = (era, subst (λ (rows : List Row). IsEra rows era) parsed.rows its);
 }
+
+-- a number of records outside the bounds of an era is refused
+pub refuses_era : (rows : List Row) (era : ℕ) (exit : Exit) → NamesEra rows era → (IsLimit era → ⊥)
+    → IsValueRefusal exit → IsEraRefusal rows exit
+refuses_era rows era (CommandLine e) names other refused = (era, names, other, refused)
+refuses_era rows era Memory names other refused = tt
+refuses_era rows era NoTransport names other refused = absurd refused
+refuses_era rows era (Exports e) names other refused = absurd refused
+refuses_era rows era StandardStream names other refused = absurd refused
+
+-- and so are its words
+pub refused_era : (words : List Text) (m : ArgMatches) (host : Text) (exit : Exit) → IsParsedFrom words m
+    → (host ≡ host_of (rows_of (found_of m))) × IsHost host → IsEraRefusal (rows_of (found_of m)) exit
+    → Refuses words exit
+refused_era words m host (CommandLine e) parsed is refused = inr (inr (
+  parsed.faultless,
+  host_taken words m host parsed is,
+  subst (λ (rows : List Row). IsEraRefusal rows (CommandLine e)) parsed.rows refused,
+))
+refused_era words m host Memory parsed is refused = tt
+refused_era words m host NoTransport parsed is refused = absurd refused
+refused_era words m host (Exports e) parsed is refused = absurd refused
+refused_era words m host StandardStream parsed is refused = absurd refused
+
+-- a host that is refused refuses its words
+pub refused_host : (words : List Text) (m : ArgMatches) (exit : Exit) → IsParsedFrom words m
+    → IsHostRefusal (rows_of (found_of m)) exit → Refuses words exit
+refused_host words m (CommandLine e) parsed refused = inr (inl (
+  parsed.faultless,
+  subst (λ (rows : List Row). IsHost (host_of rows) → ⊥) parsed.rows refused.0,
+  refused.1,
+))
+refused_host words m Memory parsed refused = tt
+refused_host words m NoTransport parsed refused = absurd refused
+refused_host words m (Exports e) parsed refused = absurd refused
+refused_host words m StandardStream parsed refused = absurd refused
 
 -- a flag that is read is that of the words
 pub flag_read : (words : List Text) (m : ArgMatches) (id : Text) (is_set : Bool) → IsParsedFrom words m

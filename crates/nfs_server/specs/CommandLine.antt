@@ -15,6 +15,7 @@ use Rattle.nfs_machine.specs.ExportFaults.{export_fault, export_of}
 use Rattle.nfs_machine.specs.declared.exports.ExportError.{ExportError}
 use Rattle.nfs_machine.specs.declared.exports.ExportText.{ExportText}
 use Rattle.nfs_engine.specs.Hosts.{IsHost}
+use Rattle.nfs_engine.specs.Opening.{IsLimit}
 use Rattle.nfs_server.specs.declared.exit.Exit.{Exit}
 use Rattle.nfs_server.specs.declared.exit.Exit.TheVariants.{CommandLine, NoTransport, Exports, Memory, StandardStream}
 use Rattle.nfs_server.specs.declared.options.Options.{Options}
@@ -42,8 +43,9 @@ nfsd =
     let clock = number_rule (codes "clock") (Signed (pos 0) (pos 4294967295)) in
     let host = option_rule (codes "host") in
     let bytes = number_rule (codes "bytes") (Unsigned 0 18446744073709551615) in
-    with_rule (with_rule (with_rule (with_rule (with_rule (with_rule
-    (new_app (codes "nfsd")) stdio) export) start) clock) host) bytes
+    let era = number_rule (codes "era") (Unsigned 0 18446744073709551615) in
+    with_rule (with_rule (with_rule (with_rule (with_rule (with_rule (with_rule
+    (new_app (codes "nfsd")) stdio) export) start) clock) host) bytes) era
 
 -- ---- what a value spells
 
@@ -78,6 +80,17 @@ exports_of rows = unwrap_or (all_of (codes "export") rows) []
 
 -- ---- what the words come to
 
+-- the number of records at which an era is full, or the default
+pub record NamesEra (rows : List Row) (era : ℕ) : Type 0 where
+  pub number : Option ℕ
+  pub reads : ReadsNumber 64 (one_of (codes "era") rows) number
+  pub is : era ≡ unwrap_or number 65536
+
+-- and it is one that an era may have
+pub record IsEra (rows : List Row) (era : ℕ) : Type 0 where
+  pub names : NamesEra rows era
+  pub within : IsLimit era
+
 -- the rows of a command line that is taken give the options
 pub record ReadsOptions (rows : List Row) (options : Options) : Type 0 where
   pub start : ReadsNumber 64 (one_of (codes "start") rows) options.start
@@ -85,6 +98,7 @@ pub record ReadsOptions (rows : List Row) (options : Options) : Type 0 where
   pub bytes : (number : Option ℕ) × ReadsNumber 64 (one_of (codes "bytes") rows) number
       × (options.bytes ≡ unwrap_or number 1099511627776)
   pub host : options.host ≡ host_of rows
+  pub era : IsEra rows options.era_records
   pub exports : (list : List ExportText)
       × (map parts_of list ≡ map export_parts (exports_of rows)) × (export_fault list ≡ None)
       × (options.exports ≡ map export_of list)
@@ -101,10 +115,11 @@ IsRefusal rows (Exports e) = AreRefused rows e
 IsRefusal rows Memory = Unit {0}
 IsRefusal rows _ = ⊥
 
--- the words are those of the program's options, and the host has its length
+-- the words are those of the program's options, and the host has its length, and the era its bounds
 pub record IsTaken (words : List Text) : Type 0 where
   pub faultless : fault_of nfsd words ≡ []
   pub host : IsHost (host_of (matches_of nfsd words))
+  pub era : (era : ℕ) × IsEra (matches_of nfsd words) era
 
 -- the words are taken, name a transport, and ask for these options
 pub record Configures (words : List Text) (options : Options) : Type 0 where
@@ -133,12 +148,21 @@ IsHostRefusal rows (CommandLine e) = (IsHost (host_of rows) → ⊥) × (kind_of
 IsHostRefusal rows Memory = Unit {0}
 IsHostRefusal rows _ = ⊥
 
+-- the era has other bounds
+abbrev pub IsEraRefusal : List Row → Exit → Type 0
+IsEraRefusal rows (CommandLine e) =
+    (era : ℕ) × NamesEra rows era × (IsLimit era → ⊥) × (kind_of e ≡ ValueValidation)
+IsEraRefusal rows Memory = Unit {0}
+IsEraRefusal rows _ = ⊥
+
 -- why the words are refused: the first that is at fault of the command line, the transport and the exports
 abbrev pub Refuses : List Text → Exit → Type 0
 Refuses words (CommandLine e) =
     IsAmong (kind_of e) (fault_of nfsd words)
     ⊎ ((fault_of nfsd words ≡ []) × (IsHost (host_of (matches_of nfsd words)) → ⊥)
     × (kind_of e ≡ ValueValidation))
+    ⊎ ((fault_of nfsd words ≡ []) × IsHost (host_of (matches_of nfsd words))
+    × IsEraRefusal (matches_of nfsd words) (CommandLine e))
 Refuses words NoTransport = IsTaken words × ReadsFlag (one_of (codes "stdio") (matches_of nfsd words)) false
 Refuses words (Exports e) =
     IsTaken words × ReadsFlag (one_of (codes "stdio") (matches_of nfsd words)) true

@@ -1,12 +1,4 @@
 pub mod Clocks
 pub mod CommandLine
-pub mod Executed
 pub mod Exits
-pub mod Objects
-pub mod Plain
-pub mod Roots
-pub mod Served
-pub mod Serving
-pub mod Slots
 pub mod Started
-pub mod Taken

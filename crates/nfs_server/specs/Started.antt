@@ -3,13 +3,13 @@ use Rattle.std.specs.Prelude.{◌≡◌, ◌⊎◌, ℕ, List, Option, Some, unw
 use Rattle.nfs_machine.specs.Opening.{opening}
 use Rattle.nfs_machine.specs.Run.{Setting}
 use Rattle.nfs_machine.specs.declared.moment.Moment.{Moment}
+use Rattle.nfs_engine.specs.Engine.{EngineValue}
+use Rattle.nfs_schedule.specs.Served.{IsState, ServesAll, ServesFront}
+use Rattle.nfs_schedule.specs.declared.serving.StreamFault.{StreamFault}
 use Rattle.nfs_server.specs.Exits.{exit_of}
-use Rattle.nfs_server.specs.Plain.{PlainValue, StandsFor}
-use Rattle.nfs_server.specs.Served.{ServesAll, ServesFront}
 use Rattle.nfs_server.specs.declared.exit.Exit.{Exit}
 use Rattle.nfs_server.specs.declared.exit.Exit.TheVariants.{Memory}
 use Rattle.nfs_server.specs.declared.options.Options.{Options}
-use Rattle.nfs_server.specs.declared.serve.StreamFault.{StreamFault}
 
 -- what the options say, with this start number where they name none
 abbrev pub setting_of : Options → ℕ → Setting
@@ -20,16 +20,16 @@ setting_of options otherwise =
       limits = record { total_bytes = options.bytes };
     }
 
--- the clock's first moment made the opening state, which the store stood for, and so it went on from there
+-- the clock's first moment made the opening state, which the engine's store stood for, and so it went on from there
 pub record FromStart {Clock : Type 0} (gives : Clock → Moment → Clock → Type 0) (setting : Setting)
-    (clock : Clock) (GoesOn : Clock → PlainValue → PlainValue → Type 0) : Type 0 where
+    (clock : Clock) (GoesOn : Clock → EngineValue → EngineValue → Type 0) : Type 0 where
   pub moment : Moment
   pub started : Clock
-  pub opened : PlainValue
-  pub left : PlainValue
+  pub opened : EngineValue
+  pub left : EngineValue
   pub ticked : gives clock moment started
-  pub under : opened.setting ≡ setting
-  pub stands : StandsFor opened (opening setting.exports moment)
+  pub under : opened.book.setting ≡ setting
+  pub stands : IsState opened (opening setting.exports moment)
   pub on : GoesOn started opened left
 
 -- all records of the input were served

@@ -2,9 +2,9 @@
 
 ghost use Rattle.std.specs.Prelude.{◌≡◌};
 
-use crate::serve::StreamFault;
 use clap::error::ErrorKind;
 use nfs_machine::ExportError;
+use nfs_schedule::StreamFault;
 use std::alloc::AllocError;
 use std::io;
 use thiserror::Error;

@@ -16,4 +16,6 @@ pub struct Options {
     pub host: Host,
     /// The total that FSSTAT tells, in bytes.
     pub bytes: u64,
+    /// At how many records an era is full, from 1 to 65,536.
+    pub era_records: u64,
 }

@@ -1,18 +1,22 @@
 //! The program from its start to the end of its input.
 
 ghost use Rattle.std.specs.Prelude.{◌≡◌, ℕ, ◌-◌, ◌^◌, ◌≤◌, ◌⊎◌, true, List, length, Some};
-ghost use Rattle.std.specs.Prelude.{IfErr, OnOk};
+ghost use Rattle.std.specs.Prelude.{IfErr, IfOk, OnOk};
+ghost use Rattle.nfs_engine.specs.Opening.{IsLimit, Opens};
 ghost use Rattle.nfs_rpc.specs.Streams.{one_more};
-ghost use Rattle.nfs_server.specs.Served.{FailsToRead};
+ghost use Rattle.nfs_schedule.specs.Worlds.{IsAtRest};
 ghost use Rattle.nfs_server.specs.Started.{FailsFromStart, ServesFromStart, setting_of};
 
 use crate::exit::Exit;
 use crate::options::Options;
-use crate::plain::Plain;
-use crate::serve::{Served, StreamFault, serve_plain};
+use nfs_engine::{Config, Engine, StartError};
 use nfs_machine::{Limits, Moments};
 use nfs_rpc::stream::{Sink, Source};
+use nfs_schedule::{Served, StreamFault, serve_stream};
 use std::alloc::Global;
+
+/// How many replies are kept.
+const CAPACITY: u64 = 1024;
 
 /// Serves the input as the options say, with this start number where they name none: from the opening state, which is
 /// made at the clock's first moment, to the end of the input.
@@ -28,6 +32,7 @@ pub fn serve_options<C: Moments, R: Source, W: Sink>(
     reader: &mut R,
     writer: &mut W,
 ) -> Result<(), Exit>
+    requires { IsLimit options.era_records }
     ensures ok { OnOk result
         (ServesFromStart C.gives (setting_of options start) options.host (R.unread reader.old) clock.old clock.new
         (W.written writer.old) (W.written writer.new)) }
@@ -49,12 +54,36 @@ pub fn serve_options<C: Moments, R: Source, W: Sink>(
         clock: _,
         host,
         bytes,
+        era_records,
     } = options;
     let limits = Limits { total_bytes: bytes };
     let moment = clock.moment();
-    let mut plain = Plain::new(alloc, named.unwrap_or(start), exports, limits, moment)?;
-    match serve_plain(alloc, &mut plain, &host, clock, reader, writer) {
+    let config = Config {
+        exports,
+        start: named.unwrap_or(start),
+        moment,
+        capacity: CAPACITY,
+        limits,
+        era_records,
+    };
+    let mut engine = open(alloc, config)?;
+    match serve_stream(alloc, &mut engine, &host, clock, reader, writer) {
         Ok(Served) => Ok(()),
         Err(fault) => Err(Exit::of(fault)),
+    }
+}
+
+/// The engine in its opening state.
+fn open(alloc: Global, config: Config) -> Result<Engine, Exit>
+    requires capacity { IsLimit config.capacity }
+    requires era { IsLimit config.era_records }
+    ensures opens { IfOk result (λ engine. Opens config engine.book) }
+    ensures rest { IfOk result IsAtRest }
+    ensures err { IfErr result (λ exit. exit ≡ Exit.Memory) }
+{
+    match Engine::new(alloc, config) {
+        Ok(engine) => Ok(engine),
+        Err(StartError::Memory) => Err(Exit::Memory),
+        Err(StartError::Capacity | StartError::EraLimit) => unreachable!(),
     }
 }

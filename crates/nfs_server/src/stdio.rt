@@ -1,5 +1,7 @@
 //! Standard input served to standard output.
 
+ghost use Rattle.nfs_engine.specs.Opening.{IsLimit};
+
 use crate::clock::{ServerClock, start_number};
 use crate::exit::Exit;
 use crate::options::Options;
@@ -13,7 +15,9 @@ use std::rt::Clock;
 pub fn serve_stdio<R: AllocGlobal + Clock + Input + Print>(
     rt: &R,
     options: Options,
-) -> Result<(), Exit> {
+) -> Result<(), Exit>
+    requires { IsLimit options.era_records }
+{
     let mut clock = ServerClock::new(rt, options.clock);
     let mut reader = Counted::new(rt.reader());
     let mut writer = Counted::new(io::writer(rt));

@@ -1,6 +1,9 @@
 //! Whole streams through a server of `/data` for every host, started with number 7 at (1000, 0), where every moment is
 //! (1000, 0). Calls and replies are worked out by hand from RFC 5531, sections 9 and 11, and RFC 1813.
 
+ghost use Rattle.std.specs.Prelude.{IfOk};
+ghost use Rattle.nfs_schedule.specs.Worlds.{IsAtRest};
+
 mod attributes;
 mod clocks;
 mod command_lines;
@@ -28,11 +31,10 @@ mod stream_faults;
 mod want_of_memory;
 
 use bytes::Bytes;
+use nfs_engine::{Config, Engine};
 use nfs_machine::{ExportText, Exports, Limits, Moment};
 use nfs_rpc::stream::Counted;
-use nfs_server::{
-    FixedClock, Host, Options, Plain, Served, StreamFault, serve_options, serve_plain,
-};
+use nfs_server::{FixedClock, Host, Options, Served, StreamFault, serve_options, serve_stream};
 use std::alloc::{AllocError, Global};
 use std::io::{Read, Write};
 use std::process::Abort;
@@ -115,37 +117,55 @@ fn exports(alloc: Global, mode: &'static [u8]) -> Result<Exports, AllocError> {
     Exports::new(alloc, list).map_err(|_| AllocError)
 }
 
-/// The opening state.
-fn opened(alloc: Global) -> Result<Plain, AllocError> {
+/// The engine in its opening state.
+fn opened(alloc: Global) -> Result<Engine, AllocError>
+    ensures { IfOk result IsAtRest }
+{
     opened_as(alloc, b"rw")
 }
 
-/// The opening state of an export in this mode.
-fn opened_as(alloc: Global, mode: &'static [u8]) -> Result<Plain, AllocError> {
+/// The engine in the opening state of an export in this mode.
+fn opened_as(alloc: Global, mode: &'static [u8]) -> Result<Engine, AllocError>
+    ensures { IfOk result IsAtRest }
+{
     opened_with(alloc, exports(alloc, mode)?)
 }
 
-/// The opening state of these exports.
-fn opened_with(alloc: Global, exports: Exports) -> Result<Plain, AllocError> {
-    let limits = Limits {
-        total_bytes: 1 << 40,
+/// The engine in the opening state of these exports.
+fn opened_with(alloc: Global, exports: Exports) -> Result<Engine, AllocError>
+    ensures { IfOk result IsAtRest }
+{
+    let config = Config {
+        exports,
+        start: 7,
+        moment: Moment {
+            seconds: 1000,
+            nanoseconds: 0,
+        },
+        capacity: 1024,
+        limits: Limits {
+            total_bytes: 1 << 40,
+        },
+        era_records: 65_536,
     };
-    let moment = Moment {
-        seconds: 1000,
-        nanoseconds: 0,
-    };
-    Plain::new(alloc, 7, exports, limits, moment)
+    match Engine::new(alloc, config) {
+        Ok(engine) => Ok(engine),
+        Err(_) => Err(AllocError),
+    }
 }
 
-/// Serves a stream from this store on.
+/// Serves a stream from the engine's state on.
 fn serve<R: Read, W: Write>(
     alloc: Global,
-    plain: &mut Plain,
+    engine: &mut Engine,
     reader: &mut Counted<R>,
     writer: &mut Counted<W>,
-) -> Result<Served, StreamFault> {
+) -> Result<Served, StreamFault>
+    requires { IsAtRest engine.old }
+    ensures { IsAtRest engine.new }
+{
     let mut clock = FixedClock { seconds: 1000 };
-    serve_plain(alloc, plain, &host(), &mut clock, reader, writer)
+    serve_stream(alloc, engine, &host(), &mut clock, reader, writer)
 }
 
 /// What a new server writes for this input, and how serving it ends.
@@ -162,9 +182,9 @@ fn answers_as(
     mode: &'static [u8],
     input: &[u8],
 ) -> Result<(Vec<u8>, Result<Served, StreamFault>), AllocError> {
-    let mut plain = opened_as(alloc, mode)?;
+    let mut engine = opened_as(alloc, mode)?;
     let mut writer = Counted::new(Vec::new(alloc));
-    let end = serve(alloc, &mut plain, &mut Counted::new(input), &mut writer);
+    let end = serve(alloc, &mut engine, &mut Counted::new(input), &mut writer);
     Ok((writer.into_inner(), end))
 }
 

@@ -194,7 +194,7 @@ fn sizes(rt: HostRuntime) -> Result<(), Fail> {
 /// A SETATTR of the new file is done, and changes its times: of access, of modification and of change.
 fn times(script: &mut Script, set: &[u32], old: [u32; 6], new: [u32; 6]) -> Result<(), AllocError> {
     let before = [1, 0, 0, old[2], old[3], old[4], old[5]];
-    let object = [1, 1, 0o644, 1, 0, 0, 0, 0, 0, 0, 0, 0, 0, 1, 0, 2];
+    let object = [1, 1, 0o644, 1, 0, 0, 0, 0, 0, 0, 0, 0, 0, 1, 0, 17];
     script.call(SETATTR, &FILE, set, &ANYHOW)?;
     script.answer(&[NFS3_OK], &before, &object, &new)
 }
@@ -511,7 +511,7 @@ fn a_link_is_read(script: &mut Script) -> Result<(), AllocError> {
         changed: 1,
         ..LINK_TO_X
     };
-    let other = Shown { number: 3, ..NEW };
+    let other = new_file(3);
     script.makes(SYMLINK, root(2, 0).to(root(2, 1)), &Y, &TO_X, LINK_TO_X)?;
     script.makes(CREATE, root(2, 1).to(root(2, 2)), &X, &GUARDED, other)?;
     refuses(script, &LINK_TO_X, &size(1), NFS3ERR_INVAL)?;

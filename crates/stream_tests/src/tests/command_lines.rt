@@ -38,6 +38,7 @@ fn the_defaults(rt: HostRuntime) {
     assert_eq!(rt; options.clock, None);
     assert!(rt; options.host.text().as_slice() == b"127.0.0.1".as_slice());
     assert_eq!(rt; options.bytes, 1_099_511_627_776);
+    assert_eq!(rt; options.era_records, 65_536);
     let list = options.exports.list();
     assert_eq!(rt; list.len(), 1);
     assert!(rt; list[0].path.as_slice() == b"/data".as_slice());
@@ -58,6 +59,8 @@ fn each_option(rt: HostRuntime) {
         "4294967295",
         "--bytes",
         "5",
+        "--era",
+        "6",
         "--stdio",
     ];
     let options = options(&rt, rt.alloc(), &words);
@@ -65,6 +68,7 @@ fn each_option(rt: HostRuntime) {
     assert_eq!(rt; options.clock, Some(u32::MAX));
     assert!(rt; options.host.text().as_slice() == b"10.0.0.1".as_slice());
     assert_eq!(rt; options.bytes, 5);
+    assert_eq!(rt; options.era_records, 6);
     let list = options.exports.list();
     assert_eq!(rt; list.len(), 1);
     assert!(rt; list[0].path.as_slice() == b"/".as_slice());
@@ -107,6 +111,21 @@ fn the_length_of_a_host(rt: HostRuntime) -> Result<(), Fail> {
 }
 
 #[test]
+fn the_records_of_an_era(rt: HostRuntime) -> Result<(), Fail> {
+    let alloc = rt.alloc();
+    for era in ["1", "65536"] {
+        let words = with(alloc, &SERVE, &["--era", era])?;
+        assert!(rt; configure(alloc, &words).is_ok());
+    }
+    let refused = "error: the value of '--era <N>' must be 1 to 65536\n\nUsage: nfsd ";
+    for era in ["0", "65537"] {
+        let words = with(alloc, &SERVE, &["--era", era])?;
+        assert!(rt; is_refused(alloc, &words, 2, refused)?);
+    }
+    Ok(())
+}
+
+#[test]
 fn refused_command_lines(rt: HostRuntime) -> Result<(), Fail> {
     let alloc = rt.alloc();
     let refused = [
@@ -129,6 +148,10 @@ fn refused_command_lines(rt: HostRuntime) -> Result<(), Fail> {
         (
             ["--bytes", "0x10"].as_slice(),
             "error: invalid value '0x10' for '--bytes <N>': ",
+        ),
+        (
+            ["--era", "18446744073709551616"].as_slice(),
+            "error: invalid value '18446744073709551616' for '--era <N>': ",
         ),
         (
             ["--start"].as_slice(),

@@ -76,13 +76,14 @@ fn an_exclusive_file_stays_its_maker_s(rt: HostRuntime) -> Result<(), Fail> {
     script.is_followed(&rt)
 }
 
-/// The second file has the number 3, and the root has its time by then.
+/// The second file has the next number and generation, and the root has its time by then.
 #[test]
 fn two_files(rt: HostRuntime) -> Result<(), Fail> {
     let mut second = MADE;
-    second[8] = 3;
+    second[8] = 33;
+    second[10] = 3;
     let mut shown = NEW.after();
-    shown[15] = 3;
+    shown[15] = 33;
     let mut script = Script::on_new(rt.alloc())?;
     script.call(CREATE, &ROOT, &[1, 0x79000000], &GUARDED)?;
     script.answer(&second, &shown, &root_before(1), &root_after(2))?;
@@ -96,7 +97,7 @@ fn two_files(rt: HostRuntime) -> Result<(), Fail> {
 fn a_file_is_given_attributes(rt: HostRuntime) -> Result<(), Fail> {
     let how = [1, 1, 0o17777, 1, 8, 1, 9, 1, 0, 3, 2, 5, 6, 1];
     let shown = [
-        1, 1, 0o7777, 1, 8, 9, 0, 3, 0, 0x1000, 0, 0, 0, 1, 0, 2, 5, 6, 1000, 0, 1000, 0,
+        1, 1, 0o7777, 1, 8, 9, 0, 3, 0, 0x1000, 0, 0, 0, 1, 0, 17, 5, 6, 1000, 0, 1000, 0,
     ];
     let mut script = Script::new(rt.alloc());
     script.call(CREATE, &ROOT, &X, &how)?;

@@ -18,6 +18,7 @@ fn started(
         clock: Some(1000),
         host: host(),
         bytes: 1 << 40,
+        era_records: 65_536,
     };
     let mut clock = FixedClock { seconds: 1000 };
     let mut reader = Counted::new(input);

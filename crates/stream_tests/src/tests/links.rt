@@ -63,8 +63,7 @@ fn what_gets_no_name_is_told(rt: HostRuntime) -> Result<(), Fail> {
 fn links_elsewhere(script: &mut Script) -> Result<(), AllocError> {
     let new = Shown {
         kind: NF3FIFO,
-        number: 5,
-        ..NEW
+        ..new_file(5)
     };
     let linked = Shown {
         links: 2,

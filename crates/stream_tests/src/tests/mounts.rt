@@ -1,5 +1,8 @@
 //! What hosts have mounted, and what is exported (RFC 1813, appendix I, 5.2).
 
+ghost use Rattle.std.specs.Prelude.{IfOk};
+ghost use Rattle.nfs_schedule.specs.Worlds.{IsAtRest};
+
 use super::scripts::{
     CREATE, LINK, MKDIR, NFS3ERR_ROFS, NFS3ERR_STALE, RENAME, add_record, add_words,
 };
@@ -113,7 +116,9 @@ impl Visit {
     }
 
     /// The server replies so to these calls.
-    fn is_followed(&self, rt: &(impl Abort + AllocGlobal), plain: &mut Plain) -> Result<(), Fail> {
+    fn is_followed(&self, rt: &(impl Abort + AllocGlobal), engine: &mut Engine) -> Result<(), Fail>
+        requires { IsAtRest engine.old }
+    {
         let alloc = rt.alloc();
         let Some(host) = Host::new(Bytes::copy_from_slice(alloc, self.host)?) else {
             return Err(Fail::from("it is no host"));
@@ -121,7 +126,7 @@ impl Visit {
         let mut clock = FixedClock { seconds: 1000 };
         let mut reader = Counted::new(self.calls.as_slice());
         let mut writer = Counted::new(Vec::new(alloc));
-        let end = serve_plain(alloc, plain, &host, &mut clock, &mut reader, &mut writer);
+        let end = serve_stream(alloc, engine, &host, &mut clock, &mut reader, &mut writer);
         let written = writer.into_inner();
         assert_eq!(rt; written.as_slice(), self.replies.as_slice());
         assert_eq!(rt; end, Ok(Served));
@@ -145,7 +150,9 @@ fn dump_two(visit: &mut Visit) -> Result<(), AllocError> {
 }
 
 /// Every host in `/a`, and 10.0.0.2 alone in `/a/b`, which is read only.
-fn opened_with_two(alloc: Global) -> Result<Plain, AllocError> {
+fn opened_with_two(alloc: Global) -> Result<Engine, AllocError>
+    ensures { IfOk result IsAtRest }
+{
     let mut list = Vec::new(alloc);
     list.push(export(alloc, b"/a", b"rw", b"*")?)?;
     list.push(export(alloc, b"/a/b", b"ro", b"10.0.0.2")?)?;

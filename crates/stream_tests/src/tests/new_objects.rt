@@ -56,14 +56,13 @@ fn what_is_there_is_not_made(rt: HostRuntime) -> Result<(), Fail> {
 }
 
 /// A new link of user 0 with a text of so many bytes.
-fn link(number: u32, size: u32) -> Shown {
+fn link(nth: u32, size: u32) -> Shown {
     Shown {
         kind: NF3LNK,
         mode: 0o777,
         size,
         used: 0x1000,
-        number,
-        ..NEW
+        ..new_file(nth)
     }
 }
 
@@ -107,11 +106,10 @@ const A_TERMINAL: [u32; 9] = [NF3CHR, 0, 0, 0, 0, 0, 0, 0xffffffff, 5];
 const A_SOCKET: [u32; 7] = [NF3SOCK, 0, 0, 0, 0, 0, 0];
 
 /// A new device, socket or FIFO.
-fn special(kind: u32, number: u32) -> Shown {
+fn special(kind: u32, nth: u32) -> Shown {
     Shown {
         kind,
-        number,
-        ..NEW
+        ..new_file(nth)
     }
 }
 

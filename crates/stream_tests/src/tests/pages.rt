@@ -35,7 +35,7 @@ fn behind(cookie: u32, count: u32) -> [u32; 5] {
 fn p_after(changed: u32) -> [u32; 22] {
     let mut shown = root_after(changed);
     shown[2] = 0o755;
-    shown[15] = 2;
+    shown[15] = 17;
     shown
 }
 
@@ -62,22 +62,18 @@ fn on_names(alloc: Global) -> Result<Script, AllocError> {
     Ok(script)
 }
 
-/// A file is made in `p`, where the first has the number 3 and each change of `p` made one.
+/// A file is made in `p`, where the first is the third object, and each change of `p` made one.
 fn add_file(script: &mut Script, name: u32, changed: u32) -> Result<(), AllocError> {
-    add_file_as(script, changed.wrapping_add(3), name, changed)
+    let new = new_file(changed.wrapping_add(3));
+    add_file_as(script, new, name, changed)
 }
 
-/// A file gets this number in `p`, which was changed so many times.
-fn add_file_as(
-    script: &mut Script,
-    number: u32,
-    name: u32,
-    changed: u32,
-) -> Result<(), AllocError> {
+/// This file is made in `p`, which was changed so many times.
+fn add_file_as(script: &mut Script, new: Shown, name: u32, changed: u32) -> Result<(), AllocError> {
     let mut made = MADE;
-    made[8] = number;
-    let mut shown = NEW.after();
-    shown[15] = number;
+    made[8] = new.number;
+    made[10] = new.generation;
+    let shown = new.after();
     script.call(CREATE, &P, &[1, name], &GUARDED)?;
     script.answer(
         &made,
@@ -96,16 +92,16 @@ fn a_page_has_what_fits(rt: HostRuntime) -> Result<(), Fail> {
     script.call(READDIR, &P, &from_start(104), &[])?;
     script.answer(&[NFS3ERR_TOOSMALL], &p_after(5), &[], &[])?;
     script.call(READDIR, &P, &from_start(159), &[])?;
-    let page = [0, 7, 1, 0, 2, 1, 0x2e000000, 0, 1, 0];
+    let page = [0, 7, 1, 0, 17, 1, 0x2e000000, 0, 1, 0];
     script.answer(&[NFS3_OK], &p_after(5), &page, &[0])?;
     script.call(READDIR, &P, &from_start(160), &[])?;
     let page = [
-        0, 7, 1, 0, 2, 1, 0x2e000000, 0, 1, 1, 0, 1, 2, 0x2e2e0000, 0, 2, 0,
+        0, 7, 1, 0, 17, 1, 0x2e000000, 0, 1, 1, 0, 1, 2, 0x2e2e0000, 0, 2, 0,
     ];
     script.answer(&[NFS3_OK], &p_after(5), &page, &[0])?;
     script.call(READDIR, &P, &behind(2, 160), &[])?;
     let page = [
-        0, 7, 1, 0, 3, 1, 0x61000000, 0, 3, 1, 0, 4, 1, 0x62000000, 0, 4, 0,
+        0, 7, 1, 0, 33, 1, 0x61000000, 0, 3, 1, 0, 49, 1, 0x62000000, 0, 4, 0,
     ];
     script.answer(&[NFS3_OK], &p_after(5), &page, &[0])?;
     script.is_followed(&rt)
@@ -117,7 +113,7 @@ fn a_reading_comes_to_its_end(rt: HostRuntime) -> Result<(), Fail> {
     let mut script = on_names(rt.alloc())?;
     script.call(READDIR, &P, &behind(5, 65536), &[])?;
     let page = [
-        0, 7, 1, 0, 6, 1, 0x64000000, 0, 6, 1, 0, 7, 1, 0x65000000, 0, 7, 0,
+        0, 7, 1, 0, 81, 1, 0x64000000, 0, 6, 1, 0, 97, 1, 0x65000000, 0, 7, 0,
     ];
     script.answer(&[NFS3_OK], &p_after(5), &page, &[1])?;
     script.call(READDIR, &P, &behind(7, 104), &[])?;
@@ -134,17 +130,22 @@ fn remove(script: &mut Script, name: u32, changed: u32) -> Result<(), AllocError
     script.answer(&[NFS3_OK], &root_before(changed), &after, &[])
 }
 
-/// Behind `b`, where `a` and `c` went and `f` came; and behind `f`.
+/// Behind `b`, where `a` and `c` went and `f` came, with the number that `c` had; and behind `f`.
 #[test]
 fn a_reading_goes_on_where_names_went(rt: HostRuntime) -> Result<(), Fail> {
     let mut script = on_names(rt.alloc())?;
     remove(&mut script, 0x61000000, 5)?;
     remove(&mut script, 0x63000000, 6)?;
-    add_file_as(&mut script, 8, 0x66000000, 7)?;
+    let new = Shown {
+        number: 65,
+        generation: 8,
+        ..NEW
+    };
+    add_file_as(&mut script, new, 0x66000000, 7)?;
     script.call(READDIR, &P, &behind(4, 65536), &[])?;
     let page = [
-        0, 7, 1, 0, 6, 1, 0x64000000, 0, 6, 1, 0, 7, 1, 0x65000000, 0, 7, 1, 0, 8, 1, 0x66000000,
-        0, 8, 0,
+        0, 7, 1, 0, 81, 1, 0x64000000, 0, 6, 1, 0, 97, 1, 0x65000000, 0, 7, 1, 0, 65, 1,
+        0x66000000, 0, 8, 0,
     ];
     script.answer(&[NFS3_OK], &p_after(8), &page, &[1])?;
     script.call(READDIR, &P, &behind(8, 104), &[])?;
@@ -206,8 +207,8 @@ fn a_full_page_shows_what_a_name_leads_to(rt: HostRuntime) -> Result<(), Fail> {
     let mut script = Script::on_hello(rt.alloc())?;
     script.call(READDIRPLUS, &ROOT, &[0, 2, 0, 7, 65536], &[65536])?;
     let page = [
-        0, 7, 1, 0, 2, 1, 0x78000000, 0, 3, 1, 1, 0o644, 1, 0, 0, 0, 5, 0, 0x1000, 0, 0, 0, 1, 0,
-        2, 1000, 0, 1000, 1, 1000, 1, 1, 32, 0x4e464433, 1, 0, 7, 0, 2, 0, 1,
+        0, 7, 1, 0, 17, 1, 0x78000000, 0, 3, 1, 1, 0o644, 1, 0, 0, 0, 5, 0, 0x1000, 0, 0, 0, 1, 0,
+        17, 1000, 0, 1000, 1, 1000, 1, 1, 32, 0x4e464433, 1, 0, 7, 0, 17, 0, 2,
     ];
     script.answer(&[NFS3_OK], &root_after(1), &page, &[0, 1])?;
     script.is_followed(&rt)

@@ -155,20 +155,38 @@ fn two_records_in_one_piece(rt: HostRuntime) -> Result<(), Fail> {
     Ok(())
 }
 
-#[test]
-fn each_answer_is_sent_on(rt: HostRuntime) -> Result<(), Fail> {
+/// A new server has written so many bytes each time when it sends on what it wrote.
+fn sends_on<R: Read + Drop>(
+    rt: &(impl Abort + AllocGlobal),
+    reader: R,
+    wanted: &[usize],
+) -> Result<(), Fail> {
     let alloc = rt.alloc();
-    let mut plain = opened(alloc)?;
-    let input = both(alloc, &NULL, &OTHER_NULL)?;
+    let mut engine = opened(alloc)?;
     let mut writer = Counted::new(Flushed {
         written: Vec::new(alloc),
         flushes: Vec::new(alloc),
     });
-    let mut reader = Counted::new(input.as_slice());
-    let end = serve(alloc, &mut plain, &mut reader, &mut writer);
+    let mut reader = Counted::new(reader);
+    let end = serve(alloc, &mut engine, &mut reader, &mut writer);
     assert_eq!(rt; end, Ok(Served));
-    assert_eq!(rt; writer.into_inner().flushes.as_slice(), [28, 56].as_slice());
+    assert_eq!(rt; writer.into_inner().flushes.as_slice(), wanted);
     Ok(())
+}
+
+/// Two calls in one piece.
+#[test]
+fn answers_of_one_piece_leave_together(rt: HostRuntime) -> Result<(), Fail> {
+    let input = both(rt.alloc(), &NULL, &OTHER_NULL)?;
+    sends_on(&rt, input.as_slice(), &[56])
+}
+
+/// Two calls in a piece each.
+#[test]
+fn answers_are_sent_on_before_the_next_piece(rt: HostRuntime) -> Result<(), Fail> {
+    let alloc = rt.alloc();
+    let (first, other) = (spelled(alloc, &NULL)?, spelled(alloc, &OTHER_NULL)?);
+    sends_on(&rt, first.as_slice().chain(other.as_slice()), &[28, 56])
 }
 
 #[test]

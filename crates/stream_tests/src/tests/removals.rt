@@ -4,14 +4,17 @@ use super::scripts::*;
 use super::shown::*;
 use super::*;
 
-/// `x` goes, and its handle is never given again.
+/// `x` goes, and its handle is never given again: the next file has its number, and another generation.
 fn a_file_goes(script: &mut Script) -> Result<(), AllocError> {
-    let next = Shown { number: 3, ..NEW };
+    let next = Shown {
+        generation: 3,
+        ..NEW
+    };
     script.takes(REMOVE, root(2, 1).to(root(2, 2)), &X)?;
     script.names_nothing(&FILE, NFS3ERR_STALE)?;
     script.makes(CREATE, root(2, 2).to(root(2, 3)), &Y, &GUARDED, next)?;
     script.names_nothing(&FILE, NFS3ERR_STALE)?;
-    script.names_nothing(&[31, 0x4e464433, 1, 0, 7, 0, 2, 0, 0], NFS3ERR_BADHANDLE)?;
+    script.names_nothing(&[31, 0x4e464433, 1, 0, 7, 0, 17, 0, 0], NFS3ERR_BADHANDLE)?;
     script.misses(root(2, 3), &X)
 }
 

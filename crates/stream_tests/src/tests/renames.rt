@@ -49,7 +49,7 @@ fn two_names_of_one_file_stay(rt: HostRuntime) -> Result<(), Fail> {
 /// `y` and `q` are names of another file. `x` takes the place of `y`, and then of `q`: the other file goes with its
 /// last name.
 fn names_are_replaced(script: &mut Script) -> Result<(), AllocError> {
-    let other = Shown { number: 3, ..NEW };
+    let other = new_file(3);
     script.makes(CREATE, root(2, 1).to(root(2, 2)), &Y, &GUARDED, other)?;
     script.links(moved(other, 2, 1), root(2, 2).to(root(2, 3)), &Q, NFS3_OK)?;
     let first = root(2, 3).to(root(2, 4));

@@ -62,10 +62,10 @@ pub(super) const NFS3ERR_BADTYPE: u32 = 10007;
 /// Handles with their length: 32 bytes with mark, export 1, start 7, fileid and generation.
 pub(super) const ROOT: [u32; 9] = [32, 0x4e464433, 1, 0, 7, 0, 1, 0, 1];
 
-pub(super) const FILE: [u32; 9] = [32, 0x4e464433, 1, 0, 7, 0, 2, 0, 1];
+pub(super) const FILE: [u32; 9] = [32, 0x4e464433, 1, 0, 7, 0, 17, 0, 2];
 
 /// What begins the answer to a CREATE of the file: NFS3_OK, and its handle, which is there.
-pub(super) const MADE: [u32; 11] = [0, 1, 32, 0x4e464433, 1, 0, 7, 0, 2, 0, 1];
+pub(super) const MADE: [u32; 11] = [0, 1, 32, 0x4e464433, 1, 0, 7, 0, 17, 0, 2];
 
 /// Generation 2 of the root.
 pub(super) const STALE: [u32; 9] = [32, 0x4e464433, 1, 0, 7, 0, 1, 0, 2];
@@ -220,6 +220,7 @@ impl Script {
     ) -> Result<(), AllocError> {
         let mut made = MADE;
         made[8] = object.number;
+        made[10] = object.generation;
         self.call(procedure, &within.before.handle(), name, how)?;
         self.answer(
             &made,

@@ -1,8 +1,14 @@
 //! What replies show of objects of export 1 (RFC 1813, 2.5 and 2.6), and the handles of these.
 //!
 //! Every moment is (1000, 0), so a change of an object makes its times 1 ns later than they were. The first new
-//! object of a server has the number 2 and the generation 1, since the root has the number 1, and the next has the
-//! number 3: RFC 1813 leaves the choice open.
+//! object of a server has the number 17 and the generation 2, the next the number 33 and the generation 3, and so on:
+//! RFC 1813 leaves the choice open. The root has the number 1 and the generation 1.
+
+/// The number of the object that a server made as this one, counting from the root, its first. No number was freed
+/// before.
+pub(super) fn number_of(nth: u32) -> u32 {
+    nth.wrapping_mul(16).wrapping_sub(15)
+}
 
 /// The types of objects: `ftype3`.
 pub(super) const NF3REG: u32 = 1;
@@ -19,7 +25,7 @@ pub(super) const NF3SOCK: u32 = 6;
 
 pub(super) const NF3FIFO: u32 = 7;
 
-/// What is told of an object that came at (1000, 0) and is of generation 1.
+/// What is told of an object that came at (1000, 0).
 #[derive(Clone, Copy)]
 pub(super) struct Shown {
     pub kind: u32,
@@ -34,13 +40,14 @@ pub(super) struct Shown {
     pub major: u32,
     pub minor: u32,
     pub number: u32,
+    pub generation: u32,
     /// The nanoseconds of the last change of its content.
     pub modified: u32,
     /// The nanoseconds of its last change.
     pub changed: u32,
 }
 
-/// A new file of user 0, with the number 2.
+/// A new file of user 0, with the number of the first new object.
 pub(super) const NEW: Shown = Shown {
     kind: NF3REG,
     mode: 0o644,
@@ -51,7 +58,8 @@ pub(super) const NEW: Shown = Shown {
     used: 0,
     major: 0,
     minor: 0,
-    number: 2,
+    number: 17,
+    generation: 2,
     modified: 0,
     changed: 0,
 };
@@ -65,18 +73,26 @@ pub(super) const HELLO: Shown = Shown {
     ..NEW
 };
 
-/// A directory of user 0 with so many links, and the nanoseconds of its last change.
-pub(super) fn directory(number: u32, links: u32, changed: u32) -> Shown {
+/// The file of user 0 that was made as this object, from 2.
+pub(super) fn new_file(nth: u32) -> Shown {
+    Shown {
+        number: number_of(nth),
+        generation: nth,
+        ..NEW
+    }
+}
+
+/// The directory of user 0 that was made as this object, with so many links, and the nanoseconds of its last change.
+pub(super) fn directory(nth: u32, links: u32, changed: u32) -> Shown {
     Shown {
         kind: NF3DIR,
         mode: 0o755,
         links,
         size: 0x1000,
         used: 0x1000,
-        number,
         modified: changed,
         changed,
-        ..NEW
+        ..new_file(nth)
     }
 }
 
@@ -141,7 +157,7 @@ impl Shown {
 
     /// Its handle with its length: 32 bytes with mark, export 1, start 7, fileid and generation.
     pub(super) fn handle(&self) -> [u32; 9] {
-        [32, 0x4e464433, 1, 0, 7, 0, self.number, 0, 1]
+        [32, 0x4e464433, 1, 0, 7, 0, self.number, 0, self.generation]
     }
 
     /// The object, whose content was changed last at this nanosecond.

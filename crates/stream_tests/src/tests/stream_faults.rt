@@ -35,14 +35,14 @@ fn ends_after_reads(
     wanted_failures: u64,
 ) -> Result<(), Fail> {
     let alloc = rt.alloc();
-    let mut plain = opened(alloc)?;
+    let mut engine = opened(alloc)?;
     let (first, other) = (spelled(alloc, &NULL)?, spelled(alloc, &OTHER_NULL)?);
     let mut reader = Counted::new(Failing {
         reader: first.as_slice().chain(other.as_slice()),
         good,
     });
     let mut writer = Counted::new(Vec::new(alloc));
-    let end = serve(alloc, &mut plain, &mut reader, &mut writer);
+    let end = serve(alloc, &mut engine, &mut reader, &mut writer);
     assert_eq!(rt;
         writer.into_inner().as_slice(),
         spelled(alloc, wanted)?.as_slice()
@@ -75,13 +75,13 @@ fn no_read_fails(rt: HostRuntime) -> Result<(), Fail> {
 #[test]
 fn a_record_in_three_pieces(rt: HostRuntime) -> Result<(), Fail> {
     let alloc = rt.alloc();
-    let mut plain = opened(alloc)?;
+    let mut engine = opened(alloc)?;
     let call = spelled(alloc, &NULL)?;
     let (first, others) = call.split_at(call.len().min(3));
     let (second, third) = others.split_at(others.len().min(10));
     let mut reader = Counted::new(first.chain(second).chain(third));
     let mut writer = Counted::new(Vec::new(alloc));
-    let end = serve(alloc, &mut plain, &mut reader, &mut writer);
+    let end = serve(alloc, &mut engine, &mut reader, &mut writer);
     assert_eq!(rt; end, Ok(Served));
     assert_eq!(rt;
         writer.into_inner().as_slice(),
@@ -100,7 +100,7 @@ fn ends_after_writes(
     wanted_failures: u64,
 ) -> Result<(), Fail> {
     let alloc = rt.alloc();
-    let mut plain = opened(alloc)?;
+    let mut engine = opened(alloc)?;
     let input = both(alloc, &NULL, &OTHER_NULL)?;
     let mut reader = Counted::new(input.as_slice());
     let mut writer = Counted::new(Choppy {
@@ -109,7 +109,7 @@ fn ends_after_writes(
         good,
         trouble,
     });
-    let end = serve(alloc, &mut plain, &mut reader, &mut writer);
+    let end = serve(alloc, &mut engine, &mut reader, &mut writer);
     assert_eq!(rt; writer.failures(), wanted_failures);
     let Choppy { written, .. } = writer.into_inner();
     assert_eq!(rt; written.as_slice(), spelled(alloc, wanted)?.as_slice());
@@ -125,20 +125,20 @@ fn the_first_write_fails(rt: HostRuntime) -> Result<(), Fail> {
 
 #[test]
 fn the_second_write_fails(rt: HostRuntime) -> Result<(), Fail> {
-    let writer = (1, usize::MAX, Trouble::Fails);
+    let writer = (1, 28, Trouble::Fails);
     ends_after_writes(&rt, writer, &NULL_REPLY, Err(StreamFault::Write), 1)
 }
 
 #[test]
 fn a_write_takes_nothing(rt: HostRuntime) -> Result<(), Fail> {
-    let writer = (1, usize::MAX, Trouble::TakesNothing);
+    let writer = (1, 28, Trouble::TakesNothing);
     ends_after_writes(&rt, writer, &NULL_REPLY, Err(StreamFault::Write), 1)
 }
 
-/// Four calls take the 28 bytes of the first answer, and one the first 8 of the second.
+/// Five calls take the 28 bytes of the first answer, and the first 12 of the second.
 #[test]
 fn an_answer_is_cut_by_a_write_that_fails(rt: HostRuntime) -> Result<(), Fail> {
-    let wanted = [0x80000018, 1, 1, 0, 0, 0, 0, 0x80000018, 5];
+    let wanted = [0x80000018, 1, 1, 0, 0, 0, 0, 0x80000018, 5, 1];
     let writer = (5, 8, Trouble::Fails);
     ends_after_writes(&rt, writer, &wanted, Err(StreamFault::Write), 1)
 }
@@ -149,24 +149,25 @@ fn answers_by_single_bytes(rt: HostRuntime) -> Result<(), Fail> {
     ends_after_writes(&rt, writer, &BOTH_REPLIES, Ok(Served), 0)
 }
 
+/// Both answers are written by then, since their calls came in one piece.
 #[test]
 fn a_flush_fails(rt: HostRuntime) -> Result<(), Fail> {
     let alloc = rt.alloc();
-    let mut plain = opened(alloc)?;
+    let mut engine = opened(alloc)?;
     let input = both(alloc, &NULL, &OTHER_NULL)?;
     let mut writer = Counted::new(Unflushed {
         written: Vec::new(alloc),
     });
     let end = serve(
         alloc,
-        &mut plain,
+        &mut engine,
         &mut Counted::new(input.as_slice()),
         &mut writer,
     );
     assert_eq!(rt; end, Err(StreamFault::Write));
     assert_eq!(rt;
         writer.into_inner().written.as_slice(),
-        spelled(alloc, &NULL_REPLY)?.as_slice()
+        spelled(alloc, &BOTH_REPLIES)?.as_slice()
     );
     Ok(())
 }

@@ -1,6 +1,9 @@
 //! Want of memory: these tests pass whichever one of their allocations is refused. The call is then answered by its
 //! refusal, or ends the stream, and sent again it is answered as if nothing had happened.
 
+ghost use Rattle.std.specs.Prelude.{IfOk};
+ghost use Rattle.nfs_schedule.specs.Worlds.{IsAtRest};
+
 use super::*;
 
 /// The bytes of these words, from a second try where the first is refused.
@@ -12,25 +15,30 @@ fn spelled_at_last(alloc: Global, words: &[u32]) -> Result<Vec<u8>, AllocError> 
 }
 
 /// The opening state, from a second try where the first is refused.
-fn opened_at_last(alloc: Global) -> Result<Plain, AllocError> {
+fn opened_at_last(alloc: Global) -> Result<Engine, AllocError>
+    ensures { IfOk result IsAtRest }
+{
     match opened(alloc) {
-        Ok(plain) => Ok(plain),
+        Ok(engine) => Ok(engine),
         Err(_) => opened(alloc),
     }
 }
 
-/// What is written for this input from this store on, and how serving ends; room for the answers is there before.
+/// What is written for this input from the engine's state on, and how serving ends; room for the answers is there before.
 fn served(
     alloc: Global,
-    plain: &mut Plain,
+    engine: &mut Engine,
     input: &[u8],
-) -> Result<(Vec<u8>, Result<Served, StreamFault>), AllocError> {
+) -> Result<(Vec<u8>, Result<Served, StreamFault>), AllocError>
+    requires { IsAtRest engine.old }
+    ensures { IsAtRest engine.new }
+{
     let room = match Vec::with_capacity(alloc, 512) {
         Ok(room) => room,
         Err(_) => Vec::with_capacity(alloc, 512)?,
     };
     let mut writer = Counted::new(room);
-    let end = serve(alloc, plain, &mut Counted::new(input), &mut writer);
+    let end = serve(alloc, engine, &mut Counted::new(input), &mut writer);
     Ok((writer.into_inner(), end))
 }
 
@@ -42,18 +50,18 @@ fn answers_at_last(
     refusal: &[u32],
 ) -> Result<(), Fail> {
     let alloc = rt.alloc();
-    let mut plain = opened_at_last(alloc)?;
+    let mut engine = opened_at_last(alloc)?;
     let call = spelled_at_last(alloc, call)?;
     let reply = spelled_at_last(alloc, reply)?;
     let refusal = spelled_at_last(alloc, refusal)?;
-    let (written, end) = served(alloc, &mut plain, &call)?;
+    let (written, end) = served(alloc, &mut engine, &call)?;
     if end == Ok(Served) && written == reply {
         return Ok(());
     }
     let is_refused = end == Ok(Served) && written == refusal;
     let is_stopped = end == Err(StreamFault::Memory) && written.is_empty();
     assert!(rt; is_refused || is_stopped);
-    let (written, end) = served(alloc, &mut plain, &call)?;
+    let (written, end) = served(alloc, &mut engine, &call)?;
     assert_eq!(rt; written.as_slice(), reply.as_slice());
     assert_eq!(rt; end, Ok(Served));
     Ok(())
@@ -87,8 +95,8 @@ fn create_is_refused(rt: HostRuntime) -> Result<(), Fail> {
         0x78000000, 1, 0, 0, 0, 0, 0, 0,
     ];
     let reply = [
-        0x80000110, 8, 1, 0, 0, 0, 0, 0, 1, 32, 0x4e464433, 1, 0, 7, 0, 2, 0, 1, 1, 1, 0o644, 1,
-        65534, 65534, 0, 0, 0, 0, 0, 0, 0, 1, 0, 2, 1000, 0, 1000, 0, 1000, 0, 1, 0, 0x1000, 1000,
+        0x80000110, 8, 1, 0, 0, 0, 0, 0, 1, 32, 0x4e464433, 1, 0, 7, 0, 17, 0, 2, 1, 1, 0o644, 1,
+        65534, 65534, 0, 0, 0, 0, 0, 0, 0, 1, 0, 17, 1000, 0, 1000, 0, 1000, 0, 1, 0, 0x1000, 1000,
         0, 1000, 0, 1, 2, 0o777, 2, 0, 0, 0, 0x1000, 0, 0x1000, 0, 0, 0, 1, 0, 1, 1000, 0, 1000, 1,
         1000, 1,
     ];

@@ -32,5 +32,8 @@ returns c =
     ∙ ap₂ with_rule with_stdio export in
     let with_start = c.in_ok-arg-3.ensures.shape (search rules) ∙ ap₂ with_rule with_export start in
     let with_clock = c.in_ok-arg-4.ensures.shape (search rules) ∙ ap₂ with_rule with_start clock in
+    let era : rule_of c.number-4.result ≡ number_rule (codes "era") (Unsigned 0 18446744073709551615) =
+    c.number-4.ensures.rule ∙ ap (number_rule (codes "era")) c.value_parser-4.ensures in
     let with_host = c.in_ok-arg-5.ensures.shape (search rules) ∙ ap₂ with_rule with_clock host in
-    IfOk-weaker c.arg-6.result _ _ (λ command adds. adds.shape (search rules) ∙ ap₂ with_rule with_host bytes) c.arg-6.ensures
+    let with_bytes = c.in_ok-arg-6.ensures.shape (search rules) ∙ ap₂ with_rule with_host bytes in
+    IfOk-weaker c.arg-7.result _ _ (λ command adds. adds.shape (search rules) ∙ ap₂ with_rule with_bytes era) c.arg-7.ensures

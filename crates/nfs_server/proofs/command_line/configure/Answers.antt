@@ -14,7 +14,8 @@ returns-then-not-get_flag g c =
     let flag = flag_read words matches (codes "stdio") c.get_flag.result c.in_ok-matches.ensures
     (c.get_flag.ensures.value, c.get_flag.ensures.other, c.get_flag.ensures.none) in
     let unset : c.get_flag.result ≡ false = search rules in (
-      taken words matches c.in_ok-host.host c.in_ok-matches.ensures c.in_ok-host.ensures,
+      taken words matches c.in_ok-host.host c.in_ok-era_records.era_records c.in_ok-matches.ensures c.in_ok-host.ensures
+          c.in_ok-era_records.ensures,
       subst (ReadsFlag (one_of (codes "stdio") (matches_of nfsd words))) unset flag,
     )
 
@@ -26,7 +27,8 @@ returns g c =
     (c.get_flag.ensures.value, c.get_flag.ensures.other, c.get_flag.ensures.none) in
     let set : c.get_flag.result ≡ true = search rules in
     let transport = subst (ReadsFlag (one_of (codes "stdio") (matches_of nfsd words))) set flag in
-    let is_taken = taken words matches c.in_ok-host.host c.in_ok-matches.ensures c.in_ok-host.ensures in
+    let is_taken = taken words matches c.in_ok-host.host c.in_ok-era_records.era_records c.in_ok-matches.ensures c.in_ok-host.ensures
+    c.in_ok-era_records.ensures in
     MatchResult-weaker c.read_options.result c.read_options.ensures
     (λ options. options_read words matches options c.in_ok-matches.ensures is_taken transport)
     (λ exit. refuses_options words matches exit c.in_ok-matches.ensures is_taken transport)

@@ -37,6 +37,7 @@ returns c =
         c.unwrap_or-2.ensures,
       );
       host = search rules;
+      era = c.requires.era;
       exports = (
         c.in_ok-list.list.items,
         c.in_ok-list.ensures

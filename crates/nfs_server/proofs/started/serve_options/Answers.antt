@@ -1,16 +1,18 @@
 use Rattle.std.proofs.Common.{inr, ap, Err}
-use Rattle.nfs_server.specs.declared.serve.StreamFault.{StreamFault}
+use Rattle.nfs_engine.specs.Book.{BookValue}
+use Rattle.nfs_schedule.specs.declared.serving.StreamFault.{StreamFault}
+use Rattle.nfs_server.proofs.Starting.{opens_state}
 use Rattle.nfs_server.proofs.started.serve_options.Goals as goal
 
 pub returns-in-Ok-clause-ok : goal.returns-in-Ok-clause-ok
 returns-in-Ok-clause-ok g c = λ input is. record {
   moment = c.moment-moment.result;
   started = c.moment-moment.new.self;
-  opened = c.in_ok-plain.plain;
-  left = c.serve_plain.new.plain;
+  opened = c.in_ok-engine.engine;
+  left = c.serve_stream.new.engine;
   ticked = c.moment-moment.ensures;
-  under = rw (← c.unwrap_or.ensures) c.in_ok-plain.ensures.setting;
-  stands = c.in_ok-plain.ensures.opening;
+  under = rw (← c.unwrap_or.ensures) (ap (λ (b : BookValue). b.setting) c.in_ok-engine.ensures.opens.is);
+  stands = opens_state _ c.in_ok-engine.engine c.in_ok-engine.ensures.opens;
   on = c.in-Ok.ensures.ok input is;
 }
 
@@ -18,15 +20,18 @@ pub returns-clause-fault : goal.returns-clause-fault
 returns-clause-fault g c = inr (
   c.in-Err.fault,
   c.of.ensures,
-  (λ is. c.in-Err.ensures.read (ap (λ (e : StreamFault). Err e) is), λ is. c.in-Err.ensures.write (ap (λ (e : StreamFault). Err e) is)),
+  (
+    λ is. c.in-Err.ensures.read (ap (λ (e : StreamFault). Err e) is),
+    λ is. c.in-Err.ensures.write (ap (λ (e : StreamFault). Err e) is),
+  ),
   λ input is. record {
     moment = c.moment-moment.result;
     started = c.moment-moment.new.self;
-    opened = c.in_ok-plain.plain;
-    left = c.serve_plain.new.plain;
+    opened = c.in_ok-engine.engine;
+    left = c.serve_stream.new.engine;
     ticked = c.moment-moment.ensures;
-    under = rw (← c.unwrap_or.ensures) c.in_ok-plain.ensures.setting;
-    stands = c.in_ok-plain.ensures.opening;
+    under = rw (← c.unwrap_or.ensures) (ap (λ (b : BookValue). b.setting) c.in_ok-engine.ensures.opens.is);
+    stands = opens_state _ c.in_ok-engine.engine c.in_ok-engine.ensures.opens;
     on = c.in-Err.ensures.fault input is;
   },
 )

@@ -1,7 +1,0 @@
-use Rattle.std.proofs.Common.{sym, subst}
-use Rattle.nfs_engine.specs.Forms.{RefusalHasForm}
-use Rattle.nfs_engine.proofs.Formed.{refusal_form}
-use Rattle.nfs_server.proofs.plain.refuse.Goals as goal
-
-pub refuse-answer-requires : goal.refuse-answer-requires
-refuse-answer-requires c = subst RefusalHasForm (sym c.in_ok-refusal.ensures.ok) (refusal_form _ c.requires)
