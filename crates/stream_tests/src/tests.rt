@@ -9,6 +9,7 @@ mod clocks;
 mod command_lines;
 mod create;
 mod credentials;
+mod exchanges;
 mod exit_lines;
 mod from_options;
 mod fsstat;
@@ -48,7 +49,12 @@ const NULL_REPLY: [u32; 7] = [0x80000018, 1, 1, 0, 0, 0, 0];
 /// NULL with xid 5, to be told from the first.
 const OTHER_NULL: [u32; 11] = [0x80000028, 5, 0, 2, 100003, 3, 0, 0, 0, 0, 0];
 
-const OTHER_NULL_REPLY: [u32; 7] = [0x80000018, 5, 1, 0, 0, 0, 0];
+/// NULL with xid 1 and 5, and the replies to both.
+const BOTH_NULLS: [u32; 22] = [
+    0x80000028, 1, 0, 2, 100003, 3, 0, 0, 0, 0, 0, 0x80000028, 5, 0, 2, 100003, 3, 0, 0, 0, 0, 0,
+];
+
+const BOTH_REPLIES: [u32; 14] = [0x80000018, 1, 1, 0, 0, 0, 0, 0x80000018, 5, 1, 0, 0, 0, 0];
 
 /// GETATTR of the root: mark, export 1, start 7, fileid 1, generation 1.
 const GETATTR: [u32; 20] = [

@@ -1,88 +1,95 @@
 //! What the procedures on names answer where a handle names nothing, or no directory (RFC 1813, 2.6).
 
+use super::exchanges::Effect::*;
+use super::exchanges::Exchange::*;
+use super::exchanges::Object::*;
+use super::exchanges::Shows::*;
+use super::exchanges::*;
 use super::scripts::*;
 use super::shown::*;
 use super::*;
 
-/// A call on a name, whose handle names nothing: no object is shown.
-fn is_lost(
-    script: &mut Script,
-    procedure: u32,
-    handle: &[u32],
-    how: &[u32],
+/// The root's handle, a stale one and one that is cut, each with the name `y`.
+const Y_IN_ROOT: [u32; 11] = [32, 0x4e464433, 1, 0, 7, 0, 1, 0, 1, 1, 0x79000000];
+
+const Y_IN_STALE: [u32; 11] = [32, 0x4e464433, 1, 0, 7, 0, 1, 0, 2, 1, 0x79000000];
+
+const Y_IN_CUT: [u32; 11] = [31, 0x4e464433, 1, 0, 7, 0, 1, 0, 0, 1, 0x79000000];
+
+/// Each procedure tells this error of this handle, and shows no object. The first handle of RENAME and of LINK names
+/// nothing: the second is not read, and nothing of it is shown.
+fn each_tells(
+    rt: &(impl Abort + AllocGlobal),
+    handle: &'static [u32],
     error: u32,
-) -> Result<(), AllocError> {
-    script.call(procedure, handle, &X, how)?;
-    script.answer(&[error], &[0], &[0], &[])
-}
-
-/// Each procedure tells this error of this handle.
-fn each_tells(script: &mut Script, handle: &[u32], error: u32) -> Result<(), AllocError> {
-    script.names_nothing(handle, error)?;
-    is_lost(script, MKDIR, handle, &AS_USUAL, error)?;
-    is_lost(script, SYMLINK, handle, &TO_X, error)?;
-    is_lost(script, MKNOD, handle, &A_FIFO, error)?;
-    is_lost(script, REMOVE, handle, &[], error)?;
-    is_lost(script, RMDIR, handle, &[], error)?;
-    second_is_not_read(script, handle, error)
-}
-
-/// The first handle of RENAME and of LINK names nothing: the second is not read, and nothing of it is shown.
-fn second_is_not_read(script: &mut Script, handle: &[u32], error: u32) -> Result<(), AllocError> {
-    let target = joined(script.allocator(), &ROOT, &Y)?;
-    script.call(RENAME, handle, &X, &target)?;
-    script.answer(&[error], &[0, 0], &[0, 0], &[])?;
-    script.call(LINK, handle, &ROOT, &Y)?;
-    script.answer(&[error], &[0], &[0, 0], &[])
+) -> Result<(), Fail> {
+    follows(
+        rt,
+        &[
+            NamesNothing(handle, error),
+            Call(MKDIR, handle, &X, &AS_USUAL),
+            Answer(error, &Nothing, &[0, 0]),
+            Call(SYMLINK, handle, &X, &TO_X),
+            Answer(error, &Nothing, &[0, 0]),
+            Call(MKNOD, handle, &X, &A_FIFO),
+            Answer(error, &Nothing, &[0, 0]),
+            Call(REMOVE, handle, &X, &[]),
+            Answer(error, &Nothing, &[0, 0]),
+            Call(RMDIR, handle, &X, &[]),
+            Answer(error, &Nothing, &[0, 0]),
+            Call(RENAME, handle, &X, &Y_IN_ROOT),
+            Answer(error, &Nothing, &[0, 0, 0, 0]),
+            Call(LINK, handle, &ROOT, &Y),
+            Answer(error, &Nothing, &[0, 0, 0]),
+        ],
+    )
 }
 
 #[test]
 fn a_stale_handle_is_told(rt: HostRuntime) -> Result<(), Fail> {
-    let mut script = Script::new(rt.alloc());
-    each_tells(&mut script, &STALE, NFS3ERR_STALE)?;
-    script.is_followed(&rt)
+    each_tells(&rt, &STALE, NFS3ERR_STALE)
 }
 
 #[test]
 fn a_bad_handle_is_told(rt: HostRuntime) -> Result<(), Fail> {
-    let mut script = Script::new(rt.alloc());
-    each_tells(&mut script, &CUT, NFS3ERR_BADHANDLE)?;
-    script.is_followed(&rt)
+    each_tells(&rt, &CUT, NFS3ERR_BADHANDLE)
 }
 
 /// The second handle of RENAME and of LINK names nothing: what the first names is shown.
-fn first_is_shown(script: &mut Script, handle: &[u32], error: u32) -> Result<(), AllocError> {
-    let target = joined(script.allocator(), handle, &Y)?;
-    script.call(RENAME, &ROOT, &X, &target)?;
-    script.answer(&[error], &root_before(1), &root_after(1), &[0, 0])?;
-    script.call(LINK, &FILE, handle, &Y)?;
-    script.answer(&[error], &NEW.after(), &[0, 0], &[])
-}
-
 #[test]
 fn a_second_handle_names_nothing(rt: HostRuntime) -> Result<(), Fail> {
-    let mut script = Script::on_new(rt.alloc())?;
-    first_is_shown(&mut script, &STALE, NFS3ERR_STALE)?;
-    first_is_shown(&mut script, &CUT, NFS3ERR_BADHANDLE)?;
-    script.is_followed(&rt)
+    follows(
+        &rt,
+        &[
+            OnNew,
+            Call(RENAME, &ROOT, &X, &Y_IN_STALE),
+            Answer(NFS3ERR_STALE, &Both(Stays(Root(2, 1))), &[0, 0]),
+            Call(LINK, &FILE, &STALE, &Y),
+            Answer(NFS3ERR_STALE, &After(Told(NEW)), &[0, 0]),
+            Call(RENAME, &ROOT, &X, &Y_IN_CUT),
+            Answer(NFS3ERR_BADHANDLE, &Both(Stays(Root(2, 1))), &[0, 0]),
+            Call(LINK, &FILE, &CUT, &Y),
+            Answer(NFS3ERR_BADHANDLE, &After(Told(NEW)), &[0, 0]),
+        ],
+    )
 }
 
 /// The file `x` in the place of a directory. That is told before a name is judged.
-fn no_directory(script: &mut Script) -> Result<(), AllocError> {
-    let root = root(2, 1).stays();
-    script.refuses(MKDIR, NEW, &DOT, &AS_USUAL, NFS3ERR_NOTDIR)?;
-    script.refuses(SYMLINK, NEW, &X, &TO_X, NFS3ERR_NOTDIR)?;
-    script.refuses(MKNOD, NEW, &X, &A_FIFO, NFS3ERR_NOTDIR)?;
-    script.refuses(REMOVE, NEW, &DOT, &[], NFS3ERR_NOTDIR)?;
-    script.refuses(RMDIR, NEW, &X, &[], NFS3ERR_NOTDIR)?;
-    script.renames(NEW.stays(), &DOT, root, &Y, NFS3ERR_NOTDIR)?;
-    script.renames(root, &DOT, NEW.stays(), &Y, NFS3ERR_NOTDIR)?;
-    script.links(NEW, NEW.stays(), &DOT, NFS3ERR_NOTDIR)
-}
-
 #[test]
 fn a_file_is_no_directory(rt: HostRuntime) -> Result<(), Fail> {
-    let mut script = Script::on_new(rt.alloc())?;
-    no_directory(&mut script)?;
-    script.is_followed(&rt)
+    const TOP: Effect = Stays(Root(2, 1));
+    follows(
+        &rt,
+        &[
+            OnNew,
+            Refuses(MKDIR, &Told(NEW), &DOT, &AS_USUAL, NFS3ERR_NOTDIR),
+            Refuses(SYMLINK, &Told(NEW), &X, &TO_X, NFS3ERR_NOTDIR),
+            Refuses(MKNOD, &Told(NEW), &X, &A_FIFO, NFS3ERR_NOTDIR),
+            Refuses(REMOVE, &Told(NEW), &DOT, &[], NFS3ERR_NOTDIR),
+            Refuses(RMDIR, &Told(NEW), &X, &[], NFS3ERR_NOTDIR),
+            Renames(&Stays(Told(NEW)), &DOT, &TOP, &Y, NFS3ERR_NOTDIR),
+            Renames(&TOP, &DOT, &Stays(Told(NEW)), &Y, NFS3ERR_NOTDIR),
+            Links(&Told(NEW), &Stays(Told(NEW)), &DOT, NFS3ERR_NOTDIR),
+        ],
+    )
 }

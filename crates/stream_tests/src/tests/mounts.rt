@@ -3,6 +3,7 @@
 ghost use Rattle.std.specs.Prelude.{IfOk};
 ghost use Rattle.nfs_schedule.specs.Worlds.{IsAtRest};
 
+use self::Exchange::{Mount, Nfs};
 use super::scripts::{
     CREATE, LINK, MKDIR, NFS3ERR_ROFS, NFS3ERR_STALE, RENAME, add_record, add_words,
 };
@@ -40,114 +41,139 @@ const A_WITH_SLASHES: [u32; 2] = [4, 0x2f2f612f];
 const A_B: [u32; 2] = [4, 0x2f612f62];
 
 /// MNT3_OK with the handle of an export's root, and AUTH_SYS as the one flavor.
-fn root_of(export: u32) -> [u32; 12] {
-    [0, 32, 0x4e464433, export, 0, 7, 0, export, 0, 1, 1, 1]
+const FIRST_ROOT: [u32; 12] = [0, 32, 0x4e464433, 1, 0, 7, 0, 1, 0, 1, 1, 1];
+
+const SECOND_ROOT: [u32; 12] = [0, 32, 0x4e464433, 2, 0, 7, 0, 2, 0, 1, 1, 1];
+
+/// A call and its reply.
+#[derive(Clone, Copy)]
+enum Exchange {
+    /// A call of MOUNT without a credential: a procedure, its arguments and its results.
+    Mount(u32, &'static [u32], &'static [u32]),
+    /// A call of NFS by user 0: a procedure, its arguments and its results.
+    Nfs(u32, &'static [u32], &'static [u32]),
 }
 
-/// The calls of a host that a server is sent, and the replies that it must give.
-#[derive(Drop)]
-struct Visit {
-    host: &'static [u8],
-    calls: Vec<u8>,
-    replies: Vec<u8>,
-    xid: u32,
-}
-
-impl Visit {
-    fn of(alloc: Global, host: &'static [u8]) -> Visit {
-        Visit {
-            host,
-            calls: Vec::new(alloc),
-            replies: Vec::new(alloc),
-            xid: 0,
+/// Adds a call with this transaction id.
+fn add_call(calls: &mut Vec<u8>, xid: u32, exchange: &Exchange) -> Result<(), AllocError> {
+    let mut body = spelled(*calls.allocator(), &[xid, 0, 2])?;
+    match *exchange {
+        Mount(procedure, arguments, _) => {
+            add_words(&mut body, &[100005, 3, procedure, 0, 0, 0, 0])?;
+            add_words(&mut body, arguments)?;
+        }
+        Nfs(procedure, arguments, _) => {
+            add_words(
+                &mut body,
+                &[100003, 3, procedure, 1, 20, 0, 0, 0, 0, 0, 0, 0],
+            )?;
+            add_words(&mut body, arguments)?;
         }
     }
-
-    /// Adds a call of MOUNT without a credential, with its arguments, and its reply, with the results in two parts.
-    fn ask(
-        &mut self,
-        procedure: u32,
-        arguments: &[u32],
-        first: &[u32],
-        second: &[u32],
-    ) -> Result<(), AllocError> {
-        self.call(&[100005, 3, procedure, 0, 0, 0, 0], arguments)?;
-        self.reply(first, second)
-    }
-
-    /// Adds a CREATE of `x` by user 0 in the root of the second export, and its reply in two parts.
-    fn create(&mut self, first: &[u32], second: &[u32]) -> Result<(), AllocError> {
-        let arguments = [
-            32, 0x4e464433, 2, 0, 7, 0, 2, 0, 1, 1, 0x78000000, 1, 0, 0, 0, 0, 0, 0,
-        ];
-        self.change(CREATE, &arguments, first, second)
-    }
-
-    /// Adds a call of NFS by user 0 with its arguments, and its reply in two parts.
-    fn change(
-        &mut self,
-        procedure: u32,
-        arguments: &[u32],
-        first: &[u32],
-        second: &[u32],
-    ) -> Result<(), AllocError> {
-        self.call(
-            &[100003, 3, procedure, 1, 20, 0, 0, 0, 0, 0, 0, 0],
-            arguments,
-        )?;
-        self.reply(first, second)
-    }
-
-    /// Adds a call: its program, version, procedure, credential and verifier, and its arguments.
-    fn call(&mut self, heading: &[u32], arguments: &[u32]) -> Result<(), AllocError> {
-        self.xid = self.xid.wrapping_add(1);
-        let mut body = spelled(*self.calls.allocator(), &[self.xid, 0, 2])?;
-        add_words(&mut body, heading)?;
-        add_words(&mut body, arguments)?;
-        add_record(&mut self.calls, &body)
-    }
-
-    /// Adds the reply to the last call.
-    fn reply(&mut self, first: &[u32], second: &[u32]) -> Result<(), AllocError> {
-        let mut body = spelled(*self.replies.allocator(), &[self.xid, 1, 0, 0, 0, 0])?;
-        add_words(&mut body, first)?;
-        add_words(&mut body, second)?;
-        add_record(&mut self.replies, &body)
-    }
-
-    /// The server replies so to these calls.
-    fn is_followed(&self, rt: &(impl Abort + AllocGlobal), engine: &mut Engine) -> Result<(), Fail>
-        requires { IsAtRest engine.old }
-    {
-        let alloc = rt.alloc();
-        let Some(host) = Host::new(Bytes::copy_from_slice(alloc, self.host)?) else {
-            return Err(Fail::from("it is no host"));
-        };
-        let mut clock = FixedClock { seconds: 1000 };
-        let mut reader = Counted::new(self.calls.as_slice());
-        let mut writer = Counted::new(Vec::new(alloc));
-        let end = serve_stream(alloc, engine, &host, &mut clock, &mut reader, &mut writer);
-        let written = writer.into_inner();
-        assert_eq!(rt; written.as_slice(), self.replies.as_slice());
-        assert_eq!(rt; end, Ok(Served));
-        Ok(())
-    }
+    add_record(calls, &body)
 }
 
-/// 10.0.0.1 has `/data` and `/data/` mounted.
-fn two_paths(alloc: Global) -> Result<Visit, AllocError> {
-    let mut visit = Visit::of(alloc, b"10.0.0.1");
-    visit.ask(MOUNT_MNT, &DATA, &root_of(1), &[])?;
-    visit.ask(MOUNT_MNT, &DATA_SLASH, &root_of(1), &[])?;
-    Ok(visit)
+/// Adds the reply with this transaction id.
+fn add_reply(replies: &mut Vec<u8>, xid: u32, exchange: &Exchange) -> Result<(), AllocError> {
+    let mut body = spelled(*replies.allocator(), &[xid, 1, 0, 0, 0, 0])?;
+    match *exchange {
+        Mount(_, _, results) | Nfs(_, _, results) => add_words(&mut body, results)?,
+    }
+    add_record(replies, &body)
 }
 
-/// Adds the DUMP of these two paths of 10.0.0.1.
-fn dump_two(visit: &mut Visit) -> Result<(), AllocError> {
-    let first = [1, 8, 0x31302e30, 0x2e302e31, 5, 0x2f646174, 0x61000000];
-    let second = [1, 8, 0x31302e30, 0x2e302e31, 6, 0x2f646174, 0x612f0000, 0];
-    visit.ask(MOUNT_DUMP, &[], &first, &second)
+/// All calls, with the transaction ids 1, 2 and so on.
+fn calls_of(alloc: Global, exchanges: &[Exchange]) -> Result<Vec<u8>, AllocError> {
+    let mut calls = Vec::new(alloc);
+    let mut xid = 0u32;
+    for exchange in exchanges {
+        xid = xid.wrapping_add(1);
+        add_call(&mut calls, xid, exchange)?;
+    }
+    Ok(calls)
 }
+
+/// All replies.
+fn replies_of(alloc: Global, exchanges: &[Exchange]) -> Result<Vec<u8>, AllocError> {
+    let mut replies = Vec::new(alloc);
+    let mut xid = 0u32;
+    for exchange in exchanges {
+        xid = xid.wrapping_add(1);
+        add_reply(&mut replies, xid, exchange)?;
+    }
+    Ok(replies)
+}
+
+/// The engine gives these replies to these calls of a host.
+fn follows(
+    rt: &(impl Abort + AllocGlobal),
+    engine: &mut Engine,
+    host: &'static [u8],
+    exchanges: &[Exchange],
+) -> Result<(), Fail>
+    requires { IsAtRest engine.old }
+    ensures { IsAtRest engine.new }
+{
+    let alloc = rt.alloc();
+    let calls = calls_of(alloc, exchanges)?;
+    let Some(host) = Host::new(Bytes::from_static(host)) else {
+        return Err(Fail::from("it is no host"));
+    };
+    let mut clock = FixedClock { seconds: 1000 };
+    let mut reader = Counted::new(calls.as_slice());
+    let mut writer = Counted::new(Vec::new(alloc));
+    let end = serve_stream(alloc, engine, &host, &mut clock, &mut reader, &mut writer);
+    let written = writer.into_inner();
+    assert_eq!(rt;
+        written.as_slice(),
+        replies_of(alloc, exchanges)?.as_slice()
+    );
+    assert_eq!(rt; end, Ok(Served));
+    Ok(())
+}
+
+/// A new server of `/data` gives these replies to these calls of 10.0.0.1.
+fn follows_in_data(rt: &(impl Abort + AllocGlobal), exchanges: &[Exchange]) -> Result<(), Fail> {
+    let mut engine = opened(rt.alloc())?;
+    follows(rt, &mut engine, FIRST_HOST, exchanges)
+}
+
+/// A new server of `/a` and `/a/b` gives these replies to these calls of a host.
+fn follows_in_two(
+    rt: &(impl Abort + AllocGlobal),
+    host: &'static [u8],
+    exchanges: &[Exchange],
+) -> Result<(), Fail> {
+    let mut engine = opened_with_two(rt.alloc())?;
+    follows(rt, &mut engine, host, exchanges)
+}
+
+const FIRST_HOST: &[u8] = b"10.0.0.1";
+
+const SECOND_HOST: &[u8] = b"10.0.0.2";
+
+/// 10.0.0.1 mounts `/data` and `/data/`.
+const MNT_DATA: Exchange = Mount(MOUNT_MNT, &DATA, &FIRST_ROOT);
+
+const MNT_DATA_SLASH: Exchange = Mount(MOUNT_MNT, &DATA_SLASH, &FIRST_ROOT);
+
+/// DUMP of `/data` of 10.0.0.1, of `/data` and `/data/`, and of nothing.
+const DUMP_DATA: Exchange = Mount(
+    MOUNT_DUMP,
+    &[],
+    &[1, 8, 0x31302e30, 0x2e302e31, 5, 0x2f646174, 0x61000000, 0],
+);
+
+const DUMP_TWO: Exchange = Mount(
+    MOUNT_DUMP,
+    &[],
+    &[
+        1, 8, 0x31302e30, 0x2e302e31, 5, 0x2f646174, 0x61000000, 1, 8, 0x31302e30, 0x2e302e31, 6,
+        0x2f646174, 0x612f0000, 0,
+    ],
+);
+
+const DUMP_NOTHING: Exchange = Mount(MOUNT_DUMP, &[], &[0]);
 
 /// Every host in `/a`, and 10.0.0.2 alone in `/a/b`, which is read only.
 fn opened_with_two(alloc: Global) -> Result<Engine, AllocError>
@@ -161,129 +187,196 @@ fn opened_with_two(alloc: Global) -> Result<Engine, AllocError>
 
 #[test]
 fn a_path_that_is_mounted_again_is_listed_once(rt: HostRuntime) -> Result<(), Fail> {
-    let mut visit = Visit::of(rt.alloc(), b"10.0.0.1");
-    visit.ask(MOUNT_MNT, &DATA, &root_of(1), &[])?;
-    visit.ask(MOUNT_MNT, &DATA, &root_of(1), &[])?;
-    let listed = [1, 8, 0x31302e30, 0x2e302e31, 5, 0x2f646174, 0x61000000, 0];
-    visit.ask(MOUNT_DUMP, &[], &listed, &[])?;
-    visit.ask(MOUNT_MNT, &BELOW_DATA, &[MNT3ERR_NOENT], &[])?;
-    visit.ask(MOUNT_MNT, &OTHER, &[MNT3ERR_ACCES], &[])?;
-    visit.ask(MOUNT_DUMP, &[], &listed, &[])?;
-    visit.is_followed(&rt, &mut opened(rt.alloc())?)
+    follows_in_data(
+        &rt,
+        &[
+            MNT_DATA,
+            MNT_DATA,
+            DUMP_DATA,
+            Mount(MOUNT_MNT, &BELOW_DATA, &[MNT3ERR_NOENT]),
+            Mount(MOUNT_MNT, &OTHER, &[MNT3ERR_ACCES]),
+            DUMP_DATA,
+        ],
+    )
 }
 
 #[test]
 fn nothing_is_mounted_at_first(rt: HostRuntime) -> Result<(), Fail> {
-    let mut visit = Visit::of(rt.alloc(), b"10.0.0.1");
-    visit.ask(MOUNT_DUMP, &[], &[0], &[])?;
-    visit.ask(MOUNT_UMNT, &DATA, &[], &[])?;
-    visit.ask(MOUNT_UMNTALL, &[], &[], &[])?;
-    visit.ask(MOUNT_DUMP, &[], &[0], &[])?;
-    visit.is_followed(&rt, &mut opened(rt.alloc())?)
+    follows_in_data(
+        &rt,
+        &[
+            DUMP_NOTHING,
+            Mount(MOUNT_UMNT, &DATA, &[]),
+            Mount(MOUNT_UMNTALL, &[], &[]),
+            DUMP_NOTHING,
+        ],
+    )
 }
 
 #[test]
 fn a_path_is_unmounted_as_it_was_sent(rt: HostRuntime) -> Result<(), Fail> {
-    let mut visit = two_paths(rt.alloc())?;
-    dump_two(&mut visit)?;
-    visit.ask(MOUNT_UMNT, &OTHER, &[], &[])?;
-    dump_two(&mut visit)?;
-    visit.ask(MOUNT_UMNT, &DATA, &[], &[])?;
-    let left = [1, 8, 0x31302e30, 0x2e302e31, 6, 0x2f646174, 0x612f0000, 0];
-    visit.ask(MOUNT_DUMP, &[], &left, &[])?;
-    visit.is_followed(&rt, &mut opened(rt.alloc())?)
+    const LEFT: [u32; 8] = [1, 8, 0x31302e30, 0x2e302e31, 6, 0x2f646174, 0x612f0000, 0];
+    follows_in_data(
+        &rt,
+        &[
+            MNT_DATA,
+            MNT_DATA_SLASH,
+            DUMP_TWO,
+            Mount(MOUNT_UMNT, &OTHER, &[]),
+            DUMP_TWO,
+            Mount(MOUNT_UMNT, &DATA, &[]),
+            Mount(MOUNT_DUMP, &[], &LEFT),
+        ],
+    )
 }
 
 #[test]
 fn a_host_unmounts_its_own_paths_alone(rt: HostRuntime) -> Result<(), Fail> {
-    let alloc = rt.alloc();
-    let mut plain = opened(alloc)?;
-    two_paths(alloc)?.is_followed(&rt, &mut plain)?;
-    let mut other = Visit::of(alloc, b"10.0.0.2");
-    other.ask(MOUNT_UMNT, &DATA, &[], &[])?;
-    other.ask(MOUNT_UMNTALL, &[], &[], &[])?;
-    dump_two(&mut other)?;
-    other.is_followed(&rt, &mut plain)
+    let mut plain = opened(rt.alloc())?;
+    follows(&rt, &mut plain, FIRST_HOST, &[MNT_DATA, MNT_DATA_SLASH])?;
+    follows(
+        &rt,
+        &mut plain,
+        SECOND_HOST,
+        &[
+            Mount(MOUNT_UMNT, &DATA, &[]),
+            Mount(MOUNT_UMNTALL, &[], &[]),
+            DUMP_TWO,
+        ],
+    )
 }
 
 #[test]
 fn a_host_unmounts_all_of_its_paths(rt: HostRuntime) -> Result<(), Fail> {
-    let alloc = rt.alloc();
-    let mut plain = opened(alloc)?;
-    let mut other = Visit::of(alloc, b"10.0.0.2");
-    other.ask(MOUNT_MNT, &DATA, &root_of(1), &[])?;
-    other.is_followed(&rt, &mut plain)?;
-    let mut visit = two_paths(alloc)?;
-    visit.ask(MOUNT_UMNTALL, &[], &[], &[])?;
-    let left = [1, 8, 0x31302e30, 0x2e302e32, 5, 0x2f646174, 0x61000000, 0];
-    visit.ask(MOUNT_DUMP, &[], &left, &[])?;
-    visit.is_followed(&rt, &mut plain)
+    const LEFT: [u32; 8] = [1, 8, 0x31302e30, 0x2e302e32, 5, 0x2f646174, 0x61000000, 0];
+    let mut plain = opened(rt.alloc())?;
+    follows(&rt, &mut plain, SECOND_HOST, &[MNT_DATA])?;
+    follows(
+        &rt,
+        &mut plain,
+        FIRST_HOST,
+        &[
+            MNT_DATA,
+            MNT_DATA_SLASH,
+            Mount(MOUNT_UMNTALL, &[], &[]),
+            Mount(MOUNT_DUMP, &[], &LEFT),
+        ],
+    )
 }
 
 /// Groups are named where not every host is admitted; and an export takes the hosts that it names and no other.
 #[test]
 fn exports_are_listed_with_their_hosts(rt: HostRuntime) -> Result<(), Fail> {
-    let mut visit = Visit::of(rt.alloc(), b"10.0.0.1");
-    let first = [1, 2, 0x2f610000, 0];
-    let second = [1, 4, 0x2f612f62, 1, 8, 0x31302e30, 0x2e302e32, 0, 0];
-    visit.ask(MOUNT_EXPORT, &[], &first, &second)?;
-    visit.is_followed(&rt, &mut opened_with_two(rt.alloc())?)
+    const LISTED: [u32; 13] = [
+        1, 2, 0x2f610000, 0, 1, 4, 0x2f612f62, 1, 8, 0x31302e30, 0x2e302e32, 0, 0,
+    ];
+    follows_in_two(&rt, FIRST_HOST, &[Mount(MOUNT_EXPORT, &[], &LISTED)])
 }
 
 #[test]
 fn a_host_mounts_the_deepest_export_that_admits_it(rt: HostRuntime) -> Result<(), Fail> {
-    let alloc = rt.alloc();
-    let mut plain = opened_with_two(alloc)?;
-    let mut second = Visit::of(alloc, b"10.0.0.2");
-    second.ask(MOUNT_MNT, &A_B, &root_of(2), &[])?;
-    second.ask(MOUNT_MNT, &A, &root_of(1), &[])?;
-    second.is_followed(&rt, &mut plain)?;
-    let mut first = Visit::of(alloc, b"10.0.0.1");
-    first.ask(MOUNT_MNT, &A_B, &[MNT3ERR_NOENT], &[])?;
-    first.is_followed(&rt, &mut plain)
+    let mut plain = opened_with_two(rt.alloc())?;
+    follows(
+        &rt,
+        &mut plain,
+        SECOND_HOST,
+        &[
+            Mount(MOUNT_MNT, &A_B, &SECOND_ROOT),
+            Mount(MOUNT_MNT, &A, &FIRST_ROOT),
+        ],
+    )?;
+    follows(
+        &rt,
+        &mut plain,
+        FIRST_HOST,
+        &[Mount(MOUNT_MNT, &A_B, &[MNT3ERR_NOENT])],
+    )
 }
 
 #[test]
 fn a_path_is_listed_as_it_was_sent(rt: HostRuntime) -> Result<(), Fail> {
-    let mut visit = Visit::of(rt.alloc(), b"10.0.0.1");
-    visit.ask(MOUNT_MNT, &A_WITH_SLASHES, &root_of(1), &[])?;
-    let listed = [1, 8, 0x31302e30, 0x2e302e31, 4, 0x2f2f612f, 0];
-    visit.ask(MOUNT_DUMP, &[], &listed, &[])?;
-    visit.is_followed(&rt, &mut opened_with_two(rt.alloc())?)
+    const LISTED: [u32; 7] = [1, 8, 0x31302e30, 0x2e302e31, 4, 0x2f2f612f, 0];
+    follows_in_two(
+        &rt,
+        FIRST_HOST,
+        &[
+            Mount(MOUNT_MNT, &A_WITH_SLASHES, &FIRST_ROOT),
+            Mount(MOUNT_DUMP, &[], &LISTED),
+        ],
+    )
 }
 
-/// The root of the second export before and after a call that is refused: `wcc_data`.
-const SECOND_ROOT: [u32; 29] = [
-    1, 0, 0x1000, 1000, 0, 1000, 0, 1, 2, 0o777, 2, 0, 0, 0, 0x1000, 0, 0x1000, 0, 0, 0, 2, 0, 2,
-    1000, 0, 1000, 0, 1000, 0,
+/// CREATE of `x` in the root of the second export.
+const CREATE_X: [u32; 18] = [
+    32, 0x4e464433, 2, 0, 7, 0, 2, 0, 1, 1, 0x78000000, 1, 0, 0, 0, 0, 0, 0,
+];
+
+/// The root of the second export before and after a call that is refused so: `wcc_data`.
+const SECOND_ROOT_STAYS: [u32; 30] = [
+    NFS3ERR_ROFS,
+    1,
+    0,
+    0x1000,
+    1000,
+    0,
+    1000,
+    0,
+    1,
+    2,
+    0o777,
+    2,
+    0,
+    0,
+    0,
+    0x1000,
+    0,
+    0x1000,
+    0,
+    0,
+    0,
+    2,
+    0,
+    2,
+    1000,
+    0,
+    1000,
+    0,
+    1000,
+    0,
 ];
 
 #[test]
 fn nothing_is_made_in_an_export_that_is_read_only(rt: HostRuntime) -> Result<(), Fail> {
-    let mut visit = Visit::of(rt.alloc(), b"10.0.0.2");
-    visit.create(&[NFS3ERR_ROFS], &SECOND_ROOT)?;
-    visit.is_followed(&rt, &mut opened_with_two(rt.alloc())?)
+    follows_in_two(
+        &rt,
+        SECOND_HOST,
+        &[Nfs(CREATE, &CREATE_X, &SECOND_ROOT_STAYS)],
+    )
 }
 
 #[test]
 fn a_handle_of_an_export_for_other_hosts_is_stale(rt: HostRuntime) -> Result<(), Fail> {
-    let mut visit = Visit::of(rt.alloc(), b"10.0.0.1");
-    visit.create(&[NFS3ERR_STALE], &[0, 0])?;
-    visit.is_followed(&rt, &mut opened_with_two(rt.alloc())?)
+    follows_in_two(
+        &rt,
+        FIRST_HOST,
+        &[Nfs(CREATE, &CREATE_X, &[NFS3ERR_STALE, 0, 0])],
+    )
 }
 
 #[test]
 fn no_directory_is_made_in_an_export_that_is_read_only(rt: HostRuntime) -> Result<(), Fail> {
-    let mut visit = Visit::of(rt.alloc(), b"10.0.0.2");
-    let arguments = [
+    const MKDIR_X: [u32; 17] = [
         32, 0x4e464433, 2, 0, 7, 0, 2, 0, 1, 1, 0x78000000, 0, 0, 0, 0, 0, 0,
     ];
-    visit.change(MKDIR, &arguments, &[NFS3ERR_ROFS], &SECOND_ROOT)?;
-    visit.is_followed(&rt, &mut opened_with_two(rt.alloc())?)
+    follows_in_two(
+        &rt,
+        SECOND_HOST,
+        &[Nfs(MKDIR, &MKDIR_X, &SECOND_ROOT_STAYS)],
+    )
 }
 
-/// The root of the first export before and after a RENAME that is refused so.
-const FIRST_ROOT_STAYS: [u32; 30] = [
+/// The roots of both exports before and after a RENAME that is refused so.
+const BOTH_ROOTS_STAY: [u32; 59] = [
     NFS3ERR_XDEV,
     1,
     0,
@@ -308,6 +401,35 @@ const FIRST_ROOT_STAYS: [u32; 30] = [
     1,
     0,
     1,
+    1000,
+    0,
+    1000,
+    0,
+    1000,
+    0,
+    1,
+    0,
+    0x1000,
+    1000,
+    0,
+    1000,
+    0,
+    1,
+    2,
+    0o777,
+    2,
+    0,
+    0,
+    0,
+    0x1000,
+    0,
+    0x1000,
+    0,
+    0,
+    0,
+    2,
+    0,
+    2,
     1000,
     0,
     1000,
@@ -319,17 +441,19 @@ const FIRST_ROOT_STAYS: [u32; 30] = [
 /// What is no name of the first export is not looked at.
 #[test]
 fn a_name_does_not_move_to_another_export(rt: HostRuntime) -> Result<(), Fail> {
-    let mut visit = Visit::of(rt.alloc(), b"10.0.0.2");
-    let arguments = [
+    const RENAME_X: [u32; 22] = [
         32, 0x4e464433, 1, 0, 7, 0, 1, 0, 1, 1, 0x78000000, 32, 0x4e464433, 2, 0, 7, 0, 2, 0, 1, 1,
         0x78000000,
     ];
-    visit.change(RENAME, &arguments, &FIRST_ROOT_STAYS, &SECOND_ROOT)?;
-    visit.is_followed(&rt, &mut opened_with_two(rt.alloc())?)
+    follows_in_two(
+        &rt,
+        SECOND_HOST,
+        &[Nfs(RENAME, &RENAME_X, &BOTH_ROOTS_STAY)],
+    )
 }
 
-/// The attributes of the first export's root, for a LINK that is refused so.
-const FIRST_ROOT_SHOWN: [u32; 23] = [
+/// The attributes of the first export's root, and the second before and after a LINK that is refused so.
+const FIRST_ROOT_IS_SHOWN: [u32; 52] = [
     NFS3ERR_XDEV,
     1,
     2,
@@ -353,15 +477,46 @@ const FIRST_ROOT_SHOWN: [u32; 23] = [
     0,
     1000,
     0,
+    1,
+    0,
+    0x1000,
+    1000,
+    0,
+    1000,
+    0,
+    1,
+    2,
+    0o777,
+    2,
+    0,
+    0,
+    0,
+    0x1000,
+    0,
+    0x1000,
+    0,
+    0,
+    0,
+    2,
+    0,
+    2,
+    1000,
+    0,
+    1000,
+    0,
+    1000,
+    0,
 ];
 
 /// That two exports are told apart comes before the kind of what is linked, here a directory.
 #[test]
 fn nothing_is_linked_into_another_export(rt: HostRuntime) -> Result<(), Fail> {
-    let mut visit = Visit::of(rt.alloc(), b"10.0.0.2");
-    let arguments = [
+    const LINK_X: [u32; 20] = [
         32, 0x4e464433, 1, 0, 7, 0, 1, 0, 1, 32, 0x4e464433, 2, 0, 7, 0, 2, 0, 1, 1, 0x78000000,
     ];
-    visit.change(LINK, &arguments, &FIRST_ROOT_SHOWN, &SECOND_ROOT)?;
-    visit.is_followed(&rt, &mut opened_with_two(rt.alloc())?)
+    follows_in_two(
+        &rt,
+        SECOND_HOST,
+        &[Nfs(LINK, &LINK_X, &FIRST_ROOT_IS_SHOWN)],
+    )
 }

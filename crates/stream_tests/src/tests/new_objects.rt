@@ -1,58 +1,75 @@
 //! MKDIR, SYMLINK and MKNOD (RFC 1813, 3.3.9 to 3.3.11).
 
+use super::exchanges::Effect::*;
+use super::exchanges::Exchange::*;
+use super::exchanges::Object::*;
+use super::exchanges::*;
 use super::scripts::*;
 use super::shown::*;
 use super::*;
 
 /// `.` and `..` of the directories that were made.
-fn dots_lead_up(script: &mut Script) -> Result<(), AllocError> {
-    let upper = directory(3, 3, 1);
-    let lower = directory(4, 2, 0);
-    script.finds(upper, &DOT, upper)?;
-    script.finds(upper, &DOTS, root(3, 2))?;
-    script.finds(upper, &Q, lower)?;
-    script.finds(lower, &DOTS, upper)
-}
-
 #[test]
 fn directories_are_made(rt: HostRuntime) -> Result<(), Fail> {
-    let mut script = Script::on_tree(rt.alloc())?;
-    dots_lead_up(&mut script)?;
-    script.is_followed(&rt)
+    const UPPER: Object = Directory(3, 3, 1);
+    const LOWER: Object = Directory(4, 2, 0);
+    follows(
+        &rt,
+        &[
+            OnTree,
+            Finds(&UPPER, &DOT, &UPPER),
+            Finds(&UPPER, &DOTS, &Root(3, 2)),
+            Finds(&UPPER, &Q, &LOWER),
+            Finds(&LOWER, &DOTS, &UPPER),
+        ],
+    )
 }
 
 /// Mode 017750, of which 12 bits are kept, user 8, group 9, and 2^32 bytes, which are for files alone.
 #[test]
 fn a_directory_is_given_attributes(rt: HostRuntime) -> Result<(), Fail> {
-    let how = [1, 0o17750, 1, 8, 1, 9, 1, 1, 0, 0, 0];
-    let made = Shown {
+    const HOW: [u32; 11] = [1, 0o17750, 1, 8, 1, 9, 1, 1, 0, 0, 0];
+    const DIRECTORY: Shown = Shown {
+        kind: NF3DIR,
         mode: 0o7750,
+        links: 2,
         uid: 8,
         gid: 9,
-        ..directory(2, 2, 0)
+        size: 0x1000,
+        used: 0x1000,
+        ..NEW
     };
-    let mut script = Script::new(rt.alloc());
-    script.makes(MKDIR, root(2, 0).to(root(3, 1)), &P, &how, made)?;
-    script.finds(root(3, 1), &P, made)?;
-    script.is_followed(&rt)
+    follows(
+        &rt,
+        &[
+            Makes(
+                MKDIR,
+                &Becomes(Root(2, 0), Root(3, 1)),
+                &P,
+                &HOW,
+                &Told(DIRECTORY),
+            ),
+            Finds(&Root(3, 1), &P, &Told(DIRECTORY)),
+        ],
+    )
 }
 
 /// A name that is there is not made again, whatever is asked for.
-fn names_are_there(script: &mut Script) -> Result<(), AllocError> {
-    let top = root(3, 2);
-    script.refuses(MKDIR, top, &X, &AS_USUAL, NFS3ERR_EXIST)?;
-    script.refuses(MKDIR, top, &P, &AS_USUAL, NFS3ERR_EXIST)?;
-    script.refuses(SYMLINK, top, &X, &[0, 0, 0, 0, 0, 0, 0], NFS3ERR_EXIST)?;
-    script.refuses(MKNOD, top, &P, &A_FIFO, NFS3ERR_EXIST)?;
-    script.refuses(CREATE, top, &P, &UNCHECKED, NFS3ERR_EXIST)?;
-    script.refuses(CREATE, top, &P, &[2, 0, 1], NFS3ERR_EXIST)
-}
-
 #[test]
 fn what_is_there_is_not_made(rt: HostRuntime) -> Result<(), Fail> {
-    let mut script = Script::on_tree(rt.alloc())?;
-    names_are_there(&mut script)?;
-    script.is_followed(&rt)
+    const TOP: Object = Root(3, 2);
+    follows(
+        &rt,
+        &[
+            OnTree,
+            Refuses(MKDIR, &TOP, &X, &AS_USUAL, NFS3ERR_EXIST),
+            Refuses(MKDIR, &TOP, &P, &AS_USUAL, NFS3ERR_EXIST),
+            Refuses(SYMLINK, &TOP, &X, &[0, 0, 0, 0, 0, 0, 0], NFS3ERR_EXIST),
+            Refuses(MKNOD, &TOP, &P, &A_FIFO, NFS3ERR_EXIST),
+            Refuses(CREATE, &TOP, &P, &UNCHECKED, NFS3ERR_EXIST),
+            Refuses(CREATE, &TOP, &P, &[2, 0, 1], NFS3ERR_EXIST),
+        ],
+    )
 }
 
 /// A new link of user 0 with a text of so many bytes.
@@ -105,91 +122,119 @@ const A_TERMINAL: [u32; 9] = [NF3CHR, 0, 0, 0, 0, 0, 0, 0xffffffff, 5];
 
 const A_SOCKET: [u32; 7] = [NF3SOCK, 0, 0, 0, 0, 0, 0];
 
-/// A new device, socket or FIFO.
-fn special(kind: u32, nth: u32) -> Shown {
-    Shown {
-        kind,
-        ..new_file(nth)
-    }
-}
-
 /// Two devices with their numbers, a socket and a FIFO.
-fn special_objects_are_made(script: &mut Script) -> Result<(), AllocError> {
-    let block = Shown {
-        major: 8,
-        minor: 1,
-        ..special(NF3BLK, 2)
-    };
-    let character = Shown {
-        major: 0xffffffff,
-        minor: 5,
-        ..special(NF3CHR, 3)
-    };
-    let socket = special(NF3SOCK, 4);
-    let fifo = special(NF3FIFO, 5);
-    script.makes(MKNOD, root(2, 0).to(root(2, 1)), &X, &A_DISK, block)?;
-    script.makes(MKNOD, root(2, 1).to(root(2, 2)), &Y, &A_TERMINAL, character)?;
-    script.makes(MKNOD, root(2, 2).to(root(2, 3)), &P, &A_SOCKET, socket)?;
-    script.makes(MKNOD, root(2, 3).to(root(2, 4)), &Q, &A_FIFO, fifo)?;
-    script.finds(root(2, 4), &X, block)
-}
-
 #[test]
 fn special_objects_have_types(rt: HostRuntime) -> Result<(), Fail> {
-    let mut script = Script::new(rt.alloc());
-    special_objects_are_made(&mut script)?;
-    script.is_followed(&rt)
+    const BLOCK: Shown = Shown {
+        kind: NF3BLK,
+        major: 8,
+        minor: 1,
+        ..NEW
+    };
+    const CHARACTER: Shown = Shown {
+        kind: NF3CHR,
+        major: 0xffffffff,
+        minor: 5,
+        number: 33,
+        generation: 3,
+        ..NEW
+    };
+    const SOCKET: Shown = Shown {
+        kind: NF3SOCK,
+        number: 49,
+        generation: 4,
+        ..NEW
+    };
+    const FIFO: Shown = Shown {
+        kind: NF3FIFO,
+        number: 65,
+        generation: 5,
+        ..NEW
+    };
+    follows(
+        &rt,
+        &[
+            Makes(
+                MKNOD,
+                &Becomes(Root(2, 0), Root(2, 1)),
+                &X,
+                &A_DISK,
+                &Told(BLOCK),
+            ),
+            Makes(
+                MKNOD,
+                &Becomes(Root(2, 1), Root(2, 2)),
+                &Y,
+                &A_TERMINAL,
+                &Told(CHARACTER),
+            ),
+            Makes(
+                MKNOD,
+                &Becomes(Root(2, 2), Root(2, 3)),
+                &P,
+                &A_SOCKET,
+                &Told(SOCKET),
+            ),
+            Makes(
+                MKNOD,
+                &Becomes(Root(2, 3), Root(2, 4)),
+                &Q,
+                &A_FIFO,
+                &Told(FIFO),
+            ),
+            Finds(&Root(2, 4), &X, &Told(BLOCK)),
+        ],
+    )
 }
 
 /// User 1 makes no device, but a FIFO. A file, a directory and a link are no special objects.
-fn some_are_not_made(script: &mut Script) -> Result<(), AllocError> {
-    let fifo = Shown {
-        uid: 1,
-        gid: 1,
-        ..special(NF3FIFO, 2)
-    };
-    let start = root(2, 0);
-    script.refuses(MKNOD, start, &X, &A_DISK, NFS3ERR_PERM)?;
-    script.refuses(MKNOD, start, &X, &A_TERMINAL, NFS3ERR_PERM)?;
-    script.refuses(MKNOD, start, &X, &[NF3REG], NFS3ERR_BADTYPE)?;
-    script.refuses(MKNOD, start, &X, &[NF3DIR], NFS3ERR_BADTYPE)?;
-    script.refuses(MKNOD, start, &X, &[NF3LNK], NFS3ERR_BADTYPE)?;
-    script.makes(MKNOD, start.to(root(2, 1)), &X, &A_FIFO, fifo)?;
-    script.refuses(MKNOD, root(2, 1), &X, &[NF3REG], NFS3ERR_BADTYPE)
-}
-
 #[test]
 fn some_types_are_not_made(rt: HostRuntime) -> Result<(), Fail> {
-    let mut script = Script::new(rt.alloc());
-    script.caller = user(1, 1);
-    some_are_not_made(&mut script)?;
-    script.is_followed(&rt)
+    const FIFO: Shown = Shown {
+        kind: NF3FIFO,
+        uid: 1,
+        gid: 1,
+        ..NEW
+    };
+    const START: Object = Root(2, 0);
+    follows(
+        &rt,
+        &[
+            By(1, 1),
+            Refuses(MKNOD, &START, &X, &A_DISK, NFS3ERR_PERM),
+            Refuses(MKNOD, &START, &X, &A_TERMINAL, NFS3ERR_PERM),
+            Refuses(MKNOD, &START, &X, &[NF3REG], NFS3ERR_BADTYPE),
+            Refuses(MKNOD, &START, &X, &[NF3DIR], NFS3ERR_BADTYPE),
+            Refuses(MKNOD, &START, &X, &[NF3LNK], NFS3ERR_BADTYPE),
+            Makes(MKNOD, &Becomes(START, Root(2, 1)), &X, &A_FIFO, &Told(FIFO)),
+            Refuses(MKNOD, &Root(2, 1), &X, &[NF3REG], NFS3ERR_BADTYPE),
+        ],
+    )
 }
 
 /// User 100 gives nothing to user 101, nor to a group that it is not in. That is told last: nanoseconds of a second or
 /// more come first, and then a size above the greatest.
-fn some_attributes_are_refused(script: &mut Script) -> Result<(), AllocError> {
-    let start = root(2, 0);
-    let given = [0, 1, 101, 0, 0, 0, 0];
-    let link_given = [0, 0, 1, 201, 0, 0, 0, 1, 0x78000000];
-    let fifo_given = [NF3FIFO, 0, 1, 101, 0, 0, 0, 0];
-    let at_no_time = [0, 1, 101, 0, 0, 0, 2, 5, 1_000_000_000];
-    let link_at_no_time = [0, 0, 1, 201, 0, 2, 5, 1_000_000_000, 0, 1, 0x78000000];
-    let large_at_no_time = [1, 0, 1, 101, 0, 1, 0, 1_048_577, 2, 5, 1_000_000_000, 0];
-    let large = [1, 0, 1, 101, 0, 1, 0, 1_048_577, 0, 0];
-    script.refuses(MKDIR, start, &X, &given, NFS3ERR_PERM)?;
-    script.refuses(SYMLINK, start, &X, &link_given, NFS3ERR_PERM)?;
-    script.refuses(MKNOD, start, &X, &fifo_given, NFS3ERR_PERM)?;
-    script.refuses(MKDIR, start, &X, &at_no_time, NFS3ERR_INVAL)?;
-    script.refuses(SYMLINK, start, &X, &link_at_no_time, NFS3ERR_INVAL)?;
-    script.refuses(CREATE, start, &X, &large_at_no_time, NFS3ERR_INVAL)?;
-    script.refuses(CREATE, start, &X, &large, NFS3ERR_FBIG)
-}
-
 #[test]
 fn attributes_are_refused(rt: HostRuntime) -> Result<(), Fail> {
-    let mut script = Script::new(rt.alloc());
-    script.caller = user(100, 200);
-    some_attributes_are_refused(&mut script)?;
-    script.is_followed(&rt)
+    const START: Object = Root(2, 0);
+    const GIVEN: [u32; 7] = [0, 1, 101, 0, 0, 0, 0];
+    const LINK_GIVEN: [u32; 9] = [0, 0, 1, 201, 0, 0, 0, 1, 0x78000000];
+    const FIFO_GIVEN: [u32; 8] = [NF3FIFO, 0, 1, 101, 0, 0, 0, 0];
+    const AT_NO_TIME: [u32; 9] = [0, 1, 101, 0, 0, 0, 2, 5, 1_000_000_000];
+    const LINK_AT_NO_TIME: [u32; 11] = [0, 0, 1, 201, 0, 2, 5, 1_000_000_000, 0, 1, 0x78000000];
+    const LARGE_AT_NO_TIME: [u32; 12] = [1, 0, 1, 101, 0, 1, 0, 1_048_577, 2, 5, 1_000_000_000, 0];
+    const LARGE: [u32; 10] = [1, 0, 1, 101, 0, 1, 0, 1_048_577, 0, 0];
+    follows(
+        &rt,
+        &[
+            By(100, 200),
+            Refuses(MKDIR, &START, &X, &GIVEN, NFS3ERR_PERM),
+            Refuses(SYMLINK, &START, &X, &LINK_GIVEN, NFS3ERR_PERM),
+            Refuses(MKNOD, &START, &X, &FIFO_GIVEN, NFS3ERR_PERM),
+            Refuses(MKDIR, &START, &X, &AT_NO_TIME, NFS3ERR_INVAL),
+            Refuses(SYMLINK, &START, &X, &LINK_AT_NO_TIME, NFS3ERR_INVAL),
+            Refuses(CREATE, &START, &X, &LARGE_AT_NO_TIME, NFS3ERR_INVAL),
+            Refuses(CREATE, &START, &X, &LARGE, NFS3ERR_FBIG),
+        ],
+    )
 }

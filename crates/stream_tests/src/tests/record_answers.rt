@@ -70,17 +70,15 @@ fn a_mount(rt: HostRuntime) -> Result<(), Fail> {
 
 #[test]
 fn a_mount_with_a_new_xid(rt: HostRuntime) -> Result<(), Fail> {
-    let alloc = rt.alloc();
-    let mut again = MNT;
-    again[1] = 6;
-    let mut reply = MNT_REPLY;
-    reply[1] = 6;
-    let (written, _) = answers(alloc, &both(alloc, &MNT, &again)?)?;
-    assert_eq!(rt;
-        written.as_slice(),
-        both(alloc, &MNT_REPLY, &reply)?.as_slice()
-    );
-    Ok(())
+    let calls = [
+        0x80000034, 2, 0, 2, 100005, 3, 1, 0, 0, 0, 0, 5, 0x2f646174, 0x61000000, 0x80000034, 6, 0,
+        2, 100005, 3, 1, 0, 0, 0, 0, 5, 0x2f646174, 0x61000000,
+    ];
+    let replies = [
+        0x80000048, 2, 1, 0, 0, 0, 0, 0, 32, 0x4e464433, 1, 0, 7, 0, 1, 0, 1, 1, 1, 0x80000048, 6,
+        1, 0, 0, 0, 0, 0, 32, 0x4e464433, 1, 0, 7, 0, 1, 0, 1, 1, 1,
+    ];
+    answers_by(&rt, &calls, &replies)
 }
 
 #[test]
@@ -138,21 +136,15 @@ fn a_handle_of_65_bytes(rt: HostRuntime) -> Result<(), Fail> {
 
 #[test]
 fn a_reply_is_dropped(rt: HostRuntime) -> Result<(), Fail> {
-    let alloc = rt.alloc();
-    let (written, _) = answers(alloc, &both(alloc, &NULL_REPLY, &NULL)?)?;
-    assert_eq!(rt; written.as_slice(), spelled(alloc, &NULL_REPLY)?.as_slice());
-    Ok(())
+    let records = [
+        0x80000018, 1, 1, 0, 0, 0, 0, 0x80000028, 1, 0, 2, 100003, 3, 0, 0, 0, 0, 0,
+    ];
+    answers_by(&rt, &records, &NULL_REPLY)
 }
 
 #[test]
 fn two_records_in_one_piece(rt: HostRuntime) -> Result<(), Fail> {
-    let alloc = rt.alloc();
-    let (written, _) = answers(alloc, &both(alloc, &NULL, &OTHER_NULL)?)?;
-    assert_eq!(rt;
-        written.as_slice(),
-        both(alloc, &NULL_REPLY, &OTHER_NULL_REPLY)?.as_slice()
-    );
-    Ok(())
+    answers_by(&rt, &BOTH_NULLS, &BOTH_REPLIES)
 }
 
 /// A new server has written so many bytes each time when it sends on what it wrote.
@@ -177,7 +169,7 @@ fn sends_on<R: Read + Drop>(
 /// Two calls in one piece.
 #[test]
 fn answers_of_one_piece_leave_together(rt: HostRuntime) -> Result<(), Fail> {
-    let input = both(rt.alloc(), &NULL, &OTHER_NULL)?;
+    let input = spelled(rt.alloc(), &BOTH_NULLS)?;
     sends_on(&rt, input.as_slice(), &[56])
 }
 

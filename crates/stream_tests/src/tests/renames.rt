@@ -1,133 +1,163 @@
 //! RENAME (RFC 1813, 3.3.14).
 
+use super::exchanges::Effect::*;
+use super::exchanges::Exchange::*;
+use super::exchanges::Object::*;
+use super::exchanges::*;
 use super::scripts::*;
 use super::shown::*;
 use super::*;
 
-/// An object whose content stays, as it is after it got a name, lost one or moved at this nanosecond.
-fn moved(object: Shown, links: u32, changed: u32) -> Shown {
-    Shown {
-        links,
-        changed,
-        ..object
-    }
-}
+/// `q` as it is after it moved, of which nothing changed but its time; and so a new directory `y`, the fifth object.
+const MOVED_Q: Shown = Shown {
+    kind: NF3DIR,
+    mode: 0o755,
+    links: 2,
+    size: 0x1000,
+    used: 0x1000,
+    number: 49,
+    generation: 4,
+    changed: 1,
+    ..NEW
+};
+
+const MOVED_Y: Shown = Shown {
+    number: 65,
+    generation: 5,
+    ..MOVED_Q
+};
 
 /// `x` becomes `y`, and is the same file.
-fn a_name_changes(script: &mut Script) -> Result<(), AllocError> {
-    let root_once = root(2, 1).to(root(2, 2));
-    script.renames(root_once, &X, root_once, &Y, NFS3_OK)?;
-    script.misses(root(2, 2), &X)?;
-    script.finds(root(2, 2), &Y, moved(NEW, 1, 1))
-}
-
 #[test]
 fn a_file_gets_another_name(rt: HostRuntime) -> Result<(), Fail> {
-    let mut script = Script::on_new(rt.alloc())?;
-    a_name_changes(&mut script)?;
-    script.is_followed(&rt)
+    const ROOT_ONCE: Effect = Becomes(Root(2, 1), Root(2, 2));
+    follows(
+        &rt,
+        &[
+            OnNew,
+            Renames(&ROOT_ONCE, &X, &ROOT_ONCE, &Y, NFS3_OK),
+            Misses(&Root(2, 2), &X),
+            Finds(&Root(2, 2), &Y, &File(2, 1, 1)),
+        ],
+    )
 }
 
 /// From `x` to `y` where both are names of one file, and to `x` itself.
-fn nothing_moves(script: &mut Script) -> Result<(), AllocError> {
-    let linked = moved(NEW, 2, 1);
-    let same = root(2, 2).stays();
-    script.links(linked, root(2, 1).to(root(2, 2)), &Y, NFS3_OK)?;
-    script.renames(same, &X, same, &Y, NFS3_OK)?;
-    script.renames(same, &X, same, &X, NFS3_OK)?;
-    script.finds(root(2, 2), &X, linked)?;
-    script.finds(root(2, 2), &Y, linked)
-}
-
 #[test]
 fn two_names_of_one_file_stay(rt: HostRuntime) -> Result<(), Fail> {
-    let mut script = Script::on_new(rt.alloc())?;
-    nothing_moves(&mut script)?;
-    script.is_followed(&rt)
+    const LINKED: Object = File(2, 2, 1);
+    const SAME: Effect = Stays(Root(2, 2));
+    follows(
+        &rt,
+        &[
+            OnNew,
+            Links(&LINKED, &Becomes(Root(2, 1), Root(2, 2)), &Y, NFS3_OK),
+            Renames(&SAME, &X, &SAME, &Y, NFS3_OK),
+            Renames(&SAME, &X, &SAME, &X, NFS3_OK),
+            Finds(&Root(2, 2), &X, &LINKED),
+            Finds(&Root(2, 2), &Y, &LINKED),
+        ],
+    )
 }
 
 /// `y` and `q` are names of another file. `x` takes the place of `y`, and then of `q`: the other file goes with its
 /// last name.
-fn names_are_replaced(script: &mut Script) -> Result<(), AllocError> {
-    let other = new_file(3);
-    script.makes(CREATE, root(2, 1).to(root(2, 2)), &Y, &GUARDED, other)?;
-    script.links(moved(other, 2, 1), root(2, 2).to(root(2, 3)), &Q, NFS3_OK)?;
-    let first = root(2, 3).to(root(2, 4));
-    script.renames(first, &X, first, &Y, NFS3_OK)?;
-    script.finds(root(2, 4), &Y, moved(NEW, 1, 1))?;
-    script.finds(root(2, 4), &Q, moved(other, 1, 2))?;
-    let second = root(2, 4).to(root(2, 5));
-    script.renames(second, &Y, second, &Q, NFS3_OK)?;
-    script.finds(root(2, 5), &Q, moved(NEW, 1, 2))?;
-    script.names_nothing(&other.handle(), NFS3ERR_STALE)
-}
-
 #[test]
 fn a_file_is_replaced(rt: HostRuntime) -> Result<(), Fail> {
-    let mut script = Script::on_new(rt.alloc())?;
-    names_are_replaced(&mut script)?;
-    script.is_followed(&rt)
+    const OTHER: Object = File(3, 1, 0);
+    const FIRST: Effect = Becomes(Root(2, 3), Root(2, 4));
+    const SECOND: Effect = Becomes(Root(2, 4), Root(2, 5));
+    follows(
+        &rt,
+        &[
+            OnNew,
+            Makes(
+                CREATE,
+                &Becomes(Root(2, 1), Root(2, 2)),
+                &Y,
+                &GUARDED,
+                &OTHER,
+            ),
+            Links(
+                &File(3, 2, 1),
+                &Becomes(Root(2, 2), Root(2, 3)),
+                &Q,
+                NFS3_OK,
+            ),
+            Renames(&FIRST, &X, &FIRST, &Y, NFS3_OK),
+            Finds(&Root(2, 4), &Y, &File(2, 1, 1)),
+            Finds(&Root(2, 4), &Q, &File(3, 1, 2)),
+            Renames(&SECOND, &Y, &SECOND, &Q, NFS3_OK),
+            Finds(&Root(2, 5), &Q, &File(2, 1, 2)),
+            Gone(&OTHER),
+        ],
+    )
 }
 
 /// `p/q` moves to the root, and takes the link of its `..` with it; `x` moves to `p/y`.
-fn some_move(script: &mut Script) -> Result<(), AllocError> {
-    let lower = moved(directory(4, 2, 0), 2, 1);
-    let upper = directory(3, 3, 1).to(directory(3, 2, 2));
-    script.renames(upper, &Q, root(3, 2).to(root(4, 3)), &Q, NFS3_OK)?;
-    script.misses(directory(3, 2, 2), &Q)?;
-    script.finds(root(4, 3), &Q, lower)?;
-    script.finds(lower, &DOTS, root(4, 3))?;
-    let upper = directory(3, 2, 2).to(directory(3, 2, 3));
-    script.renames(root(4, 3).to(root(4, 4)), &X, upper, &Y, NFS3_OK)?;
-    script.misses(root(4, 4), &X)?;
-    script.finds(directory(3, 2, 3), &Y, moved(NEW, 1, 1))
-}
-
 #[test]
 fn what_moves_gets_another_parent(rt: HostRuntime) -> Result<(), Fail> {
-    let mut script = Script::on_tree(rt.alloc())?;
-    some_move(&mut script)?;
-    script.is_followed(&rt)
+    const LOWER: Object = Told(MOVED_Q);
+    const LOSES: Effect = Becomes(Directory(3, 3, 1), Directory(3, 2, 2));
+    const GETS: Effect = Becomes(Directory(3, 2, 2), Directory(3, 2, 3));
+    follows(
+        &rt,
+        &[
+            OnTree,
+            Renames(&LOSES, &Q, &Becomes(Root(3, 2), Root(4, 3)), &Q, NFS3_OK),
+            Misses(&Directory(3, 2, 2), &Q),
+            Finds(&Root(4, 3), &Q, &LOWER),
+            Finds(&LOWER, &DOTS, &Root(4, 3)),
+            Renames(&Becomes(Root(4, 3), Root(4, 4)), &X, &GETS, &Y, NFS3_OK),
+            Misses(&Root(4, 4), &X),
+            Finds(&Directory(3, 2, 3), &Y, &File(2, 1, 1)),
+        ],
+    )
 }
 
 /// The new and empty directory `y` takes the place of no directory with an entry and of no file, but of `p/q`, which is
 /// empty. A file takes no directory's place.
-fn directories_are_replaced(script: &mut Script) -> Result<(), AllocError> {
-    let new = directory(5, 2, 0);
-    script.makes(MKDIR, root(3, 2).to(root(4, 3)), &Y, &AS_USUAL, new)?;
-    let top = root(4, 3).stays();
-    script.renames(top, &Y, top, &P, NFS3ERR_EXIST)?;
-    script.renames(top, &Y, top, &X, NFS3ERR_EXIST)?;
-    script.renames(top, &X, top, &Y, NFS3ERR_EXIST)?;
-    let upper = directory(3, 3, 1).to(directory(3, 3, 2));
-    script.renames(root(4, 3).to(root(3, 4)), &Y, upper, &Q, NFS3_OK)?;
-    script.finds(directory(3, 3, 2), &Q, moved(new, 2, 1))?;
-    script.finds(moved(new, 2, 1), &DOTS, directory(3, 3, 2))?;
-    script.names_nothing(&directory(4, 2, 0).handle(), NFS3ERR_STALE)
-}
-
 #[test]
 fn an_empty_directory_is_replaced(rt: HostRuntime) -> Result<(), Fail> {
-    let mut script = Script::on_tree(rt.alloc())?;
-    directories_are_replaced(&mut script)?;
-    script.is_followed(&rt)
+    const TOP: Effect = Stays(Root(4, 3));
+    const UPPER: Effect = Becomes(Directory(3, 3, 1), Directory(3, 3, 2));
+    follows(
+        &rt,
+        &[
+            OnTree,
+            Makes(
+                MKDIR,
+                &Becomes(Root(3, 2), Root(4, 3)),
+                &Y,
+                &AS_USUAL,
+                &Directory(5, 2, 0),
+            ),
+            Renames(&TOP, &Y, &TOP, &P, NFS3ERR_EXIST),
+            Renames(&TOP, &Y, &TOP, &X, NFS3ERR_EXIST),
+            Renames(&TOP, &X, &TOP, &Y, NFS3ERR_EXIST),
+            Renames(&Becomes(Root(4, 3), Root(3, 4)), &Y, &UPPER, &Q, NFS3_OK),
+            Finds(&Directory(3, 3, 2), &Q, &Told(MOVED_Y)),
+            Finds(&Told(MOVED_Y), &DOTS, &Directory(3, 3, 2)),
+            Gone(&Directory(4, 2, 0)),
+        ],
+    )
 }
 
 /// `p` goes neither into itself, also not in the place of `q`, nor into `q` below it. A missing name moves nowhere.
-fn nothing_goes_below_itself(script: &mut Script) -> Result<(), AllocError> {
-    let top = root(3, 2).stays();
-    let upper = directory(3, 3, 1).stays();
-    let lower = directory(4, 2, 0).stays();
-    script.renames(top, &P, upper, &Y, NFS3ERR_INVAL)?;
-    script.renames(top, &P, upper, &Q, NFS3ERR_INVAL)?;
-    script.renames(top, &P, lower, &Y, NFS3ERR_INVAL)?;
-    script.renames(upper, &Q, lower, &Y, NFS3ERR_INVAL)?;
-    script.renames(upper, &Y, lower, &Y, NFS3ERR_NOENT)
-}
-
 #[test]
 fn a_directory_does_not_go_below_itself(rt: HostRuntime) -> Result<(), Fail> {
-    let mut script = Script::on_tree(rt.alloc())?;
-    nothing_goes_below_itself(&mut script)?;
-    script.is_followed(&rt)
+    const TOP: Effect = Stays(Root(3, 2));
+    const UPPER: Effect = Stays(Directory(3, 3, 1));
+    const LOWER: Effect = Stays(Directory(4, 2, 0));
+    follows(
+        &rt,
+        &[
+            OnTree,
+            Renames(&TOP, &P, &UPPER, &Y, NFS3ERR_INVAL),
+            Renames(&TOP, &P, &UPPER, &Q, NFS3ERR_INVAL),
+            Renames(&TOP, &P, &LOWER, &Y, NFS3ERR_INVAL),
+            Renames(&UPPER, &Q, &LOWER, &Y, NFS3ERR_INVAL),
+            Renames(&UPPER, &Y, &LOWER, &Y, NFS3ERR_NOENT),
+        ],
+    )
 }

@@ -7,7 +7,11 @@ use super::*;
 /// GETATTR.
 pub(super) const ATTRIBUTES: u32 = 1;
 
+pub(super) const SETATTR: u32 = 2;
+
 pub(super) const LOOKUP: u32 = 3;
+
+pub(super) const ACCESS: u32 = 4;
 
 pub(super) const READ: u32 = 6;
 
@@ -28,6 +32,8 @@ pub(super) const RMDIR: u32 = 13;
 pub(super) const RENAME: u32 = 14;
 
 pub(super) const LINK: u32 = 15;
+
+pub(super) const COMMIT: u32 = 21;
 
 pub(super) const NFS3_OK: u32 = 0;
 
@@ -109,11 +115,17 @@ pub(super) const A_FIFO: [u32; 7] = [NF3FIFO, 0, 0, 0, 0, 0, 0];
 pub(super) const TO_X: [u32; 8] = [0, 0, 0, 0, 0, 0, 1, 0x78000000];
 
 /// A name of 256 bytes, with its length.
-pub(super) fn long_name() -> [u32; 65] {
-    let mut name = [0x61616161; 65];
-    name[0] = 256;
-    name
-}
+pub(super) const LONG_NAME: [u32; 65] = [
+    256, 0x61616161, 0x61616161, 0x61616161, 0x61616161, 0x61616161, 0x61616161, 0x61616161,
+    0x61616161, 0x61616161, 0x61616161, 0x61616161, 0x61616161, 0x61616161, 0x61616161, 0x61616161,
+    0x61616161, 0x61616161, 0x61616161, 0x61616161, 0x61616161, 0x61616161, 0x61616161, 0x61616161,
+    0x61616161, 0x61616161, 0x61616161, 0x61616161, 0x61616161, 0x61616161, 0x61616161, 0x61616161,
+    0x61616161, 0x61616161, 0x61616161, 0x61616161, 0x61616161, 0x61616161, 0x61616161, 0x61616161,
+    0x61616161, 0x61616161, 0x61616161, 0x61616161, 0x61616161, 0x61616161, 0x61616161, 0x61616161,
+    0x61616161, 0x61616161, 0x61616161, 0x61616161, 0x61616161, 0x61616161, 0x61616161, 0x61616161,
+    0x61616161, 0x61616161, 0x61616161, 0x61616161, 0x61616161, 0x61616161, 0x61616161, 0x61616161,
+    0x61616161,
+];
 
 /// AUTH_SYS of user 0 and group 0.
 pub(super) const USER_0: [u32; 7] = [1, 20, 0, 0, 0, 0, 0];
@@ -152,33 +164,68 @@ impl Script {
     /// The file `x` is made for user 0.
     pub(super) fn on_new(alloc: Global) -> Result<Script, AllocError> {
         let mut script = Script::new(alloc);
-        script.call(CREATE, &ROOT, &X, &GUARDED)?;
-        script.answer(&MADE, &NEW.after(), &root_before(0), &root_after(1))?;
+        script.makes_new()?;
         Ok(script)
+    }
+
+    /// User 100 of group 200 makes the file `x` of this mode.
+    pub(super) fn on_mode(alloc: Global, mode: u32) -> Result<Script, AllocError> {
+        let mut script = Script::new(alloc);
+        script.makes_of_mode(mode)?;
+        Ok(script)
+    }
+
+    /// The file `x` is made for user 0.
+    pub(super) fn makes_new(&mut self) -> Result<(), AllocError> {
+        self.call(CREATE, &ROOT, &X, &GUARDED)?;
+        self.answer(&MADE, &NEW.after(), &root_before(0), &root_after(1))
     }
 
     /// The file `x` is made for user 0, and `hello` is written to it.
-    pub(super) fn on_hello(alloc: Global) -> Result<Script, AllocError> {
-        let mut script = Script::on_new(alloc)?;
+    pub(super) fn makes_hello(&mut self) -> Result<(), AllocError> {
         let data = [5, 0x68656c6c, 0x6f000000];
-        script.call(WRITE, &FILE, &[0, 0, 5, 2], &data)?;
-        script.answer(&[NFS3_OK], &NEW.before(), &HELLO.after(), &[5, 2, 0, 7])?;
-        Ok(script)
+        self.makes_new()?;
+        self.call(WRITE, &FILE, &[0, 0, 5, 2], &data)?;
+        self.answer(&[NFS3_OK], &NEW.before(), &HELLO.after(), &[5, 2, 0, 7])
     }
 
     /// User 0 made the file `x` (2), and the directory `p` (3) with the directory `q` (4) in it.
-    pub(super) fn on_tree(alloc: Global) -> Result<Script, AllocError> {
-        let mut script = Script::on_new(alloc)?;
-        script.makes(
-            MKDIR,
-            root(2, 1).to(root(3, 2)),
-            &P,
-            &AS_USUAL,
-            directory(3, 2, 0),
-        )?;
-        let upper = directory(3, 2, 0).to(directory(3, 3, 1));
-        script.makes(MKDIR, upper, &Q, &AS_USUAL, directory(4, 2, 0))?;
-        Ok(script)
+    pub(super) fn makes_tree(&mut self) -> Result<(), AllocError> {
+        let first = root(2, 1).to(root(3, 2));
+        let second = directory(3, 2, 0).to(directory(3, 3, 1));
+        self.makes_new()?;
+        self.makes(MKDIR, first, &P, &AS_USUAL, directory(3, 2, 0))?;
+        self.makes(MKDIR, second, &Q, &AS_USUAL, directory(4, 2, 0))
+    }
+
+    /// User 0 made the directory `p` (2), and the files `a` to `e` (3 to 7) in it.
+    pub(super) fn makes_names(&mut self) -> Result<(), AllocError> {
+        let change = root(2, 0).to(root(3, 1));
+        self.makes(MKDIR, change, &P, &AS_USUAL, directory(2, 2, 0))?;
+        self.makes_name(0, 0x61000000)?;
+        self.makes_name(1, 0x62000000)?;
+        self.makes_name(2, 0x63000000)?;
+        self.makes_name(3, 0x64000000)?;
+        self.makes_name(4, 0x65000000)
+    }
+
+    /// A file is made in the directory `p` (2) under a name of one byte, behind so many files.
+    fn makes_name(&mut self, behind: u32, name: u32) -> Result<(), AllocError> {
+        let change = directory(2, 2, behind).to(directory(2, 2, behind.wrapping_add(1)));
+        let new = new_file(behind.wrapping_add(3));
+        self.makes(CREATE, change, &[1, name], &GUARDED, new)
+    }
+
+    /// User 100 of group 200 makes the file `x` of this mode.
+    pub(super) fn makes_of_mode(&mut self, mode: u32) -> Result<(), AllocError> {
+        let how = [1, 1, mode, 0, 0, 0, 0, 0];
+        self.call_by(&user(100, 200), CREATE, &ROOT, &X, &how)?;
+        self.answer(
+            &MADE,
+            &owned_file(mode).after(),
+            &root_before(0),
+            &root_after(1),
+        )
     }
 
     /// LOOKUP of a name in a directory, which leads to this object.

@@ -82,6 +82,16 @@ pub(super) fn new_file(nth: u32) -> Shown {
     }
 }
 
+/// The new file of user 100 and group 200 with this mode.
+pub(super) fn owned_file(mode: u32) -> Shown {
+    Shown {
+        mode,
+        uid: 100,
+        gid: 200,
+        ..NEW
+    }
+}
+
 /// The directory of user 0 that was made as this object, with so many links, and the nanoseconds of its last change.
 pub(super) fn directory(nth: u32, links: u32, changed: u32) -> Shown {
     Shown {

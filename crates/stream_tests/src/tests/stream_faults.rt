@@ -4,9 +4,6 @@ use super::readers_and_writers::{Choppy, Failing, Trouble, Unflushed};
 use super::*;
 use nfs_rpc::stream::Counts;
 
-/// The replies to NULL with xid 1 and 5.
-const BOTH_REPLIES: [u32; 14] = [0x80000018, 1, 1, 0, 0, 0, 0, 0x80000018, 5, 1, 0, 0, 0, 0];
-
 #[test]
 fn a_record_that_is_too_large(rt: HostRuntime) -> Result<(), Fail> {
     let alloc = rt.alloc();
@@ -101,7 +98,7 @@ fn ends_after_writes(
 ) -> Result<(), Fail> {
     let alloc = rt.alloc();
     let mut engine = opened(alloc)?;
-    let input = both(alloc, &NULL, &OTHER_NULL)?;
+    let input = spelled(alloc, &BOTH_NULLS)?;
     let mut reader = Counted::new(input.as_slice());
     let mut writer = Counted::new(Choppy {
         written: Vec::new(alloc),
@@ -154,7 +151,7 @@ fn answers_by_single_bytes(rt: HostRuntime) -> Result<(), Fail> {
 fn a_flush_fails(rt: HostRuntime) -> Result<(), Fail> {
     let alloc = rt.alloc();
     let mut engine = opened(alloc)?;
-    let input = both(alloc, &NULL, &OTHER_NULL)?;
+    let input = spelled(alloc, &BOTH_NULLS)?;
     let mut writer = Counted::new(Unflushed {
         written: Vec::new(alloc),
     });
