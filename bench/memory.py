@@ -1,7 +1,7 @@
 #!/usr/bin/env python3
 """Prints the resident memory of `nfsd --stdio` before and after it made names by CREATEs whose records have 70,000 bytes
-behind their arguments. No record may stay when its era is over, which is here after 16 records: a name keeps some
-hundred bytes. A benchmark, not a test.
+behind their arguments. No record may stay when its era is over, which is here after 16 records, but that of the one reply
+that is kept: a name keeps some hundred bytes. A benchmark, not a test.
 
 usage: bench/memory.py [NAMES] [PROGRAM]
 """
@@ -16,7 +16,7 @@ BATCH = 100
 def main():
     names = int(sys.argv[1]) if len(sys.argv) > 1 else 10_000
     program = sys.argv[2] if len(sys.argv) > 2 else nfsd.PROGRAM
-    with nfsd.Server(program, "--era", "16") as server:
+    with nfsd.Server(program, "--era", "16", "--cache", "1") as server:
         server.answer([nfsd.call(0, nfsd.GETATTR, nfsd.ROOT)], nfsd.SHOWN)
         before = server.resident()
         for first in range(0, names, BATCH):

@@ -11,7 +11,7 @@ import tempfile
 import time
 
 NFS = 100003
-NULL, GETATTR, LOOKUP, READ, WRITE, CREATE, MKDIR, REMOVE, RMDIR, RENAME = 0, 1, 3, 6, 7, 8, 9, 12, 13, 14
+NULL, GETATTR, SETATTR, LOOKUP, READ, WRITE, CREATE, MKDIR, REMOVE, RMDIR, RENAME = 0, 1, 2, 3, 6, 7, 8, 9, 12, 13, 14
 PROGRAM = pathlib.Path(__file__).resolve().parent.parent / "crates/nfsd/out/nfsd"
 OPTIONS = ["--stdio", "--export", "/data,rw,*", "--start", "7", "--clock", "1000"]
 SHOWN, FOUND, CREATED = 116, 244, 276  # the bytes of a good reply of GETATTR, LOOKUP and CREATE, with its mark

@@ -3,7 +3,7 @@ use Rattle.std.specs.Prelude.{◌≡◌, ◌≢◌, ℕ}
 use Rattle.nfs_engine.specs.Calls.{TxnValue}
 use Rattle.nfs_engine.specs.Engine.{EngineValue, Lives}
 use Rattle.nfs_engine.specs.declared.admission.Admission.{Admission}
-use Rattle.nfs_engine.specs.declared.admission.Admission.TheVariants.{Begin, Early}
+use Rattle.nfs_engine.specs.declared.admission.Admission.TheVariants.{Begin}
 
 -- both live, and they are two
 pub record AreBeside (e : EngineValue) (first second : TxnValue) : Type 0 where
@@ -14,4 +14,4 @@ pub record AreBeside (e : EngineValue) (first second : TxnValue) : Type 0 where
 -- a call that begins has this number
 abbrev pub BeginsAs : (id : ℕ) → Admission → Type 0
 BeginsAs id (Begin t) = t.id ≡ id
-BeginsAs id (Early fault) = Unit {0}
+BeginsAs id admission = Unit {0}

@@ -1,12 +1,12 @@
 -- What a call that takes an address, or gets a number, is then.
-use Rattle.std.proofs.Common.{◌≡◌, ◌≢◌, ℕ, ◌<◌, ◌≤◌, ◌+◌, ◌%◌, ◌==◌, Bool, true}
+use Rattle.std.proofs.Common.{◌≡◌, ℕ, ◌<◌, ◌+◌, ◌%◌, ◌==◌, true}
 use Rattle.std.proofs.Common.{false, cond, List, [], ◌∷◌, ◌++◌}
-use Rattle.std.proofs.Common.{set, length, Option, Some, None, IsSome, option_map, refl, sym, ◌∙◌, ap, subst}
+use Rattle.std.proofs.Common.{set, length, Option, Some, None, option_map, refl, sym, ◌∙◌, ap}
 use Rattle.std.proofs.Common.{arith}
 use Rattle.std.specs.Cmp.{unsigned_Decides}
 use Rattle.std.specs.List.{AllByRecursion}
-use Rattle.nfs_objects.proofs.Seen.{all-append, all-map, is_addr-refl, is_addr-same, seen-before, seen-last}
-use Rattle.nfs_objects.specs.Fits.{Fits, vacant}
+use Rattle.nfs_objects.proofs.Seen.{all-append, all-map, is_addr-same, seen-before, seen-last}
+use Rattle.nfs_objects.specs.Fits.{vacant}
 use Rattle.nfs_objects.specs.Rooms.{with_entry, with_number}
 use Rattle.nfs_objects.specs.Values.{Seen, is_addr, seen_at}
 use Rattle.nfs_objects.specs.declared.address.Addr.{Addr}
@@ -59,7 +59,12 @@ module _ (book : BookValue) (old new : List ShardValue) (t : TxnValue) (turn : T
     fits = lives.fits;
     holds = reheld_holds book old new t.id turn r (mode_in t.view.entries) (mode_in t.view.entries) lives.holds same;
     fresh = fresh_still;
-    running = record { running = lives.running.running; there = lives.running.there; same = lives.running.same };
+    running = record {
+      running = lives.running.running;
+      there = lives.running.there;
+      same = lives.running.same;
+      came = lives.running.came;
+    };
     under = lives.under;
   }
 
@@ -88,7 +93,12 @@ module _ (book : BookValue) (old new : List ShardValue) (t : TxnValue) (turn : T
             own_shard a b (Some mode) (mode_in t.view.entries b) i where_is ∙
             sym (mode_more t.view.entries e b unseen));
         fresh = fresh_still;
-        running = record { running = lives.running.running; there = lives.running.there; same = lives.running.same };
+        running = record {
+          running = lives.running.running;
+          there = lives.running.there;
+          same = lives.running.same;
+          came = lives.running.came;
+        };
         under = lives.under;
       }
 
@@ -136,6 +146,11 @@ lives_with_number book shards i s t n within sixteen tied r unseen lives =
           (λ (x : Reserved). x.generation < (shard_among new (x.number % 16)).next_generation)
           (λ x f. (let more = all.counters (x.number % 16) in omega arith)) t.view.reserved lives.fresh)
           (omega arith);
-      running = record { running = lives.running.running; there = lives.running.there; same = lives.running.same };
+      running = record {
+        running = lives.running.running;
+        there = lives.running.there;
+        same = lives.running.same;
+        came = lives.running.came;
+      };
       under = lives.under;
     }

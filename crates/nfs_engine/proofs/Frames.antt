@@ -1,5 +1,6 @@
 -- What a step of one call leaves of the others: they live on, and still hold what they held.
-use Rattle.std.proofs.Common.{◌≡◌, ◌≢◌, ℕ, ◌<◌, ◌≤◌, ◌%◌, Bool, true, false, cond, List, [], ◌∷◌, Option, Some, None}
+use Rattle.std.proofs.Common.{◌≡◌, ◌≢◌, ℕ, ◌<◌, ◌%◌, Bool, true, false, cond}
+use Rattle.std.proofs.Common.{List, [], ◌∷◌, Option, Some}
 use Rattle.std.proofs.Common.{IsSome, option_map, refl, sym, ◌∙◌, ap, subst, arith}
 use Rattle.std.specs.List.{AllByRecursion}
 use Rattle.nfs_objects.proofs.Seen.{all-map, is_addr-refl}
@@ -10,11 +11,13 @@ use Rattle.nfs_objects.specs.declared.address.Addr.TheVariants.{Inode}
 use Rattle.nfs_objects.specs.declared.modes.Mode.{Mode}
 use Rattle.nfs_objects.specs.declared.object.Object.{Object}
 use Rattle.nfs_objects.specs.declared.view.Reserved.{Reserved}
+use Rattle.nfs_replies.specs.declared.origins.Origin.{Origin}
 use Rattle.nfs_engine.specs.Book.{store_in}
-use Rattle.nfs_engine.specs.Calls.{IsUnder, PendingValue, TxnValue}
-use Rattle.nfs_engine.specs.Engine.{EngineValue, Holds, IsLeaving, IsRunning, KeepsOthers, LeadsTo, Lives, held_among}
+use Rattle.nfs_engine.specs.Calls.{IsUnder, TxnValue}
+use Rattle.nfs_engine.specs.Engine.{EngineValue, Holds, IsLeaving, IsRunning, KeepsOthers, LeadsTo, Lives}
 use Rattle.nfs_engine.specs.Engine.{kept_by, mode_in, shard_among}
 use Rattle.nfs_engine.specs.Releases.{ReleaseValue}
+use Rattle.nfs_engine.specs.Repeats.{origin_of}
 use Rattle.nfs_engine.specs.declared.release.Then.{Then}
 use Rattle.nfs_engine.specs.declared.release.Then.TheVariants.{Aborted, Ended}
 
@@ -36,11 +39,12 @@ still_stands (e ∷ es) old new kept all = (
     more false x some = some
 
 module _ (id : ℕ) (old new : EngineValue) (k : KeepsOthers id old new) where
-  running_on : (key j : ℕ) → j ≢ id → IsRunning old key j → IsRunning new key j
-  running_on key j apart r = record {
+  running_on : (key j : ℕ) (o : Option Origin) → j ≢ id → IsRunning old key j o → IsRunning new key j o
+  running_on key j o apart r = record {
     running = r.running;
     there = k.living key r.running (λ is. apart (sym r.same ∙ is)) r.there;
     same = r.same;
+    came = r.came;
   }
 
   holds_on : (j : ℕ) (hold : Addr → Option Mode) → j ≢ id → Holds old j hold → Holds new j hold
@@ -72,13 +76,16 @@ module _ (id : ℕ) (old new : EngineValue) (k : KeepsOthers id old new) where
     fresh = all-map (λ (r : Reserved). r.generation < (shard_among old.shards (r.number % 16)).next_generation)
         (λ (r : Reserved). r.generation < (shard_among new.shards (r.number % 16)).next_generation)
         (λ r f. (let more = k.generations (r.number % 16) in omega arith)) t.view.reserved lives.fresh;
-    running = running_on t.key t.id apart lives.running;
+    running = running_on t.key t.id (origin_of t.received t.call) apart lives.running;
     under = subst (λ s. IsUnder s t.ctx) (sym k.setting) lives.under;
   }
 
   leads_on : (j : ℕ) (t : Then) → j ≢ id → LeadsTo old j t → LeadsTo new j t
-  leads_on j (Aborted p) apart l =
-      (l.0, running_on p.key p.id (λ is. apart (sym l.0 ∙ is)) l.1, subst (λ s. IsUnder s p.ctx) (sym k.setting) l.2)
+  leads_on j (Aborted p) apart l = (
+    l.0,
+    running_on p.key p.id (origin_of p.received p.call) (λ is. apart (sym l.0 ∙ is)) l.1,
+    subst (λ s. IsUnder s p.ctx) (sym k.setting) l.2,
+  )
   leads_on j Ended apart l = tt
 
   pub leaving_on : (r : ReleaseValue) → r.id ≢ id → IsLeaving old r → IsLeaving new r

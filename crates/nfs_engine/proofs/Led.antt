@@ -4,6 +4,7 @@ use Rattle.std.proofs.Common.{◌∙◌, ap, subst}
 use Rattle.nfs_machine.proofs.Bounds.{spelled_calls_fit}
 use Rattle.nfs_machine.proofs.Kept.{steps_keep_form}
 use Rattle.nfs_machine.proofs.Runs.{run-append}
+use Rattle.nfs_machine.specs.RpcReplies.{success_message}
 use Rattle.nfs_machine.specs.Run.{Executes, FromHost, Received, ReceivedAsks, Record, Run, Setting}
 use Rattle.nfs_machine.specs.SideLaws.{AskedFits}
 use Rattle.nfs_machine.specs.State.{State}
@@ -13,6 +14,7 @@ use Rattle.nfs_objects.specs.Promise.{IsPromised, IsStep}
 use Rattle.nfs_objects.specs.Stands.{Kept, Represents}
 use Rattle.nfs_objects.specs.Store.{Store, with_writes}
 use Rattle.nfs_objects.specs.declared.address.Addr.{Addr}
+use Rattle.nfs_replies.specs.Replies.{RepliesValue}
 use Rattle.nfs_engine.proofs.Bounds.{step-within}
 use Rattle.nfs_engine.proofs.Built.{asked-built}
 use Rattle.nfs_engine.proofs.Formed.{step_form}
@@ -23,7 +25,8 @@ use Rattle.nfs_engine.specs.Calls.{FinishedValue, IsCalled, IsUnder}
 use Rattle.nfs_engine.specs.Commits.{SameJournal, Writes, counted_bytes, record_of}
 use Rattle.nfs_engine.specs.Forms.{HasForm}
 use Rattle.nfs_engine.specs.Journal.{JournalValue, OutboxValue, RecordsValue}
-use Rattle.nfs_engine.specs.Running.{CallsValue, without_call}
+use Rattle.nfs_engine.specs.Repeats.{Keeps}
+use Rattle.nfs_engine.specs.Running.{CallsValue, origin_at, without_call}
 use Rattle.nfs_engine.specs.Tables.{KeptValue, store_of}
 
 -- ---- what changes neither records nor store
@@ -38,6 +41,10 @@ same_leads old new records objects setting base l = record {
 
 pub led_run : (old new : BookValue) → Leads old new → IsRun old → IsRun new
 led_run old new leads r = record { base = r.base; leads = leads r.base r.leads }
+
+pub same_run : (old new : BookValue) → new.records ≡ old.records → new.objects ≡ old.objects →
+    new.setting ≡ old.setting → IsRun old → IsRun new
+same_run old new records objects setting = led_run old new (same_leads old new records objects setting)
 
 pub rebases : (old new : BookValue) → new.records ≡ [] → new.objects ≡ old.objects → Rebases old new
 rebases old new none objects base l = record {
@@ -135,20 +142,21 @@ module _ (old : BookValue) (f : FinishedValue) (called : IsCalled f.received f.x
         }
 
 -- what is written to the journal, and the call that ends, are a commit of the book
-pub journal_commits : (j k l : JournalValue) (c d : CallsValue) (setting : Setting) (capacity era_records : ℕ)
-    (f : FinishedValue) → SameJournal j k → Writes k l f
+pub journal_commits : (j k l : JournalValue) (q r : RepliesValue) (c d : CallsValue) (setting : Setting)
+    (era_records : ℕ) (f : FinishedValue) → SameJournal j k → Writes k l f
+    → Keeps (origin_at c.living f.key f.id) (success_message f.xid f.done.change.reply) q r
     → d ≡ record c { living = without_call c.living f.key f.id }
-    → Commits (book_value j c setting capacity era_records) (book_value l d setting capacity era_records) f
-journal_commits j k l c d setting capacity era_records f same writes ended =
+    → Commits (book_value j q c setting era_records) (book_value l r d setting era_records) f
+journal_commits j k l q r c d setting era_records f same writes keeps ended =
     let records : l.records ≡ record j.records {
       list = j.records.list ++ record_of f ∷ [];
       bytes = min (j.records.bytes + counted_bytes f) (2 ^ 64 - 1);
       room = l.records.room;
-    } = writes.records ∙ ap (λ (r : RecordsValue). let x : RecordsValue = record r {
-      list = r.list ++ record_of f ∷ [];
-      bytes = min (r.bytes + counted_bytes f) (2 ^ 64 - 1);
+    } = writes.records ∙ ap (λ (x : RecordsValue). let y : RecordsValue = record x {
+      list = x.list ++ record_of f ∷ [];
+      bytes = min (x.bytes + counted_bytes f) (2 ^ 64 - 1);
       room = l.records.room;
-    } in x) same.records in
+    } in y) same.records in
     let outbox : l.outbox ≡ record j.outbox {
       waiting = j.outbox.waiting ++ f.done.change.messages;
       room = l.outbox.room;
@@ -159,6 +167,7 @@ journal_commits j k l c d setting capacity era_records f same writes ended =
     record {
       store = writes.store
           ∙ ap (λ (os : List (Addr × KeptValue)). with_writes (store_of os) f.done.change.writes) same.objects;
-      rest = λ i. book_value (record { objects = l.objects; records = records i; outbox = outbox i }) (ended i) setting
-          capacity era_records;
+      rest = λ i. book_value (record { objects = l.objects; records = records i; outbox = outbox i }) r (ended i)
+          setting era_records;
+      keeps = keeps;
     }

@@ -1,24 +1,24 @@
 -- What is left of a call that let go a shard.
-use Rattle.std.proofs.Common.{◌≡◌, ◌≢◌, ℕ, zero, suc, ◌<◌, ◌≤◌, ◌+◌, ◌==◌, ◌&&◌}
-use Rattle.std.proofs.Common.{Bool, true, false, cond, List, [], ◌∷◌, ◌++◌}
+use Rattle.std.proofs.Common.{◌≡◌, ℕ, zero, suc, ◌<◌, ◌≤◌, ◌+◌, ◌==◌, ◌&&◌}
+use Rattle.std.proofs.Common.{Bool, true, false, cond, List, [], ◌∷◌}
 use Rattle.std.proofs.Common.{get_or, set, length, replicate, take, slice_get, Option, Some, None, is_some}
 use Rattle.std.proofs.Common.{option_map, refl, sym, ◌∙◌, ap, subst, arith}
 use Rattle.std.specs.Cmp.{unsigned_Decides}
 use Rattle.std.specs.List.{AllByRecursion}
 use Rattle.std.proofs.lemmas.List.{get_or-set_other, get_or-set_same, take_all}
 use Rattle.nfs_objects.proofs.Seen.{all-append, is_addr-same}
-use Rattle.nfs_objects.specs.Values.{Seen, ViewValue, is_addr, seen_at}
+use Rattle.nfs_objects.specs.Values.{Seen, is_addr, seen_at}
 use Rattle.nfs_objects.specs.declared.address.Addr.{Addr}
 use Rattle.nfs_objects.specs.declared.modes.Mode.{Mode}
 use Rattle.nfs_engine.proofs.Going.{further}
 use Rattle.nfs_engine.proofs.Lifted.{any_default}
-use Rattle.nfs_engine.proofs.Reheld.{Reholds, Turn, let_go, lets_go_holds, lifted, only_in, reheld_holds}
+use Rattle.nfs_engine.proofs.Reheld.{Reholds, let_go, lets_go_holds, lifted, only_in, reheld_holds}
 use Rattle.nfs_engine.proofs.Reheld.{reheld_others, reheld_tied}
 use Rattle.nfs_engine.specs.Book.{BookValue}
-use Rattle.nfs_engine.specs.Calls.{IsUnder, PendingValue}
+use Rattle.nfs_engine.specs.Calls.{PendingValue}
 use Rattle.nfs_engine.specs.Engine.{EngineValue, HoldsNothing, IsEnd, IsLeaving, IsNext, Releases, Waits, IsTied}
-use Rattle.nfs_engine.specs.Engine.{KeepsOthers, LeadsTo, Lives, freed_more, held_among, is_free, kept_by, mode_in}
-use Rattle.nfs_engine.specs.Engine.{release_of, shard_among}
+use Rattle.nfs_engine.specs.Engine.{KeepsOthers, LeadsTo, freed_more, held_among, is_free, kept_by, mode_in}
+use Rattle.nfs_engine.specs.Engine.{shard_among}
 use Rattle.nfs_engine.specs.Taking.{LetsGo}
 use Rattle.nfs_engine.specs.Releases.{ReleaseValue}
 use Rattle.nfs_engine.specs.Shards.{ShardValue, shard_of}
@@ -110,7 +110,11 @@ module _ (book : BookValue) (shards : List ShardValue) (k : ℕ) (was s : ShardV
       ] refl
 
   still : (t : Then) → LeadsTo before r.id t → LeadsTo after r.id t
-  still (Aborted p) l = (l.0, record { running = l.1.running; there = l.1.there; same = l.1.same }, l.2)
+  still (Aborted p) l = (
+    l.0,
+    record { running = l.1.running; there = l.1.there; same = l.1.same; came = l.1.came },
+    l.2,
+  )
   still Ended l = tt
 
   pub left_leaving : IsLeaving after (freed_more r k)

@@ -1,6 +1,8 @@
 pub mod Acquired
+pub mod Booked
 pub mod Bounds
 pub mod Built
+pub mod Came
 pub mod Ended
 pub mod Filled
 pub mod Fitting
@@ -28,5 +30,6 @@ pub mod Sizes
 pub mod Slots
 pub mod Stepped
 pub mod Steps
+pub mod Unkept
 pub mod Unlocked
 pub mod Written

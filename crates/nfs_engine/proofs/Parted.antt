@@ -1,7 +1,7 @@
 -- Calls in progress, where one of them ends or begins.
-use Rattle.std.proofs.Common.{◌≡◌, ◌≢◌, ℕ, zero, suc, ◌<◌, ◌==◌, Bool, true, false, cond, List}
+use Rattle.std.proofs.Common.{◌≡◌, ◌≢◌, ℕ, zero, suc, ◌<◌, ◌==◌, true, false, cond, List}
 use Rattle.std.proofs.Common.{[], ◌∷◌, get_or, set, length}
-use Rattle.std.proofs.Common.{Option, Some, None, refl, sym, ◌∙◌, ap, subst, arith}
+use Rattle.std.proofs.Common.{Option, Some, None, refl, sym, ◌∙◌, ap, arith}
 use Rattle.std.specs.Cmp.{unsigned_Decides}
 use Rattle.std.proofs.lemmas.List.{get_or-set_other, get_or-set_same}
 use Rattle.nfs_engine.proofs.Lifted.{alike_or}
@@ -9,13 +9,13 @@ use Rattle.nfs_engine.specs.Running.{running_at, without_call}
 use Rattle.nfs_engine.specs.declared.running.Running.{Running}
 
 -- a place with a call is there
-within : (living : List (Option Running)) (k : ℕ) (r : Running) → get_or living k None ≡ Some r →
+pub within : (living : List (Option Running)) (k : ℕ) (r : Running) → get_or living k None ≡ Some r →
     k < length living
 within [] k r is = cc
 within (x ∷ xs) zero r is = omega arith
 within (x ∷ xs) (suc k) r is = (let less = within xs k r is in omega arith)
 
-some_same : (x y : Running) → Some x ≡ Some y → x ≡ y
+pub some_same : (x y : Running) → Some x ≡ Some y → x ≡ y
 some_same x y e = cc
 
 module _ (living : List (Option Running)) (key id k : ℕ) (r : Running) (apart : r.id ≢ id) where

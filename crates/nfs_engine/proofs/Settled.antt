@@ -6,7 +6,7 @@ use Rattle.std.proofs.Common.{subst, inl, inr, ◌⊎◌, arith}
 use Rattle.std.specs.Cmp.{unsigned_Decides}
 use Rattle.std.specs.List.{AllByRecursion}
 use Rattle.nfs_objects.proofs.Seen.{all-map, is_addr-same, shown-stands}
-use Rattle.nfs_objects.specs.Promise.{Given, Held, IsGiven, IsPromised, IsReserved, ShowsGeneration}
+use Rattle.nfs_objects.specs.Promise.{Given, IsGiven, IsPromised, IsReserved, ShowsGeneration}
 use Rattle.nfs_objects.specs.Store.{Store, give, with_write, with_writes}
 use Rattle.nfs_objects.specs.Values.{Seen, ViewValue, is_addr, seen_at, written_at}
 use Rattle.nfs_objects.specs.declared.address.Addr.{Addr}
@@ -17,19 +17,20 @@ use Rattle.nfs_objects.specs.declared.object.Inode as inodes
 use Rattle.nfs_objects.specs.declared.object.Object.{Object}
 use Rattle.nfs_objects.specs.declared.object.Object.TheVariants as objects
 use Rattle.nfs_objects.specs.declared.view.Reserved.{Reserved}
+use Rattle.nfs_engine.proofs.Came.{its_origin}
 use Rattle.nfs_engine.proofs.Filled.{written_over}
 use Rattle.nfs_engine.proofs.Parted.{stays_running, was_running}
 use Rattle.nfs_engine.specs.Book.{BookValue, Commits, IsRun, store_in}
-use Rattle.nfs_engine.specs.Calls.{FinishedValue, txn_of}
-use Rattle.nfs_engine.specs.Engine.{ArePlaces, EngineValue, Frees, Holds, IsFilled, IsHeldAmong, IsLeaving, IsTied}
+use Rattle.nfs_engine.specs.Calls.{FinishedValue, TxnValue, txn_of}
+use Rattle.nfs_engine.specs.Engine.{EngineValue, Frees, IsFilled, IsHeldAmong, IsLeaving, IsTied}
 use Rattle.nfs_engine.specs.Engine.{KeepsOthers, LeadsTo, Lives, freed, held_among, kept_by, mode_in, shard_among}
 use Rattle.nfs_engine.specs.Engine.{slot_among}
 use Rattle.nfs_engine.specs.Holders.{HoldersValue, hold_in, hold_of, is_among}
 use Rattle.nfs_engine.specs.Releases.{ReleaseValue}
-use Rattle.nfs_engine.specs.Running.{running_at, without_call}
+use Rattle.nfs_engine.specs.Repeats.{origin_of}
+use Rattle.nfs_engine.specs.Running.{origin_at, running_at, without_call}
 use Rattle.nfs_engine.specs.Shards.{ShardValue, shard_of}
 use Rattle.nfs_engine.specs.declared.release.Then.TheVariants.{Ended}
-use Rattle.nfs_engine.specs.declared.running.Running.{Running}
 
 -- ---- who holds alone
 alone_only : (o : Option ℕ) (hs : List ℕ) (i j : ℕ) → hold_in o hs i ≡ Some Exclusive →
@@ -164,6 +165,13 @@ held_to_write book shards f lives promised =
     all-map (λ w. held_among shards w.0 f.id ≡ Some Exclusive) (λ w. IsHeldAmong shards w.0)
     (λ w is. record { holder = f.id; holds = subst (λ o. IsSome o) (sym is) refl }) f.done.change.writes
     (written_held book shards f lives promised)
+
+-- the book has a call that lives at its place, as it came
+pub came_so : (e : EngineValue) (t : TxnValue) → Lives e t →
+    origin_at e.book.living t.key t.id ≡ origin_of t.received t.call
+came_so e t lives =
+    its_origin e.book.living t.key lives.running.running lives.running.there t.id lives.running.same
+    ∙ lives.running.came
 
 module _ (book later : BookValue) (old mid new : List ShardValue) (f : FinishedValue) (r : ReleaseValue)
     (tied : IsTied (record { book = book; shards = old })) (lives : Lives (record { book = book; shards = old })

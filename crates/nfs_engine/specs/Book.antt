@@ -1,9 +1,11 @@
 -- The book: the present store, what led to it, and which calls are in progress.
 use Rattle.std.specs.Prelude.{◌≡◌, ◌+◌, ◌-◌, ◌^◌, ℕ, min, List, [], ◌∷◌, ◌++◌, length}
 use Rattle.std.specs.Prelude.{map, Option, Some}
-use Rattle.std.specs.Prelude.{None, Result, Ok, Err, Bool, ◌||◌, nat_le}
+use Rattle.std.specs.Prelude.{None, Result, Ok, Err, Bool, true, ◌||◌, nat_le, IfSome}
 use Rattle.side_wire.specs.declared.message.Message.{Message}
-use Rattle.nfs_machine.specs.Run.{Record, Run, Setting, context_of}
+use Rattle.nfs_machine.specs.Changing.{is_changing}
+use Rattle.nfs_machine.specs.RpcReplies.{success_message}
+use Rattle.nfs_machine.specs.Run.{Received, Record, Run, Setting, context_of}
 use Rattle.nfs_machine.specs.State.{State}
 use Rattle.nfs_machine.specs.Step.{Step}
 use Rattle.nfs_machine.specs.WellFormed.{WellFormed}
@@ -14,19 +16,25 @@ use Rattle.nfs_objects.specs.Store.{Store, with_writes}
 use Rattle.nfs_objects.specs.Values.{DoneValue}
 use Rattle.nfs_objects.specs.declared.address.Addr.{Addr}
 use Rattle.nfs_objects.specs.declared.usage.Usage.{Usage}
+use Rattle.nfs_replies.specs.Kept.ReplyEvent.{Repeated}
+use Rattle.nfs_replies.specs.Replies.{IsAfter, RepliesValue}
+use Rattle.nfs_replies.specs.declared.origins.Origin.{Origin}
 use Rattle.nfs_engine.specs.Arrivals.{ArrivalValue, received_value, shared_value}
 use Rattle.nfs_engine.specs.Asked.{IsAsked}
 use Rattle.nfs_engine.specs.Bounds.{IsWithinBounds}
 use Rattle.nfs_engine.specs.Calls.{FinishedValue, IsUnder, PendingValue, TxnValue}
 use Rattle.nfs_engine.specs.Commits.{counted_bytes, record_of}
 use Rattle.nfs_engine.specs.Journal.{JournalValue}
-use Rattle.nfs_engine.specs.Running.{CallsValue, Joins, without_call}
+use Rattle.nfs_engine.specs.Repeats.{Keeps, NoneIsKept, RepeatValue, kept_for, origin_in, origin_of}
+use Rattle.nfs_engine.specs.Running.{CallsValue, IsInProgress, Joins, origin_at, without_call}
 use Rattle.nfs_engine.specs.Tables.{KeptValue, store_of}
 use Rattle.nfs_engine.specs.declared.arrival.Reading.TheVariants as readings
 use Rattle.nfs_engine.specs.declared.asking.Asked.{Asked}
 use Rattle.nfs_engine.specs.declared.admission.Admission.{Admission}
-use Rattle.nfs_engine.specs.declared.admission.Admission.TheVariants.{Begin, Early}
+use Rattle.nfs_engine.specs.declared.admission.Admission.TheVariants as admission
 use Rattle.nfs_engine.specs.declared.admission.Refused.{Refused}
+use Rattle.nfs_engine.specs.declared.book.Recalled.{Recalled}
+use Rattle.nfs_engine.specs.declared.book.Recalled.TheVariants as recalled
 use Rattle.nfs_engine.specs.declared.outbox.Posted.{Posted}
 use Rattle.nfs_engine.specs.declared.records.Era.{Era}
 use Rattle.nfs_engine.specs.declared.running.AdmitError.{AdmitError}
@@ -44,27 +52,28 @@ pub record BookValue : Type 0 where
   -- the messages that were not yet taken, and how many were
   pub outbox : List Message
   pub taken : ℕ
+  -- the replies that are kept, and how many of each host may be
+  pub replies : RepliesValue
   -- the calls in progress, by their places
   pub living : List (Option Running)
   -- above the number of each call that ever came in
   pub next_id : ℕ
   -- what the server was started with
   pub setting : Setting
-  pub capacity : ℕ
   pub era_records : ℕ
 
-abbrev pub book_value : JournalValue → CallsValue → Setting → (capacity era_records : ℕ) → BookValue
-book_value journal calls setting capacity era_records = record {
+abbrev pub book_value : JournalValue → RepliesValue → CallsValue → Setting → (era_records : ℕ) → BookValue
+book_value journal replies calls setting era_records = record {
   objects = journal.objects.slots;
   records = journal.records.list;
   before = journal.records.before;
   bytes = journal.records.bytes;
   outbox = journal.outbox.waiting;
   taken = journal.outbox.taken;
+  replies = replies;
   living = calls.living;
   next_id = calls.next_id;
   setting = setting;
-  capacity = capacity;
   era_records = era_records;
 }
 
@@ -94,6 +103,11 @@ pub record IsRun (b : BookValue) : Type 0 where
   pub base : State
   pub leads : LeadsFrom base b
 
+-- And no reply is kept for what a call in progress came with.
+pub record IsBook (b : BookValue) : Type 0 where
+  pub run : IsRun b
+  pub unkept : NoneIsKept b.replies b.living
+
 -- from wherever the old records led to the old store, the new ones lead to the new store
 abbrev pub Leads : BookValue → BookValue → Type 0
 Leads old new = (base : State) → LeadsFrom base old → LeadsFrom base new
@@ -105,7 +119,8 @@ Steps old new d =
     Step m d.ctx d.call d.change.reply d.change.messages after × StandsFor (store_in new) after
 
 -- ---- commits
--- the writes are made, one record more, its messages are to be sent, and the call is no longer in progress
+-- The writes are made, one record more, its messages are to be sent, and the call is no longer in progress. If it
+-- changes something, its answer is kept for what it came with.
 pub record Commits (old new : BookValue) (f : FinishedValue) : Type 0 where
   pub store : store_in new ≡ with_writes (store_in old) f.done.change.writes
   pub rest : new ≡ record old {
@@ -113,8 +128,11 @@ pub record Commits (old new : BookValue) (f : FinishedValue) : Type 0 where
     records = old.records ++ record_of f ∷ [];
     bytes = min (old.bytes + counted_bytes f) (2 ^ 64 - 1);
     outbox = old.outbox ++ f.done.change.messages;
+    replies = new.replies;
     living = without_call old.living f.key f.id;
   }
+  pub keeps : Keeps (origin_at old.living f.key f.id) (success_message f.xid f.done.change.reply) old.replies
+      new.replies
 
 -- ---- admissions
 -- the call that a record asks begins under the next number, and has read nothing
@@ -129,18 +147,60 @@ new_txn b a asked key = record {
   view = record { entries = []; reserved = [] };
 }
 
+-- no reply is kept for what came with this, and no call in progress came with it
+pub record IsUnknown (b : BookValue) (origin : Origin) : Type 0 where
+  pub unkept : kept_for b.replies origin ≡ None
+  pub idle : IsInProgress b.living origin → ⊥
+
+-- the call begins; if it changes something, it is no repeat of what is kept or in progress
 pub record Begins (old new : BookValue) (a : ArrivalValue) (t : TxnValue) : Type 0 where
   pub asked : Asked
   pub asks : a.reading ≡ readings.Asks asked
   pub txn : t ≡ new_txn old a asked t.key
-  pub joins : Joins old.living new.living t.key t.id
+  pub unknown : IfSome (origin_of a.received asked.call) (IsUnknown old)
+  pub joins : Joins old.living new.living t.key t.id (origin_of a.received asked.call)
   pub rest : new ≡ record old { living = new.living; next_id = old.next_id + 1 }
 
--- a record that asks a call begins; one with a fault has its answer
+-- a record that asks a call that changes something
+pub record AsksChange (a : ArrivalValue) : Type 0 where
+  pub asked : Asked
+  pub asks : a.reading ≡ readings.Asks asked
+  pub changes : is_changing asked.call ≡ true
+
+-- a reply is kept for it: that is its answer, which comes to the front, and nothing else changes
+pub record Repeats (old new : BookValue) (a : ArrivalValue) (kept : RepeatValue) : Type 0 where
+  pub asks : AsksChange a
+  pub received : kept.received ≡ a.received
+  pub reply : kept_for old.replies (origin_in a.received) ≡ Some kept.reply
+  pub front : IsAfter (Repeated a.received.host a.received.bytes) old.replies new.replies
+  pub rest : new ≡ record old { replies = new.replies }
+
+-- no reply is kept for it, and a call in progress came with the same: nothing changes
+pub record StillRuns (old new : BookValue) (a back : ArrivalValue) : Type 0 where
+  pub asks : AsksChange a
+  pub unkept : kept_for old.replies (origin_in a.received) ≡ None
+  pub running : IsInProgress old.living (origin_in a.received)
+  pub handed : back ≡ a
+  pub unchanged : new ≡ old
+
+-- A record that asks a call begins, but a repeat of a call that changes something: it has the reply that is kept, or
+-- nothing while that call is in progress. A record with a fault has its answer.
 abbrev pub IsAdmitted : BookValue → BookValue → ArrivalValue → Admission → Type 0
-IsAdmitted old new a (Begin txn) = Begins old new a txn
-IsAdmitted old new a (Early early) = (a.reading ≡ readings.Faulted early.answer) ×
+IsAdmitted old new a (admission.Begin txn) = Begins old new a txn
+IsAdmitted old new a (admission.Repeat kept) = Repeats old new a kept
+IsAdmitted old new a (admission.Running back) = StillRuns old new a back
+IsAdmitted old new a (admission.Early early) = (a.reading ≡ readings.Faulted early.answer) ×
     (received_value early.received ≡ a.received) × (new ≡ old)
+
+-- what is known of what came in, where it asks a call that changes something; nothing changes but that a reply that is
+-- kept comes to the front
+abbrev pub Recalls : {E : Type 0} → BookValue → BookValue → Received → Result Recalled E → Type 0
+Recalls old new r (Ok (recalled.Kept reply)) = (kept_for old.replies (origin_in r) ≡ Some reply) ×
+    IsAfter (Repeated r.host r.bytes) old.replies new.replies × (new ≡ record old { replies = new.replies })
+Recalls old new r (Ok recalled.Running) = (kept_for old.replies (origin_in r) ≡ None) ×
+    IsInProgress old.living (origin_in r) × (new ≡ old)
+Recalls old new r (Ok (recalled.Unknown origin)) = (origin ≡ origin_in r) × IsUnknown old origin × (new ≡ old)
+Recalls old new r (Err error) = new ≡ old
 
 -- only what asks a call is refused, and then all is as it was; numbers are spent only at their end
 pub record IsRefused (old new : BookValue) (a back : ArrivalValue) : Type 0 where

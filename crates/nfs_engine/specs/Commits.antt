@@ -42,7 +42,7 @@ pub record SameJournal (old new : JournalValue) : Type 0 where
 -- all that the call's commit wants is made, and there is room
 pub record IsReady (j : JournalValue) (f : FinishedValue) (ready : Ready) : Type 0 where
   pub numbers : HasNumbers j f ready.number
-  pub answer : ready.answer.items ≡ success_message f.xid f.done.change.reply
+  pub answer : ready.answer ≡ success_message f.xid f.done.change.reply
   pub writes : map write_value ready.writes.items ≡ f.done.change.writes
   pub messages : ready.messages.items ≡ f.done.change.messages
   pub executed : shared_value ready.executed ≡ record_of f
@@ -67,7 +67,7 @@ pub record Writes (old new : JournalValue) (f : FinishedValue) : Type 0 where
 pub record IsReceipt (number : ℕ) (f : FinishedValue) (receipt : Receipt) : Type 0 where
   pub number_is : receipt.number ≡ number
   pub executed : shared_value receipt.executed ≡ record_of f
-  pub answer : receipt.answer.items ≡ success_message f.xid f.done.change.reply
+  pub answer : receipt.answer ≡ success_message f.xid f.done.change.reply
 
 -- what the call still holds, and what has to be written there
 pub record Leaves (f : FinishedValue) (committed : Committed) : Type 0 where

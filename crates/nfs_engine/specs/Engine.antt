@@ -12,17 +12,19 @@ use Rattle.nfs_objects.specs.declared.address.Addr.TheVariants.{Inode}
 use Rattle.nfs_objects.specs.declared.modes.Mode.{Mode}
 use Rattle.nfs_objects.specs.declared.object.Object.{Object}
 use Rattle.nfs_objects.specs.declared.view.Reserved.{Reserved}
+use Rattle.nfs_replies.specs.declared.origins.Origin.{Origin}
 use Rattle.nfs_engine.specs.Book.{BookValue, store_in}
 use Rattle.nfs_engine.specs.Calls.{FinishedValue, IsUnder, PendingValue, TxnValue, again_of, pending_of}
 use Rattle.nfs_engine.specs.Holders.{Excludes, hold_of}
 use Rattle.nfs_engine.specs.Locked.{IsLocked}
 use Rattle.nfs_engine.specs.Releases.{ReleaseValue}
+use Rattle.nfs_engine.specs.Repeats.{origin_of}
 use Rattle.nfs_engine.specs.Running.{running_at}
 use Rattle.nfs_engine.specs.Shards.{IsHeld, IsNew, ShardValue, SlotValue, empty_slot, shard_of, slot_at}
 use Rattle.nfs_engine.specs.declared.taking.Got.{Got}
 use Rattle.nfs_engine.specs.declared.taking.Got.TheVariants as got
 use Rattle.nfs_engine.specs.declared.admission.Admission.{Admission}
-use Rattle.nfs_engine.specs.declared.admission.Admission.TheVariants.{Begin, Early}
+use Rattle.nfs_engine.specs.declared.admission.Admission.TheVariants as admission
 use Rattle.nfs_engine.specs.declared.release.Next.{Next}
 use Rattle.nfs_engine.specs.declared.release.Next.TheVariants as next
 use Rattle.nfs_engine.specs.declared.release.Then.{Then}
@@ -85,20 +87,21 @@ pub record Holds (e : EngineValue) (id : ℕ) (hold : Addr → Option Mode) : Ty
   pub exactly : (a : Addr) → held_among e.shards a id ≡ hold a
   pub known : id < e.book.next_id
 
--- a call that the book has at this place
-pub record IsRunning (e : EngineValue) (key id : ℕ) : Type 0 where
+-- a call that the book has at this place, with what it came with, if it changes something
+pub record IsRunning (e : EngineValue) (key id : ℕ) (origin : Option Origin) : Type 0 where
   pub running : Running
   pub there : running_at e.book.living key ≡ Some running
   pub same : running.id ≡ id
+  pub came : running.origin ≡ origin
 
 -- The call lives: its view fits the store, it holds just what it has read, its new numbers have generations of its own,
--- and it is in progress, by a server that was started so.
+-- and it is in progress, as it came, by a server that was started so.
 pub record Lives (e : EngineValue) (t : TxnValue) : Type 0 where
   pub fits : Fits t.view (store_in e.book)
   pub holds : Holds e t.id (mode_in t.view.entries)
   pub fresh : AllByRecursion
       (λ (r : Reserved). r.generation < (shard_among e.shards (r.number % 16)).next_generation) t.view.reserved
-  pub running : IsRunning e t.key t.id
+  pub running : IsRunning e t.key t.id (origin_of t.received t.call)
   pub under : IsUnder e.book.setting t.ctx
 
 -- a call that has to begin again: it holds nothing
@@ -115,7 +118,8 @@ kept_by r a = elim (is_free r (shard_of a)) [ true ↦ None | false ↦ mode_in 
 
 -- what the release leads to is a call in progress, or nothing
 abbrev pub LeadsTo : EngineValue → (id : ℕ) → Then → Type 0
-LeadsTo e id (Aborted p) = (p.id ≡ id) × IsRunning e p.key p.id × IsUnder e.book.setting p.ctx
+LeadsTo e id (Aborted p) = (p.id ≡ id) × IsRunning e p.key p.id (origin_of p.received p.call) ×
+    IsUnder e.book.setting p.ctx
 LeadsTo e id Ended = Unit {0}
 
 -- a call that left and still holds this
@@ -232,8 +236,10 @@ KeepsAll old new = (id : ℕ) → KeepsOthers id old new
 
 -- a call that began lives, and the others are as they were
 abbrev pub AdmitsLiving : EngineValue → EngineValue → Admission → Type 0
-AdmitsLiving old new (Begin t) = Lives new t × KeepsOthers t.id old new
-AdmitsLiving old new (Early fault) = new ≡ old
+AdmitsLiving old new (admission.Begin t) = Lives new t × KeepsOthers t.id old new
+AdmitsLiving old new (admission.Repeat kept) = KeepsAll old new
+AdmitsLiving old new (admission.Running back) = new ≡ old
+AdmitsLiving old new (admission.Early fault) = new ≡ old
 
 -- ---- an engine that starts
 -- these are empty shards, of these places and the next ones

@@ -17,6 +17,7 @@ pub mod Locked
 pub mod Numbers
 pub mod Opening
 pub mod Releases
+pub mod Repeats
 pub mod Running
 pub mod Shards
 pub mod Tables

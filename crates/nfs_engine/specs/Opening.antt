@@ -69,7 +69,8 @@ root_usage (suc n) e g = if (suc n == e) && (group_of (suc n) == g) then one_usi
 abbrev pub IsLimit : ℕ → Type 0
 IsLimit limit = (1 ≤ limit) × (limit ≤ 65536)
 
--- it was started with this, and stands for the opening state: no record, no message and no call in progress
+-- it was started with this, and stands for the opening state: no record, no message, no reply that is
+-- kept and no call in progress
 pub record Opens (config : Config) (b : BookValue) : Type 0 where
   pub capacity : IsLimit config.capacity
   pub era_records : IsLimit config.era_records
@@ -81,10 +82,10 @@ pub record Opens (config : Config) (b : BookValue) : Type 0 where
     bytes = 0;
     outbox = [];
     taken = 0;
+    replies = record { capacity = config.capacity; hosts = [] };
     living = [];
     next_id = 0;
     setting = record { start = config.start; exports = config.exports; limits = config.limits };
-    capacity = config.capacity;
     era_records = config.era_records;
   }
 

@@ -2,6 +2,9 @@
 use Rattle.std.specs.Prelude.{◌≡◌, ◌≢◌, ℕ, ◌+◌, ◌-◌, ◌^◌, ◌==◌, List, Option, Some, None}
 use Rattle.std.specs.Prelude.{Result, Ok, Err}
 use Rattle.std.specs.Prelude.{slice_index_or, slice_set, if◌then◌else◌, count_by, is_some}
+use Rattle.std.specs.Bool.{Decides}
+use Rattle.nfs_replies.specs.Origins.{is_among}
+use Rattle.nfs_replies.specs.declared.origins.Origin.{Origin}
 use Rattle.nfs_engine.specs.declared.running.AdmitError.{AdmitError}
 use Rattle.nfs_engine.specs.declared.running.AdmitError.TheVariants.{Memory, Spent}
 use Rattle.nfs_engine.specs.declared.running.Place.{Place}
@@ -24,20 +27,44 @@ without_call living key id = elim (running_at living key) [
   | Some running ↦ if running.id == id then slice_set living key None else living
 ]
 
+-- what the call with this number came with, if it is at this place and changes something
+abbrev pub origin_at : List (Option Running) → (key id : ℕ) → Option Origin
+origin_at living key id = elim (running_at living key) [
+  | None ↦ None
+  | Some running ↦ if running.id == id then running.origin else None
+]
+
+-- the call at a place changes something, and came with this
+pub record CameWith (living : List (Option Running)) (key : ℕ) (origin : Origin) : Type 0 where
+  pub running : Running
+  pub there : running_at living key ≡ Some running
+  pub came : running.origin ≡ Some origin
+
+-- a call in progress changes something, and came with this
+abbrev pub IsInProgress : List (Option Running) → Origin → Type 0
+IsInProgress living origin = (key : ℕ) × CameWith living key origin
+
+-- these are what the calls in progress came with that change something, and no two came with the same
+pub record AreOrigins (origins : List Origin) (living : List (Option Running)) : Type 0 where
+  pub exactly : (origin : Origin) → Decides (is_among origins origin) (IsInProgress living origin)
+  pub apart : (key other : ℕ) (origin : Origin) → CameWith living key origin → CameWith living other origin →
+      key ≡ other
+
 -- how many calls are in progress
 abbrev pub living_count : List (Option Running) → ℕ
 living_count living = count_by is_some living
 
 -- one call more is in progress, at a place where there was none
-pub record Joins (old new : List (Option Running)) (key id : ℕ) : Type 0 where
+pub record Joins (old new : List (Option Running)) (key id : ℕ) (origin : Option Origin) : Type 0 where
   pub vacant : running_at old key ≡ None
-  pub running : running_at new key ≡ Some (record { id = id })
+  pub running : running_at new key ≡ Some (record { id = id; origin = origin })
   pub others : (k : ℕ) → k ≢ key → running_at new k ≡ running_at old k
   pub count : living_count new ≡ living_count old + 1
 
 -- the call joins them under the next number, or nothing changed; numbers are spent only at their end
-abbrev pub IsBegun : CallsValue → CallsValue → Result Place AdmitError → Type 0
-IsBegun old new (Ok place) =
-    (place.id ≡ old.next_id) × (new.next_id ≡ old.next_id + 1) × Joins old.living new.living place.key place.id
-IsBegun old new (Err Memory) = new ≡ old
-IsBegun old new (Err Spent) = (new ≡ old) × (old.next_id ≡ 2 ^ 64 - 1)
+abbrev pub IsBegun : CallsValue → CallsValue → Option Origin → Result Place AdmitError → Type 0
+IsBegun old new origin (Ok place) =
+    (place.id ≡ old.next_id) × (new.next_id ≡ old.next_id + 1) ×
+    Joins old.living new.living place.key place.id origin
+IsBegun old new origin (Err Memory) = new ≡ old
+IsBegun old new origin (Err Spent) = (new ≡ old) × (old.next_id ≡ 2 ^ 64 - 1)

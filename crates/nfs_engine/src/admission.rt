@@ -1,8 +1,9 @@
 //! What admitting a record comes to.
 
-use crate::arrival::Received;
+use crate::arrival::{Arrival, Received};
 use crate::asking::Asked;
 use crate::calls::Txn;
+use crate::kept::Kept;
 
 /// A record with a fault, and its answer.
 #[derive(Drop)]
@@ -16,6 +17,10 @@ pub struct Faulted {
 pub enum Admission {
     /// Its call is in progress.
     Begin(Txn),
+    /// It came before and changed something; this is the reply that it got.
+    Repeat(Kept),
+    /// It changes something, and a call that came with the same is in progress.
+    Running(Arrival),
     /// It has a fault.
     Early(Faulted),
 }

@@ -3,11 +3,13 @@
 ghost use Rattle.std.specs.Prelude.{◌≡◌, IfOk};
 ghost use Rattle.nfs_engine.specs.Arrivals.{IsArrival, received_value};
 ghost use Rattle.nfs_engine.specs.Asked.{ArgumentsHoldBytes, IsAsked};
+ghost use Rattle.nfs_engine.specs.Repeats.{origin_in};
 
 use crate::answers;
 use crate::asking::{Asked, Unasked, read_record};
 use crate::host::Host;
 use nfs_machine::{Moment, Reply};
+use nfs_replies::Origin;
 use nfs_rpc::Record;
 use side_wire::Message;
 use std::alloc::{AllocError, Global};
@@ -30,6 +32,16 @@ impl Received {
             host: self.host.share()?,
             message: self.message.clone()?,
             moment: self.moment,
+        })
+    }
+
+    /// What a repeat of it would come with too; it shares the bytes.
+    pub(crate) fn origin(&self) -> Result<Origin, AllocError>
+        ensures { IfOk result (λ origin. origin ≡ origin_in (received_value self.now)) }
+    {
+        Ok(Origin {
+            host: self.host.text().clone()?,
+            bytes: self.message.clone()?,
         })
     }
 }

@@ -1,17 +1,19 @@
 //! The book: the present store with the records that led to it, and which calls are in progress.
 
-ghost use Rattle.std.specs.Prelude.{◌≡◌, ◌+◌, ◌≤◌, ℕ, length, map, IfErr, IfOk, OnOk};
+ghost use Rattle.std.specs.Prelude.{◌≡◌, ◌+◌, ◌≤◌, ℕ, true, length, map, IfErr, IfOk, IfSome, OnOk};
 ghost use Rattle.std.specs.Bool.{Decides};
 ghost use Rattle.nfs_engine.specs.Arrivals.{received_value};
 ghost use Rattle.nfs_engine.specs.Asked.{IsAsked};
-ghost use Rattle.nfs_engine.specs.Book.{Admits, Commits, GivesUp, IsRun, Leads, MayCommit, Rebases, Steps, TakesEra};
-ghost use Rattle.nfs_engine.specs.Book.{TakesMessage, is_full, store_in};
+ghost use Rattle.nfs_engine.specs.Book.{Admits, Commits, GivesUp, IsRun, IsUnknown, Leads, MayCommit, Rebases};
+ghost use Rattle.nfs_engine.specs.Book.{Recalls, Steps, TakesEra, TakesMessage, is_full, store_in};
 ghost use Rattle.nfs_engine.specs.Commits.{IsReceipt, Leaves};
 ghost use Rattle.nfs_engine.specs.Hosts.{IsHost};
 ghost use Rattle.nfs_engine.specs.Opening.{IsStartError, Opens, no_store};
+ghost use Rattle.nfs_engine.specs.Repeats.{NoneIsKept, origin_of};
 ghost use Rattle.nfs_engine.specs.Running.{living_count};
 ghost use Rattle.nfs_objects.specs.Store.{with_writes};
 ghost use Rattle.nfs_objects.specs.Values.{write_value};
+ghost use Rattle.nfs_machine.specs.Changing.{is_changing};
 ghost use Rattle.nfs_machine.specs.Run.{context_of};
 ghost use Rattle.nfs_engine.specs.declared.arrival.Reading.TheVariants as readings;
 
@@ -19,15 +21,19 @@ use crate::admission::{Admission, Faulted, Refused};
 use crate::arrival::{Arrival, Reading, Received};
 use crate::asking::Asked;
 use crate::calls::{Finished, Pending, Txn};
+use crate::changing::is_changing;
 use crate::host::Host;
 use crate::journal::{Committed, Journal};
+use crate::kept::{Kept, keep_answer};
 use crate::objects::Objects;
 use crate::opening::{Config, StartError, is_limit, opening_writes};
 use crate::outbox::Posted;
 use crate::records::Era;
 use crate::running::{AdmitError, Calls, Place};
+use bytes::Bytes;
 use nfs_machine::{Ctx, Exports, Limits, Moment};
 use nfs_objects::{View, Write};
+use nfs_replies::{Capacity, Origin, Replies};
 use nfs_rpc::Ids;
 use std::alloc::{AllocError, Global};
 use std::marker::Model;
@@ -35,29 +41,40 @@ use std::marker::Model;
 /// At how many bytes an era is full.
 const ERA_BYTES: u64 = 67_108_864;
 
-/// The present store, what was executed since the era began, the messages that are to be sent, and the calls in
-/// progress. Its type keeps that the records are a run of the machine to the store.
+/// The present store, what was executed since the era began, the messages that are to be sent, the replies that are
+/// kept, and the calls in progress. Its type keeps that the records are a run of the machine to the store, and that no
+/// reply is kept for what a call in progress came with.
 #[derive(Drop)]
 pub struct Book {
     journal: Journal,
+    replies: Replies,
     calls: Calls,
     start: u64,
     exports: Exports,
     limits: Limits,
-    capacity: u64,
     era_records: u64,
 }
 
 impl Model for Book {
-    ghost use Rattle.nfs_engine.specs.Book.{BookValue, IsRun, book_value};
+    ghost use Rattle.nfs_engine.specs.Book.{BookValue, IsBook, book_value};
 
     ghost Value = { BookValue };
 
-    ghost view = { λ b. book_value b.journal b.calls
-        (record { start = b.start; exports = b.exports; limits = b.limits }) b.capacity b.era_records };
+    ghost view = { λ b. book_value b.journal b.replies b.calls
+        (record { start = b.start; exports = b.exports; limits = b.limits }) b.era_records };
 
-    ghost invariant = { λ b. IsRun (book_value b.journal b.calls
-        (record { start = b.start; exports = b.exports; limits = b.limits }) b.capacity b.era_records) };
+    ghost invariant = { λ b. IsBook (book_value b.journal b.replies b.calls
+        (record { start = b.start; exports = b.exports; limits = b.limits }) b.era_records) };
+}
+
+/// What is known of a record that asks a call that changes something.
+enum Recalled {
+    /// It came before, and this is the reply that is kept.
+    Kept(Bytes),
+    /// A call that came with the same is in progress.
+    Running,
+    /// It is none of these, and came with this.
+    Unknown(Origin),
 }
 
 impl Book {
@@ -74,33 +91,36 @@ impl Book {
         ensures given { IfOk result (λ r. (n : ℕ) → (store_in r.0).last n ≤ 1) }
         ensures refused { IfErr result (IsStartError config) }
     {
-        if !is_limit(config.capacity) {
+        let Some(capacity) = Capacity::new(config.capacity as usize) else {
             return Err(StartError::Capacity);
-        }
+        };
         if !is_limit(config.era_records) {
             return Err(StartError::EraLimit);
         }
         let writes = opening_writes(alloc, &config.exports, config.moment.time())?;
         let objects = Objects::opening(alloc, &writes)?;
         let journal = Journal::new(alloc, objects);
+        let replies = Replies::new(alloc, capacity);
         let calls = Calls::new(alloc);
         let book = Book {
             journal,
+            replies,
             calls,
             start: config.start,
             exports: config.exports,
             limits: config.limits,
-            capacity: config.capacity,
             era_records: config.era_records,
         };
         Ok((book, writes))
     }
 
-    /// Admits a record that came in: its call is in progress, or it has a fault, which takes no memory.
+    /// Admits a record that came in. Its call is in progress; or it is a repeat of a call that changes something, and
+    /// has the reply that is kept, or waits for that call; or it has a fault, which takes no memory.
     ///
     /// # Errors
     ///
-    /// The call wants memory, or no number is left for it. Nothing is changed, and the arrival is handed back.
+    /// The call, or a reply that is kept, wants memory, or no number is left for the call. Nothing is changed, and the
+    /// arrival is handed back.
     pub fn admit(
         &mut self,
         alloc: Global,
@@ -110,26 +130,72 @@ impl Book {
     {
         let (received, reading) = arrival.into_parts();
         match reading {
-            Reading::Asks(asked) => self.begin(alloc, received, asked),
+            Reading::Asks(asked) => {
+                if is_changing(&asked.call) {
+                    self.admit_change(alloc, received, asked)
+                } else {
+                    self.begin(alloc, received, asked, None)
+                }
+            }
             Reading::Faulted(answer) => Ok(Admission::Early(Faulted { received, answer })),
         }
     }
 
-    /// Begins the call that a record asks.
-    fn begin(
+    /// Admits a record that asks a call that changes something.
+    fn admit_change(
         &mut self,
         alloc: Global,
         received: Received,
         asked: Asked,
     ) -> Result<Admission, (AdmitError, Arrival)>
-        requires { IsAsked (received_value received).bytes asked }
+        requires asked { IsAsked (received_value received).bytes asked }
+        requires changes { is_changing asked.call ≡ true }
+        ensures { Admits self.old self.new
+            (record { received = received_value received; reading = readings.Asks asked }) result }
+    {
+        match self.recall(&received) {
+            Ok(Recalled::Kept(reply)) => {
+                drop(asked);
+                Ok(Admission::Repeat(Kept::new(received, reply)))
+            }
+            Ok(Recalled::Running) => Ok(Admission::Running(Arrival::asking(received, asked))),
+            Ok(Recalled::Unknown(origin)) => self.begin(alloc, received, asked, Some(origin)),
+            Err(AllocError) => Err((AdmitError::Memory, Arrival::asking(received, asked))),
+        }
+    }
+
+    /// What is known of a record; a reply that is kept comes to the front. An error changes nothing.
+    fn recall(&mut self, received: &Received) -> Result<Recalled, AllocError>
+        ensures { Recalls self.old self.new (received_value received.now) result }
+    {
+        let origin = received.origin()?;
+        if let Some(reply) = self.replies.find(&origin.host, &origin.bytes)? {
+            return Ok(Recalled::Kept(reply));
+        }
+        if self.calls.has(&origin) {
+            return Ok(Recalled::Running);
+        }
+        Ok(Recalled::Unknown(origin))
+    }
+
+    /// Begins the call that a record asks, with what it came with, if it changes something.
+    fn begin(
+        &mut self,
+        alloc: Global,
+        received: Received,
+        asked: Asked,
+        origin: Option<Origin>,
+    ) -> Result<Admission, (AdmitError, Arrival)>
+        requires asked { IsAsked (received_value received).bytes asked }
+        requires origin { origin ≡ origin_of (received_value received) asked.call }
+        requires unknown { IfSome origin (IsUnknown self.old) }
         ensures { Admits self.old self.new
             (record { received = received_value received; reading = readings.Asks asked }) result }
     {
         let Ok(ctx) = self.context(&received.host, asked.ids, received.moment) else {
             return Err((AdmitError::Memory, Arrival::asking(received, asked)));
         };
-        match self.calls.begin() {
+        match self.calls.begin(origin) {
             Ok(Place { id, key }) => {
                 let Asked { xid, ids: _, call } = asked;
                 Ok(Admission::Begin(Txn {
@@ -181,7 +247,8 @@ impl Book {
         Refused { received, asked }
     }
 
-    /// Makes what is done the state, as one step of the machine from the present one.
+    /// Makes what is done the state, as one step of the machine from the present one. The answer of a call that changes
+    /// something is kept, for what it came with.
     ///
     /// # Errors
     ///
@@ -199,6 +266,10 @@ impl Book {
     {
         finished.is_finished();
         let Some(ready) = self.journal.make_ready(alloc, &finished) else {
+            return Err(finished);
+        };
+        let origin = self.calls.origin(finished.key, finished.id);
+        let Ok(()) = keep_answer(alloc, &mut self.replies, origin, &ready.answer) else {
             return Err(finished);
         };
         self.calls.end(finished.key, finished.id);
@@ -255,9 +326,11 @@ impl Book {
         self.calls.len()
     }
 
-    /// The records are a run of the machine to a state that the store stands for.
+    /// The records are a run of the machine to a state that the store stands for, and no reply is kept for what a call
+    /// in progress came with.
     pub fn run(&self)
-        ensures { IsRun self.now }
+        ensures run { IsRun self.now }
+        ensures unkept { NoneIsKept self.now.replies self.now.living }
     {
         let _ = &self.calls;
     }

@@ -14,7 +14,9 @@ ghost use Rattle.nfs_engine.specs.Engine.{IsHeldAmong};
 ghost use Rattle.nfs_engine.specs.Engine.{IsLeaving, IsReleased, IsReserved, IsTied, KeepsAll, KeepsOthers, Lives};
 ghost use Rattle.nfs_engine.specs.Engine.{Releases, Waits, held_among, release_of};
 ghost use Rattle.nfs_engine.specs.Opening.{IsStartError, Opens};
+ghost use Rattle.nfs_engine.specs.Repeats.{Keeps, origin_of};
 ghost use Rattle.nfs_engine.specs.Running.{living_count};
+ghost use Rattle.nfs_machine.specs.RpcReplies.{success_message};
 
 use crate::admission::{Admission, Refused};
 use crate::arrival::Arrival;
@@ -117,8 +119,8 @@ impl Engine {
         txn.reserve_in(alloc, &mut self.shards[shard])
     }
 
-    /// Makes what is done the state, as one step of the machine from the present one. What the call holds in the shards
-    /// that it writes is let go.
+    /// Makes what is done the state, as one step of the machine from the present one. The answer of a call that changes
+    /// something is kept, whatever its status. What the call holds in the shards that it writes is let go.
     ///
     /// # Errors
     ///
@@ -131,6 +133,8 @@ impl Engine {
     ) -> Result<(Receipt, Release), Finished>
         requires { Lives self.old (txn_of finished) }
         ensures commits { OnOk result (Commits self.old.book self.new.book finished) }
+        ensures keeps { OnOk result (Keeps (origin_of finished.received finished.done.call)
+            (success_message finished.xid finished.done.change.reply) self.old.book.replies self.new.book.replies) }
         ensures step { OnOk result (Steps self.old.book self.new.book finished.done) }
         ensures leads { OnOk result (Leads self.old.book self.new.book) }
         ensures receipt { IfOk result
@@ -209,11 +213,13 @@ impl Engine {
         self.book.give_up(pending)
     }
 
-    /// Admits a record that came in: its call is in progress, or it has a fault, which takes no memory.
+    /// Admits a record that came in. Its call is in progress; or it is a repeat of a call that changes something, and
+    /// has the reply that is kept, or waits for that call; or it has a fault, which takes no memory.
     ///
     /// # Errors
     ///
-    /// The call wants memory, or no number is left for it. Nothing is changed, and the arrival is handed back.
+    /// The call, or a reply that is kept, wants memory, or no number is left for the call. Nothing is changed, and the
+    /// arrival is handed back.
     pub fn admit(
         &mut self,
         alloc: Global,

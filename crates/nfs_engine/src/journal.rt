@@ -12,6 +12,7 @@ use crate::calls::Finished;
 use crate::objects::{Objects, copy_writes};
 use crate::outbox::{Outbox, Posted, copy_messages};
 use crate::records::{Era, Records};
+use bytes::Bytes;
 use nfs_objects::{View, Write};
 use side_wire::Message;
 use std::alloc::{AllocError, Global};
@@ -28,8 +29,8 @@ pub struct Receipt {
     pub number: u64,
     /// What was executed, shared with the record.
     pub executed: Arc<Executed>,
-    /// The bytes of the answer.
-    pub answer: Vec<u8>,
+    /// The bytes of the answer, shared with the reply that is kept.
+    pub answer: Bytes,
 }
 
 /// What a call that was executed leaves: its receipt, what it still holds, and what has to be written there.
@@ -44,7 +45,7 @@ pub struct Committed {
 #[derive(Drop)]
 pub(crate) struct Ready {
     pub number: u64,
-    pub answer: Vec<u8>,
+    pub answer: Bytes,
     pub writes: Vec<Write>,
     pub messages: Vec<Message>,
     pub executed: Arc<Executed>,
@@ -117,7 +118,7 @@ impl Journal {
         ensures ready { IfOk result (IsReady self.new finished.now) }
     {
         let executed = Arc::try_clone(&finished.executed)?;
-        let answer = answers::success(alloc, finished.xid, &executed.reply)?;
+        let answer = Bytes::from_vec(answers::success(alloc, finished.xid, &executed.reply)?)?;
         let writes = copy_writes(alloc, &finished.writes)?;
         let messages = copy_messages(alloc, &executed.messages)?;
         self.objects.make_room(writes.len())?;

@@ -3,10 +3,11 @@
 //!
 //! A record that came in is a call of a program that is built, or it has a first fault (`read_record`). A reply, a
 //! refusal and a fault are each one fragment (`answers`). The `Book` has the present store with the records that led to
-//! it, and which calls are in progress. A `Shard` has the slots of a sixteenth of the addresses, with who holds them.
-//! The `Engine` is the book and the shards as one value, for one thread. It stands on `nfs_rpc` for headers, on
-//! `nfs_wire` and `side_wire` for arguments and results, on `nfs_machine` for what each record is answered, and on
-//! `nfs_objects` for what stands at addresses.
+//! it, the replies that are kept for calls that come again, and which calls are in progress. A `Shard` has the slots of
+//! a sixteenth of the addresses, with who holds them. The `Engine` is the book and the shards as one value, for one
+//! thread. It stands on `nfs_rpc` for headers, on
+//! `nfs_wire` and `side_wire` for arguments and results, on `nfs_machine` for what each record is answered, on
+//! `nfs_replies` for what is kept, and on `nfs_objects` for what stands at addresses.
 #![tactic(auto)]
 
 pub mod admission;
@@ -15,10 +16,12 @@ pub mod arrival;
 pub mod asking;
 pub mod book;
 pub mod calls;
+pub mod changing;
 pub mod engine;
 pub mod holders;
 pub mod host;
 pub mod journal;
+pub mod kept;
 pub mod laws;
 pub mod leaving;
 mod objects;
@@ -37,10 +40,12 @@ pub use arrival::{Arrival, Executed, Reading, Received};
 pub use asking::{Asked, Unasked, read_record};
 pub use book::Book;
 pub use calls::{Finished, Pending, Txn};
+pub use changing::is_changing;
 pub use engine::Engine;
 pub use holders::Holders;
 pub use host::Host;
 pub use journal::{Committed, Receipt};
+pub use kept::Kept;
 pub use opening::{Config, StartError};
 pub use outbox::Posted;
 pub use records::Era;

@@ -27,7 +27,7 @@ pub struct Config {
     pub start: u64,
     /// When the roots are made.
     pub moment: Moment,
-    /// How many replies are kept, from 1 to 65,536.
+    /// How many replies are kept of each host, from 1 to 65,536.
     pub capacity: u64,
     pub limits: Limits,
     /// At how many records an era is full, from 1 to 65,536.

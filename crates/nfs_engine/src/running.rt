@@ -1,10 +1,13 @@
 //! Which calls are in progress.
 
-ghost use Rattle.std.specs.Prelude.{◌≡◌, []};
-ghost use Rattle.nfs_engine.specs.Running.{IsBegun, living_count, without_call};
+ghost use Rattle.std.specs.Prelude.{◌≡◌, [], IfSome, MatchOption, OnErr, OnOk, option_copied};
+ghost use Rattle.std.specs.Bool.{Decides};
+ghost use Rattle.nfs_replies.specs.Origins.{Adds, Removes};
+ghost use Rattle.nfs_engine.specs.Running.{IsBegun, IsInProgress, living_count, origin_at, without_call};
 
+use nfs_replies::{Origin, Origins};
 use slab::Slab;
-use std::alloc::Global;
+use std::alloc::{AllocError, Global};
 use std::marker::Model;
 use thiserror::Error;
 
@@ -23,6 +26,8 @@ pub enum AdmitError {
 pub struct Running {
     /// No other call ever has it.
     pub id: u64,
+    /// What it came with, if it changes something.
+    pub origin: Option<Origin>,
 }
 
 /// Where a call in progress stands.
@@ -32,19 +37,23 @@ pub(crate) struct Place {
     pub key: usize,
 }
 
-/// The calls in progress, by their places. Their numbers rise.
+/// The calls in progress, by their places. Their numbers rise. Those that change something are found by what they came
+/// with.
 #[derive(Drop)]
 pub(crate) struct Calls {
     living: Slab<Running>,
+    origins: Origins,
     next_id: u64,
 }
 
 impl Model for Calls {
-    ghost use Rattle.nfs_engine.specs.Running.{CallsValue};
+    ghost use Rattle.nfs_engine.specs.Running.{AreOrigins, CallsValue};
 
     ghost Value = { CallsValue };
 
     ghost view = { λ c. record { living = c.living.slots; next_id = c.next_id } };
+
+    ghost invariant = { λ c. AreOrigins c.origins c.living.slots };
 }
 
 impl Calls {
@@ -54,6 +63,7 @@ impl Calls {
     {
         Calls {
             living: Slab::new(alloc),
+            origins: Origins::new(alloc),
             next_id: 0,
         }
     }
@@ -65,30 +75,79 @@ impl Calls {
         self.living.len()
     }
 
-    /// One call more. An error changes nothing.
-    pub(crate) fn begin(&mut self) -> Result<Place, AdmitError>
-        ensures { IsBegun self.old self.new result }
+    /// Whether one of them changes something, and came with this.
+    pub(crate) fn has(&self, origin: &Origin) -> bool
+        ensures { Decides result (IsInProgress self.now.living origin.now) }
+    {
+        self.origins.has(origin)
+    }
+
+    /// What a call came with, if it is in progress and changes something.
+    pub(crate) fn origin(&self, key: usize, id: u64) -> Option<&Origin>
+        ensures { option_copied result ≡ origin_at self.now.living key id }
+    {
+        let running = self.living.get(key)?;
+        if running.id != id {
+            return None;
+        }
+        running.origin.as_ref()
+    }
+
+    /// One call more, with what it came with, if it changes something. An error changes nothing.
+    pub(crate) fn begin(&mut self, origin: Option<Origin>) -> Result<Place, AdmitError>
+        requires { IfSome origin (λ o. IsInProgress self.old.living o → ⊥) }
+        ensures { IsBegun self.old self.new origin result }
     {
         let id = self.next_id;
         let Some(next_id) = id.checked_add(1) else {
             return Err(AdmitError::Spent);
         };
-        let Ok(key) = self.living.insert(Running { id }) else {
+        let Ok(()) = self.living.reserve(1) else {
             return Err(AdmitError::Memory);
         };
+        let Ok(()) = note(&mut self.origins, &origin) else {
+            return Err(AdmitError::Memory);
+        };
+        let key = self.living.insert_reserved(Running { id, origin });
         self.next_id = next_id;
         Ok(Place { id, key })
     }
 
     /// This call is no longer in progress.
     pub(crate) fn end(&mut self, key: usize, id: u64)
-        ensures { self.new ≡ record self.old { living = without_call self.old.living key id } }
+        ensures ended { self.new ≡ record self.old { living = without_call self.old.living key id } }
+        ensures gone { IfSome (origin_at self.old.living key id) (λ o. IsInProgress self.new.living o → ⊥) }
     {
         let Some(running) = self.living.get(key) else {
             return;
         };
-        if running.id == id {
-            self.living.try_remove(key);
+        if running.id != id {
+            return;
         }
+        let Some(Running { id: _, origin }) = self.living.try_remove(key) else {
+            return;
+        };
+        forget(&mut self.origins, origin);
+    }
+}
+
+/// Notes what a call came with, if it changes something. An error changes nothing.
+fn note(origins: &mut Origins, origin: &Option<Origin>) -> Result<(), AllocError>
+    ensures noted { OnOk result (MatchOption origin.now (origins.new ≡ origins.old)
+        (λ o. Adds o origins.old origins.new)) }
+    ensures err { OnErr result (origins.new ≡ origins.old) }
+{
+    match origin {
+        Some(origin) => origins.add(origin.share()?),
+        None => Ok(()),
+    }
+}
+
+/// Takes out what a call came with that is over.
+fn forget(origins: &mut Origins, origin: Option<Origin>)
+    ensures { MatchOption origin (origins.new ≡ origins.old) (λ o. Removes o origins.old origins.new) }
+{
+    if let Some(origin) = origin {
+        origins.remove(&origin);
     }
 }

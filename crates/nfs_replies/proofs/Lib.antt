@@ -2,3 +2,4 @@ mod Apart
 pub mod Caches
 pub mod Hosts
 pub mod Lists
+pub mod Unkept

@@ -1,5 +1,6 @@
 pub mod Kept
 pub mod Keys
 pub mod Laws
+pub mod Origins
 pub mod Replies
 pub mod Worked

@@ -17,7 +17,7 @@ use std::marker::Model;
 const HEAD: usize = 256;
 
 /// The first bytes of a record.
-fn head(bytes: &[u8]) -> &[u8]
+pub(crate) fn head(bytes: &[u8]) -> &[u8]
     ensures { result.now ≡ take HEAD bytes.now }
 {
     if bytes.len() <= HEAD {

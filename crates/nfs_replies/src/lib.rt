@@ -15,8 +15,10 @@
 mod capacity;
 mod key;
 pub mod laws;
+pub mod origins;
 mod replies;
 pub mod worked;
 
 pub use capacity::Capacity;
+pub use origins::{Origin, Origins};
 pub use replies::Replies;

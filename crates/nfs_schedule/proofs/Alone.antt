@@ -1,8 +1,8 @@
 -- A call that is alone in the engine: it goes on, it ends, and leaves the engine at rest.
-use Rattle.std.proofs.Common.{◌≡◌, ◌≢◌, ℕ, zero, suc, ◌+◌, ◌<◌, Bool, true, false, List, [], ◌∷◌, length, Option, Some, None, IsSome, Ok, Err, refl, sym, ◌∙◌, ap, subst, arith}
-use Rattle.std.proofs.Common.{get_or, set, inl, inr}
-use Rattle.std.specs.Prelude.{slice_index_or, slice_set}
+use Rattle.std.proofs.Common.{◌≡◌, ◌≢◌, ℕ, zero, suc, ◌+◌, List, [], ◌∷◌, length, Option, Some, None, IsSome, Ok, Err, refl, sym, ◌∙◌, ap, subst}
+use Rattle.std.proofs.Common.{get_or, set, inl, inr, IfSome}
 use Rattle.std.specs.declared.alloc.AllocError.{AllocError}
+use Rattle.nfs_machine.specs.RpcReplies.{success_message}
 use Rattle.nfs_machine.specs.Run.{Received}
 use Rattle.nfs_machine.specs.declared.calls.Call.{Call}
 use Rattle.nfs_objects.specs.Modes.{Suits, modes_of}
@@ -11,21 +11,21 @@ use Rattle.nfs_objects.specs.Values.{ViewValue}
 use Rattle.nfs_objects.specs.declared.address.Addr.{Addr}
 use Rattle.nfs_objects.specs.declared.modes.Mode.{Mode}
 use Rattle.nfs_objects.specs.declared.modes.Mode.TheVariants.{Shared, Exclusive}
+use Rattle.nfs_replies.specs.declared.origins.Origin.{Origin}
 use Rattle.nfs_engine.proofs.Lifted.{alike_or}
 use Rattle.nfs_engine.specs.Arrivals.{ArrivalValue, received_value}
-use Rattle.nfs_engine.specs.Book.{Begins, BookValue, Commits, GivesUp, Leads, Steps, new_txn, store_in}
+use Rattle.nfs_engine.specs.Book.{Begins, BookValue, Commits, GivesUp, IsUnknown, Leads, Repeats, Steps, StillRuns, new_txn, store_in}
 use Rattle.nfs_engine.specs.Calls.{FinishedValue, PendingValue, TxnValue, pending_of, txn_of}
 use Rattle.nfs_engine.specs.Commits.{IsReceipt}
-use Rattle.nfs_engine.specs.Engine.{EngineValue, IsAcquired, IsLeaving, IsReleased, IsReserved, IsRunning, KeepsOthers, LeadsTo, Lives, Releases, held_among, release_of, slot_among}
+use Rattle.nfs_engine.specs.Engine.{EngineValue, IsAcquired, IsReleased, IsReserved, IsRunning, KeepsOthers, Lives, held_among, release_of, slot_among}
 use Rattle.nfs_engine.specs.Holders.{Excludes}
 use Rattle.nfs_engine.specs.Releases.{ReleaseValue}
+use Rattle.nfs_engine.specs.Repeats.{Keeps, RepeatValue, kept_for, origin_of}
 use Rattle.nfs_engine.specs.Running.{running_at, without_call}
 use Rattle.nfs_engine.specs.declared.admission.Refused as given
 use Rattle.nfs_engine.specs.declared.arrival.Reading.TheVariants as readings
 use Rattle.nfs_engine.specs.declared.asking.Asked.{Asked}
 use Rattle.nfs_engine.specs.declared.journal.Receipt.{Receipt}
-use Rattle.nfs_engine.specs.declared.release.Next.TheVariants as next
-use Rattle.nfs_engine.specs.declared.release.Then.{Then}
 use Rattle.nfs_engine.specs.declared.release.Then.TheVariants as then
 use Rattle.nfs_engine.specs.declared.running.Running.{Running}
 use Rattle.nfs_engine.specs.declared.shard.ReserveError.{ReserveError}
@@ -36,6 +36,7 @@ use Rattle.nfs_schedule.proofs.Rest.{places_without}
 use Rattle.nfs_schedule.proofs.Steps.{keeps_book}
 use Rattle.nfs_schedule.specs.Answers.{IsRefused}
 use Rattle.nfs_schedule.specs.Executions.{Answers, Ends, Frees, GoesOn, HoldsAlone, IsAlone}
+use Rattle.nfs_schedule.specs.Stops.{LetsAllGo}
 use Rattle.nfs_schedule.specs.Turns.{Executes, KeepsStore}
 use Rattle.nfs_schedule.specs.Workers.{IsSuited}
 use Rattle.nfs_schedule.specs.Worlds.{IsAtRest}
@@ -122,64 +123,16 @@ goes_alone e f t u alone g = record {
 }
 
 -- ---- a release
--- how many shards are not yet free
-abbrev pub still_held : List Bool → ℕ
-still_held [] = 0
-still_held (true ∷ done) = still_held done
-still_held (false ∷ done) = suc (still_held done)
-
-pub fewer_held : (done : List Bool) (k : ℕ) → k < length done → slice_index_or done k false ≡ false →
-    still_held (slice_set done k true) < still_held done
-fewer_held [] k h is = absurd (omega (arith, h))
-fewer_held (true ∷ done) zero h is = cc
-fewer_held (false ∷ done) zero h is = let less : still_held done < suc (still_held done) = omega arith in less
-fewer_held (true ∷ done) (suc k) h is = fewer_held done k (omega (arith, h)) is
-fewer_held (false ∷ done) (suc k) h is =
-    let fewer = fewer_held done k (omega (arith, h)) is in omega (arith, fewer)
-
--- some shards are let go, and the rest are still to be
-pub record Releasing (e f : EngineValue) (r s : ReleaseValue) : Type 0 where
-  pub leaving : IsLeaving f s
-  pub alone : HoldsAlone f s.id
-  pub book : f.book ≡ e.book
-  pub after : s.after ≡ r.after
-
-pub releasing_none : (e : EngineValue) (r : ReleaseValue) → IsLeaving e r → HoldsAlone e r.id → Releasing e e r r
-releasing_none e r leaving alone = record { leaving = leaving; alone = alone; book = refl; after = refl }
-
-module _ (e f g : EngineValue) (r s : ReleaseValue) (l : Releasing e f r s) (k : KeepsOthers s.id f g)
-    (same : g.book ≡ f.book) where
-  alone_on : HoldsAlone g s.id
-  alone_on a j other = k.holds a j other ∙ l.alone a j other
-
-  pub releasing_more : (left : ReleaseValue) → Releases g s (next.More left) → Releasing e g r left
-  releasing_more left is = record {
-    leaving = is.0;
-    alone = subst (λ i. HoldsAlone g i) (sym (ap (λ (x : ReleaseValue). x.id) is.4)) alone_on;
-    book = same ∙ l.book;
-    after = ap (λ (x : ReleaseValue). x.after) is.4 ∙ l.after;
-  }
-
-  pub releasing_fewer : (left : ReleaseValue) → Releases g s (next.More left) → still_held left.done < still_held s.done
-  releasing_fewer left is =
-      subst (λ (x : ReleaseValue). still_held x.done < still_held s.done) (sym is.4) (fewer_held s.done is.1 is.2 is.3)
-
-  all_free : ((a : Addr) → held_among g.shards a s.id ≡ None) → (a : Addr) (j : ℕ) → held_among g.shards a j ≡ None
-  all_free own a j = alike_or j s.id
-      (λ here. ap (λ i. held_among g.shards a i) here ∙ own a)
-      (λ other. alone_on a j other)
-
-  pub frees_ended : Releases g s next.Ended → Frees e g r None
-  frees_ended is = record { book = same ∙ l.book; held = all_free is.1; is_left = sym l.after ∙ is.0 }
-
-  pub frees_aborted : (p : PendingValue) → Releases g s (next.Aborted p) → Frees e g r (Some p)
-  frees_aborted p is =
-      let own : p.id ≡ s.id = (subst (λ (x : Then). LeadsTo f s.id x) is.0 l.leaving.after).0 in
-      record {
-        book = same ∙ l.book;
-        held = all_free (λ a. ap (λ i. held_among g.shards a i) (sym own) ∙ is.1.holds.exactly a);
-        is_left = (sym l.after ∙ is.0, is.1);
-      }
+-- what it lets go is all that was held
+pub frees_all : (e f : EngineValue) (r : ReleaseValue) (left : Option PendingValue) → HoldsAlone e r.id →
+    LetsAllGo e f r left → Frees e f r left
+frees_all e f r left alone lets = record {
+  book = lets.book;
+  held = λ a j. alike_or j r.id
+      (λ here. ap (λ i. held_among f.shards a i) here ∙ lets.nothing a)
+      (λ other. lets.others.holds a j other ∙ alone a j other);
+  leads = lets.leads;
+}
 
 -- ---- the end of a call
 is_none : {X : Type 0} (o : Option X) → (IsSome o → ⊥) → o ≡ None
@@ -193,11 +146,11 @@ taken_out (x ∷ l) zero = refl
 taken_out (x ∷ l) (suc k) = taken_out l k
 
 -- a call that is over was the only one
-none_running : (e f : EngineValue) (id key : ℕ) → IsRunning e key id →
+none_running : (e f : EngineValue) (id key : ℕ) (o : Option Origin) → IsRunning e key id o →
     ((k : ℕ) → k ≢ key → running_at e.book.living k ≡ None) → f.book.living ≡ without_call e.book.living key id →
     (p : PendingValue) → p.key ≡ key → (k : ℕ) → running_at f.book.living k ≡ None
-none_running e f id key r alone is p at k = is_none (running_at f.book.living k)
-    (λ some. elim (places_without e f (Refusing p) Idle key id r (ap Some at) is k some) [
+none_running e f id key o r alone is p at k = is_none (running_at f.book.living k)
+    (λ some. elim (places_without e f (Refusing p) Idle key id o r (ap Some at) is k some) [
       | inl here ↦ cc
       | inr was ↦ absurd (let none : IsSome {T = Running} None = subst (λ (o : Option Running). IsSome o)
           (alone k (λ same. was.1 (ap Some (at ∙ sym same)))) was.0 in cc)
@@ -208,7 +161,8 @@ pub rests_committed : (e f g : EngineValue) (d : FinishedValue) (r : ReleaseValu
     Lives e (txn_of d) → IsAlone e d.id d.key → Executes e f d receipt → Frees f g r None → IsAtRest g
 rests_committed e f g d r receipt lives alone x free = record {
   running = λ k. ap (λ (b : BookValue). running_at b.living k) free.book
-      ∙ none_running e f d.id d.key lives.running alone.running (ap (λ (b : BookValue). b.living) x.commits.rest)
+      ∙ none_running e f d.id d.key (origin_of d.received d.done.call) lives.running alone.running
+      (ap (λ (b : BookValue). b.living) x.commits.rest)
       (pending_of (txn_of d)) refl k;
   held = free.held;
 }
@@ -223,6 +177,9 @@ pub executes_on : (e f g : EngineValue) (d : FinishedValue) (receipt : Receipt) 
     g.book ≡ f.book → Executes e g d receipt
 executes_on e f g d receipt x same = record {
   commits = subst (λ (b : BookValue). Commits e.book b d) (sym same) x.commits;
+  keeps =
+      subst (λ (b : BookValue). Keeps (origin_of d.received d.done.call) (success_message d.xid d.done.change.reply)
+      e.book.replies b.replies) (sym same) x.keeps;
   step = subst (λ (b : BookValue). Steps e.book b d.done) (sym same) x.step;
   leads = subst (λ (b : BookValue). Leads e.book b) (sym same) x.leads;
   receipt_is = x.receipt_is;
@@ -240,6 +197,7 @@ ends_executed e f g d r receipt x free = record {
 refused_ends : (e f : EngineValue) (t : TxnValue) (answer : Answer) → KeepsStore e f →
     IsRefused t.received (record { xid = t.xid; ids = t.ctx.ids; call = t.call }) answer → Ends e f t answer
 refused_ends e f t (answers.Executed receipt) keeps is = absurd is
+refused_ends e f t (answers.Repeated kept) keeps is = absurd is
 refused_ends e f t (answers.Refused declined) keeps is = (keeps, is)
 refused_ends e f t (answers.Early faulted) keeps is = absurd is
 refused_ends e f t (answers.Unanswered received) keeps is = absurd is
@@ -251,7 +209,7 @@ module _ (e f g : EngineValue) (t : TxnValue) (r : ReleaseValue) (p : PendingVal
   own : p ≡ pending_of t
   own =
       let both : then.Aborted p ≡ then.Aborted (pending_of t) =
-      sym free.is_left.0 ∙ ap (λ (x : ReleaseValue). x.after) is in
+      sym free.leads.0 ∙ ap (λ (x : ReleaseValue). x.after) is in
       cc
 
   keeps : KeepsStore e g
@@ -265,7 +223,7 @@ module _ (e f g : EngineValue) (t : TxnValue) (r : ReleaseValue) (p : PendingVal
 
   pub rests_declined : IsAtRest g
   rests_declined = record {
-    running = none_running e g t.id t.key lives.running alone.running
+    running = none_running e g t.id t.key (origin_of t.received t.call) lives.running alone.running
         (ap (λ (b : BookValue). b.living) gives.rest
         ∙ ap (λ (b : BookValue). without_call b.living p.key p.id) free.book
         ∙ ap (λ (q : PendingValue). without_call e.book.living q.key q.id) own) (pending_of t) refl;
@@ -286,6 +244,9 @@ executes_from : (e f g : EngineValue) (d : FinishedValue) (receipt : Receipt) �
     f.book ≡ e.book → Executes e g d receipt
 executes_from e f g d receipt x same = record {
   commits = subst (λ (b : BookValue). Commits b g.book d) same x.commits;
+  keeps =
+      subst (λ (b : BookValue). Keeps (origin_of d.received d.done.call) (success_message d.xid d.done.change.reply)
+      b.replies g.book.replies) same x.keeps;
   step = subst (λ (b : BookValue). Steps b g.book d.done) same x.step;
   leads = subst (λ (b : BookValue). Leads b g.book) same x.leads;
   receipt_is = subst (λ (b : BookValue). IsReceipt (b.before + length b.records + 1) d receipt) same x.receipt_is;
@@ -305,6 +266,7 @@ ends_moved e f g t u (answers.Executed receipt) book call x = record {
   call = x.call ∙ ap (λ (v : TxnValue). record v { view = x.done.done.view }) call;
   executes = executes_from e f g x.done receipt x.executes book;
 }
+ends_moved e f g t u (answers.Repeated kept) book call x = absurd x
 ends_moved e f g t u (answers.Refused declined) book call x = (
   keeps_from e f g x.0 book,
   subst (λ (v : TxnValue). IsRefused v.received (record { xid = v.xid; ids = v.ctx.ids; call = v.call }) (answers.Refused declined))
@@ -319,6 +281,11 @@ ends_after e f g t u answer on x = ends_moved e f g t u answer on.book on.call x
 
 -- ---- a record that came in
 module _ (e b g : EngineValue) (a : ArrivalValue) (t : TxnValue) (begins : Begins e.book b.book a t) where
+  unkept_of : (o : Option Origin) → IfSome o (IsUnknown e.book) →
+      IfSome o (λ x. kept_for e.book.replies x ≡ None)
+  unkept_of None unknown = tt
+  unkept_of (Some x) unknown = unknown.unkept
+
   pub answers_begun : (answer : Answer) → Ends b g t answer → Answers e g a answer
   answers_begun (answers.Executed receipt) x =
       let same : txn_of x.done ≡ record t { view = x.done.done.view } = x.call in
@@ -327,6 +294,7 @@ module _ (e b g : EngineValue) (a : ArrivalValue) (t : TxnValue) (begins : Begin
       record {
         asked = begins.asked;
         asks = begins.asks;
+        unkept = unkept_of (origin_of a.received begins.asked.call) begins.unknown;
         begun = b;
         begins = begins_keeps e b a t begins;
         done = x.done;
@@ -336,6 +304,7 @@ module _ (e b g : EngineValue) (a : ArrivalValue) (t : TxnValue) (begins : Begin
         ctx = ap (λ (v : TxnValue). v.ctx) began;
         executes = x.executes;
       }
+  answers_begun (answers.Repeated kept) x = absurd x
   answers_begun (answers.Refused declined) x = (
     begins.asked,
     begins.asks,
@@ -349,7 +318,22 @@ module _ (e b g : EngineValue) (a : ArrivalValue) (t : TxnValue) (begins : Begin
 pub answers_refused : (e f : EngineValue) (a : ArrivalValue) (asked : Asked) (answer : Answer) →
     a.reading ≡ readings.Asks asked → f ≡ e → IsRefused a.received asked answer → Answers e f a answer
 answers_refused e f a asked (answers.Executed receipt) asks same is = absurd is
+answers_refused e f a asked (answers.Repeated kept) asks same is = absurd is
 answers_refused e f a asked (answers.Refused declined) asks same is =
     (asked, asks, keeps_book e f (ap (λ (x : EngineValue). x.book) same), is)
 answers_refused e f a asked (answers.Early faulted) asks same is = absurd is
 answers_refused e f a asked (answers.Unanswered received) asks same is = absurd is
+
+-- ---- a record that came before
+pub repeat_rests : (e f : EngineValue) (a : ArrivalValue) (kept : RepeatValue) → Repeats e.book f.book a kept →
+    f.shards ≡ e.shards → IsAtRest e → IsAtRest f
+repeat_rests e f a kept r shards rest = record {
+  running = λ k. ap (λ (b : BookValue). running_at b.living k) r.rest ∙ rest.running k;
+  held = λ x j. ap (λ s. held_among s x j) shards ∙ rest.held x j;
+}
+
+-- where no call is in progress none came with the same
+pub none_still_runs : (e f : EngineValue) (a back : ArrivalValue) → IsAtRest e →
+    StillRuns e.book f.book a back → ⊥
+none_still_runs e f a back rest runs =
+    let none : None ≡ Some runs.running.1.running = sym (rest.running runs.running.0) ∙ runs.running.1.there in cc

@@ -2,35 +2,48 @@
 use Rattle.std.proofs.Common.{ℕ, List, [], ◌∷◌, ◌++◌, Option, Some, None, inl, inr, refl, sym, ◌∙◌, ap, subst, append_assoc, append-nil}
 use Rattle.std.specs.Io.KnownBytes.{Appends}
 use Rattle.nfs_machine.specs.Run.{Setting, Arrival, FromHost, Record, Run}
-use Rattle.nfs_machine.specs.State.{State}
 use Rattle.nfs_machine.specs.declared.moment.Moment.{Moment}
 use Rattle.nfs_machine.proofs.Runs.{run-append}
 use Rattle.nfs_engine.specs.Engine.{EngineValue}
-use Rattle.nfs_schedule.specs.Serving.{AreFrom, AnswersArrival, Serves, Ticks}
-use Rattle.nfs_schedule.specs.Served.{IsState, Answered, AreAnswered, EndsBy, Goes, Stops, IsAnswered}
+use Rattle.nfs_schedule.specs.Serving.{AreFrom, AnswersArrival, Serves, Standing, Ticks}
+use Rattle.nfs_schedule.specs.Served.{StandsAt, Answered, AreAnswered, EndsBy, Goes, Stops, IsAnswered}
 use Rattle.nfs_schedule.specs.declared.serving.StreamFault.{StreamFault}
 
 -- an answer adds one step or none
-answer_run : (setting : Setting) (old new : State) (arrival : Arrival) (answer : List ℕ) (records : List Record) → AnswersArrival setting old arrival answer records new → Run setting old records new
-answer_run setting old new (FromHost received) answer records (inl early) = subst
-    (λ (rs : List Record). Run setting old rs new) (sym early.nothing) early.unchanged
-answer_run setting old new (FromHost received) answer records (inr (inl refused)) = subst
-    (λ (rs : List Record). Run setting old rs new) (sym refused.nothing) refused.unchanged
-answer_run setting old new (FromHost received) answer records (inr (inr executed)) = subst
-    (λ (rs : List Record). Run setting old rs new) (sym executed.one)
-    (new, record { ctx = executed.ctx; call = executed.call; asks = executed.asks; step = executed.step }, refl)
+answer_run : (setting : Setting) (old new : Standing) (arrival : Arrival) (answer : List ℕ)
+    (records : List Record) → AnswersArrival setting old arrival answer records new → Run setting old.state records new.state
+answer_run setting old new (FromHost received) answer records (inl early) =
+    subst (λ (rs : List Record). Run setting old.state rs new.state) (sym early.nothing)
+    (ap (λ (x : Standing). x.state) early.unchanged)
+answer_run setting old new (FromHost received) answer records (inr (inl refused)) =
+    subst (λ (rs : List Record). Run setting old.state rs new.state) (sym refused.nothing)
+    (ap (λ (x : Standing). x.state) refused.unchanged)
+answer_run setting old new (FromHost received) answer records (inr (inr (inl repeated))) =
+    subst (λ (rs : List Record). Run setting old.state rs new.state) (sym repeated.nothing)
+    (ap (λ (x : Standing). x.state) repeated.front)
+answer_run setting old new (FromHost received) answer records (inr (inr (inr executed))) =
+    subst (λ (rs : List Record). Run setting old.state rs new.state) (sym executed.one) (
+      new.state,
+      record { ctx = executed.ctx; call = executed.call; asks = executed.asks; step = executed.step },
+      refl,
+    )
 
-pub served_run : (setting : Setting) (old new : State) (arrivals : List Arrival) (written : List ℕ) (records : List Record) → Serves setting old arrivals written records new → Run setting old records new
-served_run setting old new [] written records served = subst (λ (rs : List Record). Run setting old rs new) (sym served.1) served.2
+pub served_run : (setting : Setting) (old new : Standing) (arrivals : List Arrival) (written : List ℕ)
+    (records : List Record) → Serves setting old arrivals written records new →
+    Run setting old.state records new.state
+served_run setting old new [] written records served =
+    subst (λ (rs : List Record). Run setting old.state rs new.state) (sym served.1)
+    (ap (λ (x : Standing). x.state) served.2)
 served_run setting old new (arrival ∷ arrivals) written records (answer, others, first, later, mid, w, r, now, then) =
-    subst (λ (rs : List Record). Run setting old rs new) (sym r)
-    (run-append setting old mid new first later (answer_run setting old mid arrival answer first now) (served_run setting mid new arrivals others later then))
+    subst (λ (rs : List Record). Run setting old.state rs new.state) (sym r)
+    (run-append setting old.state mid.state new.state first later
+    (answer_run setting old mid arrival answer first now) (served_run setting mid new arrivals others later then))
 
-served_join : (setting : Setting) (first mid last : State) (earlier later : List Arrival) (w x : List ℕ) (r s : List Record) → Serves setting first earlier w r mid → Serves setting mid later x s last
+served_join : (setting : Setting) (first mid last : Standing) (earlier later : List Arrival) (w x : List ℕ) (r s : List Record) → Serves setting first earlier w r mid → Serves setting mid later x s last
     → Serves setting first (earlier ++ later) (w ++ x) (r ++ s) last
 served_join setting first mid last [] later w x r s a b =
     subst (λ (v : List ℕ). Serves setting first later (v ++ x) (r ++ s) last) (sym a.0)
-    (subst (λ (q : List Record). Serves setting first later x (q ++ s) last) (sym a.1) (subst (λ (m : State). Serves setting m later x s last) a.2 b))
+    (subst (λ (q : List Record). Serves setting first later x (q ++ s) last) (sym a.1) (subst (λ (m : Standing). Serves setting m later x s last) a.2 b))
 served_join setting first mid last (arrival ∷ earlier) later w x r s (answer, others, now, then, next, we, re, answers, serves) b = (
   answer,
   others ++ x,
@@ -68,7 +81,7 @@ module _ {Clock : Type 0} (gives : Clock → Moment → Clock → Type 0) (host 
 
   module _ (first mid last : Clock) (c d : List (List ℕ)) (old new newest : EngineValue) where
     module _ (w x : List ℕ) (a : AreAnswered gives host c first mid old new w) (b : AreAnswered gives host d mid last new newest x) where
-      joined : (m : State) → IsState old m → Answered gives host (c ++ d) first last old newest (w ++ x) m
+      joined : (m : Standing) → StandsAt old m → Answered gives host (c ++ d) first last old newest (w ++ x) m
       joined m stands =
           let one = a.each m stands in
           let two = b.each one.after one.stands in

@@ -7,8 +7,11 @@ use Rattle.nfs_engine.specs.Engine.{EngineValue, KeepsAll, held_among}
 use Rattle.nfs_engine.specs.Running.{running_at}
 use Rattle.nfs_engine.specs.Shards.{ShardValue}
 use Rattle.nfs_engine.specs.declared.running.Running.{Running}
-use Rattle.nfs_schedule.proofs.Others.{worker_known, worker_on}
+use Rattle.nfs_schedule.proofs.Grown.{turn_grown}
+use Rattle.nfs_schedule.proofs.Others.{worker_known}
+use Rattle.nfs_schedule.proofs.Rest.{all_on}
 use Rattle.nfs_schedule.proofs.Steps.{thinks_on}
+use Rattle.nfs_schedule.specs.Grown.{IsGrown}
 use Rattle.nfs_schedule.specs.Stops.{IsStop}
 use Rattle.nfs_schedule.specs.Turns.{Turns}
 use Rattle.nfs_schedule.specs.Workers.{KeepsRest, WorkerLives, worker_id, worker_key}
@@ -49,7 +52,7 @@ rest_thought e f w t v ids keys rest = record {
 }
 
 module _ (e f : EngineValue) (ws : List Worker) (i : ℕ) (w v : Worker) (kept : IsKept e ws)
-    (at : slice_get ws i ≡ Some w) (lives : WorkerLives f v) (rest : KeepsRest e f w v) where
+    (at : slice_get ws i ≡ Some w) (lives : WorkerLives f v) (grown : IsGrown v) (rest : KeepsRest e f w v) where
   here : (j : ℕ) (u : Worker) → j ≡ i → slice_get (set ws i v) j ≡ Some u → v ≡ u
   here j u same is =
       let there : slice_get (set ws i v) j ≡ Some v =
@@ -67,6 +70,12 @@ module _ (e f : EngineValue) (ws : List Worker) (i : ℕ) (w v : Worker) (kept :
       (λ other. rest.others u
       (λ x ux wx. other (sym (kept.apart i j w u x at (before j u other is) wx ux)))
       (kept.lives j u (before j u other is)))
+
+  grown_after : (j : ℕ) (u : Worker) → slice_get (set ws i v) j ≡ Some u → IsGrown u
+  grown_after j u is =
+      alike_or j i
+      (λ same. subst (λ (x : Worker). IsGrown x) (here j u same is) grown)
+      (λ other. kept.grown j u (before j u other is))
 
   -- the turning worker's number is its old one or a new one, so no other has it
   unique : (j : ℕ) (u : Worker) (x : ℕ) → j ≢ i → slice_get ws j ≡ Some u → worker_id v ≡ Some x →
@@ -114,6 +123,7 @@ module _ (e f : EngineValue) (ws : List Worker) (i : ℕ) (w v : Worker) (kept :
   pub kept_on : IsKept f (set ws i v)
   kept_on = record {
     lives = lives_after;
+    grown = grown_after;
     apart = apart_after;
     running = λ key some. elim (rest.running key some) [
       | inl is ↦ mine worker_key key is
@@ -132,28 +142,21 @@ pub kept_turn : (e f : EngineValue) (queue later : List ArrivalValue) (shard : �
 kept_turn e f queue later shard ws i w v answer kept at turns =
     let on = thinks_on e w turns.thought turns.thinks (kept.lives i w at) in
     kept_on e f ws i w v kept at turns.step.lives
+    (turn_grown e f queue later shard w v answer turns (kept.grown i w at))
     (rest_thought e f w turns.thought v on.ids on.keys turns.step.rest)
 
 -- ---- a stop
 pub kept_stop : (e f : EngineValue) (ws : List Worker) (i : ℕ) (w : Worker) (answer : Option Answer) → IsKept e ws →
     slice_get ws i ≡ Some w → IsStop e f w answer → IsKept f (set ws i Idle)
-kept_stop e f ws i w answer kept at stop = kept_on e f ws i w Idle kept at tt stop.rest
+kept_stop e f ws i w answer kept at stop = kept_on e f ws i w Idle kept at tt tt stop.rest
 
 -- ---- a step that concerns the book alone
-abbrev next_of : Option ℕ → ℕ
-next_of None = 0
-next_of (Some j) = suc j
-
-other_than : (o : Option ℕ) (j : ℕ) → o ≡ Some j → j ≢ next_of o
-other_than None j is = λ same. (let none_is_one : None ≡ Some j = is in cc)
-other_than (Some i) j is = λ same. (let one : i ≡ j = cc in omega (arith, one, same))
-
 -- each call, and whoever holds an address, is as it was
 pub kept_all : (e f : EngineValue) (ws : List Worker) → KeepsAll e f → f.shards ≡ e.shards →
     f.book.living ≡ e.book.living → IsKept e ws → IsKept f ws
 kept_all e f ws all shards living k = record {
-  lives = λ i w at. worker_on (next_of (worker_id w)) e f (all (next_of (worker_id w))) w
-      (λ j is. other_than (worker_id w) j is) (k.lives i w at);
+  lives = λ i w at. all_on e f all w (k.lives i w at);
+  grown = k.grown;
   apart = k.apart;
   running = λ key some.
       k.running key (subst (λ (l : List (Option Running)). IsSome (running_at l key)) living some);
@@ -176,6 +179,7 @@ none_of (Some x) is some = cc
 pub kept_idle : (e : EngineValue) (n : ℕ) → IsAtRest e → IsKept e (replicate n Idle)
 kept_idle e n rest = record {
   lives = λ i w is. subst (λ (x : Worker). WorkerLives e x) (sym (all_idle n i w is)) tt;
+  grown = λ i w is. subst (λ (x : Worker). IsGrown x) (sym (all_idle n i w is)) tt;
   apart = λ i j w v id isw isv wx vx. absurd (idle_has_none w id (all_idle n i w isw) wx);
   running = λ key some. absurd (none_of (running_at e.book.living key) (rest.running key) some);
   held = λ a id some. absurd (none_of (held_among e.shards a id) (rest.held a id) some);
@@ -222,6 +226,7 @@ someones_first number ws n idle s = elim (get_first ws s.place s.worker s.there)
 kept_first : (e : EngineValue) (ws : List Worker) → IsKept e (ws ++ Idle ∷ []) → IsKept e ws
 kept_first e ws k = record {
   lives = λ i w at. k.lives i w (got_first ws i w at);
+  grown = λ i w at. k.grown i w (got_first ws i w at);
   apart = λ i j w v id isw isv. k.apart i j w v id (got_first ws i w isw) (got_first ws j v isv);
   running = λ key some. someones_first worker_key ws key refl (k.running key some);
   held = λ a id some. someones_first worker_id ws id refl (k.held a id some);

@@ -1,8 +1,11 @@
 pub mod Alone
 pub mod Answering
+pub mod AtRest
 pub mod Built
 pub mod Driven
+pub mod Few
 pub mod Filling
+pub mod Grown
 pub mod Joins
 pub mod Kept
 pub mod Loops
@@ -10,6 +13,7 @@ pub mod Nothing
 pub mod Ordered
 pub mod Others
 pub mod Pieces
+pub mod Refusing
 pub mod Rest
 pub mod Runs
 pub mod Steps

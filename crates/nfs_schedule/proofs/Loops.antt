@@ -78,10 +78,6 @@ pub puts_gathered : (before : Option (List ℕ)) (held kept answer : List ℕ) �
     Puts before before held kept answer
 puts_gathered before held kept answer is = record { sent = []; whole = sym is; written = appends_nothing before }
 
--- nothing more is to be written
-pub puts_nothing : (before : Option (List ℕ)) (held : List ℕ) → Puts before before held held []
-puts_nothing before held = record { sent = []; whole = append-nil held; written = appends_nothing before }
-
 -- a beginning of what was gathered
 pub part_held : (before after : Option (List ℕ)) (was held answer : List ℕ) → was ≡ held →
     WritesPart before after was → WritesPart before after (held ++ answer)
@@ -155,14 +151,6 @@ module _ {Clock : Type 0} (gives : Clock → Moment → Clock → Type 0) (host 
   put_fails P (Err e) part fault is a =
       subst (λ (f : StreamFault). FailsBy gives host f hand first last old new before after held) (sym fault.0)
       (inl (put_cut part is a))
-
--- what is dropped is answered by nothing
-pub dropped_adds : {Clock : Type 0} (gives : Clock → Moment → Clock → Type 0) (host hand : List ℕ) (first last : Clock)
-    (old new : EngineValue) (written : Option (List ℕ)) (held : List ℕ) →
-    AreAnswered gives host (hand ∷ []) first last old new [] →
-    Adds gives host hand first last old new written written held held
-dropped_adds gives host hand first last old new written held a =
-    record { answer = []; puts = puts_nothing written held; answered = a }
 
 pub unanswered : {Clock : Type 0} (gives : Clock → Moment → Clock → Type 0) (hand : List ℕ) (first last : Clock)
     (old new : EngineValue) (moment : Moment) → gives first moment last → ExecutesNothing old new →

@@ -6,6 +6,7 @@ use Rattle.nfs_objects.specs.declared.modes.Mode.TheVariants.{Shared, Exclusive}
 use Rattle.nfs_engine.specs.Calls.{TxnValue, txn_of}
 use Rattle.nfs_engine.specs.Engine.{IsTied, Lives, slot_among}
 use Rattle.nfs_engine.specs.Holders.{hold_in, is_among}
+use Rattle.nfs_schedule.proofs.Few.{reads_few}
 use Rattle.nfs_schedule.specs.Order.{IsOrderly, IsReading, executed_by}
 use Rattle.nfs_schedule.specs.Workers.{WorkerLives}
 use Rattle.nfs_schedule.specs.Worlds.{IsKept, WorldValue}
@@ -63,4 +64,5 @@ orderly w tied kept = record {
       one_alone (slot_among w.engine.shards a).holders.alone (slot_among w.engine.shards a).holders.beside i j is some;
   held = kept.held;
   reads = λ i u t there is. reads w u t is (kept.lives i u there);
+  few = λ i u t there is. reads_few u t is (kept.grown i u there);
 }

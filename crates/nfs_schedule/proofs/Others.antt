@@ -10,10 +10,12 @@ use Rattle.nfs_objects.specs.declared.address.Addr.{Addr}
 use Rattle.nfs_objects.specs.declared.address.Addr.TheVariants.{Inode}
 use Rattle.nfs_objects.specs.declared.modes.Mode.{Mode}
 use Rattle.nfs_objects.specs.declared.view.Reserved.{Reserved}
+use Rattle.nfs_replies.specs.declared.origins.Origin.{Origin}
 use Rattle.nfs_engine.specs.Book.{store_in}
 use Rattle.nfs_engine.specs.Calls.{IsUnder, TxnValue, again_of, txn_of}
 use Rattle.nfs_engine.specs.Engine.{EngineValue, Holds, IsLeaving, IsRunning, KeepsOthers, LeadsTo, Lives, held_among, kept_by, mode_in, shard_among}
 use Rattle.nfs_engine.specs.Releases.{ReleaseValue}
+use Rattle.nfs_engine.specs.Repeats.{origin_of}
 use Rattle.nfs_engine.specs.declared.release.Then.{Then}
 use Rattle.nfs_engine.specs.declared.release.Then.TheVariants.{Aborted, Ended}
 use Rattle.nfs_schedule.specs.Workers.{WorkerLives, worker_id}
@@ -49,11 +51,12 @@ module _ (id : ℕ) (e f : EngineValue) (k : KeepsOthers id e f) where
     known = (let more = k.ids in let was = h.known in omega (arith, more, was));
   }
 
-  pub running_on : (key j : ℕ) → j ≢ id → IsRunning e key j → IsRunning f key j
-  running_on key j apart r = record {
+  pub running_on : (key j : ℕ) (o : Option Origin) → j ≢ id → IsRunning e key j o → IsRunning f key j o
+  running_on key j o apart r = record {
     running = r.running;
     there = k.living key r.running (λ is. apart (sym r.same ∙ is)) r.there;
     same = r.same;
+    came = r.came;
   }
 
   pub under_on : (ctx : Ctx) → IsUnder e.book.setting ctx → IsUnder f.book.setting ctx
@@ -90,13 +93,13 @@ module _ (id : ℕ) (e f : EngineValue) (k : KeepsOthers id e f) where
           all-map (λ (r : Reserved). r.generation < (shard_among e.shards (r.number % 16)).next_generation)
           (λ (r : Reserved). r.generation < (shard_among f.shards (r.number % 16)).next_generation)
           (λ r is. (let more = k.generations (r.number % 16) in omega (arith, is, more))) t.view.reserved lives.fresh;
-      running = running_on t.key t.id apart lives.running;
+      running = running_on t.key t.id (origin_of t.received t.call) apart lives.running;
       under = under_on t.ctx lives.under;
     }
 
   leads_on : (j : ℕ) (after : Then) → j ≢ id → LeadsTo e j after → LeadsTo f j after
   leads_on j (Aborted p) apart l =
-      (l.0, running_on p.key p.id (λ is. apart (sym l.0 ∙ is)) l.1, under_on p.ctx l.2)
+      (l.0, running_on p.key p.id (origin_of p.received p.call) (λ is. apart (sym l.0 ∙ is)) l.1, under_on p.ctx l.2)
   leads_on j Ended apart l = tt
 
   pub leaving_on : (r : ReleaseValue) → r.id ≢ id → IsLeaving e r → IsLeaving f r

@@ -4,8 +4,9 @@ use Rattle.std.specs.Cmp.{unsigned_Decides}
 use Rattle.std.proofs.lemmas.List.{get_or-set_other}
 use Rattle.nfs_objects.specs.declared.address.Addr.{Addr}
 use Rattle.nfs_objects.specs.declared.modes.Mode.{Mode}
+use Rattle.nfs_replies.specs.declared.origins.Origin.{Origin}
 use Rattle.nfs_engine.proofs.Lifted.{alike_or}
-use Rattle.nfs_engine.specs.Engine.{EngineValue, IsRunning, KeepsOthers, held_among}
+use Rattle.nfs_engine.specs.Engine.{EngineValue, IsRunning, KeepsAll, KeepsOthers, held_among}
 use Rattle.nfs_engine.specs.Running.{Joins, running_at, without_call}
 use Rattle.nfs_engine.specs.declared.running.Running.{Running}
 use Rattle.nfs_schedule.proofs.Others.{worker_known, worker_on}
@@ -99,10 +100,10 @@ gone l k id r there same =
     ∙ ap (λ t. cond t (set l k None) l) ((unsigned_Decides r.id id).1 same)
 
 -- the worker's call is no longer in progress
-pub places_without : (e f : EngineValue) (w v : Worker) (k id : ℕ) → IsRunning e k id → worker_key w ≡ Some k →
+pub places_without : (e f : EngineValue) (w v : Worker) (k id : ℕ) (o : Option Origin) → IsRunning e k id o → worker_key w ≡ Some k →
     f.book.living ≡ without_call e.book.living k id → (key : ℕ) → IsSome (running_at f.book.living key) →
     (worker_key v ≡ Some key) ⊎ (IsSome (running_at e.book.living key) × (worker_key w ≢ Some key))
-places_without e f w v k id r at is key some =
+places_without e f w v k id o r at is key some =
     let now : IsSome (get_or (set e.book.living k None) key None) =
     subst (λ (l : List (Option Running)). IsSome (running_at l key))
     (is ∙ gone e.book.living k id r.running r.there r.same) some in
@@ -115,15 +116,38 @@ places_without e f w v k id r at is key some =
     ))
 
 -- ---- a call that begins
-pub rest_begun : (e f : EngineValue) (v : Worker) (id key : ℕ) → KeepsOthers id e f → id ≡ e.book.next_id →
-    worker_id v ≡ Some id → worker_key v ≡ Some key → Joins e.book.living f.book.living key id →
+pub rest_begun : (e f : EngineValue) (v : Worker) (id key : ℕ) (o : Option Origin) → KeepsOthers id e f → id ≡ e.book.next_id →
+    worker_id v ≡ Some id → worker_key v ≡ Some key → Joins e.book.living f.book.living key id o →
     f.shards ≡ e.shards → KeepsRest e f Idle v
-rest_begun e f v id key k next has at joins shards = record {
+rest_begun e f v id key o k next has at joins shards = record {
   others = λ u apart lives. worker_on id e f k u
       (λ j is same. (let below : j < e.book.next_id = worker_known e u j is lives in omega (arith, below, same, next))) lives;
   call = inr (inr (id, has, omega (arith, next)));
   running = λ place some. alike_or place key
       (λ same. inl (at ∙ ap Some (sym same)))
       (λ other. inr (subst (λ (o : Option Running). IsSome o) (joins.others place other) some, λ other. cc));
+  held = λ a j some. inr (subst (λ s. IsSome (held_among s a j)) shards some, λ other. cc);
+}
+
+-- ---- a step that concerns the book alone
+abbrev next_of : Option ℕ → ℕ
+next_of None = 0
+next_of (Some j) = suc j
+
+other_than : (o : Option ℕ) (j : ℕ) → o ≡ Some j → j ≢ next_of o
+other_than None j is = λ same. (let none_is_one : None ≡ Some j = is in cc)
+other_than (Some i) j is = λ same. (let one : i ≡ j = cc in omega (arith, one, same))
+
+-- what a worker has lives on where each call is as it was
+pub all_on : (e f : EngineValue) → KeepsAll e f → (u : Worker) → WorkerLives e u → WorkerLives f u
+all_on e f all u = worker_on (next_of (worker_id u)) e f (all (next_of (worker_id u))) u
+    (λ j is. other_than (worker_id u) j is)
+
+pub rest_all : (e f : EngineValue) → KeepsAll e f → f.shards ≡ e.shards → f.book.living ≡ e.book.living →
+    KeepsRest e f Idle Idle
+rest_all e f all shards living = record {
+  others = λ u apart. all_on e f all u;
+  call = inl refl;
+  running = places_same e f Idle Idle living refl;
   held = λ a j some. inr (subst (λ s. IsSome (held_among s a j)) shards some, λ other. cc);
 }

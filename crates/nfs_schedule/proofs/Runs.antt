@@ -39,6 +39,11 @@ effect_leads : (e f : EngineValue) (answer : Option Answer) → Effect e f answe
 effect_leads e f None is = store_leads e f is
 effect_leads e f (Some (answers.Executed receipt)) is =
     record { leads = is.1.leads; setting = ap (λ (b : BookValue). b.setting) is.1.commits.rest }
+effect_leads e f (Some (answers.Repeated kept)) is = record {
+  leads = same_leads e.book f.book (ap (λ (b : BookValue). b.records) is.rest)
+      (ap (λ (b : BookValue). b.objects) is.rest) (ap (λ (b : BookValue). b.setting) is.rest);
+  setting = ap (λ (b : BookValue). b.setting) is.rest;
+}
 effect_leads e f (Some (answers.Refused declined)) is = store_leads e f is
 effect_leads e f (Some (answers.Early faulted)) is = store_leads e f is
 effect_leads e f (Some (answers.Unanswered received)) is = store_leads e f is

@@ -21,14 +21,17 @@ use Rattle.nfs_objects.specs.declared.modes.Mode.{Mode}
 use Rattle.nfs_objects.specs.declared.modes.Mode.TheVariants.{Shared, Exclusive}
 use Rattle.nfs_objects.specs.declared.object.Object.{Object}
 use Rattle.nfs_objects.specs.declared.view.Reserved.{Reserved}
+use Rattle.nfs_replies.specs.Kept.ReplyEvent.{Repeated}
+use Rattle.nfs_replies.specs.Replies.{IsAfter}
 use Rattle.nfs_engine.proofs.Built.{asked-built}
 use Rattle.nfs_engine.proofs.Going.{seen_beside}
 use Rattle.nfs_engine.specs.Arrivals.{ArrivalValue, received_value}
-use Rattle.nfs_engine.specs.Book.{Begins, BookValue, GivesUp, store_in}
+use Rattle.nfs_engine.specs.Book.{Begins, BookValue, GivesUp, Repeats, StillRuns, store_in}
 use Rattle.nfs_engine.specs.Built.{IsBuilt}
 use Rattle.nfs_engine.specs.Calls.{FinishedValue, IsCalled, PendingValue, TxnValue, txn_of}
-use Rattle.nfs_engine.specs.Engine.{EngineValue, IsAcquired, IsLeaving, IsReleased, IsReserved, KeepsOthers, LeadsTo, Lives, Releases, Waits, held_among, release_of}
+use Rattle.nfs_engine.specs.Engine.{EngineValue, IsAcquired, IsLeaving, IsReleased, IsReserved, KeepsAll, KeepsOthers, LeadsTo, Lives, Releases, Waits, held_among, release_of}
 use Rattle.nfs_engine.specs.Releases.{ReleaseValue}
+use Rattle.nfs_engine.specs.Repeats.{RepeatValue, kept_for, origin_in, origin_of}
 use Rattle.nfs_engine.specs.Running.{without_call}
 use Rattle.nfs_engine.specs.declared.admission.Refused as given
 use Rattle.nfs_engine.specs.declared.asking.Asked.{Asked}
@@ -39,9 +42,10 @@ use Rattle.nfs_engine.specs.declared.shard.ReserveError.{ReserveError}
 use Rattle.nfs_engine.specs.declared.shard.ReserveError.TheVariants as refusals
 use Rattle.nfs_engine.specs.declared.taking.Got.TheVariants as got
 use Rattle.nfs_schedule.proofs.Others.{all_both}
-use Rattle.nfs_schedule.proofs.Rest.{places_same, places_without, rest_begun, rest_still, rest_with, rest_without}
-use Rattle.nfs_schedule.specs.Answers.{IsRefused}
-use Rattle.nfs_schedule.specs.Turns.{Declines, Effect, Executes, IsNamed, IsStep, KeepsStore, TakesFirst, after_all}
+use Rattle.nfs_schedule.proofs.Rest.{places_same, places_without, rest_all, rest_begun, rest_still, rest_with, rest_without}
+use Rattle.nfs_schedule.specs.Answers.{IsRefused, IsUnanswered}
+use Rattle.nfs_schedule.specs.Grown.{AsksFor}
+use Rattle.nfs_schedule.specs.Turns.{Admits, Declines, Effect, Executes, IsNamed, IsStep, KeepsStore, Recalls, TakesFirst, after_all}
 use Rattle.nfs_schedule.specs.Workers.{Comes, IsSuited, MayTake, MayThink, Thinks, Wants, WorkerLives, after_key, worker_id, worker_key}
 use Rattle.nfs_schedule.specs.declared.answer.Answer.{Answer}
 use Rattle.nfs_schedule.specs.declared.answer.Answer.TheVariants as answers
@@ -208,7 +212,8 @@ committed e f done r receipt after lives k leaving released executes = record {
   lives = leaving;
   rest =
       rest_with done.id e f (Ready done) (Leaving r after) k refl (ap Some released.id)
-      (places_without e f (Ready done) (Leaving r after) done.key done.id lives.running refl
+      (places_without e f (Ready done) (Leaving r after) done.key done.id (origin_of done.received done.done.call)
+      lives.running refl
       (ap (λ (b : BookValue). b.living) executes.commits.rest));
   effect = (done, executes);
   named = (executes, released);
@@ -253,6 +258,7 @@ module _ (e f : EngineValue) (r : ReleaseValue) (after : Afterwards) (k : KeepsO
 pub not_executed : (e f : EngineValue) (received : Received) (asked : Asked) (answer : Answer) →
     IsRefused received asked answer → KeepsStore e f → Effect e f (Some answer)
 not_executed e f received asked (answers.Executed receipt) is keeps = absurd is
+not_executed e f received asked (answers.Repeated kept) is keeps = absurd is
 not_executed e f received asked (answers.Refused declined) is keeps = keeps
 not_executed e f received asked (answers.Early faulted) is keeps = keeps
 not_executed e f received asked (answers.Unanswered unanswered) is keeps = keeps
@@ -261,7 +267,8 @@ pub begun : (e f : EngineValue) (a : ArrivalValue) (t : TxnValue) → Begins e.b
     KeepsOthers t.id e f → f.shards ≡ e.shards → IsStep e f 0 Idle (Trying t) None
 begun e f a t b lives k shards = record {
   lives = (lives, subst (λ (x : TxnValue). IsSuited x) (sym b.txn) tt);
-  rest = rest_begun e f (Trying t) t.id t.key k (ap (λ (x : TxnValue). x.id) b.txn) refl refl b.joins shards;
+  rest = rest_begun e f (Trying t) t.id t.key (origin_of a.received b.asked.call) k (ap (λ (x : TxnValue). x.id) b.txn)
+      refl refl b.joins shards;
   effect =
       b.rest ∙ ap (λ n. record e.book { living = f.book.living; next_id = n })
       (sym (ap (λ (x : BookValue). x.next_id) b.rest));
@@ -278,6 +285,54 @@ answers_idle e f answer same effect = record {
   named = tt;
 }
 
+-- ---- a record that came before
+pub recalls : (e f : EngineValue) (a : ArrivalValue) (kept : RepeatValue) → Repeats e.book f.book a kept →
+    Recalls e f kept
+recalls e f a kept r = record {
+  reply = subst (λ (x : Received). kept_for e.book.replies (origin_in x) ≡ Some kept.reply) (sym r.received) r.reply;
+  front = subst (λ (x : Received). IsAfter (Repeated x.host x.bytes) e.book.replies f.book.replies) (sym r.received)
+      r.front;
+  rest = r.rest;
+}
+
+pub repeated : (e f : EngineValue) (a : ArrivalValue) (kept : RepeatValue) → Repeats e.book f.book a kept →
+    KeepsAll e f → f.shards ≡ e.shards → IsStep e f 0 Idle Idle (Some (answers.Repeated kept))
+repeated e f a kept r all shards = record {
+  lives = tt;
+  rest = rest_all e f all shards (ap (λ (b : BookValue). b.living) r.rest);
+  effect = recalls e f a kept r;
+  named = tt;
+}
+
+-- its call is in progress, and nothing is changed
+effect_unanswered : (e f : EngineValue) (received : Received) (answer : Answer) → f ≡ e → IsUnanswered received answer →
+    Effect e f (Some answer)
+effect_unanswered e f received (answers.Executed receipt) same is = absurd is
+effect_unanswered e f received (answers.Repeated kept) same is = absurd is
+effect_unanswered e f received (answers.Refused declined) same is = absurd is
+effect_unanswered e f received (answers.Early faulted) same is = absurd is
+effect_unanswered e f received (answers.Unanswered unanswered) same is =
+    keeps_book e f (ap (λ (x : EngineValue). x.book) same)
+
+pub left_alone : (e f : EngineValue) (received : Received) (answer : Answer) → f ≡ e → IsUnanswered received answer →
+    IsStep e f 0 Idle Idle (Some answer)
+left_alone e f received answer same is = answers_idle e f answer same (effect_unanswered e f received answer same is)
+
+admits_left : (e f : EngineValue) (a back : ArrivalValue) (answer : Answer) → StillRuns e.book f.book a back → f ≡ e →
+    IsUnanswered a.received answer → Admits e f a Idle (Some answer)
+admits_left e f a back (answers.Executed receipt) runs same is = absurd is
+admits_left e f a back (answers.Repeated kept) runs same is = absurd is
+admits_left e f a back (answers.Refused declined) runs same is = absurd is
+admits_left e f a back (answers.Early faulted) runs same is = absurd is
+admits_left e f a back (answers.Unanswered unanswered) runs same is =
+    (subst (λ (x : ArrivalValue). StillRuns e.book f.book a x) runs.handed runs, is, same)
+
+-- what came while its call is in progress is handed back, and has no reply
+pub left_unanswered : (e f : EngineValue) (a back : ArrivalValue) (answer : Answer) → StillRuns e.book f.book a back →
+    f ≡ e → IsUnanswered back.received answer → Admits e f a Idle (Some answer)
+left_unanswered e f a back answer runs same is = admits_left e f a back answer runs same
+    (subst (λ (x : ArrivalValue). IsUnanswered x.received answer) runs.handed is)
+
 pub given_up : (e f : EngineValue) (p : PendingValue) (refused : given.Refused) (answer : Answer) → Waits e p →
     GivesUp e.book f.book p refused → KeepsOthers p.id e f → f.shards ≡ e.shards →
     IsRefused (received_value refused.received) refused.asked answer →
@@ -292,7 +347,7 @@ given_up e f p refused answer waits g k shards is =
       rest =
           rest_without p.id e f (Refusing p) Idle k refl refl
           (λ a. ap (λ s. held_among s a p.id) shards ∙ waits.holds.exactly a)
-          (places_without e f (Refusing p) Idle p.key p.id waits.running refl
+          (places_without e f (Refusing p) Idle p.key p.id (origin_of p.received p.call) waits.running refl
           (ap (λ (x : BookValue). x.living) g.rest));
       effect = not_executed e f (received_value refused.received) refused.asked answer is keeps;
       named = declined answer (subst (λ (x : Received). IsRefused x refused.asked answer) g.received is);
@@ -308,15 +363,20 @@ pub record ThinksOn (e : EngineValue) (w v : Worker) : Type 0 where
   pub ids : worker_id v ≡ worker_id w
   pub keys : worker_key v ≡ worker_key w
 
+asks_all : (t : TxnValue) (wanted : List (Addr × Mode)) → AsksFor t wanted →
+    Asks (modes_of t.call) (named_by t.call) t.view wanted
+asks_all t wanted asks =
+    subst (λ (l : List (Addr × Mode)). Asks (modes_of t.call) (named_by t.call) t.view l) asks.whole asks.attempts
+
 comes_on : (e : EngineValue) (t : TxnValue) (v : Worker) → Comes t v → WorkerLives e (Trying t) →
     ThinksOn e (Trying t) v
 comes_on e t (Wanting u wanted) c lives =
     subst (λ (x : TxnValue). ThinksOn e (Trying t) (Wanting x wanted)) (sym c.0) (record {
-      lives = (lives.0, lives.1, wants_asked t.call t.view (into_iter_items wanted) lives.1 c.1);
+      lives = (lives.0, lives.1, wants_asked t.call t.view (into_iter_items wanted) lives.1 (asks_all t (into_iter_items wanted) c.1));
       ids = refl;
       keys = refl;
     })
-comes_on e t (Wishing u) c lives = subst (λ (x : TxnValue). ThinksOn e (Trying t) (Wishing x)) (sym c)
+comes_on e t (Wishing u) c lives = subst (λ (x : TxnValue). ThinksOn e (Trying t) (Wishing x)) (sym c.0)
     (record { lives = lives; ids = refl; keys = refl })
 comes_on e t (Ready d) c lives = record {
   lives = subst (λ (x : TxnValue). Lives e x) (sym c) lives.0;

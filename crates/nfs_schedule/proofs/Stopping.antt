@@ -4,10 +4,12 @@ use Rattle.nfs_machine.specs.Run.{Received}
 use Rattle.nfs_objects.specs.declared.address.Addr.{Addr}
 use Rattle.nfs_objects.specs.declared.address.Addr.TheVariants.{Inode}
 use Rattle.nfs_objects.specs.declared.modes.Mode.{Mode}
+use Rattle.nfs_replies.specs.declared.origins.Origin.{Origin}
 use Rattle.nfs_engine.specs.Book.{BookValue, GivesUp}
 use Rattle.nfs_engine.specs.Calls.{FinishedValue, PendingValue, TxnValue, pending_of, txn_of}
 use Rattle.nfs_engine.specs.Engine.{EngineValue, IsLeaving, IsRunning, KeepsOthers, LeadsTo, Lives, Releases, Waits, freed_more, held_among, release_of}
 use Rattle.nfs_engine.specs.Releases.{ReleaseValue}
+use Rattle.nfs_engine.specs.Repeats.{origin_of}
 use Rattle.nfs_engine.specs.Running.{without_call}
 use Rattle.nfs_engine.specs.declared.admission.Refused as given
 use Rattle.nfs_engine.specs.declared.release.Next.TheVariants as next
@@ -15,7 +17,8 @@ use Rattle.nfs_engine.specs.declared.release.Then.{Then}
 use Rattle.nfs_engine.specs.declared.release.Then.TheVariants as then
 use Rattle.nfs_schedule.proofs.Rest.{places_same, places_without, rest_still, rest_without}
 use Rattle.nfs_schedule.proofs.Steps.{keeps_book}
-use Rattle.nfs_schedule.specs.Stops.{IsGone, IsStop, IsUnanswered, LetsAllGo, received_of}
+use Rattle.nfs_schedule.specs.Answers.{IsUnanswered}
+use Rattle.nfs_schedule.specs.Stops.{IsGone, IsStop, LetsAllGo, received_of}
 use Rattle.nfs_schedule.specs.Workers.{worker_id, worker_key}
 use Rattle.nfs_schedule.specs.declared.answer.Answer.{Answer}
 use Rattle.nfs_schedule.specs.declared.worker.Afterwards.{Afterwards}
@@ -152,7 +155,7 @@ call_gone e m f t r p is lets gone =
 
 -- ---- a worker
 module _ (e f : EngineValue) (w : Worker) (key id : ℕ) (received : Received) (answer : Answer)
-    (gone : IsGone e f key id) (running : IsRunning e key id) (own : worker_id w ≡ Some id)
+    (gone : IsGone e f key id) (o : Option Origin) (running : IsRunning e key id o) (own : worker_id w ≡ Some id)
     (place : worker_key w ≡ Some key) (came : received_of w ≡ Some received)
     (unanswered : IsUnanswered received answer) where
   living : f.book.living ≡ without_call e.book.living key id
@@ -162,7 +165,7 @@ module _ (e f : EngineValue) (w : Worker) (key id : ℕ) (received : Received) (
   stop_gone = record {
     rest =
         rest_without id e f w Idle gone.others own refl gone.nothing
-        (places_without e f w Idle key id running place living);
+        (places_without e f w Idle key id o running place living);
     store =
         gone.book
         ∙ ap (λ l. record e.book { living = l }) (sym living)
@@ -198,7 +201,8 @@ pub stop_left : (e m f : EngineValue) (r : ReleaseValue) (after : Afterwards) (p
     IsStop e f (Leaving r after) (Some answer)
 stop_left e m f r after p answer leaving lets gone unanswered =
     let leads : LeadsTo e r.id (then.Aborted p) = subst (λ (t : Then). LeadsTo e r.id t) lets.leads.0 leaving.after in
-    stop_gone e f (Leaving r after) p.key p.id p.received answer (left_gone e m f r p lets leads.0 gone) leads.1
+    stop_gone e f (Leaving r after) p.key p.id p.received answer (left_gone e m f r p lets leads.0 gone)
+    (origin_of p.received p.call) leads.1
     (ap Some (sym leads.0)) (ap key_of lets.leads.0) (ap came_of lets.leads.0) unanswered
   where
     key_of : Then → Option ℕ
@@ -212,5 +216,6 @@ pub stop_ready : (e f : EngineValue) (done : FinishedValue) (t : TxnValue) (answ
     Lives e (txn_of done) → IsGone e f t.key t.id → IsUnanswered t.received answer → IsStop e f (Ready done) (Some answer)
 stop_ready e f done t answer is lives gone unanswered =
     stop_gone e f (Ready done) done.key done.id done.received answer
-    (subst (λ (x : TxnValue). IsGone e f x.key x.id) is gone) lives.running refl refl refl
+    (subst (λ (x : TxnValue). IsGone e f x.key x.id) is gone) (origin_of done.received done.done.call)
+    lives.running refl refl refl
     (subst (λ (x : TxnValue). IsUnanswered x.received answer) is unanswered)

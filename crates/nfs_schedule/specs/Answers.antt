@@ -6,20 +6,25 @@ use Rattle.nfs_machine.specs.RpcReplies.{refusal_message}
 use Rattle.nfs_machine.specs.Run as machine
 use Rattle.nfs_engine.specs.Answers.{answer_bytes}
 use Rattle.nfs_engine.specs.Arrivals.{received_value}
+use Rattle.nfs_engine.specs.Built.{IsBuilt}
+use Rattle.nfs_engine.specs.declared.arrival.Reading.{Reading}
+use Rattle.nfs_engine.specs.declared.arrival.Reading.TheVariants.{Asks, Faulted}
 use Rattle.nfs_engine.specs.declared.asking.Asked.{Asked}
 use Rattle.nfs_schedule.specs.declared.answer.Answer.{Answer}
-use Rattle.nfs_schedule.specs.declared.answer.Answer.TheVariants.{Executed, Refused, Early, Unanswered}
+use Rattle.nfs_schedule.specs.declared.answer.Answer.TheVariants.{Executed, Repeated, Refused, Early, Unanswered}
 
 -- what came in
 abbrev pub answered : Answer → machine.Received
 answered (Executed receipt) = received_value (arc_value receipt.executed).received
+answered (Repeated kept) = kept.received
 answered (Refused declined) = received_value declined.received
 answered (Early faulted) = received_value faulted.received
 answered (Unanswered received) = received_value received
 
 -- the bytes of the reply, if there is one
 abbrev pub reply_bytes : Answer → List ℕ
-reply_bytes (Executed receipt) = receipt.answer.items
+reply_bytes (Executed receipt) = receipt.answer
+reply_bytes (Repeated kept) = kept.reply
 reply_bytes (Refused declined) = answer_bytes declined.answer
 reply_bytes (Early faulted) = answer_bytes faulted.answer
 reply_bytes (Unanswered received) = []
@@ -29,3 +34,18 @@ abbrev pub IsRefused : machine.Received → Asked → Answer → Type 0
 IsRefused received asked (Refused declined) = (received_value declined.received ≡ received) ×
     IfSome declined.answer (λ bytes. bytes.items ≡ refusal_message asked.xid (refusal_of asked.call))
 IsRefused received asked answer = ⊥
+
+-- a record asks a call of a program that is built
+abbrev pub AsksBuilt : Reading → Type 0
+AsksBuilt (Asks asked) = IsBuilt asked.call
+AsksBuilt (Faulted answer) = ⊥
+
+-- the bytes are the refusal of the call that a record asks
+abbrev pub IsRefusalTo : Reading → (bytes : List ℕ) → Type 0
+IsRefusalTo (Asks asked) bytes = bytes ≡ refusal_message asked.xid (refusal_of asked.call)
+IsRefusalTo (Faulted answer) bytes = ⊥
+
+-- it came in, and has no reply
+abbrev pub IsUnanswered : machine.Received → Answer → Type 0
+IsUnanswered received (Unanswered unanswered) = received_value unanswered ≡ received
+IsUnanswered received answer = ⊥

@@ -1,20 +1,22 @@
 -- One call from its arrival to its answer, on an engine at rest.
-use Rattle.std.specs.Prelude.{◌≡◌, ◌≢◌, ℕ, Option, Some, None}
+use Rattle.std.specs.Prelude.{◌≡◌, ◌≢◌, ℕ, Option, None, IfSome}
 use Rattle.nfs_machine.specs.Run.{context_of}
 use Rattle.nfs_objects.specs.Store.{Store}
 use Rattle.nfs_objects.specs.Values.{Seen}
 use Rattle.nfs_objects.specs.declared.address.Addr.{Addr}
 use Rattle.nfs_objects.specs.declared.modes.Mode.{Mode}
 use Rattle.nfs_engine.specs.Arrivals.{ArrivalValue, received_value}
+use Rattle.nfs_engine.specs.Book.{Repeats}
 use Rattle.nfs_engine.specs.Calls.{FinishedValue, PendingValue, TxnValue, txn_of}
-use Rattle.nfs_engine.specs.Engine.{EngineValue, Lives, Waits, held_among}
+use Rattle.nfs_engine.specs.Engine.{EngineValue, Lives, held_among}
 use Rattle.nfs_engine.specs.Releases.{ReleaseValue}
+use Rattle.nfs_engine.specs.Repeats.{kept_for, origin_of}
 use Rattle.nfs_engine.specs.Running.{running_at}
 use Rattle.nfs_engine.specs.declared.arrival.Reading.TheVariants as readings
 use Rattle.nfs_engine.specs.declared.asking.Asked.{Asked}
 use Rattle.nfs_engine.specs.declared.journal.Receipt.{Receipt}
-use Rattle.nfs_engine.specs.declared.release.Then.TheVariants as then
 use Rattle.nfs_schedule.specs.Answers.{IsRefused}
+use Rattle.nfs_schedule.specs.Stops.{LeadsOn}
 use Rattle.nfs_schedule.specs.Turns.{Executes, KeepsStore}
 use Rattle.nfs_schedule.specs.declared.answer.Answer.{Answer}
 use Rattle.nfs_schedule.specs.declared.answer.Answer.TheVariants as answers
@@ -39,16 +41,11 @@ pub record GoesOn (e f : EngineValue) (t u : TxnValue) : Type 0 where
   pub book : f.book ≡ e.book
   pub call : u ≡ record t { view = u.view }
 
--- what the release led to: a call in progress, or nothing
-abbrev pub IsLeft : EngineValue → ReleaseValue → Option PendingValue → Type 0
-IsLeft e r (Some p) = (r.after ≡ then.Aborted p) × Waits e p
-IsLeft e r None = r.after ≡ then.Ended
-
 -- nobody holds anything any more, and the book is as it was
 pub record Frees (e f : EngineValue) (r : ReleaseValue) (left : Option PendingValue) : Type 0 where
   pub book : f.book ≡ e.book
   pub held : (a : Addr) (j : ℕ) → held_among f.shards a j ≡ None
-  pub is_left : IsLeft f r left
+  pub leads : LeadsOn f r left
 
 -- the call was executed: its record is the next one, and one step of the machine from the present state
 pub record Finishes (e f : EngineValue) (t : TxnValue) (receipt : Receipt) : Type 0 where
@@ -63,10 +60,12 @@ Ends e f t (answers.Refused declined) = KeepsStore e f ×
     IsRefused t.received (record { xid = t.xid; ids = t.ctx.ids; call = t.call }) (answers.Refused declined)
 Ends e f t answer = ⊥
 
--- The record asks a call, which began and was executed as the next record.
+-- The record asks a call, which began and was executed as the next record. If it changes something, no reply was kept
+-- for it.
 pub record Executed (e f : EngineValue) (a : ArrivalValue) (receipt : Receipt) : Type 0 where
   pub asked : Asked
   pub asks : a.reading ≡ readings.Asks asked
+  pub unkept : IfSome (origin_of a.received asked.call) (λ origin. kept_for e.book.replies origin ≡ None)
   pub begun : EngineValue
   pub begins : KeepsStore e begun
   pub done : FinishedValue
@@ -76,10 +75,11 @@ pub record Executed (e f : EngineValue) (a : ArrivalValue) (receipt : Receipt) :
   pub ctx : done.done.ctx ≡ context_of e.book.setting a.received.host asked.ids a.received.moment
   pub executes : Executes begun f done receipt
 
--- What came in was executed as the next record, or refused, which changed neither store nor records, or has a fault,
--- and all is as it was.
+-- What came in was executed as the next record; or it is a repeat, and has the reply that is kept; or it was refused,
+-- which changed neither store nor records nor the replies that are kept; or it has a fault, and all is as it was.
 abbrev pub Answers : EngineValue → EngineValue → ArrivalValue → Answer → Type 0
 Answers e f a (answers.Executed receipt) = Executed e f a receipt
+Answers e f a (answers.Repeated kept) = Repeats e.book f.book a kept
 Answers e f a (answers.Refused declined) = (asked : Asked) × (a.reading ≡ readings.Asks asked) ×
     KeepsStore e f × IsRefused a.received asked (answers.Refused declined)
 Answers e f a (answers.Early faulted) = (a.reading ≡ readings.Faulted faulted.answer) ×

@@ -2,6 +2,7 @@ pub mod Answers
 pub mod Events
 pub mod Executions
 pub mod Gathered
+pub mod Grown
 pub mod Order
 pub mod Served
 pub mod Serving

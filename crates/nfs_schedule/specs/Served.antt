@@ -4,45 +4,49 @@ use Rattle.std.specs.Prelude.{List, [], ◌∷◌, ◌++◌, length, Option}
 use Rattle.std.specs.Io.KnownBytes.{Appends}
 use Rattle.nfs_rpc.specs.Records.{IsStream, IsTooLarge}
 use Rattle.nfs_machine.specs.Run.{Setting, Arrival, Record, Run}
-use Rattle.nfs_machine.specs.State.{State}
 use Rattle.nfs_machine.specs.declared.moment.Moment.{Moment}
 use Rattle.nfs_engine.specs.Book.{StandsFor, store_in}
 use Rattle.nfs_engine.specs.Engine.{EngineValue}
-use Rattle.nfs_schedule.specs.Serving.{AreFrom, AnswersArrival, Serves, Ticks}
+use Rattle.nfs_replies.specs.Replies.{kept_of}
+use Rattle.nfs_schedule.specs.Serving.{AreFrom, AnswersArrival, Serves, Standing, Ticks}
 use Rattle.nfs_schedule.specs.declared.serving.StreamFault.{StreamFault}
 use Rattle.nfs_schedule.specs.declared.serving.StreamFault.TheVariants.{Read, Write, TooLarge, Memory}
 
--- the state that the engine's store stands for
-abbrev pub IsState : EngineValue → State → Type 0
-IsState e m = StandsFor (store_in e.book) m
+-- the engine's store stands for the state, and these are the replies that it keeps
+pub record StandsAt (e : EngineValue) (s : Standing) : Type 0 where
+  pub stands : StandsFor (store_in e.book) s.state
+  pub capacity : s.capacity ≡ e.book.replies.capacity
+  pub lists : s.lists ≡ kept_of e.book.replies
 
--- Nothing is executed: the store, what is to be sent and how many records there ever were are as they were. The era may
--- be over, and calls may have come and gone.
+-- Nothing is executed: the store, what is to be sent, the replies that are kept and how many records there ever were
+-- are as they were. The era may be over, and calls may have come and gone.
 pub record ExecutesNothing (old new : EngineValue) : Type 0 where
   pub objects : new.book.objects ≡ old.book.objects
   pub setting : new.book.setting ≡ old.book.setting
   pub outbox : new.book.outbox ≡ old.book.outbox
+  pub replies : new.book.replies ≡ old.book.replies
   pub count : new.book.before + length new.book.records ≡ old.book.before + length old.book.records
 
--- These records came from the host, one after the other and each at the clock's next moment. From this state, which the
--- store stood for, the bytes are their answers, what was executed is a run, and the store stands for its end.
+-- These records came from the host, one after the other and each at the clock's next moment. From here, where the
+-- engine stood, the bytes are their answers, what was executed is a run, and the engine stands where that ends.
 pub record Answered {Clock : Type 0} (gives : Clock → Moment → Clock → Type 0) (host : List ℕ)
     (contents : List (List ℕ)) (clock later : Clock) (old new : EngineValue) (answers : List ℕ)
-    (m : State) : Type 0 where
+    (before : Standing) : Type 0 where
   pub arrivals : List Arrival
   pub records : List Record
-  pub after : State
+  pub after : Standing
   pub came : AreFrom host contents arrivals
   pub ticked : Ticks gives clock arrivals later
-  pub served : Serves old.book.setting m arrivals answers records after
-  pub run : Run old.book.setting m records after
-  pub stands : IsState new after
+  pub served : Serves old.book.setting before arrivals answers records after
+  pub run : Run old.book.setting before.state records after.state
+  pub stands : StandsAt new after
 
--- so from every state that the store stood for; what the server was started with stays
+-- so from everywhere where the engine stood; what the server was started with stays
 pub record AreAnswered {Clock : Type 0} (gives : Clock → Moment → Clock → Type 0) (host : List ℕ)
     (contents : List (List ℕ)) (clock later : Clock) (old new : EngineValue) (answers : List ℕ) : Type 0 where
   pub setting : new.book.setting ≡ old.book.setting
-  pub each : (m : State) → IsState old m → Answered gives host contents clock later old new answers m
+  pub each : (before : Standing) → StandsAt old before →
+      Answered gives host contents clock later old new answers before
 
 -- the records were answered, and their answers were written
 pub record Goes {Clock : Type 0} (gives : Clock → Moment → Clock → Type 0) (host : List ℕ)
@@ -121,14 +125,14 @@ pub record ServesFront {Clock : Type 0} (gives : Clock → Moment → Clock → 
   pub stops : Stops gives host fault contents clock later old new before after
   pub is_fault : IsFaultOf fault fed
 
--- the record is answered so, from every state that the store stood for
+-- the record is answered so, from everywhere where the engine stood
 pub record IsAnswered (arrival : Arrival) (old new : EngineValue) (answer : List ℕ) : Type 0 where
   pub setting : new.book.setting ≡ old.book.setting
-  pub each : (m : State) → IsState old m → (records : List Record) × (after : State)
-      × AnswersArrival old.book.setting m arrival answer records after × IsState new after
+  pub each : (before : Standing) → StandsAt old before → (records : List Record) × (after : Standing)
+      × AnswersArrival old.book.setting before arrival answer records after × StandsAt new after
 
 -- what was served is a run of the machine
 abbrev pub ServedIsRun : Type 0
 ServedIsRun =
-    (setting : Setting) (old new : State) (arrivals : List Arrival) (written : List ℕ) (records : List Record)
-    → Serves setting old arrivals written records new → Run setting old records new
+    (setting : Setting) (old new : Standing) (arrivals : List Arrival) (written : List ℕ) (records : List Record)
+    → Serves setting old arrivals written records new → Run setting old.state records new.state

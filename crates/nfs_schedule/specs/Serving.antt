@@ -1,6 +1,7 @@
 -- What the records of a stream are answered (RFC 5531, 8 and 11; RFC 1813, 3).
-use Rattle.std.specs.Prelude.{◌≡◌, ℕ, List, [], ◌∷◌, ◌++◌, ◌⊎◌}
+use Rattle.std.specs.Prelude.{◌≡◌, ℕ, List, [], ◌∷◌, ◌++◌, ◌⊎◌, true, Some, None, if◌then◌else◌}
 use Rattle.nfs_rpc.specs.declared.faults.Early.{Early}
+use Rattle.nfs_machine.specs.Changing.{is_changing}
 use Rattle.nfs_machine.specs.Refusal.{refusal_of}
 use Rattle.nfs_machine.specs.RpcReplies.{FirstFault, fault_message, refusal_message, success_message}
 use Rattle.nfs_machine.specs.Run.{Setting, Arrival, FromHost, Received, ReceivedAsks, Record}
@@ -10,11 +11,20 @@ use Rattle.nfs_machine.specs.declared.calls.Call.{Call}
 use Rattle.nfs_machine.specs.declared.calls.Reply.{Reply}
 use Rattle.nfs_machine.specs.declared.context.Ctx.{Ctx}
 use Rattle.nfs_machine.specs.declared.moment.Moment.{Moment}
+use Rattle.nfs_replies.specs.Kept.{KeptLists, lists_after, reply_for}
+use Rattle.nfs_replies.specs.Kept.ReplyEvent.{Replied, Repeated}
 use Rattle.side_wire.specs.declared.message.Message.{Message}
 
+-- Where a server stands between two records: the state of the machine, how many replies are kept of each host, and the
+-- replies that are kept.
+pub record Standing : Type 0 where
+  pub state : State
+  pub capacity : ℕ
+  pub lists : KeptLists
+
 -- a record with a fault is answered by it, and changes nothing
-pub record IsEarly (old : State) (received : Received) (answer : List ℕ) (records : List Record)
-    (new : State) : Type 0 where
+pub record IsEarly (old : Standing) (received : Received) (answer : List ℕ) (records : List Record)
+    (new : Standing) : Type 0 where
   pub fault : Early
   pub is : FirstFault received.bytes fault
   pub answered : answer ≡ fault_message fault
@@ -22,8 +32,8 @@ pub record IsEarly (old : State) (received : Received) (answer : List ℕ) (reco
   pub unchanged : new ≡ old
 
 -- a call that memory was wanting for is answered by its refusal, and changes nothing
-pub record IsRefused (setting : Setting) (old : State) (received : Received) (answer : List ℕ)
-    (records : List Record) (new : State) : Type 0 where
+pub record IsRefused (setting : Setting) (old : Standing) (received : Received) (answer : List ℕ)
+    (records : List Record) (new : Standing) : Type 0 where
   pub ctx : Ctx
   pub call : Call
   pub asks : ReceivedAsks setting received ctx call
@@ -31,28 +41,50 @@ pub record IsRefused (setting : Setting) (old : State) (received : Received) (an
   pub nothing : records ≡ []
   pub unchanged : new ≡ old
 
--- a call that was executed is one further record, a step of the machine, and is answered by its reply
-pub record IsExecuted (setting : Setting) (old : State) (received : Received) (answer : List ℕ)
-    (records : List Record) (new : State) : Type 0 where
+-- A call that changes something, and whose reply is kept, is answered by that reply and not executed again; the reply
+-- comes to the front of its host's.
+pub record IsRepeated (setting : Setting) (old : Standing) (received : Received) (answer : List ℕ)
+    (records : List Record) (new : Standing) : Type 0 where
+  pub ctx : Ctx
+  pub call : Call
+  pub asks : ReceivedAsks setting received ctx call
+  pub changes : is_changing call ≡ true
+  pub answered : reply_for received.bytes (old.lists received.host) ≡ Some answer
+  pub nothing : records ≡ []
+  pub front : new ≡ record old
+      { lists = lists_after old.capacity (Repeated received.host received.bytes) old.lists }
+
+-- the replies that are kept after a call was executed: the answer of one that changes something is in front
+abbrev pub lists_with : Standing → Received → Call → (answer : List ℕ) → KeptLists
+lists_with old received call answer =
+    if is_changing call then lists_after old.capacity (Replied received.host received.bytes answer) old.lists
+    else old.lists
+
+-- A call that was executed is one further record, a step of the machine, and is answered by its reply. If it changes
+-- something, no reply was kept for it, and this one is now.
+pub record IsExecuted (setting : Setting) (old : Standing) (received : Received) (answer : List ℕ)
+    (records : List Record) (new : Standing) : Type 0 where
   pub ctx : Ctx
   pub call : Call
   pub asks : ReceivedAsks setting received ctx call
   pub reply : Reply
   pub messages : List Message
-  pub step : Step old ctx call reply messages new
+  pub step : Step old.state ctx call reply messages new.state
   pub answered : answer ≡ success_message asks.header.xid reply
   pub one : records ≡ record { arrival = FromHost received; reply = reply; messages = messages } ∷ []
+  pub unkept : is_changing call ≡ true → reply_for received.bytes (old.lists received.host) ≡ None
+  pub keeps : new ≡ record old { state = new.state; lists = lists_with old received call answer }
 
-abbrev pub AnswersArrival : Setting → State → Arrival → List ℕ → List Record → State → Type 0
+abbrev pub AnswersArrival : Setting → Standing → Arrival → List ℕ → List Record → Standing → Type 0
 AnswersArrival setting old (FromHost received) answer records new =
     IsEarly old received answer records new ⊎ IsRefused setting old received answer records new ⊎
-    IsExecuted setting old received answer records new
+    IsRepeated setting old received answer records new ⊎ IsExecuted setting old received answer records new
 
 -- The arrivals are answered one after the other, and the records are those of the executed ones.
-abbrev pub Serves : Setting → State → List Arrival → List ℕ → List Record → State → Type 0
+abbrev pub Serves : Setting → Standing → List Arrival → List ℕ → List Record → Standing → Type 0
 Serves setting old [] written records new = (written ≡ []) × (records ≡ []) × (new ≡ old)
 Serves setting old (arrival ∷ arrivals) written records new =
-    (answer : List ℕ) × (others : List ℕ) × (first : List Record) × (later : List Record) × (mid : State)
+    (answer : List ℕ) × (others : List ℕ) × (first : List Record) × (later : List Record) × (mid : Standing)
     × (written ≡ answer ++ others) × (records ≡ first ++ later)
     × AnswersArrival setting old arrival answer first mid × Serves setting mid arrivals others later new
 

@@ -2,17 +2,16 @@
 use Rattle.std.specs.Prelude.{◌≡◌, ℕ, Option, Some, None}
 use Rattle.nfs_machine.specs.Run.{Received}
 use Rattle.nfs_objects.specs.declared.address.Addr.{Addr}
-use Rattle.nfs_engine.specs.Arrivals.{received_value}
 use Rattle.nfs_engine.specs.Calls.{PendingValue}
 use Rattle.nfs_engine.specs.Engine.{EngineValue, KeepsOthers, Waits, held_among}
 use Rattle.nfs_engine.specs.Releases.{ReleaseValue}
 use Rattle.nfs_engine.specs.Running.{without_call}
 use Rattle.nfs_engine.specs.declared.release.Then.{Then}
 use Rattle.nfs_engine.specs.declared.release.Then.TheVariants as then
+use Rattle.nfs_schedule.specs.Answers.{IsUnanswered}
 use Rattle.nfs_schedule.specs.Turns.{KeepsStore}
 use Rattle.nfs_schedule.specs.Workers.{KeepsRest}
 use Rattle.nfs_schedule.specs.declared.answer.Answer.{Answer}
-use Rattle.nfs_schedule.specs.declared.answer.Answer.TheVariants as answers
 use Rattle.nfs_schedule.specs.declared.worker.Worker.{Worker}
 use Rattle.nfs_schedule.specs.declared.worker.Worker.TheVariants.{Idle, Trying, Wanting, Wishing, Ready, Blocked, Failing}
 use Rattle.nfs_schedule.specs.declared.worker.Worker.TheVariants.{Leaving, PutOff, Refusing}
@@ -35,11 +34,6 @@ received_of (Failing t) = Some t.received
 received_of (Leaving r after) = after_received r.after
 received_of (PutOff p) = Some p.received
 received_of (Refusing p) = Some p.received
-
--- it came in, and has no reply
-abbrev pub IsUnanswered : Received → Answer → Type 0
-IsUnanswered received (answers.Unanswered unanswered) = received_value unanswered ≡ received
-IsUnanswered received answer = ⊥
 
 -- the worker's call has no reply; nothing is told where none is in progress
 abbrev pub IsStopped : Worker → Option Answer → Type 0
@@ -65,8 +59,8 @@ pub record IsGone (e f : EngineValue) (key id : ℕ) : Type 0 where
   pub nothing : (a : Addr) → held_among f.shards a id ≡ None
   pub book : f.book ≡ record e.book { living = without_call e.book.living key id }
 
--- The worker's call, if it has one, is in progress no more and holds nothing; store, records and messages are as they
--- were, and so is what other workers have.
+-- The worker's call, if it has one, is in progress no more and holds nothing; store, records, messages and the replies
+-- that are kept are as they were, and so is what other workers have.
 pub record IsStop (e f : EngineValue) (w : Worker) (answer : Option Answer) : Type 0 where
   pub rest : KeepsRest e f w Idle
   pub store : KeepsStore e f

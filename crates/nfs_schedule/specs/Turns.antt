@@ -1,12 +1,16 @@
 -- What a turn does: the step that the worker's state names.
 use Rattle.std.specs.Prelude.{◌≡◌, ◌+◌, ℕ, false, List, [], ◌∷◌, Option, Some, None, Ok, Err, length}
 use Rattle.std.specs.Vec.Iter.{into_iter_items}
+use Rattle.nfs_machine.specs.RpcReplies.{success_message}
+use Rattle.nfs_replies.specs.Kept.ReplyEvent.{Repeated}
+use Rattle.nfs_replies.specs.Replies.{IsAfter}
 use Rattle.nfs_engine.specs.Arrivals.{ArrivalValue, received_value}
-use Rattle.nfs_engine.specs.Book.{Begins, Commits, Leads, Steps}
+use Rattle.nfs_engine.specs.Book.{Begins, Commits, Leads, Repeats, Steps, StillRuns}
 use Rattle.nfs_engine.specs.Calls.{FinishedValue, PendingValue, TxnValue, again_of, txn_of}
 use Rattle.nfs_engine.specs.Commits.{IsReceipt}
 use Rattle.nfs_engine.specs.Engine.{EngineValue, IsAcquired, IsReleased, IsReserved, freed_more, is_free, release_of}
 use Rattle.nfs_engine.specs.Releases.{ReleaseValue}
+use Rattle.nfs_engine.specs.Repeats.{Keeps, RepeatValue, kept_for, origin_in, origin_of}
 use Rattle.nfs_engine.specs.declared.arrival.Reading.TheVariants as readings
 use Rattle.nfs_engine.specs.declared.asking.Asked.{Asked}
 use Rattle.nfs_engine.specs.declared.journal.Receipt.{Receipt}
@@ -16,7 +20,7 @@ use Rattle.nfs_engine.specs.declared.taking.Got.TheVariants as got
 use Rattle.nfs_objects.specs.declared.address.Addr.{Addr}
 use Rattle.nfs_objects.specs.declared.modes.Mode.{Mode}
 use Rattle.std.specs.declared.alloc.AllocError.{AllocError}
-use Rattle.nfs_schedule.specs.Answers.{IsRefused}
+use Rattle.nfs_schedule.specs.Answers.{IsRefused, IsUnanswered}
 use Rattle.nfs_schedule.specs.Workers.{KeepsRest, Thinks, WorkerLives}
 use Rattle.nfs_schedule.specs.declared.answer.Answer.{Answer}
 use Rattle.nfs_schedule.specs.declared.answer.Answer.TheVariants as answers
@@ -27,26 +31,40 @@ use Rattle.nfs_schedule.specs.declared.worker.Worker.TheVariants.{Idle, Trying, 
 use Rattle.nfs_schedule.specs.declared.worker.Worker.TheVariants.{Leaving, PutOff, Refusing}
 
 -- ---- what is changed
--- store, records and messages are as they were
+-- store, records, messages and the replies that are kept are as they were
 abbrev pub KeepsStore : EngineValue → EngineValue → Type 0
 KeepsStore e f = f.book ≡ record e.book { living = f.book.living; next_id = f.book.next_id }
 
--- this call was executed: its record is the next one, and one step of the machine from the present state
+-- This call was executed: its record is the next one, and one step of the machine from the present state. If it changes
+-- something, its answer is kept for what it came with.
 pub record Executes (e f : EngineValue) (done : FinishedValue) (receipt : Receipt) : Type 0 where
   pub commits : Commits e.book f.book done
+  pub keeps : Keeps (origin_of done.received done.done.call) (success_message done.xid done.done.change.reply)
+      e.book.replies f.book.replies
   pub step : Steps e.book f.book done.done
   pub leads : Leads e.book f.book
   pub receipt_is : IsReceipt (e.book.before + length e.book.records + 1) done receipt
 
--- only what is executed changes store, records and messages
+-- a reply that is kept comes to the front, and nothing else changes
+pub record Recalls (e f : EngineValue) (kept : RepeatValue) : Type 0 where
+  pub reply : kept_for e.book.replies (origin_in kept.received) ≡ Some kept.reply
+  pub front : IsAfter (Repeated kept.received.host kept.received.bytes) e.book.replies f.book.replies
+  pub rest : f.book ≡ record e.book { replies = f.book.replies }
+
+-- only what is executed changes store, records and messages, and only that and a repeat the replies that are kept
 abbrev pub Effect : EngineValue → EngineValue → Option Answer → Type 0
 Effect e f (Some (answers.Executed receipt)) = (done : FinishedValue) × Executes e f done receipt
+Effect e f (Some (answers.Repeated kept)) = Recalls e f kept
 Effect e f answer = KeepsStore e f
 
 -- ---- the step
--- the oldest arrival: its call begins, or it is refused, or it has a fault
+-- The oldest arrival: its call begins; or it is a repeat, which has the reply that is kept, or none while its call is
+-- in progress; or it is refused, or it has a fault.
 abbrev pub Admits : EngineValue → EngineValue → ArrivalValue → Worker → Option Answer → Type 0
 Admits e f a (Trying t) None = Begins e.book f.book a t
+Admits e f a Idle (Some (answers.Repeated kept)) = Repeats e.book f.book a kept × (f.shards ≡ e.shards)
+Admits e f a Idle (Some (answers.Unanswered received)) = StillRuns e.book f.book a a ×
+    IsUnanswered a.received (answers.Unanswered received) × (f ≡ e)
 Admits e f a Idle (Some (answers.Early faulted)) = (a.reading ≡ readings.Faulted faulted.answer) ×
     (received_value faulted.received ≡ a.received) × (f ≡ e)
 Admits e f a Idle (Some answer) = (asked : Asked) × (a.reading ≡ readings.Asks asked) ×

@@ -1,10 +1,9 @@
 -- What a worker is at, and how it lives in an engine.
-use Rattle.std.specs.Prelude.{◌≡◌, ◌≢◌, ℕ, true, List, ◌++◌, Option, Some, None, IsSome, ◌⊎◌, ◌≤◌}
+use Rattle.std.specs.Prelude.{◌≡◌, ◌≢◌, ℕ, true, List, [], ◌++◌, Option, Some, None, IsSome, ◌⊎◌, ◌≤◌}
 use Rattle.std.specs.List.{AllByRecursion}
 use Rattle.std.specs.Vec.Iter.{into_iter_items}
 use Rattle.nfs_machine.specs.declared.calls.Call.{Call}
-use Rattle.nfs_objects.specs.Asks.{Asks, EachOnce}
-use Rattle.nfs_objects.specs.Calls.{named_by}
+use Rattle.nfs_objects.specs.Asks.{EachOnce}
 use Rattle.nfs_objects.specs.Modes.{Suits, covers, mode_at, modes_of}
 use Rattle.nfs_objects.specs.Values.{Seen, ViewValue, seen_at}
 use Rattle.nfs_objects.specs.declared.address.Addr.{Addr}
@@ -14,6 +13,7 @@ use Rattle.nfs_engine.specs.Engine.{EngineValue, IsLeaving, Lives, Waits, held_a
 use Rattle.nfs_engine.specs.Running.{running_at}
 use Rattle.nfs_engine.specs.declared.release.Then.{Then}
 use Rattle.nfs_engine.specs.declared.release.Then.TheVariants as then
+use Rattle.nfs_schedule.specs.Grown.{AsksFor}
 use Rattle.nfs_schedule.specs.declared.worker.Worker.{Worker}
 use Rattle.nfs_schedule.specs.declared.worker.Worker.TheVariants.{Idle, Trying, Wanting, Wishing, Ready, Blocked, Failing}
 use Rattle.nfs_schedule.specs.declared.worker.Worker.TheVariants.{Leaving, PutOff, Refusing}
@@ -89,8 +89,8 @@ worker_key (Refusing p) = Some p.key
 -- ---- thinking
 -- the call asks for addresses, or for a number, or it is done; or there was no memory to think
 abbrev pub Comes : TxnValue → Worker → Type 0
-Comes t (Wanting u wanted) = (u ≡ t) × Asks (modes_of t.call) (named_by t.call) t.view (into_iter_items wanted)
-Comes t (Wishing u) = u ≡ t
+Comes t (Wanting u wanted) = (u ≡ t) × AsksFor t (into_iter_items wanted)
+Comes t (Wishing u) = (u ≡ t) × (t.view.reserved ≡ [])
 Comes t (Ready f) = txn_of f ≡ t
 Comes t (Failing u) = u ≡ t
 Comes t worker = ⊥

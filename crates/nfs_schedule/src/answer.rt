@@ -7,9 +7,9 @@ ghost use Rattle.nfs_engine.specs.Asked.{IsAsked};
 ghost use Rattle.nfs_engine.specs.Built.{IsBuilt};
 ghost use Rattle.nfs_machine.specs.Refusal.{refusal_of};
 ghost use Rattle.nfs_machine.specs.RpcReplies.{refusal_message};
-ghost use Rattle.nfs_schedule.specs.Answers.{IsRefused, answered, reply_bytes};
+ghost use Rattle.nfs_schedule.specs.Answers.{AsksBuilt, IsRefusalTo, IsRefused, answered, reply_bytes};
 
-use nfs_engine::{Asked, Faulted, Receipt, Received, answers};
+use nfs_engine::{Asked, Faulted, Kept, Reading, Receipt, Received, answers};
 use std::alloc::Global;
 
 /// A call that was not executed, for want of memory or of a number.
@@ -25,11 +25,13 @@ pub struct Declined {
 pub enum Answer {
     /// Its call was executed.
     Executed(Receipt),
+    /// It came before, and gets the reply that is kept; its call is not executed again.
+    Repeated(Kept),
     /// Its call was refused, and changed nothing.
     Refused(Declined),
     /// It has a fault.
     Early(Faulted),
-    /// It is not executed, and has no reply: its worker was stopped.
+    /// It is not executed, and has no reply: its worker was stopped, or a call that came with the same is in progress.
     Unanswered(Received),
 }
 
@@ -40,6 +42,7 @@ impl Answer {
     {
         match self {
             Answer::Executed(receipt) => &receipt.executed.received,
+            Answer::Repeated(kept) => kept.received(),
             Answer::Refused(declined) => &declined.received,
             Answer::Early(faulted) => &faulted.received,
             Answer::Unanswered(received) => received,
@@ -52,6 +55,7 @@ impl Answer {
     {
         match self {
             Answer::Executed(receipt) => &receipt.answer,
+            Answer::Repeated(kept) => kept.reply(),
             Answer::Refused(declined) => bytes_of(&declined.answer),
             Answer::Early(faulted) => bytes_of(&faulted.answer),
             Answer::Unanswered(_) => &[],
@@ -77,6 +81,17 @@ pub(crate) fn refuse(alloc: Global, received: Received, asked: Asked) -> Answer
     let answer = refusal(alloc, &asked);
     drop(asked);
     Answer::Refused(Declined { received, answer })
+}
+
+/// The bytes of the refusal of the call that a record asks; None where there is no memory for them.
+pub(crate) fn refusal_to(alloc: Global, reading: &Reading) -> Option<Vec<u8>>
+    requires { AsksBuilt reading.now }
+    ensures { IfSome result (λ bytes. IsRefusalTo reading.now bytes.items) }
+{
+    match reading {
+        Reading::Asks(asked) => refusal(alloc, asked),
+        Reading::Faulted(_) => unreachable!(),
+    }
 }
 
 /// The bytes of a call's refusal; None where there is no memory for them.

@@ -16,8 +16,9 @@ ghost use Rattle.nfs_schedule.specs.Worlds.{IsAtRest};
 
 use crate::answer::{Answer, refuse};
 use crate::attempts::attempt;
+use crate::stop::let_all_go;
 use crate::worker::refuse_arrival;
-use nfs_engine::{Admission, Arrival, Engine, Finished, Got, Next, Pending, Release, Txn};
+use nfs_engine::{Admission, Arrival, Engine, Finished, Got, Pending, Release, Txn};
 use nfs_objects::{Addr, Change, Mode, Outcome};
 use std::alloc::Global;
 
@@ -35,6 +36,12 @@ pub fn execute(alloc: Global, engine: &mut Engine, arrival: Arrival) -> Answer
 {
     match engine.admit(alloc, arrival) {
         Ok(Admission::Begin(txn)) => carry_out(alloc, engine, txn),
+        Ok(Admission::Repeat(kept)) => Answer::Repeated(kept),
+        Ok(Admission::Running(arrival)) => {
+            drop(arrival);
+            // No other call is in progress.
+            unreachable!()
+        }
         Ok(Admission::Early(faulted)) => Answer::Early(faulted),
         Err((error, arrival)) => {
             drop(error);
@@ -169,18 +176,11 @@ fn decline(alloc: Global, engine: &mut Engine, txn: Txn) -> Answer
     }
 }
 
-/// Lets go all that a call that left still holds, shard by shard. It is the call, where that is in progress.
+/// Lets go all that a call that left still holds, which is all that is held. It is the call, where that is in progress.
 fn release_all(engine: &mut Engine, release: Release) -> Option<Pending>
     requires leaving { IsLeaving engine.old release }
     requires alone { HoldsAlone engine.old release.id }
     ensures { Frees engine.old engine.new release result }
 {
-    let mut release = release;
-    'shards: loop {
-        match engine.release(release) {
-            Next::More(left) => release = left,
-            Next::Aborted(pending) => return Some(pending),
-            Next::Ended => return None,
-        }
-    }
+    let_all_go(engine, release)
 }

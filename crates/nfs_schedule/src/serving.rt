@@ -1,11 +1,11 @@
 //! Serving a stream of records, one after the other.
 
 ghost use Rattle.std.specs.Prelude.{◌≡◌, ℕ, ◌+◌, ◌-◌, ◌^◌, ◌<◌, ◌≤◌, ◌⊎◌, List};
-ghost use Rattle.std.specs.Prelude.{[], ◌∷◌, ◌++◌, true, length, Some, IfOk, IfErr, OnOk, OnErr, IsErrOf};
-ghost use Rattle.nfs_engine.specs.Answers.{answer_bytes};
+ghost use Rattle.std.specs.Prelude.{[], ◌∷◌, ◌++◌, true, length, Some, IsSome, IfOk, IfErr, OnOk, OnErr, IsErrOf};
 ghost use Rattle.nfs_machine.specs.Run.{FromHost};
 ghost use Rattle.nfs_rpc.specs.Records.{Holds};
 ghost use Rattle.nfs_rpc.specs.Streams.{one_more};
+ghost use Rattle.nfs_schedule.specs.Answers.{reply_bytes};
 ghost use Rattle.nfs_schedule.specs.Gathered.{Adds, FailsBy};
 ghost use Rattle.nfs_schedule.specs.Served.{ExecutesNothing, Goes, IsAnswered, ServedIsRun, ServesAll, ServesFront};
 ghost use Rattle.nfs_schedule.specs.Served.{Stops};
@@ -77,7 +77,7 @@ pub fn serve_stream<C: Moments, R: Source, W: Sink>(
 ) -> Result<Served, StreamFault>
     requires rest { IsAtRest engine.old }
     ensures rest { IsAtRest engine.new }
-    // Answers are those of a run of the machine, from every state that the store stands for.
+    // Answers are those of a run of the machine, but for repeats, which have the reply that is kept.
     ensures ok { IfOk result (λ _. (input : List ℕ) → R.unread reader.old ≡ Some input
         → ServesAll C.gives host.now input clock.old clock.new engine.old engine.new
         (W.written writer.old) (W.written writer.new)) }
@@ -252,8 +252,7 @@ fn serve_record<C: Moments, W: Sink>(
     let moment = clock.moment();
     begin_era(alloc, engine);
     match answer(alloc, engine, host, message, moment) {
-        Ok(Some(answer)) => put(writer, gathered, answer.as_slice()),
-        Ok(None) => Ok(()),
+        Ok(answer) => put(writer, gathered, answer.bytes()),
         Err(_) => {
             send(writer, gathered)?;
             Err(StreamFault::Memory)
@@ -272,7 +271,7 @@ fn begin_era(alloc: Global, engine: &mut Engine)
     }
 }
 
-/// The answer to a record that came in from the host, at this moment. None where it is dropped.
+/// The answer to a record that came in from the host, at this moment.
 ///
 /// # Errors
 ///
@@ -283,27 +282,29 @@ fn answer(
     host: &Host,
     message: Record,
     moment: Moment,
-) -> Result<Option<Vec<u8>>, AllocError>
+) -> Result<Answer, AllocError>
     requires rest { IsAtRest engine.old }
     ensures rest { IsAtRest engine.new }
     ensures ok { IfOk result
         (λ answer. IsAnswered (FromHost (record { host = host.now; bytes = message; moment = moment }))
-        engine.old engine.new (answer_bytes answer)) }
+        engine.old engine.new (reply_bytes answer)) }
     ensures err { OnErr result (ExecutesNothing engine.old engine.new) }
 {
     let arrival = Arrival::read(alloc, host.share()?, message, moment)?;
     arrival.reading();
     match execute(alloc, engine, arrival) {
-        Answer::Executed(receipt) => Ok(Some(receipt.answer)),
-        Answer::Refused(declined) => {
-            let Declined { received, answer } = declined;
-            drop(received);
-            match answer {
-                Some(bytes) => Ok(Some(bytes)),
-                None => Err(AllocError),
-            }
-        }
-        Answer::Early(faulted) => Ok(faulted.answer),
-        _ => unreachable!(),
+        Answer::Refused(declined) => told(declined),
+        answer => Ok(answer),
     }
+}
+
+/// A refusal, where there was memory to say it.
+fn told(declined: Declined) -> Result<Answer, AllocError>
+    ensures { IfOk result (λ answer. (answer ≡ Answer.Refused declined) × IsSome declined.answer) }
+{
+    if declined.answer.is_none() {
+        drop(declined);
+        return Err(AllocError);
+    }
+    Ok(Answer::Refused(declined))
 }

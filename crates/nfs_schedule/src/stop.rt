@@ -2,7 +2,8 @@
 
 ghost use Rattle.std.specs.Prelude.{◌≡◌};
 ghost use Rattle.nfs_engine.specs.Engine.{IsLeaving, Lives, Waits};
-ghost use Rattle.nfs_schedule.specs.Stops.{IsGone, IsStop, IsUnanswered, LetsAllGo};
+ghost use Rattle.nfs_schedule.specs.Answers.{IsUnanswered};
+ghost use Rattle.nfs_schedule.specs.Stops.{IsGone, IsStop, LetsAllGo};
 ghost use Rattle.nfs_schedule.specs.Workers.{WorkerLives};
 
 use crate::answer::Answer;
@@ -49,7 +50,7 @@ fn stop_call(engine: &mut Engine, txn: Txn) -> Answer
 }
 
 /// Lets go all that a call still holds, shard by shard. The call, where it is still in progress.
-fn let_all_go(engine: &mut Engine, release: Release) -> Option<Pending>
+pub(crate) fn let_all_go(engine: &mut Engine, release: Release) -> Option<Pending>
     requires { IsLeaving engine.old release }
     ensures { LetsAllGo engine.old engine.new release result }
 {

@@ -7,13 +7,13 @@ ghost use Rattle.nfs_engine.specs.Calls.{txn_of};
 ghost use Rattle.nfs_engine.specs.Engine.{IsLeaving, Lives, Waits};
 ghost use Rattle.nfs_engine.specs.declared.arrival.Reading.TheVariants as readings;
 ghost use Rattle.nfs_engine.specs.declared.asking.Asked.{Asked};
-ghost use Rattle.nfs_schedule.specs.Answers.{IsRefused};
+ghost use Rattle.nfs_schedule.specs.Answers.{IsRefused, IsUnanswered};
 ghost use Rattle.nfs_schedule.specs.Turns.{Admits, AsksCall, IsStep, KeepsQueue, Takes, after_all};
 ghost use Rattle.nfs_schedule.specs.Workers.{Comes, IsSuited, MayThink, Thinks, WorkerLives};
 
-use crate::answer::{Answer, refuse};
+use crate::answer::{Answer, Declined, refusal_to, refuse};
 use crate::attempts::attempt;
-use nfs_engine::{Admission, Arrival, Engine, Finished, Got, Next, Pending, Reading, Release, Txn};
+use nfs_engine::{Admission, Arrival, Engine, Finished, Got, Next, Pending, Release, Txn};
 use nfs_objects::{Addr, Change, Mode, Outcome};
 use std::alloc::Global;
 use std::collections::VecDeque;
@@ -180,6 +180,8 @@ fn admit(alloc: Global, engine: &mut Engine, arrival: Arrival) -> (Worker, Optio
 {
     match engine.admit(alloc, arrival) {
         Ok(Admission::Begin(txn)) => (Worker::Trying(txn), None),
+        Ok(Admission::Repeat(kept)) => (Worker::Idle, Some(Answer::Repeated(kept))),
+        Ok(Admission::Running(arrival)) => (Worker::Idle, Some(leave(arrival))),
         Ok(Admission::Early(faulted)) => (Worker::Idle, Some(Answer::Early(faulted))),
         Err((error, arrival)) => {
             drop(error);
@@ -188,16 +190,24 @@ fn admit(alloc: Global, engine: &mut Engine, arrival: Arrival) -> (Worker, Optio
     }
 }
 
+/// What came in while a call that came with the same is in progress: it has no reply.
+fn leave(arrival: Arrival) -> Answer
+    ensures { IsUnanswered arrival.received result }
+{
+    let (received, reading) = arrival.into_parts();
+    drop(reading);
+    Answer::Unanswered(received)
+}
+
 /// The answer to an arrival that was not admitted.
 pub(crate) fn refuse_arrival(alloc: Global, arrival: Arrival) -> Answer
     requires { AsksCall arrival }
     ensures { (asked : Asked) → arrival.reading ≡ readings.Asks asked → IsRefused arrival.received asked result }
 {
+    let answer = refusal_to(alloc, arrival.reading());
     let (received, reading) = arrival.into_parts();
-    match reading {
-        Reading::Asks(asked) => refuse(alloc, received, asked),
-        Reading::Faulted(_) => unreachable!(),
-    }
+    drop(reading);
+    Answer::Refused(Declined { received, answer })
 }
 
 /// Asks for the first of these addresses.

@@ -19,7 +19,7 @@ use Rattle.nfs_machine.specs.declared.exports.ExportError.{ExportError}
 use Rattle.nfs_machine.specs.declared.exports.ExportError.TheVariants as export
 use Rattle.nfs_machine.specs.declared.exports.ExportText.{ExportText}
 use Rattle.nfs_engine.specs.Opening.{IsLimit}
-use Rattle.nfs_server.specs.CommandLine.{AreRefused, Configures, IsEra, IsEraRefusal, IsHostRefusal, IsParsedFrom, IsRefusal, IsTaken, IsValueRefusal, NamesEra, ReadsOptions, ReadsFlag, ReadsNumber, Refuses, export_parts, exports_of, host_of, nfsd, parts_of}
+use Rattle.nfs_server.specs.CommandLine.{AreRefused, Configures, IsCapacity, IsEra, IsHostRefusal, IsLimitRefusal, IsParsedFrom, IsRefusal, IsTaken, IsValueRefusal, NamesLimit, ReadsOptions, ReadsFlag, ReadsNumber, Refuses, export_parts, exports_of, host_of, nfsd, parts_of}
 use Rattle.nfs_engine.specs.Hosts.{IsHost}
 use Rattle.nfs_server.specs.Exits.{exit_of_command, exit_of_exports, exit_of_kind}
 use Rattle.nfs_server.specs.declared.exit.Exit.{Exit}
@@ -115,37 +115,55 @@ host_taken : (words : List Text) (m : ArgMatches) (host : Text) → IsParsedFrom
 host_taken words m host parsed is =
     subst (λ (rows : List Row). IsHost (host_of rows)) parsed.rows (subst IsHost is.0 is.1)
 
--- words whose matches are found, with a host of its length and an era within its bounds, are taken
-pub taken : (words : List Text) (m : ArgMatches) (host : Text) (era : ℕ) → IsParsedFrom words m
-    → (host ≡ host_of (rows_of (found_of m))) × IsHost host → IsEra (rows_of (found_of m)) era → IsTaken words
-taken words m host era parsed is its = record {
+-- words whose matches are found, with a host of its length and limits within their bounds, are taken
+pub taken : (words : List Text) (m : ArgMatches) (host : Text) (era capacity : ℕ) → IsParsedFrom words m
+    → (host ≡ host_of (rows_of (found_of m))) × IsHost host → IsEra (rows_of (found_of m)) era
+    → IsCapacity (rows_of (found_of m)) capacity → IsTaken words
+taken words m host era capacity parsed is its kept = record {
   faultless = parsed.faultless;
   host = host_taken words m host parsed is;
   era = (era, subst (λ (rows : List Row). IsEra rows era) parsed.rows its);
+  capacity = (capacity, subst (λ (rows : List Row). IsCapacity rows capacity) parsed.rows kept);
 }
 
--- a number of records outside the bounds of an era is refused
-pub refuses_era : (rows : List Row) (era : ℕ) (exit : Exit) → NamesEra rows era → (IsLimit era → ⊥)
-    → IsValueRefusal exit → IsEraRefusal rows exit
-refuses_era rows era (CommandLine e) names other refused = (era, names, other, refused)
-refuses_era rows era Memory names other refused = tt
-refuses_era rows era NoTransport names other refused = absurd refused
-refuses_era rows era (Exports e) names other refused = absurd refused
-refuses_era rows era StandardStream names other refused = absurd refused
+-- a number outside the bounds is refused
+pub refuses_limit : (name : Text) (default : ℕ) (rows : List Row) (limit : ℕ) (exit : Exit)
+    → NamesLimit name default rows limit → (IsLimit limit → ⊥) → IsValueRefusal exit
+    → IsLimitRefusal name default rows exit
+refuses_limit name default rows limit (CommandLine e) names other refused = (limit, names, other, refused)
+refuses_limit name default rows limit Memory names other refused = tt
+refuses_limit name default rows limit NoTransport names other refused = absurd refused
+refuses_limit name default rows limit (Exports e) names other refused = absurd refused
+refuses_limit name default rows limit StandardStream names other refused = absurd refused
 
 -- and so are its words
 pub refused_era : (words : List Text) (m : ArgMatches) (host : Text) (exit : Exit) → IsParsedFrom words m
-    → (host ≡ host_of (rows_of (found_of m))) × IsHost host → IsEraRefusal (rows_of (found_of m)) exit
-    → Refuses words exit
-refused_era words m host (CommandLine e) parsed is refused = inr (inr (
+    → (host ≡ host_of (rows_of (found_of m))) × IsHost host
+    → IsLimitRefusal (codes "era") 65536 (rows_of (found_of m)) exit → Refuses words exit
+refused_era words m host (CommandLine e) parsed is refused = inr (inr (inl (
   parsed.faultless,
   host_taken words m host parsed is,
-  subst (λ (rows : List Row). IsEraRefusal rows (CommandLine e)) parsed.rows refused,
-))
+  subst (λ (rows : List Row). IsLimitRefusal (codes "era") 65536 rows (CommandLine e)) parsed.rows refused,
+)))
 refused_era words m host Memory parsed is refused = tt
 refused_era words m host NoTransport parsed is refused = absurd refused
 refused_era words m host (Exports e) parsed is refused = absurd refused
 refused_era words m host StandardStream parsed is refused = absurd refused
+
+pub refused_capacity : (words : List Text) (m : ArgMatches) (host : Text) (era : ℕ) (exit : Exit)
+    → IsParsedFrom words m → (host ≡ host_of (rows_of (found_of m))) × IsHost host
+    → IsEra (rows_of (found_of m)) era → IsLimitRefusal (codes "cache") 1024 (rows_of (found_of m)) exit
+    → Refuses words exit
+refused_capacity words m host era (CommandLine e) parsed is its refused = inr (inr (inr (
+  parsed.faultless,
+  host_taken words m host parsed is,
+  (era, subst (λ (rows : List Row). IsEra rows era) parsed.rows its),
+  subst (λ (rows : List Row). IsLimitRefusal (codes "cache") 1024 rows (CommandLine e)) parsed.rows refused,
+)))
+refused_capacity words m host era Memory parsed is its refused = tt
+refused_capacity words m host era NoTransport parsed is its refused = absurd refused
+refused_capacity words m host era (Exports e) parsed is its refused = absurd refused
+refused_capacity words m host era StandardStream parsed is its refused = absurd refused
 
 -- a host that is refused refuses its words
 pub refused_host : (words : List Text) (m : ArgMatches) (exit : Exit) → IsParsedFrom words m

@@ -1,16 +1,18 @@
--- An engine that opens is at rest, and its store stands for the opening state.
-use Rattle.std.proofs.Common.{◌≡◌, ℕ, List, None, ap, subst}
+-- An engine that opens is at rest, and stands in the opening state.
+use Rattle.std.proofs.Common.{◌≡◌, ℕ, List, None, sym, ◌∙◌, ap, subst}
 use Rattle.nfs_machine.specs.Opening.{opening}
-use Rattle.nfs_machine.specs.Run.{Record, Run}
+use Rattle.nfs_machine.specs.Run.{Record, Run, Setting}
 use Rattle.nfs_machine.specs.State.{State}
 use Rattle.nfs_objects.specs.declared.address.Addr.{Addr}
+use Rattle.nfs_replies.specs.Replies.{kept_of}
 use Rattle.nfs_engine.specs.Book.{BookValue, StandsFor, store_in}
 use Rattle.nfs_engine.specs.Engine.{EngineValue, held_among}
 use Rattle.nfs_engine.specs.Opening.{Opens}
 use Rattle.nfs_engine.specs.Running.{running_at}
 use Rattle.nfs_engine.specs.declared.opening.Config.{Config}
-use Rattle.nfs_schedule.specs.Served.{IsState}
+use Rattle.nfs_schedule.specs.Served.{StandsAt}
 use Rattle.nfs_schedule.specs.Worlds.{IsAtRest}
+use Rattle.nfs_server.specs.Started.{opening_standing}
 
 pub opens_rests : (config : Config) (e : EngineValue) → Opens config e.book →
     ((a : Addr) (j : ℕ) → held_among e.shards a j ≡ None) → IsAtRest e
@@ -19,10 +21,16 @@ opens_rests config e opens free = record {
   held = free;
 }
 
-pub opens_state : (config : Config) (e : EngineValue) → Opens config e.book →
-    IsState e (opening config.exports config.moment)
-opens_state config e opens =
-    let same : opens.leads.state ≡ opening config.exports config.moment =
+pub opens_standing : (config : Config) (setting : Setting) (e : EngineValue) → Opens config e.book →
+    setting.exports ≡ config.exports → StandsAt e (opening_standing setting config.capacity config.moment)
+opens_standing config setting e opens exports =
+    let run : opens.leads.state ≡ opening config.exports config.moment =
     subst (λ (rs : List Record). Run e.book.setting (opening config.exports config.moment) rs opens.leads.state)
     (ap (λ (b : BookValue). b.records) opens.is) opens.leads.run in
-    subst (λ (m : State). StandsFor (store_in e.book) m) same opens.leads.stands
+    let same : opens.leads.state ≡ opening setting.exports config.moment =
+    run ∙ ap (λ es. opening es config.moment) (sym exports) in
+    record {
+      stands = subst (λ (m : State). StandsFor (store_in e.book) m) same opens.leads.stands;
+      capacity = sym (ap (λ (b : BookValue). b.replies.capacity) opens.is);
+      lists = sym (ap (λ (b : BookValue). kept_of b.replies) opens.is);
+    }

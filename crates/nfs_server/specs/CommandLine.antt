@@ -44,8 +44,9 @@ nfsd =
     let host = option_rule (codes "host") in
     let bytes = number_rule (codes "bytes") (Unsigned 0 18446744073709551615) in
     let era = number_rule (codes "era") (Unsigned 0 18446744073709551615) in
-    with_rule (with_rule (with_rule (with_rule (with_rule (with_rule (with_rule
-    (new_app (codes "nfsd")) stdio) export) start) clock) host) bytes) era
+    let cache = number_rule (codes "cache") (Unsigned 0 18446744073709551615) in
+    with_rule (with_rule (with_rule (with_rule (with_rule (with_rule (with_rule (with_rule
+    (new_app (codes "nfsd")) stdio) export) start) clock) host) bytes) era) cache
 
 -- ---- what a value spells
 
@@ -80,16 +81,24 @@ exports_of rows = unwrap_or (all_of (codes "export") rows) []
 
 -- ---- what the words come to
 
--- the number of records at which an era is full, or the default
-pub record NamesEra (rows : List Row) (era : ℕ) : Type 0 where
+-- the number that an option gives, or else the default
+pub record NamesLimit (name : Text) (default : ℕ) (rows : List Row) (limit : ℕ) : Type 0 where
   pub number : Option ℕ
-  pub reads : ReadsNumber 64 (one_of (codes "era") rows) number
-  pub is : era ≡ unwrap_or number 65536
+  pub reads : ReadsNumber 64 (one_of name rows) number
+  pub is : limit ≡ unwrap_or number default
 
--- and it is one that an era may have
-pub record IsEra (rows : List Row) (era : ℕ) : Type 0 where
-  pub names : NamesEra rows era
-  pub within : IsLimit era
+-- and it is within the bounds
+pub record HasLimit (name : Text) (default : ℕ) (rows : List Row) (limit : ℕ) : Type 0 where
+  pub names : NamesLimit name default rows limit
+  pub within : IsLimit limit
+
+-- the number of records at which an era is full
+abbrev pub IsEra : List Row → (era : ℕ) → Type 0
+IsEra rows era = HasLimit (codes "era") 65536 rows era
+
+-- how many replies are kept of each host
+abbrev pub IsCapacity : List Row → (capacity : ℕ) → Type 0
+IsCapacity rows capacity = HasLimit (codes "cache") 1024 rows capacity
 
 -- the rows of a command line that is taken give the options
 pub record ReadsOptions (rows : List Row) (options : Options) : Type 0 where
@@ -99,6 +108,7 @@ pub record ReadsOptions (rows : List Row) (options : Options) : Type 0 where
       × (options.bytes ≡ unwrap_or number 1099511627776)
   pub host : options.host ≡ host_of rows
   pub era : IsEra rows options.era_records
+  pub capacity : IsCapacity rows options.capacity
   pub exports : (list : List ExportText)
       × (map parts_of list ≡ map export_parts (exports_of rows)) × (export_fault list ≡ None)
       × (options.exports ≡ map export_of list)
@@ -115,11 +125,12 @@ IsRefusal rows (Exports e) = AreRefused rows e
 IsRefusal rows Memory = Unit {0}
 IsRefusal rows _ = ⊥
 
--- the words are those of the program's options, and the host has its length, and the era its bounds
+-- the words are those of the program's options, the host has its length, and era and kept replies have their bounds
 pub record IsTaken (words : List Text) : Type 0 where
   pub faultless : fault_of nfsd words ≡ []
   pub host : IsHost (host_of (matches_of nfsd words))
   pub era : (era : ℕ) × IsEra (matches_of nfsd words) era
+  pub capacity : (capacity : ℕ) × IsCapacity (matches_of nfsd words) capacity
 
 -- the words are taken, name a transport, and ask for these options
 pub record Configures (words : List Text) (options : Options) : Type 0 where
@@ -148,12 +159,12 @@ IsHostRefusal rows (CommandLine e) = (IsHost (host_of rows) → ⊥) × (kind_of
 IsHostRefusal rows Memory = Unit {0}
 IsHostRefusal rows _ = ⊥
 
--- the era has other bounds
-abbrev pub IsEraRefusal : List Row → Exit → Type 0
-IsEraRefusal rows (CommandLine e) =
-    (era : ℕ) × NamesEra rows era × (IsLimit era → ⊥) × (kind_of e ≡ ValueValidation)
-IsEraRefusal rows Memory = Unit {0}
-IsEraRefusal rows _ = ⊥
+-- the number that an option gives is outside the bounds
+abbrev pub IsLimitRefusal : (name : Text) (default : ℕ) → List Row → Exit → Type 0
+IsLimitRefusal name default rows (CommandLine e) =
+    (limit : ℕ) × NamesLimit name default rows limit × (IsLimit limit → ⊥) × (kind_of e ≡ ValueValidation)
+IsLimitRefusal name default rows Memory = Unit {0}
+IsLimitRefusal name default rows _ = ⊥
 
 -- why the words are refused: the first that is at fault of the command line, the transport and the exports
 abbrev pub Refuses : List Text → Exit → Type 0
@@ -162,7 +173,10 @@ Refuses words (CommandLine e) =
     ⊎ ((fault_of nfsd words ≡ []) × (IsHost (host_of (matches_of nfsd words)) → ⊥)
     × (kind_of e ≡ ValueValidation))
     ⊎ ((fault_of nfsd words ≡ []) × IsHost (host_of (matches_of nfsd words))
-    × IsEraRefusal (matches_of nfsd words) (CommandLine e))
+    × IsLimitRefusal (codes "era") 65536 (matches_of nfsd words) (CommandLine e))
+    ⊎ ((fault_of nfsd words ≡ []) × IsHost (host_of (matches_of nfsd words))
+    × ((era : ℕ) × IsEra (matches_of nfsd words) era)
+    × IsLimitRefusal (codes "cache") 1024 (matches_of nfsd words) (CommandLine e))
 Refuses words NoTransport = IsTaken words × ReadsFlag (one_of (codes "stdio") (matches_of nfsd words)) false
 Refuses words (Exports e) =
     IsTaken words × ReadsFlag (one_of (codes "stdio") (matches_of nfsd words)) true

@@ -1,10 +1,11 @@
 -- What a server does from its start on.
-use Rattle.std.specs.Prelude.{◌≡◌, ◌⊎◌, ℕ, List, Option, Some, unwrap_or}
+use Rattle.std.specs.Prelude.{◌≡◌, ◌⊎◌, ℕ, List, [], Option, Some, unwrap_or}
 use Rattle.nfs_machine.specs.Opening.{opening}
 use Rattle.nfs_machine.specs.Run.{Setting}
 use Rattle.nfs_machine.specs.declared.moment.Moment.{Moment}
 use Rattle.nfs_engine.specs.Engine.{EngineValue}
-use Rattle.nfs_schedule.specs.Served.{IsState, ServesAll, ServesFront}
+use Rattle.nfs_schedule.specs.Served.{ServesAll, ServesFront, StandsAt}
+use Rattle.nfs_schedule.specs.Serving.{Standing}
 use Rattle.nfs_schedule.specs.declared.serving.StreamFault.{StreamFault}
 use Rattle.nfs_server.specs.Exits.{exit_of}
 use Rattle.nfs_server.specs.declared.exit.Exit.{Exit}
@@ -20,32 +21,39 @@ setting_of options otherwise =
       limits = record { total_bytes = options.bytes };
     }
 
--- the clock's first moment made the opening state, which the engine's store stood for, and so it went on from there
+-- the opening state, in which no reply is kept
+abbrev pub opening_standing : Setting → (capacity : ℕ) → Moment → Standing
+opening_standing setting capacity moment =
+    record { state = opening setting.exports moment; capacity = capacity; lists = λ host. [] }
+
+-- the clock's first moment made the opening state, in which the engine stood, and so it went on from there
 pub record FromStart {Clock : Type 0} (gives : Clock → Moment → Clock → Type 0) (setting : Setting)
-    (clock : Clock) (GoesOn : Clock → EngineValue → EngineValue → Type 0) : Type 0 where
+    (capacity : ℕ) (clock : Clock) (GoesOn : Clock → EngineValue → EngineValue → Type 0) : Type 0 where
   pub moment : Moment
   pub started : Clock
   pub opened : EngineValue
   pub left : EngineValue
   pub ticked : gives clock moment started
   pub under : opened.book.setting ≡ setting
-  pub stands : IsState opened (opening setting.exports moment)
+  pub stands : StandsAt opened (opening_standing setting capacity moment)
   pub on : GoesOn started opened left
 
 -- all records of the input were served
 abbrev pub ServesFromStart : {Clock : Type 0} → (Clock → Moment → Clock → Type 0) → Setting →
-    (host : List ℕ) (unread : Option (List ℕ)) (clock later : Clock) (before after : Option (List ℕ)) → Type 0
-ServesFromStart gives setting host unread clock later before after =
-    (input : List ℕ) → unread ≡ Some input → FromStart gives setting clock
+    (capacity : ℕ) (host : List ℕ) (unread : Option (List ℕ)) (clock later : Clock)
+    (before after : Option (List ℕ)) → Type 0
+ServesFromStart gives setting capacity host unread clock later before after =
+    (input : List ℕ) → unread ≡ Some input → FromStart gives setting capacity clock
     (λ started opened left. ServesAll gives host input started later opened left before after)
 
 -- The program ends early: by want of memory, where nothing was written, or by a fault of the stream, which the
 -- streams tell, where a front of the input was taken in and the first of its records were served.
 abbrev pub FailsFromStart : {Clock : Type 0} → (Clock → Moment → Clock → Type 0) → Setting →
-    (host : List ℕ) (unread : Option (List ℕ)) (clock later : Clock) (before after : Option (List ℕ)) →
+    (capacity : ℕ) (host : List ℕ) (unread : Option (List ℕ)) (clock later : Clock)
+    (before after : Option (List ℕ)) →
     (StreamFault → Type 0) → Exit → Type 0
-FailsFromStart gives setting host unread clock later before after IsTold exit =
+FailsFromStart gives setting capacity host unread clock later before after IsTold exit =
     ((exit ≡ Memory) × (after ≡ before))
     ⊎ ((fault : StreamFault) × (exit ≡ exit_of fault) × IsTold fault
-    × ((input : List ℕ) → unread ≡ Some input → FromStart gives setting clock
+    × ((input : List ℕ) → unread ≡ Some input → FromStart gives setting capacity clock
     (λ started opened left. ServesFront gives host input fault started later opened left before after)))

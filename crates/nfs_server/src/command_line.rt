@@ -5,7 +5,8 @@ ghost use Rattle.std.specs.Prelude.{IfErr, IfOk, MatchResult};
 ghost use Rattle.std.specs.List.{slice_split};
 ghost use Rattle.clap.specs.Words.{app_of, found_of, rows_of, rule_of};
 ghost use Rattle.nfs_server.specs.CommandLine.{Configures, ReadsOptions, Refuses, IsParsedFrom};
-ghost use Rattle.nfs_server.specs.CommandLine.{IsEra, IsEraRefusal, IsHostRefusal, IsReadingFault, IsRefusal, IsValueRefusal};
+ghost use Rattle.nfs_server.specs.CommandLine.{HasLimit, IsCapacity, IsEra, IsHostRefusal, IsLimitRefusal};
+ghost use Rattle.nfs_server.specs.CommandLine.{IsReadingFault, IsRefusal, IsValueRefusal};
 ghost use Rattle.nfs_server.specs.CommandLine.{export_parts, host_of, nfsd, parts_of};
 ghost use Rattle.nfs_server.specs.CommandLine.{flag_rule, number_rule, option_rule};
 ghost use Rattle.nfs_engine.specs.Hosts.{IsHost};
@@ -29,11 +30,20 @@ const DEFAULT_HOST: &str = "127.0.0.1";
 /// The total that FSSTAT tells where the command line says none, in bytes.
 const DEFAULT_BYTES: u64 = 1_099_511_627_776;
 
-/// At how many records an era is full where the command line says nothing, and at most.
-const MOST_RECORDS: u64 = 65_536;
+/// At how many records an era is full where the command line says nothing.
+const DEFAULT_RECORDS: u64 = 65_536;
+
+/// How many replies are kept of each host where the command line says nothing.
+const DEFAULT_CAPACITY: u64 = 1024;
+
+/// How many records an era may have at most, and how many replies may be kept of each host.
+const MOST: u64 = 65_536;
 
 /// What is said of an era of no records, or of too many.
 const BAD_ERA: &str = "the value of '--era <N>' must be 1 to 65536";
+
+/// What is said where no replies are to be kept, or too many.
+const BAD_CACHE: &str = "the value of '--cache <N>' must be 1 to 65536";
 
 /// What is said of a host of another length.
 const BAD_HOST: &str = "the value of '--host <TEXT>' must have 1 to 255 bytes";
@@ -131,6 +141,13 @@ fn command<'a>(alloc: Global) -> Result<Command<'a>, AllocError>
             "N",
             value_parser!(u64),
             "Keep so many records at most, 1 to 65536 [default: 65536]",
+        ))?
+        .arg(number(
+            alloc,
+            "cache",
+            "N",
+            value_parser!(u64),
+            "Keep so many replies of each host at most, 1 to 65536 [default: 1024]",
         ))
 }
 
@@ -163,19 +180,20 @@ fn refusal(command: &mut Command<'_>, message: &str) -> Result<Exit, AllocError>
 /// # Errors
 ///
 /// Faults are looked for in this order: `CommandLine` where the words are none that the program takes, ask for its
-/// help, give a host of no byte or of more than 255, or an era of no record or of more than 65,536; `NoTransport`;
-/// `Exports` where these are refused. `Memory` where memory was refused.
+/// help, give a host of no byte or of more than 255, an era of no record or of more than 65,536, or no replies to keep
+/// or more than 65,536; `NoTransport`; `Exports` where these are refused. `Memory` where memory was refused.
 pub fn configure<S: AsStr>(alloc: Global, words: &[S]) -> Result<Options, Exit>
     ensures { MatchResult result (Configures (map S.text words.now)) (Refuses (map S.text words.now)) }
 {
     let mut command = command(alloc)?;
     let matches = parse(&mut command, words)?;
     let host = named_host(alloc, &mut command, &matches)?;
-    let era_records = named_era(&mut command, &matches)?;
+    let era_records = named_limit(&mut command, &matches, "era", DEFAULT_RECORDS, BAD_ERA)?;
+    let capacity = named_limit(&mut command, &matches, "cache", DEFAULT_CAPACITY, BAD_CACHE)?;
     if !matches.get_flag("stdio") {
         return Err(Exit::NoTransport);
     }
-    read_options(alloc, &matches, host, era_records)
+    read_options(alloc, &matches, host, era_records, capacity)
 }
 
 fn parse<'a, S: AsStr>(command: &mut Command<'a>, words: &'a [S]) -> Result<ArgMatches<'a>, Exit>
@@ -202,16 +220,22 @@ fn named_host(
     }
 }
 
-// At how many records an era is full, as the options name it, or the default.
-fn named_era(command: &mut Command<'_>, matches: &ArgMatches<'_>) -> Result<u64, Exit>
-    ensures { MatchResult result (IsEra (rows_of (found_of matches.now)))
-        (IsEraRefusal (rows_of (found_of matches.now))) }
+// The number that this option gives, or the default; it is refused with this message.
+fn named_limit(
+    command: &mut Command<'_>,
+    matches: &ArgMatches<'_>,
+    name: &str,
+    default: u64,
+    message: &str,
+) -> Result<u64, Exit>
+    ensures { MatchResult result (HasLimit name.now default (rows_of (found_of matches.now)))
+        (IsLimitRefusal name.now default (rows_of (found_of matches.now))) }
 {
-    let era = matches.get_one("era").unwrap_or(MOST_RECORDS);
-    if era < 1 || era > MOST_RECORDS {
-        return Err(refusal(command, BAD_ERA)?);
+    let limit = matches.get_one(name).unwrap_or(default);
+    if limit < 1 || limit > MOST {
+        return Err(refusal(command, message)?);
     }
-    Ok(era)
+    Ok(limit)
 }
 
 // The options of a command line that is taken.
@@ -220,9 +244,11 @@ fn read_options(
     matches: &ArgMatches<'_>,
     host: Host,
     era_records: u64,
+    capacity: u64,
 ) -> Result<Options, Exit>
     requires host { host ≡ host_of (rows_of (found_of matches.now)) }
     requires era { IsEra (rows_of (found_of matches.now)) era_records }
+    requires capacity { IsCapacity (rows_of (found_of matches.now)) capacity }
     ensures { MatchResult result (ReadsOptions (rows_of (found_of matches.now)))
         (IsRefusal (rows_of (found_of matches.now))) }
 {
@@ -234,6 +260,7 @@ fn read_options(
         host,
         bytes: matches.get_one("bytes").unwrap_or(DEFAULT_BYTES),
         era_records,
+        capacity,
     })
 }
 

@@ -18,4 +18,6 @@ pub struct Options {
     pub bytes: u64,
     /// At how many records an era is full, from 1 to 65,536.
     pub era_records: u64,
+    /// How many replies are kept of each host, from 1 to 65,536.
+    pub capacity: u64,
 }

@@ -15,9 +15,6 @@ use nfs_rpc::stream::{Sink, Source};
 use nfs_schedule::{Served, StreamFault, serve_stream};
 use std::alloc::Global;
 
-/// How many replies are kept.
-const CAPACITY: u64 = 1024;
-
 /// Serves the input as the options say, with this start number where they name none: from the opening state, which is
 /// made at the clock's first moment, to the end of the input.
 ///
@@ -32,14 +29,15 @@ pub fn serve_options<C: Moments, R: Source, W: Sink>(
     reader: &mut R,
     writer: &mut W,
 ) -> Result<(), Exit>
-    requires { IsLimit options.era_records }
+    requires era { IsLimit options.era_records }
+    requires capacity { IsLimit options.capacity }
     ensures ok { OnOk result
-        (ServesFromStart C.gives (setting_of options start) options.host (R.unread reader.old) clock.old clock.new
-        (W.written writer.old) (W.written writer.new)) }
+        (ServesFromStart C.gives (setting_of options start) options.capacity options.host (R.unread reader.old)
+        clock.old clock.new (W.written writer.old) (W.written writer.new)) }
     // A fault of a stream is one that the stream counted, or there was no end of it.
     ensures fault { IfErr result
-        (FailsFromStart C.gives (setting_of options start) options.host (R.unread reader.old) clock.old clock.new
-        (W.written writer.old) (W.written writer.new)
+        (FailsFromStart C.gives (setting_of options start) options.capacity options.host (R.unread reader.old)
+        clock.old clock.new (W.written writer.old) (W.written writer.new)
         (λ fault. (fault ≡ StreamFault.Read →
         (R.Counts.failures reader.new ≡ one_more (R.Counts.failures reader.old))
         ⊎ ((input : List ℕ) → R.unread reader.old ≡ Some input → 2 ^ 64 - 1 ≤ length input))
@@ -55,6 +53,7 @@ pub fn serve_options<C: Moments, R: Source, W: Sink>(
         host,
         bytes,
         era_records,
+        capacity,
     } = options;
     let limits = Limits { total_bytes: bytes };
     let moment = clock.moment();
@@ -62,7 +61,7 @@ pub fn serve_options<C: Moments, R: Source, W: Sink>(
         exports,
         start: named.unwrap_or(start),
         moment,
-        capacity: CAPACITY,
+        capacity,
         limits,
         era_records,
     };

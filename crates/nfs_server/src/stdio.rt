@@ -16,7 +16,8 @@ pub fn serve_stdio<R: AllocGlobal + Clock + Input + Print>(
     rt: &R,
     options: Options,
 ) -> Result<(), Exit>
-    requires { IsLimit options.era_records }
+    requires era { IsLimit options.era_records }
+    requires capacity { IsLimit options.capacity }
 {
     let mut clock = ServerClock::new(rt, options.clock);
     let mut reader = Counted::new(rt.reader());

@@ -21,6 +21,8 @@ mod links;
 mod modes;
 mod play;
 mod renames;
+mod repeats;
+mod resting;
 mod scenes;
 mod shown;
 mod stops;
@@ -31,8 +33,10 @@ use nfs_engine::{Config, Engine, Host, Received};
 use nfs_machine::{ExportText, Exports, Limits, Moment};
 use std::alloc::{AllocError, Global};
 
-/// The host that calls.
+/// The host that calls, and another one.
 const HOST: &[u8] = b"10.0.0.1";
+
+const OTHER_HOST: &[u8] = b"10.0.0.2";
 
 /// When everything happens.
 const MOMENT: Moment = Moment {
@@ -53,15 +57,15 @@ fn exports(alloc: Global) -> Result<Exports, AllocError> {
     Exports::new(alloc, list).map_err(|_| AllocError)
 }
 
-/// The engine at its start.
-fn opened(alloc: Global) -> Result<Engine, AllocError>
+/// The engine at its start, which keeps so many replies of each host.
+fn opened(alloc: Global, capacity: u64) -> Result<Engine, AllocError>
     ensures { IfOk result IsAtRest }
 {
     let config = Config {
         exports: exports(alloc)?,
         start: 7,
         moment: MOMENT,
-        capacity: 1024,
+        capacity,
         limits: Limits {
             total_bytes: 1 << 40,
         },

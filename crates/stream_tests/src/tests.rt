@@ -26,6 +26,7 @@ mod readers_and_writers;
 mod record_answers;
 mod removals;
 mod renames;
+mod repeats;
 mod scripts;
 mod shown;
 mod stream_faults;

@@ -1,24 +1,31 @@
 //! Admissions: of calls, and of records that have a fault.
 
-ghost use Rattle.std.specs.Prelude.{◌≡◌, MatchResult};
+ghost use Rattle.std.specs.Prelude.{◌≡◌, IfSome};
 ghost use Rattle.nfs_engine.specs.Engine.{AdmitsLiving, KeepsOthers, Lives};
 ghost use Rattle.engine_tests.specs.Beside.{BeginsAs};
-ghost use Rattle.nfs_engine.specs.declared.admission.Admission.TheVariants.{Begin, Early};
+ghost use Rattle.nfs_engine.specs.declared.admission.Admission.TheVariants.{Begin};
 
+use super::alone::Alone;
+use super::arrivals::ROOT;
+use super::beside::Beside;
 use super::openings::{close, opened};
-use super::records::{arrival, spelled};
-use nfs_engine::{Admission, Arrival, Engine, Faulted, Txn};
+use super::records::{GETATTR, NULL, arrival, moment, spelled};
+use nfs_engine::{Admission, Arrival, Engine, Txn};
+use nfs_machine::Call;
+use nfs_wire::NfsCall;
 use std::alloc::AllocError;
 use std::process::Abort;
 use std::test::Fail;
 
-/// The call that began, or else the fault.
-fn begun(admission: Admission) -> Result<Txn, Faulted>
-    ensures { MatchResult result (λ txn. admission ≡ Begin txn) (λ faulted. admission ≡ Early faulted) }
+/// The call that began, if one did.
+fn begun(admission: Admission) -> Option<Txn>
+    ensures { IfSome result (λ txn. admission ≡ Begin txn) }
 {
     match admission {
-        Admission::Begin(txn) => Ok(txn),
-        Admission::Early(faulted) => Err(faulted),
+        Admission::Begin(txn) => Some(txn),
+        Admission::Repeat(_) => None,
+        Admission::Running(_) => None,
+        Admission::Early(_) => None,
     }
 }
 
@@ -51,8 +58,8 @@ pub(super) fn admitted(rt: &(impl Abort + AllocGlobal), engine: &mut Engine, wor
     ensures next { result.id ≡ engine.old.book.next_id }
 {
     match begun(admission(rt, engine, words)) {
-        Ok(txn) => txn,
-        Err(_faulted) => panic!(rt; "it asks a call"),
+        Some(txn) => txn,
+        None => panic!(rt; "it asks a call that begins"),
     }
 }
 
@@ -63,9 +70,11 @@ fn is_early(
     words: &[u32],
     answer: Option<&[u8]>,
 ) -> bool {
-    match begun(admission(rt, engine, words)) {
-        Ok(_txn) => panic!(rt; "it asks nothing"),
-        Err(faulted) => faulted.answer.as_deref() == answer,
+    match admission(rt, engine, words) {
+        Admission::Begin(_txn) => panic!(rt; "it asks nothing"),
+        Admission::Repeat(_) => false,
+        Admission::Running(_) => false,
+        Admission::Early(faulted) => faulted.answer.as_deref() == answer,
     }
 }
 
@@ -84,5 +93,40 @@ fn what_is_no_call_is_dropped(rt: HostRuntime) -> Result<(), Fail> {
     let mut engine = opened(rt.alloc())?;
     assert!(rt; is_early(&rt, &mut engine, &[4, 0], None));
     close(&rt, engine);
+    Ok(())
+}
+
+/// Whether the call is GETATTR of the root, under who sent it and when, and has read nothing.
+fn shows_getattr(alone: &Alone) -> bool {
+    let ctx = alone.ctx();
+    let handle = match alone.call() {
+        Call::Nfs(NfsCall::Getattr(handle)) => handle.as_slice(),
+        _ => &[],
+    };
+    handle == ROOT
+        && ctx.host.as_slice() == b"10.0.0.1".as_slice()
+        && (ctx.ids.uid, ctx.ids.gid) == (65534, 65534)
+        && ctx.moment == moment()
+        && ctx.start == 7
+        && alone.view().is_empty()
+}
+
+#[test]
+fn a_call_that_begins_shows_what_it_is(rt: HostRuntime) -> Result<(), Fail> {
+    let engine = opened(rt.alloc())?;
+    assert_eq!(rt; engine.living(), 0);
+    let alone = Alone::begun(&rt, engine, &GETATTR);
+    assert!(rt; shows_getattr(&alone));
+    assert_eq!(rt; alone.counts(), (1, 0));
+    close(&rt, alone.end(&rt));
+    Ok(())
+}
+
+#[test]
+fn each_call_that_begins_is_one_more_in_progress(rt: HostRuntime) -> Result<(), Fail> {
+    let engine = opened(rt.alloc())?;
+    let beside = Beside::begun(&rt, engine, &GETATTR, &NULL);
+    assert_eq!(rt; beside.counts(), (2, 0));
+    close(&rt, beside.end(&rt));
     Ok(())
 }

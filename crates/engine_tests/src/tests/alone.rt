@@ -5,6 +5,7 @@ ghost use Rattle.nfs_engine.specs.Engine.{KeepsOthers, Lives};
 
 use super::admissions::admitted;
 use nfs_engine::{Engine, Got, Next, Pending, Release, ReserveError, Txn};
+use nfs_machine::{Call, Ctx};
 use nfs_objects::{Addr, Mode, Reserved, View};
 use std::alloc::{AllocError, Global};
 use std::marker::Model;
@@ -88,6 +89,16 @@ impl Alone {
     /// What the call has read.
     pub(super) fn view(&self) -> &View {
         self.txn.view()
+    }
+
+    /// The call.
+    pub(super) fn call(&self) -> &Call {
+        self.txn.call()
+    }
+
+    /// What it is made under.
+    pub(super) fn ctx(&self) -> &Ctx {
+        self.txn.ctx()
     }
 
     /// What asking for an address comes to, if need be at a second try. A refused try reads nothing.

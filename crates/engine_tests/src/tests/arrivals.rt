@@ -8,7 +8,8 @@ use std::alloc::{AllocError, Global};
 use std::test::Fail;
 
 /// The handle in GETATTR.
-const ROOT: &[u8] = b"NFD3\0\0\0\x01\0\0\0\0\0\0\0\x07\0\0\0\0\0\0\0\x01\0\0\0\0\0\0\0\x01";
+pub(super) const ROOT: &[u8] =
+    b"NFD3\0\0\0\x01\0\0\0\0\0\0\0\x07\0\0\0\0\0\0\0\x01\0\0\0\0\0\0\0\x01";
 
 /// Whether it is NULL with this xid, for nobody, as it came in.
 fn asks_null(arrival: &Arrival, xid: u32) -> bool {

@@ -84,6 +84,33 @@ fn limits_are_1_to_65536(rt: HostRuntime) {
     }
 }
 
+/// Made for runs in which one allocation is refused, whichever it is: then the engine does not start, and does at the
+/// next try.
+#[test]
+fn a_refused_start_is_made_again(rt: HostRuntime) -> Result<(), Fail> {
+    let engine = match started_at_once(rt.alloc(), 1, 1) {
+        Ok(engine) => engine,
+        Err(error) => {
+            assert_eq!(rt; error, StartError::Memory);
+            opened(rt.alloc())?
+        }
+    };
+    close(&rt, engine);
+    Ok(())
+}
+
+#[test]
+fn each_start_error_has_its_text(rt: HostRuntime) -> Result<(), Fail> {
+    for (error, text) in [
+        (StartError::from(AllocError), "out of memory"),
+        (StartError::Capacity, "capacity outside 1 to 65536"),
+        (StartError::EraLimit, "records of an era outside 1 to 65536"),
+    ] {
+        assert_eq!(rt; error.to_string(rt.alloc())?.as_str(), text);
+    }
+    Ok(())
+}
+
 #[test]
 fn nothing_was_executed(rt: HostRuntime) -> Result<(), Fail> {
     let mut engine = opened(rt.alloc())?;

@@ -26,6 +26,11 @@ const MKDIR: &[u8] = b"\0\0\0\x01MKDIR b";
 
 const REMOVE: &[u8] = b"\0\0\0\x02REMOVE a";
 
+/// Two long records, of which one is the beginning of the other.
+const LONG: &[u8] = &[7; 300];
+
+const LONGER: &[u8] = &[7; 301];
+
 /// Room for so many replies of each host.
 fn replies(alloc: Global, capacity: usize) -> Result<Replies, Fail> {
     let capacity = Capacity::new(capacity).ok_or("a capacity")?;
@@ -79,8 +84,8 @@ fn repeated(host: &'static [u8], record: &'static [u8]) -> Row {
     }
 }
 
-/// The record comes again and is executed.
-fn done_again(host: &'static [u8], record: &'static [u8]) -> Row {
+/// The record is executed, and what it makes is there.
+fn exists(host: &'static [u8], record: &'static [u8]) -> Row {
     Row {
         host,
         record,
@@ -108,7 +113,7 @@ fn the_newest_replies_are_kept(rt: HostRuntime) -> Result<(), Fail> {
         repeated(FIRST, CREATE),
         done(FIRST, MKDIR),
         repeated(FIRST, MKDIR),
-        done_again(FIRST, CREATE),
+        exists(FIRST, CREATE),
     ];
     assert!(rt; are_answered(rt.alloc(), 1, &rows)?);
     Ok(())
@@ -122,7 +127,7 @@ fn what_comes_again_is_kept_longer(rt: HostRuntime) -> Result<(), Fail> {
         repeated(FIRST, CREATE),
         done(FIRST, REMOVE),
         repeated(FIRST, CREATE),
-        done_again(FIRST, MKDIR),
+        exists(FIRST, MKDIR),
     ];
     assert!(rt; are_answered(rt.alloc(), 2, &rows)?);
     Ok(())
@@ -132,13 +137,27 @@ fn what_comes_again_is_kept_longer(rt: HostRuntime) -> Result<(), Fail> {
 fn hosts_do_not_push_out_each_others_replies(rt: HostRuntime) -> Result<(), Fail> {
     let rows = [
         done(FIRST, CREATE),
-        done_again(SECOND, CREATE),
+        exists(SECOND, CREATE),
         done(SECOND, MKDIR),
         repeated(FIRST, CREATE),
         done(FIRST, REMOVE),
-        done_again(FIRST, CREATE),
+        exists(FIRST, CREATE),
     ];
     assert!(rt; are_answered(rt.alloc(), 1, &rows)?);
+    Ok(())
+}
+
+#[test]
+fn other_bytes_are_another_call(rt: HostRuntime) -> Result<(), Fail> {
+    let rows = [
+        done(FIRST, CREATE),
+        exists(FIRST, MKDIR),
+        repeated(FIRST, CREATE),
+        done(FIRST, LONG),
+        exists(FIRST, LONGER),
+        repeated(FIRST, LONG),
+    ];
+    assert!(rt; are_answered(rt.alloc(), 8, &rows)?);
     Ok(())
 }
 

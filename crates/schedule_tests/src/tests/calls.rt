@@ -13,6 +13,8 @@ const LOOKUP: u32 = 3;
 
 const CREATE: u32 = 8;
 
+const MKDIR: u32 = 9;
+
 const REMOVE: u32 = 12;
 
 const RENAME: u32 = 14;
@@ -21,7 +23,9 @@ const LINK: u32 = 15;
 
 const NFS3_OK: u32 = 0;
 
-const NFS3ERR_NOENT: u32 = 2;
+pub(super) const NFS3ERR_NOENT: u32 = 2;
+
+pub(super) const NFS3ERR_EXIST: u32 = 17;
 
 pub(super) const NFS3ERR_STALE: u32 = 70;
 
@@ -31,6 +35,8 @@ pub(super) type Name = [u32; 2];
 pub(super) const A: Name = [1, 0x61000000];
 
 pub(super) const B: Name = [1, 0x62000000];
+
+pub(super) const C: Name = [1, 0x63000000];
 
 pub(super) const X: Name = [1, 0x78000000];
 
@@ -72,6 +78,11 @@ impl Scene {
     /// CREATE in the root.
     pub(super) fn create(&mut self, name: &Name) -> Result<(), AllocError> {
         self.call(CREATE, &ROOT.handle(), name, &GUARDED)
+    }
+
+    /// MKDIR in the root, with no attributes given.
+    pub(super) fn mkdir(&mut self, name: &Name) -> Result<(), AllocError> {
+        self.call(MKDIR, &ROOT.handle(), name, &[0, 0, 0, 0, 0, 0])
     }
 
     /// REMOVE from the root.
@@ -139,7 +150,7 @@ impl Scene {
         self.executed(xid, number, &[NFS3ERR_NOENT], &root.after(), &[], &[])
     }
 
-    /// CREATE made this file.
+    /// CREATE made this file, or MKDIR this directory.
     pub(super) fn created(
         &mut self,
         xid: u32,
@@ -157,6 +168,17 @@ impl Scene {
             &before.before(),
             &after.after(),
         )
+    }
+
+    /// A call on a name in the root is refused with this status, and leaves the root as it is.
+    pub(super) fn declined(
+        &mut self,
+        xid: u32,
+        number: u64,
+        status: u32,
+        root: Shown,
+    ) -> Result<(), AllocError> {
+        self.executed(xid, number, &[status], &root.before(), &root.after(), &[])
     }
 
     /// REMOVE is done.

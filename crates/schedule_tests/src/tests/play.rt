@@ -5,7 +5,7 @@ ghost use Rattle.nfs_schedule.specs.Events.{HasWorker};
 
 use super::scenes::*;
 use super::{HOST, opened, received};
-use nfs_schedule::{Answer, Event, World, drive};
+use nfs_schedule::{Answer, Event, World, drive, is_at_rest};
 use std::alloc::{AllocError, Global};
 use std::process::Abort;
 use std::test::Fail;
@@ -28,9 +28,9 @@ pub(super) enum Difference {
     Answer(usize),
 }
 
-/// A new world of two workers.
-fn new_world(alloc: Global) -> Result<World, AllocError> {
-    match World::new(alloc, opened(alloc)?, 2) {
+/// A new world of two workers, which keeps so many replies of each host.
+fn new_world(alloc: Global, capacity: u64) -> Result<World, AllocError> {
+    match World::new(alloc, opened(alloc, capacity)?, 2) {
         Ok(world) => Ok(world),
         Err((error, engine)) => {
             drop(engine);
@@ -107,7 +107,7 @@ impl Scene {
 
     /// The first difference of a new world in which this happens.
     fn difference(&self, alloc: Global, moves: &[Move]) -> Result<Option<Difference>, AllocError> {
-        let mut world = new_world(alloc)?;
+        let mut world = new_world(alloc, self.capacity)?;
         let mut answers = Vec::new(alloc);
         let played = self.play(alloc, &mut world, &mut answers, moves);
         drop(world.end());
@@ -122,7 +122,7 @@ impl Scene {
         &self,
         alloc: Global,
     ) -> Result<Option<Difference>, AllocError> {
-        let mut world = new_world(alloc)?;
+        let mut world = new_world(alloc, self.capacity)?;
         let mut answers = Vec::new(alloc);
         let driven = self.drive_at_once(alloc, &mut world, &mut answers);
         drop(world.end());
@@ -298,6 +298,7 @@ impl Scene {
 fn kind_of(answer: &Answer) -> Kind {
     match answer {
         Answer::Executed(receipt) => Kind::Executed(receipt.number),
+        Answer::Repeated(_) => Kind::Repeated,
         Answer::Refused(_) => Kind::Refused,
         Answer::Early(_) => Kind::Early,
         Answer::Unanswered(_) => Kind::Unanswered,
@@ -331,10 +332,11 @@ fn has_worker(event: &Event, workers: usize) -> bool
     }
 }
 
-/// The counts, where they are others than these.
+/// The counts, where they are others than these, or where they and `is_at_rest` differ.
 fn other_counts(world: &World, at: usize, living: usize, locked: usize) -> Option<Difference> {
     let engine = world.engine();
-    if engine.living() == living && engine.locked() == locked {
+    let rests = is_at_rest(engine) == (living == 0 && locked == 0);
+    if engine.living() == living && engine.locked() == locked && rests {
         return None;
     }
     Some(Difference::Counts {

@@ -7,7 +7,7 @@ use std::alloc::{AllocError, Global};
 /// What happens next, or what has to be so then.
 #[derive(Clone, Copy)]
 pub(super) enum Move {
-    /// The record with this xid comes in from this host.
+    /// The record that is named so comes in from this host.
     Arrive { from: &'static [u8], xid: u32 },
     /// This worker, from 1, takes a turn.
     Turn(usize),
@@ -30,6 +30,8 @@ pub(super) enum Move {
 pub(super) enum Kind {
     /// Its call was executed, as the record with this number.
     Executed(u64),
+    /// It came before, and gets the reply that is kept.
+    Repeated,
     /// Its call was refused, and changed nothing.
     Refused,
     /// It has a fault.
@@ -50,14 +52,20 @@ pub(super) struct Wanted {
 }
 
 /// What happens in a world, and what must be answered, in order. Calls are made by user 0, and have the transaction ids
-/// 1, 2 and so on.
+/// 1, 2 and so on, by which their records are named.
 #[derive(Drop)]
 pub(super) struct Scene {
     records: Vec<Vec<u8>>,
     pub moves: Vec<Move>,
     pub wanted: Vec<Wanted>,
+    /// How many replies are kept of each host.
+    pub capacity: u64,
+    /// The host whose records come in, and are answered.
+    pub from: &'static [u8],
     /// The last transaction id.
     pub xid: u32,
+    /// An earlier transaction id, if the next record has that in place of its own, by which it is named all the same.
+    pub earlier_xid: Option<u32>,
     /// The last of several ends that it may have, from 1; 0 where it has one.
     pub end: usize,
     /// How many of its moves are its opening.
@@ -70,7 +78,10 @@ impl Scene {
             records: Vec::new(alloc),
             moves: Vec::new(alloc),
             wanted: Vec::new(alloc),
+            capacity: 1024,
+            from: HOST,
             xid: 0,
+            earlier_xid: None,
             end: 0,
             opening: 0,
         }
@@ -89,7 +100,7 @@ impl Scene {
         Ok(words)
     }
 
-    /// The record with this transaction id; none where there is no such record.
+    /// The record that is named so; none where there is no such record.
     pub(super) fn record(&self, xid: u32) -> &[u8] {
         let place = (xid as usize).wrapping_sub(1);
         match self.records.get(place) {
@@ -98,14 +109,23 @@ impl Scene {
         }
     }
 
+    /// The transaction id that stands in the record that is named so.
+    fn xid_of(&self, xid: u32) -> u32 {
+        match self.record(xid) {
+            [a, b, c, d, ..] => u32::from_be_bytes([*a, *b, *c, *d]),
+            _ => xid,
+        }
+    }
+
     /// A record of these words comes in behind its transaction id.
     pub(super) fn words(&mut self, words: &[u32]) -> Result<(), AllocError> {
         self.xid = self.xid.wrapping_add(1);
+        let xid = self.earlier_xid.take().unwrap_or(self.xid);
         let mut record = Vec::new(self.allocator());
-        add_words(&mut record, &[self.xid])?;
+        add_words(&mut record, &[xid])?;
         add_words(&mut record, words)?;
         self.records.push(record)?;
-        self.arrives(HOST, self.xid)
+        self.arrives(self.from, self.xid)
     }
 
     /// A call comes in: a handle, and two further parts of the arguments.
@@ -125,7 +145,7 @@ impl Scene {
         self.words(&words)
     }
 
-    /// The record with this transaction id comes in.
+    /// The record that is named so comes in.
     pub(super) fn arrives(&mut self, from: &'static [u8], xid: u32) -> Result<(), AllocError> {
         self.moves.push(Move::Arrive { from, xid })?;
         Ok(())
@@ -205,7 +225,7 @@ impl Scene {
         fourth: &[u32],
     ) -> Result<(), AllocError> {
         let mut words = Vec::new(self.allocator());
-        words.extend_from_slice(&[xid, 1, 0, 0, 0, 0])?;
+        words.extend_from_slice(&[self.xid_of(xid), 1, 0, 0, 0, 0])?;
         words.extend_from_slice(first)?;
         words.extend_from_slice(second)?;
         words.extend_from_slice(third)?;
@@ -233,6 +253,18 @@ impl Scene {
         self.wants(xid, Kind::Unanswered, nothing)
     }
 
+    /// The record with this transaction id came before, and gets the same reply again.
+    pub(super) fn repeated(&mut self, xid: u32) -> Result<(), AllocError> {
+        let mut bytes = Vec::new(self.allocator());
+        for wanted in &self.wanted {
+            if wanted.xid == xid && wanted.from == self.from && !wanted.bytes.is_empty() {
+                bytes.clear();
+                bytes.extend_from_slice(wanted.bytes.as_slice())?;
+            }
+        }
+        self.wants(xid, Kind::Repeated, bytes)
+    }
+
     /// The record with this transaction id is answered so, by one fragment of these words.
     fn answered(&mut self, xid: u32, kind: Kind, words: &[u32]) -> Result<(), AllocError> {
         let Ok(count) = u32::try_from(words.len()) else {
@@ -248,7 +280,7 @@ impl Scene {
     fn wants(&mut self, xid: u32, kind: Kind, bytes: Vec<u8>) -> Result<(), AllocError> {
         self.wanted.push(Wanted {
             end: self.end,
-            from: HOST,
+            from: self.from,
             xid,
             kind,
             bytes,

@@ -61,12 +61,42 @@ pub(super) const THIRD: Shown = Shown {
     ..FIRST
 };
 
+/// The directory that worker 1 makes as its first object, without attributes given.
+pub(super) const FIRST_DIRECTORY: Shown = Shown {
+    kind: NF3DIR,
+    mode: 0o755,
+    links: 2,
+    size: 0x1000,
+    ..FIRST
+};
+
+/// The directory that worker 1 makes as its second object.
+pub(super) const SECOND_DIRECTORY: Shown = Shown {
+    number: 33,
+    generation: 3,
+    ..FIRST_DIRECTORY
+};
+
+/// The directory that worker 2 makes as its first object.
+pub(super) const OTHER_DIRECTORY: Shown = Shown {
+    number: 18,
+    ..FIRST_DIRECTORY
+};
+
 /// The root whose entries were changed last at this nanosecond.
 pub(super) fn root(nanoseconds: u32) -> Shown {
     Shown {
         modified: nanoseconds,
         changed: nanoseconds,
         ..ROOT
+    }
+}
+
+/// The root with so many directories, whose entries were changed last at this nanosecond.
+pub(super) fn root_above(directories: u32, nanoseconds: u32) -> Shown {
+    Shown {
+        links: directories.wrapping_add(2),
+        ..root(nanoseconds)
     }
 }
 

@@ -39,6 +39,7 @@ fn the_defaults(rt: HostRuntime) {
     assert!(rt; options.host.text().as_slice() == b"127.0.0.1".as_slice());
     assert_eq!(rt; options.bytes, 1_099_511_627_776);
     assert_eq!(rt; options.era_records, 65_536);
+    assert_eq!(rt; options.capacity, 1024);
     let list = options.exports.list();
     assert_eq!(rt; list.len(), 1);
     assert!(rt; list[0].path.as_slice() == b"/data".as_slice());
@@ -61,6 +62,8 @@ fn each_option(rt: HostRuntime) {
         "5",
         "--era",
         "6",
+        "--cache",
+        "7",
         "--stdio",
     ];
     let options = options(&rt, rt.alloc(), &words);
@@ -69,6 +72,7 @@ fn each_option(rt: HostRuntime) {
     assert!(rt; options.host.text().as_slice() == b"10.0.0.1".as_slice());
     assert_eq!(rt; options.bytes, 5);
     assert_eq!(rt; options.era_records, 6);
+    assert_eq!(rt; options.capacity, 7);
     let list = options.exports.list();
     assert_eq!(rt; list.len(), 1);
     assert!(rt; list[0].path.as_slice() == b"/".as_slice());
@@ -126,6 +130,25 @@ fn the_records_of_an_era(rt: HostRuntime) -> Result<(), Fail> {
 }
 
 #[test]
+fn the_replies_that_are_kept(rt: HostRuntime) -> Result<(), Fail> {
+    let alloc = rt.alloc();
+    for cache in ["1", "65536"] {
+        let words = with(alloc, &SERVE, &["--cache", cache])?;
+        assert!(rt; configure(alloc, &words).is_ok());
+    }
+    let refused = "error: the value of '--cache <N>' must be 1 to 65536\n\nUsage: nfsd ";
+    for cache in ["0", "65537"] {
+        let words = with(alloc, &SERVE, &["--cache", cache])?;
+        assert!(rt; is_refused(alloc, &words, 2, refused)?);
+    }
+    // The era is looked at first.
+    let words = with(alloc, &SERVE, &["--cache", "0", "--era", "0"])?;
+    let era = "error: the value of '--era <N>' must be 1 to 65536\n\nUsage: nfsd ";
+    assert!(rt; is_refused(alloc, &words, 2, era)?);
+    Ok(())
+}
+
+#[test]
 fn refused_command_lines(rt: HostRuntime) -> Result<(), Fail> {
     let alloc = rt.alloc();
     let refused = [
@@ -152,6 +175,10 @@ fn refused_command_lines(rt: HostRuntime) -> Result<(), Fail> {
         (
             ["--era", "18446744073709551616"].as_slice(),
             "error: invalid value '18446744073709551616' for '--era <N>': ",
+        ),
+        (
+            ["--cache", "18446744073709551616"].as_slice(),
+            "error: invalid value '18446744073709551616' for '--cache <N>': ",
         ),
         (
             ["--start"].as_slice(),

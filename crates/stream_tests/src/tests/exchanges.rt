@@ -137,6 +137,8 @@ pub(super) enum Exchange {
     Takes(u32, &'static Effect, &'static [u32]),
     /// LINK of an object, which is so after it, under a name in a directory, and the status.
     Links(&'static Object, &'static Effect, &'static [u32], u32),
+    /// The last record comes again, byte for byte, and has the same reply again.
+    ComesAgain,
     /// RENAME of a name in a directory to a name in this or another, and the status.
     Renames(&'static Effect, &'static [u32], &'static Effect, &'static [u32], u32),
 }
@@ -202,6 +204,7 @@ fn add(script: &mut Script, exchange: &Exchange) -> Result<(), AllocError> {
         Exchange::Links(object, within, name, status) => {
             links(script, object, within, name, *status)
         }
+        Exchange::ComesAgain => script.comes_again(),
         Exchange::Renames(from, name, to, new_name, status) => {
             renames(script, from, name, to, new_name, *status)
         }

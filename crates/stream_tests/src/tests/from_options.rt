@@ -19,6 +19,7 @@ fn started(
         host: host(),
         bytes: 1 << 40,
         era_records: 65_536,
+        capacity: 1024,
     };
     let mut clock = FixedClock { seconds: 1000 };
     let mut reader = Counted::new(input);

@@ -140,6 +140,9 @@ pub(super) fn user(uid: u32, gid: u32) -> [u32; 7] {
 pub(super) struct Script {
     calls: Vec<u8>,
     replies: Vec<u8>,
+    /// Where the last call begins, and the last reply.
+    last_call: usize,
+    last_reply: usize,
     /// The transaction id of the last call.
     xid: u32,
     /// The credential of calls, AUTH_SYS.
@@ -151,6 +154,8 @@ impl Script {
         Script {
             calls: Vec::new(alloc),
             replies: Vec::new(alloc),
+            last_call: 0,
+            last_reply: 0,
             xid: 0,
             caller: USER_0,
         }
@@ -366,6 +371,7 @@ impl Script {
         third: &[u32],
     ) -> Result<(), AllocError> {
         self.xid = self.xid.wrapping_add(1);
+        self.last_call = self.calls.len();
         let header = [self.xid, 0, 2, 100003, 3, procedure];
         let mut body = spelled(*self.calls.allocator(), &header)?;
         add_words(&mut body, credential)?;
@@ -384,6 +390,7 @@ impl Script {
         third: &[u32],
         fourth: &[u32],
     ) -> Result<(), AllocError> {
+        self.last_reply = self.replies.len();
         let header = [self.xid, 1, 0, 0, 0, 0];
         let mut body = spelled(*self.replies.allocator(), &header)?;
         add_words(&mut body, first)?;
@@ -391,6 +398,18 @@ impl Script {
         add_words(&mut body, third)?;
         add_words(&mut body, fourth)?;
         add_record(&mut self.replies, &body)
+    }
+
+    /// The last call comes again, byte for byte, and has the same reply again.
+    pub(super) fn comes_again(&mut self) -> Result<(), AllocError> {
+        let (call, reply) = (self.last_call, self.last_reply);
+        let alloc = self.allocator();
+        let again = behind(alloc, &self.calls, call)?;
+        self.last_call = self.calls.len();
+        self.calls.extend_from_slice(again.as_slice())?;
+        let again = behind(alloc, &self.replies, reply)?;
+        self.last_reply = self.replies.len();
+        self.replies.extend_from_slice(again.as_slice())
     }
 
     /// A new server replies so to these calls.
@@ -417,6 +436,13 @@ pub(super) fn joined(alloc: Global, first: &[u32], others: &[u32]) -> Result<Vec
     words.extend_from_slice(first)?;
     words.extend_from_slice(others)?;
     Ok(words)
+}
+
+/// A copy of the bytes from this place on.
+fn behind(alloc: Global, bytes: &[u8], place: usize) -> Result<Vec<u8>, AllocError> {
+    let mut copy = Vec::new(alloc);
+    copy.extend_from_slice(bytes.get(place..).unwrap_or(&[]))?;
+    Ok(copy)
 }
 
 /// Adds these words.

@@ -5,6 +5,7 @@ pub returns-in-None-clause-rest : goal.returns-in-None-clause-rest
 returns-in-None-clause-rest c =
     rests_committed _ _ _ _ _ _ c.requires.lives c.requires.alone (record {
       commits = c.in-Ok.ensures.commits;
+      keeps = c.in-Ok.ensures.keeps;
       step = c.in-Ok.ensures.step;
       leads = c.in-Ok.ensures.leads;
       receipt_is = c.in-Ok.ensures.receipt;
@@ -14,6 +15,7 @@ pub returns-in-None-clause-ends : goal.returns-in-None-clause-ends
 returns-in-None-clause-ends c =
     ends_executed _ _ _ _ _ _ (record {
       commits = c.in-Ok.ensures.commits;
+      keeps = c.in-Ok.ensures.keeps;
       step = c.in-Ok.ensures.step;
       leads = c.in-Ok.ensures.leads;
       receipt_is = c.in-Ok.ensures.receipt;

@@ -2,26 +2,20 @@ use Rattle.std.proofs.Common.{[]}
 use Rattle.std.proofs.lemmas.Result.{err_from_is_err_and}
 use Rattle.nfs_schedule.proofs.Answering.{answered_after, nothing_join}
 use Rattle.nfs_schedule.proofs.Joins.{one_answered}
-use Rattle.nfs_schedule.proofs.Loops.{dropped_adds, left_fails, put_adds, put_fails, unanswered}
+use Rattle.nfs_schedule.proofs.Loops.{left_fails, put_adds, put_fails, unanswered}
 use Rattle.nfs_schedule.proofs.serving.serve_record.Goals as goal
 
-pub returns-in-Ok-Some-clause-adds : goal.returns-in-Ok-Some-clause-adds
-returns-in-Ok-Some-clause-adds g c =
-    put_adds _ _ _ _ _ _ _ _ _ _ _ _ _ c.put.result c.put.ensures.puts c.as_slice.ensures.value
+pub returns-in-Ok-clause-adds : goal.returns-in-Ok-clause-adds
+returns-in-Ok-clause-adds g c =
+    put_adds _ _ _ _ _ _ _ _ _ _ _ _ _ c.put.result c.put.ensures.puts c.bytes.ensures
     (one_answered _ _ _ _ _ _ _ _ _ c.moment-moment.ensures
-    (answered_after _ _ _ _ _ c.begin_era.ensures.nothing (rw c.in-Ok-Some.field-0-is at c.in-Ok-Some.ensures.ok)))
+    (answered_after _ _ _ _ _ c.begin_era.ensures.nothing c.in-Ok.ensures.ok))
 
-pub returns-in-Ok-Some-clause-fails : goal.returns-in-Ok-Some-clause-fails
-returns-in-Ok-Some-clause-fails g c =
-    put_fails _ _ _ _ _ _ _ _ _ _ [] _ _ _ c.put.result c.put.ensures.part c.put.ensures.fault c.as_slice.ensures.value
+pub returns-in-Ok-clause-fails : goal.returns-in-Ok-clause-fails
+returns-in-Ok-clause-fails g c =
+    put_fails _ _ _ _ _ _ _ _ _ _ [] _ _ _ c.put.result c.put.ensures.part c.put.ensures.fault c.bytes.ensures
     (one_answered _ _ _ _ _ _ _ _ _ c.moment-moment.ensures
-    (answered_after _ _ _ _ _ c.begin_era.ensures.nothing (rw c.in-Ok-Some.field-0-is at c.in-Ok-Some.ensures.ok)))
-
-pub returns-in-Ok-None-clause-adds : goal.returns-in-Ok-None-clause-adds
-returns-in-Ok-None-clause-adds g c =
-    dropped_adds _ _ _ _ _ _ _ _ _
-    (one_answered _ _ _ _ _ _ _ _ _ c.moment-moment.ensures
-    (answered_after _ _ _ _ _ c.begin_era.ensures.nothing (rw c.in-Ok-None.field-0-is at c.in-Ok-None.ensures.ok)))
+    (answered_after _ _ _ _ _ c.begin_era.ensures.nothing c.in-Ok.ensures.ok))
 
 pub returns-in_err-send-in-Err-clause-fails : goal.returns-in_err-send-in-Err-clause-fails
 returns-in_err-send-in-Err-clause-fails g c =

@@ -7,6 +7,7 @@ pub returns-in-Ok : goal.returns-in-Ok
 returns-in-Ok c =
     committed _ _ _ _ _ _ c.requires c.in-Ok.ensures.others c.in-Ok.ensures.leaving c.in-Ok.ensures.release (record {
       commits = c.in-Ok.ensures.commits;
+      keeps = c.in-Ok.ensures.keeps;
       step = c.in-Ok.ensures.step;
       leads = c.in-Ok.ensures.leads;
       receipt_is = c.in-Ok.ensures.receipt;

@@ -36,4 +36,8 @@ returns c =
     c.number-4.ensures.rule ∙ ap (number_rule (codes "era")) c.value_parser-4.ensures in
     let with_host = c.in_ok-arg-5.ensures.shape (search rules) ∙ ap₂ with_rule with_clock host in
     let with_bytes = c.in_ok-arg-6.ensures.shape (search rules) ∙ ap₂ with_rule with_host bytes in
-    IfOk-weaker c.arg-7.result _ _ (λ command adds. adds.shape (search rules) ∙ ap₂ with_rule with_bytes era) c.arg-7.ensures
+    let with_era = c.in_ok-arg-7.ensures.shape (search rules) ∙ ap₂ with_rule with_bytes era in
+    let cache : rule_of c.number-5.result ≡ number_rule (codes "cache") (Unsigned 0 18446744073709551615) =
+    c.number-5.ensures.rule ∙ ap (number_rule (codes "cache")) c.value_parser-5.ensures in
+    IfOk-weaker c.arg-8.result _ _ (λ command adds. adds.shape (search rules) ∙ ap₂ with_rule with_era cache)
+    c.arg-8.ensures

@@ -38,6 +38,7 @@ returns c =
       );
       host = search rules;
       era = c.requires.era;
+      capacity = c.requires.capacity;
       exports = (
         c.in_ok-list.list.items,
         c.in_ok-list.ensures

@@ -1,7 +1,8 @@
-use Rattle.std.proofs.Common.{inr, ap, Err}
+use Rattle.std.proofs.Common.{inr, refl, ap, Err}
 use Rattle.nfs_engine.specs.Book.{BookValue}
 use Rattle.nfs_schedule.specs.declared.serving.StreamFault.{StreamFault}
-use Rattle.nfs_server.proofs.Starting.{opens_state}
+use Rattle.nfs_server.proofs.Starting.{opens_standing}
+use Rattle.nfs_server.specs.Started.{setting_of}
 use Rattle.nfs_server.proofs.started.serve_options.Goals as goal
 
 pub returns-in-Ok-clause-ok : goal.returns-in-Ok-clause-ok
@@ -12,7 +13,9 @@ returns-in-Ok-clause-ok g c = λ input is. record {
   left = c.serve_stream.new.engine;
   ticked = c.moment-moment.ensures;
   under = rw (← c.unwrap_or.ensures) (ap (λ (b : BookValue). b.setting) c.in_ok-engine.ensures.opens.is);
-  stands = opens_state _ c.in_ok-engine.engine c.in_ok-engine.ensures.opens;
+  stands =
+      opens_standing _ (setting_of c.args.options c.args.start) c.in_ok-engine.engine
+      c.in_ok-engine.ensures.opens refl;
   on = c.in-Ok.ensures.ok input is;
 }
 
@@ -31,7 +34,9 @@ returns-clause-fault g c = inr (
     left = c.serve_stream.new.engine;
     ticked = c.moment-moment.ensures;
     under = rw (← c.unwrap_or.ensures) (ap (λ (b : BookValue). b.setting) c.in_ok-engine.ensures.opens.is);
-    stands = opens_state _ c.in_ok-engine.engine c.in_ok-engine.ensures.opens;
+    stands =
+        opens_standing _ (setting_of c.args.options c.args.start) c.in_ok-engine.engine
+        c.in_ok-engine.ensures.opens refl;
     on = c.in-Err.ensures.fault input is;
   },
 )

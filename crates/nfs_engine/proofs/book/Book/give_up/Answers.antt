@@ -1,6 +1,9 @@
-use Rattle.std.proofs.Common.{refl}
-use Rattle.nfs_engine.proofs.Led.{led_run, same_leads}
+use Rattle.nfs_engine.proofs.Booked.{given_up}
 use Rattle.nfs_engine.proofs.book.Book.give_up.Goals as goal
 
 pub invariant_of-self : goal.invariant_of-self
-invariant_of-self c = led_run _ _ (same_leads _ _ refl refl refl) c.self.invariant
+invariant_of-self c =
+    let book = c.self.inside in
+    given_up book.journal book.replies book.calls
+    (record { start = book.start; exports = book.exports; limits = book.limits }) book.era_records c.self.invariant
+    c.end.new.self _ _ c.end.ensures.ended

@@ -1,22 +1,28 @@
-use Rattle.std.proofs.Common.{ap, refl}
+use Rattle.std.proofs.Common.{[], ap, refl, subst, arith, ◌∙◌}
+use Rattle.nfs_replies.specs.Replies.{RepliesValue}
+use Rattle.nfs_engine.proofs.Came.{nowhere}
 use Rattle.nfs_engine.proofs.Openings.{opened_lasts, opened_leads, opened_store}
-use Rattle.nfs_engine.specs.Running.{CallsValue}
+use Rattle.nfs_engine.specs.Running.{CallsValue, CameWith}
 use Rattle.nfs_engine.specs.Tables.{store_of}
 use Rattle.nfs_engine.proofs.book.Book.new.Goals as goal
 
 pub invariant_of-book : goal.invariant_of-book
 invariant_of-book c = record {
-  base = _;
-  leads = opened_leads c.args.config.exports c.args.config.moment _
-      (opened_store _ _ _ _ _ _ c.args.config.moment c.new-journal.ensures.objects c.in_ok-objects.ensures
-      c.deref.ensures.value c.in_ok-writes.ensures.writes c.time.ensures)
-      c.new-journal.ensures.records.0 c.opening_writes.ensures.faultless;
+  run = record {
+    base = _;
+    leads = opened_leads c.args.config.exports c.args.config.moment _
+        (opened_store _ _ _ _ _ _ c.args.config.moment c.new-journal.ensures.objects c.in_ok-objects.ensures
+        c.deref.ensures.value c.in_ok-writes.ensures.writes c.time.ensures)
+        c.new-journal.ensures.records.0 c.opening_writes.ensures.faultless;
+  };
+  unkept = λ o came. absurd (nowhere came.0 o (subst (λ (v : CallsValue). CameWith v.living came.0 o)
+      c.new-calls.ensures came.1));
 }
 
 pub returns-clause-book : goal.returns-clause-book
 returns-clause-book c = record {
-  capacity = c.if-not-is_limit.ensures.0 refl;
-  era_records = c.if-not-is_limit-2.ensures.0 refl;
+  capacity = (omega (arith, c.in-Some.ensures.0.0), omega (arith, c.in-Some.ensures.0.1));
+  era_records = c.if-not-is_limit.ensures.0 refl;
   leads = opened_leads c.args.config.exports c.args.config.moment _
       (opened_store _ _ _ _ _ _ c.args.config.moment c.new-journal.ensures.objects c.in_ok-objects.ensures
       c.deref.ensures.value c.in_ok-writes.ensures.writes c.time.ensures)
@@ -28,11 +34,12 @@ returns-clause-book c = record {
     bytes = c.new-journal.ensures.records.2 i;
     outbox = c.new-journal.ensures.outbox.0 i;
     taken = c.new-journal.ensures.outbox.1 i;
+    replies = (c.new-replies.ensures ∙ (λ j. let none : RepliesValue = record
+        { capacity = c.in-Some.ensures.1 j; hosts = [] } in none)) i;
     living = ap (λ (v : CallsValue). v.living) c.new-calls.ensures i;
     next_id = ap (λ (v : CallsValue). v.next_id) c.new-calls.ensures i;
     setting = record
         { start = c.args.config.start; exports = c.args.config.exports; limits = c.args.config.limits };
-    capacity = c.args.config.capacity;
     era_records = c.args.config.era_records;
   };
 }

@@ -5,11 +5,13 @@ use Rattle.nfs_engine.specs.Journal.{JournalValue}
 use Rattle.nfs_engine.proofs.book.Book.new_era.Goals as goal
 
 pub invariant_of-self : goal.invariant_of-self
-invariant_of-self c =
-    rebased_run _ _
-    (rebases _ _ (ap (λ (j : JournalValue). j.records.list) c.new_era.ensures.rest)
-    (ap (λ (j : JournalValue). j.objects.slots) c.new_era.ensures.rest))
-    c.self.invariant
+invariant_of-self c = record {
+  run = rebased_run _ _
+      (rebases _ _ (ap (λ (j : JournalValue). j.records.list) c.new_era.ensures.rest)
+      (ap (λ (j : JournalValue). j.objects.slots) c.new_era.ensures.rest))
+      c.self.invariant.run;
+  unkept = c.self.invariant.unkept;
+}
 
 pub returns-clause-rebases : goal.returns-clause-rebases
 returns-clause-rebases c =

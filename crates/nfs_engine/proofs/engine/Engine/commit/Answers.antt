@@ -1,10 +1,14 @@
-use Rattle.std.proofs.Common.{List, Option, map, refl, sym, ap, subst}
+use Rattle.std.proofs.Common.{List, Option, map, refl, sym, subst}
 use Rattle.std.specs.List.{AllByRecursion}
 use Rattle.nfs_objects.specs.Values.{write_value}
 use Rattle.nfs_objects.specs.declared.address.Addr.{Addr}
 use Rattle.nfs_objects.specs.declared.object.Object.{Object}
-use Rattle.nfs_engine.proofs.Settled.{held_to_write, settled_leaving, settled_others, settled_tied}
-use Rattle.nfs_engine.specs.Engine.{IsFilled, IsHeldAmong}
+use Rattle.nfs_machine.specs.RpcReplies.{success_message}
+use Rattle.nfs_replies.specs.declared.origins.Origin.{Origin}
+use Rattle.nfs_engine.proofs.Settled.{came_so, held_to_write, settled_leaving, settled_others, settled_tied}
+use Rattle.nfs_engine.specs.Calls.{txn_of}
+use Rattle.nfs_engine.specs.Engine.{IsHeldAmong}
+use Rattle.nfs_engine.specs.Repeats.{Keeps}
 use Rattle.nfs_engine.specs.declared.release.Then.TheVariants.{Ended}
 use Rattle.nfs_engine.proofs.engine.Engine.commit.Goals as goal
 
@@ -22,7 +26,7 @@ invariant_of-self-2 c = settled_tied c.self.inside.book c.commit.new.self c.self
       view = c.in-Ok.committed.view;
       done = c.written_shards-written.result;
       after = Ended;
-    }) c.self.invariant (rw (← c.self.view_is) at c.requires) c.is_finished.ensures.promised c.run.ensures
+    }) c.self.invariant (rw (← c.self.view_is) at c.requires) c.is_finished.ensures.promised c.run.ensures.run
     c.in-Ok.ensures.commits (map write_value c.in-Ok.committed.writes.items) c.fill_all.ensures c.free_all.ensures
     c.in-Ok.ensures.leaves.writes c.in-Ok.ensures.leaves.id c.in-Ok.ensures.leaves.view refl
 
@@ -40,7 +44,7 @@ returns-clause-others c = rw (← c.self.view_is) (settled_others c.self.inside.
       view = c.in-Ok.committed.view;
       done = c.written_shards-written.result;
       after = Ended;
-    }) c.self.invariant (rw (← c.self.view_is) at c.requires) c.is_finished.ensures.promised c.run.ensures
+    }) c.self.invariant (rw (← c.self.view_is) at c.requires) c.is_finished.ensures.promised c.run.ensures.run
     c.in-Ok.ensures.commits (map write_value c.in-Ok.committed.writes.items) c.fill_all.ensures c.free_all.ensures
     c.in-Ok.ensures.leaves.writes c.in-Ok.ensures.leaves.id c.in-Ok.ensures.leaves.view refl)
 
@@ -52,6 +56,13 @@ returns-clause-leaving c = settled_leaving c.self.inside.book c.commit.new.self 
       view = c.in-Ok.committed.view;
       done = c.written_shards-written.result;
       after = Ended;
-    }) c.self.invariant (rw (← c.self.view_is) at c.requires) c.is_finished.ensures.promised c.run.ensures
+    }) c.self.invariant (rw (← c.self.view_is) at c.requires) c.is_finished.ensures.promised c.run.ensures.run
     c.in-Ok.ensures.commits (map write_value c.in-Ok.committed.writes.items) c.fill_all.ensures c.free_all.ensures
     c.in-Ok.ensures.leaves.writes c.in-Ok.ensures.leaves.id c.in-Ok.ensures.leaves.view refl
+
+-- the call is at its place as it came
+pub returns-clause-keeps : goal.returns-clause-keeps
+returns-clause-keeps c = rw (← c.self.view_is) (subst (λ (o : Option Origin). Keeps o
+    (success_message c.args.finished.xid c.args.finished.done.change.reply) c.self.inside.book.replies
+    c.commit.new.self.replies) (came_so (record { book = c.self.inside.book; shards = c.self.inside.shards })
+    (txn_of c.args.finished) (rw (← c.self.view_is) at c.requires)) c.in-Ok.ensures.commits.keeps)
