@@ -5,8 +5,7 @@ use Rattle.std.proofs.Common.{set, Option, Some, None, IfSome, MatchOption, refl
 use Rattle.std.proofs.lemmas.Bool.{and_parts}
 use Rattle.std.proofs.lemmas.List.{get_or-set_other, get_or-set_same}
 use Rattle.std.specs.Cmp.{unsigned_Decides}
-use Rattle.std.specs.Cmp.Lexicographic.{bytes_decides}
-use Rattle.nfs_replies.specs.Kept.{same_bytes}
+use Rattle.nfs_replies.proofs.Alone.{same_equal, same_itself}
 use Rattle.nfs_replies.specs.Origins.{Adds, Removes, is_among, same_origin}
 use Rattle.nfs_replies.specs.declared.origins.Origin.{Origin}
 use Rattle.nfs_engine.proofs.Lifted.{alike_or}
@@ -18,21 +17,6 @@ abbrev Living : Type 0
 Living = List (Option Running)
 
 -- ---- origins
-pub same_equal : (a b : Origin) → same_origin a b ≡ true → a ≡ b
-same_equal a b same =
-    let parts = and_parts (same_bytes a.host b.host) (same_bytes a.bytes b.bytes) same in
-    λ i. record {
-      host = (bytes_decides a.host b.host).0 parts.0 i;
-      bytes = (bytes_decides a.bytes b.bytes).0 parts.1 i;
-    }
-
-same_itself : (a b : Origin) → a ≡ b → same_origin a b ≡ true
-same_itself a b is = ap (λ (o : Origin). same_origin a o) (sym is) ∙ by (same_bytes a.host a.host)
-    (same_bytes a.bytes a.bytes) ((bytes_decides a.host a.host).1 refl) ((bytes_decides a.bytes a.bytes).1 refl)
-  where
-    by : (x y : Bool) → x ≡ true → y ≡ true → (x && y) ≡ true
-    by x y e f = ap (λ t. t && y) e ∙ f
-
 origin_same : (a b : Origin) → Some a ≡ Some b → a ≡ b
 origin_same a b e = cc
 
@@ -253,6 +237,15 @@ module _ (living : Living) (key : ℕ) (r : Running) (there : running_at living 
     pub stays : without_call living key id ≡ living
     stays = ap (λ (x : Option Running). elim x [ None ↦ living | Some y ↦ cond (y.id == id) left living ])
         there ∙ ap (λ t. cond t left living) not_mine
+
+-- what a call came with that is in progress is noted
+pub noted_there : (living : Living) (key : ℕ) (r : Running) → running_at living key ≡ Some r →
+    (os : List Origin) → AreOrigins os living → IfSome r.origin (λ o. is_among os o ≡ true)
+noted_there living key r there os are = by r.origin refl
+  where
+    by : (x : Option Origin) → r.origin ≡ x → IfSome x (λ o. is_among os o ≡ true)
+    by None is = tt
+    by (Some o) is = (are.exactly o).1 (key, record { running = r; there = there; came = is })
 
 -- what is noted once a call is over
 pub ended_origins : (living : Living) (key : ℕ) (r : Running) → running_at living key ≡ Some r →

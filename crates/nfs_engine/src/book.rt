@@ -29,6 +29,7 @@ use crate::objects::Objects;
 use crate::opening::{Config, StartError, is_limit, opening_writes};
 use crate::outbox::Posted;
 use crate::records::Era;
+use crate::request::Request;
 use crate::running::{AdmitError, Calls, Place};
 use bytes::Bytes;
 use nfs_machine::{Ctx, Exports, Limits, Moment};
@@ -195,20 +196,31 @@ impl Book {
         let Ok(ctx) = self.context(&received.host, asked.ids, received.moment) else {
             return Err((AdmitError::Memory, Arrival::asking(received, asked)));
         };
-        match self.calls.begin(origin) {
-            Ok(Place { id, key }) => {
-                let Asked { xid, ids: _, call } = asked;
-                Ok(Admission::Begin(Txn {
-                    id,
-                    key,
-                    received,
-                    xid,
-                    call,
-                    ctx,
-                    view: View::new(alloc),
-                }))
+        let Asked { xid, ids: _, call } = asked;
+        let request = Request {
+            received,
+            xid,
+            call,
+            ctx,
+        };
+        let request = match Box::new(alloc, request) {
+            Ok(request) => request,
+            Err(refused) => {
+                let (received, asked) = refused.value.into_parts();
+                return Err((AdmitError::Memory, Arrival::asking(received, asked)));
             }
-            Err(error) => Err((error, Arrival::asking(received, asked))),
+        };
+        match self.calls.begin(origin) {
+            Ok(Place { id, key }) => Ok(Admission::Begin(Txn {
+                id,
+                key,
+                request,
+                view: View::new(alloc),
+            })),
+            Err(error) => {
+                let (received, asked) = Box::into_inner(request).into_parts();
+                Err((error, Arrival::asking(received, asked)))
+            }
         }
     }
 
@@ -230,20 +242,9 @@ impl Book {
     pub fn give_up(&mut self, pending: Pending) -> Refused
         ensures { GivesUp self.old self.new pending result }
     {
-        let Pending {
-            id,
-            key,
-            received,
-            xid,
-            call,
-            ctx,
-        } = pending;
+        let Pending { id, key, request } = pending;
         self.calls.end(key, id);
-        let asked = Asked {
-            xid,
-            ids: ctx.ids,
-            call,
-        };
+        let (received, asked) = Box::into_inner(request).into_parts();
         Refused { received, asked }
     }
 

@@ -5,7 +5,8 @@ ghost use Rattle.nfs_objects.specs.Promise.{IsPromised};
 ghost use Rattle.nfs_objects.specs.Values.{change_value, done_value};
 ghost use Rattle.nfs_engine.specs.Calls.{IsCalled, IsFinished, change_from, done_from, finished_of, txn_of};
 
-use crate::arrival::{Executed, Received};
+use crate::arrival::Executed;
+use crate::request::Request;
 use nfs_machine::{Call, Ctx};
 use nfs_objects::{Change, View, Write};
 use std::alloc::Global;
@@ -16,10 +17,7 @@ use std::sync::Arc;
 pub struct Txn {
     pub(crate) id: u64,
     pub(crate) key: usize,
-    pub(crate) received: Received,
-    pub(crate) xid: u32,
-    pub(crate) call: Call,
-    pub(crate) ctx: Ctx,
+    pub(crate) request: Box<Request>,
     pub(crate) view: View,
 }
 
@@ -32,14 +30,15 @@ impl Model for Txn {
     ghost view = { λ t. record {
       id = t.id;
       key = t.key;
-      received = received_value t.received;
-      xid = t.xid;
-      call = t.call;
-      ctx = t.ctx;
+      received = received_value t.request.value.received;
+      xid = t.request.value.xid;
+      call = t.request.value.call;
+      ctx = t.request.value.ctx;
       view = t.view;
     } };
 
-    ghost invariant = { λ t. IsCalled (received_value t.received) t.xid t.call t.ctx };
+    ghost invariant = { λ t. IsCalled (received_value t.request.value.received) t.request.value.xid
+        t.request.value.call t.request.value.ctx };
 }
 
 impl Txn {
@@ -47,14 +46,14 @@ impl Txn {
     pub fn call(&self) -> &Call
         ensures { result.now ≡ self.now.call }
     {
-        &self.call
+        &self.request.call
     }
 
     /// What it is made under.
     pub fn ctx(&self) -> &Ctx
         ensures { result.now ≡ self.now.ctx }
     {
-        &self.ctx
+        &self.request.ctx
     }
 
     /// What it has read.
@@ -68,7 +67,7 @@ impl Txn {
     pub fn is_called(&self)
         ensures { IsCalled self.now.received self.now.xid self.now.call self.now.ctx }
     {
-        let _ = &self.call;
+        let _ = &self.request;
     }
 
     /// The call with what it is to change and answer, as its attempt on this view came to it.
@@ -81,7 +80,7 @@ impl Txn {
         ensures { MatchResult result
             (λ finished. finished ≡ finished_of self (change_value change)) (λ txn. txn ≡ self) }
     {
-        let Ok(received) = self.received.share() else {
+        let Ok(received) = self.request.received.share() else {
             drop(change);
             return Err(self);
         };
@@ -113,19 +112,13 @@ impl Txn {
         let Txn {
             id,
             key,
-            received,
-            xid,
-            call,
-            ctx,
+            request,
             view,
         } = self;
         Finished {
             id,
             key,
-            received,
-            xid,
-            call,
-            ctx,
+            request,
             view,
             writes,
             executed,
@@ -138,10 +131,7 @@ impl Txn {
 pub struct Finished {
     pub(crate) id: u64,
     pub(crate) key: usize,
-    pub(crate) received: Received,
-    pub(crate) xid: u32,
-    pub(crate) call: Call,
-    pub(crate) ctx: Ctx,
+    pub(crate) request: Box<Request>,
     pub(crate) view: View,
     pub(crate) writes: Vec<Write>,
     pub(crate) executed: Arc<Executed>,
@@ -156,13 +146,13 @@ impl Model for Finished {
     ghost view = { λ f. record {
       id = f.id;
       key = f.key;
-      received = received_value f.received;
-      xid = f.xid;
-      done = done_from f.call f.ctx f.view f.writes f.executed;
+      received = received_value f.request.value.received;
+      xid = f.request.value.xid;
+      done = done_from f.request.value.call f.request.value.ctx f.view f.writes f.executed;
     } };
 
-    ghost invariant = { λ f. IsFinished (received_value f.received) f.xid
-        (done_from f.call f.ctx f.view f.writes f.executed) f.executed };
+    ghost invariant = { λ f. IsFinished (received_value f.request.value.received) f.request.value.xid
+        (done_from f.request.value.call f.request.value.ctx f.view f.writes f.executed) f.executed };
 }
 
 impl Finished {
@@ -170,7 +160,7 @@ impl Finished {
     pub fn ctx(&self) -> &Ctx
         ensures { result.now ≡ self.now.done.ctx }
     {
-        &self.ctx
+        &self.request.ctx
     }
 
     /// What it has read.
@@ -185,7 +175,7 @@ impl Finished {
         ensures called { IsCalled self.now.received self.now.xid self.now.done.call self.now.done.ctx }
         ensures promised { IsPromised self.now.done }
     {
-        let _ = &self.call;
+        let _ = &self.request;
     }
 
     /// The call without what it was to change.
@@ -195,10 +185,7 @@ impl Finished {
         let Finished {
             id,
             key,
-            received,
-            xid,
-            call,
-            ctx,
+            request,
             view,
             writes,
             executed,
@@ -208,10 +195,7 @@ impl Finished {
         Txn {
             id,
             key,
-            received,
-            xid,
-            call,
-            ctx,
+            request,
             view,
         }
     }
@@ -221,10 +205,7 @@ impl Finished {
 pub struct Pending {
     pub(crate) id: u64,
     pub(crate) key: usize,
-    pub(crate) received: Received,
-    pub(crate) xid: u32,
-    pub(crate) call: Call,
-    pub(crate) ctx: Ctx,
+    pub(crate) request: Box<Request>,
 }
 
 impl Model for Pending {
@@ -236,13 +217,14 @@ impl Model for Pending {
     ghost view = { λ p. record {
       id = p.id;
       key = p.key;
-      received = received_value p.received;
-      xid = p.xid;
-      call = p.call;
-      ctx = p.ctx;
+      received = received_value p.request.value.received;
+      xid = p.request.value.xid;
+      call = p.request.value.call;
+      ctx = p.request.value.ctx;
     } };
 
-    ghost invariant = { λ p. IsCalled (received_value p.received) p.xid p.call p.ctx };
+    ghost invariant = { λ p. IsCalled (received_value p.request.value.received) p.request.value.xid
+        p.request.value.call p.request.value.ctx };
 }
 
 impl Pending {
@@ -252,21 +234,11 @@ impl Pending {
     pub fn again(self, alloc: Global) -> Txn
         ensures { result ≡ again_of self }
     {
-        let Pending {
-            id,
-            key,
-            received,
-            xid,
-            call,
-            ctx,
-        } = self;
+        let Pending { id, key, request } = self;
         Txn {
             id,
             key,
-            received,
-            xid,
-            call,
-            ctx,
+            request,
             view: View::new(alloc),
         }
     }

@@ -118,7 +118,11 @@ impl Journal {
         ensures ready { IfOk result (IsReady self.new finished.now) }
     {
         let executed = Arc::try_clone(&finished.executed)?;
-        let answer = Bytes::from_vec(answers::success(alloc, finished.xid, &executed.reply)?)?;
+        let answer = Bytes::from_vec(answers::success(
+            alloc,
+            finished.request.xid,
+            &executed.reply,
+        )?)?;
         let writes = copy_writes(alloc, &finished.writes)?;
         let messages = copy_messages(alloc, &executed.messages)?;
         self.objects.make_room(writes.len())?;
@@ -149,17 +153,14 @@ impl Journal {
         let Finished {
             id,
             key: _,
-            received,
-            xid: _,
-            call,
-            ctx: _,
+            request,
             view,
             writes: own,
             executed: record,
         } = finished;
-        let bytes = counted(received.message.len(), answer.len(), messages.len());
+        let bytes = counted(request.received.message.len(), answer.len(), messages.len());
         // A call of `drop`, since a drop at the end is proved for every variant of a call, in minutes.
-        drop(call);
+        drop(request);
         self.objects.install(writes);
         self.outbox.post(messages);
         self.records.push(record, bytes);

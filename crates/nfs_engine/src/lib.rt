@@ -29,6 +29,7 @@ pub mod opening;
 pub mod outbox;
 pub mod records;
 pub mod release;
+mod request;
 pub mod running;
 pub mod shard;
 mod slot;

@@ -58,20 +58,10 @@ impl Txn {
         let Txn {
             id,
             key,
-            received,
-            xid,
-            call,
-            ctx,
+            request,
             view,
         } = self;
-        let pending = Pending {
-            id,
-            key,
-            received,
-            xid,
-            call,
-            ctx,
-        };
+        let pending = Pending { id, key, request };
         Release {
             id,
             view,

@@ -1,8 +1,8 @@
 //! Which calls are in progress.
 
-ghost use Rattle.std.specs.Prelude.{◌≡◌, [], IfSome, MatchOption, OnErr, OnOk, option_copied};
+ghost use Rattle.std.specs.Prelude.{◌≡◌, [], true, IfSome, MatchOption, OnErr, OnOk, option_copied};
 ghost use Rattle.std.specs.Bool.{Decides};
-ghost use Rattle.nfs_replies.specs.Origins.{Adds, Removes};
+ghost use Rattle.nfs_replies.specs.Origins.{Adds, Removes, is_among};
 ghost use Rattle.nfs_engine.specs.Running.{IsBegun, IsInProgress, living_count, origin_at, without_call};
 
 use nfs_replies::{Origin, Origins};
@@ -145,9 +145,10 @@ fn note(origins: &mut Origins, origin: &Option<Origin>) -> Result<(), AllocError
 
 /// Takes out what a call came with that is over.
 fn forget(origins: &mut Origins, origin: Option<Origin>)
+    requires { IfSome origin (λ o. is_among origins.old o ≡ true) }
     ensures { MatchOption origin (origins.new ≡ origins.old) (λ o. Removes o origins.old origins.new) }
 {
     if let Some(origin) = origin {
-        origins.remove(&origin);
+        origins.take_out(&origin);
     }
 }

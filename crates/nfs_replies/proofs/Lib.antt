@@ -1,4 +1,5 @@
 mod Apart
+pub mod Alone
 pub mod Caches
 pub mod Hosts
 pub mod Lists

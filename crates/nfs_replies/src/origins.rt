@@ -1,6 +1,6 @@
 //! What calls in progress came with, so that a call that comes again meanwhile is not begun once more.
 
-ghost use Rattle.std.specs.Prelude.{◌≡◌, ◌∷◌, [], IfOk, OnErr, OnOk};
+ghost use Rattle.std.specs.Prelude.{◌≡◌, ◌∷◌, [], true, IfOk, OnErr, OnOk};
 ghost use Rattle.std.proofs.lemmas.Bool.{and_parts};
 ghost use Rattle.std.specs.Cmp.Lexicographic.{bytes_decides};
 ghost use Rattle.nfs_replies.specs.Keys.{head_input};
@@ -92,5 +92,17 @@ impl Origins {
         ensures { Removes origin.now self.old self.new }
     {
         self.set.swap_remove(origin);
+    }
+
+    /// Takes out one that is among them. Where there is no other, its bytes are not compared.
+    pub fn take_out(&mut self, origin: &Origin)
+        requires { is_among self.old origin.now ≡ true }
+        ensures { Removes origin.now self.old self.new }
+    {
+        if self.set.len() == 1 {
+            self.set.clear();
+            return;
+        }
+        self.remove(origin);
     }
 }

@@ -1,8 +1,14 @@
 use Rattle.std.proofs.Common.{IfSome, List, None, Option, set, sym, subst, arith}
-use Rattle.nfs_engine.proofs.Came.{ended_gone, ended_origins}
+use Rattle.nfs_engine.proofs.Came.{ended_gone, ended_origins, noted_there}
 use Rattle.nfs_engine.specs.Running.{AreOrigins, CallsValue, IsInProgress, origin_at}
 use Rattle.nfs_engine.specs.declared.running.Running.{Running}
 use Rattle.nfs_engine.proofs.running.Calls.end.Goals as goal
+
+pub forget-requires : goal.forget-requires
+forget-requires c =
+    let removed = c.in-Some-try_remove in
+    noted_there c.self.inside.living.slots c.args.key removed.field-0 (sym removed.ensures.value)
+    c.self.inside.origins c.self.invariant
 
 pub invariant_of-self-2 : goal.invariant_of-self-2
 invariant_of-self-2 c =

@@ -1,0 +1,38 @@
+//! What a call was admitted with.
+
+ghost use Rattle.std.specs.Prelude.{◌≡◌};
+
+use crate::arrival::Received;
+use crate::asking::Asked;
+use nfs_machine::{Call, Ctx};
+
+/// What a call was admitted with: the record that came in, what it asks, and what it is made under. It stays at one
+/// place from its admission to its end.
+#[derive(Drop)]
+pub(crate) struct Request {
+    pub received: Received,
+    pub xid: u32,
+    pub call: Call,
+    pub ctx: Ctx,
+}
+
+impl Request {
+    /// What came in, and what it asks.
+    pub(crate) fn into_parts(self) -> (Received, Asked)
+        ensures received { result.0 ≡ self.received }
+        ensures asked { result.1 ≡ record { xid = self.xid; ids = self.ctx.ids; call = self.call } }
+    {
+        let Request {
+            received,
+            xid,
+            call,
+            ctx,
+        } = self;
+        let asked = Asked {
+            xid,
+            ids: ctx.ids,
+            call,
+        };
+        (received, asked)
+    }
+}
