@@ -51,7 +51,7 @@ module _ (journal : JournalValue) (replies : RepliesValue) (calls : CallsValue) 
     unkept = unkept.joined replies calls.living later.living place.key place.id origin began.2
         (unkept_of old origin unknown) is.unkept;
   }
-  begun later origin (Err Memory) same unknown = subst (λ (c : CallsValue). IsBook (with_calls c)) (sym same) is
+  begun later origin (Err Memory) same unknown = subst (λ (c : CallsValue). IsBook (with_calls c)) (sym same.0) is
   begun later origin (Err Spent) same unknown = subst (λ (c : CallsValue). IsBook (with_calls c)) (sym same.0) is
 
   -- a record came again

@@ -1,4 +1,5 @@
 pub mod Acquired
+pub mod Answered
 pub mod Booked
 pub mod Bounds
 pub mod Built
@@ -30,6 +31,7 @@ pub mod Sizes
 pub mod Slots
 pub mod Stepped
 pub mod Steps
+pub mod Turned
 pub mod Unkept
 pub mod Unlocked
 pub mod Written

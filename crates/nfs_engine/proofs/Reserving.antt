@@ -1,5 +1,5 @@
 -- A slot that moves from the map into the slab, and a number that is reserved.
-use Rattle.std.proofs.Common.{◌≡◌, ℕ, ◌+◌, ◌%◌, ◌<◌, ◌==◌, true, false, cond, List, []}
+use Rattle.std.proofs.Common.{◌≡◌, ℕ, ◌+◌, ◌%◌, ◌<◌, ◌≤◌, ◌==◌, true, false, cond, List, [], arith}
 use Rattle.std.proofs.Common.{Option, Some, None, IsSome, option_map, unwrap_or, refl, sym, ◌∙◌, ap, subst}
 use Rattle.std.proofs.Math.ListN.{get_or-map}
 use Rattle.std.specs.Map.{lookup}
@@ -158,6 +158,7 @@ module _ {H : Type 0} (index next : ℕ) (numbers room now : Slab Slot) (others 
 
   pub reserves : Reserves before last id (record { number = number; generation = next })
   reserves = record {
+    from = (let above : 16 ≤ number_at index key = omega arith in omega (arith, is));
     shard = ap (λ n. n % 16) is ∙ rest index key good.index;
     empty = ap (λ n. slot_at before (Inode n)) is ∙ empty;
     generation = refl;

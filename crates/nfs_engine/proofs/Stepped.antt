@@ -137,5 +137,5 @@ module _ (book : BookValue) (shards : List ShardValue) (i : ℕ) (was s : ShardV
   pub gained_on : (u : TxnValue) (r : Result Unit ReserveError) → i < 16 → u ≡ record t { view = u.view } →
       IsGained old_place (record { shard = s; view = u.view }) t.id r → GoesOn before after t.id u
   gained_on u (Ok done) sixteen rest is = gained u sixteen rest is
-  gained_on u (Err Memory) sixteen rest is = stayed u rest is
+  gained_on u (Err Memory) sixteen rest is = stayed u rest is.0
   gained_on u (Err Spent) sixteen rest is = stayed u rest is.0

@@ -270,35 +270,3 @@ module _ {H : Type 0} (index next : ℕ) (numbers : Slab Slot) (others : IndexMa
               (subst (λ (v : SlotValue). Reholds v.holders (slot_value w).holders id (Some mode)) (sym gone) re),
           sym (ap (λ (v : SlotValue). v.object) gone),
         )
-
-  -- nothing stands there, and nobody holds it
-  module _ (good : IsSound before) (vacant : slot_at before a ≡ empty_slot) where
-    no_slot : (x : Option SlotValue) → slot_of before a ≡ x → x ≡ None
-    no_slot None e = refl
-    no_slot (Some v) e =
-        absurd (good.needed a
-        (e ∙ ap (λ w. Some w) (sym (ap (λ (x : Option SlotValue). unwrap_or x empty_slot) e) ∙ vacant)))
-
-    first_none : (x y : Option SlotValue) → option_or x y ≡ None → x ≡ None
-    first_none None y e = refl
-    first_none (Some v) y e = cc
-
-    -- it gets a slot with an object
-    pub opens : (m : IndexMap Addr Slot H) (w : Slot) (o : Object) → Changes (found (slots_seen others.entries))
-        (found (slots_seen m.entries)) a (Some (slot_value w))
-        → (slot_value w).object ≡ Some o → (slot_value w).holders ≡ nobody → IsSound
-        (shard_value index numbers.slots m.entries next) × Fills before
-        (shard_value index numbers.slots m.entries next) a (Some o)
-    opens m w o changes object alone =
-        (let none : numbered before a ≡ None = first_none (numbered before a) (found (slots_seen others.entries) a)
-        (no_slot (slot_of before a) refl) in
-        let turn = other_becomes index next numbers.slots others.entries m.entries a
-        (Some (slot_value w)) changes none good.apart in (
-          sound before (shard_value index numbers.slots m.entries next) a (Some (slot_value w)) turn good
-              (λ e. no_object (sym object ∙ ap (λ v. (unwrap_or v (slot_value w)).object) e)),
-          put before (shard_value index numbers.slots m.entries next) a (Some (slot_value w)) turn (Some o) object
-              (alone ∙ sym (ap (λ (v : SlotValue). v.holders) vacant)),
-        ))
-      where
-        no_object : Some o ≡ None → ⊥
-        no_object e = cc

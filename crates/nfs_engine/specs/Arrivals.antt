@@ -1,12 +1,12 @@
 -- Records that came in, and records of what was executed.
-use Rattle.std.specs.Prelude.{◌≡◌, ℕ, List}
+use Rattle.std.specs.Prelude.{◌≡◌, ℕ, List, Option}
 use Rattle.std.specs.Arc.{arc_value}
 use Rattle.std.specs.declared.sync.Arc.{Arc}
 use Rattle.std.specs.declared.alloc.Global.{Global}
 use Rattle.nfs_rpc.specs.declared.faults.Early.{Early}
-use Rattle.nfs_machine.specs.RpcReplies.{FirstFault, fault_message}
+use Rattle.nfs_machine.specs.RpcReplies.{FirstFault}
 use Rattle.nfs_machine.specs.Run as machine
-use Rattle.nfs_engine.specs.Answers.{answer_bytes}
+use Rattle.nfs_engine.specs.Answers.{answer_of, fault_answer}
 use Rattle.nfs_engine.specs.Asked.{IsAsked}
 use Rattle.nfs_engine.specs.Hosts.{IsHost}
 use Rattle.nfs_engine.specs.declared.arrival.Executed.{Executed}
@@ -22,15 +22,15 @@ pub record ArrivalValue : Type 0 where
   pub received : machine.Received
   pub reading : Reading
 
--- the answer is that of the record's first fault
-pub record IsFaultAnswer (bytes answer : List ℕ) : Type 0 where
+-- the answer is that of the record's first fault; there is none just where the record is dropped
+pub record IsFaultAnswer (bytes : List ℕ) (answer : Option (List ℕ)) : Type 0 where
   pub fault : Early
   pub is : FirstFault bytes fault
-  pub answered : answer ≡ fault_message fault
+  pub answered : answer ≡ fault_answer fault
 
 abbrev pub IsReading : List ℕ → Reading → Type 0
 IsReading bytes (Asks asked) = IsAsked bytes asked
-IsReading bytes (Faulted answer) = IsFaultAnswer bytes (answer_bytes answer)
+IsReading bytes (Faulted answer) = IsFaultAnswer bytes (answer_of answer)
 
 -- the record is what it was read as
 pub record IsArrival (a : ArrivalValue) : Type 0 where

@@ -202,18 +202,28 @@ Recalls old new r (Ok recalled.Running) = (kept_for old.replies (origin_in r) �
 Recalls old new r (Ok (recalled.Unknown origin)) = (origin ≡ origin_in r) × IsUnknown old origin × (new ≡ old)
 Recalls old new r (Err error) = new ≡ old
 
--- only what asks a call is refused, and then all is as it was; numbers are spent only at their end
+-- only what asks a call is refused, and then all is as it was
 pub record IsRefused (old new : BookValue) (a back : ArrivalValue) : Type 0 where
   pub asked : Asked
   pub asks : a.reading ≡ readings.Asks asked
   pub handed : back ≡ a
   pub unchanged : new ≡ old
 
+-- what it asks is no repeat of what is kept or in progress
+abbrev pub IsNoRepeat : BookValue → ArrivalValue → Type 0
+IsNoRepeat b a = (asked : Asked) → a.reading ≡ readings.Asks asked →
+    IfSome (origin_of a.received asked.call) (IsUnknown b)
+
+-- no number is left just where they are at their end, and only for what would begin; there, want of memory keeps only
+-- from telling whether a call that changes something is a repeat
+abbrev pub IsAdmitError : BookValue → ArrivalValue → AdmitError → Type 0
+IsAdmitError b a Memory = b.next_id ≡ 2 ^ 64 - 1 → AsksChange a
+IsAdmitError b a Spent = (b.next_id ≡ 2 ^ 64 - 1) × IsNoRepeat b a
+
 abbrev pub Admits : BookValue → BookValue → ArrivalValue → Result Admission (AdmitError × ArrivalValue) →
     Type 0
 Admits old new a (Ok admission) = IsAdmitted old new a admission
-Admits old new a (Err (Memory, back)) = IsRefused old new a back
-Admits old new a (Err (Spent, back)) = IsRefused old new a back × (old.next_id ≡ 2 ^ 64 - 1)
+Admits old new a (Err (error, back)) = IsRefused old new a back × IsAdmitError old a error
 
 -- ---- what the book was asked
 -- the call is given up: it is what came in, and is no longer in progress

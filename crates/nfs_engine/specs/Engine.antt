@@ -156,11 +156,12 @@ IsAcquired e old new a mode (Ok (got.Taken h)) =
     Excludes mode (slot_among e.shards a).holders h × (h ≢ old.id) × (new ≡ old)
 IsAcquired e old new a mode (Err error) = new ≡ old
 
--- A number of the shard where nothing stood and that nobody held, with a generation above all that it gave before, is
--- held alone and may be given; Spent only where the shard's generations are; then, and where there is no memory, the
--- call is as it was.
+-- A number of the shard, from 16 on, where nothing stood and that nobody held, with a generation above all that it gave
+-- before, is held alone and may be given; Spent just where the shard's generations are, and there was no memory only
+-- where they are not; then the call is as it was.
 pub record Reserving (e : EngineValue) (old new : TxnValue) (which : ℕ) : Type 0 where
   pub reserved : Reserved
+  pub from : 16 ≤ reserved.number
   pub shard : reserved.number % 16 ≡ which
   pub empty : slot_among e.shards (Inode reserved.number) ≡ empty_slot
   pub generation : reserved.generation ≡ (shard_among e.shards which).next_generation
@@ -168,7 +169,8 @@ pub record Reserving (e : EngineValue) (old new : TxnValue) (which : ℕ) : Type
 
 abbrev pub IsReserved : EngineValue → (old new : TxnValue) → (which : ℕ) → Result Unit ReserveError → Type 0
 IsReserved e old new which (Ok done) = Reserving e old new which
-IsReserved e old new which (Err Memory) = new ≡ old
+IsReserved e old new which (Err Memory) =
+    ((shard_among e.shards which).next_generation ≢ 2 ^ 64 - 1) × (new ≡ old)
 IsReserved e old new which (Err Spent) =
     ((shard_among e.shards which).next_generation ≡ 2 ^ 64 - 1) × (new ≡ old)
 

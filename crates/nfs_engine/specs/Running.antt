@@ -61,10 +61,10 @@ pub record Joins (old new : List (Option Running)) (key id : ℕ) (origin : Opti
   pub others : (k : ℕ) → k ≢ key → running_at new k ≡ running_at old k
   pub count : living_count new ≡ living_count old + 1
 
--- the call joins them under the next number, or nothing changed; numbers are spent only at their end
+-- the call joins them under the next number, or nothing changed; numbers are spent just at their end
 abbrev pub IsBegun : CallsValue → CallsValue → Option Origin → Result Place AdmitError → Type 0
 IsBegun old new origin (Ok place) =
     (place.id ≡ old.next_id) × (new.next_id ≡ old.next_id + 1) ×
     Joins old.living new.living place.key place.id origin
-IsBegun old new origin (Err Memory) = new ≡ old
+IsBegun old new origin (Err Memory) = (new ≡ old) × (old.next_id ≢ 2 ^ 64 - 1)
 IsBegun old new origin (Err Spent) = (new ≡ old) × (old.next_id ≡ 2 ^ 64 - 1)

@@ -1,5 +1,5 @@
 -- Shards: what stands at each address, and who holds it how.
-use Rattle.std.specs.Prelude.{◌≡◌, ◌≢◌, ℕ, ◌<◌, ◌+◌, ◌-◌, ◌*◌, ◌/◌, ◌%◌, ◌^◌}
+use Rattle.std.specs.Prelude.{◌≡◌, ◌≢◌, ℕ, ◌<◌, ◌≤◌, ◌+◌, ◌-◌, ◌*◌, ◌/◌, ◌%◌, ◌^◌}
 use Rattle.std.specs.Prelude.{List, map}
 use Rattle.std.specs.Prelude.{Option, Some, None, Result, Ok, Err, IsSome, option_map, unwrap_or, slice_index_or}
 use Rattle.std.specs.Prelude.{if◌then◌else◌, ◌==◌, ◌&&◌, nat_le}
@@ -130,8 +130,10 @@ pub record Fills (old new : ShardValue) (a : Addr) (o : Option Object) : Type 0 
   pub next_generation : new.next_generation ≡ old.next_generation
   pub index : new.index ≡ old.index
 
--- A number of the shard with nothing there that nobody held, and the next generation. One holder now holds it alone.
+-- A number of the shard, from 16 on, with nothing there that nobody held, and the next generation. One holder now holds
+-- it alone.
 pub record Reserves (old new : ShardValue) (id : ℕ) (r : Reserved) : Type 0 where
+  pub from : 16 ≤ r.number
   pub shard : r.number % 16 ≡ old.index
   pub empty : slot_at old (Inode r.number) ≡ empty_slot
   pub generation : r.generation ≡ old.next_generation

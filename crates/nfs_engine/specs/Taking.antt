@@ -1,5 +1,5 @@
 -- What a call does in one shard.
-use Rattle.std.specs.Prelude.{◌≡◌, ℕ, ◌-◌, ◌^◌, ◌==◌, ◌&&◌, List, None, Some, Option, Result}
+use Rattle.std.specs.Prelude.{◌≡◌, ◌≢◌, ℕ, ◌-◌, ◌^◌, ◌==◌, ◌&&◌, List, None, Some, Option, Result}
 use Rattle.std.specs.Prelude.{Ok, Err, if◌then◌else◌, is_some}
 use Rattle.nfs_objects.specs.Rooms.{with_entry, with_number}
 use Rattle.nfs_objects.specs.Values.{Seen, ViewValue, held_at, seen_at}
@@ -46,9 +46,10 @@ pub record Gains (old new : Place) (id : ℕ) : Type 0 where
   pub shard : Reserves old.shard new.shard id reserved
   pub view : new.view ≡ with_number old.view reserved
 
+-- gained; or there is no memory, and the counter is not at its end, or it is; then nothing changed
 abbrev pub IsGained : Place → Place → (id : ℕ) → Result Unit ReserveError → Type 0
 IsGained old new id (Ok done) = Gains old new id
-IsGained old new id (Err Memory) = Stays old new
+IsGained old new id (Err Memory) = Stays old new × (old.shard.next_generation ≢ 2 ^ 64 - 1)
 IsGained old new id (Err Spent) = Stays old new × (old.shard.next_generation ≡ 2 ^ 64 - 1)
 
 -- A holder lets go all that it has read and that stands in the shard of this index. Nothing else changed.

@@ -2,9 +2,8 @@
 
 ghost use Rattle.std.specs.Prelude.{◌≡◌, ◌++◌, IfOk, OnOk};
 ghost use Rattle.nfs_engine.specs.Forms.{HasForm, RefusalHasForm};
-ghost use Rattle.nfs_engine.specs.Answers.{answer_bytes};
-ghost use Rattle.nfs_machine.specs.RpcReplies.{failure_message, fault_message, refusal_message, results_of};
-ghost use Rattle.nfs_machine.specs.RpcReplies.{success_message};
+ghost use Rattle.nfs_engine.specs.Answers.{answer_of, fault_answer};
+ghost use Rattle.nfs_machine.specs.RpcReplies.{failure_message, refusal_message, results_of, success_message};
 
 use nfs_machine::{Refusal, Reply};
 use nfs_rpc::{Answer, Early, Fault, finish_record, start_record, write_reply};
@@ -42,9 +41,9 @@ pub fn failure(alloc: Global, xid: u32, fault: Fault) -> Result<Vec<u8>, AllocEr
     Ok(finish_record(writer))
 }
 
-/// A record with a fault is answered by it, or dropped.
+/// A record with a fault is answered by it; None where it is dropped.
 pub fn early(alloc: Global, early: Early) -> Result<Option<Vec<u8>>, AllocError>
-    ensures { IfOk result (λ answer. answer_bytes answer ≡ fault_message early) }
+    ensures { IfOk result (λ answer. answer_of answer ≡ fault_answer early) }
 {
     match early {
         Early::Drop => Ok(None),

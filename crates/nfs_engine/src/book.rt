@@ -1,6 +1,6 @@
 //! The book: the present store with the records that led to it, and which calls are in progress.
 
-ghost use Rattle.std.specs.Prelude.{◌≡◌, ◌+◌, ◌≤◌, ℕ, true, length, map, IfErr, IfOk, IfSome, OnOk};
+ghost use Rattle.std.specs.Prelude.{◌≡◌, ◌+◌, ◌-◌, ◌^◌, ◌≤◌, ℕ, true, length, map, IfErr, IfOk, IfSome, OnOk};
 ghost use Rattle.std.specs.Bool.{Decides};
 ghost use Rattle.nfs_engine.specs.Arrivals.{received_value};
 ghost use Rattle.nfs_engine.specs.Asked.{IsAsked};
@@ -120,8 +120,8 @@ impl Book {
     ///
     /// # Errors
     ///
-    /// The call, or a reply that is kept, wants memory, or no number is left for the call. Nothing is changed, and the
-    /// arrival is handed back.
+    /// The call, or what a repeat is answered by, wants memory; or the call would begin, and no number is left for it.
+    /// Nothing is changed, and the arrival is handed back.
     pub fn admit(
         &mut self,
         alloc: Global,
@@ -193,6 +193,9 @@ impl Book {
         ensures { Admits self.old self.new
             (record { received = received_value received; reading = readings.Asks asked }) result }
     {
+        if self.is_spent() {
+            return Err((AdmitError::Spent, Arrival::asking(received, asked)));
+        }
         let Ok(ctx) = self.context(&received.host, asked.ids, received.moment) else {
             return Err((AdmitError::Memory, Arrival::asking(received, asked)));
         };
@@ -222,6 +225,13 @@ impl Book {
                 Err((error, Arrival::asking(received, asked)))
             }
         }
+    }
+
+    /// Whether no number is left for one more call.
+    fn is_spent(&self) -> bool
+        ensures { Decides result (self.now.next_id ≡ 2 ^ 64 - 1) }
+    {
+        self.calls.is_spent()
     }
 
     /// What a call from the host is made under.

@@ -218,8 +218,8 @@ impl Engine {
     ///
     /// # Errors
     ///
-    /// The call, or a reply that is kept, wants memory, or no number is left for the call. Nothing is changed, and the
-    /// arrival is handed back.
+    /// The call, or what a repeat is answered by, wants memory; or the call would begin, and no number is left for it.
+    /// Nothing is changed, and the arrival is handed back.
     pub fn admit(
         &mut self,
         alloc: Global,

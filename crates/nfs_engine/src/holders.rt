@@ -1,19 +1,19 @@
 //! Who holds an address.
 
-ghost use Rattle.std.specs.Prelude.{◌≡◌, OnErr, OnOk, Some, None, not, ◌==◌};
+ghost use Rattle.std.specs.Prelude.{◌≡◌, OnErr, OnOk, Some, None};
 ghost use Rattle.std.specs.Bool.{Decides};
-ghost use Rattle.std.specs.List.{filter};
 ghost use Rattle.nfs_engine.specs.Holders.{CanHold, IsExcluder, Reholds, holders_value, nobody};
 
+use crate::sharers::Sharers;
 use nfs_objects::Mode;
 use std::alloc::{AllocError, Global};
 
-/// Who holds an address, by their numbers: one alone, or several beside each other.
+/// Who holds an address, by their numbers: one alone, or several beside each other, each once.
 #[derive(Drop)]
 pub enum Holders {
     Nobody,
     One(u64),
-    Several(Vec<u64>),
+    Several(Sharers),
 }
 
 impl Holders {
@@ -24,7 +24,7 @@ impl Holders {
         match self {
             Holders::Nobody => true,
             Holders::One(_) => false,
-            Holders::Several(holders) => holders.is_empty(),
+            Holders::Several(sharers) => sharers.is_empty(),
         }
     }
 
@@ -35,9 +35,9 @@ impl Holders {
         match self {
             Holders::Nobody => None,
             Holders::One(holder) => Some(*holder),
-            Holders::Several(holders) => match mode {
+            Holders::Several(sharers) => match mode {
                 Mode::Shared => None,
-                Mode::Exclusive => holders.first().copied(),
+                Mode::Exclusive => sharers.first(),
             },
         }
     }
@@ -64,13 +64,11 @@ impl Holders {
             (Reholds (holders_value self.old) (holders_value self.new) id (Some Mode.Shared)) }
         ensures err { OnErr result (holders_value self.new ≡ holders_value self.old) }
     {
-        if let Holders::Several(holders) = self {
-            holders.push(id)?;
+        if let Holders::Several(sharers) = self {
+            sharers.add(id)?;
             return Ok(());
         }
-        let mut holders = Vec::new(alloc);
-        holders.push(id)?;
-        *self = Holders::Several(holders);
+        *self = Holders::Several(Sharers::one(alloc, id)?);
         Ok(())
     }
 
@@ -85,16 +83,7 @@ impl Holders {
                     *self = Holders::Nobody;
                 }
             }
-            Holders::Several(holders) => {
-                without(holders, id);
-            }
+            Holders::Several(sharers) => sharers.remove(id),
         }
     }
-}
-
-/// All but one.
-fn without(holders: &mut Vec<u64>, id: u64)
-    ensures { holders.new.items ≡ filter (λ h. not (h == id)) holders.old.items }
-{
-    holders.retain(|h| *h != id);
 }

@@ -1,6 +1,6 @@
 //! Which calls are in progress.
 
-ghost use Rattle.std.specs.Prelude.{◌≡◌, [], true, IfSome, MatchOption, OnErr, OnOk, option_copied};
+ghost use Rattle.std.specs.Prelude.{◌≡◌, ◌-◌, ◌^◌, [], true, IfSome, MatchOption, OnErr, OnOk, option_copied};
 ghost use Rattle.std.specs.Bool.{Decides};
 ghost use Rattle.nfs_replies.specs.Origins.{Adds, Removes, is_among};
 ghost use Rattle.nfs_engine.specs.Running.{IsBegun, IsInProgress, living_count, origin_at, without_call};
@@ -91,6 +91,13 @@ impl Calls {
             return None;
         }
         running.origin.as_ref()
+    }
+
+    /// Whether no number is left for one more.
+    pub(crate) fn is_spent(&self) -> bool
+        ensures { Decides result (self.now.next_id ≡ 2 ^ 64 - 1) }
+    {
+        self.next_id == u64::MAX
     }
 
     /// One call more, with what it came with, if it changes something. An error changes nothing.

@@ -1,14 +1,15 @@
 //! A shard: what stands at its addresses, and who holds them.
 
 ghost use Rattle.std.specs.Prelude.{◌≡◌, ◌<◌, IsSome, MatchOption, OnErr, OnOk, None, Some, option_map};
-ghost use Rattle.std.specs.Prelude.{IfOk, ◌^◌, ◌≤◌, slice_index_or};
+ghost use Rattle.std.specs.Prelude.{IfOk, ◌-◌, ◌^◌, ◌≤◌, slice_index_or};
 ghost use Rattle.std.specs.Arc.{arc_value};
+ghost use Rattle.std.specs.Bool.{Decides};
 ghost use Rattle.slab.specs.Slab.{ContainsKey, Updates};
 ghost use Rattle.nfs_engine.specs.Found.{Changes, found};
 ghost use Rattle.nfs_engine.specs.Locked.{IsLocked};
 ghost use Rattle.nfs_engine.specs.Numbers.{IsFree, Moves};
-ghost use Rattle.nfs_engine.specs.Shards.{Fills, IsHad, IsHeld, IsNew, IsReservedIn, Retakes, SameShard};
-ghost use Rattle.nfs_engine.specs.Shards.{empty_slot, key_in, number_at, numbered, shard_of, shard_value, slot_at};
+ghost use Rattle.nfs_engine.specs.Shards.{Fills, IsHad, IsHeld, IsNew, IsReservedIn, Retakes};
+ghost use Rattle.nfs_engine.specs.Shards.{key_in, number_at, numbered, shard_of, shard_value};
 ghost use Rattle.nfs_engine.specs.Shards.{slot_value, slots_seen};
 
 use crate::holders::Holders;
@@ -208,12 +209,19 @@ impl Shard {
         self.numbers.contains(key).then_some(key)
     }
 
+    /// Whether the last generation was given.
+    pub fn is_spent(&self) -> bool
+        ensures { Decides result (self.now.next_generation ≡ 2 ^ 64 - 1) }
+    {
+        self.next_generation == u64::MAX
+    }
+
     /// Reserves a number of this shard where nothing stands and which nobody holds, with a generation above all that
     /// were given here. It is held alone from then on. An error changes nothing.
     pub fn reserve(&mut self, id: u64) -> Result<Reserved, ReserveError>
         ensures { IsReservedIn self.old self.new id result }
     {
-        if self.next_generation == u64::MAX {
+        if self.is_spent() {
             return Err(ReserveError::Spent);
         }
         let Ok(number) = free_number(&mut self.numbers, &mut self.others, self.index) else {
@@ -259,20 +267,6 @@ impl Shard {
             return;
         };
         slot.object = object;
-    }
-
-    /// Puts an object at an address that is empty, and that nobody holds. An error changes nothing.
-    pub fn open(&mut self, address: Addr, object: Arc<Object>) -> Result<(), AllocError>
-        requires { slot_at self.old address ≡ empty_slot }
-        ensures ok { OnOk result (Fills self.old self.new address (Some (arc_value object))) }
-        ensures err { OnErr result (SameShard self.old self.new) }
-    {
-        let slot = Slot {
-            object: Some(object),
-            holders: Holders::Nobody,
-        };
-        add_slot(&mut self.others, address, slot)?;
-        Ok(())
     }
 
     /// How many addresses are held; 2^64 - 1 where there are more.

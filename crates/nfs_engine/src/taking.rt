@@ -53,6 +53,9 @@ impl Txn {
             (record { shard = shard.new; view = self.new.view }) self.old.id result }
         ensures rest { self.new ≡ record self.old { view = self.new.view } }
     {
+        if shard.is_spent() {
+            return Err(ReserveError::Spent);
+        }
         let view = mem::replace(&mut self.view, View::new(alloc));
         let mut roomy = match view.make_room(1) {
             Ok(roomy) => roomy,

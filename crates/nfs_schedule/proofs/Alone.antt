@@ -105,7 +105,7 @@ module _ (e f : EngineValue) (t u : TxnValue) (lives : Lives f u) (k : KeepsOthe
   goes_reserved shard is = goes_step e f t u (with_number t.view is.reserved) alone lives k book is.call
 
   pub goes_unreserved : (shard : ℕ) (error : ReserveError) → IsReserved e t u shard (Err error) → GoesOn e f t u
-  goes_unreserved shard refusals.Memory is = goes_unchanged is
+  goes_unreserved shard refusals.Memory is = goes_unchanged is.1
   goes_unreserved shard refusals.Spent is = goes_unchanged is.1
 
 -- and suits its call where its view does

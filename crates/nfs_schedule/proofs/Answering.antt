@@ -14,7 +14,8 @@ use Rattle.nfs_replies.specs.Kept.{KeptLists, lists_after, reply_for}
 use Rattle.nfs_replies.specs.Kept.ReplyEvent.{Replied, Repeated}
 use Rattle.nfs_replies.specs.Replies.{RepliesValue, kept_of}
 use Rattle.nfs_replies.specs.declared.origins.Origin.{Origin}
-use Rattle.nfs_engine.specs.Answers.{answer_bytes}
+use Rattle.nfs_engine.proofs.Answered.{fault_bytes}
+use Rattle.nfs_engine.specs.Answers.{answer_bytes, answer_of}
 use Rattle.nfs_engine.specs.Arrivals.{ArrivalValue, IsArrival, IsFaultAnswer, IsReading}
 use Rattle.nfs_engine.specs.Asked.{IsAsked}
 use Rattle.nfs_engine.specs.Book.{BookValue, Repeats, StandsFor, TakesEra, store_in}
@@ -101,7 +102,7 @@ stands_on e f s same replies at = record {
 pub early_answered : (e f : EngineValue) (a : ArrivalValue) (faulted : Faulted) → IsArrival a →
     Answers e f a (answers.Early faulted) → IsAnswered (FromHost a.received) e f (answer_bytes faulted.answer)
 early_answered e f a faulted is x =
-    let fault : IsFaultAnswer a.received.bytes (answer_bytes faulted.answer) =
+    let fault : IsFaultAnswer a.received.bytes (answer_of faulted.answer) =
     subst (λ (r : Reading). IsReading a.received.bytes r) x.0 is.reading in
     record {
       setting = ap (λ (y : EngineValue). y.book.setting) x.2;
@@ -111,7 +112,7 @@ early_answered e f a faulted is x =
         inl (record {
           fault = fault.fault;
           is = fault.is;
-          answered = fault.answered;
+          answered = fault_bytes faulted.answer fault.fault fault.answered;
           nothing = refl;
           unchanged = refl;
         }),

@@ -194,7 +194,7 @@ module _ (e f : EngineValue) (shard : ℕ) (t u : TxnValue) (lives : WorkerLives
       (same, is, refl)
 
   unchanged : (error : ReserveError) → IsReserved e t u shard (Err error) → u ≡ t
-  unchanged refusals.Memory is = is
+  unchanged refusals.Memory is = is.1
   unchanged refusals.Spent is = is.1
 
   pub reserve_fails : (error : ReserveError) → IsReserved e t u shard (Err error) →

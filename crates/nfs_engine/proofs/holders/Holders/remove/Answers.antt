@@ -6,6 +6,6 @@ use Rattle.nfs_engine.proofs.holders.Holders.remove.Goals as goal
 
 pub returns-in-Several : goal.returns-in-Several
 returns-in-Several c = λ j.
-    ap (λ (hs : List ℕ). hold_in None hs j) c.without.ensures
-    ∙ removed_among c.in-Several.holders.items c.args.id j
+    ap (λ (hs : List ℕ). hold_in None hs j) c.remove.ensures
+    ∙ removed_among c.in-Several.sharers c.args.id j
     ∙ ap (λ (h : Holders). cond (c.args.id == j) None (hold_of (holders_value h) j)) (sym c.in-Several.is)
