@@ -1,6 +1,6 @@
 -- What is hashed of a record.
 use Rattle.std.specs.Prelude.{ℕ, List, [], ◌∷◌, take}
 
--- its first 256 bytes, in one write
+-- its first 64 bytes, in one write
 abbrev pub head_input : List ℕ → List (List ℕ)
-head_input bytes = take 256 bytes ∷ []
+head_input bytes = take 64 bytes ∷ []

@@ -12,9 +12,9 @@ use std::collections::hash_map::Equivalent;
 use std::hash::{Hash, Hasher};
 use std::marker::Model;
 
-/// How many bytes of a record are hashed: they have its xid and its credential and, of most calls, what it names. All
-/// of a WRITE would take longer to hash than to write.
-const HEAD: usize = 256;
+/// How many bytes of a record are hashed: they have its xid, its procedure and the head of its credential. All of a
+/// WRITE would take longer to hash than to write.
+const HEAD: usize = 64;
 
 /// The first bytes of a record.
 pub(crate) fn head(bytes: &[u8]) -> &[u8]

@@ -4,9 +4,9 @@ use Rattle.nfs_replies.proofs.key.head.Goals as goal
 
 -- a record that is no longer is its own head
 pub returns-then-bytes-le-HEAD : goal.returns-then-bytes-le-HEAD
-returns-then-bytes-le-HEAD c = sym (take_all 256 c.args.bytes.now (omega arith))
+returns-then-bytes-le-HEAD c = sym (take_all 64 c.args.bytes.now (omega arith))
 
 pub slice_bounds-result-end : goal.slice_bounds-result-end
 slice_bounds-result-end c =
-    let long : 256 ≤ length c.args.bytes.now = omega arith in
-    omega (arith, length-take-le 256 c.args.bytes.now long)
+    let long : 64 ≤ length c.args.bytes.now = omega arith in
+    omega (arith, length-take-le 64 c.args.bytes.now long)
