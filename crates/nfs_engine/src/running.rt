@@ -1,6 +1,7 @@
 //! Which calls are in progress.
 
-ghost use Rattle.std.specs.Prelude.{◌≡◌, ◌-◌, ◌^◌, [], true, IfSome, MatchOption, OnErr, OnOk, option_copied};
+ghost use Rattle.std.specs.Prelude.{◌≡◌, ◌-◌, ◌^◌, [], true, IfSome, MatchOption, OnErr, OnOk};
+ghost use Rattle.std.specs.Prelude.{option_copied};
 ghost use Rattle.std.specs.Bool.{Decides};
 ghost use Rattle.nfs_replies.specs.Origins.{Adds, Removes, is_among};
 ghost use Rattle.nfs_engine.specs.Running.{IsBegun, IsInProgress, living_count, origin_at, without_call};

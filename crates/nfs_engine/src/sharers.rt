@@ -1,6 +1,7 @@
 //! Who holds an address beside each other.
 
-ghost use Rattle.std.specs.Prelude.{◌≡◌, [], ◌∷◌, ◌||◌, ◌==◌, ℕ, IfOk, OnErr, OnOk, not, slice_get};
+ghost use Rattle.std.specs.Prelude.{◌≡◌, [], ◌∷◌, ◌||◌, ◌==◌, ℕ, IfOk, OnErr, OnOk, not};
+ghost use Rattle.std.specs.Prelude.{slice_get};
 ghost use Rattle.std.specs.Bool.{Decides};
 ghost use Rattle.std.specs.List.{filter};
 ghost use Rattle.nfs_engine.specs.Holders.{is_among};

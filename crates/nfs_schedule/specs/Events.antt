@@ -1,5 +1,6 @@
 -- What drives a world: events, and what each does.
-use Rattle.std.specs.Prelude.{◌≡◌, ℕ, ◌<◌, ◌≤◌, List, [], ◌∷◌, ◌++◌, Option, None, option_to_list}
+use Rattle.std.specs.Prelude.{◌≡◌, ℕ, ◌<◌, ◌≤◌, List, [], ◌∷◌, ◌++◌, Option, None}
+use Rattle.std.specs.Prelude.{option_to_list}
 use Rattle.nfs_engine.specs.Arrivals.{ArrivalValue, IsArrival, received_value}
 use Rattle.nfs_engine.specs.declared.arrival.Received.{Received}
 use Rattle.nfs_schedule.specs.Worlds.{Stops, TakesOldest, TakesTurn, TurnsEra, WorldValue}

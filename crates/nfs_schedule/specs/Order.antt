@@ -34,7 +34,7 @@ pub record IsOrderly (w : WorldValue) : Type 0 where
   pub alone : (a : Addr) (i j : ℕ) → held_among w.engine.shards a i ≡ Some Exclusive →
       IsSome (held_among w.engine.shards a j) → j ≡ i
   pub held : (a : Addr) (id : ℕ) → IsSome (held_among w.engine.shards a id) → IsSomeones worker_id w.workers id
-  pub reads : (i : ℕ) (u : Worker) (t : TxnValue) → slice_get w.workers i ≡ Some u → executed_by u ≡ Some t →
-      IsReading w t
+  pub reads : (i : ℕ) (u : Worker) (t : TxnValue) →
+      slice_get w.workers i ≡ Some u → executed_by u ≡ Some t → IsReading w t
   pub few : (i : ℕ) (u : Worker) (t : TxnValue) → slice_get w.workers i ≡ Some u → executed_by u ≡ Some t →
       ReadsFew u t

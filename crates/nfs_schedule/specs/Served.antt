@@ -82,8 +82,8 @@ EndsBy gives Write others unsent clock later old new =
 EndsBy gives Memory others unsent clock later old new =
     (unsent ≡ []) × (Stays others clock later old new ⊎ IsUnanswered gives others clock later old new)
 
--- The first of the records were answered, and a beginning of their answers was written; behind them serving ended by the
--- fault.
+-- The first of the records were answered, and a beginning of their answers was written; behind them serving ended by
+-- the fault.
 pub record Stops {Clock : Type 0} (gives : Clock → Moment → Clock → Type 0) (host : List ℕ)
     (fault : StreamFault) (contents : List (List ℕ)) (clock later : Clock) (old new : EngineValue)
     (before after : Option (List ℕ)) : Type 0 where
@@ -115,7 +115,8 @@ IsFaultOf _ fed = Unit {0}
 
 -- a front of the input was taken in, and of its records the first were served
 pub record ServesFront {Clock : Type 0} (gives : Clock → Moment → Clock → Type 0) (host input : List ℕ)
-    (fault : StreamFault) (clock later : Clock) (old new : EngineValue) (before after : Option (List ℕ)) : Type 0 where
+    (fault : StreamFault) (clock later : Clock) (old new : EngineValue)
+    (before after : Option (List ℕ)) : Type 0 where
   pub fed : List ℕ
   pub ahead : List ℕ
   pub contents : List (List ℕ)

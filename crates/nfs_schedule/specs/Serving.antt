@@ -1,5 +1,6 @@
 -- What the records of a stream are answered (RFC 5531, 8 and 11; RFC 1813, 3).
-use Rattle.std.specs.Prelude.{◌≡◌, ℕ, List, [], ◌∷◌, ◌++◌, ◌⊎◌, true, Some, None, if◌then◌else◌}
+use Rattle.std.specs.Prelude.{◌≡◌, ℕ, List, [], ◌∷◌, ◌++◌, ◌⊎◌, true, Some, None}
+use Rattle.std.specs.Prelude.{if◌then◌else◌}
 use Rattle.nfs_rpc.specs.declared.faults.Early.{Early}
 use Rattle.nfs_machine.specs.Changing.{is_changing}
 use Rattle.nfs_machine.specs.Refusal.{refusal_of}

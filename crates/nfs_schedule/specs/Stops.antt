@@ -13,7 +13,8 @@ use Rattle.nfs_schedule.specs.Turns.{KeepsStore}
 use Rattle.nfs_schedule.specs.Workers.{KeepsRest}
 use Rattle.nfs_schedule.specs.declared.answer.Answer.{Answer}
 use Rattle.nfs_schedule.specs.declared.worker.Worker.{Worker}
-use Rattle.nfs_schedule.specs.declared.worker.Worker.TheVariants.{Idle, Trying, Wanting, Wishing, Ready, Blocked, Failing}
+use Rattle.nfs_schedule.specs.declared.worker.Worker.TheVariants.{Idle, Trying, Wanting, Wishing, Ready}
+use Rattle.nfs_schedule.specs.declared.worker.Worker.TheVariants.{Blocked, Failing}
 use Rattle.nfs_schedule.specs.declared.worker.Worker.TheVariants.{Leaving, PutOff, Refusing}
 
 -- ---- what is told

@@ -27,7 +27,8 @@ use Rattle.nfs_schedule.specs.declared.answer.Answer.TheVariants as answers
 use Rattle.nfs_schedule.specs.declared.worker.Afterwards.{Afterwards}
 use Rattle.nfs_schedule.specs.declared.worker.Afterwards.TheVariants.{Again, GiveUp}
 use Rattle.nfs_schedule.specs.declared.worker.Worker.{Worker}
-use Rattle.nfs_schedule.specs.declared.worker.Worker.TheVariants.{Idle, Trying, Wanting, Wishing, Ready, Blocked, Failing}
+use Rattle.nfs_schedule.specs.declared.worker.Worker.TheVariants.{Idle, Trying, Wanting, Wishing, Ready}
+use Rattle.nfs_schedule.specs.declared.worker.Worker.TheVariants.{Blocked, Failing}
 use Rattle.nfs_schedule.specs.declared.worker.Worker.TheVariants.{Leaving, PutOff, Refusing}
 
 -- ---- what is changed
@@ -76,7 +77,8 @@ abbrev pub AsksCall : ArrivalValue → Type 0
 AsksCall a = (asked : Asked) × (a.reading ≡ readings.Asks asked)
 
 -- only an idle worker takes an arrival from the queue, the oldest
-abbrev pub Takes : EngineValue → EngineValue → (queue later : List ArrivalValue) → Worker → Option Answer → Type 0
+abbrev pub Takes : EngineValue → EngineValue → (queue later : List ArrivalValue) → Worker → Option Answer →
+    Type 0
 Takes e f [] later next answer = (later ≡ []) × (f ≡ e) × (next ≡ Idle) × (answer ≡ None)
 Takes e f (a ∷ rest) later next answer = (later ≡ rest) × Admits e f a next answer
 
@@ -113,7 +115,8 @@ after_all p GiveUp = Refusing p
 
 -- one shard more is let go; or all is
 abbrev pub Follows : ReleaseValue → Afterwards → Worker → Type 0
-Follows r after (Leaving left still) = (k : ℕ) × (is_free r k ≡ false) × (left ≡ freed_more r k) × (still ≡ after)
+Follows r after (Leaving left still) =
+    (k : ℕ) × (is_free r k ≡ false) × (left ≡ freed_more r k) × (still ≡ after)
 Follows r after Idle = r.after ≡ then.Ended
 Follows r after next = (p : PendingValue) × (r.after ≡ then.Aborted p) × (next ≡ after_all p after)
 

@@ -1,5 +1,6 @@
 -- What a worker is at, and how it lives in an engine.
-use Rattle.std.specs.Prelude.{◌≡◌, ◌≢◌, ℕ, true, List, [], ◌++◌, Option, Some, None, IsSome, ◌⊎◌, ◌≤◌}
+use Rattle.std.specs.Prelude.{◌≡◌, ◌≢◌, ℕ, true, List, [], ◌++◌, Option, Some, None, IsSome}
+use Rattle.std.specs.Prelude.{◌⊎◌, ◌≤◌}
 use Rattle.std.specs.List.{AllByRecursion}
 use Rattle.std.specs.Vec.Iter.{into_iter_items}
 use Rattle.nfs_machine.specs.declared.calls.Call.{Call}
@@ -15,7 +16,8 @@ use Rattle.nfs_engine.specs.declared.release.Then.{Then}
 use Rattle.nfs_engine.specs.declared.release.Then.TheVariants as then
 use Rattle.nfs_schedule.specs.Grown.{AsksFor}
 use Rattle.nfs_schedule.specs.declared.worker.Worker.{Worker}
-use Rattle.nfs_schedule.specs.declared.worker.Worker.TheVariants.{Idle, Trying, Wanting, Wishing, Ready, Blocked, Failing}
+use Rattle.nfs_schedule.specs.declared.worker.Worker.TheVariants.{Idle, Trying, Wanting, Wishing, Ready}
+use Rattle.nfs_schedule.specs.declared.worker.Worker.TheVariants.{Blocked, Failing}
 use Rattle.nfs_schedule.specs.declared.worker.Worker.TheVariants.{Leaving, PutOff, Refusing}
 
 -- an address that a call may take: it has it not, and the mode is as strong as its attempt needed when it asked

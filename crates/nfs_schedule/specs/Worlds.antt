@@ -1,5 +1,6 @@
 -- The engine with its workers: what it keeps, and what its steps do.
-use Rattle.std.specs.Prelude.{◌≡◌, ℕ, ◌-◌, ◌%◌, List, [], ◌∷◌, ◌++◌, map, Option, Some, None, IsSome, option_to_list, slice_get, slice_set}
+use Rattle.std.specs.Prelude.{◌≡◌, ℕ, ◌-◌, ◌%◌, List, [], ◌∷◌, ◌++◌, map, Option}
+use Rattle.std.specs.Prelude.{Some, None, IsSome, option_to_list, slice_get, slice_set}
 use Rattle.nfs_machine.specs.Run.{Record, Run}
 use Rattle.nfs_machine.specs.State.{State}
 use Rattle.nfs_objects.specs.declared.address.Addr.{Addr}
@@ -39,12 +40,13 @@ pub record IsSomeones (number : Worker → Option ℕ) (workers : List Worker) (
   pub there : slice_get workers place ≡ Some worker
   pub is : number worker ≡ Some n
 
--- What each worker has lives in the engine, and what its call has read grew by rounds; no two workers have one call; each
--- call in progress is a worker's, and so is each that holds an address.
+-- What each worker has lives in the engine, and what its call has read grew by rounds; no two workers have one call;
+-- each call in progress is a worker's, and so is each that holds an address.
 pub record IsKept (e : EngineValue) (workers : List Worker) : Type 0 where
   pub lives : (i : ℕ) (w : Worker) → slice_get workers i ≡ Some w → WorkerLives e w
   pub grown : (i : ℕ) (w : Worker) → slice_get workers i ≡ Some w → IsGrown w
-  pub apart : (i j : ℕ) (w v : Worker) (id : ℕ) → slice_get workers i ≡ Some w → slice_get workers j ≡ Some v →
+  pub apart : (i j : ℕ) (w v : Worker) (id : ℕ) →
+      slice_get workers i ≡ Some w → slice_get workers j ≡ Some v →
       worker_id w ≡ Some id → worker_id v ≡ Some id → i ≡ j
   pub running : (key : ℕ) → IsSome (running_at e.book.living key) → IsSomeones worker_key workers key
   pub held : (a : Addr) (id : ℕ) → IsSome (held_among e.shards a id) → IsSomeones worker_id workers id

@@ -1,9 +1,9 @@
 //! Workers that execute calls on one engine, step by step and in any order.
 //!
-//! `attempt` is what a call comes to on what it has read, by its program. A `Worker` thinks with no engine, and makes one
-//! step of the engine at each turn. A `World` has an engine with its workers. `drive` makes the steps of a list of events.
-//! `execute` brings one call to its answer with no worker, on an engine at rest, and `serve_stream` so each record of a
-//! stream.
+//! `attempt` is what a call comes to on what it has read, by its program. A `Worker` thinks with no engine, and makes
+//! one step of the engine at each turn. A `World` has an engine with its workers. `drive` makes the steps of a list of
+//! events. `execute` brings one call to its answer with no worker, on an engine at rest, and `serve_stream` so each
+//! record of a stream.
 #![tactic(auto)]
 
 pub mod answer;

@@ -1,7 +1,8 @@
 //! Serving a stream of records, one after the other.
 
 ghost use Rattle.std.specs.Prelude.{◌≡◌, ℕ, ◌+◌, ◌-◌, ◌^◌, ◌<◌, ◌≤◌, ◌⊎◌, List};
-ghost use Rattle.std.specs.Prelude.{[], ◌∷◌, ◌++◌, true, length, Some, IsSome, IfOk, IfErr, OnOk, OnErr, IsErrOf};
+ghost use Rattle.std.specs.Prelude.{[], ◌∷◌, ◌++◌, true, length, Some, IsSome, IfOk, IfErr, OnOk};
+ghost use Rattle.std.specs.Prelude.{OnErr, IsErrOf};
 ghost use Rattle.nfs_machine.specs.Run.{FromHost};
 ghost use Rattle.nfs_rpc.specs.Records.{Holds};
 ghost use Rattle.nfs_rpc.specs.Streams.{one_more};
@@ -58,7 +59,8 @@ enum Taken {
 }
 
 /// Answers each record of the input, one after the other, to the end of the input. All answers are sent on before the
-/// next read. Bytes after the last whole record are left. Where an era is full, the next one begins between two records.
+/// next read. Bytes after the last whole record are left. Where an era is full, the next one begins between two
+/// records.
 ///
 /// No call is in progress in the engine, and none is afterwards.
 ///

@@ -1,4 +1,4 @@
-//! A worker, which executes one call after the other: it thinks with no engine, and each turn is one step of the engine.
+//! A worker, which executes one call after the other: it thinks with no engine, and each turn is a step of the engine.
 
 ghost use Rattle.std.specs.Prelude.{◌≡◌, ◌<◌, None, Some};
 ghost use Rattle.nfs_objects.specs.Promise.{IsPromised};

@@ -1,6 +1,7 @@
 //! The engine with its workers, over any list of turns.
 
-ghost use Rattle.std.specs.Prelude.{◌≡◌, ◌<◌, ◌≤◌, [], ◌∷◌, ◌++◌, IfErr, IfOk, OnErr, OnOk, length, replicate};
+ghost use Rattle.std.specs.Prelude.{◌≡◌, ◌<◌, ◌≤◌, [], ◌∷◌, ◌++◌, IfErr, IfOk, OnErr};
+ghost use Rattle.std.specs.Prelude.{OnOk, length, replicate};
 ghost use Rattle.nfs_schedule.specs.Order.{IsOrderly};
 ghost use Rattle.nfs_schedule.specs.Stops.{IsStop};
 ghost use Rattle.nfs_schedule.specs.Turns.{KeepsStore, Turns};
@@ -101,8 +102,8 @@ impl World {
         &self.engine
     }
 
-    /// What is true at every moment: the shards together are the store, no two calls hold what conflicts, whoever holds an
-    /// address is a worker's call, and what each such call has read still stands.
+    /// What is true at every moment: the shards together are the store, no two calls hold what conflicts, whoever holds
+    /// an address is a worker's call, and what each such call has read still stands.
     pub fn order(&self)
         ensures { IsOrderly self.now }
     {
