@@ -47,14 +47,16 @@ joined_among old new id j joins = ap (λ b. cond b (Some Shared) None) joins ∙
 -- and nobody among them is so twice
 pub pushed_once : (hs : List ℕ) (id : ℕ) → is_among hs id ≡ false → AllPairs (λ x y. x ≢ y) hs →
     AllPairs (λ x y. x ≢ y) (hs ++ id ∷ [])
-pushed_once hs id fresh once = all_pairs_push (λ x y. x ≢ y) hs id once (λ k d within same. absent hs k d within same fresh)
+pushed_once hs id fresh once =
+    all_pairs_push (λ x y. x ≢ y) hs id once (λ k d within same. absent hs k d within same fresh)
   where
-    absent : (hs : List ℕ) (k d : ℕ) → k < length hs → get_or hs k d ≡ id → is_among hs id ≡ false → ⊥
-    absent hs k d within same fresh = differ_true (is_among hs id) fresh
-        (sym (found_among hs id) ∙ list_any_at (λ h. h == id) hs k d within ((unsigned_Decides (get_or hs k d) id).1 same))
-
     differ_true : (b : Bool) → b ≡ false → b ≡ true → ⊥
     differ_true b e f = cc
+
+    absent : (hs : List ℕ) (k d : ℕ) → k < length hs → get_or hs k d ≡ id → is_among hs id ≡ false → ⊥
+    absent hs k d within same fresh = differ_true (is_among hs id) fresh
+        (sym (found_among hs id)
+        ∙ list_any_at (λ h. h == id) hs k d within ((unsigned_Decides (get_or hs k d) id).1 same))
 
 differ : (h id j : ℕ) → (h == j) ≡ true → (h == id) ≡ false → (id == j) ≡ false
 differ h id j e f = grind (arith, nat_tests)
