@@ -2,7 +2,7 @@
 use Rattle.std.proofs.Common.{◌≡◌, ℕ, List, refl, sym, ◌∙◌, ap, arith}
 use Rattle.nfs_engine.proofs.Parted.{stays_running, was_running}
 use Rattle.nfs_engine.specs.Book.{BookValue, store_in}
-use Rattle.nfs_engine.specs.Engine.{EngineValue, KeepsOthers}
+use Rattle.nfs_engine.specs.Engine.{KeepsOthers}
 use Rattle.nfs_engine.specs.Running.{running_at, without_call}
 use Rattle.nfs_engine.specs.Shards.{ShardValue}
 

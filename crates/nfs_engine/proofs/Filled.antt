@@ -1,8 +1,7 @@
 -- Writes into the shards, one after the other.
-use Rattle.std.proofs.Common.{◌≡◌, ◌≢◌, ℕ, ◌<◌, ◌≤◌, ◌==◌, Bool, true, false, cond, List}
+use Rattle.std.proofs.Common.{◌≡◌, ℕ, ◌<◌, true, false, cond, List}
 use Rattle.std.proofs.Common.{[], ◌∷◌, get_or, set, length}
-use Rattle.std.proofs.Common.{Option, Some, None, IsSome, refl, sym, ◌∙◌, ap, subst, arith}
-use Rattle.std.specs.Cmp.{unsigned_Decides}
+use Rattle.std.proofs.Common.{Option, Some, IsSome, refl, sym, ◌∙◌, ap, subst}
 use Rattle.std.specs.List.{AllByRecursion}
 use Rattle.nfs_objects.proofs.Seen.{all-map, is_addr-same}
 use Rattle.nfs_objects.specs.Store.{Store, with_write, with_writes}
@@ -12,7 +11,7 @@ use Rattle.nfs_objects.specs.declared.object.Object.{Object}
 use Rattle.nfs_engine.proofs.Lifted.{any_default, each_shard, each_slot}
 use Rattle.nfs_engine.specs.Engine.{IsFilled, IsHeldAmong, held_among, shard_among, slot_among}
 use Rattle.nfs_engine.specs.Holders.{hold_of}
-use Rattle.nfs_engine.specs.Shards.{Fills, IsHeld, ShardValue, SlotValue, shard_of, slot_at}
+use Rattle.nfs_engine.specs.Shards.{Fills, IsHeld, ShardValue, shard_of}
 
 -- some of the writes are made, and the rest are still to be
 pub record Making (initial now : List ShardValue) (all rest : List (Addr × Option Object)) : Type 0 where

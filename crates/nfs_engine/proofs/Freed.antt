@@ -1,16 +1,16 @@
 -- Shards in which a call lets go, one after the other.
-use Rattle.std.proofs.Common.{◌≡◌, ◌≢◌, ℕ, zero, suc, ◌<◌, ◌≤◌, ◌+◌, ◌%◌, ◌==◌}
+use Rattle.std.proofs.Common.{◌≡◌, ℕ, zero, suc, ◌<◌, ◌+◌, ◌==◌}
 use Rattle.std.proofs.Common.{◌&&◌, Bool, true, false, cond, List, [], ◌∷◌, get_or, set, length}
-use Rattle.std.proofs.Common.{Option, Some, None, is_some, refl, sym, ◌∙◌, ap, subst, arith}
+use Rattle.std.proofs.Common.{Option, None, is_some, refl, sym, ◌∙◌, ap, subst, arith}
 use Rattle.std.specs.Cmp.{unsigned_Decides}
 use Rattle.nfs_objects.specs.Values.{Seen, seen_at}
 use Rattle.nfs_objects.specs.declared.address.Addr.{Addr}
 use Rattle.nfs_objects.specs.declared.address.Addr.TheVariants.{Exports, Inode, Mounts, Usage}
 use Rattle.nfs_objects.specs.declared.modes.Mode.{Mode}
 use Rattle.nfs_engine.proofs.Lifted.{alike_or, any_default, elsewhere, here}
-use Rattle.nfs_engine.specs.Engine.{Frees, freed, held_among, shard_among, slot_among}
+use Rattle.nfs_engine.specs.Engine.{Frees, held_among, shard_among}
 use Rattle.nfs_engine.specs.Taking.{LetsGo}
-use Rattle.nfs_engine.specs.Shards.{ShardValue, SlotValue, hold_at, shard_of, slot_at}
+use Rattle.nfs_engine.specs.Shards.{ShardValue, hold_at, shard_of, slot_at}
 
 abbrev pub is_of : List Bool → ℕ → Bool
 is_of which k = get_or which k false

@@ -1,17 +1,17 @@
 -- What a call that lets go in one shard leaves there, entry by entry.
-use Rattle.std.proofs.Common.{◌≡◌, ◌≢◌, ℕ, ◌<◌, ◌≤◌, ◌+◌, ◌==◌, ◌&&◌, Bool, true}
+use Rattle.std.proofs.Common.{◌≡◌, ◌≢◌, ℕ, ◌+◌, ◌==◌, ◌&&◌, Bool, true}
 use Rattle.std.proofs.Common.{false, cond, List, [], ◌∷◌, ◌++◌}
-use Rattle.std.proofs.Common.{Option, Some, None, is_some, refl, sym, ◌∙◌, ap, subst, arith, length, take}
-use Rattle.std.proofs.Common.{slice_get, get_or}
+use Rattle.std.proofs.Common.{Option, Some, None, is_some, refl, sym, ◌∙◌, ap, take}
+use Rattle.std.proofs.Common.{slice_get}
 use Rattle.std.specs.Cmp.{unsigned_Decides}
-use Rattle.std.proofs.lemmas.List.{take_more, take_all}
+use Rattle.std.proofs.lemmas.List.{take_more}
 use Rattle.std.proofs.lemmas.Option.{get_or_from_slice_get, slice_get_within}
 use Rattle.nfs_objects.proofs.Seen.{is_addr-same}
 use Rattle.nfs_objects.specs.Values.{Seen, is_addr, seen_at}
 use Rattle.nfs_objects.specs.declared.address.Addr.{Addr}
 use Rattle.nfs_objects.specs.declared.modes.Mode.{Mode}
 use Rattle.nfs_engine.specs.Taking.{LetsGo}
-use Rattle.nfs_engine.specs.Shards.{Retakes, ShardValue, hold_at, shard_of, slot_at}
+use Rattle.nfs_engine.specs.Shards.{Retakes, ShardValue, hold_at, shard_of}
 
 -- what is seen of another address than the last entry's
 pub seen_beside : (es : List Seen) (e : Seen) (b : Addr) → is_addr e.address b ≡ false →

@@ -1,23 +1,21 @@
 -- Shards that get what an engine opens with.
-use Rattle.std.proofs.Common.{◌≡◌, ◌≢◌, ℕ, zero, suc, ◌<◌, ◌≤◌, ◌+◌, ◌%◌, ◌==◌}
-use Rattle.std.proofs.Common.{Bool, true, false, cond, List, [], ◌∷◌}
-use Rattle.std.proofs.Common.{get_or, set, length, Option, Some, None, IsSome, refl, sym, ◌∙◌, ap, subst, arith}
-use Rattle.nfs_objects.proofs.Seen.{is_addr-same}
+use Rattle.std.proofs.Common.{◌≡◌, ℕ, zero, suc, ◌<◌, ◌≤◌, ◌+◌, ◌%◌}
+use Rattle.std.proofs.Common.{List, [], ◌∷◌}
+use Rattle.std.proofs.Common.{get_or, length, Option, Some, None, IsSome, sym, ◌∙◌, ap, subst, arith}
 use Rattle.nfs_objects.specs.Store.{Store, with_writes}
-use Rattle.nfs_objects.specs.Values.{is_addr, written_at}
+use Rattle.nfs_objects.specs.Values.{written_at}
 use Rattle.nfs_objects.specs.declared.address.Addr.{Addr}
 use Rattle.nfs_objects.specs.declared.address.Addr.TheVariants.{Inode}
 use Rattle.nfs_objects.specs.declared.modes.Mode.{Mode}
-use Rattle.nfs_objects.specs.declared.modes.Mode.TheVariants.{Exclusive}
 use Rattle.nfs_objects.specs.declared.object.Object.{Object}
 use Rattle.nfs_engine.proofs.Filled.{Making, written_over}
 use Rattle.nfs_engine.proofs.Freed.{below_sixteen}
 use Rattle.nfs_engine.proofs.Lifted.{any_default}
 use Rattle.nfs_engine.specs.Book.{BookValue, store_in}
-use Rattle.nfs_engine.specs.Engine.{AreNew, IsFilled, IsTied, held_among, no_shard, shard_among, slot_among}
+use Rattle.nfs_engine.specs.Engine.{AreNew, IsFilled, IsTied, held_among, shard_among, slot_among}
 use Rattle.nfs_engine.specs.Holders.{hold_of}
 use Rattle.nfs_engine.specs.Opening.{no_store}
-use Rattle.nfs_engine.specs.Shards.{Fills, IsNew, Retakes, ShardValue, SlotValue, hold_at, shard_of, slot_at}
+use Rattle.nfs_engine.specs.Shards.{IsNew, ShardValue, SlotValue, hold_at, shard_of}
 
 -- nobody holds the address of the next write, in the shard where it was found
 pub nobody_there : (initial now : List ShardValue) (all rest : List (Addr × Option Object)) (a : Addr) (i : ℕ)

@@ -1,7 +1,7 @@
 -- One holder holds addresses in another way than before, and nothing else changed.
-use Rattle.std.proofs.Common.{◌≡◌, ◌≢◌, ℕ, ◌<◌, ◌≤◌, ◌+◌, ◌%◌, ◌==◌, ◌&&◌}
-use Rattle.std.proofs.Common.{Bool, true, false, cond, List, [], ◌∷◌, ◌++◌}
-use Rattle.std.proofs.Common.{get_or, set, length, Option, Some, None, IsSome, is_some, refl, sym, ◌∙◌, ap}
+use Rattle.std.proofs.Common.{◌≡◌, ◌≢◌, ℕ, ◌<◌, ◌≤◌, ◌%◌, ◌==◌, ◌&&◌}
+use Rattle.std.proofs.Common.{Bool, true, false, cond, List}
+use Rattle.std.proofs.Common.{set, length, Option, Some, None, IsSome, is_some, refl, sym, ◌∙◌, ap}
 use Rattle.std.proofs.Common.{subst, arith}
 use Rattle.std.specs.Cmp.{unsigned_Decides}
 use Rattle.nfs_objects.proofs.Seen.{is_addr-same}
@@ -10,14 +10,13 @@ use Rattle.nfs_objects.specs.declared.address.Addr.{Addr}
 use Rattle.nfs_objects.specs.declared.address.Addr.TheVariants.{Inode}
 use Rattle.nfs_objects.specs.declared.modes.Mode.{Mode}
 use Rattle.nfs_objects.specs.declared.modes.Mode.TheVariants.{Exclusive}
-use Rattle.nfs_objects.specs.declared.object.Object.{Object}
 use Rattle.nfs_objects.specs.declared.view.Reserved.{Reserved}
 use Rattle.nfs_engine.proofs.Lifted.{each_shard, each_slot}
 use Rattle.nfs_engine.specs.Book.{BookValue}
 use Rattle.nfs_engine.specs.Engine.{EngineValue, Holds, IsTied, KeepsOthers, held_among, shard_among, slot_among}
-use Rattle.nfs_engine.specs.Holders.{HoldersValue, hold_of}
+use Rattle.nfs_engine.specs.Holders.{hold_of}
 use Rattle.nfs_engine.specs.Taking.{LetsGo}
-use Rattle.nfs_engine.specs.Shards.{Reserves, Retakes, SameShard, ShardValue, SlotValue, empty_slot, hold_at}
+use Rattle.nfs_engine.specs.Shards.{Reserves, Retakes, SameShard, ShardValue, SlotValue, hold_at}
 use Rattle.nfs_engine.specs.Shards.{shard_of, slot_at}
 
 -- how a hold changes, at each address

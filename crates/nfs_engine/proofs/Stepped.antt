@@ -1,10 +1,10 @@
 -- What the steps of a call in one shard are for the engine.
-use Rattle.std.proofs.Common.{◌≡◌, ◌≢◌, ℕ, ◌<◌, ◌≤◌, ◌+◌, ◌%◌, ◌==◌, Bool, true}
-use Rattle.std.proofs.Common.{false, cond, List, [], ◌∷◌, ◌++◌}
-use Rattle.std.proofs.Common.{get_or, set, length, Option, Some, None, IsSome, Result, Ok, Err, option_map, refl, sym}
-use Rattle.std.proofs.Common.{◌∙◌, ap, subst, arith}
+use Rattle.std.proofs.Common.{◌≡◌, ℕ, ◌<◌, ◌==◌, true}
+use Rattle.std.proofs.Common.{false, cond, List}
+use Rattle.std.proofs.Common.{get_or, set, length, Option, Some, None, Result, Ok, Err, option_map, refl, sym}
+use Rattle.std.proofs.Common.{◌∙◌, ap, subst}
 use Rattle.nfs_objects.specs.Rooms.{with_entry, with_number}
-use Rattle.nfs_objects.specs.Values.{Seen, ViewValue, is_addr, seen_at}
+use Rattle.nfs_objects.specs.Values.{Seen, ViewValue, seen_at}
 use Rattle.nfs_objects.specs.declared.address.Addr.{Addr}
 use Rattle.nfs_objects.specs.declared.address.Addr.TheVariants.{Inode}
 use Rattle.nfs_objects.specs.declared.modes.Mode.{Mode}

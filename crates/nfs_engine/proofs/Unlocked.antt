@@ -1,5 +1,5 @@
 -- How many addresses are held, and that none is where none is counted.
-use Rattle.std.proofs.Common.{◌≡◌, ℕ, zero, suc, ◌<◌, ◌≤◌, ◌+◌, ◌%◌, ◌==◌, ◌&&◌, Bool, true, false, cond, min, List, []}
+use Rattle.std.proofs.Common.{◌≡◌, ℕ, zero, suc, ◌<◌, ◌+◌, ◌%◌, ◌==◌, ◌&&◌, Bool, true, false, cond, min, List, []}
 use Rattle.std.proofs.Common.{◌∷◌, ◌++◌, Option, Some, None, unwrap_or, count_by, refl, sym, ◌∙◌, ap, subst, arith, take}
 use Rattle.std.proofs.Common.{get_or, length, slice_index_or, ◌/◌, ◌-◌, nat_le, ◌^◌}
 use Rattle.std.specs.Option.{option_and_then, option_or}
@@ -8,12 +8,11 @@ use Rattle.std.proofs.lemmas.List.Sums.{sum_by-cons}
 use Rattle.nfs_objects.specs.Values.{is_addr}
 use Rattle.nfs_objects.specs.declared.address.Addr.{Addr}
 use Rattle.nfs_objects.specs.declared.address.Addr.TheVariants.{Exports, Inode, Mounts, Usage}
-use Rattle.nfs_objects.specs.declared.modes.Mode.{Mode}
 use Rattle.nfs_engine.specs.Engine.{CountsLocked, LockedSum, held_among, no_shard, shard_among}
 use Rattle.nfs_engine.specs.Found.{found}
 use Rattle.nfs_engine.specs.Holders.{hold_in, hold_of}
 use Rattle.nfs_engine.specs.Locked.{IsLocked, is_anybody, is_held}
-use Rattle.nfs_engine.specs.Shards.{ShardValue, SlotValue, empty_slot, hold_at, shard_of, slot_of}
+use Rattle.nfs_engine.specs.Shards.{ShardValue, SlotValue, empty_slot, hold_at, shard_of}
 
 -- ---- the count of one more shard
 pub one_more : (shards : List ShardValue) (total n : ℕ) (s : ShardValue) → LockedSum shards total → IsLocked s n →

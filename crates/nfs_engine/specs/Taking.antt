@@ -1,6 +1,6 @@
 -- What a call does in one shard.
 use Rattle.std.specs.Prelude.{◌≡◌, ◌≢◌, ℕ, ◌-◌, ◌^◌, ◌==◌, ◌&&◌, List, None, Some}
-use Rattle.std.specs.Prelude.{Option, Result}
+use Rattle.std.specs.Prelude.{Result}
 use Rattle.std.specs.Prelude.{Ok, Err, if◌then◌else◌, is_some}
 use Rattle.nfs_objects.specs.Rooms.{with_entry, with_number}
 use Rattle.nfs_objects.specs.Values.{Seen, ViewValue, held_at, seen_at}

@@ -1,6 +1,6 @@
 use Rattle.std.proofs.Common.{map, ap, arith}
 use Rattle.nfs_objects.specs.Values.{write_value}
-use Rattle.nfs_engine.proofs.Filled.{filling_all, filling_more, making_none, next_held}
+use Rattle.nfs_engine.proofs.Filled.{filling_more}
 use Rattle.nfs_engine.proofs.engine.fill_all.Goals as goal
 
 pub writes-preserved : goal.writes-preserved

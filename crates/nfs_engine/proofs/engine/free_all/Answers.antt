@@ -1,5 +1,5 @@
 use Rattle.std.proofs.Common.{arith}
-use Rattle.nfs_engine.proofs.Freed.{freeing_all, freeing_one, freeing_other}
+use Rattle.nfs_engine.proofs.Freed.{freeing_one, freeing_other}
 use Rattle.nfs_engine.proofs.engine.free_all.Goals as goal
 
 pub loop-index-preserved-then-not-which-index : goal.loop-index-preserved-then-not-which-index

@@ -1,6 +1,6 @@
 use Rattle.std.proofs.Common.{map, ap, arith}
 use Rattle.nfs_objects.specs.Values.{write_value}
-use Rattle.nfs_engine.proofs.Filled.{making_all, making_more, making_none}
+use Rattle.nfs_engine.proofs.Filled.{making_more}
 use Rattle.nfs_engine.proofs.Opened.{nobody_there}
 use Rattle.nfs_engine.proofs.starting.open_all.Goals as goal
 

@@ -1,4 +1,4 @@
-use Rattle.std.proofs.Common.{rules, arith}
+use Rattle.std.proofs.Common.{arith}
 use Rattle.nfs_engine.proofs.Stepped.{got_on}
 use Rattle.nfs_engine.proofs.engine.Engine.acquire.Goals as goal
 

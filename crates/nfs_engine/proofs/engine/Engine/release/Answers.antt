@@ -1,6 +1,6 @@
-use Rattle.std.proofs.Common.{subst, sym, arith}
+use Rattle.std.proofs.Common.{subst, arith}
 use Rattle.nfs_engine.proofs.Left.{ended_releases, left_leaving, left_others, left_tied, next_releases}
-use Rattle.nfs_engine.specs.Engine.{EngineValue, IsNext}
+use Rattle.nfs_engine.specs.Engine.{IsNext}
 use Rattle.nfs_engine.specs.Releases.{ReleaseValue}
 use Rattle.nfs_engine.proofs.engine.Engine.release.Goals as goal
 

@@ -1,4 +1,4 @@
-use Rattle.std.proofs.Common.{rules, arith}
+use Rattle.std.proofs.Common.{arith}
 use Rattle.nfs_engine.proofs.Stepped.{gained_on, holds_there}
 use Rattle.nfs_engine.proofs.engine.Engine.reserve.Goals as goal
 

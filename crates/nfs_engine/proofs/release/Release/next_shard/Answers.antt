@@ -1,4 +1,4 @@
-use Rattle.std.proofs.Common.{take, get_or, false, sym, ◌∙◌, subst, List, ap, arith}
+use Rattle.std.proofs.Common.{get_or, false, sym, ◌∙◌, ap, arith}
 use Rattle.nfs_objects.specs.Values.{Seen, seen_of}
 use Rattle.nfs_engine.proofs.Left.{free_further, holds_nothing, past_all, past_none}
 use Rattle.nfs_engine.proofs.release.Release.next_shard.Goals as goal
