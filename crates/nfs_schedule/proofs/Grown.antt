@@ -218,7 +218,7 @@ first_grown e t (a ∷ others) v is asking = acquires_grown e t a others v is as
 
 unreserved : (e : EngineValue) (shard : ℕ) (t u : TxnValue) (error : ReserveError) →
     IsReserved e t u shard (Err error) → u ≡ t
-unreserved e shard t u refusals.Memory is = is
+unreserved e shard t u refusals.Memory is = is.1
 unreserved e shard t u refusals.Spent is = is.1
 
 gains_grown : (e : EngineValue) (shard : ℕ) (t : TxnValue) (v : Worker) → Gains e shard t v → HasGrown t →
