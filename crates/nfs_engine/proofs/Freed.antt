@@ -1,16 +1,17 @@
--- Shards in which a call lets go, one after the other.
-use Rattle.std.proofs.Common.{◌≡◌, ℕ, zero, suc, ◌<◌, ◌+◌, ◌==◌}
-use Rattle.std.proofs.Common.{◌&&◌, Bool, true, false, cond, List, [], ◌∷◌, get_or, set, length}
-use Rattle.std.proofs.Common.{Option, None, is_some, refl, sym, ◌∙◌, ap, subst, arith}
+-- Shards in which a call lets go what it has read, entry by entry.
+use Rattle.std.proofs.Common.{◌≡◌, ℕ, ◌<◌, ◌==◌, ◌&&◌, Bool, true, false, cond, List, [], ◌∷◌, ◌++◌}
+use Rattle.std.proofs.Common.{get_or, set, length, Option, None, is_some, refl, sym, ◌∙◌, ap, subst, arith}
 use Rattle.std.specs.Cmp.{unsigned_Decides}
-use Rattle.nfs_objects.specs.Values.{Seen, seen_at}
+use Rattle.nfs_objects.proofs.Seen.{is_addr-same}
+use Rattle.nfs_objects.specs.Values.{Seen, is_addr, seen_at}
 use Rattle.nfs_objects.specs.declared.address.Addr.{Addr}
 use Rattle.nfs_objects.specs.declared.address.Addr.TheVariants.{Exports, Inode, Mounts, Usage}
 use Rattle.nfs_objects.specs.declared.modes.Mode.{Mode}
-use Rattle.nfs_engine.proofs.Lifted.{alike_or, any_default, elsewhere, here}
-use Rattle.nfs_engine.specs.Engine.{Frees, held_among, shard_among}
-use Rattle.nfs_engine.specs.Taking.{LetsGo}
-use Rattle.nfs_engine.specs.Shards.{ShardValue, hold_at, shard_of, slot_at}
+use Rattle.nfs_engine.proofs.Going.{seen_here, seen_last}
+use Rattle.nfs_engine.proofs.Lifted.{any_default, each_shard}
+use Rattle.nfs_engine.proofs.Reheld.{Reholds, hold_so, lifted, only_in, retakes_holds}
+use Rattle.nfs_engine.specs.Engine.{Frees, freed, held_among, shard_among}
+use Rattle.nfs_engine.specs.Shards.{Retakes, ShardValue, shard_of}
 
 abbrev pub is_of : List Bool → ℕ → Bool
 is_of which k = get_or which k false
@@ -21,101 +22,97 @@ below_sixteen (Inode n) = omega arith
 below_sixteen Mounts = omega arith
 below_sixteen (Usage e g) = omega arith
 
--- in the shards below the bound
-pub record Freeing (initial now : List ShardValue) (which : List Bool) (id : ℕ) (entries : List Seen)
-    (bound : ℕ) : Type 0 where
-  pub done : (k : ℕ) → k < bound → is_of which k ≡ true → LetsGo (shard_among initial k)
-      (shard_among now k) k id entries
-  pub rest : (k : ℕ) → (k < bound → is_of which k ≡ false) → shard_among now k ≡ shard_among initial k
+-- how an address is held, where it goes and where it does not
+abbrev gone : Bool → Option Mode → Option Mode
+gone t m = elim t [ true ↦ None | false ↦ m ]
 
-pub freeing_none : (initial : List ShardValue) (which : List Bool) (id : ℕ) (entries : List Seen) →
-    Freeing initial initial which id entries 0
-freeing_none initial which id entries = record { done = λ k below is. absurd (omega arith); rest = λ k is. refl }
-
-module _ (initial now : List ShardValue) (which : List Bool) (id : ℕ) (entries : List Seen) (i : ℕ)
-    (f : Freeing initial now which id entries i) where
-  pub freeing_other : is_of which i ≡ false → Freeing initial now which id entries (i + 1)
-  freeing_other other = record {
-    done = λ k below is.
-        f.done k (alike_or k i (λ same. (let one : is_of which i ≡ true = ap (is_of which) (sym same) ∙ is in
-        cc)) (λ apart. omega arith)) is;
-    rest = λ k is. f.rest k (λ below. is (omega arith));
-  }
-
-  pub freeing_one : (s was : ShardValue) → is_of which i ≡ true → i < length now →
-      LetsGo (get_or now i was) s i id entries →
-      Freeing initial (set now i s) which id entries (i + 1)
-  freeing_one s was one within go =
-      let there : get_or now i was ≡ shard_among initial i =
-      any_default now i was within ∙ f.rest i (λ below. absurd (omega arith)) in
-      let gone : LetsGo (shard_among initial i) (shard_among (set now i s) i) i id entries =
-      subst (λ (x : ShardValue). LetsGo (shard_among initial i) x i id entries) (sym (here now i s within))
-      (subst (λ (x : ShardValue). LetsGo x s i id entries) there go) in
-      record {
-        done = λ k below is. alike_or k i
-            (λ same. subst (λ j. LetsGo (shard_among initial j) (shard_among (set now i s) j) j id entries)
-            (sym same) gone)
-            (λ apart. subst (λ (x : ShardValue). LetsGo (shard_among initial k) x k id entries)
-            (sym (elsewhere now i s within k apart)) (f.done k (omega arith) is));
-        rest = λ k is. alike_or k i
-            (λ same. absurd (let f : is_of which i ≡ false = ap (is_of which) (sym same) ∙ is (omega arith) in
-            (let no : true ≡ false = sym one ∙ f in cc)))
-            (λ apart. elsewhere now i s within k apart ∙ f.rest k (λ below. is (omega arith)));
-      }
-
-pub freeing_all : (initial now : List ShardValue) (which : List Bool) (id : ℕ) (entries : List Seen) →
-    length which ≡ 16 → Freeing initial now which id entries 16 → Frees initial now which id entries
-freeing_all initial now which id entries sixteen f = record {
-  objects = λ b. by_shard (shard_of b) (λ x y. (slot_at y b).object ≡ (slot_at x b).object) (λ l. l.objects b)
-      (λ x. refl);
-  holds = λ b j. elim (is_of which (shard_of b)) as (λ t. is_of which (shard_of b) ≡ t → held_among now b j ≡
-      elim ((id == j) && (t && is_some (seen_at entries b))) [ true ↦ None | false ↦ held_among initial b j ]) [
-        | true ↦ λ is. (f.done (shard_of b) (below_sixteen b) is).holds b j ∙
-            ap (λ t. cond (t && is_some (seen_at entries b)) (cond (id == j) None (held_among initial b j))
-            (held_among initial b j))
-            ((unsigned_Decides (shard_of b) (shard_of b)).1 refl) ∙
-            swapped (is_some (seen_at entries b)) (id == j) (held_among initial b j)
-        | false ↦ λ is. ap (λ (x : ShardValue). hold_at x b j) (f.rest (shard_of b) (λ below. is)) ∙
-            neither (id == j) (held_among initial b j)
-      ] refl;
-  counters = λ k. by_shard k (λ x y. y.next_generation ≡ x.next_generation) (λ l. l.next_generation) (λ x. refl);
-  indices = λ k. by_shard k (λ x y. y.index ≡ x.index) (λ l. l.index) (λ x. refl);
+pub freeing_none : (shards : List ShardValue) (which : List Bool) (id : ℕ) → Frees shards shards which id []
+freeing_none shards which id = record {
+  objects = λ b. refl;
+  holds = λ b j. stays (id == j) (is_of which (shard_of b)) (held_among shards b j);
+  counters = λ k. refl;
+  indices = λ k. refl;
 }
   where
-    within : (xs : List Bool) (k : ℕ) → is_of xs k ≡ true → k < length xs
-    within [] k is = cc
-    within (x ∷ xs) zero is = omega arith
-    within (x ∷ xs) (suc k) is = (let less = within xs k is in omega arith)
-
-    by_shard : (k : ℕ) (R : ShardValue → ShardValue → Type 0) →
-        (LetsGo (shard_among initial k) (shard_among now k) k id entries → R (shard_among initial k)
-        (shard_among now k)) →
-        ((x : ShardValue) → R x x) → R (shard_among initial k) (shard_among now k)
-    by_shard k R gone same = elim (is_of which k) as (λ t. is_of which k ≡ t → R (shard_among initial k)
-        (shard_among now k)) [
-          | true ↦ λ is. gone (f.done k (let less = within which k is in omega arith) is)
-          | false ↦ λ is. subst (λ (x : ShardValue). R (shard_among initial k) x) (sym (f.rest k (λ below. is)))
-              (same (shard_among initial k))
-        ] refl
-
-    swapped : (t u : Bool) (m : Option Mode) → cond t (cond u None m) m ≡
-        elim (u && t) [ true ↦ None | false ↦ m ]
-    swapped t u m = elim t as (λ t. cond t (cond u None m) m ≡ elim (u && t) [ true ↦ None | false ↦ m ]) [
-      | true ↦ elim u as (λ u. cond u None m ≡ elim (u && true) [ true ↦ None | false ↦ m ]) [
-        | true ↦
-            refl
-        | false ↦ refl
-      ]
-      | false ↦ elim u as (λ u. m ≡ elim (u && false) [ true ↦ None | false ↦ m ]) [
-        | true ↦
-            refl
-        | false ↦ refl
-      ]
-    ]
-
-    neither : (u : Bool) (m : Option Mode) → m ≡ elim (u && false) [ true ↦ None | false ↦ m ]
-    neither u m = elim u as (λ u. m ≡ elim (u && false) [ true ↦ None | false ↦ m ]) [
-      | true ↦
-          refl
+    stays : (u t : Bool) (m : Option Mode) → m ≡ gone (u && (t && false)) m
+    stays u t m = elim u as (λ u. m ≡ gone (u && (t && false)) m) [
+      | true ↦ elim t as (λ t. m ≡ gone (t && false) m) [ true ↦ refl | false ↦ refl ]
       | false ↦ refl
     ]
+
+module _ (initial now : List ShardValue) (which : List Bool) (id : ℕ) (es : List Seen) (e : Seen)
+    (f : Frees initial now which id es) where
+  -- what is seen of another address
+  beside : (b : Addr) (j : ℕ) → is_addr e.address b ≡ false →
+      gone ((id == j) && freed which es b) (held_among initial b j) ≡
+      gone ((id == j) && freed which (es ++ e ∷ []) b) (held_among initial b j)
+  beside b j other = ap (λ t. gone ((id == j) && (is_of which (shard_of b) && t)) (held_among initial b j))
+      (sym (seen_last es e b other))
+
+  -- an entry of another shard stays
+  pub freeing_other : is_of which (shard_of e.address) ≡ false → Frees initial now which id (es ++ e ∷ [])
+  freeing_other other = record {
+    objects = f.objects;
+    holds = λ b j. f.holds b j ∙ elim (is_addr e.address b) as (λ t. is_addr e.address b ≡ t →
+        gone ((id == j) && freed which es b) (held_among initial b j) ≡
+        gone ((id == j) && freed which (es ++ e ∷ []) b) (held_among initial b j)) [
+          | true ↦ λ same. ap (λ t. gone ((id == j) && (t && is_some (seen_at es b))) (held_among initial b j))
+              (unmarked b same) ∙ sym (ap (λ t. gone ((id == j) && (t && is_some (seen_at (es ++ e ∷ []) b)))
+              (held_among initial b j)) (unmarked b same))
+          | false ↦ λ apart. beside b j apart
+        ] refl;
+    counters = f.counters;
+    indices = f.indices;
+  }
+    where
+      unmarked : (b : Addr) → is_addr e.address b ≡ true → is_of which (shard_of b) ≡ false
+      unmarked b same = ap (λ (a : Addr). is_of which (shard_of a)) (sym (is_addr-same e.address b same)) ∙ other
+
+  -- and one of these shards goes
+  pub freeing_one : (i : ℕ) (was s : ShardValue) → i ≡ shard_of e.address → is_of which i ≡ true → i < length now →
+      Retakes (get_or now i was) s e.address id None → Frees initial (set now i s) which id (es ++ e ∷ [])
+  freeing_one i was s place one within r = record {
+    objects = λ b. all.objects b ∙ f.objects b;
+    holds = λ b j. all.holds b j ∙ elim (is_addr e.address b) as (λ t. is_addr e.address b ≡ t →
+        cond (id == j) (cond (shard_of b == i) (cond t None (held_among now b j)) (held_among now b j))
+        (held_among now b j) ≡ gone ((id == j) && freed which (es ++ e ∷ []) b) (held_among initial b j)) [
+          | true ↦ λ same.
+              ap (λ t. cond (id == j) (cond t None (held_among now b j)) (held_among now b j)) (inside b same) ∙
+              ap (λ m. cond (id == j) None m) (f.holds b j) ∙
+              twice (id == j) (freed which es b) (held_among initial b j) ∙
+              sym (ap (λ t. gone ((id == j) && t) (held_among initial b j)) (marked b same))
+          | false ↦ λ apart. stays (shard_of b == i) (id == j) (held_among now b j) ∙ f.holds b j ∙ beside b j apart
+        ] refl;
+    counters = λ k. each_shard now i s within (λ x y. y.next_generation ≡ x.next_generation) there.next_generation
+        (λ x. refl) k ∙ f.counters k;
+    indices = λ k. all.indices k ∙ f.indices k;
+  }
+    where
+      there : Retakes (shard_among now i) s e.address id None
+      there = subst (λ (x : ShardValue). Retakes x s e.address id None) (any_default now i was within) r
+
+      all : Reholds now (set now i s) id (only_in i (hold_so e.address None))
+      all = lifted now i s id (hold_so e.address None) within
+          (retakes_holds (shard_among now i) s e.address id None there)
+
+      at : (b : Addr) → is_addr e.address b ≡ true → shard_of b ≡ i
+      at b same = ap shard_of (sym (is_addr-same e.address b same)) ∙ sym place
+
+      inside : (b : Addr) → is_addr e.address b ≡ true → (shard_of b == i) ≡ true
+      inside b same = (unsigned_Decides (shard_of b) i).1 (at b same)
+
+      marked : (b : Addr) → is_addr e.address b ≡ true → freed which (es ++ e ∷ []) b ≡ true
+      marked b same = ap (λ t. t && is_some (seen_at (es ++ e ∷ []) b)) (ap (is_of which) (at b same) ∙ one) ∙
+          seen_here es e b same
+
+      twice : (u t : Bool) (m : Option Mode) → cond u None (gone (u && t) m) ≡ gone (u && true) m
+      twice u t m = elim u as (λ u. cond u None (gone (u && t) m) ≡ gone (u && true) m) [
+        | true ↦ refl
+        | false ↦ refl
+      ]
+
+      stays : (t u : Bool) (m : Option Mode) → cond u (cond t m m) m ≡ m
+      stays t u m = elim u as (λ u. cond u (cond t m m) m ≡ m) [
+        | true ↦ elim t as (λ t. cond t m m ≡ m) [ true ↦ refl | false ↦ refl ]
+        | false ↦ refl
+      ]

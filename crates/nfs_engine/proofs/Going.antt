@@ -19,11 +19,11 @@ pub seen_beside : (es : List Seen) (e : Seen) (b : Addr) → is_addr e.address b
 seen_beside [] e b other = ap (λ t. cond t (Some e) None) other
 seen_beside (d ∷ es) e b other = ap (λ x. cond (is_addr d.address b) (Some d) x) (seen_beside es e b other)
 
-seen_last : (es : List Seen) (e : Seen) (b : Addr) → is_addr e.address b ≡ false →
+pub seen_last : (es : List Seen) (e : Seen) (b : Addr) → is_addr e.address b ≡ false →
     is_some (seen_at (es ++ e ∷ []) b) ≡ is_some (seen_at es b)
 seen_last es e b other = ap (λ (x : Option Seen). is_some x) (seen_beside es e b other)
 
-seen_here : (es : List Seen) (e : Seen) (b : Addr) → is_addr e.address b ≡ true →
+pub seen_here : (es : List Seen) (e : Seen) (b : Addr) → is_addr e.address b ≡ true →
     is_some (seen_at (es ++ e ∷ []) b) ≡ true
 seen_here [] e b same = ap (λ t. is_some (cond t (Some e) None)) same
 seen_here (d ∷ es) e b same = elim (is_addr d.address b) as (λ t.

@@ -62,8 +62,18 @@ none_free zero k = refl
 none_free (suc n) zero = refl
 none_free (suc n) (suc k) = none_free n k
 
+-- what it leads to, by the book alone
+pub still_leads : (book : BookValue) (shards others : List ShardValue) (id : ℕ) (t : Then) →
+    LeadsTo (record { book = book; shards = shards }) id t → LeadsTo (record { book = book; shards = others }) id t
+still_leads book shards others id (Aborted p) l = (
+  l.0,
+  record { running = l.1.running; there = l.1.there; same = l.1.same; came = l.1.came },
+  l.2,
+)
+still_leads book shards others id Ended l = tt
+
 -- ---- one shard more is free
-abbrev kept_where : Bool → Option Mode → Option Mode
+abbrev pub kept_where : Bool → Option Mode → Option Mode
 kept_where t m = elim t [ true ↦ None | false ↦ m ]
 
 module _ (book : BookValue) (shards : List ShardValue) (k : ℕ) (was s : ShardValue) (within : k < length shards)
@@ -109,19 +119,11 @@ module _ (book : BookValue) (shards : List ShardValue) (k : ℕ) (was s : ShardV
             let no : true ≡ false = sym both ∙ other in cc))))
       ] refl
 
-  still : (t : Then) → LeadsTo before r.id t → LeadsTo after r.id t
-  still (Aborted p) l = (
-    l.0,
-    record { running = l.1.running; there = l.1.there; same = l.1.same; came = l.1.came },
-    l.2,
-  )
-  still Ended l = tt
-
   pub left_leaving : IsLeaving after (freed_more r k)
   left_leaving = record {
     holds = reheld_holds book shards (set shards k s) r.id (only_in k (let_go k r.view.entries)) all (kept_by r)
         (kept_by (freed_more r k)) leaving.holds turned;
-    after = still r.after leaving.after;
+    after = still_leads book shards (set shards k s) r.id r.after leaving.after;
   }
 
 -- all entries
@@ -142,20 +144,23 @@ past_none r i is free = past_all r i (none_past r.view.entries i is) free
 
 -- ---- what a release comes to
 -- a call that holds nothing any more may begin again
+pub waits_for : (e : EngineValue) (id : ℕ) (p : PendingValue) → LeadsTo e id (Aborted p) →
+    ((a : Addr) → held_among e.shards a id ≡ None) → id < e.book.next_id → Waits e p
+waits_for e id p led nothing known = record {
+  fits = record { entries = tt; reserved = tt };
+  holds = record {
+    exactly = λ a. ap (held_among e.shards a) led.0 ∙ nothing a;
+    known = (let same = led.0 in omega arith);
+  };
+  fresh = tt;
+  running = led.1;
+  under = led.2;
+}
+
 waits_then : (e : EngineValue) (r : ReleaseValue) (p : PendingValue) → IsLeaving e r → HoldsNothing r →
     r.after ≡ Aborted p → Waits e p
-waits_then e r p leaving nothing is =
-    let led : LeadsTo e r.id (Aborted p) = subst (λ (t : Then). LeadsTo e r.id t) is leaving.after in
-    record {
-      fits = record { entries = tt; reserved = tt };
-      holds = record {
-        exactly = λ a. ap (held_among e.shards a) led.0 ∙ leaving.holds.exactly a ∙ nothing a;
-        known = (let known = leaving.holds.known in let same = led.0 in omega arith);
-      };
-      fresh = tt;
-      running = led.1;
-      under = led.2;
-    }
+waits_then e r p leaving nothing is = waits_for e r.id p (subst (λ (t : Then). LeadsTo e r.id t) is leaving.after)
+    (λ a. leaving.holds.exactly a ∙ nothing a) leaving.holds.known
 
 pub ended_releases : (e : EngineValue) (r : ReleaseValue) (n : Next) → IsLeaving e r → HoldsNothing r →
     IsEnd r n →

@@ -19,6 +19,7 @@ pub mod Led
 pub mod Left
 pub mod Lifted
 pub mod Listed
+pub mod Loosed
 pub mod Opened
 pub mod Openings
 pub mod Parted

@@ -2,7 +2,7 @@
 use Rattle.std.specs.Prelude.{◌≡◌, ◌≢◌, ℕ, suc, ◌<◌, ◌≤◌, ◌-◌, ◌%◌, ◌^◌, ◌==◌}
 use Rattle.std.specs.Prelude.{◌&&◌, ◌||◌, List, [], ◌∷◌, Bool, true, false, Option, Some, None, Result}
 use Rattle.std.specs.Prelude.{Ok, Err, IsSome}
-use Rattle.std.specs.Prelude.{◌+◌, is_some, length, min, replicate, slice_index_or, slice_set}
+use Rattle.std.specs.Prelude.{◌+◌, is_some, length, min, not, replicate, slice_index_or, slice_set}
 use Rattle.std.specs.List.{AllByRecursion}
 use Rattle.nfs_objects.specs.Fits.{Fits}
 use Rattle.nfs_objects.specs.Rooms.{with_entry, with_number}
@@ -230,6 +230,27 @@ Releases e r (next.More left) = IsLeaving e left ×
     (k : ℕ) × (k < length r.done) × (is_free r k ≡ false) × (left ≡ freed_more r k)
 Releases e r (next.Aborted p) = (r.after ≡ Aborted p) × Waits e p
 Releases e r next.Ended = (r.after ≡ Ended) × ((a : Addr) → held_among e.shards a r.id ≡ None)
+
+-- of each of the sixteen shards, whether it is not yet free of the call that left
+abbrev pub AreLeft : ReleaseValue → List Bool → Type 0
+AreLeft r left = (k : ℕ) → k < 16 → slice_index_or left k false ≡ not (is_free r k)
+
+-- the call that a release leads to, where one is in progress
+abbrev pub pending_after : Then → Option PendingValue
+pending_after (Aborted p) = Some p
+pending_after Ended = None
+
+-- the call was executed, or it is in progress, and may begin anew
+abbrev pub LeadsOn : EngineValue → ReleaseValue → Option PendingValue → Type 0
+LeadsOn e r None = r.after ≡ Ended
+LeadsOn e r (Some p) = (r.after ≡ Aborted p) × Waits e p
+
+-- all that the call held is let go, and the book is as it was
+pub record LetsAllGo (old new : EngineValue) (r : ReleaseValue) (left : Option PendingValue) : Type 0 where
+  pub others : KeepsOthers r.id old new
+  pub nothing : (a : Addr) → held_among new.shards a r.id ≡ None
+  pub book : new.book ≡ old.book
+  pub leads : LeadsOn new r left
 
 -- ---- steps of the book alone
 -- the others are as they were, whoever they are

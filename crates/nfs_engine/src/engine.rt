@@ -11,8 +11,8 @@ ghost use Rattle.nfs_engine.specs.Calls.{again_of, txn_of};
 ghost use Rattle.nfs_engine.specs.Commits.{IsReceipt};
 ghost use Rattle.nfs_engine.specs.Engine.{AdmitsLiving, ArePlaces, CountsLocked, Frees, IsAcquired, IsFilled};
 ghost use Rattle.nfs_engine.specs.Engine.{IsHeldAmong};
-ghost use Rattle.nfs_engine.specs.Engine.{IsLeaving, IsReleased, IsReserved, IsTied, KeepsAll, KeepsOthers, Lives};
-ghost use Rattle.nfs_engine.specs.Engine.{Releases, Waits, held_among, release_of};
+ghost use Rattle.nfs_engine.specs.Engine.{IsLeaving, IsReleased, IsReserved, IsTied, KeepsAll, KeepsOthers, LetsAllGo};
+ghost use Rattle.nfs_engine.specs.Engine.{Lives, Releases, Waits, held_among, release_of};
 ghost use Rattle.nfs_engine.specs.Opening.{IsStartError, Opens};
 ghost use Rattle.nfs_engine.specs.Repeats.{Keeps, origin_of};
 ghost use Rattle.nfs_engine.specs.Running.{living_count};
@@ -193,6 +193,16 @@ impl Engine {
         release.freed(shard).next()
     }
 
+    /// Lets go all that a call that left still holds. It takes no memory. The call, where it is still in progress.
+    pub fn release_all(&mut self, release: Release) -> Option<Pending>
+        requires { IsLeaving self.old release }
+        ensures { LetsAllGo self.old self.new release result }
+    {
+        let left = release.left();
+        free_all(&mut self.shards, &left, release.id, &release.view);
+        release.into_pending()
+    }
+
     /// The same call begins again, and has read nothing.
     pub fn again(&self, alloc: Global, pending: Pending) -> Txn
         requires { Waits self.now pending }
@@ -329,10 +339,14 @@ fn fill_all(shards: &mut [Shard; SHARDS], writes: Vec<Write>)
 fn free_all(shards: &mut [Shard; SHARDS], which: &[bool; SHARDS], id: u64, view: &View)
     ensures { Frees shards.old shards.new which.now id view.now.entries }
 {
-    for index in 0..SHARDS {
+    for place in 0..view.len() {
+        let Some((address, _)) = view.entry(place) else {
+            return;
+        };
+        let index = shard_index(address);
         if !which[index] {
             continue;
         }
-        let_go(&mut shards[index], index, id, view);
+        shards[index].release(address, id);
     }
 }

@@ -1,8 +1,9 @@
 //! What a call that left still holds, and what comes then.
 
 ghost use Rattle.std.specs.Prelude.{◌≡◌, ◌<◌, false, length, MatchOption};
-ghost use Rattle.nfs_engine.specs.Engine.{HoldsNothing, IsEnd, IsNext, freed_more, is_free};
+ghost use Rattle.nfs_engine.specs.Engine.{AreLeft, HoldsNothing, IsEnd, IsNext, freed_more, is_free, pending_after};
 
+use crate::calls::Pending;
 use crate::release::{Next, Release, Then};
 use crate::shard::{SHARDS, shard_index};
 
@@ -22,6 +23,34 @@ impl Release {
             }
         }
         None
+    }
+
+    /// Which shards are not yet free of the call.
+    pub(crate) fn left(&self) -> [bool; SHARDS]
+        ensures { AreLeft self.now result }
+    {
+        let mut left = [false; SHARDS];
+        for index in 0..SHARDS {
+            left[index] = !self.done[index];
+        }
+        left
+    }
+
+    /// The call, where it is still in progress.
+    pub(crate) fn into_pending(self) -> Option<Pending>
+        ensures { result ≡ pending_after self.after }
+    {
+        let Release {
+            id: _,
+            view,
+            done: _,
+            after,
+        } = self;
+        drop(view);
+        match after {
+            Then::Aborted(pending) => Some(pending),
+            Then::Ended => None,
+        }
     }
 
     /// The same, with one shard more that is free of the call.
@@ -48,16 +77,9 @@ impl Release {
     pub fn ended(self) -> Next
         ensures { IsEnd self result }
     {
-        let Release {
-            id: _,
-            view,
-            done: _,
-            after,
-        } = self;
-        drop(view);
-        match after {
-            Then::Aborted(pending) => Next::Aborted(pending),
-            Then::Ended => Next::Ended,
+        match self.into_pending() {
+            Some(pending) => Next::Aborted(pending),
+            None => Next::Ended,
         }
     }
 

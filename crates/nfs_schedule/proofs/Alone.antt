@@ -17,7 +17,8 @@ use Rattle.nfs_engine.specs.Arrivals.{ArrivalValue, received_value}
 use Rattle.nfs_engine.specs.Book.{Begins, BookValue, Commits, GivesUp, IsUnknown, Leads, Repeats, Steps, StillRuns, new_txn, store_in}
 use Rattle.nfs_engine.specs.Calls.{FinishedValue, PendingValue, TxnValue, pending_of, txn_of}
 use Rattle.nfs_engine.specs.Commits.{IsReceipt}
-use Rattle.nfs_engine.specs.Engine.{EngineValue, IsAcquired, IsReleased, IsReserved, IsRunning, KeepsOthers, Lives, held_among, release_of, slot_among}
+use Rattle.nfs_engine.specs.Engine.{EngineValue, IsAcquired, IsReleased, IsReserved, IsRunning, KeepsOthers, LetsAllGo}
+use Rattle.nfs_engine.specs.Engine.{Lives, held_among, release_of, slot_among}
 use Rattle.nfs_engine.specs.Holders.{Excludes}
 use Rattle.nfs_engine.specs.Releases.{ReleaseValue}
 use Rattle.nfs_engine.specs.Repeats.{Keeps, RepeatValue, kept_for, origin_of}
@@ -36,7 +37,6 @@ use Rattle.nfs_schedule.proofs.Rest.{places_without}
 use Rattle.nfs_schedule.proofs.Steps.{keeps_book}
 use Rattle.nfs_schedule.specs.Answers.{IsRefused}
 use Rattle.nfs_schedule.specs.Executions.{Answers, Ends, Frees, GoesOn, HoldsAlone, IsAlone}
-use Rattle.nfs_schedule.specs.Stops.{LetsAllGo}
 use Rattle.nfs_schedule.specs.Turns.{Executes, KeepsStore}
 use Rattle.nfs_schedule.specs.Workers.{IsSuited}
 use Rattle.nfs_schedule.specs.Worlds.{IsAtRest}
@@ -52,8 +52,9 @@ begins_alone e f a t rest b shards = record {
   held = λ x j other. ap (λ s. held_among s x j) shards ∙ rest.held x j;
 }
 
-pub begins_suited : (e f : EngineValue) (a : ArrivalValue) (t : TxnValue) → Begins e.book f.book a t → IsSuited t
-begins_suited e f a t b = subst (λ (x : TxnValue). IsSuited x) (sym b.txn) tt
+pub begins_unread : (e f : EngineValue) (a : ArrivalValue) (t : TxnValue) → Begins e.book f.book a t →
+    t.view.entries ≡ []
+begins_unread e f a t b = ap (λ (x : TxnValue). x.view.entries) b.txn
 
 pub begins_keeps : (e f : EngineValue) (a : ArrivalValue) (t : TxnValue) → Begins e.book f.book a t → KeepsStore e f
 begins_keeps e f a t b =

@@ -5,6 +5,7 @@ pub mod Built
 pub mod Driven
 pub mod Few
 pub mod Filling
+pub mod Foreseeing
 pub mod Grown
 pub mod Joins
 pub mod Kept

@@ -1,5 +1,5 @@
 -- A worker that is stopped: its call lets go all that it holds, and is in progress no more.
-use Rattle.std.proofs.Common.{◌≡◌, ◌≢◌, ℕ, zero, suc, ◌<◌, true, false, Bool, List, [], ◌∷◌, length, set, slice_index_or, Option, Some, None, IsSome, refl, sym, ◌∙◌, ap, subst, arith}
+use Rattle.std.proofs.Common.{◌≡◌, ◌≢◌, ℕ, Option, Some, None, IsSome, refl, sym, ◌∙◌, ap, subst, arith}
 use Rattle.nfs_machine.specs.Run.{Received}
 use Rattle.nfs_objects.specs.declared.address.Addr.{Addr}
 use Rattle.nfs_objects.specs.declared.address.Addr.TheVariants.{Inode}
@@ -7,18 +7,18 @@ use Rattle.nfs_objects.specs.declared.modes.Mode.{Mode}
 use Rattle.nfs_replies.specs.declared.origins.Origin.{Origin}
 use Rattle.nfs_engine.specs.Book.{BookValue, GivesUp}
 use Rattle.nfs_engine.specs.Calls.{FinishedValue, PendingValue, TxnValue, pending_of, txn_of}
-use Rattle.nfs_engine.specs.Engine.{EngineValue, IsLeaving, IsRunning, KeepsOthers, LeadsTo, Lives, Releases, Waits, freed_more, held_among, release_of}
+use Rattle.nfs_engine.specs.Engine.{EngineValue, IsLeaving, IsRunning, KeepsOthers, LeadsTo, LetsAllGo, Lives, Waits}
+use Rattle.nfs_engine.specs.Engine.{held_among, release_of}
 use Rattle.nfs_engine.specs.Releases.{ReleaseValue}
 use Rattle.nfs_engine.specs.Repeats.{origin_of}
 use Rattle.nfs_engine.specs.Running.{without_call}
 use Rattle.nfs_engine.specs.declared.admission.Refused as given
-use Rattle.nfs_engine.specs.declared.release.Next.TheVariants as next
 use Rattle.nfs_engine.specs.declared.release.Then.{Then}
 use Rattle.nfs_engine.specs.declared.release.Then.TheVariants as then
 use Rattle.nfs_schedule.proofs.Rest.{places_same, places_without, rest_still, rest_without}
 use Rattle.nfs_schedule.proofs.Steps.{keeps_book}
 use Rattle.nfs_schedule.specs.Answers.{IsUnanswered}
-use Rattle.nfs_schedule.specs.Stops.{IsGone, IsStop, LetsAllGo, received_of}
+use Rattle.nfs_schedule.specs.Stops.{IsGone, IsStop, received_of}
 use Rattle.nfs_schedule.specs.Workers.{worker_id, worker_key}
 use Rattle.nfs_schedule.specs.declared.answer.Answer.{Answer}
 use Rattle.nfs_schedule.specs.declared.worker.Afterwards.{Afterwards}
@@ -26,18 +26,6 @@ use Rattle.nfs_schedule.specs.declared.worker.Worker.{Worker}
 use Rattle.nfs_schedule.specs.declared.worker.Worker.TheVariants.{Idle, Leaving, Ready}
 
 -- ---- two steps of one call
-pub keeps_all : (id : ℕ) (e : EngineValue) → KeepsOthers id e e
-keeps_all id e = record {
-  objects = λ a j other held. refl;
-  lasts = λ n j other held. refl;
-  holds = λ a j other. refl;
-  living = λ key r other there. there;
-  lived = λ key r other there. there;
-  ids = omega arith;
-  generations = λ k. omega arith;
-  setting = refl;
-}
-
 module _ (id : ℕ) (e m f : EngineValue) (k : KeepsOthers id e m) (l : KeepsOthers id m f) where
   held_on : (a : Addr) (j : ℕ) → j ≢ id → IsSome (held_among e.shards a j) → IsSome (held_among m.shards a j)
   held_on a j other some = subst (λ (o : Option Mode). IsSome o) (sym (k.holds a j other)) some
@@ -53,75 +41,6 @@ module _ (id : ℕ) (e m f : EngineValue) (k : KeepsOthers id e m) (l : KeepsOth
     generations = λ n. (let first = k.generations n in let then = l.generations n in omega (arith, first, then));
     setting = l.setting ∙ k.setting;
   }
-
--- ---- what is left to let go
--- how many shards are not let go
-abbrev pub left_of : List Bool → ℕ
-left_of [] = 0
-left_of (true ∷ done) = left_of done
-left_of (false ∷ done) = suc (left_of done)
-
-pub left_falls : (done : List Bool) (k : ℕ) → k < length done → slice_index_or done k false ≡ false →
-    left_of (set done k true) < left_of done
-left_falls [] k within free = absurd (omega (arith, within))
-left_falls (false ∷ done) zero within free = omega arith
-left_falls (true ∷ done) zero within free = absurd (let no : true ≡ false = free in cc)
-left_falls (true ∷ done) (suc k) within free = left_falls done k (omega (arith, within)) free
-left_falls (false ∷ done) (suc k) within free =
-    let less = left_falls done k (omega (arith, within)) free in omega (arith, less)
-
--- one shard more is free, so fewer are left
-pub left_smaller : (f : EngineValue) (left more : ReleaseValue) → Releases f left (next.More more) →
-    left_of more.done < left_of left.done
-left_smaller f left more is =
-    subst (λ (done : List Bool). left_of done < left_of left.done) (sym (ap (λ (r : ReleaseValue). r.done) is.4))
-    (left_falls left.done is.1 is.2 is.3)
-
--- a call that has begun to let go: the others are as they were, and the book is
-pub record IsLetting (e f : EngineValue) (r left : ReleaseValue) : Type 0 where
-  pub others : KeepsOthers r.id e f
-  pub book : f.book ≡ e.book
-  pub leaving : IsLeaving f left
-  pub id : left.id ≡ r.id
-  pub after : left.after ≡ r.after
-
-pub lets_first : (e : EngineValue) (r : ReleaseValue) → IsLeaving e r → IsLetting e e r r
-lets_first e r leaving =
-    record { others = keeps_all r.id e; book = refl; leaving = leaving; id = refl; after = refl }
-
-module _ (e m f : EngineValue) (r left : ReleaseValue) (l : IsLetting e m r left) (k : KeepsOthers left.id m f)
-    (book : f.book ≡ m.book) where
-  on : KeepsOthers r.id e f
-  on = keeps_both r.id e m f l.others (subst (λ i. KeepsOthers i m f) l.id k)
-
-  pub lets_more : (more : ReleaseValue) (n : ℕ) → IsLeaving f more → more ≡ freed_more left n → IsLetting e f r more
-  lets_more more n leaving is = record {
-    others = on;
-    book = book ∙ l.book;
-    leaving = leaving;
-    id = ap (λ (x : ReleaseValue). x.id) is ∙ l.id;
-    after = ap (λ (x : ReleaseValue). x.after) is ∙ l.after;
-  }
-
-  pub lets_ended : left.after ≡ then.Ended → ((a : Addr) → held_among f.shards a left.id ≡ None) →
-      LetsAllGo e f r None
-  lets_ended ended nothing = record {
-    others = on;
-    nothing = λ a. ap (λ i. held_among f.shards a i) (sym l.id) ∙ nothing a;
-    book = book ∙ l.book;
-    leads = sym l.after ∙ ended;
-  }
-
-  pub lets_aborted : (p : PendingValue) → left.after ≡ then.Aborted p → Waits f p → LetsAllGo e f r (Some p)
-  lets_aborted p aborted waits =
-      let leads : LeadsTo m left.id (then.Aborted p) =
-      subst (λ (t : Then). LeadsTo m left.id t) aborted l.leaving.after in
-      record {
-        others = on;
-        nothing = λ a. ap (λ i. held_among f.shards a i) (sym (leads.0 ∙ l.id)) ∙ waits.holds.exactly a;
-        book = book ∙ l.book;
-        leads = (sym l.after ∙ aborted, waits);
-      }
 
 -- ---- a call that is given up
 pub given_gone : (e f : EngineValue) (p : PendingValue) (refused : given.Refused) → Waits e p →

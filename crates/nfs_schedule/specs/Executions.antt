@@ -8,7 +8,7 @@ use Rattle.nfs_objects.specs.declared.modes.Mode.{Mode}
 use Rattle.nfs_engine.specs.Arrivals.{ArrivalValue, received_value}
 use Rattle.nfs_engine.specs.Book.{Repeats}
 use Rattle.nfs_engine.specs.Calls.{FinishedValue, PendingValue, TxnValue, txn_of}
-use Rattle.nfs_engine.specs.Engine.{EngineValue, Lives, held_among}
+use Rattle.nfs_engine.specs.Engine.{EngineValue, LeadsOn, Lives, held_among}
 use Rattle.nfs_engine.specs.Releases.{ReleaseValue}
 use Rattle.nfs_engine.specs.Repeats.{kept_for, origin_of}
 use Rattle.nfs_engine.specs.Running.{running_at}
@@ -16,7 +16,6 @@ use Rattle.nfs_engine.specs.declared.arrival.Reading.TheVariants as readings
 use Rattle.nfs_engine.specs.declared.asking.Asked.{Asked}
 use Rattle.nfs_engine.specs.declared.journal.Receipt.{Receipt}
 use Rattle.nfs_schedule.specs.Answers.{IsRefused}
-use Rattle.nfs_schedule.specs.Stops.{LeadsOn}
 use Rattle.nfs_schedule.specs.Turns.{Executes, KeepsStore}
 use Rattle.nfs_schedule.specs.declared.answer.Answer.{Answer}
 use Rattle.nfs_schedule.specs.declared.answer.Answer.TheVariants as answers

@@ -1,6 +1,7 @@
 pub mod Answers
 pub mod Events
 pub mod Executions
+pub mod Foreseen
 pub mod Gathered
 pub mod Grown
 pub mod Order

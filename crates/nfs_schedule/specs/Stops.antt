@@ -2,9 +2,7 @@
 use Rattle.std.specs.Prelude.{◌≡◌, ℕ, Option, Some, None}
 use Rattle.nfs_machine.specs.Run.{Received}
 use Rattle.nfs_objects.specs.declared.address.Addr.{Addr}
-use Rattle.nfs_engine.specs.Calls.{PendingValue}
-use Rattle.nfs_engine.specs.Engine.{EngineValue, KeepsOthers, Waits, held_among}
-use Rattle.nfs_engine.specs.Releases.{ReleaseValue}
+use Rattle.nfs_engine.specs.Engine.{EngineValue, KeepsOthers, held_among}
 use Rattle.nfs_engine.specs.Running.{without_call}
 use Rattle.nfs_engine.specs.declared.release.Then.{Then}
 use Rattle.nfs_engine.specs.declared.release.Then.TheVariants as then
@@ -42,18 +40,6 @@ IsStopped w None = received_of w ≡ None
 IsStopped w (Some answer) = (received : Received) × (received_of w ≡ Some received) × IsUnanswered received answer
 
 -- ---- what is changed
--- the call was executed, or it is in progress, and may begin anew
-abbrev pub LeadsOn : EngineValue → ReleaseValue → Option PendingValue → Type 0
-LeadsOn f r None = r.after ≡ then.Ended
-LeadsOn f r (Some p) = (r.after ≡ then.Aborted p) × Waits f p
-
--- all that the call held is let go, and the book is as it was
-pub record LetsAllGo (e f : EngineValue) (r : ReleaseValue) (left : Option PendingValue) : Type 0 where
-  pub others : KeepsOthers r.id e f
-  pub nothing : (a : Addr) → held_among f.shards a r.id ≡ None
-  pub book : f.book ≡ e.book
-  pub leads : LeadsOn f r left
-
 -- the call is no longer in progress and holds nothing, and the others are as they were
 pub record IsGone (e f : EngineValue) (key id : ℕ) : Type 0 where
   pub others : KeepsOthers id e f

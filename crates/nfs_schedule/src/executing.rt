@@ -1,6 +1,6 @@
 //! One call from its arrival to its answer, on an engine at rest: no worker, no turns.
 
-ghost use Rattle.std.specs.Prelude.{◌≡◌, ◌++◌, None, map, IfOk, OnOk};
+ghost use Rattle.std.specs.Prelude.{◌≡◌, [], ◌++◌, None, map, IfOk, OnOk};
 ghost use Rattle.std.specs.List.{AllByRecursion};
 ghost use Rattle.nfs_objects.specs.Asks.{EachOnce};
 ghost use Rattle.nfs_objects.specs.Promise.{IsPromised};
@@ -16,7 +16,7 @@ ghost use Rattle.nfs_schedule.specs.Worlds.{IsAtRest};
 
 use crate::answer::{Answer, refuse};
 use crate::attempts::attempt;
-use crate::stop::let_all_go;
+use crate::foreseen::foreseen;
 use crate::worker::refuse_arrival;
 use nfs_engine::{Admission, Arrival, Engine, Finished, Got, Pending, Release, Txn};
 use nfs_objects::{Addr, Change, Mode, Outcome};
@@ -54,7 +54,7 @@ pub fn execute(alloc: Global, engine: &mut Engine, arrival: Arrival) -> Answer
 fn carry_out(alloc: Global, engine: &mut Engine, txn: Txn) -> Answer
     requires lives { Lives engine.old txn }
     requires alone { IsAlone engine.old txn.id txn.key }
-    requires suited { IsSuited txn }
+    requires unread { txn.view.entries ≡ [] }
     ensures rest { IsAtRest engine.new }
     ensures ends { Ends engine.old engine.new txn result }
 {
@@ -69,11 +69,12 @@ fn carry_out(alloc: Global, engine: &mut Engine, txn: Txn) -> Answer
 fn run(alloc: Global, engine: &mut Engine, txn: &mut Txn) -> Result<Change, Unmet>
     requires lives { Lives engine.old txn.old }
     requires alone { IsAlone engine.old txn.old.id txn.old.key }
-    requires suited { IsSuited txn.old }
+    requires unread { txn.old.view.entries ≡ [] }
     ensures goes_on { GoesOn engine.old engine.new txn.old txn.new }
     ensures promised { IfOk result
         (λ change. IsPromised (done_value txn.new.call txn.new.ctx txn.new.view (change_value change))) }
 {
+    foresee(alloc, engine, txn)?;
     'rounds: loop {
         // Each round adds to the view, which is shorter than 2^64: so rounds come to an end.
         let _known = txn.view().len();
@@ -85,6 +86,21 @@ fn run(alloc: Global, engine: &mut Engine, txn: &mut Txn) -> Result<Change, Unme
             Err(_) => return Err(Unmet),
         }
     }
+}
+
+/// Reads what the call will ask for first, before its first attempt: an attempt that has to ask is made for nothing.
+fn foresee(alloc: Global, engine: &mut Engine, txn: &mut Txn) -> Result<(), Unmet>
+    requires lives { Lives engine.old txn.old }
+    requires alone { IsAlone engine.old txn.old.id txn.old.key }
+    requires unread { txn.old.view.entries ≡ [] }
+    ensures goes_on { GoesOn engine.old engine.new txn.old txn.new }
+    ensures suited { OnOk result (IsSuited txn.new) }
+{
+    let Some(asked) = foreseen(txn.call()) else {
+        return Ok(());
+    };
+    acquire_all(alloc, engine, txn, &asked)?;
+    Ok(())
 }
 
 /// Reads these addresses, each in its mode. None of them is taken, since no other call is in progress.
@@ -182,5 +198,5 @@ fn release_all(engine: &mut Engine, release: Release) -> Option<Pending>
     requires alone { HoldsAlone engine.old release.id }
     ensures { Frees engine.old engine.new release result }
 {
-    let_all_go(engine, release)
+    engine.release_all(release)
 }

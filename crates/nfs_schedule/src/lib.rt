@@ -10,6 +10,7 @@ pub mod answer;
 pub mod attempts;
 pub mod driving;
 pub mod executing;
+mod foreseen;
 mod gathering;
 mod nlm;
 pub mod resting;

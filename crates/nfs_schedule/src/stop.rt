@@ -3,12 +3,12 @@
 ghost use Rattle.std.specs.Prelude.{◌≡◌};
 ghost use Rattle.nfs_engine.specs.Engine.{IsLeaving, Lives, Waits};
 ghost use Rattle.nfs_schedule.specs.Answers.{IsUnanswered};
-ghost use Rattle.nfs_schedule.specs.Stops.{IsGone, IsStop, LetsAllGo};
+ghost use Rattle.nfs_schedule.specs.Stops.{IsGone, IsStop};
 ghost use Rattle.nfs_schedule.specs.Workers.{WorkerLives};
 
 use crate::answer::Answer;
 use crate::worker::Worker;
-use nfs_engine::{Engine, Next, Pending, Release, Txn};
+use nfs_engine::{Engine, Pending, Txn};
 
 /// Ends what a worker has: its call is given up, or, where it was executed, what it still holds is let go. It takes no
 /// memory.
@@ -28,7 +28,7 @@ pub(crate) fn stop(engine: &mut Engine, worker: Worker) -> Option<Answer>
         Worker::Blocked(txn) => Some(stop_call(engine, txn)),
         Worker::Failing(txn) => Some(stop_call(engine, txn)),
         Worker::Leaving(release, _) => {
-            let pending = let_all_go(engine, release)?;
+            let pending = engine.release_all(release)?;
             Some(leave_unanswered(engine, pending))
         }
         Worker::PutOff(pending) => Some(leave_unanswered(engine, pending)),
@@ -43,24 +43,9 @@ fn stop_call(engine: &mut Engine, txn: Txn) -> Answer
     ensures answer { IsUnanswered txn.received result }
 {
     let release = engine.abort(txn);
-    match let_all_go(engine, release) {
+    match engine.release_all(release) {
         Some(pending) => leave_unanswered(engine, pending),
         None => unreachable!(),
-    }
-}
-
-/// Lets go all that a call still holds, shard by shard. The call, where it is still in progress.
-pub(crate) fn let_all_go(engine: &mut Engine, release: Release) -> Option<Pending>
-    requires { IsLeaving engine.old release }
-    ensures { LetsAllGo engine.old engine.new release result }
-{
-    let mut left = release;
-    'shards: loop {
-        match engine.release(left) {
-            Next::More(more) => left = more,
-            Next::Aborted(pending) => return Some(pending),
-            Next::Ended => return None,
-        }
     }
 }
 
