@@ -152,6 +152,8 @@ fn step<'p>(
         Place::Body { last, missing } => {
             let size = missing.min(piece.len());
             let (taken, left) = piece.split_at(size);
+            // Room for the whole fragment at once, so that its bytes are moved no more.
+            content.reserve(missing)?;
             content.extend_from_slice(taken)?;
             Ok((Place::in_body(last, missing - size), left))
         }

@@ -22,7 +22,7 @@ returns-in_ok-extend_from_slice-in-Body-clause-ok c =
     c.args.content.now.items c.extend_from_slice.new.self.items
     c.in-Body.last c.in-Body.missing (c.in-Body.missing - c.min-size.result) c.in_body.result
     (rw (c.split_at.ensures.front, c.split_at.ensures.back) (sym (take-append-drop c.min-size.result c.args.piece.now)))
-    c.in_ok-extend_from_slice-in-Body.ensures.items
+    (rw c.reserve.ensures.items at c.in_ok-extend_from_slice-in-Body.ensures.items)
     (omega arith) sound.1 c.in_body.ensures.leads)
 
 pub returns-in-Refused-clause-ok : goal.returns-in-Refused-clause-ok
