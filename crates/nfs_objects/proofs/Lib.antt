@@ -8,6 +8,7 @@ pub mod Knows
 pub mod Listed
 pub mod Looked
 pub mod MountTables
+pub mod Placed
 pub mod Promised
 pub mod Rising
 pub mod Seen

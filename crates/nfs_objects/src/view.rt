@@ -1,6 +1,6 @@
 //! What a call has read of the store.
 
-ghost use Rattle.std.specs.Prelude.{◌≡◌, [], ◌∷◌, ◌++◌, map, IfOk, IfSome, MatchResult, None, OnErr};
+ghost use Rattle.std.specs.Prelude.{◌≡◌, [], ◌∷◌, ◌++◌, IfOk, IfSome, MatchResult, None, OnErr};
 ghost use Rattle.std.specs.Prelude.{OnOk, Some};
 ghost use Rattle.std.specs.Prelude.{option_map};
 ghost use Rattle.std.specs.Prelude.{slice_get, length, ◌==◌};
@@ -8,11 +8,12 @@ ghost use Rattle.std.specs.Arc.{arc_value};
 ghost use Rattle.nfs_objects.specs.Fits.{HoldsReserved, vacant};
 ghost use Rattle.nfs_objects.specs.Values.{pointed, seen_at, seen_of, shown_at};
 
+mod entries;
+
 use crate::address::Addr;
 use crate::modes::Mode;
 use crate::object::Object;
-use indexmap::IndexMap;
-use indexmap::map::IntoIter;
+use entries::ViewEntries;
 use std::alloc::{AllocError, AllocFailed, Global};
 use std::marker::Model;
 use std::sync::Arc;
@@ -60,23 +61,20 @@ pub struct Reserved {
 /// new objects. The address of such a number stands in it, held alone and empty.
 #[derive(Drop)]
 pub struct View {
-    entries: IndexMap<Addr, Entry>,
+    entries: ViewEntries,
     reserved: Vec<Reserved>,
 }
 
 impl Model for View {
-    ghost use Rattle.std.specs.Prelude.{map};
     ghost use Rattle.nfs_objects.specs.Fits.{HoldsReserved};
-    ghost use Rattle.nfs_objects.specs.Values.{ViewValue, seen_of};
+    ghost use Rattle.nfs_objects.specs.Values.{ViewValue};
 
     ghost Value = { ViewValue };
 
-    ghost view = { λ v. record { entries = map seen_of v.entries.entries; reserved = v.reserved.items } };
+    ghost view = { λ v. record { entries = v.entries.seen; reserved = v.reserved.items } };
 
-    ghost invariant = { λ v. HoldsReserved (record {
-      entries = map seen_of v.entries.entries;
-      reserved = v.reserved.items;
-    }) };
+    ghost invariant = { λ v. HoldsReserved
+        (record { entries = v.entries.seen; reserved = v.reserved.items }) };
 }
 
 impl PartialEq for View {
@@ -93,7 +91,7 @@ impl PartialEq for View {
         ensures test { result ≡ same_view self.now other.now }
         ensures same { Decides result (self.now ≡ other.now) }
     {
-        self.reserved == other.reserved && self.entries.as_slice() == other.entries.as_slice()
+        self.reserved == other.reserved && self.entries.equals(&other.entries)
     }
 }
 
@@ -111,7 +109,7 @@ impl View {
         ensures { result ≡ record { entries = []; reserved = [] } }
     {
         View {
-            entries: IndexMap::new(alloc),
+            entries: ViewEntries::new(alloc),
             reserved: Vec::new(alloc),
         }
     }
@@ -135,15 +133,14 @@ impl View {
     pub fn find(&self, address: Addr) -> Option<&Option<Arc<Object>>>
         ensures { option_map pointed result ≡ shown_at self.now.entries address }
     {
-        Some(&self.entries.get(&address)?.object)
+        Some(&self.entries.get(address)?.object)
     }
 
     /// The entry at a place, in order of adding.
     pub fn entry(&self, index: usize) -> Option<(Addr, &Entry)>
         ensures { option_map (λ e. seen_of (e.0, e.1.now)) result ≡ slice_get self.now.entries index }
     {
-        let (address, entry) = self.entries.get_index(index)?;
-        Some((*address, entry))
+        self.entries.at(index)
     }
 
     /// The first number that may be given.
@@ -178,7 +175,8 @@ impl View {
             }) }
         ensures err { OnErr result (self.new ≡ self.old) }
     {
-        self.entries.insert(address, Entry { mode, object })?;
+        self.entries.reserve(1)?;
+        self.entries.push(address, Entry { mode, object });
         Ok(())
     }
 
@@ -192,24 +190,46 @@ impl View {
             }) }
         ensures err { OnErr result (self.new ≡ self.old) }
     {
+        self.entries.reserve(1)?;
         self.reserved.reserve(1)?;
         let entry = Entry {
             mode: Mode::Exclusive,
             object: None,
         };
-        self.entries.insert(Addr::Inode(reserved.number), entry)?;
-        self.reserved.push(reserved)?;
+        self.entries.push(Addr::Inode(reserved.number), entry);
+        self.reserved.push_reserved(reserved);
         Ok(())
     }
 
-    /// The same view with room for so many more entries and numbers.
+    /// The same view with room for so many more entries.
     ///
     /// # Errors
     ///
     /// The view as it was, where the memory was refused.
     pub fn make_room(mut self, count: usize) -> Result<RoomyView, AllocFailed<View>>
         ensures { MatchResult result
-            (λ roomy. roomy ≡ record { view = self; room = count })
+            (λ roomy. roomy ≡ record { view = self; room = count; numbers = 0 })
+            (λ refused. refused.value ≡ self) }
+    {
+        let Ok(()) = self.entries.reserve(count) else {
+            return Err(AllocFailed { value: self });
+        };
+        Ok(RoomyView {
+            entries: self.entries,
+            reserved: self.reserved,
+            room: count,
+            numbers: 0,
+        })
+    }
+
+    /// The same view with room for so many more numbers that may be given, and their entries.
+    ///
+    /// # Errors
+    ///
+    /// The view as it was, where the memory was refused.
+    pub fn make_room_for_numbers(mut self, count: usize) -> Result<RoomyView, AllocFailed<View>>
+        ensures { MatchResult result
+            (λ roomy. roomy ≡ record { view = self; room = count; numbers = count })
             (λ refused. refused.value ≡ self) }
     {
         let Ok(()) = self.entries.reserve(count) else {
@@ -222,42 +242,37 @@ impl View {
             entries: self.entries,
             reserved: self.reserved,
             room: count,
+            numbers: count,
         })
-    }
-
-    /// The addresses with their entries, and the numbers that may be given, both in order of adding.
-    pub fn into_parts(self) -> (IntoIter<Addr, Entry>, Vec<Reserved>)
-        ensures { self ≡ record { entries = map seen_of result.0; reserved = result.1.items } }
-    {
-        (self.entries.into_iter(), self.reserved)
     }
 }
 
-/// A view with room: it takes so many more entries and numbers with no memory.
+/// A view with room: it takes so many more entries, and so many numbers, with no memory.
 #[derive(Drop)]
 pub struct RoomyView {
-    entries: IndexMap<Addr, Entry>,
+    entries: ViewEntries,
     reserved: Vec<Reserved>,
     room: usize,
+    numbers: usize,
 }
 
 impl Model for RoomyView {
-    ghost use Rattle.std.specs.Prelude.{length, map};
-    ghost use Rattle.std.specs.Vec.{vec_capacity};
-    ghost use Rattle.indexmap.specs.IndexMap.{spare};
+    ghost use Rattle.std.specs.Prelude.{◌-◌, length, vec_capacity};
     ghost use Rattle.nfs_objects.specs.Rooms.{HasRoom, RoomyValue};
-    ghost use Rattle.nfs_objects.specs.Values.{seen_of};
 
     ghost Value = { RoomyValue };
 
     ghost view = { λ v. record {
-      view = record { entries = map seen_of v.entries.entries; reserved = v.reserved.items };
+      view = record { entries = v.entries.seen; reserved = v.reserved.items };
       room = v.room;
+      numbers = v.numbers;
     } };
 
-    ghost invariant = { λ v. HasRoom
-        (record { entries = map seen_of v.entries.entries; reserved = v.reserved.items })
-        v.room (spare v.entries) (length v.reserved.items) (vec_capacity v.reserved) };
+    ghost invariant = { λ v. HasRoom (record {
+      view = record { entries = v.entries.seen; reserved = v.reserved.items };
+      room = v.room;
+      numbers = v.numbers;
+    }) v.entries.room (vec_capacity v.reserved - length v.reserved.items) };
 }
 
 impl RoomyView {
@@ -272,30 +287,33 @@ impl RoomyView {
           view = with_entry self.old.view (record
               { address = address; mode = mode; object = option_map arc_value object });
           room = self.old.room - 1;
+          numbers = self.old.numbers;
         } }
     {
+        let entry = Entry { mode, object };
         self.room -= 1;
-        self.entries
-            .insert(address, Entry { mode, object })
-            .unwrap();
+        self.entries.push(address, entry);
     }
 
     /// Adds a number that may be given, whose address is empty. It cannot fail.
     pub fn put_reserved(&mut self, reserved: Reserved)
         requires room { 0 < self.old.room }
+        requires numbers { 0 < self.old.numbers }
         requires unseen { seen_at self.old.view.entries (Addr.Inode reserved.number) ≡ None }
-        ensures { self.new ≡ record
-            { view = with_number self.old.view reserved; room = self.old.room - 1 } }
+        ensures { self.new ≡ record {
+          view = with_number self.old.view reserved;
+          room = self.old.room - 1;
+          numbers = self.old.numbers - 1;
+        } }
     {
-        let entry = Entry {
+        let vacant = Entry {
             mode: Mode::Exclusive,
             object: None,
         };
         self.room -= 1;
-        self.entries
-            .insert(Addr::Inode(reserved.number), entry)
-            .unwrap();
-        self.reserved.push(reserved).unwrap();
+        self.numbers -= 1;
+        self.entries.push(Addr::Inode(reserved.number), vacant);
+        self.reserved.push_reserved(reserved);
     }
 
     /// The view; the room that is left is kept with it, but no longer known.

@@ -106,26 +106,40 @@ fn a_refused_growth_changes_nothing(rt: HostRuntime) {
     assert_eq!(rt; view.find(Addr::Mounts).is_some(), read);
 }
 
-/// Room for two entries takes an address and a number with no memory, and the view that has them is taken apart.
+/// Room for two numbers takes an address and a number with no memory.
 #[test]
 fn a_view_takes_what_it_has_room_for(rt: HostRuntime) -> Result<(), Fail> {
-    let mut roomy = View::new(rt.alloc()).make_room(2).map_err(|_| AllocError)?;
+    let mut roomy = View::new(rt.alloc())
+        .make_room_for_numbers(2)
+        .map_err(|_| AllocError)?;
     roomy.put(Addr::Mounts, Mode::Shared, None);
     roomy.put_reserved(RESERVED);
     let view = roomy.into_view();
-    assert_eq!(rt; view.len(), 2);
-    assert!(rt;
-        view.find(Addr::Mounts)
-            .is_some_and(|object| object.is_none())
-    );
-    assert_eq!(rt; view.fresh(), Some(RESERVED));
-    let (mut entries, reserved) = view.into_parts();
-    let (first, _) = entries.next().ok_or("the first stands first")?;
-    let (second, entry) = entries.next().ok_or("and the number's behind it")?;
+    let (first, _) = view.entry(0).ok_or("the first stands first")?;
+    let (second, entry) = view.entry(1).ok_or("and the number's behind it")?;
     assert_eq!(rt; first, Addr::Mounts);
     assert_eq!(rt; second, Addr::Inode(2));
     assert_eq!(rt; entry.mode, Mode::Exclusive);
-    assert_eq!(rt; reserved.as_slice(), [RESERVED].as_slice());
+    assert!(rt; view.entry(2).is_none());
+    assert_eq!(rt; view.reserved(), [RESERVED].as_slice());
+    Ok(())
+}
+
+/// Beyond what is searched one by one each entry is still found, and stands where it was added.
+#[test]
+fn a_view_of_many_entries_finds_each(rt: HostRuntime) -> Result<(), Fail> {
+    let mut view = View::new(rt.alloc());
+    for number in 1..=20 {
+        view.add(Addr::Inode(number), Mode::Shared, None)?;
+    }
+    assert_eq!(rt; view.len(), 20);
+    for number in 1..=20 {
+        let (address, _) = view.entry(number as usize - 1).ok_or("it was added there")?;
+        assert_eq!(rt; address, Addr::Inode(number));
+        assert!(rt; view.find(address).is_some());
+    }
+    assert!(rt; view.find(Addr::Inode(21)).is_none());
+    assert!(rt; view.entry(20).is_none());
     Ok(())
 }
 
