@@ -57,7 +57,7 @@ impl Txn {
             return Err(ReserveError::Spent);
         }
         let view = mem::replace(&mut self.view, View::new(alloc));
-        let mut roomy = match view.make_room(1) {
+        let mut roomy = match view.make_room_for_numbers(1) {
             Ok(roomy) => roomy,
             Err(refused) => {
                 self.view = refused.value;
@@ -96,6 +96,7 @@ fn take(
 /// Gets a number for a view that has room for it. An error changes nothing.
 fn gain(shard: &mut Shard, view: &mut RoomyView, id: u64) -> Result<(), ReserveError>
     requires room { 0 < view.old.room }
+    requires numbers { 0 < view.old.numbers }
     requires holds { HoldsIn shard.old id view.old.view.entries }
     ensures { IsGained (record { shard = shard.old; view = view.old.view })
         (record { shard = shard.new; view = view.new.view }) id result }
