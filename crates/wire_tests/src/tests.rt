@@ -1,5 +1,6 @@
 //! Bytes worked out by hand from RFC 4506, RFC 5531 and RFC 1813, and what is read of them or written as them.
 
+mod arguments;
 mod nfs;
 mod rpc;
 mod side;
@@ -11,12 +12,21 @@ use nfs_xdr::Writer;
 use std::alloc::{AllocError, Global};
 use std::test::Fail;
 
-/// Words as bytes, and further bytes behind them.
-fn bytes_of(alloc: Global, words: &[u32], behind: &[u8]) -> Result<Vec<u8>, AllocError> {
-    let mut bytes = Vec::new(alloc);
+/// What may stand behind arguments.
+const BEHIND: [u8; 3] = [7, 2, 3];
+
+/// Adds words.
+fn add_words(bytes: &mut Vec<u8>, words: &[u32]) -> Result<(), AllocError> {
     for word in words {
         bytes.extend_from_slice(&word.to_be_bytes())?;
     }
+    Ok(())
+}
+
+/// Words as bytes, and further bytes behind them.
+fn bytes_of(alloc: Global, words: &[u32], behind: &[u8]) -> Result<Vec<u8>, AllocError> {
+    let mut bytes = Vec::new(alloc);
+    add_words(&mut bytes, words)?;
     bytes.extend_from_slice(behind)?;
     Ok(bytes)
 }
@@ -28,9 +38,11 @@ fn joined(
     middle: &[u32],
     back: &[u32],
 ) -> Result<Vec<u8>, AllocError> {
-    let back = bytes_of(alloc, back, &[])?;
-    let rest = bytes_of(alloc, middle, back.as_slice())?;
-    bytes_of(alloc, front, rest.as_slice())
+    let mut bytes = Vec::new(alloc);
+    add_words(&mut bytes, front)?;
+    add_words(&mut bytes, middle)?;
+    add_words(&mut bytes, back)?;
+    Ok(bytes)
 }
 
 /// A record of these bytes.

@@ -8,31 +8,27 @@ use nfs_wire::{Attributes, DeviceNumber, FileType, Time};
 /// The handle `abcd` as arguments and results have it.
 const HANDLE: [u32; 2] = [4, 0x6162_6364];
 
-fn seconds(seconds: u32) -> Time {
-    Time {
-        seconds,
-        nanoseconds: 0,
-    }
-}
+const TIME: Time = Time {
+    seconds: 1000,
+    nanoseconds: 0,
+};
 
 /// The attributes of a directory that was just made.
-fn directory() -> Attributes {
-    Attributes {
-        kind: FileType::Directory,
-        mode: 0o777,
-        links: 2,
-        uid: 0,
-        gid: 0,
-        size: 4096,
-        used: 4096,
-        device: DeviceNumber { major: 0, minor: 0 },
-        fsid: 1,
-        fileid: 1,
-        accessed: seconds(1000),
-        modified: seconds(1000),
-        changed: seconds(1000),
-    }
-}
+const SHOWN: Attributes = Attributes {
+    kind: FileType::Directory,
+    mode: 0o777,
+    links: 2,
+    uid: 0,
+    gid: 0,
+    size: 4096,
+    used: 4096,
+    device: DeviceNumber { major: 0, minor: 0 },
+    fsid: 1,
+    fileid: 1,
+    accessed: TIME,
+    modified: TIME,
+    changed: TIME,
+};
 
 /// The words of these attributes.
 const DIRECTORY: [u32; 21] = [

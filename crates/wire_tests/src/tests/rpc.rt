@@ -8,16 +8,27 @@ use nfs_rpc::{
     Answer, Early, Fault, Gids, Program, RecordError, Records, finish_record, read_call,
     start_record, write_reply,
 };
-use std::alloc::{AllocError, Global};
+use std::alloc::Global;
+use std::process::Abort;
 use std::test::Fail;
 
-/// NULL of NFS without a credential, in 40 bytes.
-const NULL: [u32; 10] = [1, 0, 2, 100003, 3, 0, 0, 0, 0, 0];
+/// NULL of NFS without a credential.
+const NULL: [u8; 40] = [
+    0, 0, 0, 1, 0, 0, 0, 0, 0, 0, 0, 2, 0, 1, 0x86, 0xa3, 0, 0, 0, 3, 0, 0, 0, 0, 0, 0, 0, 0, 0, 0,
+    0, 0, 0, 0, 0, 0, 0, 0, 0, 0,
+];
+
+/// NULL with one byte, none, and 39 bytes in its three fragments; then in one fragment.
+const TWO_NULLS: [u8; 96] = [
+    0, 0, 0, 1, 0, 0, 0, 0, 0, 0x80, 0, 0, 0x27, 0, 0, 1, 0, 0, 0, 0, 0, 0, 0, 2, 0, 1, 0x86, 0xa3,
+    0, 0, 0, 3, 0, 0, 0, 0, 0, 0, 0, 0, 0, 0, 0, 0, 0, 0, 0, 0, 0, 0, 0, 0, 0x80, 0, 0, 0x28, 0, 0,
+    0, 1, 0, 0, 0, 0, 0, 0, 0, 2, 0, 1, 0x86, 0xa3, 0, 0, 0, 3, 0, 0, 0, 0, 0, 0, 0, 0, 0, 0, 0, 0,
+    0, 0, 0, 0, 0, 0, 0, 0,
+];
 
 #[test]
 fn a_call_is_read(rt: HostRuntime) -> Result<(), Fail> {
-    let null = bytes_of(rt.alloc(), &NULL, &[])?;
-    let record = record(rt.alloc(), null.as_slice())?;
+    let record = record(rt.alloc(), &NULL)?;
     let Ok(call) = read_call(&record) else {
         return Err(Fail::from("a call"));
     };
@@ -48,40 +59,29 @@ fn gives(records: &mut Records, bytes: &[u8], times: u32) -> bool {
 
 #[test]
 fn a_record_ends_with_its_last_fragment(rt: HostRuntime) -> Result<(), Fail> {
-    let null = bytes_of(rt.alloc(), &NULL, &[])?;
     let mut records = Records::new(rt.alloc());
     records.feed(&[0x80, 0, 0, 40])?;
     assert!(rt; gives(&mut records, &[], 0));
-    records.feed(null.as_slice())?;
-    assert!(rt; gives(&mut records, null.as_slice(), 1));
+    records.feed(&NULL)?;
+    assert!(rt; gives(&mut records, &NULL, 1));
     Ok(())
-}
-
-/// NULL with one byte, none, and 39 bytes in its three fragments; then in one fragment.
-fn two_nulls(alloc: Global) -> Result<Vec<u8>, AllocError> {
-    let mut stream = bytes_of(alloc, &[1], &[0, 0, 0, 0, 0, 0x80, 0, 0, 0x27, 0, 0, 1])?;
-    stream.extend_from_slice(&bytes_of(alloc, &NULL[1..], &[0x80, 0, 0, 0x28])?)?;
-    stream.extend_from_slice(&bytes_of(alloc, &NULL, &[])?)?;
-    Ok(stream)
 }
 
 #[test]
 fn fragments_are_joined(rt: HostRuntime) -> Result<(), Fail> {
-    let null = bytes_of(rt.alloc(), &NULL, &[])?;
     let mut records = Records::new(rt.alloc());
-    records.feed(&two_nulls(rt.alloc())?)?;
-    assert!(rt; gives(&mut records, null.as_slice(), 2));
+    records.feed(&TWO_NULLS)?;
+    assert!(rt; gives(&mut records, &NULL, 2));
     Ok(())
 }
 
 #[test]
 fn a_stream_may_come_byte_by_byte(rt: HostRuntime) -> Result<(), Fail> {
-    let null = bytes_of(rt.alloc(), &NULL, &[])?;
     let mut records = Records::new(rt.alloc());
-    for byte in &two_nulls(rt.alloc())? {
+    for byte in &TWO_NULLS {
         records.feed(&[*byte])?;
     }
-    assert!(rt; gives(&mut records, null.as_slice(), 2));
+    assert!(rt; gives(&mut records, &NULL, 2));
     Ok(())
 }
 
@@ -140,94 +140,89 @@ fn what_memory_was_refused_for_is_fed_again(rt: HostRuntime) -> Result<(), Fail>
     Ok(())
 }
 
-/// How a record of these words ends early.
-fn early_of(alloc: Global, words: &[u32]) -> Result<Option<Early>, Fail> {
-    let record = Bytes::from_vec(bytes_of(alloc, words, &[])?)?;
-    Ok(read_call(&record).err())
+/// A record of these words, with 4 as xid, is a call at this fault, or is dropped.
+struct Ending(&'static [u32], Option<Fault>);
+
+/// Whether the record ends early in that way.
+fn ends_so(alloc: Global, ending: &Ending) -> Result<bool, Fail> {
+    let record = Bytes::from_vec(bytes_of(alloc, ending.0, &[])?)?;
+    let wanted = match ending.1 {
+        Some(fault) => Early::Answer { xid: 4, fault },
+        None => Early::Drop,
+    };
+    Ok(read_call(&record).err() == Some(wanted))
 }
 
-/// Whether a record of these words, with 4 as xid, is a call at this fault.
-fn is_at_fault(alloc: Global, words: &[u32], fault: Fault) -> Result<bool, Fail> {
-    Ok(early_of(alloc, words)? == Some(Early::Answer { xid: 4, fault }))
-}
-
-/// Whether a record of these words is dropped.
-fn is_dropped(alloc: Global, words: &[u32]) -> Result<bool, Fail> {
-    Ok(early_of(alloc, words)? == Some(Early::Drop))
-}
-
-#[test]
-fn another_program_is_unavailable(rt: HostRuntime) -> Result<(), Fail> {
-    let words = [4, 0, 2, 100000, 3, 0, 0, 0, 0, 0];
-    assert!(rt; is_at_fault(rt.alloc(), &words, Fault::ProgramUnavailable)?);
+/// The records end early in that way.
+fn end_so(rt: &(impl Abort + AllocGlobal), endings: &[Ending]) -> Result<(), Fail> {
+    for ending in endings {
+        assert!(rt; ends_so(rt.alloc(), ending)?, "{:?}", ending.0);
+    }
     Ok(())
 }
 
 /// NFS and MOUNT are served in version 3 and NLM in version 4, and a version comes before a procedure.
 #[test]
-fn another_version_of_a_program_is_a_mismatch(rt: HostRuntime) -> Result<(), Fail> {
-    for (program, version, procedure, served) in [
-        (100003, 2, 0, 3),
-        (100005, 1, 0, 3),
-        (100021, 3, 0, 4),
-        (100003, 2, 99, 3),
-    ] {
-        let words = [4, 0, 2, program, version, procedure, 0, 0, 0, 0];
-        let fault = Fault::ProgramMismatch {
-            low: served,
-            high: served,
-        };
-        assert!(rt;
-            is_at_fault(rt.alloc(), &words, fault)?,
-            "program {program}"
-        );
-    }
-    Ok(())
+fn another_program_version_or_procedure_is_told(rt: HostRuntime) -> Result<(), Fail> {
+    const IN_VERSION_3: Fault = Fault::ProgramMismatch { low: 3, high: 3 };
+    const IN_VERSION_4: Fault = Fault::ProgramMismatch { low: 4, high: 4 };
+    const NO_PROCEDURE: Option<Fault> = Some(Fault::ProcedureUnavailable);
+    end_so(
+        &rt,
+        &[
+            Ending(
+                &[4, 0, 2, 100000, 3, 0, 0, 0, 0, 0],
+                Some(Fault::ProgramUnavailable),
+            ),
+            Ending(&[4, 0, 2, 100003, 2, 0, 0, 0, 0, 0], Some(IN_VERSION_3)),
+            Ending(&[4, 0, 2, 100005, 1, 0, 0, 0, 0, 0], Some(IN_VERSION_3)),
+            Ending(&[4, 0, 2, 100021, 3, 0, 0, 0, 0, 0], Some(IN_VERSION_4)),
+            Ending(&[4, 0, 2, 100003, 2, 99, 0, 0, 0, 0], Some(IN_VERSION_3)),
+            Ending(&[4, 0, 2, 100003, 3, 22, 0, 0, 0, 0], NO_PROCEDURE),
+            Ending(&[4, 0, 2, 100005, 3, 6, 0, 0, 0, 0], NO_PROCEDURE),
+            Ending(&[4, 0, 2, 100021, 4, 24, 0, 0, 0, 0], NO_PROCEDURE),
+        ],
+    )
 }
 
+/// Another version of RPC whatever follows it, and where nothing does. A credential of another flavor also where
+/// program and version are wrong too.
 #[test]
-fn another_procedure_is_unavailable(rt: HostRuntime) -> Result<(), Fail> {
-    for (program, version, procedure) in [(100003, 3, 22), (100005, 3, 6), (100021, 4, 24)] {
-        let words = [4, 0, 2, program, version, procedure, 0, 0, 0, 0];
-        assert!(rt; is_at_fault(rt.alloc(), &words, Fault::ProcedureUnavailable)?);
-    }
-    Ok(())
+fn denied_calls_are_told(rt: HostRuntime) -> Result<(), Fail> {
+    end_so(
+        &rt,
+        &[
+            Ending(
+                &[4, 0, 3, 100000, 9, 99, 6, 0, 0, 0],
+                Some(Fault::RpcMismatch),
+            ),
+            Ending(&[4, 0, 3], Some(Fault::RpcMismatch)),
+            Ending(
+                &[4, 0, 2, 100003, 3, 0, 6, 0, 0, 0],
+                Some(Fault::BadCredential),
+            ),
+            Ending(
+                &[4, 0, 2, 100000, 9, 99, 6, 0, 0, 0],
+                Some(Fault::BadCredential),
+            ),
+        ],
+    )
 }
 
-/// Whatever follows it, and where nothing does.
+/// What is cut, what is no call, and a credential and a verifier of 401 bytes.
 #[test]
-fn another_version_of_rpc_is_a_mismatch(rt: HostRuntime) -> Result<(), Fail> {
-    let words = [4, 0, 3, 100000, 9, 99, 6, 0, 0, 0];
-    assert!(rt; is_at_fault(rt.alloc(), &words, Fault::RpcMismatch)?);
-    assert!(rt; is_at_fault(rt.alloc(), &words[..3], Fault::RpcMismatch)?);
-    Ok(())
-}
-
-/// Also where program and version are wrong too.
-#[test]
-fn a_credential_of_another_flavor_is_bad(rt: HostRuntime) -> Result<(), Fail> {
-    let words = [4, 0, 2, 100003, 3, 0, 6, 0, 0, 0];
-    assert!(rt; is_at_fault(rt.alloc(), &words, Fault::BadCredential)?);
-    let words = [4, 0, 2, 100000, 9, 99, 6, 0, 0, 0];
-    assert!(rt; is_at_fault(rt.alloc(), &words, Fault::BadCredential)?);
-    Ok(())
-}
-
-#[test]
-fn what_is_cut_or_no_call_is_dropped(rt: HostRuntime) -> Result<(), Fail> {
-    assert!(rt; is_dropped(rt.alloc(), &[4, 0])?);
-    assert!(rt; is_dropped(rt.alloc(), &[4, 0, 2, 100003, 3, 0, 0, 0, 0])?);
-    assert!(rt; is_dropped(rt.alloc(), &[4, 1, 2, 100003, 3, 0, 0, 0, 0, 0])?);
-    assert!(rt; is_dropped(rt.alloc(), &[4, 1, 3])?);
-    Ok(())
-}
-
-/// A credential and a verifier of 401 bytes.
-#[test]
-fn a_body_above_400_bytes_is_dropped(rt: HostRuntime) -> Result<(), Fail> {
-    assert!(rt; is_dropped(rt.alloc(), &[4, 0, 2, 100003, 3, 0, 6, 401, 0, 0])?);
-    assert!(rt; is_dropped(rt.alloc(), &[4, 0, 2, 100003, 3, 0, 6, 0, 0, 401])?);
-    Ok(())
+fn other_records_are_dropped(rt: HostRuntime) -> Result<(), Fail> {
+    end_so(
+        &rt,
+        &[
+            Ending(&[4, 0], None),
+            Ending(&[4, 0, 2, 100003, 3, 0, 0, 0, 0], None),
+            Ending(&[4, 1, 2, 100003, 3, 0, 0, 0, 0, 0], None),
+            Ending(&[4, 1, 3], None),
+            Ending(&[4, 0, 2, 100003, 3, 0, 6, 401, 0, 0], None),
+            Ending(&[4, 0, 2, 100003, 3, 0, 6, 0, 0, 401], None),
+        ],
+    )
 }
 
 /// NULL of NFS by a user with so many further groups, with so many words behind them, and an argument of one word.
@@ -264,21 +259,36 @@ fn is_sys_call(record: &Bytes, groups: usize) -> bool {
     }
 }
 
-#[test]
-fn a_user_has_at_most_16_groups(rt: HostRuntime) -> Result<(), Fail> {
-    assert!(rt; is_sys_call(&sys_call(rt.alloc(), 0, 0)?, 0));
-    assert!(rt; is_sys_call(&sys_call(rt.alloc(), 3, 2)?, 3));
-    assert!(rt; is_sys_call(&sys_call(rt.alloc(), 16, 0)?, 16));
-    let early = read_call(&sys_call(rt.alloc(), 17, 0)?).err();
-    let fault = Fault::BadCredential;
-    assert!(rt; early == Some(Early::Answer { xid: 5, fault }));
-    Ok(())
+/// Whether the call with so many further groups, and so many words behind them, is read.
+fn is_read(alloc: Global, groups: u32, more: u32) -> Result<bool, Fail>
+    requires { (groups < 100) × (more < 100) }
+{
+    let record = sys_call(alloc, groups, more)?;
+    Ok(is_sys_call(&record, groups as usize))
+}
+
+/// Whether the call with so many further groups ends early in this way.
+fn is_early(alloc: Global, groups: u32, early: Early) -> Result<bool, Fail>
+    requires { groups < 100 }
+{
+    let record = sys_call(alloc, groups, 0)?;
+    Ok(read_call(&record).err() == Some(early))
 }
 
 #[test]
-fn a_users_credential_has_at_most_400_bytes(rt: HostRuntime) -> Result<(), Fail> {
-    let early = read_call(&sys_call(rt.alloc(), 94, 0)?).err();
-    assert!(rt; early == Some(Early::Drop));
+fn a_user_has_at_most_16_groups(rt: HostRuntime) -> Result<(), Fail> {
+    assert!(rt; is_read(rt.alloc(), 0, 0)?);
+    assert!(rt; is_read(rt.alloc(), 3, 2)?);
+    assert!(rt; is_read(rt.alloc(), 16, 0)?);
+    let fault = Fault::BadCredential;
+    assert!(rt; is_early(rt.alloc(), 17, Early::Answer { xid: 5, fault })?);
+    Ok(())
+}
+
+/// A user's credential has at most 400 bytes.
+#[test]
+fn what_is_above_400_bytes_is_dropped(rt: HostRuntime) -> Result<(), Fail> {
+    assert!(rt; is_early(rt.alloc(), 94, Early::Drop)?);
     Ok(())
 }
 
@@ -308,33 +318,52 @@ fn is_answered(alloc: Global, answer: Answer, words: &[u32]) -> Result<bool, Fai
     Ok(finish_record(writer).as_slice() == expected.as_slice())
 }
 
-#[test]
-fn accepted_calls_are_answered(rt: HostRuntime) -> Result<(), Fail> {
-    for (answer, status) in [
-        (Answer::Success, 0),
-        (Answer::Failure(Fault::ProgramUnavailable), 1),
-        (Answer::Failure(Fault::ProcedureUnavailable), 3),
-        (Answer::Failure(Fault::GarbageArguments), 4),
-        (Answer::Failure(Fault::SystemError), 5),
-    ] {
-        assert!(rt; is_answered(rt.alloc(), answer, &[0x80000018, 4, 1, 0, 0, 0, status])?);
+/// The words of a record, and the answer of which they are written.
+struct Answered(&'static [u32], Answer);
+
+/// The words are written of those answers.
+fn are_answered(rt: &(impl Abort + AllocGlobal), rows: &[Answered]) -> Result<(), Fail> {
+    for Answered(words, answer) in rows {
+        assert!(rt; is_answered(rt.alloc(), *answer, words)?, "{words:?}");
     }
     Ok(())
 }
 
 #[test]
-fn a_mismatch_is_answered_with_the_versions(rt: HostRuntime) -> Result<(), Fail> {
-    let answer = Answer::Failure(Fault::ProgramMismatch { low: 3, high: 4 });
-    let words = [0x80000020, 4, 1, 0, 0, 0, 2, 3, 4];
-    assert!(rt; is_answered(rt.alloc(), answer, &words)?);
-    Ok(())
-}
-
-#[test]
-fn denied_calls_are_answered(rt: HostRuntime) -> Result<(), Fail> {
-    let answer = Answer::Failure(Fault::RpcMismatch);
-    assert!(rt; is_answered(rt.alloc(), answer, &[0x80000018, 4, 1, 1, 0, 2, 2])?);
-    let answer = Answer::Failure(Fault::BadCredential);
-    assert!(rt; is_answered(rt.alloc(), answer, &[0x80000014, 4, 1, 1, 1, 1])?);
-    Ok(())
+fn calls_are_answered(rt: HostRuntime) -> Result<(), Fail> {
+    const MISMATCH: Fault = Fault::ProgramMismatch { low: 3, high: 4 };
+    are_answered(
+        &rt,
+        &[
+            Answered(&[0x80000018, 4, 1, 0, 0, 0, 0], Answer::Success),
+            Answered(
+                &[0x80000018, 4, 1, 0, 0, 0, 1],
+                Answer::Failure(Fault::ProgramUnavailable),
+            ),
+            Answered(
+                &[0x80000018, 4, 1, 0, 0, 0, 3],
+                Answer::Failure(Fault::ProcedureUnavailable),
+            ),
+            Answered(
+                &[0x80000018, 4, 1, 0, 0, 0, 4],
+                Answer::Failure(Fault::GarbageArguments),
+            ),
+            Answered(
+                &[0x80000018, 4, 1, 0, 0, 0, 5],
+                Answer::Failure(Fault::SystemError),
+            ),
+            Answered(
+                &[0x80000020, 4, 1, 0, 0, 0, 2, 3, 4],
+                Answer::Failure(MISMATCH),
+            ),
+            Answered(
+                &[0x80000018, 4, 1, 1, 0, 2, 2],
+                Answer::Failure(Fault::RpcMismatch),
+            ),
+            Answered(
+                &[0x80000014, 4, 1, 1, 1, 1],
+                Answer::Failure(Fault::BadCredential),
+            ),
+        ],
+    )
 }

@@ -1,14 +1,23 @@
 //! MOUNT version 3 and NLM version 4 (RFC 1813, appendices I and II), and the calls that the server makes.
 
 ghost use Rattle.side_wire.specs.Messages.{HasLockForm};
-ghost use Rattle.side_wire.specs.Nlm.{HasResultForm, IsNetobj};
+ghost use Rattle.side_wire.specs.Nlm.{HasResultForm, HasTestResultForm, HasTestStatusForm, IsNetobj};
 
 mod messages;
 mod mount;
 mod nlm;
 
 use bytes::Bytes;
-use side_wire::{LockHolder, NlmLock, NlmResult, NlmStatus};
+use side_wire::{LockHolder, NlmLock, NlmResult, NlmStatus, TestResult, TestStatus};
+
+/// What a result tells.
+#[derive(Clone, Copy)]
+enum Told {
+    Nothing,
+    Status(NlmStatus),
+    /// The status of a TEST, by its number.
+    Test(u32),
+}
 
 fn cookie() -> Bytes
     ensures { IsNetobj result }
@@ -69,5 +78,32 @@ fn result(status: NlmStatus) -> NlmResult
     NlmResult {
         cookie: cookie(),
         status,
+    }
+}
+
+/// The result of a TEST with that cookie, and that holder where it is denied.
+fn test_result(number: u32) -> TestResult
+    ensures { HasTestResultForm result }
+{
+    TestResult {
+        cookie: cookie(),
+        status: test_status(number),
+    }
+}
+
+fn test_status(number: u32) -> TestStatus
+    ensures { HasTestStatusForm result }
+{
+    match number {
+        0 => TestStatus::Granted,
+        1 => TestStatus::Denied(holder()),
+        2 => TestStatus::DeniedNoLocks,
+        3 => TestStatus::Blocked,
+        4 => TestStatus::DeniedGracePeriod,
+        5 => TestStatus::Deadlock,
+        6 => TestStatus::ReadOnly,
+        7 => TestStatus::StaleHandle,
+        8 => TestStatus::FileTooBig,
+        _ => TestStatus::Failed,
     }
 }

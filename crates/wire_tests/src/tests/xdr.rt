@@ -17,7 +17,7 @@ use std::alloc::Global;
 use std::test::Fail;
 
 /// The kind of a file.
-#[derive(Clone, Copy, Debug)]
+#[derive(Clone, Copy)]
 enum Kind<'a> {
     Text,
     Data(&'a [u8]),
@@ -25,7 +25,7 @@ enum Kind<'a> {
 }
 
 /// The file of the RFC's example.
-#[derive(Clone, Copy, Debug)]
+#[derive(Clone, Copy)]
 struct File<'a> {
     name: &'a [u8],
     kind: Kind<'a>,

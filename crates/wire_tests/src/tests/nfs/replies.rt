@@ -2,9 +2,10 @@
 
 ghost use Rattle.std.specs.Prelude.{IfOk};
 ghost use Rattle.std.specs.List.{All};
-ghost use Rattle.nfs_wire.specs.Replies.{HasNfsForm, HasMadeForm, HasEntryForm, HasFullEntryForm};
+ghost use Rattle.nfs_wire.specs.Replies.{HasNfsForm, HasLookupForm, HasReadlinkForm, HasReadForm, HasMadeForm};
+ghost use Rattle.nfs_wire.specs.Replies.{HasEntryForm, HasFullEntryForm};
 
-use super::{DIRECTORY, directory, seconds};
+use super::{DIRECTORY, SHOWN};
 use crate::tests::{behind_a_byte, has_written, joined};
 use bytes::Bytes;
 use nfs_wire::{
@@ -15,6 +16,7 @@ use nfs_wire::{
     Stability, Time, Verifier, Wcc, WeakAttributes, WriteReply, Written, write_result,
 };
 use std::alloc::{AllocError, Global};
+use std::process::Abort;
 use std::test::Fail;
 
 const VERIFIER: Verifier = Verifier {
@@ -27,36 +29,77 @@ const UNKNOWN: Wcc = Wcc {
     after: None,
 };
 
+/// The directory is shown as it is after a call, and nothing is known of it before.
+const AFTER: Wcc = Wcc {
+    before: None,
+    after: Some(SHOWN),
+};
+
+/// What CREATE, MKDIR, SYMLINK or MKNOD made.
+#[derive(Clone, Copy)]
+enum Makes {
+    /// The handle `abcd`, and the attributes of the directory.
+    Known,
+    Unknown,
+    Nothing(NfsStatus),
+}
+
+/// A reply.
+enum Told {
+    Null,
+    Getattr(Result<Attributes, NfsStatus>),
+    Setattr(SetattrReply),
+    /// LOOKUP found the handle `abcde`, with the attributes of the directory.
+    Lookup,
+    /// It found nothing in the directory, which is shown.
+    NotFound(NfsStatus),
+    Access(AccessReply),
+    /// The text `a/b`, or none, of a link that is shown.
+    Readlink(Result<(), NfsStatus>),
+    /// `hello`, at the end of a file that is shown.
+    Read,
+    /// The file is not shown.
+    NotRead(NfsStatus),
+    Write(WriteReply),
+    Create(Makes),
+    Mkdir(Makes),
+    Symlink(Makes),
+    Mknod(Makes),
+    Remove(RemovedReply),
+    Rmdir(RemovedReply),
+    Rename(RenamedReply),
+    Link(LinkedReply),
+    Fsstat(FsstatReply),
+    Fsinfo(FsinfoReply),
+    Pathconf(PathconfReply),
+    Commit(CommitReply),
+}
+
+/// Words in three parts, and the reply of which they are written.
+struct Writing(&'static [u32], &'static [u32], &'static [u32], Told);
+
 /// Whether these words are written of the reply. It owns the reply, since a test that keeps one is slow to prove.
-fn is_written(alloc: Global, reply: NfsReply, words: &[u32]) -> Result<bool, Fail>
-    requires { HasNfsForm reply }
-{
-    let is_written = is_result(alloc, &reply, words, &[], &[]);
-    drop(reply);
-    is_written
-}
-
-/// Whether these words are written of the reply, with the attributes of the directory between them.
-fn is_written_around(
+fn is_written(
     alloc: Global,
-    reply: NfsReply,
-    front: &[u32],
-    back: &[u32],
-) -> Result<bool, Fail>
-    requires { HasNfsForm reply }
-{
-    let is_written = is_result(alloc, &reply, front, &DIRECTORY, back);
-    drop(reply);
-    is_written
-}
-
-/// Whether the words in three parts are written of the reply.
-fn is_result(
-    alloc: Global,
-    reply: &NfsReply,
     front: &[u32],
     middle: &[u32],
     back: &[u32],
+    reply: NfsReply,
+) -> Result<bool, Fail>
+    requires { HasNfsForm reply }
+{
+    let is_written = is_result(alloc, front, middle, back, &reply);
+    drop(reply);
+    is_written
+}
+
+/// The same of a reply that is lent.
+fn is_result(
+    alloc: Global,
+    front: &[u32],
+    middle: &[u32],
+    back: &[u32],
+    reply: &NfsReply,
 ) -> Result<bool, Fail>
     requires { HasNfsForm reply.now }
 {
@@ -66,21 +109,133 @@ fn is_result(
     Ok(has_written(writer, expected.as_slice()))
 }
 
-#[test]
-fn null_has_no_result(rt: HostRuntime) -> Result<(), Fail> {
-    assert!(rt; is_written(rt.alloc(), NfsReply::Null, &[])?);
+fn lookup() -> LookupReply
+    ensures { HasLookupForm result }
+{
+    LookupReply {
+        directory: None,
+        result: Ok(Found {
+            object: Bytes::from_static(b"abcde"),
+            attributes: Some(SHOWN),
+        }),
+    }
+}
+
+fn readlink(text: Result<(), NfsStatus>) -> ReadlinkReply
+    ensures { HasReadlinkForm result }
+{
+    ReadlinkReply {
+        attributes: Some(SHOWN),
+        result: text.map(|_| Bytes::from_static(b"a/b")),
+    }
+}
+
+fn read() -> ReadReply
+    ensures { HasReadForm result }
+{
+    ReadReply {
+        attributes: Some(SHOWN),
+        result: Ok(ReadData {
+            count: 5,
+            eof: true,
+            data: Bytes::from_static(b"hello"),
+        }),
+    }
+}
+
+fn made(makes: Makes) -> MadeReply
+    ensures { HasMadeForm result }
+{
+    let result = match makes {
+        Makes::Known => Ok(Made {
+            object: Some(Bytes::from_static(b"abcd")),
+            attributes: Some(SHOWN),
+        }),
+        Makes::Unknown => Ok(Made {
+            object: None,
+            attributes: None,
+        }),
+        Makes::Nothing(status) => Err(status),
+    };
+    MadeReply {
+        directory: UNKNOWN,
+        result,
+    }
+}
+
+/// Whether those words are written of that reply.
+fn is_told(alloc: Global, writing: &Writing) -> Result<bool, Fail> {
+    let Writing(front, middle, back, told) = writing;
+    match *told {
+        Told::Null => is_written(alloc, front, middle, back, NfsReply::Null),
+        Told::Getattr(result) => is_written(alloc, front, middle, back, NfsReply::Getattr(result)),
+        Told::Setattr(reply) => is_written(alloc, front, middle, back, NfsReply::Setattr(reply)),
+        Told::Lookup => is_written(alloc, front, middle, back, NfsReply::Lookup(lookup())),
+        Told::NotFound(status) => {
+            let reply = LookupReply {
+                directory: Some(SHOWN),
+                result: Err(status),
+            };
+            is_written(alloc, front, middle, back, NfsReply::Lookup(reply))
+        }
+        Told::Access(reply) => is_written(alloc, front, middle, back, NfsReply::Access(reply)),
+        Told::Readlink(result) => {
+            is_written(
+                alloc,
+                front,
+                middle,
+                back,
+                NfsReply::Readlink(readlink(result)),
+            )
+        }
+        Told::Read => is_written(alloc, front, middle, back, NfsReply::Read(read())),
+        Told::NotRead(status) => {
+            let reply = ReadReply {
+                attributes: None,
+                result: Err(status),
+            };
+            is_written(alloc, front, middle, back, NfsReply::Read(reply))
+        }
+        Told::Write(reply) => is_written(alloc, front, middle, back, NfsReply::Write(reply)),
+        Told::Create(makes) => is_written(
+            alloc,
+            front,
+            middle,
+            back,
+            NfsReply::Create(made(makes)),
+        ),
+        Told::Mkdir(makes) => is_written(alloc, front, middle, back, NfsReply::Mkdir(made(makes))),
+        Told::Symlink(makes) => {
+            is_written(alloc, front, middle, back, NfsReply::Symlink(made(makes)))
+        }
+        Told::Mknod(makes) => is_written(alloc, front, middle, back, NfsReply::Mknod(made(makes))),
+        Told::Remove(reply) => is_written(alloc, front, middle, back, NfsReply::Remove(reply)),
+        Told::Rmdir(reply) => is_written(alloc, front, middle, back, NfsReply::Rmdir(reply)),
+        Told::Rename(reply) => is_written(alloc, front, middle, back, NfsReply::Rename(reply)),
+        Told::Link(reply) => is_written(alloc, front, middle, back, NfsReply::Link(reply)),
+        Told::Fsstat(reply) => is_written(alloc, front, middle, back, NfsReply::Fsstat(reply)),
+        Told::Fsinfo(reply) => is_written(alloc, front, middle, back, NfsReply::Fsinfo(reply)),
+        Told::Pathconf(reply) => is_written(alloc, front, middle, back, NfsReply::Pathconf(reply)),
+        Told::Commit(reply) => is_written(alloc, front, middle, back, NfsReply::Commit(reply)),
+    }
+}
+
+/// The words are written of those replies.
+fn are_written(rt: &(impl Abort + AllocGlobal), writings: &[Writing]) -> Result<(), Fail> {
+    for writing in writings {
+        assert!(rt;
+            is_told(rt.alloc(), writing)?,
+            "{:?} {:?}",
+            writing.0,
+            writing.2
+        );
+    }
     Ok(())
 }
 
 #[test]
 fn attributes_are_written(rt: HostRuntime) -> Result<(), Fail> {
-    assert!(rt; is_written_around(rt.alloc(), NfsReply::Getattr(Ok(directory())), &[0], &[])?);
-    Ok(())
-}
-
-#[test]
-fn attributes_of_a_device_are_written(rt: HostRuntime) -> Result<(), Fail> {
-    let device = Attributes {
+    const DEVICE: Attributes = Attributes {
         kind: FileType::CharacterDevice,
         device: DeviceNumber {
             major: 4,
@@ -91,307 +246,344 @@ fn attributes_of_a_device_are_written(rt: HostRuntime) -> Result<(), Fail> {
             seconds: 1,
             nanoseconds: 999_999_999,
         },
-        ..directory()
+        ..SHOWN
     };
-    let words = [
-        0,
-        4,
-        0x1ff,
-        2,
-        0,
-        0,
-        1,
-        2,
-        0,
-        0x1000,
-        4,
-        64,
-        0,
-        1,
-        0,
-        1,
-        1,
-        0x3b9a_c9ff,
-        0x3e8,
-        0,
-        0x3e8,
-        0,
-    ];
-    assert!(rt; is_written(rt.alloc(), NfsReply::Getattr(Ok(device)), &words)?);
-    Ok(())
+    are_written(
+        &rt,
+        &[
+            Writing(&[], &[], &[], Told::Null),
+            Writing(&[0], &DIRECTORY, &[], Told::Getattr(Ok(SHOWN))),
+            Writing(
+                &[0, 4, 0x1ff, 2, 0, 0, 1, 2, 0, 0x1000, 4, 64, 0, 1, 0, 1],
+                &[1, 0x3b9a_c9ff, 0x3e8, 0, 0x3e8, 0],
+                &[],
+                Told::Getattr(Ok(DEVICE)),
+            ),
+        ],
+    )
 }
 
 #[test]
 fn refusals_are_written(rt: HostRuntime) -> Result<(), Fail> {
-    for (status, number) in [
-        (NfsStatus::Permission, 1),
-        (NfsStatus::NameTooLong, 63),
-        (NfsStatus::Stale, 70),
-        (NfsStatus::BadHandle, 10001),
-        (NfsStatus::Jukebox, 10008),
-    ] {
-        assert!(rt; is_written(rt.alloc(), NfsReply::Getattr(Err(status)), &[number])?);
-    }
-    Ok(())
+    are_written(
+        &rt,
+        &[
+            Writing(&[1], &[], &[], Told::Getattr(Err(NfsStatus::Permission))),
+            Writing(&[63], &[], &[], Told::Getattr(Err(NfsStatus::NameTooLong))),
+            Writing(&[70], &[], &[], Told::Getattr(Err(NfsStatus::Stale))),
+            Writing(&[10001], &[], &[], Told::Getattr(Err(NfsStatus::BadHandle))),
+            Writing(&[10008], &[], &[], Told::Getattr(Err(NfsStatus::Jukebox))),
+        ],
+    )
 }
 
 #[test]
-fn setattr_is_written(rt: HostRuntime) -> Result<(), Fail> {
-    let wcc = Wcc {
-        before: Some(WeakAttributes {
-            size: 0x1_0000_0002,
-            modified: seconds(3),
-            changed: seconds(4),
-        }),
-        after: Some(directory()),
-    };
-    let done = SetattrReply {
-        wcc,
+fn setattr_and_access_are_written(rt: HostRuntime) -> Result<(), Fail> {
+    const SET: SetattrReply = SetattrReply {
+        wcc: Wcc {
+            before: Some(WeakAttributes {
+                size: 0x1_0000_0002,
+                modified: Time {
+                    seconds: 3,
+                    nanoseconds: 0,
+                },
+                changed: Time {
+                    seconds: 4,
+                    nanoseconds: 0,
+                },
+            }),
+            after: Some(SHOWN),
+        },
         result: Ok(()),
     };
-    assert!(rt;
-        is_written_around(
-            rt.alloc(),
-            NfsReply::Setattr(done),
-            &[0, 1, 1, 2, 3, 0, 4, 0, 1],
-            &[],
-        )?
-    );
-    let refused = SetattrReply {
-        wcc: Wcc {
-            before: None,
-            ..wcc
-        },
+    const NOT_SET: SetattrReply = SetattrReply {
+        wcc: AFTER,
         result: Err(NfsStatus::NotSynchronized),
     };
-    assert!(rt; is_written_around(rt.alloc(), NfsReply::Setattr(refused), &[10002, 0, 1], &[])?);
-    Ok(())
-}
-
-#[test]
-fn lookup_is_written(rt: HostRuntime) -> Result<(), Fail> {
-    let done = LookupReply {
-        directory: None,
-        result: Ok(Found {
-            object: Bytes::from_static(b"abcde"),
-            attributes: Some(directory()),
-        }),
-    };
-    assert!(rt;
-        is_written_around(
-            rt.alloc(),
-            NfsReply::Lookup(done),
-            &[0, 5, 0x6162_6364, 0x6500_0000, 1],
-            &[0],
-        )?
-    );
-    Ok(())
-}
-
-#[test]
-fn refused_lookup_is_written(rt: HostRuntime) -> Result<(), Fail> {
-    let refused = LookupReply {
-        directory: Some(directory()),
-        result: Err(NfsStatus::NoEntry),
-    };
-    assert!(rt; is_written_around(rt.alloc(), NfsReply::Lookup(refused), &[2, 1], &[])?);
-    Ok(())
-}
-
-#[test]
-fn access_is_written(rt: HostRuntime) -> Result<(), Fail> {
-    let done = AccessReply {
-        attributes: Some(directory()),
+    const ACCESS: AccessReply = AccessReply {
+        attributes: Some(SHOWN),
         result: Ok(0x1f),
     };
-    assert!(rt; is_written_around(rt.alloc(), NfsReply::Access(done), &[0, 1], &[0x1f])?);
-    let refused = AccessReply {
+    const NO_ACCESS: AccessReply = AccessReply {
         attributes: None,
         result: Err(NfsStatus::Stale),
     };
-    assert!(rt; is_written(rt.alloc(), NfsReply::Access(refused), &[70, 0])?);
-    Ok(())
+    are_written(
+        &rt,
+        &[
+            Writing(
+                &[0, 1, 1, 2, 3, 0, 4, 0, 1],
+                &DIRECTORY,
+                &[],
+                Told::Setattr(SET),
+            ),
+            Writing(&[10002, 0, 1], &DIRECTORY, &[], Told::Setattr(NOT_SET)),
+            Writing(&[0, 1], &DIRECTORY, &[0x1f], Told::Access(ACCESS)),
+            Writing(&[70, 0], &[], &[], Told::Access(NO_ACCESS)),
+        ],
+    )
 }
 
 #[test]
-fn readlink_is_written(rt: HostRuntime) -> Result<(), Fail> {
-    let done = ReadlinkReply {
-        attributes: Some(directory()),
-        result: Ok(Bytes::from_static(b"a/b")),
-    };
-    assert!(rt;
-        is_written_around(
-            rt.alloc(),
-            NfsReply::Readlink(done),
-            &[0, 1],
-            &[3, 0x612f_6200]
-        )?
-    );
-    let refused = ReadlinkReply {
-        attributes: Some(directory()),
-        result: Err(NfsStatus::Invalid),
-    };
-    assert!(rt; is_written_around(rt.alloc(), NfsReply::Readlink(refused), &[22, 1], &[])?);
-    Ok(())
+fn lookup_and_readlink_are_written(rt: HostRuntime) -> Result<(), Fail> {
+    are_written(
+        &rt,
+        &[
+            Writing(
+                &[0, 5, 0x6162_6364, 0x6500_0000, 1],
+                &DIRECTORY,
+                &[0],
+                Told::Lookup,
+            ),
+            Writing(&[2, 1], &DIRECTORY, &[], Told::NotFound(NfsStatus::NoEntry)),
+            Writing(
+                &[0, 1],
+                &DIRECTORY,
+                &[3, 0x612f_6200],
+                Told::Readlink(Ok(())),
+            ),
+            Writing(
+                &[22, 1],
+                &DIRECTORY,
+                &[],
+                Told::Readlink(Err(NfsStatus::Invalid)),
+            ),
+        ],
+    )
 }
 
 #[test]
-fn read_is_written(rt: HostRuntime) -> Result<(), Fail> {
-    let done = ReadReply {
-        attributes: Some(directory()),
-        result: Ok(ReadData {
-            count: 5,
-            eof: true,
-            data: Bytes::from_static(b"hello"),
+fn read_write_and_commit_are_written(rt: HostRuntime) -> Result<(), Fail> {
+    const UNSTABLE: Written = Written {
+        count: 5,
+        committed: Stability::Unstable,
+        verifier: VERIFIER,
+    };
+    const WRITTEN: WriteReply = WriteReply {
+        wcc: UNKNOWN,
+        result: Ok(UNSTABLE),
+    };
+    const DATA_SYNC: WriteReply = WriteReply {
+        result: Ok(Written {
+            committed: Stability::DataSync,
+            ..UNSTABLE
         }),
+        ..WRITTEN
     };
-    assert!(rt;
-        is_written_around(
-            rt.alloc(),
-            NfsReply::Read(done),
-            &[0, 1],
-            &[5, 1, 5, 0x6865_6c6c, 0x6f00_0000],
-        )?
-    );
-    let refused = ReadReply {
-        attributes: None,
-        result: Err(NfsStatus::BadHandle),
+    const FILE_SYNC: WriteReply = WriteReply {
+        result: Ok(Written {
+            committed: Stability::FileSync,
+            ..UNSTABLE
+        }),
+        ..WRITTEN
     };
-    assert!(rt; is_written(rt.alloc(), NfsReply::Read(refused), &[10001, 0])?);
-    Ok(())
-}
-
-#[test]
-fn write_is_written(rt: HostRuntime) -> Result<(), Fail> {
-    for (committed, number) in [
-        (Stability::Unstable, 0),
-        (Stability::DataSync, 1),
-        (Stability::FileSync, 2),
-    ] {
-        let done = WriteReply {
-            wcc: UNKNOWN,
-            result: Ok(Written {
-                count: 5,
-                committed,
-                verifier: VERIFIER,
-            }),
-        };
-        assert!(rt;
-            is_written(
-                rt.alloc(),
-                NfsReply::Write(done),
-                &[0, 0, 0, 5, number, 0x0102_0304, 0x0506_0708],
-            )?
-        );
-    }
-    let refused = WriteReply {
+    const NOT_WRITTEN: WriteReply = WriteReply {
         wcc: UNKNOWN,
         result: Err(NfsStatus::FileTooBig),
     };
-    assert!(rt; is_written(rt.alloc(), NfsReply::Write(refused), &[27, 0, 0])?);
-    Ok(())
-}
-
-fn made() -> MadeReply
-    ensures { HasMadeForm result }
-{
-    MadeReply {
-        directory: UNKNOWN,
-        result: Ok(Made {
-            object: Some(Bytes::from_static(b"abcd")),
-            attributes: Some(directory()),
-        }),
-    }
-}
-
-#[test]
-fn create_and_mkdir_are_written(rt: HostRuntime) -> Result<(), Fail> {
-    let front = [0, 1, 4, 0x6162_6364, 1];
-    assert!(rt; is_written_around(rt.alloc(), NfsReply::Create(made()), &front, &[0, 0])?);
-    assert!(rt; is_written_around(rt.alloc(), NfsReply::Mkdir(made()), &front, &[0, 0])?);
-    Ok(())
-}
-
-#[test]
-fn symlink_and_mknod_are_written(rt: HostRuntime) -> Result<(), Fail> {
-    let front = [0, 1, 4, 0x6162_6364, 1];
-    assert!(rt; is_written_around(rt.alloc(), NfsReply::Symlink(made()), &front, &[0, 0])?);
-    assert!(rt; is_written_around(rt.alloc(), NfsReply::Mknod(made()), &front, &[0, 0])?);
-    Ok(())
-}
-
-#[test]
-fn what_was_made_may_be_unknown(rt: HostRuntime) -> Result<(), Fail> {
-    let done = MadeReply {
-        directory: UNKNOWN,
-        result: Ok(Made {
-            object: None,
-            attributes: None,
-        }),
+    const COMMITTED: CommitReply = CommitReply {
+        wcc: UNKNOWN,
+        result: Ok(VERIFIER),
     };
-    assert!(rt; is_written(rt.alloc(), NfsReply::Create(done), &[0, 0, 0, 0, 0])?);
-    let refused = MadeReply {
-        directory: UNKNOWN,
-        result: Err(NfsStatus::BadType),
+    const NOT_COMMITTED: CommitReply = CommitReply {
+        wcc: UNKNOWN,
+        result: Err(NfsStatus::Invalid),
     };
-    assert!(rt; is_written(rt.alloc(), NfsReply::Mknod(refused), &[10007, 0, 0])?);
-    Ok(())
+    are_written(
+        &rt,
+        &[
+            Writing(
+                &[0, 1],
+                &DIRECTORY,
+                &[5, 1, 5, 0x6865_6c6c, 0x6f00_0000],
+                Told::Read,
+            ),
+            Writing(&[10001, 0], &[], &[], Told::NotRead(NfsStatus::BadHandle)),
+            Writing(
+                &[0, 0, 0, 5, 0],
+                &[0x0102_0304, 0x0506_0708],
+                &[],
+                Told::Write(WRITTEN),
+            ),
+            Writing(
+                &[0, 0, 0, 5, 1],
+                &[0x0102_0304, 0x0506_0708],
+                &[],
+                Told::Write(DATA_SYNC),
+            ),
+            Writing(
+                &[0, 0, 0, 5, 2],
+                &[0x0102_0304, 0x0506_0708],
+                &[],
+                Told::Write(FILE_SYNC),
+            ),
+            Writing(&[27, 0, 0], &[], &[], Told::Write(NOT_WRITTEN)),
+            Writing(
+                &[0, 0, 0],
+                &[0x0102_0304, 0x0506_0708],
+                &[],
+                Told::Commit(COMMITTED),
+            ),
+            Writing(&[22, 0, 0], &[], &[], Told::Commit(NOT_COMMITTED)),
+        ],
+    )
+}
+
+/// What was made may be unknown.
+#[test]
+fn what_was_made_is_written(rt: HostRuntime) -> Result<(), Fail> {
+    const FRONT: [u32; 5] = [0, 1, 4, 0x6162_6364, 1];
+    are_written(
+        &rt,
+        &[
+            Writing(&FRONT, &DIRECTORY, &[0, 0], Told::Create(Makes::Known)),
+            Writing(&FRONT, &DIRECTORY, &[0, 0], Told::Mkdir(Makes::Known)),
+            Writing(&FRONT, &DIRECTORY, &[0, 0], Told::Symlink(Makes::Known)),
+            Writing(&FRONT, &DIRECTORY, &[0, 0], Told::Mknod(Makes::Known)),
+            Writing(&[0, 0, 0, 0, 0], &[], &[], Told::Create(Makes::Unknown)),
+            Writing(
+                &[10007, 0, 0],
+                &[],
+                &[],
+                Told::Mknod(Makes::Nothing(NfsStatus::BadType)),
+            ),
+        ],
+    )
 }
 
 #[test]
-fn remove_and_rmdir_are_written(rt: HostRuntime) -> Result<(), Fail> {
-    let done = RemovedReply {
+fn remove_rename_and_link_are_written(rt: HostRuntime) -> Result<(), Fail> {
+    const REMOVED: RemovedReply = RemovedReply {
         directory: UNKNOWN,
         result: Ok(()),
     };
-    assert!(rt; is_written(rt.alloc(), NfsReply::Remove(done), &[0, 0, 0])?);
-    let refused = RemovedReply {
-        directory: Wcc {
-            after: Some(directory()),
-            ..UNKNOWN
-        },
+    const NOT_REMOVED: RemovedReply = RemovedReply {
+        directory: AFTER,
         result: Err(NfsStatus::NotEmpty),
     };
-    assert!(rt; is_written_around(rt.alloc(), NfsReply::Rmdir(refused), &[66, 0, 1], &[])?);
-    Ok(())
-}
-
-#[test]
-fn rename_is_written(rt: HostRuntime) -> Result<(), Fail> {
-    let from = Wcc {
-        after: Some(directory()),
-        ..UNKNOWN
-    };
-    let done = RenamedReply {
-        from,
+    const RENAMED: RenamedReply = RenamedReply {
+        from: AFTER,
         to: UNKNOWN,
         result: Ok(()),
     };
-    assert!(rt; is_written_around(rt.alloc(), NfsReply::Rename(done), &[0, 0, 1], &[0, 0])?);
-    let refused = RenamedReply {
-        from,
+    const NOT_RENAMED: RenamedReply = RenamedReply {
+        from: AFTER,
         to: UNKNOWN,
         result: Err(NfsStatus::CrossDevice),
     };
-    assert!(rt; is_written_around(rt.alloc(), NfsReply::Rename(refused), &[18, 0, 1], &[0, 0])?);
-    Ok(())
-}
-
-#[test]
-fn link_is_written(rt: HostRuntime) -> Result<(), Fail> {
-    let done = LinkedReply {
-        attributes: Some(directory()),
+    const LINKED: LinkedReply = LinkedReply {
+        attributes: Some(SHOWN),
         directory: UNKNOWN,
         result: Ok(()),
     };
-    assert!(rt; is_written_around(rt.alloc(), NfsReply::Link(done), &[0, 1], &[0, 0])?);
-    let refused = LinkedReply {
+    const NOT_LINKED: LinkedReply = LinkedReply {
         attributes: None,
         directory: UNKNOWN,
         result: Err(NfsStatus::TooManyLinks),
     };
-    assert!(rt; is_written(rt.alloc(), NfsReply::Link(refused), &[31, 0, 0, 0])?);
-    Ok(())
+    are_written(
+        &rt,
+        &[
+            Writing(&[0, 0, 0], &[], &[], Told::Remove(REMOVED)),
+            Writing(&[66, 0, 1], &DIRECTORY, &[], Told::Rmdir(NOT_REMOVED)),
+            Writing(&[0, 0, 1], &DIRECTORY, &[0, 0], Told::Rename(RENAMED)),
+            Writing(&[18, 0, 1], &DIRECTORY, &[0, 0], Told::Rename(NOT_RENAMED)),
+            Writing(&[0, 1], &DIRECTORY, &[0, 0], Told::Link(LINKED)),
+            Writing(&[31, 0, 0, 0], &[], &[], Told::Link(NOT_LINKED)),
+        ],
+    )
+}
+
+#[test]
+fn a_file_system_is_written(rt: HostRuntime) -> Result<(), Fail> {
+    const SPACE: FsstatReply = FsstatReply {
+        attributes: Some(SHOWN),
+        result: Ok(Space {
+            total_bytes: 0x100_0000_0000,
+            free_bytes: 2,
+            available_bytes: 3,
+            total_files: 4,
+            free_files: 5,
+            available_files: 6,
+            unchanged_for: 7,
+        }),
+    };
+    const SYSTEM: FsinfoReply = FsinfoReply {
+        attributes: Some(SHOWN),
+        result: Ok(FileSystem {
+            read_most: 1,
+            read_preferred: 2,
+            read_multiple: 3,
+            write_most: 4,
+            write_preferred: 5,
+            write_multiple: 6,
+            directory_preferred: 7,
+            largest_file: 0x8_0000_0009,
+            time_step: Time {
+                seconds: 0,
+                nanoseconds: 1,
+            },
+            properties: 27,
+        }),
+    };
+    const LIMITS: PathconfReply = PathconfReply {
+        attributes: Some(SHOWN),
+        result: Ok(PathLimits {
+            most_links: 32000,
+            longest_name: 255,
+            no_truncation: true,
+            chown_restricted: true,
+            case_insensitive: false,
+            case_preserving: true,
+        }),
+    };
+    are_written(
+        &rt,
+        &[
+            Writing(
+                &[0, 1],
+                &DIRECTORY,
+                &[0x100, 0, 0, 2, 0, 3, 0, 4, 0, 5, 0, 6, 7],
+                Told::Fsstat(SPACE),
+            ),
+            Writing(
+                &[0, 1],
+                &DIRECTORY,
+                &[1, 2, 3, 4, 5, 6, 7, 8, 9, 0, 1, 27],
+                Told::Fsinfo(SYSTEM),
+            ),
+            Writing(
+                &[0, 1],
+                &DIRECTORY,
+                &[32000, 255, 1, 1, 0, 1],
+                Told::Pathconf(LIMITS),
+            ),
+        ],
+    )
+}
+
+#[test]
+fn no_file_system_is_written(rt: HostRuntime) -> Result<(), Fail> {
+    const SPACE: FsstatReply = FsstatReply {
+        attributes: None,
+        result: Err(NfsStatus::Stale),
+    };
+    const SYSTEM: FsinfoReply = FsinfoReply {
+        attributes: None,
+        result: Err(NfsStatus::Stale),
+    };
+    const LIMITS: PathconfReply = PathconfReply {
+        attributes: None,
+        result: Err(NfsStatus::Stale),
+    };
+    are_written(
+        &rt,
+        &[
+            Writing(&[70, 0], &[], &[], Told::Fsstat(SPACE)),
+            Writing(&[70, 0], &[], &[], Told::Fsinfo(SYSTEM)),
+            Writing(&[70, 0], &[], &[], Told::Pathconf(LIMITS)),
+        ],
+    )
 }
 
 fn names(alloc: Global) -> Result<Names, AllocError>
@@ -414,7 +606,7 @@ fn names(alloc: Global) -> Result<Names, AllocError>
 #[test]
 fn readdir_is_written(rt: HostRuntime) -> Result<(), Fail> {
     let done = ReaddirReply {
-        attributes: Some(directory()),
+        attributes: Some(SHOWN),
         result: Ok(Page {
             verifier: VERIFIER,
             entries: names(rt.alloc())?,
@@ -441,17 +633,15 @@ fn readdir_is_written(rt: HostRuntime) -> Result<(), Fail> {
         0,
         1,
     ];
-    assert!(rt; is_written_around(rt.alloc(), NfsReply::Readdir(done), &[0, 1], &back)?);
-    Ok(())
-}
-
-#[test]
-fn refused_readdir_is_written(rt: HostRuntime) -> Result<(), Fail> {
-    let refused = ReaddirReply {
-        attributes: None,
-        result: Err(NfsStatus::BadCookie),
-    };
-    assert!(rt; is_written(rt.alloc(), NfsReply::Readdir(refused), &[10003, 0])?);
+    assert!(rt;
+        is_written(
+            rt.alloc(),
+            &[0, 1],
+            &DIRECTORY,
+            &back,
+            NfsReply::Readdir(done)
+        )?
+    );
     Ok(())
 }
 
@@ -465,13 +655,8 @@ fn a_page_may_be_empty(rt: HostRuntime) -> Result<(), Fail> {
             eof: false,
         }),
     };
-    assert!(rt;
-        is_written(
-            rt.alloc(),
-            NfsReply::Readdir(done),
-            &[0, 0, 0x0102_0304, 0x0506_0708, 0, 0],
-        )?
-    );
+    let words = [0, 0, 0x0102_0304, 0x0506_0708, 0, 0];
+    assert!(rt; is_written(rt.alloc(), &words, &[], &[], NfsReply::Readdir(done))?);
     Ok(())
 }
 
@@ -494,7 +679,7 @@ fn full_names(alloc: Global) -> Result<FullNames, AllocError>
             name: Bytes::from_static(b"file"),
             cookie: 3,
         },
-        attributes: Some(directory()),
+        attributes: Some(SHOWN),
         object: None,
     })?;
     Ok(FullNames::from_vec(list))
@@ -535,135 +720,31 @@ fn readdirplus_is_written(rt: HostRuntime) -> Result<(), Fail> {
         3,
         1,
     ];
-    assert!(rt; is_written_around(rt.alloc(), NfsReply::Readdirplus(done), &front, &[0, 0, 1])?);
-    Ok(())
-}
-
-#[test]
-fn refused_readdirplus_is_written(rt: HostRuntime) -> Result<(), Fail> {
-    let refused = ReaddirplusReply {
-        attributes: Some(directory()),
-        result: Err(NfsStatus::TooSmall),
-    };
-    assert!(rt; is_written_around(rt.alloc(), NfsReply::Readdirplus(refused), &[10005, 1], &[])?);
-    Ok(())
-}
-
-#[test]
-fn fsstat_is_written(rt: HostRuntime) -> Result<(), Fail> {
-    let space = Space {
-        total_bytes: 0x100_0000_0000,
-        free_bytes: 2,
-        available_bytes: 3,
-        total_files: 4,
-        free_files: 5,
-        available_files: 6,
-        unchanged_for: 7,
-    };
-    let done = FsstatReply {
-        attributes: Some(directory()),
-        result: Ok(space),
-    };
-    assert!(rt;
-        is_written_around(
-            rt.alloc(),
-            NfsReply::Fsstat(done),
-            &[0, 1],
-            &[0x100, 0, 0, 2, 0, 3, 0, 4, 0, 5, 0, 6, 7],
-        )?
-    );
-    let refused = FsstatReply {
-        attributes: None,
-        result: Err(NfsStatus::Stale),
-    };
-    assert!(rt; is_written(rt.alloc(), NfsReply::Fsstat(refused), &[70, 0])?);
-    Ok(())
-}
-
-#[test]
-fn fsinfo_is_written(rt: HostRuntime) -> Result<(), Fail> {
-    let system = FileSystem {
-        read_most: 1,
-        read_preferred: 2,
-        read_multiple: 3,
-        write_most: 4,
-        write_preferred: 5,
-        write_multiple: 6,
-        directory_preferred: 7,
-        largest_file: 0x8_0000_0009,
-        time_step: Time {
-            seconds: 0,
-            nanoseconds: 1,
-        },
-        properties: 27,
-    };
-    let done = FsinfoReply {
-        attributes: Some(directory()),
-        result: Ok(system),
-    };
-    assert!(rt;
-        is_written_around(
-            rt.alloc(),
-            NfsReply::Fsinfo(done),
-            &[0, 1],
-            &[1, 2, 3, 4, 5, 6, 7, 8, 9, 0, 1, 27],
-        )?
-    );
-    let refused = FsinfoReply {
-        attributes: None,
-        result: Err(NfsStatus::Stale),
-    };
-    assert!(rt; is_written(rt.alloc(), NfsReply::Fsinfo(refused), &[70, 0])?);
-    Ok(())
-}
-
-#[test]
-fn pathconf_is_written(rt: HostRuntime) -> Result<(), Fail> {
-    let limits = PathLimits {
-        most_links: 32000,
-        longest_name: 255,
-        no_truncation: true,
-        chown_restricted: true,
-        case_insensitive: false,
-        case_preserving: true,
-    };
-    let done = PathconfReply {
-        attributes: Some(directory()),
-        result: Ok(limits),
-    };
-    assert!(rt;
-        is_written_around(
-            rt.alloc(),
-            NfsReply::Pathconf(done),
-            &[0, 1],
-            &[32000, 255, 1, 1, 0, 1],
-        )?
-    );
-    let refused = PathconfReply {
-        attributes: None,
-        result: Err(NfsStatus::Stale),
-    };
-    assert!(rt; is_written(rt.alloc(), NfsReply::Pathconf(refused), &[70, 0])?);
-    Ok(())
-}
-
-#[test]
-fn commit_is_written(rt: HostRuntime) -> Result<(), Fail> {
-    let done = CommitReply {
-        wcc: UNKNOWN,
-        result: Ok(VERIFIER),
-    };
+    let back = [0, 0, 1];
     assert!(rt;
         is_written(
             rt.alloc(),
-            NfsReply::Commit(done),
-            &[0, 0, 0, 0x0102_0304, 0x0506_0708],
+            &front,
+            &DIRECTORY,
+            &back,
+            NfsReply::Readdirplus(done)
         )?
     );
-    let refused = CommitReply {
-        wcc: UNKNOWN,
-        result: Err(NfsStatus::Invalid),
+    Ok(())
+}
+
+#[test]
+fn no_page_is_written(rt: HostRuntime) -> Result<(), Fail> {
+    let page = ReaddirReply {
+        attributes: None,
+        result: Err(NfsStatus::BadCookie),
     };
-    assert!(rt; is_written(rt.alloc(), NfsReply::Commit(refused), &[22, 0, 0])?);
+    assert!(rt; is_written(rt.alloc(), &[10003, 0], &[], &[], NfsReply::Readdir(page))?);
+    let page = ReaddirplusReply {
+        attributes: Some(SHOWN),
+        result: Err(NfsStatus::TooSmall),
+    };
+    let reply = NfsReply::Readdirplus(page);
+    assert!(rt; is_written(rt.alloc(), &[10005, 1], &DIRECTORY, &[], reply)?);
     Ok(())
 }

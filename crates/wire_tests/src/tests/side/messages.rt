@@ -1,58 +1,19 @@
 //! Calls that the server makes, and what they are answered.
 
-ghost use Rattle.std.specs.Prelude.{◌≡◌};
 ghost use Rattle.side_wire.specs.Messages.{HasCallbackForm, HasTestArgumentsForm};
 
-use super::{COOKIE, HOLDER, LOCK, cookie, holder, lock, result};
-use crate::tests::{behind_a_byte, bytes_of, has_written, joined, record};
+use super::{COOKIE, HOLDER, LOCK, Told, lock, result, test_result};
+use crate::tests::arguments::{Format, Garbage, all_are_garbage, fronts_are_garbage};
+use crate::tests::{BEHIND, behind_a_byte, has_written, joined, record};
 use bytes::Bytes;
 use nfs_xdr::SharedReader;
 use side_wire::{
-    ArgumentsError, Callback, Message, NlmResult, NlmStatus, TestArguments, TestResult, TestStatus,
-    callbacks_are_calls, read_granted_result, write_message,
+    Callback, Message, NlmStatus, TestArguments, callbacks_are_calls, read_granted_result,
+    write_message,
 };
 use std::alloc::Global;
+use std::process::Abort;
 use std::test::Fail;
-
-/// Whether the callback is written as a call of the procedure with the words as arguments.
-fn is_written(
-    alloc: Global,
-    call: Callback,
-    procedure: u32,
-    front: &[u32],
-    back: &[u32],
-) -> Result<bool, Fail>
-    requires { HasCallbackForm call }
-{
-    let header = [0x1234_5678, 0, 2, 100021, 4, procedure, 0, 0, 0, 0];
-    is_message(alloc, &message(call), &header, front, back)
-}
-
-/// Whether the words in three parts are written of the message.
-fn is_message(
-    alloc: Global,
-    message: &Message,
-    header: &[u32],
-    front: &[u32],
-    back: &[u32],
-) -> Result<bool, Fail>
-    requires { HasCallbackForm message.now.call }
-{
-    let expected = joined(alloc, header, front, back)?;
-    let mut writer = behind_a_byte(alloc)?;
-    write_message(&mut writer, 0x1234_5678, message)?;
-    Ok(has_written(writer, expected.as_slice()))
-}
-
-/// The callback as a message to a host.
-fn message(call: Callback) -> Message
-    ensures { result.call ≡ call }
-{
-    Message {
-        host: Bytes::from_static(b"host"),
-        call,
-    }
-}
 
 fn arguments() -> TestArguments
     ensures { HasTestArgumentsForm result }
@@ -64,123 +25,156 @@ fn arguments() -> TestArguments
     }
 }
 
-/// The words of the cookie and of exclusive.
-const GRANT: [u32; 4] = [8, 1, 2, 1];
-
-#[test]
-fn granted_is_written(rt: HostRuntime) -> Result<(), Fail> {
-    let call = Callback::Granted(arguments());
-    assert!(rt; is_written(rt.alloc(), call, 5, &GRANT, &LOCK)?);
-    callbacks_are_calls();
-    Ok(())
+/// The callback of this procedure.
+fn callback(procedure: u32, told: Told) -> Callback
+    ensures { HasCallbackForm result }
+{
+    match told {
+        Told::Nothing => granted(procedure),
+        Told::Status(status) => result_of(procedure, status),
+        Told::Test(number) => Callback::TestRes(test_result(number)),
+    }
 }
 
-#[test]
-fn granted_msg_is_written(rt: HostRuntime) -> Result<(), Fail> {
-    let call = Callback::GrantedMsg(arguments());
-    assert!(rt; is_written(rt.alloc(), call, 10, &GRANT, &LOCK)?);
-    Ok(())
+fn granted(procedure: u32) -> Callback
+    ensures { HasCallbackForm result }
+{
+    match procedure {
+        5 => Callback::Granted(arguments()),
+        _ => Callback::GrantedMsg(arguments()),
+    }
 }
 
-#[test]
-fn test_res_is_written_with_a_holder(rt: HostRuntime) -> Result<(), Fail> {
-    let denied = TestResult {
-        cookie: cookie(),
-        status: TestStatus::Denied(holder()),
-    };
-    let call = Callback::TestRes(denied);
-    let front = [2, 0x6162_0000, 1];
-    assert!(rt; is_written(rt.alloc(), call, 11, &front, &HOLDER)?);
-    Ok(())
+fn result_of(procedure: u32, status: NlmStatus) -> Callback
+    ensures { HasCallbackForm result }
+{
+    match procedure {
+        12 => Callback::LockRes(result(status)),
+        13 => Callback::CancelRes(result(status)),
+        14 => Callback::UnlockRes(result(status)),
+        _ => Callback::GrantedRes(result(status)),
+    }
 }
 
-#[test]
-fn test_res_is_written_without_a_holder(rt: HostRuntime) -> Result<(), Fail> {
-    let granted = TestResult {
-        cookie: cookie(),
-        status: TestStatus::Granted,
-    };
-    let call = Callback::TestRes(granted);
-    assert!(rt; is_written(rt.alloc(), call, 11, &COOKIE, &[0])?);
-    Ok(())
+/// The callback as a message to a host.
+fn message(procedure: u32, told: Told) -> Message
+    ensures { HasCallbackForm result.call }
+{
+    Message {
+        host: Bytes::from_static(b"host"),
+        call: callback(procedure, told),
+    }
 }
 
-#[test]
-fn lock_res_is_written(rt: HostRuntime) -> Result<(), Fail> {
-    let call = Callback::LockRes(result(NlmStatus::Blocked));
-    assert!(rt; is_written(rt.alloc(), call, 12, &COOKIE, &[3])?);
-    Ok(())
+/// The procedure of a callback, the words of its arguments in two parts, and what it tells.
+struct Sending(u32, &'static [u32], &'static [u32], Told);
+
+/// Whether the callback is written as a call of the procedure with the words as arguments.
+fn is_written(alloc: Global, sending: &Sending) -> Result<bool, Fail> {
+    let message = message(sending.0, sending.3);
+    let is_written = is_message(alloc, sending, &message);
+    drop(message);
+    is_written
 }
 
-#[test]
-fn cancel_res_is_written(rt: HostRuntime) -> Result<(), Fail> {
-    let call = Callback::CancelRes(result(NlmStatus::Denied));
-    assert!(rt; is_written(rt.alloc(), call, 13, &COOKIE, &[1])?);
-    Ok(())
+/// The same of a message that is lent.
+fn is_message(alloc: Global, sending: &Sending, message: &Message) -> Result<bool, Fail>
+    requires { HasCallbackForm message.now.call }
+{
+    let header = [0x1234_5678, 0, 2, 100021, 4, sending.0, 0, 0, 0, 0];
+    let expected = joined(alloc, &header, sending.1, sending.2)?;
+    let mut writer = behind_a_byte(alloc)?;
+    write_message(&mut writer, 0x1234_5678, message)?;
+    Ok(has_written(writer, expected.as_slice()))
 }
 
-#[test]
-fn unlock_res_is_written(rt: HostRuntime) -> Result<(), Fail> {
-    let call = Callback::UnlockRes(result(NlmStatus::Granted));
-    assert!(rt; is_written(rt.alloc(), call, 14, &COOKIE, &[0])?);
-    Ok(())
-}
-
-#[test]
-fn granted_res_is_written(rt: HostRuntime) -> Result<(), Fail> {
-    let call = Callback::GrantedRes(result(NlmStatus::Denied));
-    assert!(rt; is_written(rt.alloc(), call, 15, &COOKIE, &[1])?);
-    Ok(())
-}
-
-/// What is read of these bytes, as an answer.
-fn read(alloc: Global, bytes: &[u8]) -> Result<Result<NlmResult, ArgumentsError>, Fail> {
-    let record = record(alloc, bytes)?;
-    Ok(read_granted_result(SharedReader::new(&record)))
-}
-
-/// Whether the bytes are no answer.
-fn is_garbage(alloc: Global, bytes: &[u8]) -> Result<bool, Fail> {
-    Ok(read(alloc, bytes)? == Err(ArgumentsError::Garbage))
-}
-
-/// Whether this number behind the cookie, with a byte behind it, is read as this status.
-fn is_answer(alloc: Global, number: u8, status: NlmStatus) -> Result<bool, Fail> {
-    let answer = bytes_of(alloc, &COOKIE, &[0, 0, 0, number, 9])?;
-    Ok(read(alloc, answer.as_slice())? == Ok(result(status)))
-}
-
-#[test]
-fn an_answer_is_read(rt: HostRuntime) -> Result<(), Fail> {
-    assert!(rt; is_answer(rt.alloc(), 0, NlmStatus::Granted)?);
-    assert!(rt; is_answer(rt.alloc(), 1, NlmStatus::Denied)?);
-    assert!(rt; is_answer(rt.alloc(), 9, NlmStatus::Failed)?);
-    Ok(())
-}
-
-#[test]
-fn an_answer_that_is_cut_is_garbage(rt: HostRuntime) -> Result<(), Fail> {
-    let answer = bytes_of(rt.alloc(), &COOKIE, &[0, 0, 0, 1])?;
-    for length in 0..answer.len() {
-        assert!(rt; is_garbage(rt.alloc(), &answer.as_slice()[..length])?);
+/// The callbacks are written so.
+fn are_written(rt: &(impl Abort + AllocGlobal), sendings: &[Sending]) -> Result<(), Fail> {
+    for sending in sendings {
+        assert!(rt;
+            is_written(rt.alloc(), sending)?,
+            "{} {:?}",
+            sending.0,
+            sending.2
+        );
     }
     Ok(())
 }
 
 #[test]
-fn an_answer_with_another_status_is_garbage(rt: HostRuntime) -> Result<(), Fail> {
-    let answer = bytes_of(rt.alloc(), &COOKIE, &[0, 0, 0, 10])?;
-    assert!(rt; is_garbage(rt.alloc(), answer.as_slice())?);
+fn callbacks_are_written(rt: HostRuntime) -> Result<(), Fail> {
+    callbacks_are_calls();
+    are_written(
+        &rt,
+        &[
+            Sending(5, &[8, 1, 2, 1], &LOCK, Told::Nothing),
+            Sending(10, &[8, 1, 2, 1], &LOCK, Told::Nothing),
+            Sending(11, &[2, 0x6162_0000, 1], &HOLDER, Told::Test(1)),
+            Sending(11, &COOKIE, &[0], Told::Test(0)),
+            Sending(12, &COOKIE, &[3], Told::Status(NlmStatus::Blocked)),
+            Sending(13, &COOKIE, &[1], Told::Status(NlmStatus::Denied)),
+            Sending(14, &COOKIE, &[0], Told::Status(NlmStatus::Granted)),
+            Sending(15, &COOKIE, &[1], Told::Status(NlmStatus::Denied)),
+        ],
+    )
+}
+
+/// An answer as words in two parts, its cookie and its status.
+struct Answer(&'static [u32], &'static [u32], &'static [u8], NlmStatus);
+
+/// Whether the bytes are read as this answer.
+fn is_answer(alloc: Global, bytes: &[u8], answer: &Answer) -> Result<bool, Fail> {
+    let record = record(alloc, bytes)?;
+    Ok(match read_granted_result(SharedReader::new(&record)) {
+        Ok(read) => read.cookie.as_slice() == answer.2 && read.status == answer.3,
+        Err(_) => false,
+    })
+}
+
+/// Whether the words are read as the answer, with nothing and with bytes behind them, and every shorter front is
+/// garbage.
+fn is_read(alloc: Global, answer: &Answer) -> Result<bool, Fail> {
+    let mut bytes = joined(alloc, answer.0, answer.1, &[])?;
+    if !fronts_are_garbage(alloc, Format::Granted, bytes.as_slice())?
+        || !is_answer(alloc, bytes.as_slice(), answer)?
+    {
+        return Ok(false);
+    }
+    bytes.extend_from_slice(&BEHIND)?;
+    is_answer(alloc, bytes.as_slice(), answer)
+}
+
+/// The words are read as those answers.
+fn are_read(rt: &(impl Abort + AllocGlobal), answers: &[Answer]) -> Result<(), Fail> {
+    for answer in answers {
+        assert!(rt; is_read(rt.alloc(), answer)?, "{:?}", answer.1);
+    }
     Ok(())
 }
 
+/// A cookie has at most 1024 bytes.
 #[test]
-fn an_answers_cookie_has_at_most_1024_bytes(rt: HostRuntime) -> Result<(), Fail> {
-    let at_bound = bytes_of(rt.alloc(), &[1024], &[0; 1028])?;
-    assert!(rt; read(rt.alloc(), at_bound.as_slice())?.is_ok());
-    let above = bytes_of(rt.alloc(), &[1025], &[0; 1032])?;
-    assert!(rt; is_garbage(rt.alloc(), above.as_slice())?);
-    Ok(())
+fn an_answer_is_read(rt: HostRuntime) -> Result<(), Fail> {
+    are_read(
+        &rt,
+        &[
+            Answer(&COOKIE, &[0], b"ab", NlmStatus::Granted),
+            Answer(&COOKIE, &[1], b"ab", NlmStatus::Denied),
+            Answer(&COOKIE, &[9], b"ab", NlmStatus::Failed),
+            Answer(&[1024], &[0; 257], &[0; 1024], NlmStatus::Granted),
+        ],
+    )
+}
+
+#[test]
+fn other_answers_are_garbage(rt: HostRuntime) -> Result<(), Fail> {
+    all_are_garbage(
+        &rt,
+        &[
+            Garbage(Format::Granted, &COOKIE, &[10], &[]),
+            Garbage(Format::Granted, &[1025], &[0; 258], &[]),
+        ],
+    )
 }
 
 /// Whether the message can be copied.
@@ -189,7 +183,6 @@ fn is_copied(message: Message) -> bool {
 }
 
 #[test]
-fn a_message_is_copied(rt: HostRuntime) -> Result<(), Fail> {
-    assert!(rt; is_copied(message(Callback::Granted(arguments()))));
-    Ok(())
+fn a_message_is_copied(rt: HostRuntime) {
+    assert!(rt; is_copied(message(5, Told::Nothing)));
 }

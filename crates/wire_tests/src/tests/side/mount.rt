@@ -4,22 +4,19 @@ ghost use Rattle.std.specs.Prelude.{IfOk};
 ghost use Rattle.std.specs.List.{All};
 ghost use Rattle.side_wire.specs.Mount.{HasMountForm, HasMountBodyForm, HasExportNodeForm, IsHostName};
 
-use crate::tests::{behind_a_byte, bytes_of, has_written, record};
+use crate::tests::arguments::{Format, Garbage, all_are_garbage, fronts_are_garbage};
+use crate::tests::{BEHIND, behind_a_byte, has_written, joined, record};
 use bytes::Bytes;
 use nfs_xdr::SharedReader;
 use side_wire::{
-    ArgumentsError, ExportList, ExportNode, Groups, MountBody, MountCall, MountList, MountReply,
-    MountStatus, mount,
+    ExportList, ExportNode, Groups, MountBody, MountCall, MountList, MountReply, MountStatus, mount,
 };
 use std::alloc::{AllocError, Global};
+use std::process::Abort;
 use std::test::Fail;
 
-/// Whether the bytes are no arguments of the procedure.
-fn is_garbage(alloc: Global, procedure: u32, bytes: &[u8]) -> Result<bool, Fail> {
-    let record = record(alloc, bytes)?;
-    let refusal = mount::read_args(procedure, SharedReader::new(&record)).err();
-    Ok(refusal == Some(ArgumentsError::Garbage))
-}
+/// Words of a procedure's arguments in two parts, and the path as which they are read, or nothing.
+struct Reading(u32, &'static [u32], &'static [u32], &'static [u8]);
 
 /// Whether the bytes are read as the call of the procedure, with this path or with none.
 fn is_call(alloc: Global, procedure: u32, bytes: &[u8], path: &[u8]) -> Result<bool, Fail> {
@@ -42,124 +39,130 @@ fn is_of(call: &MountCall, procedure: u32, path: &[u8]) -> bool {
     }
 }
 
-/// Whether these bytes are written of the reply.
-fn is_written(alloc: Global, reply: MountReply, bytes: &[u8]) -> Result<bool, Fail>
-    requires { HasMountForm reply }
-{
-    let is_written = is_result(alloc, &reply, bytes);
-    drop(reply);
-    is_written
-}
-
-/// The same of a reply that is lent.
-fn is_result(alloc: Global, reply: &MountReply, bytes: &[u8]) -> Result<bool, Fail>
-    requires { HasMountForm reply.now }
-{
-    let mut writer = behind_a_byte(alloc)?;
-    mount::write_result(&mut writer, reply)?;
-    Ok(has_written(writer, bytes))
-}
-
-#[test]
-fn four_procedures_have_no_arguments(rt: HostRuntime) -> Result<(), Fail> {
-    for procedure in [0, 2, 4, 5] {
-        assert!(rt; is_call(rt.alloc(), procedure, &[], &[])?);
-        assert!(rt; is_call(rt.alloc(), procedure, &[1, 2, 3, 4, 5], &[])?);
+/// Whether the words are read as that call, with nothing and with bytes behind them, and every shorter front is
+/// garbage.
+fn is_read(alloc: Global, reading: &Reading) -> Result<bool, Fail> {
+    let Reading(procedure, front, back, path) = reading;
+    let mut bytes = joined(alloc, front, back, &[])?;
+    if !fronts_are_garbage(alloc, Format::Mount(*procedure), bytes.as_slice())?
+        || !is_call(alloc, *procedure, bytes.as_slice(), path)?
+    {
+        return Ok(false);
     }
-    mount::one_call_is_spelled();
-    Ok(())
+    bytes.extend_from_slice(&BEHIND)?;
+    is_call(alloc, *procedure, bytes.as_slice(), path)
 }
 
-#[test]
-fn a_path_is_read_with_any_padding(rt: HostRuntime) -> Result<(), Fail> {
-    for behind in [[0, 0, 0, 9], [1, 2, 3, 4]] {
-        let mut arguments = bytes_of(rt.alloc(), &[5], b"/data")?;
-        arguments.extend_from_slice(&behind)?;
-        assert!(rt; is_call(rt.alloc(), 1, arguments.as_slice(), b"/data")?);
-        assert!(rt; is_call(rt.alloc(), 3, arguments.as_slice(), b"/data")?);
-    }
-    Ok(())
-}
-
-#[test]
-fn a_path_that_is_cut_is_garbage(rt: HostRuntime) -> Result<(), Fail> {
-    let arguments = bytes_of(rt.alloc(), &[5], b"/data\0\0\0")?;
-    for length in 0..arguments.len() {
-        assert!(rt; is_garbage(rt.alloc(), 1, &arguments.as_slice()[..length])?);
-        assert!(rt; is_garbage(rt.alloc(), 3, &arguments.as_slice()[..length])?);
-    }
-    Ok(())
-}
-
-#[test]
-fn a_path_has_at_most_1024_bytes(rt: HostRuntime) -> Result<(), Fail> {
-    let path = [b'/'; 1024];
-    let at_bound = bytes_of(rt.alloc(), &[1024], &path)?;
-    assert!(rt; is_call(rt.alloc(), 1, at_bound.as_slice(), &path)?);
-    assert!(rt; is_call(rt.alloc(), 3, at_bound.as_slice(), &path)?);
-    Ok(())
-}
-
-#[test]
-fn a_path_above_1024_bytes_is_garbage(rt: HostRuntime) -> Result<(), Fail> {
-    let above = bytes_of(rt.alloc(), &[1025], &[b'/'; 1028])?;
-    assert!(rt; is_garbage(rt.alloc(), 1, above.as_slice())?);
-    assert!(rt; is_garbage(rt.alloc(), 3, above.as_slice())?);
-    Ok(())
-}
-
-#[test]
-fn a_procedure_that_is_not_is_garbage(rt: HostRuntime) -> Result<(), Fail> {
-    assert!(rt; is_garbage(rt.alloc(), 6, &[])?);
-    assert!(rt; is_garbage(rt.alloc(), u32::MAX, &[0, 0, 0, 0])?);
-    Ok(())
-}
-
-#[test]
-fn three_procedures_have_no_result(rt: HostRuntime) -> Result<(), Fail> {
-    assert!(rt; is_written(rt.alloc(), MountReply::Null, &[])?);
-    assert!(rt; is_written(rt.alloc(), MountReply::Unmount, &[])?);
-    assert!(rt; is_written(rt.alloc(), MountReply::UnmountAll, &[])?);
-    Ok(())
-}
-
-#[test]
-fn a_handle_is_written(rt: HostRuntime) -> Result<(), Fail> {
-    let expected = bytes_of(rt.alloc(), &[0, 6, 0x6162_6364, 0x6566_0000, 1, 1], &[])?;
-    let handle = Bytes::from_static(b"abcdef");
-    assert!(rt; is_written(rt.alloc(), MountReply::Mnt(Ok(handle)), expected.as_slice())?);
-    Ok(())
-}
-
-#[test]
-fn refusals_are_written(rt: HostRuntime) -> Result<(), Fail> {
-    for (status, number) in [
-        (MountStatus::Permission, 1),
-        (MountStatus::NoEntry, 2),
-        (MountStatus::Io, 5),
-        (MountStatus::Access, 13),
-        (MountStatus::NotDirectory, 20),
-        (MountStatus::Invalid, 22),
-        (MountStatus::NameTooLong, 63),
-        (MountStatus::NotSupported, 10004),
-        (MountStatus::ServerFault, 10006),
-    ] {
-        let expected = bytes_of(rt.alloc(), &[number], &[])?;
+/// The words are read as those calls.
+fn are_read(rt: &(impl Abort + AllocGlobal), readings: &[Reading]) -> Result<(), Fail> {
+    for reading in readings {
         assert!(rt;
-            is_written(
-                rt.alloc(),
-                MountReply::Mnt(Err(status)),
-                expected.as_slice()
-            )?
+            is_read(rt.alloc(), reading)?,
+            "{} {:?}",
+            reading.0,
+            reading.2
         );
     }
     Ok(())
 }
 
+/// A path has at most 1024 bytes, and its padding is any bytes.
 #[test]
-fn no_mounts_are_written(rt: HostRuntime) -> Result<(), Fail> {
-    let none = MountList::from_vec(Vec::new(rt.alloc()));
-    assert!(rt; is_written(rt.alloc(), MountReply::Dump(none), &[0, 0, 0, 0])?);
+fn calls_are_read(rt: HostRuntime) -> Result<(), Fail> {
+    mount::one_call_is_spelled();
+    are_read(
+        &rt,
+        &[
+            Reading(0, &[], &[], b""),
+            Reading(1, &[5], &[0x2f64_6174, 0x6100_0000], b"/data"),
+            Reading(1, &[5], &[0x2f64_6174, 0x6101_0203], b"/data"),
+            Reading(1, &[1024], &[0x2f2f_2f2f; 256], &[b'/'; 1024]),
+            Reading(2, &[], &[], b""),
+            Reading(3, &[5], &[0x2f64_6174, 0x6100_0000], b"/data"),
+            Reading(3, &[5], &[0x2f64_6174, 0x6101_0203], b"/data"),
+            Reading(3, &[1024], &[0x2f2f_2f2f; 256], &[b'/'; 1024]),
+            Reading(4, &[], &[], b""),
+            Reading(5, &[], &[], b""),
+        ],
+    )
+}
+
+/// A path above 1024 bytes, and procedures that are not.
+#[test]
+fn other_arguments_are_garbage(rt: HostRuntime) -> Result<(), Fail> {
+    all_are_garbage(
+        &rt,
+        &[
+            Garbage(Format::Mount(1), &[1025], &[0x2f2f_2f2f; 257], &[]),
+            Garbage(Format::Mount(3), &[1025], &[0x2f2f_2f2f; 257], &[]),
+            Garbage(Format::Mount(6), &[], &[], &[]),
+            Garbage(Format::Mount(u32::MAX), &[0], &[], &[]),
+        ],
+    )
+}
+
+/// What is answered.
+#[derive(Clone, Copy)]
+enum Told {
+    Null,
+    Unmount,
+    UnmountAll,
+    /// The handle `abcdef`.
+    Handle,
+    Refusal(MountStatus),
+    NoMount,
+    Mounts,
+    NoExport,
+    Exports,
+}
+
+/// The words of a reply in two parts, and what it is.
+struct Writing(&'static [u32], &'static [u32], Told);
+
+fn reply_of(alloc: Global, told: Told) -> Result<MountReply, AllocError>
+    ensures { IfOk result HasMountForm }
+{
+    Ok(match told {
+        Told::Null => MountReply::Null,
+        Told::Unmount => MountReply::Unmount,
+        Told::UnmountAll => MountReply::UnmountAll,
+        Told::Handle => MountReply::Mnt(Ok(Bytes::from_static(b"abcdef"))),
+        Told::Refusal(status) => MountReply::Mnt(Err(status)),
+        Told::NoMount => MountReply::Dump(MountList::from_vec(Vec::new(alloc))),
+        Told::Mounts => MountReply::Dump(mounts(alloc)?),
+        Told::NoExport => MountReply::Export(ExportList::from_vec(Vec::new(alloc))),
+        Told::Exports => MountReply::Export(exports(alloc)?),
+    })
+}
+
+/// Whether the words are written of the reply.
+fn is_written(alloc: Global, writing: &Writing) -> Result<bool, Fail> {
+    let reply = reply_of(alloc, writing.2)?;
+    let is_written = is_result(alloc, writing, &reply);
+    drop(reply);
+    is_written
+}
+
+/// The same of a reply that is lent.
+fn is_result(alloc: Global, writing: &Writing, reply: &MountReply) -> Result<bool, Fail>
+    requires { HasMountForm reply.now }
+{
+    let expected = joined(alloc, writing.0, writing.1, &[])?;
+    let mut writer = behind_a_byte(alloc)?;
+    mount::write_result(&mut writer, reply)?;
+    Ok(has_written(writer, expected.as_slice()))
+}
+
+/// The words are written of those replies.
+fn are_written(rt: &(impl Abort + AllocGlobal), writings: &[Writing]) -> Result<(), Fail> {
+    for writing in writings {
+        assert!(rt;
+            is_written(rt.alloc(), writing)?,
+            "{:?} {:?}",
+            writing.0,
+            writing.1
+        );
+    }
     Ok(())
 }
 
@@ -176,39 +179,6 @@ fn mounts(alloc: Global) -> Result<MountList, AllocError>
         directory: Bytes::from_static(b"/"),
     })?;
     Ok(MountList::from_vec(mounts))
-}
-
-#[test]
-fn mounts_are_written_in_their_order(rt: HostRuntime) -> Result<(), Fail> {
-    let words = [
-        1,
-        3,
-        0x3a3a_3100,
-        4,
-        0x2f61_6263,
-        1,
-        4,
-        0x686f_7374,
-        1,
-        0x2f00_0000,
-        0,
-    ];
-    let expected = bytes_of(rt.alloc(), &words, &[])?;
-    assert!(rt;
-        is_written(
-            rt.alloc(),
-            MountReply::Dump(mounts(rt.alloc())?),
-            expected.as_slice()
-        )?
-    );
-    Ok(())
-}
-
-#[test]
-fn no_exports_are_written(rt: HostRuntime) -> Result<(), Fail> {
-    let none = ExportList::from_vec(Vec::new(rt.alloc()));
-    assert!(rt; is_written(rt.alloc(), MountReply::Export(none), &[0, 0, 0, 0])?);
-    Ok(())
 }
 
 fn hosts(alloc: Global) -> Result<Groups, AllocError>
@@ -235,35 +205,47 @@ fn exports(alloc: Global) -> Result<ExportList, AllocError>
     Ok(ExportList::from_vec(exports))
 }
 
-/// Whether these bytes are written of the exports.
-fn are_written(alloc: Global, exports: ExportList, bytes: &[u8]) -> Result<bool, Fail>
-    requires { All HasExportNodeForm exports }
-{
-    is_written(alloc, MountReply::Export(exports), bytes)
+#[test]
+fn results_are_written(rt: HostRuntime) -> Result<(), Fail> {
+    are_written(
+        &rt,
+        &[
+            Writing(&[], &[], Told::Null),
+            Writing(&[], &[], Told::Unmount),
+            Writing(&[], &[], Told::UnmountAll),
+            Writing(&[0, 6, 0x6162_6364, 0x6566_0000, 1, 1], &[], Told::Handle),
+            Writing(&[0], &[], Told::NoMount),
+            Writing(
+                &[1, 3, 0x3a3a_3100, 4, 0x2f61_6263, 1, 4, 0x686f_7374],
+                &[1, 0x2f00_0000, 0],
+                Told::Mounts,
+            ),
+            Writing(&[0], &[], Told::NoExport),
+            Writing(
+                &[1, 4, 0x2f61_6263, 0, 1, 1, 0x2f00_0000],
+                &[1, 3, 0x3a3a_3100, 1, 4, 0x686f_7374, 0, 0],
+                Told::Exports,
+            ),
+        ],
+    )
 }
 
 #[test]
-fn exports_are_written_with_their_hosts(rt: HostRuntime) -> Result<(), Fail> {
-    let words = [
-        1,
-        4,
-        0x2f61_6263,
-        0,
-        1,
-        1,
-        0x2f00_0000,
-        1,
-        3,
-        0x3a3a_3100,
-        1,
-        4,
-        0x686f_7374,
-        0,
-        0,
-    ];
-    let expected = bytes_of(rt.alloc(), &words, &[])?;
-    assert!(rt; are_written(rt.alloc(), exports(rt.alloc())?, expected.as_slice())?);
-    Ok(())
+fn refusals_are_written(rt: HostRuntime) -> Result<(), Fail> {
+    are_written(
+        &rt,
+        &[
+            Writing(&[1], &[], Told::Refusal(MountStatus::Permission)),
+            Writing(&[2], &[], Told::Refusal(MountStatus::NoEntry)),
+            Writing(&[5], &[], Told::Refusal(MountStatus::Io)),
+            Writing(&[13], &[], Told::Refusal(MountStatus::Access)),
+            Writing(&[20], &[], Told::Refusal(MountStatus::NotDirectory)),
+            Writing(&[22], &[], Told::Refusal(MountStatus::Invalid)),
+            Writing(&[63], &[], Told::Refusal(MountStatus::NameTooLong)),
+            Writing(&[10004], &[], Told::Refusal(MountStatus::NotSupported)),
+            Writing(&[10006], &[], Told::Refusal(MountStatus::ServerFault)),
+        ],
+    )
 }
 
 #[test]

@@ -1,186 +1,166 @@
 //! Results.
 
-ghost use Rattle.side_wire.specs.Nlm.{HasNlmForm, HasTestResultForm, HasTestStatusForm};
+ghost use Rattle.side_wire.specs.Nlm.{HasNlmForm};
 
-use super::super::{COOKIE, HOLDER, cookie, holder, result};
-use super::is_call;
-use crate::tests::{behind_a_byte, bytes_of, has_written, joined};
-use side_wire::{NlmCall, NlmReply, NlmStatus, TestResult, TestStatus, nlm};
+use super::super::{COOKIE, HOLDER, Told, result, test_result};
+use crate::tests::{behind_a_byte, has_written, joined};
+use side_wire::{NlmReply, NlmStatus, nlm};
 use std::alloc::Global;
+use std::process::Abort;
 use std::test::Fail;
 
-/// Whether these words in two parts are written of the reply.
-fn is_written(alloc: Global, reply: NlmReply, front: &[u32], back: &[u32]) -> Result<bool, Fail>
-    requires { HasNlmForm reply }
+/// The reply to a procedure that has no result.
+fn void(procedure: u32) -> NlmReply
+    ensures { HasNlmForm result }
 {
-    let is_written = is_result(alloc, &reply, front, back);
+    match procedure {
+        0 => NlmReply::Null,
+        6 => NlmReply::TestMsg,
+        7 => NlmReply::LockMsg,
+        8 => NlmReply::CancelMsg,
+        9 => NlmReply::UnlockMsg,
+        10 => NlmReply::GrantedMsg,
+        11 => NlmReply::TestRes,
+        12 => NlmReply::LockRes,
+        13 => NlmReply::CancelRes,
+        14 => NlmReply::UnlockRes,
+        15 => NlmReply::GrantedRes,
+        _ => NlmReply::FreeAll,
+    }
+}
+
+fn result_of(procedure: u32, status: NlmStatus) -> NlmReply
+    ensures { HasNlmForm result }
+{
+    match procedure {
+        2 => NlmReply::Lock(result(status)),
+        3 => NlmReply::Cancel(result(status)),
+        4 => NlmReply::Unlock(result(status)),
+        5 => NlmReply::Granted(result(status)),
+        20 => NlmReply::Share(result(status)),
+        21 => NlmReply::Unshare(result(status)),
+        _ => NlmReply::NmLock(result(status)),
+    }
+}
+
+/// The reply to a procedure.
+fn reply_of(procedure: u32, told: Told) -> NlmReply
+    ensures { HasNlmForm result }
+{
+    match told {
+        Told::Nothing => void(procedure),
+        Told::Status(status) => result_of(procedure, status),
+        Told::Test(number) => NlmReply::Test(test_result(number)),
+    }
+}
+
+/// A procedure, the words of its result in two parts, and what it tells.
+struct Writing(u32, &'static [u32], &'static [u32], Told);
+
+/// Whether the words are written of the reply.
+fn is_written(alloc: Global, writing: &Writing) -> Result<bool, Fail> {
+    let reply = reply_of(writing.0, writing.3);
+    let is_written = is_result(alloc, writing, &reply);
     drop(reply);
     is_written
 }
 
 /// The same of a reply that is lent.
-fn is_result(alloc: Global, reply: &NlmReply, front: &[u32], back: &[u32]) -> Result<bool, Fail>
+fn is_result(alloc: Global, writing: &Writing, reply: &NlmReply) -> Result<bool, Fail>
     requires { HasNlmForm reply.now }
 {
-    let expected = joined(alloc, front, back, &[])?;
+    let expected = joined(alloc, writing.1, writing.2, &[])?;
     let mut writer = behind_a_byte(alloc)?;
     nlm::write_result(&mut writer, reply)?;
     Ok(has_written(writer, expected.as_slice()))
 }
 
-/// Whether nothing is written of the reply.
-fn is_void(alloc: Global, reply: NlmReply) -> Result<bool, Fail>
-    requires { HasNlmForm reply }
-{
-    is_written(alloc, reply, &[], &[])
-}
-
-#[test]
-fn null_and_free_all_have_no_result(rt: HostRuntime) -> Result<(), Fail> {
-    assert!(rt; is_void(rt.alloc(), NlmReply::Null)?);
-    assert!(rt; is_void(rt.alloc(), NlmReply::FreeAll)?);
+/// The words are written of those replies.
+fn are_written(rt: &(impl Abort + AllocGlobal), writings: &[Writing]) -> Result<(), Fail> {
+    for writing in writings {
+        assert!(rt;
+            is_written(rt.alloc(), writing)?,
+            "{} {:?}",
+            writing.0,
+            writing.2
+        );
+    }
     Ok(())
 }
 
+/// NULL and FREE_ALL, messages, and results of messages.
 #[test]
-fn messages_have_no_result(rt: HostRuntime) -> Result<(), Fail> {
-    assert!(rt; is_void(rt.alloc(), NlmReply::TestMsg)?);
-    assert!(rt; is_void(rt.alloc(), NlmReply::LockMsg)?);
-    assert!(rt; is_void(rt.alloc(), NlmReply::CancelMsg)?);
-    assert!(rt; is_void(rt.alloc(), NlmReply::UnlockMsg)?);
-    assert!(rt; is_void(rt.alloc(), NlmReply::GrantedMsg)?);
-    Ok(())
-}
-
-#[test]
-fn results_of_messages_have_no_result(rt: HostRuntime) -> Result<(), Fail> {
-    assert!(rt; is_void(rt.alloc(), NlmReply::TestRes)?);
-    assert!(rt; is_void(rt.alloc(), NlmReply::LockRes)?);
-    assert!(rt; is_void(rt.alloc(), NlmReply::CancelRes)?);
-    assert!(rt; is_void(rt.alloc(), NlmReply::UnlockRes)?);
-    assert!(rt; is_void(rt.alloc(), NlmReply::GrantedRes)?);
-    Ok(())
-}
-
-/// A status with its number, read and written behind a cookie.
-fn has_number(alloc: Global, status: NlmStatus, number: u32) -> Result<bool, Fail> {
-    let bytes = bytes_of(alloc, &COOKIE, &number.to_be_bytes())?;
-    Ok(
-        is_call(
-            alloc,
-            12,
-            bytes.as_slice(),
-            NlmCall::LockRes(result(status)),
-        )? && is_written(alloc, NlmReply::Lock(result(status)), &COOKIE, &[number])?,
+fn twelve_procedures_have_no_result(rt: HostRuntime) -> Result<(), Fail> {
+    are_written(
+        &rt,
+        &[
+            Writing(0, &[], &[], Told::Nothing),
+            Writing(6, &[], &[], Told::Nothing),
+            Writing(7, &[], &[], Told::Nothing),
+            Writing(8, &[], &[], Told::Nothing),
+            Writing(9, &[], &[], Told::Nothing),
+            Writing(10, &[], &[], Told::Nothing),
+            Writing(11, &[], &[], Told::Nothing),
+            Writing(12, &[], &[], Told::Nothing),
+            Writing(13, &[], &[], Told::Nothing),
+            Writing(14, &[], &[], Told::Nothing),
+            Writing(15, &[], &[], Told::Nothing),
+            Writing(23, &[], &[], Told::Nothing),
+        ],
     )
 }
 
 #[test]
 fn statuses_have_their_numbers(rt: HostRuntime) -> Result<(), Fail> {
-    for (status, number) in [
-        (NlmStatus::Granted, 0),
-        (NlmStatus::Denied, 1),
-        (NlmStatus::DeniedNoLocks, 2),
-        (NlmStatus::Blocked, 3),
-        (NlmStatus::DeniedGracePeriod, 4),
-        (NlmStatus::Deadlock, 5),
-        (NlmStatus::ReadOnly, 6),
-        (NlmStatus::StaleHandle, 7),
-        (NlmStatus::FileTooBig, 8),
-        (NlmStatus::Failed, 9),
-    ] {
-        assert!(rt; has_number(rt.alloc(), status, number)?, "status {number}");
-    }
-    Ok(())
-}
-
-#[test]
-fn lock_and_nm_lock_are_written(rt: HostRuntime) -> Result<(), Fail> {
-    let reply = NlmReply::Lock(result(NlmStatus::DeniedGracePeriod));
-    assert!(rt; is_written(rt.alloc(), reply, &COOKIE, &[4])?);
-    let reply = NlmReply::NmLock(result(NlmStatus::Blocked));
-    assert!(rt; is_written(rt.alloc(), reply, &COOKIE, &[3])?);
-    Ok(())
-}
-
-#[test]
-fn cancel_and_unlock_are_written(rt: HostRuntime) -> Result<(), Fail> {
-    let reply = NlmReply::Cancel(result(NlmStatus::Denied));
-    assert!(rt; is_written(rt.alloc(), reply, &COOKIE, &[1])?);
-    let reply = NlmReply::Unlock(result(NlmStatus::Granted));
-    assert!(rt; is_written(rt.alloc(), reply, &COOKIE, &[0])?);
-    Ok(())
-}
-
-#[test]
-fn granted_is_written(rt: HostRuntime) -> Result<(), Fail> {
-    let reply = NlmReply::Granted(result(NlmStatus::Denied));
-    assert!(rt; is_written(rt.alloc(), reply, &COOKIE, &[1])?);
-    Ok(())
-}
-
-#[test]
-fn share_and_unshare_are_written_with_a_sequence(rt: HostRuntime) -> Result<(), Fail> {
-    let reply = NlmReply::Share(result(NlmStatus::Granted));
-    assert!(rt; is_written(rt.alloc(), reply, &COOKIE, &[0, 0])?);
-    let reply = NlmReply::Unshare(result(NlmStatus::StaleHandle));
-    assert!(rt; is_written(rt.alloc(), reply, &COOKIE, &[7, 0])?);
-    Ok(())
-}
-
-#[test]
-fn a_test_that_is_denied_is_written_with_a_holder(rt: HostRuntime) -> Result<(), Fail> {
-    let reply = NlmReply::Test(TestResult {
-        cookie: cookie(),
-        status: TestStatus::Denied(holder()),
-    });
-    assert!(rt; is_written(rt.alloc(), reply, &[2, 0x6162_0000, 1], &HOLDER)?);
-    Ok(())
-}
-
-/// The result of a TEST with that cookie.
-fn test_result(status: TestStatus) -> TestResult
-    requires { HasTestStatusForm status }
-    ensures { HasTestResultForm result }
-{
-    TestResult {
-        cookie: cookie(),
-        status,
-    }
-}
-
-/// A status of a TEST with its number, read and written behind a cookie.
-fn has_number_of_test(alloc: Global, status: TestStatus, number: u32) -> Result<bool, Fail>
-    requires { HasTestStatusForm status }
-{
-    let bytes = bytes_of(alloc, &COOKIE, &number.to_be_bytes())?;
-    let call = NlmCall::TestRes(test_result(status.clone()?));
-    Ok(
-        is_call(alloc, 11, bytes.as_slice(), call)?
-            && is_written(
-                alloc,
-                NlmReply::Test(test_result(status)),
-                &COOKIE,
-                &[number],
-            )?,
+    are_written(
+        &rt,
+        &[
+            Writing(2, &COOKIE, &[0], Told::Status(NlmStatus::Granted)),
+            Writing(2, &COOKIE, &[1], Told::Status(NlmStatus::Denied)),
+            Writing(2, &COOKIE, &[2], Told::Status(NlmStatus::DeniedNoLocks)),
+            Writing(2, &COOKIE, &[3], Told::Status(NlmStatus::Blocked)),
+            Writing(2, &COOKIE, &[4], Told::Status(NlmStatus::DeniedGracePeriod)),
+            Writing(2, &COOKIE, &[5], Told::Status(NlmStatus::Deadlock)),
+            Writing(2, &COOKIE, &[6], Told::Status(NlmStatus::ReadOnly)),
+            Writing(2, &COOKIE, &[7], Told::Status(NlmStatus::StaleHandle)),
+            Writing(2, &COOKIE, &[8], Told::Status(NlmStatus::FileTooBig)),
+            Writing(2, &COOKIE, &[9], Told::Status(NlmStatus::Failed)),
+        ],
     )
 }
 
+/// Those of a share have a sequence too.
 #[test]
-fn statuses_of_a_test_have_their_numbers(rt: HostRuntime) -> Result<(), Fail> {
-    assert!(rt; has_number_of_test(rt.alloc(), TestStatus::Granted, 0)?);
-    assert!(rt; has_number_of_test(rt.alloc(), TestStatus::DeniedNoLocks, 2)?);
-    assert!(rt; has_number_of_test(rt.alloc(), TestStatus::Blocked, 3)?);
-    assert!(rt; has_number_of_test(rt.alloc(), TestStatus::DeniedGracePeriod, 4)?);
-    assert!(rt; has_number_of_test(rt.alloc(), TestStatus::Deadlock, 5)?);
-    Ok(())
+fn results_are_written(rt: HostRuntime) -> Result<(), Fail> {
+    are_written(
+        &rt,
+        &[
+            Writing(3, &COOKIE, &[1], Told::Status(NlmStatus::Denied)),
+            Writing(4, &COOKIE, &[0], Told::Status(NlmStatus::Granted)),
+            Writing(5, &COOKIE, &[1], Told::Status(NlmStatus::Denied)),
+            Writing(22, &COOKIE, &[3], Told::Status(NlmStatus::Blocked)),
+            Writing(20, &COOKIE, &[0, 0], Told::Status(NlmStatus::Granted)),
+            Writing(21, &COOKIE, &[7, 0], Told::Status(NlmStatus::StaleHandle)),
+        ],
+    )
 }
 
+/// A TEST that is denied has a holder.
 #[test]
-fn further_statuses_of_a_test_have_their_numbers(rt: HostRuntime) -> Result<(), Fail> {
-    assert!(rt; has_number_of_test(rt.alloc(), TestStatus::ReadOnly, 6)?);
-    assert!(rt; has_number_of_test(rt.alloc(), TestStatus::StaleHandle, 7)?);
-    assert!(rt; has_number_of_test(rt.alloc(), TestStatus::FileTooBig, 8)?);
-    assert!(rt; has_number_of_test(rt.alloc(), TestStatus::Failed, 9)?);
-    Ok(())
+fn statuses_of_a_test_have_their_numbers(rt: HostRuntime) -> Result<(), Fail> {
+    are_written(
+        &rt,
+        &[
+            Writing(1, &COOKIE, &[0], Told::Test(0)),
+            Writing(1, &[2, 0x6162_0000, 1], &HOLDER, Told::Test(1)),
+            Writing(1, &COOKIE, &[2], Told::Test(2)),
+            Writing(1, &COOKIE, &[3], Told::Test(3)),
+            Writing(1, &COOKIE, &[4], Told::Test(4)),
+            Writing(1, &COOKIE, &[5], Told::Test(5)),
+            Writing(1, &COOKIE, &[6], Told::Test(6)),
+            Writing(1, &COOKIE, &[7], Told::Test(7)),
+            Writing(1, &COOKIE, &[8], Told::Test(8)),
+            Writing(1, &COOKIE, &[9], Told::Test(9)),
+        ],
+    )
 }
