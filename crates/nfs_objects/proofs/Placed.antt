@@ -1,6 +1,6 @@
 -- Lists by their places, as the entries of two views are compared; and what is seen where some stand behind others.
-use Rattle.std.specs.Prelude.{◌≡◌, ◌+◌, ◌++◌, ℕ, zero, suc, Bool, true, false, List, [], ◌∷◌, Some}
-use Rattle.std.specs.Prelude.{None, length, drop, slice_get, refl, not, is_some}
+use Rattle.std.specs.Prelude.{◌≡◌, ◌+◌, ◌++◌, ℕ, zero, suc, Bool, true, false, List, [], ◌∷◌}
+use Rattle.std.specs.Prelude.{Some, None, length, drop, slice_get, refl, not, is_some}
 use Rattle.std.proofs.Common.{cond, ◌&&◌, ◌∙◌, ap, arith, sym}
 use Rattle.std.specs.Cmp.Lexicographic.{pointwise}
 use Rattle.nfs_objects.specs.declared.address.Addr.{Addr}
@@ -12,7 +12,7 @@ module _ {X : Type 0} where
   rest-from [] i x is = cc
   rest-from (y ∷ xs) zero x is = ap (λ z. z ∷ xs) (let same : y ≡ x = cc in same)
   rest-from (y ∷ xs) (suc i) x is =
-      rest-from xs i x is ∙ ap (λ k. x ∷ drop k (y ∷ xs)) (let next : suc (i + 1) ≡ suc i + 1 = omega arith in next)
+      rest-from xs i x is ∙ ap (λ k. x ∷ drop k (y ∷ xs)) (let e : suc (i + 1) ≡ suc i + 1 = omega arith in e)
 
   -- so lists are compared place by place
   pub compared-from : (test : X → X → Bool) (xs ys : List X) (i : ℕ) (x y : X) → slice_get xs i ≡ Some x →

@@ -1,4 +1,5 @@
-use Rattle.std.proofs.Common.{◌≡◌, ◌+◌, ◌<◌, [], ◌∷◌, None, length, ap, arith, length-append, subst, sym, ◌∙◌}
+use Rattle.std.proofs.Common.{◌≡◌, ◌+◌, ◌<◌, [], ◌∷◌, None, length, ap, arith}
+use Rattle.std.proofs.Common.{length-append, subst, sym, ◌∙◌}
 use Rattle.nfs_objects.proofs.Seen.{reserved-last}
 use Rattle.nfs_objects.specs.Fits.{HoldsReserved}
 use Rattle.nfs_objects.specs.Rooms.{RoomyValue}

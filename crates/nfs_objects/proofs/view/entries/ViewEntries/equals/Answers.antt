@@ -1,5 +1,5 @@
-use Rattle.std.specs.Prelude.{◌≡◌, ◌+◌, Bool, true, false, not, is_some, length, drop, slice_get, option_map, refl}
-use Rattle.std.specs.Prelude.{Option, Some, None}
+use Rattle.std.specs.Prelude.{◌≡◌, ◌+◌, Bool, true, false, not, is_some, length, drop, slice_get, option_map}
+use Rattle.std.specs.Prelude.{refl, Option, Some, None}
 use Rattle.std.proofs.Common.{◌&&◌, ◌∙◌, sym, ap, arith, rules}
 use Rattle.std.specs.Cmp.Lexicographic.{pointwise}
 use Rattle.nfs_objects.proofs.Placed.{compared-from, ended-from, longer-from}
