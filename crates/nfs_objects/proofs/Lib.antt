@@ -3,6 +3,7 @@ pub mod Compared
 pub mod Drafted
 pub mod ExportTables
 pub mod Exported
+pub mod FileParts
 pub mod Grouped
 pub mod Knows
 pub mod Listed

@@ -8,6 +8,7 @@ pub mod Drafts
 pub mod Edits
 pub mod Entries
 pub mod ExportTables
+pub mod FileBytes
 pub mod Fits
 pub mod Knows
 pub mod Leaving

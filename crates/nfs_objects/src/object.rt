@@ -7,6 +7,7 @@ ghost use Rattle.nfs_objects.specs.Stands.{content_of, exports_of, inode_of, tab
 
 use crate::directory::Directory;
 use crate::exports::{ExportTable, LivingExport};
+use crate::file_bytes::FileBytes;
 use crate::mounts::MountTable;
 use crate::usage::Usage;
 use bytes::Bytes;
@@ -18,7 +19,7 @@ use std::sync::Arc;
 #[derive(Drop)]
 pub enum Content {
     /// The bytes of a file.
-    Regular(Bytes),
+    Regular(FileBytes),
     Directory(Directory),
     /// The text of a symbolic link.
     Link(Bytes),
