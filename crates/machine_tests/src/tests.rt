@@ -6,6 +6,7 @@ ghost use Rattle.nfs_objects.specs.Modes.{Suits, changing, reading};
 
 mod drafts;
 mod exports;
+mod file_bytes;
 mod inodes;
 mod machine;
 mod makers;
@@ -18,8 +19,8 @@ use bytes::Bytes;
 use nfs_inodes::Known;
 use nfs_machine::{Ctx, ExportText, Exports, Limits, Moment};
 use nfs_objects::{
-    Addr, CHANGING, Content, Directory, Entries, ExportTable, Halt, Inode, MOUNTING, Mode, Object,
-    READING, View,
+    Addr, CHANGING, Content, Directory, Entries, ExportTable, FileBytes, Halt, Inode, MOUNTING,
+    Mode, Object, READING, View,
 };
 use nfs_rpc::{Gids, Ids};
 use nfs_wire::{Attributes, DeviceNumber, FileType, SetAttributes, SetTime, Time};
@@ -72,8 +73,9 @@ fn fifo(mode: u32) -> Inode {
 }
 
 /// A file of 5 bytes.
-fn hello() -> Inode {
-    inode(Content::Regular(Bytes::from_static(b"hello")), 0o600)
+fn hello(alloc: Global) -> Result<Inode, AllocError> {
+    let bytes = FileBytes::new(alloc).with_written(alloc, 0, b"hello")?;
+    Ok(inode(Content::Regular(bytes), 0o600))
 }
 
 /// A directory below directory 1 with these names.

@@ -21,6 +21,7 @@ use Rattle.nfs_machine.specs.State.{Entry, Living, State}
 use Rattle.nfs_machine.specs.State as machine
 use Rattle.nfs_machine.specs.Times.{touch}
 use Rattle.nfs_objects.proofs.Exported.{inode-stands}
+use Rattle.nfs_objects.proofs.FileParts.{resized-length, written-length}
 use Rattle.nfs_objects.proofs.Promised.{turns-both, turns-none}
 use Rattle.nfs_objects.proofs.Seen.{shown-stands, written-append}
 use Rattle.nfs_objects.proofs.Turns.{edit-turns, free-turns, new-turns}
@@ -437,31 +438,10 @@ module _ (d : DraftValue) (n : ℕ) (change : Living → Option Living) where
       ∙ ap (into d n change (λ l. l) k) is)
 
 -- ---- sizes
-resized-length : (bytes : List ℕ) (size : ℕ) → length (resized bytes size) ≡ size
-resized-length bytes size =
-    omega (
-      arith,
-      length-append (take size bytes) (replicate (size - length bytes) 0),
-      length-take size bytes,
-      length-replicate {A = ℕ} (size - length bytes) 0,
-    )
-
 pub resized-size : (old : List ℕ) (size : ℕ) (content : List ℕ) → content ≡ resized old size
     → one_using ((size + 4095) / block * block) ≡ one_using (used_of (machine.Regular content))
 resized-size old size content is = ap (λ s. one_using ((s + 4095) / block * block))
     (sym (ap length is ∙ resized-length old size))
-
-longest : (a b c : ℕ) → a + b + (c - (a + b)) ≡ max c (a + b)
-longest a b c = omega arith
-
-written-length : (old : List ℕ) (offset : ℕ) (more : List ℕ)
-    → length (written old offset more) ≡ max (length old) (offset + length more)
-written-length old offset more =
-    length-append (resized old offset ++ more) (drop (offset + length more) old)
-    ∙ ap (λ n. n + length (drop (offset + length more) old))
-    (length-append (resized old offset) more ∙ ap (λ n. n + length more) (resized-length old offset))
-    ∙ ap (λ n. offset + length more + n) (length-drop (offset + length more) old)
-    ∙ longest offset (length more) (length old)
 
 pub written-size : (old : List ℕ) (offset : ℕ) (more : List ℕ) (content : List ℕ) (size : ℕ)
     → content ≡ written old offset more

@@ -13,9 +13,9 @@ use crate::found::{Known, inode};
 use crate::kinds::File;
 use bytes::Bytes;
 use nfs_machine::Ctx;
-use nfs_objects::{Addr, Content, Draft, Halt};
+use nfs_objects::{Addr, Content, Draft, FileBytes, Halt};
 use nfs_wire::{NfsStatus, ReadData, Verifier};
-use std::alloc::AllocError;
+use std::alloc::{AllocError, Global};
 
 /// The most that one READ or WRITE carries, in bytes (RFC 1813, 3.3.19: rtmax, wtmax).
 pub const TRANSFER_LIMIT: u32 = 65_536;
@@ -24,7 +24,7 @@ pub const TRANSFER_LIMIT: u32 = 65_536;
 pub const SIZE_LIMIT: u64 = 1_048_576;
 
 /// What is read of a file at the offset, at most `count` bytes and at most those of one transfer, and whether the file
-/// ends with it. The data is a part of the file's content, with no copy.
+/// ends with it. The data is shared with the file where it lies in one of its parts, and else copied.
 ///
 /// # Errors
 ///
@@ -36,21 +36,31 @@ pub fn read(draft: &Draft<'_>, file: &File, offset: u64, count: u32) -> Result<R
         (StopsAt draft.now (Addr.Inode file.now.known.number)) }
 {
     match inode(draft, file.known.number)? {
-        Some(inode) => Ok(read_content(&inode.content, offset, count)?),
+        Some(inode) => Ok(read_content(draft.alloc(), &inode.content, offset, count)?),
         None => Ok(nothing_read()),
     }
 }
 
-fn read_content(content: &Content, offset: u64, count: u32) -> Result<ReadData, AllocError>
+fn read_content(
+    alloc: Global,
+    content: &Content,
+    offset: u64,
+    count: u32,
+) -> Result<ReadData, AllocError>
     ensures { IfOk result (λ found. found ≡ read_at (bytes_of (content_of content.now)) offset count) }
 {
     match content {
-        Content::Regular(bytes) => read_at(bytes, offset, count),
+        Content::Regular(bytes) => read_at(alloc, bytes, offset, count),
         _ => Ok(nothing_read()),
     }
 }
 
-fn read_at(bytes: &Bytes, offset: u64, count: u32) -> Result<ReadData, AllocError>
+fn read_at(
+    alloc: Global,
+    bytes: &FileBytes,
+    offset: u64,
+    count: u32,
+) -> Result<ReadData, AllocError>
     ensures { IfOk result (λ found. found ≡ read_at bytes.now offset count) }
 {
     let start = bytes.len().min(offset as usize);
@@ -58,7 +68,7 @@ fn read_at(bytes: &Bytes, offset: u64, count: u32) -> Result<ReadData, AllocErro
     Ok(ReadData {
         count: length as u32,
         eof: start + length == bytes.len(),
-        data: bytes.slice(start..start + length)?,
+        data: bytes.read(alloc, start, length)?,
     })
 }
 

@@ -18,7 +18,7 @@ ghost use Rattle.nfs_inodes.specs.Makes.{IsFree, bytes_changed, link_lost, made_
 ghost use Rattle.nfs_inodes.specs.Makes.{removed};
 ghost use Rattle.nfs_inodes.specs.Stops.{StopsAt, StopsCounting, StopsMaking};
 
-use crate::content::{resized, with_content, written};
+use crate::content::with_content;
 use crate::found::inode;
 use crate::kinds::{Directory, File};
 use crate::making::{Wanted, links_with, new_inode};
@@ -50,7 +50,7 @@ pub fn write(draft: &mut Draft<'_>, file: &File, offset: usize, bytes: &[u8]) ->
     let share = share_of(inode);
     let size = old.len().max(offset + bytes.len());
     let usage = counted(draft, number, share, Usage::of_one(size as u64))?;
-    let content = written(draft.alloc(), old.as_slice(), offset, bytes)?;
+    let content = old.with_written(draft.alloc(), offset, bytes)?;
     let new = with_content(inode, now(draft.ctx()), Content::Regular(content));
     count(draft, share.export, number, usage)?;
     Ok(draft.put(number, new)?)
@@ -77,7 +77,7 @@ pub fn resize(draft: &mut Draft<'_>, file: &File, size: usize) -> Result<(), Hal
     };
     let share = share_of(inode);
     let usage = counted(draft, number, share, Usage::of_one(size as u64))?;
-    let content = resized(draft.alloc(), old.as_slice(), size)?;
+    let content = old.resized(draft.alloc(), size)?;
     let new = with_content(inode, now(draft.ctx()), Content::Regular(content));
     count(draft, share.export, number, usage)?;
     Ok(draft.put(number, new)?)

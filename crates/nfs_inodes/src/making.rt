@@ -17,7 +17,7 @@ use crate::permission::is_member;
 use crate::times::{is_time, now, time_set};
 use bytes::Bytes;
 use nfs_machine::Ctx;
-use nfs_objects::{Content, Entries, Inode};
+use nfs_objects::{Content, Entries, FileBytes, Inode};
 use nfs_rpc::Ids;
 use nfs_wire::{DeviceNumber, NfsStatus, SetAttributes, Verifier};
 use std::alloc::{AllocError, Global};
@@ -222,10 +222,8 @@ fn first_links(content: &NewContent<'_>) -> u32
     }
 }
 
-fn zeros(alloc: Global, size: usize) -> Result<Bytes, AllocError>
+fn zeros(alloc: Global, size: usize) -> Result<FileBytes, AllocError>
     ensures { IfOk result (λ content. content ≡ replicate size 0) }
 {
-    let mut zeros = Vec::with_capacity(alloc, size)?;
-    zeros.resize(size, 0)?;
-    Ok(Bytes::from_vec(zeros)?)
+    FileBytes::new(alloc).resized(alloc, size)
 }

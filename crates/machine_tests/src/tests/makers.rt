@@ -56,7 +56,7 @@ fn is_resized(draft: &mut Draft<'_>, size: usize, bytes: &[u8]) -> Result<bool, 
 
 #[test]
 fn a_file_is_cut_off(rt: HostRuntime) -> Result<(), Fail> {
-    let (ctx, view) = (ctx(1), viewed(rt.alloc(), 9, hello())?);
+    let (ctx, view) = (ctx(1), viewed(rt.alloc(), 9, hello(rt.alloc())?)?);
     let mut draft = Draft::new(rt.alloc(), &ctx, &view, CHANGING);
     assert!(rt; matches!(is_resized(&mut draft, 3, b"hel"), Ok(true)));
     Ok(())
@@ -64,7 +64,7 @@ fn a_file_is_cut_off(rt: HostRuntime) -> Result<(), Fail> {
 
 #[test]
 fn a_file_is_filled_up_with_zeros(rt: HostRuntime) -> Result<(), Fail> {
-    let (ctx, view) = (ctx(1), viewed(rt.alloc(), 9, hello())?);
+    let (ctx, view) = (ctx(1), viewed(rt.alloc(), 9, hello(rt.alloc())?)?);
     let mut draft = Draft::new(rt.alloc(), &ctx, &view, CHANGING);
     assert!(rt; matches!(is_resized(&mut draft, 7, b"hello\0\0"), Ok(true)));
     Ok(())
@@ -83,7 +83,7 @@ fn is_written(draft: &mut Draft<'_>, offset: u8, more: &[u8; 2], bytes: &[u8]) -
 
 #[test]
 fn bytes_are_written_over_others(rt: HostRuntime) -> Result<(), Fail> {
-    let (ctx, view) = (ctx(1), viewed(rt.alloc(), 9, hello())?);
+    let (ctx, view) = (ctx(1), viewed(rt.alloc(), 9, hello(rt.alloc())?)?);
     let mut draft = Draft::new(rt.alloc(), &ctx, &view, CHANGING);
     assert!(rt; matches!(is_written(&mut draft, 1, b"ip", b"hiplo"), Ok(true)));
     Ok(())
@@ -91,7 +91,7 @@ fn bytes_are_written_over_others(rt: HostRuntime) -> Result<(), Fail> {
 
 #[test]
 fn bytes_are_written_behind_a_gap(rt: HostRuntime) -> Result<(), Fail> {
-    let (ctx, view) = (ctx(1), viewed(rt.alloc(), 9, hello())?);
+    let (ctx, view) = (ctx(1), viewed(rt.alloc(), 9, hello(rt.alloc())?)?);
     let mut draft = Draft::new(rt.alloc(), &ctx, &view, CHANGING);
     assert!(rt; matches!(is_written(&mut draft, 7, b"!!", b"hello\0\0!!"), Ok(true)));
     Ok(())
@@ -111,7 +111,7 @@ fn is_at(draft: &Draft<'_>, links: u32, modified: Time, changed: Time) -> Result
 
 #[test]
 fn other_bytes_have_a_later_time(rt: HostRuntime) -> Result<(), Fail> {
-    let (ctx, view) = (ctx(1), viewed(rt.alloc(), 9, hello())?);
+    let (ctx, view) = (ctx(1), viewed(rt.alloc(), 9, hello(rt.alloc())?)?);
     let mut draft = Draft::new(rt.alloc(), &ctx, &view, CHANGING);
     assert!(rt; matches!(is_resized(&mut draft, 5, b"hello"), Ok(true)));
     assert!(rt; matches!(is_at(&draft, 1, LATER, LATER), Ok(true)));
@@ -121,7 +121,7 @@ fn other_bytes_have_a_later_time(rt: HostRuntime) -> Result<(), Fail> {
 /// What is in it stays, and so does its time.
 #[test]
 fn one_of_two_links_goes(rt: HostRuntime) -> Result<(), Fail> {
-    let mut linked = hello();
+    let mut linked = hello(rt.alloc())?;
     linked.links = 2;
     let (ctx, view) = (ctx(1), viewed(rt.alloc(), 9, linked)?);
     let mut draft = Draft::new(rt.alloc(), &ctx, &view, CHANGING);
@@ -162,7 +162,7 @@ fn blocks(objects: u128) -> Usage
 
 #[test]
 fn an_object_goes_with_its_last_link(rt: HostRuntime) -> Result<(), Fail> {
-    let (ctx, view) = (ctx(1), grouped(rt.alloc(), hello(), blocks(3))?);
+    let (ctx, view) = (ctx(1), grouped(rt.alloc(), hello(rt.alloc())?, blocks(3))?);
     let mut draft = Draft::new(rt.alloc(), &ctx, &view, CHANGING);
     assert!(rt; lose_link(&mut draft, 9, 1).is_ok());
     assert!(rt; matches!(object(&draft, 9), Ok(None)));
@@ -172,7 +172,7 @@ fn an_object_goes_with_its_last_link(rt: HostRuntime) -> Result<(), Fail> {
 
 #[test]
 fn an_empty_group_has_no_usage(rt: HostRuntime) -> Result<(), Fail> {
-    let (ctx, view) = (ctx(1), grouped(rt.alloc(), hello(), blocks(1))?);
+    let (ctx, view) = (ctx(1), grouped(rt.alloc(), hello(rt.alloc())?, blocks(1))?);
     let mut draft = Draft::new(rt.alloc(), &ctx, &view, CHANGING);
     assert!(rt; lose_link(&mut draft, 9, 1).is_ok());
     assert!(rt; matches!(draft.find(GROUP), Ok(None)));
@@ -182,7 +182,7 @@ fn an_empty_group_has_no_usage(rt: HostRuntime) -> Result<(), Fail> {
 /// Space is used in whole blocks (RFC 1813, 2.5: used).
 #[test]
 fn bytes_in_a_block_stay_counted(rt: HostRuntime) -> Result<(), Fail> {
-    let (ctx, view) = (ctx(1), grouped(rt.alloc(), hello(), blocks(3))?);
+    let (ctx, view) = (ctx(1), grouped(rt.alloc(), hello(rt.alloc())?, blocks(3))?);
     let mut draft = Draft::new(rt.alloc(), &ctx, &view, CHANGING);
     assert!(rt; matches!(is_written(&mut draft, 1, b"ip", b"hiplo"), Ok(true)));
     assert!(rt; matches!(draft.usage(1, 9), Ok(usage) if usage == blocks(3)));
@@ -191,7 +191,7 @@ fn bytes_in_a_block_stay_counted(rt: HostRuntime) -> Result<(), Fail> {
 
 #[test]
 fn a_second_block_is_counted(rt: HostRuntime) -> Result<(), Fail> {
-    let (ctx, view) = (ctx(1), grouped(rt.alloc(), hello(), blocks(3))?);
+    let (ctx, view) = (ctx(1), grouped(rt.alloc(), hello(rt.alloc())?, blocks(3))?);
     let mut draft = Draft::new(rt.alloc(), &ctx, &view, CHANGING);
     assert!(rt; matches!(is_resized(&mut draft, 4097, b""), Ok(false)));
     assert!(rt;
@@ -200,10 +200,30 @@ fn a_second_block_is_counted(rt: HostRuntime) -> Result<(), Fail> {
     Ok(())
 }
 
+/// Writes them into file 9 at the edge of its first part, and tells whether they are read again.
+fn comes_back(draft: &mut Draft<'_>, more: &[u8; 4]) -> Result<bool, Halt>
+    requires { draft.old.modes ≡ changing }
+{
+    let Some(file) = file(draft)? else {
+        return Ok(false);
+    };
+    write(draft, &file, 65_534, more)?;
+    let found = read(draft, &file, 65_534, 4)?;
+    Ok(found.eof && found.data.as_slice() == more)
+}
+
+#[test]
+fn a_file_is_written_and_read_across_parts(rt: HostRuntime) -> Result<(), Fail> {
+    let (ctx, view) = (ctx(1), grouped(rt.alloc(), hello(rt.alloc())?, blocks(3))?);
+    let mut draft = Draft::new(rt.alloc(), &ctx, &view, CHANGING);
+    assert!(rt; matches!(comes_back(&mut draft, b"abcd"), Ok(true)));
+    Ok(())
+}
+
 /// A change that uses as much asks for no usage.
 #[test]
 fn a_usage_that_stays_is_not_asked_for(rt: HostRuntime) -> Result<(), Fail> {
-    let (ctx, view) = (ctx(1), viewed(rt.alloc(), 9, hello())?);
+    let (ctx, view) = (ctx(1), viewed(rt.alloc(), 9, hello(rt.alloc())?)?);
     let mut draft = Draft::new(rt.alloc(), &ctx, &view, CHANGING);
     assert!(rt; matches!(is_resized(&mut draft, 4, b"hell"), Ok(true)));
     Ok(())
@@ -212,7 +232,7 @@ fn a_usage_that_stays_is_not_asked_for(rt: HostRuntime) -> Result<(), Fail> {
 /// A change that uses more does.
 #[test]
 fn a_usage_is_asked_for_where_it_changes(rt: HostRuntime) -> Result<(), Fail> {
-    let (ctx, view) = (ctx(1), viewed(rt.alloc(), 9, hello())?);
+    let (ctx, view) = (ctx(1), viewed(rt.alloc(), 9, hello(rt.alloc())?)?);
     let mut draft = Draft::new(rt.alloc(), &ctx, &view, CHANGING);
     assert!(rt; asks(&is_resized(&mut draft, 4097, b""), GROUP, Mode::Exclusive));
     Ok(())

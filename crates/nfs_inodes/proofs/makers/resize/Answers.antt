@@ -65,10 +65,10 @@ returns c =
     c.with_content-new.result c.in-Regular.old c.in_ok-content.content
     (time_of c.args.draft.now.ctx.moment) (λ old. resized old c.args.size) c.share_of-share.result c.of_one.result
     (subst (λ o. HasInode c.args.draft.now c.args.file.now.known.number (option_copied o)) c.in-Some.is c.in_ok-inode.ensures.inode)
-    c.in-Regular.is (rw c.as_slice.ensures at c.in_ok-content.ensures)
+    c.in-Regular.is c.in_ok-content.ensures
     (rw (c.now.ensures, c.ctx.ensures) at c.with_content-new.ensures)
     c.share_of-share.ensures (c.of_one.ensures ∙ resized-size c.in-Regular.old c.args.size c.in_ok-content.content
-    (rw c.as_slice.ensures at c.in_ok-content.ensures))
+    c.in_ok-content.ensures)
     (c.in_ok-count.ensures.turns c.share_of-share.result.usage c.of_one.result c.in_ok-usage.ensures)
     c.in_ok-count.ensures.keeps
     c.in_ok-put.ensures.ok c.in_ok-put.ensures.fits

@@ -67,10 +67,10 @@ returns c =
     (time_of c.args.draft.now.ctx.moment) (λ old. written old c.args.offset c.args.bytes.now) c.share_of-share.result
     c.of_one.result
     (subst (λ o. HasInode c.args.draft.now c.args.file.now.known.number (option_copied o)) c.in-Some.is c.in_ok-inode.ensures.inode)
-    c.in-Regular.is (rw c.as_slice.ensures at c.in_ok-content.ensures)
+    c.in-Regular.is c.in_ok-content.ensures
     (rw (c.now.ensures, c.ctx.ensures) at c.with_content-new.ensures)
     c.share_of-share.ensures (c.of_one.ensures ∙ written-size c.in-Regular.old c.args.offset c.args.bytes.now
-    c.in_ok-content.content _ (rw c.as_slice.ensures at c.in_ok-content.ensures)
+    c.in_ok-content.content _ c.in_ok-content.ensures
     (rw (c.max-size.ensures, c.len.ensures.value) refl))
     (c.in_ok-count.ensures.turns c.share_of-share.result.usage c.of_one.result c.in_ok-usage.ensures)
     c.in_ok-count.ensures.keeps
