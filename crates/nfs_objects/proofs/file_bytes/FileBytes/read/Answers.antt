@@ -12,7 +12,8 @@ returns-then-inside-count c =
     let within : inside + c.args.count ≤ length c.in_ok-first.first = omega (arith, c.len.ensures.value) in
     IfOk-weaker c.slice.result _ (λ found. found ≡ take c.args.count (drop c.args.start c.args.self.now))
     (λ found is. is
-    ∙ read-one c.args.self.now c.args.start index inside c.args.count at c.in_ok-first.first c.in_ok-first.ensures within)
+    ∙ read-one c.args.self.now c.args.start index inside c.args.count at c.in_ok-first.first
+    c.in_ok-first.ensures within)
     c.slice.ensures.ok
 
 pub returns : goal.returns
