@@ -27,7 +27,6 @@ use Rattle.nfs_objects.specs.Sums.{group_of, in_export, no_usage, shares_of, sto
 use Rattle.nfs_objects.specs.Values.{DraftValue, known_at, with_written}
 use Rattle.nfs_objects.specs.declared.address.Addr.TheVariants as addresses
 use Rattle.nfs_objects.specs.declared.object.Object.{Object}
-use Rattle.nfs_objects.specs.declared.object.Object.TheVariants as objects
 use Rattle.nfs_objects.specs.declared.usage.Usage.{Usage}
 use Rattle.nfs_inodes.proofs.Standing.{lives-there}
 use Rattle.nfs_inodes.specs.Counts.{IsCount, KeepsInodes}

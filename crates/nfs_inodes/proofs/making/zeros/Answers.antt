@@ -6,6 +6,6 @@ use Rattle.nfs_inodes.proofs.making.zeros.Goals as goal
 
 pub returns : goal.returns
 returns c =
-    IfOk-weaker c.resized.result _ (λ content. content ≡ replicate c.args.size 0)
+    IfOk-weaker c.resized-2.result _ (λ content. content ≡ replicate c.args.size 0)
     (λ content is. is ∙ ap (λ bytes. resized bytes c.args.size) c.new.ensures ∙ resized-none c.args.size)
-    c.resized.ensures
+    c.resized-2.ensures

@@ -1,4 +1,4 @@
-use Rattle.std.proofs.Common.{◌≡◌, ◌+◌, ◌*◌, ◌/◌, ◌%◌, ◌≤◌, length, ap, sym, ◌∙◌, arith, take, drop, subst}
+use Rattle.std.proofs.Common.{◌≡◌, ◌+◌, ◌*◌, ◌/◌, ◌%◌, ◌≤◌, length, ap, ◌∙◌, arith, take, drop}
 use Rattle.std.proofs.lemmas.Result.{IfOk-weaker}
 use Rattle.nfs_objects.specs.FileBytes.{part_size}
 use Rattle.nfs_objects.proofs.FileParts.{read-one, read-two}

@@ -1,4 +1,4 @@
-use Rattle.std.proofs.Common.{◌≡◌, length, ap, sym, ◌∙◌}
+use Rattle.std.proofs.Common.{length, ap, sym, ◌∙◌}
 use Rattle.nfs_objects.specs.FileBytes.{part_at}
 use Rattle.nfs_objects.proofs.FileParts.{resized-same}
 use Rattle.nfs_objects.proofs.file_bytes.FileBytes.resized_part.Goals as goal

@@ -1,5 +1,5 @@
-use Rattle.std.proofs.Common.{◌≡◌, ◌&&◌, false, sym, ap, ◌∙◌, rules}
-use Rattle.std.specs.Cmp.Lexicographic.{bytes_decides, pointwise}
+use Rattle.std.proofs.Common.{◌&&◌, false, sym, ap, ◌∙◌}
+use Rattle.std.specs.Cmp.Lexicographic.{bytes_decides}
 use Rattle.nfs_machine.specs.Bytes.{same_bytes}
 use Rattle.nfs_objects.specs.SameLaws.{told}
 use Rattle.nfs_objects.proofs.FileParts.{same-parts}
