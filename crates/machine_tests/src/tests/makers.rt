@@ -209,7 +209,7 @@ fn comes_back(draft: &mut Draft<'_>, more: &[u8; 4]) -> Result<bool, Halt>
     };
     write(draft, &file, 65_534, more)?;
     let found = read(draft, &file, 65_534, 4)?;
-    Ok(found.eof && found.data.as_slice() == more)
+    Ok(found.eof && found.data.as_slice() == more.as_slice())
 }
 
 #[test]
