@@ -130,7 +130,9 @@ fn a_view_takes_what_it_has_room_for(rt: HostRuntime) -> Result<(), Fail> {
 fn a_view_of_many_entries_finds_each(rt: HostRuntime) -> Result<(), Fail> {
     let mut view = View::new(rt.alloc());
     for number in 1..=20 {
-        view.add(Addr::Inode(number), Mode::Shared, None)?;
+        let address = Addr::Inode(number);
+        assert!(rt; view.find(address).is_none());
+        view.add(address, Mode::Shared, None)?;
     }
     assert_eq!(rt; view.len(), 20);
     for number in 1..=20 {
