@@ -10,7 +10,7 @@ use super::arrivals::ROOT;
 use super::beside::Beside;
 use super::openings::{close, opened};
 use super::records::{GETATTR, NULL, arrival, moment, spelled};
-use nfs_engine::{Admission, Arrival, Engine, Txn};
+use nfs_engine::{Admission, Arrival, Engine, Faulted, Txn};
 use nfs_machine::Call;
 use nfs_wire::NfsCall;
 use std::alloc::AllocError;
@@ -23,9 +23,18 @@ fn begun(admission: Admission) -> Option<Txn>
 {
     match admission {
         Admission::Begin(txn) => Some(txn),
-        Admission::Repeat(_) => None,
-        Admission::Running(_) => None,
-        Admission::Early(_) => None,
+        Admission::Repeat(kept) => {
+            drop(kept);
+            None
+        }
+        Admission::Running(arrival) => {
+            drop(arrival);
+            None
+        }
+        Admission::Early(faulted) => {
+            drop(faulted);
+            None
+        }
     }
 }
 
@@ -63,6 +72,13 @@ pub(super) fn admitted(rt: &(impl Abort + AllocGlobal), engine: &mut Engine, wor
     }
 }
 
+/// Whether the fault has this answer, or none.
+fn has_answer(faulted: Faulted, answer: Option<&[u8]>) -> bool {
+    let is_answer = faulted.answer.as_deref() == answer;
+    drop(faulted);
+    is_answer
+}
+
 /// Whether the record of these words has a fault with this answer, and the call of none begins.
 fn is_early(
     rt: &(impl Abort + AllocGlobal),
@@ -72,9 +88,15 @@ fn is_early(
 ) -> bool {
     match admission(rt, engine, words) {
         Admission::Begin(_txn) => panic!(rt; "it asks nothing"),
-        Admission::Repeat(_) => false,
-        Admission::Running(_) => false,
-        Admission::Early(faulted) => faulted.answer.as_deref() == answer,
+        Admission::Repeat(kept) => {
+            drop(kept);
+            false
+        }
+        Admission::Running(arrival) => {
+            drop(arrival);
+            false
+        }
+        Admission::Early(faulted) => has_answer(faulted, answer),
     }
 }
 
