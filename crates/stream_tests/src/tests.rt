@@ -87,6 +87,22 @@ fn spelled(alloc: Global, words: &[u32]) -> Result<Vec<u8>, AllocError> {
     Ok(bytes)
 }
 
+/// Whether these bytes are these words.
+fn is_spelled(bytes: &[u8], words: &[u32]) -> bool {
+    let mut rest = bytes;
+    for word in words {
+        if rest.len() < 4 {
+            return false;
+        }
+        let (first, others) = rest.split_at(4);
+        if first != word.to_be_bytes().as_slice() {
+            return false;
+        }
+        rest = others;
+    }
+    rest.is_empty()
+}
+
 /// The first words, and the others behind them, as bytes.
 fn both(alloc: Global, first: &[u32], others: &[u32]) -> Result<Vec<u8>, AllocError> {
     let mut bytes = spelled(alloc, first)?;
@@ -199,7 +215,7 @@ fn answers_as(
 fn answers_by(rt: &(impl Abort + AllocGlobal), input: &[u32], wanted: &[u32]) -> Result<(), Fail> {
     let alloc = rt.alloc();
     let (written, end) = answers(alloc, &spelled(alloc, input)?)?;
-    assert_eq!(rt; written.as_slice(), spelled(alloc, wanted)?.as_slice());
+    assert!(rt; is_spelled(&written, wanted));
     assert_eq!(rt; end, Ok(Served));
     Ok(())
 }

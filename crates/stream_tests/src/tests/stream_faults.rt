@@ -17,9 +17,27 @@ fn a_record_that_is_too_large(rt: HostRuntime) -> Result<(), Fail> {
 fn a_record_before_one_that_is_too_large(rt: HostRuntime) -> Result<(), Fail> {
     let alloc = rt.alloc();
     let (written, end) = answers(alloc, &both(alloc, &NULL, &[0x80012001])?)?;
-    assert_eq!(rt; written.as_slice(), spelled(alloc, &NULL_REPLY)?.as_slice());
+    assert!(rt; is_spelled(&written, &NULL_REPLY));
     assert_eq!(rt; end, Err(StreamFault::TooLarge));
     Ok(())
+}
+
+/// What a new server writes for these pieces from a reader that fails after so many calls, how it ends, and how many
+/// failures the reader counts.
+fn read_after(
+    alloc: Global,
+    good: u64,
+    first: &[u8],
+    other: &[u8],
+) -> Result<(Vec<u8>, Result<Served, StreamFault>, u64), AllocError> {
+    let mut engine = opened(alloc)?;
+    let mut reader = Counted::new(Failing {
+        reader: first.chain(other),
+        good,
+    });
+    let mut writer = Counted::new(Vec::new(alloc));
+    let end = serve(alloc, &mut engine, &mut reader, &mut writer);
+    Ok((writer.into_inner(), end, reader.failures()))
 }
 
 /// Two calls come in a piece each, from a reader that fails after so many calls: a new server writes these words, ends
@@ -32,20 +50,11 @@ fn ends_after_reads(
     wanted_failures: u64,
 ) -> Result<(), Fail> {
     let alloc = rt.alloc();
-    let mut engine = opened(alloc)?;
     let (first, other) = (spelled(alloc, &NULL)?, spelled(alloc, &OTHER_NULL)?);
-    let mut reader = Counted::new(Failing {
-        reader: first.as_slice().chain(other.as_slice()),
-        good,
-    });
-    let mut writer = Counted::new(Vec::new(alloc));
-    let end = serve(alloc, &mut engine, &mut reader, &mut writer);
-    assert_eq!(rt;
-        writer.into_inner().as_slice(),
-        spelled(alloc, wanted)?.as_slice()
-    );
+    let (written, end, failures) = read_after(alloc, good, &first, &other)?;
+    assert!(rt; is_spelled(&written, wanted));
     assert_eq!(rt; end, wanted_end);
-    assert_eq!(rt; reader.failures(), wanted_failures);
+    assert_eq!(rt; failures, wanted_failures);
     Ok(())
 }
 
@@ -69,47 +78,64 @@ fn no_read_fails(rt: HostRuntime) -> Result<(), Fail> {
     ends_after_reads(&rt, 3, &BOTH_REPLIES, Ok(Served), 0)
 }
 
-#[test]
-fn a_record_in_three_pieces(rt: HostRuntime) -> Result<(), Fail> {
-    let alloc = rt.alloc();
+/// What a new server writes for these bytes in three pieces, of which the first have so many, and how it ends.
+fn read_in_pieces(
+    alloc: Global,
+    bytes: &[u8],
+    first: usize,
+    second: usize,
+) -> Result<(Vec<u8>, Result<Served, StreamFault>), AllocError> {
     let mut engine = opened(alloc)?;
-    let call = spelled(alloc, &NULL)?;
-    let (first, others) = call.split_at(call.len().min(3));
-    let (second, third) = others.split_at(others.len().min(10));
+    let (first, others) = bytes.split_at(bytes.len().min(first));
+    let (second, third) = others.split_at(others.len().min(second));
     let mut reader = Counted::new(first.chain(second).chain(third));
     let mut writer = Counted::new(Vec::new(alloc));
     let end = serve(alloc, &mut engine, &mut reader, &mut writer);
+    Ok((writer.into_inner(), end))
+}
+
+#[test]
+fn a_record_in_three_pieces(rt: HostRuntime) -> Result<(), Fail> {
+    let call = spelled(rt.alloc(), &NULL)?;
+    let (written, end) = read_in_pieces(rt.alloc(), &call, 3, 10)?;
     assert_eq!(rt; end, Ok(Served));
-    assert_eq!(rt;
-        writer.into_inner().as_slice(),
-        spelled(alloc, &NULL_REPLY)?.as_slice()
-    );
+    assert!(rt; is_spelled(&written, &NULL_REPLY));
     Ok(())
 }
 
-/// Two calls come, and the writer has this trouble after so many calls, each of which takes so many bytes at most: by
-/// then it has these words, a new server ends so, and the writer counts so many failures.
-fn ends_after_writes(
-    rt: &(impl Abort + AllocGlobal),
+/// What a writer has of the answers to these bytes that has this trouble after so many calls, each of which takes so many
+/// bytes at most, how the new server ends, and how many failures the writer counts.
+fn written_until(
+    alloc: Global,
+    bytes: &[u8],
     (good, most, trouble): (u64, usize, Trouble),
-    wanted: &[u32],
-    wanted_end: Result<Served, StreamFault>,
-    wanted_failures: u64,
-) -> Result<(), Fail> {
-    let alloc = rt.alloc();
+) -> Result<(Vec<u8>, Result<Served, StreamFault>, u64), AllocError> {
     let mut engine = opened(alloc)?;
-    let input = spelled(alloc, &BOTH_NULLS)?;
-    let mut reader = Counted::new(input.as_slice());
     let mut writer = Counted::new(Choppy {
         written: Vec::new(alloc),
         most,
         good,
         trouble,
     });
-    let end = serve(alloc, &mut engine, &mut reader, &mut writer);
-    assert_eq!(rt; writer.failures(), wanted_failures);
+    let end = serve(alloc, &mut engine, &mut Counted::new(bytes), &mut writer);
+    let failures = writer.failures();
     let Choppy { written, .. } = writer.into_inner();
-    assert_eq!(rt; written.as_slice(), spelled(alloc, wanted)?.as_slice());
+    Ok((written, end, failures))
+}
+
+/// Two calls come, and the writer has this trouble after so many calls, each of which takes so many bytes at most: by
+/// then it has these words, a new server ends so, and the writer counts so many failures.
+fn ends_after_writes(
+    rt: &(impl Abort + AllocGlobal),
+    writer: (u64, usize, Trouble),
+    wanted: &[u32],
+    wanted_end: Result<Served, StreamFault>,
+    wanted_failures: u64,
+) -> Result<(), Fail> {
+    let input = spelled(rt.alloc(), &BOTH_NULLS)?;
+    let (written, end, failures) = written_until(rt.alloc(), &input, writer)?;
+    assert_eq!(rt; failures, wanted_failures);
+    assert!(rt; is_spelled(&written, wanted));
     assert_eq!(rt; end, wanted_end);
     Ok(())
 }
@@ -146,25 +172,25 @@ fn answers_by_single_bytes(rt: HostRuntime) -> Result<(), Fail> {
     ends_after_writes(&rt, writer, &BOTH_REPLIES, Ok(Served), 0)
 }
 
-/// Both answers are written by then, since their calls came in one piece.
-#[test]
-fn a_flush_fails(rt: HostRuntime) -> Result<(), Fail> {
-    let alloc = rt.alloc();
+/// What a writer that can't be flushed has of the answers to these bytes, and how the new server ends.
+fn written_unflushed(
+    alloc: Global,
+    bytes: &[u8],
+) -> Result<(Vec<u8>, Result<Served, StreamFault>), AllocError> {
     let mut engine = opened(alloc)?;
-    let input = spelled(alloc, &BOTH_NULLS)?;
     let mut writer = Counted::new(Unflushed {
         written: Vec::new(alloc),
     });
-    let end = serve(
-        alloc,
-        &mut engine,
-        &mut Counted::new(input.as_slice()),
-        &mut writer,
-    );
+    let end = serve(alloc, &mut engine, &mut Counted::new(bytes), &mut writer);
+    Ok((writer.into_inner().written, end))
+}
+
+/// Both answers are written by then, since their calls came in one piece.
+#[test]
+fn a_flush_fails(rt: HostRuntime) -> Result<(), Fail> {
+    let input = spelled(rt.alloc(), &BOTH_NULLS)?;
+    let (written, end) = written_unflushed(rt.alloc(), &input)?;
     assert_eq!(rt; end, Err(StreamFault::Write));
-    assert_eq!(rt;
-        writer.into_inner().written.as_slice(),
-        spelled(alloc, &BOTH_REPLIES)?.as_slice()
-    );
+    assert!(rt; is_spelled(&written, &BOTH_REPLIES));
     Ok(())
 }

@@ -42,29 +42,53 @@ fn served(
     Ok((writer.into_inner(), end))
 }
 
+/// The call is answered by its reply.
+fn answers_now(
+    rt: &(impl Abort + AllocGlobal),
+    engine: &mut Engine,
+    call: &[u8],
+    reply: &[u32],
+) -> Result<(), Fail>
+    requires { IsAtRest engine.old }
+{
+    let (written, end) = served(rt.alloc(), engine, call)?;
+    assert!(rt; is_spelled(&written, reply));
+    assert_eq!(rt; end, Ok(Served));
+    Ok(())
+}
+
 /// The call is answered by its reply; or by its refusal, or not at all for want of memory, and then by its reply.
+fn answers_once_more(
+    rt: &(impl Abort + AllocGlobal),
+    engine: &mut Engine,
+    call: &[u8],
+    reply: &[u32],
+    refusal: &[u32],
+) -> Result<(), Fail>
+    requires { IsAtRest engine.old }
+{
+    let (written, end) = served(rt.alloc(), engine, call)?;
+    let is_answered = end == Ok(Served) && is_spelled(&written, reply);
+    let is_refused = end == Ok(Served) && is_spelled(&written, refusal);
+    let is_stopped = end == Err(StreamFault::Memory) && written.is_empty();
+    drop(written);
+    if is_answered {
+        return Ok(());
+    }
+    assert!(rt; is_refused || is_stopped);
+    answers_now(rt, engine, call, reply)
+}
+
+/// The same from a new server.
 fn answers_at_last(
     rt: &(impl Abort + AllocGlobal),
     call: &[u32],
     reply: &[u32],
     refusal: &[u32],
 ) -> Result<(), Fail> {
-    let alloc = rt.alloc();
-    let mut engine = opened_at_last(alloc)?;
-    let call = spelled_at_last(alloc, call)?;
-    let reply = spelled_at_last(alloc, reply)?;
-    let refusal = spelled_at_last(alloc, refusal)?;
-    let (written, end) = served(alloc, &mut engine, &call)?;
-    if end == Ok(Served) && written == reply {
-        return Ok(());
-    }
-    let is_refused = end == Ok(Served) && written == refusal;
-    let is_stopped = end == Err(StreamFault::Memory) && written.is_empty();
-    assert!(rt; is_refused || is_stopped);
-    let (written, end) = served(alloc, &mut engine, &call)?;
-    assert_eq!(rt; written.as_slice(), reply.as_slice());
-    assert_eq!(rt; end, Ok(Served));
-    Ok(())
+    let call = spelled_at_last(rt.alloc(), call)?;
+    let mut engine = opened_at_last(rt.alloc())?;
+    answers_once_more(rt, &mut engine, &call, reply, refusal)
 }
 
 /// SYSTEM_ERR (RFC 5531, section 9).
