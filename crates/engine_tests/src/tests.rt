@@ -14,3 +14,4 @@ mod replies;
 mod reserving;
 mod shards;
 mod taking;
+mod worlds;

@@ -124,8 +124,7 @@ fn export(
     mode: &'static [u8],
     host: &'static [u8],
 ) -> Result<ExportText, AllocError> {
-    let mut hosts = Vec::new(alloc);
-    hosts.push(Bytes::from_static(host))?;
+    let hosts = vec![in alloc; Bytes::from_static(host)]?;
     Ok(ExportText {
         path: Bytes::from_static(path),
         mode: Bytes::from_static(mode),
@@ -133,11 +132,18 @@ fn export(
     })
 }
 
+/// These exports, which are without fault.
+fn exports_of(alloc: Global, list: Vec<ExportText>) -> Result<Exports, AllocError> {
+    match Exports::new(alloc, list) {
+        Ok(exports) => Ok(exports),
+        Err(_fault) => Err(AllocError),
+    }
+}
+
 /// `/data` for every host, in this mode.
 fn exports(alloc: Global, mode: &'static [u8]) -> Result<Exports, AllocError> {
-    let mut list = Vec::new(alloc);
-    list.push(export(alloc, b"/data", mode, b"*")?)?;
-    Exports::new(alloc, list).map_err(|_| AllocError)
+    let data = export(alloc, b"/data", mode, b"*")?;
+    exports_of(alloc, vec![in alloc; data]?)
 }
 
 /// The engine in its opening state.
@@ -151,11 +157,11 @@ fn opened(alloc: Global) -> Result<Engine, AllocError>
 fn opened_as(alloc: Global, mode: &'static [u8]) -> Result<Engine, AllocError>
     ensures { IfOk result IsAtRest }
 {
-    opened_with(alloc, exports(alloc, mode)?)
+    opened_with(alloc, exports(alloc, mode)?, 1024)
 }
 
-/// The engine in the opening state of these exports.
-fn opened_with(alloc: Global, exports: Exports) -> Result<Engine, AllocError>
+/// The engine in the opening state of these exports, which keeps so many replies of each host.
+fn opened_with(alloc: Global, exports: Exports, capacity: u64) -> Result<Engine, AllocError>
     ensures { IfOk result IsAtRest }
 {
     let config = Config {
@@ -165,7 +171,7 @@ fn opened_with(alloc: Global, exports: Exports) -> Result<Engine, AllocError>
             seconds: 1000,
             nanoseconds: 0,
         },
-        capacity: 1024,
+        capacity,
         limits: Limits {
             total_bytes: 1 << 40,
         },
@@ -173,7 +179,7 @@ fn opened_with(alloc: Global, exports: Exports) -> Result<Engine, AllocError>
     };
     match Engine::new(alloc, config) {
         Ok(engine) => Ok(engine),
-        Err(_) => Err(AllocError),
+        Err(_fault) => Err(AllocError),
     }
 }
 
@@ -211,11 +217,9 @@ fn answers_as(
     Ok((writer.into_inner(), end))
 }
 
-/// A new server answers these words by those, to the end of its input.
-fn answers_by(rt: &(impl Abort + AllocGlobal), input: &[u32], wanted: &[u32]) -> Result<(), Fail> {
-    let alloc = rt.alloc();
-    let (written, end) = answers(alloc, &spelled(alloc, input)?)?;
-    assert!(rt; is_spelled(&written, wanted));
-    assert_eq!(rt; end, Ok(Served));
-    Ok(())
+/// Whether a new server answers these words by those, to the end of its input.
+fn answers_words(alloc: Global, input: &[u32], wanted: &[u32]) -> Result<bool, AllocError> {
+    let input = spelled(alloc, input)?;
+    let (written, end) = answers(alloc, &input)?;
+    Ok(end == Ok(Served) && is_spelled(&written, wanted))
 }

@@ -76,57 +76,52 @@ fn attributes_are_asked(rt: HostRuntime) -> Result<(), Fail> {
     Ok(())
 }
 
+/// What is at fault, a record, and its answer.
+const FAULTS: [(&str, [u32; 10], &[u32]); 6] = [
+    (
+        "version 3 of RPC",
+        [4, 0, 3, 100003, 3, 0, 0, 0, 0, 0],
+        &[0x80000018, 4, 1, 1, 0, 2, 2],
+    ),
+    (
+        "a credential of another flavor",
+        [4, 0, 2, 100003, 3, 0, 6, 0, 0, 0],
+        &[0x80000014, 4, 1, 1, 1, 1],
+    ),
+    (
+        "an unknown program",
+        [4, 0, 2, 100000, 3, 0, 0, 0, 0, 0],
+        &[0x80000018, 4, 1, 0, 0, 0, 1],
+    ),
+    (
+        "version 2 of NFS",
+        [4, 0, 2, 100003, 2, 0, 0, 0, 0, 0],
+        &[0x80000020, 4, 1, 0, 0, 0, 2, 3, 3],
+    ),
+    (
+        "an unknown procedure",
+        [4, 0, 2, 100003, 3, 22, 0, 0, 0, 0],
+        &[0x80000018, 4, 1, 0, 0, 0, 3],
+    ),
+    (
+        "attributes of no handle",
+        [4, 0, 2, 100003, 3, 1, 0, 0, 0, 0],
+        &[0x80000018, 4, 1, 0, 0, 0, 4],
+    ),
+];
+
 #[test]
-fn version_3_of_rpc(rt: HostRuntime) -> Result<(), Fail> {
-    let call = [4, 0, 3, 100003, 3, 0, 0, 0, 0, 0];
-    assert!(rt; is_answered_by(rt.alloc(), &call, &[0x80000018, 4, 1, 1, 0, 2, 2])?);
+fn faults_are_answered(rt: HostRuntime) -> Result<(), Fail> {
+    for (fault, record, answer) in FAULTS {
+        assert!(rt; is_answered_by(rt.alloc(), &record, answer)?, "{fault}");
+    }
     Ok(())
 }
 
+/// Fewer than 12 bytes, and a reply.
 #[test]
-fn a_credential_of_another_flavor(rt: HostRuntime) -> Result<(), Fail> {
-    let call = [4, 0, 2, 100003, 3, 0, 6, 0, 0, 0];
-    assert!(rt; is_answered_by(rt.alloc(), &call, &[0x80000014, 4, 1, 1, 1, 1])?);
-    Ok(())
-}
-
-#[test]
-fn an_unknown_program(rt: HostRuntime) -> Result<(), Fail> {
-    let call = [4, 0, 2, 100000, 3, 0, 0, 0, 0, 0];
-    assert!(rt; is_answered_by(rt.alloc(), &call, &[0x80000018, 4, 1, 0, 0, 0, 1])?);
-    Ok(())
-}
-
-#[test]
-fn version_2_of_nfs(rt: HostRuntime) -> Result<(), Fail> {
-    let call = [4, 0, 2, 100003, 2, 0, 0, 0, 0, 0];
-    assert!(rt; is_answered_by(rt.alloc(), &call, &[0x80000020, 4, 1, 0, 0, 0, 2, 3, 3])?);
-    Ok(())
-}
-
-#[test]
-fn an_unknown_procedure(rt: HostRuntime) -> Result<(), Fail> {
-    let call = [4, 0, 2, 100003, 3, 22, 0, 0, 0, 0];
-    assert!(rt; is_answered_by(rt.alloc(), &call, &[0x80000018, 4, 1, 0, 0, 0, 3])?);
-    Ok(())
-}
-
-#[test]
-fn attributes_of_no_handle(rt: HostRuntime) -> Result<(), Fail> {
-    let call = [4, 0, 2, 100003, 3, 1, 0, 0, 0, 0];
-    assert!(rt; is_answered_by(rt.alloc(), &call, &[0x80000018, 4, 1, 0, 0, 0, 4])?);
-    Ok(())
-}
-
-/// Fewer than 12 bytes.
-#[test]
-fn the_beginning_of_a_call_is_dropped(rt: HostRuntime) -> Result<(), Fail> {
+fn what_is_no_call_is_dropped(rt: HostRuntime) -> Result<(), Fail> {
     assert!(rt; has_answer(rt.alloc(), &[4, 0], None)?);
-    Ok(())
-}
-
-#[test]
-fn a_reply_is_dropped(rt: HostRuntime) -> Result<(), Fail> {
     assert!(rt; has_answer(rt.alloc(), &[4, 1, 0, 0, 0, 0], None)?);
     Ok(())
 }

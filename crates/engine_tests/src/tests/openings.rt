@@ -1,8 +1,9 @@
 //! What an engine starts with, and how it ends.
 
-ghost use Rattle.std.specs.Prelude.{◌≡◌};
+ghost use Rattle.std.specs.Prelude.{◌≡◌, IfOk};
 ghost use Rattle.nfs_engine.specs.Engine.{CountsLocked};
 ghost use Rattle.nfs_engine.specs.Running.{living_count};
+ghost use Rattle.nfs_schedule.specs.Worlds.{IsAtRest};
 
 use super::records::moment;
 use bytes::Bytes;
@@ -26,7 +27,9 @@ fn exports(alloc: Global) -> Result<Exports, AllocError> {
 }
 
 /// An engine that keeps so many replies, and whose era is full at so many records.
-fn started_at_once(alloc: Global, capacity: u64, era_records: u64) -> Result<Engine, StartError> {
+fn started_at_once(alloc: Global, capacity: u64, era_records: u64) -> Result<Engine, StartError>
+    ensures { IfOk result IsAtRest }
+{
     let config = Config {
         exports: exports(alloc)?,
         start: 7,
@@ -51,6 +54,16 @@ fn started(alloc: Global, capacity: u64, era_records: u64) -> Result<Engine, Sta
 /// An engine at its start.
 pub(super) fn opened(alloc: Global) -> Result<Engine, StartError> {
     started(alloc, 1024, 1024)
+}
+
+/// An engine at its start, which keeps so many replies of each host.
+pub(super) fn resting(alloc: Global, capacity: u64) -> Result<Engine, AllocError>
+    ensures { IfOk result IsAtRest }
+{
+    match started_at_once(alloc, capacity, 65_536) {
+        Ok(engine) => Ok(engine),
+        Err(_) => Err(AllocError),
+    }
 }
 
 /// Ends an engine at rest: no call is in progress, and no address is held.

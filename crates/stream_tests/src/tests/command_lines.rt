@@ -16,24 +16,49 @@ fn with<'a>(alloc: Global, words: &[&'a str], more: &[&'a str]) -> Result<Vec<&'
     Ok(all)
 }
 
+/// Whether the program ends with this status, and a text that begins so.
+fn tells(alloc: Global, exit: &Exit, status: u8, beginning: &str) -> Result<bool, Fail> {
+    let text = exit.to_string(alloc)?;
+    Ok(exit.status() == status && text.as_str().starts_with(beginning))
+}
+
 /// Whether the words are refused with this status, by a text that begins so.
 fn is_refused(alloc: Global, words: &[&str], status: u8, beginning: &str) -> Result<bool, Fail> {
     match configure(alloc, words) {
-        Ok(_) => Ok(false),
+        Ok(options) => {
+            drop(options);
+            Ok(false)
+        }
+        Err(exit) => tells(alloc, &exit, status, beginning),
+    }
+}
+
+/// What the words ask for.
+fn options(alloc: Global, words: &[&str]) -> Result<Options, Fail> {
+    match configure(alloc, words) {
+        Ok(options) => Ok(options),
         Err(exit) => {
-            let text = exit.to_string(alloc)?;
-            Ok(exit.status() == status && text.as_str().starts_with(beginning))
+            drop(exit);
+            Err(Fail::from("options"))
         }
     }
 }
 
-fn options(rt: &impl Abort, alloc: Global, words: &[&str]) -> Options {
-    configure(alloc, words).expect(rt, "options")
+/// Whether the words are taken.
+fn is_taken(alloc: Global, words: &[&str]) -> bool {
+    match configure(alloc, words) {
+        Ok(options) => {
+            drop(options);
+            true
+        }
+        Err(exit) => {
+            drop(exit);
+            false
+        }
+    }
 }
 
-#[test]
-fn the_defaults(rt: HostRuntime) {
-    let options = options(&rt, rt.alloc(), &SERVE);
+fn are_defaults(rt: &impl Abort, options: &Options) {
     assert_eq!(rt; options.start, None);
     assert_eq!(rt; options.clock, None);
     assert!(rt; options.host.text().as_slice() == b"127.0.0.1".as_slice());
@@ -49,24 +74,29 @@ fn the_defaults(rt: HostRuntime) {
 }
 
 #[test]
-fn each_option(rt: HostRuntime) {
-    let words = [
-        "nfsd",
-        "--host=10.0.0.1",
-        "--start",
-        "18446744073709551615",
-        "--export=/,ro,10.0.0.1,10.0.0.2",
-        "--clock",
-        "4294967295",
-        "--bytes",
-        "5",
-        "--era",
-        "6",
-        "--cache",
-        "7",
-        "--stdio",
-    ];
-    let options = options(&rt, rt.alloc(), &words);
+fn the_defaults(rt: HostRuntime) -> Result<(), Fail> {
+    let options = options(rt.alloc(), &SERVE)?;
+    are_defaults(&rt, &options);
+    Ok(())
+}
+
+const EACH_OPTION: [&str; 13] = [
+    "nfsd",
+    "--host=10.0.0.1",
+    "--start",
+    "18446744073709551615",
+    "--export=/,ro,10.0.0.1,10.0.0.2",
+    "--clock",
+    "4294967295",
+    "--bytes",
+    "5",
+    "--era",
+    "6",
+    "--cache",
+    "7",
+];
+
+fn are_as_given(rt: &impl Abort, options: &Options) {
     assert_eq!(rt; options.start, Some(u64::MAX));
     assert_eq!(rt; options.clock, Some(u32::MAX));
     assert!(rt; options.host.text().as_slice() == b"10.0.0.1".as_slice());
@@ -82,16 +112,23 @@ fn each_option(rt: HostRuntime) {
 }
 
 #[test]
-fn exports_in_the_order_given(rt: HostRuntime) {
-    let words = [
-        "nfsd",
-        "--export",
-        "/b,ro,10.0.0.1",
-        "--stdio",
-        "--export",
-        "/a,rw,*",
-    ];
-    let options = options(&rt, rt.alloc(), &words);
+fn each_option(rt: HostRuntime) -> Result<(), Fail> {
+    let words = with(rt.alloc(), &EACH_OPTION, &["--stdio"])?;
+    let options = options(rt.alloc(), &words)?;
+    are_as_given(&rt, &options);
+    Ok(())
+}
+
+const TWO_EXPORTS: [&str; 6] = [
+    "nfsd",
+    "--export",
+    "/b,ro,10.0.0.1",
+    "--stdio",
+    "--export",
+    "/a,rw,*",
+];
+
+fn are_in_order(rt: &impl Abort, options: &Options) {
     let list = options.exports.list();
     assert_eq!(rt; list.len(), 2);
     assert!(rt; list[0].path.as_slice() == b"/b".as_slice());
@@ -101,52 +138,52 @@ fn exports_in_the_order_given(rt: HostRuntime) {
 }
 
 #[test]
-fn the_length_of_a_host(rt: HostRuntime) -> Result<(), Fail> {
-    let alloc = rt.alloc();
-    let long = "h".repeat(alloc, 256)?;
-    let fits = with(alloc, &SERVE, &["--host", &long.as_str()[1..]])?;
-    assert!(rt; configure(alloc, &fits).is_ok());
-    let refused = "error: the value of '--host <TEXT>' must have 1 to 255 bytes\n\nUsage: nfsd ";
-    for host in [long.as_str(), ""] {
-        let words = with(alloc, &SERVE, &["--host", host])?;
-        assert!(rt; is_refused(alloc, &words, 2, refused)?);
-    }
+fn exports_in_the_order_given(rt: HostRuntime) -> Result<(), Fail> {
+    let options = options(rt.alloc(), &TWO_EXPORTS)?;
+    are_in_order(&rt, &options);
+    Ok(())
+}
+
+/// Whether a host of so many bytes is taken.
+fn takes_host(alloc: Global, length: usize) -> Result<bool, Fail> {
+    let host = "h".repeat(alloc, length)?;
+    let words = with(alloc, &SERVE, &["--host", host.as_str()])?;
+    Ok(is_taken(alloc, &words))
+}
+
+/// Whether one of so many bytes is refused for its length.
+fn refuses_host(alloc: Global, length: usize) -> Result<bool, Fail> {
+    let host = "h".repeat(alloc, length)?;
+    let words = with(alloc, &SERVE, &["--host", host.as_str()])?;
+    let told = "error: the value of '--host <TEXT>' must have 1 to 255 bytes\n\nUsage: nfsd ";
+    is_refused(alloc, &words, 2, told)
+}
+
+#[test]
+fn a_host_has_1_to_255_bytes(rt: HostRuntime) -> Result<(), Fail> {
+    assert!(rt; takes_host(rt.alloc(), 255)?);
+    assert!(rt; refuses_host(rt.alloc(), 256)?);
+    assert!(rt; refuses_host(rt.alloc(), 0)?);
     Ok(())
 }
 
 #[test]
-fn the_records_of_an_era(rt: HostRuntime) -> Result<(), Fail> {
-    let alloc = rt.alloc();
-    for era in ["1", "65536"] {
-        let words = with(alloc, &SERVE, &["--era", era])?;
-        assert!(rt; configure(alloc, &words).is_ok());
-    }
-    let refused = "error: the value of '--era <N>' must be 1 to 65536\n\nUsage: nfsd ";
-    for era in ["0", "65537"] {
-        let words = with(alloc, &SERVE, &["--era", era])?;
-        assert!(rt; is_refused(alloc, &words, 2, refused)?);
+fn the_bounds_of_eras_and_of_kept_replies(rt: HostRuntime) -> Result<(), Fail> {
+    for more in [
+        ["--era", "1"],
+        ["--era", "65536"],
+        ["--cache", "1"],
+        ["--cache", "65536"],
+    ] {
+        let words = with(rt.alloc(), &SERVE, &more)?;
+        assert!(rt; is_taken(rt.alloc(), &words), "{} {}", more[0], more[1]);
     }
     Ok(())
 }
 
-#[test]
-fn the_replies_that_are_kept(rt: HostRuntime) -> Result<(), Fail> {
-    let alloc = rt.alloc();
-    for cache in ["1", "65536"] {
-        let words = with(alloc, &SERVE, &["--cache", cache])?;
-        assert!(rt; configure(alloc, &words).is_ok());
-    }
-    let refused = "error: the value of '--cache <N>' must be 1 to 65536\n\nUsage: nfsd ";
-    for cache in ["0", "65537"] {
-        let words = with(alloc, &SERVE, &["--cache", cache])?;
-        assert!(rt; is_refused(alloc, &words, 2, refused)?);
-    }
-    // The era is looked at first.
-    let words = with(alloc, &SERVE, &["--cache", "0", "--era", "0"])?;
-    let era = "error: the value of '--era <N>' must be 1 to 65536\n\nUsage: nfsd ";
-    assert!(rt; is_refused(alloc, &words, 2, era)?);
-    Ok(())
-}
+const ERA: &str = "error: the value of '--era <N>' must be 1 to 65536\n\nUsage: nfsd ";
+
+const CACHE: &str = "error: the value of '--cache <N>' must be 1 to 65536\n\nUsage: nfsd ";
 
 #[test]
 fn refused_command_lines(rt: HostRuntime) -> Result<(), Fail> {
@@ -180,6 +217,12 @@ fn refused_command_lines(rt: HostRuntime) -> Result<(), Fail> {
             ["--cache", "18446744073709551616"].as_slice(),
             "error: invalid value '18446744073709551616' for '--cache <N>': ",
         ),
+        (["--era", "0"].as_slice(), ERA),
+        (["--era", "65537"].as_slice(), ERA),
+        (["--cache", "0"].as_slice(), CACHE),
+        (["--cache", "65537"].as_slice(), CACHE),
+        // The era is looked at first.
+        (["--cache", "0", "--era", "0"].as_slice(), ERA),
         (
             ["--start"].as_slice(),
             "error: a value is required for '--start <N>' but none was supplied\n",
@@ -319,9 +362,21 @@ fn want_of_memory_is_told(rt: HostRuntime) {
         "--start",
         "7",
     ];
-    match configure(rt.alloc(), &words) {
-        Ok(options) => assert_eq!(rt; options.start, Some(7)),
-        Err(exit) => assert!(rt; matches!(&exit, Exit::Memory) && exit.status() == 1),
+    assert!(rt; starts_or_is_refused(rt.alloc(), &words));
+}
+
+/// Whether the words ask for the start number 7, or there is no memory.
+fn starts_or_is_refused(alloc: Global, words: &[&str]) -> bool {
+    match configure(alloc, words) {
+        Ok(options) => {
+            let start = options.start;
+            drop(options);
+            start == Some(7)
+        }
+        Err(exit) => {
+            let status = exit.status();
+            matches!(exit, Exit::Memory) && status == 1
+        }
     }
 }
 
@@ -352,24 +407,32 @@ impl Env for Letters {
     }
 }
 
-#[test]
-fn arguments_are_text(rt: HostRuntime) -> Result<(), Fail> {
-    let alloc = rt.alloc();
-    let words = arguments(&(Letters { bytes: *b"abc" }, alloc)).expect(&rt, "words");
-    assert_eq!(rt; words.len(), 3);
-    assert!(rt; words[2].as_str() == "c");
-    match arguments(&(
-        Letters {
-            bytes: [b'a', 0xff, b'c'],
-        },
-        alloc,
-    )) {
-        Ok(_) => assert!(rt; false, "0xff is no text"),
+/// Whether these letters are taken as three words, of which the last is this.
+fn are_words(alloc: Global, bytes: [u8; 3], last: &str) -> bool {
+    match arguments(&(Letters { bytes }, alloc)) {
+        Ok(words) => words.len() == 3 && words[2].as_str() == last,
         Err(exit) => {
-            let told = "error: invalid UTF-8 was detected in one or more arguments\n\nUsage: nfsd ";
-            assert!(rt; exit.to_string(alloc)?.as_str().starts_with(told));
-            assert_eq!(rt; exit.status(), 2);
+            drop(exit);
+            false
         }
     }
+}
+
+/// Whether these letters are refused as no text.
+fn are_refused(alloc: Global, bytes: [u8; 3]) -> Result<bool, Fail> {
+    let told = "error: invalid UTF-8 was detected in one or more arguments\n\nUsage: nfsd ";
+    match arguments(&(Letters { bytes }, alloc)) {
+        Ok(words) => {
+            drop(words);
+            Ok(false)
+        }
+        Err(exit) => tells(alloc, &exit, 2, told),
+    }
+}
+
+#[test]
+fn arguments_are_text(rt: HostRuntime) -> Result<(), Fail> {
+    assert!(rt; are_words(rt.alloc(), *b"abc", "c"));
+    assert!(rt; are_refused(rt.alloc(), [b'a', 0xff, b'c'])?);
     Ok(())
 }

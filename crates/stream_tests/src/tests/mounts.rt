@@ -54,20 +54,22 @@ enum Exchange {
     Nfs(u32, &'static [u32], &'static [u32]),
 }
 
+/// Adds the first words, and the others behind them.
+fn add_both(bytes: &mut Vec<u8>, first: &[u32], others: &[u32]) -> Result<(), AllocError> {
+    add_words(bytes, first)?;
+    add_words(bytes, others)
+}
+
 /// Adds a call with this transaction id.
 fn add_call(calls: &mut Vec<u8>, xid: u32, exchange: &Exchange) -> Result<(), AllocError> {
     let mut body = spelled(*calls.allocator(), &[xid, 0, 2])?;
     match *exchange {
         Mount(procedure, arguments, _) => {
-            add_words(&mut body, &[100005, 3, procedure, 0, 0, 0, 0])?;
-            add_words(&mut body, arguments)?;
+            add_both(&mut body, &[100005, 3, procedure, 0, 0, 0, 0], arguments)?
         }
         Nfs(procedure, arguments, _) => {
-            add_words(
-                &mut body,
-                &[100003, 3, procedure, 1, 20, 0, 0, 0, 0, 0, 0, 0],
-            )?;
-            add_words(&mut body, arguments)?;
+            let header = [100003, 3, procedure, 1, 20, 0, 0, 0, 0, 0, 0, 0];
+            add_both(&mut body, &header, arguments)?
         }
     }
     add_record(calls, &body)
@@ -104,6 +106,31 @@ fn replies_of(alloc: Global, exchanges: &[Exchange]) -> Result<Vec<u8>, AllocErr
     Ok(replies)
 }
 
+/// A host.
+fn named(host: &'static [u8]) -> Result<Host, Fail> {
+    match Host::new(Bytes::from_static(host)) {
+        Some(host) => Ok(host),
+        None => Err(Fail::from("it is no host")),
+    }
+}
+
+/// What the engine answers to a host, and how serving it ends.
+fn served(
+    alloc: Global,
+    engine: &mut Engine,
+    host: &Host,
+    calls: &[u8],
+) -> (Vec<u8>, Result<Served, StreamFault>)
+    requires { IsAtRest engine.old }
+    ensures { IsAtRest engine.new }
+{
+    let mut clock = FixedClock { seconds: 1000 };
+    let mut reader = Counted::new(calls);
+    let mut writer = Counted::new(Vec::new(alloc));
+    let end = serve_stream(alloc, engine, host, &mut clock, &mut reader, &mut writer);
+    (writer.into_inner(), end)
+}
+
 /// The engine gives these replies to these calls of a host.
 fn follows(
     rt: &(impl Abort + AllocGlobal),
@@ -114,22 +141,33 @@ fn follows(
     requires { IsAtRest engine.old }
     ensures { IsAtRest engine.new }
 {
-    let alloc = rt.alloc();
-    let calls = calls_of(alloc, exchanges)?;
-    let Some(host) = Host::new(Bytes::from_static(host)) else {
-        return Err(Fail::from("it is no host"));
-    };
-    let mut clock = FixedClock { seconds: 1000 };
-    let mut reader = Counted::new(calls.as_slice());
-    let mut writer = Counted::new(Vec::new(alloc));
-    let end = serve_stream(alloc, engine, &host, &mut clock, &mut reader, &mut writer);
-    let written = writer.into_inner();
-    assert_eq!(rt;
-        written.as_slice(),
-        replies_of(alloc, exchanges)?.as_slice()
-    );
+    let calls = calls_of(rt.alloc(), exchanges)?;
+    let replies = replies_of(rt.alloc(), exchanges)?;
+    let host = named(host)?;
+    let (written, end) = served(rt.alloc(), engine, &host, &calls);
+    assert!(rt; written.as_slice() == replies.as_slice());
     assert_eq!(rt; end, Ok(Served));
     Ok(())
+}
+
+/// What a host sends, and what it is answered.
+#[derive(Clone, Copy)]
+struct Visit<'a> {
+    host: &'static [u8],
+    exchanges: &'a [Exchange],
+}
+
+/// The engine gives these replies in one visit, and those in another.
+fn follows_both(
+    rt: &(impl Abort + AllocGlobal),
+    engine: &mut Engine,
+    first: Visit<'_>,
+    second: Visit<'_>,
+) -> Result<(), Fail>
+    requires { IsAtRest engine.old }
+{
+    follows(rt, engine, first.host, first.exchanges)?;
+    follows(rt, engine, second.host, second.exchanges)
 }
 
 /// A new server of `/data` gives these replies to these calls of 10.0.0.1.
@@ -176,13 +214,18 @@ const DUMP_TWO: Exchange = Mount(
 const DUMP_NOTHING: Exchange = Mount(MOUNT_DUMP, &[], &[0]);
 
 /// Every host in `/a`, and 10.0.0.2 alone in `/a/b`, which is read only.
+fn two_exports(alloc: Global) -> Result<Exports, AllocError> {
+    let mut list = Vec::with_capacity(alloc, 2)?;
+    list.push(export(alloc, b"/a", b"rw", b"*")?)?;
+    list.push(export(alloc, b"/a/b", b"ro", b"10.0.0.2")?)?;
+    exports_of(alloc, list)
+}
+
+/// A new server of both.
 fn opened_with_two(alloc: Global) -> Result<Engine, AllocError>
     ensures { IfOk result IsAtRest }
 {
-    let mut list = Vec::new(alloc);
-    list.push(export(alloc, b"/a", b"rw", b"*")?)?;
-    list.push(export(alloc, b"/a/b", b"ro", b"10.0.0.2")?)?;
-    opened_with(alloc, Exports::new(alloc, list).map_err(|_| AllocError)?)
+    opened_with(alloc, two_exports(alloc)?, 1024)
 }
 
 #[test]
@@ -232,36 +275,40 @@ fn a_path_is_unmounted_as_it_was_sent(rt: HostRuntime) -> Result<(), Fail> {
 
 #[test]
 fn a_host_unmounts_its_own_paths_alone(rt: HostRuntime) -> Result<(), Fail> {
-    let mut plain = opened(rt.alloc())?;
-    follows(&rt, &mut plain, FIRST_HOST, &[MNT_DATA, MNT_DATA_SLASH])?;
-    follows(
-        &rt,
-        &mut plain,
-        SECOND_HOST,
-        &[
+    let first = Visit {
+        host: FIRST_HOST,
+        exchanges: &[MNT_DATA, MNT_DATA_SLASH],
+    };
+    let second = Visit {
+        host: SECOND_HOST,
+        exchanges: &[
             Mount(MOUNT_UMNT, &DATA, &[]),
             Mount(MOUNT_UMNTALL, &[], &[]),
             DUMP_TWO,
         ],
-    )
+    };
+    let mut engine = opened(rt.alloc())?;
+    follows_both(&rt, &mut engine, first, second)
 }
 
 #[test]
 fn a_host_unmounts_all_of_its_paths(rt: HostRuntime) -> Result<(), Fail> {
     const LEFT: [u32; 8] = [1, 8, 0x31302e30, 0x2e302e32, 5, 0x2f646174, 0x61000000, 0];
-    let mut plain = opened(rt.alloc())?;
-    follows(&rt, &mut plain, SECOND_HOST, &[MNT_DATA])?;
-    follows(
-        &rt,
-        &mut plain,
-        FIRST_HOST,
-        &[
+    let first = Visit {
+        host: SECOND_HOST,
+        exchanges: &[MNT_DATA],
+    };
+    let second = Visit {
+        host: FIRST_HOST,
+        exchanges: &[
             MNT_DATA,
             MNT_DATA_SLASH,
             Mount(MOUNT_UMNTALL, &[], &[]),
             Mount(MOUNT_DUMP, &[], &LEFT),
         ],
-    )
+    };
+    let mut engine = opened(rt.alloc())?;
+    follows_both(&rt, &mut engine, first, second)
 }
 
 /// Groups are named where not every host is admitted; and an export takes the hosts that it names and no other.
@@ -275,22 +322,19 @@ fn exports_are_listed_with_their_hosts(rt: HostRuntime) -> Result<(), Fail> {
 
 #[test]
 fn a_host_mounts_the_deepest_export_that_admits_it(rt: HostRuntime) -> Result<(), Fail> {
-    let mut plain = opened_with_two(rt.alloc())?;
-    follows(
-        &rt,
-        &mut plain,
-        SECOND_HOST,
-        &[
+    let first = Visit {
+        host: SECOND_HOST,
+        exchanges: &[
             Mount(MOUNT_MNT, &A_B, &SECOND_ROOT),
             Mount(MOUNT_MNT, &A, &FIRST_ROOT),
         ],
-    )?;
-    follows(
-        &rt,
-        &mut plain,
-        FIRST_HOST,
-        &[Mount(MOUNT_MNT, &A_B, &[MNT3ERR_NOENT])],
-    )
+    };
+    let second = Visit {
+        host: FIRST_HOST,
+        exchanges: &[Mount(MOUNT_MNT, &A_B, &[MNT3ERR_NOENT])],
+    };
+    let mut engine = opened_with_two(rt.alloc())?;
+    follows_both(&rt, &mut engine, first, second)
 }
 
 #[test]

@@ -20,73 +20,63 @@ impl<R: Read> Read for Failing<R> {
     }
 }
 
-/// What a writer does in the place of a write.
+/// What a writer does that has trouble.
 #[derive(Clone, Copy)]
 pub(super) enum Trouble {
+    /// The write behind the good ones fails.
     Fails,
+    /// It takes nothing.
     TakesNothing,
+    /// No flush is done.
+    IsNotFlushed,
 }
 
-/// A writer that takes some bytes at a call, and has trouble after some calls.
+/// How a writer goes.
+#[derive(Clone, Copy)]
+pub(super) struct Course {
+    /// How many writes come before the trouble.
+    pub good: u64,
+    /// How many bytes a write takes at most.
+    pub most: usize,
+    pub trouble: Trouble,
+}
+
+/// A writer that takes what it is given.
+pub(super) const WRITES_ALL: Course = Course {
+    good: u64::MAX,
+    most: usize::MAX,
+    trouble: Trouble::Fails,
+};
+
+/// A writer that goes so, and knows how many bytes it had at each flush.
 #[derive(Drop)]
 pub(super) struct Choppy {
     pub written: Vec<u8>,
-    /// How many bytes a call takes at most.
-    pub most: usize,
-    /// How many calls come before the trouble.
-    pub good: u64,
-    pub trouble: Trouble,
+    pub flushes: Vec<usize>,
+    pub course: Course,
 }
 
 impl Write for Choppy {
     fn write(&mut self, buffer: &[u8]) -> Result<usize> {
-        if self.good == 0 {
-            return match self.trouble {
-                Trouble::Fails => Err(Error::from(ErrorKind::Other)),
+        if self.course.good == 0 {
+            return match self.course.trouble {
                 Trouble::TakesNothing => Ok(0),
+                _ => Err(Error::from(ErrorKind::Other)),
             };
         }
-        self.good -= 1;
-        let count = buffer.len().min(self.most);
+        self.course.good -= 1;
+        let count = buffer.len().min(self.course.most);
         self.written.extend_from_slice(&buffer[..count])?;
         Ok(count)
     }
 
     fn flush(&mut self) -> Result<()> {
-        Ok(())
-    }
-}
-
-/// A writer that sends nothing on.
-#[derive(Drop)]
-pub(super) struct Unflushed {
-    pub written: Vec<u8>,
-}
-
-impl Write for Unflushed {
-    fn write(&mut self, buffer: &[u8]) -> Result<usize> {
-        self.written.write(buffer)
-    }
-
-    fn flush(&mut self) -> Result<()> {
-        Err(Error::from(ErrorKind::Other))
-    }
-}
-
-/// A writer that knows how many bytes it had at each flush.
-#[derive(Drop)]
-pub(super) struct Flushed {
-    pub written: Vec<u8>,
-    pub flushes: Vec<usize>,
-}
-
-impl Write for Flushed {
-    fn write(&mut self, buffer: &[u8]) -> Result<usize> {
-        self.written.write(buffer)
-    }
-
-    fn flush(&mut self) -> Result<()> {
-        self.flushes.push(self.written.len())?;
-        Ok(())
+        match self.course.trouble {
+            Trouble::IsNotFlushed => Err(Error::from(ErrorKind::Other)),
+            _ => {
+                self.flushes.push(self.written.len())?;
+                Ok(())
+            }
+        }
     }
 }

@@ -1,203 +1,152 @@
 //! Records and their answers.
 
-use super::readers_and_writers::Flushed;
+use super::scripts::add_words;
 use super::*;
 
-#[test]
-fn null(rt: HostRuntime) -> Result<(), Fail> {
-    answers_by(&rt, &NULL, &NULL_REPLY)
-}
+/// What comes in, the words of a stream, and those of its answers.
+const ANSWERED: [(&str, &[u32], &[u32]); 19] = [
+    ("NULL", &NULL, &NULL_REPLY),
+    ("attributes of the root", &GETATTR, &GETATTR_REPLY),
+    (
+        "an unknown program",
+        &[0x80000028, 4, 0, 2, 100000, 3, 0, 0, 0, 0, 0],
+        &[0x80000018, 4, 1, 0, 0, 0, 1],
+    ),
+    (
+        "version 2 of NFS",
+        &[0x80000028, 4, 0, 2, 100003, 2, 0, 0, 0, 0, 0],
+        &[0x80000020, 4, 1, 0, 0, 0, 2, 3, 3],
+    ),
+    (
+        "version 3 of NLM",
+        &[0x80000028, 4, 0, 2, 100021, 3, 0, 0, 0, 0, 0],
+        &[0x80000020, 4, 1, 0, 0, 0, 2, 4, 4],
+    ),
+    (
+        "version 3 of RPC",
+        &[0x80000028, 4, 0, 3, 100003, 3, 0, 0, 0, 0, 0],
+        &[0x80000018, 4, 1, 1, 0, 2, 2],
+    ),
+    (
+        "a credential of another flavor",
+        &[0x80000028, 4, 0, 2, 100003, 3, 0, 6, 0, 0, 0],
+        &[0x80000014, 4, 1, 1, 1, 1],
+    ),
+    (
+        "another flavor comes before another program",
+        &[0x80000028, 4, 0, 2, 100000, 9, 0, 6, 0, 0, 0],
+        &[0x80000014, 4, 1, 1, 1, 1],
+    ),
+    ("a mount", &MNT, &MNT_REPLY),
+    (
+        "a mount with a new xid",
+        &[
+            0x80000034, 2, 0, 2, 100005, 3, 1, 0, 0, 0, 0, 5, 0x2f646174, 0x61000000, 0x80000034,
+            6, 0, 2, 100005, 3, 1, 0, 0, 0, 0, 5, 0x2f646174, 0x61000000,
+        ],
+        &[
+            0x80000048, 2, 1, 0, 0, 0, 0, 0, 32, 0x4e464433, 1, 0, 7, 0, 1, 0, 1, 1, 1, 0x80000048,
+            6, 1, 0, 0, 0, 0, 0, 32, 0x4e464433, 1, 0, 7, 0, 1, 0, 1, 1, 1,
+        ],
+    ),
+    (
+        "a mount below the root",
+        &[
+            0x80000034, 2, 0, 2, 100005, 3, 1, 0, 0, 0, 0, 7, 0x2f646174, 0x612f7800,
+        ],
+        &[0x8000001c, 2, 1, 0, 0, 0, 0, 2],
+    ),
+    (
+        "a mount of another path",
+        &[
+            0x80000034, 2, 0, 2, 100005, 3, 1, 0, 0, 0, 0, 6, 0x2f6f7468, 0x65720000,
+        ],
+        &[0x8000001c, 2, 1, 0, 0, 0, 0, 13],
+    ),
+    (
+        "a mount of a path that leads from no root",
+        &[0x80000030, 2, 0, 2, 100005, 3, 1, 0, 0, 0, 0, 4, 0x64617461],
+        &[0x8000001c, 2, 1, 0, 0, 0, 0, 22],
+    ),
+    (
+        "a mount of a path with a dot",
+        &[
+            0x80000034, 2, 0, 2, 100005, 3, 1, 0, 0, 0, 0, 7, 0x2f646174, 0x612f2e00,
+        ],
+        &[0x8000001c, 2, 1, 0, 0, 0, 0, 22],
+    ),
+    (
+        "a mount of a path with a NUL",
+        &[
+            0x80000034, 2, 0, 2, 100005, 3, 1, 0, 0, 0, 0, 6, 0x2f646174, 0x61000000,
+        ],
+        &[0x8000001c, 2, 1, 0, 0, 0, 0, 22],
+    ),
+    (
+        "a mount of the beginning of a path",
+        &[0x80000030, 2, 0, 2, 100005, 3, 1, 0, 0, 0, 0, 4, 0x2f646174],
+        &[0x8000001c, 2, 1, 0, 0, 0, 0, 13],
+    ),
+    (
+        "a handle of 65 bytes",
+        &[
+            0x80000070, 3, 0, 2, 100003, 3, 1, 0, 0, 0, 0, 65, 0x4e464433, 1, 0, 7, 0, 1, 0, 1, 0,
+            0, 0, 0, 0, 0, 0, 0, 0,
+        ],
+        &[0x80000018, 3, 1, 0, 0, 0, 4],
+    ),
+    (
+        "a reply is dropped",
+        &[
+            0x80000018, 1, 1, 0, 0, 0, 0, 0x80000028, 1, 0, 2, 100003, 3, 0, 0, 0, 0, 0,
+        ],
+        &NULL_REPLY,
+    ),
+    ("two records in one piece", &BOTH_NULLS, &BOTH_REPLIES),
+];
 
 #[test]
-fn null_in_three_fragments(rt: HostRuntime) -> Result<(), Fail> {
-    let alloc = rt.alloc();
+fn streams_are_answered(rt: HostRuntime) -> Result<(), Fail> {
+    for (what, input, wanted) in ANSWERED {
+        assert!(rt; answers_words(rt.alloc(), input, wanted)?, "{what}");
+    }
+    Ok(())
+}
+
+/// NULL in fragments of 1, 0 and 39 bytes.
+fn null_in_fragments(alloc: Global) -> Result<Vec<u8>, AllocError> {
     let call = spelled(alloc, &NULL[1..])?;
     let (first, others) = call.split_at(call.len().min(1));
     let mut input = spelled(alloc, &[0x00000001])?;
     input.extend_from_slice(first)?;
-    input.extend_from_slice(&spelled(alloc, &[0, 0x80000027])?)?;
+    add_words(&mut input, &[0, 0x80000027])?;
     input.extend_from_slice(others)?;
-    let (written, _) = answers(alloc, &input)?;
-    assert_eq!(rt; written.as_slice(), spelled(alloc, &NULL_REPLY)?.as_slice());
-    Ok(())
+    Ok(input)
+}
+
+/// NULL, and 73,688 bytes behind it in its record.
+fn null_of_73728_bytes(alloc: Global) -> Result<Vec<u8>, AllocError> {
+    let mut input = both(alloc, &[0x80012000], &NULL[1..])?;
+    input.extend_from_slice(&vec![in alloc; 7; 73_688]?)?;
+    Ok(input)
+}
+
+/// Whether a new server answers this by the reply to NULL, to the end of its input.
+fn is_null(alloc: Global, input: &[u8]) -> Result<bool, AllocError> {
+    let (written, end) = answers(alloc, input)?;
+    Ok(end == Ok(Served) && is_spelled(&written, &NULL_REPLY))
 }
 
 #[test]
-fn attributes_of_the_root(rt: HostRuntime) -> Result<(), Fail> {
-    answers_by(&rt, &GETATTR, &GETATTR_REPLY)
-}
-
-#[test]
-fn an_unknown_program(rt: HostRuntime) -> Result<(), Fail> {
-    let call = [0x80000028, 4, 0, 2, 100000, 3, 0, 0, 0, 0, 0];
-    answers_by(&rt, &call, &[0x80000018, 4, 1, 0, 0, 0, 1])
-}
-
-#[test]
-fn version_2_of_nfs(rt: HostRuntime) -> Result<(), Fail> {
-    let call = [0x80000028, 4, 0, 2, 100003, 2, 0, 0, 0, 0, 0];
-    answers_by(&rt, &call, &[0x80000020, 4, 1, 0, 0, 0, 2, 3, 3])
-}
-
-#[test]
-fn version_3_of_nlm(rt: HostRuntime) -> Result<(), Fail> {
-    let call = [0x80000028, 4, 0, 2, 100021, 3, 0, 0, 0, 0, 0];
-    answers_by(&rt, &call, &[0x80000020, 4, 1, 0, 0, 0, 2, 4, 4])
-}
-
-#[test]
-fn version_3_of_rpc(rt: HostRuntime) -> Result<(), Fail> {
-    let call = [0x80000028, 4, 0, 3, 100003, 3, 0, 0, 0, 0, 0];
-    answers_by(&rt, &call, &[0x80000018, 4, 1, 1, 0, 2, 2])
-}
-
-#[test]
-fn a_credential_of_another_flavor(rt: HostRuntime) -> Result<(), Fail> {
-    let call = [0x80000028, 4, 0, 2, 100003, 3, 0, 6, 0, 0, 0];
-    answers_by(&rt, &call, &[0x80000014, 4, 1, 1, 1, 1])
-}
-
-#[test]
-fn another_flavor_comes_before_another_program(rt: HostRuntime) -> Result<(), Fail> {
-    let call = [0x80000028, 4, 0, 2, 100000, 9, 0, 6, 0, 0, 0];
-    answers_by(&rt, &call, &[0x80000014, 4, 1, 1, 1, 1])
-}
-
-#[test]
-fn a_mount(rt: HostRuntime) -> Result<(), Fail> {
-    answers_by(&rt, &MNT, &MNT_REPLY)
-}
-
-#[test]
-fn a_mount_with_a_new_xid(rt: HostRuntime) -> Result<(), Fail> {
-    let calls = [
-        0x80000034, 2, 0, 2, 100005, 3, 1, 0, 0, 0, 0, 5, 0x2f646174, 0x61000000, 0x80000034, 6, 0,
-        2, 100005, 3, 1, 0, 0, 0, 0, 5, 0x2f646174, 0x61000000,
-    ];
-    let replies = [
-        0x80000048, 2, 1, 0, 0, 0, 0, 0, 32, 0x4e464433, 1, 0, 7, 0, 1, 0, 1, 1, 1, 0x80000048, 6,
-        1, 0, 0, 0, 0, 0, 32, 0x4e464433, 1, 0, 7, 0, 1, 0, 1, 1, 1,
-    ];
-    answers_by(&rt, &calls, &replies)
-}
-
-#[test]
-fn a_mount_below_the_root(rt: HostRuntime) -> Result<(), Fail> {
-    let call = [
-        0x80000034, 2, 0, 2, 100005, 3, 1, 0, 0, 0, 0, 7, 0x2f646174, 0x612f7800,
-    ];
-    answers_by(&rt, &call, &[0x8000001c, 2, 1, 0, 0, 0, 0, 2])
-}
-
-#[test]
-fn a_mount_of_another_path(rt: HostRuntime) -> Result<(), Fail> {
-    let call = [
-        0x80000034, 2, 0, 2, 100005, 3, 1, 0, 0, 0, 0, 6, 0x2f6f7468, 0x65720000,
-    ];
-    answers_by(&rt, &call, &[0x8000001c, 2, 1, 0, 0, 0, 0, 13])
-}
-
-#[test]
-fn a_mount_of_a_path_that_leads_from_no_root(rt: HostRuntime) -> Result<(), Fail> {
-    let call = [0x80000030, 2, 0, 2, 100005, 3, 1, 0, 0, 0, 0, 4, 0x64617461];
-    answers_by(&rt, &call, &[0x8000001c, 2, 1, 0, 0, 0, 0, 22])
-}
-
-#[test]
-fn a_mount_of_a_path_with_a_dot(rt: HostRuntime) -> Result<(), Fail> {
-    let call = [
-        0x80000034, 2, 0, 2, 100005, 3, 1, 0, 0, 0, 0, 7, 0x2f646174, 0x612f2e00,
-    ];
-    answers_by(&rt, &call, &[0x8000001c, 2, 1, 0, 0, 0, 0, 22])
-}
-
-#[test]
-fn a_mount_of_a_path_with_a_nul(rt: HostRuntime) -> Result<(), Fail> {
-    let call = [
-        0x80000034, 2, 0, 2, 100005, 3, 1, 0, 0, 0, 0, 6, 0x2f646174, 0x61000000,
-    ];
-    answers_by(&rt, &call, &[0x8000001c, 2, 1, 0, 0, 0, 0, 22])
-}
-
-#[test]
-fn a_mount_of_the_beginning_of_a_path(rt: HostRuntime) -> Result<(), Fail> {
-    let call = [0x80000030, 2, 0, 2, 100005, 3, 1, 0, 0, 0, 0, 4, 0x2f646174];
-    answers_by(&rt, &call, &[0x8000001c, 2, 1, 0, 0, 0, 0, 13])
-}
-
-#[test]
-fn a_handle_of_65_bytes(rt: HostRuntime) -> Result<(), Fail> {
-    let call = [
-        0x80000070, 3, 0, 2, 100003, 3, 1, 0, 0, 0, 0, 65, 0x4e464433, 1, 0, 7, 0, 1, 0, 1, 0, 0,
-        0, 0, 0, 0, 0, 0, 0,
-    ];
-    answers_by(&rt, &call, &[0x80000018, 3, 1, 0, 0, 0, 4])
-}
-
-#[test]
-fn a_reply_is_dropped(rt: HostRuntime) -> Result<(), Fail> {
-    let records = [
-        0x80000018, 1, 1, 0, 0, 0, 0, 0x80000028, 1, 0, 2, 100003, 3, 0, 0, 0, 0, 0,
-    ];
-    answers_by(&rt, &records, &NULL_REPLY)
-}
-
-#[test]
-fn two_records_in_one_piece(rt: HostRuntime) -> Result<(), Fail> {
-    answers_by(&rt, &BOTH_NULLS, &BOTH_REPLIES)
-}
-
-/// A new server has written so many bytes each time when it sends on what it wrote.
-fn sends_on<R: Read + Drop>(
-    rt: &(impl Abort + AllocGlobal),
-    reader: R,
-    wanted: &[usize],
-) -> Result<(), Fail> {
-    let alloc = rt.alloc();
-    let mut engine = opened(alloc)?;
-    let mut writer = Counted::new(Flushed {
-        written: Vec::new(alloc),
-        flushes: Vec::new(alloc),
-    });
-    let mut reader = Counted::new(reader);
-    let end = serve(alloc, &mut engine, &mut reader, &mut writer);
-    assert_eq!(rt; end, Ok(Served));
-    assert_eq!(rt; writer.into_inner().flushes.as_slice(), wanted);
-    Ok(())
-}
-
-/// Two calls in one piece.
-#[test]
-fn answers_of_one_piece_leave_together(rt: HostRuntime) -> Result<(), Fail> {
-    let input = spelled(rt.alloc(), &BOTH_NULLS)?;
-    sends_on(&rt, input.as_slice(), &[56])
-}
-
-/// Two calls in a piece each.
-#[test]
-fn answers_are_sent_on_before_the_next_piece(rt: HostRuntime) -> Result<(), Fail> {
-    let alloc = rt.alloc();
-    let (first, other) = (spelled(alloc, &NULL)?, spelled(alloc, &OTHER_NULL)?);
-    sends_on(&rt, first.as_slice().chain(other.as_slice()), &[28, 56])
-}
-
-#[test]
-fn a_record_that_is_cut(rt: HostRuntime) -> Result<(), Fail> {
-    let alloc = rt.alloc();
-    let call = spelled(alloc, &NULL)?;
-    let (written, end) = answers(alloc, &call[..call.len().min(43)])?;
-    assert!(rt; written.is_empty());
-    assert_eq!(rt; end, Ok(Served));
+fn a_record_in_three_fragments(rt: HostRuntime) -> Result<(), Fail> {
+    let input = null_in_fragments(rt.alloc())?;
+    assert!(rt; is_null(rt.alloc(), &input)?);
     Ok(())
 }
 
 #[test]
 fn a_record_of_73728_bytes(rt: HostRuntime) -> Result<(), Fail> {
-    let alloc = rt.alloc();
-    let mut input = both(alloc, &[0x80012000], &NULL[1..])?;
-    input.extend_from_slice(&vec![in alloc; 7; 73_688]?)?;
-    let (written, end) = answers(alloc, &input)?;
-    assert_eq!(rt; written.as_slice(), spelled(alloc, &NULL_REPLY)?.as_slice());
-    assert_eq!(rt; end, Ok(Served));
+    let input = null_of_73728_bytes(rt.alloc())?;
+    assert!(rt; is_null(rt.alloc(), &input)?);
     Ok(())
 }

@@ -1,8 +1,5 @@
 //! Calls that come again in one stream.
 
-ghost use Rattle.std.specs.Prelude.{IfOk};
-ghost use Rattle.nfs_schedule.specs.Worlds.{IsAtRest};
-
 use super::exchanges::Effect::*;
 use super::exchanges::Exchange::*;
 use super::exchanges::Object::*;
@@ -89,32 +86,9 @@ const A_IS_THERE: [u32; 37] = [
     0x1000, 0, 0x1000, 0, 0, 0, 1, 0, 1, 1000, 0, 1000, 2, 1000, 2,
 ];
 
-/// An engine in its opening state that keeps one reply of each host.
-fn opened_with_one_reply(alloc: Global) -> Result<Engine, AllocError>
-    ensures { IfOk result IsAtRest }
-{
-    let config = Config {
-        exports: exports(alloc, b"rw")?,
-        start: 7,
-        moment: Moment {
-            seconds: 1000,
-            nanoseconds: 0,
-        },
-        capacity: 1,
-        limits: Limits {
-            total_bytes: 1 << 40,
-        },
-        era_records: 65_536,
-    };
-    match Engine::new(alloc, config) {
-        Ok(engine) => Ok(engine),
-        Err(_) => Err(AllocError),
-    }
-}
-
 /// What an engine that keeps one reply of each host writes for this input.
 fn answered_with_one_reply(alloc: Global, input: &[u8]) -> Result<Vec<u8>, AllocError> {
-    let mut engine = opened_with_one_reply(alloc)?;
+    let mut engine = opened_with(alloc, exports(alloc, b"rw")?, 1)?;
     let mut writer = Counted::new(Vec::new(alloc));
     let served = serve(alloc, &mut engine, &mut Counted::new(input), &mut writer);
     drop(served);

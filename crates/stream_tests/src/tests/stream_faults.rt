@@ -1,196 +1,194 @@
-//! Streams that fail, and what was written by then.
+//! Streams that come in pieces, or whose reads and writes fail, and what was written by then.
 
-use super::readers_and_writers::{Choppy, Failing, Trouble, Unflushed};
+use super::readers_and_writers::{Choppy, Course, Failing, Trouble, WRITES_ALL};
 use super::*;
 use nfs_rpc::stream::Counts;
 
-#[test]
-fn a_record_that_is_too_large(rt: HostRuntime) -> Result<(), Fail> {
-    let alloc = rt.alloc();
-    let (written, end) = answers(alloc, &spelled(alloc, &[0x80012001])?)?;
-    assert!(rt; written.is_empty());
-    assert_eq!(rt; end, Err(StreamFault::TooLarge));
-    Ok(())
+/// What was written, and how many bytes it were at each flush; how serving ended, and how many reads and writes failed.
+#[derive(Drop)]
+struct Ended {
+    written: Vec<u8>,
+    flushes: Vec<usize>,
+    end: Result<Served, StreamFault>,
+    failures: (u64, u64),
 }
 
-#[test]
-fn a_record_before_one_that_is_too_large(rt: HostRuntime) -> Result<(), Fail> {
-    let alloc = rt.alloc();
-    let (written, end) = answers(alloc, &both(alloc, &NULL, &[0x80012001])?)?;
-    assert!(rt; is_spelled(&written, &NULL_REPLY));
-    assert_eq!(rt; end, Err(StreamFault::TooLarge));
-    Ok(())
+impl Ended {
+    fn is(&self, words: &[u32], end: Result<Served, StreamFault>, failures: (u64, u64)) -> bool {
+        is_spelled(&self.written, words) && self.end == end && self.failures == failures
+    }
 }
 
-/// What a new server writes for these pieces from a reader that fails after so many calls, how it ends, and how many
-/// failures the reader counts.
-fn read_after(
+/// A new server is sent these pieces, of which so many reads are good, and its writer goes so.
+fn served(
     alloc: Global,
+    [first, second, third]: [&[u8]; 3],
     good: u64,
-    first: &[u8],
-    other: &[u8],
-) -> Result<(Vec<u8>, Result<Served, StreamFault>, u64), AllocError> {
+    course: Course,
+) -> Result<Ended, AllocError> {
     let mut engine = opened(alloc)?;
     let mut reader = Counted::new(Failing {
-        reader: first.chain(other),
+        reader: first.chain(second).chain(third),
         good,
     });
-    let mut writer = Counted::new(Vec::new(alloc));
+    let mut writer = Counted::new(Choppy {
+        written: Vec::new(alloc),
+        flushes: Vec::new(alloc),
+        course,
+    });
     let end = serve(alloc, &mut engine, &mut reader, &mut writer);
-    Ok((writer.into_inner(), end, reader.failures()))
+    let failures = (reader.failures(), writer.failures());
+    let Choppy {
+        written,
+        flushes,
+        ..
+    } = writer.into_inner();
+    Ok(Ended {
+        written,
+        flushes,
+        end,
+        failures,
+    })
 }
 
-/// Two calls come in a piece each, from a reader that fails after so many calls: a new server writes these words, ends
-/// so, and the reader counts so many failures.
+/// Two calls come in a piece each, and so many reads are good: a new server writes these words and ends so.
 fn ends_after_reads(
-    rt: &(impl Abort + AllocGlobal),
+    alloc: Global,
     good: u64,
-    wanted: &[u32],
-    wanted_end: Result<Served, StreamFault>,
-    wanted_failures: u64,
-) -> Result<(), Fail> {
-    let alloc = rt.alloc();
+    words: &[u32],
+    end: Result<Served, StreamFault>,
+    failures: u64,
+) -> Result<bool, AllocError> {
     let (first, other) = (spelled(alloc, &NULL)?, spelled(alloc, &OTHER_NULL)?);
-    let (written, end, failures) = read_after(alloc, good, &first, &other)?;
-    assert!(rt; is_spelled(&written, wanted));
-    assert_eq!(rt; end, wanted_end);
-    assert_eq!(rt; failures, wanted_failures);
+    let pieces = [first.as_slice(), other.as_slice(), &[]];
+    let ended = served(alloc, pieces, good, WRITES_ALL)?;
+    Ok(ended.is(words, end, (failures, 0)))
+}
+
+#[test]
+fn reads_fail(rt: HostRuntime) -> Result<(), Fail> {
+    let failed = Err(StreamFault::Read);
+    let rows: [(u64, &[u32], Result<Served, StreamFault>, u64); 4] = [
+        (0, &[], failed, 1),
+        (1, &NULL_REPLY, failed, 1),
+        (2, &BOTH_REPLIES, failed, 1),
+        (3, &BOTH_REPLIES, Ok(Served), 0),
+    ];
+    for (good, words, end, failures) in rows {
+        assert!(rt;
+            ends_after_reads(rt.alloc(), good, words, end, failures)?,
+            "{good} reads"
+        );
+    }
     Ok(())
 }
 
-#[test]
-fn the_first_read_fails(rt: HostRuntime) -> Result<(), Fail> {
-    ends_after_reads(&rt, 0, &[], Err(StreamFault::Read), 1)
-}
-
-#[test]
-fn the_second_read_fails(rt: HostRuntime) -> Result<(), Fail> {
-    ends_after_reads(&rt, 1, &NULL_REPLY, Err(StreamFault::Read), 1)
-}
-
-#[test]
-fn the_third_read_fails(rt: HostRuntime) -> Result<(), Fail> {
-    ends_after_reads(&rt, 2, &BOTH_REPLIES, Err(StreamFault::Read), 1)
-}
-
-#[test]
-fn no_read_fails(rt: HostRuntime) -> Result<(), Fail> {
-    ends_after_reads(&rt, 3, &BOTH_REPLIES, Ok(Served), 0)
-}
-
-/// What a new server writes for these bytes in three pieces, of which the first have so many, and how it ends.
-fn read_in_pieces(
+/// Two calls come in one piece, and the writer goes so: it has these words then, and the server ends so.
+fn ends_after_writes(
     alloc: Global,
-    bytes: &[u8],
-    first: usize,
-    second: usize,
-) -> Result<(Vec<u8>, Result<Served, StreamFault>), AllocError> {
-    let mut engine = opened(alloc)?;
-    let (first, others) = bytes.split_at(bytes.len().min(first));
+    course: Course,
+    words: &[u32],
+    end: Result<Served, StreamFault>,
+    failures: u64,
+) -> Result<bool, AllocError> {
+    let input = spelled(alloc, &BOTH_NULLS)?;
+    let ended = served(alloc, [input.as_slice(), &[], &[]], u64::MAX, course)?;
+    Ok(ended.is(words, end, (0, failures)))
+}
+
+/// The first 28 bytes are the first answer. Five writes of 8 bytes take them and the first 12 of the second.
+#[test]
+fn writes_fail(rt: HostRuntime) -> Result<(), Fail> {
+    use super::readers_and_writers::Trouble::*;
+    let failed = Err(StreamFault::Write);
+    let rows: [(
+        u64,
+        usize,
+        Trouble,
+        &[u32],
+        Result<Served, StreamFault>,
+        u64,
+    ); 6] = [
+        (0, usize::MAX, Fails, &[], failed, 1),
+        (1, 28, Fails, &NULL_REPLY, failed, 1),
+        (1, 28, TakesNothing, &NULL_REPLY, failed, 1),
+        (5, 8, Fails, &BOTH_REPLIES[..10], failed, 1),
+        (56, 1, Fails, &BOTH_REPLIES, Ok(Served), 0),
+        (u64::MAX, usize::MAX, IsNotFlushed, &BOTH_REPLIES, failed, 1),
+    ];
+    for (good, most, trouble, words, end, failures) in rows {
+        let course = Course {
+            good,
+            most,
+            trouble,
+        };
+        let is_so = ends_after_writes(rt.alloc(), course, words, end, failures)?;
+        assert!(rt; is_so, "{good} writes of {most}");
+    }
+    Ok(())
+}
+
+/// What one call in three pieces is answered, of which the first have so many bytes.
+fn is_answered_in_pieces(alloc: Global, first: usize, second: usize) -> Result<bool, AllocError> {
+    let call = spelled(alloc, &NULL)?;
+    let (first, others) = call.split_at(call.len().min(first));
     let (second, third) = others.split_at(others.len().min(second));
-    let mut reader = Counted::new(first.chain(second).chain(third));
-    let mut writer = Counted::new(Vec::new(alloc));
-    let end = serve(alloc, &mut engine, &mut reader, &mut writer);
-    Ok((writer.into_inner(), end))
+    let ended = served(alloc, [first, second, third], u64::MAX, WRITES_ALL)?;
+    Ok(ended.is(&NULL_REPLY, Ok(Served), (0, 0)))
 }
 
 #[test]
 fn a_record_in_three_pieces(rt: HostRuntime) -> Result<(), Fail> {
+    assert!(rt; is_answered_in_pieces(rt.alloc(), 3, 10)?);
+    Ok(())
+}
+
+/// How many bytes a new server has written each time when it sends on what it wrote.
+fn sends_on(
+    alloc: Global,
+    first: &[u32],
+    second: &[u32],
+    wanted: &[usize],
+) -> Result<bool, AllocError> {
+    let (first, second) = (spelled(alloc, first)?, spelled(alloc, second)?);
+    let pieces = [first.as_slice(), second.as_slice(), &[]];
+    let ended = served(alloc, pieces, u64::MAX, WRITES_ALL)?;
+    Ok(ended.end == Ok(Served) && ended.flushes.as_slice() == wanted)
+}
+
+/// The answers to two calls in one piece leave together, and those to two calls in a piece each before the next piece.
+#[test]
+fn answers_of_one_piece_leave_together(rt: HostRuntime) -> Result<(), Fail> {
+    assert!(rt; sends_on(rt.alloc(), &BOTH_NULLS, &[], &[56])?);
+    assert!(rt; sends_on(rt.alloc(), &NULL, &OTHER_NULL, &[28, 56])?);
+    Ok(())
+}
+
+/// Whether a new server writes these words for this input, and ends so.
+fn ends_so(
+    alloc: Global,
+    input: &[u8],
+    words: &[u32],
+    wanted: Result<Served, StreamFault>,
+) -> Result<bool, AllocError> {
+    let (written, end) = answers(alloc, input)?;
+    Ok(end == wanted && is_spelled(&written, words))
+}
+
+#[test]
+fn a_record_is_too_large(rt: HostRuntime) -> Result<(), Fail> {
+    let alloc = rt.alloc();
+    let too_large = Err(StreamFault::TooLarge);
+    let alone = spelled(alloc, &[0x80012001])?;
+    assert!(rt; ends_so(alloc, &alone, &[], too_large)?);
+    let second = both(alloc, &NULL, &[0x80012001])?;
+    assert!(rt; ends_so(alloc, &second, &NULL_REPLY, too_large)?);
+    Ok(())
+}
+
+#[test]
+fn a_record_is_cut(rt: HostRuntime) -> Result<(), Fail> {
     let call = spelled(rt.alloc(), &NULL)?;
-    let (written, end) = read_in_pieces(rt.alloc(), &call, 3, 10)?;
-    assert_eq!(rt; end, Ok(Served));
-    assert!(rt; is_spelled(&written, &NULL_REPLY));
-    Ok(())
-}
-
-/// What a writer has of the answers to these bytes that has this trouble after so many calls, each of which takes so many
-/// bytes at most, how the new server ends, and how many failures the writer counts.
-fn written_until(
-    alloc: Global,
-    bytes: &[u8],
-    (good, most, trouble): (u64, usize, Trouble),
-) -> Result<(Vec<u8>, Result<Served, StreamFault>, u64), AllocError> {
-    let mut engine = opened(alloc)?;
-    let mut writer = Counted::new(Choppy {
-        written: Vec::new(alloc),
-        most,
-        good,
-        trouble,
-    });
-    let end = serve(alloc, &mut engine, &mut Counted::new(bytes), &mut writer);
-    let failures = writer.failures();
-    let Choppy { written, .. } = writer.into_inner();
-    Ok((written, end, failures))
-}
-
-/// Two calls come, and the writer has this trouble after so many calls, each of which takes so many bytes at most: by
-/// then it has these words, a new server ends so, and the writer counts so many failures.
-fn ends_after_writes(
-    rt: &(impl Abort + AllocGlobal),
-    writer: (u64, usize, Trouble),
-    wanted: &[u32],
-    wanted_end: Result<Served, StreamFault>,
-    wanted_failures: u64,
-) -> Result<(), Fail> {
-    let input = spelled(rt.alloc(), &BOTH_NULLS)?;
-    let (written, end, failures) = written_until(rt.alloc(), &input, writer)?;
-    assert_eq!(rt; failures, wanted_failures);
-    assert!(rt; is_spelled(&written, wanted));
-    assert_eq!(rt; end, wanted_end);
-    Ok(())
-}
-
-#[test]
-fn the_first_write_fails(rt: HostRuntime) -> Result<(), Fail> {
-    let writer = (0, usize::MAX, Trouble::Fails);
-    ends_after_writes(&rt, writer, &[], Err(StreamFault::Write), 1)
-}
-
-#[test]
-fn the_second_write_fails(rt: HostRuntime) -> Result<(), Fail> {
-    let writer = (1, 28, Trouble::Fails);
-    ends_after_writes(&rt, writer, &NULL_REPLY, Err(StreamFault::Write), 1)
-}
-
-#[test]
-fn a_write_takes_nothing(rt: HostRuntime) -> Result<(), Fail> {
-    let writer = (1, 28, Trouble::TakesNothing);
-    ends_after_writes(&rt, writer, &NULL_REPLY, Err(StreamFault::Write), 1)
-}
-
-/// Five calls take the 28 bytes of the first answer, and the first 12 of the second.
-#[test]
-fn an_answer_is_cut_by_a_write_that_fails(rt: HostRuntime) -> Result<(), Fail> {
-    let wanted = [0x80000018, 1, 1, 0, 0, 0, 0, 0x80000018, 5, 1];
-    let writer = (5, 8, Trouble::Fails);
-    ends_after_writes(&rt, writer, &wanted, Err(StreamFault::Write), 1)
-}
-
-#[test]
-fn answers_by_single_bytes(rt: HostRuntime) -> Result<(), Fail> {
-    let writer = (56, 1, Trouble::Fails);
-    ends_after_writes(&rt, writer, &BOTH_REPLIES, Ok(Served), 0)
-}
-
-/// What a writer that can't be flushed has of the answers to these bytes, and how the new server ends.
-fn written_unflushed(
-    alloc: Global,
-    bytes: &[u8],
-) -> Result<(Vec<u8>, Result<Served, StreamFault>), AllocError> {
-    let mut engine = opened(alloc)?;
-    let mut writer = Counted::new(Unflushed {
-        written: Vec::new(alloc),
-    });
-    let end = serve(alloc, &mut engine, &mut Counted::new(bytes), &mut writer);
-    Ok((writer.into_inner().written, end))
-}
-
-/// Both answers are written by then, since their calls came in one piece.
-#[test]
-fn a_flush_fails(rt: HostRuntime) -> Result<(), Fail> {
-    let input = spelled(rt.alloc(), &BOTH_NULLS)?;
-    let (written, end) = written_unflushed(rt.alloc(), &input)?;
-    assert_eq!(rt; end, Err(StreamFault::Write));
-    assert!(rt; is_spelled(&written, &BOTH_REPLIES));
+    assert!(rt; ends_so(rt.alloc(), &call[..call.len().min(43)], &[], Ok(Served))?);
     Ok(())
 }

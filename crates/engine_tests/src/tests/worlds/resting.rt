@@ -1,6 +1,6 @@
 //! A world on an engine of which nothing is known but its counts.
 
-use super::opened;
+use super::resting;
 use nfs_engine::Engine;
 use nfs_schedule::{World, is_at_rest};
 use std::alloc::Global;
@@ -22,7 +22,7 @@ fn world_on(alloc: Global, engine: Engine) -> Option<World> {
 
 #[test]
 fn a_world_is_made_by_counts(rt: HostRuntime) -> Result<(), Fail> {
-    let world = world_on(rt.alloc(), opened(rt.alloc(), 16)?);
+    let world = world_on(rt.alloc(), resting(rt.alloc(), 16)?);
     let is_made = world.is_some();
     if let Some(world) = world {
         drop(world.end());

@@ -4,7 +4,7 @@ ghost use Rattle.std.specs.Bool.{Decides};
 ghost use Rattle.nfs_schedule.specs.Events.{HasWorker};
 
 use super::scenes::*;
-use super::{HOST, opened, received};
+use super::{HOST, received, resting};
 use nfs_schedule::{Answer, Event, World, drive, is_at_rest};
 use std::alloc::{AllocError, Global};
 use std::process::Abort;
@@ -30,7 +30,7 @@ pub(super) enum Difference {
 
 /// A new world of two workers, which keeps so many replies of each host.
 fn new_world(alloc: Global, capacity: u64) -> Result<World, AllocError> {
-    match World::new(alloc, opened(alloc, capacity)?, 2) {
+    match World::new(alloc, resting(alloc, capacity)?, 2) {
         Ok(world) => Ok(world),
         Err((error, engine)) => {
             drop(engine);

@@ -92,14 +92,6 @@ impl Scene {
         *self.records.allocator()
     }
 
-    /// The first words, and the others behind them.
-    pub(super) fn joined(&self, first: &[u32], others: &[u32]) -> Result<Vec<u32>, AllocError> {
-        let mut words = Vec::new(self.allocator());
-        words.extend_from_slice(first)?;
-        words.extend_from_slice(others)?;
-        Ok(words)
-    }
-
     /// The record that is named so; none where there is no such record.
     pub(super) fn record(&self, xid: u32) -> &[u8] {
         let place = (xid as usize).wrapping_sub(1);
@@ -125,30 +117,28 @@ impl Scene {
         add_words(&mut record, &[xid])?;
         add_words(&mut record, words)?;
         self.records.push(record)?;
-        self.arrives(self.from, self.xid)
+        self.arrives(self.xid)
     }
 
-    /// A call comes in: a handle, and two further parts of the arguments.
-    pub(super) fn call(
-        &mut self,
-        procedure: u32,
-        handle: &[u32],
-        second: &[u32],
-        third: &[u32],
-    ) -> Result<(), AllocError> {
+    /// A call of user 0 comes in, with arguments in these parts.
+    pub(super) fn call(&mut self, procedure: u32, parts: &[&[u32]]) -> Result<(), AllocError> {
         let mut words = Vec::new(self.allocator());
         words.extend_from_slice(&[0, 2, 100003, 3, procedure])?;
         words.extend_from_slice(&USER_0)?;
-        words.extend_from_slice(handle)?;
-        words.extend_from_slice(second)?;
-        words.extend_from_slice(third)?;
+        add_parts(&mut words, parts)?;
         self.words(&words)
     }
 
-    /// The record that is named so comes in.
-    pub(super) fn arrives(&mut self, from: &'static [u8], xid: u32) -> Result<(), AllocError> {
-        self.moves.push(Move::Arrive { from, xid })?;
+    /// This happens, or has to be so.
+    pub(super) fn moves(&mut self, step: Move) -> Result<(), AllocError> {
+        self.moves.push(step)?;
         Ok(())
+    }
+
+    /// The record that is named so comes in.
+    pub(super) fn arrives(&mut self, xid: u32) -> Result<(), AllocError> {
+        let from = self.from;
+        self.moves(Move::Arrive { from, xid })
     }
 
     /// A worker takes so many turns.
@@ -168,37 +158,12 @@ impl Scene {
         Ok(())
     }
 
-    /// A worker is stopped.
-    pub(super) fn stops(&mut self, worker: usize) -> Result<(), AllocError> {
-        self.moves.push(Move::Stop(worker))?;
-        Ok(())
-    }
-
-    /// The oldest message is taken.
-    pub(super) fn takes_message(&mut self) -> Result<(), AllocError> {
-        self.moves.push(Move::TakeMessage)?;
-        Ok(())
-    }
-
-    /// The era ends, and the next begins.
-    pub(super) fn new_era(&mut self) -> Result<(), AllocError> {
-        self.moves.push(Move::NewEra)?;
-        Ok(())
-    }
-
-    /// Each record that was refused, and not executed later, comes again, and worker 1 goes on to its end.
-    pub(super) fn settles(&mut self) -> Result<(), AllocError> {
-        self.moves.push(Move::Settle)?;
-        Ok(())
-    }
-
     /// No call is in progress then, and no address is held.
     pub(super) fn rests(&mut self) -> Result<(), AllocError> {
-        self.moves.push(Move::Counts {
+        self.moves(Move::Counts {
             living: 0,
             locked: 0,
-        })?;
-        Ok(())
+        })
     }
 
     /// So many calls are in progress then, so many addresses are held, and the era has so many records.
@@ -213,23 +178,17 @@ impl Scene {
         Ok(())
     }
 
-    /// The call with this transaction id is executed as the record with this number, and answered by results in four
+    /// The call with this transaction id is executed as the record with this number, and answered by results in these
     /// parts.
     pub(super) fn executed(
         &mut self,
         xid: u32,
         number: u64,
-        first: &[u32],
-        second: &[u32],
-        third: &[u32],
-        fourth: &[u32],
+        parts: &[&[u32]],
     ) -> Result<(), AllocError> {
         let mut words = Vec::new(self.allocator());
         words.extend_from_slice(&[self.xid_of(xid), 1, 0, 0, 0, 0])?;
-        words.extend_from_slice(first)?;
-        words.extend_from_slice(second)?;
-        words.extend_from_slice(third)?;
-        words.extend_from_slice(fourth)?;
+        add_parts(&mut words, parts)?;
         self.answered(xid, Kind::Executed(number), &words)
     }
 
@@ -241,16 +200,10 @@ impl Scene {
         self.answered(xid, Kind::Early, &body)
     }
 
-    /// The record with this transaction id has a fault, and no answer.
-    pub(super) fn dropped(&mut self, xid: u32) -> Result<(), AllocError> {
+    /// The record with this transaction id has an answer of no bytes.
+    pub(super) fn unwritten(&mut self, xid: u32, kind: Kind) -> Result<(), AllocError> {
         let nothing = Vec::new(self.allocator());
-        self.wants(xid, Kind::Early, nothing)
-    }
-
-    /// The call with this transaction id is not executed, and has no reply.
-    pub(super) fn unanswered(&mut self, xid: u32) -> Result<(), AllocError> {
-        let nothing = Vec::new(self.allocator());
-        self.wants(xid, Kind::Unanswered, nothing)
+        self.wants(xid, kind, nothing)
     }
 
     /// The record with this transaction id came before, and gets the same reply again.
@@ -288,11 +241,6 @@ impl Scene {
         Ok(())
     }
 
-    /// The answers that follow are those of one end that the scene may have.
-    pub(super) fn ends_either(&mut self) {
-        self.end = self.end.wrapping_add(1);
-    }
-
     /// The moves so far are its opening.
     pub(super) fn is_open(&mut self) {
         self.opening = self.moves.len();
@@ -306,6 +254,14 @@ const USER_0: [u32; 9] = [1, 20, 0, 0, 0, 0, 0, 0, 0];
 fn add_words(bytes: &mut Vec<u8>, words: &[u32]) -> Result<(), AllocError> {
     for word in words {
         bytes.extend_from_slice(&word.to_be_bytes())?;
+    }
+    Ok(())
+}
+
+/// Adds the words of these parts.
+fn add_parts(words: &mut Vec<u32>, parts: &[&[u32]]) -> Result<(), AllocError> {
+    for part in parts {
+        words.extend_from_slice(part)?;
     }
     Ok(())
 }
