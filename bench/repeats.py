@@ -1,9 +1,10 @@
 #!/usr/bin/env python3
 """Prints how many records that come again `nfsd --stdio` answers a second on one processor, with 100 and with 65,536
 replies kept: SETATTRs of a file, each of which is answered by the reply that is kept for it. They come again in the order in
-which they came, and scattered. No list is scanned: the second figures are smaller as far as what is kept is more than the
-processor's cache has. Of several programs, which take turns, it prints also how many times as quick as the first each is. A
-benchmark, not a test.
+which they came, and scattered, each way many in one piece; and scattered again, each when the one before it was answered, as
+from a client that waits. No list is scanned: the figures for many in one piece are smaller as far as what is kept is more
+than the processor's cache has. Of several programs, which take turns, it prints also how many times as quick as the first
+each is. A benchmark, not a test.
 
 usage: bench/repeats.py [PROGRAM..]
 """
@@ -16,6 +17,7 @@ TURNS = 5
 CAPACITY = 65_536
 REPEATS = 70_000
 BATCH = 1_000
+ALONE = 10_000
 SET = 148  # the bytes of a good reply of SETATTR, with its mark
 
 
@@ -24,11 +26,11 @@ def setattr(file, xid):
     return nfsd.call(xid, nfsd.SETATTR, file + struct.pack(">8I", 1, 0o644, 0, 0, 0, 0, 0, 0))
 
 
-def answer(server, records):
+def answer(server, records, batch=BATCH):
     """The seconds that SETATTRs take, batch by batch."""
     return sum(
-        server.answer(records[first:first + BATCH], len(records[first:first + BATCH]) * SET)
-        for first in range(0, len(records), BATCH)
+        server.answer(records[first:first + batch], len(records[first:first + batch]) * SET)
+        for first in range(0, len(records), batch)
     )
 
 
@@ -38,9 +40,16 @@ def rates(program, kept):
         file = server.make(b"x")
         records = [setattr(file, xid) for xid in range(1, kept)]
         answer(server, records)
+        # The era may be full then: this ends it, so that no record of it is let go while repeats are measured.
+        server.answer([nfsd.call(0, nfsd.GETATTR, nfsd.ROOT)], nfsd.SHOWN)
         in_order = [records[number % len(records)] for number in range(REPEATS)]
         scattered = [records[number * 7919 % len(records)] for number in range(REPEATS)]
-        return {"in order": REPEATS / answer(server, in_order), "scattered": REPEATS / answer(server, scattered)}
+        answer(server, in_order)  # what the end of the era left to the allocator is put in order meanwhile
+        return {
+            "in order": REPEATS / answer(server, in_order),
+            "scattered": REPEATS / answer(server, scattered),
+            "one by one": ALONE / answer(server, scattered[:ALONE], 1),
+        }
 
 
 def main():

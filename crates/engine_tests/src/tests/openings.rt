@@ -15,15 +15,16 @@ use std::test::Fail;
 
 /// `/data` for every host.
 fn exports(alloc: Global) -> Result<Exports, AllocError> {
-    let mut hosts = Vec::new(alloc);
-    hosts.push(Bytes::from_static(b"*"))?;
-    let mut list = Vec::new(alloc);
-    list.push(ExportText {
+    let hosts = vec![in alloc; Bytes::from_static(b"*")]?;
+    let data = ExportText {
         path: Bytes::from_static(b"/data"),
         mode: Bytes::from_static(b"rw"),
         hosts,
-    })?;
-    Exports::new(alloc, list).map_err(|_| AllocError)
+    };
+    match Exports::new(alloc, vec![in alloc; data]?) {
+        Ok(exports) => Ok(exports),
+        Err(_fault) => Err(AllocError),
+    }
 }
 
 /// An engine that keeps so many replies, and whose era is full at so many records.

@@ -100,7 +100,7 @@ pub(super) enum Told {
     Linked(Shown, Shown, Shown),
     /// To a call on a name in the root that is refused with this status: the root, which stays as it is.
     Declined(u32, Shown),
-    /// To a call on an object that is gone: nothing, or what is told of so many objects, nothing of each.
+    /// To a call on an object that is gone: these words behind the status, which show no object.
     Stale(&'static [u32]),
 }
 

@@ -37,7 +37,7 @@ pub(super) enum Line {
     TakesMessage,
     /// The era ends, and the next begins.
     NewEra,
-    /// Worker 1 takes as many turns as any call may need, and each record that was refused comes again.
+    /// Each record that was refused, and not executed later, comes again, and worker 1 goes on to its end.
     Settles,
     /// So many calls are in progress then, so many addresses are held, and the era has so many records.
     Counts(usize, usize, u64),
