@@ -1,8 +1,12 @@
 //! The server was started with number 7, every moment is (1000, 0), and `/data` is exported to every host. The values
 //! are worked out by hand from RFC 1813.
+//!
+//! What owns memory is lent to a function with the `?`s and dropped by a call of `drop`: each way out of a function that
+//! owns it would be proved with its drops, in seconds. Rows stand in functions too, and a test asserts what they tell.
 
-ghost use Rattle.std.specs.Prelude.{IfOk};
+ghost use Rattle.std.specs.Prelude.{◌≡◌, ◌++◌, [], ◌∷◌, IfOk, None, OnOk, Some};
 ghost use Rattle.nfs_objects.specs.Modes.{Suits, changing, reading};
+ghost use Rattle.nfs_objects.specs.Values.{seen_at};
 
 mod drafts;
 mod exports;
@@ -20,7 +24,7 @@ use nfs_inodes::Known;
 use nfs_machine::{Ctx, ExportText, Exports, Limits, Moment};
 use nfs_objects::{
     Addr, CHANGING, Content, Directory, Entries, ExportTable, FileBytes, Halt, Inode, MOUNTING,
-    Mode, Object, READING, View,
+    Mode, Object, READING, Reserved, Usage, View,
 };
 use nfs_rpc::{Gids, Ids};
 use nfs_wire::{Attributes, DeviceNumber, FileType, SetAttributes, SetTime, Time};
@@ -48,6 +52,12 @@ const NO_TIME: Time = Time {
     nanoseconds: 1_000_000_000,
 };
 
+/// The number that a view is given alone.
+const RESERVED: Reserved = Reserved {
+    number: 2,
+    generation: 7,
+};
+
 /// Export 1, start 7, fileid 9, generation 3.
 const HANDLE: &[u8] = b"NFD3\0\0\0\x01\0\0\0\0\0\0\0\x07\0\0\0\0\0\0\0\x09\0\0\0\0\0\0\0\x03";
 
@@ -72,10 +82,14 @@ fn fifo(mode: u32) -> Inode {
     inode(Content::Fifo, mode)
 }
 
-/// A file of 5 bytes.
-fn hello(alloc: Global) -> Result<Inode, AllocError> {
-    let bytes = FileBytes::new(alloc).with_written(alloc, 0, b"hello")?;
-    Ok(inode(Content::Regular(bytes), 0o600))
+/// A file of 5 bytes with so many links.
+fn hello(alloc: Global, links: u32) -> Result<Inode, AllocError> {
+    let empty = FileBytes::new(alloc);
+    let bytes = empty.with_written(alloc, 0, b"hello");
+    drop(empty);
+    let mut hello = inode(Content::Regular(bytes?), 0o600);
+    hello.links = links;
+    Ok(hello)
 }
 
 /// A directory below directory 1 with these names.
@@ -120,29 +134,76 @@ fn caller(uid: u32, gid: u32) -> Ids {
     }
 }
 
-fn export(
-    alloc: Global,
+/// An export as it is given.
+#[derive(Clone, Copy)]
+struct Given {
     path: &'static [u8],
     mode: &'static [u8],
-    hosts: &[&'static [u8]],
-) -> Result<ExportText, AllocError> {
-    let mut listed = Vec::new(alloc);
-    for host in hosts {
-        listed.push(Bytes::from_static(host))?;
+    hosts: &'static [&'static [u8]],
+}
+
+/// `/data` for every host, which may be written.
+const WRITABLE: Given = Given {
+    path: b"/data",
+    mode: b"rw",
+    hosts: &[b"*"],
+};
+
+/// Every host in `/a`, and 10.0.0.2 alone in `/a/b`, which is read only.
+const TWO: [Given; 2] = [
+    Given {
+        path: b"/a",
+        mode: b"rw",
+        hosts: &[b"*"],
+    },
+    Given {
+        path: b"/a/b",
+        mode: b"ro",
+        hosts: &[b"10.0.0.2"],
+    },
+];
+
+fn text(alloc: Global, given: &Given) -> Result<ExportText, AllocError> {
+    let mut hosts = Vec::new(alloc);
+    for host in given.hosts {
+        hosts.push(Bytes::from_static(host))?;
     }
     Ok(ExportText {
-        path: Bytes::from_static(path),
-        mode: Bytes::from_static(mode),
-        hosts: listed,
+        path: Bytes::from_static(given.path),
+        mode: Bytes::from_static(given.mode),
+        hosts,
     })
 }
 
-/// `/data` is exported to every host, in this mode.
-fn table(alloc: Global, mode: &'static [u8]) -> Result<ExportTable, AllocError> {
-    let mut list = Vec::new(alloc);
-    list.push(export(alloc, b"/data", mode, &[b"*"])?)?;
-    let exports = Exports::new(alloc, list).map_err(|_| AllocError)?;
-    ExportTable::opening(alloc, &exports)
+fn texts(alloc: Global, list: &[Given]) -> Result<Vec<ExportText>, AllocError> {
+    let mut texts = Vec::new(alloc);
+    for given in list {
+        texts.push(text(alloc, given)?)?;
+    }
+    Ok(texts)
+}
+
+/// The exports of a list that is not at fault.
+fn given_exports(alloc: Global, list: &[Given]) -> Result<Exports, AllocError> {
+    match Exports::new(alloc, texts(alloc, list)?) {
+        Ok(exports) => Ok(exports),
+        Err(_fault) => Err(AllocError),
+    }
+}
+
+/// The table that a server opens with.
+fn table(alloc: Global, list: &[Given]) -> Result<ExportTable, AllocError> {
+    let exports = given_exports(alloc, list)?;
+    let table = ExportTable::opening(alloc, &exports);
+    drop(exports);
+    table
+}
+
+/// A copy of a value, which is dropped itself.
+fn copied<T: Clone + Drop>(value: T) -> Result<T, AllocError> {
+    let copy: Result<T, AllocError> = value.clone();
+    drop(value);
+    copy
 }
 
 /// A call by this user, and the group of the same number.
@@ -161,37 +222,138 @@ fn ctx(user: u32) -> Ctx {
     }
 }
 
-/// A view of the exports: `/data`, that may be written.
-fn exported(alloc: Global) -> Result<View, AllocError>
-    ensures reads { IfOk result (Suits reading) }
-    ensures changes { IfOk result (Suits changing) }
+/// Adds what stands at an address to a view that has not read it.
+fn add(
+    view: &mut View,
+    alloc: Global,
+    address: Addr,
+    mode: Mode,
+    object: Object,
+) -> Result<(), AllocError>
+    requires { seen_at view.old.entries address ≡ None }
+    ensures { OnOk result
+        (view.new ≡ record {
+          entries = view.old.entries ++ record
+              { address = address; mode = mode; object = Some object } ∷ [];
+          reserved = view.old.reserved;
+        }) }
 {
-    let exports = Object::Exports(table(alloc, b"rw")?);
-    let mut view = View::new(alloc);
-    view.add(Addr::Exports, Mode::Shared, Some(Arc::new(alloc, exports)?))?;
-    Ok(view)
+    let object = Arc::new(alloc, object)?;
+    view.add(address, mode, Some(object))?;
+    Ok(())
 }
 
-/// A view of the exports and of this inode, which is held alone.
-fn viewed(alloc: Global, number: u64, inode: Inode) -> Result<View, AllocError>
+/// A view of the exports: `/data`, that may be written.
+fn exported(alloc: Global) -> Result<View, AllocError>
+    ensures { IfOk result (Suits reading) }
+{
+    let exports = Object::Exports(table(alloc, &[WRITABLE])?);
+    let mut view = View::new(alloc);
+    match add(&mut view, alloc, Addr::Exports, Mode::Shared, exports) {
+        Ok(()) => Ok(view),
+        Err(AllocError) => {
+            drop(view);
+            Err(AllocError)
+        }
+    }
+}
+
+/// What a view shows beside the exports and inode 9.
+#[derive(Clone, Copy)]
+enum Beside {
+    Nothing,
+    /// What the group of inode 9 uses.
+    Group(Usage),
+    /// A number to give, whose group is empty.
+    Number,
+}
+
+/// What the group of inode 9 uses.
+const GROUP: Addr = Addr::Usage {
+    export: 1,
+    group: 9,
+};
+
+/// The number to give.
+const NEW: Reserved = Reserved {
+    number: 10,
+    generation: 4,
+};
+
+/// What the group of that number uses.
+const NEW_GROUP: Addr = Addr::Usage {
+    export: 1,
+    group: 10,
+};
+
+/// Adds an inode as number 9, the exports, and what is shown beside to a view that has read nothing.
+fn fill(view: &mut View, alloc: Global, inode: Inode, beside: Beside) -> Result<(), AllocError>
+    requires { view.old ≡ record { entries = []; reserved = [] } }
+    ensures reads { OnOk result (Suits reading view.new) }
+    ensures changes { OnOk result (Suits changing view.new) }
+{
+    add(
+        view,
+        alloc,
+        Addr::Inode(9),
+        Mode::Exclusive,
+        Object::Inode(inode),
+    )?;
+    let exports = Object::Exports(table(alloc, &[WRITABLE])?);
+    add(view, alloc, Addr::Exports, Mode::Shared, exports)?;
+    match beside {
+        Beside::Nothing => Ok(()),
+        Beside::Group(usage) => {
+            add(view, alloc, GROUP, Mode::Exclusive, Object::Usage(usage))?;
+            Ok(())
+        }
+        Beside::Number => {
+            view.add_reserved(NEW)?;
+            view.add(NEW_GROUP, Mode::Exclusive, None)?;
+            Ok(())
+        }
+    }
+}
+
+/// A view of the exports and of this inode as number 9; all but the exports is held alone.
+fn viewed(alloc: Global, inode: Inode, beside: Beside) -> Result<View, AllocError>
     ensures reads { IfOk result (Suits reading) }
     ensures changes { IfOk result (Suits changing) }
 {
-    let exports = Object::Exports(table(alloc, b"rw")?);
     let mut view = View::new(alloc);
-    view.add(Addr::Exports, Mode::Shared, Some(Arc::new(alloc, exports)?))?;
-    view.add(
-        Addr::Inode(number),
-        Mode::Exclusive,
-        Some(Arc::new(alloc, Object::Inode(inode))?),
-    )?;
-    Ok(view)
+    match fill(&mut view, alloc, inode, beside) {
+        Ok(()) => Ok(view),
+        Err(AllocError) => {
+            drop(view);
+            Err(AllocError)
+        }
+    }
+}
+
+/// Whether a draft found it so, and did not halt.
+fn is_so(found: Result<bool, Halt>) -> bool {
+    match found {
+        Ok(is_so) => is_so,
+        Err(halt) => {
+            drop(halt);
+            false
+        }
+    }
 }
 
 /// Whether just this address is asked for, in this mode.
-fn asks<T: Drop>(read: &Result<T, Halt>, address: Addr, mode: Mode) -> bool {
-    match read {
+fn asks<T: Drop>(read: Result<T, Halt>, address: Addr, mode: Mode) -> bool {
+    let asks = match &read {
         Err(Halt::Need(asked)) => asked.as_slice() == [(address, mode)].as_slice(),
         _ => false,
-    }
+    };
+    drop(read);
+    asks
+}
+
+/// Whether just one number is wanted.
+fn wants_a_number<T: Drop>(read: Result<T, Halt>) -> bool {
+    let wants = matches!(&read, Err(Halt::Fresh(1)));
+    drop(read);
+    wants
 }

@@ -1,132 +1,280 @@
 //! Drafts: what they ask for, and what becomes of refusals.
 
-ghost use Rattle.nfs_objects.specs.Modes.{Suits, reading};
+ghost use Rattle.std.specs.Prelude.{◌≡◌, [], ◌∷◌, IfOk, IsSome, None};
+ghost use Rattle.nfs_objects.specs.Attempt.{IsSettled};
+ghost use Rattle.nfs_objects.specs.Modes.{Suits, changing, reading};
+ghost use Rattle.nfs_objects.specs.Values.{known_at};
 
 use super::*;
 use nfs_machine::Reply;
-use nfs_objects::{Change, Draft, MountTable, Outcome, Reserved, outcome, settled};
+use nfs_objects::{Change, Draft, Modes, MountTable, Outcome, outcome, settled};
 use nfs_wire::{NfsReply, NfsStatus};
 use side_wire::{Callback, Message, NlmResult, NlmStatus};
-use std::test::Fail;
+
+/// Whether a draft with this view asks for an address in this mode.
+fn asks_for(draft: Draft<'_>, address: Addr, mode: Mode) -> bool {
+    let asks = asks(draft.find(address), address, mode);
+    drop(draft);
+    asks
+}
+
+/// Whether a draft that has read nothing wants an address in this mode, and asks for it.
+fn is_wanted(alloc: Global, modes: Modes<'_>, address: Addr, mode: Mode) -> bool {
+    let ctx = ctx(1);
+    let view = View::new(alloc);
+    let wanted = modes.at(&view, address);
+    let asks = asks_for(Draft::new(alloc, &ctx, &view, modes), address, mode);
+    drop(view);
+    drop(ctx);
+    wanted == mode && asks
+}
+
+/// Whether what was not read is asked for: what may be changed alone.
+fn are_wanted(alloc: Global) -> bool {
+    for (modes, address, mode) in [
+        (READING, Addr::Exports, Mode::Shared),
+        (READING, Addr::Inode(1), Mode::Shared),
+        (READING, Addr::Inode(9), Mode::Shared),
+        (CHANGING, Addr::Exports, Mode::Shared),
+        (CHANGING, Addr::Inode(1), Mode::Exclusive),
+        (CHANGING, Addr::Inode(9), Mode::Exclusive),
+        (CHANGING, Addr::Mounts, Mode::Shared),
+        (MOUNTING, Addr::Exports, Mode::Shared),
+        (MOUNTING, Addr::Inode(9), Mode::Shared),
+        (MOUNTING, Addr::Mounts, Mode::Exclusive),
+    ] {
+        if !is_wanted(alloc, modes, address, mode) {
+            return false;
+        }
+    }
+    true
+}
+
+/// Whether a draft asks for both tables, for that of mounts in this mode.
+fn needs_tables(draft: Draft<'_>, mode: Mode) -> bool {
+    let exports = asks(draft.exports(), Addr::Exports, Mode::Shared);
+    let mounts = asks(draft.mounts(), Addr::Mounts, mode);
+    drop(draft);
+    exports && mounts
+}
+
+fn asks_for_tables(alloc: Global, modes: Modes<'_>, mode: Mode) -> bool {
+    let ctx = ctx(1);
+    let view = View::new(alloc);
+    let asks = needs_tables(Draft::new(alloc, &ctx, &view, modes), mode);
+    drop(view);
+    drop(ctx);
+    asks
+}
 
 #[test]
 fn a_draft_asks_for_what_was_not_read(rt: HostRuntime) {
-    let (ctx, view) = (ctx(1), View::new(rt.alloc()));
-    let draft = Draft::new(rt.alloc(), &ctx, &view, READING);
-    assert!(rt; asks(&draft.find(Addr::Exports), Addr::Exports, Mode::Shared));
-    assert!(rt; asks(&draft.find(Addr::Inode(9)), Addr::Inode(9), Mode::Shared));
-    assert!(rt; asks(&draft.exports(), Addr::Exports, Mode::Shared));
+    assert!(rt; are_wanted(rt.alloc()));
+    assert!(rt; asks_for_tables(rt.alloc(), READING, Mode::Shared));
+    assert!(rt; asks_for_tables(rt.alloc(), MOUNTING, Mode::Exclusive));
 }
 
-#[test]
-fn a_draft_that_changes_objects_asks_for_them_alone(rt: HostRuntime) {
-    let (ctx, view) = (ctx(1), View::new(rt.alloc()));
-    let draft = Draft::new(rt.alloc(), &ctx, &view, CHANGING);
-    assert!(rt; asks(&draft.find(Addr::Exports), Addr::Exports, Mode::Shared));
-    assert!(rt; asks(&draft.find(Addr::Inode(9)), Addr::Inode(9), Mode::Exclusive));
+/// How many exports it knows.
+fn export_count(draft: &Draft<'_>) -> Option<usize> {
+    match draft.exports() {
+        Ok(list) => Some(list.len()),
+        Err(halt) => {
+            drop(halt);
+            None
+        }
+    }
 }
 
-#[test]
-fn a_draft_that_changes_mounts_asks_for_them_alone(rt: HostRuntime) {
-    let (ctx, view) = (ctx(1), View::new(rt.alloc()));
-    let draft = Draft::new(rt.alloc(), &ctx, &view, MOUNTING);
-    assert!(rt; asks(&draft.mounts(), Addr::Mounts, Mode::Exclusive));
-    assert!(rt; asks(&draft.find(Addr::Inode(9)), Addr::Inode(9), Mode::Shared));
-}
-
-/// What was read is not asked for again.
-#[test]
-fn a_draft_knows_the_exports(rt: HostRuntime) -> Result<(), Fail> {
-    let (ctx, view) = (ctx(1), exported(rt.alloc())?);
-    let draft = Draft::new(rt.alloc(), &ctx, &view, READING);
-    assert!(rt; draft.exports().is_ok_and(|list| list.len() == 1));
-    Ok(())
-}
-
-/// The table of mounts is not there yet.
-#[test]
-fn a_draft_puts_a_table_of_mounts(rt: HostRuntime) -> Result<(), Fail> {
-    let alloc = rt.alloc();
+/// The same of a draft with this view.
+fn exports_known(alloc: Global, view: View) -> Option<usize>
+    requires { Suits reading view }
+{
     let ctx = ctx(1);
-    let mut view = View::new(alloc);
-    view.add(Addr::Mounts, Mode::Exclusive, None)?;
-    let mut draft = Draft::new(alloc, &ctx, &view, MOUNTING);
-    assert!(rt; draft.mounts().is_ok_and(|table| table.is_none()));
+    let draft = Draft::new(alloc, &ctx, &view, READING);
+    let count = export_count(&draft);
+    drop(draft);
+    drop(view);
+    drop(ctx);
+    count
+}
+
+/// Whether it has a table of mounts, where it knows.
+fn has_mounts(draft: &Draft<'_>) -> Option<bool> {
+    match draft.mounts() {
+        Ok(table) => Some(table.is_some()),
+        Err(halt) => {
+            drop(halt);
+            None
+        }
+    }
+}
+
+/// Puts a table of mounts, and tells whether there was none, and is one then.
+fn put_mounts(alloc: Global, draft: &mut Draft<'_>) -> Result<bool, AllocError>
+    requires alone { draft.old.modes.mounts ≡ Mode.Exclusive }
+    requires known { IsSome (known_at draft.old Addr.Mounts) }
+{
+    let before = has_mounts(draft);
     draft.put_mounts(MountTable::new(alloc))?;
-    assert!(rt; draft.mounts().is_ok_and(|table| table.is_some()));
-    Ok(())
+    Ok(before == Some(false) && has_mounts(draft) == Some(true))
 }
 
-const RESERVED: Reserved = Reserved {
-    number: 2,
-    generation: 7,
-};
-
-#[test]
-fn a_draft_wants_one_number_where_none_is_reserved(rt: HostRuntime) {
-    let (ctx, view) = (ctx(1), View::new(rt.alloc()));
-    let draft = Draft::new(rt.alloc(), &ctx, &view, CHANGING);
-    assert!(rt; matches!(draft.fresh(), Err(Halt::Fresh(1))));
+/// A view of no table of mounts, which is held alone.
+fn without_mounts(alloc: Global) -> Result<View, AllocError>
+    ensures { IfOk result (λ view. view ≡ record {
+      entries = record { address = Addr.Mounts; mode = Mode.Exclusive; object = None } ∷ [];
+      reserved = [];
+    }) }
+{
+    let mut view = View::new(alloc);
+    match view.add(Addr::Mounts, Mode::Exclusive, None) {
+        Ok(()) => Ok(view),
+        Err(AllocError) => {
+            drop(view);
+            Err(AllocError)
+        }
+    }
 }
 
-#[test]
-fn a_draft_gives_the_number_that_is_reserved(rt: HostRuntime) -> Result<(), Fail> {
+fn puts_mounts(alloc: Global) -> Result<bool, AllocError> {
+    let view = without_mounts(alloc)?;
     let ctx = ctx(1);
-    let mut view = View::new(rt.alloc());
-    view.add_reserved(RESERVED)?;
-    let draft = Draft::new(rt.alloc(), &ctx, &view, CHANGING);
-    assert!(rt; draft.fresh().is_ok_and(|reserved| reserved == RESERVED));
+    let mut draft = Draft::new(alloc, &ctx, &view, MOUNTING);
+    let puts = put_mounts(alloc, &mut draft);
+    drop(draft);
+    drop(view);
+    drop(ctx);
+    puts
+}
+
+/// A view of one number to give.
+fn numbered(alloc: Global) -> Result<View, AllocError>
+    ensures { IfOk result (Suits changing) }
+{
+    let mut view = View::new(alloc);
+    match view.add_reserved(RESERVED) {
+        Ok(()) => Ok(view),
+        Err(AllocError) => {
+            drop(view);
+            Err(AllocError)
+        }
+    }
+}
+
+/// The number that a draft with this view gives.
+fn fresh(alloc: Global, view: View) -> Result<Reserved, Halt>
+    requires { Suits changing view }
+{
+    let ctx = ctx(1);
+    let draft = Draft::new(alloc, &ctx, &view, CHANGING);
+    let fresh = draft.fresh();
+    drop(draft);
+    drop(view);
+    drop(ctx);
+    fresh
+}
+
+fn is_reserved(fresh: Result<Reserved, Halt>) -> bool {
+    match fresh {
+        Ok(reserved) => reserved == RESERVED,
+        Err(halt) => {
+            drop(halt);
+            false
+        }
+    }
+}
+
+/// What was read is not asked for again, and what was put is there.
+#[test]
+fn a_draft_knows_what_was_read(rt: HostRuntime) -> Result<(), AllocError> {
+    assert!(rt; exports_known(rt.alloc(), exported(rt.alloc())?) == Some(1));
+    assert!(rt; puts_mounts(rt.alloc())?);
+    assert!(rt; is_reserved(fresh(rt.alloc(), numbered(rt.alloc())?)));
+    assert!(rt; wants_a_number(fresh(rt.alloc(), View::new(rt.alloc()))));
     Ok(())
 }
 
-/// The result of LOCK_MSG, for a host (RFC 1813, 6.3).
-fn message() -> Message {
-    Message {
+/// Sends the result of LOCK_MSG to a host (RFC 1813, 6.3).
+fn send(draft: &mut Draft<'_>) -> Result<(), AllocError> {
+    draft.send(Message {
         host: Bytes::from_static(b"10.0.0.1"),
         call: Callback::LockRes(NlmResult {
             cookie: Bytes::from_static(b"cookie"),
             status: NlmStatus::Granted,
         }),
+    })
+}
+
+/// Whether it is one message and an answer, and nothing is written.
+fn is_sent(change: Change) -> bool {
+    let is_null = matches!(&change.reply, Reply::Nfs(NfsReply::Null));
+    let is_alone = change.writes.is_empty() && change.messages.len() == 1;
+    drop(change);
+    is_null && is_alone
+}
+
+/// Whether a message goes with the answer.
+fn message_goes(alloc: Global) -> Result<bool, AllocError> {
+    let ctx = ctx(1);
+    let view = View::new(alloc);
+    let mut draft = Draft::new(alloc, &ctx, &view, READING);
+    let sent = send(&mut draft);
+    let change = draft.answer(Reply::Nfs(NfsReply::Null));
+    drop(view);
+    drop(ctx);
+    let is_sent = is_sent(change);
+    sent?;
+    Ok(is_sent)
+}
+
+/// The value or the status that this is settled as, if it is.
+fn settlement(checked: Result<u64, Halt>) -> Option<Result<u64, NfsStatus>> {
+    match settled(checked) {
+        Ok(settlement) => Some(settlement),
+        Err(halt) => {
+            drop(halt);
+            None
+        }
     }
 }
 
-/// What a call comes to that sends one message.
-fn sent<'a>(alloc: Global, ctx: &'a Ctx, view: &'a View) -> Result<Change, AllocError>
-    requires { Suits reading view.now }
+/// How many numbers are wanted, where that is the outcome of a call that ended so; None for want of memory.
+fn wanted(ended: Result<Change, Halt>) -> Option<u32>
+    requires { IsSettled ended }
 {
-    let mut draft = Draft::new(alloc, ctx, view, READING);
-    draft.send(message())?;
-    Ok(draft.answer(Reply::Nfs(NfsReply::Null)))
+    match outcome(ended) {
+        Ok(outcome) => {
+            let count = fresh_count(&outcome);
+            drop(outcome);
+            Some(count)
+        }
+        Err(AllocError) => None,
+    }
 }
 
-fn is_sent(change: &Change) -> bool {
-    change.writes.is_empty()
-        && change.messages.len() == 1
-        && change.reply == Reply::Nfs(NfsReply::Null)
+fn fresh_count(outcome: &Outcome) -> u32 {
+    match outcome {
+        Outcome::Fresh(count) => *count,
+        _ => 0,
+    }
+}
+
+/// Whether a check that failed is answered, and all else halts the call.
+fn statuses_are_settled() -> bool {
+    settlement(Ok(4)) == Some(Ok(4))
+        && settlement(Err(Halt::from(NfsStatus::Stale))) == Some(Err(NfsStatus::Stale))
+        && wants_a_number(settled::<u64>(Err(Halt::Fresh(1))))
+}
+
+/// Whether a halt is an outcome, but for want of memory.
+fn halts_are_outcomes() -> bool {
+    wanted(Err(Halt::Fresh(1))) == Some(1) && wanted(Err(Halt::from(AllocError))).is_none()
 }
 
 #[test]
-fn a_message_goes_with_the_answer(rt: HostRuntime) -> Result<(), Fail> {
-    let change = sent(rt.alloc(), &ctx(1), &View::new(rt.alloc()))?;
-    assert!(rt; is_sent(&change));
+fn a_draft_ends_in_an_answer_or_a_halt(rt: HostRuntime) -> Result<(), AllocError> {
+    assert!(rt; message_goes(rt.alloc())?);
+    assert!(rt; statuses_are_settled());
+    assert!(rt; halts_are_outcomes());
     Ok(())
-}
-
-/// A check that failed is answered; all else halts the call.
-#[test]
-fn a_status_is_settled(rt: HostRuntime) {
-    assert!(rt; matches!(settled::<u64>(Ok(4)), Ok(Ok(4))));
-    assert!(rt;
-        matches!(
-            settled::<u64>(Err(Halt::from(NfsStatus::Stale))),
-            Ok(Err(NfsStatus::Stale))
-        )
-    );
-    assert!(rt; matches!(settled::<u64>(Err(Halt::Fresh(1))), Err(Halt::Fresh(1))));
-}
-
-#[test]
-fn a_halt_is_an_outcome_but_for_want_of_memory(rt: HostRuntime) {
-    assert!(rt; matches!(outcome(Err(Halt::Fresh(1))), Ok(Outcome::Fresh(1))));
-    assert!(rt; outcome(Err(Halt::from(AllocError))).is_err());
 }

@@ -2,53 +2,77 @@
 
 use super::*;
 use nfs_objects::LivingExport;
-use std::test::Fail;
 
-/// Every host in `/a`, and 10.0.0.2 alone in `/a/b`, which is read only.
-fn two(alloc: Global) -> Result<ExportTable, Fail> {
-    let mut list = Vec::new(alloc);
-    list.push(export(alloc, b"/a", b"rw", &[b"*"])?)?;
-    list.push(export(alloc, b"/a/b", b"ro", &[b"10.0.0.2"])?)?;
-    Ok(ExportTable::opening(alloc, &Exports::new(alloc, list)?)?)
+/// What is told of an export. Its root has its number.
+struct Told {
+    number: u32,
+    path: &'static [u8],
+    is_read_only: bool,
+    /// Whether it admits 10.0.0.1. Each export admits 10.0.0.2.
+    admits_other: bool,
 }
 
-/// The number, the root's, and the path.
-fn is_export(export: &LivingExport, number: u32, path: &[u8]) -> bool {
-    export.number() == number
-        && export.root() == u64::from(number)
-        && export.path().as_slice() == path
+const FIRST: Told = Told {
+    number: 1,
+    path: b"/a",
+    is_read_only: false,
+    admits_other: true,
+};
+
+const SECOND: Told = Told {
+    number: 2,
+    path: b"/a/b",
+    is_read_only: true,
+    admits_other: false,
+};
+
+fn admits(export: &LivingExport, host: &'static [u8]) -> bool {
+    let host = Bytes::from_static(host);
+    let admits = export.admits(&host);
+    drop(host);
+    admits
 }
 
-#[test]
-fn a_server_opens_with_its_exports_in_order(rt: HostRuntime) -> Result<(), Fail> {
-    let table = two(rt.alloc())?;
+fn is_told(export: &LivingExport, told: &Told) -> bool {
+    export.number() == told.number
+        && export.root() == u64::from(told.number)
+        && export.path().as_slice() == told.path
+        && export.is_read_only() == told.is_read_only
+        && admits(export, b"10.0.0.1") == told.admits_other
+        && admits(export, b"10.0.0.2")
+}
+
+/// Whether the export with this number is told so.
+fn is_found(table: &ExportTable, number: u32, told: &Told) -> bool {
+    match table.get(number) {
+        Some(export) => is_told(export, told),
+        None => false,
+    }
+}
+
+/// Whether it has the two exports in order, and finds them by their numbers alone.
+fn has_two(table: &ExportTable) -> bool {
     let [first, second] = table.list() else {
-        return Err(Fail::from("there are two"));
+        return false;
     };
-    assert!(rt; is_export(first, 1, b"/a"));
-    assert!(rt; is_export(second, 2, b"/a/b"));
-    Ok(())
+    is_told(first, &FIRST)
+        && is_told(second, &SECOND)
+        && is_found(table, 1, &FIRST)
+        && is_found(table, 2, &SECOND)
+        && table.get(0).is_none()
+        && table.get(3).is_none()
+}
+
+/// The same of a table that is dropped.
+fn had_two(table: ExportTable) -> bool {
+    let has_two = has_two(&table);
+    drop(table);
+    has_two
 }
 
 #[test]
-fn an_export_is_found_by_its_number(rt: HostRuntime) -> Result<(), Fail> {
-    let table = two(rt.alloc())?;
-    assert!(rt; table.get(0).is_none());
-    assert!(rt; table.get(1).is_some_and(|first| !first.is_read_only()));
-    assert!(rt; table.get(2).is_some_and(|second| second.is_read_only()));
-    assert!(rt; table.get(3).is_none());
-    Ok(())
-}
-
-#[test]
-fn a_living_export_admits_its_hosts(rt: HostRuntime) -> Result<(), Fail> {
-    let table = two(rt.alloc())?.clone()?;
-    let (other, listed) = (
-        Bytes::from_static(b"10.0.0.1"),
-        Bytes::from_static(b"10.0.0.2"),
-    );
-    assert!(rt; table.get(1).is_some_and(|first| first.admits(&other)));
-    assert!(rt; table.get(2).is_some_and(|second| second.admits(&listed)));
-    assert!(rt; !table.get(2).is_some_and(|second| second.admits(&other)));
+fn a_server_opens_with_its_exports_in_order(rt: HostRuntime) -> Result<(), AllocError> {
+    assert!(rt; had_two(table(rt.alloc(), &TWO)?));
+    assert!(rt; had_two(copied(table(rt.alloc(), &TWO)?)?));
     Ok(())
 }

@@ -1,7 +1,6 @@
 //! The bytes of files, which are kept in parts of 65,536.
 
 use super::*;
-use std::test::Fail;
 
 /// What is done to a file's bytes.
 #[derive(Clone, Copy)]
@@ -17,32 +16,23 @@ const ACROSS: Edit = Edit::Written(65_530, b"0123456789ab");
 
 /// What is read of a file's bytes: from a place on at most so many are these.
 #[derive(Clone, Copy)]
-struct Shown {
-    start: usize,
-    count: u16,
-    bytes: &'static [u8],
-}
+struct Shown(usize, u16, &'static [u8]);
 
-fn at(start: usize, count: u16, bytes: &'static [u8]) -> Shown {
-    Shown {
-        start,
-        count,
-        bytes,
-    }
-}
-
-fn after(alloc: Global, bytes: &FileBytes, edit: &Edit) -> Result<FileBytes, AllocError> {
-    match edit {
+/// The bytes after an edit; those before it are dropped.
+fn after(alloc: Global, bytes: FileBytes, edit: &Edit) -> Result<FileBytes, AllocError> {
+    let after = match edit {
         Edit::Written(offset, data) => bytes.with_written(alloc, *offset as usize, data),
         Edit::Resized(size) => bytes.resized(alloc, *size),
-    }
+    };
+    drop(bytes);
+    after
 }
 
 /// The bytes of an empty file after these edits.
 fn edited(alloc: Global, edits: &[Edit]) -> Result<FileBytes, AllocError> {
     let mut bytes = FileBytes::new(alloc);
     for edit in edits {
-        bytes = after(alloc, &bytes, edit)?;
+        bytes = after(alloc, bytes, edit)?;
     }
     Ok(bytes)
 }
@@ -50,78 +40,79 @@ fn edited(alloc: Global, edits: &[Edit]) -> Result<FileBytes, AllocError> {
 /// Whether each row is read of them.
 fn are_read(alloc: Global, bytes: &FileBytes, rows: &[Shown]) -> Result<bool, AllocError> {
     for row in rows {
-        let found = bytes.read(alloc, row.start, usize::from(row.count))?;
-        if found.as_slice() != row.bytes {
+        let Shown(start, count, want) = *row;
+        let found = bytes.read(alloc, start, usize::from(count))?;
+        let is_read = found.as_slice() == want;
+        drop(found);
+        if !is_read {
             return Ok(false);
         }
     }
     Ok(true)
 }
 
-/// Whether an empty file has so many bytes after these edits, and each row is read of them.
-fn comes_to(
-    alloc: Global,
-    edits: &[Edit],
+/// Edits of an empty file, how many bytes it then has, and what is read of them.
+#[derive(Clone, Copy)]
+struct Case {
+    edits: &'static [Edit],
     length: usize,
-    rows: &[Shown],
-) -> Result<bool, AllocError> {
-    let bytes = edited(alloc, edits)?;
-    let has_length = bytes.len() == length;
-    let are_read = are_read(alloc, &bytes, rows);
+    rows: &'static [Shown],
+}
+
+/// Whether a file comes to this.
+fn comes_to(alloc: Global, case: &Case) -> Result<bool, AllocError> {
+    let bytes = edited(alloc, case.edits)?;
+    let has_length = bytes.len() == case.length;
+    let are_read = are_read(alloc, &bytes, case.rows);
     drop(bytes);
     Ok(has_length && are_read?)
 }
 
-#[test]
-fn bytes_are_written_across_parts(rt: HostRuntime) -> Result<(), Fail> {
-    let rows = [
-        at(65_528, 16, b"\0\x000123456789ab"),
-        at(65_536, 6, b"6789ab"),
-    ];
-    assert!(rt; comes_to(rt.alloc(), &[ACROSS], 65_542, &rows)?);
-    Ok(())
-}
+const CASES: [Case; 5] = [
+    Case {
+        edits: &[ACROSS],
+        length: 65_542,
+        rows: &[
+            Shown(65_528, 16, b"\0\x000123456789ab"),
+            Shown(65_536, 6, b"6789ab"),
+        ],
+    },
+    // Over the edge of a part.
+    Case {
+        edits: &[ACROSS, Edit::Written(65_534, b"xyz")],
+        length: 65_542,
+        rows: &[Shown(65_530, 12, b"0123xyz789ab")],
+    },
+    // A gap of two parts is zeros.
+    Case {
+        edits: &[ACROSS, Edit::Written(262_143, b"xy")],
+        length: 262_145,
+        rows: &[
+            Shown(65_540, 4, b"ab\0\0"),
+            Shown(131_071, 2, b"\0\0"),
+            Shown(262_141, 9, b"\0\0xy"),
+        ],
+    },
+    // Cut off at the edge of a part, and filled up from there.
+    Case {
+        edits: &[ACROSS, Edit::Resized(65_536)],
+        length: 65_536,
+        rows: &[Shown(65_530, 12, b"012345"), Shown(65_536, 1, b"")],
+    },
+    Case {
+        edits: &[ACROSS, Edit::Resized(65_536), Edit::Resized(131_072)],
+        length: 131_072,
+        rows: &[Shown(65_534, 4, b"45\0\0"), Shown(131_070, 2, b"\0\0")],
+    },
+];
 
-#[test]
-fn bytes_are_written_over_the_edge_of_a_part(rt: HostRuntime) -> Result<(), Fail> {
-    let edits = [ACROSS, Edit::Written(65_534, b"xyz")];
-    assert!(rt;
-        comes_to(
-            rt.alloc(),
-            &edits,
-            65_542,
-            &[at(65_530, 12, b"0123xyz789ab")]
-        )?
-    );
-    Ok(())
-}
-
-#[test]
-fn a_gap_of_two_parts_is_zeros(rt: HostRuntime) -> Result<(), Fail> {
-    let edits = [ACROSS, Edit::Written(262_143, b"xy")];
-    let rows = [
-        at(65_540, 4, b"ab\0\0"),
-        at(131_071, 2, b"\0\0"),
-        at(262_141, 9, b"\0\0xy"),
-    ];
-    assert!(rt; comes_to(rt.alloc(), &edits, 262_145, &rows)?);
-    Ok(())
-}
-
-#[test]
-fn a_file_is_cut_off_at_the_edge_of_a_part(rt: HostRuntime) -> Result<(), Fail> {
-    let edits = [ACROSS, Edit::Resized(65_536)];
-    let rows = [at(65_530, 12, b"012345"), at(65_536, 1, b"")];
-    assert!(rt; comes_to(rt.alloc(), &edits, 65_536, &rows)?);
-    Ok(())
-}
-
-#[test]
-fn a_file_is_filled_up_from_the_edge_of_a_part(rt: HostRuntime) -> Result<(), Fail> {
-    let edits = [ACROSS, Edit::Resized(65_536), Edit::Resized(131_072)];
-    let rows = [at(65_534, 4, b"45\0\0"), at(131_070, 2, b"\0\0")];
-    assert!(rt; comes_to(rt.alloc(), &edits, 131_072, &rows)?);
-    Ok(())
+fn all_come_true(alloc: Global) -> Result<bool, AllocError> {
+    for case in &CASES {
+        if !comes_to(alloc, case)? {
+            return Ok(false);
+        }
+    }
+    Ok(true)
 }
 
 /// Whether both come to the same bytes.
@@ -134,12 +125,21 @@ fn are_same(alloc: Global, edits: &[Edit], others: &[Edit]) -> Result<bool, Allo
     Ok(are_same)
 }
 
-/// However they were made.
-#[test]
-fn the_same_bytes_are_equal(rt: HostRuntime) -> Result<(), Fail> {
+/// Whether a file that was longer is the same as one that was not, where it is cut off to the same size.
+fn sizes_are_told(alloc: Global) -> Result<bool, AllocError> {
     for (size, want) in [(65_542, true), (65_541, false), (65_543, false)] {
         let edits = [ACROSS, Edit::Written(262_143, b"xy"), Edit::Resized(size)];
-        assert_eq!(rt; are_same(rt.alloc(), &edits, &[ACROSS])?, want, "{size}");
+        if are_same(alloc, &edits, &[ACROSS])? != want {
+            return Ok(false);
+        }
     }
+    Ok(true)
+}
+
+#[test]
+fn bytes_lie_across_parts(rt: HostRuntime) -> Result<(), AllocError> {
+    assert!(rt; all_come_true(rt.alloc())?);
+    // The same bytes are equal, however they were made.
+    assert!(rt; sizes_are_told(rt.alloc())?);
     Ok(())
 }

@@ -11,50 +11,166 @@ use nfs_inodes::{
 use nfs_machine::Handle;
 use nfs_objects::{Draft, Leaf};
 use nfs_wire::{NfsStatus, Verifier, WeakAttributes};
-use std::test::Fail;
 
-/// What is shown of an inode, as number 9.
-fn shown_of(alloc: Global, inode: Inode) -> Result<Attributes, Fail> {
-    let (ctx, view) = (ctx(1), viewed(alloc, 9, inode)?);
-    let draft = Draft::new(alloc, &ctx, &view, READING);
-    match shown(&draft, 9) {
-        Ok(Some(shown)) => Ok(shown),
-        _ => Err(Fail::from("it was read")),
+/// What a draft that reads tells of object 9.
+#[derive(Clone, Copy)]
+enum Look {
+    /// It is shown so.
+    Shows(Attributes),
+    /// It is shown so before and after a call that does not change it.
+    Stays(Known),
+    /// A name leads there in the directory, and has this entry.
+    Leads(&'static [u8], Option<u64>, Option<u64>),
+    /// The next entry of the directory has this cookie.
+    Next(Option<u64>),
+    /// A call with this handle gets this status, if any.
+    Names(Handle, Option<NfsStatus>),
+    /// A call with these bytes as a handle gets this status.
+    Refuses(&'static [u8], NfsStatus),
+    /// It is not found.
+    Lost,
+}
+
+/// Whether it is shown so before and after a call that does not change it.
+fn stays(draft: &Draft<'_>, before: &Known) -> Result<bool, Halt> {
+    let weak = WeakAttributes {
+        size: 0,
+        modified: TIME,
+        changed: TIME,
+    };
+    let shown = wcc(draft, before)?;
+    Ok(shown.before == Some(weak) && shown.after == Some(before.attributes))
+}
+
+/// Whether a name leads there in directory 9, and has this entry.
+fn leads(
+    draft: &Draft<'_>,
+    name: &[u8],
+    number: Option<u64>,
+    entered: Option<u64>,
+) -> Result<bool, Halt>
+    requires { draft.now.writes ≡ [] }
+{
+    let Some(known) = object(draft, 9)? else {
+        return Ok(false);
+    };
+    let Ok(place) = nfs_inodes::directory(&known) else {
+        return Ok(false);
+    };
+    Ok(leads_to(draft, &place, name)? == number && entry(draft, &place, name)? == entered)
+}
+
+/// The cookie of the next entry of directory 9.
+fn next(draft: &Draft<'_>) -> Result<Option<u64>, Halt> {
+    let Some(known) = object(draft, 9)? else {
+        return Ok(None);
+    };
+    let Ok(place) = nfs_inodes::directory(&known) else {
+        return Ok(None);
+    };
+    next_cookie(draft, &place)
+}
+
+/// The status that a call with this handle gets, if any.
+fn refused(draft: &Draft<'_>, handle: &[u8]) -> Result<Option<NfsStatus>, Halt>
+    requires { draft.now.writes ≡ [] }
+{
+    match named(draft, handle)? {
+        Ok(_known) => Ok(None),
+        Err(status) => Ok(Some(status)),
     }
 }
 
-#[test]
-fn a_link_has_the_size_of_its_text(rt: HostRuntime) -> Result<(), Fail> {
-    let text = Content::Link(Bytes::from_static(b"../data"));
-    let shown = shown_of(rt.alloc(), inode(text, 0o777))?;
-    assert!(rt; shown.kind == FileType::Link);
-    assert_eq!(rt; (shown.size, shown.used), (7, 4096));
-    Ok(())
+fn is_told(draft: &Draft<'_>, look: &Look) -> Result<bool, Halt>
+    requires { draft.now.writes ≡ [] }
+{
+    match *look {
+        Look::Shows(attributes) => Ok(shown(draft, 9)? == Some(attributes)),
+        Look::Stays(before) => stays(draft, &before),
+        Look::Leads(name, number, entered) => leads(draft, name, number, entered),
+        Look::Next(cookie) => Ok(next(draft)? == cookie),
+        Look::Names(handle, status) => Ok(refused(draft, &handle.bytes())? == status),
+        Look::Refuses(bytes, status) => Ok(refused(draft, bytes)? == Some(status)),
+        Look::Lost => Ok(object(draft, 9)?.is_none()),
+    }
+}
+
+/// Whether a draft tells all of this.
+fn are_told(draft: &Draft<'_>, looks: &[Look]) -> Result<bool, Halt>
+    requires { draft.now.writes ≡ [] }
+{
+    for look in looks {
+        if !is_told(draft, look)? {
+            return Ok(false);
+        }
+    }
+    Ok(true)
+}
+
+/// Whether a draft that reads this view tells all of this.
+fn tells(alloc: Global, view: View, looks: &[Look]) -> bool
+    requires { Suits reading view }
+{
+    let ctx = ctx(1);
+    let draft = Draft::new(alloc, &ctx, &view, READING);
+    let told = is_so(are_told(&draft, looks));
+    drop(draft);
+    drop(view);
+    drop(ctx);
+    told
 }
 
 const DEVICE: DeviceNumber = DeviceNumber { major: 8, minor: 1 };
 
-/// It has no bytes.
-#[test]
-fn a_block_device_shows_its_numbers(rt: HostRuntime) -> Result<(), Fail> {
-    let shown = shown_of(rt.alloc(), inode(Content::BlockDevice(DEVICE), 0o600))?;
-    assert!(rt; shown.kind == FileType::BlockDevice);
-    assert!(rt; shown.device == DEVICE);
-    assert_eq!(rt; shown.size, 0);
-    Ok(())
+/// An object of each kind that has no entries and no bytes of a file.
+fn content(kind: FileType) -> Content {
+    match kind {
+        FileType::Link => Content::Link(Bytes::from_static(b"../data")),
+        FileType::BlockDevice => Content::BlockDevice(DEVICE),
+        FileType::CharacterDevice => Content::CharacterDevice(DEVICE),
+        _ => Content::Fifo,
+    }
 }
 
+/// Whether an object of this kind and mode is shown with these numbers.
+fn is_shown(
+    alloc: Global,
+    kind: FileType,
+    mode: u32,
+    size: u64,
+    used: u64,
+    device: DeviceNumber,
+) -> Result<bool, AllocError> {
+    let attributes = Attributes {
+        size,
+        used,
+        device,
+        ..known(kind, mode).attributes
+    };
+    let view = viewed(alloc, inode(content(kind), mode), Beside::Nothing)?;
+    Ok(tells(alloc, view, &[Look::Shows(attributes)]))
+}
+
+/// Whether a fifo stays as it is.
+fn fifo_stays(alloc: Global) -> Result<bool, AllocError> {
+    let look = Look::Stays(known(FileType::Fifo, 0));
+    let view = viewed(alloc, fifo(0), Beside::Nothing)?;
+    Ok(tells(alloc, view, &[look]))
+}
+
+/// A link has the size of its text, and a device shows its numbers: it has no bytes.
 #[test]
-fn a_character_device_shows_its_numbers(rt: HostRuntime) -> Result<(), Fail> {
-    let shown = shown_of(rt.alloc(), inode(Content::CharacterDevice(DEVICE), 0o600))?;
-    assert!(rt; shown.kind == FileType::CharacterDevice);
-    assert!(rt; shown.device == DEVICE);
+fn an_object_is_shown_by_its_kind(rt: HostRuntime) -> Result<(), AllocError> {
+    let no_device = DeviceNumber { major: 0, minor: 0 };
+    assert!(rt; is_shown(rt.alloc(), FileType::Link, 0o777, 7, 4096, no_device)?);
+    assert!(rt; is_shown(rt.alloc(), FileType::BlockDevice, 0o600, 0, 0, DEVICE)?);
+    assert!(rt; is_shown(rt.alloc(), FileType::CharacterDevice, 0o600, 0, 0, DEVICE)?);
+    assert!(rt; fifo_stays(rt.alloc())?);
     Ok(())
 }
 
 /// The owner is user 5, its group is 6, and the kind of the object does not matter to rights.
-#[test]
-fn rights_to_a_directory_are_bits_of_one_class(rt: HostRuntime) {
+fn rights_are_bits_of_one_class() -> bool {
     for (uid, gid, mode, right, want) in [
         (5, 1, 0o077, Right::ToSearch, false),
         (5, 1, 0o077, Right::ToList, false),
@@ -71,128 +187,119 @@ fn rights_to_a_directory_are_bits_of_one_class(rt: HostRuntime) {
         (0, 1, 0o000, Right::ToChange, true),
     ] {
         let known = known(FileType::Directory, mode);
-        assert_eq!(rt; may(&caller(uid, gid), &known, right), want, "{uid} {mode}");
+        if may(&caller(uid, gid), &known, right) != want {
+            return false;
+        }
     }
+    true
 }
 
-#[test]
-fn a_right_that_is_wanting_is_told(rt: HostRuntime) {
-    let known = known(FileType::Regular, 0o064);
-    assert!(rt; permitted(&ctx(6), &known, Right::ToWrite) == Ok(()));
-    assert!(rt; permitted(&ctx(1), &known, Right::ToWrite) == Err(NfsStatus::Access));
+/// The status of a user that may not write a file of this mode.
+fn write_fault(user: u32, mode: u32) -> Option<NfsStatus> {
+    let ctx = ctx(user);
+    let fault = permitted(&ctx, &known(FileType::Regular, mode), Right::ToWrite).err();
+    drop(ctx);
+    fault
 }
 
+/// A right that is wanting is told.
 #[test]
-fn a_kind_is_told(rt: HostRuntime) {
+fn rights_to_a_directory_are_bits_of_one_class(rt: HostRuntime) {
+    assert!(rt; rights_are_bits_of_one_class());
+    assert!(rt; write_fault(6, 0o064).is_none());
+    assert!(rt; write_fault(1, 0o064) == Some(NfsStatus::Access));
+}
+
+fn kinds_are_told() -> bool {
     let (file, other) = (known(FileType::Regular, 0), known(FileType::Fifo, 0));
-    assert!(rt; regular(&file).is_ok_and(|file| file.known.number == 9));
-    assert!(rt; matches!(regular(&other), Err(NfsStatus::Invalid)));
-    assert!(rt; matches!(nfs_inodes::directory(&file), Err(NfsStatus::NotDirectory)));
+    matches!(regular(&file), Ok(file) if file.known.number == 9)
+        && matches!(regular(&other), Err(NfsStatus::Invalid))
+        && matches!(nfs_inodes::directory(&file), Err(NfsStatus::NotDirectory))
+}
+
+/// Whether an exclusive file has its verifier, and no other file has one.
+fn verifiers_are_told() -> bool {
+    let (ones, twos) = (Verifier { bytes: [1; 8] }, Verifier { bytes: [2; 8] });
+    let other = known(FileType::Regular, 0);
+    let file = Known {
+        verifier: Some(ones),
+        ..other
+    };
+    !is_verifier(&other, &ones) && is_verifier(&file, &ones) && !is_verifier(&file, &twos)
+}
+
+/// Whether a write is told by the start of the server.
+fn writes_are_told() -> bool {
+    let ctx = ctx(1);
+    let told = verifier(&ctx);
+    drop(ctx);
+    told.bytes == [0, 0, 0, 0, 0, 0, 0, 7]
+}
+
+/// The status of a name that is made, where `.` and `..` are told by two statuses.
+fn new_name_fault(name: &[u8]) -> Option<NfsStatus> {
+    plain_name_checked(NfsStatus::Exists, NfsStatus::NotEmpty, name).err()
+}
+
+fn names_are_told() -> bool {
+    for (name, want) in [
+        (b".".as_slice(), Some(NfsStatus::Exists)),
+        (b"..", Some(NfsStatus::NotEmpty)),
+        (b"...", None),
+        (b".a", None),
+    ] {
+        if new_name_fault(name) != want {
+            return false;
+        }
+    }
+    // A name has no NUL.
+    name_checked(b"a\0") == Err(NfsStatus::Access) && name_checked(b"a\\b c") == Ok(())
 }
 
 #[test]
-fn a_name_has_no_nul(rt: HostRuntime) {
-    assert!(rt; name_checked(b"a\0") == Err(NfsStatus::Access));
-    assert!(rt; name_checked(b"a\\b c") == Ok(()));
-}
-
-/// A name that is made, where `.` and `..` are told by two statuses.
-fn new_name_checked(name: &[u8]) -> Result<(), NfsStatus> {
-    plain_name_checked(NfsStatus::Exists, NfsStatus::NotEmpty, name)
-}
-
-#[test]
-fn a_new_name_is_not_one_that_each_directory_has(rt: HostRuntime) {
-    assert!(rt; new_name_checked(b".") == Err(NfsStatus::Exists));
-    assert!(rt; new_name_checked(b"..") == Err(NfsStatus::NotEmpty));
-    assert!(rt; new_name_checked(b"...") == Ok(()));
-    assert!(rt; new_name_checked(b".a") == Ok(()));
+fn kinds_and_names_are_checked(rt: HostRuntime) {
+    assert!(rt; kinds_are_told());
+    assert!(rt; verifiers_are_told());
+    assert!(rt; writes_are_told());
+    assert!(rt; names_are_told());
 }
 
 /// Directory 9 below directory 1, in which `a` leads to 7, with this greatest cookie.
 pub(super) fn place(alloc: Global, last_cookie: u64) -> Result<View, AllocError>
-    ensures reads { IfOk result (Suits reading) }
+    ensures { IfOk result (Suits reading) }
 {
     let a = Leaf {
         number: 7,
         cookie: 3,
     };
-    let entries = Entries::new(alloc).with_entry(&Bytes::from_static(b"a"), a)?;
-    let content = Content::Directory(directory(entries, last_cookie));
-    viewed(alloc, 9, inode(content, 0o777))
+    let (none, name) = (Entries::new(alloc), Bytes::from_static(b"a"));
+    let entries = none.with_entry(&name, a);
+    drop(none);
+    drop(name);
+    let content = Content::Directory(directory(entries?, last_cookie));
+    viewed(alloc, inode(content, 0o777), Beside::Nothing)
 }
 
-/// What a name leads to in directory 9.
-fn led(draft: &Draft<'_>, name: &[u8]) -> Result<Option<u64>, Halt>
-    requires { draft.now.writes ≡ [] }
-{
-    let Some(known) = object(draft, 9)? else {
-        return Ok(None);
-    };
-    match nfs_inodes::directory(&known) {
-        Ok(place) => leads_to(draft, &place, name),
-        Err(_) => Ok(None),
-    }
+/// What names lead to in directory 9, and which entries they have.
+const LED: [Look; 4] = [
+    Look::Leads(b".", Some(9), None),
+    Look::Leads(b"..", Some(1), None),
+    Look::Leads(b"a", Some(7), Some(7)),
+    Look::Leads(b"ab", None, None),
+];
+
+/// Whether the next entry behind this greatest cookie has that one.
+fn is_next(alloc: Global, last_cookie: u64, next: Option<u64>) -> Result<bool, AllocError> {
+    Ok(tells(alloc, place(alloc, last_cookie)?, &[Look::Next(next)]))
 }
 
+/// The greatest cookie is the last.
 #[test]
-fn names_lead_to_entries_and_dots_to_itself_and_above(rt: HostRuntime) -> Result<(), Fail> {
-    let (ctx, view) = (ctx(1), place(rt.alloc(), 3)?);
-    let draft = Draft::new(rt.alloc(), &ctx, &view, READING);
-    assert!(rt; matches!(led(&draft, b"."), Ok(Some(9))));
-    assert!(rt; matches!(led(&draft, b".."), Ok(Some(1))));
-    assert!(rt; matches!(led(&draft, b"a"), Ok(Some(7))));
-    assert!(rt; matches!(led(&draft, b"ab"), Ok(None)));
-    Ok(())
-}
-
-/// Which entry a name has in directory 9.
-fn entered(draft: &Draft<'_>, name: &[u8]) -> Result<Option<u64>, Halt>
-    requires { draft.now.writes ≡ [] }
-{
-    let Some(known) = object(draft, 9)? else {
-        return Ok(None);
-    };
-    match nfs_inodes::directory(&known) {
-        Ok(place) => entry(draft, &place, name),
-        Err(_) => Ok(None),
-    }
-}
-
-#[test]
-fn dots_are_no_entries(rt: HostRuntime) -> Result<(), Fail> {
-    let (ctx, view) = (ctx(1), place(rt.alloc(), 3)?);
-    let draft = Draft::new(rt.alloc(), &ctx, &view, READING);
-    assert!(rt; matches!(entered(&draft, b"a"), Ok(Some(7))));
-    assert!(rt; matches!(entered(&draft, b"."), Ok(None)));
-    Ok(())
-}
-
-/// The cookie of the next entry of directory 9, where this is the greatest that it used.
-fn next(alloc: Global, last_cookie: u64) -> Result<Option<u64>, Fail> {
-    let (ctx, view) = (ctx(1), place(alloc, last_cookie)?);
-    let draft = Draft::new(alloc, &ctx, &view, READING);
-    match next_in(&draft) {
-        Ok(next) => Ok(next),
-        Err(_) => Err(Fail::from("it was read")),
-    }
-}
-
-fn next_in(draft: &Draft<'_>) -> Result<Option<u64>, Halt> {
-    let Some(known) = object(draft, 9)? else {
-        return Ok(None);
-    };
-    match nfs_inodes::directory(&known) {
-        Ok(place) => next_cookie(draft, &place),
-        Err(_) => Ok(None),
-    }
-}
-
-#[test]
-fn the_greatest_cookie_is_the_last(rt: HostRuntime) -> Result<(), Fail> {
-    assert_eq!(rt; next(rt.alloc(), 3)?, Some(4));
-    assert_eq!(rt; next(rt.alloc(), u64::MAX - 1)?, Some(u64::MAX));
-    assert_eq!(rt; next(rt.alloc(), u64::MAX)?, None);
+fn names_lead_to_entries_and_dots_to_itself_and_above(rt: HostRuntime) -> Result<(), AllocError> {
+    assert!(rt; tells(rt.alloc(), place(rt.alloc(), 3)?, &LED));
+    assert!(rt; is_next(rt.alloc(), 3, Some(4))?);
+    assert!(rt; is_next(rt.alloc(), u64::MAX - 1, Some(u64::MAX))?);
+    assert!(rt; is_next(rt.alloc(), u64::MAX, None)?);
     Ok(())
 }
 
@@ -204,152 +311,114 @@ const HANDLE: Handle = Handle {
     generation: 3,
 };
 
-/// The status that a call with this handle gets, if any.
-fn refused(draft: &Draft<'_>, handle: &[u8]) -> Option<NfsStatus>
-    requires { draft.now.writes ≡ [] }
-{
-    match named(draft, handle) {
-        Ok(found) => found.err(),
-        Err(_) => Some(NfsStatus::Jukebox),
-    }
-}
+/// The same in export 2.
+const OF_OTHER: Handle = Handle {
+    export: 2,
+    ..HANDLE
+};
 
-#[test]
-fn a_handle_names_one_object_of_one_export(rt: HostRuntime) -> Result<(), Fail> {
-    let (ctx, view) = (ctx(1), viewed(rt.alloc(), 9, fifo(0))?);
-    let draft = Draft::new(rt.alloc(), &ctx, &view, READING);
-    for (handle, want) in [
-        (HANDLE, None),
-        (
-            Handle {
-                export: 2,
-                ..HANDLE
-            },
-            Some(NfsStatus::Stale),
-        ),
-        (Handle { start: 8, ..HANDLE }, Some(NfsStatus::Stale)),
-        (
-            Handle {
-                generation: 4,
-                ..HANDLE
-            },
-            Some(NfsStatus::Stale),
-        ),
-    ] {
-        assert!(rt; refused(&draft, &handle.bytes()) == want, "{handle:?}");
-    }
-    assert!(rt; refused(&draft, b"NFD3") == Some(NfsStatus::BadHandle));
-    Ok(())
-}
+const STALE: Option<NfsStatus> = Some(NfsStatus::Stale);
+
+const NAMED: [Look; 5] = [
+    Look::Names(HANDLE, None),
+    Look::Names(OF_OTHER, STALE),
+    Look::Names(Handle { start: 8, ..HANDLE }, STALE),
+    Look::Names(
+        Handle {
+            generation: 4,
+            ..HANDLE
+        },
+        STALE,
+    ),
+    Look::Refuses(b"NFD3", NfsStatus::BadHandle),
+];
 
 /// Number 9 is of export 2, which does not live: it stands for nothing, whatever the handle says.
-#[test]
-fn an_object_of_no_living_export_is_not_found(rt: HostRuntime) -> Result<(), Fail> {
+fn of_other() -> Inode {
     let mut inode = fifo(0o600);
     inode.export = 2;
-    let (ctx, view) = (ctx(1), viewed(rt.alloc(), 9, inode)?);
-    let draft = Draft::new(rt.alloc(), &ctx, &view, READING);
-    assert!(rt; matches!(object(&draft, 9), Ok(None)));
-    let handle = Handle {
-        export: 2,
-        ..HANDLE
+    inode
+}
+
+/// Whether the handle asks a draft that reads this view for an address alone.
+fn handle_asks(alloc: Global, view: View, address: Addr) -> bool
+    requires { Suits reading view }
+{
+    let ctx = ctx(1);
+    let draft = Draft::new(alloc, &ctx, &view, READING);
+    let asks = asks(named(&draft, &HANDLE.bytes()), address, Mode::Shared);
+    drop(draft);
+    drop(view);
+    drop(ctx);
+    asks
+}
+
+/// Whether the handle of fifo 9 has these bytes.
+fn is_handle(alloc: Global, want: &[u8]) -> Result<bool, AllocError> {
+    let ctx = ctx(1);
+    let bytes = handle(alloc, &ctx, &known(FileType::Fifo, 0));
+    drop(ctx);
+    let bytes = bytes?;
+    let is_handle = bytes.as_slice() == want;
+    drop(bytes);
+    Ok(is_handle)
+}
+
+#[test]
+fn a_handle_names_one_object_of_one_export(rt: HostRuntime) -> Result<(), AllocError> {
+    let alloc = rt.alloc();
+    assert!(rt; tells(alloc, viewed(alloc, fifo(0), Beside::Nothing)?, &NAMED));
+    let lost = [Look::Lost, Look::Names(OF_OTHER, STALE)];
+    assert!(rt; tells(alloc, viewed(alloc, of_other(), Beside::Nothing)?, &lost));
+    // The exports are asked for before the object.
+    assert!(rt; handle_asks(alloc, View::new(alloc), Addr::Exports));
+    assert!(rt; handle_asks(alloc, exported(alloc)?, Addr::Inode(9)));
+    assert!(rt; is_handle(alloc, super::HANDLE)?);
+    Ok(())
+}
+
+/// `/data`, which may not be written.
+const READ_ONLY: Given = Given {
+    mode: b"ro",
+    ..WRITABLE
+};
+
+/// Why an object of export 1 may not be changed where these are the exports.
+fn change_fault(alloc: Global, list: &[Given]) -> Result<Option<NfsStatus>, AllocError> {
+    let table = table(alloc, list)?;
+    let fault = changeable(table.list(), &known(FileType::Regular, 0)).err();
+    drop(table);
+    Ok(fault)
+}
+
+/// The status of a user that may not give a new object to this owner, or not this size.
+fn gift_fault(user: u32, owner: Option<u32>, size: Option<u64>) -> Option<NfsStatus> {
+    let given = SetAttributes {
+        uid: owner,
+        gid: owner,
+        size,
+        ..NOTHING
     };
-    assert!(rt; refused(&draft, &handle.bytes()) == Some(NfsStatus::Stale));
-    Ok(())
+    let ctx = ctx(user);
+    let fault = given_attributes(&ctx, &given).err();
+    drop(ctx);
+    fault
 }
 
-/// The exports are asked for before the object.
-#[test]
-fn a_handle_asks_for_the_exports(rt: HostRuntime) -> Result<(), Fail> {
-    let (ctx, view) = (ctx(1), View::new(rt.alloc()));
-    let draft = Draft::new(rt.alloc(), &ctx, &view, READING);
-    assert!(rt; asks(&named(&draft, &HANDLE.bytes()), Addr::Exports, Mode::Shared));
-    Ok(())
-}
-
-/// The object is asked for where the exports are there.
-#[test]
-fn a_handle_asks_for_its_object(rt: HostRuntime) -> Result<(), Fail> {
-    let (ctx, view) = (ctx(1), exported(rt.alloc())?);
-    let draft = Draft::new(rt.alloc(), &ctx, &view, READING);
-    assert!(rt;
-        asks(
-            &named(&draft, &HANDLE.bytes()),
-            Addr::Inode(9),
-            Mode::Shared
-        )
-    );
-    Ok(())
-}
-
-#[test]
-fn a_handle_has_the_bytes_of_its_object(rt: HostRuntime) -> Result<(), Fail> {
-    let bytes = handle(rt.alloc(), &ctx(1), &known(FileType::Fifo, 0))?;
-    assert_eq!(rt; bytes.as_slice(), super::HANDLE);
-    Ok(())
-}
-
-/// Nothing changes it.
-#[test]
-fn an_object_is_shown_before_and_after(rt: HostRuntime) -> Result<(), Fail> {
-    let (ctx, view) = (ctx(1), viewed(rt.alloc(), 9, fifo(0))?);
-    let draft = Draft::new(rt.alloc(), &ctx, &view, READING);
-    let before = known(FileType::Fifo, 0);
-    let weak = WeakAttributes {
-        size: 0,
-        modified: TIME,
-        changed: TIME,
-    };
-    assert!(rt;
-        wcc(&draft, &before).is_ok_and(|shown| shown.before == Some(weak)
-            && shown.after == Some(before.attributes))
-    );
-    Ok(())
-}
-
-#[test]
-fn an_exclusive_file_has_its_verifier(rt: HostRuntime) {
-    let mut file = known(FileType::Regular, 0);
-    assert!(rt; !is_verifier(&file, &Verifier { bytes: [1; 8] }));
-    file.verifier = Some(Verifier { bytes: [1; 8] });
-    assert!(rt; is_verifier(&file, &Verifier { bytes: [1; 8] }));
-    assert!(rt; !is_verifier(&file, &Verifier { bytes: [2; 8] }));
-}
-
-#[test]
-fn writes_are_told_by_the_start_of_the_server(rt: HostRuntime) {
-    assert_eq!(rt; verifier(&ctx(1)).bytes, [0, 0, 0, 0, 0, 0, 0, 7]);
+/// Whether a caller gives a new object to itself, and a new file at most the greatest size.
+fn gifts_are_told() -> bool {
+    gift_fault(1, Some(1), None).is_none()
+        && gift_fault(2, Some(1), None) == Some(NfsStatus::Permission)
+        && gift_fault(1, None, Some(1_048_576)).is_none()
+        && gift_fault(1, None, Some(1_048_577)) == Some(NfsStatus::FileTooBig)
 }
 
 /// What is of an export that is not there is not changed either.
 #[test]
-fn a_read_only_export_is_not_changed(rt: HostRuntime) -> Result<(), Fail> {
-    let (rw, ro) = (table(rt.alloc(), b"rw")?, table(rt.alloc(), b"ro")?);
-    let known = known(FileType::Regular, 0);
-    assert!(rt; changeable(rw.list(), &known) == Ok(()));
-    assert!(rt; changeable(ro.list(), &known) == Err(NfsStatus::ReadOnly));
-    assert!(rt; changeable(&[], &known) == Err(NfsStatus::ReadOnly));
+fn a_read_only_export_is_not_changed(rt: HostRuntime) -> Result<(), AllocError> {
+    assert!(rt; change_fault(rt.alloc(), &[WRITABLE])?.is_none());
+    assert!(rt; change_fault(rt.alloc(), &[READ_ONLY])? == Some(NfsStatus::ReadOnly));
+    assert!(rt; change_fault(rt.alloc(), &[])? == Some(NfsStatus::ReadOnly));
+    assert!(rt; gifts_are_told());
     Ok(())
-}
-
-#[test]
-fn a_caller_gives_a_new_object_to_itself(rt: HostRuntime) {
-    let given = SetAttributes {
-        uid: Some(1),
-        gid: Some(1),
-        ..NOTHING
-    };
-    assert!(rt; given_attributes(&ctx(1), &given) == Ok(()));
-    assert!(rt; given_attributes(&ctx(2), &given) == Err(NfsStatus::Permission));
-}
-
-#[test]
-fn a_new_file_has_at_most_the_greatest_size(rt: HostRuntime) {
-    let mut given = SetAttributes {
-        size: Some(1_048_576),
-        ..NOTHING
-    };
-    assert!(rt; given_attributes(&ctx(1), &given) == Ok(()));
-    given.size = Some(1_048_577);
-    assert!(rt; given_attributes(&ctx(1), &given) == Err(NfsStatus::FileTooBig));
 }

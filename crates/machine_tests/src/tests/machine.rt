@@ -17,56 +17,76 @@ fn a_handle_of_another_mark_is_none(rt: HostRuntime) {
     assert_eq!(rt; Handle::read(OTHER_MARK), None);
 }
 
-/// Every host in `/a`, and 10.0.0.2 alone in `/a/b`, which is read only.
-fn two_exports(alloc: Global) -> Result<Exports, Fail> {
-    let mut list = Vec::new(alloc);
-    list.push(export(alloc, b"/a", b"rw", &[b"*"])?)?;
-    list.push(export(alloc, b"/a/b", b"ro", &[b"10.0.0.2"])?)?;
-    Ok(Exports::new(alloc, list)?)
+fn admits(exports: &Exports, number: u32, host: &'static [u8]) -> bool {
+    let host = Bytes::from_static(host);
+    let admits = exports.admits(number, &host);
+    drop(host);
+    admits
+}
+
+/// Whether the export with this number is read only, where it is there.
+fn is_read_only(exports: &Exports, number: u32) -> Option<bool> {
+    match exports.get(number) {
+        Some(export) => Some(export.read_only),
+        None => None,
+    }
+}
+
+/// Whether `TWO` have the numbers 1 and 2, and each admits its hosts.
+fn are_two(exports: &Exports) -> bool {
+    for (number, read_only, admits_first, admits_second) in [
+        (0, None, false, false),
+        (1, Some(false), true, true),
+        (2, Some(true), false, true),
+        (3, None, false, false),
+    ] {
+        if is_read_only(exports, number) != read_only
+            || admits(exports, number, b"10.0.0.1") != admits_first
+            || admits(exports, number, b"10.0.0.2") != admits_second
+        {
+            return false;
+        }
+    }
+    exports.list().len() == 2
+}
+
+/// The same of exports that are dropped.
+fn were_two(exports: Exports) -> bool {
+    let are_two = are_two(&exports);
+    drop(exports);
+    are_two
 }
 
 #[test]
-fn exports_are_numbered_from_1(rt: HostRuntime) -> Result<(), Fail> {
-    let exports = two_exports(rt.alloc())?;
-    assert_eq!(rt; exports.list().len(), 2);
-    assert!(rt; exports.get(0).is_none());
-    assert!(rt; exports.get(1).is_some_and(|first| !first.read_only));
-    assert!(rt; exports.get(2).is_some_and(|second| second.read_only));
-    assert!(rt; exports.get(3).is_none());
+fn exports_are_numbered_from_1(rt: HostRuntime) -> Result<(), AllocError> {
+    assert!(rt; were_two(given_exports(rt.alloc(), &TWO)?));
     Ok(())
 }
 
-#[test]
-fn an_export_admits_its_hosts(rt: HostRuntime) -> Result<(), Fail> {
-    let exports = two_exports(rt.alloc())?;
-    let other = Bytes::from_static(b"10.0.0.1");
-    let listed = Bytes::from_static(b"10.0.0.2");
-    assert!(rt; exports.admits(1, &other));
-    assert!(rt; exports.admits(1, &listed));
-    assert!(rt; !exports.admits(2, &other));
-    assert!(rt; exports.admits(2, &listed));
-    assert!(rt; !exports.admits(0, &other));
-    assert!(rt; !exports.admits(3, &other));
-    Ok(())
+/// `/`, for every host.
+const ROOT: Given = Given {
+    path: b"/",
+    ..WRITABLE
+};
+
+/// Whether these exports are refused for this, or taken for None.
+fn is_fault(alloc: Global, list: &[Given], want: Option<ExportError>) -> Result<bool, AllocError> {
+    let fault = Exports::new(alloc, texts(alloc, list)?).err();
+    let is_fault = fault == want;
+    drop(fault);
+    drop(want);
+    Ok(is_fault)
 }
 
-/// Why `/` and this export together are refused.
-fn fault(
-    alloc: Global,
-    path: &'static [u8],
-    mode: &'static [u8],
-    hosts: &[&'static [u8]],
-) -> Result<Option<ExportError>, AllocError> {
-    let mut list = Vec::new(alloc);
-    list.push(export(alloc, b"/", b"rw", &[b"*"])?)?;
-    list.push(export(alloc, path, mode, hosts)?)?;
-    Ok(Exports::new(alloc, list).err())
-}
+/// Nothing is right in it.
+const EMPTY: Given = Given {
+    path: b"",
+    mode: b"",
+    hosts: &[],
+};
 
-/// An empty mode, which is told after the path.
-#[test]
-fn a_path_is_parts_led_by_slashes(rt: HostRuntime) -> Result<(), Fail> {
-    let alloc = rt.alloc();
+/// Whether a path that is no parts led by slashes is told before an empty mode.
+fn bad_paths_are_told(alloc: Global) -> Result<bool, AllocError> {
     for path in [
         b"".as_slice(),
         b"a",
@@ -77,52 +97,57 @@ fn a_path_is_parts_led_by_slashes(rt: HostRuntime) -> Result<(), Fail> {
         b"/..",
         b"//",
     ] {
-        assert_eq!(rt;
-            fault(alloc, path, b"", &[])?,
-            Some(ExportError::BadPath(2)),
-            "{path:?}"
-        );
+        let list = [ROOT, Given { path, ..EMPTY }];
+        if !is_fault(alloc, &list, Some(ExportError::BadPath(2)))? {
+            return Ok(false);
+        }
     }
-    Ok(())
+    Ok(true)
 }
 
-#[test]
-fn the_first_fault_of_an_export_is_told(rt: HostRuntime) -> Result<(), Fail> {
-    let alloc = rt.alloc();
-    assert_eq!(rt;
-        fault(alloc, b"/", b"rx", &[])?,
-        Some(ExportError::BadMode(2))
-    );
-    assert_eq!(rt;
-        fault(alloc, b"/", b"rw", &[])?,
-        Some(ExportError::NoHost(2))
-    );
-    assert_eq!(rt;
-        fault(alloc, b"/", b"ro", &[b"*", b""])?,
-        Some(ExportError::NoHost(2))
-    );
-    assert_eq!(rt;
-        fault(alloc, b"/", b"ro", &[b"*"])?,
-        Some(ExportError::DoublePath(2))
-    );
-    assert_eq!(rt; fault(alloc, b"/a", b"ro", &[b"*"])?, None);
-    Ok(())
-}
+/// `/a`, for every host.
+const OTHER: Given = Given {
+    path: b"/a",
+    mode: b"ro",
+    hosts: &[b"*"],
+};
 
-/// 65 exports that are at fault each.
-#[test]
-fn too_many_exports_are_told_first(rt: HostRuntime) -> Result<(), Fail> {
-    let alloc = rt.alloc();
-    let mut list = Vec::new(alloc);
-    for _ in 0..65 {
-        list.push(export(alloc, b"", b"", &[])?)?;
+/// `/` again.
+fn again(mode: &'static [u8], hosts: &'static [&'static [u8]]) -> Given {
+    Given {
+        path: b"/",
+        mode,
+        hosts,
     }
-    assert_eq!(rt; Exports::new(alloc, list).err(), Some(ExportError::TooMany));
+}
+
+/// Whether export 2 is refused for this.
+fn is_second_fault(alloc: Global, given: Given, want: ExportError) -> Result<bool, AllocError> {
+    is_fault(alloc, &[ROOT, given], Some(want))
+}
+
+/// A path, a mode, the hosts, and an earlier export with the path are told in this order; 65 exports before all.
+#[test]
+fn the_first_fault_of_an_export_is_told(rt: HostRuntime) -> Result<(), AllocError> {
+    let alloc = rt.alloc();
+    assert!(rt; bad_paths_are_told(alloc)?);
+    assert!(rt; is_second_fault(alloc, again(b"rx", &[]), ExportError::BadMode(2))?);
+    assert!(rt; is_second_fault(alloc, again(b"rw", &[]), ExportError::NoHost(2))?);
+    assert!(rt; is_second_fault(alloc, again(b"ro", &[b"*", b""]), ExportError::NoHost(2))?);
+    assert!(rt; is_second_fault(alloc, again(b"ro", &[b"*"]), ExportError::DoublePath(2))?);
+    assert!(rt; is_fault(alloc, &[ROOT, OTHER], None)?);
+    assert!(rt; is_fault(alloc, &[EMPTY; 65], Some(ExportError::TooMany))?);
     Ok(())
 }
 
-#[test]
-fn each_fault_has_a_text(rt: HostRuntime) -> Result<(), Fail> {
+fn has_text(alloc: Global, fault: ExportError, want: &str) -> Result<bool, Fail> {
+    let text = format!(in alloc; "{fault}")?;
+    let has_text = text.as_str() == want;
+    drop(text);
+    Ok(has_text)
+}
+
+fn have_texts(alloc: Global) -> Result<bool, Fail> {
     for (fault, want) in [
         (ExportError::BadPath(1), "export 1: bad path"),
         (ExportError::BadMode(2), "export 2: bad mode"),
@@ -131,8 +156,16 @@ fn each_fault_has_a_text(rt: HostRuntime) -> Result<(), Fail> {
         (ExportError::Memory, "out of memory"),
         (ExportError::TooMany, "too many exports"),
     ] {
-        assert_eq!(rt; format!(in rt.alloc(); "{fault}")?.as_str(), want);
+        if !has_text(alloc, fault, want)? {
+            return Ok(false);
+        }
     }
+    Ok(true)
+}
+
+#[test]
+fn each_fault_has_a_text(rt: HostRuntime) -> Result<(), Fail> {
+    assert!(rt; have_texts(rt.alloc())?);
     Ok(())
 }
 
@@ -145,44 +178,16 @@ fn is_refused(call: Call, want: Refusal) -> bool {
 }
 
 fn is_refusal(call: &Call, want: &Refusal) -> bool {
-    call.refusal().is_ok_and(|refusal| refusal == *want)
+    match call.refusal() {
+        Ok(refusal) => is_same(refusal, want),
+        Err(AllocError) => false,
+    }
 }
 
-/// NFS3ERR_JUKEBOX (RFC 1813, 2.6).
-#[test]
-fn a_status_of_the_procedure_refuses(rt: HostRuntime) {
-    assert!(rt;
-        is_refused(
-            Call::Nfs(NfsCall::Getattr(Bytes::from_static(OTHER_MARK))),
-            Refusal::Reply(Reply::Nfs(NfsReply::Getattr(Err(NfsStatus::Jukebox)))),
-        )
-    );
-}
-
-/// MNT3ERR_SERVERFAULT (RFC 1813, 5.1.5).
-#[test]
-fn mnt_is_refused_by_its_own_status(rt: HostRuntime) {
-    assert!(rt;
-        is_refused(
-            Call::Mount(MountCall::Mnt(Bytes::from_static(b"/a"))),
-            Refusal::Reply(Reply::Mount(MountReply::Mnt(Err(MountStatus::ServerFault)))),
-        )
-    );
-}
-
-/// SYSTEM_ERR (RFC 5531, section 9).
-#[test]
-fn a_procedure_without_a_status_is_refused_by_system_err(rt: HostRuntime) {
-    assert!(rt; is_refused(Call::Nfs(NfsCall::Null), Refusal::SystemError));
-    assert!(rt;
-        is_refused(
-            Call::Nlm(NlmCall::FreeAll(FreeAllArguments {
-                name: Bytes::from_static(b"host"),
-                state: 3,
-            })),
-            Refusal::SystemError,
-        )
-    );
+fn is_same(refusal: Refusal, want: &Refusal) -> bool {
+    let is = refusal == *want;
+    drop(refusal);
+    is
 }
 
 /// A lock on the whole of a file.
@@ -197,8 +202,32 @@ fn lock() -> NlmLock {
     }
 }
 
+/// NFS3ERR_JUKEBOX (RFC 1813, 2.6), MNT3ERR_SERVERFAULT (RFC 1813, 5.1.5), or else SYSTEM_ERR (RFC 5531, section 9).
 #[test]
-fn lock_is_refused_with_its_cookie(rt: HostRuntime) {
+fn a_call_is_refused_by_its_own_status(rt: HostRuntime) {
+    assert!(rt;
+        is_refused(
+            Call::Nfs(NfsCall::Getattr(Bytes::from_static(OTHER_MARK))),
+            Refusal::Reply(Reply::Nfs(NfsReply::Getattr(Err(NfsStatus::Jukebox)))),
+        )
+    );
+    assert!(rt;
+        is_refused(
+            Call::Mount(MountCall::Mnt(Bytes::from_static(b"/a"))),
+            Refusal::Reply(Reply::Mount(MountReply::Mnt(Err(MountStatus::ServerFault)))),
+        )
+    );
+    assert!(rt; is_refused(Call::Nfs(NfsCall::Null), Refusal::SystemError));
+    assert!(rt;
+        is_refused(
+            Call::Nlm(NlmCall::FreeAll(FreeAllArguments {
+                name: Bytes::from_static(b"host"),
+                state: 3,
+            })),
+            Refusal::SystemError,
+        )
+    );
+    // With the cookie of the call.
     assert!(rt;
         is_refused(
             Call::Nlm(NlmCall::Lock(LockArguments {
@@ -215,10 +244,6 @@ fn lock_is_refused_with_its_cookie(rt: HostRuntime) {
             }))),
         )
     );
-}
-
-#[test]
-fn test_is_refused_with_its_cookie(rt: HostRuntime) {
     assert!(rt;
         is_refused(
             Call::Nlm(NlmCall::Test(TestArguments {

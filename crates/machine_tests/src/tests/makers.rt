@@ -1,6 +1,6 @@
 //! Changes of objects: bytes, links, names, and new files (RFC 1813, 2.5: mtime, ctime).
 
-ghost use Rattle.std.specs.Prelude.{◌≡◌, ◌<◌, [], IfOk, IfSome};
+ghost use Rattle.std.specs.Prelude.{◌≡◌, [], IfOk, IfSome, OnOk};
 ghost use Rattle.nfs_objects.specs.Knows.{ShowsExport};
 ghost use Rattle.nfs_objects.specs.Modes.{Suits, changing};
 
@@ -10,21 +10,83 @@ use nfs_inodes::{
     resize, take_entry, write,
 };
 use nfs_objects::object::living;
-use nfs_objects::{Draft, Reserved, Usage};
+use nfs_objects::{Draft, Usage};
 use nfs_wire::{CreateHow, Verifier};
-use std::test::Fail;
-
-/// What the group of number 9 uses.
-const GROUP: Addr = Addr::Usage {
-    export: 1,
-    group: 9,
-};
 
 /// One nanosecond after the last change.
 const LATER: Time = Time {
     seconds: 1000,
     nanoseconds: 1,
 };
+
+/// What stands as object 9.
+#[derive(Clone, Copy)]
+enum Start {
+    /// A file of 5 bytes with so many links.
+    Hello(u32),
+    /// A directory without names.
+    Place,
+}
+
+/// What is done to object 9.
+#[derive(Clone, Copy)]
+enum Change {
+    /// The file is cut off, or filled up with zeros, to this size.
+    Resize(usize),
+    /// These bytes are written from this place on.
+    Write(u32, &'static [u8]),
+    /// One of so many links goes.
+    LoseLink(u32),
+    /// `a`, which leads to 7, and `b`, which leads to 8, are added, and `b` is taken out.
+    ComeAndGo,
+    /// A file `x` of 3 bytes is made in the directory.
+    Make,
+}
+
+/// What is so then.
+#[derive(Clone, Copy)]
+enum Find {
+    /// The file has these bytes.
+    Bytes(&'static [u8]),
+    /// It has others.
+    OtherBytes(&'static [u8]),
+    /// From this place on it has these 4 bytes.
+    Ends(u64, &'static [u8]),
+    /// Object 9 has so many links, and was modified and changed at these times.
+    Links(u32, Time, Time),
+    /// Object 9 is gone.
+    Gone,
+    /// The group of this number uses this.
+    Uses(u8, Usage),
+    /// Nothing stands for the group of object 9.
+    UsesNothing,
+    /// A name leads there in the directory.
+    Leads(&'static [u8], Option<u64>),
+    /// The next entry of the directory has this cookie.
+    Next(u64),
+    /// Number 10 is the new file.
+    New,
+}
+
+/// A change of what stands, and all that is so then.
+#[derive(Clone, Copy)]
+struct Case {
+    name: &'static str,
+    start: Start,
+    beside: Beside,
+    change: Change,
+    finds: &'static [Find],
+}
+
+fn start_inode(alloc: Global, start: Start) -> Result<Inode, AllocError> {
+    match start {
+        Start::Hello(links) => hello(alloc, links),
+        Start::Place => {
+            let content = Content::Directory(directory(Entries::new(alloc), 2));
+            Ok(inode(content, 0o777))
+        }
+    }
+}
 
 /// Regular file 9.
 fn file(draft: &Draft<'_>) -> Result<Option<File>, Halt> {
@@ -34,71 +96,97 @@ fn file(draft: &Draft<'_>) -> Result<Option<File>, Halt> {
     }
 }
 
-/// Whether file 9 has these bytes.
-fn holds(draft: &Draft<'_>, bytes: &[u8]) -> Result<bool, Halt> {
-    let Some(file) = file(draft)? else {
-        return Ok(false);
-    };
-    let found = read(draft, &file, 0, 100)?;
-    Ok(found.eof && found.data.as_slice() == bytes)
-}
-
-/// Whether file 9 has these bytes once its size is so.
-fn is_resized(draft: &mut Draft<'_>, size: usize, bytes: &[u8]) -> Result<bool, Halt>
+fn resized(draft: &mut Draft<'_>, size: usize) -> Result<bool, Halt>
     requires { draft.old.modes ≡ changing }
 {
     let Some(file) = file(draft)? else {
         return Ok(false);
     };
     resize(draft, &file, size)?;
-    holds(draft, bytes)
+    Ok(true)
 }
 
-#[test]
-fn a_file_is_cut_off(rt: HostRuntime) -> Result<(), Fail> {
-    let (ctx, view) = (ctx(1), viewed(rt.alloc(), 9, hello(rt.alloc())?)?);
-    let mut draft = Draft::new(rt.alloc(), &ctx, &view, CHANGING);
-    assert!(rt; matches!(is_resized(&mut draft, 3, b"hel"), Ok(true)));
-    Ok(())
-}
-
-#[test]
-fn a_file_is_filled_up_with_zeros(rt: HostRuntime) -> Result<(), Fail> {
-    let (ctx, view) = (ctx(1), viewed(rt.alloc(), 9, hello(rt.alloc())?)?);
-    let mut draft = Draft::new(rt.alloc(), &ctx, &view, CHANGING);
-    assert!(rt; matches!(is_resized(&mut draft, 7, b"hello\0\0"), Ok(true)));
-    Ok(())
-}
-
-/// Whether file 9 has these bytes once others were written at the offset.
-fn is_written(draft: &mut Draft<'_>, offset: u8, more: &[u8; 2], bytes: &[u8]) -> Result<bool, Halt>
+fn written(draft: &mut Draft<'_>, offset: u32, bytes: &[u8]) -> Result<bool, Halt>
     requires { draft.old.modes ≡ changing }
 {
     let Some(file) = file(draft)? else {
         return Ok(false);
     };
-    write(draft, &file, offset as usize, more)?;
-    holds(draft, bytes)
+    write(draft, &file, offset as usize, bytes)?;
+    Ok(true)
 }
 
-#[test]
-fn bytes_are_written_over_others(rt: HostRuntime) -> Result<(), Fail> {
-    let (ctx, view) = (ctx(1), viewed(rt.alloc(), 9, hello(rt.alloc())?)?);
-    let mut draft = Draft::new(rt.alloc(), &ctx, &view, CHANGING);
-    assert!(rt; matches!(is_written(&mut draft, 1, b"ip", b"hiplo"), Ok(true)));
-    Ok(())
+/// Directory 9.
+fn place(draft: &Draft<'_>) -> Result<Option<nfs_inodes::Directory>, Halt>
+    ensures { IfOk result (λ place. IfSome place (λ place. ShowsExport draft.now place.known.export)) }
+{
+    match object(draft, 9)? {
+        Some(known) => Ok(nfs_inodes::directory(&known).ok()),
+        None => Ok(None),
+    }
 }
 
-#[test]
-fn bytes_are_written_behind_a_gap(rt: HostRuntime) -> Result<(), Fail> {
-    let (ctx, view) = (ctx(1), viewed(rt.alloc(), 9, hello(rt.alloc())?)?);
-    let mut draft = Draft::new(rt.alloc(), &ctx, &view, CHANGING);
-    assert!(rt; matches!(is_written(&mut draft, 7, b"!!", b"hello\0\0!!"), Ok(true)));
-    Ok(())
+/// Adds `a`, which leads to 7, and `b`, which leads to 8, to directory 9, and takes `b` out.
+fn come_and_go(draft: &mut Draft<'_>) -> Result<bool, Halt>
+    requires { draft.old.modes ≡ changing }
+{
+    let Some(place) = place(draft)? else {
+        return Ok(false);
+    };
+    add_entry(draft, &place, b"a", 7, 3, 2)?;
+    add_entry(draft, &place, b"b", 8, 4, 2)?;
+    take_entry(draft, &place, b"b")?;
+    Ok(true)
+}
+
+/// A file of 3 bytes.
+const SIZED: CreateHow = CreateHow::Unchecked(SetAttributes {
+    size: Some(3),
+    ..NOTHING
+});
+
+/// Makes the file `x` in directory 9, which is given number 10.
+fn made(draft: &mut Draft<'_>) -> Result<bool, Halt>
+    requires none { draft.old.writes ≡ [] }
+    requires alone { draft.old.modes ≡ changing }
+{
+    let Some(place) = place(draft)? else {
+        return Ok(false);
+    };
+    let given = make_object(draft, &place, b"x", 3, &file_wanted(&SIZED))?;
+    Ok(given == NEW)
+}
+
+/// Changes object 9. False says that it is of another kind, or that the new file was given another number.
+fn changed(draft: &mut Draft<'_>, change: Change) -> Result<bool, Halt>
+    requires none { draft.old.writes ≡ [] }
+    requires alone { draft.old.modes ≡ changing }
+{
+    match change {
+        Change::Resize(size) => resized(draft, size),
+        Change::Write(offset, bytes) => written(draft, offset, bytes),
+        Change::LoseLink(links) => {
+            lose_link(draft, 9, links)?;
+            Ok(true)
+        }
+        Change::ComeAndGo => come_and_go(draft),
+        Change::Make => made(draft),
+    }
+}
+
+/// Whether file 9 has these bytes from this place on, of which at most so many are read.
+fn ends(draft: &Draft<'_>, start: u64, count: u32, bytes: &[u8]) -> Result<bool, Halt> {
+    let Some(file) = file(draft)? else {
+        return Ok(false);
+    };
+    let found = read(draft, &file, start, count)?;
+    let ends = found.eof && found.data.as_slice() == bytes;
+    drop(found);
+    Ok(ends)
 }
 
 /// Whether object 9 has so many links, and was modified and changed at these times.
-fn is_at(draft: &Draft<'_>, links: u32, modified: Time, changed: Time) -> Result<bool, Halt> {
+fn has_links(draft: &Draft<'_>, links: u32, modified: Time, changed: Time) -> Result<bool, Halt> {
     match object(draft, 9)? {
         Some(Known { attributes, .. }) => Ok(
             attributes.links == links
@@ -106,153 +194,6 @@ fn is_at(draft: &Draft<'_>, links: u32, modified: Time, changed: Time) -> Result
                 && attributes.changed == changed,
         ),
         None => Ok(false),
-    }
-}
-
-#[test]
-fn other_bytes_have_a_later_time(rt: HostRuntime) -> Result<(), Fail> {
-    let (ctx, view) = (ctx(1), viewed(rt.alloc(), 9, hello(rt.alloc())?)?);
-    let mut draft = Draft::new(rt.alloc(), &ctx, &view, CHANGING);
-    assert!(rt; matches!(is_resized(&mut draft, 5, b"hello"), Ok(true)));
-    assert!(rt; matches!(is_at(&draft, 1, LATER, LATER), Ok(true)));
-    Ok(())
-}
-
-/// What is in it stays, and so does its time.
-#[test]
-fn one_of_two_links_goes(rt: HostRuntime) -> Result<(), Fail> {
-    let mut linked = hello(rt.alloc())?;
-    linked.links = 2;
-    let (ctx, view) = (ctx(1), viewed(rt.alloc(), 9, linked)?);
-    let mut draft = Draft::new(rt.alloc(), &ctx, &view, CHANGING);
-    assert!(rt; lose_link(&mut draft, 9, 2).is_ok());
-    assert!(rt; matches!(is_at(&draft, 1, TIME, LATER), Ok(true)));
-    Ok(())
-}
-
-/// The exports, object 9, and what its group uses.
-fn grouped(alloc: Global, inode: Inode, usage: Usage) -> Result<View, AllocError>
-    ensures changes { IfOk result (Suits changing) }
-{
-    let exports = Object::Exports(table(alloc, b"rw")?);
-    let mut view = View::new(alloc);
-    view.add(Addr::Exports, Mode::Shared, Some(Arc::new(alloc, exports)?))?;
-    view.add(
-        Addr::Inode(9),
-        Mode::Exclusive,
-        Some(Arc::new(alloc, Object::Inode(inode))?),
-    )?;
-    view.add(
-        GROUP,
-        Mode::Exclusive,
-        Some(Arc::new(alloc, Object::Usage(usage))?),
-    )?;
-    Ok(view)
-}
-
-/// So many objects of one block each.
-fn blocks(objects: u128) -> Usage
-    requires { objects < 1000 }
-{
-    Usage {
-        used: objects * 4096,
-        objects,
-    }
-}
-
-#[test]
-fn an_object_goes_with_its_last_link(rt: HostRuntime) -> Result<(), Fail> {
-    let (ctx, view) = (ctx(1), grouped(rt.alloc(), hello(rt.alloc())?, blocks(3))?);
-    let mut draft = Draft::new(rt.alloc(), &ctx, &view, CHANGING);
-    assert!(rt; lose_link(&mut draft, 9, 1).is_ok());
-    assert!(rt; matches!(object(&draft, 9), Ok(None)));
-    assert!(rt; matches!(draft.usage(1, 9), Ok(usage) if usage == blocks(2)));
-    Ok(())
-}
-
-#[test]
-fn an_empty_group_has_no_usage(rt: HostRuntime) -> Result<(), Fail> {
-    let (ctx, view) = (ctx(1), grouped(rt.alloc(), hello(rt.alloc())?, blocks(1))?);
-    let mut draft = Draft::new(rt.alloc(), &ctx, &view, CHANGING);
-    assert!(rt; lose_link(&mut draft, 9, 1).is_ok());
-    assert!(rt; matches!(draft.find(GROUP), Ok(None)));
-    Ok(())
-}
-
-/// Space is used in whole blocks (RFC 1813, 2.5: used).
-#[test]
-fn bytes_in_a_block_stay_counted(rt: HostRuntime) -> Result<(), Fail> {
-    let (ctx, view) = (ctx(1), grouped(rt.alloc(), hello(rt.alloc())?, blocks(3))?);
-    let mut draft = Draft::new(rt.alloc(), &ctx, &view, CHANGING);
-    assert!(rt; matches!(is_written(&mut draft, 1, b"ip", b"hiplo"), Ok(true)));
-    assert!(rt; matches!(draft.usage(1, 9), Ok(usage) if usage == blocks(3)));
-    Ok(())
-}
-
-#[test]
-fn a_second_block_is_counted(rt: HostRuntime) -> Result<(), Fail> {
-    let (ctx, view) = (ctx(1), grouped(rt.alloc(), hello(rt.alloc())?, blocks(3))?);
-    let mut draft = Draft::new(rt.alloc(), &ctx, &view, CHANGING);
-    assert!(rt; matches!(is_resized(&mut draft, 4097, b""), Ok(false)));
-    assert!(rt;
-        matches!(draft.usage(1, 9), Ok(usage) if usage.used == 4 * 4096 && usage.objects == 3)
-    );
-    Ok(())
-}
-
-/// Writes them into file 9 at the edge of its first part, and tells whether they are read again.
-fn comes_back(draft: &mut Draft<'_>, more: &[u8; 4]) -> Result<bool, Halt>
-    requires { draft.old.modes ≡ changing }
-{
-    let Some(file) = file(draft)? else {
-        return Ok(false);
-    };
-    write(draft, &file, 65_534, more)?;
-    let found = read(draft, &file, 65_534, 4)?;
-    Ok(found.eof && found.data.as_slice() == more.as_slice())
-}
-
-#[test]
-fn a_file_is_written_and_read_across_parts(rt: HostRuntime) -> Result<(), Fail> {
-    let (ctx, view) = (ctx(1), grouped(rt.alloc(), hello(rt.alloc())?, blocks(3))?);
-    let mut draft = Draft::new(rt.alloc(), &ctx, &view, CHANGING);
-    assert!(rt; matches!(comes_back(&mut draft, b"abcd"), Ok(true)));
-    Ok(())
-}
-
-/// A change that uses as much asks for no usage.
-#[test]
-fn a_usage_that_stays_is_not_asked_for(rt: HostRuntime) -> Result<(), Fail> {
-    let (ctx, view) = (ctx(1), viewed(rt.alloc(), 9, hello(rt.alloc())?)?);
-    let mut draft = Draft::new(rt.alloc(), &ctx, &view, CHANGING);
-    assert!(rt; matches!(is_resized(&mut draft, 4, b"hell"), Ok(true)));
-    Ok(())
-}
-
-/// A change that uses more does.
-#[test]
-fn a_usage_is_asked_for_where_it_changes(rt: HostRuntime) -> Result<(), Fail> {
-    let (ctx, view) = (ctx(1), viewed(rt.alloc(), 9, hello(rt.alloc())?)?);
-    let mut draft = Draft::new(rt.alloc(), &ctx, &view, CHANGING);
-    assert!(rt; asks(&is_resized(&mut draft, 4097, b""), GROUP, Mode::Exclusive));
-    Ok(())
-}
-
-/// Directory 9 without names.
-fn place(alloc: Global) -> Result<View, AllocError>
-    ensures changes { IfOk result (Suits changing) }
-{
-    let content = Content::Directory(directory(Entries::new(alloc), 2));
-    viewed(alloc, 9, inode(content, 0o777))
-}
-
-/// Directory 9.
-fn known_place(draft: &Draft<'_>) -> Result<Option<nfs_inodes::Directory>, Halt>
-    ensures { IfOk result (λ place. IfSome place (λ place. ShowsExport draft.now place.known.export)) }
-{
-    match object(draft, 9)? {
-        Some(known) => Ok(nfs_inodes::directory(&known).ok()),
-        None => Ok(None),
     }
 }
 
@@ -265,76 +206,16 @@ fn led(draft: &Draft<'_>, name: &[u8]) -> Option<u64> {
     }
 }
 
-/// Adds `a`, which leads to 7, and `b`, which leads to 8, to directory 9, and takes `b` out.
-fn come_and_go(draft: &mut Draft<'_>) -> Result<(), Halt>
-    requires { draft.old.modes ≡ changing }
-{
-    let Some(place) = known_place(draft)? else {
-        return Ok(());
-    };
-    add_entry(draft, &place, b"a", 7, 3, 2)?;
-    add_entry(draft, &place, b"b", 8, 4, 2)?;
-    take_entry(draft, &place, b"b")
-}
-
 /// The cookie of the next entry of directory 9.
 fn next(draft: &Draft<'_>) -> Result<Option<u64>, Halt> {
-    match known_place(draft)? {
+    match place(draft)? {
         Some(place) => next_cookie(draft, &place),
         None => Ok(None),
     }
 }
 
-/// The cookies of names that went are not used again (RFC 1813, 3.3.16).
-#[test]
-fn names_come_and_go(rt: HostRuntime) -> Result<(), Fail> {
-    let (ctx, view) = (ctx(1), place(rt.alloc())?);
-    let mut draft = Draft::new(rt.alloc(), &ctx, &view, CHANGING);
-    assert!(rt; come_and_go(&mut draft).is_ok());
-    assert_eq!(rt; (led(&draft, b"a"), led(&draft, b"b")), (Some(7), None));
-    assert!(rt; matches!(next(&draft), Ok(Some(5))));
-    Ok(())
-}
-
-const RESERVED: Reserved = Reserved {
-    number: 10,
-    generation: 4,
-};
-
-/// What the group of that number uses.
-const NEW_GROUP: Addr = Addr::Usage {
-    export: 1,
-    group: 10,
-};
-
-/// A file of 3 bytes.
-fn sized() -> CreateHow {
-    CreateHow::Unchecked(SetAttributes {
-        size: Some(3),
-        ..NOTHING
-    })
-}
-
-#[test]
-fn a_file_that_is_made_exclusively_is_given_nothing(rt: HostRuntime) {
-    let exclusive = CreateHow::Exclusive(Verifier { bytes: [1; 8] });
-    assert!(rt; file_wanted(&exclusive).attributes == NOTHING);
-    assert!(rt; file_wanted(&sized()).attributes.size == Some(3));
-}
-
-/// Makes the file `x` in directory 9.
-fn make(draft: &mut Draft<'_>) -> Result<Option<Reserved>, Halt>
-    requires none { draft.old.writes ≡ [] }
-    requires alone { draft.old.modes ≡ changing }
-{
-    match known_place(draft)? {
-        Some(place) => Ok(Some(make_object(draft, &place, b"x", 3, &file_wanted(&sized()))?)),
-        None => Ok(None),
-    }
-}
-
 /// Whether number 10 is a file of 3 zeros, of user 1 and group 1, with mode 0644.
-fn is_made(draft: &Draft<'_>) -> Result<bool, Halt> {
+fn is_new(draft: &Draft<'_>) -> Result<bool, Halt> {
     let Some(known) = object(draft, 10)? else {
         return Ok(false);
     };
@@ -346,39 +227,244 @@ fn is_made(draft: &Draft<'_>) -> Result<bool, Halt> {
     )
 }
 
-#[test]
-fn a_new_file_wants_a_number(rt: HostRuntime) -> Result<(), Fail> {
-    let (ctx, view) = (ctx(1), place(rt.alloc())?);
-    let mut draft = Draft::new(rt.alloc(), &ctx, &view, CHANGING);
-    assert!(rt; matches!(make(&mut draft), Err(Halt::Fresh(1))));
-    Ok(())
+fn finds(draft: &Draft<'_>, find: &Find) -> Result<bool, Halt> {
+    match *find {
+        Find::Bytes(bytes) => ends(draft, 0, 100, bytes),
+        Find::OtherBytes(bytes) => Ok(!ends(draft, 0, 100, bytes)?),
+        Find::Ends(start, bytes) => ends(draft, start, 4, bytes),
+        Find::Links(links, modified, changed) => has_links(draft, links, modified, changed),
+        Find::Gone => Ok(object(draft, 9)?.is_none()),
+        Find::Uses(group, usage) => Ok(draft.usage(1, group)? == usage),
+        Find::UsesNothing => Ok(draft.find(GROUP)?.is_none()),
+        Find::Leads(name, number) => Ok(led(draft, name) == number),
+        Find::Next(cookie) => Ok(next(draft)? == Some(cookie)),
+        Find::New => is_new(draft),
+    }
 }
 
-/// The exports, directory 9 without names, and a number to give, whose group is empty.
-fn place_and_number(alloc: Global) -> Result<View, AllocError>
-    ensures changes { IfOk result (Suits changing) }
+fn finds_all(draft: &Draft<'_>, list: &[Find]) -> Result<bool, Halt> {
+    for find in list {
+        if !finds(draft, find)? {
+            return Ok(false);
+        }
+    }
+    Ok(true)
+}
+
+/// Whether the change comes to all of this.
+fn turns(draft: &mut Draft<'_>, change: Change, finds: &[Find]) -> Result<bool, Halt>
+    requires none { draft.old.writes ≡ [] }
+    requires alone { draft.old.modes ≡ changing }
 {
-    let exports = Object::Exports(table(alloc, b"rw")?);
-    let content = Content::Directory(directory(Entries::new(alloc), 2));
-    let mut view = View::new(alloc);
-    view.add(Addr::Exports, Mode::Shared, Some(Arc::new(alloc, exports)?))?;
-    view.add(
-        Addr::Inode(9),
-        Mode::Exclusive,
-        Some(Arc::new(alloc, Object::Inode(inode(content, 0o777)))?),
-    )?;
-    view.add_reserved(RESERVED)?;
-    view.add(NEW_GROUP, Mode::Exclusive, None)?;
-    Ok(view)
+    Ok(changed(draft, change)? && finds_all(draft, finds)?)
+}
+
+/// The same where these stand at first.
+fn tried(alloc: Global, case: &Case) -> Result<bool, Halt> {
+    let view = viewed(alloc, start_inode(alloc, case.start)?, case.beside)?;
+    let ctx = ctx(1);
+    let mut draft = Draft::new(alloc, &ctx, &view, CHANGING);
+    let turns = turns(&mut draft, case.change, case.finds);
+    drop(draft);
+    drop(view);
+    drop(ctx);
+    turns
+}
+
+/// A file of 5 bytes with one link, of whose group nothing is known.
+const HELLO: Case = Case {
+    name: "a file",
+    start: Start::Hello(1),
+    beside: Beside::Nothing,
+    change: Change::Resize(5),
+    finds: &[],
+};
+
+const FILES: [Case; 7] = [
+    Case {
+        name: "a file is cut off",
+        change: Change::Resize(3),
+        finds: &[Find::Bytes(b"hel")],
+        ..HELLO
+    },
+    Case {
+        name: "a file is filled up with zeros",
+        change: Change::Resize(7),
+        finds: &[Find::Bytes(b"hello\0\0")],
+        ..HELLO
+    },
+    Case {
+        name: "bytes are written over others",
+        change: Change::Write(1, b"ip"),
+        finds: &[Find::Bytes(b"hiplo")],
+        ..HELLO
+    },
+    Case {
+        name: "bytes are written behind a gap",
+        change: Change::Write(7, b"!!"),
+        finds: &[Find::Bytes(b"hello\0\0!!")],
+        ..HELLO
+    },
+    Case {
+        name: "other bytes have a later time",
+        change: Change::Resize(5),
+        finds: &[Find::Bytes(b"hello"), Find::Links(1, LATER, LATER)],
+        ..HELLO
+    },
+    Case {
+        name: "a usage that stays is not asked for",
+        change: Change::Resize(4),
+        finds: &[Find::Bytes(b"hell")],
+        ..HELLO
+    },
+    // What is in it stays, and so does its time.
+    Case {
+        name: "one of two links goes",
+        start: Start::Hello(2),
+        change: Change::LoseLink(2),
+        finds: &[Find::Links(1, TIME, LATER)],
+        ..HELLO
+    },
+];
+
+/// One object of one block.
+const ONE: Usage = Usage {
+    used: 4096,
+    objects: 1,
+};
+
+/// Three objects of one block each.
+const THREE: Usage = Usage {
+    used: 3 * 4096,
+    objects: 3,
+};
+
+/// The same file, whose group is three objects of one block each.
+const GROUPED: Case = Case {
+    beside: Beside::Group(THREE),
+    ..HELLO
+};
+
+/// Space is used in whole blocks (RFC 1813, 2.5: used).
+const GROUPS: [Case; 5] = [
+    Case {
+        name: "an object goes with its last link",
+        change: Change::LoseLink(1),
+        finds: &[
+            Find::Gone,
+            Find::Uses(
+                9,
+                Usage {
+                    used: 2 * 4096,
+                    objects: 2,
+                },
+            ),
+        ],
+        ..GROUPED
+    },
+    Case {
+        name: "an empty group has no usage",
+        beside: Beside::Group(ONE),
+        change: Change::LoseLink(1),
+        finds: &[Find::UsesNothing],
+        ..HELLO
+    },
+    Case {
+        name: "bytes in a block stay counted",
+        change: Change::Write(1, b"ip"),
+        finds: &[Find::Bytes(b"hiplo"), Find::Uses(9, THREE)],
+        ..GROUPED
+    },
+    Case {
+        name: "a second block is counted",
+        change: Change::Resize(4097),
+        finds: &[
+            Find::OtherBytes(b""),
+            Find::Uses(
+                9,
+                Usage {
+                    used: 4 * 4096,
+                    objects: 3,
+                },
+            ),
+        ],
+        ..GROUPED
+    },
+    Case {
+        name: "a file is written and read across parts",
+        change: Change::Write(65_534, b"abcd"),
+        finds: &[Find::Ends(65_534, b"abcd")],
+        ..GROUPED
+    },
+];
+
+/// A directory without names.
+const PLACE: Case = Case {
+    start: Start::Place,
+    ..HELLO
+};
+
+/// The cookies of names that went are not used again (RFC 1813, 3.3.16).
+const NAMES: [Case; 2] = [
+    Case {
+        name: "names come and go",
+        change: Change::ComeAndGo,
+        finds: &[
+            Find::Leads(b"a", Some(7)),
+            Find::Leads(b"b", None),
+            Find::Next(5),
+        ],
+        ..PLACE
+    },
+    Case {
+        name: "a new file has the number that was reserved",
+        beside: Beside::Number,
+        change: Change::Make,
+        finds: &[Find::Leads(b"x", Some(10)), Find::New, Find::Uses(10, ONE)],
+        ..PLACE
+    },
+];
+
+/// Makes each change, or tells the first that does not come to what is expected.
+fn all_come_true(alloc: Global, cases: &[Case]) -> Result<(), &'static str> {
+    for case in cases {
+        if !is_so(tried(alloc, case)) {
+            return Err(case.name);
+        }
+    }
+    Ok(())
 }
 
 #[test]
-fn a_new_file_has_the_number_that_was_reserved(rt: HostRuntime) -> Result<(), Fail> {
-    let (ctx, view) = (ctx(1), place_and_number(rt.alloc())?);
-    let mut draft = Draft::new(rt.alloc(), &ctx, &view, CHANGING);
-    assert!(rt; matches!(make(&mut draft), Ok(Some(RESERVED))));
-    assert_eq!(rt; led(&draft, b"x"), Some(10));
-    assert!(rt; matches!(is_made(&draft), Ok(true)));
-    assert!(rt; matches!(draft.usage(1, 10), Ok(usage) if usage == blocks(1)));
+fn changes_come_true(rt: HostRuntime) -> Result<(), &'static str> {
+    all_come_true(rt.alloc(), &FILES)?;
+    all_come_true(rt.alloc(), &GROUPS)?;
+    all_come_true(rt.alloc(), &NAMES)?;
     Ok(())
+}
+
+/// A file that uses more.
+const MORE: Case = Case {
+    change: Change::Resize(4097),
+    ..HELLO
+};
+
+/// A new file where no number is reserved.
+const UNRESERVED: Case = Case {
+    change: Change::Make,
+    ..PLACE
+};
+
+/// A usage where it changes, and a number for a new file.
+#[test]
+fn what_a_change_lacks_is_asked_for(rt: HostRuntime) {
+    assert!(rt; asks(tried(rt.alloc(), &MORE), GROUP, Mode::Exclusive));
+    assert!(rt; wants_a_number(tried(rt.alloc(), &UNRESERVED)));
+}
+
+#[test]
+fn a_file_that_is_made_exclusively_is_given_nothing(rt: HostRuntime) {
+    let exclusive = CreateHow::Exclusive(Verifier { bytes: [1; 8] });
+    assert!(rt; file_wanted(&exclusive).attributes == NOTHING);
+    assert!(rt; file_wanted(&SIZED).attributes.size == Some(3));
 }

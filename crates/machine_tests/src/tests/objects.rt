@@ -1,126 +1,196 @@
-//! Copies of inodes, and entries in their order.
+//! Objects of each kind, copies of inodes, and entries in their order.
 
 use super::*;
 use nfs_objects::object::{export_list, living, mount_table};
 use nfs_objects::{Leaf, MountTable, share};
 use nfs_wire::Verifier;
-use std::test::Fail;
 
-#[test]
-fn a_table_of_mounts_is_no_inode(rt: HostRuntime) -> Result<(), Fail> {
-    let alloc = rt.alloc();
-    let table = Some(Arc::new(alloc, Object::Mounts(MountTable::new(alloc)))?);
-    let shared = share(&table)?;
-    assert!(rt; living(&shared).is_none());
-    assert!(rt; export_list(&shared).is_empty());
-    assert!(rt; mount_table(&shared).is_some_and(|table| table.is_empty()));
-    Ok(())
-}
-
-#[test]
-fn an_inode_is_no_table(rt: HostRuntime) -> Result<(), Fail> {
-    let inode = Some(Arc::new(rt.alloc(), Object::Inode(fifo(0o600)))?);
-    assert!(rt; living(&inode).is_some_and(|inode| inode.uid == 5));
-    assert!(rt; export_list(&inode).is_empty());
-    assert!(rt; mount_table(&inode).is_none());
-    Ok(())
-}
-
-#[test]
-fn a_table_of_exports_is_no_other(rt: HostRuntime) -> Result<(), Fail> {
-    let exports = Object::Exports(table(rt.alloc(), b"rw")?);
-    let exports = Some(Arc::new(rt.alloc(), exports)?);
-    assert!(rt; living(&exports).is_none());
-    assert_eq!(rt; export_list(&exports).len(), 1);
-    assert!(rt; mount_table(&exports).is_none());
-    Ok(())
-}
-
-#[test]
-fn a_copy_of_an_inode_is_the_same(rt: HostRuntime) -> Result<(), Fail> {
-    let mut made = fifo(0o600);
-    made.verifier = Some(Verifier { bytes: [1; 8] });
-    let copy = made.clone()?;
-    assert_eq!(rt; (copy.generation, copy.uid, copy.gid), (3, 5, 6));
-    assert!(rt; copy.verifier == made.verifier);
-    Ok(())
-}
-
-#[test]
-fn a_copy_of_a_text_is_the_same(rt: HostRuntime) -> Result<(), Fail> {
-    let copy = Content::Link(Bytes::from_static(b"../data")).clone()?;
-    let Content::Link(text) = &copy else {
-        return Err(Fail::from("it is a link"));
+/// The user of the inode that stands there, how many exports, and whether the table of mounts is empty.
+fn told(known: &Option<Arc<Object>>) -> (Option<u32>, usize, Option<bool>) {
+    let user = match living(known) {
+        Some(inode) => Some(inode.uid),
+        None => None,
     };
-    assert_eq!(rt; text.as_slice(), b"../data".as_slice());
-    Ok(())
+    let is_empty = match mount_table(known) {
+        Some(mounts) => Some(mounts.is_empty()),
+        None => None,
+    };
+    (user, export_list(known).len(), is_empty)
 }
 
-#[test]
-fn a_copy_of_a_directory_is_the_same(rt: HostRuntime) -> Result<(), Fail> {
-    let copy = directory(two(rt.alloc())?, 4).clone()?;
-    assert_eq!(rt;
-        (copy.parent, copy.last_cookie, copy.entries.len()),
-        (1, 4, 2)
-    );
-    Ok(())
+/// What is told of an object by a second owner.
+fn told_shared(
+    alloc: Global,
+    object: Object,
+) -> Result<(Option<u32>, usize, Option<bool>), AllocError> {
+    let first = Some(Arc::new(alloc, object)?);
+    let second = share(&first);
+    drop(first);
+    let second = second?;
+    let told = told(&second);
+    drop(second);
+    Ok(told)
 }
 
-#[test]
-fn a_directory_alone_has_names(rt: HostRuntime) {
-    let empty = directory(Entries::new(rt.alloc()), 2);
-    let place = inode(Content::Directory(empty), 0o700);
-    assert!(rt;
-        place
-            .directory()
-            .is_some_and(|directory| directory.entries.is_empty())
-    );
-    assert!(rt; fifo(0o700).directory().is_none());
+/// What is told of a table of mounts, of an inode and of a table of exports.
+fn kinds_are_told(alloc: Global) -> Result<bool, AllocError> {
+    let mounts = told_shared(alloc, Object::Mounts(MountTable::new(alloc)))?;
+    let inode = told_shared(alloc, Object::Inode(fifo(0o600)))?;
+    let exports = told_shared(alloc, Object::Exports(table(alloc, &[WRITABLE])?))?;
+    Ok(mounts == (None, 0, Some(true)) && inode == (Some(5), 0, None) && exports == (None, 1, None))
+}
+
+const VERIFIER: Verifier = Verifier { bytes: [1; 8] };
+
+/// A fifo that an exclusive CREATE made.
+fn marked() -> Inode {
+    let mut marked = fifo(0o600);
+    marked.verifier = Some(VERIFIER);
+    marked
+}
+
+fn is_marked(inode: Inode) -> bool {
+    let is_owned = (inode.generation, inode.uid, inode.gid) == (3, 5, 6);
+    let is_marked = inode.verifier == Some(VERIFIER);
+    drop(inode);
+    is_owned && is_marked
+}
+
+/// Whether it is this text of a link.
+fn is_text(content: Content, want: &[u8]) -> bool {
+    let is_text = match &content {
+        Content::Link(text) => text.as_slice() == want,
+        _ => false,
+    };
+    drop(content);
+    is_text
+}
+
+/// Whether a directory below directory 1 has two names, and used the cookie 4 last.
+fn has_two(directory: Directory) -> bool {
+    let count = directory.entries.len();
+    let has_two = (directory.parent, directory.last_cookie, count) == (1, 4, 2);
+    drop(directory);
+    has_two
+}
+
+/// What a name leads to, with its cookie.
+#[derive(Clone, Copy)]
+struct Named {
+    name: &'static [u8],
+    leaf: Leaf,
+}
+
+const A: Named = Named {
+    name: b"a",
+    leaf: Leaf {
+        number: 7,
+        cookie: 3,
+    },
+};
+
+const B: Named = Named {
+    name: b"b",
+    leaf: Leaf {
+        number: 8,
+        cookie: 4,
+    },
+};
+
+/// The entries with one more, unless the name is there.
+fn wider(entries: &Entries, named: Named) -> Result<Entries, AllocError> {
+    if entries.find(named.name).is_some() {
+        return Err(AllocError);
+    }
+    let name = Bytes::from_static(named.name);
+    let wider = entries.with_entry(&name, named.leaf);
+    drop(name);
+    wider
+}
+
+/// The same of entries that are dropped.
+fn with_named(entries: Entries, named: Named) -> Result<Entries, AllocError> {
+    let wider = wider(&entries, named);
+    drop(entries);
+    wider
 }
 
 /// `a` leads to 7 and `b` to 8, with the cookies 3 and 4.
 fn two(alloc: Global) -> Result<Entries, AllocError> {
-    let (first, second) = (
-        Leaf {
-            number: 7,
-            cookie: 3,
-        },
-        Leaf {
-            number: 8,
-            cookie: 4,
-        },
+    with_named(with_named(Entries::new(alloc), A)?, B)
+}
+
+/// The same without `a`.
+fn without_a(alloc: Global) -> Result<Entries, AllocError> {
+    let two = two(alloc)?;
+    let left = two.without_name(A.name);
+    drop(two);
+    left
+}
+
+/// Whether the entry at this place is so.
+fn is_at(entries: &Entries, index: usize, want: &Named) -> bool {
+    match entries.get_index(index) {
+        Some((name, leaf)) => name.as_slice() == want.name && *leaf == want.leaf,
+        None => false,
+    }
+}
+
+/// Whether these are the entries in order of adding, and each is found by its name.
+fn stand_so(entries: &Entries, list: &[Named]) -> bool {
+    for (index, named) in list.iter().enumerate() {
+        if !is_at(entries, index, named) || entries.find(named.name) != Some(named.leaf) {
+            return false;
+        }
+    }
+    entries.len() == list.len()
+}
+
+/// The same, and that this name is not found.
+fn are(entries: Entries, list: &[Named], lacked: &[u8]) -> bool {
+    let are = stand_so(&entries, list) && entries.find(lacked).is_none();
+    drop(entries);
+    are
+}
+
+#[test]
+fn a_copy_is_the_same(rt: HostRuntime) -> Result<(), AllocError> {
+    assert!(rt; is_marked(copied(marked())?));
+    assert!(rt;
+        is_text(
+            copied(Content::Link(Bytes::from_static(b"../data")))?,
+            b"../data"
+        )
     );
-    let one = Entries::new(alloc).with_entry(&Bytes::from_static(b"a"), first)?;
-    one.with_entry(&Bytes::from_static(b"b"), second)
-}
-
-#[test]
-fn entries_stand_in_order_of_adding(rt: HostRuntime) -> Result<(), Fail> {
-    let entries = two(rt.alloc())?;
-    assert_eq!(rt; entries.len(), 2);
-    let (name, leaf) = entries.get_index(0).ok_or("the first")?;
-    assert_eq!(rt; name.as_slice(), b"a".as_slice());
-    assert_eq!(rt; leaf.cookie, 3);
+    assert!(rt; has_two(copied(directory(two(rt.alloc())?, 4))?));
+    assert!(rt; are(copied(two(rt.alloc())?)?, &[A, B], b"ab"));
     Ok(())
 }
 
+/// What follows a name that goes keeps its cookie.
 #[test]
-fn an_entry_is_found_with_its_cookie(rt: HostRuntime) -> Result<(), Fail> {
-    let entries = two(rt.alloc())?.clone()?;
-    let want = Leaf {
-        number: 8,
-        cookie: 4,
+fn entries_stand_in_order_of_adding(rt: HostRuntime) -> Result<(), AllocError> {
+    assert!(rt; are(two(rt.alloc())?, &[A, B], b"ab"));
+    assert!(rt; are(without_a(rt.alloc())?, &[B], b"a"));
+    Ok(())
+}
+
+/// Whether an inode has no names, where it is a directory.
+fn is_empty(inode: Inode) -> Option<bool> {
+    let is_empty = match inode.directory() {
+        Some(directory) => Some(directory.entries.is_empty()),
+        None => None,
     };
-    assert_eq!(rt; entries.find(b"b"), Some(want));
-    assert_eq!(rt; entries.find(b"ab"), None);
-    Ok(())
+    drop(inode);
+    is_empty
 }
 
+/// A directory alone has names.
 #[test]
-fn what_follows_a_name_that_goes_keeps_its_cookie(rt: HostRuntime) -> Result<(), Fail> {
-    let entries = two(rt.alloc())?.without_name(b"a")?;
-    assert_eq!(rt; entries.len(), 1);
-    assert!(rt; entries.find(b"a").is_none());
-    assert!(rt; entries.find(b"b").is_some_and(|leaf| leaf.cookie == 4));
+fn an_object_is_of_one_kind(rt: HostRuntime) -> Result<(), AllocError> {
+    assert!(rt; kinds_are_told(rt.alloc())?);
+    let place = directory(Entries::new(rt.alloc()), 2);
+    assert!(rt; is_empty(inode(Content::Directory(place), 0o700)) == Some(true));
+    assert!(rt; is_empty(fifo(0o700)).is_none());
     Ok(())
 }

@@ -10,40 +10,45 @@ fn time(seconds: u32, nanoseconds: u32) -> Time {
     }
 }
 
-#[test]
-fn a_call_has_the_time_of_its_moment(rt: HostRuntime) {
-    assert!(rt; now(&ctx(1)) == TIME);
+/// The time of a call.
+fn call_time() -> Time {
+    let ctx = ctx(1);
+    let now = now(&ctx);
+    drop(ctx);
+    now
+}
+
+/// Whether a change has the time of its call, and is later where the last one had that too. The greatest time stays.
+fn changes_are_later() -> bool {
+    let now = call_time();
+    for (last, want) in [
+        ((999, 5), (1000, 0)),
+        ((1000, 0), (1000, 1)),
+        ((2000, 7), (2000, 8)),
+        ((1000, 999_999_999), (1001, 0)),
+        ((u32::MAX, 999_999_999), (u32::MAX, 999_999_999)),
+    ] {
+        if touch(time(last.0, last.1), now) != time(want.0, want.1) {
+            return false;
+        }
+    }
+    now == TIME
+}
+
+/// Whether a time is left, or set to that of the server or of the client.
+fn times_are_set() -> bool {
+    let (now, client) = (time(2000, 5), time(9, 1));
+    time_set(TIME, now, SetTime::Leave) == TIME
+        && time_set(TIME, now, SetTime::ToServer) == now
+        && time_set(TIME, now, SetTime::ToClient(client)) == client
 }
 
 #[test]
-fn a_change_has_the_time_of_its_call(rt: HostRuntime) {
-    assert!(rt; touch(time(999, 5), TIME) == TIME);
-}
-
-#[test]
-fn a_change_in_the_same_moment_is_later(rt: HostRuntime) {
-    assert!(rt; touch(TIME, TIME) == time(1000, 1));
-    assert!(rt; touch(time(2000, 7), TIME) == time(2000, 8));
-    assert!(rt; touch(time(1000, 999_999_999), TIME) == time(1001, 0));
-}
-
-#[test]
-fn the_greatest_time_stays(rt: HostRuntime) {
-    let greatest = time(u32::MAX, 999_999_999);
-    assert!(rt; touch(greatest, TIME) == greatest);
-}
-
-#[test]
-fn a_time_has_less_than_a_second_of_nanoseconds(rt: HostRuntime) {
+fn a_change_is_later_than_the_last(rt: HostRuntime) {
+    assert!(rt; changes_are_later());
+    assert!(rt; times_are_set());
+    // A time of the client has less than a second of nanoseconds.
+    assert!(rt; is_time(SetTime::ToServer));
     assert!(rt; is_time(SetTime::ToClient(time(9, 999_999_999))));
     assert!(rt; !is_time(SetTime::ToClient(NO_TIME)));
-    assert!(rt; is_time(SetTime::ToServer));
-}
-
-#[test]
-fn a_time_is_left_or_set(rt: HostRuntime) {
-    let now = time(2000, 5);
-    assert!(rt; time_set(TIME, now, SetTime::Leave) == TIME);
-    assert!(rt; time_set(TIME, now, SetTime::ToServer) == now);
-    assert!(rt; time_set(TIME, now, SetTime::ToClient(time(9, 1))) == time(9, 1));
 }

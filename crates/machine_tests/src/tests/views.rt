@@ -1,35 +1,27 @@
 //! Modes, and views: what was read, numbers to give, and growth that is refused.
 
+ghost use Rattle.std.specs.Prelude.{◌≡◌, []};
+
 use super::inodes::place;
 use super::*;
 use nfs_objects::modes::covers;
 use nfs_objects::object::{living, mount_table};
-use nfs_objects::{Modes, Reserved};
+use nfs_objects::{Modes, RoomyView};
 use nfs_wire::{Place, RenameArguments};
-use std::test::Fail;
 
-#[test]
-fn what_is_held_alone_may_be_used_in_each_mode(rt: HostRuntime) {
+/// Whether what is held alone may be used in each mode, and else as it is held.
+fn modes_cover() -> bool {
     for (held, wanted, want) in [
         (Mode::Shared, Mode::Shared, true),
         (Mode::Shared, Mode::Exclusive, false),
         (Mode::Exclusive, Mode::Shared, true),
         (Mode::Exclusive, Mode::Exclusive, true),
     ] {
-        assert_eq!(rt; covers(held, wanted), want, "{held:?} {wanted:?}");
+        if covers(held, wanted) != want {
+            return false;
+        }
     }
-}
-
-#[test]
-fn the_exports_are_shared_always(rt: HostRuntime) {
-    let view = View::new(rt.alloc());
-    for modes in [READING, CHANGING, MOUNTING] {
-        assert_eq!(rt; modes.at(&view, Addr::Exports), Mode::Shared);
-    }
-    assert_eq!(rt; READING.at(&view, Addr::Inode(1)), Mode::Shared);
-    assert_eq!(rt; CHANGING.at(&view, Addr::Inode(1)), Mode::Exclusive);
-    assert_eq!(rt; CHANGING.at(&view, Addr::Mounts), Mode::Shared);
-    assert_eq!(rt; MOUNTING.at(&view, Addr::Mounts), Mode::Exclusive);
+    true
 }
 
 /// A name in directory 9.
@@ -40,121 +32,215 @@ fn in_directory(name: &'static [u8]) -> Place {
     }
 }
 
-#[test]
-fn rename_shares_what_lies_at_neither_name(rt: HostRuntime) -> Result<(), Fail> {
+/// How RENAME of `a` to `b` in directory 9 holds an inode.
+fn held(view: &View, number: u64) -> Mode {
     let arguments = RenameArguments {
         from: in_directory(b"a"),
         to: in_directory(b"b"),
     };
-    let (modes, view) = (Modes::renaming(&arguments), place(rt.alloc(), 3)?);
-    assert_eq!(rt;
-        modes.at(&View::new(rt.alloc()), Addr::Inode(5)),
-        Mode::Exclusive
-    );
-    assert_eq!(rt; modes.at(&view, Addr::Inode(9)), Mode::Exclusive);
-    assert_eq!(rt; modes.at(&view, Addr::Inode(7)), Mode::Exclusive);
-    assert_eq!(rt; modes.at(&view, Addr::Inode(5)), Mode::Shared);
+    let mode = Modes::renaming(&arguments).at(view, Addr::Inode(number));
+    drop(arguments);
+    mode
+}
+
+/// How it holds these with a view that is dropped.
+fn are_held(view: View, list: &[(u64, Mode)]) -> bool {
+    let are_held = are_held_in(&view, list);
+    drop(view);
+    are_held
+}
+
+fn are_held_in(view: &View, list: &[(u64, Mode)]) -> bool {
+    for (number, mode) in list {
+        if held(view, *number) != *mode {
+            return false;
+        }
+    }
+    true
+}
+
+/// RENAME shares what lies at neither name.
+#[test]
+fn objects_are_held_as_they_are_used(rt: HostRuntime) -> Result<(), AllocError> {
+    assert!(rt; modes_cover());
+    let held = [
+        (9, Mode::Exclusive),
+        (7, Mode::Exclusive),
+        (5, Mode::Shared),
+    ];
+    assert!(rt; are_held(place(rt.alloc(), 3)?, &held));
+    assert!(rt; are_held(View::new(rt.alloc()), &[(5, Mode::Exclusive)]));
     Ok(())
 }
 
-#[test]
-fn a_view_shows_what_was_read(rt: HostRuntime) -> Result<(), Fail> {
-    let view = viewed(rt.alloc(), 9, fifo(0o600))?;
-    assert_eq!(rt; view.len(), 2);
-    let known = view.find(Addr::Inode(9)).ok_or("it was read")?;
-    assert!(rt; living(known).is_some_and(|inode| inode.uid == 5));
-    assert!(rt; mount_table(known).is_none());
-    assert!(rt; view.find(Addr::Mounts).is_none());
-    Ok(())
+/// Whether a fifo of user 5 stands there.
+fn is_fifo(known: &Option<Arc<Object>>) -> bool {
+    match living(known) {
+        Some(inode) => inode.uid == 5 && mount_table(known).is_none(),
+        None => false,
+    }
 }
 
-#[test]
-fn a_view_shows_that_nothing_is_there(rt: HostRuntime) -> Result<(), Fail> {
-    let mut view = View::new(rt.alloc());
-    assert!(rt; view.is_empty());
+/// Whether it shows fifo 9 and one more object, which is no table of mounts.
+fn shows_fifo(view: &View) -> bool {
+    match view.find(Addr::Inode(9)) {
+        Some(known) => is_fifo(known) && view.len() == 2 && view.find(Addr::Mounts).is_none(),
+        None => false,
+    }
+}
+
+/// The same of a view that is dropped.
+fn showed_fifo(view: View) -> bool {
+    let shows_fifo = shows_fifo(&view);
+    drop(view);
+    shows_fifo
+}
+
+/// The view with room for more, or as it was.
+fn roomier(view: View) -> View {
+    match view.make_room(16) {
+        Ok(roomy) => roomy.into_view(),
+        Err(refused) => refused.value,
+    }
+}
+
+/// Whether it is known that nothing stands there.
+fn is_vacant(view: &View, address: Addr) -> bool {
+    match view.find(address) {
+        Some(known) => known.is_none(),
+        None => false,
+    }
+}
+
+/// Adds that there are no mounts, and a number to give, and tells whether this is known then.
+fn grow(view: &mut View) -> Result<bool, AllocError>
+    requires { view.old.entries ≡ [] }
+{
+    let was_new = view.is_empty() && view.fresh().is_none();
     view.add(Addr::Mounts, Mode::Shared, None)?;
-    let known = view.find(Addr::Mounts).ok_or("it was read")?;
-    assert!(rt; known.is_none());
-    Ok(())
+    view.add_reserved(RESERVED)?;
+    Ok(
+        was_new
+            && is_vacant(view, Addr::Mounts)
+            && is_vacant(view, Addr::Inode(2))
+            && view.fresh() == Some(RESERVED),
+    )
 }
 
-const RESERVED: Reserved = Reserved {
-    number: 2,
-    generation: 7,
-};
+fn grows(alloc: Global) -> Result<bool, AllocError> {
+    let mut view = View::new(alloc);
+    let grows = grow(&mut view);
+    drop(view);
+    grows
+}
 
-#[test]
-fn a_number_to_give_is_known_to_be_free(rt: HostRuntime) -> Result<(), Fail> {
-    let mut view = View::new(rt.alloc());
-    assert!(rt; view.fresh().is_none());
-    view.add_reserved(RESERVED)?;
-    assert_eq!(rt; view.fresh(), Some(RESERVED));
-    let known = view.find(Addr::Inode(2)).ok_or("it is known")?;
-    assert!(rt; known.is_none());
-    Ok(())
+/// Adds the same, and tells whether the view shows what was taken alone.
+fn grow_if_taken(view: &mut View) -> bool
+    requires { view.old.entries ≡ [] }
+{
+    let read = view.add(Addr::Mounts, Mode::Shared, None).is_ok();
+    let shows_read = view.find(Addr::Mounts).is_some() == read;
+    let given = view.add_reserved(RESERVED).is_ok();
+    shows_read
+        && view.fresh().is_some() == given
+        && view.find(Addr::Inode(2)).is_some() == given
+        && view.find(Addr::Mounts).is_some() == read
+}
+
+fn shows_what_it_took(alloc: Global) -> bool {
+    let mut view = View::new(alloc);
+    let shows = grow_if_taken(&mut view);
+    drop(view);
+    shows
 }
 
 /// What is refused for want of memory leaves the view as it was, whichever allocation it is.
 #[test]
 fn a_refused_growth_changes_nothing(rt: HostRuntime) {
-    let mut view = View::new(rt.alloc());
-    let read = view.add(Addr::Mounts, Mode::Shared, None).is_ok();
-    assert_eq!(rt; view.find(Addr::Mounts).is_some(), read);
-    let given = view.add_reserved(RESERVED).is_ok();
-    assert_eq!(rt; view.fresh().is_some(), given);
-    assert_eq!(rt; view.find(Addr::Inode(2)).is_some(), given);
-    assert_eq!(rt; view.find(Addr::Mounts).is_some(), read);
+    assert!(rt; shows_what_it_took(rt.alloc()));
 }
 
-/// Room for two numbers takes an address and a number with no memory.
-#[test]
-fn a_view_takes_what_it_has_room_for(rt: HostRuntime) -> Result<(), Fail> {
-    let mut roomy = View::new(rt.alloc())
-        .make_room_for_numbers(2)
-        .map_err(|_| AllocError)?;
+/// A view that took an address and a number, for which it had room.
+fn taken(mut roomy: RoomyView) -> View
+    requires { roomy ≡ record { view = record { entries = []; reserved = [] }; room = 2; numbers = 2 } }
+{
     roomy.put(Addr::Mounts, Mode::Shared, None);
     roomy.put_reserved(RESERVED);
-    let view = roomy.into_view();
-    let (first, _) = view.entry(0).ok_or("the first stands first")?;
-    let (second, entry) = view.entry(1).ok_or("and the number's behind it")?;
-    assert_eq!(rt; first, Addr::Mounts);
-    assert_eq!(rt; second, Addr::Inode(2));
-    assert_eq!(rt; entry.mode, Mode::Exclusive);
-    assert!(rt; view.entry(2).is_none());
-    assert_eq!(rt; view.reserved(), [RESERVED].as_slice());
-    Ok(())
+    roomy.into_view()
 }
 
-/// Beyond what is searched one by one each entry is still found, and stands where it was added.
-#[test]
-fn a_view_of_many_entries_finds_each(rt: HostRuntime) -> Result<(), Fail> {
-    let mut view = View::new(rt.alloc());
+/// Such a view, unless its room is refused.
+fn taken_view(alloc: Global) -> Result<View, AllocError> {
+    match View::new(alloc).make_room_for_numbers(2) {
+        Ok(roomy) => Ok(taken(roomy)),
+        Err(refused) => {
+            drop(refused);
+            Err(AllocError)
+        }
+    }
+}
+
+/// Whether this address stands at this place, and is held so.
+fn is_at(view: &View, index: usize, address: Addr, mode: Mode) -> bool {
+    match view.entry(index) {
+        Some((found, entry)) => found == address && entry.mode == mode,
+        None => false,
+    }
+}
+
+/// Whether it has the address, and the number behind it, and no more.
+fn has_both(view: View) -> bool {
+    let has_both = is_at(&view, 0, Addr::Mounts, Mode::Shared)
+        && is_at(&view, 1, Addr::Inode(2), Mode::Exclusive)
+        && view.entry(2).is_none()
+        && view.reserved() == [RESERVED].as_slice();
+    drop(view);
+    has_both
+}
+
+/// Adds inodes 1 to 20, or tells that one of them was there.
+fn grow_by_20(view: &mut View) -> Result<bool, AllocError> {
     for number in 1..=20 {
         let address = Addr::Inode(number);
-        assert!(rt; view.find(address).is_none());
+        if view.find(address).is_some() {
+            return Ok(false);
+        }
         view.add(address, Mode::Shared, None)?;
     }
-    assert_eq!(rt; view.len(), 20);
-    for number in 1..=20 {
-        let (address, _) = view.entry(number as usize - 1).ok_or("it was added there")?;
-        assert_eq!(rt; address, Addr::Inode(number));
-        assert!(rt; view.find(address).is_some());
-    }
-    assert!(rt; view.find(Addr::Inode(21)).is_none());
-    assert!(rt; view.entry(20).is_none());
-    Ok(())
+    Ok(true)
 }
 
-/// Where the room is refused the view is handed back as it was.
+/// Whether inodes 1 to 20 stand in it in this order, and are found, and no other.
+fn finds_20(view: &View) -> bool {
+    for number in 1..=20 {
+        let address = Addr::Inode(number);
+        if !is_at(view, number as usize - 1, address, Mode::Shared)
+            || view.find(address).is_none()
+        {
+            return false;
+        }
+    }
+    view.len() == 20 && view.find(Addr::Inode(21)).is_none() && view.entry(20).is_none()
+}
+
+fn finds_each(alloc: Global) -> Result<bool, AllocError> {
+    let mut view = View::new(alloc);
+    let are_new = grow_by_20(&mut view);
+    let finds_each = finds_20(&view);
+    drop(view);
+    Ok(are_new? && finds_each)
+}
+
 #[test]
-fn refused_room_hands_the_view_back(rt: HostRuntime) -> Result<(), Fail> {
-    let view = viewed(rt.alloc(), 9, fifo(0o600))?;
-    let view = match view.make_room(16) {
-        Ok(roomy) => roomy.into_view(),
-        Err(refused) => refused.value,
-    };
-    assert_eq!(rt; view.len(), 2);
-    let known = view.find(Addr::Inode(9)).ok_or("it was read")?;
-    assert!(rt; living(known).is_some());
+fn a_view_shows_what_was_added(rt: HostRuntime) -> Result<(), AllocError> {
+    assert!(rt; showed_fifo(viewed(rt.alloc(), fifo(0o600), Beside::Nothing)?));
+    // Where the room is refused the view is handed back as it was.
+    assert!(rt; showed_fifo(roomier(viewed(rt.alloc(), fifo(0o600), Beside::Nothing)?)));
+    // A number to give is known to be free.
+    assert!(rt; grows(rt.alloc())?);
+    // Room for two numbers takes an address and a number with no memory.
+    assert!(rt; has_both(taken_view(rt.alloc())?));
+    // Beyond what is searched one by one each entry is still found, and stands where it was added.
+    assert!(rt; finds_each(rt.alloc())?);
     Ok(())
 }
