@@ -1,8 +1,9 @@
 //! The server was started with number 7, every moment is (1000, 0), and `/data` is exported to every host. The values
 //! are worked out by hand from RFC 1813.
 //!
-//! What owns memory is lent to a function with the `?`s and dropped by a call of `drop`: each way out of a function that
-//! owns it would be proved with its drops, in seconds. Rows stand in functions too, and a test asserts what they tell.
+//! What owns memory is lent to a function that has the `?`s, and dropped by a call of `drop`: at each way out of a
+//! function that owns it, its drops would be proved once more, in seconds. Rows stand in functions too, since each
+//! `assert!` takes a second: a test asserts what the functions tell.
 
 ghost use Rattle.std.specs.Prelude.{◌≡◌, ◌++◌, [], ◌∷◌, IfOk, None, OnOk, Some};
 ghost use Rattle.nfs_objects.specs.Modes.{Suits, changing, reading};

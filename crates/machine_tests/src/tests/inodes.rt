@@ -293,13 +293,19 @@ fn is_next(alloc: Global, last_cookie: u64, next: Option<u64>) -> Result<bool, A
     Ok(tells(alloc, place(alloc, last_cookie)?, &[Look::Next(next)]))
 }
 
-/// The greatest cookie is the last.
+/// Whether the greatest cookie is the last.
+fn cookies_rise(alloc: Global) -> Result<bool, AllocError> {
+    Ok(
+        is_next(alloc, 3, Some(4))?
+            && is_next(alloc, u64::MAX - 1, Some(u64::MAX))?
+            && is_next(alloc, u64::MAX, None)?,
+    )
+}
+
 #[test]
 fn names_lead_to_entries_and_dots_to_itself_and_above(rt: HostRuntime) -> Result<(), AllocError> {
     assert!(rt; tells(rt.alloc(), place(rt.alloc(), 3)?, &LED));
-    assert!(rt; is_next(rt.alloc(), 3, Some(4))?);
-    assert!(rt; is_next(rt.alloc(), u64::MAX - 1, Some(u64::MAX))?);
-    assert!(rt; is_next(rt.alloc(), u64::MAX, None)?);
+    assert!(rt; cookies_rise(rt.alloc())?);
     Ok(())
 }
 
@@ -364,16 +370,29 @@ fn is_handle(alloc: Global, want: &[u8]) -> Result<bool, AllocError> {
     Ok(is_handle)
 }
 
+/// Whether a handle names one object of one export.
+fn handles_are_told(alloc: Global) -> Result<bool, AllocError> {
+    Ok(tells(alloc, viewed(alloc, fifo(0), Beside::Nothing)?, &NAMED))
+}
+
+/// Whether an object of an export that does not live is not found.
+fn is_lost(alloc: Global) -> Result<bool, AllocError> {
+    let lost = [Look::Lost, Look::Names(OF_OTHER, STALE)];
+    Ok(tells(alloc, viewed(alloc, of_other(), Beside::Nothing)?, &lost))
+}
+
+/// Whether a handle asks for the exports before the object.
+fn handles_ask(alloc: Global) -> Result<bool, AllocError> {
+    let is_asked = handle_asks(alloc, exported(alloc)?, Addr::Inode(9));
+    Ok(is_asked && handle_asks(alloc, View::new(alloc), Addr::Exports))
+}
+
 #[test]
 fn a_handle_names_one_object_of_one_export(rt: HostRuntime) -> Result<(), AllocError> {
-    let alloc = rt.alloc();
-    assert!(rt; tells(alloc, viewed(alloc, fifo(0), Beside::Nothing)?, &NAMED));
-    let lost = [Look::Lost, Look::Names(OF_OTHER, STALE)];
-    assert!(rt; tells(alloc, viewed(alloc, of_other(), Beside::Nothing)?, &lost));
-    // The exports are asked for before the object.
-    assert!(rt; handle_asks(alloc, View::new(alloc), Addr::Exports));
-    assert!(rt; handle_asks(alloc, exported(alloc)?, Addr::Inode(9)));
-    assert!(rt; is_handle(alloc, super::HANDLE)?);
+    assert!(rt; handles_are_told(rt.alloc())?);
+    assert!(rt; is_lost(rt.alloc())?);
+    assert!(rt; handles_ask(rt.alloc())?);
+    assert!(rt; is_handle(rt.alloc(), super::HANDLE)?);
     Ok(())
 }
 
@@ -389,6 +408,15 @@ fn change_fault(alloc: Global, list: &[Given]) -> Result<Option<NfsStatus>, Allo
     let fault = changeable(table.list(), &known(FileType::Regular, 0)).err();
     drop(table);
     Ok(fault)
+}
+
+/// Whether what is of a read only export is not changed, and neither what is of an export that is not there.
+fn changes_are_told(alloc: Global) -> Result<bool, AllocError> {
+    Ok(
+        change_fault(alloc, &[WRITABLE])?.is_none()
+            && change_fault(alloc, &[READ_ONLY])? == Some(NfsStatus::ReadOnly)
+            && change_fault(alloc, &[])? == Some(NfsStatus::ReadOnly),
+    )
 }
 
 /// The status of a user that may not give a new object to this owner, or not this size.
@@ -413,12 +441,9 @@ fn gifts_are_told() -> bool {
         && gift_fault(1, None, Some(1_048_577)) == Some(NfsStatus::FileTooBig)
 }
 
-/// What is of an export that is not there is not changed either.
 #[test]
 fn a_read_only_export_is_not_changed(rt: HostRuntime) -> Result<(), AllocError> {
-    assert!(rt; change_fault(rt.alloc(), &[WRITABLE])?.is_none());
-    assert!(rt; change_fault(rt.alloc(), &[READ_ONLY])? == Some(NfsStatus::ReadOnly));
-    assert!(rt; change_fault(rt.alloc(), &[])? == Some(NfsStatus::ReadOnly));
+    assert!(rt; changes_are_told(rt.alloc())?);
     assert!(rt; gifts_are_told());
     Ok(())
 }

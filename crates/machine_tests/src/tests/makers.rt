@@ -436,11 +436,18 @@ fn all_come_true(alloc: Global, cases: &[Case]) -> Result<(), &'static str> {
 }
 
 #[test]
-fn changes_come_true(rt: HostRuntime) -> Result<(), &'static str> {
-    all_come_true(rt.alloc(), &FILES)?;
-    all_come_true(rt.alloc(), &GROUPS)?;
-    all_come_true(rt.alloc(), &NAMES)?;
-    Ok(())
+fn files_are_resized_and_written(rt: HostRuntime) -> Result<(), &'static str> {
+    all_come_true(rt.alloc(), &FILES)
+}
+
+#[test]
+fn what_a_group_uses_is_counted(rt: HostRuntime) -> Result<(), &'static str> {
+    all_come_true(rt.alloc(), &GROUPS)
+}
+
+#[test]
+fn names_are_added_and_taken(rt: HostRuntime) -> Result<(), &'static str> {
+    all_come_true(rt.alloc(), &NAMES)
 }
 
 /// A file that uses more.

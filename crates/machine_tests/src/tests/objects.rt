@@ -153,16 +153,19 @@ fn are(entries: Entries, list: &[Named], lacked: &[u8]) -> bool {
     are
 }
 
+/// Whether an inode, a text and a directory are copied.
+fn are_copied(alloc: Global) -> Result<bool, AllocError> {
+    let text = Content::Link(Bytes::from_static(b"../data"));
+    Ok(
+        is_text(copied(text)?, b"../data")
+            && is_marked(copied(marked())?)
+            && has_two(copied(directory(two(alloc)?, 4))?),
+    )
+}
+
 #[test]
 fn a_copy_is_the_same(rt: HostRuntime) -> Result<(), AllocError> {
-    assert!(rt; is_marked(copied(marked())?));
-    assert!(rt;
-        is_text(
-            copied(Content::Link(Bytes::from_static(b"../data")))?,
-            b"../data"
-        )
-    );
-    assert!(rt; has_two(copied(directory(two(rt.alloc())?, 4))?));
+    assert!(rt; are_copied(rt.alloc())?);
     assert!(rt; are(copied(two(rt.alloc())?)?, &[A, B], b"ab"));
     Ok(())
 }

@@ -231,16 +231,21 @@ fn finds_each(alloc: Global) -> Result<bool, AllocError> {
     Ok(are_new? && finds_each)
 }
 
+/// Whether a view shows what was read, also with more room. Where the room is refused it is handed back as it was.
+fn shows_what_was_read(alloc: Global) -> Result<bool, AllocError> {
+    let shown = showed_fifo(viewed(alloc, fifo(0o600), Beside::Nothing)?);
+    Ok(shown && showed_fifo(roomier(viewed(alloc, fifo(0o600), Beside::Nothing)?)))
+}
+
+/// Room for two numbers takes an address and a number with no memory. Beyond what is searched one by one each entry is
+/// still found, and stands where it was added.
+fn shows_what_was_added(alloc: Global) -> Result<bool, AllocError> {
+    Ok(grows(alloc)? && has_both(taken_view(alloc)?) && finds_each(alloc)?)
+}
+
 #[test]
 fn a_view_shows_what_was_added(rt: HostRuntime) -> Result<(), AllocError> {
-    assert!(rt; showed_fifo(viewed(rt.alloc(), fifo(0o600), Beside::Nothing)?));
-    // Where the room is refused the view is handed back as it was.
-    assert!(rt; showed_fifo(roomier(viewed(rt.alloc(), fifo(0o600), Beside::Nothing)?)));
-    // A number to give is known to be free.
-    assert!(rt; grows(rt.alloc())?);
-    // Room for two numbers takes an address and a number with no memory.
-    assert!(rt; has_both(taken_view(rt.alloc())?));
-    // Beyond what is searched one by one each entry is still found, and stands where it was added.
-    assert!(rt; finds_each(rt.alloc())?);
+    assert!(rt; shows_what_was_read(rt.alloc())?);
+    assert!(rt; shows_what_was_added(rt.alloc())?);
     Ok(())
 }
