@@ -29,9 +29,9 @@ fn is_wanted(alloc: Global, modes: Modes<'_>, address: Addr, mode: Mode) -> bool
     wanted == mode && asks
 }
 
-/// Whether what was not read is asked for: what may be changed alone.
-fn are_wanted(alloc: Global) -> bool {
-    for (modes, address, mode) in [
+/// The first row in which what was not read is not asked for so: what may be changed alone.
+fn first_not_asked_for(alloc: Global) -> Option<usize> {
+    let rows = [
         (READING, Addr::Exports, Mode::Shared),
         (READING, Addr::Inode(1), Mode::Shared),
         (READING, Addr::Inode(9), Mode::Shared),
@@ -42,12 +42,13 @@ fn are_wanted(alloc: Global) -> bool {
         (MOUNTING, Addr::Exports, Mode::Shared),
         (MOUNTING, Addr::Inode(9), Mode::Shared),
         (MOUNTING, Addr::Mounts, Mode::Exclusive),
-    ] {
-        if !is_wanted(alloc, modes, address, mode) {
-            return false;
+    ];
+    for (row, (modes, address, mode)) in rows.iter().enumerate() {
+        if !is_wanted(alloc, *modes, *address, *mode) {
+            return Some(row);
         }
     }
-    true
+    None
 }
 
 /// Whether a draft asks for both tables, for that of mounts in this mode.
@@ -69,7 +70,7 @@ fn asks_for_tables(alloc: Global, modes: Modes<'_>, mode: Mode) -> bool {
 
 #[test]
 fn a_draft_asks_for_what_was_not_read(rt: HostRuntime) {
-    assert!(rt; are_wanted(rt.alloc()));
+    assert_eq!(rt; first_not_asked_for(rt.alloc()), None);
     assert!(rt; asks_for_tables(rt.alloc(), READING, Mode::Shared));
     assert!(rt; asks_for_tables(rt.alloc(), MOUNTING, Mode::Exclusive));
 }

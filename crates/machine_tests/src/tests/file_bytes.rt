@@ -106,13 +106,14 @@ const CASES: [Case; 5] = [
     },
 ];
 
-fn all_come_true(alloc: Global) -> Result<bool, AllocError> {
-    for case in &CASES {
+/// The first of the cases that does not come to what it says.
+fn first_wrong_case(alloc: Global) -> Result<Option<usize>, AllocError> {
+    for (row, case) in CASES.iter().enumerate() {
         if !comes_to(alloc, case)? {
-            return Ok(false);
+            return Ok(Some(row));
         }
     }
-    Ok(true)
+    Ok(None)
 }
 
 /// Whether both come to the same bytes.
@@ -125,21 +126,22 @@ fn are_same(alloc: Global, edits: &[Edit], others: &[Edit]) -> Result<bool, Allo
     Ok(are_same)
 }
 
-/// Whether a file that was longer is the same as one that was not, where it is cut off to the same size.
-fn sizes_are_told(alloc: Global) -> Result<bool, AllocError> {
+/// The first size of which this is wrong: a file that was longer is the same as one that was not, just where it is cut
+/// off to the same size.
+fn first_wrong_size(alloc: Global) -> Result<Option<usize>, AllocError> {
     for (size, want) in [(65_542, true), (65_541, false), (65_543, false)] {
         let edits = [ACROSS, Edit::Written(262_143, b"xy"), Edit::Resized(size)];
         if are_same(alloc, &edits, &[ACROSS])? != want {
-            return Ok(false);
+            return Ok(Some(size));
         }
     }
-    Ok(true)
+    Ok(None)
 }
 
 #[test]
 fn bytes_lie_across_parts(rt: HostRuntime) -> Result<(), AllocError> {
-    assert!(rt; all_come_true(rt.alloc())?);
+    assert_eq!(rt; first_wrong_case(rt.alloc())?, None);
     // The same bytes are equal, however they were made.
-    assert!(rt; sizes_are_told(rt.alloc())?);
+    assert_eq!(rt; first_wrong_size(rt.alloc())?, None);
     Ok(())
 }

@@ -169,9 +169,10 @@ fn an_object_is_shown_by_its_kind(rt: HostRuntime) -> Result<(), AllocError> {
     Ok(())
 }
 
-/// The owner is user 5, its group is 6, and the kind of the object does not matter to rights.
-fn rights_are_bits_of_one_class() -> bool {
-    for (uid, gid, mode, right, want) in [
+/// The first row in which a right is not told so. The owner is user 5, its group is 6, and the kind of the object does
+/// not matter to rights.
+fn first_wrong_right() -> Option<usize> {
+    let rows = [
         (5, 1, 0o077, Right::ToSearch, false),
         (5, 1, 0o077, Right::ToList, false),
         (5, 1, 0o577, Right::ToChange, false),
@@ -185,13 +186,14 @@ fn rights_are_bits_of_one_class() -> bool {
         (1, 1, 0o002, Right::ToChange, false),
         (0, 1, 0o000, Right::ToSearch, true),
         (0, 1, 0o000, Right::ToChange, true),
-    ] {
-        let known = known(FileType::Directory, mode);
-        if may(&caller(uid, gid), &known, right) != want {
-            return false;
+    ];
+    for (row, (uid, gid, mode, right, want)) in rows.iter().enumerate() {
+        let known = known(FileType::Directory, *mode);
+        if may(&caller(*uid, *gid), &known, *right) != *want {
+            return Some(row);
         }
     }
-    true
+    None
 }
 
 /// The status of a user that may not write a file of this mode.
@@ -204,8 +206,8 @@ fn write_fault(user: u32, mode: u32) -> Option<NfsStatus> {
 
 /// A right that is wanting is told.
 #[test]
-fn rights_to_a_directory_are_bits_of_one_class(rt: HostRuntime) {
-    assert!(rt; rights_are_bits_of_one_class());
+fn rights_are_bits_of_one_class(rt: HostRuntime) {
+    assert_eq!(rt; first_wrong_right(), None);
     assert!(rt; write_fault(6, 0o064).is_none());
     assert!(rt; write_fault(1, 0o064) == Some(NfsStatus::Access));
 }
@@ -241,18 +243,24 @@ fn new_name_fault(name: &[u8]) -> Option<NfsStatus> {
     plain_name_checked(NfsStatus::Exists, NfsStatus::NotEmpty, name).err()
 }
 
-fn names_are_told() -> bool {
-    for (name, want) in [
+/// The first row in which a new name is not judged so.
+fn first_wrong_name() -> Option<usize> {
+    let rows = [
         (b".".as_slice(), Some(NfsStatus::Exists)),
         (b"..", Some(NfsStatus::NotEmpty)),
         (b"...", None),
         (b".a", None),
-    ] {
-        if new_name_fault(name) != want {
-            return false;
+    ];
+    for (row, (name, want)) in rows.iter().enumerate() {
+        if new_name_fault(name) != *want {
+            return Some(row);
         }
     }
-    // A name has no NUL.
+    None
+}
+
+/// Whether a name has no NUL.
+fn names_have_no_nul() -> bool {
     name_checked(b"a\0") == Err(NfsStatus::Access) && name_checked(b"a\\b c") == Ok(())
 }
 
@@ -261,7 +269,8 @@ fn kinds_and_names_are_checked(rt: HostRuntime) {
     assert!(rt; kinds_are_told());
     assert!(rt; verifiers_are_told());
     assert!(rt; writes_are_told());
-    assert!(rt; names_are_told());
+    assert_eq!(rt; first_wrong_name(), None);
+    assert!(rt; names_have_no_nul());
 }
 
 /// Directory 9 below directory 1, in which `a` leads to 7, with this greatest cookie.
@@ -442,7 +451,7 @@ fn gifts_are_told() -> bool {
 }
 
 #[test]
-fn a_read_only_export_is_not_changed(rt: HostRuntime) -> Result<(), AllocError> {
+fn changes_and_gifts_are_judged(rt: HostRuntime) -> Result<(), AllocError> {
     assert!(rt; changes_are_told(rt.alloc())?);
     assert!(rt; gifts_are_told());
     Ok(())

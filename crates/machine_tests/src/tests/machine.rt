@@ -32,8 +32,8 @@ fn is_read_only(exports: &Exports, number: u32) -> Option<bool> {
     }
 }
 
-/// Whether `TWO` have the numbers 1 and 2, and each admits its hosts.
-fn are_two(exports: &Exports) -> bool {
+/// The first number of an export of `TWO` that is not told so: they have the numbers 1 and 2, and each admits its hosts.
+fn first_wrong_export(exports: &Exports) -> Option<u32> {
     for (number, read_only, admits_first, admits_second) in [
         (0, None, false, false),
         (1, Some(false), true, true),
@@ -44,22 +44,22 @@ fn are_two(exports: &Exports) -> bool {
             || admits(exports, number, b"10.0.0.1") != admits_first
             || admits(exports, number, b"10.0.0.2") != admits_second
         {
-            return false;
+            return Some(number);
         }
     }
-    exports.list().len() == 2
+    None
 }
 
-/// The same of exports that are dropped.
-fn were_two(exports: Exports) -> bool {
-    let are_two = are_two(&exports);
+/// How many there are, and the same of exports that are dropped.
+fn told(exports: Exports) -> (usize, Option<u32>) {
+    let told = (exports.list().len(), first_wrong_export(&exports));
     drop(exports);
-    are_two
+    told
 }
 
 #[test]
 fn exports_are_numbered_from_1(rt: HostRuntime) -> Result<(), AllocError> {
-    assert!(rt; were_two(given_exports(rt.alloc(), &TWO)?));
+    assert_eq!(rt; told(given_exports(rt.alloc(), &TWO)?), (2, None));
     Ok(())
 }
 
@@ -85,8 +85,8 @@ const EMPTY: Given = Given {
     hosts: &[],
 };
 
-/// Whether a path that is no parts led by slashes is told before an empty mode.
-fn bad_paths_are_told(alloc: Global) -> Result<bool, AllocError> {
+/// The first of these paths that is no fault: none is parts led by slashes. A path is told before an empty mode.
+fn first_path_taken(alloc: Global) -> Result<Option<&'static [u8]>, AllocError> {
     for path in [
         b"".as_slice(),
         b"a",
@@ -99,10 +99,10 @@ fn bad_paths_are_told(alloc: Global) -> Result<bool, AllocError> {
     ] {
         let list = [ROOT, Given { path, ..EMPTY }];
         if !is_fault(alloc, &list, Some(ExportError::BadPath(2)))? {
-            return Ok(false);
+            return Ok(Some(path));
         }
     }
-    Ok(true)
+    Ok(None)
 }
 
 /// `/a`, for every host.
@@ -140,7 +140,7 @@ fn other_faults_are_told(alloc: Global) -> Result<bool, AllocError> {
 /// 65 exports that are at fault each are told before all.
 #[test]
 fn the_first_fault_of_an_export_is_told(rt: HostRuntime) -> Result<(), AllocError> {
-    assert!(rt; bad_paths_are_told(rt.alloc())?);
+    assert_eq!(rt; first_path_taken(rt.alloc())?, None);
     assert!(rt; other_faults_are_told(rt.alloc())?);
     assert!(rt; is_fault(rt.alloc(), &[EMPTY; 65], Some(ExportError::TooMany))?);
     Ok(())
@@ -153,7 +153,8 @@ fn has_text(alloc: Global, fault: ExportError, want: &str) -> Result<bool, Fail>
     Ok(has_text)
 }
 
-fn have_texts(alloc: Global) -> Result<bool, Fail> {
+/// The first of these texts that is not that of its fault.
+fn first_wrong_text(alloc: Global) -> Result<Option<&'static str>, Fail> {
     for (fault, want) in [
         (ExportError::BadPath(1), "export 1: bad path"),
         (ExportError::BadMode(2), "export 2: bad mode"),
@@ -163,15 +164,15 @@ fn have_texts(alloc: Global) -> Result<bool, Fail> {
         (ExportError::TooMany, "too many exports"),
     ] {
         if !has_text(alloc, fault, want)? {
-            return Ok(false);
+            return Ok(Some(want));
         }
     }
-    Ok(true)
+    Ok(None)
 }
 
 #[test]
 fn each_fault_has_a_text(rt: HostRuntime) -> Result<(), Fail> {
-    assert!(rt; have_texts(rt.alloc())?);
+    assert_eq!(rt; first_wrong_text(rt.alloc())?, None);
     Ok(())
 }
 

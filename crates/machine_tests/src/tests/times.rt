@@ -18,21 +18,23 @@ fn call_time() -> Time {
     now
 }
 
-/// Whether a change has the time of its call, and is later where the last one had that too. The greatest time stays.
-fn changes_are_later() -> bool {
+/// The first row in which a change has another time: it has that of its call, and is later where the last one had that
+/// too. The greatest time stays.
+fn first_wrong_change() -> Option<usize> {
     let now = call_time();
-    for (last, want) in [
+    let rows = [
         ((999, 5), (1000, 0)),
         ((1000, 0), (1000, 1)),
         ((2000, 7), (2000, 8)),
         ((1000, 999_999_999), (1001, 0)),
         ((u32::MAX, 999_999_999), (u32::MAX, 999_999_999)),
-    ] {
+    ];
+    for (row, (last, want)) in rows.iter().enumerate() {
         if touch(time(last.0, last.1), now) != time(want.0, want.1) {
-            return false;
+            return Some(row);
         }
     }
-    now == TIME
+    None
 }
 
 /// Whether a time is left, or set to that of the server or of the client.
@@ -45,7 +47,8 @@ fn times_are_set() -> bool {
 
 #[test]
 fn a_change_is_later_than_the_last(rt: HostRuntime) {
-    assert!(rt; changes_are_later());
+    assert!(rt; call_time() == TIME);
+    assert_eq!(rt; first_wrong_change(), None);
     assert!(rt; times_are_set());
     // A time of the client has less than a second of nanoseconds.
     assert!(rt; is_time(SetTime::ToServer));

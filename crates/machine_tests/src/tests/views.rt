@@ -9,19 +9,20 @@ use nfs_objects::object::{living, mount_table};
 use nfs_objects::{Modes, RoomyView};
 use nfs_wire::{Place, RenameArguments};
 
-/// Whether what is held alone may be used in each mode, and else as it is held.
-fn modes_cover() -> bool {
-    for (held, wanted, want) in [
+/// The first row that is not so: what is held alone may be used in each mode, and else as it is held.
+fn first_wrong_cover() -> Option<usize> {
+    let rows = [
         (Mode::Shared, Mode::Shared, true),
         (Mode::Shared, Mode::Exclusive, false),
         (Mode::Exclusive, Mode::Shared, true),
         (Mode::Exclusive, Mode::Exclusive, true),
-    ] {
-        if covers(held, wanted) != want {
-            return false;
+    ];
+    for (row, (held, wanted, want)) in rows.iter().enumerate() {
+        if covers(*held, *wanted) != *want {
+            return Some(row);
         }
     }
-    true
+    None
 }
 
 /// A name in directory 9.
@@ -43,33 +44,36 @@ fn held(view: &View, number: u64) -> Mode {
     mode
 }
 
-/// How it holds these with a view that is dropped.
-fn are_held(view: View, list: &[(u64, Mode)]) -> bool {
-    let are_held = are_held_in(&view, list);
+/// The first of these numbers that it holds in another mode, with a view that is dropped.
+fn first_held_else(view: View, list: &[(u64, Mode)]) -> Option<u64> {
+    let first = first_held_else_in(&view, list);
     drop(view);
-    are_held
+    first
 }
 
-fn are_held_in(view: &View, list: &[(u64, Mode)]) -> bool {
+fn first_held_else_in(view: &View, list: &[(u64, Mode)]) -> Option<u64> {
     for (number, mode) in list {
         if held(view, *number) != *mode {
-            return false;
+            return Some(*number);
         }
     }
-    true
+    None
 }
 
 /// RENAME shares what lies at neither name.
 #[test]
 fn objects_are_held_as_they_are_used(rt: HostRuntime) -> Result<(), AllocError> {
-    assert!(rt; modes_cover());
+    assert_eq!(rt; first_wrong_cover(), None);
     let held = [
         (9, Mode::Exclusive),
         (7, Mode::Exclusive),
         (5, Mode::Shared),
     ];
-    assert!(rt; are_held(place(rt.alloc(), 3)?, &held));
-    assert!(rt; are_held(View::new(rt.alloc()), &[(5, Mode::Exclusive)]));
+    assert_eq!(rt; first_held_else(place(rt.alloc(), 3)?, &held), None);
+    assert_eq!(rt;
+        first_held_else(View::new(rt.alloc()), &[(5, Mode::Exclusive)]),
+        None
+    );
     Ok(())
 }
 
