@@ -1,5 +1,6 @@
-//! Whole streams through a server of `/data` for every host, started with number 7 at (1000, 0), where every moment is
-//! (1000, 0). Calls and replies are worked out by hand from RFC 5531, sections 9 and 11, and RFC 1813.
+//! Whole streams, where a file says nothing else through a server of `/data` for every host, started with number 7 at
+//! (1000, 0), where every moment is (1000, 0). Calls and replies are worked out by hand from RFC 5531, sections 8, 9 and
+//! 11, and RFC 1813.
 
 ghost use Rattle.std.specs.Prelude.{IfOk};
 ghost use Rattle.nfs_schedule.specs.Worlds.{IsAtRest};
@@ -16,10 +17,12 @@ mod fsstat;
 mod handles;
 mod links;
 mod lookup;
+mod moments;
 mod mounts;
 mod names;
 mod new_objects;
 mod pages;
+mod paths;
 mod permission;
 mod read_and_write;
 mod readers_and_writers;
@@ -164,6 +167,18 @@ fn opened_as(alloc: Global, mode: &'static [u8]) -> Result<Engine, AllocError>
 fn opened_with(alloc: Global, exports: Exports, capacity: u64) -> Result<Engine, AllocError>
     ensures { IfOk result IsAtRest }
 {
+    opened_for(alloc, exports, capacity, 65_536)
+}
+
+/// The same engine, whose eras have so many records.
+fn opened_for(
+    alloc: Global,
+    exports: Exports,
+    capacity: u64,
+    era_records: u64,
+) -> Result<Engine, AllocError>
+    ensures { IfOk result IsAtRest }
+{
     let config = Config {
         exports,
         start: 7,
@@ -175,7 +190,7 @@ fn opened_with(alloc: Global, exports: Exports, capacity: u64) -> Result<Engine,
         limits: Limits {
             total_bytes: 1 << 40,
         },
-        era_records: 65_536,
+        era_records,
     };
     match Engine::new(alloc, config) {
         Ok(engine) => Ok(engine),
@@ -212,6 +227,18 @@ fn answers_as(
     input: &[u8],
 ) -> Result<(Vec<u8>, Result<Served, StreamFault>), AllocError> {
     let mut engine = opened_as(alloc, mode)?;
+    let mut writer = Counted::new(Vec::new(alloc));
+    let end = serve(alloc, &mut engine, &mut Counted::new(input), &mut writer);
+    Ok((writer.into_inner(), end))
+}
+
+/// What a new server whose eras have so many records writes for this input, and how serving it ends.
+fn answers_in_eras(
+    alloc: Global,
+    era_records: u64,
+    input: &[u8],
+) -> Result<(Vec<u8>, Result<Served, StreamFault>), AllocError> {
+    let mut engine = opened_for(alloc, exports(alloc, b"rw")?, 1024, era_records)?;
     let mut writer = Counted::new(Vec::new(alloc));
     let end = serve(alloc, &mut engine, &mut Counted::new(input), &mut writer);
     Ok((writer.into_inner(), end))

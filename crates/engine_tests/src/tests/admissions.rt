@@ -79,7 +79,7 @@ fn has_answer(faulted: Faulted, answer: Option<&[u8]>) -> bool {
     is_answer
 }
 
-/// Whether the record of these words has a fault with this answer, and the call of none begins.
+/// Whether the record of these words has a fault with this answer, and no call begins.
 fn is_early(
     rt: &(impl Abort + AllocGlobal),
     engine: &mut Engine,

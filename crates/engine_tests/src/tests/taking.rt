@@ -59,7 +59,9 @@ fn shared_waits_for_exclusive(rt: HostRuntime) -> Result<(), Fail> {
     let mut beside = Beside::begun(&rt, engine, &GETATTR, &GETATTR);
     assert!(rt; beside.first_asks(&rt, ROOT, Mode::Exclusive) == Got::Yes);
     assert!(rt; beside.second_asks(&rt, ROOT, Mode::Shared) == Got::Taken(0));
-    close(&rt, beside.end(&rt));
+    let mut second = beside.end_first(&rt);
+    assert!(rt; second.asks(&rt, ROOT, Mode::Shared) == Got::Yes);
+    close(&rt, second.end(&rt));
     Ok(())
 }
 

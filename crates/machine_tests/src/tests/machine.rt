@@ -32,7 +32,8 @@ fn is_read_only(exports: &Exports, number: u32) -> Option<bool> {
     }
 }
 
-/// The first number of an export of `TWO` that is not told so: they have the numbers 1 and 2, and each admits its hosts.
+/// The first number of an export of `TWO` that is not told so: they have the numbers 1 and 2, and each admits its
+/// hosts.
 fn first_wrong_export(exports: &Exports) -> Option<u32> {
     for (number, read_only, admits_first, admits_second) in [
         (0, None, false, false),
@@ -225,6 +226,7 @@ fn a_call_is_refused_by_its_own_status(rt: HostRuntime) {
         )
     );
     assert!(rt; is_refused(Call::Nfs(NfsCall::Null), Refusal::SystemError));
+    assert!(rt; is_refused(Call::Mount(MountCall::Dump), Refusal::SystemError));
     assert!(rt;
         is_refused(
             Call::Nlm(NlmCall::FreeAll(FreeAllArguments {

@@ -38,7 +38,7 @@ const CHANGED_NEVER: [u32; 8] = [0, 0, 0, 0, 0, 2, 5, 1_000_000_000];
 
 /// The guard is the time of the last change: its nanoseconds, and its seconds.
 #[test]
-fn guards(rt: HostRuntime) -> Result<(), Fail> {
+fn a_guard_that_differs_is_told(rt: HostRuntime) -> Result<(), Fail> {
     const WRITTEN: Shown = Shown {
         size: 3,
         used: 0x1000,
@@ -95,7 +95,7 @@ fn guards(rt: HostRuntime) -> Result<(), Fail> {
 
 /// The exclusive CREATE of a file is not known again behind its SETATTR.
 #[test]
-fn exclusive_files(rt: HostRuntime) -> Result<(), Fail> {
+fn a_setattr_ends_an_exclusive_create(rt: HostRuntime) -> Result<(), Fail> {
     const SET: Shown = Shown {
         mode: 0o600,
         changed: 1,
@@ -121,7 +121,7 @@ fn exclusive_files(rt: HostRuntime) -> Result<(), Fail> {
 
 /// A file is cut off, and filled up with zeros; its times change, of the same size too.
 #[test]
-fn sizes(rt: HostRuntime) -> Result<(), Fail> {
+fn a_size_cuts_off_or_fills_up(rt: HostRuntime) -> Result<(), Fail> {
     const CUT: Object = Sized(3, 0x1000, 2);
     const FILLED: Object = Sized(6, 0x1000, 3);
     const SAME: Object = Sized(6, 0x1000, 4);
@@ -181,7 +181,7 @@ fn times_of_files(rt: HostRuntime) -> Result<(), Fail> {
 
 /// Of a mode 12 bits are kept. User 0 gives objects to any user and group, the root too.
 #[test]
-fn attributes(rt: HostRuntime) -> Result<(), Fail> {
+fn user_0_gives_objects_to_anyone(rt: HostRuntime) -> Result<(), Fail> {
     const GIVEN: Shown = Shown {
         mode: 0o7600,
         uid: 8,
@@ -421,76 +421,61 @@ fn rights_of_owners(rt: HostRuntime) -> Result<(), Fail> {
     )
 }
 
-/// A directory needs r for its names, x to be searched, and both w and x to be changed, for its owner too.
-/// The root is given to user 100 with one mode after the other, and others are granted these rights to it.
+/// The modes that the root is given one after the other, as user 100's, and the rights that others then have to it: r for
+/// its names, x to search it, and both w and x to change it.
+const ROOT_MODES: [(u32, u32); 7] = [
+    (0o770, 0),
+    (0o774, 1),
+    (0o771, 2),
+    (0o772, 0),
+    (0o773, 30),
+    (0o775, 3),
+    (0o077, 31),
+];
+
+/// The root is given to user 100 with this mode, as its next change, and user 9 is granted these rights to it.
+fn grants_others(
+    script: &mut Script,
+    old: Shown,
+    mode: u32,
+    granted: u32,
+) -> Result<Shown, AllocError> {
+    let new = Shown {
+        mode,
+        uid: 100,
+        changed: old.changed.wrapping_add(1),
+        ..old
+    };
+    script.caller = USER_0;
+    script.call(SETATTR, &ROOT, &[1, mode, 1, 100, 0, 0, 0, 0], &[0])?;
+    script.answer(&[NFS3_OK], &old.before(), &new.after(), &[])?;
+    grants_to(script, new, 9, granted)?;
+    Ok(new)
+}
+
+/// A user is granted these rights of all six to the root.
+fn grants_to(script: &mut Script, root: Shown, uid: u32, granted: u32) -> Result<(), AllocError> {
+    script.caller = user(uid, 9);
+    script.call(ACCESS, &ROOT, &[63], &[])?;
+    script.answer(&[NFS3_OK], &root.after(), &[granted], &[])
+}
+
+/// With the last mode its owner has no right, and user 0 has all but that to execute it.
+fn grants_rights_to_the_root(script: &mut Script) -> Result<(), AllocError> {
+    let mut shown = root(2, 0);
+    grants_to(script, shown, 0, 31)?;
+    for (mode, granted) in ROOT_MODES {
+        shown = grants_others(script, shown, mode, granted)?;
+    }
+    grants_to(script, shown, 100, 0)?;
+    grants_to(script, shown, 0, 31)
+}
+
 #[test]
 fn rights_to_directories(rt: HostRuntime) -> Result<(), Fail> {
-    follows(
-        &rt,
-        &[
-            Grants(&Root(2, 0), 63, 31),
-            By(0, 0),
-            Sets(
-                &Root(2, 0),
-                &Given(0o770, 1),
-                Words(&[1, 0o770, 1, 100, 0, 0, 0, 0]),
-            ),
-            By(9, 9),
-            Grants(&Given(0o770, 1), 63, 0),
-            By(0, 0),
-            Sets(
-                &Given(0o770, 1),
-                &Given(0o774, 2),
-                Words(&[1, 0o774, 1, 100, 0, 0, 0, 0]),
-            ),
-            By(9, 9),
-            Grants(&Given(0o774, 2), 63, 1),
-            By(0, 0),
-            Sets(
-                &Given(0o774, 2),
-                &Given(0o771, 3),
-                Words(&[1, 0o771, 1, 100, 0, 0, 0, 0]),
-            ),
-            By(9, 9),
-            Grants(&Given(0o771, 3), 63, 2),
-            By(0, 0),
-            Sets(
-                &Given(0o771, 3),
-                &Given(0o772, 4),
-                Words(&[1, 0o772, 1, 100, 0, 0, 0, 0]),
-            ),
-            By(9, 9),
-            Grants(&Given(0o772, 4), 63, 0),
-            By(0, 0),
-            Sets(
-                &Given(0o772, 4),
-                &Given(0o773, 5),
-                Words(&[1, 0o773, 1, 100, 0, 0, 0, 0]),
-            ),
-            By(9, 9),
-            Grants(&Given(0o773, 5), 63, 30),
-            By(0, 0),
-            Sets(
-                &Given(0o773, 5),
-                &Given(0o775, 6),
-                Words(&[1, 0o775, 1, 100, 0, 0, 0, 0]),
-            ),
-            By(9, 9),
-            Grants(&Given(0o775, 6), 63, 3),
-            By(0, 0),
-            Sets(
-                &Given(0o775, 6),
-                &Given(0o077, 7),
-                Words(&[1, 0o077, 1, 100, 0, 0, 0, 0]),
-            ),
-            By(9, 9),
-            Grants(&Given(0o077, 7), 63, 31),
-            By(100, 9),
-            Grants(&Given(0o077, 7), 63, 0),
-            By(0, 0),
-            Grants(&Given(0o077, 7), 63, 31),
-        ],
-    )
+    let mut script = Script::new(rt.alloc());
+    grants_rights_to_the_root(&mut script)?;
+    script.is_followed(&rt)
 }
 
 /// A link to `x`.
@@ -504,7 +489,7 @@ const LINK_TO_X: Shown = Shown {
 
 /// The text of a link, which all may read. A link gets no size, but a mode.
 #[test]
-fn links(rt: HostRuntime) -> Result<(), Fail> {
+fn a_link_has_a_text_and_no_size(rt: HostRuntime) -> Result<(), Fail> {
     const CLOSED: Shown = Shown {
         mode: 0,
         changed: 1,
@@ -541,9 +526,9 @@ fn links(rt: HostRuntime) -> Result<(), Fail> {
     )
 }
 
-/// Files alone, but by all, even where none may read them.
+/// COMMIT is done by any caller, also where none may read the file.
 #[test]
-fn commits_of_files(rt: HostRuntime) -> Result<(), Fail> {
+fn files_alone_are_committed(rt: HostRuntime) -> Result<(), Fail> {
     follows(
         &rt,
         &[
@@ -565,7 +550,7 @@ const FILE_SYSTEM: [u32; 12] = [
 /// 32,000 links, names of 255 bytes, longer ones refused, files not given away, case told apart and kept.
 const PATHS: [u32; 6] = [32_000, 255, 1, 1, 0, 1];
 
-/// By whom the object may not be read.
+/// User 9, who may not read the file, is told all the same.
 #[test]
 fn file_systems(rt: HostRuntime) -> Result<(), Fail> {
     follows(

@@ -171,9 +171,8 @@ fn a_read_only_export_gets_no_file(rt: HostRuntime) -> Result<(), Fail> {
     )
 }
 
-/// A name of 256 bytes.
 #[test]
-fn a_new_name_may_be_too_long(rt: HostRuntime) -> Result<(), Fail> {
+fn a_new_name_of_256_bytes_is_refused(rt: HostRuntime) -> Result<(), Fail> {
     follows(
         &rt,
         &[Refuses(
@@ -206,6 +205,73 @@ fn a_file_has_no_names(rt: HostRuntime) -> Result<(), Fail> {
             OnNew,
             Call(CREATE, &FILE, &X, &GUARDED),
             Answer(NFS3ERR_NOTDIR, &Both(Stays(Told(NEW))), &[]),
+        ],
+    )
+}
+
+/// What is given besides a size is not looked at: a mode, another user and group, and a time of 10^9 nanoseconds.
+#[test]
+fn an_unchecked_file_is_given_nothing_else(rt: HostRuntime) -> Result<(), Fail> {
+    const GIVEN: [u32; 14] = [0, 1, 0o600, 1, 5, 1, 5, 0, 2, 5, 1_000_000_000, 2, 5, 6];
+    follows(
+        &rt,
+        &[
+            OnMode(0o640),
+            By(100, 200),
+            Makes(CREATE, &Stays(Root(2, 1)), &X, &GIVEN, &Owned(0o640)),
+        ],
+    )
+}
+
+/// Mode 0600 and 3 bytes for `hello`; then a size above the greatest, for its owner and for another user.
+#[test]
+fn an_unchecked_file_is_cut_off(rt: HostRuntime) -> Result<(), Fail> {
+    const LARGE: [u32; 9] = [0, 0, 0, 0, 1, 0, 1_048_577, 0, 0];
+    const SHORTER: Shown = Shown {
+        size: 3,
+        modified: 2,
+        changed: 2,
+        ..HELLO
+    };
+    follows(
+        &rt,
+        &[
+            OnHello,
+            Makes(
+                CREATE,
+                &Stays(Root(2, 1)),
+                &X,
+                &[0, 1, 0o600, 0, 0, 1, 0, 3, 0, 0],
+                &Told(SHORTER),
+            ),
+            Reads(&Told(SHORTER), &[3, 1, 3, 0x68656c00]),
+            Refuses(CREATE, &Root(2, 1), &X, &LARGE, NFS3ERR_FBIG),
+            By(9, 9),
+            Refuses(CREATE, &Root(2, 1), &X, &LARGE, NFS3ERR_ACCES),
+        ],
+    )
+}
+
+/// Verifier 1 stays with a file that is given a size.
+#[test]
+fn a_size_leaves_the_verifier(rt: HostRuntime) -> Result<(), Fail> {
+    const LATER: Shown = Shown {
+        modified: 1,
+        changed: 1,
+        ..NEW
+    };
+    follows(
+        &rt,
+        &[
+            Makes(
+                CREATE,
+                &Becomes(Root(2, 0), Root(2, 1)),
+                &X,
+                &[2, 0, 1],
+                &Told(NEW),
+            ),
+            Makes(CREATE, &Stays(Root(2, 1)), &X, &EMPTIED, &Told(LATER)),
+            Makes(CREATE, &Stays(Root(2, 1)), &X, &[2, 0, 1], &Told(LATER)),
         ],
     )
 }

@@ -85,3 +85,13 @@ fn a_credential_of_401_bytes_is_not_answered(rt: HostRuntime) -> Result<(), Fail
     credential[1] = 401;
     is_answered(&rt, &credential, &[])
 }
+
+/// 8 bytes behind the groups.
+#[test]
+fn what_stands_behind_the_groups_is_passed_over(rt: HostRuntime) -> Result<(), Fail> {
+    is_answered(
+        &rt,
+        &[1, 28, 0, 0, 0, 0, 0, 0xffffffff, 0xffffffff],
+        &GETATTR_REPLY,
+    )
+}

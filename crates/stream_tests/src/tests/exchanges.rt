@@ -20,8 +20,6 @@ pub(super) enum Object {
     Sized(u32, u32, u32),
     /// The new file of user 100 and group 200 with this mode.
     Owned(u32),
-    /// The root that was given to user 100, with this mode, and the nanoseconds of that.
-    Given(u32, u32),
     /// An object of which this is told.
     Told(Shown),
 }
@@ -42,12 +40,6 @@ impl Object {
                 ..NEW.at(changed)
             },
             Object::Owned(mode) => owned_file(mode),
-            Object::Given(mode, changed) => Shown {
-                mode,
-                uid: 100,
-                changed,
-                ..root(2, 0)
-            },
             Object::Told(shown) => shown,
         }
     }
@@ -139,6 +131,8 @@ pub(super) enum Exchange {
     Links(&'static Object, &'static Effect, &'static [u32], u32),
     /// The last record comes again, byte for byte, and has the same reply again.
     ComesAgain,
+    /// MNT of a path, and its results.
+    Mounts(&'static [u32], &'static [u32]),
     /// RENAME of a name in a directory to a name in this or another, and the status.
     Renames(&'static Effect, &'static [u32], &'static Effect, &'static [u32], u32),
 }
@@ -157,6 +151,17 @@ pub(super) fn follows_as(
     let mut script = Script::new(rt.alloc());
     add_all(&mut script, exchanges)?;
     script.is_followed_as(rt, mode)
+}
+
+/// A new server whose eras have so many records gives these replies to these calls.
+pub(super) fn follows_in_eras(
+    rt: &(impl Abort + AllocGlobal),
+    era_records: u64,
+    exchanges: &[Exchange],
+) -> Result<(), Fail> {
+    let mut script = Script::new(rt.alloc());
+    add_all(&mut script, exchanges)?;
+    script.is_followed_in_eras(rt, era_records)
 }
 
 fn add_all(script: &mut Script, exchanges: &[Exchange]) -> Result<(), AllocError> {
@@ -205,6 +210,7 @@ fn add(script: &mut Script, exchange: &Exchange) -> Result<(), AllocError> {
             links(script, object, within, name, *status)
         }
         Exchange::ComesAgain => script.comes_again(),
+        Exchange::Mounts(path, results) => script.mounts(path, results),
         Exchange::Renames(from, name, to, new_name, status) => {
             renames(script, from, name, to, new_name, *status)
         }

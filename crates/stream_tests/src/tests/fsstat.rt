@@ -86,3 +86,66 @@ fn a_stale_handle_has_no_space(rt: HostRuntime) -> Result<(), Fail> {
         ],
     )
 }
+
+/// A file of 65,536 bytes goes again; a directory takes a block, and a FIFO none.
+#[test]
+fn what_goes_is_given_back(rt: HostRuntime) -> Result<(), Fail> {
+    const LARGE: Shown = Shown {
+        size: 0x10000,
+        used: 0x10000,
+        ..NEW
+    };
+    const FIFO: Shown = Shown {
+        kind: NF3FIFO,
+        generation: 3,
+        ..NEW
+    };
+    const WITH_A_FIFO: [u32; 13] = [
+        0x100, 0, 0xff, 0xfffff000, 0xff, 0xfffff000, 0, 0xffffffff, 0, 0xfffffffd, 0, 0xfffffffd,
+        0,
+    ];
+    follows(
+        &rt,
+        &[
+            Makes(
+                CREATE,
+                &Becomes(Root(2, 0), Root(2, 1)),
+                &X,
+                &SIZED,
+                &Told(LARGE),
+            ),
+            Takes(REMOVE, &Becomes(Root(2, 1), Root(2, 2)), &X),
+            Call(FSSTAT, &ROOT, &[], &[]),
+            Answer(NFS3_OK, &After(Root(2, 2)), &WITH_THE_ROOT),
+            Makes(
+                MKNOD,
+                &Becomes(Root(2, 2), Root(2, 3)),
+                &X,
+                &A_FIFO,
+                &Told(FIFO),
+            ),
+            Call(FSSTAT, &ROOT, &[], &[]),
+            Answer(NFS3_OK, &After(Root(2, 3)), &WITH_A_FIFO),
+        ],
+    )
+}
+
+#[test]
+fn a_directory_takes_a_block(rt: HostRuntime) -> Result<(), Fail> {
+    follows(
+        &rt,
+        &[
+            Makes(
+                MKDIR,
+                &Becomes(Root(2, 0), Root(3, 1)),
+                &P,
+                &AS_USUAL,
+                &Directory(2, 2, 0),
+            ),
+            Call(FSSTAT, &ROOT, &[], &[]),
+            Answer(NFS3_OK, &After(Root(3, 1)), &WITH_A_BLOCK),
+            Call(FSSTAT, &CUT, &[], &[]),
+            Answer(NFS3ERR_BADHANDLE, &Nothing, &[0]),
+        ],
+    )
+}

@@ -93,3 +93,36 @@ fn a_file_is_no_directory(rt: HostRuntime) -> Result<(), Fail> {
         ],
     )
 }
+
+/// Neither handle names an object: the first one is told.
+#[test]
+fn the_first_handle_that_names_nothing_is_told(rt: HostRuntime) -> Result<(), Fail> {
+    follows(
+        &rt,
+        &[
+            Call(RENAME, &STALE, &X, &Y_IN_CUT),
+            Answer(NFS3ERR_STALE, &Nothing, &[0, 0, 0, 0]),
+            Call(RENAME, &CUT, &X, &Y_IN_STALE),
+            Answer(NFS3ERR_BADHANDLE, &Nothing, &[0, 0, 0, 0]),
+            Call(LINK, &STALE, &CUT, &Y),
+            Answer(NFS3ERR_STALE, &Nothing, &[0, 0, 0]),
+            Call(LINK, &CUT, &STALE, &Y),
+            Answer(NFS3ERR_BADHANDLE, &Nothing, &[0, 0, 0]),
+        ],
+    )
+}
+
+/// Handles of the root with another mark, with another start number, with another export, with no byte, and with 33.
+#[test]
+fn other_handles_name_nothing(rt: HostRuntime) -> Result<(), Fail> {
+    follows(
+        &rt,
+        &[
+            NamesNothing(&[32, 0x4e464434, 1, 0, 7, 0, 1, 0, 1], NFS3ERR_BADHANDLE),
+            NamesNothing(&[32, 0x4e464433, 1, 0, 8, 0, 1, 0, 1], NFS3ERR_STALE),
+            NamesNothing(&[32, 0x4e464433, 2, 0, 7, 0, 1, 0, 1], NFS3ERR_STALE),
+            NamesNothing(&[0], NFS3ERR_BADHANDLE),
+            NamesNothing(&[33, 0x4e464433, 1, 0, 7, 0, 1, 0, 1, 0], NFS3ERR_BADHANDLE),
+        ],
+    )
+}

@@ -129,3 +129,47 @@ fn a_stale_handle_is_told(rt: HostRuntime) -> Result<(), Fail> {
 fn a_bad_handle_is_told(rt: HostRuntime) -> Result<(), Fail> {
     is_told(&rt, &CUT, NFS3ERR_BADHANDLE)
 }
+
+/// A directory of user 0 in which others may not search, until it has mode 0711. A name is judged before that.
+#[test]
+fn a_name_is_looked_up_with_the_right_to_search(rt: HostRuntime) -> Result<(), Fail> {
+    const CLOSED: Shown = Shown {
+        kind: NF3DIR,
+        mode: 0o766,
+        links: 2,
+        size: 0x1000,
+        used: 0x1000,
+        ..NEW
+    };
+    const OPEN: Shown = Shown {
+        mode: 0o711,
+        changed: 1,
+        ..CLOSED
+    };
+    const DENIED: Exchange = Answer(NFS3ERR_ACCES, &After(Told(CLOSED)), &[]);
+    follows(
+        &rt,
+        &[
+            Makes(
+                MKDIR,
+                &Becomes(Root(2, 0), Root(3, 1)),
+                &P,
+                &[1, 0o766, 0, 0, 0, 0, 0],
+                &Told(CLOSED),
+            ),
+            By(9, 9),
+            CallOn(LOOKUP, &Told(CLOSED), &DOT, &[]),
+            DENIED,
+            CallOn(LOOKUP, &Told(CLOSED), &DOTS, &[]),
+            DENIED,
+            CallOn(LOOKUP, &Told(CLOSED), &X, &[]),
+            DENIED,
+            CallOn(LOOKUP, &Told(CLOSED), &LONG_NAME, &[]),
+            Answer(NFS3ERR_NAMETOOLONG, &After(Told(CLOSED)), &[]),
+            By(0, 0),
+            Sets(&Told(CLOSED), &Told(OPEN), Set::Mode(0o711)),
+            By(9, 9),
+            Finds(&Told(OPEN), &DOT, &Told(OPEN)),
+        ],
+    )
+}

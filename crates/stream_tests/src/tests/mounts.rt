@@ -4,9 +4,7 @@ ghost use Rattle.std.specs.Prelude.{IfOk};
 ghost use Rattle.nfs_schedule.specs.Worlds.{IsAtRest};
 
 use self::Exchange::{Mount, Nfs};
-use super::scripts::{
-    CREATE, LINK, MKDIR, NFS3ERR_ROFS, NFS3ERR_STALE, RENAME, add_record, add_words,
-};
+use super::scripts::{CREATE, LINK, MKDIR, NFS3ERR_STALE, RENAME, add_record, add_words};
 use super::*;
 
 const MOUNT_MNT: u32 = 1;
@@ -22,8 +20,6 @@ const MOUNT_EXPORT: u32 = 5;
 const MNT3ERR_NOENT: u32 = 2;
 
 const MNT3ERR_ACCES: u32 = 13;
-
-const NFS3ERR_XDEV: u32 = 18;
 
 /// Paths and names of hosts with their lengths.
 const DATA: [u32; 3] = [5, 0x2f646174, 0x61000000];
@@ -355,38 +351,10 @@ const CREATE_X: [u32; 18] = [
     32, 0x4e464433, 2, 0, 7, 0, 2, 0, 1, 1, 0x78000000, 1, 0, 0, 0, 0, 0, 0,
 ];
 
-/// The root of the second export before and after a call that is refused so: `wcc_data`.
+/// NFS3ERR_ROFS, and the root of the second export before and after the call that is refused so: `wcc_data`.
 const SECOND_ROOT_STAYS: [u32; 30] = [
-    NFS3ERR_ROFS,
-    1,
-    0,
-    0x1000,
-    1000,
-    0,
-    1000,
-    0,
-    1,
-    2,
-    0o777,
-    2,
-    0,
-    0,
-    0,
-    0x1000,
-    0,
-    0x1000,
-    0,
-    0,
-    0,
-    2,
-    0,
-    2,
-    1000,
-    0,
-    1000,
-    0,
-    1000,
-    0,
+    30, 1, 0, 0x1000, 1000, 0, 1000, 0, 1, 2, 0o777, 2, 0, 0, 0, 0x1000, 0, 0x1000, 0, 0, 0, 2, 0,
+    2, 1000, 0, 1000, 0, 1000, 0,
 ];
 
 #[test]
@@ -419,67 +387,11 @@ fn no_directory_is_made_in_an_export_that_is_read_only(rt: HostRuntime) -> Resul
     )
 }
 
-/// The roots of both exports before and after a RENAME that is refused so.
+/// NFS3ERR_XDEV, and the roots of both exports before and after a RENAME that is refused so.
 const BOTH_ROOTS_STAY: [u32; 59] = [
-    NFS3ERR_XDEV,
-    1,
-    0,
-    0x1000,
-    1000,
-    0,
-    1000,
-    0,
-    1,
-    2,
-    0o777,
-    2,
-    0,
-    0,
-    0,
-    0x1000,
-    0,
-    0x1000,
-    0,
-    0,
-    0,
-    1,
-    0,
-    1,
-    1000,
-    0,
-    1000,
-    0,
-    1000,
-    0,
-    1,
-    0,
-    0x1000,
-    1000,
-    0,
-    1000,
-    0,
-    1,
-    2,
-    0o777,
-    2,
-    0,
-    0,
-    0,
-    0x1000,
-    0,
-    0x1000,
-    0,
-    0,
-    0,
-    2,
-    0,
-    2,
-    1000,
-    0,
-    1000,
-    0,
-    1000,
-    0,
+    18, 1, 0, 0x1000, 1000, 0, 1000, 0, 1, 2, 0o777, 2, 0, 0, 0, 0x1000, 0, 0x1000, 0, 0, 0, 1, 0,
+    1, 1000, 0, 1000, 0, 1000, 0, 1, 0, 0x1000, 1000, 0, 1000, 0, 1, 2, 0o777, 2, 0, 0, 0, 0x1000,
+    0, 0x1000, 0, 0, 0, 2, 0, 2, 1000, 0, 1000, 0, 1000, 0,
 ];
 
 /// What is no name of the first export is not looked at.
@@ -496,60 +408,11 @@ fn a_name_does_not_move_to_another_export(rt: HostRuntime) -> Result<(), Fail> {
     )
 }
 
-/// The attributes of the first export's root, and the second before and after a LINK that is refused so.
+/// NFS3ERR_XDEV, the attributes of the first export's root, and the second before and after a LINK that is refused so.
 const FIRST_ROOT_IS_SHOWN: [u32; 52] = [
-    NFS3ERR_XDEV,
-    1,
-    2,
-    0o777,
-    2,
-    0,
-    0,
-    0,
-    0x1000,
-    0,
-    0x1000,
-    0,
-    0,
-    0,
-    1,
-    0,
-    1,
-    1000,
-    0,
-    1000,
-    0,
-    1000,
-    0,
-    1,
-    0,
-    0x1000,
-    1000,
-    0,
-    1000,
-    0,
-    1,
-    2,
-    0o777,
-    2,
-    0,
-    0,
-    0,
-    0x1000,
-    0,
-    0x1000,
-    0,
-    0,
-    0,
-    2,
-    0,
-    2,
-    1000,
-    0,
-    1000,
-    0,
-    1000,
-    0,
+    18, 1, 2, 0o777, 2, 0, 0, 0, 0x1000, 0, 0x1000, 0, 0, 0, 1, 0, 1, 1000, 0, 1000, 0, 1000, 0, 1,
+    0, 0x1000, 1000, 0, 1000, 0, 1, 2, 0o777, 2, 0, 0, 0, 0x1000, 0, 0x1000, 0, 0, 0, 2, 0, 2,
+    1000, 0, 1000, 0, 1000, 0,
 ];
 
 /// That two exports are told apart comes before the kind of what is linked, here a directory.
@@ -562,5 +425,64 @@ fn nothing_is_linked_into_another_export(rt: HostRuntime) -> Result<(), Fail> {
         &rt,
         SECOND_HOST,
         &[Nfs(LINK, &LINK_X, &FIRST_ROOT_IS_SHOWN)],
+    )
+}
+
+/// A host that an export does not admit mounts nothing of it, and `*` among other hosts admits every host.
+fn named_hosts(alloc: Global) -> Result<Exports, AllocError> {
+    let mut first = export(alloc, b"/a", b"rw", b"10.0.0.2")?;
+    first.hosts.push(Bytes::from_static(b"*"))?;
+    let mut list = Vec::with_capacity(alloc, 2)?;
+    list.push(first)?;
+    list.push(export(alloc, b"/b", b"rw", b"10.0.0.2")?)?;
+    exports_of(alloc, list)
+}
+
+#[test]
+fn a_star_among_hosts_admits_all(rt: HostRuntime) -> Result<(), Fail> {
+    const B: [u32; 2] = [2, 0x2f620000];
+    const LISTED: [u32; 13] = [
+        1, 2, 0x2f610000, 0, 1, 2, 0x2f620000, 1, 8, 0x31302e30, 0x2e302e32, 0, 0,
+    ];
+    let mut engine = opened_with(rt.alloc(), named_hosts(rt.alloc())?, 1024)?;
+    let followed = follows(
+        &rt,
+        &mut engine,
+        FIRST_HOST,
+        &[
+            Mount(MOUNT_MNT, &A, &FIRST_ROOT),
+            Mount(MOUNT_MNT, &B, &[MNT3ERR_ACCES]),
+            Mount(MOUNT_EXPORT, &[], &LISTED),
+        ],
+    );
+    drop(engine);
+    followed
+}
+
+/// A file of 65,536 bytes in the first export takes nothing of the second.
+#[test]
+fn an_export_has_its_own_space(rt: HostRuntime) -> Result<(), Fail> {
+    const FSSTAT: u32 = 18;
+    const CREATE_SIZED: [u32; 20] = [
+        32, 0x4e464433, 1, 0, 7, 0, 1, 0, 1, 1, 0x78000000, 0, 0, 0, 0, 1, 0, 0x10000, 0, 0,
+    ];
+    const CREATED: [u32; 62] = [
+        0, 1, 32, 0x4e464433, 1, 0, 7, 0, 17, 0, 2, 1, 1, 0o644, 1, 0, 0, 0, 0x10000, 0, 0x10000,
+        0, 0, 0, 1, 0, 17, 1000, 0, 1000, 0, 1000, 0, 1, 0, 0x1000, 1000, 0, 1000, 0, 1, 2, 0o777,
+        2, 0, 0, 0, 0x1000, 0, 0x1000, 0, 0, 0, 1, 0, 1, 1000, 0, 1000, 1, 1000, 1,
+    ];
+    const SECOND: [u32; 9] = [32, 0x4e464433, 2, 0, 7, 0, 2, 0, 1];
+    const OF_THE_SECOND: [u32; 36] = [
+        0, 1, 2, 0o777, 2, 0, 0, 0, 0x1000, 0, 0x1000, 0, 0, 0, 2, 0, 2, 1000, 0, 1000, 0, 1000, 0,
+        0x100, 0, 0xff, 0xfffff000, 0xff, 0xfffff000, 0, 0xffffffff, 0, 0xfffffffe, 0, 0xfffffffe,
+        0,
+    ];
+    follows_in_two(
+        &rt,
+        SECOND_HOST,
+        &[
+            Nfs(CREATE, &CREATE_SIZED, &CREATED),
+            Nfs(FSSTAT, &SECOND, &OF_THE_SECOND),
+        ],
     )
 }

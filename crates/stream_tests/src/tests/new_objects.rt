@@ -238,3 +238,63 @@ fn attributes_are_refused(rt: HostRuntime) -> Result<(), Fail> {
         ],
     )
 }
+
+/// A type that is not made is told after the place and the name, and a device for user 1 after a name that is there; a
+/// time of 10^9 nanoseconds comes later.
+#[test]
+fn a_type_is_judged_in_its_order(rt: HostRuntime) -> Result<(), Fail> {
+    const TOP: Object = Root(2, 1);
+    const DISK_AT_NO_TIME: [u32; 11] = [NF3BLK, 0, 0, 0, 0, 2, 5, 1_000_000_000, 0, 8, 1];
+    follows(
+        &rt,
+        &[
+            OnNew,
+            By(1, 1),
+            Refuses(MKNOD, &Told(NEW), &X, &[NF3REG], NFS3ERR_NOTDIR),
+            Refuses(MKNOD, &TOP, &DOT, &[NF3REG], NFS3ERR_EXIST),
+            Refuses(MKNOD, &TOP, &LONG_NAME, &[NF3DIR], NFS3ERR_NAMETOOLONG),
+            Refuses(MKNOD, &TOP, &X, &A_DISK, NFS3ERR_EXIST),
+            Refuses(MKNOD, &TOP, &Y, &DISK_AT_NO_TIME, NFS3ERR_PERM),
+        ],
+    )
+}
+
+/// Mode 017640, of which 12 bits are kept, and 2^32 bytes, which are for files alone.
+#[test]
+fn links_and_fifos_are_given_a_mode(rt: HostRuntime) -> Result<(), Fail> {
+    const LINK_HOW: [u32; 11] = [1, 0o17640, 0, 0, 1, 1, 0, 0, 0, 1, 0x78000000];
+    const FIFO_HOW: [u32; 10] = [NF3FIFO, 1, 0o17640, 0, 0, 1, 1, 0, 0, 0];
+    const SYMBOLIC: Shown = Shown {
+        kind: NF3LNK,
+        mode: 0o7640,
+        size: 1,
+        used: 0x1000,
+        ..NEW
+    };
+    const FIFO: Shown = Shown {
+        kind: NF3FIFO,
+        mode: 0o7640,
+        number: 33,
+        generation: 3,
+        ..NEW
+    };
+    follows(
+        &rt,
+        &[
+            Makes(
+                SYMLINK,
+                &Becomes(Root(2, 0), Root(2, 1)),
+                &X,
+                &LINK_HOW,
+                &Told(SYMBOLIC),
+            ),
+            Makes(
+                MKNOD,
+                &Becomes(Root(2, 1), Root(2, 2)),
+                &Y,
+                &FIFO_HOW,
+                &Told(FIFO),
+            ),
+        ],
+    )
+}

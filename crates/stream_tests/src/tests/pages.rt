@@ -109,6 +109,108 @@ fn a_reading_goes_on_where_names_went(rt: HostRuntime) -> Result<(), Fail> {
             Answer(NFS3_OK, &After(Directory(2, 2, 8)), &LAST),
             Call(READDIR, &INSIDE, &[0, 8, 0, 7, 104], &[]),
             Answer(NFS3_OK, &After(Directory(2, 2, 8)), &[0, 7, 0, 1]),
+            Call(READDIR, &INSIDE, &[0, 4, 0, 8, 65536], &[]),
+            Answer(NFS3ERR_BAD_COOKIE, &After(Directory(2, 2, 8)), &[]),
+        ],
+    )
+}
+
+/// Where `e` went, `g` comes with the number that `e` had, and with the next cookie. What moves to another name has the
+/// next cookie too, also where it takes the place of `b`.
+#[test]
+fn a_new_name_has_the_next_cookie(rt: HostRuntime) -> Result<(), Fail> {
+    const G: Shown = Shown {
+        number: 97,
+        generation: 8,
+        ..NEW
+    };
+    const MOVES: Effect = Becomes(Directory(2, 2, 7), Directory(2, 2, 8));
+    const LAST: [u32; 25] = [
+        0, 7, 1, 0, 81, 1, 0x64000000, 0, 6, 1, 0, 97, 1, 0x67000000, 0, 8, 1, 0, 33, 1,
+        0x62000000, 0, 9, 0, 1,
+    ];
+    follows(
+        &rt,
+        &[
+            OnNames,
+            Takes(
+                REMOVE,
+                &Becomes(Directory(2, 2, 5), Directory(2, 2, 6)),
+                &[1, 0x65000000],
+            ),
+            Makes(
+                CREATE,
+                &Becomes(Directory(2, 2, 6), Directory(2, 2, 7)),
+                &[1, 0x67000000],
+                &GUARDED,
+                &Told(G),
+            ),
+            Renames(&MOVES, &[1, 0x61000000], &MOVES, &[1, 0x62000000], NFS3_OK),
+            Call(READDIR, &INSIDE, &[0, 5, 0, 7, 65536], &[]),
+            Answer(NFS3_OK, &After(Directory(2, 2, 8)), &LAST),
+        ],
+    )
+}
+
+/// `..` of an empty directory, with the attributes and the handle of the root.
+#[test]
+fn a_full_page_shows_the_directory_above(rt: HostRuntime) -> Result<(), Fail> {
+    const PAGE: [u32; 43] = [
+        0, 7, 1, 0, 1, 2, 0x2e2e0000, 0, 2, 1, 2, 0o777, 3, 0, 0, 0, 0x1000, 0, 0x1000, 0, 0, 0, 1,
+        0, 1, 1000, 0, 1000, 1, 1000, 1, 1, 32, 0x4e464433, 1, 0, 7, 0, 1, 0, 1, 0, 1,
+    ];
+    follows(
+        &rt,
+        &[
+            Makes(
+                MKDIR,
+                &Becomes(Root(2, 0), Root(3, 1)),
+                &P,
+                &AS_USUAL,
+                &Directory(2, 2, 0),
+            ),
+            Call(READDIRPLUS, &INSIDE, &[0, 1, 0, 7, 65536], &[65536]),
+            Answer(NFS3_OK, &After(Directory(2, 2, 0)), &PAGE),
+        ],
+    )
+}
+
+/// Behind `.` with verifier 8, in a page of 103 bytes: the kind of an object comes before its mode, that before the
+/// verifier, and that before the size of the page.
+#[test]
+fn a_page_is_judged_in_order(rt: HostRuntime) -> Result<(), Fail> {
+    const CLOSED: Shown = Shown {
+        kind: NF3DIR,
+        mode: 0o733,
+        links: 2,
+        size: 0x1000,
+        used: 0x1000,
+        number: 33,
+        generation: 3,
+        ..NEW
+    };
+    follows(
+        &rt,
+        &[
+            OnNew,
+            Makes(
+                MKDIR,
+                &Becomes(Root(2, 1), Root(3, 2)),
+                &P,
+                &[1, 0o733, 0, 0, 0, 0, 0],
+                &Told(CLOSED),
+            ),
+            By(8, 9),
+            CallOn(READDIR, &Told(NEW), &[0, 1, 0, 8, 103], &[]),
+            Answer(NFS3ERR_NOTDIR, &After(Told(NEW)), &[]),
+            CallOn(READDIR, &Told(CLOSED), &[0, 1, 0, 8, 103], &[]),
+            Answer(NFS3ERR_ACCES, &After(Told(CLOSED)), &[]),
+            CallOn(READDIRPLUS, &Told(CLOSED), &[0, 1, 0, 8, 27], &[103]),
+            Answer(NFS3ERR_ACCES, &After(Told(CLOSED)), &[]),
+            CallOn(READDIR, &Root(3, 2), &[0, 1, 0, 8, 103], &[]),
+            Answer(NFS3ERR_BAD_COOKIE, &After(Root(3, 2)), &[]),
+            CallOn(READDIRPLUS, &Root(3, 2), &[0, 1, 0, 8, 27], &[103]),
+            Answer(NFS3ERR_BAD_COOKIE, &After(Root(3, 2)), &[]),
         ],
     )
 }

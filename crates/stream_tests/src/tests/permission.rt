@@ -1,5 +1,6 @@
 //! Who may read and write a file of user 100 and group 200, which this user made with a mode (RFC 1813, 4.4).
 
+use super::exchanges::Effect::*;
 use super::exchanges::Exchange::*;
 use super::exchanges::Object::*;
 use super::exchanges::*;
@@ -147,4 +148,123 @@ fn only_the_user_0_gives_files_away(rt: HostRuntime) -> Result<(), Fail> {
             ),
         ],
     )
+}
+
+/// In the directory `p` of user 0 with mode 0755. That comes before a name is looked for, and before the text of a link
+/// is judged; the type that MKNOD makes comes before it.
+#[test]
+fn others_need_w_to_make_a_name(rt: HostRuntime) -> Result<(), Fail> {
+    const PLACE: Object = Directory(2, 2, 5);
+    const A: [u32; 2] = [1, 0x61000000];
+    follows(
+        &rt,
+        &[
+            OnNames,
+            By(9, 9),
+            Refuses(CREATE, &PLACE, &X, &UNCHECKED, NFS3ERR_ACCES),
+            Refuses(CREATE, &PLACE, &A, &UNCHECKED, NFS3ERR_ACCES),
+            Refuses(CREATE, &PLACE, &A, &GUARDED, NFS3ERR_ACCES),
+            Refuses(CREATE, &PLACE, &A, &[2, 0, 1], NFS3ERR_ACCES),
+            Refuses(SYMLINK, &PLACE, &X, &[0, 0, 0, 0, 0, 0, 0], NFS3ERR_ACCES),
+            Refuses(MKNOD, &PLACE, &X, &[NF3REG], NFS3ERR_BADTYPE),
+        ],
+    )
+}
+
+/// A file of user 100 that nobody may read or write: what keeps a name is the mode of its directory.
+#[test]
+fn a_file_s_own_mode_does_not_keep_its_names(rt: HostRuntime) -> Result<(), Fail> {
+    const LINKED: Shown = Shown {
+        mode: 0,
+        links: 2,
+        uid: 100,
+        gid: 200,
+        changed: 1,
+        ..NEW
+    };
+    const MOVES: Effect = Becomes(Root(2, 2), Root(2, 3));
+    follows(
+        &rt,
+        &[
+            OnMode(0),
+            By(9, 9),
+            Links(&Told(LINKED), &Becomes(Root(2, 1), Root(2, 2)), &Y, NFS3_OK),
+            Renames(&MOVES, &X, &MOVES, &Q, NFS3_OK),
+            Takes(REMOVE, &Becomes(Root(2, 3), Root(2, 4)), &Q),
+            Takes(REMOVE, &Becomes(Root(2, 4), Root(2, 5)), &Y),
+        ],
+    )
+}
+
+/// Mode 01777: others may take a file of user 100 out of it.
+#[test]
+fn a_sticky_directory_is_as_another(rt: HostRuntime) -> Result<(), Fail> {
+    const STICKY: Shown = Shown {
+        kind: NF3DIR,
+        mode: 0o1777,
+        links: 2,
+        size: 0x1000,
+        used: 0x1000,
+        ..NEW
+    };
+    const LATER: Shown = Shown {
+        modified: 1,
+        changed: 1,
+        ..STICKY
+    };
+    const LAST: Shown = Shown {
+        modified: 2,
+        changed: 2,
+        ..STICKY
+    };
+    const OWNED: Shown = Shown {
+        uid: 100,
+        gid: 200,
+        number: 33,
+        generation: 3,
+        ..NEW
+    };
+    follows(
+        &rt,
+        &[
+            Makes(
+                MKDIR,
+                &Becomes(Root(2, 0), Root(3, 1)),
+                &P,
+                &[1, 0o1777, 0, 0, 0, 0, 0],
+                &Told(STICKY),
+            ),
+            By(100, 200),
+            Makes(
+                CREATE,
+                &Becomes(Told(STICKY), Told(LATER)),
+                &X,
+                &GUARDED,
+                &Told(OWNED),
+            ),
+            By(9, 9),
+            Takes(REMOVE, &Becomes(Told(LATER), Told(LAST)), &X),
+        ],
+    )
+}
+
+/// User 100 of group 200, which is in group 300 too, makes a file of group 300, and none of group 301.
+fn a_group_is_given(script: &mut Script) -> Result<(), AllocError> {
+    const CALLER: [u32; 8] = [1, 24, 0, 0, 100, 200, 1, 300];
+    const OWNED: Shown = Shown {
+        uid: 100,
+        gid: 300,
+        ..NEW
+    };
+    script.call_by(&CALLER, CREATE, &ROOT, &X, &[1, 0, 0, 1, 300, 0, 0, 0])?;
+    script.answer(&MADE, &OWNED.after(), &root_before(0), &root_after(1))?;
+    script.call_by(&CALLER, CREATE, &ROOT, &Y, &[1, 0, 0, 1, 301, 0, 0, 0])?;
+    script.answer(&[NFS3ERR_PERM], &root_before(1), &root_after(1), &[])
+}
+
+#[test]
+fn a_file_is_given_to_a_group_of_the_caller(rt: HostRuntime) -> Result<(), Fail> {
+    let mut script = Script::new(rt.alloc());
+    a_group_is_given(&mut script)?;
+    script.is_followed(&rt)
 }

@@ -179,6 +179,9 @@ fn a_file_has_at_most_1048576_bytes(rt: HostRuntime) -> Result<(), Fail> {
     )
 }
 
+/// 65,537 bytes.
+const DATA: [u32; 16_385] = [0x61616161; 16_385];
+
 /// 65,537 bytes at 0.
 #[test]
 fn at_most_65536_bytes_are_written(rt: HostRuntime) -> Result<(), Fail> {
@@ -189,7 +192,6 @@ fn at_most_65536_bytes_are_written(rt: HostRuntime) -> Result<(), Fail> {
         changed: 1,
         ..NEW
     };
-    const DATA: [u32; 16_385] = [0x61616161; 16_385];
     follows(
         &rt,
         &[
@@ -226,6 +228,118 @@ fn a_directory_is_not_read_or_written(rt: HostRuntime) -> Result<(), Fail> {
             Answer(NFS3ERR_INVAL, &After(Root(2, 0)), &[]),
             Call(WRITE, &ROOT, &[0, 0, 1, 0], &[1, 0x21000000]),
             Answer(NFS3ERR_INVAL, &Both(Stays(Root(2, 0))), &[]),
+        ],
+    )
+}
+
+/// What is not written is not counted: 65,537 bytes go where 65,536 fit, and one byte further on they do not. What may
+/// not be written is told also where there is nothing to write.
+#[test]
+fn a_write_ends_where_what_it_writes_ends(rt: HostRuntime) -> Result<(), Fail> {
+    const FULL: Shown = Shown {
+        size: 0x100000,
+        used: 0x100000,
+        modified: 1,
+        changed: 1,
+        ..NEW
+    };
+    follows(
+        &rt,
+        &[
+            OnNew,
+            By(9, 9),
+            Call(WRITE, &FILE, &[0, 0, 0, 0], &[0]),
+            Answer(NFS3ERR_ACCES, &Both(Stays(Told(NEW))), &[]),
+            By(0, 0),
+            Call(WRITE, &FILE, &[0, 983_040, 65_537, 0, 65_537], &DATA),
+            Answer(
+                NFS3_OK,
+                &Both(Becomes(Told(NEW), Told(FULL))),
+                &[65_536, 0, 0, 7],
+            ),
+            Call(WRITE, &FILE, &[0, 983_041, 65_537, 0, 65_537], &DATA),
+            Answer(NFS3ERR_FBIG, &Both(Stays(Told(FULL))), &[]),
+        ],
+    )
+}
+
+/// 65,536 zeros.
+const ZEROS: [u32; 16_384] = [0; 16_384];
+
+/// Of 65,537 zeros 2^32 - 1 are asked for from the first on, 65,536 from the second on, and 10 from the last on.
+fn much_is_read(script: &mut Script) -> Result<(), AllocError> {
+    const LARGE: Shown = Shown {
+        size: 65_537,
+        used: 0x11000,
+        ..NEW
+    };
+    let how = [0, 0, 0, 0, 1, 0, 65_537, 0, 0];
+    script.makes(CREATE, root(2, 0).to(root(2, 1)), &X, &how, LARGE)?;
+    script.call(READ, &FILE, &[0, 0, 0xffffffff], &[])?;
+    script.answer(&[NFS3_OK], &LARGE.after(), &[65_536, 0, 65_536], &ZEROS)?;
+    script.call(READ, &FILE, &[0, 1, 65_536], &[])?;
+    script.answer(&[NFS3_OK], &LARGE.after(), &[65_536, 1, 65_536], &ZEROS)?;
+    script.call(READ, &FILE, &[0, 65_536, 10], &[])?;
+    script.answer(&[NFS3_OK], &LARGE.after(), &[1, 1, 1, 0], &[])
+}
+
+#[test]
+fn at_most_65536_bytes_are_read(rt: HostRuntime) -> Result<(), Fail> {
+    let mut script = Script::new(rt.alloc());
+    much_is_read(&mut script)?;
+    script.is_followed(&rt)
+}
+
+/// A link to the file, and a FIFO. The file stays when the link goes.
+#[test]
+fn a_link_and_a_fifo_have_no_bytes(rt: HostRuntime) -> Result<(), Fail> {
+    const SYMBOLIC: Shown = Shown {
+        kind: NF3LNK,
+        mode: 0o777,
+        size: 1,
+        used: 0x1000,
+        number: 33,
+        generation: 3,
+        ..NEW
+    };
+    const FIFO: Shown = Shown {
+        kind: NF3FIFO,
+        number: 49,
+        generation: 4,
+        ..NEW
+    };
+    follows(
+        &rt,
+        &[
+            OnNew,
+            Makes(
+                SYMLINK,
+                &Becomes(Root(2, 1), Root(2, 2)),
+                &Y,
+                &TO_X,
+                &Told(SYMBOLIC),
+            ),
+            Makes(
+                MKNOD,
+                &Becomes(Root(2, 2), Root(2, 3)),
+                &Q,
+                &A_FIFO,
+                &Told(FIFO),
+            ),
+            CallOn(READ, &Told(SYMBOLIC), &[0, 0, 1], &[]),
+            Answer(NFS3ERR_INVAL, &After(Told(SYMBOLIC)), &[]),
+            CallOn(READ, &Told(FIFO), &[0, 0, 1], &[]),
+            Answer(NFS3ERR_INVAL, &After(Told(FIFO)), &[]),
+            CallOn(WRITE, &Told(SYMBOLIC), &[0, 0, 1, 0], &[1, 0x21000000]),
+            Answer(NFS3ERR_INVAL, &Both(Stays(Told(SYMBOLIC))), &[]),
+            CallOn(WRITE, &Told(FIFO), &[0, 0, 1, 0], &[1, 0x21000000]),
+            Answer(NFS3ERR_INVAL, &Both(Stays(Told(FIFO))), &[]),
+            Commits(&Told(FIFO), NFS3ERR_INVAL, &[]),
+            CallOn(LOOKUP, &Told(SYMBOLIC), &X, &[]),
+            Answer(NFS3ERR_NOTDIR, &After(Told(SYMBOLIC)), &[]),
+            Refuses(CREATE, &Root(2, 3), &Y, &UNCHECKED, NFS3ERR_EXIST),
+            Takes(REMOVE, &Becomes(Root(2, 3), Root(2, 4)), &Y),
+            Finds(&Root(2, 4), &X, &Told(NEW)),
         ],
     )
 }

@@ -4,8 +4,35 @@ use super::scripts::add_words;
 use super::*;
 
 /// What comes in, the words of a stream, and those of its answers.
-const ANSWERED: [(&str, &[u32], &[u32]); 19] = [
+const ANSWERED: [(&str, &[u32], &[u32]); 24] = [
     ("NULL", &NULL, &NULL_REPLY),
+    (
+        "bodies of a credential of flavor 0 and of a verifier are passed over",
+        &[0x80000030, 1, 0, 2, 100003, 3, 0, 0, 4, 5, 9, 4, 5],
+        &NULL_REPLY,
+    ),
+    (
+        "NULL of MOUNT",
+        &[0x80000028, 7, 0, 2, 100005, 3, 0, 0, 0, 0, 0],
+        &[0x80000018, 7, 1, 0, 0, 0, 0],
+    ),
+    (
+        "NULL of NLM",
+        &[0x80000028, 7, 0, 2, 100021, 4, 0, 0, 0, 0, 0],
+        &[0x80000018, 7, 1, 0, 0, 0, 0],
+    ),
+    (
+        "LOCK of NLM, which is not served yet",
+        &[0x80000028, 7, 0, 2, 100021, 4, 2, 0, 0, 0, 0],
+        &[0x80000018, 7, 1, 0, 0, 0, 3],
+    ),
+    (
+        "a mount of a path with two dots",
+        &[
+            0x80000034, 2, 0, 2, 100005, 3, 1, 0, 0, 0, 0, 8, 0x2f646174, 0x612f2e2e,
+        ],
+        &[0x8000001c, 2, 1, 0, 0, 0, 0, 22],
+    ),
     ("attributes of the root", &GETATTR, &GETATTR_REPLY),
     (
         "an unknown program",

@@ -110,3 +110,173 @@ fn a_reply_that_was_pushed_out_is_gone(rt: HostRuntime) -> Result<(), Fail> {
     );
     Ok(())
 }
+
+/// WRITE, SETATTR, MKDIR, SYMLINK, MKNOD, LINK, RENAME and RMDIR: done again, each would show other times, or tell
+/// EXIST or NOENT.
+#[test]
+fn each_change_is_executed_once(rt: HostRuntime) -> Result<(), Fail> {
+    const V: [u32; 2] = [1, 0x76000000];
+    const Z: [u32; 2] = [1, 0x7a000000];
+    const SET: Shown = Shown {
+        mode: 0o600,
+        changed: 2,
+        ..HELLO
+    };
+    const SYMBOLIC: Shown = Shown {
+        kind: NF3LNK,
+        mode: 0o777,
+        size: 1,
+        used: 0x1000,
+        number: 49,
+        generation: 4,
+        ..NEW
+    };
+    const FIFO: Shown = Shown {
+        kind: NF3FIFO,
+        number: 65,
+        generation: 5,
+        ..NEW
+    };
+    const LINKED: Shown = Shown {
+        links: 2,
+        changed: 3,
+        ..SET
+    };
+    const MOVED: Shown = Shown {
+        changed: 4,
+        ..LINKED
+    };
+    const MOVES: Effect = Becomes(Root(3, 5), Root(3, 6));
+    follows(
+        &rt,
+        &[
+            OnHello,
+            ComesAgain,
+            Sets(&Told(HELLO), &Told(SET), Set::Mode(0o600)),
+            ComesAgain,
+            Makes(
+                MKDIR,
+                &Becomes(Root(2, 1), Root(3, 2)),
+                &P,
+                &AS_USUAL,
+                &Directory(3, 2, 0),
+            ),
+            ComesAgain,
+            Makes(
+                SYMLINK,
+                &Becomes(Root(3, 2), Root(3, 3)),
+                &Y,
+                &TO_X,
+                &Told(SYMBOLIC),
+            ),
+            ComesAgain,
+            Makes(
+                MKNOD,
+                &Becomes(Root(3, 3), Root(3, 4)),
+                &Q,
+                &A_FIFO,
+                &Told(FIFO),
+            ),
+            ComesAgain,
+            Links(&Told(LINKED), &Becomes(Root(3, 4), Root(3, 5)), &V, NFS3_OK),
+            ComesAgain,
+            Renames(&MOVES, &V, &MOVES, &Z, NFS3_OK),
+            ComesAgain,
+            Takes(RMDIR, &Becomes(Root(3, 6), Root(2, 7)), &P),
+            ComesAgain,
+            Misses(&Root(2, 7), &P),
+            Misses(&Root(2, 7), &V),
+            Finds(&Root(2, 7), &Z, &Told(MOVED)),
+        ],
+    )
+}
+
+/// An era that is full after one record ends before each next one: nobody is told.
+#[test]
+fn full_eras_change_no_answer(rt: HostRuntime) -> Result<(), Fail> {
+    follows_in_eras(
+        &rt,
+        1,
+        &[
+            OnNew,
+            ComesAgain,
+            Finds(&Root(2, 1), &X, &Told(NEW)),
+            Takes(REMOVE, &Becomes(Root(2, 1), Root(2, 2)), &X),
+            ComesAgain,
+            Refuses(REMOVE, &Root(2, 2), &X, &[], NFS3ERR_NOENT),
+            Misses(&Root(2, 2), &X),
+        ],
+    )
+}
+
+/// UMNT of `/data`, and UMNTALL, with their replies.
+const UMNT: [u32; 14] = [
+    0x80000034, 3, 0, 2, 100005, 3, 3, 0, 0, 0, 0, 5, 0x2f646174, 0x61000000,
+];
+
+const UMNT_REPLY: [u32; 7] = [0x80000018, 3, 1, 0, 0, 0, 0];
+
+const UMNTALL: [u32; 11] = [0x80000028, 4, 0, 2, 100005, 3, 4, 0, 0, 0, 0];
+
+const UMNTALL_REPLY: [u32; 7] = [0x80000018, 4, 1, 0, 0, 0, 0];
+
+/// DUMP, and its reply where nothing is mounted, and where 10.0.0.1 has `/data`.
+const DUMP: [u32; 11] = [0x80000028, 5, 0, 2, 100005, 3, 2, 0, 0, 0, 0];
+
+const NOTHING_IS_MOUNTED: [u32; 8] = [0x8000001c, 5, 1, 0, 0, 0, 0, 0];
+
+const DATA_IS_MOUNTED: [u32; 15] = [
+    0x80000038, 5, 1, 0, 0, 0, 0, 1, 8, 0x31302e30, 0x2e302e31, 5, 0x2f646174, 0x61000000, 0,
+];
+
+/// MNT of `/data` with other transaction ids, and the replies.
+const MNT_6: [u32; 14] = [
+    0x80000034, 6, 0, 2, 100005, 3, 1, 0, 0, 0, 0, 5, 0x2f646174, 0x61000000,
+];
+
+const MNT_6_REPLY: [u32; 19] = [
+    0x80000048, 6, 1, 0, 0, 0, 0, 0, 32, 0x4e464433, 1, 0, 7, 0, 1, 0, 1, 1, 1,
+];
+
+const MNT_7: [u32; 14] = [
+    0x80000034, 7, 0, 2, 100005, 3, 1, 0, 0, 0, 0, 5, 0x2f646174, 0x61000000,
+];
+
+const MNT_7_REPLY: [u32; 19] = [
+    0x80000048, 7, 1, 0, 0, 0, 0, 0, 32, 0x4e464433, 1, 0, 7, 0, 1, 0, 1, 1, 1,
+];
+
+/// MNT, UMNT and UMNTALL are executed once each, and DUMP each time.
+const MOUNTS: [(&[u32], &[u32]); 13] = [
+    (&MNT, &MNT_REPLY),
+    (&UMNT, &UMNT_REPLY),
+    (&MNT, &MNT_REPLY),
+    (&DUMP, &NOTHING_IS_MOUNTED),
+    (&MNT_6, &MNT_6_REPLY),
+    (&DUMP, &DATA_IS_MOUNTED),
+    (&UMNT, &UMNT_REPLY),
+    (&DUMP, &DATA_IS_MOUNTED),
+    (&UMNTALL, &UMNTALL_REPLY),
+    (&DUMP, &NOTHING_IS_MOUNTED),
+    (&MNT_7, &MNT_7_REPLY),
+    (&UMNTALL, &UMNTALL_REPLY),
+    (&DUMP, &DATA_IS_MOUNTED),
+];
+
+/// Whether a new server answers all this so.
+fn mounts_are_answered(alloc: Global) -> Result<bool, AllocError> {
+    let mut calls = Vec::new(alloc);
+    let mut replies = Vec::new(alloc);
+    for (call, reply) in MOUNTS {
+        add_words(&mut calls, call)?;
+        add_words(&mut replies, reply)?;
+    }
+    let (written, end) = answers(alloc, &calls)?;
+    Ok(end == Ok(Served) && written.as_slice() == replies.as_slice())
+}
+
+#[test]
+fn mounts_change_once_and_are_listed_each_time(rt: HostRuntime) -> Result<(), Fail> {
+    assert!(rt; mounts_are_answered(rt.alloc())?);
+    Ok(())
+}

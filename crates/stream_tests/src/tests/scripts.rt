@@ -370,13 +370,31 @@ impl Script {
         second: &[u32],
         third: &[u32],
     ) -> Result<(), AllocError> {
+        self.send([100003, 3, procedure], credential, handle, second, third)
+    }
+
+    /// Adds MNT of a path without a credential, and its results (RFC 1813, 5.2.1).
+    pub(super) fn mounts(&mut self, path: &[u32], results: &[u32]) -> Result<(), AllocError> {
+        self.send([100005, 3, 1], &[0, 0], path, &[], &[])?;
+        self.answer(results, &[], &[], &[])
+    }
+
+    /// Adds a call of a program, its version and a procedure, with its arguments in three parts.
+    fn send(
+        &mut self,
+        program: [u32; 3],
+        credential: &[u32],
+        first: &[u32],
+        second: &[u32],
+        third: &[u32],
+    ) -> Result<(), AllocError> {
         self.xid = self.xid.wrapping_add(1);
         self.last_call = self.calls.len();
-        let header = [self.xid, 0, 2, 100003, 3, procedure];
-        let mut body = spelled(*self.calls.allocator(), &header)?;
+        let mut body = spelled(*self.calls.allocator(), &[self.xid, 0, 2])?;
+        add_words(&mut body, &program)?;
         add_words(&mut body, credential)?;
         add_words(&mut body, &[0, 0])?;
-        add_words(&mut body, handle)?;
+        add_words(&mut body, first)?;
         add_words(&mut body, second)?;
         add_words(&mut body, third)?;
         add_record(&mut self.calls, &body)
@@ -424,6 +442,18 @@ impl Script {
         mode: &'static [u8],
     ) -> Result<(), Fail> {
         let (written, end) = answers_as(rt.alloc(), mode, &self.calls)?;
+        assert_eq!(rt; written.as_slice(), self.replies.as_slice());
+        assert_eq!(rt; end, Ok(Served));
+        Ok(())
+    }
+
+    /// A new server whose eras have so many records replies so to these calls.
+    pub(super) fn is_followed_in_eras(
+        &self,
+        rt: &(impl Abort + AllocGlobal),
+        era_records: u64,
+    ) -> Result<(), Fail> {
+        let (written, end) = answers_in_eras(rt.alloc(), era_records, &self.calls)?;
         assert_eq!(rt; written.as_slice(), self.replies.as_slice());
         assert_eq!(rt; end, Ok(Served));
         Ok(())

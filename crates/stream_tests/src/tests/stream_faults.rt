@@ -128,7 +128,7 @@ fn writes_fail(rt: HostRuntime) -> Result<(), Fail> {
     Ok(())
 }
 
-/// What one call in three pieces is answered, of which the first have so many bytes.
+/// Whether one call in three pieces, the first two of so many bytes, is answered.
 fn is_answered_in_pieces(alloc: Global, first: usize, second: usize) -> Result<bool, AllocError> {
     let call = spelled(alloc, &NULL)?;
     let (first, others) = call.split_at(call.len().min(first));
@@ -143,7 +143,7 @@ fn a_record_in_three_pieces(rt: HostRuntime) -> Result<(), Fail> {
     Ok(())
 }
 
-/// How many bytes a new server has written each time when it sends on what it wrote.
+/// Whether a new server has written so many bytes each time when it sends on what it wrote.
 fn sends_on(
     alloc: Global,
     first: &[u32],

@@ -25,7 +25,8 @@ fn opened_at_last(alloc: Global) -> Result<Engine, AllocError>
     }
 }
 
-/// What is written for this input from the engine's state on, and how serving ends; room for the answers is there before.
+/// What is written for this input from the engine's state on, and how serving ends; room for the answers is there
+/// before.
 fn served(
     alloc: Global,
     engine: &mut Engine,

@@ -4,8 +4,7 @@ use super::scenes::*;
 use super::shown::*;
 use std::alloc::AllocError;
 
-/// GETATTR.
-const ATTRIBUTES: u32 = 1;
+const GETATTR: u32 = 1;
 
 const SETATTR: u32 = 2;
 
@@ -67,7 +66,7 @@ impl Asked {
     pub(super) fn comes(&self, scene: &mut Scene) -> Result<(), AllocError> {
         let root = ROOT.handle();
         match self {
-            Asked::Getattr(object) => scene.call(ATTRIBUTES, &[&object.handle()]),
+            Asked::Getattr(object) => scene.call(GETATTR, &[&object.handle()]),
             Asked::SetMode(mode) => {
                 scene.call(SETATTR, &[&root, &[1, *mode, 0, 0, 0, 0, 0], &[0]])
             }
@@ -86,7 +85,7 @@ impl Asked {
 pub(super) enum Told {
     /// To GETATTR: the object.
     Attributes(Shown),
-    /// To SETATTR or REMOVE: the directory before and after it.
+    /// To SETATTR or REMOVE: the object before and after it.
     Done(Shown, Shown),
     /// To LOOKUP: the root, and the object to which the name leads.
     Found(Shown, Shown),

@@ -7,19 +7,6 @@ use super::lines::*;
 use super::shown::*;
 use std::test::Fail;
 
-/// The root after the first SETATTR, and after the second.
-const FIRST_SET: Shown = Shown {
-    mode: 0o700,
-    changed: 1,
-    ..ROOT
-};
-
-const SECOND_SET: Shown = Shown {
-    mode: 0o750,
-    changed: 2,
-    ..ROOT
-};
-
 /// SETATTR is admitted and has the exports and the root in the first era, which ends without a record; it is the first
 /// record of the second. A message is taken where there is none. The third era has the second record.
 #[test]

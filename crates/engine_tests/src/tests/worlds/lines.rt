@@ -37,7 +37,8 @@ pub(super) enum Line {
     TakesMessage,
     /// The era ends, and the next begins.
     NewEra,
-    /// Each record that was refused, and not executed later, comes again, and worker 1 goes on to its end.
+    /// Each record of the first host that was refused, and not executed later, comes again, and worker 1 goes on to
+    /// its end.
     Settles,
     /// So many calls are in progress then, so many addresses are held, and the era has so many records.
     Counts(usize, usize, u64),

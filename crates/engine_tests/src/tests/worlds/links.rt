@@ -95,3 +95,25 @@ fn a_stopped_removal_changes_nothing(rt: HostRuntime) -> Result<(), Fail> {
         ],
     )
 }
+
+/// The same where REMOVE is stopped a round later, when it has given up.
+#[test]
+fn a_removal_that_gave_up_and_is_stopped_changes_nothing(rt: HostRuntime) -> Result<(), Fail> {
+    follows(
+        &rt,
+        &[
+            OnFile,
+            Comes(Link(FIRST, B)),
+            Comes(Remove(A)),
+            Rounds(5),
+            Stops(2),
+            Turns(1, 8),
+            Counts(0, 0, 2),
+            Again(3),
+            Turns(2, 6),
+            Unanswered(3),
+            Executed(2, 2, Linked(LINKED, root(1), root(2))),
+            Executed(3, 3, Done(root(2), root(3))),
+        ],
+    )
+}

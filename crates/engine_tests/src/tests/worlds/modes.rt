@@ -7,20 +7,6 @@ use super::lines::*;
 use super::shown::*;
 use std::test::Fail;
 
-/// The root after a SETATTR of its mode.
-const FIRST_SET: Shown = Shown {
-    mode: 0o700,
-    changed: 1,
-    ..ROOT
-};
-
-/// The root after another one.
-const SECOND_SET: Shown = Shown {
-    mode: 0o750,
-    changed: 2,
-    ..ROOT
-};
-
 /// The root after the other one alone.
 const OTHER_SET: Shown = Shown {
     changed: 1,

@@ -221,7 +221,8 @@ impl Scene {
         }
     }
 
-    /// Each record that was refused, and not executed later, comes again, and worker 1 goes on to its end.
+    /// Each record of the first host that was refused, and not executed later, comes again, and worker 1 goes on to
+    /// its end.
     fn settle(
         &self,
         alloc: Global,

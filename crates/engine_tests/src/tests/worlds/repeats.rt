@@ -10,13 +10,6 @@ use super::shown::*;
 use super::{HOST, OTHER_HOST};
 use std::test::Fail;
 
-/// The root after the SETATTR.
-const SET: Shown = Shown {
-    mode: 0o700,
-    changed: 1,
-    ..ROOT
-};
-
 /// SETATTR comes again while it is in progress, and has no reply; and once more behind its commit, and has the reply
 /// that is kept. It is executed once.
 #[test]
@@ -36,7 +29,7 @@ fn a_call_that_changes_something_is_executed_once(rt: HostRuntime) -> Result<(),
             Turns(2, 1),
             Counts(0, 0, 1),
             Unanswered(1),
-            Executed(1, 1, Done(ROOT, SET)),
+            Executed(1, 1, Done(ROOT, FIRST_SET)),
             Repeated(1),
         ],
     )

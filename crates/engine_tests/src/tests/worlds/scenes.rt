@@ -21,7 +21,8 @@ pub(super) enum Move {
     Counts { living: usize, locked: usize },
     /// The era has so many records.
     Records(u64),
-    /// Each record that was refused, and not executed later, comes again, and worker 1 goes on to its end.
+    /// Each record of the first host that was refused, and not executed later, comes again, and worker 1 goes on to
+    /// its end.
     Settle,
 }
 

@@ -36,6 +36,19 @@ pub(super) const ROOT: Shown = Shown {
     changed: 0,
 };
 
+/// The root after a SETATTR of mode 0700, and after one more, of 0750.
+pub(super) const FIRST_SET: Shown = Shown {
+    mode: 0o700,
+    changed: 1,
+    ..ROOT
+};
+
+pub(super) const SECOND_SET: Shown = Shown {
+    mode: 0o750,
+    changed: 2,
+    ..ROOT
+};
+
 /// The first file that worker 1 makes, without attributes given.
 pub(super) const FIRST: Shown = Shown {
     kind: NF3REG,

@@ -9,8 +9,8 @@ use super::links::LINKED;
 use super::shown::*;
 use std::test::Fail;
 
-/// RENAME of `a` to `b` by worker 1, and LOOKUP of `b` by worker 2, in turn: both are executed, or one of them is. Where
-/// RENAME is not executed, LOOKUP finds nothing.
+/// RENAME of `a` to `b` by worker 1, and LOOKUP of `b` by worker 2, in turn: both are executed, or one of them is.
+/// Where RENAME is not executed, LOOKUP finds nothing.
 #[test]
 fn a_rename_or_a_lookup_is_stopped(rt: HostRuntime) -> Result<(), Fail> {
     may_be_stopped(
