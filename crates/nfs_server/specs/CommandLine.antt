@@ -153,7 +153,7 @@ pub record IsParsedFrom (words : List Text) (matches : ArgMatches) : Type 0 wher
   pub faultless : fault_of nfsd words ≡ []
   pub rows : rows_of (found_of matches) ≡ matches_of nfsd words
 
--- the host has another length
+-- the host has not 1 to 255 bytes
 abbrev pub IsHostRefusal : List Row → Exit → Type 0
 IsHostRefusal rows (CommandLine e) = (IsHost (host_of rows) → ⊥) × (kind_of e ≡ ValueValidation)
 IsHostRefusal rows Memory = Unit {0}

@@ -66,7 +66,9 @@ impl<C: Clock> Moments for MachineClock<C> {
 /// The server's clock: one that stands still, or the machine's.
 #[derive(Drop)]
 pub enum ServerClock<C> {
+    /// The one that stands still.
     Fixed(FixedClock),
+    /// The machine's.
     Machine(MachineClock<C>),
 }
 

@@ -45,7 +45,7 @@ const BAD_ERA: &str = "the value of '--era <N>' must be 1 to 65536";
 /// What is said where no replies are to be kept, or too many.
 const BAD_CACHE: &str = "the value of '--cache <N>' must be 1 to 65536";
 
-/// What is said of a host of another length.
+/// What is said of a host that has not 1 to 255 bytes.
 const BAD_HOST: &str = "the value of '--host <TEXT>' must have 1 to 255 bytes";
 
 /// What is said of words that are no text.

@@ -21,6 +21,7 @@ pub enum Exit {
     /// The exports are refused.
     #[error("nfsd: {0}")]
     Exports(ExportError),
+    /// There was no memory to begin to serve, or to take in a record or to answer it.
     #[error("nfsd: out of memory")]
     Memory,
     /// Standard input or output failed, or a record was too large.
@@ -56,6 +57,10 @@ impl Exit {
     }
 
     /// Prints help on standard output, and all else on standard error.
+    ///
+    /// # Errors
+    ///
+    /// That output could not be written.
     pub fn print<R: Print + Eprint>(&self, rt: &R) -> io::Result<()> {
         match self {
             Exit::CommandLine(error) => error.print(rt),

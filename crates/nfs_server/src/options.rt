@@ -8,7 +8,7 @@ use nfs_machine::Exports;
 pub struct Options {
     /// What is exported, in the order given.
     pub exports: Exports,
-    /// The start number in handles; None where it is to be the machine's time.
+    /// The start number in handles; None where it is to be the machine's time, in nanoseconds since 1970.
     pub start: Option<u64>,
     /// The second of every moment; None where the machine's clock gives the moments.
     pub clock: Option<u32>,

@@ -12,6 +12,10 @@ use std::rt::Clock;
 
 /// Serves the records of standard input, as the options say, and writes the answers to standard output, to the end of
 /// the input. What it writes is what `serve_options` promises, for what the runtime reads and writes.
+///
+/// # Errors
+///
+/// Those of `serve_options`.
 pub fn serve_stdio<R: AllocGlobal + Clock + Input + Print>(
     rt: &R,
     options: Options,
