@@ -17,7 +17,6 @@ TURNS = 5
 CAPACITY = 65_536
 REPEATS = 70_000
 BATCH = 1_000
-ALONE = 10_000
 SET = 148  # the bytes of a good reply of SETATTR, with its mark
 
 
@@ -48,7 +47,7 @@ def rates(program, kept):
         return {
             "in order": REPEATS / answer(server, in_order),
             "scattered": REPEATS / answer(server, scattered),
-            "one by one": ALONE / answer(server, scattered[:ALONE], 1),
+            "one by one": REPEATS / answer(server, scattered, 1),
         }
 
 
