@@ -212,6 +212,24 @@ fn serve<R: Read, W: Write>(
     serve_stream(alloc, engine, &host(), &mut clock, reader, writer)
 }
 
+/// What the engine answers to a host at this second, and how serving it ends.
+fn served_at(
+    alloc: Global,
+    engine: &mut Engine,
+    host: &Host,
+    seconds: u32,
+    calls: &[u8],
+) -> (Vec<u8>, Result<Served, StreamFault>)
+    requires { IsAtRest engine.old }
+    ensures { IsAtRest engine.new }
+{
+    let mut clock = FixedClock { seconds };
+    let mut reader = Counted::new(calls);
+    let mut writer = Counted::new(Vec::new(alloc));
+    let end = serve_stream(alloc, engine, host, &mut clock, &mut reader, &mut writer);
+    (writer.into_inner(), end)
+}
+
 /// What a new server writes for this input, and how serving it ends.
 fn answers(
     alloc: Global,

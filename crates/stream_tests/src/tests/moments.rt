@@ -1,6 +1,8 @@
 //! What times objects have where time goes on between calls (RFC 1813, 2.5: atime, mtime, ctime). The user 65534 makes
 //! the file `a`, and calls without a credential.
 
+ghost use Rattle.nfs_schedule.specs.Worlds.{IsAtRest};
+
 use super::*;
 
 /// A moment, a record that comes then, and its answer.
@@ -98,13 +100,7 @@ fn is_answered(alloc: Global, engine: &mut Engine, step: &Step) -> Result<bool, 
     ensures { IsAtRest engine.new }
 {
     let input = spelled(alloc, step.call)?;
-    let mut clock = FixedClock {
-        seconds: step.seconds,
-    };
-    let mut reader = Counted::new(input.as_slice());
-    let mut writer = Counted::new(Vec::new(alloc));
-    let end = serve_stream(alloc, engine, &host(), &mut clock, &mut reader, &mut writer);
-    let written = writer.into_inner();
+    let (written, end) = served_at(alloc, engine, &host(), step.seconds, &input);
     Ok(end == Ok(Served) && is_spelled(&written, step.reply))
 }
 

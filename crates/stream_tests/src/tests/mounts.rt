@@ -110,23 +110,6 @@ fn named(host: &'static [u8]) -> Result<Host, Fail> {
     }
 }
 
-/// What the engine answers to a host, and how serving it ends.
-fn served(
-    alloc: Global,
-    engine: &mut Engine,
-    host: &Host,
-    calls: &[u8],
-) -> (Vec<u8>, Result<Served, StreamFault>)
-    requires { IsAtRest engine.old }
-    ensures { IsAtRest engine.new }
-{
-    let mut clock = FixedClock { seconds: 1000 };
-    let mut reader = Counted::new(calls);
-    let mut writer = Counted::new(Vec::new(alloc));
-    let end = serve_stream(alloc, engine, host, &mut clock, &mut reader, &mut writer);
-    (writer.into_inner(), end)
-}
-
 /// The engine gives these replies to these calls of a host.
 fn follows(
     rt: &(impl Abort + AllocGlobal),
@@ -140,7 +123,7 @@ fn follows(
     let calls = calls_of(rt.alloc(), exchanges)?;
     let replies = replies_of(rt.alloc(), exchanges)?;
     let host = named(host)?;
-    let (written, end) = served(rt.alloc(), engine, &host, &calls);
+    let (written, end) = served_at(rt.alloc(), engine, &host, 1000, &calls);
     assert!(rt; written.as_slice() == replies.as_slice());
     assert_eq!(rt; end, Ok(Served));
     Ok(())
