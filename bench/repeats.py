@@ -45,20 +45,19 @@ def rates(program, kept):
         scattered = [records[number * 7919 % len(records)] for number in range(REPEATS)]
         answer(server, in_order)  # what the end of the era left to the allocator is put in order meanwhile
         return {
-            "in order": REPEATS / answer(server, in_order),
-            "scattered": REPEATS / answer(server, scattered),
-            "one by one": REPEATS / answer(server, scattered, 1),
+            ("in order", kept): REPEATS / answer(server, in_order),
+            ("one by one", kept): REPEATS / answer(server, scattered, 1),
+            ("scattered", kept): REPEATS / answer(server, scattered),
         }
 
 
 def main():
-    for kept in (100, CAPACITY):
-        nfsd.compare(
-            sys.argv[1:],
-            TURNS,
-            lambda program: rates(program, kept),
-            lambda what, rate: f"repeats {what}, {kept:6} replies are kept: {rate:9,.0f} a second",
-        )
+    nfsd.compare(
+        sys.argv[1:],
+        TURNS,
+        lambda program: rates(program, 100) | rates(program, CAPACITY),
+        lambda what, rate: f"repeats {what[0]}, {what[1]:6} replies are kept: {rate:9,.0f} a second",
+    )
 
 
 if __name__ == "__main__":
