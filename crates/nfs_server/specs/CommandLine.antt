@@ -34,19 +34,27 @@ option_rule name = record (new_rule name) { long = Some name; value_names = 1 }
 abbrev pub number_rule : Text → ValueParser → Rule
 number_rule name parser = record (option_rule name) { parser = Some parser }
 
--- the program's options; `--export` may be given more than once
-unfoldable pub nfsd : App
-nfsd =
+-- a program with the options that say what is served, and to whom; `--export` may be given more than once
+abbrev pub with_serving : App → App
+with_serving app =
     let stdio = flag_rule (codes "stdio") in
     let export = record (option_rule (codes "export")) { required = true; action = Some Append } in
     let start = number_rule (codes "start") (Unsigned 0 18446744073709551615) in
     let clock = number_rule (codes "clock") (Signed (pos 0) (pos 4294967295)) in
+    with_rule (with_rule (with_rule (with_rule app stdio) export) start) clock
+
+-- a program with the options of the peer, and of how much there is or is kept
+abbrev pub with_limits : App → App
+with_limits app =
     let host = option_rule (codes "host") in
     let bytes = number_rule (codes "bytes") (Unsigned 0 18446744073709551615) in
     let era = number_rule (codes "era") (Unsigned 0 18446744073709551615) in
     let cache = number_rule (codes "cache") (Unsigned 0 18446744073709551615) in
-    with_rule (with_rule (with_rule (with_rule (with_rule (with_rule (with_rule (with_rule
-    (new_app (codes "nfsd")) stdio) export) start) clock) host) bytes) era) cache
+    with_rule (with_rule (with_rule (with_rule app host) bytes) era) cache
+
+-- the program's options
+unfoldable pub nfsd : App
+nfsd = with_limits (with_serving (new_app (codes "nfsd")))
 
 -- ---- what a value spells
 

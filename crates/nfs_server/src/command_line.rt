@@ -1,13 +1,14 @@
 //! The command line: which options there are, and what they ask for.
 
-ghost use Rattle.std.specs.Prelude.{◌≡◌, ◌==◌, [], false, map, slice_get, unwrap_or};
+ghost use Rattle.std.specs.Prelude.{◌≡◌, ◌==◌, [], List, false, map, slice_get, unwrap_or};
 ghost use Rattle.std.specs.Prelude.{IfErr, IfOk, MatchResult};
 ghost use Rattle.std.specs.List.{slice_split};
-ghost use Rattle.clap.specs.Words.{app_of, found_of, rows_of, rule_of};
+ghost use Rattle.clap.specs.Words.{Text, app_of, found_of, rows_of, rule_of};
 ghost use Rattle.nfs_server.specs.CommandLine.{Configures, ReadsOptions, Refuses, IsParsedFrom};
 ghost use Rattle.nfs_server.specs.CommandLine.{HasLimit, IsCapacity, IsEra, IsHostRefusal, IsLimitRefusal};
 ghost use Rattle.nfs_server.specs.CommandLine.{IsReadingFault, IsRefusal, IsValueRefusal};
 ghost use Rattle.nfs_server.specs.CommandLine.{export_parts, host_of, nfsd, parts_of};
+ghost use Rattle.nfs_server.specs.CommandLine.{with_limits, with_serving};
 ghost use Rattle.nfs_server.specs.CommandLine.{flag_rule, number_rule, option_rule};
 ghost use Rattle.nfs_engine.specs.Hosts.{IsHost};
 
@@ -51,6 +52,24 @@ const BAD_HOST: &str = "the value of '--host <TEXT>' must have 1 to 255 bytes";
 /// What is said of words that are no text.
 const BAD_TEXT: &str = "invalid UTF-8 was detected in one or more arguments";
 
+// What the help says of each option.
+const STDIO_HELP: &str = "Serve records from standard input to standard output";
+
+const EXPORT_HELP: &str =
+    "Export PATH, for writing too (rw) or not (ro), to these hosts, or to all (*); once or more";
+
+const START_HELP: &str = "The start number in handles [default: the machine's time in nanoseconds]";
+
+const CLOCK_HELP: &str = "Make every moment second S since 1970 [default: the machine's clock]";
+
+const HOST_HELP: &str = "The peer's host, 1 to 255 bytes [default: 127.0.0.1]";
+
+const BYTES_HELP: &str = "The total that FSSTAT tells, in bytes [default: 1099511627776]";
+
+const ERA_HELP: &str = "Keep so many records at most, 1 to 65536 [default: 65536]";
+
+const CACHE_HELP: &str = "Keep so many replies of each host at most, 1 to 65536 [default: 1024]";
+
 // `--NAME`
 fn flag<'a>(alloc: Global, name: &'a str, help: &'a str) -> Arg<'a>
     ensures rule { rule_of result ≡ flag_rule name.entry.now }
@@ -87,68 +106,37 @@ fn number<'a>(
     option(alloc, name, value, help).value_parser(parser)
 }
 
-// The program's options.
+// The program's command, with its options.
 fn command<'a>(alloc: Global) -> Result<Command<'a>, AllocError>
     ensures { IfOk result (λ command. app_of command ≡ nfsd) }
 {
-    Command::new(alloc, "nfsd")
-        .about("Serve files by NFS version 3")
-        .arg(flag(
-            alloc,
-            "stdio",
-            "Serve records from standard input to standard output",
-        ))?
-        .arg(
-            option(
-                alloc,
-                "export",
-                "PATH,MODE,HOST[,HOST..]",
-                "Export PATH, for writing too (rw) or not (ro), to these hosts, or to all (*); once or more",
-            )
-            .required(true)
-            .action(ArgAction::Append),
-        )?
-        .arg(number(
-            alloc,
-            "start",
-            "N",
-            value_parser!(u64),
-            "The start number in handles [default: the machine's time in nanoseconds]",
-        ))?
-        .arg(number(
-            alloc,
-            "clock",
-            "S",
-            value_parser!(u32),
-            "Make every moment second S since 1970 [default: the machine's clock]",
-        ))?
-        .arg(option(
-            alloc,
-            "host",
-            "TEXT",
-            "The peer's host, 1 to 255 bytes [default: 127.0.0.1]",
-        ))?
-        .arg(number(
-            alloc,
-            "bytes",
-            "N",
-            value_parser!(u64),
-            "The total that FSSTAT tells, in bytes [default: 1099511627776]",
-        ))?
-        .arg(number(
-            alloc,
-            "era",
-            "N",
-            value_parser!(u64),
-            "Keep so many records at most, 1 to 65536 [default: 65536]",
-        ))?
-        .arg(number(
-            alloc,
-            "cache",
-            "N",
-            value_parser!(u64),
-            "Keep so many replies of each host at most, 1 to 65536 [default: 1024]",
-        ))
+    let command = Command::new(alloc, "nfsd").about("Serve files by NFS version 3");
+    with_limits(alloc, with_serving(alloc, command)?)
+}
+
+// The command with the options that say what is served, and to whom.
+fn with_serving<'a>(alloc: Global, command: Command<'a>) -> Result<Command<'a>, AllocError>
+    ensures { IfOk result (λ more. app_of more ≡ with_serving (app_of command)) }
+{
+    let export = option(alloc, "export", "PATH,MODE,HOST[,HOST..]", EXPORT_HELP)
+        .required(true)
+        .action(ArgAction::Append);
+    command
+        .arg(flag(alloc, "stdio", STDIO_HELP))?
+        .arg(export)?
+        .arg(number(alloc, "start", "N", value_parser!(u64), START_HELP))?
+        .arg(number(alloc, "clock", "S", value_parser!(u32), CLOCK_HELP))
+}
+
+// The command with the options of the peer, and of how much there is or is kept.
+fn with_limits<'a>(alloc: Global, command: Command<'a>) -> Result<Command<'a>, AllocError>
+    ensures { IfOk result (λ more. app_of more ≡ with_limits (app_of command)) }
+{
+    command
+        .arg(option(alloc, "host", "TEXT", HOST_HELP))?
+        .arg(number(alloc, "bytes", "N", value_parser!(u64), BYTES_HELP))?
+        .arg(number(alloc, "era", "N", value_parser!(u64), ERA_HELP))?
+        .arg(number(alloc, "cache", "N", value_parser!(u64), CACHE_HELP))
 }
 
 /// The words of the program's command line, of which the first is its name.
@@ -186,14 +174,44 @@ pub fn configure<S: AsStr>(alloc: Global, words: &[S]) -> Result<Options, Exit>
     ensures { MatchResult result (Configures (map S.text words.now)) (Refuses (map S.text words.now)) }
 {
     let mut command = command(alloc)?;
-    let matches = parse(&mut command, words)?;
-    let host = named_host(alloc, &mut command, &matches)?;
-    let era_records = named_limit(&mut command, &matches, "era", DEFAULT_RECORDS, BAD_ERA)?;
-    let capacity = named_limit(&mut command, &matches, "cache", DEFAULT_CAPACITY, BAD_CACHE)?;
+    let options = configure_by(alloc, &mut command, words);
+    // Calls of `drop` here and below, since a drop at the end is proved for each exit.
+    drop(command);
+    options
+}
+
+// What the words ask for by this command, which is the program's.
+fn configure_by<'a, S: AsStr>(
+    alloc: Global,
+    command: &mut Command<'a>,
+    words: &'a [S],
+) -> Result<Options, Exit>
+    requires { app_of command.old ≡ nfsd }
+    ensures { MatchResult result (Configures (map S.text words.entry.now))
+        (Refuses (map S.text words.entry.now)) }
+{
+    let matches = parse(command, words)?;
+    let options = matched_options(alloc, command, &matches);
+    drop(matches);
+    options
+}
+
+// What words with these matches ask for.
+fn matched_options(
+    alloc: Global,
+    command: &mut Command<'_>,
+    matches: &ArgMatches<'_>,
+) -> Result<Options, Exit>
+    ensures { (words : List Text) → IsParsedFrom words matches.now →
+        MatchResult result (Configures words) (Refuses words) }
+{
+    let host = named_host(alloc, command, matches)?;
+    let era_records = named_limit(command, matches, "era", DEFAULT_RECORDS, BAD_ERA)?;
+    let capacity = named_limit(command, matches, "cache", DEFAULT_CAPACITY, BAD_CACHE)?;
     if !matches.get_flag("stdio") {
         return Err(Exit::NoTransport);
     }
-    read_options(alloc, &matches, host, era_records, capacity)
+    read_options(alloc, matches, host, era_records, capacity)
 }
 
 fn parse<'a, S: AsStr>(command: &mut Command<'a>, words: &'a [S]) -> Result<ArgMatches<'a>, Exit>

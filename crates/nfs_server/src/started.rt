@@ -66,7 +66,10 @@ pub fn serve_options<C: Moments, R: Source, W: Sink>(
         era_records,
     };
     let mut engine = open(alloc, config)?;
-    match serve_stream(alloc, &mut engine, &host, clock, reader, writer) {
+    let served = serve_stream(alloc, &mut engine, &host, clock, reader, writer);
+    drop(engine);
+    drop(host);
+    match served {
         Ok(Served) => Ok(()),
         Err(fault) => Err(Exit::of(fault)),
     }

@@ -10,7 +10,7 @@ returns-in-Ok-clause-ok g c = λ input is. record {
   moment = c.moment-moment.result;
   started = c.moment-moment.new.self;
   opened = c.in_ok-engine.engine;
-  left = c.serve_stream.new.engine;
+  left = c.serve_stream-served.new.engine;
   ticked = c.moment-moment.ensures;
   under = rw (← c.unwrap_or.ensures) (ap (λ (b : BookValue). b.setting) c.in_ok-engine.ensures.opens.is);
   stands =
@@ -19,8 +19,8 @@ returns-in-Ok-clause-ok g c = λ input is. record {
   on = c.in-Ok.ensures.ok input is;
 }
 
-pub returns-clause-fault : goal.returns-clause-fault
-returns-clause-fault g c = inr (
+pub returns-in-Err-clause-fault : goal.returns-in-Err-clause-fault
+returns-in-Err-clause-fault g c = inr (
   c.in-Err.fault,
   c.of.ensures,
   (
@@ -31,7 +31,7 @@ returns-clause-fault g c = inr (
     moment = c.moment-moment.result;
     started = c.moment-moment.new.self;
     opened = c.in_ok-engine.engine;
-    left = c.serve_stream.new.engine;
+    left = c.serve_stream-served.new.engine;
     ticked = c.moment-moment.ensures;
     under = rw (← c.unwrap_or.ensures) (ap (λ (b : BookValue). b.setting) c.in_ok-engine.ensures.opens.is);
     stands =
