@@ -39,16 +39,24 @@ pub record SameJournal (old new : JournalValue) : Type 0 where
   pub records : new.records ≡ record old.records { room = new.records.room }
   pub outbox : new.outbox ≡ record old.outbox { room = new.outbox.room }
 
--- all that the call's commit wants is made, and there is room
-pub record IsReady (j : JournalValue) (f : FinishedValue) (ready : Ready) : Type 0 where
-  pub numbers : HasNumbers j f ready.number
+-- the reply is spelled, and what the call writes, posts and records is there once more
+pub record IsMade (f : FinishedValue) (ready : Ready) : Type 0 where
   pub answer : ready.answer ≡ success_message f.xid f.done.change.reply
   pub writes : map write_value ready.writes.items ≡ f.done.change.writes
   pub messages : ready.messages.items ≡ f.done.change.messages
   pub executed : shared_value ready.executed ≡ record_of f
-  pub objects : length ready.writes.items ≤ j.objects.room
+
+-- there is room for so many writes and messages, and for one more record
+pub record HasRoom (j : JournalValue) (writes messages : ℕ) : Type 0 where
+  pub objects : writes ≤ j.objects.room
   pub records : 0 < j.records.room
-  pub outbox : length ready.messages.items ≤ j.outbox.room
+  pub outbox : messages ≤ j.outbox.room
+
+-- all that the call's commit wants is made, and there is room
+pub record IsReady (j : JournalValue) (f : FinishedValue) (ready : Ready) : Type 0 where
+  pub numbers : HasNumbers j f ready.number
+  pub made : IsMade f ready
+  pub room : HasRoom j (length ready.writes.items) (length ready.messages.items)
 
 -- the writes are made, one record more, and its messages are to be sent
 pub record Writes (old new : JournalValue) (f : FinishedValue) : Type 0 where

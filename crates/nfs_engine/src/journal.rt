@@ -1,9 +1,9 @@
 //! The present store with the records that led to it, and commits of calls: first all that may want memory, then what
 //! cannot fail.
 
-ghost use Rattle.std.specs.Prelude.{◌≡◌, ◌+◌, ◌-◌, ◌*◌, ◌^◌, [], length, min, IfOk, IfSome};
-ghost use Rattle.nfs_engine.specs.Commits.{HasNumbers, IsCommitted, IsReady, SameJournal, TakesEra, TakesMessage};
-ghost use Rattle.nfs_engine.specs.Commits.{Writes};
+ghost use Rattle.std.specs.Prelude.{◌≡◌, ◌+◌, ◌-◌, ◌*◌, ◌^◌, [], length, min, IfOk, IfSome, OnOk};
+ghost use Rattle.nfs_engine.specs.Commits.{HasNumbers, HasRoom, IsCommitted, IsMade, IsReady, SameJournal};
+ghost use Rattle.nfs_engine.specs.Commits.{TakesEra, TakesMessage, Writes};
 ghost use Rattle.nfs_engine.specs.Forms.{HasForm};
 
 use crate::answers;
@@ -35,9 +35,13 @@ pub struct Receipt {
 
 /// What a call that was executed leaves: its receipt, what it still holds, and what has to be written there.
 pub struct Committed {
+    /// What its caller is told.
     pub receipt: Receipt,
+    /// The call's number.
     pub id: u64,
+    /// What it has read, which it holds still.
     pub view: View,
+    /// What the shards have to write.
     pub writes: Vec<Write>,
 }
 
@@ -49,6 +53,25 @@ pub(crate) struct Ready {
     pub writes: Vec<Write>,
     pub messages: Vec<Message>,
     pub executed: Arc<Executed>,
+}
+
+impl Ready {
+    /// What the commit of this call under this number gives away.
+    fn new(alloc: Global, number: u64, finished: &Finished) -> Result<Ready, AllocError>
+        requires { HasForm finished.now.done.change.reply }
+        ensures number { IfOk result (λ ready. ready.number ≡ number) }
+        ensures made { IfOk result (IsMade finished.now) }
+    {
+        let record = &finished.executed;
+        let answer = answers::success(alloc, finished.request.xid, &record.reply)?;
+        Ok(Ready {
+            number,
+            answer: Bytes::from_vec(answer)?,
+            writes: copy_writes(alloc, &finished.writes)?,
+            messages: copy_messages(alloc, &record.messages)?,
+            executed: Arc::try_clone(record)?,
+        })
+    }
 }
 
 /// The present store, the records of the era, and the messages that are to be sent.
@@ -117,24 +140,18 @@ impl Journal {
         ensures same { SameJournal self.old self.new }
         ensures ready { IfOk result (IsReady self.new finished.now) }
     {
-        let executed = Arc::try_clone(&finished.executed)?;
-        let answer = Bytes::from_vec(answers::success(
-            alloc,
-            finished.request.xid,
-            &executed.reply,
-        )?)?;
-        let writes = copy_writes(alloc, &finished.writes)?;
-        let messages = copy_messages(alloc, &executed.messages)?;
-        self.objects.make_room(writes.len())?;
+        self.make_room(finished.writes.len(), finished.executed.messages.len())?;
+        Ready::new(alloc, number, finished)
+    }
+
+    /// Makes room for so many writes and messages, and for one more record. An error changes nothing.
+    fn make_room(&mut self, writes: usize, messages: usize) -> Result<(), AllocError>
+        ensures same { SameJournal self.old self.new }
+        ensures room { OnOk result (HasRoom self.new writes messages) }
+    {
+        self.objects.make_room(writes)?;
         self.records.make_room()?;
-        self.outbox.make_room(messages.len())?;
-        Ok(Ready {
-            number,
-            answer,
-            writes,
-            messages,
-            executed,
-        })
+        self.outbox.make_room(messages)
     }
 
     /// Commits a call for which all is made.
