@@ -14,7 +14,11 @@ use std::alloc::{AllocError, Global};
 /// Room for most answers.
 const CAPACITY: usize = 256;
 
-/// A call that was carried out is answered by its results.
+/// The bytes of the reply to a call that was executed: its results.
+///
+/// # Errors
+///
+/// There is no memory for them.
 pub fn success(alloc: Global, xid: u32, reply: &Reply) -> Result<Vec<u8>, AllocError>
     requires { HasForm reply.now }
     ensures { IfOk result (λ bytes. bytes.items ≡ success_message xid reply.now) }
@@ -32,7 +36,11 @@ fn write_success(alloc: Global, xid: u32, reply: &Reply) -> Result<Vec<u8>, XdrE
     Ok(finish_record(writer))
 }
 
-/// A call that was not carried out is answered by its fault.
+/// The bytes of the reply that tells this fault.
+///
+/// # Errors
+///
+/// There is no memory for them.
 pub fn failure(alloc: Global, xid: u32, fault: Fault) -> Result<Vec<u8>, AllocError>
     ensures { IfOk result (λ bytes. bytes.items ≡ failure_message xid fault) }
 {
@@ -41,7 +49,11 @@ pub fn failure(alloc: Global, xid: u32, fault: Fault) -> Result<Vec<u8>, AllocEr
     Ok(finish_record(writer))
 }
 
-/// A record with a fault is answered by it; None where it is dropped.
+/// The bytes of the answer to a record with a fault; None where it is dropped.
+///
+/// # Errors
+///
+/// There is no memory for them.
 pub fn early(alloc: Global, early: Early) -> Result<Option<Vec<u8>>, AllocError>
     ensures { IfOk result (λ answer. answer_of answer ≡ fault_answer early) }
 {
@@ -51,7 +63,11 @@ pub fn early(alloc: Global, early: Early) -> Result<Option<Vec<u8>>, AllocError>
     }
 }
 
-/// A call that there was no memory for is answered by its refusal.
+/// The bytes of the reply to a call that was refused, for want of memory or of a number.
+///
+/// # Errors
+///
+/// There is no memory for them.
 pub fn refuse(alloc: Global, xid: u32, refusal: &Refusal) -> Result<Vec<u8>, AllocError>
     requires { RefusalHasForm refusal.now }
     ensures { IfOk result (λ bytes. bytes.items ≡ refusal_message xid refusal.now) }

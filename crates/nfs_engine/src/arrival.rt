@@ -18,13 +18,20 @@ use std::marker::Model;
 /// A record that came in: from whom, its bytes, and when.
 #[derive(Drop)]
 pub struct Received {
+    /// Who sent it.
     pub host: Host,
+    /// Its bytes, without marks.
     pub message: Record,
+    /// When it came.
     pub moment: Moment,
 }
 
 impl Received {
     /// One more owner of its bytes.
+    ///
+    /// # Errors
+    ///
+    /// There is no memory for one more owner.
     pub fn share(&self) -> Result<Received, AllocError>
         ensures { IfOk result (λ shared. received_value shared ≡ received_value self.now) }
     {
@@ -86,6 +93,7 @@ impl Arrival {
     ) -> Result<Arrival, AllocError>
         ensures { IfOk result (λ a. a.received ≡ record { host = host; bytes = message; moment = moment }) }
     {
+        // It brings that the host has 1 to 255 bytes.
         host.text();
         let reading = match read_record(&message) {
             Ok(asked) => Reading::Asks(asked),
@@ -107,6 +115,7 @@ impl Arrival {
         requires { IsAsked (received_value received).bytes asked }
         ensures { result ≡ record { received = received_value received; reading = Reading.Asks asked } }
     {
+        // It brings that the host has 1 to 255 bytes.
         received.host.text();
         Arrival {
             received,

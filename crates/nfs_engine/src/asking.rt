@@ -10,8 +10,11 @@ use side_wire::{mount, nlm};
 /// A call that came in.
 #[derive(Drop)]
 pub struct Asked {
+    /// The transaction id.
     pub xid: u32,
+    /// Who calls: its user and groups.
     pub ids: Ids,
+    /// What is asked, with its arguments.
     pub call: Call,
 }
 
@@ -24,7 +27,11 @@ pub enum Unasked {
     Memory,
 }
 
-/// Reads the call that a record is, or its first fault.
+/// Reads the call that a record is, or its first fault (RFC 5531, 9).
+///
+/// # Errors
+///
+/// Its first fault, or there is no memory to share its arguments' bytes.
 pub fn read_record(message: &Record) -> Result<Asked, Unasked>
     ensures { ReadsRecord message.now result }
 {

@@ -276,6 +276,7 @@ impl Book {
         ensures leaves { IfOk result (Leaves finished) }
         ensures err { IfErr result (λ back. (back ≡ finished) × (self.new ≡ self.old)) }
     {
+        // It brings that this is what its record asks, and keeps the promise.
         finished.is_finished();
         let Some(ready) = self.journal.make_ready(alloc, &finished) else {
             return Err(finished);

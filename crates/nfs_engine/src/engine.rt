@@ -81,7 +81,11 @@ impl Engine {
         let _ = &self.book;
     }
 
-    /// Reads an address for a call, which holds it from then on in this mode. Taken and errors change nothing.
+    /// Reads an address for a call, which holds it from then on in this mode. Taken changes nothing.
+    ///
+    /// # Errors
+    ///
+    /// There is no memory for it in the view or in the shard. Nothing is changed.
     pub fn acquire(
         &mut self,
         alloc: Global,
@@ -102,7 +106,11 @@ impl Engine {
 }
 
 impl Engine {
-    /// Gets a number of this shard for a call, held alone and empty from then on. An error changes nothing.
+    /// Gets a number of this shard for a call, held alone and empty from then on.
+    ///
+    /// # Errors
+    ///
+    /// `Spent` where the shard's last generation was given, else `Memory`. Nothing is changed.
     pub fn reserve(
         &mut self,
         alloc: Global,
@@ -144,6 +152,7 @@ impl Engine {
         ensures release { IfOk result (λ r. IsReleased finished r.1) }
         ensures err { IfErr result (λ back. (back ≡ finished) × (self.new ≡ self.old)) }
     {
+        // They bring the promise, and that no reply is kept for a call in progress.
         finished.is_finished();
         self.book.run();
         let Committed {

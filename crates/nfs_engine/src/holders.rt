@@ -8,11 +8,13 @@ use crate::sharers::Sharers;
 use nfs_objects::Mode;
 use std::alloc::{AllocError, Global};
 
-/// Who holds an address, by their numbers: one alone, or several beside each other, each once.
+/// Who holds an address, by their numbers: nobody, one that excludes all others, or some beside each other, each once.
 #[derive(Drop)]
 pub enum Holders {
     Nobody,
+    /// It holds the address exclusively.
     One(u64),
+    /// They hold it shared; it may be one, and where there is none it is held by nobody.
     Several(Sharers),
 }
 
@@ -42,7 +44,11 @@ impl Holders {
         }
     }
 
-    /// One more holder, whom nobody excludes. An error changes nothing.
+    /// One more holder, whom nobody excludes.
+    ///
+    /// # Errors
+    ///
+    /// There is no memory for one more. Nothing is changed.
     pub fn add(&mut self, alloc: Global, mode: Mode, id: u64) -> Result<(), AllocError>
         requires { CanHold mode (holders_value self.old) }
         ensures ok { OnOk result (Reholds (holders_value self.old) (holders_value self.new) id (Some mode)) }

@@ -47,6 +47,10 @@ impl Host {
     }
 
     /// One more owner of its name.
+    ///
+    /// # Errors
+    ///
+    /// There is no memory for one more owner.
     pub fn share(&self) -> Result<Host, AllocError>
         ensures { IfOk result (λ host. host ≡ self.now) }
     {

@@ -27,7 +27,8 @@ pub(crate) struct Kept {
 }
 
 /// What stands at each address, and which generation its number was given last. An address that is not there is empty,
-/// and its number was never given.
+/// and its number was never given. An address that was written stays in it, empty or not; of its look-ups only
+/// comparisons of views (`fits`) make use.
 #[derive(Drop)]
 pub(crate) struct Objects {
     slots: IndexMap<Addr, Kept>,

@@ -22,6 +22,7 @@ const MOST: u64 = 65_536;
 /// What an engine is started with.
 #[derive(Drop)]
 pub struct Config {
+    /// What is exported, in the order given.
     pub exports: Exports,
     /// The start number, which each handle has.
     pub start: u64,
@@ -29,6 +30,7 @@ pub struct Config {
     pub moment: Moment,
     /// How many replies are kept of each host, from 1 to 65,536.
     pub capacity: u64,
+    /// What FSSTAT tells of space.
     pub limits: Limits,
     /// At how many records an era is full, from 1 to 65,536.
     pub era_records: u64,

@@ -17,7 +17,7 @@ use thiserror::Error;
 pub enum AdmitError {
     #[error("out of memory")]
     Memory,
-    /// 2^64 - 1 calls came in before.
+    /// 2^64 - 1 calls were admitted before.
     #[error("no number is left")]
     Spent,
 }

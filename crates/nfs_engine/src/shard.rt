@@ -28,8 +28,8 @@ pub const SHARDS: usize = 16;
 /// The generation that a shard gives first. Those of the roots, 1, lie below it.
 const FIRST_GENERATION: u64 = 2;
 
-/// The shard in which an address stands. What a group of objects uses stands in the shard of that number; the tables
-/// of exports and of mounts stand in the first one.
+/// The shard in which an address stands: an inode in that of its number modulo 16, what a group of objects uses in that
+/// of the group modulo 16, the tables of exports and of mounts in the first one.
 pub fn shard_index(address: Addr) -> usize
     ensures which { result ≡ shard_of address }
     ensures within { result < 16 }
@@ -116,8 +116,8 @@ fn remove_number(numbers: &mut Slab<Slot>, key: usize)
     numbers.remove(key);
 }
 
-/// Makes room for one more slot in the slab, at a key whose number has no slot. A number of the next key that has its
-/// slot in the map gets it in the slab.
+/// The number of a free key, with room for its slot in the slab. Where the next free key's number has its slot in the
+/// map, that slot moves into the slab, and the next key is tried.
 fn free_number(
     numbers: &mut Slab<Slot>,
     others: &mut IndexMap<Addr, Slot>,
@@ -140,19 +140,19 @@ fn free_number(
     }
 }
 
-/// What asking for an address came to.
+/// What asking a shard for an address came to.
 #[derive(Drop)]
 pub enum Had {
     /// It is held, and this stands there.
     Yes(Option<Arc<Object>>),
-    /// This one holds it in a mode that excludes.
+    /// The call with this number holds it in a mode that excludes.
     Taken(u64),
 }
 
 /// Why no number was reserved.
 #[derive(Clone, Copy, Debug, PartialEq, Eq, Error)]
 pub enum ReserveError {
-    /// There is no memory for it. Of 2^60 slots a shard has memory for none.
+    /// There is no memory for it, or the number would pass 2^64 - 1, which takes 2^60 slots.
     #[error("out of memory")]
     Memory,
     /// The last generation was given.
@@ -174,7 +174,11 @@ impl Shard {
         }
     }
 
-    /// Takes an address for a holder. Taken and errors change nothing.
+    /// Takes an address for a holder. Taken changes nothing.
+    ///
+    /// # Errors
+    ///
+    /// There is no memory for a slot, or for one more holder. Nothing is changed.
     pub fn acquire(
         &mut self,
         alloc: Global,
@@ -217,7 +221,11 @@ impl Shard {
     }
 
     /// Reserves a number of this shard where nothing stands and which nobody holds, with a generation above all that
-    /// were given here. It is held alone from then on. An error changes nothing.
+    /// were given here. It is held alone from then on.
+    ///
+    /// # Errors
+    ///
+    /// `Spent` where the last generation was given, else `Memory`. Nothing is changed.
     pub fn reserve(&mut self, id: u64) -> Result<Reserved, ReserveError>
         ensures { IsReservedIn self.old self.new id result }
     {

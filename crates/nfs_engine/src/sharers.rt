@@ -28,6 +28,10 @@ impl Model for Sharers {
 
 impl Sharers {
     /// One alone.
+    ///
+    /// # Errors
+    ///
+    /// There is no memory for the list.
     pub fn one(alloc: Global, id: u64) -> Result<Sharers, AllocError>
         ensures { IfOk result (λ sharers. sharers ≡ id ∷ []) }
     {
@@ -50,7 +54,11 @@ impl Sharers {
         self.ids.first().copied()
     }
 
-    /// Adds one, who may be among them. An error changes nothing.
+    /// Adds one, who may be among them.
+    ///
+    /// # Errors
+    ///
+    /// There is no memory for one more. Nothing is changed.
     pub fn add(&mut self, id: u64) -> Result<(), AllocError>
         ensures added { OnOk result ((j : ℕ) → is_among self.new j ≡ ((id == j) || is_among self.old j)) }
         ensures err { OnErr result (self.new ≡ self.old) }

@@ -10,17 +10,21 @@ use nfs_objects::{Addr, Mode, RoomyView, View};
 use std::alloc::{AllocError, Global};
 use std::mem;
 
-/// What asking for an address came to.
+/// What asking for an address came to for a call.
 #[derive(Clone, Copy, PartialEq, Eq)]
 pub enum Got {
     /// It is held, and what stands there is in the view.
     Yes,
-    /// This one holds it in a mode that excludes.
+    /// The call with this number holds it in a mode that excludes.
     Taken(u64),
 }
 
 impl Txn {
-    /// Takes an address of this shard, and reads what stands there. Taken and errors change nothing.
+    /// Takes an address of this shard, and reads what stands there. Taken changes nothing.
+    ///
+    /// # Errors
+    ///
+    /// There is no memory for it in the view or in the shard. Nothing is changed.
     pub fn acquire_in(
         &mut self,
         alloc: Global,
@@ -46,7 +50,11 @@ impl Txn {
         got
     }
 
-    /// Gets a number of this shard that no other call has, held alone and empty. An error changes nothing.
+    /// Gets a number of this shard that no other call has, held alone and empty.
+    ///
+    /// # Errors
+    ///
+    /// `Spent` where the shard's last generation was given, else `Memory`. Nothing is changed.
     pub fn reserve_in(&mut self, alloc: Global, shard: &mut Shard) -> Result<(), ReserveError>
         requires holds { HoldsIn shard.old self.old.id self.old.view.entries }
         ensures gained { IsGained (record { shard = shard.old; view = self.old.view })

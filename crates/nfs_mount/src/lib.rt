@@ -1,8 +1,8 @@
 //! The procedures of MOUNT version 3 (RFC 1813, appendix I), each as straight code over a draft.
 //!
 //! An attempt is a function of its arguments: it reads the view and nothing else, and comes to the addresses that it
-//! still needs, or to a change. Its contract is the promise that a `Done` keeps by its type, which is that the answer
-//! is a step of the machine in every sound store that the view fits, and what may be asked for. All six procedures are
+//! still needs, or to a change. Its contract is the promise of a call's end (`IsPromised`), which is that the answer is
+//! a step of the machine in every sound store that the view fits, and what may be asked for. All six procedures are
 //! here. It stands on `nfs_inodes` for objects and directories, on `nfs_objects` for drafts and the tables of exports
 //! and mounts, and on `nfs_machine` for the steps.
 #![tactic(auto)]

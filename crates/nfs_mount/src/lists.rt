@@ -13,6 +13,10 @@ use side_wire::{ExportList, ExportNode, Groups, MountBody, MountCall, MountList,
 use std::alloc::{AllocError, Global};
 
 /// Tries DUMP: all that is mounted, in the order of mounting.
+///
+/// # Errors
+///
+/// `Need` of the exports or of the mounts, and `Memory`.
 pub fn attempt_dump(draft: Draft<'_>) -> Result<Change, Halt>
     requires { Begins (Call.Mount MountCall.Dump) draft }
     ensures ends { Ends (Call.Mount MountCall.Dump) draft.entry.ctx draft.entry.view result }
@@ -25,6 +29,10 @@ pub fn attempt_dump(draft: Draft<'_>) -> Result<Change, Halt>
 }
 
 /// Tries EXPORT: the exports in the order given, each with the hosts that may use it.
+///
+/// # Errors
+///
+/// `Need` of the exports, and `Memory`.
 pub fn attempt_export(draft: Draft<'_>) -> Result<Change, Halt>
     requires { Begins (Call.Mount MountCall.Export) draft }
     ensures ends { Ends (Call.Mount MountCall.Export) draft.entry.ctx draft.entry.view result }

@@ -18,6 +18,10 @@ use nfs_objects::{Addr, Change, Draft, Halt, Mode, MountTable};
 use side_wire::{MountCall, MountReply, MountStatus};
 
 /// Tries MNT of a path: the handle of the directory that it names, and the path is listed for the caller's host.
+///
+/// # Errors
+///
+/// `Need` of the exports, of a directory that the path leads through or of the mounts, and `Memory`.
 pub fn attempt(draft: Draft<'_>, path: &Bytes) -> Result<Change, Halt>
     requires { Begins (Call.Mount (MountCall.Mnt path.now)) draft }
     ensures ends { Ends (Call.Mount (MountCall.Mnt path.now)) draft.entry.ctx draft.entry.view result }

@@ -13,6 +13,10 @@ use nfs_objects::{Addr, Change, Draft, Halt, Leaving, Mode};
 use side_wire::{MountCall, MountReply};
 
 /// Tries UMNT of a path: the caller's host has it mounted no more.
+///
+/// # Errors
+///
+/// `Need` of the exports or of the mounts, and `Memory`.
 pub fn attempt_path(draft: Draft<'_>, path: &Bytes) -> Result<Change, Halt>
     requires { Begins (Call.Mount (MountCall.Unmount path.now)) draft }
     ensures ends { Ends (Call.Mount (MountCall.Unmount path.now)) draft.entry.ctx draft.entry.view result }
@@ -26,6 +30,10 @@ pub fn attempt_path(draft: Draft<'_>, path: &Bytes) -> Result<Change, Halt>
 }
 
 /// Tries UMNTALL: the caller's host has nothing mounted any more.
+///
+/// # Errors
+///
+/// `Need` of the exports or of the mounts, and `Memory`.
 pub fn attempt_all(draft: Draft<'_>) -> Result<Change, Halt>
     requires { Begins (Call.Mount MountCall.UnmountAll) draft }
     ensures ends { Ends (Call.Mount MountCall.UnmountAll) draft.entry.ctx draft.entry.view result }

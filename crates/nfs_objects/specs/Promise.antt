@@ -49,7 +49,7 @@ pub record IsStep (d : DoneValue) (s : Store) (k : Kept) : Type 0 where
   pub sound : Sound new
   pub formed : WellFormed new.state
 
--- the promise that the type of `Done` keeps
+-- the promise of a call's end, which the type of `nfs_engine`'s `Finished` keeps
 pub record IsPromised (d : DoneValue) : Type 0 where
   -- whatever the store, if it is sound, and the view fits it
   pub kept : (s : Store) (k : Kept) → Fits d.view s → Represents s k → Sound k → WellFormed k.state →

@@ -24,6 +24,7 @@ use std::marker::Model;
 pub struct Leaf {
     /// The object's number.
     pub number: u64,
+    /// Above 2, and rising with each name that comes.
     pub cookie: u64,
 }
 
@@ -123,6 +124,10 @@ impl Entries {
     }
 
     /// The same with this entry last. The entries themselves stay as they are.
+    ///
+    /// # Errors
+    ///
+    /// There is no memory for the copy.
     pub fn with_entry(&self, name: &Bytes, leaf: Leaf) -> Result<Entries, AllocError>
         requires { find (λ e. same_bytes e.name name.now) self.now ≡ None }
         ensures { IfOk result (λ entries. entries ≡ self.now ++ entry name.now leaf ∷ []) }
@@ -133,6 +138,10 @@ impl Entries {
     }
 
     /// The same without this name. The entries themselves stay as they are.
+    ///
+    /// # Errors
+    ///
+    /// There is no memory for the copy.
     pub fn without_name(&self, name: &[u8]) -> Result<Entries, AllocError>
         ensures { IfOk result (λ entries. entries ≡ without self.now name.now) }
     {
@@ -182,7 +191,7 @@ impl Eq for Entries {
     ghost laws = { decided (pointwise same_entry) entries_decide };
 }
 
-/// A directory (RFC 1813, 2.1).
+/// A directory (RFC 1813, 2.5: NF3DIR).
 #[derive(Drop)]
 pub struct Directory {
     /// The number of the directory that it is named in; of a root, its own.

@@ -13,6 +13,10 @@ use nfs_wire::NfsStatus;
 use std::alloc::AllocError;
 
 /// A failed check as a value, for the answer; all else halts the call.
+///
+/// # Errors
+///
+/// What halts the call but a failed check.
 pub fn settled<T: Drop>(checked: Result<T, Halt>) -> Result<Result<T, NfsStatus>, Halt>
     ensures { Settles checked result }
 {
@@ -24,6 +28,10 @@ pub fn settled<T: Drop>(checked: Result<T, Halt>) -> Result<Result<T, NfsStatus>
 }
 
 /// What an attempt comes to that ended so.
+///
+/// # Errors
+///
+/// There was no memory for it.
 pub fn outcome(ended: Result<Change, Halt>) -> Result<Outcome, AllocError>
     requires { IsSettled ended }
     ensures attempts { (call : Call) (ctx : Ctx) (view : ViewValue) → Ends call ctx view ended →

@@ -159,7 +159,11 @@ impl View {
         &self.reserved
     }
 
-    /// Adds what is known of an address. An error changes nothing.
+    /// Adds what is known of an address.
+    ///
+    /// # Errors
+    ///
+    /// There is no memory for it. Nothing is changed.
     pub fn add(
         &mut self,
         address: Addr,
@@ -180,7 +184,11 @@ impl View {
         Ok(())
     }
 
-    /// Adds a number that may be given, whose address is empty. An error changes nothing.
+    /// Adds a number that may be given, whose address is empty.
+    ///
+    /// # Errors
+    ///
+    /// There is no memory for it. Nothing is changed.
     pub fn add_reserved(&mut self, reserved: Reserved) -> Result<(), AllocError>
         requires { seen_at self.old.entries (Addr.Inode reserved.number) ≡ None }
         ensures ok { OnOk result
@@ -328,6 +336,10 @@ impl RoomyView {
 }
 
 /// One more owner of an object.
+///
+/// # Errors
+///
+/// There is no memory for one more owner.
 pub fn share(object: &Option<Arc<Object>>) -> Result<Option<Arc<Object>>, AllocError>
     ensures { IfOk result (λ o. option_map arc_value o ≡ option_map arc_value object.now) }
 {

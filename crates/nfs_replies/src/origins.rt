@@ -23,6 +23,10 @@ pub struct Origin {
 
 impl Origin {
     /// One more owner of the same bytes.
+    ///
+    /// # Errors
+    ///
+    /// There is no memory for one more owner.
     pub fn share(&self) -> Result<Origin, AllocError>
         ensures { IfOk result (λ shared. shared ≡ self.now) }
     {
@@ -78,7 +82,11 @@ impl Origins {
         self.set.contains(origin)
     }
 
-    /// Adds one. An error changes nothing.
+    /// Adds one.
+    ///
+    /// # Errors
+    ///
+    /// There is no memory for one more. Nothing is changed.
     pub fn add(&mut self, origin: Origin) -> Result<(), AllocError>
         ensures added { OnOk result (Adds origin self.old self.new) }
         ensures err { OnErr result (self.new ≡ self.old) }

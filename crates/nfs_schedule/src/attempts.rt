@@ -12,6 +12,10 @@ use nfs_wire::NfsCall;
 use std::alloc::{AllocError, Global};
 
 /// What the call comes to on what was read.
+///
+/// # Errors
+///
+/// There is no memory for it.
 pub fn attempt(alloc: Global, call: &Call, ctx: &Ctx, view: &View) -> Result<Outcome, AllocError>
     requires built { IsBuilt call.now }
     requires suits { Suits (modes_of call.now) view.now }

@@ -86,6 +86,7 @@ fn arrive(alloc: Global, world: &mut World, received: &Received) -> Result<(), A
         moment,
     } = received.share()?;
     let arrival = Arrival::read(alloc, host, message, moment)?;
+    // It brings that this is what the record asks.
     arrival.reading();
     world.arrive(arrival)?;
     Ok(())

@@ -78,6 +78,7 @@ fn run(alloc: Global, engine: &mut Engine, txn: &mut Txn) -> Result<Change, Unme
     'rounds: loop {
         // Each round adds to the view, which is shorter than 2^64: so rounds come to an end.
         let _known = txn.view().len();
+        // It brings that this is what the record asks, so that its procedure is built.
         txn.is_called();
         match attempt(alloc, txn.call(), txn.ctx(), txn.view()) {
             Ok(Outcome::Need(asked)) => acquire_all(alloc, engine, txn, &asked)?,

@@ -293,6 +293,7 @@ fn answer(
     ensures err { OnErr result (ExecutesNothing engine.old engine.new) }
 {
     let arrival = Arrival::read(alloc, host.share()?, message, moment)?;
+    // It brings that this is what the record asks.
     arrival.reading();
     match execute(alloc, engine, arrival) {
         Answer::Refused(declined) => told(declined),

@@ -111,6 +111,7 @@ fn consider(alloc: Global, txn: Txn) -> Worker
     requires { IsSuited txn }
     ensures { Comes txn result }
 {
+    // It brings that this is what the record asks, so that its procedure is built.
     txn.is_called();
     match attempt(alloc, txn.call(), txn.ctx(), txn.view()) {
         Ok(Outcome::Need(wanted)) => Worker::Wanting(txn, wanted.into_iter()),

@@ -44,7 +44,11 @@ impl Model for World {
 }
 
 impl World {
-    /// A world with so many workers, each idle, over an engine at rest. An error hands the engine back.
+    /// A world with so many workers, each idle, over an engine at rest.
+    ///
+    /// # Errors
+    ///
+    /// There is no memory for the workers. The engine is handed back.
     #[tactic(auto, using(crate::proofs::Kept::kept_new))]
     pub fn new(alloc: Global, engine: Engine, workers: usize) -> Result<World, (AllocError, Engine)>
         requires { IsAtRest engine }
@@ -133,7 +137,11 @@ impl World {
 }
 
 impl World {
-    /// Puts a record that came in last in the queue. An error changes nothing.
+    /// Puts a record that came in last in the queue.
+    ///
+    /// # Errors
+    ///
+    /// There is no memory for one more. Nothing is changed.
     pub fn arrive(&mut self, arrival: Arrival) -> Result<(), AllocError>
         ensures ok { OnOk result (self.new ≡ record self.old { queue = self.old.queue ++ arrival ∷ [] }) }
         ensures err { OnErr result (self.new ≡ self.old) }
@@ -168,7 +176,11 @@ impl World {
         stop_at(&mut self.engine, &mut self.workers[worker - 1])
     }
 
-    /// Takes the oldest message that was not yet taken, if there is one. An error changes nothing.
+    /// Takes the oldest message that was not yet taken, if there is one.
+    ///
+    /// # Errors
+    ///
+    /// There is no memory to keep it. Nothing is changed.
     pub fn take_message(&mut self) -> Result<(), AllocError>
         ensures ok { OnOk result (TakesOldest self.old self.new) }
         ensures runs { OnOk result (RunsOn self.old self.new) }
@@ -182,7 +194,11 @@ impl World {
         Ok(())
     }
 
-    /// Ends the era, and begins the next. An error changes nothing.
+    /// Ends the era, and begins the next.
+    ///
+    /// # Errors
+    ///
+    /// There is no memory to keep it. Nothing is changed.
     pub fn new_era(&mut self, alloc: Global) -> Result<(), AllocError>
         ensures ok { OnOk result (TurnsEra self.old self.new) }
         ensures runs { OnOk result (RunsOn self.old self.new) }
