@@ -336,7 +336,7 @@ abbrev link_by : State → List ℕ → (file directory : Resolved) → Result (
 link_by m name f d =
     object_of f >>= λ file. object_of d >>= λ directory. holding (file.object.export == directory.object.export) status.CrossDevice >>= λ _. holding (not (is_directory file.object.content)) status.Invalid
     >>= λ _. entries_in directory.object.content >>= λ entries. plain_name_checked status.Invalid status.Invalid name >>=
-    λ _. changeable writable directory.object >>= λ _. permitted nobody directory.object ToChange
+    λ _. changeable m.exports directory.object >>= λ _. permitted nobody directory.object ToChange
     >>= λ _. link_names m name file directory entries (links_of m file.number file.object.content)
 
 module _ (k : State) (entries : List Entry) (of_root : get k.objects 1 ≡ Some (root_with entries))
@@ -349,6 +349,15 @@ module _ (k : State) (entries : List Entry) (of_root : get k.objects 1 ≡ Some 
       (x-named (with_writable k) refl x_written refl refl of_x)
       ∙ ap (λ d. link_by (with_writable k) name (Names 5 x_written) d)
       (root-named (with_writable k) refl (root_with entries) refl refl of_root)
+
+  read-by : (name : List ℕ) →
+      link_end (read_only (with_writable k)) nobody (linking name) ≡ link_by (read_only (with_writable k)) name
+      (Names 5 x_written) (Names 1 (root_with entries))
+  read-by name =
+      ap (λ f. link_by (read_only (with_writable k)) name f (resolve (read_only (with_writable k)) nobody root_bytes))
+      (ap (λ (l : Option Living). living_at l (record root_handle { fileid = 5 })) of_x)
+      ∙ ap (link_by (read_only (with_writable k)) name (Names 5 x_written))
+      (ap (λ (l : Option Living). living_at l root_handle) of_root)
 
   -- where the name is found so
   linked-where : (name : List ℕ) (found : Option Entry) → entry_of entries name ≡ found → (links : ℕ)
@@ -373,6 +382,8 @@ module _ (k : State) (entries : List Entry) (of_root : get k.objects 1 ≡ Some 
     there = λ e found. linked-by (codes "x") ∙ linked-where (codes "x") (Some e) found
         (names_of (with_writable k) 5);
     self = linked-by (codes ".");
+    fixed = read-by (codes "x");
+    self_fixed = read-by (codes ".");
     directory =
         ap (λ f. link_by (with_writable k) (codes "y") f (resolve (with_writable k) nobody root_bytes))
         (root-named (with_writable k) refl (root_with entries) refl refl of_root)

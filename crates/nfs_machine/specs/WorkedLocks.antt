@@ -1,6 +1,6 @@
 -- Locks and shares worked through by hand (RFC 1813, appendix II), and lists of MOUNT (appendix I, 5.2.2 to 5.2.5).
 use Rattle.std.specs.Prelude.{◌≡◌, ℕ, ◌-◌, ◌^◌, Bool, true, false, List, [], ◌∷◌, Err, codes}
-use Rattle.std.specs.Prelude.{pos, None, Some}
+use Rattle.std.specs.Prelude.{◌≤◌, length, pos, None, Some}
 use Rattle.std.specs.FinMap.{FinMap, get}
 use Rattle.std.specs.List.{list_any}
 use Rattle.std.specs.Ordering.{nat_cmp}
@@ -19,7 +19,7 @@ use Rattle.nfs_machine.specs.FileLists.{all_but, of_file, with_list}
 use Rattle.nfs_machine.specs.LockSteps.{Tests, is_grant_number, length_shown, share_of}
 use Rattle.nfs_machine.specs.Locks.{HasModes, denies, fits_offsets, modes_conflict, modes_with, range_of, same_sharer}
 use Rattle.nfs_machine.specs.Locks.{shares_conflict, Mode}
-use Rattle.nfs_machine.specs.MountSteps.{MountStep, walk, with_mount}
+use Rattle.nfs_machine.specs.MountSteps.{MountStep, newest, walk, with_mount}
 use Rattle.nfs_machine.specs.State.{Lock, Owner, Request, Share, State, Range}
 use Rattle.nfs_machine.specs.Worked.{called_by, find, two_exports}
 use Rattle.nfs_machine.specs.declared.context.Limits.{Limits}
@@ -177,6 +177,13 @@ three_mounts = mounted (codes "h1") (codes "/a") ∷ mounted (codes "h2") (codes
     mounted (codes "h1") (codes "//a/") ∷ []
 
 -- of exports `/a` for `*` and `/a/b` for 10.0.0.2
+-- which mounts are kept
+pub record WorkedNewest : Type 0 where
+  -- of 65,537 mounts the first goes, and of fewer none
+  pub full : (first : MountBody) (mounts : List MountBody) → length mounts ≡ 65536 →
+      newest (first ∷ mounts) ≡ mounts
+  pub fits : (mounts : List MountBody) → length mounts ≤ 65536 → newest mounts ≡ mounts
+
 pub record WorkedMounts : Type 0 where
   -- MNT adds a path of a host once
   pub dump : (m : State)

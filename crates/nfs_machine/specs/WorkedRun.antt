@@ -208,6 +208,10 @@ pub record WorkedSteps : Type 0 where
   pub removes : NfsStep with_hi nobody (nfs.Remove (in_root (codes "x"))) removed_reply [] removed
   pub refuses : NfsStep with_x nobody (nfs.Write miscounted) refused_reply [] with_x
 
+-- the export is read only
+abbrev pub read_only : State → State
+read_only m = record m { exports = unwritable }
+
 -- LINK of "x" under another name
 abbrev pub linking : List ℕ → LinkArguments
 linking name = record { file = x_bytes; place = in_root name }
@@ -233,6 +237,9 @@ pub record WorkedLinking (m : State) (entries : List Entry) : Type 0 where
   pub there : (e : Entry) → entry_of entries (codes "x") ≡ Some e →
       link_end m nobody (linking (codes "x")) ≡ Err status.Exists
   pub self : link_end m nobody (linking (codes ".")) ≡ Err status.Invalid
+  -- in a read only export a name that is there is not looked at, and "." is refused before that
+  pub fixed : link_end (read_only m) nobody (linking (codes "x")) ≡ Err status.ReadOnly
+  pub self_fixed : link_end (read_only m) nobody (linking (codes ".")) ≡ Err status.Invalid
   pub directory : link_end m nobody (record (linking (codes "y")) { file = root_bytes }) ≡ Err status.Invalid
   pub into_file : link_end m nobody
       (record (linking (codes "y")) { place = record { directory = x_bytes; name = codes "y" } }) ≡
@@ -245,10 +252,6 @@ WorkedLinkings = (m : State) (entries : List Entry) → get m.objects 1 ≡ Some
 -- RENAME of a name of the root to another
 abbrev pub renaming : (from to : List ℕ) → RenameArguments
 renaming from to = record { from = in_root from; to = in_root to }
-
--- the export is read only
-abbrev pub read_only : State → State
-read_only m = record m { exports = unwritable }
 
 -- the root, which is both directories, changes once
 abbrev pub renamed : State → List Entry → State

@@ -1,12 +1,13 @@
 //! Worked values of the definitions, proved by computing them.
 
 ghost use Rattle.nfs_machine.specs.Worked.{WorkedExports, WorkedHandles, WorkedPaths, WorkedRights, WorkedWalks};
-ghost use Rattle.nfs_machine.specs.WorkedChanging.{WorkedChanging};
+ghost use Rattle.nfs_machine.specs.WorkedChanging.{WorkedChanging, WorkedLockChanging, WorkedMountChanging};
 ghost use Rattle.nfs_machine.specs.WorkedExports.{WorkedExporting};
 ghost use Rattle.nfs_machine.specs.WorkedFiles.{WorkedContent, WorkedNames, WorkedTimes};
 ghost use Rattle.nfs_machine.specs.WorkedCreate.{WorkedAttributes, WorkedExisting, WorkedNewFile};
 ghost use Rattle.nfs_machine.specs.WorkedLocking.{WorkedChecks, WorkedLocking};
-ghost use Rattle.nfs_machine.specs.WorkedLocks.{WorkedGrants, WorkedMounts, WorkedRanges, WorkedShares, WorkedTests};
+ghost use Rattle.nfs_machine.specs.WorkedLocks.{WorkedGrants, WorkedMounts, WorkedNewest, WorkedRanges};
+ghost use Rattle.nfs_machine.specs.WorkedLocks.{WorkedShares, WorkedTests};
 ghost use Rattle.nfs_machine.specs.WorkedPages.{WorkedFullPages, WorkedPages, WorkedSizes};
 ghost use Rattle.nfs_machine.specs.WorkedReplies.{WorkedFileReplies, WorkedRootReplies};
 ghost use Rattle.nfs_machine.specs.WorkedRun.{WorkedLeaving, WorkedLinkings, WorkedRenamings, WorkedRun, WorkedSteps};
@@ -51,7 +52,9 @@ pub fn worked_exporting()
 
 /// Which calls change something.
 pub fn worked_changing()
-    ensures { WorkedChanging }
+    ensures nfs { WorkedChanging }
+    ensures mount { WorkedMountChanging }
+    ensures locks { WorkedLockChanging }
 {}
 
 /// The times of changes.
@@ -202,6 +205,11 @@ pub fn worked_grants()
 /// What DUMP and EXPORT list, what UMNT and UMNTALL take away, and a path under which MNT finds nothing.
 pub fn worked_mounts()
     ensures { WorkedMounts }
+{}
+
+/// How many mounts are kept.
+pub fn worked_newest()
+    ensures { WorkedNewest }
 {}
 
 /// Which requests that wait are granted, and in which order, when a lock is given back.
