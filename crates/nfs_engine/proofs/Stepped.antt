@@ -17,7 +17,7 @@ use Rattle.nfs_objects.specs.declared.view.Reserved.{Reserved}
 use Rattle.nfs_engine.specs.Book.{BookValue, store_in}
 use Rattle.nfs_engine.specs.Calls.{TxnValue}
 use Rattle.nfs_engine.specs.Engine.{EngineValue, IsTied, KeepsOthers, Lives, mode_in, shard_among}
-use Rattle.nfs_engine.specs.Taking.{Gains, HoldsIn, IsGained, IsGot, Place, Stays, Takes}
+use Rattle.nfs_engine.specs.Taking.{Gains, HoldsIn, IsGained, IsGot, ShardView, Stays, TakesAddress}
 use Rattle.nfs_engine.specs.Holders.{hold_of}
 use Rattle.nfs_engine.specs.Shards.{Reserves, Retakes, SameShard, ShardValue, SlotValue, hold_at, shard_of, slot_at}
 use Rattle.nfs_engine.specs.declared.taking.Got.{Got}
@@ -48,7 +48,7 @@ module _ (book : BookValue) (shards : List ShardValue) (i : ℕ) (was s : ShardV
   abbrev pub after : EngineValue
   after = record { book = book; shards = set shards i s }
 
-  abbrev pub old_place : Place
+  abbrev pub old_place : ShardView
   old_place = record { shard = get_or shards i was; view = t.view }
 
   -- the place, as the shard stands among the others
@@ -81,7 +81,7 @@ module _ (book : BookValue) (shards : List ShardValue) (i : ℕ) (was s : ShardV
       })
 
   taken : (a : Addr) (mode : Mode) (u : TxnValue) → i ≡ shard_of a → seen_at t.view.entries a ≡ None →
-      u ≡ record t { view = u.view } → Takes old_place (record { shard = s; view = u.view }) a mode t.id →
+      u ≡ record t { view = u.view } → TakesAddress old_place (record { shard = s; view = u.view }) a mode t.id →
       GoesOn before after t.id u
   taken a mode u where_is unseen rest takes =
       let turn : Turn = only_in i (hold_so a (Some mode)) in

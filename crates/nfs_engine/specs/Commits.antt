@@ -7,7 +7,7 @@ use Rattle.nfs_objects.specs.Store.{with_writes}
 use Rattle.nfs_objects.specs.Values.{write_value}
 use Rattle.nfs_engine.specs.Arrivals.{shared_value}
 use Rattle.nfs_engine.specs.Calls.{FinishedValue}
-use Rattle.nfs_engine.specs.Journal.{JournalValue, Takes}
+use Rattle.nfs_engine.specs.Journal.{JournalValue, TakesPosted}
 use Rattle.nfs_engine.specs.Tables.{store_of}
 use Rattle.nfs_engine.specs.declared.journal.Committed.{Committed}
 use Rattle.nfs_engine.specs.declared.journal.Ready.{Ready}
@@ -88,7 +88,7 @@ pub record IsCommitted (old : JournalValue) (f : FinishedValue) (committed : Com
   pub leaves : Leaves f committed
 
 pub record TakesMessage (old new : JournalValue) (posted : Option Posted) : Type 0 where
-  pub takes : Takes old.outbox new.outbox posted
+  pub takes : TakesPosted old.outbox new.outbox posted
   pub rest : new ≡ record old { outbox = new.outbox }
 
 -- the records are the era's, and the next one has none

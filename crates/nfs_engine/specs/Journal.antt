@@ -26,8 +26,8 @@ pub record JournalValue : Type 0 where
   pub outbox : OutboxValue
 
 -- the oldest message is taken, under the next number; none only where there is none
-abbrev pub Takes : OutboxValue → OutboxValue → Option Posted → Type 0
-Takes old new None = (old.waiting ≡ []) × (new ≡ old)
-Takes old new (Some posted) =
+abbrev pub TakesPosted : OutboxValue → OutboxValue → Option Posted → Type 0
+TakesPosted old new None = (old.waiting ≡ []) × (new ≡ old)
+TakesPosted old new (Some posted) =
     (old.waiting ≡ posted.message ∷ new.waiting) × (posted.number ≡ old.taken + 1) ×
     (new.taken ≡ old.taken + 1)

@@ -15,25 +15,25 @@ use Rattle.nfs_engine.specs.declared.shard.ReserveError.{ReserveError}
 use Rattle.nfs_engine.specs.declared.shard.ReserveError.TheVariants.{Memory, Spent}
 
 -- a shard, and the view of a call that holds some of its addresses
-pub record Place : Type 0 where
+pub record ShardView : Type 0 where
   pub shard : ShardValue
   pub view : ViewValue
 
 -- nothing changed
-pub record Stays (old new : Place) : Type 0 where
+pub record Stays (old new : ShardView) : Type 0 where
   pub shard : SameShard old.shard new.shard
   pub view : new.view ≡ old.view
 
 -- nobody excluded it; the address is now held so, and what stands there is in the view
-pub record Takes (old new : Place) (a : Addr) (mode : Mode) (id : ℕ) : Type 0 where
+pub record TakesAddress (old new : ShardView) (a : Addr) (mode : Mode) (id : ℕ) : Type 0 where
   pub free : CanHold mode (slot_at old.shard a).holders
   pub held : Retakes old.shard new.shard a id (Some mode)
   pub seen : new.view ≡ with_entry old.view
       (record { address = a; mode = mode; object = (slot_at old.shard a).object })
 
 -- taken; or somebody holds it in a mode that excludes, and nothing changed; or there was no memory
-abbrev pub IsGot : {E : Type 0} → Place → Place → Addr → Mode → ℕ → Result Got E → Type 0
-IsGot old new a mode id (Ok got.Yes) = Takes old new a mode id
+abbrev pub IsGot : {E : Type 0} → ShardView → ShardView → Addr → Mode → ℕ → Result Got E → Type 0
+IsGot old new a mode id (Ok got.Yes) = TakesAddress old new a mode id
 IsGot old new a mode id (Ok (got.Taken h)) = Excludes mode (slot_at old.shard a).holders h × Stays old new
 IsGot old new a mode id (Err error) = Stays old new
 
@@ -42,13 +42,13 @@ abbrev pub HoldsIn : ShardValue → (id : ℕ) → List Seen → Type 0
 HoldsIn s id entries = (a : Addr) → shard_of a ≡ s.index → hold_at s a id ≡ held_at entries a
 
 -- a number that the shard had free is held, and may be given
-pub record Gains (old new : Place) (id : ℕ) : Type 0 where
+pub record Gains (old new : ShardView) (id : ℕ) : Type 0 where
   pub reserved : Reserved
   pub shard : Reserves old.shard new.shard id reserved
   pub view : new.view ≡ with_number old.view reserved
 
 -- gained; or there is no memory, and the counter is not at its end, or it is; then nothing changed
-abbrev pub IsGained : Place → Place → (id : ℕ) → Result Unit ReserveError → Type 0
+abbrev pub IsGained : ShardView → ShardView → (id : ℕ) → Result Unit ReserveError → Type 0
 IsGained old new id (Ok done) = Gains old new id
 IsGained old new id (Err Memory) = Stays old new × (old.shard.next_generation ≢ 2 ^ 64 - 1)
 IsGained old new id (Err Spent) = Stays old new × (old.shard.next_generation ≡ 2 ^ 64 - 1)

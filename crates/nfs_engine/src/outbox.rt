@@ -2,7 +2,7 @@
 
 ghost use Rattle.std.specs.Prelude.{◌≡◌, ◌+◌, ◌<◌, ◌≤◌, ◌^◌, [], ◌++◌, length, IfOk, OnOk};
 ghost use Rattle.std.specs.Bool.{Decides};
-ghost use Rattle.nfs_engine.specs.Journal.{Takes};
+ghost use Rattle.nfs_engine.specs.Journal.{TakesPosted};
 
 use side_wire::Message;
 use std::alloc::{AllocError, Global};
@@ -85,7 +85,7 @@ impl Outbox {
 
     /// Takes the oldest message.
     pub(crate) fn take(&mut self) -> Option<Posted>
-        ensures { Takes self.old self.new result }
+        ensures { TakesPosted self.old self.new result }
     {
         let message = self.waiting.pop_front()?;
         self.taken += 1;

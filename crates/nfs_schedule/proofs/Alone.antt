@@ -36,7 +36,7 @@ use Rattle.nfs_schedule.proofs.Filling.{Grows}
 use Rattle.nfs_schedule.proofs.Rest.{places_without}
 use Rattle.nfs_schedule.proofs.Steps.{keeps_book}
 use Rattle.nfs_schedule.specs.Answers.{IsRefused}
-use Rattle.nfs_schedule.specs.Executions.{Answers, Ends, Frees, GoesOn, HoldsAlone, IsAlone}
+use Rattle.nfs_schedule.specs.Executions.{Answers, EndsIn, Frees, GoesOn, HoldsAlone, IsAlone}
 use Rattle.nfs_schedule.specs.Turns.{Executes, KeepsStore}
 use Rattle.nfs_schedule.specs.Workers.{IsSuited}
 use Rattle.nfs_schedule.specs.Worlds.{IsAtRest}
@@ -187,7 +187,7 @@ executes_on e f g d receipt x same = record {
 }
 
 pub ends_executed : (e f g : EngineValue) (d : FinishedValue) (r : ReleaseValue) (receipt : Receipt) →
-    Executes e f d receipt → Frees f g r None → Ends e g (txn_of d) (answers.Executed receipt)
+    Executes e f d receipt → Frees f g r None → EndsIn e g (txn_of d) (answers.Executed receipt)
 ends_executed e f g d r receipt x free = record {
   done = d;
   call = refl;
@@ -196,7 +196,7 @@ ends_executed e f g d r receipt x free = record {
 
 -- ---- a call that is given up
 refused_ends : (e f : EngineValue) (t : TxnValue) (answer : Answer) → KeepsStore e f →
-    IsRefused t.received (record { xid = t.xid; ids = t.ctx.ids; call = t.call }) answer → Ends e f t answer
+    IsRefused t.received (record { xid = t.xid; ids = t.ctx.ids; call = t.call }) answer → EndsIn e f t answer
 refused_ends e f t (answers.Executed receipt) keeps is = absurd is
 refused_ends e f t (answers.Repeated kept) keeps is = absurd is
 refused_ends e f t (answers.Refused declined) keeps is = (keeps, is)
@@ -232,7 +232,7 @@ module _ (e f g : EngineValue) (t : TxnValue) (r : ReleaseValue) (p : PendingVal
   }
 
   pub ends_declined : (answer : Answer) → IsRefused (received_value refused.received) refused.asked answer →
-      Ends e g t answer
+      EndsIn e g t answer
   ends_declined answer declined =
       refused_ends e g t answer keeps
       (subst (λ (q : PendingValue). IsRefused q.received (record { xid = q.xid; ids = q.ctx.ids; call = q.call }) answer)
@@ -261,7 +261,7 @@ keeps_join : (e f g : EngineValue) → KeepsStore e f → KeepsStore f g → Kee
 keeps_join e f g a b = b ∙ ap (λ (x : BookValue). record x { living = g.book.living; next_id = g.book.next_id }) a
 
 ends_moved : (e f g : EngineValue) (t u : TxnValue) (answer : Answer) → f.book ≡ e.book →
-    u ≡ record t { view = u.view } → Ends f g u answer → Ends e g t answer
+    u ≡ record t { view = u.view } → EndsIn f g u answer → EndsIn e g t answer
 ends_moved e f g t u (answers.Executed receipt) book call x = record {
   done = x.done;
   call = x.call ∙ ap (λ (v : TxnValue). record v { view = x.done.done.view }) call;
@@ -276,8 +276,8 @@ ends_moved e f g t u (answers.Refused declined) book call x = (
 ends_moved e f g t u (answers.Early faulted) book call x = absurd x
 ends_moved e f g t u (answers.Unanswered received) book call x = absurd x
 
-pub ends_after : (e f g : EngineValue) (t u : TxnValue) (answer : Answer) → GoesOn e f t u → Ends f g u answer →
-    Ends e g t answer
+pub ends_after : (e f g : EngineValue) (t u : TxnValue) (answer : Answer) → GoesOn e f t u → EndsIn f g u answer →
+    EndsIn e g t answer
 ends_after e f g t u answer on x = ends_moved e f g t u answer on.book on.call x
 
 -- ---- a record that came in
@@ -287,7 +287,7 @@ module _ (e b g : EngineValue) (a : ArrivalValue) (t : TxnValue) (begins : Begin
   unkept_of None unknown = tt
   unkept_of (Some x) unknown = unknown.unkept
 
-  pub answers_begun : (answer : Answer) → Ends b g t answer → Answers e g a answer
+  pub answers_begun : (answer : Answer) → EndsIn b g t answer → Answers e g a answer
   answers_begun (answers.Executed receipt) x =
       let same : txn_of x.done ≡ record t { view = x.done.done.view } = x.call in
       let began : txn_of x.done ≡ record (new_txn e.book a begins.asked t.key) { view = x.done.done.view } =

@@ -28,7 +28,7 @@ use Rattle.nfs_engine.specs.Releases.{ReleaseValue}
 use Rattle.nfs_engine.specs.declared.shard.ReserveError.{ReserveError}
 use Rattle.nfs_engine.specs.declared.shard.ReserveError.TheVariants as refusals
 use Rattle.nfs_schedule.specs.Grown.{AsksFor, HasGrown, IsAsking, IsGrown}
-use Rattle.nfs_schedule.specs.Turns.{Acquires, Admits, Declines, Ends, Follows, Gains, IsNamed, KeepsQueue, Takes}
+use Rattle.nfs_schedule.specs.Turns.{Acquires, Admits, Declines, Ends, Follows, Gains, IsNamed, KeepsQueue, TakesArrival}
 use Rattle.nfs_schedule.specs.Turns.{TakesFirst, Turns, after_all}
 use Rattle.nfs_schedule.specs.Workers.{Comes, Thinks}
 use Rattle.nfs_schedule.specs.declared.answer.Answer.{Answer}
@@ -188,7 +188,7 @@ admits_grown e f a (PutOff p) answer is = tt
 admits_grown e f a (Refusing p) answer is = tt
 
 takes_grown : (e f : EngineValue) (queue later : List ArrivalValue) (v : Worker) (answer : Option Answer) →
-    Takes e f queue later v answer → IsGrown v
+    TakesArrival e f queue later v answer → IsGrown v
 takes_grown e f [] later v answer takes = same_grown Idle v takes.2 tt
 takes_grown e f (a ∷ queue) later v answer takes = admits_grown e f a v answer takes.1
 

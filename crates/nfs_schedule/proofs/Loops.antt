@@ -8,7 +8,7 @@ use Rattle.nfs_rpc.specs.Records.{RecordsValue, Holds, IsTooLarge}
 use Rattle.nfs_machine.specs.declared.moment.Moment.{Moment}
 use Rattle.nfs_engine.specs.Engine.{EngineValue}
 use Rattle.nfs_schedule.specs.Gathered.{Adds, FailsBy, IsCut, Puts, WritesPart}
-use Rattle.nfs_schedule.specs.Served.{AreAnswered, EndsBy, ExecutesNothing, Goes, IsUnanswered, Stops}
+use Rattle.nfs_schedule.specs.Served.{AreAnswered, EndsBy, ExecutesNothing, AreServed, HasNoAnswer, EndsByFault}
 
 -- ---- writing
 -- a front of the bytes is written
@@ -154,7 +154,7 @@ module _ {Clock : Type 0} (gives : Clock → Moment → Clock → Type 0) (host 
 
 pub unanswered : {Clock : Type 0} (gives : Clock → Moment → Clock → Type 0) (hand : List ℕ) (first last : Clock)
     (old new : EngineValue) (moment : Moment) → gives first moment last → ExecutesNothing old new →
-    IsUnanswered gives (hand ∷ []) first last old new
+    HasNoAnswer gives (hand ∷ []) first last old new
 unanswered gives hand first last old new moment ticked nothing = record {
   hand = hand;
   behind = [];
@@ -167,7 +167,7 @@ unanswered gives hand first last old new moment ticked nothing = record {
 -- it has no answer, and what was gathered is sent in part
 pub left_fails : {Clock : Type 0} (gives : Clock → Moment → Clock → Type 0) (host hand : List ℕ) (first last : Clock)
     (old new : EngineValue) (before after : Option (List ℕ)) (held : List ℕ) (e : StreamFault) → e ≡ Write →
-    WritesPart before after held → IsUnanswered gives (hand ∷ []) first last old new →
+    WritesPart before after held → HasNoAnswer gives (hand ∷ []) first last old new →
     FailsBy gives host e hand first last old new before after held
 left_fails gives host hand first last old new before after held e is part came =
     subst (λ (f : StreamFault). FailsBy gives host f hand first last old new before after held) (sym is)
@@ -241,7 +241,7 @@ module _ {Clock : Type 0} (gives : Clock → Moment → Clock → Type 0) (host 
 
     -- it is answered, and its answer is cut
     stops_cut : IsCut gives host r clock later engine next now after held →
-        Stops gives host Write initial.queued first later old next before after
+        EndsByFault gives host Write initial.queued first later old next before after
     stops_cut c = record {
       first = a.served ++ r ∷ [];
       others = left.queued;
@@ -259,8 +259,8 @@ module _ {Clock : Type 0} (gives : Clock → Moment → Clock → Type 0) (host 
     }
 
     -- it came, and has no answer
-    left_behind : IsUnanswered gives (r ∷ []) clock later engine next →
-        IsUnanswered gives (r ∷ left.queued) clock later engine next
+    left_behind : HasNoAnswer gives (r ∷ []) clock later engine next →
+        HasNoAnswer gives (r ∷ left.queued) clock later engine next
     left_behind u = record {
       hand = r;
       behind = left.queued;
@@ -272,7 +272,7 @@ module _ {Clock : Type 0} (gives : Clock → Moment → Clock → Type 0) (host 
 
     stops_part : (fault : StreamFault) (p : WritesPart now after held) →
         EndsBy gives fault (r ∷ left.queued) p.unsent clock later engine next →
-        Stops gives host fault initial.queued first later old next before after
+        EndsByFault gives host fault initial.queued first later old next before after
     stops_part fault p ends = record {
       first = a.served;
       others = r ∷ left.queued;
@@ -290,7 +290,7 @@ module _ {Clock : Type 0} (gives : Clock → Moment → Clock → Type 0) (host 
 
     -- serving ends at the next record
     pub answering_stops : (fault : StreamFault) → FailsBy gives host fault r clock later engine next now after held →
-        Stops gives host fault initial.queued first later old next before after
+        EndsByFault gives host fault initial.queued first later old next before after
     answering_stops Read fails = absurd fails
     answering_stops TooLarge fails = absurd fails
     answering_stops Write (inl cut) = stops_cut cut
@@ -309,8 +309,8 @@ module _ {Clock : Type 0} (gives : Clock → Moment → Clock → Type 0) (host 
   all_served : initial.queued ≡ a.served
   all_served = a.cut ∙ ap (λ l. a.served ++ l) none ∙ append-nil a.served
 
-  all_goes : Appends now after held → Goes gives host initial.queued first clock old engine before after
-  all_goes more = subst (λ (c : List (List ℕ)). Goes gives host c first clock old engine before after) (sym all_served)
+  all_goes : Appends now after held → AreServed gives host initial.queued first clock old engine before after
+  all_goes more = subst (λ (c : List (List ℕ)). AreServed gives host c first clock old engine before after) (sym all_served)
       (record {
         answers = a.sent ++ held;
         written = appends_join before now after a.sent held a.written more;
@@ -318,7 +318,7 @@ module _ {Clock : Type 0} (gives : Clock → Moment → Clock → Type 0) (host 
       })
 
   pub sent_goes : (r : Result (Unit {0}) StreamFault) → OnOk r (Appends now after held) →
-      OnOk r (Goes gives host initial.queued first clock old engine before after)
+      OnOk r (AreServed gives host initial.queued first clock old engine before after)
   sent_goes (Ok u) more = all_goes more
   sent_goes (Err e) more = tt
 
@@ -329,7 +329,7 @@ module _ {Clock : Type 0} (gives : Clock → Moment → Clock → Type 0) (host 
       (sym all_served) (a.holds stream given holds)
   sent_holds (Err e) = tt
 
-  all_stops : WritesPart now after held → Stops gives host Write initial.queued first clock old engine before after
+  all_stops : WritesPart now after held → EndsByFault gives host Write initial.queued first clock old engine before after
   all_stops p = record {
     first = a.served;
     others = [];
@@ -347,10 +347,10 @@ module _ {Clock : Type 0} (gives : Clock → Moment → Clock → Type 0) (host 
 
   pub sent_stops : (P : Type 0) (r : Result (Unit {0}) StreamFault) → OnErr r (WritesPart now after held) →
       IfErr r (λ e. (e ≡ Write) × P) →
-      IfErr r (λ e. Stops gives host e initial.queued first clock old engine before after)
+      IfErr r (λ e. EndsByFault gives host e initial.queued first clock old engine before after)
   sent_stops P (Ok u) part fault = tt
   sent_stops P (Err e) part fault =
-      subst (λ (f : StreamFault). Stops gives host f initial.queued first clock old engine before after) (sym fault.0)
+      subst (λ (f : StreamFault). EndsByFault gives host f initial.queued first clock old engine before after) (sym fault.0)
       (all_stops part)
 
 -- ---- the pieces of the input
@@ -362,7 +362,7 @@ pub record Taking {Clock : Type 0} (gives : Clock → Moment → Clock → Type 
   pub none : records.queued ≡ []
   pub within : IsTooLarge fed → ⊥
   pub read : Consumes unread left fed
-  pub goes : Goes gives host given first clock old engine before now
+  pub goes : AreServed gives host given first clock old engine before now
   pub many : reads ≤ length fed
   pub same_reader : readings ≡ reading
   pub same_writer : writings ≡ writing

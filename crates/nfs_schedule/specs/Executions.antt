@@ -53,11 +53,11 @@ pub record Finishes (e f : EngineValue) (t : TxnValue) (receipt : Receipt) : Typ
   pub executes : Executes e f done receipt
 
 -- the call came to its end, or it was refused, and store and records are as they were
-abbrev pub Ends : EngineValue → EngineValue → TxnValue → Answer → Type 0
-Ends e f t (answers.Executed receipt) = Finishes e f t receipt
-Ends e f t (answers.Refused declined) = KeepsStore e f ×
+abbrev pub EndsIn : EngineValue → EngineValue → TxnValue → Answer → Type 0
+EndsIn e f t (answers.Executed receipt) = Finishes e f t receipt
+EndsIn e f t (answers.Refused declined) = KeepsStore e f ×
     IsRefused t.received (record { xid = t.xid; ids = t.ctx.ids; call = t.call }) (answers.Refused declined)
-Ends e f t answer = ⊥
+EndsIn e f t answer = ⊥
 
 -- The record asks a call, which began and was executed as the next record. If it changes something, no reply was kept
 -- for it.

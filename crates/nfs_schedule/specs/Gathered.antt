@@ -3,7 +3,7 @@ use Rattle.std.specs.Prelude.{◌≡◌, ◌⊎◌, ℕ, List, [], ◌∷◌, �
 use Rattle.std.specs.Io.KnownBytes.{Appends}
 use Rattle.nfs_machine.specs.declared.moment.Moment.{Moment}
 use Rattle.nfs_engine.specs.Engine.{EngineValue}
-use Rattle.nfs_schedule.specs.Served.{AreAnswered, IsUnanswered}
+use Rattle.nfs_schedule.specs.Served.{AreAnswered, HasNoAnswer}
 use Rattle.nfs_schedule.specs.declared.serving.StreamFault.{StreamFault}
 use Rattle.nfs_schedule.specs.declared.serving.StreamFault.TheVariants.{Write, Memory}
 
@@ -42,7 +42,7 @@ abbrev pub FailsBy : {Clock : Type 0} → (Clock → Moment → Clock → Type 0
     (held : List ℕ) → Type 0
 FailsBy gives host Write content clock later old new before after held =
     IsCut gives host content clock later old new before after held
-    ⊎ (WritesPart before after held × IsUnanswered gives (content ∷ []) clock later old new)
+    ⊎ (WritesPart before after held × HasNoAnswer gives (content ∷ []) clock later old new)
 FailsBy gives host Memory content clock later old new before after held =
-    Appends before after held × IsUnanswered gives (content ∷ []) clock later old new
+    Appends before after held × HasNoAnswer gives (content ∷ []) clock later old new
 FailsBy gives host fault content clock later old new before after held = ⊥

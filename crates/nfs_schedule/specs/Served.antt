@@ -49,7 +49,7 @@ pub record AreAnswered {Clock : Type 0} (gives : Clock → Moment → Clock → 
       Answered gives host contents clock later old new answers before
 
 -- the records were answered, and their answers were written
-pub record Goes {Clock : Type 0} (gives : Clock → Moment → Clock → Type 0) (host : List ℕ)
+pub record AreServed {Clock : Type 0} (gives : Clock → Moment → Clock → Type 0) (host : List ℕ)
     (contents : List (List ℕ)) (clock later : Clock) (old new : EngineValue)
     (before after : Option (List ℕ)) : Type 0 where
   pub answers : List ℕ
@@ -61,7 +61,7 @@ abbrev pub Stays : {Clock : Type 0} → List (List ℕ) → (clock later : Clock
 Stays contents clock later old new = (contents ≡ []) × (later ≡ clock) × (new ≡ old)
 
 -- the first of these records came at the clock's next moment, and has no answer
-pub record IsUnanswered {Clock : Type 0} (gives : Clock → Moment → Clock → Type 0) (contents : List (List ℕ))
+pub record HasNoAnswer {Clock : Type 0} (gives : Clock → Moment → Clock → Type 0) (contents : List (List ℕ))
     (clock later : Clock) (old new : EngineValue) : Type 0 where
   pub hand : List ℕ
   pub behind : List (List ℕ)
@@ -78,13 +78,13 @@ abbrev pub EndsBy : {Clock : Type 0} → (Clock → Moment → Clock → Type 0)
 EndsBy gives Read others unsent clock later old new = (unsent ≡ []) × Stays others clock later old new
 EndsBy gives TooLarge others unsent clock later old new = (unsent ≡ []) × Stays others clock later old new
 EndsBy gives Write others unsent clock later old new =
-    ((later ≡ clock) × (new ≡ old)) ⊎ IsUnanswered gives others clock later old new
+    ((later ≡ clock) × (new ≡ old)) ⊎ HasNoAnswer gives others clock later old new
 EndsBy gives Memory others unsent clock later old new =
-    (unsent ≡ []) × (Stays others clock later old new ⊎ IsUnanswered gives others clock later old new)
+    (unsent ≡ []) × (Stays others clock later old new ⊎ HasNoAnswer gives others clock later old new)
 
 -- The first of the records were answered, and a beginning of their answers was written; behind them serving ended by
 -- the fault.
-pub record Stops {Clock : Type 0} (gives : Clock → Moment → Clock → Type 0) (host : List ℕ)
+pub record EndsByFault {Clock : Type 0} (gives : Clock → Moment → Clock → Type 0) (host : List ℕ)
     (fault : StreamFault) (contents : List (List ℕ)) (clock later : Clock) (old new : EngineValue)
     (before after : Option (List ℕ)) : Type 0 where
   pub first : List (List ℕ)
@@ -105,7 +105,7 @@ pub record ServesAll {Clock : Type 0} (gives : Clock → Moment → Clock → Ty
   pub rest : List ℕ
   pub split : IsStream input contents rest
   pub within : IsTooLarge input → ⊥
-  pub goes : Goes gives host contents clock later old new before after
+  pub goes : AreServed gives host contents clock later old new before after
 
 -- a record is too large where this is the fault, and none where a read failed
 abbrev pub IsFaultOf : StreamFault → List ℕ → Type 0
@@ -123,7 +123,7 @@ pub record ServesFront {Clock : Type 0} (gives : Clock → Moment → Clock → 
   pub rest : List ℕ
   pub front : input ≡ fed ++ ahead
   pub split : IsStream fed contents rest
-  pub stops : Stops gives host fault contents clock later old new before after
+  pub stops : EndsByFault gives host fault contents clock later old new before after
   pub is_fault : IsFaultOf fault fed
 
 -- the record is answered so, from everywhere where the engine stood

@@ -33,7 +33,7 @@ pub record IsEarly (old : Standing) (received : Received) (answer : List ℕ) (r
   pub unchanged : new ≡ old
 
 -- a call that memory was wanting for is answered by its refusal, and changes nothing
-pub record IsRefused (setting : Setting) (old : Standing) (received : Received) (answer : List ℕ)
+pub record LacksMemory (setting : Setting) (old : Standing) (received : Received) (answer : List ℕ)
     (records : List Record) (new : Standing) : Type 0 where
   pub ctx : Ctx
   pub call : Call
@@ -78,7 +78,7 @@ pub record IsExecuted (setting : Setting) (old : Standing) (received : Received)
 
 abbrev pub AnswersArrival : Setting → Standing → Arrival → List ℕ → List Record → Standing → Type 0
 AnswersArrival setting old (FromHost received) answer records new =
-    IsEarly old received answer records new ⊎ IsRefused setting old received answer records new ⊎
+    IsEarly old received answer records new ⊎ LacksMemory setting old received answer records new ⊎
     IsRepeated setting old received answer records new ⊎ IsExecuted setting old received answer records new
 
 -- The arrivals are answered one after the other, and the records are those of the executed ones.

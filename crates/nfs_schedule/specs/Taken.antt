@@ -22,7 +22,7 @@ TakesIn Refused old new piece left =
     → IsTooLarge (stream ++ piece))
 
 -- a piece of the input was taken in, or its end was met
-pub record Takes (taken : Taken) (old new : RecordsValue) (before left : Option (List ℕ)) : Type 0 where
+pub record TakesPiece (taken : Taken) (old new : RecordsValue) (before left : Option (List ℕ)) : Type 0 where
   pub piece : List ℕ
   pub read : Consumes before left piece
   pub takes : TakesIn taken old new piece left

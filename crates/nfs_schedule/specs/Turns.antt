@@ -77,10 +77,10 @@ abbrev pub AsksCall : ArrivalValue → Type 0
 AsksCall a = (asked : Asked) × (a.reading ≡ readings.Asks asked)
 
 -- only an idle worker takes an arrival from the queue, the oldest
-abbrev pub Takes : EngineValue → EngineValue → (queue later : List ArrivalValue) → Worker → Option Answer →
+abbrev pub TakesArrival : EngineValue → EngineValue → (queue later : List ArrivalValue) → Worker → Option Answer →
     Type 0
-Takes e f [] later next answer = (later ≡ []) × (f ≡ e) × (next ≡ Idle) × (answer ≡ None)
-Takes e f (a ∷ rest) later next answer = (later ≡ rest) × Admits e f a next answer
+TakesArrival e f [] later next answer = (later ≡ []) × (f ≡ e) × (next ≡ Idle) × (answer ≡ None)
+TakesArrival e f (a ∷ rest) later next answer = (later ≡ rest) × Admits e f a next answer
 
 -- the first address that is wanted: the call has it, and wants the others; or somebody holds it; or there was no memory
 abbrev pub Acquires : EngineValue → TxnValue → Addr × Mode → List (Addr × Mode) → Worker → Type 0
@@ -145,7 +145,7 @@ IsNamed e f shard (Refusing p) next answer = Declines p next answer
 -- a worker that has a call leaves the queue as it is
 abbrev pub KeepsQueue : EngineValue → EngineValue → (queue later : List ArrivalValue) → Worker → Worker →
     Option Answer → Type 0
-KeepsQueue e f queue later Idle next answer = Takes e f queue later next answer
+KeepsQueue e f queue later Idle next answer = TakesArrival e f queue later next answer
 KeepsQueue e f queue later worker next answer = later ≡ queue
 
 -- a step of a worker

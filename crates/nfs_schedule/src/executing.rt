@@ -10,7 +10,7 @@ ghost use Rattle.nfs_objects.specs.Values.{change_value, done_value, seen_at};
 ghost use Rattle.nfs_engine.specs.Book.{store_in};
 ghost use Rattle.nfs_engine.specs.Calls.{txn_of};
 ghost use Rattle.nfs_engine.specs.Engine.{IsLeaving, Lives};
-ghost use Rattle.nfs_schedule.specs.Executions.{Answers, Ends, Frees, GoesOn, HoldsAlone, IsAlone, shown_in};
+ghost use Rattle.nfs_schedule.specs.Executions.{Answers, EndsIn, Frees, GoesOn, HoldsAlone, IsAlone, shown_in};
 ghost use Rattle.nfs_schedule.specs.Workers.{IsSuited};
 ghost use Rattle.nfs_schedule.specs.Worlds.{IsAtRest};
 
@@ -56,7 +56,7 @@ fn carry_out(alloc: Global, engine: &mut Engine, txn: Txn) -> Answer
     requires alone { IsAlone engine.old txn.id txn.key }
     requires unread { txn.view.entries ≡ [] }
     ensures rest { IsAtRest engine.new }
-    ensures ends { Ends engine.old engine.new txn result }
+    ensures ends { EndsIn engine.old engine.new txn result }
 {
     let mut txn = txn;
     match run(alloc, engine, &mut txn) {
@@ -152,7 +152,7 @@ fn finish(alloc: Global, engine: &mut Engine, txn: Txn, change: Change) -> Answe
     requires alone { IsAlone engine.old txn.id txn.key }
     requires promised { IsPromised (done_value txn.call txn.ctx txn.view (change_value change)) }
     ensures rest { IsAtRest engine.new }
-    ensures ends { Ends engine.old engine.new txn result }
+    ensures ends { EndsIn engine.old engine.new txn result }
 {
     match txn.done(alloc, change) {
         Ok(finished) => commit(alloc, engine, finished),
@@ -165,7 +165,7 @@ fn commit(alloc: Global, engine: &mut Engine, finished: Finished) -> Answer
     requires lives { Lives engine.old (txn_of finished) }
     requires alone { IsAlone engine.old finished.id finished.key }
     ensures rest { IsAtRest engine.new }
-    ensures ends { Ends engine.old engine.new (txn_of finished) result }
+    ensures ends { EndsIn engine.old engine.new (txn_of finished) result }
 {
     match engine.commit(alloc, finished) {
         Ok((receipt, release)) => match release_all(engine, release) {
@@ -181,7 +181,7 @@ fn decline(alloc: Global, engine: &mut Engine, txn: Txn) -> Answer
     requires lives { Lives engine.old txn }
     requires alone { IsAlone engine.old txn.id txn.key }
     ensures rest { IsAtRest engine.new }
-    ensures ends { Ends engine.old engine.new txn result }
+    ensures ends { EndsIn engine.old engine.new txn result }
 {
     let release = engine.abort(txn);
     match release_all(engine, release) {

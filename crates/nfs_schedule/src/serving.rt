@@ -8,9 +8,9 @@ ghost use Rattle.nfs_rpc.specs.Records.{Holds};
 ghost use Rattle.nfs_rpc.specs.Streams.{one_more};
 ghost use Rattle.nfs_schedule.specs.Answers.{reply_bytes};
 ghost use Rattle.nfs_schedule.specs.Gathered.{Adds, FailsBy};
-ghost use Rattle.nfs_schedule.specs.Served.{ExecutesNothing, Goes, IsAnswered, ServedIsRun, ServesAll, ServesFront};
-ghost use Rattle.nfs_schedule.specs.Served.{Stops};
-ghost use Rattle.nfs_schedule.specs.Taken.{Takes};
+ghost use Rattle.nfs_schedule.specs.Served.{ExecutesNothing, AreServed, IsAnswered, ServedIsRun, ServesAll, ServesFront};
+ghost use Rattle.nfs_schedule.specs.Served.{EndsByFault};
+ghost use Rattle.nfs_schedule.specs.Taken.{TakesPiece};
 ghost use Rattle.nfs_schedule.specs.Worlds.{IsAtRest};
 
 use crate::answer::{Answer, Declined};
@@ -171,7 +171,7 @@ fn take_piece<R: Source>(
     requires answered { records.old.queued ≡ [] }
     requires sent { _gathered.now.items ≡ [] }
     ensures taken { IfOk result
-        (λ taken. Takes taken records.old records.new (R.unread reader.old) (R.unread reader.new)) }
+        (λ taken. TakesPiece taken records.old records.new (R.unread reader.old) (R.unread reader.new)) }
     ensures ok { OnOk result (R.Counts.failures reader.new ≡ R.Counts.failures reader.old) }
     ensures err { OnErr result (records.new ≡ records.old) }
     ensures fault { IfErr result (λ e.
@@ -205,7 +205,7 @@ fn serve_records<C: Moments, W: Sink>(
     requires none { gathered.old.items ≡ [] }
     ensures rest { IsAtRest engine.new }
     ensures goes { OnOk result
-        (Goes C.gives host.now records.old.queued clock.old clock.new engine.old engine.new
+        (AreServed C.gives host.now records.old.queued clock.old clock.new engine.old engine.new
         (W.written writer.old) (W.written writer.new)) }
     ensures all { OnOk result (records.new.queued ≡ []) }
     ensures none { OnOk result (gathered.new.items ≡ []) }
@@ -215,7 +215,7 @@ fn serve_records<C: Moments, W: Sink>(
         Holds records.new stream (given ++ records.old.queued)) }
     ensures ok { OnOk result (W.Counts.failures writer.new ≡ W.Counts.failures writer.old) }
     ensures stops { IfErr result
-        (λ e. Stops C.gives host.now e records.old.queued clock.old clock.new engine.old engine.new
+        (λ e. EndsByFault C.gives host.now e records.old.queued clock.old clock.new engine.old engine.new
         (W.written writer.old) (W.written writer.new)) }
     ensures fault { IfErr result (λ e.
         ((e ≡ StreamFault.Write) × (W.Counts.failures writer.new ≡ one_more (W.Counts.failures writer.old)))

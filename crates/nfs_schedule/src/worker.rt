@@ -8,7 +8,7 @@ ghost use Rattle.nfs_engine.specs.Engine.{IsLeaving, Lives, Waits};
 ghost use Rattle.nfs_engine.specs.declared.arrival.Reading.TheVariants as readings;
 ghost use Rattle.nfs_engine.specs.declared.asking.Asked.{Asked};
 ghost use Rattle.nfs_schedule.specs.Answers.{IsRefused, IsUnanswered};
-ghost use Rattle.nfs_schedule.specs.Turns.{Admits, AsksCall, IsStep, KeepsQueue, Takes, after_all};
+ghost use Rattle.nfs_schedule.specs.Turns.{Admits, AsksCall, IsStep, KeepsQueue, TakesArrival, after_all};
 ghost use Rattle.nfs_schedule.specs.Workers.{Comes, IsSuited, MayThink, Thinks, WorkerLives};
 
 use crate::answer::{Answer, Declined, refusal_to, refuse};
@@ -166,7 +166,7 @@ fn begin(
     queue: &mut VecDeque<Arrival>,
 ) -> (Worker, Option<Answer>)
     ensures step { IsStep engine.old engine.new 0 Worker.Idle result.0 result.1 }
-    ensures queue { Takes engine.old engine.new queue.old.items queue.new.items result.0 result.1 }
+    ensures queue { TakesArrival engine.old engine.new queue.old.items queue.new.items result.0 result.1 }
 {
     let Some(arrival) = queue.pop_front() else {
         return (Worker::Idle, None);
