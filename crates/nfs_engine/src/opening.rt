@@ -99,7 +99,7 @@ fn push_root(
         (map write_value writes.new.items ≡ map write_value writes.old.items ++ root_writes_of export time) }
 {
     let number = u64::from(export);
-    let root = Arc::new(alloc, Object::Inode(root(alloc, export, time)))?;
+    let root = Arc::new(alloc, Object::Inode(root(alloc, export, time)?))?;
     let usage = Arc::new(alloc, Object::Usage(Usage::of_one(DIRECTORY_SIZE)))?;
     writes.push(Write {
         address: Addr::Inode(number),
@@ -116,16 +116,16 @@ fn push_root(
 }
 
 /// The root of an export.
-fn root(alloc: Global, export: u32, time: Time) -> Inode
-    ensures { result ≡ root_of export time }
+fn root(alloc: Global, export: u32, time: Time) -> Result<Inode, AllocError>
+    ensures { IfOk result (λ inode. inode ≡ root_of export time) }
 {
-    Inode {
+    Ok(Inode {
         export,
         generation: 1,
         content: Content::Directory(Directory {
             parent: u64::from(export),
             last_cookie: 2,
-            entries: Entries::new(alloc),
+            entries: Entries::new(alloc)?,
         }),
         mode: 0o777,
         uid: 0,
@@ -135,5 +135,5 @@ fn root(alloc: Global, export: u32, time: Time) -> Inode
         modified: time,
         changed: time,
         verifier: None,
-    }
+    })
 }

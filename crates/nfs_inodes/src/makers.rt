@@ -148,7 +148,7 @@ pub fn take_entry(draft: &mut Draft<'_>, directory: &Directory, name: &[u8]) -> 
     let narrower = Content::Directory(nfs_objects::Directory {
         parent: old.parent,
         last_cookie: old.last_cookie,
-        entries: old.entries.without_name(name)?,
+        entries: old.entries.without_name(draft.alloc(), name)?,
     });
     let new = with_content(inode, now(draft.ctx()), narrower);
     Ok(draft.put(place, new)?)
@@ -189,7 +189,9 @@ pub fn add_entry(
     let wider = Content::Directory(nfs_objects::Directory {
         parent: old.parent,
         last_cookie: cookie,
-        entries: old.entries.with_entry(&name, Leaf { number, cookie })?,
+        entries: old
+            .entries
+            .with_entry(draft.alloc(), &name, Leaf { number, cookie })?,
     });
     let mut new = with_content(inode, now(draft.ctx()), wider);
     new.links = links;

@@ -191,7 +191,7 @@ fn new_content(alloc: Global, content: &NewContent<'_>, parent: u64) -> Result<C
         NewContent::Directory => Content::Directory(nfs_objects::Directory {
             parent,
             last_cookie: ABOVE_COOKIE,
-            entries: Entries::new(alloc),
+            entries: Entries::new(alloc)?,
         }),
         NewContent::Link(text) => Content::Link(Bytes::copy_from_slice(alloc, text)?),
         NewContent::BlockDevice(device) => Content::BlockDevice(*device),

@@ -18,7 +18,7 @@ use crate::times::{now, touch};
 use bytes::Bytes;
 use nfs_objects::{Addr, Content, Draft, Entries, Halt, Inode, Leaf};
 use nfs_wire::Time;
-use std::alloc::AllocError;
+use std::alloc::{AllocError, Global};
 
 /// Takes a name out of a directory, which has so many links then.
 ///
@@ -47,7 +47,7 @@ pub fn leave(
     let narrower = Content::Directory(nfs_objects::Directory {
         parent: old.parent,
         last_cookie: old.last_cookie,
-        entries: old.entries.without_name(name)?,
+        entries: old.entries.without_name(draft.alloc(), name)?,
     });
     let new = relinked(inode, now(draft.ctx()), narrower, links);
     Ok(draft.put(place, new)?)
@@ -81,25 +81,31 @@ pub fn give_name(
     let Content::Directory(old) = &inode.content else {
         return Ok(());
     };
-    let others = staying(&old.entries, name, left)?;
-    let name = Bytes::copy_from_slice(draft.alloc(), name)?;
+    let alloc = draft.alloc();
+    let others = staying(alloc, &old.entries, name, left)?;
+    let name = Bytes::copy_from_slice(alloc, name)?;
     let wider = Content::Directory(nfs_objects::Directory {
         parent: old.parent,
         last_cookie: cookie,
-        entries: others.with_entry(&name, Leaf { number, cookie })?,
+        entries: others.with_entry(alloc, &name, Leaf { number, cookie })?,
     });
     let new = relinked(inode, now(draft.ctx()), wider, links);
     Ok(draft.put(place, new)?)
 }
 
 /// The entries without this name, and without the one that leaves.
-fn staying(old: &Entries, name: &[u8], left: Option<&[u8]>) -> Result<Entries, AllocError>
+fn staying(
+    alloc: Global,
+    old: &Entries,
+    name: &[u8],
+    left: Option<&[u8]>,
+) -> Result<Entries, AllocError>
     ensures staying { IfOk result (λ entries. entries ≡ staying old.now name.now (option_copied left.entry)) }
     ensures free { IfOk result (λ entries. find (λ e. same_bytes e.name name.now) entries ≡ None) }
 {
-    let others = old.without_name(name)?;
+    let others = old.without_name(alloc, name)?;
     match left {
-        Some(left) => others.without_name(left),
+        Some(left) => others.without_name(alloc, left),
         None => Ok(others),
     }
 }

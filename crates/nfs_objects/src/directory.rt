@@ -18,6 +18,7 @@ use indexmap::{Equivalent, IndexMap};
 use std::alloc::{AllocError, Global};
 use std::hash::{Hash, Hasher};
 use std::marker::Model;
+use std::sync::Arc;
 
 /// What a name leads to, with the cookie that pages go by (RFC 1813, 3.3.16).
 #[derive(Clone, Copy, Debug, PartialEq, Eq)]
@@ -56,37 +57,57 @@ impl<'a> Equivalent<Bytes> for Name<'a> {
     }
 }
 
-/// The names of a directory in order of adding, so in rising order of cookie. A clause sees them as a list.
+/// The names of a directory in order of adding, so in rising order of cookie. A clause sees them as a list. They are
+/// never changed: clones share them, and one name more or less makes others.
 #[derive(Drop)]
 pub struct Entries {
-    map: IndexMap<Bytes, Leaf>,
+    map: Arc<IndexMap<Bytes, Leaf>>,
 }
 
 impl Model for Entries {
     ghost use Rattle.std.specs.Prelude.{List, map};
+    ghost use Rattle.std.specs.Arc.{arc_value};
     ghost use Rattle.nfs_machine.specs.State.{Entry};
     ghost use Rattle.nfs_objects.specs.Entries.{entries_of_pairs};
 
     ghost Value = { List Entry };
 
-    ghost view = { λ e. entries_of_pairs e.map.entries };
+    ghost view = { λ e. entries_of_pairs (arc_value e.map).entries };
 }
 
 impl Entries {
+    ghost use Rattle.nfs_objects.specs.Entries.{entries_of_pairs};
+
     /// No name.
-    pub fn new(alloc: Global) -> Entries
-        ensures { result ≡ [] }
+    ///
+    /// # Errors
+    ///
+    /// There is no memory for their owner.
+    pub fn new(alloc: Global) -> Result<Entries, AllocError>
+        ensures { IfOk result (λ entries. entries ≡ []) }
     {
-        Entries {
-            map: IndexMap::new(alloc),
-        }
+        Entries::of(alloc, IndexMap::new(alloc))
+    }
+
+    fn of(alloc: Global, map: IndexMap<Bytes, Leaf>) -> Result<Entries, AllocError>
+        ensures { IfOk result (λ entries. entries ≡ entries_of_pairs map.entries) }
+    {
+        Ok(Entries {
+            map: Arc::new(alloc, map)?,
+        })
+    }
+
+    fn map(&self) -> &IndexMap<Bytes, Leaf>
+        ensures { entries_of_pairs result.now.entries ≡ self.now }
+    {
+        &self.map
     }
 
     /// How many names there are.
     pub fn len(&self) -> usize
         ensures { result ≡ length self.now }
     {
-        self.map.len()
+        self.map().len()
     }
 
     /// Whether there are no names.
@@ -100,14 +121,14 @@ impl Entries {
     pub fn find(&self, name: &[u8]) -> Option<Leaf>
         ensures { result ≡ option_map leaf_of (find (λ e. same_bytes e.name name.now) self.now) }
     {
-        self.map.get(Name { bytes: name }).copied()
+        self.map().get(Name { bytes: name }).copied()
     }
 
     /// The entry at this place, from 0.
     pub fn get_index(&self, index: usize) -> Option<(&Bytes, &Leaf)>
         ensures { option_map shown_entry result ≡ slice_get self.now index }
     {
-        self.map.get_index(index)
+        self.map().get_index(index)
     }
 
     /// The place of the first entry behind a cookie, where cookies rise; without such an entry, how many names there
@@ -118,7 +139,7 @@ impl Entries {
         ensures behind { (below last : ℕ) → CookiesRise below self.now last →
             drop result self.now ≡ behind cookie self.now }
     {
-        self.map
+        self.map()
             .as_slice()
             .partition_point(|_name, leaf| leaf.cookie <= cookie)
     }
@@ -128,13 +149,13 @@ impl Entries {
     /// # Errors
     ///
     /// There is no memory for the copy.
-    pub fn with_entry(&self, name: &Bytes, leaf: Leaf) -> Result<Entries, AllocError>
+    pub fn with_entry(&self, alloc: Global, name: &Bytes, leaf: Leaf) -> Result<Entries, AllocError>
         requires { find (λ e. same_bytes e.name name.now) self.now ≡ None }
         ensures { IfOk result (λ entries. entries ≡ self.now ++ entry name.now leaf ∷ []) }
     {
-        let mut map = self.map.clone()?;
+        let mut map = self.map().clone()?;
         map.insert(name.clone()?, leaf)?;
-        Ok(Entries { map })
+        Entries::of(alloc, map)
     }
 
     /// The same without this name. The entries themselves stay as they are.
@@ -142,16 +163,16 @@ impl Entries {
     /// # Errors
     ///
     /// There is no memory for the copy.
-    pub fn without_name(&self, name: &[u8]) -> Result<Entries, AllocError>
+    pub fn without_name(&self, alloc: Global, name: &[u8]) -> Result<Entries, AllocError>
         ensures { IfOk result (λ entries. entries ≡ without self.now name.now) }
     {
-        let mut map = self.map.clone()?;
+        let mut map = self.map().clone()?;
         map.retain(
             |key: &Bytes, leaf: &mut Leaf| -> bool
                 ensures { (result ≡ not (same_bytes key.now name.entry.now)) × (leaf.new ≡ leaf.old) }
             { key.as_slice() != name },
         );
-        Ok(Entries { map })
+        Entries::of(alloc, map)
     }
 }
 
@@ -160,7 +181,7 @@ impl Clone for Entries {
 
     fn clone(&self) -> Result<Entries, AllocError> {
         Ok(Entries {
-            map: self.map.clone()?,
+            map: Arc::try_clone(&self.map)?,
         })
     }
 }
@@ -179,7 +200,7 @@ impl PartialEq for Entries {
         ensures test { result ≡ pointwise same_entry self.now other.now }
         ensures same { Decides result (self.now ≡ other.now) }
     {
-        self.map.as_slice() == other.map.as_slice()
+        self.map().as_slice() == other.map().as_slice()
     }
 }
 

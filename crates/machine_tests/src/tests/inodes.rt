@@ -281,8 +281,8 @@ pub(super) fn place(alloc: Global, last_cookie: u64) -> Result<View, AllocError>
         number: 7,
         cookie: 3,
     };
-    let (none, name) = (Entries::new(alloc), Bytes::from_static(b"a"));
-    let entries = none.with_entry(&name, a);
+    let (none, name) = (Entries::new(alloc)?, Bytes::from_static(b"a"));
+    let entries = none.with_entry(alloc, &name, a);
     drop(none);
     drop(name);
     let content = Content::Directory(directory(entries?, last_cookie));

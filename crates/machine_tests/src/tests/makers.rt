@@ -82,7 +82,7 @@ fn start_inode(alloc: Global, start: Start) -> Result<Inode, AllocError> {
     match start {
         Start::Hello(links) => hello(alloc, links),
         Start::Place => {
-            let content = Content::Directory(directory(Entries::new(alloc), 2));
+            let content = Content::Directory(directory(Entries::new(alloc)?, 2));
             Ok(inode(content, 0o777))
         }
     }

@@ -98,32 +98,32 @@ const B: Named = Named {
 };
 
 /// The entries with one more, unless the name is there.
-fn wider(entries: &Entries, named: Named) -> Result<Entries, AllocError> {
+fn wider(alloc: Global, entries: &Entries, named: Named) -> Result<Entries, AllocError> {
     if entries.find(named.name).is_some() {
         return Err(AllocError);
     }
     let name = Bytes::from_static(named.name);
-    let wider = entries.with_entry(&name, named.leaf);
+    let wider = entries.with_entry(alloc, &name, named.leaf);
     drop(name);
     wider
 }
 
 /// The same of entries that are dropped.
-fn with_named(entries: Entries, named: Named) -> Result<Entries, AllocError> {
-    let wider = wider(&entries, named);
+fn with_named(alloc: Global, entries: Entries, named: Named) -> Result<Entries, AllocError> {
+    let wider = wider(alloc, &entries, named);
     drop(entries);
     wider
 }
 
 /// `a` leads to 7 and `b` to 8, with the cookies 3 and 4.
 fn two(alloc: Global) -> Result<Entries, AllocError> {
-    with_named(with_named(Entries::new(alloc), A)?, B)
+    with_named(alloc, with_named(alloc, Entries::new(alloc)?, A)?, B)
 }
 
 /// The same without `a`.
 fn without_a(alloc: Global) -> Result<Entries, AllocError> {
     let two = two(alloc)?;
-    let left = two.without_name(A.name);
+    let left = two.without_name(alloc, A.name);
     drop(two);
     left
 }
@@ -192,7 +192,7 @@ fn is_empty(inode: Inode) -> Option<bool> {
 #[test]
 fn an_object_is_of_one_kind(rt: HostRuntime) -> Result<(), AllocError> {
     assert!(rt; kinds_are_told(rt.alloc())?);
-    let place = directory(Entries::new(rt.alloc()), 2);
+    let place = directory(Entries::new(rt.alloc())?, 2);
     assert!(rt; is_empty(inode(Content::Directory(place), 0o700)) == Some(true));
     assert!(rt; is_empty(fifo(0o700)).is_none());
     Ok(())

@@ -10,7 +10,7 @@ use Rattle.nfs_objects.proofs.directory.Entries.place_behind.Goals as goal
 pub returns-clause-behind : goal.returns-clause-behind
 returns-clause-behind c = λ below last rise.
     let whole : entries_of_pairs c.as_slice.result ≡ c.args.self.now =
-    ap entries_of_pairs c.as_slice.ensures.entries ∙ c.self.view_is in
+    ap entries_of_pairs c.as_slice.ensures.entries ∙ c.map.ensures in
     let listed = subst (λ es. CookiesRise below es last) (sym whole) rise in
     let parted = IsPartitionedBy-leb cookie_of c.as_slice.result c.args.cookie
     (rise-up c.as_slice.result below last listed) in

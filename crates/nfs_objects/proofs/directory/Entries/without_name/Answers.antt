@@ -1,6 +1,7 @@
 use Rattle.std.proofs.Common.{◌≡◌, ℕ, true, false, not, cond, filter, List, [], ◌∷◌, refl, ap, ◌∙◌}
 use Rattle.std.proofs.Common.{rules}
 use Rattle.std.proofs.lemmas.Map.Entries.{entries_from_clone}
+use Rattle.std.proofs.lemmas.Result.{IfOk-weaker}
 use Rattle.indexmap.proofs.CallerLemmas.{filter-RetainsPairs}
 use Rattle.nfs_machine.specs.Bytes.{same_bytes}
 use Rattle.nfs_machine.specs.RemoveSteps.{without}
@@ -24,8 +25,10 @@ without-listed name (p ∷ pairs) =
 
 pub returns : goal.returns
 returns c =
+    let sifted =
     ap entries_of_pairs (filter-RetainsPairs _ _ _ (λ k v b w g call. search rules) _ _ c.retain.ensures.filtered)
     ∙ without-listed c.args.name.now c.in_ok-map.map.entries
     ∙ ap (λ es. without es c.args.name.now)
     (ap entries_of_pairs (entries_from_clone _ _ (λ x y same. same)
-    (λ v w same. same) _ _ c.in_ok-map.ensures.cases) ∙ c.self.view_is)
+    (λ v w same. same) _ _ c.in_ok-map.ensures.cases) ∙ c.map.ensures) in
+    IfOk-weaker c.of.result _ _ (λ entries is. is ∙ sifted) c.of.ensures
