@@ -1,7 +1,8 @@
 #!/usr/bin/env python3
 """Prints how many calls a second `nfsd --stdio` answers on one processor that change names: CREATE and REMOVE in turn,
-MKDIR and RMDIR in turn, and RENAME, in directories that keep 100 and 10,000 names. The name that goes is the oldest. Of
-several programs, which take turns, it prints also how many times as quick as the first each is. A benchmark, not a test.
+MKDIR and RMDIR in turn, and RENAME, in directories that keep 100 and 10,000 names, and how many SETATTRs of such a
+directory. The name that goes is the oldest. Of several programs, which take turns, it prints also how many times as
+quick as the first each is. A benchmark, not a test.
 
 usage: bench/names.py [PROGRAM..]
 """
@@ -37,10 +38,19 @@ def rename(program, names):
         return CHANGES / server.answer(renames, CHANGES * nfsd.RENAMED)
 
 
+def touch(program, names):
+    """The SETATTRs a second of the root, which has so many files."""
+    with nfsd.Server(program) as server:
+        server.answer((nfsd.create(xid, name(xid)) for xid in range(names)), names * nfsd.CREATED)
+        touches = (nfsd.touch(number) for number in range(CHANGES))
+        return CHANGES / server.answer(touches, CHANGES * nfsd.TAKEN)
+
+
 MEASURES = {
     "CREATE and REMOVE": lambda program, names: make_and_take(program, names, nfsd.create, nfsd.remove),
     "MKDIR and RMDIR": lambda program, names: make_and_take(program, names, nfsd.mkdir, nfsd.rmdir),
     "RENAME": rename,
+    "SETATTR": touch,
 }
 
 

@@ -16,7 +16,7 @@ PROGRAM = pathlib.Path(__file__).resolve().parent.parent / "crates/nfsd/out/nfsd
 OPTIONS = ["--stdio", "--export", "/data,rw,*", "--start", "7", "--clock", "1000"]
 SHOWN, FOUND, CREATED = 116, 244, 276  # the bytes of a good reply of GETATTR, LOOKUP and CREATE, with its mark
 HANDLE = 36  # where the handle begins in CREATE's: behind the mark, 24 bytes of RPC, the status, and that there is one
-TAKEN, RENAMED = 148, 264  # those of REMOVE and of RENAME; MKDIR has CREATE's, and RMDIR has REMOVE's
+TAKEN, RENAMED = 148, 264  # those of REMOVE and of RENAME; MKDIR has CREATE's, and RMDIR and SETATTR have REMOVE's
 
 
 # The root's handle, with its length: mark, export 1, start 7, fileid 1, generation 1.
@@ -52,6 +52,11 @@ def remove(xid, name):
 def rmdir(xid, name):
     """RMDIR of a name in the root (RFC 1813, 3.3.13)."""
     return call(xid, RMDIR, place(name))
+
+
+def touch(xid):
+    """SETATTR of the root, both times to that of the server (RFC 1813, 3.3.2)."""
+    return call(xid, SETATTR, ROOT + bytes(16) + struct.pack(">II", 1, 1) + bytes(4))
 
 
 def rename(xid, old, new):
