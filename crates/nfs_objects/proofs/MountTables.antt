@@ -1,18 +1,24 @@
 -- Tables of mounts in pieces: what is true of the pieces is true of all mounts.
 use Rattle.std.proofs.Common.{◌≡◌, ℕ, ◌+◌, ◌-◌, ◌<◌, ◌≤◌, Bool, true, false, cond, not, ◌&&◌}
 use Rattle.std.proofs.Common.{◌||◌, List, [], ◌∷◌, ◌++◌, length, drop, filter, map, take, get_or, nat_eq}
-use Rattle.std.proofs.Common.{refl, sym, ap, subst, ◌∙◌, arith, length-append}
+use Rattle.std.proofs.Common.{refl, sym, ap, subst, ◌∙◌, append_assoc, arith, length-append, IsTrue, true≢false}
+use Rattle.std.proofs.Math.Seq.{take-append_seam}
+use Rattle.std.specs.Cmp.{IsEquivalence, decided}
 use Rattle.std.specs.Cmp.Lexicographic.{nat_list_eq_equiv, pointwise}
-use Rattle.std.specs.List.{list_any}
+use Rattle.std.specs.List.{AllByRecursion, IsDistinct, list_any}
 use Rattle.std.proofs.lemmas.Bool.{or_parts}
-use Rattle.std.proofs.lemmas.List.{append-nil, drop-append-le, length-drop, map_more, nil_from_length, take_all}
+use Rattle.std.proofs.lemmas.List.{append-nil, drop-append-le, length-drop, map-append, map_more, nil_from_length}
+use Rattle.std.proofs.lemmas.List.{take-append-drop, take_all}
 use Rattle.std.proofs.lemmas.List.Concat.{flat_map-append}
 use Rattle.std.proofs.lemmas.List.Elements.{filter-append}
 use Rattle.std.proofs.lemmas.List.Folds.{flat_map-map, length-flat_map-take, list_any-append}
 use Rattle.std.proofs.lemmas.List.Sums.{count_by-le-length, length-filter}
-use Rattle.indexmap.specs.IndexSet.{insert_key}
+use Rattle.std.proofs.lemmas.Map.Keys.{IsDistinct-push}
+use Rattle.indexmap.proofs.SetLemmas.{set_all_distinct}
+use Rattle.indexmap.specs.IndexSet.{insert_all}
 use Rattle.nfs_machine.specs.MountSteps.{is_mounted, is_of, newest}
-use Rattle.nfs_objects.specs.MountTables.{AreFilled, AreInPieces, joined}
+use Rattle.nfs_objects.specs.MountTables.{AreDistinct, AreInPieces, ArePacked, is_same, joined}
+use Rattle.nfs_objects.specs.SameLaws.{mount_decides}
 use Rattle.side_wire.specs.declared.mount.lists.MountBody.{MountBody}
 
 -- a test is passed in a piece where it is passed at all
@@ -39,16 +45,6 @@ any-turned m mounts =
     (λ x. ap (λ b. b && pointwise nat_eq m.directory x.directory) (nat_list_eq_equiv.symm m.hostname x.hostname)
     ∙ ap (λ b. pointwise nat_eq x.hostname m.hostname && b) (nat_list_eq_equiv.symm m.directory x.directory)) mounts
 
--- a mount that was not there goes last
-pub pushed-last : (old copy new : List MountBody) (m : MountBody) → copy ≡ old → is_mounted old m ≡ false →
-    new ≡ insert_key
-    (λ (a b : MountBody). pointwise nat_eq a.hostname b.hostname && pointwise nat_eq a.directory b.directory)
-    copy m → new ≡ old ++ m ∷ []
-pushed-last old copy new m same absent made =
-    made
-    ∙ ap (λ b. cond b copy (copy ++ m ∷ [])) (any-turned m copy ∙ ap (λ ms. is_mounted ms m) same ∙ absent)
-    ∙ ap (λ ms. ms ++ m ∷ []) same
-
 pub any-dropped : {X : Type 0} (p : X → Bool) (xs : List X) → list_any p xs ≡ false →
     list_any p (drop 1 xs) ≡ false
 any-dropped p [] none = none
@@ -71,6 +67,67 @@ newest-full mounts m full =
     (let one : length (mounts ++ m ∷ []) - 65536 ≡ 1 = omega (arith, all, full) in one)
     ∙ drop-append-le 1 mounts (m ∷ []) (omega (arith, full))
 
+-- ---- mounts that differ
+module _ {X : Type 0} where
+  all-front : (P : X → Type 0) (a b : List X) → AllByRecursion P (a ++ b) → AllByRecursion P a
+  all-front P [] b all = tt
+  all-front P (x ∷ a) b all = (all.0, all-front P a b all.1)
+
+  all-passed : (P : X → Type 0) (p : X → Bool) (xs : List X) → AllByRecursion P xs → AllByRecursion P (filter p xs)
+  all-passed P p [] all = tt
+  all-passed P p (x ∷ xs) all =
+      elim (p x) as (λ b. AllByRecursion P (cond b (x ∷ filter p xs) (filter p xs))) [
+        | true ↦ (all.0, all-passed P p xs all.1)
+        | false ↦ all-passed P p xs all.1
+      ]
+
+  module _ (same : X → X → Bool) where
+    distinct-front : (a b : List X) → IsDistinct same (a ++ b) → IsDistinct same a
+    unfolding IsDistinct
+    distinct-front [] b distinct = tt
+    distinct-front (x ∷ a) b distinct =
+        (all-front (λ y. same x y ≡ false) a b distinct.0, distinct-front a b distinct.1)
+
+    distinct-back : (a b : List X) → IsDistinct same (a ++ b) → IsDistinct same b
+    unfolding IsDistinct
+    distinct-back [] b distinct = distinct
+    distinct-back (x ∷ a) b distinct = distinct-back a b distinct.1
+
+    distinct-rest : (xs : List X) → IsDistinct same xs → IsDistinct same (drop 1 xs)
+    unfolding IsDistinct
+    distinct-rest [] distinct = tt
+    distinct-rest (x ∷ xs) distinct = distinct.1
+
+    distinct-passed : (p : X → Bool) (xs : List X) → IsDistinct same xs → IsDistinct same (filter p xs)
+    unfolding IsDistinct
+    distinct-passed p [] distinct = tt
+    distinct-passed p (x ∷ xs) distinct =
+        elim (p x) as (λ b. IsDistinct same (cond b (x ∷ filter p xs) (filter p xs))) [
+          | true ↦ (all-passed (λ y. same x y ≡ false) p xs distinct.0, distinct-passed p xs distinct.1)
+          | false ↦ distinct-passed p xs distinct.1
+        ]
+
+same_laws : IsEquivalence is_same
+same_laws = decided is_same mount_decides
+
+-- one more, which was not there
+distinct-more : (mounts : List MountBody) (m : MountBody) → AreDistinct mounts → is_mounted mounts m ≡ false →
+    AreDistinct (mounts ++ m ∷ [])
+distinct-more mounts m distinct absent = IsDistinct-push same_laws mounts m distinct (any-turned m mounts ∙ absent)
+
+-- others that were not there go last
+pub joined-behind : (old copy others more new : List MountBody) → copy ≡ old → others ≡ more →
+    AreDistinct (old ++ more) → new ≡ insert_all
+    (λ (a b : MountBody). pointwise nat_eq a.hostname b.hostname && pointwise nat_eq a.directory b.directory)
+    copy others → new ≡ old ++ more
+joined-behind old copy others more new same same_others distinct made =
+    made
+    ∙ (λ i. insert_all
+    (λ (a b : MountBody). pointwise nat_eq a.hostname b.hostname && pointwise nat_eq a.directory b.directory)
+    (same i) (same_others i))
+    ∙ set_all_distinct same_laws old more distinct
+
+-- ---- pieces
 module _ {X : Type 0} where
   pub joined-append : (a b : List (List X)) → joined (a ++ b) ≡ joined a ++ joined b
   joined-append a b = flat_map-append (λ piece. piece) a b
@@ -78,55 +135,164 @@ module _ {X : Type 0} where
   pub joined-last : (front : List (List X)) (last : List X) → joined (front ++ last ∷ []) ≡ joined front ++ last
   joined-last front last = joined-append front (last ∷ []) ∙ ap (λ xs. joined front ++ xs) (append-nil last)
 
-  pub filled-append : (a b : List (List X)) → AreFilled a → AreFilled b → AreFilled (a ++ b)
-  filled-append [] b none more = more
-  filled-append (x ∷ a) b all more = (all.0, filled-append a b all.1 more)
+  -- one more piece, which doesn't fit into the last
+  packed-more : (n : ℕ) (front : List (List X)) (last piece : List X) → ArePacked n (front ++ last ∷ []) →
+      0 < length piece → 256 < length last + length piece → ArePacked n ((front ++ last ∷ []) ++ piece ∷ [])
+  packed-more n [] last piece packed some over = (packed.0, packed.1, (some, over, tt))
+  packed-more n (x ∷ front) last piece packed some over =
+      (packed.0, packed.1, packed-more (length x) front last piece packed.2 some over)
 
-  pub filled-front : (a b : List (List X)) → AreFilled (a ++ b) → AreFilled a
-  filled-front [] b all = tt
-  filled-front (x ∷ a) b all = (all.0, filled-front a b all.1)
+  -- a last piece that grew
+  packed-grown : (n : ℕ) (front : List (List X)) (last piece : List X) → ArePacked n (front ++ last ∷ []) →
+      length last ≤ length piece → ArePacked n (front ++ piece ∷ [])
+  packed-grown n [] last piece packed grown =
+      let some = packed.0 in
+      let over = packed.1 in
+      (omega (arith, some, grown), omega (arith, over, grown), tt)
+  packed-grown n (x ∷ front) last piece packed grown =
+      (packed.0, packed.1, packed-grown (length x) front last piece packed.2 grown)
 
-  -- one more behind the others
-  pub one-more : (front : List (List X)) (last old : List X) (x : X) (count : ℕ) →
-      joined front ++ last ≡ old ++ x ∷ [] → AreFilled front → 0 < length last →
-      count ≡ length old → count < 65536 → AreInPieces (front ++ last ∷ []) (count + 1)
-  one-more front last old x count is filled some counted room =
-      let all = joined-last front last ∙ is in
-      let long : length (joined (front ++ last ∷ [])) ≡ length old + 1 =
-      ap length all ∙ length-append old (x ∷ []) in
+  -- one piece
+  packed-one : (piece : List X) → 0 < length piece → ArePacked 256 (piece ∷ [])
+  packed-one piece some = (some, omega (arith, some), tt)
+
+-- what does not fit into one piece is more
+pub not-fit : (n : ℕ) → (n ≤ 256 → IsTrue false) → 256 < n
+not-fit n more =
+    let wide : n ≤ 256 → ⊥ = λ few. true≢false (sym (more few)) in
+    omega (arith, wide)
+
+-- pieces of which the last is joined to another, or gets it behind itself
+module _ {A X : Type 0} (f : A → List X) (old front : List A) (last : A) (cut : old ≡ front ++ last ∷ []) where
+  pieces-cut : map f old ≡ map f front ++ f last ∷ []
+  pieces-cut = ap (map f) cut ∙ map-append f front (last ∷ [])
+
+  joined-cut : joined (map f old) ≡ joined (map f front) ++ f last
+  joined-cut = ap joined pieces-cut ∙ joined-last (map f front) (f last)
+
+  behind-last : (piece : List X) → joined (map f old) ++ piece ≡ joined (map f front) ++ (f last ++ piece)
+  behind-last piece =
+      ap (λ xs. xs ++ piece) joined-cut ∙ append_assoc (joined (map f front)) (f last) piece
+
+  pub last-apart : (same : X → X → Bool) (piece : List X) → IsDistinct same (joined (map f old) ++ piece) →
+      IsDistinct same (f last ++ piece)
+  last-apart same piece distinct =
+      distinct-back same (joined (map f front)) (f last ++ piece)
+      (subst (IsDistinct same) (behind-last piece) distinct)
+
+  module _ (kept new : List A) (both : A) (piece : List X) (is : f both ≡ f last ++ piece) (wide : ℕ)
+      (counted : wide ≡ length old) (less : kept ≡ take (wide - 1) old) (more : new ≡ kept ++ both ∷ []) where
+    front-kept : kept ≡ front
+    front-kept =
+        let all : length old ≡ length front + 1 = ap length cut ∙ length-append front (last ∷ []) in
+        let less_one : wide - 1 ≡ length front = omega (arith, counted, all) in
+        less ∙ (λ i. take (less_one i) (cut i)) ∙ take-append_seam front (last ∷ [])
+
+    pieces-grown : map f new ≡ map f front ++ (f last ++ piece) ∷ []
+    pieces-grown =
+        ap (map f) (more ∙ ap (λ xs. xs ++ both ∷ []) front-kept) ∙ map-append f front (both ∷ [])
+        ∙ ap (λ x. map f front ++ x ∷ []) is
+
+    pub grown-packed : (n : ℕ) → ArePacked n (map f old) → ArePacked n (map f new)
+    grown-packed n packed =
+        let wider : length (f last ++ piece) ≡ length (f last) + length piece = length-append (f last) piece in
+        subst (ArePacked n) (sym pieces-grown) (packed-grown n (map f front) (f last) (f last ++ piece)
+        (subst (ArePacked n) pieces-cut packed) (omega (arith, wider)))
+
+  pub more-packed : (n : ℕ) (new : List A) (piece : A) → new ≡ old ++ piece ∷ [] → 0 < length (f piece) →
+      256 < length (f last) + length (f piece) → ArePacked n (map f old) → ArePacked n (map f new)
+  more-packed n new piece more some over packed =
+      subst (ArePacked n) (sym (ap (map f) more ∙ map-append f old (piece ∷ [])
+      ∙ ap (λ xs. xs ++ f piece ∷ []) pieces-cut))
+      (packed-more n (map f front) (f last) (f piece) (subst (ArePacked n) pieces-cut packed) some over)
+
+-- a piece behind none
+pub first-packed : {A X : Type 0} (f : A → List X) (old new : List A) (piece : A) → length old ≡ 0 →
+    new ≡ old ++ piece ∷ [] → 0 < length (f piece) → ArePacked 256 (map f new)
+first-packed f old new piece none more some =
+    subst (λ l. ArePacked 256 (map f l)) (sym (more ∙ ap (λ l. l ++ piece ∷ []) (nil_from_length old none)))
+    (packed-one (f piece) some)
+
+-- what comes behind those at the first places
+module _ {A X : Type 0} (f : A → List X) (pieces : List A) (i : ℕ) (piece : A) (within : i < length pieces)
+    (at : piece ≡ get_or pieces i piece) where
+  next-joined : joined (map f (take (i + 1) pieces)) ≡ joined (map f (take i pieces)) ++ f piece
+  next-joined =
+      ap joined (map_more f pieces i piece within ∙ ap (λ x. map f (take i pieces) ++ f x ∷ []) (sym at))
+      ∙ joined-last (map f (take i pieces)) (f piece)
+
+  all-joined : joined (map f pieces)
+      ≡ (joined (map f (take i pieces)) ++ f piece) ++ joined (map f (drop (i + 1) pieces))
+  all-joined =
+      ap (λ l. joined (map f l)) (sym (take-append-drop (i + 1) pieces))
+      ∙ ap joined (map-append f (take (i + 1) pieces) (drop (i + 1) pieces))
+      ∙ joined-append (map f (take (i + 1) pieces)) (map f (drop (i + 1) pieces))
+      ∙ ap (λ xs. xs ++ joined (map f (drop (i + 1) pieces))) next-joined
+
+  -- all these, of which those at the first places were added
+  module _ (start added : List X) (done : added ≡ start ++ joined (map f (take i pieces))) where
+    next-done : added ++ f piece ≡ start ++ (joined (map f (take i pieces)) ++ f piece)
+    next-done = ap (λ xs. xs ++ f piece) done ∙ append_assoc start (joined (map f (take i pieces))) (f piece)
+
+    pub next-apart : (same : X → X → Bool) → IsDistinct same (start ++ joined (map f pieces)) →
+        IsDistinct same (added ++ f piece)
+    next-apart same distinct =
+        let seen = joined (map f (take i pieces)) ++ f piece in
+        let left = joined (map f (drop (i + 1) pieces)) in
+        let all : start ++ joined (map f pieces) ≡ (added ++ f piece) ++ left =
+        ap (λ xs. start ++ xs) all-joined ∙ sym (append_assoc start seen left)
+        ∙ ap (λ xs. xs ++ left) (sym next-done) in
+        distinct-front same (added ++ f piece) left (subst (IsDistinct same) all distinct)
+
+-- no mount
+pub held-none : AreInPieces [] 0
+unfolding IsDistinct
+held-none = record { counted = refl; bounded = omega arith; packed = tt; distinct = tt }
+
+-- one more mount, which was not there
+module _ (pieces : List (List MountBody)) (m : MountBody) (count : ℕ) (held : AreInPieces pieces count)
+    (absent : is_mounted (joined pieces) m ≡ false) where
+  pub more-apart : AreDistinct (joined pieces ++ m ∷ [])
+  more-apart = distinct-more (joined pieces) m held.distinct absent
+
+  pub more-held : (new : List (List MountBody)) → joined new ≡ joined pieces ++ m ∷ [] → count < 65536 →
+      (ArePacked 256 pieces → ArePacked 256 new) → AreInPieces new (count + 1)
+  more-held new made room packed =
+      let long : length (joined new) ≡ length (joined pieces) + 1 =
+      ap length made ∙ length-append (joined pieces) (m ∷ []) in
       record {
-        counted = ap (λ n. n + 1) counted ∙ sym long;
+        counted = ap (λ n. n + 1) held.counted ∙ sym long;
         bounded = omega (arith, room);
-        filled = filled-append front (last ∷ []) filled (some, tt);
+        packed = packed held.packed;
+        distinct = subst AreDistinct (sym made) more-apart;
       }
 
-  -- the first of all is the first of the first piece, of which these pieces keep the others
-  module _ (first : List X) (others kept : List (List X)) (count : ℕ) (held : AreInPieces (first ∷ others) count)
-      (is : joined kept ≡ drop 1 first) (filled : AreFilled kept) where
-    pub first-dropped : joined (kept ++ others) ≡ drop 1 (joined (first ∷ others))
-    first-dropped =
-        joined-append kept others ∙ ap (λ xs. xs ++ joined others) is
-        ∙ sym (drop-append-le 1 first (joined others)
-        (let some : 0 < length first = held.filled.0 in omega (arith, some)))
+-- the first of all is the first of the first piece, which keeps the others
+module _ (first : List MountBody) (others : List (List MountBody)) (count : ℕ)
+    (held : AreInPieces (first ∷ others) count) where
+  others-kept : drop 1 first ++ joined others ≡ drop 1 (joined (first ∷ others))
+  others-kept =
+      sym (drop-append-le 1 first (joined others)
+      (let some : 0 < length first = held.packed.0 in omega (arith, some)))
 
-    pub first-held : AreInPieces (kept ++ others) (count - 1)
-    first-held =
-        let left : length (joined (kept ++ others)) ≡ length (joined (first ∷ others)) - 1 =
+  pub others-apart : AreDistinct (drop 1 first ++ joined others)
+  others-apart = subst AreDistinct (sym others-kept)
+      (distinct-rest is_same (joined (first ∷ others)) held.distinct)
+
+  module _ (new : List (List MountBody)) (made : joined new ≡ drop 1 first ++ joined others) where
+    pub first-dropped : joined new ≡ drop 1 (joined (first ∷ others))
+    first-dropped = made ∙ others-kept
+
+    pub first-held : ArePacked 256 new → AreInPieces new (count - 1)
+    first-held packed =
+        let left : length (joined new) ≡ length (joined (first ∷ others)) - 1 =
         ap length first-dropped ∙ length-drop 1 (joined (first ∷ others)) in
         record {
           counted = ap (λ n. n - 1) held.counted ∙ sym left;
           bounded = (let most = held.bounded in omega (arith, most));
-          filled = filled-append kept others filled held.filled.1;
+          packed = packed;
+          distinct = subst AreDistinct (sym made) others-apart;
         }
-
-  -- what is left behind the first of so few, and of more
-  pub rest_none : (xs : List X) → length xs < 2 → [] ≡ drop 1 xs
-  rest_none [] few = refl
-  rest_none (x ∷ []) few = refl
-  rest_none (x ∷ y ∷ xs) few = absurd (omega (arith, few))
-
-  pub rest_one : (xs : List X) → 2 ≤ length xs → 0 < length (drop 1 xs)
-  rest_one xs many = (let left = length-drop 1 xs in omega (arith, left, many))
 
 -- ---- what passes a test
 -- where no one passes, all are left without those that do
@@ -141,16 +307,13 @@ all-stay p (x ∷ xs) none =
       | false ↦ λ others. ap (λ ys. x ∷ ys) (all-stay p xs others)
     ] none
 
--- of the pieces that were seen, what passes is kept, in pieces that are not empty; so many are kept
+-- of the pieces that were seen, what passes is kept; so many are kept
 pub record AreSifted {X : Type 0} (p : X → Bool) (seen kept : List (List X)) (count : ℕ) : Type 0 where
   pub same : joined kept ≡ filter p (joined seen)
-  pub filled : AreFilled kept
+  pub packed : ArePacked 256 kept
   pub counted : count ≡ length (joined kept)
 
 module _ {X : Type 0} (p : X → Bool) where
-  pub sifted-none : AreSifted p [] [] 0
-  sifted-none = record { same = refl; filled = tt; counted = refl }
-
   -- they are no more than were seen
   sifted-few : (seen kept : List (List X)) (count : ℕ) → AreSifted p seen kept count →
       count ≤ length (joined seen)
@@ -162,49 +325,32 @@ module _ {X : Type 0} (p : X → Bool) where
     count_by-le-length p (joined seen),
   )
 
-  module _ (seen kept : List (List X)) (count : ℕ) (sifted : AreSifted p seen kept count) (piece rest : List X)
-      (passes : rest ≡ filter p piece) where
-    one-more-seen : filter p (joined (seen ++ piece ∷ [])) ≡ joined kept ++ rest
-    one-more-seen =
-        ap (filter p) (joined-last seen piece) ∙ filter-append p (joined seen) piece
-        ∙ (λ i. sym sifted.same i ++ sym passes i)
-
-    sifted-more : 0 < length rest → AreSifted p (seen ++ piece ∷ []) (kept ++ rest ∷ []) (count + length rest)
-    sifted-more some = record {
-      same = joined-last kept rest ∙ sym one-more-seen;
-      filled = filled-append kept (rest ∷ []) sifted.filled (some, tt);
-      counted =
-          ap (λ n. n + length rest) sifted.counted ∙ sym (length-append (joined kept) rest)
-          ∙ sym (ap length (joined-last kept rest));
-    }
-
-    sifted-same : length rest ≡ 0 → AreSifted p (seen ++ piece ∷ []) kept count
-    sifted-same none = record {
-      same = sym (one-more-seen ∙ ap (λ xs. joined kept ++ xs) (nil_from_length rest none)
-          ∙ append-nil (joined kept));
-      filled = sifted.filled;
-      counted = sifted.counted;
-    }
-
 -- the same of the pieces at the first places
 module _ {A X : Type 0} (f : A → List X) (p : X → Bool) (pieces : List A) where
   module _ (i : ℕ) (piece : A) (kept : List (List X)) (count : ℕ) (rest : List X)
       (sifted : AreSifted p (map f (take i pieces)) kept count) (within : i < length pieces)
       (at : piece ≡ get_or pieces i piece) (passes : rest ≡ filter p (f piece)) where
-    next : map f (take (i + 1) pieces) ≡ map f (take i pieces) ++ f piece ∷ []
-    next =
-        map_more f pieces i piece within ∙ ap (λ x. map f (take i pieces) ++ f x ∷ []) (sym at)
+    one-more-seen : joined kept ++ rest ≡ filter p (joined (map f (take i pieces)) ++ f piece)
+    one-more-seen =
+        (λ j. sifted.same j ++ passes j) ∙ sym (filter-append p (joined (map f (take i pieces))) (f piece))
 
-    pub sifted-next : 0 < length rest →
-        AreSifted p (map f (take (i + 1) pieces)) (kept ++ rest ∷ []) (count + length rest)
-    sifted-next some =
-        subst (λ seen. AreSifted p seen (kept ++ rest ∷ []) (count + length rest)) (sym next)
-        (sifted-more p (map f (take i pieces)) kept count sifted (f piece) rest passes some)
+    pub sifted-next : (new : List (List X)) → joined new ≡ joined kept ++ rest → ArePacked 256 new →
+        AreSifted p (map f (take (i + 1) pieces)) new (count + length rest)
+    sifted-next new made packed = record {
+      same = made ∙ one-more-seen ∙ ap (filter p) (sym (next-joined f pieces i piece within at));
+      packed = packed;
+      counted =
+          ap (λ n. n + length rest) sifted.counted ∙ sym (length-append (joined kept) rest) ∙ sym (ap length made);
+    }
 
-    pub sifted-on : length rest ≡ 0 → AreSifted p (map f (take (i + 1) pieces)) kept count
-    sifted-on none =
-        subst (λ seen. AreSifted p seen kept count) (sym next)
-        (sifted-same p (map f (take i pieces)) kept count sifted (f piece) rest passes none)
+    -- where all differ, those that are kept differ from those that come
+    pub sifted-apart : (same : X → X → Bool) → IsDistinct same (joined (map f pieces)) →
+        IsDistinct same (joined kept ++ rest)
+    sifted-apart same distinct =
+        let seen = joined (map f (take i pieces)) ++ f piece in
+        subst (IsDistinct same) (sym one-more-seen)
+        (distinct-passed same p seen (distinct-front same seen (joined (map f (drop (i + 1) pieces)))
+        (subst (IsDistinct same) (all-joined f pieces i piece within at) distinct)))
 
     -- there is room for the rest
     pub sifted-room : count + length rest ≤ length (joined (map f pieces))
@@ -225,10 +371,12 @@ module _ {A X : Type 0} (f : A → List X) (p : X → Bool) (pieces : List A) wh
       AreSifted p (map f (take i pieces)) kept count → AreSifted p (map f pieces) kept count
   sifted-all i kept count all = subst (λ seen. AreSifted p (map f seen) kept count) (take_all i pieces all)
 
-  pub sifted-pieces : (kept : List (List X)) (count was : ℕ) → AreSifted p (map f pieces) kept count →
-      AreInPieces (map f pieces) was → AreInPieces kept count
-  sifted-pieces kept count was sifted held = record {
-    counted = sifted.counted;
-    bounded = omega (arith, sifted-few p (map f pieces) kept count sifted, held.counted, held.bounded);
-    filled = sifted.filled;
-  }
+pub sifted-pieces : (p : MountBody → Bool) (pieces kept : List (List MountBody)) (count was : ℕ) →
+    AreSifted p pieces kept count → AreInPieces pieces was → AreInPieces kept count
+sifted-pieces p pieces kept count was sifted held = record {
+  counted = sifted.counted;
+  bounded = omega (arith, sifted-few p pieces kept count sifted, held.counted, held.bounded);
+  packed = sifted.packed;
+  distinct = subst AreDistinct (sym sifted.same)
+      (distinct-passed is_same p (joined pieces) held.distinct);
+}

@@ -1,7 +1,7 @@
 -- Tables of mounts (RFC 1813, appendix I, 5.2): hosts with the paths that they mounted.
-use Rattle.std.specs.Prelude.{◌≡◌, ℕ, ◌<◌, ◌≤◌, true, ◌&&◌, List, length, nat_eq}
+use Rattle.std.specs.Prelude.{◌≡◌, ℕ, ◌+◌, ◌<◌, ◌≤◌, Bool, true, ◌&&◌, List, [], ◌∷◌, length, nat_eq}
 use Rattle.std.specs.Cmp.Lexicographic.{bytes_decides, nat_list_eq_equiv, pointwise}
-use Rattle.std.specs.List.{AllByRecursion, flat_map}
+use Rattle.std.specs.List.{IsDistinct, flat_map}
 use Rattle.std.proofs.Common.{ap, sym, ◌∙◌}
 use Rattle.std.proofs.lemmas.Bool.{and_parts}
 use Rattle.nfs_machine.specs.Bytes.{same_bytes}
@@ -16,15 +16,26 @@ mounted host path = record { hostname = host; directory = path }
 abbrev pub joined : {X : Type 0} → List (List X) → List X
 joined pieces = flat_map (λ piece. piece) pieces
 
--- no piece is empty
-abbrev pub AreFilled : {X : Type 0} → List (List X) → Type 0
-AreFilled pieces = AllByRecursion (λ piece. 0 < length piece) pieces
+-- no piece is empty, and each has more than 256 together with the one before it; the first comes behind one of so many
+abbrev pub ArePacked : {X : Type 0} → ℕ → List (List X) → Type 0
+ArePacked before [] = Unit {0}
+ArePacked before (piece ∷ pieces) =
+    (0 < length piece) × (256 < before + length piece) × ArePacked (length piece) pieces
 
--- so many there are in these pieces, none of which is empty
-pub record AreInPieces {X : Type 0} (pieces : List (List X)) (count : ℕ) : Type 0 where
+-- the same path of the same host
+abbrev pub is_same : MountBody → MountBody → Bool
+is_same a b = is_of b.hostname b.directory a
+
+-- no mount is there twice
+abbrev pub AreDistinct : List MountBody → Type 0
+AreDistinct mounts = IsDistinct is_same mounts
+
+-- so many mounts there are in these pieces, each of them once; two neighbours don't fit into one piece
+pub record AreInPieces (pieces : List (List MountBody)) (count : ℕ) : Type 0 where
   pub counted : count ≡ length (joined pieces)
   pub bounded : count ≤ 65536
-  pub filled : AreFilled pieces
+  pub packed : ArePacked 256 pieces
+  pub distinct : AreDistinct (joined pieces)
 
 -- what is made of a host and a path is made of the mount that they are
 pub both_alike : {X : Type 0} (f : List ℕ → List ℕ → X) (host path : List ℕ) (m : MountBody) →

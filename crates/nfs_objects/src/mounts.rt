@@ -1,11 +1,12 @@
 //! The table of mounts (RFC 1813, appendix I, 5.2).
 
 ghost use Rattle.std.specs.Prelude.{◌≡◌, ◌==◌, ◌<◌, ◌≤◌, [], ◌∷◌, ◌++◌, false, IfOk};
-ghost use Rattle.std.specs.Prelude.{OnOk, drop, filter, length, map, not};
+ghost use Rattle.std.specs.Prelude.{◌+◌, ◌^◌, ◌↔◌, IsTrue, OnOk, drop, filter, length, map, not};
 ghost use Rattle.std.specs.Arc.{arc_value};
 ghost use Rattle.std.specs.Cmp.Lexicographic.{pointwise};
 ghost use Rattle.std.specs.List.{list_any};
 ghost use Rattle.nfs_objects.specs.Leaving.{leaves};
+ghost use Rattle.nfs_objects.specs.MountTables.{AreDistinct, ArePacked, joined};
 ghost use Rattle.nfs_objects.specs.Same.{same_mount};
 
 use bytes::Bytes;
@@ -18,7 +19,9 @@ use std::sync::Arc;
 /// How many mounts are kept: the newest.
 pub const MOUNT_LIMIT: usize = 65536;
 
-/// How many mounts a piece of a table has at most. One more mount copies two pieces, and a look-up asks each.
+/// How many mounts a piece of a table has at most. Two neighbours have more, so that n mounts stand in at most
+/// 2 n / 257 + 1 pieces, each of which a look-up asks. One more mount copies the last piece, and where the oldest goes
+/// the first too, or the first two.
 const PIECE_LIMIT: usize = 256;
 
 /// A host that mounted a path, as it sent it. A clause sees it as the machine does.
@@ -141,18 +144,20 @@ impl Model for Piece {
 
 impl Piece {
     ghost use Rattle.nfs_machine.specs.MountSteps.{is_mounted};
-    ghost use Rattle.nfs_objects.specs.MountTables.{AreFilled, joined, mounted};
+    ghost use Rattle.nfs_objects.specs.MountTables.{AreDistinct, mounted};
 
-    fn new(alloc: Global) -> Piece
-        ensures { result ≡ [] }
+    /// A piece of this mount alone.
+    fn of(alloc: Global, mount: Mount) -> Result<Piece, AllocError>
+        ensures { IfOk result (λ piece. piece ≡ mount ∷ []) }
     {
-        Piece {
-            mounts: IndexSet::new(alloc),
-        }
+        let mut mounts = IndexSet::new(alloc);
+        mounts.insert(mount)?;
+        Ok(Piece { mounts })
     }
 
     fn len(&self) -> usize
-        ensures { result ≡ length self.now }
+        ensures len { result ≡ length self.now }
+        ensures small { result < 2 ^ 63 }
     {
         self.mounts.len()
     }
@@ -169,13 +174,14 @@ impl Piece {
         self.mounts.contains(Sought { host, path })
     }
 
-    /// A piece with this mount last.
-    fn with_mount(&self, mount: Mount) -> Result<Piece, AllocError>
-        requires { is_mounted self.now mount ≡ false }
-        ensures { IfOk result (λ piece. piece ≡ self.now ++ mount ∷ []) }
+    /// A piece with the mounts of both, those of the other last.
+    fn joined_with(&self, other: &Piece) -> Result<Piece, AllocError>
+        requires { AreDistinct (self.now ++ other.now) }
+        ensures { IfOk result (λ piece. piece ≡ self.now ++ other.now) }
     {
         let mut mounts = self.mounts.clone()?;
-        mounts.insert(mount)?;
+        let mut others = other.mounts.clone()?;
+        mounts.append(&mut others)?;
         Ok(Piece { mounts })
     }
 
@@ -198,20 +204,7 @@ impl Piece {
         Ok(Piece { mounts })
     }
 
-    /// A piece without the first mount, or none where no mount is left.
-    #[tactic(auto, using(crate::proofs::MountTables::rest_none, crate::proofs::MountTables::rest_one))]
-    fn rest(&self, alloc: Global) -> Result<Vec<Arc<Piece>>, AllocError>
-        ensures joined { IfOk result (λ pieces. joined (map arc_value pieces.items) ≡ drop 1 self.now) }
-        ensures filled { IfOk result (λ pieces. AreFilled (map arc_value pieces.items)) }
-    {
-        let mut pieces = Vec::new(alloc);
-        if self.len() < 2 {
-            return Ok(pieces);
-        }
-        pieces.push(Arc::new(alloc, self.without_first()?)?)?;
-        Ok(pieces)
-    }
-
+    /// A piece without the first mount.
     fn without_first(&self) -> Result<Piece, AllocError>
         ensures { IfOk result (λ piece. piece ≡ drop 1 self.now) }
     {
@@ -244,7 +237,7 @@ impl Model for MountTable {
 
 impl MountTable {
     ghost use Rattle.nfs_machine.specs.MountSteps.{is_mounted, newest};
-    ghost use Rattle.nfs_objects.specs.MountTables.{AreFilled, joined, mounted};
+    ghost use Rattle.nfs_objects.specs.MountTables.{mounted};
 
     /// A table without mounts.
     pub fn new(alloc: Global) -> MountTable
@@ -324,29 +317,17 @@ impl MountTable {
         requires absent { is_mounted self.now mount ≡ false }
         ensures { IfOk result (λ table. table ≡ self.now ++ mount ∷ []) }
     {
-        let (front, last) = self.last_with(alloc, mount)?;
-        let mut pieces = Vec::with_capacity(alloc, front.len() + 1)?;
-        share_pieces(&mut pieces, front)?;
-        pieces.push(Arc::new(alloc, last)?)?;
+        let mut pieces = Vec::with_capacity(alloc, self.pieces.len() + 1)?;
+        share_pieces(&mut pieces, &self.pieces)?;
+        let last = Arc::new(alloc, Piece::of(alloc, mount)?)?;
+        add_piece(alloc, &mut pieces, last)?;
         Ok(MountTable {
             pieces,
             len: self.len + 1,
         })
     }
 
-    /// The pieces that stay, and behind them one that ends with this mount: the last piece where it has room.
-    fn last_with(&self, alloc: Global, mount: Mount) -> Result<(&[Arc<Piece>], Piece), AllocError>
-        requires { is_mounted self.now mount ≡ false }
-        ensures joined { IfOk result (λ p. joined (map arc_value p.0.now) ++ p.1 ≡ self.now ++ mount ∷ []) }
-        ensures filled { IfOk result (λ p. AreFilled (map arc_value p.0.now) × (0 < length p.1)) }
-    {
-        match self.pieces.split_last() {
-            Some((last, front)) if last.len() < PIECE_LIMIT => Ok((front, last.with_mount(mount)?)),
-            _ => Ok((&self.pieces, Piece::new(alloc).with_mount(mount)?)),
-        }
-    }
-
-    /// A table without the mounts that leave. It shares with this one the pieces that lose none.
+    /// A table without the mounts that leave. It shares with this one the pieces that lose none and aren't joined.
     ///
     /// # Errors
     ///
@@ -358,11 +339,8 @@ impl MountTable {
         let mut len = 0;
         for piece in &self.pieces {
             let rest = rest_of(alloc, piece, leaving)?;
-            if rest.len() == 0 {
-                continue;
-            }
             len += rest.len();
-            pieces.push(rest)?;
+            add_piece(alloc, &mut pieces, rest)?;
         }
         Ok(MountTable { pieces, len })
     }
@@ -374,8 +352,9 @@ impl MountTable {
         let Some((first, others)) = self.pieces.split_first() else {
             return Ok(MountTable::new(alloc));
         };
-        let mut pieces = first.rest(alloc)?;
-        share_pieces(&mut pieces, others)?;
+        let mut pieces = Vec::new(alloc);
+        add_piece(alloc, &mut pieces, Arc::new(alloc, first.without_first()?)?)?;
+        add_pieces(alloc, &mut pieces, others)?;
         Ok(MountTable {
             pieces,
             len: self.len - 1,
@@ -431,6 +410,57 @@ fn share_pieces(owners: &mut Vec<Arc<Piece>>, pieces: &[Arc<Piece>]) -> Result<(
 {
     for piece in pieces {
         owners.push(Arc::try_clone(piece)?)?;
+    }
+    Ok(())
+}
+
+/// Adds a piece. It is joined to the last where both fit into one, and left out where it is empty.
+fn add_piece(
+    alloc: Global,
+    pieces: &mut Vec<Arc<Piece>>,
+    piece: Arc<Piece>,
+) -> Result<(), AllocError>
+    requires { AreDistinct (joined (map arc_value pieces.old.items) ++ arc_value piece) }
+    ensures joined { OnOk result
+        (joined (map arc_value pieces.new.items) ≡ joined (map arc_value pieces.old.items) ++ arc_value piece) }
+    ensures packed { OnOk result (ArePacked PIECE_LIMIT (map arc_value pieces.old.items)
+        → ArePacked PIECE_LIMIT (map arc_value pieces.new.items)) }
+{
+    if piece.len() == 0 {
+        return Ok(());
+    }
+    match pieces.split_last() {
+        Some((last, _)) if fit_together(last, &piece) => {
+            let both = Arc::new(alloc, last.joined_with(&piece)?)?;
+            pieces.pop();
+            pieces.push(both)?;
+        }
+        _ => pieces.push(piece)?,
+    }
+    Ok(())
+}
+
+/// Whether the mounts of both fit into one piece.
+fn fit_together(piece: &Arc<Piece>, other: &Arc<Piece>) -> bool
+    ensures { IsTrue result ↔ (length (arc_value piece.now) + length (arc_value other.now) ≤ PIECE_LIMIT) }
+{
+    piece.len() + other.len() <= PIECE_LIMIT
+}
+
+/// Adds these pieces in turn.
+fn add_pieces(
+    alloc: Global,
+    pieces: &mut Vec<Arc<Piece>>,
+    others: &[Arc<Piece>],
+) -> Result<(), AllocError>
+    requires { AreDistinct (joined (map arc_value pieces.old.items) ++ joined (map arc_value others.now)) }
+    ensures joined { OnOk result (joined (map arc_value pieces.new.items)
+        ≡ joined (map arc_value pieces.old.items) ++ joined (map arc_value others.now)) }
+    ensures packed { OnOk result (ArePacked PIECE_LIMIT (map arc_value pieces.old.items)
+        → ArePacked PIECE_LIMIT (map arc_value pieces.new.items)) }
+{
+    for other in others {
+        add_piece(alloc, pieces, Arc::try_clone(other)?)?;
     }
     Ok(())
 }
