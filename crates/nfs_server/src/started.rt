@@ -67,6 +67,7 @@ pub fn serve_options<C: Moments, R: Source, W: Sink>(
     };
     let mut engine = open(alloc, config)?;
     let served = serve_stream(alloc, &mut engine, &host, clock, reader, writer);
+    // Calls of `drop`, since drops at the end are proved for each exit.
     drop(engine);
     drop(host);
     match served {

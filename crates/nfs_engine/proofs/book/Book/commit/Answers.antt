@@ -50,7 +50,7 @@ keeps c = subst (λ (f : FinishedValue). Keeps (origin_at c.self.inside.calls.li
     c.keep_answer.new.replies) c.origin-origin.ensures
     (subst (λ (answer : List ℕ). Keeps (option_copied c.origin-origin.result) answer
     c.self.inside.replies c.keep_answer.new.replies)
-    c.in-Some.ensures.ready.answer c.in-Ok.ensures.keeps))
+    c.in-Some.ensures.ready.made.answer c.in-Ok.ensures.keeps))
 
 commits : (c : After-commit) → Commits c.args.self.now (after c) c.args.finished
 commits c =
