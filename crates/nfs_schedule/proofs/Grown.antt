@@ -28,7 +28,8 @@ use Rattle.nfs_engine.specs.Releases.{ReleaseValue}
 use Rattle.nfs_engine.specs.declared.shard.ReserveError.{ReserveError}
 use Rattle.nfs_engine.specs.declared.shard.ReserveError.TheVariants as refusals
 use Rattle.nfs_schedule.specs.Grown.{AsksFor, HasGrown, IsAsking, IsGrown}
-use Rattle.nfs_schedule.specs.Turns.{Acquires, Admits, Declines, Ends, Follows, Gains, IsNamed, KeepsQueue, TakesArrival}
+use Rattle.nfs_schedule.specs.Turns.{Acquires, Admits, Declines, Ends, Follows, Gains, IsNamed, KeepsQueue}
+use Rattle.nfs_schedule.specs.Turns.{TakesArrival}
 use Rattle.nfs_schedule.specs.Turns.{TakesFirst, Turns, after_all}
 use Rattle.nfs_schedule.specs.Workers.{Comes, Thinks}
 use Rattle.nfs_schedule.specs.declared.answer.Answer.{Answer}

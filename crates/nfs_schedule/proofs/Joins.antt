@@ -117,7 +117,8 @@ module _ {Clock : Type 0} (gives : Clock → Moment → Clock → Type 0) (host 
     };
   }
 
-  pub goes_nothing : (clock : Clock) (engine : EngineValue) (written : Option (List ℕ)) → AreServed gives host [] clock clock engine engine written written
+  pub goes_nothing : (clock : Clock) (engine : EngineValue) (written : Option (List ℕ))
+      → AreServed gives host [] clock clock engine engine written written
   goes_nothing clock engine written = record {
     answers = [];
     written = appends_nothing written;
@@ -125,7 +126,8 @@ module _ {Clock : Type 0} (gives : Clock → Moment → Clock → Type 0) (host 
   }
 
   pub goes_join : (first mid last : Clock) (c d : List (List ℕ)) (old new newest : EngineValue) (before now after : Option (List ℕ))
-      → AreServed gives host c first mid old new before now → AreServed gives host d mid last new newest now after → AreServed gives host (c ++ d) first last old newest before after
+      → AreServed gives host c first mid old new before now → AreServed gives host d mid last new newest now after
+      → AreServed gives host (c ++ d) first last old newest before after
   goes_join first mid last c d old new newest before now after a b = record {
     answers = a.answers ++ b.answers;
     written = appends_join before now after a.answers b.answers a.written b.written;
@@ -134,7 +136,9 @@ module _ {Clock : Type 0} (gives : Clock → Moment → Clock → Type 0) (host 
 
   -- serving went on, and stopped
   pub stops_join : (fault : StreamFault) (first mid last : Clock) (c d : List (List ℕ)) (old new newest : EngineValue) (before now after : Option (List ℕ))
-      → AreServed gives host c first mid old new before now → EndsByFault gives host fault d mid last new newest now after → EndsByFault gives host fault (c ++ d) first last old newest before after
+      → AreServed gives host c first mid old new before now
+      → EndsByFault gives host fault d mid last new newest now after
+      → EndsByFault gives host fault (c ++ d) first last old newest before after
   stops_join fault first mid last c d old new newest before now after a b = record {
     first = c ++ b.first;
     others = b.others;
@@ -152,7 +156,8 @@ module _ {Clock : Type 0} (gives : Clock → Moment → Clock → Type 0) (host 
 
   -- a fault after all of these records
   pub goes_stops : (fault : StreamFault) (first last : Clock) (c : List (List ℕ)) (old new : EngineValue) (before after : Option (List ℕ)) → EndsBy gives fault [] [] last last new new
-      → AreServed gives host c first last old new before after → EndsByFault gives host fault c first last old new before after
+      → AreServed gives host c first last old new before after
+      → EndsByFault gives host fault c first last old new before after
   goes_stops fault first last c old new before after ends a = record {
     first = c;
     others = [];

@@ -310,7 +310,8 @@ module _ {Clock : Type 0} (gives : Clock → Moment → Clock → Type 0) (host 
   all_served = a.cut ∙ ap (λ l. a.served ++ l) none ∙ append-nil a.served
 
   all_goes : Appends now after held → AreServed gives host initial.queued first clock old engine before after
-  all_goes more = subst (λ (c : List (List ℕ)). AreServed gives host c first clock old engine before after) (sym all_served)
+  all_goes more = subst (λ (c : List (List ℕ)). AreServed gives host c first clock old engine before after)
+      (sym all_served)
       (record {
         answers = a.sent ++ held;
         written = appends_join before now after a.sent held a.written more;
@@ -329,7 +330,8 @@ module _ {Clock : Type 0} (gives : Clock → Moment → Clock → Type 0) (host 
       (sym all_served) (a.holds stream given holds)
   sent_holds (Err e) = tt
 
-  all_stops : WritesPart now after held → EndsByFault gives host Write initial.queued first clock old engine before after
+  all_stops : WritesPart now after held
+      → EndsByFault gives host Write initial.queued first clock old engine before after
   all_stops p = record {
     first = a.served;
     others = [];
@@ -350,7 +352,8 @@ module _ {Clock : Type 0} (gives : Clock → Moment → Clock → Type 0) (host 
       IfErr r (λ e. EndsByFault gives host e initial.queued first clock old engine before after)
   sent_stops P (Ok u) part fault = tt
   sent_stops P (Err e) part fault =
-      subst (λ (f : StreamFault). EndsByFault gives host f initial.queued first clock old engine before after) (sym fault.0)
+      subst (λ (f : StreamFault). EndsByFault gives host f initial.queued first clock old engine before after)
+      (sym fault.0)
       (all_stops part)
 
 -- ---- the pieces of the input

@@ -69,7 +69,8 @@ module _ {Clock : Type 0} (gives : Clock → Moment → Clock → Type 0) (host 
         is_fault = is_fault;
       }
 
-  pub all_taken : (fuller : RecordsValue) (ahead : Option (List ℕ)) → TakesPiece End records fuller left ahead → (input : List ℕ) → unread ≡ Some input → ServesAll gives host input first clock old engine before now
+  pub all_taken : (fuller : RecordsValue) (ahead : Option (List ℕ)) → TakesPiece End records fuller left ahead
+      → (input : List ℕ) → unread ≡ Some input → ServesAll gives host input first clock old engine before now
   all_taken fuller ahead taken input is =
       let read = subst (λ (p : List ℕ). Consumes left ahead p) taken.takes.0 taken.read in
       let whole = whole_of unread ahead input (t.fed ++ []) (consumes_join unread left ahead t.fed [] t.read read) taken.takes.2 is in
@@ -83,12 +84,15 @@ module _ {Clock : Type 0} (gives : Clock → Moment → Clock → Type 0) (host 
         goes = t.goes;
       }
 
-  module _ (fuller : RecordsValue) (ahead : Option (List ℕ)) (taken : Taken) (more : taken ≢ End) (takes : TakesPiece taken records fuller left ahead) where
+  module _ (fuller : RecordsValue) (ahead : Option (List ℕ)) (taken : Taken) (more : taken ≢ End)
+      (takes : TakesPiece taken records fuller left ahead) where
     follows : Holds fuller (t.fed ++ takes.piece) t.given
     follows = (more_of taken records fuller takes.piece ahead more takes.takes).1 t.fed t.given t.holds
 
     -- a fault while the records of a piece were served
-    pub fault_taken : (fault : StreamFault) (later : Clock) (next : EngineValue) (after : Option (List ℕ)) → EndsByFault gives host fault fuller.queued clock later engine next now after → IsFaultOf fault (t.fed ++ takes.piece)
+    pub fault_taken : (fault : StreamFault) (later : Clock) (next : EngineValue) (after : Option (List ℕ))
+        → EndsByFault gives host fault fuller.queued clock later engine next now after
+        → IsFaultOf fault (t.fed ++ takes.piece)
         → (input : List ℕ) → unread ≡ Some input → ServesFront gives host input fault first later old next before after
     fault_taken fault later next after stops is_fault input is =
         let front = ahead_of unread ahead input (t.fed ++ takes.piece) (consumes_join unread left ahead t.fed takes.piece t.read takes.read) is in
@@ -104,7 +108,9 @@ module _ {Clock : Type 0} (gives : Clock → Moment → Clock → Type 0) (host 
         }
 
     -- the piece is taken in, and its records are served
-    pub taking_more : taken ≢ Refused → (later : Clock) (next : EngineValue) (after : Option (List ℕ)) (served : RecordsValue) (reads' writes' : ℕ) → AreServed gives host fuller.queued clock later engine next now after → served.queued ≡ []
+    pub taking_more : taken ≢ Refused
+        → (later : Clock) (next : EngineValue) (after : Option (List ℕ)) (served : RecordsValue) (reads' writes' : ℕ)
+        → AreServed gives host fuller.queued clock later engine next now after → served.queued ≡ []
         → ((stream : List ℕ) (given : List (List ℕ)) → Holds fuller stream given → Holds served stream (given ++ fuller.queued))
         → reads' ≡ readings → writes' ≡ writings
         → Taking gives host first later old next before after unread ahead served (reads + 1) reading reads' writing writes'

@@ -8,8 +8,8 @@ ghost use Rattle.nfs_rpc.specs.Records.{Holds};
 ghost use Rattle.nfs_rpc.specs.Streams.{one_more};
 ghost use Rattle.nfs_schedule.specs.Answers.{reply_bytes};
 ghost use Rattle.nfs_schedule.specs.Gathered.{Adds, FailsBy};
-ghost use Rattle.nfs_schedule.specs.Served.{ExecutesNothing, AreServed, IsAnswered, ServedIsRun, ServesAll, ServesFront};
-ghost use Rattle.nfs_schedule.specs.Served.{EndsByFault};
+ghost use Rattle.nfs_schedule.specs.Served.{AreServed, EndsByFault, ExecutesNothing, IsAnswered, ServedIsRun};
+ghost use Rattle.nfs_schedule.specs.Served.{ServesAll, ServesFront};
 ghost use Rattle.nfs_schedule.specs.Taken.{TakesPiece};
 ghost use Rattle.nfs_schedule.specs.Worlds.{IsAtRest};
 

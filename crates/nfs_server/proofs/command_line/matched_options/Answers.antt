@@ -4,7 +4,8 @@ use Rattle.std.specs.Prelude.{codes}
 use Rattle.std.proofs.lemmas.Result.{MatchResult-weaker, err_from_is_err_and}
 use Rattle.clap.specs.Words.{matches_of, one_of}
 use Rattle.nfs_server.specs.CommandLine.{ReadsFlag, nfsd}
-use Rattle.nfs_server.proofs.Parsed.{flag_read, options_read, refused_capacity, refused_era, refused_host, refuses_options, taken}
+use Rattle.nfs_server.proofs.Parsed.{flag_read, options_read, refused_capacity, refused_era, refused_host}
+use Rattle.nfs_server.proofs.Parsed.{refuses_options, taken}
 use Rattle.nfs_server.proofs.command_line.matched_options.Goals as goal
 
 pub returns-in_err-host : goal.returns-in_err-host
