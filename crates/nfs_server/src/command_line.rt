@@ -116,7 +116,7 @@ fn command<'a>(alloc: Global) -> Result<Command<'a>, AllocError>
 
 // The command with the options that say what is served, and to whom.
 fn with_serving<'a>(alloc: Global, command: Command<'a>) -> Result<Command<'a>, AllocError>
-    ensures { IfOk result (λ more. app_of more ≡ with_serving (app_of command)) }
+    ensures { IfOk result (λ more. app_of more ≡ with_serving (app_of command.entry)) }
 {
     let export = option(alloc, "export", "PATH,MODE,HOST[,HOST..]", EXPORT_HELP)
         .required(true)
@@ -130,7 +130,7 @@ fn with_serving<'a>(alloc: Global, command: Command<'a>) -> Result<Command<'a>, 
 
 // The command with the options of the peer, and of how much there is or is kept.
 fn with_limits<'a>(alloc: Global, command: Command<'a>) -> Result<Command<'a>, AllocError>
-    ensures { IfOk result (λ more. app_of more ≡ with_limits (app_of command)) }
+    ensures { IfOk result (λ more. app_of more ≡ with_limits (app_of command.entry)) }
 {
     command
         .arg(option(alloc, "host", "TEXT", HOST_HELP))?
