@@ -1,7 +1,7 @@
 #!/usr/bin/env python3
 """Mounts as many long paths as the table of `nfsd --stdio` keeps, and then more, each of which drops the oldest. Lists
-them, takes some of them back one by one, and then all. Prints the time of each, and the resident memory. A benchmark,
-not a test.
+them, takes some of them back one by one, then all but each 256th, mounts the last of these again, and takes all back.
+Prints the time of each, and the resident memory. A benchmark, not a test.
 
 usage: bench/mounts.py [LIMIT [MORE]]      (65536 and 2000 where they are left out)
 """
@@ -77,12 +77,22 @@ def main():
     more = int(sys.argv[2]) if len(sys.argv) > 2 else 2_000
     records = (named(xid, MNT, path) for xid, path in enumerate(paths()))
     taken = (named(xid, UMNT, path) for xid, path in enumerate(itertools.islice(paths(), more, limit, 16)))
+    # Those that are mounted at the limit, by whether they stay.
+    last, thinned = None, []
+    for number, path in enumerate(itertools.islice(paths(), more, limit + more)):
+        if number % 256 == 1:
+            last = path
+        else:
+            thinned.append(named(number, UMNT, path))
     with subprocess.Popen([nfsd.PROGRAM, *nfsd.OPTIONS], stdin=subprocess.PIPE, stdout=subprocess.PIPE) as server:
         tell("MNT up to the limit", server, limit, answered(server, itertools.islice(records, limit)))
         tell("MNT at the limit", server, more, answered(server, itertools.islice(records, more)))
         passed, size = dumped(server)
         tell(f"DUMP of {size:,} bytes", server, 1, passed)
         tell("UMNT of a sixteenth", server, len(range(more, limit, 16)), answered(server, taken))
+        tell("UMNT of all but each 256th", server, len(thinned), answered(server, iter(thinned)))
+        again = (named(xid, MNT, last) for xid in range(more))
+        tell("MNT of the last of these", server, more, answered(server, again))
         tell("UMNTALL", server, 1, answered(server, iter([nfsd.call(1, UMNTALL, b"", MOUNT)])))
         server.stdin.close()
 
