@@ -73,8 +73,8 @@ async def main(port, options):
 
 
 if __name__ == "__main__":
-    if len(sys.argv) < 2:
-        sys.exit(__doc__)
+    if len(sys.argv) < 2 or sys.argv[1] in ("-h", "--help"):
+        sys.exit(print(__doc__) if len(sys.argv) > 1 else __doc__)
     try:
         sys.exit(asyncio.run(main(int(sys.argv[1]), sys.argv[2:] or ["--export", "/data,rw,*"])))
     except KeyboardInterrupt:

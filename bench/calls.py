@@ -5,8 +5,6 @@ A benchmark, not a test.
 
 usage: bench/calls.py [PROGRAM..]
 """
-import sys
-
 import nfsd
 
 TURNS = 5
@@ -47,9 +45,10 @@ def rates(program, names):
 
 
 def main():
+    programs = nfsd.programs(__doc__)
     for names in (100, 10_000):
         nfsd.compare(
-            sys.argv[1:],
+            programs,
             TURNS,
             lambda program: rates(program, names),
             lambda what, rate: f"{what:7} among {names:6} names: {rate:9,.0f} calls a second",

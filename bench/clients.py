@@ -12,6 +12,8 @@ import subprocess
 import sys
 import tempfile
 
+import nfsd
+
 BRIDGE = pathlib.Path(__file__).resolve().parent / "bridge.py"
 
 
@@ -50,7 +52,9 @@ def lists(folder, port):
 
 
 def main():
-    port = int(sys.argv[1]) if len(sys.argv) > 1 else 20490
+    words = nfsd.parser(__doc__)
+    words.add_argument("port", metavar="PORT", nargs="?", type=int, default=20490, help="the bridge's port (20490)")
+    port = words.parse_args().port
     with subprocess.Popen([sys.executable, BRIDGE, str(port)], stdout=subprocess.PIPE) as bridge:
         bridge.stdout.readline()
         try:

@@ -6,7 +6,6 @@ the first each is. A benchmark, not a test.
 usage: bench/data.py [PROGRAM..]
 """
 import struct
-import sys
 
 import nfsd
 
@@ -40,9 +39,10 @@ def rates(program, size):
 
 
 def main():
+    programs = nfsd.programs(__doc__)
     for size in (4096, 65_536):
         nfsd.compare(
-            sys.argv[1:],
+            programs,
             TURNS,
             lambda program: rates(program, size),
             lambda what, rate: f"{what:5} of {size:6} bytes: {rate:9,.0f} calls, {rate * size / 1e6:7,.1f} MB a second",

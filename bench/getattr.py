@@ -3,13 +3,13 @@
 
 usage: bench/getattr.py [COUNT]
 """
-import sys
-
 import nfsd
 
 
 def main():
-    count = int(sys.argv[1]) if len(sys.argv) > 1 else 100_000
+    words = nfsd.parser(__doc__)
+    words.add_argument("count", metavar="COUNT", nargs="?", type=int, default=100_000, help="how many calls (100000)")
+    count = words.parse_args().count
     records = (nfsd.call(xid, nfsd.GETATTR, nfsd.ROOT) for xid in range(count))
     passed = nfsd.seconds(records, count * nfsd.SHOWN)
     print(f"{count} calls in {passed:.3f} s: {count / passed:,.0f} calls a second")

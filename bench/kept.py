@@ -52,10 +52,12 @@ def measure(program, name, make, replies):
 
 
 def main():
-    replies = int(sys.argv[1]) if len(sys.argv) > 1 else 1_024
-    program = sys.argv[2] if len(sys.argv) > 2 else nfsd.PROGRAM
+    words = nfsd.parser(__doc__)
+    words.add_argument("replies", metavar="REPLIES", nargs="?", type=int, default=1_024, help="how many are kept (1024)")
+    words.add_argument("program", metavar="PROGRAM", nargs="?", default=nfsd.PROGRAM, help="the program (this one)")
+    given = words.parse_args()
     # each is measured, whatever the other comes to
-    stays = [measure(program, name, make, replies) for name, make in (("CREATE", create), ("WRITE", write))]
+    stays = [measure(given.program, name, make, given.replies) for name, make in (("CREATE", create), ("WRITE", write))]
     if not all(stays):
         sys.exit("memory grows with the calls")
 

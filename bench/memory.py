@@ -14,9 +14,12 @@ BATCH = 100
 
 
 def main():
-    names = int(sys.argv[1]) if len(sys.argv) > 1 else 10_000
-    program = sys.argv[2] if len(sys.argv) > 2 else nfsd.PROGRAM
-    with nfsd.Server(program, "--era", "16", "--cache", "1") as server:
+    words = nfsd.parser(__doc__)
+    words.add_argument("names", metavar="NAMES", nargs="?", type=int, default=10_000, help="how many are made (10000)")
+    words.add_argument("program", metavar="PROGRAM", nargs="?", default=nfsd.PROGRAM, help="the program (this one)")
+    given = words.parse_args()
+    names = given.names
+    with nfsd.Server(given.program, "--era", "16", "--cache", "1") as server:
         server.answer([nfsd.call(0, nfsd.GETATTR, nfsd.ROOT)], nfsd.SHOWN)
         before = server.resident()
         for first in range(0, names, BATCH):

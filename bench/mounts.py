@@ -8,7 +8,6 @@ usage: bench/mounts.py [LIMIT [MORE]]      (65536 and 2000 where they are left o
 import itertools
 import struct
 import subprocess
-import sys
 import time
 
 import nfsd
@@ -73,8 +72,11 @@ def tell(name, server, count, passed):
 
 
 def main():
-    limit = int(sys.argv[1]) if len(sys.argv) > 1 else 65_536
-    more = int(sys.argv[2]) if len(sys.argv) > 2 else 2_000
+    words = nfsd.parser(__doc__)
+    words.add_argument("limit", metavar="LIMIT", nargs="?", type=int, default=65_536, help="how many are listed (65536)")
+    words.add_argument("more", metavar="MORE", nargs="?", type=int, default=2_000, help="how many more come (2000)")
+    given = words.parse_args()
+    limit, more = given.limit, given.more
     records = (named(xid, MNT, path) for xid, path in enumerate(paths()))
     taken = (named(xid, UMNT, path) for xid, path in enumerate(itertools.islice(paths(), more, limit, 16)))
     # Those that are mounted at the limit, by whether they stay.

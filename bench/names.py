@@ -55,9 +55,10 @@ MEASURES = {
 
 
 def main():
+    programs = nfsd.programs(__doc__)
     for names in (100, 10_000):
         nfsd.compare(
-            sys.argv[1:],
+            programs,
             TURNS,
             lambda program: {what: measure(program, names) for what, measure in MEASURES.items()},
             lambda what, rate: f"{what:17} among {names:6} names: {rate:9,.0f} calls a second",

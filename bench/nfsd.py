@@ -2,6 +2,7 @@
 
 The program is taken from crates/nfsd/out/nfsd: `rt run` in crates/nfsd builds it.
 """
+import argparse
 import fcntl
 import os
 import pathlib
@@ -21,6 +22,19 @@ TAKEN, RENAMED = 148, 264  # those of REMOVE and of RENAME; MKDIR has CREATE's, 
 
 # The root's handle, with its length: mark, export 1, start 7, fileid 1, generation 1.
 ROOT = struct.pack(">IIIQQQ", 32, 0x4E464433, 1, 7, 1, 1)
+
+
+def parser(text):
+    """A parser of the command line, whose --help tells what the script's own text says."""
+    about, _, _ = text.partition("\nusage:")
+    return argparse.ArgumentParser(description=about.strip(), formatter_class=argparse.RawDescriptionHelpFormatter)
+
+
+def programs(text):
+    """The programs that the command line names, if any."""
+    words = parser(text)
+    words.add_argument("programs", metavar="PROGRAM", nargs="*", help="programs that take turns (default: this one)")
+    return words.parse_args().programs
 
 
 def call(xid, procedure, arguments=b"", program=NFS):

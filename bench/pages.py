@@ -7,7 +7,6 @@ first each is. A benchmark, not a test.
 usage: bench/pages.py [PROGRAM..]
 """
 import struct
-import sys
 
 import nfsd
 
@@ -53,7 +52,7 @@ def read(program, names):
 
 
 def main():
-    programs = sys.argv[1:] or [nfsd.PROGRAM]
+    programs = nfsd.programs(__doc__) or [nfsd.PROGRAM]
     for names in (1_000, 10_000, 20_000):
         first = {}
         for program in programs:

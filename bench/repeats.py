@@ -9,7 +9,6 @@ each is. A benchmark, not a test.
 usage: bench/repeats.py [PROGRAM..]
 """
 import struct
-import sys
 
 import nfsd
 
@@ -53,7 +52,7 @@ def rates(program, kept):
 
 def main():
     nfsd.compare(
-        sys.argv[1:],
+        nfsd.programs(__doc__),
         TURNS,
         lambda program: rates(program, 100) | rates(program, CAPACITY),
         lambda what, rate: f"repeats {what[0]}, {what[1]:6} replies are kept: {rate:9,.0f} a second",

@@ -6,6 +6,8 @@ usage: nfsd --stdio .. < CALLS | bench/show.py CALLS
 import struct
 import sys
 
+import nfsd
+
 ACCEPTED = ["SUCCESS", "PROG_UNAVAIL", "PROG_MISMATCH", "PROC_UNAVAIL", "GARBAGE_ARGS", "SYSTEM_ERR"]
 KINDS = [None, "file", "directory", "block device", "character device", "link", "socket", "FIFO"]
 NFS = ["NULL", "GETATTR", "SETATTR", "LOOKUP", "ACCESS", "READLINK", "READ", "WRITE", "CREATE", "MKDIR", "SYMLINK", "MKNOD",
@@ -154,7 +156,9 @@ def result(name, words):
 
 
 def main():
-    with open(sys.argv[1], "rb") as stored:
+    parser = nfsd.parser(__doc__)
+    parser.add_argument("calls", metavar="CALLS", help="the file of the calls")
+    with open(parser.parse_args().calls, "rb") as stored:
         calls = {xid: (program, procedure) for xid, _, _, program, _, procedure
                  in (struct.unpack_from(">6I", call) for call in records(stored.read()))}
     for reply in records(sys.stdin.buffer.read()):

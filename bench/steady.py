@@ -21,8 +21,9 @@ def serve(server, first, last):
 
 
 def main():
-    program = sys.argv[1] if len(sys.argv) > 1 else nfsd.PROGRAM
-    with nfsd.Server(program) as server:
+    words = nfsd.parser(__doc__)
+    words.add_argument("program", metavar="PROGRAM", nargs="?", default=nfsd.PROGRAM, help="the program (this one)")
+    with nfsd.Server(words.parse_args().program) as server:
         serve(server, 0, EARLY)
         early = server.resident()
         serve(server, EARLY, LATE)
