@@ -7,14 +7,15 @@ use Rattle.std.proofs.Common.{arith}
 use Rattle.std.proofs.lemmas.List.Sums.{sum_by-append}
 use Rattle.std.specs.Cmp.{unsigned_Decides}
 use Rattle.std.specs.FinMap.{FinMap, contains_key, entries, get, insert, remove, values}
-use Rattle.std.specs.List.{AllByRecursion, sum_by}
+use Rattle.std.specs.List.{IsDistinct, list_any, sum_by}
 use Rattle.std.specs.Ordering.{nat_cmp}
 use Rattle.side_wire.specs.declared.message.Message.{Message}
 use Rattle.nfs_machine.specs.FileLists.{all_but, grants_but, of_file, relisted, with_list}
-use Rattle.nfs_machine.specs.Grants.{AllHeldUp, Grants}
-use Rattle.nfs_machine.specs.Locks.{OffsetsOnce}
-use Rattle.nfs_machine.specs.LocksFormed.{AreOfFiles, IsFile, IsPending, LocksFormed, NoConflict, count_of, uses_of}
-use Rattle.nfs_machine.specs.LockSteps.{is_grant_number}
+use Rattle.nfs_machine.specs.Grants.{AllHeldUp, Grants, requested}
+use Rattle.nfs_machine.specs.Locks.{AreListed, IsRange, same_sharer}
+use Rattle.nfs_machine.specs.LocksFormed.{AreOfFiles, AreWaiting, IsFile, IsPending, LocksFormed, NoConflict, count_of}
+use Rattle.nfs_machine.specs.LocksFormed.{uses_of}
+use Rattle.nfs_machine.specs.LockSteps.{is_grant_number, is_request, same_request}
 use Rattle.nfs_machine.specs.Checks.{bytes_in}
 use Rattle.nfs_machine.specs.RemoveSteps.{losing_name, without_object}
 use Rattle.nfs_machine.specs.Shown.{touched, with_object}
@@ -22,10 +23,11 @@ use Rattle.nfs_machine.specs.State.{Content, Directory, Entry, Living, Lock, Pen
 use Rattle.nfs_wire.specs.declared.attributes.Time.{Time}
 use Rattle.side_wire.specs.declared.mount.lists.MountBody.{MountBody}
 use Rattle.nfs_machine.proofs.Changes.{differs-insert, differs-remove, flipped, itself}
+use Rattle.nfs_machine.proofs.Distinct.{distinct-last, distinct-left, distinct-none, distinct-removed}
 use Rattle.nfs_machine.proofs.FileMaps.{count-joined, count-left, differs-with, each-relisted, each-with, get-relisted}
 use Rattle.nfs_machine.proofs.FileMaps.{grants-left, has-left, kept, kept-some, remade, total-entries}
 use Rattle.nfs_machine.proofs.FileMaps.{total-with}
-use Rattle.nfs_machine.proofs.Modes.{all-joined, all-left, all-middle, all-removed}
+use Rattle.nfs_machine.proofs.Modes.{all-joined, all-left, all-middle, all-removed, none-passes}
 
 -- ---- files that live on
 -- each regular file is one in the other state too
@@ -171,14 +173,51 @@ module _ {A : Type 0} (objects : FinMap nat_cmp Living) (lists : FinMap nat_cmp 
       AreOfFiles new lists
   files-on new on = record { files = λ q l at. on q (of.files q l at); some = of.some }
 
+-- ---- what one file lists
+pub none-listed : AreListed []
+none-listed = record { ranges = tt; once = λ owner offset. omega arith }
+
+abbrev OfRange : Request → Type 0
+OfRange r = IsRange (requested r)
+
+abbrev Suits : (file : ℕ) → Request → Type 0
+Suits file r = is_grant_number file r.number ≡ true
+
+pub none-waiting : (file : ℕ) → AreWaiting file []
+none-waiting file = record { ranges = tt; suit = tt; once = distinct-none same_request }
+
+waiting-left : (file : ℕ) (p : Request → Bool) (xs : List Request) → AreWaiting file xs →
+    AreWaiting file (filter p xs)
+waiting-left file p xs w = record {
+  ranges = all-left OfRange OfRange p xs (λ r e h. h) w.ranges;
+  suit = all-left (Suits file) (Suits file) p xs (λ r e h. h) w.suit;
+  once = distinct-left same_request p xs w.once;
+}
+
+waiting-removed : (file : ℕ) (xs : List Request) (r : Request) (ys : List Request) →
+    AreWaiting file (xs ++ r ∷ ys) → AreWaiting file (xs ++ ys)
+waiting-removed file xs r ys w = record {
+  ranges = all-removed OfRange OfRange xs r ys (λ q h. h) w.ranges;
+  suit = all-removed (Suits file) (Suits file) xs r ys (λ q h. h) w.suit;
+  once = distinct-removed same_request xs r ys w.once;
+}
+
+waiting-last : (file : ℕ) (xs : List Request) (r : Request) → OfRange r → Suits file r →
+    list_any (is_request r.exclusive r.asked) xs ≡ false → AreWaiting file xs → AreWaiting file (xs ++ r ∷ [])
+waiting-last file xs r range suits first w = record {
+  ranges = all-joined OfRange xs (r ∷ []) w.ranges (range, tt);
+  suit = all-joined (Suits file) xs (r ∷ []) w.suit (suits, tt);
+  once = distinct-last same_request xs r (none-passes (is_request r.exclusive r.asked) xs first) w.once;
+}
+
 -- ---- all but conflicts
 pub record Firm (m : State) : Type 0 where
   pub locks : AreOfFiles m.objects m.locks
   pub shares : AreOfFiles m.objects m.shares
   pub waiting : AreOfFiles m.objects m.waiting
-  pub once : (file : ℕ) → OffsetsOnce (of_file m.locks file)
-  pub suit : (file : ℕ) →
-      AllByRecursion (λ (r : Request). is_grant_number file r.number ≡ true) (of_file m.waiting file)
+  pub listed : (file : ℕ) → AreListed (of_file m.locks file)
+  pub sharers : (file : ℕ) → IsDistinct same_sharer (of_file m.shares file)
+  pub requests : (file : ℕ) → AreWaiting file (of_file m.waiting file)
   pub pending : (number : ℕ) (grant : PendingGrant) → get m.granted number ≡ Some grant →
       IsPending m.objects number grant
   pub numbers : (number : ℕ) → uses_of m number ≤ cond (m.spent_grants number) 1 0
@@ -188,8 +227,9 @@ firm-of m l = record {
   locks = l.locks;
   shares = l.shares;
   waiting = l.waiting;
-  once = l.once;
-  suit = l.suit;
+  listed = l.listed;
+  sharers = l.sharers;
+  requests = l.requests;
   pending = l.pending;
   numbers = l.numbers;
 }
@@ -199,10 +239,11 @@ formed-of m f apart held = record {
   locks = f.locks;
   shares = f.shares;
   waiting = f.waiting;
-  once = f.once;
+  listed = f.listed;
+  sharers = f.sharers;
+  requests = f.requests;
   apart = apart;
   held_up = held;
-  suit = f.suit;
   pending = f.pending;
   numbers = f.numbers;
 }
@@ -212,9 +253,6 @@ waiting_total waiting number = sum_by (count_of number) (values waiting)
 
 abbrev pending_count : FinMap nat_cmp PendingGrant → ℕ → ℕ
 pending_count granted number = cond (contains_key granted number) 1 0
-
-abbrev Suits : (file : ℕ) → List Request → Type 0
-Suits file requests = AllByRecursion (λ (r : Request). is_grant_number file r.number ≡ true) requests
 
 -- one list of what waits changes: how often a number is used
 waiting-changed : (m : State) (file : ℕ) (list : List Request) (number : ℕ)
@@ -235,27 +273,29 @@ less-numbers m file list granted number less fewer was =
 
 module _ (m : State) (f : Firm m) where
   -- a file's locks
-  pub firm-locks : (file : ℕ) → IsFile m.objects file → (locks : List Lock) → OffsetsOnce locks
+  pub firm-locks : (file : ℕ) → IsFile m.objects file → (locks : List Lock) → AreListed locks
       → Firm (record m { locks = with_list m.locks file locks })
-  firm-locks file living locks once = record {
+  firm-locks file living locks listed = record {
     locks = files-with m.objects m.locks f.locks file living locks;
     shares = f.shares;
     waiting = f.waiting;
-    once = each-with m.locks file locks (λ q (l : List Lock). OffsetsOnce l) once f.once;
-    suit = f.suit;
+    listed = each-with m.locks file locks (λ q (l : List Lock). AreListed l) listed f.listed;
+    sharers = f.sharers;
+    requests = f.requests;
     pending = f.pending;
     numbers = f.numbers;
   }
 
   -- its shares
-  pub firm-shares : (file : ℕ) → IsFile m.objects file → (shares : List Share)
+  pub firm-shares : (file : ℕ) → IsFile m.objects file → (shares : List Share) → IsDistinct same_sharer shares
       → Firm (record m { shares = with_list m.shares file shares })
-  firm-shares file living shares = record {
+  firm-shares file living shares once = record {
     locks = f.locks;
     shares = files-with m.objects m.shares f.shares file living shares;
     waiting = f.waiting;
-    once = f.once;
-    suit = f.suit;
+    listed = f.listed;
+    sharers = each-with m.shares file shares (λ q (l : List Share). IsDistinct same_sharer l) once f.sharers;
+    requests = f.requests;
     pending = f.pending;
     numbers = f.numbers;
   }
@@ -268,12 +308,10 @@ module _ (m : State) (f : Firm m) where
         locks = f.locks;
         shares = f.shares;
         waiting = files-less m.objects m.waiting f.waiting file p;
-        once = f.once;
-        suit = each-with m.waiting file left Suits
-            (all-left (λ (r : Request). is_grant_number file r.number ≡ true)
-            (λ (r : Request). is_grant_number file r.number ≡ true) p (of_file m.waiting file) (λ r e h. h)
-            (f.suit file))
-            f.suit;
+        listed = f.listed;
+        sharers = f.sharers;
+        requests = each-with m.waiting file left AreWaiting
+            (waiting-left file p (of_file m.waiting file) (f.requests file)) f.requests;
         pending = f.pending;
         numbers = λ number. less-numbers m file left m.granted number
             (count-left (λ (r : Request). r.number == number) p (of_file m.waiting file)) (omega arith)
@@ -286,8 +324,9 @@ module _ (m : State) (f : Firm m) where
     locks = f.locks;
     shares = f.shares;
     waiting = f.waiting;
-    once = f.once;
-    suit = f.suit;
+    listed = f.listed;
+    sharers = f.sharers;
+    requests = f.requests;
     pending = λ n g at.
         elim (n == number) as (λ b. cond b None (get m.granted n) ≡ Some g → IsPending m.objects n g) [
           | true ↦ λ there. cc
@@ -307,7 +346,9 @@ module _ (m : State) (f : Firm m) where
   }
 
   -- a request that begins to wait, under a number that was not given
-  module _ (file : ℕ) (living : IsFile m.objects file) (r : Request) (suits : is_grant_number file r.number ≡ true)
+  module _ (file : ℕ) (living : IsFile m.objects file) (r : Request) (range : IsRange (requested r))
+      (suits : is_grant_number file r.number ≡ true)
+      (first : list_any (is_request r.exclusive r.asked) (of_file m.waiting file) ≡ false)
       (unspent : m.spent_grants r.number ≡ false) where
     abbrev longer : List Request
     longer = of_file m.waiting file ++ r ∷ []
@@ -354,10 +395,10 @@ module _ (m : State) (f : Firm m) where
       locks = f.locks;
       shares = f.shares;
       waiting = files-with m.objects m.waiting f.waiting file living longer;
-      once = f.once;
-      suit = each-with m.waiting file longer Suits
-          (all-joined (λ (q : Request). is_grant_number file q.number ≡ true) (of_file m.waiting file) (r ∷ [])
-          (f.suit file) (suits, tt)) f.suit;
+      listed = f.listed;
+      sharers = f.sharers;
+      requests = each-with m.waiting file longer AreWaiting
+          (waiting-last file (of_file m.waiting file) r range suits first (f.requests file)) f.requests;
       pending = f.pending;
       numbers = uses-now;
     }
@@ -367,8 +408,8 @@ module _ (m : State) (f : Firm m) where
     living : IsFile m.objects file
     living = file-of m.objects m.waiting f.waiting file g.earlier g.request g.later g.waits
 
-    all-suit : Suits file (g.earlier ++ g.request ∷ g.later)
-    all-suit = subst (Suits file) g.waits (f.suit file)
+    all-wait : AreWaiting file (g.earlier ++ g.request ∷ g.later)
+    all-wait = subst (AreWaiting file) g.waits (f.requests file)
 
     abbrev left : List Request
     left = g.earlier ++ g.later
@@ -389,10 +430,10 @@ module _ (m : State) (f : Firm m) where
               let same : grant ≡ x = cc in
               subst (IsPending m.objects n) same (record {
                 file = living;
+                range = all-middle OfRange g.earlier g.request g.later all-wait.ranges;
                 own = sym is;
                 suits = ap (is_grant_number file) is
-                    ∙ all-middle (λ (r : Request). is_grant_number file r.number ≡ true) g.earlier g.request
-                    g.later all-suit;
+                    ∙ all-middle (Suits file) g.earlier g.request g.later all-wait.suit;
               })
           | false ↦ λ e there. f.pending n x there
         ] refl (sym (differs-insert m.granted g.request.number grant n) ∙ at)
@@ -428,17 +469,16 @@ module _ (m : State) (f : Firm m) where
       locks = files-with m.objects m.locks f.locks file living g.locks;
       shares = f.shares;
       waiting = files-with m.objects m.waiting f.waiting file living left;
-      once = each-with m.locks file g.locks (λ q (l : List Lock). OffsetsOnce l) g.lists.once f.once;
-      suit = each-with m.waiting file left Suits
-          (all-removed (λ (r : Request). is_grant_number file r.number ≡ true)
-          (λ (r : Request). is_grant_number file r.number ≡ true) g.earlier g.request g.later (λ r h. h) all-suit)
-          f.suit;
+      listed = each-with m.locks file g.locks (λ q (l : List Lock). AreListed l) g.lists.listed f.listed;
+      sharers = f.sharers;
+      requests = each-with m.waiting file left AreWaiting
+          (waiting-removed file g.earlier g.request g.later all-wait) f.requests;
       pending = pending-now;
       numbers = uses-granted;
     })
 
   -- a caller has nothing more
-  module _ (locks : ℕ → List Lock) (once : (file : ℕ) → OffsetsOnce (locks file)) (shares : Share → Bool)
+  module _ (locks : ℕ → List Lock) (listed : (file : ℕ) → AreListed (locks file)) (shares : Share → Bool)
       (waits : Request → Bool) (goes : PendingGrant → Bool) where
     abbrev waiting_left : FinMap nat_cmp (List Request)
     waiting_left = relisted (λ file. all_but waits) m.waiting
@@ -457,12 +497,13 @@ module _ (m : State) (f : Firm m) where
       locks = files-relisted m.objects m.locks f.locks (λ file _. locks file);
       shares = files-relisted m.objects m.shares f.shares (λ file. all_but shares);
       waiting = files-relisted m.objects m.waiting f.waiting (λ file. all_but waits);
-      once = each-relisted (λ file _. locks file) m.locks (λ q (l : List Lock). OffsetsOnce l)
-          (λ q owner offset. omega arith) (λ q h. once q) f.once;
-      suit = each-relisted (λ file. all_but waits) m.waiting Suits (λ q. tt)
-          (λ q h. all-left (λ (r : Request). is_grant_number q r.number ≡ true)
-          (λ (r : Request). is_grant_number q r.number ≡ true) (λ r. not (waits r)) (of_file m.waiting q)
-          (λ r e h. h) h) f.suit;
+      listed = each-relisted (λ file _. locks file) m.locks (λ q (l : List Lock). AreListed l)
+          (λ q. none-listed) (λ q h. listed q) f.listed;
+      sharers = each-relisted (λ file. all_but shares) m.shares (λ q (l : List Share). IsDistinct same_sharer l)
+          (λ q. distinct-none same_sharer)
+          (λ q. distinct-left same_sharer (λ s. not (shares s)) (of_file m.shares q)) f.sharers;
+      requests = each-relisted (λ file. all_but waits) m.waiting AreWaiting none-waiting
+          (λ q. waiting-left q (λ r. not (waits r)) (of_file m.waiting q)) f.requests;
       pending = λ n g at. f.pending n g (grants-left goes m.granted n g at).0;
       numbers = λ n.
           let was = f.numbers n in
@@ -477,9 +518,12 @@ module _ (m : State) (f : Firm m) where
     locks = files-on m.objects m.locks f.locks objects on;
     shares = files-on m.objects m.shares f.shares objects on;
     waiting = files-on m.objects m.waiting f.waiting objects on;
-    once = f.once;
-    suit = f.suit;
-    pending = λ n g at. (let p = f.pending n g at in record { file = on g.file p.file; own = p.own; suits = p.suits });
+    listed = f.listed;
+    sharers = f.sharers;
+    requests = f.requests;
+    pending = λ n g at.
+        (let p = f.pending n g at in record
+        { file = on g.file p.file; range = p.range; own = p.own; suits = p.suits });
     numbers = f.numbers;
   }
 
@@ -489,12 +533,14 @@ firm-gone m f number = record {
   locks = files-gone m.objects m.locks f.locks number;
   shares = files-gone m.objects m.shares f.shares number;
   waiting = files-gone m.objects m.waiting f.waiting number;
-  once = each-with m.locks number [] (λ q (l : List Lock). OffsetsOnce l) (λ owner offset. omega arith) f.once;
-  suit = each-with m.waiting number [] Suits tt f.suit;
+  listed = each-with m.locks number [] (λ q (l : List Lock). AreListed l) none-listed f.listed;
+  sharers = each-with m.shares number [] (λ q (l : List Share). IsDistinct same_sharer l)
+      (distinct-none same_sharer) f.sharers;
+  requests = each-with m.waiting number [] AreWaiting (none-waiting number) f.requests;
   pending = λ n g at.
       let left = grants-left (λ (x : PendingGrant). x.file == number) m.granted n g at in
       let p = f.pending n g left.0 in
-      record { file = gone-on m.objects number g.file left.1 p.file; own = p.own; suits = p.suits };
+      record { file = gone-on m.objects number g.file left.1 p.file; range = p.range; own = p.own; suits = p.suits };
   numbers = λ n. less-numbers m number [] (grants_but (λ (x : PendingGrant). x.file == number) m.granted) n
       (omega arith)
       (has-left (λ (x : PendingGrant). x.file == number) m.granted n) (f.numbers n);

@@ -6,6 +6,7 @@ pub mod Choosing
 mod LongestMatch
 pub mod Continued
 mod Cookies
+mod Distinct
 pub mod Entered
 pub mod Exported
 mod ExportsWorked
@@ -51,6 +52,7 @@ mod RunWorked
 pub mod SideReplies
 pub mod Sums
 pub mod Texts
+mod Unlocked
 mod Visited
 mod Visits
 pub mod Waiting

@@ -1,13 +1,16 @@
 -- NLM leaves the objects as they are, and lets no two owners conflict.
-use Rattle.std.proofs.Common.{◌≡◌, ℕ, Bool, true, false, not, List, [], ◌∷◌, ◌++◌, Option, Some}
+use Rattle.std.proofs.Common.{◌≡◌, ◌==◌, ℕ, ◌+◌, ◌-◌, ◌^◌, ◌<◌, ◌≤◌, Bool, true, false, not, List, []}
+use Rattle.std.proofs.Common.{◌∷◌, ◌++◌, Option, Some, cond, nat_le, arith}
 use Rattle.std.proofs.Common.{None, Result, Ok, Err}
 use Rattle.std.proofs.Common.{IfOk, filter, unwrap_or, is_ok, if◌then◌else◌, inl, inr, refl, sym, ◌∙◌}
 use Rattle.std.proofs.Common.{ap, subst, ◌||◌}
+use Rattle.std.proofs.lemmas.Bool.{and_parts, leb-true}
 use Rattle.std.specs.FinMap.{get, remove}
 use Rattle.std.specs.Int.{w64, from_be_bytes}
-use Rattle.std.specs.List.{list_any}
+use Rattle.std.specs.List.{IsDistinct, list_any}
 use Rattle.side_wire.specs.declared.message.Message.{Message}
 use Rattle.side_wire.specs.declared.nlm.CancelArguments.{CancelArguments}
+use Rattle.side_wire.specs.declared.message.NlmLock.{NlmLock}
 use Rattle.side_wire.specs.declared.nlm.LockArguments.{LockArguments}
 use Rattle.side_wire.specs.declared.nlm.NlmCall.{NlmCall}
 use Rattle.side_wire.specs.declared.nlm.NlmCall.TheVariants as calls
@@ -26,7 +29,7 @@ use Rattle.nfs_machine.specs.Checks.{◌>>=◌, bytes_in, holding, is_writable}
 use Rattle.nfs_machine.specs.FileLists.{all_but, of_file, with_list}
 use Rattle.nfs_machine.specs.Grants.{ChangesLocks, Grants, SettleInOrder, Settles, requested}
 use Rattle.nfs_machine.specs.Laws.{KeepsExports}
-use Rattle.nfs_machine.specs.Locks.{Conflicts, HasModes, Mode, denies, fits_offsets, modes_without, range_of}
+use Rattle.nfs_machine.specs.Locks.{Conflicts, HasModes, IsRange, Mode, denies, fits_offsets, modes_without, range_of}
 use Rattle.nfs_machine.specs.Locks.{same_sharer, shares_conflict}
 use Rattle.nfs_machine.specs.LocksFormed.{IsFile, NoConflict, NoLocksConflict, NoSharesConflict}
 use Rattle.nfs_machine.specs.LockSteps.{Frees, GrantEnds, HeldUp, LockFault, NotRegular, RangeTooBig, ReadOnly}
@@ -38,11 +41,13 @@ use Rattle.nfs_machine.specs.State.{Living, Lock, PendingGrant, Range, Request, 
 use Rattle.nfs_machine.specs.declared.context.Ctx.{Ctx}
 use Rattle.nfs_machine.proofs.Checked.{CancelOf, Cancels, LockOf, ShareOf, ShareAnswers, TestOf, UnlockOf, UnshareOf}
 use Rattle.nfs_machine.proofs.Checked.{found-pending}
+use Rattle.nfs_machine.proofs.Distinct.{distinct-last, distinct-left, passes-left}
 use Rattle.nfs_machine.proofs.FileMaps.{each-relisted, each-with, get-relisted, kept-is, remade}
 use Rattle.nfs_machine.proofs.Firm.{Firm, firm-answered, firm-cancelled, firm-freed, firm-granted, firm-locks}
 use Rattle.nfs_machine.proofs.Firm.{firm-shares}
 use Rattle.nfs_machine.proofs.Firm.{firm-waits}
-use Rattle.nfs_machine.proofs.Modes.{apart-with, apart-without, shares-left, shares-with, unlocking-free}
+use Rattle.nfs_machine.proofs.Modes.{all-mapped, apart-with, apart-without, sharer-back, shares-left, shares-with}
+use Rattle.nfs_machine.proofs.Modes.{unlocking-free}
 use Rattle.nfs_machine.proofs.Resolved.{resolved-lives}
 
 -- what stands beside objects and locks: the mounts and the exports
@@ -126,6 +131,46 @@ checked-file old ctx handle fits writes = of (resolve old ctx handle) refl
     of (Names number o) is = regular number o (resolved-lives old ctx handle number o is)
         (is_ok (bytes_in o.content)) refl
 
+-- and its range fits offsets
+checked-fits : (old : State) (ctx : Ctx) (handle : List ℕ) (fits writes : Bool)
+    → IfOk (file_checked old ctx handle fits writes) (λ file. fits ≡ true)
+checked-fits old ctx handle fits writes = of (resolve old ctx handle)
+  where
+    goes-on : (number : ℕ) (regular writable b : Bool) → fits ≡ b → IfOk (holding regular NotRegular >>= λ _.
+        holding b RangeTooBig >>= λ _. holding writable ReadOnly >>= λ _. Ok number) (λ file. fits ≡ true)
+    goes-on number false writable b is = tt
+    goes-on number true writable false is = tt
+    goes-on number true false true is = tt
+    goes-on number true true true is = is
+
+    of : (r : Resolved) → IfOk (elim r as (λ r. Result ℕ LockFault) [
+      | Names number object ↦
+          holding (is_ok (bytes_in object.content)) NotRegular >>= λ _.
+          holding fits RangeTooBig >>= λ _.
+          holding (not writes || is_writable old.exports object) ReadOnly >>= λ _.
+          Ok number
+      | other ↦ Err StaleHandle
+    ]) (λ file. fits ≡ true)
+    of BadHandle = tt
+    of Stale = tt
+    of (Names number o) =
+        goes-on number (is_ok (bytes_in o.content)) (not writes || is_writable old.exports o) fits refl
+
+-- what is asked for and conflicts is a range
+asked-range : (l : NlmLock) (locks : List Lock) (mode : Mode) → fits_offsets l ≡ true →
+    Conflicts locks (range_of l) mode → IsRange (range_of l)
+asked-range l locks mode fits c =
+    let within = and_parts (nat_le l.offset c.offset) (nat_le c.offset (range_of l).last) c.is_inside in
+    let low : l.offset ≤ c.offset = leb-true l.offset c.offset within.0 in
+    let high : c.offset ≤ (range_of l).last = leb-true c.offset (range_of l).last within.1 in
+    let sum : l.offset + l.length ≤ 2 ^ 64 = leb-true (l.offset + l.length) (2 ^ 64) fits in record {
+      rises = omega (arith, low, high);
+      fits = elim (l.length == 0) as (λ b. cond b (2 ^ 64 - 1) (l.offset + l.length - 1) < 2 ^ 64) [
+        | true ↦ omega arith
+        | false ↦ omega (arith, sum)
+      ];
+    }
+
 -- one file's locks change, and conflict with nothing
 locks-apart : (old : State) (file : ℕ) (locks : List Lock) → NoLocksConflict locks → NoConflict old
     → NoConflict (record old { locks = with_list old.locks file locks })
@@ -176,7 +221,7 @@ changed old file r mode messages new living free c =
       exports = record { exports = refl; last = refl };
       apart = λ h. locks-apart old file c.locks
           (apart-with (of_file old.locks file) r mode free c.locks c.lists (h file).0) h;
-      firm = λ f. firm-locks old f file (living f) c.locks c.lists.once;
+      firm = λ f. firm-locks old f file (living f) c.locks c.lists.listed;
     }) (settled mid file messages new c.settles)
 
 tested : (old : State) (a : TestArguments) (checked : Result ℕ LockFault) (s : TestStatus) (messages : List Message)
@@ -186,11 +231,12 @@ tested old a (Ok file) s messages new step = same old new step.2
 
 held-up : (old : State) (ctx : Ctx) (a : LockArguments) (by_message : Bool) (file : ℕ) (block waits : Bool)
     (s : NlmStatus)
-    (messages : List Message) (new : State) → IsFile old.objects file
+    (messages : List Message) (new : State) → IsFile old.objects file → IsRange (range_of a.lock)
+    → list_any (is_request a.exclusive a.lock) (of_file old.waiting file) ≡ waits
     → HeldUp old ctx a by_message file block waits s messages new → Untouched old new
-held-up old ctx a by_message file false waits s messages new living step = same old new step.state_is
-held-up old ctx a by_message file true true s messages new living step = same old new step.state_is
-held-up old ctx a by_message file true false s messages new living (inl waits) =
+held-up old ctx a by_message file false waits s messages new living range is step = same old new step.state_is
+held-up old ctx a by_message file true true s messages new living range is step = same old new step.state_is
+held-up old ctx a by_message file true false s messages new living range is (inl waits) =
     let r : Request = record {
       number = waits.number;
       host = ctx.host;
@@ -199,19 +245,21 @@ held-up old ctx a by_message file true false s messages new living (inl waits) =
       by_message = by_message;
     } in
     from old _ new refl refl refl (λ h. h)
-    (λ f. firm-waits old f file living r waits.suits waits.unspent) waits.answers.state_is
-held-up old ctx a by_message file true false s messages new living (inr none) = same old new none.1.state_is
+    (λ f. firm-waits old f file living r range waits.suits is waits.unspent) waits.answers.state_is
+held-up old ctx a by_message file true false s messages new living range is (inr none) =
+    same old new none.1.state_is
 
 locked : (old : State) (ctx : Ctx) (a : LockArguments) (by_message : Bool) (checked : Result ℕ LockFault)
     (s : NlmStatus)
     (messages : List Message) (new : State) → IfOk checked (IsFile old.objects)
+    → IfOk checked (λ file. fits_offsets a.lock ≡ true)
     → LockOf old ctx a by_message checked s messages new → Untouched old new
-locked old ctx a by_message (Err fault) s messages new living step = same old new step.state_is
-locked old ctx a by_message (Ok file) s messages new living (inl free) =
+locked old ctx a by_message (Err fault) s messages new living fits step = same old new step.state_is
+locked old ctx a by_message (Ok file) s messages new living fits (inl free) =
     changed old file (range_of a.lock) (Some a.exclusive) messages new (λ f. living) free.0 free.2
-locked old ctx a by_message (Ok file) s messages new living (inr held) =
+locked old ctx a by_message (Ok file) s messages new living fits (inr held) =
     held-up old ctx a by_message file a.block (list_any (is_request a.exclusive a.lock) (of_file old.waiting file)) s
-    messages new living held.1
+    messages new living (asked-range a.lock (of_file old.locks file) (Some a.exclusive) fits held.0) refl held.1
 
 cancels : (old : State) (file : ℕ) (goes : Request → Bool) (some : Bool) (s : NlmStatus) (messages : List Message)
     (new : State) → Cancels old file goes some s messages new → Untouched old new
@@ -255,8 +303,23 @@ answered old number (Some grant) s messages new there step =
       apart = λ h. rest.apart (locks-apart mid grant.file step.locks (apart-with (of_file old.locks grant.file) r None
           (unlocking-free (of_file old.locks grant.file) r) step.locks step.lists (h grant.file).0) h);
       firm = λ f. rest.firm (firm-locks mid (firm-answered old f number) grant.file
-          (f.pending number grant (there grant refl)).file step.locks step.lists.once);
+          (f.pending number grant (there grant refl)).file step.locks step.lists.listed);
     }
+
+-- a share in the place of the sharer's own
+sharers-with : (share : Share) (shares : List Share) → IsDistinct same_sharer shares →
+    IsDistinct same_sharer (all_but (same_sharer share) shares ++ share ∷ [])
+sharers-with share shares once =
+    let stay : Share → Bool = λ (other : Share). not (same_sharer share other) in
+    distinct-last same_sharer (filter stay shares) share
+    (all-mapped (λ (other : Share). stay other ≡ true) (λ (other : Share). same_sharer other share ≡ false)
+    (filter stay shares) (λ other stays. sharer-back other share ∙ denied (same_sharer share other) stays)
+    (passes-left stay shares))
+    (distinct-left same_sharer stay shares once)
+  where
+    denied : (b : Bool) → not b ≡ true → b ≡ false
+    denied true e = cc
+    denied false e = refl
 
 share-untouched : (old : State) (file : ℕ) (share : Share) (conflicts : Bool) (s : NlmStatus)
     (messages : List Message)
@@ -269,7 +332,8 @@ share-untouched old file share false s messages new living is step =
     from old _ new refl refl refl
     (λ h. shares-apart old file shares (shares-with (λ (other : Share). not (same_sharer share other)) share
     (of_file old.shares file) is (h file).1) h)
-    (λ f. firm-shares old f file living shares) step.state_is
+    (λ f. firm-shares old f file living shares (sharers-with share (of_file old.shares file) (f.sharers file)))
+    step.state_is
 
 shared : (old : State) (asked : NlmShare) (checked : Result ℕ LockFault) (s : NlmStatus) (messages : List Message)
     (new : State) → IfOk checked (IsFile old.objects) → ShareOf old asked checked s messages new →
@@ -288,7 +352,9 @@ unshared old asked (Ok file) s messages new living step =
     let shares : List Share = filter stay (of_file old.shares file) in
     from old _ new refl refl refl
     (λ h. shares-apart old file shares (shares-left stay (of_file old.shares file) (h file).1) h)
-    (λ f. firm-shares old f file living shares) step.state_is
+    (λ f. firm-shares old f file living shares (distinct-left same_sharer stay (of_file old.shares file)
+    (f.sharers file)))
+    step.state_is
 
 -- the locks of a file without those of a caller
 freed-apart : (name : List ℕ) (new : ℕ → List Lock) (file : ℕ) (o : Option (List Lock))
@@ -315,7 +381,7 @@ freed old name messages new f =
             (of_file old.shares n) shares)
             (λ n. (h n).1) q,
       );
-      firm = λ firm. firm-freed old firm f.locks (λ file. (f.lists file).once)
+      firm = λ firm. firm-freed old firm f.locks (λ file. (f.lists file).listed)
           (λ (s : Share). same_bytes s.caller_name name) (λ (r : Request). same_bytes r.asked.caller_name name)
           (λ (g : PendingGrant). same_bytes g.request.asked.caller_name name);
     })
@@ -329,7 +395,8 @@ nlm-touches old ctx (calls.Test a) reply messages new step =
     tested old a (lock_checked old ctx false a.lock) step.0 messages new step.1
 nlm-touches old ctx (calls.Lock a) reply messages new step =
     locked old ctx a false (lock_checked old ctx a.exclusive a.lock) step.0 messages new
-    (checked-file old ctx a.lock.file (fits_offsets a.lock) a.exclusive) step.1
+    (checked-file old ctx a.lock.file (fits_offsets a.lock) a.exclusive)
+    (checked-fits old ctx a.lock.file (fits_offsets a.lock) a.exclusive) step.1
 nlm-touches old ctx (calls.Cancel a) reply messages new step =
     cancelled old a (lock_checked old ctx false a.lock) step.0 messages new step.1
 nlm-touches old ctx (calls.Unlock a) reply messages new step =
@@ -340,7 +407,8 @@ nlm-touches old ctx (calls.TestMsg a) reply messages new step =
     tested old a (lock_checked old ctx false a.lock) step.0 step.1 new step.2
 nlm-touches old ctx (calls.LockMsg a) reply messages new step =
     locked old ctx a true (lock_checked old ctx a.exclusive a.lock) step.0 step.1 new
-    (checked-file old ctx a.lock.file (fits_offsets a.lock) a.exclusive) step.2
+    (checked-file old ctx a.lock.file (fits_offsets a.lock) a.exclusive)
+    (checked-fits old ctx a.lock.file (fits_offsets a.lock) a.exclusive) step.2
 nlm-touches old ctx (calls.CancelMsg a) reply messages new step =
     cancelled old a (lock_checked old ctx false a.lock) step.0 step.1 new step.2
 nlm-touches old ctx (calls.UnlockMsg a) reply messages new step =
@@ -364,5 +432,6 @@ nlm-touches old ctx (calls.Unshare a) reply messages new step =
     (checked-file old ctx a.share.file true false) step.1
 nlm-touches old ctx (calls.NmLock a) reply messages new step =
     locked old ctx a false (lock_checked old ctx a.exclusive a.lock) step.0 messages new
-    (checked-file old ctx a.lock.file (fits_offsets a.lock) a.exclusive) step.1
+    (checked-file old ctx a.lock.file (fits_offsets a.lock) a.exclusive)
+    (checked-fits old ctx a.lock.file (fits_offsets a.lock) a.exclusive) step.1
 nlm-touches old ctx (calls.FreeAll a) reply messages new step = freed old a.name messages new step.1

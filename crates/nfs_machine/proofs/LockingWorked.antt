@@ -99,7 +99,16 @@ module _ (offset : ℕ) where
       omega (arith, below, above)
 
 given-back : HasModes split (modes_with whole (range_at a 40 20) Unlocked)
-given-back = record { modes_are = modes; once = once }
+given-back = record {
+  modes_are = modes;
+  listed = record {
+    ranges = (
+      record { rises = omega arith; fits = omega arith },
+      (record { rises = omega arith; fits = omega arith }, tt),
+    );
+    once = once;
+  };
+}
   where
     modes : (owner : Owner) (offset : ℕ) →
         mode_at split owner offset ≡ modes_with whole (range_at a 40 20) Unlocked owner offset

@@ -234,11 +234,14 @@ shares-left p shares apart =
     (λ a e all. all-left (λ (b : Share). shares_conflict a b ≡ false)
     (λ (b : Share). shares_conflict a b ≡ false) p shares (λ b t x. x) all) apart
 
+pub sharer-back : (a b : Share) → same_sharer a b ≡ same_sharer b a
+sharer-back a b =
+    ap (λ t. t && same_bytes a.owner b.owner) (nat_list_eq_equiv.symm a.caller_name b.caller_name)
+    ∙ ap (λ t. same_bytes b.caller_name a.caller_name && t) (nat_list_eq_equiv.symm a.owner b.owner)
+
 shares-back : (a b : Share) → shares_conflict a b ≡ shares_conflict b a
 shares-back a b =
-    let or = denies a.mode b.access || denies b.mode a.access in
-    ap (λ t. not (t && same_bytes a.owner b.owner) && or) (nat_list_eq_equiv.symm a.caller_name b.caller_name)
-    ∙ ap (λ t. not (same_bytes b.caller_name a.caller_name && t) && or) (nat_list_eq_equiv.symm a.owner b.owner)
+    ap (λ t. not t && (denies a.mode b.access || denies b.mode a.access)) (sharer-back a b)
     ∙ ap (λ t. not (same_sharer b a) && t) (or_comm (denies a.mode b.access) (denies b.mode a.access))
 
 share-itself : (s : Share) → shares_conflict s s ≡ false

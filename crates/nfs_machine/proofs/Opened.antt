@@ -6,7 +6,7 @@ use Rattle.std.proofs.Common.{if◌then◌else◌}
 use Rattle.std.proofs.lemmas.Bool.Decides.{nat_tests}
 use Rattle.std.specs.Cmp.{nat_cmp_total, unsigned_Decides}
 use Rattle.std.specs.FinMap.{FinMap, contains_key, empty, get, insert, get-insert, get-empty, values}
-use Rattle.std.specs.List.{AllByRecursion, list_any, slice_get, sum_by}
+use Rattle.std.specs.List.{AllByRecursion, IsDistinct, list_any, slice_get, sum_by}
 use Rattle.std.specs.Prelude.{IsSome}
 use Rattle.std.specs.Option.{option_map}
 use Rattle.std.specs.Ordering.{nat_cmp, eq_by_cmp}
@@ -17,15 +17,17 @@ use Rattle.nfs_machine.specs.FileLists.{of_file}
 use Rattle.nfs_machine.specs.Grants.{IsHeldUp}
 use Rattle.nfs_machine.specs.Laws.{OpeningIsFormed}
 use Rattle.nfs_machine.specs.LockLaws.{OpeningIsApart, OpeningWaitsForNone}
-use Rattle.nfs_machine.specs.Locks.{OffsetsOnce}
-use Rattle.nfs_machine.specs.LocksFormed.{AreOfFiles, LocksFormed, NoLocksConflict, NoSharesConflict, count_of}
-use Rattle.nfs_machine.specs.LockSteps.{is_grant_number}
+use Rattle.nfs_machine.specs.Locks.{AreListed, same_sharer}
+use Rattle.nfs_machine.specs.LocksFormed.{AreOfFiles, AreWaiting, LocksFormed, NoLocksConflict, NoSharesConflict}
+use Rattle.nfs_machine.specs.LocksFormed.{count_of}
 use Rattle.nfs_machine.specs.Opening.{opening, opening_root, opening_roots, time_of}
-use Rattle.nfs_machine.specs.State.{Directory, Link, Entry, Living, Request}
+use Rattle.nfs_machine.specs.State.{Directory, Link, Entry, Living}
 use Rattle.nfs_machine.specs.WellFormed.{AllApart, CookiesRise, ExportsStand, HasRoot, IsDirectoryOf, IsNumbered}
 use Rattle.nfs_machine.specs.WellFormed.{WellFormed, is_root}
 use Rattle.nfs_machine.specs.declared.moment.Moment.{Moment}
+use Rattle.nfs_machine.proofs.Distinct.{distinct-none}
 use Rattle.nfs_machine.proofs.Exported.{roots_at}
+use Rattle.nfs_machine.proofs.Firm.{none-listed, none-waiting}
 use Rattle.nfs_machine.proofs.Ordered.{all-numbered, length-numbered, opened-apart, opened-at, with_number}
 use Rattle.nfs_machine.proofs.Sums.{sum-none}
 
@@ -164,11 +166,11 @@ module _ (es : List ExportValue) (moment : Moment) where
     locks = no_lists;
     shares = no_lists;
     waiting = no_lists;
-    once = λ file. subst OffsetsOnce (sym (none_of file)) (λ owner offset. omega arith);
+    listed = λ file. subst AreListed (sym (none_of file)) none-listed;
+    sharers = λ file. subst (IsDistinct same_sharer) (sym (none_of file)) (distinct-none same_sharer);
+    requests = λ file. subst (AreWaiting file) (sym (none_of file)) (none-waiting file);
     apart = nothing_conflicts es moment;
     held_up = nothing_waits es moment;
-    suit = λ file. subst (AllByRecursion (λ (r : Request). is_grant_number file r.number ≡ true))
-        (sym (none_of file)) tt;
     pending = λ number grant at. (let none : None ≡ Some grant = sym (get-empty nat_cmp number) ∙ at in cc);
     numbers = λ number.
         let waits : sum_by (count_of number) (values (opening es moment).waiting) ≡ 0 =

@@ -1,15 +1,25 @@
 -- Locks worked through: the modes of a list of locks at every offset, and what TEST shows of them.
-use Rattle.std.proofs.Common.{◌≡◌, ℕ, ◌-◌, ◌^◌, ◌≤◌, true, false, cond, [], ◌∷◌, Some}
+use Rattle.std.proofs.Common.{◌≡◌, ℕ, ◌-◌, ◌^◌, ◌<◌, ◌≤◌, true, false, cond, [], ◌∷◌, Some}
 use Rattle.std.proofs.Common.{None, find, refl, ap, arith}
-use Rattle.nfs_machine.specs.Locks.{HasModes, is_within, mode_at, modes_with}
+use Rattle.nfs_machine.specs.Locks.{AreListed, HasModes, is_within, mode_at, modes_with}
 use Rattle.nfs_machine.specs.LockSteps.{IsHolder}
-use Rattle.nfs_machine.specs.State.{Owner}
+use Rattle.nfs_machine.specs.State.{Lock, Owner}
 use Rattle.nfs_machine.specs.WorkedLocks.{a, b, holder, lock, range_at, split, to_the_end, whole, Unlocked, Exclusive}
 use Rattle.std.specs.List.{count_by}
 use Rattle.nfs_machine.proofs.Modes.{narrower, holds, mode_by}
 
+-- one lock, of a range
+pub one-listed : (l : Lock) → l.first ≤ l.last → l.last < 2 ^ 64 → AreListed (l ∷ [])
+one-listed l rises fits = record {
+  ranges = (record { rises = rises; fits = fits }, tt);
+  once = λ owner offset. elim (holds owner offset l) as (λ t. count_by (λ (x : ℕ). t) (0 ∷ []) ≤ 1) [
+    | true ↦ omega arith
+    | false ↦ omega arith
+  ];
+}
+
 pub locked : HasModes whole (modes_with [] (range_at a 0 100) Exclusive)
-locked = record { modes_are = modes; once = once }
+locked = record { modes_are = modes; listed = one-listed (lock a 0 99 true) (omega arith) (omega arith) }
   where
     modes : (owner : Owner) (offset : ℕ) →
         mode_at whole owner offset ≡ modes_with [] (range_at a 0 100) Exclusive owner offset
@@ -18,13 +28,6 @@ locked = record { modes_are = modes; once = once }
         (λ b. mode_by (cond b (Some (lock a 0 99 true)) None) ≡ cond b Exclusive Unlocked) [
           | true ↦ refl
           | false ↦ refl
-        ]
-
-    once : (owner : Owner) (offset : ℕ) → count_by (holds owner offset) whole ≤ 1
-    once owner offset = elim (holds owner offset (lock a 0 99 true)) as
-        (λ b. count_by (λ (l : ℕ). b) (0 ∷ []) ≤ 1) [
-          | true ↦ omega arith
-          | false ↦ omega arith
         ]
 
 -- A's modes in the split lock

@@ -22,20 +22,16 @@ use Rattle.nfs_machine.specs.WorkedSettling.{WorkedFreed, WorkedSettling, alone,
 use Rattle.nfs_machine.specs.WorkedSettling.{held_by_c, held_by_freed, pending, two_held, waiting}
 use Rattle.nfs_machine.proofs.FileMaps.{each-with, get-one, grants-gone, grants-none, no-list, of-there, of-with}
 use Rattle.nfs_machine.proofs.FileMaps.{relisted-none, relisted-one, removed-one, with-again}
+use Rattle.nfs_machine.proofs.Firm.{none-listed}
 use Rattle.nfs_machine.proofs.Modes.{inside, listed_locks_tell, narrower, holds, mode_by}
 use Rattle.nfs_machine.proofs.Opened.{none_of}
+use Rattle.nfs_machine.proofs.Ranges.{one-listed}
 
 abbrev first_held : List Lock
 first_held = lock a 0 9 true ∷ []
 
 abbrev first_shared : List Lock
 first_shared = lock a 0 19 false ∷ []
-
-once-of : (l : Lock) (owner : Owner) (offset : ℕ) → count_by (holds owner offset) (l ∷ []) ≤ 1
-once-of l owner offset = elim (holds owner offset l) as (λ t. count_by (λ (x : ℕ). t) (0 ∷ []) ≤ 1) [
-  | true ↦ omega arith
-  | false ↦ omega arith
-]
 
 -- C gives its lock back
 away : (owner : Owner) (offset : ℕ) → is_in (range_at c 10 10) owner offset ≡ true →
@@ -50,7 +46,7 @@ away owner offset c_has a_has =
     omega (arith, above, below)
 
 given-back : HasModes first_held (modes_with two_held (range_at c 10 10) Unlocked)
-given-back = record { modes_are = modes; once = once-of (lock a 0 9 true) }
+given-back = record { modes_are = modes; listed = one-listed (lock a 0 9 true) (omega arith) (omega arith) }
   where
     modes : (owner : Owner) (offset : ℕ) →
         mode_at first_held owner offset ≡ modes_with two_held (range_at c 10 10) Unlocked owner offset
@@ -76,7 +72,7 @@ wider owner offset e =
     ap (λ t. t && is_within 0 19 offset) all.0 ∙ narrower 0 9 0 19 offset (omega arith) (omega arith) all.1
 
 shared-by-a : HasModes first_shared (modes_with first_held (range_at a 0 20) Shared)
-shared-by-a = record { modes_are = modes; once = once-of (lock a 0 19 false) }
+shared-by-a = record { modes_are = modes; listed = one-listed (lock a 0 19 false) (omega arith) (omega arith) }
   where
     modes : (owner : Owner) (offset : ℕ) →
         mode_at first_shared owner offset ≡ modes_with first_held (range_at a 0 20) Shared owner offset
@@ -95,7 +91,16 @@ shared-by-a = record { modes_are = modes; once = once-of (lock a 0 19 false) }
 
 -- B shares them too
 shared-by-b : HasModes both_shared (modes_with first_shared (range_at b 0 20) Shared)
-shared-by-b = record { modes_are = modes; once = once }
+shared-by-b = record {
+  modes_are = modes;
+  listed = record {
+    ranges = (
+      record { rises = omega arith; fits = omega arith },
+      (record { rises = omega arith; fits = omega arith }, tt),
+    );
+    once = once;
+  };
+}
   where
     modes : (owner : Owner) (offset : ℕ) →
         mode_at both_shared owner offset ≡ modes_with first_shared (range_at b 0 20) Shared owner offset
@@ -230,7 +235,7 @@ same-turned owner offset other = elim (holds owner offset (lock c 0 19 true)) as
     ] refl
 
 freed : HasModes [] (modes_without (lock c 0 19 true ∷ []) (codes "c3"))
-freed = record { modes_are = modes; once = λ owner offset. omega arith }
+freed = record { modes_are = modes; listed = none-listed }
   where
     modes : (owner : Owner) (offset : ℕ) →
         Unlocked ≡ modes_without (lock c 0 19 true ∷ []) (codes "c3") owner offset
@@ -244,7 +249,7 @@ freed = record { modes_are = modes; once = λ owner offset. omega arith }
 
 -- no other file has a lock
 none-freed : HasModes [] (modes_without [] (codes "c3"))
-none-freed = record { modes_are = modes; once = λ owner offset. omega arith }
+none-freed = record { modes_are = modes; listed = none-listed }
   where
     modes : (owner : Owner) (offset : ℕ) → Unlocked ≡ modes_without [] (codes "c3") owner offset
     modes owner offset =
@@ -262,7 +267,10 @@ all-freed = each-with empty 5 (lock c 0 19 true ∷ [])
 -- one lock where there was none
 alone-of : (o : Owner) (exclusive : Bool) →
     HasModes (lock o 0 19 exclusive ∷ []) (modes_with [] (range_at o 0 20) (Some exclusive))
-alone-of o exclusive = record { modes_are = modes; once = once-of (lock o 0 19 exclusive) }
+alone-of o exclusive = record {
+  modes_are = modes;
+  listed = one-listed (lock o 0 19 exclusive) (omega arith) (omega arith);
+}
   where
     modes : (owner : Owner) (offset : ℕ) →
         mode_at (lock o 0 19 exclusive ∷ []) owner offset ≡ modes_with [] (range_at o 0 20)
@@ -277,7 +285,7 @@ alone-of o exclusive = record { modes_are = modes; once = once-of (lock o 0 19 e
 -- and none where it is given back
 none-of : (o : Owner) (exclusive : Bool) →
     HasModes [] (modes_with (lock o 0 19 exclusive ∷ []) (range_at o 0 20) Unlocked)
-none-of o exclusive = record { modes_are = modes; once = λ owner offset. omega arith }
+none-of o exclusive = record { modes_are = modes; listed = none-listed }
   where
     modes : (owner : Owner) (offset : ℕ) →
         Unlocked ≡ modes_with (lock o 0 19 exclusive ∷ []) (range_at o 0 20) Unlocked owner offset

@@ -1,14 +1,16 @@
 -- Laws of locks, shares and requests that wait (RFC 1813, appendix II).
-use Rattle.std.specs.Prelude.{◌≡◌, Bool, false, not, ◌&&◌, List, nat_le, Some}
+use Rattle.std.specs.Prelude.{◌≡◌, ℕ, Bool, false, not, ◌&&◌, List, nat_le, Some, None}
+use Rattle.std.specs.FinMap.{get}
 use Rattle.std.specs.List.{list_any}
 use Rattle.side_wire.specs.declared.message.Message.{Message}
 use Rattle.nfs_machine.specs.Chains.{Chain, Transition}
 use Rattle.nfs_machine.specs.Exports.{ExportValue}
+use Rattle.nfs_machine.specs.FileLists.{of_file}
 use Rattle.nfs_machine.specs.Grants.{AllHeldUp}
-use Rattle.nfs_machine.specs.Locks.{Conflicts, Mode, modes_conflict, same_owner}
-use Rattle.nfs_machine.specs.LocksFormed.{NoConflict}
+use Rattle.nfs_machine.specs.Locks.{Conflicts, Mode, mode_at, modes_conflict, same_owner}
+use Rattle.nfs_machine.specs.LocksFormed.{LocksFormed, NoConflict}
 use Rattle.nfs_machine.specs.Opening.{opening}
-use Rattle.nfs_machine.specs.State.{Lock, State, Range}
+use Rattle.nfs_machine.specs.State.{Lock, Owner, State, Range}
 use Rattle.nfs_machine.specs.Step.{Step}
 use Rattle.nfs_machine.specs.declared.calls.Call.{Call}
 use Rattle.nfs_machine.specs.declared.calls.Reply.{Reply}
@@ -26,6 +28,11 @@ stands_in_way r mode l =
 abbrev pub ListedLocksTell : Type 0
 ListedLocksTell = (locks : List Lock) (r : Range) (mode : Mode) → list_any (stands_in_way r mode) locks ≡ false →
     Conflicts locks r mode → ⊥
+
+-- a file of which no owner has an offset keeps no list of locks, not even one of ranges without an offset
+abbrev pub UnlockedFilesKeepNothing : Type 0
+UnlockedFilesKeepNothing = (m : State) (file : ℕ) → LocksFormed m
+    → ((owner : Owner) (offset : ℕ) → mode_at (of_file m.locks file) owner offset ≡ None) → get m.locks file ≡ None
 
 -- where a server starts, nothing conflicts
 abbrev pub OpeningIsApart : Type 0

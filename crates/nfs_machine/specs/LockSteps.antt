@@ -117,6 +117,10 @@ is_request exclusive l request =
     same_owner (requested request).owner (range_of l).owner && (request.asked.offset == l.offset) &&
     (request.asked.length == l.length) && (if request.exclusive then exclusive else not exclusive)
 
+-- two requests are equal: of one owner, for one offset and length, and both exclusive or neither
+abbrev pub same_request : Request → Request → Bool
+same_request a b = is_request b.exclusive b.asked a
+
 -- a number for a grant on a file: its remainder by 64 is that of the file's fileid
 abbrev pub is_grant_number : (file number : ℕ) → Bool
 is_grant_number file number = nat_lt number (2 ^ 64) && (number % 64 == file % 64)

@@ -1,8 +1,9 @@
 -- Locks on ranges of files and share reservations: who has what, and what conflicts (RFC 1813, appendix II, 6.1.4).
-use Rattle.std.specs.Prelude.{◌≡◌, ℕ, ◌+◌, ◌-◌, ◌^◌, ◌≤◌, Bool, true, false, not, ◌&&◌}
+use Rattle.std.specs.Prelude.{◌≡◌, ℕ, ◌+◌, ◌-◌, ◌^◌, ◌<◌, ◌≤◌, Bool, true, false, not, ◌&&◌}
 use Rattle.std.specs.Prelude.{◌||◌, List, Option, Some, None, option_map, nat_le, if◌then◌else◌, count_by}
 use Rattle.std.specs.Prelude.{find}
 use Rattle.std.specs.Prelude.{◌==◌}
+use Rattle.std.specs.List.{AllByRecursion}
 use Rattle.std.specs.Ordering.{int_eq}
 use Rattle.side_wire.specs.declared.message.NlmLock.{NlmLock}
 use Rattle.side_wire.specs.declared.nlm.ShareAccess.{ShareAccess}
@@ -23,6 +24,11 @@ same_owner a b = same_bytes a.caller_name b.caller_name && same_bytes a.owner b.
 abbrev pub is_within : (first last offset : ℕ) → Bool
 is_within first last offset = nat_le first offset && nat_le offset last
 
+-- a range has an offset, and none that needs more than 64 bits (6.3.1)
+pub record IsRange (r : Range) : Type 0 where
+  pub rises : r.first ≤ r.last
+  pub fits : r.last < 2 ^ 64
+
 -- the range is this owner's and contains this offset
 abbrev pub is_in : Range → Owner → ℕ → Bool
 is_in r owner offset = same_owner r.owner owner && is_within r.first r.last offset
@@ -36,11 +42,15 @@ mode_at locks owner offset = option_map (λ (l : Lock). l.exclusive)
 abbrev pub OffsetsOnce : List Lock → Type 0
 OffsetsOnce locks = (owner : Owner) (offset : ℕ) → count_by (λ (l : Lock). is_in l.range owner offset) locks ≤ 1
 
--- the locks of a file have these modes and no offset of an owner twice; in which ranges and in which order they are
--- listed is free
+-- the locks of a file as they may be listed: each is of a range, and no offset of an owner stands twice
+pub record AreListed (locks : List Lock) : Type 0 where
+  pub ranges : AllByRecursion (λ (l : Lock). IsRange l.range) locks
+  pub once : OffsetsOnce locks
+
+-- the locks of a file have these modes; in which ranges and in which order they are listed is free
 pub record HasModes (locks : List Lock) (modes : Owner → ℕ → Mode) : Type 0 where
   pub modes_are : (owner : Owner) (offset : ℕ) → mode_at locks owner offset ≡ modes owner offset
-  pub once : OffsetsOnce locks
+  pub listed : AreListed locks
 
 -- offsets have 64 bits (6.3.1)
 abbrev pub fits_offsets : NlmLock → Bool

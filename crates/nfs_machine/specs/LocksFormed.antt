@@ -3,13 +3,14 @@ use Rattle.std.specs.Prelude.{◌≡◌, ℕ, ◌+◌, ◌≤◌, true, false, L
 use Rattle.std.specs.Prelude.{sum_by, is_ok, ◌==◌}
 use Rattle.std.specs.Prelude.{if◌then◌else◌}
 use Rattle.std.specs.FinMap.{FinMap, contains_key, get, values}
-use Rattle.std.specs.List.{AllByRecursion}
+use Rattle.std.specs.List.{AllByRecursion, IsDistinct}
 use Rattle.std.specs.Ordering.{nat_cmp}
 use Rattle.nfs_machine.specs.Checks.{bytes_in}
 use Rattle.nfs_machine.specs.FileLists.{of_file}
-use Rattle.nfs_machine.specs.Grants.{AllHeldUp}
-use Rattle.nfs_machine.specs.LockSteps.{is_grant_number}
-use Rattle.nfs_machine.specs.Locks.{OffsetsOnce, mode_at, modes_conflict, same_owner, shares_conflict}
+use Rattle.nfs_machine.specs.Grants.{AllHeldUp, requested}
+use Rattle.nfs_machine.specs.LockSteps.{is_grant_number, same_request}
+use Rattle.nfs_machine.specs.Locks.{AreListed, IsRange, mode_at, modes_conflict, same_owner, same_sharer}
+use Rattle.nfs_machine.specs.Locks.{shares_conflict}
 use Rattle.nfs_machine.specs.State.{Living, Lock, Owner, PendingGrant, Request, Share, State}
 
 -- a living regular file has this number
@@ -44,9 +45,17 @@ count_of number requests = count_by (λ (r : Request). r.number == number) reque
 abbrev pub uses_of : State → (number : ℕ) → ℕ
 uses_of m number = sum_by (count_of number) (values m.waiting) + (if contains_key m.granted number then 1 else 0)
 
--- a pending grant is of a living regular file, and stands under its own number
+-- the requests that wait for a file: each for a range and under a number of the file, which is its fileid by 64 and
+-- fits 64 bits; equal ones wait once
+pub record AreWaiting (file : ℕ) (requests : List Request) : Type 0 where
+  pub ranges : AllByRecursion (λ (r : Request). IsRange (requested r)) requests
+  pub suit : AllByRecursion (λ (r : Request). is_grant_number file r.number ≡ true) requests
+  pub once : IsDistinct same_request requests
+
+-- a pending grant is for a range of a living regular file, and stands under its own number
 pub record IsPending (objects : FinMap nat_cmp Living) (number : ℕ) (grant : PendingGrant) : Type 0 where
   pub file : IsFile objects grant.file
+  pub range : IsRange (requested grant.request)
   pub own : grant.request.number ≡ number
   pub suits : is_grant_number grant.file number ≡ true
 
@@ -54,12 +63,12 @@ pub record LocksFormed (m : State) : Type 0 where
   pub locks : AreOfFiles m.objects m.locks
   pub shares : AreOfFiles m.objects m.shares
   pub waiting : AreOfFiles m.objects m.waiting
-  pub once : (file : ℕ) → OffsetsOnce (of_file m.locks file)
+  pub listed : (file : ℕ) → AreListed (of_file m.locks file)
+  -- a sharer has one share of a file
+  pub sharers : (file : ℕ) → IsDistinct same_sharer (of_file m.shares file)
+  pub requests : (file : ℕ) → AreWaiting file (of_file m.waiting file)
   pub apart : NoConflict m
   pub held_up : AllHeldUp m
-  -- numbers are those of their files by 64, and fit 64 bits
-  pub suit : (file : ℕ) → AllByRecursion (λ (r : Request). is_grant_number file r.number ≡ true)
-      (of_file m.waiting file)
   pub pending : (number : ℕ) (grant : PendingGrant) → get m.granted number ≡ Some grant →
       IsPending m.objects number grant
   -- a number that was given is used once at most, and no other is

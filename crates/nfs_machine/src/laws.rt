@@ -9,6 +9,7 @@ ghost use Rattle.nfs_machine.specs.Laws.{StepsGiveOnce, StepsKeepCookies, StepsK
 ghost use Rattle.nfs_machine.specs.Laws.{StepsKeepNumbers, WithinIsTold};
 ghost use Rattle.nfs_machine.specs.LockLaws.{ListedLocksTell, OpeningIsApart, OpeningWaitsForNone, ChainsKeepApart};
 ghost use Rattle.nfs_machine.specs.LockLaws.{ChainsKeepWaiting, StepsKeepApart, StepsKeepWaiting};
+ghost use Rattle.nfs_machine.specs.LockLaws.{UnlockedFilesKeepNothing};
 ghost use Rattle.nfs_machine.specs.MountLaws.{MountRepliesAreBounded};
 ghost use Rattle.nfs_machine.specs.Paging.{FullPagesFit, PagesAreOne, PagesExist, PagesFit};
 ghost use Rattle.nfs_machine.specs.Readings.{ReadingsAreWhole};
@@ -158,7 +159,8 @@ pub fn steps_keep_exports()
 /// names lead to living objects of their export and none to a root, the directories of an export form one tree,
 /// cookies rise, the texts of links are within their bound, and what is mounted stands once and within its bound.
 /// Locks, shares, waiting requests and pending grants are of living regular files, conflict with nothing, or with what
-/// is held where they wait, and have numbers of their own that were given. The exports that it starts with are
+/// is held where they wait, and have numbers of their own that were given. What is locked, waited for or pending is a
+/// range of 64-bit offsets; a sharer has one share of a file, and equal requests wait once. The exports that it starts with are
 /// faultless, as those of `Exports::new` are.
 ///
 /// Such a run is `worked_run`. Locks are held and waited for in `worked_locking`.
@@ -241,6 +243,13 @@ pub fn within_is_told()
 /// Such locks and ranges are in `worked_tests`.
 pub fn listed_locks_tell()
     ensures { ListedLocksTell }
+{}
+
+/// In a well-formed state a file of which no owner has an offset keeps no list of locks, as one that was never locked.
+///
+/// Such a file is in `worked_freed`.
+pub fn unlocked_files_keep_nothing()
+    ensures { UnlockedFilesKeepNothing }
 {}
 
 /// No call of NFS is answered with NFS3ERR_JUKEBOX, NFS3ERR_SERVERFAULT, NFS3ERR_IO, NFS3ERR_NXIO, NFS3ERR_NODEV,
