@@ -3,13 +3,11 @@ pub mod Changes
 pub mod Bounds
 pub mod Checked
 pub mod Choosing
-mod LongestMatch
 pub mod Continued
 mod Cookies
 mod Distinct
 pub mod Entered
 pub mod Exported
-mod ExportsWorked
 pub mod Facts
 mod Faults
 pub mod FileMaps
@@ -17,10 +15,8 @@ pub mod Firm
 pub mod Follows
 mod Handles
 pub mod Kept
-mod LockingWorked
 mod Listed
 mod Listing
-mod MakingWorked
 pub mod Modes
 mod Mounted
 pub mod Moves
@@ -32,11 +28,9 @@ mod Pieces
 mod Results
 mod Posted
 mod PostedRefusals
-mod Ranges
 mod NameStays
 mod Numbered
 mod Readings
-mod Replies
 pub mod Resolved
 mod Later
 mod Rising
@@ -48,7 +42,6 @@ pub mod Renamed
 mod ReplySizes
 pub mod Roots
 pub mod Runs
-mod RunWorked
 pub mod SideReplies
 pub mod Sums
 pub mod Texts
@@ -58,7 +51,6 @@ mod Visits
 pub mod Waiting
 pub mod WellFormed
 pub mod Setting
-mod Settled
 pub mod Within
 pub mod Taken
 pub mod Short

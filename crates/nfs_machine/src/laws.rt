@@ -1,4 +1,4 @@
-//! The laws of the machine.
+//! The laws of the machine. The functions that comments name as examples (`worked_run`) stand in `machine_examples`.
 
 ghost use Rattle.nfs_machine.specs.Chains.{RunsAreChains};
 ghost use Rattle.nfs_machine.specs.HandleLaws.{MntHandlesResolve, NfsHandlesResolve};

@@ -2,9 +2,9 @@
 //!
 //! It is what every other crate is proved against. The definitions stand in `specs/`, one file for each thing:
 //! `State`, `Resolve`, `Permission`, `Attributes`, the steps of each program, `Run`. The code here is what a call is
-//! made under (`Ctx`, `Moment`), the exports, handles, the answer to a call that memory is wanting for, the laws of the
-//! machine, and worked values of the definitions. It stands on the call headers of `nfs_rpc` and on the calls and
-//! replies of `nfs_wire` and `side_wire`.
+//! made under (`Ctx`, `Moment`), the exports, handles, the answer to a call that memory is wanting for, and the laws of
+//! the machine; worked values of the definitions stand in `machine_examples`. It stands on the call headers of `nfs_rpc`
+//! and on the calls and replies of `nfs_wire` and `side_wire`.
 #![tactic(auto)]
 
 pub mod calls;
@@ -16,7 +16,6 @@ pub mod laws;
 pub mod moment;
 pub mod paths;
 mod refusals;
-pub mod worked;
 
 pub use calls::{Call, Refusal, Reply};
 pub use context::{Ctx, Limits};

@@ -1,0 +1,9 @@
+mod ExportsWorked
+mod LockingWorked
+mod LongestMatch
+mod MakingWorked
+mod OneFile
+mod Ranges
+mod Replies
+mod RunWorked
+mod Settled

@@ -1,0 +1,5 @@
+use Rattle.machine_examples.proofs.Settled.{worked-freed}
+use Rattle.machine_examples.proofs.worked.worked_freed.Goals as goal
+
+pub returns : goal.returns
+returns c = worked-freed

@@ -1,0 +1,5 @@
+use Rattle.machine_examples.proofs.Settled.{worked-settling}
+use Rattle.machine_examples.proofs.worked.worked_settling.Goals as goal
+
+pub returns : goal.returns
+returns c = worked-settling

@@ -1,0 +1,15 @@
+pub mod Worked
+pub mod WorkedChanging
+pub mod WorkedCreate
+pub mod WorkedExports
+pub mod WorkedFiles
+pub mod WorkedLocking
+pub mod WorkedLocks
+pub mod WorkedMaking
+pub mod WorkedNames
+pub mod WorkedPages
+pub mod WorkedReplies
+pub mod WorkedRun
+pub mod WorkedSetting
+pub mod WorkedSettling
+pub mod WorkedWrites

@@ -1,5 +1,0 @@
-use Rattle.nfs_machine.proofs.Replies.{space, system, no_file, first_cookie, other_cookie, good_cookie}
-use Rattle.nfs_machine.proofs.worked.worked_root_replies.Goals as goal
-
-pub returns : goal.returns
-returns c = record { space = space; system = system; no_file = no_file; first_cookie = first_cookie; other_cookie = other_cookie; good_cookie = good_cookie }
