@@ -27,3 +27,13 @@ reads_attributes (calls.Fsinfo object) = true
 reads_attributes (calls.Pathconf object) = true
 reads_attributes (calls.Commit a) = true
 reads_attributes call = false
+
+-- those of them whose answers take no memory
+abbrev pub answers_at_once : NfsCall → Bool
+answers_at_once calls.Null = true
+answers_at_once (calls.Getattr object) = true
+answers_at_once (calls.Access a) = true
+answers_at_once (calls.Fsinfo object) = true
+answers_at_once (calls.Pathconf object) = true
+answers_at_once (calls.Commit a) = true
+answers_at_once call = false

@@ -1,7 +1,7 @@
 //! ACCESS: the rights that a caller has to an object (RFC 1813, 3.3.4).
 
 ghost use Rattle.std.specs.Prelude.{◌≡◌, ◌≢◌, ◌≤◌, ◌/◌, ◌%◌, ◌==◌, ◌&&◌, ◌||◌};
-ghost use Rattle.std.specs.Prelude.{MatchResult, if◌then◌else◌};
+ghost use Rattle.std.specs.Prelude.{◌∷◌, [], MatchResult, if◌then◌else◌};
 ghost use Rattle.nfs_machine.specs.AttributeSteps.{granted};
 ghost use Rattle.nfs_machine.specs.Attributes.{type_of};
 ghost use Rattle.nfs_machine.specs.Checks.{is_writable};
@@ -11,7 +11,7 @@ ghost use Rattle.nfs_machine.specs.declared.calls.Call.TheVariants as calls;
 ghost use Rattle.nfs_objects.specs.Attempt.{Ends, EndsFirst};
 ghost use Rattle.nfs_objects.specs.Begins.{Begins};
 ghost use Rattle.nfs_objects.specs.Knows.{Knows};
-ghost use Rattle.nfs_objects.specs.Only.{EndsFirstOnly};
+ghost use Rattle.nfs_objects.specs.Only.{EndsAtOnce, EndsFirstOnly};
 ghost use Rattle.nfs_objects.specs.declared.address.Addr.TheVariants as addresses;
 ghost use Rattle.nfs_inodes.specs.Known.{IsKnown, object_at, shell};
 ghost use Rattle.nfs_inodes.specs.Rights.{right_of};
@@ -42,6 +42,7 @@ pub(crate) fn attempt(draft: Draft<'_>, arguments: &AccessArguments) -> Result<C
     ensures ends { Ends (calls.Nfs (NfsCall.Access arguments.now)) draft.entry.ctx draft.entry.view result }
     ensures first { EndsFirst (calls.Nfs (NfsCall.Access arguments.now)) draft.entry.view result }
     ensures only { EndsFirstOnly (calls.Nfs (NfsCall.Access arguments.now)) draft.entry.view result }
+    ensures at_once { EndsAtOnce (calls.Nfs (NfsCall.Access arguments.now)) draft.entry.view result }
 {
     let reply = match named(&draft, arguments.object.as_slice())? {
         Ok(known) => {
@@ -65,7 +66,7 @@ fn rights_to(draft: &Draft<'_>, known: &Known, asked: u32) -> Result<u32, Halt>
     ensures rights { MatchResult result
         (λ rights. Knows draft.now (λ k.
         granted k.state.exports draft.now.ctx (object_at k.state known.now) asked ≡ rights))
-        (StopsAt draft.now addresses.Exports) }
+        (StopsAt draft.now (addresses.Exports ∷ [])) }
     ensures reads { ReadsAt draft.now addresses.Exports result }
 {
     Ok(granted(exports(draft)?, draft.ctx(), known, asked))

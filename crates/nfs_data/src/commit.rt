@@ -8,7 +8,7 @@ ghost use Rattle.nfs_machine.specs.State.{Content};
 ghost use Rattle.nfs_machine.specs.declared.calls.Call.TheVariants as calls;
 ghost use Rattle.nfs_objects.specs.Attempt.{Ends, EndsFirst};
 ghost use Rattle.nfs_objects.specs.Begins.{Begins};
-ghost use Rattle.nfs_objects.specs.Only.{EndsFirstOnly};
+ghost use Rattle.nfs_objects.specs.Only.{EndsAtOnce, EndsFirstOnly};
 
 use crate::write::nothing_shown;
 use nfs_inodes::{Known, named, regular, verifier, wcc_of};
@@ -22,6 +22,7 @@ pub(crate) fn attempt(draft: Draft<'_>, arguments: &CommitArguments) -> Result<C
     ensures ends { Ends (calls.Nfs (NfsCall.Commit arguments.now)) draft.entry.ctx draft.entry.view result }
     ensures first { EndsFirst (calls.Nfs (NfsCall.Commit arguments.now)) draft.entry.view result }
     ensures only { EndsFirstOnly (calls.Nfs (NfsCall.Commit arguments.now)) draft.entry.view result }
+    ensures at_once { EndsAtOnce (calls.Nfs (NfsCall.Commit arguments.now)) draft.entry.view result }
 {
     let reply = match named(&draft, arguments.file.as_slice())? {
         Ok(known) => CommitReply {

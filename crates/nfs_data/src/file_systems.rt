@@ -5,7 +5,7 @@ ghost use Rattle.nfs_machine.specs.FileSystemSteps.{file_system, path_limits};
 ghost use Rattle.nfs_machine.specs.declared.calls.Call.TheVariants as calls;
 ghost use Rattle.nfs_objects.specs.Attempt.{Ends, EndsFirst};
 ghost use Rattle.nfs_objects.specs.Begins.{Begins};
-ghost use Rattle.nfs_objects.specs.Only.{EndsFirstOnly};
+ghost use Rattle.nfs_objects.specs.Only.{EndsAtOnce, EndsFirstOnly};
 
 use bytes::Bytes;
 use nfs_inodes::{BLOCK, LINK_LIMIT, MAX_NAME, SIZE_LIMIT, TRANSFER_LIMIT, named};
@@ -22,6 +22,7 @@ pub(crate) fn fsinfo(draft: Draft<'_>, object: &Bytes) -> Result<Change, Halt>
     ensures ends { Ends (calls.Nfs (NfsCall.Fsinfo object.now)) draft.entry.ctx draft.entry.view result }
     ensures first { EndsFirst (calls.Nfs (NfsCall.Fsinfo object.now)) draft.entry.view result }
     ensures only { EndsFirstOnly (calls.Nfs (NfsCall.Fsinfo object.now)) draft.entry.view result }
+    ensures at_once { EndsAtOnce (calls.Nfs (NfsCall.Fsinfo object.now)) draft.entry.view result }
 {
     let reply = match named(&draft, object.as_slice())? {
         Ok(known) => FsinfoReply {
@@ -62,6 +63,7 @@ pub(crate) fn pathconf(draft: Draft<'_>, object: &Bytes) -> Result<Change, Halt>
     ensures ends { Ends (calls.Nfs (NfsCall.Pathconf object.now)) draft.entry.ctx draft.entry.view result }
     ensures first { EndsFirst (calls.Nfs (NfsCall.Pathconf object.now)) draft.entry.view result }
     ensures only { EndsFirstOnly (calls.Nfs (NfsCall.Pathconf object.now)) draft.entry.view result }
+    ensures at_once { EndsAtOnce (calls.Nfs (NfsCall.Pathconf object.now)) draft.entry.view result }
 {
     let reply = match named(&draft, object.as_slice())? {
         Ok(known) => PathconfReply {

@@ -4,7 +4,7 @@ ghost use Rattle.std.specs.Prelude.{◌≡◌, Err, Ok};
 ghost use Rattle.nfs_machine.specs.declared.calls.Call.TheVariants as calls;
 ghost use Rattle.nfs_objects.specs.Attempt.{Ends, EndsFirst};
 ghost use Rattle.nfs_objects.specs.Begins.{Begins};
-ghost use Rattle.nfs_objects.specs.Only.{EndsFirstOnly};
+ghost use Rattle.nfs_objects.specs.Only.{EndsAtOnce, EndsFirstOnly};
 
 use bytes::Bytes;
 use nfs_inodes::{Known, named};
@@ -18,6 +18,7 @@ pub(crate) fn attempt(draft: Draft<'_>, object: &Bytes) -> Result<Change, Halt>
     ensures ends { Ends (calls.Nfs (NfsCall.Getattr object.now)) draft.entry.ctx draft.entry.view result }
     ensures first { EndsFirst (calls.Nfs (NfsCall.Getattr object.now)) draft.entry.view result }
     ensures only { EndsFirstOnly (calls.Nfs (NfsCall.Getattr object.now)) draft.entry.view result }
+    ensures at_once { EndsAtOnce (calls.Nfs (NfsCall.Getattr object.now)) draft.entry.view result }
 {
     let found = named(&draft, object.as_slice())?;
     let attributes = attributes_in(found);

@@ -10,8 +10,8 @@ ghost use Rattle.nfs_machine.specs.declared.calls.Call.TheVariants as calls;
 ghost use Rattle.nfs_objects.specs.Attempt.{AsksFirst, Attempts, Ends, EndsFirst};
 ghost use Rattle.nfs_objects.specs.Begins.{Begins};
 ghost use Rattle.nfs_objects.specs.Modes.{Suits, modes_of};
-ghost use Rattle.nfs_objects.specs.Only.{AsksFirstOnly, EndsFirstOnly};
-ghost use Rattle.nfs_data.specs.Calls.{is_data_call, reads_attributes};
+ghost use Rattle.nfs_objects.specs.Only.{AnswersAtOnce, AsksFirstOnly, EndsAtOnce, EndsFirstOnly};
+ghost use Rattle.nfs_data.specs.Calls.{answers_at_once, is_data_call, reads_attributes};
 
 mod access;
 mod commit;
@@ -32,13 +32,15 @@ use std::alloc::{AllocError, Global};
 ///
 /// # Errors
 ///
-/// `AllocError` where the memory for what the call comes to was refused.
+/// `AllocError` where the memory for what the call comes to was refused. NULL takes none, and neither do GETATTR,
+/// ACCESS, FSINFO, PATHCONF and COMMIT once the view has the exports and what their handle names.
 pub fn attempt(alloc: Global, call: &NfsCall, ctx: &Ctx, view: &View) -> Result<Outcome, AllocError>
     requires data { is_data_call call.now ≡ true }
     requires suits { Suits (modes_of (calls.Nfs call.now)) view.now }
     ensures attempts { IfOk result (Attempts (calls.Nfs call.now) ctx.now view.now) }
     ensures first { IfOk result (AsksFirst (calls.Nfs call.now) view.now) }
     ensures only { reads_attributes call.now ≡ true → IfOk result (AsksFirstOnly (calls.Nfs call.now) view.now) }
+    ensures at_once { answers_at_once call.now ≡ true → AnswersAtOnce (calls.Nfs call.now) view.now result }
 {
     outcome(ended(alloc, call, ctx, view))
 }
@@ -49,6 +51,7 @@ fn ended<'a>(alloc: Global, call: &'a NfsCall, ctx: &'a Ctx, view: &'a View) -> 
     ensures ends { Ends (calls.Nfs call.now) ctx.now view.now result }
     ensures first { EndsFirst (calls.Nfs call.now) view.now result }
     ensures only { reads_attributes call.now ≡ true → EndsFirstOnly (calls.Nfs call.now) view.now result }
+    ensures at_once { answers_at_once call.now ≡ true → EndsAtOnce (calls.Nfs call.now) view.now result }
 {
     match call {
         NfsCall::Null => null(Draft::new(alloc, ctx, view, READING)),
@@ -92,6 +95,7 @@ fn null(draft: Draft<'_>) -> Result<Change, Halt>
     ensures ends { Ends (calls.Nfs NfsCall.Null) draft.entry.ctx draft.entry.view result }
     ensures first { EndsFirst (calls.Nfs NfsCall.Null) draft.entry.view result }
     ensures only { EndsFirstOnly (calls.Nfs NfsCall.Null) draft.entry.view result }
+    ensures at_once { EndsAtOnce (calls.Nfs NfsCall.Null) draft.entry.view result }
 {
     Ok(draft.answer(Reply::Nfs(NfsReply::Null)))
 }

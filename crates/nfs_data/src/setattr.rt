@@ -8,14 +8,14 @@ ghost use Rattle.nfs_machine.specs.Permission.{ToWrite, is_member, may, mode_lim
 ghost use Rattle.nfs_machine.specs.State.{Content, Socket};
 ghost use Rattle.nfs_machine.specs.Times.{is_client_time, is_server_time, time_of};
 ghost use Rattle.nfs_machine.specs.declared.calls.Call.TheVariants as calls;
-ghost use Rattle.nfs_objects.specs.Attempt.{Ends, EndsFirst, Stops};
+ghost use Rattle.nfs_objects.specs.Attempt.{Ends, EndsFirst};
 ghost use Rattle.nfs_objects.specs.Begins.{Begins};
 ghost use Rattle.nfs_objects.specs.Calls.{named_by};
 ghost use Rattle.nfs_objects.specs.Knows.{Does, Knows, Turns};
 ghost use Rattle.nfs_objects.specs.Modes.{changing};
 ghost use Rattle.nfs_objects.specs.Only.{AsksNothing, EndsFirstOnly};
 ghost use Rattle.nfs_inodes.specs.Known.{Names, shell};
-ghost use Rattle.nfs_inodes.specs.Stops.{KnowsAt, StopsCounting};
+ghost use Rattle.nfs_inodes.specs.Stops.{KnowsAt, StopsAt, counted_at};
 ghost use Rattle.nfs_data.specs.Settings.{IsSetEnd, IsSizeOf, content_found};
 ghost use Rattle.nfs_data.specs.Settings.{content_set, set_found, settings_after, size_set};
 
@@ -73,7 +73,7 @@ fn set(
     requires names { Knows draft.old (λ k. Names draft.old.ctx arguments.now.object k known.now) }
     ensures does { MatchResult result
         (Does draft.old draft.new (IsSetEnd draft.old.ctx arguments.now))
-        (Stops draft.old.modes (named_by (calls.Nfs (NfsCall.Setattr arguments.now))) draft.old.view) }
+        (StopsAt draft.old (named_by (calls.Nfs (NfsCall.Setattr arguments.now)) draft.old.view)) }
     ensures only { is_none arguments.now.attributes.size ≡ true → KnowsAt draft.old known.now.number →
         AsksNothing result × IfOk result (λ _. KnowsAt draft.new known.now.number) }
 {
@@ -94,7 +94,7 @@ fn resize_to(draft: &mut Draft<'_>, number: u64, size: Option<NewSize>) -> Resul
     ensures turns { MatchResult result
         (λ _. Turns draft.old draft.new
         (size_set (time_of draft.old.ctx.moment) number (option_map (λ new. new.size) size)))
-        (StopsCounting draft.old number) }
+        (StopsAt draft.old (counted_at draft.old number)) }
     ensures only { is_none size ≡ true → (draft.new ≡ draft.old) × AsksNothing result }
 {
     let Some(wanted) = size else {

@@ -6,11 +6,12 @@ ghost use Rattle.nfs_machine.specs.Data.{size_limit};
 ghost use Rattle.nfs_machine.specs.DataSteps.{write_count, write_object};
 ghost use Rattle.nfs_machine.specs.State.{Content};
 ghost use Rattle.nfs_machine.specs.declared.calls.Call.TheVariants as calls;
-ghost use Rattle.nfs_objects.specs.Attempt.{Ends, EndsFirst, Stops};
+ghost use Rattle.nfs_objects.specs.Attempt.{Ends, EndsFirst};
 ghost use Rattle.nfs_objects.specs.Begins.{Begins};
 ghost use Rattle.nfs_objects.specs.Calls.{named_by};
 ghost use Rattle.nfs_objects.specs.Knows.{Does, Knows};
 ghost use Rattle.nfs_inodes.specs.Known.{Names, shell};
+ghost use Rattle.nfs_inodes.specs.Stops.{StopsAt};
 ghost use Rattle.nfs_data.specs.Writes.{HasRoom, IsWriteEnd, answer_to, write_found};
 
 use nfs_inodes::{
@@ -48,7 +49,7 @@ fn store(
     requires names { Knows draft.old (λ k. Names draft.old.ctx arguments.now.file k known.now) }
     ensures { MatchResult result
         (Does draft.old draft.new (IsWriteEnd draft.old.ctx arguments.now))
-        (Stops draft.old.modes (named_by (calls.Nfs (NfsCall.Write arguments.now))) draft.old.view) }
+        (StopsAt draft.old (named_by (calls.Nfs (NfsCall.Write arguments.now)) draft.old.view)) }
 {
     let file = match writable(draft.ctx(), exports(draft)?, known, arguments) {
         Ok(file) => file,

@@ -1,6 +1,6 @@
 -- Objects that are counted anew: what that does to the store, and why it may be asked for.
 use Rattle.std.proofs.Common.{◌≡◌, ◌==◌, ℕ, ◌&&◌, true, false, Bool, cond, List, [], ◌∷◌, Option}
-use Rattle.std.proofs.Common.{Some, None, IsSome, IfSome, Result, Ok, Err, IfOk, option_map, inl, inr, refl, sym}
+use Rattle.std.proofs.Common.{Some, None, IsSome, IfSome, Result, Ok, Err, IfOk, option_map, inr, refl, sym}
 use Rattle.std.proofs.Common.{◌∙◌, ap, subst}
 use Rattle.std.proofs.lemmas.Bool.{and_parts}
 use Rattle.std.specs.Cmp.{unsigned_Decides}
@@ -12,11 +12,11 @@ use Rattle.nfs_machine.specs.Handles.{handle_of}
 use Rattle.nfs_machine.specs.State.{Living, State}
 use Rattle.nfs_machine.specs.WellFormed.{IsParent, WellFormed}
 use Rattle.nfs_machine.specs.declared.handle.Handle.{Handle}
-use Rattle.nfs_objects.proofs.Knows.{among-counted, among-next}
+use Rattle.nfs_objects.proofs.Knows.{among-counted, covers-among, stops-wider}
 use Rattle.nfs_objects.proofs.Seen.{written-append}
 use Rattle.nfs_objects.proofs.Summed.{AllFit, counted-sums, stays-counted, usage-lives}
 use Rattle.nfs_objects.proofs.Turns.{same-turns, usage-turns}
-use Rattle.nfs_objects.specs.Calls.{objects_at}
+use Rattle.nfs_objects.specs.Calls.{IsAmong, objects_at, usages_of}
 use Rattle.nfs_objects.specs.Edits.{counted_anew, recounted}
 use Rattle.nfs_objects.specs.Fits.{Fits}
 use Rattle.nfs_objects.specs.Knows.{Possible, Turns}
@@ -24,7 +24,8 @@ use Rattle.nfs_objects.specs.Sound.{Sound}
 use Rattle.nfs_objects.specs.Stands.{Kept, Represents, living_of_inode}
 use Rattle.nfs_objects.specs.Store.{Store, with_writes}
 use Rattle.nfs_objects.specs.Sums.{group_of, in_export, no_usage, shares_of, stored_usage, usage_of}
-use Rattle.nfs_objects.specs.Values.{DraftValue, known_at, with_written}
+use Rattle.nfs_objects.specs.Values.{DraftValue, ViewValue, known_at, with_written}
+use Rattle.nfs_objects.specs.declared.address.Addr.{Addr}
 use Rattle.nfs_objects.specs.declared.address.Addr.TheVariants as addresses
 use Rattle.nfs_objects.specs.declared.object.Object.{Object}
 use Rattle.nfs_objects.specs.declared.usage.Usage.{Usage}
@@ -32,7 +33,7 @@ use Rattle.nfs_inodes.proofs.Standing.{lives-there}
 use Rattle.nfs_inodes.specs.Counts.{IsCount, KeepsInodes}
 use Rattle.nfs_inodes.specs.Known.{is_handle_of}
 use Rattle.nfs_objects.specs.declared.change.Halt.{Halt}
-use Rattle.nfs_inodes.specs.Stops.{BringsUsage, IsBrought, NamesUsage, StopsBringing, StopsNaming, UsageLives}
+use Rattle.nfs_inodes.specs.Stops.{IsOfExport, StopsAt, UsageLives, brought_by}
 use Rattle.nfs_inodes.specs.declared.found.Known.{Known}
 
 -- ---- shares
@@ -118,36 +119,40 @@ usage-lives-first d n none =
     (λ s k w formed o at. record { object = o; lives = at; same = refl })
 
 -- ---- who brings a handle names what the groups of its export use
-usage-among : (handles : List (List ℕ)) (bytes : List ℕ) (h : Handle) → handle_of bytes ≡ Some h
-    → IsBrought bytes handles
-    → NamesUsage (objects_at handles) h.export
-usage-among [] bytes h is brought number = absurd brought
-usage-among (x ∷ handles) bytes h is (inl here) number = among-counted x handles h number (ap handle_of here ∙ is)
-usage-among (x ∷ handles) bytes h is (inr there) number =
-    among-next x handles (addresses.Usage h.export (group_of number)) (usage-among handles bytes h is there number)
-
 pub brings-usage : (bytes : List ℕ) (h : Handle) (x : Known) (admitted : Bool) → handle_of bytes ≡ Some h
     → (admitted && is_handle_of h x) ≡ true
-    → BringsUsage bytes x.export
-brings-usage bytes h x admitted is passes = λ handles brought.
-    subst (NamesUsage (objects_at handles))
-    (sym ((unsigned_Decides x.export h.export).0 ((and_parts (x.generation == h.generation) (x.export == h.export)
-    ((and_parts admitted (is_handle_of h x) passes).1)).1)))
-    (usage-among handles bytes h is brought)
+    → IsOfExport bytes x.export
+brings-usage bytes h x admitted is passes =
+    ap (option_map (λ (y : Handle). y.export)) is
+    ∙ ap Some (sym ((unsigned_Decides x.export h.export).0 ((and_parts (x.generation == h.generation)
+    (x.export == h.export) ((and_parts admitted (is_handle_of h x) passes).1)).1)))
 
 -- the same of the handle that a call brings
 pub brings-as : (handle bytes : List ℕ) (found : Result Known NfsStatus) (x : Known) → bytes ≡ handle
     → found ≡ Ok x
-    → IfOk found (λ y. BringsUsage bytes y.export) → BringsUsage handle x.export
+    → IfOk found (λ y. IsOfExport bytes y.export) → IsOfExport handle x.export
 brings-as handle bytes found x same is brings =
-    subst (λ h. BringsUsage h x.export) same
-    (subst (λ f. IfOk f (λ (y : Known). BringsUsage bytes y.export)) is brings)
+    subst (λ h. IsOfExport h x.export) same
+    (subst (λ f. IfOk f (λ (y : Known). IsOfExport bytes y.export)) is brings)
 
--- so what may be asked for since the call names it stops who brings the handle
-pub usage-brings : (d : DraftValue) (handle : List ℕ) (export : ℕ) (halt : Halt) → BringsUsage handle export
-    → StopsNaming d export halt → StopsBringing d handle halt
-usage-brings d handle export halt brings stops = λ handles brought. stops _
-    (λ number. inr (brings handles brought number))
+pub among-brought : (view : ViewValue) (handle : List ℕ) (export : ℕ) → IsOfExport handle export → (a : Addr) →
+    IsAmong (usages_of export 64) a → IsAmong (brought_by view handle) a
+among-brought view handle export of a among = inr (by (handle_of handle) refl of)
+  where
+    by : (o : Option Handle) → handle_of handle ≡ o → option_map (λ (h : Handle). h.export) o ≡ Some export →
+        IsAmong (objects_at view (handle ∷ [])) a
+    by None is e = cc
+    by (Some h) is e =
+        let same : h.export ≡ export = cc in
+        among-counted view handle [] h is a (subst (λ x. IsAmong (usages_of x 64) a) (sym same) among)
+
+-- so what all groups use may be asked for by who brings the handle
+pub usage-brings : (d : DraftValue) (handle : List ℕ) (export : ℕ) (halt : Halt) → IsOfExport handle export
+    → StopsAt d (usages_of export 64) halt → StopsAt d (brought_by d.view handle) halt
+usage-brings d handle export halt of stops =
+    stops-wider d.modes (usages_of export 64) (brought_by d.view handle) 0 d.view halt
+    (covers-among (usages_of export 64) (brought_by d.view handle) d.view
+    (among-brought d.view handle export of)) stops
 
 -- ---- what every store stands for, by its parts
 -- links and parents are right

@@ -1,43 +1,35 @@
 -- How readers halt, as their callers see it.
 use Rattle.std.proofs.Common.{◌≡◌, ℕ, List, [], ◌∷◌, Option, Some, None, Result, Err, IsSome, inl, inr, option_map, refl, sym, ◌∙◌, ap, subst}
-use Rattle.std.proofs.Common.{Ok}
+use Rattle.std.proofs.Common.{Ok, ◌⊎◌, ◌++◌}
+use Rattle.std.specs.Prelude.{IfErr}
 use Rattle.nfs_machine.specs.Handles.{handle_of}
 use Rattle.nfs_machine.specs.declared.handle.Handle.{Handle}
 use Rattle.nfs_objects.proofs.Exported.{table-lives}
-use Rattle.nfs_objects.proofs.Knows.{among-first, among-next, lacks-stops, turned-stops}
+use Rattle.nfs_objects.proofs.Knows.{among-first, covers-among, covers-both, lacks-stops, stops-wider}
 use Rattle.nfs_objects.proofs.Seen.{unknown-unseen}
-use Rattle.nfs_objects.specs.Asks.{IsFresh, Lacks, Lives}
-use Rattle.nfs_objects.specs.Attempt.{HaltsFirst, object_wanted, unless_seen}
-use Rattle.nfs_objects.specs.Calls.{IsAmong, objects_at}
+use Rattle.nfs_objects.specs.Asks.{Lacks, Lives}
+use Rattle.nfs_objects.specs.Attempt.{HaltsFirst, Stops, object_wanted, unless_seen}
+use Rattle.nfs_objects.specs.Calls.{addresses_of}
 use Rattle.nfs_objects.specs.Knows.{Turns}
 use Rattle.nfs_objects.specs.Only.{AsksNothing}
 use Rattle.nfs_objects.specs.Stands.{Kept}
-use Rattle.nfs_objects.specs.Values.{DraftValue, Seen, known_at, seen_at, shown_at, written_at}
+use Rattle.nfs_objects.specs.Values.{DraftValue, Seen, ViewValue, known_at, seen_at, shown_at, written_at}
 use Rattle.nfs_objects.specs.declared.address.Addr.{Addr}
 use Rattle.nfs_objects.specs.declared.address.Addr.TheVariants as addresses
 use Rattle.nfs_objects.specs.declared.change.Halt.{Halt}
-use Rattle.nfs_objects.specs.declared.change.Halt.TheVariants.{Need, Fresh, Memory, Status}
 use Rattle.nfs_objects.specs.declared.object.Object.{Object}
-use Rattle.nfs_inodes.specs.Stops.{IsBrought, KnowsAt, ReadsAt, ReadsInode, StopsAt, StopsBringing, wanted_first}
+use Rattle.nfs_inodes.specs.Stops.{KnowsAt, ReadsAt, ReadsInode, StopsAt, StopsMaking, brought_by, wanted_first}
 
--- what a draft lacks stops the call
-pub lacking-stops : (d : DraftValue) (a : Addr) (halt : Halt) → Lacks d a halt → StopsAt d a halt
-lacking-stops d a halt lacks = λ named bounded. lacks-stops d named a halt lacks bounded
+-- what a draft lacks is asked for
+pub lacking-stops : (d : DraftValue) (a : Addr) (halt : Halt) → Lacks d a halt → StopsAt d (a ∷ []) halt
+lacking-stops d a halt lacks = lacks-stops d (a ∷ []) 0 a halt lacks (inl (inl refl))
 
--- and so does a number that is wanted
-pub fresh-stops : (d : DraftValue) (a : Addr) (halt : Halt) → IsFresh d halt → StopsAt d a halt
-fresh-stops d a (Need asked) wanted = absurd wanted
-fresh-stops d a (Fresh count) wanted = λ named bounded. wanted
-fresh-stops d a Memory wanted = absurd wanted
-fresh-stops d a (Status e) wanted = absurd wanted
-
--- what stops a changed draft's call stops the call
-pub stops-before : (old new : DraftValue) (op : Kept → Kept) (a : Addr) (halt : Halt) → Turns old new op → StopsAt new a halt → StopsAt old a halt
-stops-before old new op a halt turns stops = λ named bounded.
-    turned-stops old named new op halt turns (stops named (elim bounded [
-      | inl among ↦ inl among
-      | inr lives ↦ inr (subst (λ view. Lives view a) (sym turns.view) lives)
-    ]))
+-- what is asked for with a changed draft might be asked for before
+pub stops-before : (old new : DraftValue) (op : Kept → Kept) (asked : ViewValue → List Addr) (halt : Halt) →
+    Turns old new op → StopsAt new (asked new.view) halt → StopsAt old (asked old.view) halt
+stops-before old new op asked halt turns stops =
+    subst (λ view. Stops old.modes (asked view) 0 view halt) turns.view
+    (subst (λ modes. Stops modes (asked new.view) 0 new.view halt) turns.modes stops)
 
 -- ---- what is asked for first
 module _ (d : DraftValue) (a : Addr) where
@@ -113,6 +105,12 @@ pub known-never_lacking : {A : Type 0} (d : DraftValue) (a : Addr) (r : Result A
 known-never_lacking d a (Ok x) known reads = tt
 known-never_lacking d a (Err halt) known lacks = absurd (never-both (known_at d a) lacks.unknown known)
 
+-- so it ends there
+pub known-ends : {A : Type 0} (d : DraftValue) (a : Addr) (r : Result A Halt) → IsSome (known_at d a)
+    → ReadsAt d a r → IfErr r (λ halt. ⊥)
+known-ends d a (Ok x) known reads = tt
+known-ends d a (Err halt) known lacks = never-both (known_at d a) lacks.unknown known
+
 pub reads-at : {A : Type 0} (d : DraftValue) (n : ℕ) (r : Result A Halt) → IsSome (known_at d addresses.Exports)
     → ReadsInode d n r → ReadsAt d (addresses.Inode n) r
 reads-at d n (Ok x) known reads = reads.object
@@ -124,22 +122,48 @@ pub known-never_asked : {A : Type 0} (d : DraftValue) (n : ℕ) (r : Result A Ha
 known-never_asked d n r known reads = known-never_lacking d (addresses.Inode n) r known.object
     (reads-at d n r known.exports reads)
 
--- each store has exports, so a lack of them stops each call
-pub exports-stop-at : (d : DraftValue) (a : Addr) (halt : Halt) → StopsAt d addresses.Exports halt →
-    StopsAt d a halt
-exports-stop-at d a halt stops = λ named bounded. stops named (inr (table-lives d.view))
+-- each store has exports, so each call may ask for them
+pub exports-stop-at : (d : DraftValue) (asked : List Addr) (halt : Halt) →
+    StopsAt d (addresses.Exports ∷ []) halt → StopsAt d asked halt
+exports-stop-at d asked halt stops =
+    stops-wider d.modes (addresses.Exports ∷ []) asked 0 d.view halt (inr (table-lives d.view), tt) stops
 
 -- ---- a handle that the call brings
-pub brought-among : (handles : List (List ℕ)) (bytes : List ℕ) (h : Handle) → handle_of bytes ≡ Some h → IsBrought bytes handles
-    → IsAmong (objects_at handles) (addresses.Inode h.fileid)
-brought-among [] bytes h is brought = absurd brought
-brought-among (x ∷ handles) bytes h is (inl here) = among-first x handles h (ap handle_of here ∙ is)
-brought-among (x ∷ handles) bytes h is (inr there) = among-next x handles (addresses.Inode h.fileid) (brought-among handles bytes h is there)
+pub exports-stop : (d : DraftValue) (bytes : List ℕ) (halt : Halt) → StopsAt d (addresses.Exports ∷ []) halt →
+    StopsAt d (brought_by d.view bytes) halt
+exports-stop d bytes halt stops = exports-stop-at d (brought_by d.view bytes) halt stops
 
-pub exports-stop : (d : DraftValue) (bytes : List ℕ) (halt : Halt) → StopsAt d addresses.Exports halt → StopsBringing d bytes halt
-exports-stop d bytes halt stops = λ handles brought. stops (addresses.Exports ∷ objects_at handles) (inl (inl refl))
+pub object-stops : (d : DraftValue) (bytes : List ℕ) (h : Handle) (halt : Halt) → handle_of bytes ≡ Some h →
+    StopsAt d (addresses_of d.view h.fileid) halt → StopsAt d (brought_by d.view bytes) halt
+object-stops d bytes h halt is stops =
+    stops-wider d.modes (addresses_of d.view h.fileid) (brought_by d.view bytes) 0 d.view halt
+    (covers-among (addresses_of d.view h.fileid) (brought_by d.view bytes) d.view
+    (λ a among. inr (among-first d.view bytes [] h is a among))) stops
 
-pub object-stops : (d : DraftValue) (bytes : List ℕ) (h : Handle) (halt : Halt) → handle_of bytes ≡ Some h → StopsAt d (addresses.Inode h.fileid) halt
-    → StopsBringing d bytes halt
-object-stops d bytes h halt is stops = λ handles brought.
-    stops (addresses.Exports ∷ objects_at handles) (inl (inr (brought-among handles bytes h is brought)))
+-- ---- what may be asked for whatever the call names
+-- an object that lives may be read by each call
+pub lives-stops : (d : DraftValue) (n : ℕ) (halt : Halt) → Lives d.view (addresses.Inode n) →
+    StopsAt d (addresses_of d.view n) halt → StopsAt d [] halt
+lives-stops d n halt lives stops = stops-wider d.modes (addresses_of d.view n) [] 0 d.view halt (inr lives, tt) stops
+
+pub both-stop : (d : DraftValue) (n m : ℕ) (asked : List Addr) (halt : Halt) → Lives d.view (addresses.Inode n) →
+    Lives d.view (addresses.Inode m) → StopsAt d (addresses_of d.view n ++ addresses_of d.view m) halt →
+    StopsAt d asked halt
+both-stop d n m asked halt first second stops =
+    stops-wider d.modes (addresses_of d.view n ++ addresses_of d.view m) asked 0 d.view halt
+    (covers-both asked d.view (addresses_of d.view n) (addresses_of d.view m) (inr first, tt) (inr second, tt)) stops
+
+-- an object that the draft knows is not what it lacks
+pub known-stops : (d : DraftValue) (n : ℕ) (halt : Halt) → IsSome (known_at d (addresses.Inode n)) →
+    Lacks d addresses.Exports halt ⊎ Lacks d (addresses.Inode n) halt → StopsAt d [] halt
+known-stops d n halt some (inl lacks) =
+    lacks-stops d [] 0 addresses.Exports halt lacks (inr (table-lives d.view))
+known-stops d n halt some (inr lacks) = absurd (never-both (known_at d (addresses.Inode n)) lacks.unknown some)
+
+pub any-stops : (d : DraftValue) (asked : List Addr) (halt : Halt) → StopsAt d [] halt → StopsAt d asked halt
+any-stops d asked halt stops = stops-wider d.modes [] asked 0 d.view halt tt stops
+
+-- a call that makes an object may ask for what another may
+pub makes-stops : (d : DraftValue) (asked : List Addr) (halt : Halt) → StopsAt d asked halt → StopsMaking d asked halt
+makes-stops d asked halt stops =
+    stops-wider d.modes asked asked 1 d.view halt (covers-among asked asked d.view (λ a among. among)) stops

@@ -15,15 +15,17 @@ use Rattle.nfs_machine.specs.Data.{resized, written}
 use Rattle.nfs_machine.specs.Checks.{DirectoryEntries, bytes_in, entries_in}
 use Rattle.nfs_machine.specs.RemoveSteps.{without}
 use Rattle.nfs_machine.specs.Shown.{touched, with_content, with_object}
-use Rattle.nfs_machine.specs.State.{Entry, Living, State}
+use Rattle.nfs_machine.specs.State.{Entry, Living}
 use Rattle.nfs_machine.specs.State as machine
 use Rattle.nfs_machine.specs.Times.{touch}
 use Rattle.nfs_objects.proofs.Exported.{inode-stands}
 use Rattle.nfs_objects.proofs.FileParts.{resized-length, written-length}
+use Rattle.nfs_objects.proofs.Knows.{among-behind, among-front, among-groups, covers-among, stops-wider}
 use Rattle.nfs_objects.proofs.Promised.{turns-both, turns-none}
 use Rattle.nfs_objects.proofs.Seen.{shown-stands, written-append}
 use Rattle.nfs_objects.proofs.Turns.{edit-turns, free-turns, new-turns}
-use Rattle.nfs_objects.specs.Asks.{IsFirst, Lives}
+use Rattle.nfs_objects.specs.Asks.{IsFirst}
+use Rattle.nfs_objects.specs.Calls.{IsAmong, addresses_of, usages_of}
 use Rattle.nfs_objects.specs.Drafts.{MayGive}
 use Rattle.nfs_objects.proofs.Tallies.{get-removed}
 use Rattle.nfs_objects.specs.Edits.{counted_anew, edited, freed, recounted, with_living, with_new}
@@ -31,7 +33,7 @@ use Rattle.nfs_objects.specs.Entries.{leaf_of}
 use Rattle.nfs_objects.specs.Fits.{Fits, vacant}
 use Rattle.nfs_objects.specs.Knows.{Knows, ShowsExport, Turns}
 use Rattle.nfs_objects.specs.Stands.{IsFitting, Kept, Represents, content_of, living_in, living_of_inode}
-use Rattle.nfs_objects.specs.Stands.{parent_in}
+use Rattle.nfs_objects.specs.Stands.{exports_of, inode_in, parent_in}
 use Rattle.nfs_objects.specs.Store.{Store, with_writes}
 use Rattle.nfs_objects.specs.Sums.{exchanged, exchanged_at, group_of, in_export, is_same_usage, moved, no_usage}
 use Rattle.nfs_objects.specs.Sums.{one_using, shares_of}
@@ -56,7 +58,7 @@ use Rattle.nfs_inodes.specs.Known.{HasInode}
 use Rattle.nfs_inodes.specs.Sets.{attributes_changed, with_settings}
 use Rattle.nfs_inodes.specs.declared.setting.Settings.{Settings}
 use Rattle.nfs_inodes.specs.Makes.{IsFree, bytes_changed, changed_at, changed_with, name_added, name_taken, removed, with_bytes, with_name, without_name}
-use Rattle.nfs_inodes.specs.Stops.{StopsAt, StopsCounting, StopsMaking}
+use Rattle.nfs_inodes.specs.Stops.{StopsAt, StopsMaking, counted_at, group_at, inode_at}
 use Rattle.nfs_inodes.specs.declared.usage.Share.{Share}
 
 -- the same change, in each store
@@ -374,33 +376,67 @@ module _ (d mid new : DraftValue) (n : ℕ) (i j : Inode) (old content : List �
       (bytes-turns mid n new i j old content now change (has-kept d mid n (Some i) keeps has) was is made put-is fits))
 
 -- ---- why it may be asked for
-pub object-stops : (d : DraftValue) (n : ℕ) (halt : Halt) → StopsAt d (addresses.Inode n) halt
-    → StopsCounting d n halt
-object-stops d n halt stops = λ named bounded lives. stops named bounded
+pub object-stops : (d : DraftValue) (n : ℕ) (halt : Halt) → StopsAt d (addresses_of d.view n) halt
+    → StopsAt d (counted_at d n) halt
+object-stops d n halt stops =
+    stops-wider d.modes (addresses_of d.view n) (counted_at d n) 0 d.view halt
+    (covers-among (addresses_of d.view n) (counted_at d n) d.view
+    (among-front (addresses_of d.view n) (group_at n (inode_at d n)))) stops
 
-pub making-stops : (d : DraftValue) (a : Addr) (export : ℕ) (halt : Halt) → StopsAt d a halt
-    → StopsMaking d a export halt
-making-stops d a export halt stops = λ named bounded usage. stops named bounded
+pub making-stops : (d : DraftValue) (n export : ℕ) (halt : Halt) → StopsAt d (addresses_of d.view n) halt
+    → StopsMaking d (addresses_of d.view n ++ usages_of export 64) halt
+making-stops d n export halt stops =
+    stops-wider d.modes (addresses_of d.view n) (addresses_of d.view n ++ usages_of export 64) 1 d.view halt
+    (covers-among (addresses_of d.view n) (addresses_of d.view n ++ usages_of export 64) d.view
+    (among-front (addresses_of d.view n) (usages_of export 64))) stops
 
-pub counting-stops : (old mid : DraftValue) (op : Kept → Kept) (a : Addr) (export number : ℕ) (halt : Halt)
+pub counting-stops : (old mid : DraftValue) (op : Kept → Kept) (n export number : ℕ) (halt : Halt)
     → Turns old mid op
-    → StopsAt mid (addresses.Usage export (group_of number)) halt → StopsMaking old a export halt
-counting-stops old mid op a export number halt turns stops = λ named bounded usage.
-    stops-before old mid op (addresses.Usage export (group_of number)) halt turns stops named (inl (usage number))
+    → StopsAt mid (addresses.Usage export (group_of number) ∷ []) halt
+    → StopsMaking old (addresses_of old.view n ++ usages_of export 64) halt
+counting-stops old mid op n export number halt turns stops =
+    stops-wider old.modes (addresses.Usage export (group_of number) ∷ [])
+    (addresses_of old.view n ++ usages_of export 64) 1 old.view halt (
+      inl (among-behind (addresses_of old.view n) (usages_of export 64) (addresses.Usage export (group_of number))
+          (among-groups export number)),
+      tt,
+    ) (stops-before old mid op (λ view. addresses.Usage export (group_of number) ∷ []) halt turns stops)
 
 pub all-stops : {A : Type 0} (d : DraftValue) (n : ℕ) (P : A → Type 0) (r : Result A Halt)
-    → MatchResult r P (StopsAt d (addresses.Inode n))
-    → MatchResult r P (StopsCounting d n)
+    → MatchResult r P (StopsAt d (addresses_of d.view n))
+    → MatchResult r P (StopsAt d (counted_at d n))
 all-stops d n P (Ok x) does = does
 all-stops d n P (Err halt) stops = object-stops d n halt stops
 
+-- the inode that the draft knows there
+inode-known : (d : DraftValue) (n : ℕ) (i : Option Inode) → HasInode d n i → inode_at d n ≡ i
+inode-known d n i has =
+    ap (λ (e : Option (Option Object)). elim e [
+      | None ↦ None
+      | Some exports ↦ elim (known_at d (addresses.Inode n)) [
+        | None ↦ None
+        | Some object ↦ inode_in (exports_of exports) object
+      ]
+    ]) has.living.known
+    ∙ ap (λ (o : Option (Option Object)). elim o [
+      | None ↦ None
+      | Some object ↦ inode_in (exports_of has.living.object) object
+    ]) has.known
+    ∙ ap (λ es. inode_in es has.object) (sym has.living.is) ∙ sym has.is
+
 pub usage-stops : (d : DraftValue) (n : ℕ) (i : Inode) (share : Share) (halt : Halt) → HasInode d n (Some i)
     → IsShareOf i share
-    → StopsAt d (addresses.Usage share.export (group_of n)) halt → StopsCounting d n halt
-usage-stops d n i share halt has shares stops = λ named bounded lives.
-    stops named (inr (subst (λ e. Lives d.view (addresses.Usage e (group_of n)))
-    (sym (ap (λ (x : Share). x.export) shares))
-    (lives i has)))
+    → StopsAt d (addresses.Usage share.export (group_of n) ∷ []) halt → StopsAt d (counted_at d n) halt
+usage-stops d n i share halt has shares stops =
+    let group : IsAmong (group_at n (Some i)) (addresses.Usage share.export (group_of n)) =
+    inl (ap (λ (x : Share). addresses.Usage x.export (group_of n)) (sym shares)) in
+    stops-wider d.modes (addresses.Usage share.export (group_of n) ∷ []) (counted_at d n) 0 d.view halt (
+      inl (among-behind (addresses_of d.view n) (group_at n (inode_at d n))
+          (addresses.Usage share.export (group_of n))
+          (subst (λ o. IsAmong (group_at n o) (addresses.Usage share.export (group_of n)))
+          (sym (inode-known d n (Some i) has)) group)),
+      tt,
+    ) stops
 
 -- what stays is counted as it was
 same-counts : (d : DraftValue) (n : ℕ) (op : Kept → Kept) → Turns d d op
@@ -484,8 +520,8 @@ uncounted-some d mid n i share none has shares is counts =
 pub uncounted-result : {A : Type 0} (d mid : DraftValue) (n : ℕ) (i : Inode) (share : Share) (none : Usage)
     (r : Result A Halt) → HasInode d n (Some i) → IsShareOf i share
     → none ≡ no_usage → MatchResult r (λ _. Turns d mid (counted n share.export share.usage none))
-    (StopsAt d (addresses.Usage share.export (group_of n)))
-    → MatchResult r (λ _. Turns d mid (uncounted n)) (StopsCounting d n)
+    (StopsAt d (addresses.Usage share.export (group_of n) ∷ []))
+    → MatchResult r (λ _. Turns d mid (uncounted n)) (StopsAt d (counted_at d n))
 uncounted-result d mid n i share none (Ok x) has shares is counts = uncounted-some d mid n i share none has
     shares is counts
 uncounted-result d mid n i share none (Err halt) has shares is stops = usage-stops d n i share halt has shares stops

@@ -5,15 +5,15 @@ use Rattle.std.proofs.Common.{inl, length, option_map, refl, sym, ◌∙◌, ap,
 use Rattle.std.specs.Cmp.{unsigned_Decides}
 use Rattle.std.specs.List.{AllByRecursion}
 use Rattle.nfs_objects.proofs.Grouped.{all-groups, first_groups, next-group, no-groups}
-use Rattle.nfs_objects.proofs.Knows.{lacks-stops}
+use Rattle.nfs_objects.proofs.Knows.{among-usages, lacks-stops}
 use Rattle.nfs_objects.proofs.Seen.{all-append, all-map, unknown-unseen}
 use Rattle.nfs_objects.proofs.Turns.{usage-known}
 use Rattle.nfs_objects.specs.Asks.{Asks, EachOnce, Lacks, MayAsk}
-use Rattle.nfs_objects.specs.Calls.{IsAmong}
+use Rattle.nfs_objects.specs.Calls.{usages_of}
 use Rattle.nfs_objects.specs.Knows.{Knows}
 use Rattle.nfs_objects.specs.Modes.{mode_at}
 use Rattle.nfs_objects.specs.Stands.{lives_in}
-use Rattle.nfs_objects.specs.Sums.{export_usage, group_of, no_usage, together, usage_of}
+use Rattle.nfs_objects.specs.Sums.{export_usage, no_usage, together, usage_of}
 use Rattle.nfs_objects.specs.Values.{DraftValue, is_addr, known_at}
 use Rattle.nfs_objects.specs.declared.address.Addr.{Addr}
 use Rattle.nfs_objects.specs.declared.address.Addr.TheVariants as addresses
@@ -21,7 +21,7 @@ use Rattle.nfs_objects.specs.declared.change.Halt.{Halt}
 use Rattle.nfs_objects.specs.declared.modes.Mode.{Mode}
 use Rattle.nfs_objects.specs.declared.usage.Usage.{Usage}
 use Rattle.nfs_inodes.specs.Counts.{AreUnread, IsUnread}
-use Rattle.nfs_inodes.specs.Stops.{NamesUsage, StopsNaming}
+use Rattle.nfs_inodes.specs.Stops.{StopsAt}
 
 pub not-empty : {X : Type 0} (xs : List X) (n : ℕ) → n ≡ length xs → false ≡ (n == 0) → xs ≢ []
 not-empty xs n len other none =
@@ -82,30 +82,26 @@ module _ (d : DraftValue) (export : ℕ) where
         (record { group = count; below = omega arith; address = refl; unknown = unknown });
   })
 
-  may-ask : (named : List Addr) → NamesUsage named export → (a : Addr × Mode) → IsUnread d export 64 a
-      → MayAsk d.modes named d.view a
-  may-ask named names a is = subst (MayAsk d.modes named d.view) (sym is.address) (record {
+  may-ask : (a : Addr × Mode) → IsUnread d export 64 a → MayAsk d.modes (usages_of export 64) d.view a
+  may-ask a is = subst (MayAsk d.modes (usages_of export 64) d.view) (sym is.address) (record {
     unseen = unknown-unseen d (addresses.Usage export is.group) is.unknown;
     mode = refl;
-    bounded = inl (subst (λ g. IsAmong named (addresses.Usage export g))
-        (let below = is.below in let same : group_of is.group ≡ is.group = omega (arith, below) in same)
-        (names is.group));
+    bounded = inl (among-usages export 64 is.group is.below);
   })
 
   pub unread-asks : (asked : List (Addr × Mode)) → AreUnread d export 64 asked → asked ≢ []
-      → (named : List Addr)
-      → NamesUsage named export → Asks d.modes named d.view asked
-  unread-asks asked are some named names = record {
+      → Asks d.modes (usages_of export 64) d.view asked
+  unread-asks asked are some = record {
     some = some;
     once = are.once;
-    each = all-map (IsUnread d export 64) (MayAsk d.modes named d.view) (may-ask named names) asked are.each;
+    each = all-map (IsUnread d export 64) (MayAsk d.modes (usages_of export 64) d.view) may-ask asked are.each;
   }
 
   pub group-stops : (group : ℕ) (halt : Halt) → group < 64 → Lacks d (addresses.Usage export group) halt
-      → StopsNaming d export halt
-  group-stops group halt below lacks = λ named names. lacks-stops d named (addresses.Usage export group) halt lacks
-      (inl (subst (λ g. IsAmong named (addresses.Usage export g))
-      (let same : group_of group ≡ group = omega (arith, below) in same) (names group)))
+      → StopsAt d (usages_of export 64) halt
+  group-stops group halt below lacks =
+      lacks-stops d (usages_of export 64) 0 (addresses.Usage export group) halt lacks
+      (inl (among-usages export 64 group below))
 
   -- ---- the sums
   -- so much do the first so many groups use, if the export lives

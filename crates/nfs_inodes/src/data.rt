@@ -4,6 +4,7 @@ ghost use Rattle.std.specs.Prelude.{◌≡◌, ℕ, [], IfOk, MatchResult};
 ghost use Rattle.nfs_machine.specs.Checks.{text_in};
 ghost use Rattle.nfs_machine.specs.Data.{read_at};
 ghost use Rattle.nfs_machine.specs.DataSteps.{verifier_of};
+ghost use Rattle.nfs_objects.specs.Calls.{addresses_of};
 ghost use Rattle.nfs_objects.specs.Knows.{Knows};
 ghost use Rattle.nfs_objects.specs.Stands.{content_of};
 ghost use Rattle.nfs_inodes.specs.Known.{bytes_of, content_at};
@@ -33,7 +34,7 @@ pub fn read(draft: &Draft<'_>, file: &File, offset: u64, count: u32) -> Result<R
     ensures { MatchResult result
         (λ found. Knows draft.now (λ k.
         found ≡ read_at (bytes_of (content_at k.state file.now.known.number)) offset count))
-        (StopsAt draft.now (Addr.Inode file.now.known.number)) }
+        (StopsAt draft.now (addresses_of draft.now.view file.now.known.number)) }
 {
     match inode(draft, file.known.number)? {
         Some(inode) => Ok(read_content(draft.alloc(), &inode.content, offset, count)?),
@@ -91,7 +92,7 @@ fn nothing_read() -> ReadData
 pub fn text(draft: &Draft<'_>, known: &Known) -> Result<Result<Bytes, NfsStatus>, Halt>
     ensures { MatchResult result
         (λ text. Knows draft.now (λ k. text_in (content_at k.state known.now.number) ≡ text))
-        (StopsAt draft.now (Addr.Inode known.now.number)) }
+        (StopsAt draft.now (addresses_of draft.now.view known.now.number)) }
 {
     match inode(draft, known.number)? {
         Some(inode) => Ok(text_in(&inode.content)?),

@@ -7,6 +7,7 @@ ghost use Rattle.nfs_machine.specs.Attributes.{entries_of};
 ghost use Rattle.nfs_machine.specs.Checks.{entry_of};
 ghost use Rattle.nfs_machine.specs.NameSteps.{leads_to};
 ghost use Rattle.nfs_objects.specs.Asks.{Lives};
+ghost use Rattle.nfs_objects.specs.Calls.{addresses_of};
 ghost use Rattle.nfs_objects.specs.Knows.{Knows};
 ghost use Rattle.nfs_objects.specs.Modes.{led_at};
 ghost use Rattle.nfs_objects.specs.Stands.{content_of, parent_in};
@@ -30,7 +31,7 @@ pub fn entry(draft: &Draft<'_>, directory: &Directory, name: &[u8]) -> Result<Op
     ensures entry { MatchResult result
         (λ number. Knows draft.now (λ k. option_map (λ e. e.number)
         (entry_of (entries_of (content_at k.state directory.now.known.number)) name.now) ≡ number))
-        (StopsAt draft.now (Addr.Inode directory.now.known.number)) }
+        (StopsAt draft.now (addresses_of draft.now.view directory.now.known.number)) }
     ensures lives { IfOk result (λ number. IfSome number (λ n. Lives draft.now.view (Addr.Inode n))) }
     ensures led { IfOk result (λ number. IfSome number (λ n.
         led_at draft.now.view directory.now.known.number name.now ≡ Some n)) }
@@ -45,7 +46,7 @@ pub fn entry(draft: &Draft<'_>, directory: &Directory, name: &[u8]) -> Result<Op
 pub(crate) fn parent(draft: &Draft<'_>, number: u64) -> Result<u64, Halt>
     ensures parent { MatchResult result
         (λ parent. Knows draft.now (λ k. k.parents number ≡ parent))
-        (StopsAt draft.now (Addr.Inode number)) }
+        (StopsAt draft.now (addresses_of draft.now.view number)) }
     ensures reads { ReadsInode draft.now number result }
 {
     match inode(draft, number)? {
@@ -76,7 +77,7 @@ pub fn leads_to(draft: &Draft<'_>, directory: &Directory, name: &[u8]) -> Result
         (λ number. Knows draft.now (λ k.
         leads_to directory.now.known.number (k.parents directory.now.known.number)
         (entries_of (content_at k.state directory.now.known.number)) name.now ≡ ok_or number status.NoEntry))
-        (StopsAt draft.now (Addr.Inode directory.now.known.number)) }
+        (StopsAt draft.now (addresses_of draft.now.view directory.now.known.number)) }
     ensures lives { IfOk result (λ number. IfSome number (λ n. Lives draft.now.view (Addr.Inode n))) }
 {
     if is_self(name) {
@@ -97,7 +98,7 @@ pub fn is_empty(draft: &Draft<'_>, directory: &Directory) -> Result<bool, Halt>
     ensures { MatchResult result
         (λ empty. Knows draft.now (λ k.
         (length (entries_of (content_at k.state directory.now.known.number)) == 0) ≡ empty))
-        (StopsAt draft.now (Addr.Inode directory.now.known.number)) }
+        (StopsAt draft.now (addresses_of draft.now.view directory.now.known.number)) }
 {
     match inode(draft, directory.known.number)? {
         Some(inode) => Ok(is_empty_in(&inode.content)),
@@ -124,7 +125,7 @@ pub fn next_cookie(draft: &Draft<'_>, directory: &Directory) -> Result<Option<u6
     ensures { MatchResult result
         (λ cookie. Knows draft.now (λ k.
         next_cookie (last_cookie_of (content_at k.state directory.now.known.number)) ≡ cookie))
-        (StopsAt draft.now (Addr.Inode directory.now.known.number)) }
+        (StopsAt draft.now (addresses_of draft.now.view directory.now.known.number)) }
 {
     Ok(last_cookie(draft, directory)?.checked_add(1))
 }
@@ -133,7 +134,7 @@ pub fn next_cookie(draft: &Draft<'_>, directory: &Directory) -> Result<Option<u6
 fn last_cookie(draft: &Draft<'_>, directory: &Directory) -> Result<u64, Halt>
     ensures { MatchResult result
         (λ last. Knows draft.now (λ k. last_cookie_of (content_at k.state directory.now.known.number) ≡ last))
-        (StopsAt draft.now (Addr.Inode directory.now.known.number)) }
+        (StopsAt draft.now (addresses_of draft.now.view directory.now.known.number)) }
 {
     match inode(draft, directory.known.number)? {
         Some(inode) => Ok(last_cookie_in(&inode.content)),

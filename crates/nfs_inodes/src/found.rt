@@ -10,14 +10,14 @@ ghost use Rattle.nfs_machine.specs.Shown.{attributes_at, handle_at};
 ghost use Rattle.nfs_machine.specs.State.{Socket};
 ghost use Rattle.nfs_objects.specs.Asks.{Lives};
 ghost use Rattle.nfs_objects.specs.Attempt.{HaltsFirst, unless_seen};
+ghost use Rattle.nfs_objects.specs.Calls.{addresses_of};
 ghost use Rattle.nfs_objects.specs.Knows.{Knows, ShowsExport};
 ghost use Rattle.nfs_objects.specs.Only.{AsksNothing};
 ghost use Rattle.nfs_objects.specs.Stands.{inode_in};
 ghost use Rattle.nfs_objects.specs.Values.{known_at};
 ghost use Rattle.nfs_inodes.specs.Known.{HasExports, HasInode, HasNumber, IsKnownOf, IsObject, Means};
 ghost use Rattle.nfs_inodes.specs.Known.{is_handle_of, shell, weak_of};
-ghost use Rattle.nfs_inodes.specs.Stops.{BringsUsage, ReadsAt, ReadsInode, StopsAt, StopsBringing};
-ghost use Rattle.nfs_inodes.specs.Stops.{wanted_first};
+ghost use Rattle.nfs_inodes.specs.Stops.{IsOfExport, ReadsAt, ReadsInode, StopsAt, brought_by, wanted_first};
 
 use crate::attributes::{device, file_type, size, used};
 use bytes::Bytes;
@@ -47,7 +47,7 @@ pub struct Known {
 pub fn exports<'d>(draft: &'d Draft<'_>) -> Result<&'d [LivingExport], Halt>
     ensures exports { MatchResult result
         (λ list. Knows draft.now (λ k. k.state.exports ≡ list.now))
-        (StopsAt draft.now Addr.Exports) }
+        (StopsAt draft.now (Addr.Exports ∷ [])) }
     ensures table { IfOk result (λ list. HasExports draft.now list.now) }
     ensures reads { ReadsAt draft.now Addr.Exports result }
     ensures first { draft.now.writes ≡ [] →
@@ -71,7 +71,7 @@ pub(crate) fn export_at(exports: &[LivingExport], number: u32) -> Option<&Living
 pub fn object(draft: &Draft<'_>, number: u64) -> Result<Option<Known>, Halt>
     ensures object { MatchResult result
         (λ x. Knows draft.now (λ k. IsObject k.state number x))
-        (StopsAt draft.now (Addr.Inode number)) }
+        (StopsAt draft.now (addresses_of draft.now.view number)) }
     ensures number { IfOk result (λ x. IfSome x (λ x. x.number ≡ number)) }
     ensures exported { IfOk result (λ x. IfSome x (λ x. ShowsExport draft.now x.export)) }
     ensures reads { ReadsInode draft.now number result }
@@ -86,7 +86,7 @@ pub fn object(draft: &Draft<'_>, number: u64) -> Result<Option<Known>, Halt>
 pub(crate) fn inode<'d>(draft: &'d Draft<'_>, number: u64) -> Result<Option<&'d Inode>, Halt>
     ensures inode { MatchResult result
         (λ inode. HasInode draft.now number (option_copied inode))
-        (StopsAt draft.now (Addr.Inode number)) }
+        (StopsAt draft.now (addresses_of draft.now.view number)) }
     ensures reads { ReadsInode draft.now number result }
 {
     let exports = exports(draft)?;
@@ -111,7 +111,7 @@ fn exported<'d>(exports: &[LivingExport], known: &'d Option<Arc<Object>>) -> Opt
 pub fn shown(draft: &Draft<'_>, number: u64) -> Result<Option<Attributes>, Halt>
     ensures { MatchResult result
         (λ shown. Knows draft.now (λ k. attributes_at k.state number ≡ shown))
-        (StopsAt draft.now (Addr.Inode number)) }
+        (StopsAt draft.now (addresses_of draft.now.view number)) }
 {
     match object(draft, number)? {
         Some(known) => Ok(Some(known.attributes)),
@@ -128,7 +128,7 @@ pub fn wcc(draft: &Draft<'_>, before: &Known) -> Result<Wcc, Halt>
     ensures { MatchResult result
         (λ wcc. Knows draft.now (λ k. wcc ≡ record
         { before = Some (weak_of before.now); after = attributes_at k.state before.now.number }))
-        (StopsAt draft.now (Addr.Inode before.now.number)) }
+        (StopsAt draft.now (addresses_of draft.now.view before.now.number)) }
 {
     let after = shown(draft, before.number)?;
     Ok(wcc_of(before, after))
@@ -156,11 +156,12 @@ pub fn named(draft: &Draft<'_>, handle: &[u8]) -> Result<Result<Known, NfsStatus
     ensures lives { IfOk result (λ found. IfOk found (λ x. Lives draft.now.view (Addr.Inode x.number))) }
     ensures number { IfOk result (λ found. IfOk found (λ x. HasNumber handle.now x.number)) }
     ensures exported { IfOk result (λ found. IfOk found (λ x. ShowsExport draft.now x.export)) }
-    ensures usage { IfOk result (λ found. IfOk found (λ x. BringsUsage handle.now x.export)) }
-    ensures stops { IfErr result (StopsBringing draft.now handle.now) }
+    ensures usage { IfOk result (λ found. IfOk found (λ x. IsOfExport handle.now x.export)) }
+    ensures stops { IfErr result (StopsAt draft.now (brought_by draft.now.view handle.now)) }
     ensures first { HaltsFirst draft.now.modes draft.now.view (wanted_first draft.now.view (handle.now ∷ []))
         result }
     ensures once { wanted_first draft.now.view (handle.now ∷ []) ≡ None → AsksNothing result }
+    ensures at_once { wanted_first draft.now.view (handle.now ∷ []) ≡ None → IfErr result (λ halt. ⊥) }
     ensures reads { IfOk result (λ found. IsSome (known_at draft.now Addr.Exports)
         × IfOk found (λ x. IsSome (known_at draft.now (Addr.Inode x.number)))) }
 {

@@ -3,9 +3,9 @@
 ghost use Rattle.std.specs.Prelude.{◌≡◌, [], ◌∷◌, ◌++◌, List, IfErr, OnOk, take};
 ghost use Rattle.nfs_machine.specs.State.{Entry};
 ghost use Rattle.nfs_objects.specs.Asks.{Lives};
-ghost use Rattle.nfs_objects.specs.Attempt.{Stops};
 ghost use Rattle.nfs_objects.specs.Values.{DraftValue};
 ghost use Rattle.nfs_inodes.specs.Gathers.{AsksAll, EachKnown, EachLives, Gathers};
+ghost use Rattle.nfs_inodes.specs.Stops.{StopsAt};
 
 use crate::listing::EntriesLeft;
 use indexmap::IndexSet;
@@ -21,8 +21,7 @@ pub fn read_objects(draft: &Draft<'_>, left: &EntriesLeft<'_>, count: usize) -> 
     requires { EachLives draft.now.view left.now }
     ensures known { OnOk result (EachKnown draft.now (take count left.now)) }
     ensures asks { IfErr result (AsksAll draft.now (take count left.now)) }
-    ensures stops { IfErr result (λ halt. (named : List Addr) →
-        Stops draft.now.modes named draft.now.view halt) }
+    ensures stops { IfErr result (StopsAt draft.now []) }
 {
     let mut wishes = Wishes::new(draft.alloc());
     for index in 0..count {
@@ -71,7 +70,7 @@ impl Wishes {
         ensures asks { (d : DraftValue) (entries : List Entry) → Gathers d entries self →
             IfErr result (AsksAll d entries) }
         ensures stops { (d : DraftValue) (entries : List Entry) → Gathers d entries self →
-            IfErr result (λ halt. (named : List Addr) → Stops d.modes named d.view halt) }
+            IfErr result (StopsAt d []) }
     {
         if self.asked.is_empty() {
             Ok(())

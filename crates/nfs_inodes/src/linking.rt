@@ -1,11 +1,12 @@
 //! Names that objects get beside those that they have (RFC 1813, 3.3.15).
 
-ghost use Rattle.std.specs.Prelude.{◌≡◌, MatchResult};
+ghost use Rattle.std.specs.Prelude.{◌≡◌, ◌++◌, MatchResult};
 ghost use Rattle.nfs_machine.specs.Times.{time_of};
+ghost use Rattle.nfs_objects.specs.Calls.{addresses_of};
 ghost use Rattle.nfs_objects.specs.Knows.{Turns};
 ghost use Rattle.nfs_objects.specs.Modes.{changing};
 ghost use Rattle.nfs_inodes.specs.Links.{link_gained, linked_so};
-ghost use Rattle.nfs_inodes.specs.Stops.{StopsAt, StopsAtBoth};
+ghost use Rattle.nfs_inodes.specs.Stops.{StopsAt};
 
 use crate::found::inode;
 use crate::kinds::Directory;
@@ -31,7 +32,8 @@ pub fn add_link(
     ensures { MatchResult result
         (λ _. Turns draft.old draft.new (link_gained (time_of draft.old.ctx.moment) directory.now.known.number
         directory.now.known.attributes.links (record { name = name.now; number = number; cookie = cookie }) links))
-        (StopsAtBoth draft.old (Addr.Inode directory.now.known.number) (Addr.Inode number)) }
+        (StopsAt draft.old (addresses_of draft.old.view directory.now.known.number
+        ++ addresses_of draft.old.view number)) }
 {
     let kept = directory.known.attributes.links;
     add_entry(draft, directory, name, number, cookie, kept)?;
@@ -43,7 +45,7 @@ fn set_links(draft: &mut Draft<'_>, number: u64, links: u32) -> Result<(), Halt>
     requires { draft.old.modes ≡ changing }
     ensures { MatchResult result
         (λ _. Turns draft.old draft.new (linked_so (time_of draft.old.ctx.moment) number links))
-        (StopsAt draft.old (Addr.Inode number)) }
+        (StopsAt draft.old (addresses_of draft.old.view number)) }
 {
     let Some(inode) = inode(draft, number)? else {
         return Ok(());

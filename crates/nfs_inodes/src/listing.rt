@@ -6,6 +6,7 @@ ghost use Rattle.std.specs.Prelude.{option_map, slice_get};
 ghost use Rattle.nfs_machine.specs.Attributes.{entries_of};
 ghost use Rattle.nfs_machine.specs.Pages.{all_entries, behind};
 ghost use Rattle.nfs_machine.specs.WellFormed.{CookiesRise, WellFormed};
+ghost use Rattle.nfs_objects.specs.Calls.{addresses_of};
 ghost use Rattle.nfs_objects.specs.Knows.{Knows};
 ghost use Rattle.nfs_objects.specs.Stands.{content_of, parent_in};
 ghost use Rattle.nfs_inodes.specs.Gathers.{EachLives};
@@ -143,7 +144,7 @@ pub fn entries_left<'d>(
         (λ left. Knows draft.now (λ k. WellFormed k.state →
         behind cookie (all_entries directory.now.known.number (k.parents directory.now.known.number)
         (entries_of (content_at k.state directory.now.known.number))) ≡ left))
-        (StopsAt draft.now (Addr.Inode directory.now.known.number)) }
+        (StopsAt draft.now (addresses_of draft.now.view directory.now.known.number)) }
     ensures lives { IfOk result (EachLives draft.now.view) }
 {
     let number = directory.known.number;

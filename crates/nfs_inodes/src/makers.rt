@@ -1,12 +1,13 @@
 //! Changes of objects (RFC 1813, 2.5: mtime, ctime). Each is a change of what the store stands for.
 
-ghost use Rattle.std.specs.Prelude.{◌≡◌, ◌+◌, ◌-◌, ◌<◌, ◌^◌, [], IfOk, IsSome, MatchResult, OnOk};
-ghost use Rattle.std.specs.Prelude.{length};
+ghost use Rattle.std.specs.Prelude.{◌≡◌, ◌++◌, ◌+◌, ◌-◌, ◌<◌, ◌^◌, [], IfOk, IsSome, MatchResult};
+ghost use Rattle.std.specs.Prelude.{OnOk, length};
 ghost use Rattle.nfs_machine.specs.Data.{resized, written};
 ghost use Rattle.nfs_machine.specs.Making.{new_object};
 ghost use Rattle.nfs_machine.specs.Shown.{touched};
 ghost use Rattle.nfs_machine.specs.Times.{time_of};
 ghost use Rattle.nfs_objects.specs.Asks.{IsFirst};
+ghost use Rattle.nfs_objects.specs.Calls.{addresses_of, usages_of};
 ghost use Rattle.nfs_objects.specs.Drafts.{MayChange};
 ghost use Rattle.nfs_objects.specs.Edits.{edited};
 ghost use Rattle.nfs_objects.specs.Knows.{Knows, ShowsExport, Turns};
@@ -16,7 +17,7 @@ ghost use Rattle.nfs_objects.specs.declared.address.Addr.{Addr as Address};
 ghost use Rattle.nfs_inodes.specs.Asked.{wanted_as};
 ghost use Rattle.nfs_inodes.specs.Makes.{IsFree, bytes_changed, link_lost, made_under, name_added, name_taken};
 ghost use Rattle.nfs_inodes.specs.Makes.{removed};
-ghost use Rattle.nfs_inodes.specs.Stops.{StopsAt, StopsCounting, StopsMaking};
+ghost use Rattle.nfs_inodes.specs.Stops.{StopsAt, StopsMaking, counted_at};
 
 use crate::content::with_content;
 use crate::found::inode;
@@ -38,7 +39,7 @@ pub fn write(draft: &mut Draft<'_>, file: &File, offset: usize, bytes: &[u8]) ->
     ensures { MatchResult result
         (λ _. Turns draft.old draft.new (bytes_changed (time_of draft.old.ctx.moment) file.now.known.number
         (λ old. written old offset bytes.now)))
-        (StopsCounting draft.old file.now.known.number) }
+        (StopsAt draft.old (counted_at draft.old file.now.known.number)) }
 {
     let number = file.known.number;
     let Some(inode) = inode(draft, number)? else {
@@ -66,7 +67,7 @@ pub fn resize(draft: &mut Draft<'_>, file: &File, size: usize) -> Result<(), Hal
     ensures { MatchResult result
         (λ _. Turns draft.old draft.new (bytes_changed (time_of draft.old.ctx.moment) file.now.known.number
         (λ old. resized old size)))
-        (StopsCounting draft.old file.now.known.number) }
+        (StopsAt draft.old (counted_at draft.old file.now.known.number)) }
 {
     let number = file.known.number;
     let Some(inode) = inode(draft, number)? else {
@@ -92,7 +93,7 @@ pub fn lose_link(draft: &mut Draft<'_>, number: u64, links: u32) -> Result<(), H
     requires { MayChange draft.old (Addr.Inode number) }
     ensures { MatchResult result
         (λ _. Turns draft.old draft.new (link_lost (time_of draft.old.ctx.moment) number links))
-        (StopsCounting draft.old number) }
+        (StopsAt draft.old (counted_at draft.old number)) }
 {
     if links <= 1 {
         free(draft, number)
@@ -104,7 +105,7 @@ pub fn lose_link(draft: &mut Draft<'_>, number: u64, links: u32) -> Result<(), H
 fn free(draft: &mut Draft<'_>, number: u64) -> Result<(), Halt>
     requires { MayChange draft.old (Addr.Inode number) }
     ensures { MatchResult result (λ _. Turns draft.old draft.new (removed number))
-        (StopsCounting draft.old number) }
+        (StopsAt draft.old (counted_at draft.old number)) }
 {
     uncount(draft, number)?;
     Ok(draft.free(number)?)
@@ -115,7 +116,7 @@ fn unlink(draft: &mut Draft<'_>, number: u64) -> Result<(), Halt>
     ensures { MatchResult result
         (λ _. Turns draft.old draft.new
         (λ k. edited k number (λ o. touched o (time_of draft.old.ctx.moment)) (λ l. l - 1)))
-        (StopsAt draft.old (Addr.Inode number)) }
+        (StopsAt draft.old (addresses_of draft.old.view number)) }
 {
     let Some(inode) = inode(draft, number)? else {
         return Ok(());
@@ -136,7 +137,7 @@ pub fn take_entry(draft: &mut Draft<'_>, directory: &Directory, name: &[u8]) -> 
     ensures { MatchResult result
         (λ _. Turns draft.old draft.new
         (name_taken (time_of draft.old.ctx.moment) directory.now.known.number name.now))
-        (StopsAt draft.old (Addr.Inode directory.now.known.number)) }
+        (StopsAt draft.old (addresses_of draft.old.view directory.now.known.number)) }
 {
     let place = directory.known.number;
     let Some(inode) = inode(draft, place)? else {
@@ -172,7 +173,7 @@ pub fn add_entry(
     ensures turns { MatchResult result
         (λ _. Turns draft.old draft.new (name_added (time_of draft.old.ctx.moment) directory.now.known.number links
         (record { name = name.now; number = number; cookie = cookie })))
-        (StopsAt draft.old (Addr.Inode directory.now.known.number)) }
+        (StopsAt draft.old (addresses_of draft.old.view directory.now.known.number)) }
     ensures known { OnOk result ((a : Address) → IsSome (known_at draft.old a) → IsSome (known_at draft.new a)) }
 {
     let place = directory.known.number;
@@ -219,7 +220,8 @@ pub fn make_object(
         (made_under (time_of draft.old.ctx.moment) directory.now.known.number directory.now.known.attributes.links
         cookie name.now r
         (new_object draft.old.ctx directory.now.known.export r.generation (wanted_as wanted.now))))
-        (StopsMaking draft.old (Addr.Inode directory.now.known.number) directory.now.known.export) }
+        (StopsMaking draft.old (addresses_of draft.old.view directory.now.known.number
+        ++ usages_of directory.now.known.export 64)) }
     ensures known { IfOk result (λ r. IsSome (known_at draft.new (Addr.Inode r.number))) }
 {
     let reserved = draft.fresh()?;
@@ -247,7 +249,8 @@ fn make_reserved(
         Turns draft.old draft.new (made_under (time_of draft.old.ctx.moment) directory.now.known.number
         directory.now.known.attributes.links cookie name.now (record { number = number; generation = generation })
         (new_object draft.old.ctx directory.now.known.export generation (wanted_as wanted.now))))
-        (StopsMaking draft.old (Addr.Inode directory.now.known.number) directory.now.known.export) }
+        (StopsMaking draft.old (addresses_of draft.old.view directory.now.known.number
+        ++ usages_of directory.now.known.export 64)) }
     ensures known { OnOk result (IsSome (known_at draft.new (Addr.Inode number))) }
 {
     let object = new_inode(draft.alloc(), draft.ctx(), directory, wanted, generation)?;

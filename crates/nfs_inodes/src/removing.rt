@@ -1,11 +1,12 @@
 //! Names that are taken away, and the links that go with them (RFC 1813, 3.3.12 and 3.3.13).
 
-ghost use Rattle.std.specs.Prelude.{◌≡◌, [], MatchResult};
+ghost use Rattle.std.specs.Prelude.{◌≡◌, ◌++◌, [], MatchResult};
 ghost use Rattle.nfs_machine.specs.Times.{time_of};
+ghost use Rattle.nfs_objects.specs.Calls.{addresses_of};
 ghost use Rattle.nfs_objects.specs.Knows.{Turns};
 ghost use Rattle.nfs_objects.specs.Modes.{changing};
 ghost use Rattle.nfs_inodes.specs.Removes.{directory_lost, name_lost, subdirectory_lost};
-ghost use Rattle.nfs_inodes.specs.Stops.{StopsAt, StopsAtBoth, StopsLosing};
+ghost use Rattle.nfs_inodes.specs.Stops.{StopsAt, counted_at};
 
 use crate::found::{Known, inode};
 use crate::kinds::Directory;
@@ -30,7 +31,8 @@ pub fn take_name(
     ensures { MatchResult result
         (λ _. Turns draft.old draft.new
         (name_lost (time_of draft.old.ctx.moment) directory.now.known.number name.now object.now))
-        (StopsAtBoth draft.old (Addr.Inode directory.now.known.number) (Addr.Inode object.now.number)) }
+        (StopsAt draft.old (addresses_of draft.old.view directory.now.known.number
+        ++ addresses_of draft.old.view object.now.number)) }
 {
     take_entry(draft, directory, name)?;
     match object.attributes.kind {
@@ -45,7 +47,8 @@ fn lose_directory(draft: &mut Draft<'_>, directory: &Directory, number: u64) -> 
     ensures { MatchResult result
         (λ _. Turns draft.old draft.new
         (directory_lost (time_of draft.old.ctx.moment) directory.now.known.number number))
-        (StopsLosing draft.old (Addr.Inode directory.now.known.number) number) }
+        (StopsAt draft.old (addresses_of draft.old.view directory.now.known.number
+        ++ counted_at draft.old number)) }
 {
     lose_link(draft, number, 1)?;
     lose_subdirectory(draft, directory)
@@ -60,7 +63,7 @@ pub fn lose_subdirectory(draft: &mut Draft<'_>, directory: &Directory) -> Result
     requires { draft.old.modes ≡ changing }
     ensures { MatchResult result
         (λ _. Turns draft.old draft.new (subdirectory_lost directory.now.known.number))
-        (StopsAt draft.old (Addr.Inode directory.now.known.number)) }
+        (StopsAt draft.old (addresses_of draft.old.view directory.now.known.number)) }
 {
     let number = directory.known.number;
     let Some(inode) = inode(draft, number)? else {

@@ -5,6 +5,7 @@ ghost use Rattle.std.specs.Prelude.{option_copied};
 ghost use Rattle.nfs_machine.specs.Attributes.{is_directory};
 ghost use Rattle.nfs_machine.specs.Bytes.{same_bytes};
 ghost use Rattle.nfs_machine.specs.Times.{time_of, touch};
+ghost use Rattle.nfs_objects.specs.Calls.{addresses_of};
 ghost use Rattle.nfs_objects.specs.Drafts.{MayChange};
 ghost use Rattle.nfs_objects.specs.Knows.{Turns};
 ghost use Rattle.nfs_objects.specs.Stands.{content_of, parent_in};
@@ -35,7 +36,7 @@ pub fn leave(
     ensures { MatchResult result
         (λ _. Turns draft.old draft.new
         (name_left (time_of draft.old.ctx.moment) directory.now.known.number name.now links))
-        (StopsAt draft.old (Addr.Inode directory.now.known.number)) }
+        (StopsAt draft.old (addresses_of draft.old.view directory.now.known.number)) }
 {
     let place = directory.known.number;
     let Some(inode) = inode(draft, place)? else {
@@ -72,7 +73,7 @@ pub fn give_name(
     ensures { MatchResult result
         (λ _. Turns draft.old draft.new (name_given (time_of draft.old.ctx.moment) directory.now.known.number
         (option_copied left.entry) (record { name = name.now; number = number; cookie = cookie }) links))
-        (StopsAt draft.old (Addr.Inode directory.now.known.number)) }
+        (StopsAt draft.old (addresses_of draft.old.view directory.now.known.number)) }
 {
     let place = directory.known.number;
     let Some(inode) = inode(draft, place)? else {
@@ -134,7 +135,7 @@ pub fn rehome(draft: &mut Draft<'_>, number: u64, directory: u64) -> Result<(), 
     requires { MayChange draft.old (Addr.Inode number) }
     ensures { MatchResult result
         (λ _. Turns draft.old draft.new (rehomed (time_of draft.old.ctx.moment) number directory))
-        (StopsAt draft.old (Addr.Inode number)) }
+        (StopsAt draft.old (addresses_of draft.old.view number)) }
 {
     let Some(inode) = inode(draft, number)? else {
         return Ok(());

@@ -1,6 +1,7 @@
 //! Setting attributes of objects (RFC 1813, 3.3.2).
 
 ghost use Rattle.std.specs.Prelude.{◌≡◌, IfOk, MatchResult, None, OnOk};
+ghost use Rattle.nfs_objects.specs.Calls.{addresses_of};
 ghost use Rattle.nfs_objects.specs.Knows.{Turns};
 ghost use Rattle.nfs_objects.specs.Modes.{changing};
 ghost use Rattle.nfs_objects.specs.Only.{AsksNothing};
@@ -34,7 +35,7 @@ pub fn set_attributes(draft: &mut Draft<'_>, number: u64, settings: &Settings) -
     requires { draft.old.modes ≡ changing }
     ensures turns { MatchResult result
         (λ _. Turns draft.old draft.new (attributes_changed number settings.now))
-        (StopsAt draft.old (Addr.Inode number)) }
+        (StopsAt draft.old (addresses_of draft.old.view number)) }
     ensures once { KnowsAt draft.old number → AsksNothing result }
     ensures known { OnOk result (KnowsAt draft.new number) }
 {

@@ -5,7 +5,7 @@ ghost use Rattle.nfs_machine.specs.RenameSteps.{IsWithin};
 ghost use Rattle.nfs_machine.specs.WellFormed.{WellFormed};
 ghost use Rattle.nfs_objects.specs.Knows.{Knows};
 ghost use Rattle.nfs_inodes.specs.Known.{IsKnown};
-ghost use Rattle.nfs_inodes.specs.Stops.{StopsAny};
+ghost use Rattle.nfs_inodes.specs.Stops.{StopsAt};
 
 use crate::entries::parent;
 use crate::kinds::Directory;
@@ -29,7 +29,7 @@ pub fn is_within(
     ensures { MatchResult result
         (λ within. Knows draft.now (λ k. WellFormed k.state →
         (within ≡ true) ↔ IsWithin k.state upper directory.now.known.number))
-        (StopsAny draft.now) }
+        (StopsAt draft.now []) }
 {
     let mut number = directory.known.number;
     // no directory stands twice on the way up, and each was read

@@ -1,6 +1,7 @@
 //! What the objects of an export use, kept right as they change (RFC 1813, 3.3.18).
 
-ghost use Rattle.std.specs.Prelude.{◌≡◌, IfOk, IfSome, IsSome, MatchResult, OnErr, OnOk, true};
+ghost use Rattle.std.specs.Prelude.{◌≡◌, ◌∷◌, [], IfOk, IfSome, IsSome, MatchResult, OnErr, OnOk, true};
+ghost use Rattle.nfs_objects.specs.Calls.{usages_of};
 ghost use Rattle.nfs_objects.specs.Edits.{recounted};
 ghost use Rattle.nfs_objects.specs.Knows.{Knows, Turns};
 ghost use Rattle.nfs_objects.specs.Stands.{lives_in};
@@ -8,7 +9,7 @@ ghost use Rattle.nfs_objects.specs.Sums.{export_usage, group_of, in_export};
 ghost use Rattle.nfs_objects.specs.Values.{known_at};
 ghost use Rattle.nfs_objects.specs.declared.usage.Usage.{Usage as Sums};
 ghost use Rattle.nfs_inodes.specs.Counts.{AreUnread, IsCount, IsShareOf, KeepsInodes, uncounted};
-ghost use Rattle.nfs_inodes.specs.Stops.{StopsAt, StopsCounting, StopsNaming};
+ghost use Rattle.nfs_inodes.specs.Stops.{StopsAt, counted_at};
 
 use crate::found::inode;
 use nfs_objects::usage::group_of;
@@ -44,7 +45,7 @@ pub(crate) fn counted(
     after: Usage,
 ) -> Result<Option<Usage>, Halt>
     ensures { MatchResult result (IsCount draft.now before.export number before.usage after)
-        (StopsAt draft.now (Addr.Usage before.export (group_of number))) }
+        (StopsAt draft.now (Addr.Usage before.export (group_of number) ∷ [])) }
 {
     if before.usage == after {
         return Ok(None);
@@ -88,7 +89,7 @@ pub(crate) fn recount(
     ensures turns { MatchResult result
         (λ _. Turns draft.old draft.new
         (recounted number (in_export before.export before.usage) (in_export before.export after)))
-        (StopsAt draft.old (Addr.Usage before.export (group_of number))) }
+        (StopsAt draft.old (Addr.Usage before.export (group_of number) ∷ [])) }
     ensures keeps { OnOk result (KeepsInodes draft.old draft.new) }
 {
     let usage = counted(draft, number, before, after)?;
@@ -103,7 +104,7 @@ pub(crate) fn recount(
 pub(crate) fn uncount(draft: &mut Draft<'_>, number: u64) -> Result<(), Halt>
     requires { draft.old.modes.inodes ≡ Mode.Exclusive }
     ensures turns { MatchResult result (λ _. Turns draft.old draft.new (uncounted number))
-        (StopsCounting draft.old number) }
+        (StopsAt draft.old (counted_at draft.old number)) }
     ensures known { OnOk result (IsSome (known_at draft.new (Addr.Inode number))) }
 {
     let Some(inode) = inode(draft, number)? else {
@@ -122,7 +123,7 @@ pub fn export_usage(draft: &Draft<'_>, export: u32) -> Result<Usage, Halt>
     ensures { MatchResult result
         (λ usage. Knows draft.now (λ k. lives_in k.state.exports export ≡ true →
         usage ≡ export_usage k.state export))
-        (StopsNaming draft.now export) }
+        (StopsAt draft.now (usages_of export 64)) }
 {
     let unread = unread(draft, export)?;
     if !unread.is_empty() {

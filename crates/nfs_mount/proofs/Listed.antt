@@ -16,14 +16,14 @@ use Rattle.nfs_machine.specs.MountSteps.{MountStep, is_of, listed_exports, witho
 use Rattle.nfs_machine.specs.State.{State}
 use Rattle.nfs_machine.specs.declared.calls.Call.TheVariants as calls
 use Rattle.nfs_machine.specs.declared.calls.Reply.TheVariants as answers
-use Rattle.nfs_objects.proofs.Knows.{lacks-stops}
+use Rattle.nfs_objects.proofs.Knows.{lacks-stops, stops-wider}
 use Rattle.nfs_objects.proofs.MountTables.{all-stay}
 use Rattle.nfs_objects.proofs.Promised.{promised, promised-unchanged, turns-none}
 use Rattle.nfs_objects.proofs.Turns.{mounts-turns}
-use Rattle.nfs_objects.specs.Asks.{Lacks}
+use Rattle.nfs_objects.specs.Asks.{Lacks, Lives}
 use Rattle.nfs_objects.specs.Attempt.{Ends, Stops}
 use Rattle.nfs_objects.specs.Begins.{Begins}
-use Rattle.nfs_objects.specs.Calls.{named_by}
+use Rattle.nfs_objects.specs.Calls.{addresses_of, named_by}
 use Rattle.nfs_objects.specs.Edits.{with_mounts}
 use Rattle.nfs_objects.specs.Knows.{Knows, Turns}
 use Rattle.nfs_objects.specs.Leaving.{leaves}
@@ -36,10 +36,11 @@ use Rattle.nfs_objects.specs.declared.change.Halt.{Halt}
 use Rattle.nfs_objects.specs.declared.mounts.Leaving.{Leaving}
 use Rattle.nfs_objects.specs.declared.mounts.Leaving.TheVariants as which
 use Rattle.nfs_objects.specs.declared.object.Object.TheVariants as objects
+use Rattle.nfs_inodes.proofs.Halting.{exports-stop-at}
 use Rattle.nfs_inodes.specs.Stops.{StopsAt}
 use Rattle.nfs_mount.proofs.Mounted.{mounts-sound}
 use Rattle.nfs_mount.specs.Changes.{TakesMounts}
-use Rattle.nfs_mount.specs.Targets.{MountStops}
+use Rattle.nfs_mount.specs.Targets.{tables}
 
 -- ---- mounts that leave
 module _ (d : DraftValue) (leaving : Leaving) (mounts : List MountBody)
@@ -144,17 +145,22 @@ module _ (d : DraftValue) where
 
 -- ---- what stops a call
 module _ (d : DraftValue) (call : MountCall) (begins : Begins (calls.Mount call) d) where
-  pub stopped : (halt : Halt) → MountStops d halt → Ends (calls.Mount call) d.ctx d.view (Err halt)
+  pub stopped : (halt : Halt) → StopsAt d tables halt → Ends (calls.Mount call) d.ctx d.view (Err halt)
   stopped halt stops =
-      subst (λ modes. Stops modes (named_by (calls.Mount call)) d.view halt) begins.modes stops
+      subst (λ modes. Stops modes (named_by (calls.Mount call) d.view) 0 d.view halt) begins.modes stops
 
 -- the exports are named by each call, and so is the table
-pub exports-stop : (d : DraftValue) (halt : Halt) → StopsAt d addresses.Exports halt → MountStops d halt
-exports-stop d halt stops = stops (named_by (calls.Mount mount.Null)) (inl (inl refl))
+pub exports-stop : (d : DraftValue) (halt : Halt) → StopsAt d (addresses.Exports ∷ []) halt → StopsAt d tables halt
+exports-stop d halt stops = exports-stop-at d tables halt stops
 
-pub mounts-stop : (d : DraftValue) (halt : Halt) → Lacks d addresses.Mounts halt → MountStops d halt
-mounts-stop d halt lacks =
-    lacks-stops d (named_by (calls.Mount mount.Null)) addresses.Mounts halt lacks (inl (inr (inl refl)))
+pub mounts-stop : (d : DraftValue) (halt : Halt) → Lacks d addresses.Mounts halt → StopsAt d tables halt
+mounts-stop d halt lacks = lacks-stops d tables 0 addresses.Mounts halt lacks (inl (inr (inl refl)))
+
+-- an object that lives may be read by each call
+pub object-stops : (d : DraftValue) (n : ℕ) (halt : Halt) → Lives d.view (addresses.Inode n) →
+    StopsAt d (addresses_of d.view n) halt → StopsAt d tables halt
+object-stops d n halt lives stops =
+    stops-wider d.modes (addresses_of d.view n) tables 0 d.view halt (inr lives, tt) stops
 
 -- ---- exports that are listed one after another
 listed-last : (exports : List LivingExport) (e : LivingExport) →

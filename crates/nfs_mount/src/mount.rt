@@ -6,8 +6,9 @@ ghost use Rattle.nfs_machine.specs.MountSteps.{walk};
 ghost use Rattle.nfs_objects.specs.Asks.{Lives};
 ghost use Rattle.nfs_objects.specs.Attempt.{Ends, EndsFirst, HaltsFirst, unless_seen};
 ghost use Rattle.nfs_objects.specs.Begins.{Begins};
+ghost use Rattle.nfs_inodes.specs.Stops.{StopsAt};
 ghost use Rattle.nfs_mount.specs.Changes.{AddsMount};
-ghost use Rattle.nfs_mount.specs.Targets.{Finds, IsTarget, MountStops, walk_end};
+ghost use Rattle.nfs_mount.specs.Targets.{Finds, IsTarget, tables, walk_end};
 
 use crate::choice::choose;
 use crate::paths::{Names, path_fault};
@@ -96,7 +97,7 @@ fn walk(
 /// `Need` of the table of mounts, and `Memory`.
 fn add_mount(draft: &mut Draft<'_>, path: &Bytes) -> Result<(), Halt>
     requires { draft.old.modes.mounts ≡ Mode.Exclusive }
-    ensures { MatchResult result (λ _. AddsMount draft.old draft.new path.now) (MountStops draft.old) }
+    ensures { MatchResult result (λ _. AddsMount draft.old draft.new path.now) (StopsAt draft.old tables) }
 {
     let host = draft.ctx().host.as_slice();
     let path = path.as_slice();

@@ -38,13 +38,6 @@ impl<'a> Names<'a> {
     {
         Names { rest: Some(path) }
     }
-
-    /// Whether no name is left.
-    pub fn is_done(&self) -> bool
-        ensures { result ≡ (length self.now == 0) }
-    {
-        Names { rest: self.rest }.next().is_none()
-    }
 }
 
 impl<'a> Iterator for Names<'a> {

@@ -3,8 +3,9 @@
 ghost use Rattle.std.specs.Prelude.{◌≡◌, [], MatchResult};
 ghost use Rattle.nfs_objects.specs.Attempt.{Ends, EndsFirst, HaltsFirst, unless_seen};
 ghost use Rattle.nfs_objects.specs.Begins.{Begins};
+ghost use Rattle.nfs_inodes.specs.Stops.{StopsAt};
 ghost use Rattle.nfs_mount.specs.Changes.{TakesMounts};
-ghost use Rattle.nfs_mount.specs.Targets.{MountStops};
+ghost use Rattle.nfs_mount.specs.Targets.{tables};
 
 use bytes::Bytes;
 use nfs_inodes::exports;
@@ -53,7 +54,8 @@ pub fn attempt_all(draft: Draft<'_>) -> Result<Change, Halt>
 fn take_mounts(draft: &mut Draft<'_>, leaving: Leaving<'_>) -> Result<(), Halt>
     requires none { draft.old.writes ≡ [] }
     requires alone { draft.old.modes.mounts ≡ Mode.Exclusive }
-    ensures takes { MatchResult result (λ _. TakesMounts draft.old draft.new leaving.entry) (MountStops draft.old) }
+    ensures takes { MatchResult result (λ _. TakesMounts draft.old draft.new leaving.entry)
+        (StopsAt draft.old tables) }
     ensures first { HaltsFirst draft.old.modes draft.old.view (unless_seen draft.old.view Addr.Exports) result }
 {
     exports(draft)?;

@@ -1,6 +1,6 @@
 -- What a call does that makes an object under a name is an end of the machine's, and its answer is a step.
-use Rattle.std.proofs.Common.{◌≡◌, ℕ, ◌+◌, ◌≤◌, ◌^◌, nat_lt, true, false, Bool, cond, List, []}
-use Rattle.std.proofs.Common.{Option, Some, None, arith, Result, Ok, Err, IsSome, ◌⊎◌, inl, inr, option_map}
+use Rattle.std.proofs.Common.{◌≡◌, ℕ, ◌+◌, ◌≤◌, ◌^◌, nat_lt, true, false, Bool, cond, List, [], ◌++◌}
+use Rattle.std.proofs.Common.{Option, Some, None, arith, Result, Ok, Err, inl, inr, option_map}
 use Rattle.std.proofs.Common.{refl, sym, ◌∙◌, ap, subst}
 use Rattle.std.specs.Cmp.{unsigned_Decides}
 use Rattle.std.specs.FinMap.{get, insert}
@@ -32,31 +32,31 @@ use Rattle.nfs_machine.specs.WellFormed.{WellFormed}
 use Rattle.nfs_machine.specs.declared.calls.Call.TheVariants as calls
 use Rattle.nfs_machine.specs.declared.calls.Reply.TheVariants as answers
 use Rattle.nfs_machine.specs.declared.context.Ctx.{Ctx}
-use Rattle.nfs_objects.proofs.Exported.{table-lives}
-use Rattle.nfs_objects.proofs.Knows.{failed, passed, turned-stops}
+use Rattle.nfs_objects.proofs.Knows.{covers-among, covers-both, failed, passed, stops-wider, stops-within}
 use Rattle.nfs_objects.proofs.Promised.{answer-ending, does-as, possible-after, promised, turns-none}
 use Rattle.nfs_objects.proofs.Summed.{AllFit, turned-fit}
-use Rattle.nfs_objects.specs.Asks.{Lacks, Lives}
+use Rattle.nfs_objects.specs.Asks.{Lives}
+use Rattle.nfs_objects.specs.Calls.{addresses_of, usages_of}
 use Rattle.nfs_objects.specs.Begins.{Begins}
 use Rattle.nfs_objects.specs.Knows.{Does, Knows, Possible, Turns, ending}
 use Rattle.nfs_objects.specs.Promise.{Given, Held, IsPromised}
 use Rattle.nfs_objects.specs.Sound.{Sound}
 use Rattle.nfs_objects.specs.Stands.{Kept}
 use Rattle.nfs_objects.specs.Store.{Store}
-use Rattle.nfs_objects.specs.Values.{DraftValue, done_value, known_at}
+use Rattle.nfs_objects.specs.Values.{DraftValue, done_value}
 use Rattle.nfs_objects.specs.declared.address.Addr.{Addr}
 use Rattle.nfs_objects.specs.declared.address.Addr.TheVariants as addresses
 use Rattle.nfs_objects.specs.declared.change.Halt.{Halt}
 use Rattle.nfs_objects.specs.declared.view.Reserved.{Reserved}
-use Rattle.nfs_inodes.proofs.Counting.{usage-brings}
-use Rattle.nfs_inodes.proofs.Halting.{lacking-stops}
+use Rattle.nfs_inodes.proofs.Counting.{among-brought}
+use Rattle.nfs_inodes.proofs.Halting.{lives-stops, stops-before}
 use Rattle.nfs_inodes.proofs.Keeping.{choice-of, fresh-of, made-is, made-sound, room-of}
 use Rattle.nfs_inodes.proofs.Standing.{directory-listed, kind-is}
 use Rattle.nfs_inodes.specs.Asked.{content_asked, wanted_as}
 use Rattle.nfs_inodes.specs.Known.{IsKnown, IsObject, Means, Names, content_at, entries_found, last_cookie_of, listed}
 use Rattle.nfs_inodes.specs.Known.{next_cookie, object_at, shell, weak_of}
 use Rattle.nfs_inodes.specs.Makes.{IsFree, made_under}
-use Rattle.nfs_inodes.specs.Stops.{BringsUsage, StopsAt, StopsBringing, StopsNaming}
+use Rattle.nfs_inodes.specs.Stops.{IsOfExport, StopsAt, StopsMaking, brought_by}
 use Rattle.nfs_inodes.specs.declared.found.Known.{Known}
 use Rattle.nfs_inodes.specs.declared.making.NewContent.{NewContent}
 use Rattle.nfs_inodes.specs.declared.making.NewContent.TheVariants as contents
@@ -65,7 +65,6 @@ use Rattle.nfs_names.proofs.Looked.{lives-at}
 use Rattle.nfs_names.specs.Checking.{ComesTo}
 use Rattle.nfs_names.specs.Making.{IsMakeEnd, IsNewEnd, IsThereEnd, MakeEnd, MakesReply, ThereEnd}
 use Rattle.nfs_names.specs.Making.{add_checked, made_at, placed_end}
-use Rattle.nfs_names.specs.Stopping.{StopsAny, StopsUnlessKnown}
 use Rattle.nfs_names.specs.declared.make.Accepted.{Accepted}
 
 -- ---- the checks of the directory, and what its entries lead to
@@ -153,27 +152,35 @@ module _ (d : DraftValue) (place : Place) (asked : Result Wanted NfsStatus) (the
     DoesOr Stop IsEnd = MatchResult r (Does d new IsEnd) Stop
 
     abbrev Made_in : Type 0
-    Made_in = MatchResult r (Does d new (IsMakeEnd d.ctx place asked there)) (StopsBringing d place.directory)
+    Made_in = MatchResult r (Does d new (IsMakeEnd d.ctx place asked there))
+        (StopsMaking d (brought_by d.view place.directory))
 
-    ends-so : (Stop : Halt → Type 0) → ((halt : Halt) → Stop halt → StopsBringing d place.directory halt) →
+    ends-so : (Stop : Halt → Type 0) →
+        ((halt : Halt) → Stop halt → StopsMaking d (brought_by d.view place.directory) halt) →
         (IsEnd : State → MakeEnd → Type 0) → ((s : Store) (k : Kept) → Possible d s k →
         (end : MakeEnd) → IsEnd k.state end → IsMakeEnd d.ctx place asked there k.state end) →
         DoesOr Stop IsEnd → Made_in
     ends-so Stop stops IsEnd means = elim r as (λ q. MatchResult q (Does d new IsEnd) Stop →
-        MatchResult q (Does d new (IsMakeEnd d.ctx place asked there)) (StopsBringing d place.directory)) [
+        MatchResult q (Does d new (IsMakeEnd d.ctx place asked there))
+        (StopsMaking d (brought_by d.view place.directory))) [
           | Ok result ↦ does-as d new IsEnd (IsMakeEnd d.ctx place asked there) result means
           | Err halt ↦ stops halt
         ]
 
     pub there-ends : (number : ℕ) → LeadsTo (Some number)
-        → DoesOr (StopsAny d) (IsThereEnd there number) → Made_in
-    there-ends number to = ends-so (StopsAny d) (λ halt stops handles brought. stops _) (IsThereEnd there number)
+        → DoesOr (StopsAt d []) (IsThereEnd there number) → Made_in
+    there-ends number to = ends-so (StopsAt d [])
+        (λ halt stops. stops-wider d.modes [] (brought_by d.view place.directory) 1 d.view halt tt stops)
+        (IsThereEnd there number)
         (λ s k w end is. inl (λ choice. leads (Some number) to s k w choice ∙ is))
 
-    pub new-ends : BringsUsage place.directory x.export → LeadsTo None →
-        DoesOr (StopsNaming d x.export) (IsNewEnd d.ctx wanted x place.name) → Made_in
-    new-ends usage to = ends-so (StopsNaming d x.export)
-        (λ halt stops. usage-brings d place.directory x.export halt usage stops) (IsNewEnd d.ctx wanted x place.name)
+    pub new-ends : IsOfExport place.directory x.export → LeadsTo None →
+        DoesOr (StopsMaking d (usages_of x.export 64)) (IsNewEnd d.ctx wanted x place.name) → Made_in
+    new-ends usage to = ends-so (StopsMaking d (usages_of x.export 64))
+        (λ halt stops.
+        stops-within d.modes (usages_of x.export 64) (brought_by d.view place.directory) 1 d.view halt
+        (covers-among (usages_of x.export 64) (brought_by d.view place.directory) d.view
+        (among-brought d.view place.directory x.export usage)) stops) (IsNewEnd d.ctx wanted x place.name)
         (λ s k w end is. elim is [
           | inl all ↦ inl (λ choice. leads None to s k w choice ∙ all choice)
           | inr chosen ↦ inr (chosen.0, chosen.1, leads None to s k w chosen.0 ∙ chosen.2)
@@ -357,28 +364,38 @@ module _ (d : DraftValue) (asked : rust.Wanted) (x : Known) (name : List ℕ) wh
       }
 
 -- ---- how it halts
-pub reading-stops : (d : DraftValue) (a : Addr) (halt : Halt) → StopsAt d a halt →
-    Lacks d addresses.Exports halt ⊎ Lacks d a halt → StopsUnlessKnown d a halt
-reading-stops d a halt stops (inl lacks) = λ named bounded.
-    lacking-stops d addresses.Exports halt lacks named (inr (table-lives d.view))
-reading-stops d a halt stops (inr lacks) = λ named bounded. elim bounded [
-  | inl there ↦ stops named there
-  | inr some ↦ (let no = rw lacks.unknown at some in cc)
-]
+pub later-stops : (old new : DraftValue) (op : Kept → Kept) (n : ℕ) (halt : Halt) → Turns old new op →
+    Lives old.view (addresses.Inode n) → StopsAt new (addresses_of new.view n) halt → StopsAt old [] halt
+later-stops old new op n halt turns lives stops =
+    lives-stops old n halt lives (stops-before old new op (λ view. addresses_of view n) halt turns stops)
 
-pub later-stops : (old new : DraftValue) (op : Kept → Kept) (a : Addr) (halt : Halt) → Turns old new op →
-    Lives old.view a ⊎ IsSome (known_at new a) → StopsUnlessKnown new a halt → StopsAny old halt
-later-stops old new op a halt turns there stops = λ named.
-    turned-stops old named new op halt turns (stops named (elim there [
-      | inl lives ↦ inl (inr (subst (λ v. Lives v a) (sym turns.view) lives))
-      | inr some ↦ inr some
-    ]))
+-- a call that makes an object may read one that lives
+pub lives-making : (d : DraftValue) (n : ℕ) (asked : List Addr) (halt : Halt) → Lives d.view (addresses.Inode n) →
+    StopsAt d (addresses_of d.view n) halt → StopsMaking d asked halt
+lives-making d n asked halt lives stops =
+    stops-wider d.modes (addresses_of d.view n) asked 1 d.view halt (inr lives, tt) stops
+
+-- and write it
+pub writes-making : (d : DraftValue) (n : ℕ) (asked : List Addr) (halt : Halt) → Lives d.view (addresses.Inode n) →
+    StopsMaking d (addresses_of d.view n ++ asked) halt → StopsMaking d asked halt
+writes-making d n asked halt lives stops =
+    stops-within d.modes (addresses_of d.view n ++ asked) asked 1 d.view halt
+    (covers-both asked d.view (addresses_of d.view n) asked (inr lives, tt)
+    (covers-among asked asked d.view (λ a among. among))) stops
+
+-- what it knows it may read after a change
+pub knows-making : (old new : DraftValue) (op : Kept → Kept) (asked : List Addr) (halt : Halt) → Turns old new op →
+    StopsAt new [] halt → StopsMaking old asked halt
+knows-making old new op asked halt turns stops =
+    stops-wider old.modes [] asked 1 old.view halt tt (stops-before old new op (λ view. []) halt turns stops)
 
 -- it stops the call that brought the handle
-pub bringing-stops : (old new : DraftValue) (op : Kept → Kept) (handle : List ℕ) (a : Addr) (halt : Halt) →
-    Turns old new op → Lives old.view a → StopsAt new a halt → StopsBringing old handle halt
-bringing-stops old new op handle a halt turns lives stops handles brought =
-    turned-stops old _ new op halt turns (stops _ (inr (subst (λ v. Lives v a) (sym turns.view) lives)))
+pub bringing-stops : (old new : DraftValue) (op : Kept → Kept) (handle : List ℕ) (n : ℕ) (halt : Halt) →
+    Turns old new op → Lives old.view (addresses.Inode n) → StopsAt new (addresses_of new.view n) halt →
+    StopsMaking old (brought_by old.view handle) halt
+bringing-stops old new op handle n halt turns lives stops =
+    lives-making old n (brought_by old.view handle) halt lives
+    (stops-before old new op (λ view. addresses_of view n) halt turns stops)
 
 -- ---- the reply
 module _ (place : Place) (asked : Result Wanted NfsStatus) (there : ThereEnd) where

@@ -1,6 +1,6 @@
 -- What REMOVE and RMDIR do is an end of the machine's, and their answer is a step.
 use Rattle.std.proofs.Common.{◌≡◌, ◌==◌, ℕ, Bool, length, List, [], ◌∷◌, Option, Some, None}
-use Rattle.std.proofs.Common.{option_map, Result, Ok, Err, inl, refl, sym, ◌∙◌, ap, subst}
+use Rattle.std.proofs.Common.{option_map, Result, Ok, Err, refl, sym, ◌∙◌, ap, subst}
 use Rattle.std.specs.FinMap.{get}
 use Rattle.std.specs.Prelude.{ok_or}
 use Rattle.nfs_wire.specs.declared.attributes.Wcc.{Wcc}
@@ -26,7 +26,7 @@ use Rattle.nfs_objects.proofs.Knows.{failed, passed}
 use Rattle.nfs_objects.proofs.Promised.{answer-ending, promised-does, promised-unchanged}
 use Rattle.nfs_objects.specs.Attempt.{HaltsFirst, first_wanted}
 use Rattle.nfs_objects.specs.Begins.{Begins}
-use Rattle.nfs_objects.specs.Calls.{IsAmong, named_by, objects_at}
+use Rattle.nfs_objects.specs.Calls.{handles_of}
 use Rattle.nfs_objects.specs.Knows.{Does, Knows, Possible, Turns, ending}
 use Rattle.nfs_objects.specs.Modes.{changing, modes_of}
 use Rattle.nfs_objects.specs.Promise.{Given, Held, IsPromised}
@@ -34,7 +34,6 @@ use Rattle.nfs_objects.specs.Stands.{Kept}
 use Rattle.nfs_objects.specs.Store.{Store}
 use Rattle.nfs_objects.specs.Values.{DraftValue, ViewValue, done_value}
 use Rattle.nfs_objects.specs.declared.address.Addr.{Addr}
-use Rattle.nfs_objects.specs.declared.address.Addr.TheVariants as addresses
 use Rattle.nfs_objects.specs.declared.change.Halt.{Halt}
 use Rattle.nfs_objects.proofs.Summed.{turned-fit}
 use Rattle.nfs_inodes.proofs.Losing.{lost-sound, lost-state}
@@ -57,14 +56,9 @@ pub alone : (taking : Taking) (place : Place) (d : DraftValue) → Begins (call_
 alone Remove place d begins = begins.modes
 alone Rmdir place d begins = begins.modes
 
-pub names-directory : (taking : Taking) (place : Place) → named_by (call_of taking place) ≡ addresses.Exports ∷
-    objects_at (place.directory ∷ [])
+pub names-directory : (taking : Taking) (place : Place) → handles_of (call_of taking place) ≡ place.directory ∷ []
 names-directory Remove place = refl
 names-directory Rmdir place = refl
-
-pub among-exports : (taking : Taking) (place : Place) → IsAmong (named_by (call_of taking place)) addresses.Exports
-among-exports Remove place = inl refl
-among-exports Rmdir place = inl refl
 
 wants : (taking : Taking) (place : Place) (view : ViewValue) → wanted_first view (place.directory ∷ []) ≡
     first_wanted (call_of taking place) view

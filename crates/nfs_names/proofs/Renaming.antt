@@ -1,7 +1,7 @@
 -- What RENAME does is an end of the machine's, and its answer is a step.
 use Rattle.std.proofs.Common.{◌≡◌, ◌==◌, ℕ, ◌+◌, ◌-◌, ◌^◌, ◌<◌, ◌≤◌, nat_lt, min}
 use Rattle.std.proofs.Common.{true, false, Bool, cond, not, ◌||◌, ◌&&◌, List, [], Option, Some}
-use Rattle.std.proofs.Common.{None, Result, Ok, Err, inr, option_map, refl, sym, ◌∙◌, ap, subst, arith}
+use Rattle.std.proofs.Common.{None, Result, Ok, Err, option_map, refl, sym, ◌∙◌, ap, subst, arith}
 use Rattle.std.specs.Prelude.{◌↔◌, IfSome, MatchResult, is_some, ok_or}
 use Rattle.std.specs.FinMap.{get}
 use Rattle.std.specs.Option.{option_map_or}
@@ -41,10 +41,11 @@ use Rattle.nfs_machine.specs.WellFormed.{WellFormed, is_root}
 use Rattle.nfs_machine.specs.declared.calls.Call.TheVariants as calls
 use Rattle.nfs_machine.specs.declared.calls.Reply.TheVariants as answers
 use Rattle.nfs_machine.specs.declared.context.Ctx.{Ctx}
-use Rattle.nfs_objects.proofs.Knows.{failed, passed, turned-stops}
+use Rattle.nfs_objects.proofs.Knows.{failed, passed}
 use Rattle.nfs_objects.proofs.Promised.{answer-ending, promised-does, promised-unchanged, turns-both, turns-none}
 use Rattle.nfs_objects.specs.Asks.{Lives}
-use Rattle.nfs_objects.specs.Attempt.{HaltsFirst, Stops}
+use Rattle.nfs_objects.specs.Attempt.{HaltsFirst}
+use Rattle.nfs_objects.specs.Calls.{addresses_of}
 use Rattle.nfs_objects.specs.Begins.{Begins}
 use Rattle.nfs_objects.specs.Knows.{Does, Knows, Possible, Turns, ending}
 use Rattle.nfs_objects.specs.Promise.{Given, Held, IsPromised}
@@ -64,7 +65,9 @@ use Rattle.nfs_inodes.specs.Known.{ChecksDirectory, IsKnown, IsObject, Means, Na
 use Rattle.nfs_inodes.specs.Known.{next_cookie, object_at, target, weak_of}
 use Rattle.nfs_inodes.specs.Makes.{link_lost}
 use Rattle.nfs_inodes.specs.Renames.{name_given, name_left, rehomed}
-use Rattle.nfs_inodes.specs.Stops.{StopsAny, StopsAt, StopsCounting, UsageLives}
+use Rattle.nfs_inodes.proofs.Composing.{counted-stops}
+use Rattle.nfs_inodes.proofs.Halting.{any-stops, lives-stops, stops-before}
+use Rattle.nfs_inodes.specs.Stops.{StopsAt, UsageLives, counted_at}
 use Rattle.nfs_inodes.specs.declared.found.Known.{Known}
 use Rattle.nfs_inodes.specs.declared.kinds.Directory as kinds
 use Rattle.nfs_names.proofs.Making.{a-cookie, no-cookie}
@@ -232,10 +235,10 @@ under-number d x name number found leads is s k w = (
 pub reads-under : (d : DraftValue) (x : Known) (name : List ℕ) (number : ℕ) (r : Result (Option Known) Halt)
     → Knows d (λ k. option_map (λ (e : Entry). e.number) (entry_of (entries_of (content_at k.state x.number)) name)
     ≡ Some number) → Lives d.view (addresses.Inode number)
-    → MatchResult r (λ found. Knows d (λ k. IsObject k.state number found)) (StopsAt d (addresses.Inode number))
-    → MatchResult r (λ found. Knows d (λ k. IsUnder k.state x name found)) (StopsAny d)
+    → MatchResult r (λ found. Knows d (λ k. IsObject k.state number found)) (StopsAt d (addresses_of d.view number))
+    → MatchResult r (λ found. Knows d (λ k. IsUnder k.state x name found)) (StopsAt d [])
 reads-under d x name number (Ok found) leads lives is = under-number d x name number found leads is
-reads-under d x name number (Err halt) leads lives stops = λ named. stops named (inr lives)
+reads-under d x name number (Err halt) leads lives stops = lives-stops d number halt lives stops
 
 -- ---- the rest of the checks
 map-or : {A B C : Type 0} (f : A → B) (g : C → A) (o : Option C) (b : B) →
@@ -664,8 +667,8 @@ module _ (d : DraftValue) (moved : Known) (known : Knows d (λ k. IsKnown k.stat
         directory.known ≡ o → (r : Result Bool Halt)
         → MatchResult r (λ empty. Knows d (λ k. facts.are_none
         (entries_of (content_at k.state directory.known.number)) ≡ empty))
-        (StopsAt d (addresses.Inode directory.known.number))
-        → d.writes ≡ [] → MatchResult r (Replaceable (Some o)) (StopsAny d)
+        (StopsAt d (addresses_of d.view directory.known.number))
+        → d.writes ≡ [] → MatchResult r (Replaceable (Some o)) (StopsAt d [])
     over-empty moves directory same (Ok empty) reads none = λ s k w.
         by-kinds s k w true true moves (ap (λ (z : Known). is_directory_kind z.attributes.kind) (sym same)
         ∙ ap is_directory_kind directory.kind)
@@ -676,8 +679,8 @@ module _ (d : DraftValue) (moved : Known) (known : Knows d (λ k. IsKnown k.stat
         or-none true = refl
         or-none false = refl
     over-empty moves directory same (Err halt) stops none =
-        λ named. stops named (inr (known-lives d directory.known none
-        (subst (λ z. Knows d (λ k. IsKnown k.state z)) (sym same) there)))
+        lives-stops d directory.known.number halt (known-lives d directory.known none
+        (subst (λ z. Knows d (λ k. IsKnown k.state z)) (sym same) there)) stops
 
 -- ---- nothing is within what is no directory
 pub plain-outside : (d : DraftValue) (moved : Known) (lower : kinds.Directory) →
@@ -712,8 +715,8 @@ over-lives old new op (Some z) turns none known = lives-on old new op (addresses
     (known-lives old z none known)
 
 pub stops-later : (old new : DraftValue) (op : Kept → Kept) (halt : Halt) → Turns old new op →
-    StopsAny new halt → StopsAny old halt
-stops-later old new op halt turns stops = λ named. turned-stops old named new op halt turns (stops named)
+    StopsAt new [] halt → StopsAt old [] halt
+stops-later old new op halt turns stops = stops-before old new op (λ view. []) halt turns stops
 
 -- a change after another, at the call's moment
 pub turned-both : (a b c : DraftValue) (f : Kept → Kept) (g : Time → Kept → Kept) → Turns a b f →
@@ -724,21 +727,22 @@ turned-both a b c f g first second =
 
 pub turned-after : (a b c : DraftValue) (f : Kept → Kept) (g : Time → Kept → Kept)
     (r : Result (Unit {0}) Halt) →
-    Turns a b f → MatchResult r (λ _. Turns b c (g (time_of b.ctx.moment))) (StopsAny b) →
-    MatchResult r (λ _. Turns a c (λ k. g (time_of a.ctx.moment) (f k))) (StopsAny a)
+    Turns a b f → MatchResult r (λ _. Turns b c (g (time_of b.ctx.moment))) (StopsAt b []) →
+    MatchResult r (λ _. Turns a c (λ k. g (time_of a.ctx.moment) (f k))) (StopsAt a [])
 turned-after a b c f g (Ok x) first second = turned-both a b c f g first second
 turned-after a b c f g (Err halt) first stops = stops-later a b f halt first stops
 
-pub always : {A : Type 0} (d : DraftValue) (a : Addr) (P : A → Type 0) (r : Result A Halt) → Lives d.view a →
-    MatchResult r P (StopsAt d a) → MatchResult r P (StopsAny d)
-always d a P (Ok x) lives is = is
-always d a P (Err halt) lives stops = λ named. stops named (inr lives)
+pub always : {A : Type 0} (d : DraftValue) (n : ℕ) (P : A → Type 0) (r : Result A Halt) →
+    Lives d.view (addresses.Inode n) → MatchResult r P (StopsAt d (addresses_of d.view n)) →
+    MatchResult r P (StopsAt d [])
+always d n P (Ok x) lives is = is
+always d n P (Err halt) lives stops = lives-stops d n halt lives stops
 
 pub always-counting : {A : Type 0} (d : DraftValue) (n : ℕ) (P : A → Type 0) (r : Result A Halt) →
-    Lives d.view (addresses.Inode n) → UsageLives d n → MatchResult r P (StopsCounting d n) →
-    MatchResult r P (StopsAny d)
+    Lives d.view (addresses.Inode n) → UsageLives d n → MatchResult r P (StopsAt d (counted_at d n)) →
+    MatchResult r P (StopsAt d [])
 always-counting d n P (Ok x) lives counts is = is
-always-counting d n P (Err halt) lives counts stops = λ named. stops named (inr lives) counts
+always-counting d n P (Err halt) lives counts stops = counted-stops d n halt lives counts stops
 
 -- what had the new name lived before in the same export, so what its group uses stands there
 pub moved-lived : (now : Time) (a : RenameArguments) (r : Renaming) (cookie : ℕ) →
@@ -773,28 +777,27 @@ module _ (d new : DraftValue) (a : RenameArguments) (r : Renaming) (cookie : ℕ
         (cond one k (name_left now r.from.known.number a.from.name (links_left r) k))
 
     abbrev Moves : Bool → Type 0
-    Moves one = MatchResult result (λ _. Turns d new (moved (time_of d.ctx.moment) one)) (StopsAny d)
+    Moves one = MatchResult result (λ _. Turns d new (moved (time_of d.ctx.moment) one)) (StopsAt d [])
 
     -- one directory changes once
     pub moves-one : is_one_directory r ≡ true → Lives d.view (addresses.Inode r.to.known.number) →
         MatchResult result (λ _. Turns d new (given (time_of d.ctx.moment) (Some a.from.name)))
-        (StopsAt d (addresses.Inode r.to.known.number)) →
-        MatchResult result (λ _. Turns d new (entry_moved (time_of d.ctx.moment) a r cookie)) (StopsAny d)
-    moves-one one lives is = subst Moves (sym one) (always d (addresses.Inode r.to.known.number)
+        (StopsAt d (addresses_of d.view r.to.known.number)) →
+        MatchResult result (λ _. Turns d new (entry_moved (time_of d.ctx.moment) a r cookie)) (StopsAt d [])
+    moves-one one lives is = subst Moves (sym one) (always d r.to.known.number
         (λ _. Turns d new (given (time_of d.ctx.moment) (Some a.from.name))) result lives is)
 
     pub moves-two : (mid : DraftValue) → is_one_directory r ≡ false →
         Lives d.view (addresses.Inode r.to.known.number) →
         Turns d mid (name_left (time_of d.ctx.moment) r.from.known.number a.from.name (links_left r)) →
         MatchResult result (λ _. Turns mid new (given (time_of mid.ctx.moment) None))
-        (StopsAt mid (addresses.Inode r.to.known.number)) →
-        MatchResult result (λ _. Turns d new (entry_moved (time_of d.ctx.moment) a r cookie)) (StopsAny d)
+        (StopsAt mid (addresses_of mid.view r.to.known.number)) →
+        MatchResult result (λ _. Turns d new (entry_moved (time_of d.ctx.moment) a r cookie)) (StopsAt d [])
     moves-two mid two lives left is =
         let leaves : Kept → Kept = name_left (time_of d.ctx.moment) r.from.known.number a.from.name (links_left r) in
-        let place = addresses.Inode r.to.known.number in
         subst Moves (sym two) (turned-after d mid new leaves (λ now. given now None) result left
-        (always mid place (λ _. Turns mid new (given (time_of mid.ctx.moment) None)) result
-        (lives-on d mid leaves place left lives) is))
+        (always mid r.to.known.number (λ _. Turns mid new (given (time_of mid.ctx.moment) None)) result
+        (lives-on d mid leaves (addresses.Inode r.to.known.number) left lives) is))
 
 -- ---- the reply
 after-named : (first second : Resolved) (x : Named) → object_of first ≡ Ok x → after_first first second ≡ second
@@ -907,6 +910,6 @@ first-known modes other view (Some a) x r first = absurd first
 -- ---- how it halts
 pub stops-named : {A : Type 0} (d new : DraftValue) (IsEnd : State → Result (A × State) NfsStatus → Type 0)
     (named : List Addr) (r : Result (Result A NfsStatus) Halt)
-    → MatchResult r (Does d new IsEnd) (StopsAny d) → MatchResult r (Does d new IsEnd) (Stops d.modes named d.view)
+    → MatchResult r (Does d new IsEnd) (StopsAt d []) → MatchResult r (Does d new IsEnd) (StopsAt d named)
 stops-named d new IsEnd named (Ok x) does = does
-stops-named d new IsEnd named (Err halt) stops = stops named
+stops-named d new IsEnd named (Err halt) stops = any-stops d named halt stops

@@ -7,4 +7,3 @@ pub mod Making
 pub mod Pages
 pub mod Removes
 pub mod Renames
-pub mod Stopping

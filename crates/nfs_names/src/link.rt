@@ -1,6 +1,6 @@
 //! LINK: one more name for an object that is no directory (RFC 1813, 3.3.15).
 
-ghost use Rattle.std.specs.Prelude.{◌≡◌, [], IfOk, MatchResult};
+ghost use Rattle.std.specs.Prelude.{◌≡◌, ◌∷◌, [], IfOk, MatchResult};
 ghost use Rattle.nfs_machine.specs.declared.calls.Call.TheVariants as calls;
 ghost use Rattle.nfs_objects.specs.Attempt.{Ends, EndsFirst};
 ghost use Rattle.nfs_objects.specs.Begins.{Begins};
@@ -65,7 +65,7 @@ fn link(
     requires directory { Knows draft.old (λ k. Names draft.old.ctx arguments.now.place.directory k known.now) }
     ensures { MatchResult result
         (Does draft.old draft.new (IsLinkEnd draft.old.ctx arguments.now))
-        (StopsAt draft.old Addr.Exports) }
+        (StopsAt draft.old (Addr.Exports ∷ [])) }
 {
     let name = arguments.place.name.as_slice();
     let directory = match linkable(draft.ctx(), exports(draft)?, file, known, name) {

@@ -8,7 +8,7 @@ ghost use Rattle.nfs_objects.specs.Knows.{Knows};
 ghost use Rattle.nfs_inodes.specs.Known.{IsKnown};
 ghost use Rattle.nfs_names.specs.Checking.{ComesTo};
 ghost use Rattle.nfs_names.specs.Lookup.{found_in, searched};
-ghost use Rattle.nfs_names.specs.Stopping.{StopsAny};
+ghost use Rattle.nfs_inodes.specs.Stops.{StopsAt};
 
 use nfs_inodes::{
     Directory, Known, Right, directory, handle, leads_to, name_checked, named, object, permitted,
@@ -38,7 +38,7 @@ fn found(draft: &Draft<'_>, known: &Known, name: &[u8]) -> Result<Result<Object,
     requires known { Knows draft.now (λ k. IsKnown k.state known.now) }
     ensures { MatchResult result
         (λ found. Knows draft.now (λ k. found_in k draft.now.ctx known.now name.now ≡ found))
-        (StopsAny draft.now) }
+        (StopsAt draft.now []) }
 {
     let directory = match searchable(draft.ctx(), known, name) {
         Ok(directory) => directory,

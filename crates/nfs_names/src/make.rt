@@ -1,20 +1,21 @@
 //! How a call makes a new object under a name (RFC 1813, 3.3.8 to 3.3.11): CREATE, MKDIR, SYMLINK and MKNOD.
 
-ghost use Rattle.std.specs.Prelude.{◌≡◌, ◌∷◌, [], IfOk, MatchResult, None, Ok, option_map};
+ghost use Rattle.std.specs.Prelude.{◌≡◌, ◌∷◌, [], IfErr, IfOk, IsSome, MatchResult, None, Ok, option_map};
 ghost use Rattle.nfs_machine.specs.Attributes.{entries_of};
 ghost use Rattle.nfs_machine.specs.Checks.{entry_of};
 ghost use Rattle.nfs_objects.specs.Asks.{Lives};
 ghost use Rattle.nfs_objects.specs.Attempt.{HaltsFirst};
+ghost use Rattle.nfs_objects.specs.Calls.{addresses_of, usages_of};
 ghost use Rattle.nfs_objects.specs.Knows.{Does, Knows, ShowsExport};
 ghost use Rattle.nfs_objects.specs.Modes.{changing};
+ghost use Rattle.nfs_objects.specs.Values.{known_at};
 ghost use Rattle.nfs_objects.specs.declared.address.Addr.TheVariants as addresses;
 ghost use Rattle.nfs_inodes.specs.Asked.{asked_as, wanted_as};
 ghost use Rattle.nfs_inodes.specs.Known.{IsKnown, Names, content_at};
-ghost use Rattle.nfs_inodes.specs.Stops.{BringsUsage, StopsBringing, StopsNaming, wanted_first};
+ghost use Rattle.nfs_inodes.specs.Stops.{IsOfExport, StopsAt, StopsMaking, brought_by, wanted_first};
 ghost use Rattle.nfs_names.specs.Checking.{ComesTo};
 ghost use Rattle.nfs_names.specs.Making.{IsMakeEnd, IsNewEnd, IsThereEnd, MakesReply, add_checked, made_at};
 ghost use Rattle.nfs_names.specs.Making.{judged, there_as};
-ghost use Rattle.nfs_names.specs.Stopping.{StopsAny, StopsUnlessKnown};
 
 use crate::over::create_over;
 use nfs_inodes::{
@@ -50,7 +51,7 @@ pub(crate) fn make(
     requires alone { draft.old.modes ≡ changing }
     ensures answers { MatchResult result
         (MakesReply draft.old draft.new place.now (asked_as asked.entry) (there_as there.entry draft.old.ctx))
-        (StopsBringing draft.old place.now.directory) }
+        (StopsMaking draft.old (brought_by draft.old.view place.now.directory)) }
     ensures first { HaltsFirst draft.old.modes draft.old.view
         (wanted_first draft.old.view (place.now.directory ∷ [])) result }
 {
@@ -79,11 +80,11 @@ fn make_in(
     requires alone { draft.old.modes ≡ changing }
     requires names { Knows draft.old (λ k. Names draft.old.ctx place.now.directory k known.now) }
     requires exported { ShowsExport draft.old known.now.export }
-    requires usage { BringsUsage place.now.directory known.now.export }
+    requires usage { IsOfExport place.now.directory known.now.export }
     ensures { MatchResult result
         (Does draft.old draft.new (IsMakeEnd draft.old.ctx place.now (asked_as asked.entry)
         (there_as there.entry draft.old.ctx)))
-        (StopsBringing draft.old place.now.directory) }
+        (StopsMaking draft.old (brought_by draft.old.view place.now.directory)) }
 {
     let name = place.name.as_slice();
     let accepted = match addable(draft.ctx(), exports(draft)?, known, name, asked) {
@@ -134,7 +135,7 @@ fn make_there(
     requires lives { Lives draft.old.view (addresses.Inode number) }
     ensures { MatchResult result
         (Does draft.old draft.new (IsThereEnd (there_as there.entry draft.old.ctx) number))
-        (StopsAny draft.old) }
+        (StopsAt draft.old []) }
 {
     match there {
         There::Refused => Ok(Err(NfsStatus::Exists)),
@@ -158,7 +159,7 @@ fn make_new(
         (entry_of (entries_of (content_at k.state directory.now.known.number)) name.now) ≡ None) }
     ensures { MatchResult result
         (Does draft.old draft.new (IsNewEnd draft.old.ctx (wanted_as wanted.now) directory.now.known name.now))
-        (StopsNaming draft.old directory.now.known.export) }
+        (StopsMaking draft.old (usages_of directory.now.known.export 64)) }
 {
     if let Err(status) = judged(draft.ctx(), directory, wanted) {
         return Ok(Err(status));
@@ -180,9 +181,11 @@ fn judged(ctx: &Ctx, directory: &Directory, wanted: &Wanted<'_>) -> Result<(), N
 
 /// What is told of what lives at a number: its handle and its attributes (RFC 1813, 3.3.8: post_op_fh3).
 pub(crate) fn made(draft: &Draft<'_>, number: u64) -> Result<Made, Halt>
-    ensures { MatchResult result
+    ensures made { MatchResult result
         (λ made. Knows draft.now (λ k. made ≡ made_at k.state draft.now.ctx number))
-        (StopsUnlessKnown draft.now (addresses.Inode number)) }
+        (StopsAt draft.now (addresses_of draft.now.view number)) }
+    ensures known { IsSome (known_at draft.now (addresses.Inode number)) →
+        IfErr result (StopsAt draft.now []) }
 {
     match object(draft, number)? {
         Some(known) => Ok(Made {

@@ -9,9 +9,8 @@ ghost use Rattle.nfs_objects.specs.Knows.{Does, Turns};
 ghost use Rattle.nfs_objects.specs.Modes.{changing};
 ghost use Rattle.nfs_objects.specs.declared.address.Addr.TheVariants as addresses;
 ghost use Rattle.nfs_inodes.specs.Known.{shell};
-ghost use Rattle.nfs_inodes.specs.Stops.{StopsCounting};
+ghost use Rattle.nfs_inodes.specs.Stops.{StopsAt, counted_at};
 ghost use Rattle.nfs_names.specs.Creates.{IsOverEnd, file_over, size_checked, sized};
-ghost use Rattle.nfs_names.specs.Stopping.{StopsAny};
 
 use crate::make::made;
 use nfs_inodes::{File, Known, Right, SIZE_LIMIT, is_verifier, object, permitted, regular, resize};
@@ -30,7 +29,7 @@ pub(crate) fn create_over(
     requires lives { Lives draft.old.view (addresses.Inode number) }
     ensures { MatchResult result
         (Does draft.old draft.new (IsOverEnd draft.old.ctx how.now number))
-        (StopsAny draft.old) }
+        (StopsAt draft.old []) }
 {
     let Some(object) = object(draft, number)? else {
         return Ok(Err(NfsStatus::Exists));
@@ -80,7 +79,7 @@ fn give_size(draft: &mut Draft<'_>, file: &File, size: Option<u64>) -> Result<()
     requires { draft.old.modes ≡ changing }
     ensures { MatchResult result
         (λ _. Turns draft.old draft.new (sized (time_of draft.old.ctx.moment) file.now.known.number size))
-        (StopsCounting draft.old file.now.known.number) }
+        (StopsAt draft.old (counted_at draft.old file.now.known.number)) }
 {
     match size {
         Some(size) => resize(draft, file, size as usize),

@@ -11,7 +11,7 @@ ghost use Rattle.nfs_inodes.specs.Known.{IsKnown};
 ghost use Rattle.nfs_inodes.specs.Listing.{listed_entry};
 ghost use Rattle.nfs_names.specs.Checking.{ComesTo};
 ghost use Rattle.nfs_names.specs.Pages.{KnowsPage, fit_of, list_checked, page_found, size_of, sizes_fit, sizes_of};
-ghost use Rattle.nfs_names.specs.Stopping.{StopsAny};
+ghost use Rattle.nfs_inodes.specs.Stops.{StopsAt};
 
 use nfs_inodes::{
     Directory, EntriesLeft, Known, Listed, Right, TRANSFER_LIMIT, directory, entries_left,
@@ -73,7 +73,7 @@ pub(crate) fn page_in<'d>(
     requires known { Knows draft.now (λ k. IsKnown k.state known.now) }
     ensures page { MatchResult result
         (λ found. KnowsPage draft.now known.now asked.now (page_found found))
-        (StopsAny draft.now) }
+        (StopsAt draft.now []) }
     ensures lives { IfOk result (λ found. IfOk found (λ front. EachLives draft.now.view front.left)) }
 {
     let directory = match listable(draft.ctx(), known, asked) {

@@ -9,7 +9,7 @@ ghost use Rattle.nfs_objects.specs.Knows.{Knows};
 ghost use Rattle.nfs_inodes.specs.Known.{IsKnown};
 ghost use Rattle.nfs_inodes.specs.Listing.{listed_entry};
 ghost use Rattle.nfs_names.specs.Pages.{Lists, front_page, names_asked, names_page};
-ghost use Rattle.nfs_names.specs.Stopping.{StopsAny};
+ghost use Rattle.nfs_inodes.specs.Stops.{StopsAt};
 
 use crate::page::{Budget, Front, PageAsked, page_in};
 use nfs_inodes::{Known, Listed, named, verifier};
@@ -56,7 +56,7 @@ fn listed(
     requires known { Knows draft.now (λ k. IsKnown k.state known.now) }
     ensures { MatchResult result
         (Lists draft.now known.now asked.now (λ _. names_page draft.now.ctx))
-        (StopsAny draft.now) }
+        (StopsAt draft.now []) }
 {
     match page_in(draft, known, asked)? {
         Ok(front) => Ok(Ok(Page {

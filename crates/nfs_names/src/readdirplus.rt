@@ -12,7 +12,7 @@ ghost use Rattle.nfs_inodes.specs.Gathers.{EachLives};
 ghost use Rattle.nfs_inodes.specs.Known.{IsKnown};
 ghost use Rattle.nfs_inodes.specs.Listing.{listed_entry};
 ghost use Rattle.nfs_names.specs.Pages.{Lists, front_page, full_asked, full_page};
-ghost use Rattle.nfs_names.specs.Stopping.{StopsAny};
+ghost use Rattle.nfs_inodes.specs.Stops.{StopsAt};
 
 use crate::page::{Budget, Front, PageAsked, page_in};
 use crate::readdir::page_entry;
@@ -59,7 +59,7 @@ fn listed(
     requires known { Knows draft.now (λ k. IsKnown k.state known.now) }
     ensures { MatchResult result
         (Lists draft.now known.now asked.now (λ m. full_page m draft.now.ctx))
-        (StopsAny draft.now) }
+        (StopsAt draft.now []) }
 {
     match page_in(draft, known, asked)? {
         Ok(front) => {
@@ -81,7 +81,7 @@ fn entries(draft: &Draft<'_>, front: &Front<'_>) -> Result<FullNames, Halt>
     ensures { MatchResult result
         (λ entries. Knows draft.now (λ k.
         map (full_entry k.state draft.now.ctx) (front_page front.now).entries ≡ entries))
-        (StopsAny draft.now) }
+        (StopsAt draft.now []) }
 {
     let mut entries = Vec::with_capacity(draft.alloc(), front.count)?;
     for index in 0..front.count {
@@ -97,7 +97,7 @@ fn full_entry(draft: &Draft<'_>, entry: &Listed<'_>) -> Result<FullEntry, Halt>
     requires { Lives draft.now.view (Addr.Inode entry.now.number) }
     ensures { MatchResult result
         (λ shown. Knows draft.now (λ k. full_entry k.state draft.now.ctx (listed_entry entry.now) ≡ shown))
-        (StopsAny draft.now) }
+        (StopsAt draft.now []) }
 {
     let named = page_entry(entry)?;
     match object(draft, entry.number)? {

@@ -1,15 +1,15 @@
 //! REMOVE and RMDIR: a name is taken away (RFC 1813, 3.3.12 and 3.3.13).
 
-ghost use Rattle.std.specs.Prelude.{◌≡◌, [], MatchResult};
+ghost use Rattle.std.specs.Prelude.{◌≡◌, ◌∷◌, [], MatchResult};
 ghost use Rattle.nfs_machine.specs.RemoveSteps.{empty_directory};
 ghost use Rattle.nfs_objects.specs.Attempt.{Ends, EndsFirst};
 ghost use Rattle.nfs_objects.specs.Begins.{Begins};
+ghost use Rattle.nfs_objects.specs.Calls.{addresses_of};
 ghost use Rattle.nfs_objects.specs.Knows.{Does, Knows};
 ghost use Rattle.nfs_objects.specs.Modes.{changing};
 ghost use Rattle.nfs_inodes.specs.Known.{IsKnown, Names, content_at};
 ghost use Rattle.nfs_inodes.specs.Stops.{StopsAt};
 ghost use Rattle.nfs_names.specs.Removes.{IsTakable, IsTakenEnd, above, call_of, judged, reply_of};
-ghost use Rattle.nfs_names.specs.Stopping.{StopsAny};
 
 use crate::checking::changed_directory;
 use crate::make::nothing_shown;
@@ -58,7 +58,7 @@ fn take(
     requires names { Knows draft.old (λ k. Names draft.old.ctx place.now.directory k known.now) }
     ensures { MatchResult result
         (Does draft.old draft.new (IsTakenEnd taking draft.old.ctx place.now))
-        (StopsAt draft.old Addr.Exports) }
+        (StopsAt draft.old (Addr.Exports ∷ [])) }
 {
     let name = place.name.as_slice();
     let own = NfsStatus::Invalid;
@@ -102,7 +102,7 @@ fn takable(
     requires known { Knows draft.now (λ k. IsKnown k.state directory.now.known) }
     ensures { MatchResult result
         (λ found. Knows draft.now (λ k. IsTakable taking k.state directory.now.known.number name.now found))
-        (StopsAny draft.now) }
+        (StopsAt draft.now []) }
 {
     let Some(number) = entry(draft, directory, name)? else {
         return Ok(Err(NfsStatus::NoEntry));
@@ -122,7 +122,7 @@ fn judged(draft: &Draft<'_>, taking: Taking, object: &Known) -> Result<Result<()
     requires known { Knows draft.now (λ k. IsKnown k.state object.now) }
     ensures { MatchResult result
         (λ verdict. Knows draft.now (λ k. judged taking (content_at k.state object.now.number) ≡ verdict))
-        (StopsAt draft.now (Addr.Inode object.now.number)) }
+        (StopsAt draft.now (addresses_of draft.now.view object.now.number)) }
 {
     match taking {
         Taking::Remove => Ok(no_directory(NfsStatus::IsDirectory, object)),
@@ -135,7 +135,7 @@ fn empty_directory(draft: &Draft<'_>, object: &Known) -> Result<Result<(), NfsSt
     requires known { Knows draft.now (λ k. IsKnown k.state object.now) }
     ensures { MatchResult result
         (λ verdict. Knows draft.now (λ k. empty_directory (content_at k.state object.now.number) ≡ verdict))
-        (StopsAt draft.now (Addr.Inode object.now.number)) }
+        (StopsAt draft.now (addresses_of draft.now.view object.now.number)) }
 {
     let directory = match directory(object) {
         Ok(directory) => directory,

@@ -9,7 +9,7 @@ ghost use Rattle.nfs_machine.specs.Times.{time_of};
 ghost use Rattle.nfs_machine.specs.WellFormed.{WellFormed};
 ghost use Rattle.nfs_machine.specs.declared.calls.Call.TheVariants as calls;
 ghost use Rattle.nfs_objects.specs.Asks.{Lives};
-ghost use Rattle.nfs_objects.specs.Attempt.{Ends, EndsFirst, Stops};
+ghost use Rattle.nfs_objects.specs.Attempt.{Ends, EndsFirst};
 ghost use Rattle.nfs_objects.specs.Begins.{Begins};
 ghost use Rattle.nfs_objects.specs.Calls.{named_by};
 ghost use Rattle.nfs_objects.specs.Drafts.{MayChange};
@@ -17,8 +17,7 @@ ghost use Rattle.nfs_objects.specs.Knows.{Does, Knows, Turns};
 ghost use Rattle.nfs_objects.specs.Modes.{led_at};
 ghost use Rattle.nfs_objects.specs.declared.address.Addr.TheVariants as addresses;
 ghost use Rattle.nfs_inodes.specs.Known.{HasNumber, IsKnown, Names, content_at};
-ghost use Rattle.nfs_inodes.specs.Stops.{UsageLives};
-ghost use Rattle.nfs_names.specs.Stopping.{StopsAny};
+ghost use Rattle.nfs_inodes.specs.Stops.{StopsAt, UsageLives};
 ghost use Rattle.nfs_names.specs.Renames.{ComesToBoth, IsRenameEnd, IsRenaming, IsUnder, MayRename};
 ghost use Rattle.nfs_names.specs.Renames.{brings_directory};
 ghost use Rattle.nfs_names.specs.Renames.{entry_moved, is_directory_kind, is_one_directory, links_given, links_left};
@@ -110,7 +109,7 @@ fn rename(
     requires target { HasNumber arguments.now.to.directory to.now.number }
     ensures { MatchResult result
         (Does draft.old draft.new (IsRenameEnd draft.old.ctx arguments.now))
-        (Stops draft.old.modes (named_by (calls.Nfs (NfsCall.Rename arguments.now))) draft.old.view) }
+        (StopsAt draft.old (named_by (calls.Nfs (NfsCall.Rename arguments.now)) draft.old.view)) }
 {
     let places = match movable(draft.ctx(), exports(draft)?, from, to, arguments) {
         Ok(places) => places,
@@ -175,7 +174,7 @@ fn object_under(
     requires known { Knows draft.now (λ k. IsKnown k.state directory.now.known) }
     ensures finds { MatchResult result
         (λ found. Knows draft.now (λ k. IsUnder k.state directory.now.known name.now found))
-        (StopsAny draft.now) }
+        (StopsAt draft.now []) }
     ensures led { IfOk result (λ found. IfSome found (λ x.
         led_at draft.now.view directory.now.known.number name.now ≡ Some x.number)) }
 {
@@ -198,7 +197,7 @@ fn rename_found(
     requires finds { Knows draft.old (λ k. IsRenaming k draft.old.ctx arguments.now renaming.now) }
     ensures { MatchResult result
         (Does draft.old draft.new (IsRenameEnd draft.old.ctx arguments.now))
-        (StopsAny draft.old) }
+        (StopsAt draft.old []) }
 {
     if is_one_object(renaming) {
         return Ok(Ok(()));
@@ -245,7 +244,7 @@ fn is_replaceable(draft: &Draft<'_>, renaming: &Renaming) -> Result<bool, Halt>
         (λ replaceable. Knows draft.now (λ k. option_map_or
         (λ o. is_compatible (content_at k.state renaming.now.moved.number) (content_at k.state o.number))
         renaming.now.replaced true ≡ replaceable))
-        (StopsAny draft.now) }
+        (StopsAt draft.now []) }
 {
     let Some(replaced) = &renaming.replaced else {
         return Ok(true);
@@ -268,7 +267,7 @@ fn goes_into_itself(draft: &Draft<'_>, reads: usize, renaming: &Renaming) -> Res
     ensures { MatchResult result
         (λ within. Knows draft.now (λ k. WellFormed k.state →
         (within ≡ true) ↔ IsWithin k.state renaming.now.moved.number renaming.now.to.known.number))
-        (StopsAny draft.now) }
+        (StopsAt draft.now []) }
 {
     if is_directory(&renaming.moved) {
         is_within(draft, reads, renaming.moved.number, &renaming.to)
@@ -302,7 +301,7 @@ fn move_name(
     ensures { MatchResult result
         (λ _. Turns draft.old draft.new
         (renamed (time_of draft.old.ctx.moment) arguments.now renaming.now cookie))
-        (StopsAny draft.old) }
+        (StopsAt draft.old []) }
 {
     move_entry(draft, renaming, arguments, cookie)?;
     rehome(draft, renaming.moved.number, renaming.to.known.number)?;
@@ -322,7 +321,7 @@ fn move_entry(
     ensures { MatchResult result
         (λ _. Turns draft.old draft.new
         (entry_moved (time_of draft.old.ctx.moment) arguments.now renaming.now cookie))
-        (StopsAny draft.old) }
+        (StopsAt draft.old []) }
 {
     let old_name = arguments.from.name.as_slice();
     let new_name = arguments.to.name.as_slice();
@@ -350,7 +349,7 @@ fn lose_replaced(draft: &mut Draft<'_>, renaming: &Renaming) -> Result<(), Halt>
     requires counts { IfSome renaming.now.replaced (λ o. UsageLives draft.old o.number) }
     ensures { MatchResult result
         (λ _. Turns draft.old draft.new (replaced_lost (time_of draft.old.ctx.moment) renaming.now))
-        (StopsAny draft.old) }
+        (StopsAt draft.old []) }
 {
     match &renaming.replaced {
         Some(replaced) => lose_link(draft, replaced.number, names_counted(replaced)),

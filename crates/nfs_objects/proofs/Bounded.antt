@@ -1,9 +1,9 @@
 -- A call asks for few addresses where nothing stands: each of them is one that it names, and is asked for once.
 use Rattle.std.proofs.Common.{◌≡◌, ℕ, zero, suc, ◌+◌, ◌*◌, ◌<◌, ◌≤◌, true, false, Bool, cond}
 use Rattle.std.proofs.Common.{◌||◌, List, []}
-use Rattle.std.proofs.Common.{◌∷◌, ◌++◌, length, Option, Some, None, IsSome, is_some, inl, inr}
+use Rattle.std.proofs.Common.{◌∷◌, ◌++◌, length, map, Option, Some, None, IsSome, is_some, inl, inr}
 use Rattle.std.proofs.Common.{length-append, refl, sym, ◌∙◌, ap, subst, arith}
-use Rattle.std.proofs.lemmas.List.{append-nil, append_assoc, map-append}
+use Rattle.std.proofs.lemmas.List.{append-nil, append_assoc, length-map, map-append}
 use Rattle.std.proofs.lemmas.List.Sums.{count_by-le-length, sum_by-append, sum_by-cons, sum_by_push}
 use Rattle.std.specs.List.{AllByRecursion, count_by}
 use Rattle.std.specs.Option.{is_none}
@@ -17,12 +17,15 @@ use Rattle.nfs_machine.specs.declared.calls.Call.{Call}
 use Rattle.nfs_machine.specs.declared.calls.Call.TheVariants as calls
 use Rattle.nfs_machine.specs.declared.context.Ctx.{Ctx}
 use Rattle.nfs_machine.specs.declared.handle.Handle.{Handle}
-use Rattle.nfs_objects.proofs.Seen.{all-append, all-map, is_addr-refl}
+use Rattle.nfs_machine.proofs.Modes.{all-joined}
+use Rattle.nfs_objects.proofs.Seen.{all-map, is_addr-refl}
 use Rattle.nfs_objects.specs.Asks.{EachOnce, MayAsk}
 use Rattle.nfs_objects.specs.Attempt.{Attempts}
-use Rattle.nfs_objects.specs.Bound.{AsksFew, Given, Gives, Grows, NamesFew, Read, Round, WasAsked, asked_count}
+use Rattle.nfs_objects.specs.Bound.{AsksFew, Given, Gives, Grows, NamesFew, NamesStay, Read, Round, WasAsked}
+use Rattle.nfs_objects.specs.Bound.{asked_count}
 use Rattle.nfs_objects.specs.Bound.{empty_count, held, view_after, with_round}
-use Rattle.nfs_objects.specs.Calls.{IsAmong, named_by, nfs_handles, nlm_handles, objects_at, usages_of}
+use Rattle.nfs_objects.specs.Calls.{IsAmong, addresses_of, made_by, named_by, new_numbers, nfs_handles, nlm_handles}
+use Rattle.nfs_objects.specs.Calls.{objects_at, usages_of}
 use Rattle.nfs_objects.specs.Fits.{Fits, vacant}
 use Rattle.nfs_objects.specs.Modes.{modes_of}
 use Rattle.nfs_objects.specs.Sound.{Sound}
@@ -173,6 +176,16 @@ module _ (s : Store) (named : List Addr) where
         count-more (is_in xs) (is_in (xs ++ y ∷ [])) (in-more xs y) named,
       )
 
+  -- so many more of the others
+  within-others : (xs ys : List (Addr × Mode)) (others : ℕ) → Within xs others →
+      Within (xs ++ ys) (others + length ys)
+  within-others xs [] others within =
+      subst (λ (l : List (Addr × Mode)). Within l (others + 0)) (sym (append-nil xs)) (omega (arith, within))
+  within-others xs (y ∷ ys) others within =
+      let rest = within-others (xs ++ y ∷ []) ys (others + 1) (within-other xs y others within) in
+      subst (λ (l : List (Addr × Mode)). Within l (others + length (y ∷ ys))) (append_assoc xs (y ∷ []) ys)
+      (omega (arith, rest))
+
   new-still : (xs : List (Addr × Mode)) (y z : Addr × Mode) → IsNew xs z → is_addr y.0 z.0 ≡ false →
       IsNew (xs ++ y ∷ []) z
   new-still xs y z new other = (in-append xs y z.0 ∙ ap (λ b. b || is_addr y.0 z.0) new.0 ∙ other, new.1)
@@ -197,12 +210,12 @@ some-before (e ∷ es) ys a some =
       | false ↦ λ there. some-before es ys a there
     ] some
 
-some-last : (xs : List Seen) (y : Seen) → IsSome (seen_at (xs ++ y ∷ []) y.address)
-some-last [] y = ap (λ b. is_some (cond b (Some y) None)) (is_addr-refl y.address)
-some-last (e ∷ es) y =
-    elim (is_addr e.address y.address) as (λ b. IsSome (cond b (Some e) (seen_at (es ++ y ∷ []) y.address))) [
+some-behind : (xs ys : List Seen) (a : Addr) → IsSome (seen_at ys a) → IsSome (seen_at (xs ++ ys) a)
+some-behind [] ys a some = some
+some-behind (e ∷ es) ys a some =
+    elim (is_addr e.address a) as (λ b. IsSome (cond b (Some e) (seen_at (es ++ ys) a))) [
       | true ↦ refl
-      | false ↦ some-last es y
+      | false ↦ some-behind es ys a some
     ]
 
 -- what is seen in a larger view was seen so, if it was
@@ -217,7 +230,7 @@ seen-front (e ∷ es) ys a x some seen =
     ] some seen
 
 -- each number that may be given has an entry
-abbrev HasEntry : List Seen → Reserved → Type 0
+abbrev pub HasEntry : List Seen → Reserved → Type 0
 HasEntry entries r = IsSome (seen_at entries (addresses.Inode r.number))
 
 more-entries : (entries more : List Seen) (reserved : List Reserved) → AllByRecursion (HasEntry entries) reserved →
@@ -226,15 +239,30 @@ more-entries entries more reserved all =
     all-map (HasEntry entries) (HasEntry (entries ++ more))
     (λ r some. some-before entries more (addresses.Inode r.number) some) reserved all
 
-have-entries : (rounds : List Round) → AllByRecursion (HasEntry (view_after rounds).entries)
+-- each of these numbers has its vacant entry
+have-vacant : (numbers : List Reserved) → AllByRecursion (HasEntry (map vacant numbers)) numbers
+have-vacant [] = tt
+have-vacant (r ∷ numbers) = (
+  ap (λ b. is_some (cond b (Some (vacant r)) (seen_at (map vacant numbers) (addresses.Inode r.number))))
+      (is_addr-refl (addresses.Inode r.number)),
+  all-map (HasEntry (map vacant numbers)) (HasEntry (vacant r ∷ map vacant numbers))
+      (λ q some. some-behind (vacant r ∷ []) (map vacant numbers) (addresses.Inode q.number) some) numbers
+      (have-vacant numbers),
+)
+
+pub have-entries : (rounds : List Round) → AllByRecursion (HasEntry (view_after rounds).entries)
     (view_after rounds).reserved
 have-entries [] = tt
 have-entries (Read entries ∷ earlier) = more-entries (view_after earlier).entries entries
     (view_after earlier).reserved (have-entries earlier)
-have-entries (Given r ∷ earlier) =
-    all-append (HasEntry ((view_after earlier).entries ++ vacant r ∷ [])) (view_after earlier).reserved r
-    (more-entries (view_after earlier).entries (vacant r ∷ []) (view_after earlier).reserved (have-entries earlier))
-    (some-last (view_after earlier).entries (vacant r))
+have-entries (Given numbers ∷ earlier) =
+    let entries = (view_after earlier).entries in
+    let reserved = (view_after earlier).reserved in
+    all-joined (HasEntry (entries ++ map vacant numbers)) reserved numbers
+    (more-entries entries (map vacant numbers) reserved (have-entries earlier))
+    (all-map (HasEntry (map vacant numbers)) (HasEntry (entries ++ map vacant numbers))
+    (λ r some. some-behind entries (map vacant numbers) (addresses.Inode r.number) some) numbers
+    (have-vacant numbers))
 
 -- the number may be given in this store
 abbrev MayBeGiven : Store → List Seen → Reserved → Type 0
@@ -255,12 +283,18 @@ fits-front s entries more reserved have stand given = record {
 }
 
 -- a store that the larger view fits fits the view before
-fits-before : (s : Store) (v : ViewValue) (round : Round) → AllByRecursion (HasEntry v.entries) v.reserved →
+pub fits-before : (s : Store) (v : ViewValue) (round : Round) → AllByRecursion (HasEntry v.entries) v.reserved →
     Fits (with_round v round) s → Fits v s
 fits-before s v (Read entries) have fits = fits-front s v.entries entries v.reserved have fits.entries fits.reserved
-fits-before s v (Given r) have fits =
-    fits-front s v.entries (vacant r ∷ []) v.reserved have fits.entries
-    (all-front (MayBeGiven s (v.entries ++ vacant r ∷ [])) v.reserved (r ∷ []) fits.reserved)
+fits-before s v (Given numbers) have fits =
+    fits-front s v.entries (map vacant numbers) v.reserved have fits.entries
+    (all-front (MayBeGiven s (v.entries ++ map vacant numbers)) v.reserved numbers fits.reserved)
+
+-- ---- what a call names stays
+pub names-stay : NamesStay
+names-stay (calls.Nfs call) view round = record { named = λ a among. among; numbers = omega arith }
+names-stay (calls.Mount call) view round = record { named = λ a among. among; numbers = omega arith }
+names-stay (calls.Nlm call) view round = record { named = λ a among. among; numbers = omega arith }
 
 -- ---- rounds
 in-all : (P : Addr × Mode → Type 0) (xs : List (Addr × Mode)) (a : Addr × Mode) → AllByRecursion P xs →
@@ -270,78 +304,101 @@ in-all P (x ∷ xs) a all (inl same) = subst P same all.0
 in-all P (x ∷ xs) a all (inr rest) = in-all P xs a all.1 rest
 
 module _ (call : Call) (ctx : Ctx) (s : Store) (k : Kept) (stands : Represents s k) (sound : Sound k)
-    (formed : WellFormed k.state) where
-  asked-new : (v : ViewValue) → Fits v s → (a : Addr × Mode) → MayAsk (modes_of call) (named_by call) v a →
-      IsNew s (named_by call) (held v.entries) a
-  asked-new v fits a may = (
+    (formed : WellFormed k.state) (all : List Addr) where
+  -- what the call names on this view is among these
+  abbrev pub Names : ViewValue → Type 0
+  Names v = (a : Addr) → IsAmong (named_by call v) a → IsAmong all a
+
+  asked-new : (v : ViewValue) → Names v → Fits v s → (a : Addr × Mode) →
+      MayAsk (modes_of call) (named_by call v) v a → IsNew s all (held v.entries) a
+  asked-new v names fits a may = (
     unseen-out v.entries a.0 may.unseen,
     λ none. (elim may.bounded [
-      | inl among ↦ among
+      | inl among ↦ names a.0 among
       | inr lives ↦ (let some = lives s k fits stands sound formed in cc)
     ]),
   )
 
   abbrev Bounded : ViewValue → Type 0
-  Bounded v = Within s (named_by call) (held v.entries) (length v.reserved) × (length v.reserved ≤ 1)
+  Bounded v = Within s all (held v.entries) (length v.reserved) × (length v.reserved ≤ new_numbers call v)
 
   bounded-one : (v : ViewValue) (round : Round) (outcome : Outcome) → Attempts call ctx v outcome →
-      Gives outcome round → Fits v s → Bounded v → Bounded (with_round v round)
-  bounded-one v (Read entries) (Need asked) attempts gives fits bounded = (
-    subst (λ (l : List (Addr × Mode)). Within s (named_by call) l (length v.reserved))
+      Gives outcome round → Names v → Fits v s → Bounded v → Bounded (with_round v round)
+  bounded-one v (Read entries) (Need asked) attempts gives names fits bounded = (
+    subst (λ (l : List (Addr × Mode)). Within s all l (length v.reserved))
         (sym (map-append (λ (e : Seen). (e.address, e.mode)) v.entries entries))
-        (within-many s (named_by call) (held v.entries) (held entries) (length v.reserved) bounded.0
-        (all-map (WasAsked asked.items) (IsNew s (named_by call) (held v.entries))
+        (within-many s all (held v.entries) (held entries) (length v.reserved) bounded.0
+        (all-map (WasAsked asked.items) (IsNew s all (held v.entries))
         (λ a was.
-        let may = in-all (MayAsk (modes_of call) (named_by call) v) asked.items a attempts.each was in
-        asked-new v fits a may)
+        let may = in-all (MayAsk (modes_of call) (named_by call v) v) asked.items a attempts.each was in
+        asked-new v names fits a may)
         (held entries) gives.1) gives.0),
-    bounded.1,
+    omega (arith, bounded.1, (names-stay call v (Read entries)).numbers),
   )
-  bounded-one v (Read entries) (Fresh count) attempts gives fits bounded = absurd gives
-  bounded-one v (Read entries) (Done change) attempts gives fits bounded = absurd gives
-  bounded-one v (Given r) (Need asked) attempts gives fits bounded = absurd gives
-  bounded-one v (Given r) (Fresh count) attempts gives fits bounded =
-      let none : v.reserved ≡ [] = attempts.0 in
-      let was : length v.reserved ≡ 0 = ap (λ (l : List Reserved). length l) none in
-      let now : length (v.reserved ++ r ∷ []) ≡ 1 = ap (λ (l : List Reserved). length (l ++ r ∷ [])) none in (
-        subst (λ (l : List (Addr × Mode)). Within s (named_by call) l (length (v.reserved ++ r ∷ [])))
-            (sym (map-append (λ (e : Seen). (e.address, e.mode)) v.entries (vacant r ∷ [])))
-            (let w = within-other s (named_by call) (held v.entries) (addresses.Inode r.number, (vacant r).mode)
-            (length v.reserved) bounded.0 in omega (arith, w, was, now)),
-        omega (arith, now),
+  bounded-one v (Read entries) (Fresh count) attempts gives names fits bounded = absurd gives
+  bounded-one v (Read entries) (Done change) attempts gives names fits bounded = absurd gives
+  bounded-one v (Given numbers) (Need asked) attempts gives names fits bounded = absurd gives
+  bounded-one v (Given numbers) (Fresh count) attempts gives names fits bounded =
+      let was : length v.reserved ≡ 0 = ap (λ (l : List Reserved). length l) attempts.none in
+      let both = length-append v.reserved numbers in
+      let many : length (held (map vacant numbers)) ≡ length numbers =
+      length-map (map vacant numbers) (λ (e : Seen). (e.address, e.mode)) ∙ length-map numbers vacant in
+      let within = within-others s all (held v.entries) (held (map vacant numbers)) (length v.reserved) bounded.0 in (
+        subst (λ (l : List (Addr × Mode)). Within s all l (length (v.reserved ++ numbers)))
+            (sym (map-append (λ (e : Seen). (e.address, e.mode)) v.entries (map vacant numbers)))
+            (omega (arith, within, both, many)),
+        omega (arith, was, both, gives, attempts.whole, (names-stay call v (Given numbers)).numbers),
       )
-  bounded-one v (Given r) (Done change) attempts gives fits bounded = absurd gives
+  bounded-one v (Given numbers) (Done change) attempts gives names fits bounded = absurd gives
 
   bounded : (rounds : List Round) → Grows call ctx rounds → Fits (view_after rounds) s →
-      Bounded (view_after rounds)
-  bounded [] grows fits = (omega arith, omega arith)
-  bounded (round ∷ earlier) grows fits =
-      let before = fits-before s (view_after earlier) round (have-entries earlier) fits in
-      bounded-one (view_after earlier) round grows.0 grows.1 grows.2 before (bounded earlier grows.3 before)
+      Names (view_after rounds) → Bounded (view_after rounds)
+  bounded [] grows fits names = (omega arith, omega arith)
+  bounded (round ∷ earlier) grows fits names =
+      let v = view_after earlier in
+      let before = fits-before s v round (have-entries earlier) fits in
+      let named : Names v = λ a among. names a ((names-stay call v round).named a among) in
+      bounded-one v round grows.0 grows.1 grows.2 named before (bounded earlier grows.3 before named)
 
-  few : (v : ViewValue) (outcome : Outcome) → Attempts call ctx v outcome → Fits v s → Bounded v
-      → empty_count s (held v.entries) + asked_count s outcome ≤ length (named_by call) + 1
-  few v (Need asked) attempts fits bounded =
-      let all = within-many s (named_by call) (held v.entries) asked.items (length v.reserved) bounded.0
-      (all-map (MayAsk (modes_of call) (named_by call) v) (IsNew s (named_by call) (held v.entries))
-      (asked-new v fits) asked.items attempts.each) attempts.once in
+  few : (v : ViewValue) (outcome : Outcome) → Attempts call ctx v outcome → Names v → Fits v s → Bounded v
+      → empty_count s (held v.entries) + asked_count s outcome ≤ length all + new_numbers call v
+  few v (Need asked) attempts names fits bounded =
+      let more = within-many s all (held v.entries) asked.items (length v.reserved) bounded.0
+      (all-map (MayAsk (modes_of call) (named_by call v) v) (IsNew s all (held v.entries))
+      (asked-new v names fits) asked.items attempts.each) attempts.once in
       omega (
         arith,
-        all,
+        more,
         bounded.1,
         sum_by-append (λ (a : Addr × Mode). cond {A = ℕ} (is_none (s.at a.0)) 1 0) (held v.entries) asked.items,
-        count_by-le-length (is_in (held v.entries ++ asked.items)) (named_by call),
+        count_by-le-length (is_in (held v.entries ++ asked.items)) all,
       )
-  few v (Fresh count) attempts fits bounded =
-      let was : length v.reserved ≡ 0 = ap (λ (l : List Reserved). length l) attempts.0 in
-      omega (arith, bounded.0, was, attempts.1, count_by-le-length (is_in (held v.entries)) (named_by call))
-  few v (Done change) attempts fits bounded =
-      omega (arith, bounded.0, bounded.1, count_by-le-length (is_in (held v.entries)) (named_by call))
+  few v (Fresh count) attempts names fits bounded =
+      let was : length v.reserved ≡ 0 = ap (λ (l : List Reserved). length l) attempts.none in
+      omega (arith, bounded.0, was, attempts.whole, count_by-le-length (is_in (held v.entries)) all)
+  few v (Done change) attempts names fits bounded =
+      omega (arith, bounded.0, bounded.1, count_by-le-length (is_in (held v.entries)) all)
+
+  -- so few among these hold nothing, and of what is asked for
+  pub few-among : (rounds : List Round) (outcome : Outcome) → Grows call ctx rounds →
+      Attempts call ctx (view_after rounds) outcome → Fits (view_after rounds) s → Names (view_after rounds) →
+      empty_count s (held (view_after rounds).entries) + asked_count s outcome ≤
+      length all + new_numbers call (view_after rounds)
+  few-among rounds outcome grows attempts fits names =
+      few (view_after rounds) outcome attempts names fits (bounded rounds grows fits names)
+
+  -- and of what was read
+  pub read-among : (rounds : List Round) → Grows call ctx rounds → Fits (view_after rounds) s →
+      Names (view_after rounds) → empty_count s (held (view_after rounds).entries) ≤
+      length all + new_numbers call (view_after rounds)
+  read-among rounds grows fits names =
+      let b = bounded rounds grows fits names in
+      omega (arith, b.0, b.1, count_by-le-length (is_in (held (view_after rounds).entries)) all)
 
 pub asks-few : AsksFew
 asks-few call ctx rounds outcome s k grows attempts fits stands sound formed =
-    few call ctx s k stands sound formed (view_after rounds) outcome attempts fits
-    (bounded call ctx s k stands sound formed rounds grows fits)
+    few-among call ctx s k stands sound formed (named_by call (view_after rounds)) rounds outcome grows attempts fits
+    (λ a among. among)
 
 -- ---- what a call names
 usages-few : (export count : ℕ) → length (usages_of export count) ≡ count
@@ -349,20 +406,21 @@ unfolding usages_of
 usages-few export zero = refl
 usages-few export (suc count) = ap suc (usages-few export count)
 
-objects-few : (handles : List (List ℕ)) → length (objects_at handles) ≤ 65 * length handles
-objects-few [] = omega arith
-objects-few (handle ∷ handles) =
-    let rest = objects-few handles in
+objects-few : (view : ViewValue) (handles : List (List ℕ)) →
+    length (objects_at view handles) ≤ 65 * length handles
+objects-few view [] = omega arith
+objects-few view (handle ∷ handles) =
+    let rest = objects-few view handles in
     elim (handle_of handle) as (λ (h : Option Handle).
     length (elim h as (λ (o : Option Handle). List Addr) [
-      | None ↦ objects_at handles
-      | Some x ↦ addresses.Inode x.fileid ∷ usages_of x.export 64 ++ objects_at handles
+      | None ↦ objects_at view handles
+      | Some x ↦ addresses_of view x.fileid ++ usages_of x.export 64 ++ objects_at view handles
     ]) ≤ 65 * length (handle ∷ handles)) [
       | None ↦ omega (arith, rest)
       | Some h ↦ omega (
         arith,
         rest,
-        length-append (usages_of h.export 64) (objects_at handles),
+        length-append (usages_of h.export 64) (objects_at view handles),
         usages-few h.export 64,
       )
     ]
@@ -413,7 +471,32 @@ nlm-handles-few (nlm.Unshare a) = omega arith
 nlm-handles-few (nlm.NmLock a) = omega arith
 nlm-handles-few (nlm.FreeAll a) = omega arith
 
+made-few : (call : NfsCall) → made_by call ≤ 1
+made-few (nfs.Create a) = omega arith
+made-few (nfs.Mkdir a) = omega arith
+made-few (nfs.Symlink a) = omega arith
+made-few (nfs.Mknod a) = omega arith
+made-few nfs.Null = omega arith
+made-few (nfs.Getattr a) = omega arith
+made-few (nfs.Setattr a) = omega arith
+made-few (nfs.Lookup a) = omega arith
+made-few (nfs.Access a) = omega arith
+made-few (nfs.Readlink a) = omega arith
+made-few (nfs.Read a) = omega arith
+made-few (nfs.Write a) = omega arith
+made-few (nfs.Remove a) = omega arith
+made-few (nfs.Rmdir a) = omega arith
+made-few (nfs.Readdir a) = omega arith
+made-few (nfs.Readdirplus a) = omega arith
+made-few (nfs.Fsstat a) = omega arith
+made-few (nfs.Fsinfo a) = omega arith
+made-few (nfs.Pathconf a) = omega arith
+made-few (nfs.Commit a) = omega arith
+made-few (nfs.Rename a) = omega arith
+made-few (nfs.Link a) = omega arith
+
 pub names-few : NamesFew
-names-few (calls.Nfs call) = omega (arith, objects-few (nfs_handles call), nfs-handles-few call)
-names-few (calls.Mount call) = omega arith
-names-few (calls.Nlm call) = omega (arith, objects-few (nlm_handles call), nlm-handles-few call)
+names-few (calls.Nfs call) view =
+    omega (arith, objects-few view (nfs_handles call), nfs-handles-few call, made-few call)
+names-few (calls.Mount call) view = omega arith
+names-few (calls.Nlm call) view = omega (arith, objects-few view (nlm_handles call), nlm-handles-few call)

@@ -2,30 +2,28 @@
 use Rattle.std.proofs.Common.{◌≡◌, ◌≢◌, ◌==◌, ◌<◌, ℕ, zero, suc, true, false, List, [], ◌∷◌}
 use Rattle.std.proofs.Common.{◌++◌}
 use Rattle.std.proofs.Common.{Option, Some, None, Result, Ok, Err, ◌⊎◌, inl}
-use Rattle.std.proofs.Common.{inr, refl, sym, ◌∙◌, ap, subst, arith}
+use Rattle.std.proofs.Common.{inr, refl, sym, ◌∙◌, ap, subst, arith, append-nil}
 use Rattle.std.specs.Cmp.{unsigned_Decides}
+use Rattle.std.specs.List.{AllByRecursion}
 use Rattle.std.proofs.Math.Nat.{mod-lt}
-use Rattle.nfs_wire.specs.declared.status.NfsStatus.{NfsStatus}
+use Rattle.nfs_machine.proofs.Modes.{all-joined}
 use Rattle.nfs_machine.specs.Handles.{handle_of}
-use Rattle.nfs_machine.specs.State.{State}
 use Rattle.nfs_machine.specs.declared.calls.Call.{Call}
-use Rattle.nfs_machine.specs.declared.context.Ctx.{Ctx}
+use Rattle.nfs_machine.specs.declared.calls.Call.TheVariants as calls
 use Rattle.nfs_machine.specs.declared.handle.Handle.{Handle}
-use Rattle.nfs_objects.proofs.Seen.{unknown-unseen}
-use Rattle.nfs_objects.specs.Asks.{Asks, IsFresh, Lacks, Lives}
-use Rattle.nfs_objects.specs.Attempt.{Ends, IsSettled, Stops}
-use Rattle.nfs_objects.specs.Calls.{IsAmong, objects_at, usages_of}
-use Rattle.nfs_objects.specs.Knows.{Comes, Halts, IsNoStatus, Knows, Possible, Tells, Turns, unsettled}
+use Rattle.nfs_objects.proofs.Seen.{all-map, unknown-unseen}
+use Rattle.nfs_objects.specs.Asks.{Asks, IsFresh, Lacks, Lives, MayAsk}
+use Rattle.nfs_objects.specs.Attempt.{Stops}
+use Rattle.nfs_objects.specs.Calls.{IsAmong, addresses_of, handles_of, named_by, objects_at, usages_of}
+use Rattle.nfs_objects.specs.Knows.{Turns}
 use Rattle.nfs_objects.specs.Modes.{mode_at}
 use Rattle.nfs_objects.specs.Stands.{Kept}
-use Rattle.nfs_objects.specs.Store.{Store}
 use Rattle.nfs_objects.specs.Sums.{group_of}
 use Rattle.nfs_objects.specs.Values.{DraftValue, ModesValue, ViewValue, seen_at}
 use Rattle.nfs_objects.specs.declared.address.Addr.{Addr}
 use Rattle.nfs_objects.specs.declared.address.Addr.TheVariants as addresses
-use Rattle.nfs_objects.specs.declared.change.Change.{Change}
 use Rattle.nfs_objects.specs.declared.change.Halt.{Halt}
-use Rattle.nfs_objects.specs.declared.change.Halt.TheVariants.{Need, Fresh, Memory, Status}
+use Rattle.nfs_objects.specs.declared.change.Halt.TheVariants.{Need, Fresh, Memory}
 use Rattle.nfs_objects.specs.declared.modes.Mode.{Mode}
 
 -- one address that is asked for
@@ -39,98 +37,105 @@ asks-one modes named view a asked unseen is bounded =
       each = (record { unseen = unseen; mode = refl; bounded = bounded }, tt);
     })
 
-module _ (d : DraftValue) (named : List Addr) where
-  -- a refusal that means another
-  pub halts-as : (P Q : NfsStatus → Kept → Type 0) →
-      ((e : NfsStatus) (s : Store) (k : Kept) → Possible d s k → P e k → Q e k)
-      → (halt : Halt) → Halts d named P halt → Halts d named Q halt
-  halts-as P Q f (Need asked) h = h
-  halts-as P Q f (Fresh count) h = h
-  halts-as P Q f Memory h = h
-  halts-as P Q f (Status e) h = λ s k w. f e s k w (h s k w)
+-- ---- how a call stops
+-- an address that the draft lacks stops the call that names it, or where something stands
+pub lacks-stops : (d : DraftValue) (named : List Addr) (numbers : ℕ) (a : Addr) (halt : Halt) → Lacks d a halt →
+    IsAmong named a ⊎ Lives d.view a → Stops d.modes named numbers d.view halt
+lacks-stops d named numbers a (Need asked) l bounded = asks-one d.modes named d.view a asked.items
+    (unknown-unseen d a l.unknown) l.asked bounded
+lacks-stops d named numbers a (Fresh count) l bounded = absurd l.asked
+lacks-stops d named numbers a Memory l bounded = tt
 
-  pub lacks-halts : (P : NfsStatus → Kept → Type 0) (a : Addr) (halt : Halt) → Lacks d a halt →
-      IsAmong named a ⊎ Lives d.view a → Halts d named P halt
-  lacks-halts P a (Need asked) l bounded = asks-one d.modes named d.view a asked.items
-      (unknown-unseen d a l.unknown) l.asked bounded
-  lacks-halts P a (Fresh count) l bounded = absurd l.asked
-  lacks-halts P a Memory l bounded = tt
-  lacks-halts P a (Status e) l bounded = absurd l.asked
+-- and so does a number that is wanted
+pub fresh-stops : (d : DraftValue) (named : List Addr) (halt : Halt) → IsFresh d halt →
+    Stops d.modes named 1 d.view halt
+fresh-stops d named (Fresh count) fresh = fresh
+fresh-stops d named (Need asked) fresh = absurd fresh
+fresh-stops d named Memory fresh = absurd fresh
 
-  pub fresh-halts : (P : NfsStatus → Kept → Type 0) (halt : Halt) → IsFresh d halt → Halts d named P halt
-  fresh-halts P (Fresh count) f = f
-  fresh-halts P (Need asked) f = absurd f
-  fresh-halts P Memory f = absurd f
-  fresh-halts P (Status e) f = absurd f
+-- what stops the call with a changed draft stops it
+pub turned-stops : (d new : DraftValue) (op : Kept → Kept) (named : List Addr) (numbers : ℕ) (halt : Halt) →
+    Turns d new op → Stops new.modes named numbers new.view halt → Stops d.modes named numbers d.view halt
+turned-stops d new op named numbers halt turns stops =
+    subst (λ modes. Stops modes named numbers d.view halt) turns.modes
+    (subst (λ view. Stops new.modes named numbers view halt) turns.view stops)
 
--- ---- the end of a call
-module _ (d : DraftValue) (named : List Addr) where
-  pub halts-stops : (P : NfsStatus → Kept → Type 0) (halt : Halt) → IsNoStatus halt → Halts d named P halt →
-      Stops d.modes named d.view halt
-  halts-stops P (Need asked) none h = h
-  halts-stops P (Fresh count) none h = h
-  halts-stops P Memory none h = h
-  halts-stops P (Status e) none h = absurd none
+-- each of these addresses is named, or something stands there
+abbrev pub Covers : (named : List Addr) → ViewValue → List Addr → Type 0
+Covers named view few = AllByRecursion (λ (a : Addr). IsAmong named a ⊎ Lives view a) few
 
-  -- what is not settled stops the call
-  pub comes-stops : {A : Type 0} (P : NfsStatus → Kept → Type 0) (Q : A → Kept → Type 0) (r : Result A Halt)
-      (halt : Halt)
-      → Comes d named P Q r → (r ≡ Err halt) × IsNoStatus halt → Stops d.modes named d.view halt
-  comes-stops P Q r halt comes is = halts-stops P halt is.1 (subst (Comes d named P Q) is.0 comes)
+covered : (named : List Addr) (view : ViewValue) (few : List Addr) → Covers named view few → (a : Addr) →
+    IsAmong few a → IsAmong named a ⊎ Lives view a
+covered named view [] covers a among = absurd among
+covered named view (b ∷ few) covers a (inl same) =
+    subst (λ c. IsAmong named c ⊎ Lives view c) same covers.0
+covered named view (b ∷ few) covers a (inr among) = covered named view few covers.1 a among
 
-  -- what is settled is so in every state
-  pub tells-settled : {A : Type 0} (end : State → Result A NfsStatus) (r : Result A Halt)
-      (settled : Result A NfsStatus)
-      → Tells d named end r → r ≡ unsettled settled → Knows d (λ k. end k.state ≡ settled)
-  tells-settled end r (Ok x) tells is = subst (Tells d named end) is tells
-  tells-settled end r (Err e) tells is = subst (Tells d named end) is tells
+asks-wider : (modes : ModesValue) (few named : List Addr) (view : ViewValue) (asked : List (Addr × Mode)) →
+    Covers named view few → Asks modes few view asked → Asks modes named view asked
+asks-wider modes few named view asked covers asks = record {
+  some = asks.some;
+  once = asks.once;
+  each =
+      all-map (MayAsk modes few view) (MayAsk modes named view)
+      (λ a may. record {
+        unseen = may.unseen;
+        mode = may.mode;
+        bounded = elim may.bounded [
+          | inl among ↦ covered named view few covers a.0 among
+          | inr lives ↦ inr lives
+        ];
+      }) asked asks.each;
+}
 
-  -- an address that the draft lacks stops the call, and so does one that a changed draft lacks
-  pub lacks-stops : (a : Addr) (halt : Halt) → Lacks d a halt → IsAmong named a ⊎ Lives d.view a →
-      Stops d.modes named d.view halt
-  lacks-stops a (Need asked) l bounded = asks-one d.modes named d.view a asked.items
-      (unknown-unseen d a l.unknown) l.asked bounded
-  lacks-stops a (Fresh count) l bounded = absurd l.asked
-  lacks-stops a Memory l bounded = tt
-  lacks-stops a (Status e) l bounded = absurd l.asked
+-- what asks for some of these addresses stops a call that names them, or where something stands
+pub stops-within : (modes : ModesValue) (few named : List Addr) (numbers : ℕ) (view : ViewValue) (halt : Halt) →
+    Covers named view few → Stops modes few numbers view halt → Stops modes named numbers view halt
+stops-within modes few named numbers view (Need asked) covers stops =
+    asks-wider modes few named view asked.items covers stops
+stops-within modes few named numbers view (Fresh count) covers stops = stops
+stops-within modes few named numbers view Memory covers stops = tt
 
-  pub turned-stops : (new : DraftValue) (op : Kept → Kept) (halt : Halt) → Turns d new op →
-      Stops new.modes named new.view halt → Stops d.modes named d.view halt
-  turned-stops new op halt turns stops =
-      subst (λ modes. Stops modes named d.view halt) turns.modes
-      (subst (λ view. Stops new.modes named view halt) turns.view stops)
+-- and what asks for no number stops it, however many it wants
+pub stops-wider : (modes : ModesValue) (few named : List Addr) (numbers : ℕ) (view : ViewValue) (halt : Halt) →
+    Covers named view few → Stops modes few 0 view halt → Stops modes named numbers view halt
+stops-wider modes few named numbers view (Need asked) covers stops =
+    asks-wider modes few named view asked.items covers stops
+stops-wider modes few named numbers view (Fresh count) covers stops =
+    absurd (omega (arith, stops.some, stops.whole))
+stops-wider modes few named numbers view Memory covers stops = tt
 
--- an end is of no status
-pub ends-settled : (call : Call) (ctx : Ctx) (view : ViewValue) (result : Result Change Halt) →
-    Ends call ctx view result → IsSettled result
-ends-settled call ctx view (Ok change) ends = tt
-ends-settled call ctx view (Err (Need asked)) ends = tt
-ends-settled call ctx view (Err (Fresh count)) ends = tt
-ends-settled call ctx view (Err Memory) ends = tt
-ends-settled call ctx view (Err (Status e)) ends = ends
+-- ---- what covers
+pub covers-among : (few named : List Addr) (view : ViewValue) →
+    ((a : Addr) → IsAmong few a → IsAmong named a) → Covers named view few
+covers-among [] named view f = tt
+covers-among (a ∷ few) named view f =
+    (inl (f a (inl refl)), covers-among few named view (λ b among. f b (inr among)))
 
--- the object of a handle is among those that the handles name
-pub among-first : (handle : List ℕ) (handles : List (List ℕ)) (h : Handle) → handle_of handle ≡ Some h →
-    IsAmong (objects_at (handle ∷ handles)) (addresses.Inode h.fileid)
-among-first handle handles h is =
-    subst
-    (λ o. IsAmong
-    (elim o [
-      | None ↦ objects_at handles
-      | Some x ↦ addresses.Inode x.fileid ∷ usages_of x.export 64 ++ objects_at handles
-    ])
-    (addresses.Inode h.fileid)) (sym is) (inl refl)
+pub covers-both : (named : List Addr) (view : ViewValue) (xs ys : List Addr) → Covers named view xs →
+    Covers named view ys → Covers named view (xs ++ ys)
+covers-both named view xs ys left right =
+    all-joined (λ (a : Addr). IsAmong named a ⊎ Lives view a) xs ys left right
 
-among-behind : (more addresses : List Addr) (a : Addr) → IsAmong addresses a → IsAmong (more ++ addresses) a
+pub among-behind : (more addresses : List Addr) (a : Addr) → IsAmong addresses a → IsAmong (more ++ addresses) a
 among-behind [] addresses a among = among
 among-behind (b ∷ more) addresses a among = inr (among-behind more addresses a among)
 
-among-front : (front more : List Addr) (a : Addr) → IsAmong front a → IsAmong (front ++ more) a
+pub among-front : (front more : List Addr) (a : Addr) → IsAmong front a → IsAmong (front ++ more) a
 among-front [] more a among = absurd among
 among-front (b ∷ front) more a (inl same) = inl same
 among-front (b ∷ front) more a (inr among) = inr (among-front front more a among)
 
-among-usages : (export count group : ℕ) → group < count →
+among-either : (front more : List Addr) (a : Addr) → IsAmong (front ++ more) a →
+    IsAmong front a ⊎ IsAmong more a
+among-either [] more a among = inr among
+among-either (b ∷ front) more a (inl same) = inl (inl same)
+among-either (b ∷ front) more a (inr among) = elim (among-either front more a among) [
+  | inl before ↦ inl (inr before)
+  | inr behind ↦ inr behind
+]
+
+pub among-usages : (export count group : ℕ) → group < count →
     IsAmong (usages_of export count) (addresses.Usage export group)
 unfolding usages_of
 among-usages export zero group below = absurd (omega (arith, below))
@@ -144,33 +149,72 @@ among-usages export (suc count) group below =
           omega (arith, below, apart)))
     ] refl
 
--- what each group of its export uses is named with the object of a handle
-pub among-counted : (handle : List ℕ) (handles : List (List ℕ)) (h : Handle) (number : ℕ)
-    → handle_of handle ≡ Some h →
-    IsAmong (objects_at (handle ∷ handles)) (addresses.Usage h.export (group_of number))
-among-counted handle handles h number is =
-    subst
-    (λ o. IsAmong
-    (elim o [
-      | None ↦ objects_at handles
-      | Some x ↦ addresses.Inode x.fileid ∷ usages_of x.export 64 ++ objects_at handles
-    ])
-    (addresses.Usage h.export (group_of number))) (sym is)
-    (inr (among-front (usages_of h.export 64) (objects_at handles) (addresses.Usage h.export (group_of number))
-    (among-usages h.export 64 (group_of number) (mod-lt number (let p : 0 < 64 = omega arith in p)))))
+-- what the group of a number uses is among what all groups use
+pub among-groups : (export number : ℕ) → IsAmong (usages_of export 64) (addresses.Usage export (group_of number))
+among-groups export number =
+    among-usages export 64 (group_of number) (mod-lt number (let p : 0 < 64 = omega arith in p))
 
-pub among-next : (handle : List ℕ) (handles : List (List ℕ)) (a : Addr) → IsAmong (objects_at handles) a →
-    IsAmong (objects_at (handle ∷ handles)) a
-among-next handle handles a among =
-    elim (handle_of handle) as
-    (λ (o : Option Handle). IsAmong
-    (elim o [
-      | None ↦ objects_at handles
-      | Some x ↦ addresses.Inode x.fileid ∷ usages_of x.export 64 ++ objects_at handles
-    ]) a) [
-      | None ↦ among
-      | Some x ↦ inr (among-behind (usages_of x.export 64) (objects_at handles) a among)
-    ]
+-- ---- what handles name
+module _ (view : ViewValue) (handle : List ℕ) (handles : List (List ℕ)) where
+  abbrev objects-of : Option Handle → List Addr
+  objects-of o = elim o [
+    | None ↦ objects_at view handles
+    | Some h ↦ addresses_of view h.fileid ++ usages_of h.export 64 ++ objects_at view handles
+  ]
+
+  -- the object of a handle
+  pub among-first : (h : Handle) → handle_of handle ≡ Some h → (a : Addr) →
+      IsAmong (addresses_of view h.fileid) a → IsAmong (objects_at view (handle ∷ handles)) a
+  among-first h is a among =
+      subst (λ o. IsAmong (objects-of o) a) (sym is)
+      (among-front (addresses_of view h.fileid) (usages_of h.export 64 ++ objects_at view handles) a among)
+
+  -- what each group of its export uses
+  pub among-counted : (h : Handle) → handle_of handle ≡ Some h → (a : Addr) →
+      IsAmong (usages_of h.export 64) a → IsAmong (objects_at view (handle ∷ handles)) a
+  among-counted h is a among =
+      subst (λ o. IsAmong (objects-of o) a) (sym is)
+      (among-behind (addresses_of view h.fileid) (usages_of h.export 64 ++ objects_at view handles) a
+      (among-front (usages_of h.export 64) (objects_at view handles) a among))
+
+  -- the objects of the others
+  pub among-next : (a : Addr) → IsAmong (objects_at view handles) a → IsAmong (objects_at view (handle ∷ handles)) a
+  among-next a among =
+      elim (handle_of handle) as (λ (o : Option Handle). IsAmong (objects-of o) a) [
+        | None ↦ among
+        | Some h ↦ among-behind (addresses_of view h.fileid) (usages_of h.export 64 ++ objects_at view handles) a
+            (among-behind (usages_of h.export 64) (objects_at view handles) a among)
+      ]
+
+  -- all that the handle names if it comes alone
+  pub among-alone : (a : Addr) → IsAmong (objects_at view (handle ∷ [])) a →
+      IsAmong (objects_at view (handle ∷ handles)) a
+  among-alone a =
+      elim (handle_of handle) as (λ (o : Option Handle). IsAmong (elim o [
+        | None ↦ []
+        | Some h ↦ addresses_of view h.fileid ++ usages_of h.export 64 ++ []
+      ]) a → IsAmong (objects-of o) a) [
+        | None ↦ λ among. absurd among
+        | Some h ↦ λ among. elim (among-either (addresses_of view h.fileid) (usages_of h.export 64 ++ []) a among) [
+          | inl own ↦ among-front (addresses_of view h.fileid) (usages_of h.export 64 ++ objects_at view handles) a
+              own
+          | inr counted ↦ among-behind (addresses_of view h.fileid) (usages_of h.export 64 ++ objects_at view handles)
+              a (among-front (usages_of h.export 64) (objects_at view handles) a
+              (subst (λ l. IsAmong l a) (append-nil (usages_of h.export 64)) counted))
+        ]
+      ]
+
+-- ---- what calls name
+pub names-exports : (call : Call) (view : ViewValue) → IsAmong (named_by call view) addresses.Exports
+names-exports (calls.Nfs call) view = inl refl
+names-exports (calls.Mount call) view = inl refl
+names-exports (calls.Nlm call) view = inl refl
+
+pub names-objects : (call : Call) (view : ViewValue) (a : Addr) → IsAmong (objects_at view (handles_of call)) a →
+    IsAmong (named_by call view) a
+names-objects (calls.Nfs call) view a among = inr among
+names-objects (calls.Mount call) view a among = absurd among
+names-objects (calls.Nlm call) view a among = inr among
 
 -- ---- chains of checks: a check that passed, and one that failed
 module _ {A B E : Type 0} where

@@ -2,7 +2,7 @@
 -- reads from then on.
 use Rattle.std.specs.Prelude.{◌≡◌, ◌++◌, ◌==◌, ◌||◌, ◌&&◌, not, ℕ, Bool, true, false, List, []}
 use Rattle.std.specs.Prelude.{◌∷◌, Option, Some, None}
-use Rattle.std.specs.Prelude.{IfSome, IsSome, option_map, refl}
+use Rattle.std.specs.Prelude.{IfSome, IsSome, map, option_map, refl}
 use Rattle.std.specs.List.{AllByRecursion}
 use Rattle.std.proofs.Common.{cond, sym, ◌∙◌, ap, subst, inl, inr}
 use Rattle.std.proofs.lemmas.Bool.{and_parts}
@@ -213,16 +213,23 @@ all-asked modes named view asked all (e ∷ entries) were =
 pub starts-suitably : StartsSuitably
 starts-suitably call = tt
 
+-- a new number's entry is held alone
+pub vacant-suit : (modes : ModesValue) (view : ViewValue) (numbers : List Reserved) →
+    AllByRecursion (λ (e : Seen). covers e.mode (mode_at modes view e.address) ≡ true) (map vacant numbers)
+vacant-suit modes view [] = tt
+vacant-suit modes view (r ∷ numbers) = (refl, vacant-suit modes view numbers)
+
 pub grows-suitably : GrowsSuitably
 grows-suitably call ctx view (Need asked) (Read entries) attempts gives suits =
     suits-wider view entries view.reserved (modes_of call) suits
-    (all-asked (modes_of call) (named_by call) view asked.items attempts.each entries gives.1)
-grows-suitably call ctx view (Need asked) (Given r) attempts gives suits = absurd gives
+    (all-asked (modes_of call) (named_by call view) view asked.items attempts.each entries gives.1)
+grows-suitably call ctx view (Need asked) (Given numbers) attempts gives suits = absurd gives
 grows-suitably call ctx view (Fresh count) (Read entries) attempts gives suits = absurd gives
-grows-suitably call ctx view (Fresh count) (Given r) attempts gives suits =
-    suits-wider view (vacant r ∷ []) (view.reserved ++ r ∷ []) (modes_of call) suits (refl, tt)
+grows-suitably call ctx view (Fresh count) (Given numbers) attempts gives suits =
+    suits-wider view (map vacant numbers) (view.reserved ++ numbers) (modes_of call) suits
+    (vacant-suit (modes_of call) view numbers)
 grows-suitably call ctx view (Done change) (Read entries) attempts gives suits = absurd gives
-grows-suitably call ctx view (Done change) (Given r) attempts gives suits = absurd gives
+grows-suitably call ctx view (Done change) (Given numbers) attempts gives suits = absurd gives
 
 -- ---- what RENAME holds
 lies-within : (view : ViewValue) (place : Place) (n : ℕ) → LiesAt view place n → is_apart view place n ≡ false
@@ -275,11 +282,11 @@ unseen-apart view place n shows none =
 
 pub renames-share : RenamesShareOthers
 renames-share a ctx view asked attempts from to =
-    all-map (MayAsk (modes_of (calls.Nfs (nfs.Rename a))) (named_by (calls.Nfs (nfs.Rename a))) view) IsShared shared
-    asked.items attempts.each
+    all-map (MayAsk (modes_of (calls.Nfs (nfs.Rename a))) (named_by (calls.Nfs (nfs.Rename a)) view) view) IsShared
+    shared asked.items attempts.each
   where
     shared : (b : Addr × Mode) →
-        MayAsk (modes_of (calls.Nfs (nfs.Rename a))) (named_by (calls.Nfs (nfs.Rename a))) view b → IsShared b
+        MayAsk (modes_of (calls.Nfs (nfs.Rename a))) (named_by (calls.Nfs (nfs.Rename a)) view) view b → IsShared b
     shared (addresses.Inode n, mode) may =
         may.mode
         ∙ ap (λ b. cond b Shared Exclusive)

@@ -1,6 +1,6 @@
 -- What a call may ask for.
-use Rattle.std.specs.Prelude.{◌≡◌, ◌≢◌, false, List, [], ◌∷◌, Some, None, IsSome, ◌⊎◌}
-use Rattle.std.specs.Prelude.{slice_get}
+use Rattle.std.specs.Prelude.{◌≡◌, ◌≢◌, ◌<◌, ℕ, false, List, [], ◌∷◌, Some, None, IsSome}
+use Rattle.std.specs.Prelude.{◌⊎◌, slice_get}
 use Rattle.std.specs.List.{AllByRecursion}
 use Rattle.nfs_machine.specs.WellFormed.{WellFormed}
 use Rattle.nfs_objects.specs.Calls.{IsAmong}
@@ -56,7 +56,13 @@ pub record IsFirst (d : DraftValue) (r : Reserved) : Type 0 where
   pub first : slice_get d.view.reserved 0 ≡ Some r
   pub known : IsSome (known_at d (addresses.Inode r.number))
 
+-- new numbers are asked for: as many as may be wanted, and none was reserved before
+pub record AsksNumbers (numbers : ℕ) (view : ViewValue) (count : ℕ) : Type 0 where
+  pub none : view.reserved ≡ []
+  pub some : 0 < count
+  pub whole : count ≡ numbers
+
 -- a number is asked for, since none may be given
 abbrev pub IsFresh : DraftValue → Halt → Type 0
-IsFresh d (Fresh count) = (d.view.reserved ≡ []) × (count ≡ 1)
+IsFresh d (Fresh count) = AsksNumbers 1 d.view count
 IsFresh d halt = ⊥

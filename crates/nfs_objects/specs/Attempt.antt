@@ -3,8 +3,8 @@ use Rattle.std.specs.Prelude.{◌≡◌, ℕ, true, false, List, [], ◌∷◌, 
 use Rattle.nfs_machine.specs.Handles.{handle_of}
 use Rattle.nfs_machine.specs.declared.calls.Call.{Call}
 use Rattle.nfs_machine.specs.declared.context.Ctx.{Ctx}
-use Rattle.nfs_objects.specs.Asks.{Asks, IsNeed}
-use Rattle.nfs_objects.specs.Calls.{handles_of, is_null, named_by}
+use Rattle.nfs_objects.specs.Asks.{Asks, AsksNumbers, IsNeed}
+use Rattle.nfs_objects.specs.Calls.{handles_of, is_null, named_by, new_numbers}
 use Rattle.nfs_objects.specs.Modes.{mode_at, modes_of}
 use Rattle.nfs_objects.specs.Promise.{IsPromised}
 use Rattle.nfs_objects.specs.Values.{ModesValue, ViewValue, change_value, done_value, seen_at}
@@ -17,10 +17,10 @@ use Rattle.nfs_objects.specs.declared.change.Outcome.{Outcome}
 use Rattle.nfs_objects.specs.declared.change.Outcome.TheVariants.{Need, Fresh, Done}
 use Rattle.nfs_objects.specs.declared.modes.Mode.{Mode}
 
--- an attempt asks for addresses, or for one number where none is reserved; or it is done, and keeps the promise
+-- an attempt asks for addresses, or for all its numbers where none is reserved; or it is done, and keeps the promise
 abbrev pub Attempts : Call → Ctx → ViewValue → Outcome → Type 0
-Attempts call ctx view (Need asked) = Asks (modes_of call) (named_by call) view asked.items
-Attempts call ctx view (Fresh count) = (view.reserved ≡ []) × (count ≡ 1)
+Attempts call ctx view (Need asked) = Asks (modes_of call) (named_by call view) view asked.items
+Attempts call ctx view (Fresh count) = AsksNumbers (new_numbers call view) view count
 Attempts call ctx view (Done change) = IsPromised (done_value call ctx view (change_value change))
 
 -- ---- what is asked for first
@@ -59,16 +59,16 @@ AsksFirst call view outcome = elim (first_wanted call view) [
 ]
 
 -- ---- the same of what an attempt comes to before it is an outcome
--- a call that is not done asks, or there is no memory; it answers each status
-abbrev pub Stops : ModesValue → (named : List Addr) → ViewValue → Halt → Type 0
-Stops modes named view (halts.Need asked) = Asks modes named view asked.items
-Stops modes named view (halts.Fresh count) = (view.reserved ≡ []) × (count ≡ 1)
-Stops modes named view halts.Memory = Unit {0}
-Stops modes named view (halts.Status e) = ⊥
+-- A call that is not done asks for addresses, which it names or where something stands; or for its new numbers, so many;
+-- or there is no memory.
+abbrev pub Stops : ModesValue → (named : List Addr) → (numbers : ℕ) → ViewValue → Halt → Type 0
+Stops modes named numbers view (halts.Need asked) = Asks modes named view asked.items
+Stops modes named numbers view (halts.Fresh count) = AsksNumbers numbers view count
+Stops modes named numbers view halts.Memory = Unit {0}
 
 abbrev pub Ends : Call → Ctx → ViewValue → Result Change Halt → Type 0
 Ends call ctx view (Ok change) = IsPromised (done_value call ctx view (change_value change))
-Ends call ctx view (Err halt) = Stops (modes_of call) (named_by call) view halt
+Ends call ctx view (Err halt) = Stops (modes_of call) (named_by call view) (new_numbers call view) view halt
 
 -- this is asked for, if anything is wanted first
 abbrev pub HaltsFirst : {A : Type 0} → ModesValue → ViewValue → Option Addr → Result A Halt → Type 0
@@ -78,9 +78,3 @@ HaltsFirst modes view (Some a) (Err halt) = IsNeed a (mode_at modes view a) halt
 
 abbrev pub EndsFirst : Call → ViewValue → Result Change Halt → Type 0
 EndsFirst call view result = HaltsFirst (modes_of call) view (first_wanted call view) result
-
--- no status is left to answer
-abbrev pub IsSettled : {A : Type 0} → Result A Halt → Type 0
-IsSettled (Ok x) = Unit {0}
-IsSettled (Err (halts.Status e)) = ⊥
-IsSettled (Err halt) = Unit {0}

@@ -7,7 +7,7 @@ use Rattle.nfs_machine.specs.declared.calls.Call.{Call}
 use Rattle.nfs_machine.specs.declared.context.Ctx.{Ctx}
 use Rattle.nfs_objects.specs.Asks.{EachOnce}
 use Rattle.nfs_objects.specs.Attempt.{Attempts}
-use Rattle.nfs_objects.specs.Calls.{named_by}
+use Rattle.nfs_objects.specs.Calls.{IsAmong, named_by, new_numbers}
 use Rattle.nfs_objects.specs.Fits.{Fits, vacant}
 use Rattle.nfs_objects.specs.Sound.{Sound}
 use Rattle.nfs_objects.specs.Stands.{Kept, Represents}
@@ -19,14 +19,15 @@ use Rattle.nfs_objects.specs.declared.change.Outcome.TheVariants.{Need, Fresh, D
 use Rattle.nfs_objects.specs.declared.modes.Mode.{Mode}
 use Rattle.nfs_objects.specs.declared.view.Reserved.{Reserved}
 
--- what is given in one round: what stands at some addresses, or a new number
+-- what is given in one round: what stands at some addresses, or new numbers
 pub data Round : Type 0 where
   Read : (entries : List Seen) → Round
-  Given : (reserved : Reserved) → Round
+  Given : (reserved : List Reserved) → Round
 
 abbrev pub with_round : ViewValue → Round → ViewValue
 with_round v (Read entries) = record { entries = v.entries ++ entries; reserved = v.reserved }
-with_round v (Given r) = record { entries = v.entries ++ vacant r ∷ []; reserved = v.reserved ++ r ∷ [] }
+with_round v (Given numbers) = record
+    { entries = v.entries ++ map vacant numbers; reserved = v.reserved ++ numbers }
 
 -- the view after rounds, of which the last stands first
 abbrev pub view_after : List Round → ViewValue
@@ -41,10 +42,10 @@ abbrev pub WasAsked : List (Addr × Mode) → Addr × Mode → Type 0
 WasAsked [] a = ⊥
 WasAsked (b ∷ asked) a = (b ≡ a) ⊎ WasAsked asked a
 
--- some of what is asked for is given, each address once; or the number is
+-- some of the addresses that are asked for are given, each once; or all the numbers are
 abbrev pub Gives : Outcome → Round → Type 0
 Gives (Need asked) (Read entries) = EachOnce (held entries) × AllByRecursion (WasAsked asked.items) (held entries)
-Gives (Fresh count) (Given reserved) = Unit {0}
+Gives (Fresh count) (Given numbers) = length numbers ≡ count
 Gives outcome round = ⊥
 
 -- each round gives of what an attempt may ask for on the view that the rounds before it left
@@ -57,20 +58,30 @@ Grows call ctx (round ∷ earlier) = (outcome : Outcome) × Attempts call ctx (v
 abbrev pub empty_count : Store → List (Addr × Mode) → ℕ
 empty_count s addresses = count_by (λ (a : Addr × Mode). is_none (s.at a.0)) addresses
 
--- and of what is asked for; a new number's address is one
+-- and of what is asked for; the addresses of new numbers hold nothing
 abbrev pub asked_count : Store → Outcome → ℕ
 asked_count s (Need asked) = empty_count s asked.items
 asked_count s (Fresh count) = count
 asked_count s (Done change) = 0
 
 -- In every sound store that the view fits, whatever was given, the view and all that is asked for next lie among the
--- addresses of the store, those that the call names, and one more.
+-- addresses of the store, those that the call names, and those of its new numbers.
 abbrev pub AsksFew : Type 0
 AsksFew = (call : Call) (ctx : Ctx) (rounds : List Round) (outcome : Outcome) (s : Store) (k : Kept) →
     Grows call ctx rounds → Attempts call ctx (view_after rounds) outcome →
     Fits (view_after rounds) s → Represents s k → Sound k → WellFormed k.state →
-    empty_count s (held (view_after rounds).entries) + asked_count s outcome ≤ length (named_by call) + 1
+    empty_count s (held (view_after rounds).entries) + asked_count s outcome ≤
+    length (named_by call (view_after rounds)) + new_numbers call (view_after rounds)
 
--- those that it names are few
+-- these are few
 abbrev pub NamesFew : Type 0
-NamesFew = (call : Call) → length (named_by call) ≤ 200
+NamesFew = (call : Call) (view : ViewValue) → length (named_by call view) + new_numbers call view ≤ 256
+
+-- what a call named on a view it names on a later one too, and it wants no fewer numbers
+pub record StillNames (call : Call) (view later : ViewValue) : Type 0 where
+  pub named : (a : Addr) → IsAmong (named_by call view) a → IsAmong (named_by call later) a
+  pub numbers : new_numbers call view ≤ new_numbers call later
+
+-- so it is once a round was given
+abbrev pub NamesStay : Type 0
+NamesStay = (call : Call) (view : ViewValue) (round : Round) → StillNames call view (with_round view round)

@@ -11,6 +11,7 @@ use Rattle.nfs_machine.specs.declared.calls.Call.{Call}
 use Rattle.nfs_machine.specs.declared.calls.Call.TheVariants as calls
 use Rattle.nfs_objects.specs.declared.address.Addr.{Addr}
 use Rattle.nfs_objects.specs.declared.address.Addr.TheVariants as addresses
+use Rattle.nfs_objects.specs.Values.{ViewValue}
 
 -- the handles of a call of NFS, in the order in which they are judged (RFC 1813, 3.3)
 abbrev pub nfs_handles : NfsCall → List (List ℕ)
@@ -65,28 +66,49 @@ is_null (calls.Mount mount.Null) = true
 is_null (calls.Nlm nlm.Null) = true
 is_null call = false
 
+-- ---- addresses
 -- the addresses of what the first so many groups of an export use
 unfoldable pub usages_of : (export count : ℕ) → List Addr
 usages_of export zero = []
 usages_of export (suc group) = addresses.Usage export group ∷ usages_of export group
 
+-- the addresses of the object at a number, as far as a view shows what stands there: that of its inode
+abbrev pub addresses_of : ViewValue → (number : ℕ) → List Addr
+addresses_of view number = addresses.Inode number ∷ []
+
 -- the addresses of the objects that handles name, and of what all groups of their exports use: a new object is counted
 -- in a group that may be empty
-abbrev pub objects_at : List (List ℕ) → List Addr
-objects_at [] = []
-objects_at (handle ∷ handles) = elim (handle_of handle) [
-  | None ↦ objects_at handles
-  | Some h ↦ addresses.Inode h.fileid ∷ usages_of h.export 64 ++ objects_at handles
+abbrev pub objects_at : ViewValue → List (List ℕ) → List Addr
+objects_at view [] = []
+objects_at view (handle ∷ handles) = elim (handle_of handle) [
+  | None ↦ objects_at view handles
+  | Some h ↦ addresses_of view h.fileid ++ usages_of h.export 64 ++ objects_at view handles
 ]
 
--- The addresses that a call names whether anything stands there or not: the exports, the objects of its handles with
--- what their exports use, and those that are its program's alone.
-abbrev pub named_by : Call → List Addr
-named_by (calls.Nfs call) = addresses.Exports ∷ objects_at (nfs_handles call)
-named_by (calls.Mount call) = addresses.Exports ∷ addresses.Mounts ∷ []
-named_by (calls.Nlm call) = addresses.Exports ∷ objects_at (nlm_handles call)
+-- The addresses that a call names, whether anything stands there or not, once it has read so much: the exports, the
+-- objects of its handles with what their exports use, and those that are its program's alone. What it named it names
+-- still as it reads more.
+abbrev pub named_by : Call → ViewValue → List Addr
+named_by (calls.Nfs call) view = addresses.Exports ∷ objects_at view (nfs_handles call)
+named_by (calls.Mount call) view = addresses.Exports ∷ addresses.Mounts ∷ []
+named_by (calls.Nlm call) view = addresses.Exports ∷ objects_at view (nlm_handles call)
 
 -- the address is one of these
 abbrev pub IsAmong : List Addr → Addr → Type 0
 IsAmong [] a = ⊥
 IsAmong (b ∷ addresses) a = (b ≡ a) ⊎ IsAmong addresses a
+
+-- ---- numbers
+-- how many objects a call of NFS makes, if it makes any (RFC 1813, 3.3.8 to 3.3.11)
+abbrev pub made_by : NfsCall → ℕ
+made_by (nfs.Create a) = 1
+made_by (nfs.Mkdir a) = 1
+made_by (nfs.Symlink a) = 1
+made_by (nfs.Mknod a) = 1
+made_by call = 0
+
+-- How many new numbers a call may want, once it has read so much: one for each object that it makes, and none where it
+-- makes none.
+abbrev pub new_numbers : Call → ViewValue → ℕ
+new_numbers (calls.Nfs call) view = made_by call
+new_numbers call view = 0

@@ -1,18 +1,14 @@
--- What a draft knows of the state, what it may halt with, and what a change of it does to the state.
-use Rattle.std.specs.Prelude.{◌≡◌, ℕ, true, List, [], Result, Ok, Err}
+-- What a draft knows of the state, and what a change of it does to the state.
+use Rattle.std.specs.Prelude.{◌≡◌, ℕ, true, Result, Ok, Err}
 use Rattle.nfs_wire.specs.declared.status.NfsStatus.{NfsStatus}
 use Rattle.nfs_machine.specs.Answers.{state_after}
 use Rattle.nfs_machine.specs.State.{State}
 use Rattle.nfs_machine.specs.WellFormed.{WellFormed}
-use Rattle.nfs_objects.specs.Asks.{Asks}
 use Rattle.nfs_objects.specs.Fits.{Fits}
 use Rattle.nfs_objects.specs.Sound.{Sound}
 use Rattle.nfs_objects.specs.Stands.{Kept, Represents, lives_in}
 use Rattle.nfs_objects.specs.Store.{Store, with_writes}
 use Rattle.nfs_objects.specs.Values.{DraftValue}
-use Rattle.nfs_objects.specs.declared.address.Addr.{Addr}
-use Rattle.nfs_objects.specs.declared.change.Halt.{Halt}
-use Rattle.nfs_objects.specs.declared.change.Halt.TheVariants.{Need, Fresh, Memory, Status}
 
 -- a store that the draft's view fits, and that stands for this once the draft is written
 pub record Possible (d : DraftValue) (s : Store) (k : Kept) : Type 0 where
@@ -32,24 +28,6 @@ Shows d fact = (s : Store) (k : Kept) → Fits d.view s → Represents (with_wri
 abbrev pub ShowsExport : DraftValue → (number : ℕ) → Type 0
 ShowsExport d number = Shows d (λ k. lives_in k.state.exports number ≡ true)
 
--- why a call is not done: it asks, there is no memory, or a check failed, and then so
-abbrev pub Halts : DraftValue → (named : List Addr) → (refused : NfsStatus → Kept → Type 0) → Halt → Type 0
-Halts d named refused (Need asked) = Asks d.modes named d.view asked.items
-Halts d named refused (Fresh count) = (d.view.reserved ≡ []) × (count ≡ 1)
-Halts d named refused Memory = Unit {0}
-Halts d named refused (Status status) = Knows d (refused status)
-
--- what is found is so in every state, and what is refused is refused there
-abbrev pub Comes : {A : Type 0} → DraftValue → (named : List Addr) → (refused : NfsStatus → Kept → Type 0) →
-    (found : A → Kept → Type 0) → Result A Halt → Type 0
-Comes d named refused found (Ok x) = Knows d (found x)
-Comes d named refused found (Err halt) = Halts d named refused halt
-
--- what is told is what this comes to in every state
-abbrev pub Tells : {A : Type 0} → DraftValue → (named : List Addr) → (State → Result A NfsStatus) →
-    Result A Halt → Type 0
-Tells d named end = Comes d named (λ e k. end k.state ≡ Err e) (λ x k. end k.state ≡ Ok x)
-
 -- one draft came of the other by writes that do so to what the store stands for
 pub record Turns (old new : DraftValue) (op : Kept → Kept) : Type 0 where
   pub ctx : new.ctx ≡ old.ctx
@@ -58,19 +36,6 @@ pub record Turns (old new : DraftValue) (op : Kept → Kept) : Type 0 where
   pub messages : new.messages ≡ old.messages
   pub turns : (s : Store) (k : Kept) → Fits old.view s → Represents (with_writes s old.writes) k →
       Represents (with_writes s new.writes) (op k)
-
--- a refusal is a value like another; all else halts the call
-abbrev pub unsettled : {A : Type 0} → Result A NfsStatus → Result A Halt
-unsettled (Ok x) = Ok x
-unsettled (Err e) = Err (Status e)
-
-abbrev pub IsNoStatus : Halt → Type 0
-IsNoStatus (Status e) = ⊥
-IsNoStatus halt = Unit {0}
-
-abbrev pub Settles : {A : Type 0} → Result A Halt → Result (Result A NfsStatus) Halt → Type 0
-Settles checked (Ok settled) = checked ≡ unsettled settled
-Settles checked (Err halt) = (checked ≡ Err halt) × IsNoStatus halt
 
 -- the end of this result, where this is the state after it
 abbrev pub ending : {A : Type 0} → Result A NfsStatus → State → Result (A × State) NfsStatus

@@ -1,5 +1,5 @@
 -- Attempts that ask for what is wanted first, and for nothing else.
-use Rattle.std.specs.Prelude.{◌≡◌, None, Result, Err}
+use Rattle.std.specs.Prelude.{◌≡◌, None, Result, Ok, Err, IfErr}
 use Rattle.nfs_machine.specs.declared.calls.Call.{Call}
 use Rattle.nfs_objects.specs.Attempt.{first_wanted}
 use Rattle.nfs_objects.specs.Values.{ViewValue}
@@ -7,7 +7,7 @@ use Rattle.nfs_objects.specs.declared.change.Change.{Change}
 use Rattle.nfs_objects.specs.declared.change.Halt.{Halt}
 use Rattle.nfs_objects.specs.declared.change.Halt.TheVariants as halts
 use Rattle.nfs_objects.specs.declared.change.Outcome.{Outcome}
-use Rattle.nfs_objects.specs.declared.change.Outcome.TheVariants.{Need}
+use Rattle.nfs_objects.specs.declared.change.Outcome.TheVariants.{Need, Done}
 
 -- no address is asked for
 abbrev pub AsksNothing : {A : Type 0} → Result A Halt → Type 0
@@ -24,3 +24,15 @@ AsksFirstOnly call view outcome = first_wanted call view ≡ None → IsNoNeed o
 
 abbrev pub EndsFirstOnly : Call → ViewValue → Result Change Halt → Type 0
 EndsFirstOnly call view result = first_wanted call view ≡ None → AsksNothing result
+
+-- ---- calls whose answers take no memory
+-- where the view has the exports and the object of the first handle, the call is done
+abbrev pub IsDone : {E : Type 0} → Result Outcome E → Type 0
+IsDone (Ok (Done change)) = Unit {0}
+IsDone result = ⊥
+
+abbrev pub AnswersAtOnce : {E : Type 0} → Call → ViewValue → Result Outcome E → Type 0
+AnswersAtOnce call view result = first_wanted call view ≡ None → IsDone result
+
+abbrev pub EndsAtOnce : Call → ViewValue → Result Change Halt → Type 0
+EndsAtOnce call view result = first_wanted call view ≡ None → IfErr result (λ halt. ⊥)

@@ -4,7 +4,6 @@ use crate::address::Addr;
 use crate::modes::Mode;
 use crate::object::Object;
 use nfs_machine::Reply;
-use nfs_wire::NfsStatus;
 use side_wire::Message;
 use std::alloc::{AllocError, AllocFailed};
 use std::sync::Arc;
@@ -33,8 +32,6 @@ pub enum Halt {
     Fresh(u32),
     /// There is no memory for it.
     Memory,
-    /// A check of the call failed. No attempt ends so: it answers the status.
-    Status(NfsStatus),
 }
 
 /// What an attempt comes to.
@@ -67,16 +64,5 @@ impl<T: Drop> From<AllocFailed<T>> for Halt {
 
     fn from(_error: AllocFailed<T>) -> Halt {
         Halt::Memory
-    }
-}
-
-impl From<NfsStatus> for Halt {
-    ghost use Rattle.std.specs.Prelude.{◌≡◌};
-    ghost use Rattle.nfs_objects.specs.declared.change.Halt.TheVariants.{Status};
-
-    ghost from_gives = { λ status halt. halt ≡ Status status };
-
-    fn from(status: NfsStatus) -> Halt {
-        Halt::Status(status)
     }
 }

@@ -1,7 +1,7 @@
 //! What a call has read, and what it would write.
 
 ghost use Rattle.std.specs.Prelude.{◌≡◌, ◌∷◌, ◌++◌, [], IsSome, MatchResult, OnErr, OnOk, option_map};
-ghost use Rattle.std.specs.Prelude.{MatchOption, is_some, option_copied};
+ghost use Rattle.std.specs.Prelude.{MatchOption, option_copied};
 ghost use Rattle.std.specs.Arc.{arc_value};
 ghost use Rattle.nfs_objects.specs.Asks.{IsFirst, IsFresh, IsNeed, Lacks};
 ghost use Rattle.nfs_objects.specs.Knows.{Knows};
@@ -15,10 +15,9 @@ ghost use Rattle.nfs_objects.specs.Values.{written_at};
 
 use crate::address::{Addr, is_same};
 use crate::change::{Change, Halt, Write};
-use crate::exports::LivingExport;
 use crate::modes::{Mode, Modes};
 use crate::mounts::MountTable;
-use crate::object::{Inode, Object, export_list, mount_table};
+use crate::object::{Inode, Object, mount_table};
 use crate::usage::{Usage, usage_known};
 use crate::view::{Reserved, View};
 use nfs_machine::{Ctx, Reply};
@@ -104,16 +103,6 @@ impl<'a> Draft<'a> {
         }
     }
 
-    /// Whether it knows what would stand at an address.
-    pub fn knows(&self, address: Addr) -> bool
-        ensures { result ≡ is_some (known_at self.now address) }
-    {
-        match self.written(address) {
-            Some(_) => true,
-            None => self.view.find(address).is_some(),
-        }
-    }
-
     /// The wish for what stands at an address, where the draft does not know it.
     pub fn lacked(&self, address: Addr) -> Option<(Addr, Mode)>
         ensures { MatchOption result (IsSome (known_at self.now address))
@@ -147,19 +136,6 @@ impl<'a> Draft<'a> {
             }
         }
         last
-    }
-
-    /// The living exports.
-    ///
-    /// # Errors
-    ///
-    /// `Need` of their table where it was not read, and `Memory`.
-    pub fn exports(&self) -> Result<&[LivingExport], Halt>
-        ensures { MatchResult result
-            (λ list. Knows self.now (λ k. k.state.exports ≡ list.now))
-            (Lacks self.now Addr.Exports) }
-    {
-        Ok(export_list(self.find(Addr::Exports)?))
     }
 
     /// The table of mounts, if there is one.

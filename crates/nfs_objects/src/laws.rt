@@ -1,17 +1,19 @@
 //! The laws of attempts, and of comparisons.
 
-ghost use Rattle.nfs_objects.specs.Bound.{AsksFew, NamesFew};
+ghost use Rattle.nfs_objects.specs.Bound.{AsksFew, NamesFew, NamesStay};
 ghost use Rattle.nfs_objects.specs.Derived.{TellsApart, address_test, context_test, leaf_test, mode_test};
 ghost use Rattle.nfs_objects.specs.Derived.{mount_test, number_test};
 ghost use Rattle.nfs_objects.specs.ModeLaws.{GrowsSuitably, RenamesHoldTheirs, RenamesShareOthers, StartsSuitably};
 
 /// The view of a call, which grows by what its attempts ask for, and all that the next attempt asks for lie among the
-/// addresses where something stands and at most 201 others: those that the call names, and one of a new number. It is
-/// so for every attempt that `Attempts` allows, in every sound store that the view fits, and also where only a part of
-/// what is asked for is given.
+/// addresses where something stands and at most 256 others: those that the call names, and those of its new numbers. It
+/// is so for every attempt that `Attempts` allows, in every sound store that the view fits, and also where only a part
+/// of the addresses that are asked for is given. What a call names may follow from what it has read, and it names that
+/// still as it reads more.
 pub fn calls_ask_few()
     ensures asked { AsksFew }
     ensures named { NamesFew }
+    ensures stay { NamesStay }
 {}
 
 /// A view that holds what it has as its call wants holds it so still, once some of what an attempt asked for was given

@@ -31,6 +31,6 @@ pub use modes::{CHANGING, MOUNTING, Mode, Modes, READING};
 pub use mounts::{Leaving, MOUNT_LIMIT, Mount, MountTable, Mounts};
 pub use nfs_machine::Handle;
 pub use object::{Content, DIRECTORY_SIZE, Inode, Object};
-pub use refusal::{outcome, settled};
+pub use refusal::outcome;
 pub use usage::{GROUPS, Usage};
 pub use view::{Entry, Reserved, RoomyView, View, share};

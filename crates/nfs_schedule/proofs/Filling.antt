@@ -2,7 +2,7 @@
 use Rattle.std.proofs.Common.{◌≡◌, ◌≢◌, ℕ, zero, suc, ◌+◌, ◌<◌, ◌≤◌, true, false, cond, List, [], ◌∷◌, ◌++◌, length, length-append, map, take, get_or, Some, None, refl, sym, ◌∙◌, ap, subst, append_assoc, append-nil, arith}
 use Rattle.std.specs.List.{AllByRecursion}
 use Rattle.std.proofs.lemmas.List.{length-map, map-append, take_all, take_more}
-use Rattle.nfs_objects.proofs.Suiting.{suits-wider}
+use Rattle.nfs_objects.proofs.Suiting.{suits-wider, vacant-suit}
 use Rattle.nfs_objects.specs.Asks.{Asks, EachOnce, MayAsk}
 use Rattle.nfs_objects.specs.Attempt.{Attempts}
 use Rattle.nfs_objects.specs.Calls.{named_by}
@@ -15,13 +15,13 @@ use Rattle.nfs_objects.specs.declared.address.Addr.{Addr}
 use Rattle.nfs_objects.specs.declared.modes.Mode.{Mode}
 use Rattle.nfs_objects.specs.declared.modes.Mode.TheVariants.{Shared, Exclusive}
 use Rattle.nfs_objects.specs.declared.change.Outcome.{Outcome}
-use Rattle.nfs_objects.specs.declared.change.Outcome.TheVariants.{Need}
+use Rattle.nfs_objects.specs.declared.change.Outcome.TheVariants.{Need, Fresh}
 use Rattle.nfs_objects.specs.declared.view.Reserved.{Reserved}
 use Rattle.nfs_machine.specs.declared.calls.Call.{Call}
 use Rattle.nfs_machine.specs.declared.context.Ctx.{Ctx}
 use Rattle.std.specs.declared.vec.Vec.{Vec}
 use Rattle.std.specs.declared.alloc.Global.{Global}
-use Rattle.nfs_schedule.specs.Executions.{shown_in}
+use Rattle.nfs_schedule.specs.Executions.{Numbered, shown_in}
 
 -- behind entries that do not show the address
 seen_behind : (es more : List Seen) (a : Addr) → seen_at es a ≡ None → seen_at (es ++ more) a ≡ seen_at more a
@@ -129,23 +129,23 @@ filling_all s initial view asked k h f =
 module _ (named call : Call) (ctx : Ctx) (was view : ViewValue) (outcome : Outcome) (asked : Vec (Addr × Mode) Global)
     (list : List (Addr × Mode)) (attempts : Attempts named ctx was outcome) (need : outcome ≡ Need asked)
     (called : named ≡ call) (seen : was ≡ view) (listed : list ≡ asked.items) where
-  asks : Asks (modes_of call) (named_by call) view list
+  asks : Asks (modes_of call) (named_by call view) view list
   asks = rw (listed, sym called, sym seen)
-      (let asked : Asks (modes_of named) (named_by named) was asked.items =
+      (let asked : Asks (modes_of named) (named_by named was) was asked.items =
       subst (λ (o : Outcome). Attempts named ctx was o) need attempts in asked)
 
   pub asked_once : EachOnce list
   asked_once = asks.once
 
   pub asked_unseen : AllByRecursion (λ (a : Addr × Mode). seen_at view.entries a.0 ≡ None) list
-  asked_unseen = all-unseen (modes_of call) (named_by call) view list asks.each
+  asked_unseen = all-unseen (modes_of call) (named_by call view) view list asks.each
 
   pub need_grows : (s : Store) (new : ViewValue) → Suits (modes_of call) view →
       new ≡ record { entries = view.entries ++ map (shown_in s) list; reserved = view.reserved } → Grows call view new
   need_grows s new suits filled =
       subst (λ (w : ViewValue). Grows call view w) (sym filled) (record {
         suits = suits-wider view (map (shown_in s) list) view.reserved (modes_of call) suits
-            (all-suit (modes_of call) (named_by call) view s list asks.each);
+            (all-suit (modes_of call) (named_by call view) view s list asks.each);
         len = omega (
           arith,
           length-append view.entries (map (shown_in s) list),
@@ -154,10 +154,46 @@ module _ (named call : Call) (ctx : Ctx) (was view : ViewValue) (outcome : Outco
         );
       })
 
--- a number is reserved
-pub number_grows : (call : Call) (old new : ViewValue) (r : Reserved) → Suits (modes_of call) old →
-    new ≡ with_number old r → Grows call old new
-number_grows call old new r suits is = subst (λ (w : ViewValue). Grows call old w) (sym is) (record {
-  suits = suits-wider old (vacant r ∷ []) (old.reserved ++ r ∷ []) (modes_of call) suits (refl, tt);
-  len = omega (arith, length-append old.entries (vacant r ∷ []));
-})
+-- ---- numbers
+pub numbered_none : (view : ViewValue) → Numbered view view 0
+numbered_none view = record {
+  numbers = [];
+  all = refl;
+  is = λ i. record {
+    entries = sym (append-nil view.entries) i;
+    reserved = sym (append-nil view.reserved) i;
+  };
+}
+
+pub numbered_more : (initial view later : ViewValue) (count : ℕ) (r : Reserved) → Numbered initial view count →
+    later ≡ with_number view r → Numbered initial later (count + 1)
+numbered_more initial view later count r n more = record {
+  numbers = n.numbers ++ r ∷ [];
+  all = omega (arith, n.all, length-append n.numbers (r ∷ []));
+  is =
+      more ∙ ap (λ (v : ViewValue). with_number v r) n.is
+      ∙ (λ i. record {
+        entries =
+            (append_assoc initial.entries (map vacant n.numbers) (vacant r ∷ [])
+            ∙ ap (λ (es : List Seen). initial.entries ++ es) (sym (map-append vacant n.numbers (r ∷ [])))) i;
+        reserved = append_assoc initial.reserved n.numbers (r ∷ []) i;
+      });
+}
+
+-- an attempt asked for so many new numbers, and they were reserved
+pub numbers_grow : (named call : Call) (ctx : Ctx) (was view new : ViewValue) (outcome : Outcome) (count : ℕ) →
+    Attempts named ctx was outcome → outcome ≡ Fresh count → Suits (modes_of call) view →
+    Numbered view new count → Grows call view new
+numbers_grow named call ctx was view new outcome count attempts fresh suits n =
+    let asked = subst (λ (o : Outcome). Attempts named ctx was o) fresh attempts in
+    subst (λ (w : ViewValue). Grows call view w) (sym n.is) (record {
+      suits = suits-wider view (map vacant n.numbers) (view.reserved ++ n.numbers) (modes_of call) suits
+          (vacant-suit (modes_of call) view n.numbers);
+      len = omega (
+        arith,
+        length-append view.entries (map vacant n.numbers),
+        length-map n.numbers vacant,
+        n.all,
+        asked.some,
+      );
+    })

@@ -1,5 +1,6 @@
 -- What a worker's call has read grows by rounds: each turn keeps that.
-use Rattle.std.proofs.Common.{◌≡◌, ℕ, false, inl, inr, List, [], ◌∷◌, ◌++◌, append-nil, append_assoc}
+use Rattle.std.proofs.Common.{◌≡◌, ℕ, ◌+◌, ◌<◌, ◌≤◌, arith, false, inl, inr, List, [], ◌∷◌, ◌++◌, append-nil}
+use Rattle.std.proofs.Common.{append_assoc, length, length-append, map}
 use Rattle.std.proofs.Common.{Option, Some, None, Err, refl, sym, ◌∙◌, ap, subst}
 use Rattle.std.specs.List.{AllByRecursion}
 use Rattle.std.specs.Vec.Iter.{into_iter_items}
@@ -11,7 +12,8 @@ use Rattle.nfs_machine.specs.declared.context.Ctx.{Ctx}
 use Rattle.nfs_objects.proofs.Seen.{all-map}
 use Rattle.nfs_objects.specs.Asks.{EachOnce}
 use Rattle.nfs_objects.specs.Attempt.{Attempts}
-use Rattle.nfs_objects.specs.Bound.{Given, Read, WasAsked, held, view_after}
+use Rattle.nfs_objects.specs.Bound.{Given, Read, WasAsked, held, view_after, with_round}
+use Rattle.nfs_objects.specs.Fits.{vacant}
 use Rattle.nfs_objects.specs.Rooms.{with_entry, with_number}
 use Rattle.nfs_objects.specs.Values.{Seen, ViewValue, is_addr}
 use Rattle.nfs_objects.specs.declared.address.Addr.{Addr}
@@ -27,7 +29,7 @@ use Rattle.nfs_engine.specs.Engine.{EngineValue, IsReserved}
 use Rattle.nfs_engine.specs.Releases.{ReleaseValue}
 use Rattle.nfs_engine.specs.declared.shard.ReserveError.{ReserveError}
 use Rattle.nfs_engine.specs.declared.shard.ReserveError.TheVariants as refusals
-use Rattle.nfs_schedule.specs.Grown.{AsksFor, HasGrown, IsAsking, IsGrown}
+use Rattle.nfs_schedule.specs.Grown.{AsksFor, HasGrown, IsAsking, IsGrown, IsNumbering}
 use Rattle.nfs_schedule.specs.Turns.{Acquires, Admits, Declines, Ends, Follows, Gains, IsNamed, KeepsQueue}
 use Rattle.nfs_schedule.specs.Turns.{TakesArrival}
 use Rattle.nfs_schedule.specs.Turns.{TakesFirst, Turns, after_all}
@@ -118,14 +120,62 @@ module _ (t u : TxnValue) (a : Addr × Mode) (left : List (Addr × Mode)) (o : O
         (append_assoc (view_after asking.before).entries asking.given (entry ∷ []));
   })
 
--- a new number is given
-grown_number : (t u : TxnValue) (r : Reserved) → u ≡ record t { view = with_number t.view r } → HasGrown t →
-    t.view.reserved ≡ [] → HasGrown u
-grown_number t u r is g none = subst (λ (x : TxnValue). HasGrown x) (sym is) (record {
-  rounds = Given r ∷ g.rounds;
-  grows = (Fresh 1, (sym (ap (λ (v : ViewValue). v.reserved) g.view_is) ∙ none, refl), tt, g.grows);
-  view_is = ap (λ (v : ViewValue). with_number v r) g.view_is;
-})
+-- an attempt asks for new numbers
+numbering_all : (t : TxnValue) (count : ℕ) → HasGrown t → Attempts t.call t.ctx t.view (Fresh count) →
+    IsNumbering t count
+numbering_all t count g attempts = record {
+  before = g.rounds;
+  grows = g.grows;
+  count = count;
+  attempts = subst (λ (v : ViewValue). Attempts t.call t.ctx v (Fresh count)) g.view_is attempts;
+  given = [];
+  whole = omega arith;
+  some = attempts.some;
+  view_is =
+      g.view_is
+      ∙ (λ i. record {
+        entries = sym (append-nil (view_after g.rounds).entries) i;
+        reserved = sym (append-nil (view_after g.rounds).reserved) i;
+      });
+}
+
+-- one of those that are left is given
+module _ (t u : TxnValue) (r : Reserved) (left : ℕ) (is : u ≡ record t { view = with_number t.view r })
+    (n : IsNumbering t left) where
+  abbrev given : List Reserved
+  given = n.given ++ r ∷ []
+
+  given_is : with_number t.view r ≡ with_round (view_after n.before) (Given given)
+  given_is =
+      ap (λ (v : ViewValue). with_number v r) n.view_is
+      ∙ (λ i. record {
+        entries =
+            (append_assoc (view_after n.before).entries (map vacant n.given) (vacant r ∷ [])
+            ∙ ap (λ (es : List Seen). (view_after n.before).entries ++ es)
+            (sym (map-append vacant n.given (r ∷ [])))) i;
+        reserved = append_assoc (view_after n.before).reserved n.given (r ∷ []) i;
+      })
+
+  numbering_less : (others : ℕ) → 1 < left → left ≡ others + 1 → IsNumbering u others
+  numbering_less others more count = subst (λ (x : TxnValue). IsNumbering x others) (sym is) (record {
+    before = n.before;
+    grows = n.grows;
+    count = n.count;
+    attempts = n.attempts;
+    given = given;
+    whole = omega (arith, n.whole, count, length-append n.given (r ∷ []));
+    some = omega (arith, more, count);
+    view_is = given_is;
+  })
+
+  grown_numbers : left ≤ 1 → HasGrown u
+  grown_numbers last =
+      let all : length given ≡ n.count = omega (arith, n.whole, n.some, last, length-append n.given (r ∷ [])) in
+      subst (λ (x : TxnValue). HasGrown x) (sym is) (record {
+        rounds = Given given ∷ n.before;
+        grows = (Fresh n.count, n.attempts, all, n.grows);
+        view_is = given_is;
+      })
 
 -- ---- thinking
 -- what an attempt on the call's view came to is asked for
@@ -147,10 +197,10 @@ comes_grown : (t : TxnValue) (v : Worker) → Comes t v → HasGrown t → IsGro
 comes_grown t (Wanting u wanted) c g =
     subst (λ (x : TxnValue). IsAsking x (into_iter_items wanted)) (sym c.0)
     (asking_all t (into_iter_items wanted) g c.1)
-comes_grown t (Wishing u) c g =
-    subst (λ (x : TxnValue). HasGrown x × (x.view.reserved ≡ [])) (sym c.0) (g, c.1)
+comes_grown t (Wishing u left) c g =
+    subst (λ (x : TxnValue). IsNumbering x left) (sym c.0) (numbering_all t left g c.1)
 comes_grown t (Ready d) c g = subst (λ (x : TxnValue). HasGrown x) (sym c) g
-comes_grown t (Failing u) c g = subst (λ (x : TxnValue). HasGrown x) (sym c) g
+comes_grown t (Failing u) c g = inl (subst (λ (x : TxnValue). HasGrown x) (sym c) g)
 comes_grown t Idle c g = absurd c
 comes_grown t (Trying u) c g = absurd c
 comes_grown t (Blocked u) c g = absurd c
@@ -165,7 +215,7 @@ thinks_grown : (w v : Worker) → Thinks w v → IsGrown w → IsGrown v
 thinks_grown (Trying t) v c g = comes_grown t v c g
 thinks_grown Idle v c g = same_grown Idle v c g
 thinks_grown (Wanting t wanted) v c g = same_grown (Wanting t wanted) v c g
-thinks_grown (Wishing t) v c g = same_grown (Wishing t) v c g
+thinks_grown (Wishing t left) v c g = same_grown (Wishing t left) v c g
 thinks_grown (Ready d) v c g = same_grown (Ready d) v c g
 thinks_grown (Blocked t) v c g = same_grown (Blocked t) v c g
 thinks_grown (Failing t) v c g = same_grown (Failing t) v c g
@@ -180,7 +230,7 @@ admits_grown e f a (Trying t) None begins = grown_none t (ap (λ (x : TxnValue).
 admits_grown e f a (Trying t) (Some answer) is = absurd is
 admits_grown e f a Idle answer is = tt
 admits_grown e f a (Wanting t wanted) answer is = absurd is
-admits_grown e f a (Wishing t) answer is = absurd is
+admits_grown e f a (Wishing t left) answer is = absurd is
 admits_grown e f a (Ready d) answer is = absurd is
 admits_grown e f a (Blocked t) answer is = absurd is
 admits_grown e f a (Failing t) answer is = absurd is
@@ -204,9 +254,9 @@ acquires_grown e t a others (Wanting u left) is asking =
 acquires_grown e t a others (Blocked u) is asking =
     subst (λ (x : TxnValue). HasGrown x) (sym is.1.2) (grown_part t (a ∷ others) asking)
 acquires_grown e t a others (Failing u) is asking =
-    subst (λ (x : TxnValue). HasGrown x) (sym is) (grown_part t (a ∷ others) asking)
+    inl (subst (λ (x : TxnValue). HasGrown x) (sym is) (grown_part t (a ∷ others) asking))
 acquires_grown e t a others Idle is asking = absurd is
-acquires_grown e t a others (Wishing u) is asking = absurd is
+acquires_grown e t a others (Wishing u left) is asking = absurd is
 acquires_grown e t a others (Ready d) is asking = absurd is
 acquires_grown e t a others (Leaving r after) is asking = absurd is
 acquires_grown e t a others (PutOff p) is asking = absurd is
@@ -222,23 +272,24 @@ unreserved : (e : EngineValue) (shard : ℕ) (t u : TxnValue) (error : ReserveEr
 unreserved e shard t u refusals.Memory is = is.1
 unreserved e shard t u refusals.Spent is = is.1
 
-gains_grown : (e : EngineValue) (shard : ℕ) (t : TxnValue) (v : Worker) → Gains e shard t v → HasGrown t →
-    t.view.reserved ≡ [] → IsGrown v
-gains_grown e shard t (Trying u) is g none = grown_number t u is.reserved is.call g none
-gains_grown e shard t (Failing u) is g none =
-    subst (λ (x : TxnValue). HasGrown x) (sym (unreserved e shard t u is.0 is.1)) g
-gains_grown e shard t Idle is g none = absurd is
-gains_grown e shard t (Wanting u wanted) is g none = absurd is
-gains_grown e shard t (Wishing u) is g none = absurd is
-gains_grown e shard t (Ready d) is g none = absurd is
-gains_grown e shard t (Blocked u) is g none = absurd is
-gains_grown e shard t (Leaving r after) is g none = absurd is
-gains_grown e shard t (PutOff p) is g none = absurd is
-gains_grown e shard t (Refusing p) is g none = absurd is
+gains_grown : (e : EngineValue) (shard : ℕ) (t : TxnValue) (left : ℕ) (v : Worker) → Gains e shard t left v →
+    IsNumbering t left → IsGrown v
+gains_grown e shard t left (Trying u) is n = grown_numbers t u is.0.reserved left is.0.call n is.1
+gains_grown e shard t left (Wishing u others) is n =
+    numbering_less t u is.0.reserved left is.0.call n others is.1 is.2
+gains_grown e shard t left (Failing u) is n =
+    inr (left, subst (λ (x : TxnValue). IsNumbering x left) (sym (unreserved e shard t u is.0 is.1)) n)
+gains_grown e shard t left Idle is n = absurd is
+gains_grown e shard t left (Wanting u wanted) is n = absurd is
+gains_grown e shard t left (Ready d) is n = absurd is
+gains_grown e shard t left (Blocked u) is n = absurd is
+gains_grown e shard t left (Leaving r after) is n = absurd is
+gains_grown e shard t left (PutOff p) is n = absurd is
+gains_grown e shard t left (Refusing p) is n = absurd is
 
 ends_grown : (e f : EngineValue) (done : FinishedValue) (v : Worker) (answer : Option Answer) →
     Ends e f done v answer → HasGrown (txn_of done) → IsGrown v
-ends_grown e f done (Failing t) None is g = subst (λ (x : TxnValue). HasGrown x) (sym is.0) g
+ends_grown e f done (Failing t) None is g = inl (subst (λ (x : TxnValue). HasGrown x) (sym is.0) g)
 ends_grown e f done (Failing t) (Some answer) is g = absurd is
 ends_grown e f done Idle answer is g = tt
 ends_grown e f done (Leaving r after) answer is g = tt
@@ -246,7 +297,7 @@ ends_grown e f done (PutOff p) answer is g = tt
 ends_grown e f done (Refusing p) answer is g = tt
 ends_grown e f done (Trying t) answer is g = absurd is
 ends_grown e f done (Wanting t wanted) answer is g = absurd is
-ends_grown e f done (Wishing t) answer is g = absurd is
+ends_grown e f done (Wishing t left) answer is g = absurd is
 ends_grown e f done (Ready d) answer is g = absurd is
 ends_grown e f done (Blocked t) answer is g = absurd is
 
@@ -263,7 +314,8 @@ follows_grown r after (Refusing p) is = tt
 follows_grown r after (Trying t) is = same_grown (after_all is.0 after) (Trying t) is.2 (after_grown is.0 after)
 follows_grown r after (Wanting t wanted) is =
     same_grown (after_all is.0 after) (Wanting t wanted) is.2 (after_grown is.0 after)
-follows_grown r after (Wishing t) is = same_grown (after_all is.0 after) (Wishing t) is.2 (after_grown is.0 after)
+follows_grown r after (Wishing t left) is =
+    same_grown (after_all is.0 after) (Wishing t left) is.2 (after_grown is.0 after)
 follows_grown r after (Ready d) is = same_grown (after_all is.0 after) (Ready d) is.2 (after_grown is.0 after)
 follows_grown r after (Blocked t) is = same_grown (after_all is.0 after) (Blocked t) is.2 (after_grown is.0 after)
 follows_grown r after (Failing t) is = same_grown (after_all is.0 after) (Failing t) is.2 (after_grown is.0 after)
@@ -275,7 +327,7 @@ declines_grown p (PutOff q) answer is = tt
 declines_grown p (Refusing q) answer is = tt
 declines_grown p (Trying t) answer is = absurd is
 declines_grown p (Wanting t wanted) answer is = absurd is
-declines_grown p (Wishing t) answer is = absurd is
+declines_grown p (Wishing t left) answer is = absurd is
 declines_grown p (Ready d) answer is = absurd is
 declines_grown p (Blocked t) answer is = absurd is
 declines_grown p (Failing t) answer is = absurd is
@@ -288,7 +340,7 @@ named_grown e f queue later shard Idle v answer n q g = takes_grown e f queue la
 named_grown e f queue later shard (Trying t) v answer n q g = same_grown (Trying t) v n.1 g
 named_grown e f queue later shard (Wanting t wanted) v answer n q g =
     first_grown e t (into_iter_items wanted) v n.1 g
-named_grown e f queue later shard (Wishing t) v answer n q g = gains_grown e shard t v n.1 g.0 g.1
+named_grown e f queue later shard (Wishing t left) v answer n q g = gains_grown e shard t left v n.1 g
 named_grown e f queue later shard (Ready d) v answer n q g = ends_grown e f d v answer n g
 named_grown e f queue later shard (Blocked t) v answer n q g = subst (λ (x : Worker). IsGrown x) (sym n.1) tt
 named_grown e f queue later shard (Failing t) v answer n q g = subst (λ (x : Worker). IsGrown x) (sym n.1) tt

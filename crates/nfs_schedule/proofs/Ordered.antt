@@ -48,7 +48,7 @@ not_one w t is = cc
 reads : (w : WorldValue) (u : Worker) (t : TxnValue) → executed_by u ≡ Some t → WorkerLives w.engine u → IsReading w t
 reads w (Trying x) t is lives = reading w x t is lives.0
 reads w (Wanting x wanted) t is lives = reading w x t is lives.0
-reads w (Wishing x) t is lives = reading w x t is lives.0
+reads w (Wishing x left) t is lives = reading w x t is lives.0
 reads w (Ready f) t is lives = reading w (txn_of f) t is lives
 reads w (Blocked x) t is lives = reading w x t is lives
 reads w (Failing x) t is lives = reading w x t is lives

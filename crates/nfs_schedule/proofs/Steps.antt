@@ -62,7 +62,7 @@ covers_itself Exclusive = refl
 
 -- what an attempt asks for may be taken
 pub wants_asked : (call : Call) (view : ViewValue) (asked : List (Addr × Mode)) → Suits (modes_of call) view →
-    Asks (modes_of call) (named_by call) view asked → Wants call view asked
+    Asks (modes_of call) (named_by call view) view asked → Wants call view asked
 wants_asked call view asked suited asks = record {
   asking = view;
   suited = suited;
@@ -71,7 +71,7 @@ wants_asked call view asked suited asks = record {
   grew = ap (λ es. record view { entries = es }) (sym (append-nil view.entries));
   once = asks.once;
   each =
-      all-map (MayAsk (modes_of call) (named_by call) view) (MayTake call view view) (λ a may. record {
+      all-map (MayAsk (modes_of call) (named_by call view) view) (MayTake call view view) (λ a may. record {
         unseen = may.unseen;
         strong = subst (λ m. covers a.1 m ≡ true) may.mode (covers_itself a.1);
       }) asked asks.each;
@@ -185,23 +185,31 @@ module _ (e f : EngineValue) (t u : TxnValue) (a : Addr × Mode) (wanted left : 
       (ap (λ (x : TxnValue). Some x.key) is) same later (same, leads (Failing u) is, refl)
 
 -- ---- a number
-module _ (e f : EngineValue) (shard : ℕ) (t u : TxnValue) (lives : WorkerLives e (Wishing t)) (later : Lives f u)
-    (k : KeepsOthers t.id e f) (same : f.book ≡ e.book) where
-  pub reserved : IsReserved e t u shard (Ok tt) → IsStep e f shard (Wishing t) (Trying u) None
-  reserved is =
-      goes_on t.id e f shard (Wishing t) (Trying u) k refl (ap (λ (x : TxnValue). Some x.id) is.call)
+module _ (e f : EngineValue) (shard : ℕ) (t u : TxnValue) (left : ℕ) (lives : WorkerLives e (Wishing t left))
+    (later : Lives f u) (k : KeepsOthers t.id e f) (same : f.book ≡ e.book) where
+  pub reserved : left ≤ 1 → IsReserved e t u shard (Ok tt) → IsStep e f shard (Wishing t left) (Trying u) None
+  reserved last is =
+      goes_on t.id e f shard (Wishing t left) (Trying u) k refl (ap (λ (x : TxnValue). Some x.id) is.call)
       (ap (λ (x : TxnValue). Some x.key) is.call) same (later, suited_number t u is.reserved is.call lives.1)
-      (same, is, refl)
+      (same, (is, last), refl)
+
+  -- others are wanted still
+  pub reserved_one : (others : ℕ) → 1 < left → left ≡ others + 1 → IsReserved e t u shard (Ok tt) →
+      IsStep e f shard (Wishing t left) (Wishing u others) None
+  reserved_one others more count is =
+      goes_on t.id e f shard (Wishing t left) (Wishing u others) k refl (ap (λ (x : TxnValue). Some x.id) is.call)
+      (ap (λ (x : TxnValue). Some x.key) is.call) same (later, suited_number t u is.reserved is.call lives.1)
+      (same, (is, more, count), refl)
 
   unchanged : (error : ReserveError) → IsReserved e t u shard (Err error) → u ≡ t
   unchanged refusals.Memory is = is.1
   unchanged refusals.Spent is = is.1
 
   pub reserve_fails : (error : ReserveError) → IsReserved e t u shard (Err error) →
-      IsStep e f shard (Wishing t) (Failing u) None
+      IsStep e f shard (Wishing t left) (Failing u) None
   reserve_fails error is =
       let still = unchanged error is in
-      goes_on t.id e f shard (Wishing t) (Failing u) k refl (ap (λ (x : TxnValue). Some x.id) still)
+      goes_on t.id e f shard (Wishing t left) (Failing u) k refl (ap (λ (x : TxnValue). Some x.id) still)
       (ap (λ (x : TxnValue). Some x.key) still) same later (same, (error, is), refl)
 
 -- ---- a commit
@@ -364,9 +372,10 @@ pub record ThinksOn (e : EngineValue) (w v : Worker) : Type 0 where
   pub keys : worker_key v ≡ worker_key w
 
 asks_all : (t : TxnValue) (wanted : List (Addr × Mode)) → AsksFor t wanted →
-    Asks (modes_of t.call) (named_by t.call) t.view wanted
+    Asks (modes_of t.call) (named_by t.call t.view) t.view wanted
 asks_all t wanted asks =
-    subst (λ (l : List (Addr × Mode)). Asks (modes_of t.call) (named_by t.call) t.view l) asks.whole asks.attempts
+    subst (λ (l : List (Addr × Mode)). Asks (modes_of t.call) (named_by t.call t.view) t.view l) asks.whole
+    asks.attempts
 
 comes_on : (e : EngineValue) (t : TxnValue) (v : Worker) → Comes t v → WorkerLives e (Trying t) →
     ThinksOn e (Trying t) v
@@ -376,7 +385,7 @@ comes_on e t (Wanting u wanted) c lives =
       ids = refl;
       keys = refl;
     })
-comes_on e t (Wishing u) c lives = subst (λ (x : TxnValue). ThinksOn e (Trying t) (Wishing x)) (sym c.0)
+comes_on e t (Wishing u left) c lives = subst (λ (x : TxnValue). ThinksOn e (Trying t) (Wishing x left)) (sym c.0)
     (record { lives = lives; ids = refl; keys = refl })
 comes_on e t (Ready d) c lives = record {
   lives = subst (λ (x : TxnValue). Lives e x) (sym c) lives.0;
@@ -400,7 +409,7 @@ pub thinks_on : (e : EngineValue) (w v : Worker) → Thinks w v → WorkerLives 
 thinks_on e (Trying t) v c lives = comes_on e t v c lives
 thinks_on e Idle v c lives = same_on e Idle v c lives
 thinks_on e (Wanting t wanted) v c lives = same_on e (Wanting t wanted) v c lives
-thinks_on e (Wishing t) v c lives = same_on e (Wishing t) v c lives
+thinks_on e (Wishing t left) v c lives = same_on e (Wishing t left) v c lives
 thinks_on e (Ready d) v c lives = same_on e (Ready d) v c lives
 thinks_on e (Blocked t) v c lives = same_on e (Blocked t) v c lives
 thinks_on e (Failing t) v c lives = same_on e (Failing t) v c lives
@@ -412,7 +421,7 @@ pub may_think : (e : EngineValue) (w : Worker) → WorkerLives e w → MayThink 
 may_think e (Trying t) lives = lives.1
 may_think e Idle lives = tt
 may_think e (Wanting t wanted) lives = tt
-may_think e (Wishing t) lives = tt
+may_think e (Wishing t left) lives = tt
 may_think e (Ready d) lives = tt
 may_think e (Blocked t) lives = tt
 may_think e (Failing t) lives = tt

@@ -1,10 +1,12 @@
 -- One call from its arrival to its answer, on an engine at rest.
-use Rattle.std.specs.Prelude.{◌≡◌, ◌≢◌, ℕ, Option, None, IfSome}
+use Rattle.std.specs.Prelude.{◌≡◌, ◌≢◌, ℕ, List, length, Option, None, IfSome}
 use Rattle.nfs_machine.specs.Run.{context_of}
+use Rattle.nfs_objects.specs.Bound.{Given, with_round}
 use Rattle.nfs_objects.specs.Store.{Store}
-use Rattle.nfs_objects.specs.Values.{Seen}
+use Rattle.nfs_objects.specs.Values.{Seen, ViewValue}
 use Rattle.nfs_objects.specs.declared.address.Addr.{Addr}
 use Rattle.nfs_objects.specs.declared.modes.Mode.{Mode}
+use Rattle.nfs_objects.specs.declared.view.Reserved.{Reserved}
 use Rattle.nfs_engine.specs.Arrivals.{ArrivalValue, received_value}
 use Rattle.nfs_engine.specs.Book.{Repeats}
 use Rattle.nfs_engine.specs.Calls.{FinishedValue, PendingValue, TxnValue, txn_of}
@@ -39,6 +41,12 @@ pub record GoesOn (e f : EngineValue) (t u : TxnValue) : Type 0 where
   pub alone : HoldsAlone f u.id
   pub book : f.book ≡ e.book
   pub call : u ≡ record t { view = u.view }
+
+-- so many new numbers were reserved
+pub record Numbered (old new : ViewValue) (count : ℕ) : Type 0 where
+  pub numbers : List Reserved
+  pub all : length numbers ≡ count
+  pub is : new ≡ with_round old (Given numbers)
 
 -- nobody holds anything any more, and the book is as it was
 pub record Frees (e f : EngineValue) (r : ReleaseValue) (left : Option PendingValue) : Type 0 where

@@ -16,7 +16,7 @@ use Rattle.nfs_schedule.specs.declared.worker.Worker.TheVariants.{Trying, Wantin
 abbrev pub executed_by : Worker → Option TxnValue
 executed_by (Trying t) = Some t
 executed_by (Wanting t wanted) = Some t
-executed_by (Wishing t) = Some t
+executed_by (Wishing t left) = Some t
 executed_by (Ready f) = Some (txn_of f)
 executed_by (Blocked t) = Some t
 executed_by (Failing t) = Some t

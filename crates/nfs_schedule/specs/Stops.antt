@@ -26,7 +26,7 @@ abbrev pub received_of : Worker → Option Received
 received_of Idle = None
 received_of (Trying t) = Some t.received
 received_of (Wanting t wanted) = Some t.received
-received_of (Wishing t) = Some t.received
+received_of (Wishing t left) = Some t.received
 received_of (Ready f) = Some f.received
 received_of (Blocked t) = Some t.received
 received_of (Failing t) = Some t.received

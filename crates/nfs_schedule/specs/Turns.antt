@@ -1,5 +1,6 @@
 -- What a turn does: the step that the worker's state names.
-use Rattle.std.specs.Prelude.{◌≡◌, ◌+◌, ℕ, false, List, [], ◌∷◌, Option, Some, None, Ok, Err, length}
+use Rattle.std.specs.Prelude.{◌≡◌, ◌+◌, ◌<◌, ◌≤◌, ℕ, false, List, [], ◌∷◌, Option, Some, None}
+use Rattle.std.specs.Prelude.{Ok, Err, length}
 use Rattle.std.specs.Vec.Iter.{into_iter_items}
 use Rattle.nfs_machine.specs.RpcReplies.{success_message}
 use Rattle.nfs_replies.specs.Kept.ReplyEvent.{Repeated}
@@ -95,11 +96,12 @@ abbrev pub TakesFirst : EngineValue → TxnValue → List (Addr × Mode) → Wor
 TakesFirst e t [] next = next ≡ Trying t
 TakesFirst e t (a ∷ others) next = Acquires e t a others next
 
--- a new number, or none
-abbrev pub Gains : EngineValue → (shard : ℕ) → TxnValue → Worker → Type 0
-Gains e shard t (Trying u) = IsReserved e t u shard (Ok tt)
-Gains e shard t (Failing u) = (error : ReserveError) × IsReserved e t u shard (Err error)
-Gains e shard t worker = ⊥
+-- one of so many new numbers: the call wants the others, or it was the last; or there is none
+abbrev pub Gains : EngineValue → (shard : ℕ) → TxnValue → (left : ℕ) → Worker → Type 0
+Gains e shard t left (Trying u) = IsReserved e t u shard (Ok tt) × (left ≤ 1)
+Gains e shard t left (Wishing u others) = IsReserved e t u shard (Ok tt) × (1 < left) × (left ≡ others + 1)
+Gains e shard t left (Failing u) = (error : ReserveError) × IsReserved e t u shard (Err error)
+Gains e shard t left worker = ⊥
 
 -- the call is executed and answered, or there was no memory for it
 abbrev pub Ends : EngineValue → EngineValue → FinishedValue → Worker → Option Answer → Type 0
@@ -132,7 +134,7 @@ IsNamed e f shard Idle next answer = Unit {0}
 IsNamed e f shard (Trying t) next answer = (f ≡ e) × (next ≡ Trying t) × (answer ≡ None)
 IsNamed e f shard (Wanting t wanted) next answer =
     (f.book ≡ e.book) × TakesFirst e t (into_iter_items wanted) next × (answer ≡ None)
-IsNamed e f shard (Wishing t) next answer = (f.book ≡ e.book) × Gains e shard t next × (answer ≡ None)
+IsNamed e f shard (Wishing t left) next answer = (f.book ≡ e.book) × Gains e shard t left next × (answer ≡ None)
 IsNamed e f shard (Ready done) next answer = Ends e f done next answer
 IsNamed e f shard (Blocked t) next answer =
     (f ≡ e) × (next ≡ Leaving (release_of t) Again) × (answer ≡ None)

@@ -1,13 +1,15 @@
 -- What a worker is at, and how it lives in an engine.
-use Rattle.std.specs.Prelude.{◌≡◌, ◌≢◌, ℕ, true, List, [], ◌++◌, Option, Some, None, IsSome}
+use Rattle.std.specs.Prelude.{◌≡◌, ◌≢◌, ℕ, true, List, ◌++◌, Option, Some, None, IsSome}
 use Rattle.std.specs.Prelude.{◌⊎◌, ◌≤◌}
 use Rattle.std.specs.List.{AllByRecursion}
 use Rattle.std.specs.Vec.Iter.{into_iter_items}
 use Rattle.nfs_machine.specs.declared.calls.Call.{Call}
 use Rattle.nfs_objects.specs.Asks.{EachOnce}
+use Rattle.nfs_objects.specs.Attempt.{Attempts}
 use Rattle.nfs_objects.specs.Modes.{Suits, covers, mode_at, modes_of}
 use Rattle.nfs_objects.specs.Values.{Seen, ViewValue, seen_at}
 use Rattle.nfs_objects.specs.declared.address.Addr.{Addr}
+use Rattle.nfs_objects.specs.declared.change.Outcome.TheVariants.{Fresh}
 use Rattle.nfs_objects.specs.declared.modes.Mode.{Mode}
 use Rattle.nfs_engine.specs.Calls.{TxnValue, txn_of}
 use Rattle.nfs_engine.specs.Engine.{EngineValue, IsLeaving, Lives, Waits, held_among}
@@ -49,7 +51,7 @@ abbrev pub WorkerLives : EngineValue → Worker → Type 0
 WorkerLives e Idle = Unit {0}
 WorkerLives e (Trying t) = Lives e t × IsSuited t
 WorkerLives e (Wanting t wanted) = Lives e t × IsSuited t × Wants t.call t.view (into_iter_items wanted)
-WorkerLives e (Wishing t) = Lives e t × IsSuited t
+WorkerLives e (Wishing t left) = Lives e t × IsSuited t
 WorkerLives e (Ready f) = Lives e (txn_of f)
 WorkerLives e (Blocked t) = Lives e t
 WorkerLives e (Failing t) = Lives e t
@@ -62,7 +64,7 @@ abbrev pub worker_id : Worker → Option ℕ
 worker_id Idle = None
 worker_id (Trying t) = Some t.id
 worker_id (Wanting t wanted) = Some t.id
-worker_id (Wishing t) = Some t.id
+worker_id (Wishing t left) = Some t.id
 worker_id (Ready f) = Some f.id
 worker_id (Blocked t) = Some t.id
 worker_id (Failing t) = Some t.id
@@ -80,7 +82,7 @@ abbrev pub worker_key : Worker → Option ℕ
 worker_key Idle = None
 worker_key (Trying t) = Some t.key
 worker_key (Wanting t wanted) = Some t.key
-worker_key (Wishing t) = Some t.key
+worker_key (Wishing t left) = Some t.key
 worker_key (Ready f) = Some f.key
 worker_key (Blocked t) = Some t.key
 worker_key (Failing t) = Some t.key
@@ -89,10 +91,10 @@ worker_key (PutOff p) = Some p.key
 worker_key (Refusing p) = Some p.key
 
 -- ---- thinking
--- the call asks for addresses, or for a number, or it is done; or there was no memory to think
+-- the call asks for addresses, or for new numbers, or it is done; or there was no memory to think
 abbrev pub Comes : TxnValue → Worker → Type 0
 Comes t (Wanting u wanted) = (u ≡ t) × AsksFor t (into_iter_items wanted)
-Comes t (Wishing u) = (u ≡ t) × (t.view.reserved ≡ [])
+Comes t (Wishing u count) = (u ≡ t) × Attempts t.call t.ctx t.view (Fresh count)
 Comes t (Ready f) = txn_of f ≡ t
 Comes t (Failing u) = u ≡ t
 Comes t worker = ⊥

@@ -10,7 +10,8 @@ ghost use Rattle.nfs_objects.specs.Values.{change_value, done_value, seen_at};
 ghost use Rattle.nfs_engine.specs.Book.{store_in};
 ghost use Rattle.nfs_engine.specs.Calls.{txn_of};
 ghost use Rattle.nfs_engine.specs.Engine.{IsLeaving, Lives};
-ghost use Rattle.nfs_schedule.specs.Executions.{Answers, EndsIn, Frees, GoesOn, HoldsAlone, IsAlone, shown_in};
+ghost use Rattle.nfs_schedule.specs.Executions.{Answers, EndsIn, Frees, GoesOn, HoldsAlone, IsAlone};
+ghost use Rattle.nfs_schedule.specs.Executions.{Numbered, shown_in};
 ghost use Rattle.nfs_schedule.specs.Workers.{IsSuited};
 ghost use Rattle.nfs_schedule.specs.Worlds.{IsAtRest};
 
@@ -82,7 +83,7 @@ fn run(alloc: Global, engine: &mut Engine, txn: &mut Txn) -> Result<Change, Unme
         txn.is_called();
         match attempt(alloc, txn.call(), txn.ctx(), txn.view()) {
             Ok(Outcome::Need(asked)) => acquire_all(alloc, engine, txn, &asked)?,
-            Ok(Outcome::Fresh(_)) => reserve(alloc, engine, txn)?,
+            Ok(Outcome::Fresh(count)) => reserve_all(alloc, engine, txn, count)?,
             Ok(Outcome::Done(change)) => return Ok(change),
             Err(_) => return Err(Unmet),
         }
@@ -128,6 +129,19 @@ fn acquire_all(
             Ok(Got::Taken(_)) => unreachable!(),
             Err(_) => return Err(Unmet),
         }
+    }
+    Ok(())
+}
+
+/// Gets so many new numbers.
+fn reserve_all(alloc: Global, engine: &mut Engine, txn: &mut Txn, count: u32) -> Result<(), Unmet>
+    requires lives { Lives engine.old txn.old }
+    requires alone { IsAlone engine.old txn.old.id txn.old.key }
+    ensures goes_on { GoesOn engine.old engine.new txn.old txn.new }
+    ensures reserved { OnOk result (Numbered txn.old.view txn.new.view count) }
+{
+    for _number in 0..count {
+        reserve(alloc, engine, txn)?;
     }
     Ok(())
 }

@@ -37,8 +37,8 @@ pub enum Worker {
     Trying(Txn),
     /// It wants these addresses, the first one first.
     Wanting(Txn, IntoIter<(Addr, Mode)>),
-    /// It wants a new number.
-    Wishing(Txn),
+    /// It wants so many new numbers.
+    Wishing(Txn, u32),
     /// Its call is done, and is to be committed.
     Ready(Finished),
     /// It was told that an address is taken.
@@ -115,7 +115,7 @@ fn consider(alloc: Global, txn: Txn) -> Worker
     txn.is_called();
     match attempt(alloc, txn.call(), txn.ctx(), txn.view()) {
         Ok(Outcome::Need(wanted)) => Worker::Wanting(txn, wanted.into_iter()),
-        Ok(Outcome::Fresh(_)) => Worker::Wishing(txn),
+        Ok(Outcome::Fresh(count)) => Worker::Wishing(txn, count),
         Ok(Outcome::Done(change)) => finish(alloc, txn, change),
         Err(_) => Worker::Failing(txn),
     }
@@ -138,7 +138,7 @@ fn step(
         Worker::Idle => begin(alloc, engine, queue),
         Worker::Trying(txn) => (Worker::Trying(txn), None),
         Worker::Wanting(txn, wanted) => (acquire(alloc, engine, txn, wanted), None),
-        Worker::Wishing(txn) => (reserve(alloc, engine, shard, txn), None),
+        Worker::Wishing(txn, left) => (reserve(alloc, engine, shard, txn, left), None),
         Worker::Ready(finished) => commit(alloc, engine, finished),
         Worker::Blocked(txn) => (Worker::Leaving(engine.abort(txn), Afterwards::Again), None),
         Worker::Failing(txn) => (Worker::Leaving(engine.abort(txn), Afterwards::GiveUp), None),
@@ -229,14 +229,15 @@ fn acquire(alloc: Global, engine: &mut Engine, txn: Txn, wanted: IntoIter<(Addr,
     }
 }
 
-/// Asks for a new number of this shard.
-fn reserve(alloc: Global, engine: &mut Engine, shard: usize, txn: Txn) -> Worker
-    requires lives { WorkerLives engine.old (Worker.Wishing txn) }
+/// Asks for one of so many new numbers, of this shard.
+fn reserve(alloc: Global, engine: &mut Engine, shard: usize, txn: Txn, left: u32) -> Worker
+    requires lives { WorkerLives engine.old (Worker.Wishing txn left) }
     requires shard { shard < 16 }
-    ensures { IsStep engine.old engine.new shard (Worker.Wishing txn) result None }
+    ensures { IsStep engine.old engine.new shard (Worker.Wishing txn left) result None }
 {
     let mut txn = txn;
     match engine.reserve(alloc, &mut txn, shard) {
+        Ok(()) if left > 1 => Worker::Wishing(txn, left - 1),
         Ok(()) => Worker::Trying(txn),
         Err(_) => Worker::Failing(txn),
     }

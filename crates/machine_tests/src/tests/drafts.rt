@@ -1,14 +1,14 @@
-//! Drafts: what they ask for, and what becomes of refusals.
+//! Drafts: what they ask for, and what becomes of halts.
 
 ghost use Rattle.std.specs.Prelude.{◌≡◌, [], ◌∷◌, IfOk, IsSome, None};
-ghost use Rattle.nfs_objects.specs.Attempt.{IsSettled};
 ghost use Rattle.nfs_objects.specs.Modes.{Suits, changing, reading};
 ghost use Rattle.nfs_objects.specs.Values.{known_at};
 
 use super::*;
+use nfs_inodes::exports;
 use nfs_machine::Reply;
-use nfs_objects::{Change, Draft, Modes, MountTable, Outcome, outcome, settled};
-use nfs_wire::{NfsReply, NfsStatus};
+use nfs_objects::{Change, Draft, Modes, MountTable, Outcome, outcome};
+use nfs_wire::NfsReply;
 use side_wire::{Callback, Message, NlmResult, NlmStatus};
 
 /// Whether a draft with this view asks for an address in this mode.
@@ -53,10 +53,10 @@ fn first_not_asked_for(alloc: Global) -> Option<usize> {
 
 /// Whether a draft asks for both tables, for that of mounts in this mode.
 fn needs_tables(draft: Draft<'_>, mode: Mode) -> bool {
-    let exports = asks(draft.exports(), Addr::Exports, Mode::Shared);
+    let listed = asks(exports(&draft), Addr::Exports, Mode::Shared);
     let mounts = asks(draft.mounts(), Addr::Mounts, mode);
     drop(draft);
-    exports && mounts
+    listed && mounts
 }
 
 fn asks_for_tables(alloc: Global, modes: Modes<'_>, mode: Mode) -> bool {
@@ -77,7 +77,7 @@ fn a_draft_asks_for_what_was_not_read(rt: HostRuntime) {
 
 /// How many exports it knows.
 fn export_count(draft: &Draft<'_>) -> Option<usize> {
-    match draft.exports() {
+    match exports(draft) {
         Ok(list) => Some(list.len()),
         Err(halt) => {
             drop(halt);
@@ -228,21 +228,8 @@ fn message_goes(alloc: Global) -> Result<bool, AllocError> {
     Ok(is_sent)
 }
 
-/// The value or the status that this is settled as, if it is.
-fn settlement(checked: Result<u64, Halt>) -> Option<Result<u64, NfsStatus>> {
-    match settled(checked) {
-        Ok(settlement) => Some(settlement),
-        Err(halt) => {
-            drop(halt);
-            None
-        }
-    }
-}
-
 /// How many numbers are wanted, where that is the outcome of a call that ended so; None for want of memory.
-fn wanted(ended: Result<Change, Halt>) -> Option<u32>
-    requires { IsSettled ended }
-{
+fn wanted(ended: Result<Change, Halt>) -> Option<u32> {
     match outcome(ended) {
         Ok(outcome) => {
             let count = fresh_count(&outcome);
@@ -260,13 +247,6 @@ fn fresh_count(outcome: &Outcome) -> u32 {
     }
 }
 
-/// Whether a check that failed is answered, and all else halts the call.
-fn statuses_are_settled() -> bool {
-    settlement(Ok(4)) == Some(Ok(4))
-        && settlement(Err(Halt::from(NfsStatus::Stale))) == Some(Err(NfsStatus::Stale))
-        && wants_a_number(settled::<u64>(Err(Halt::Fresh(1))))
-}
-
 /// Whether a halt is an outcome, but for want of memory.
 fn halts_are_outcomes() -> bool {
     wanted(Err(Halt::Fresh(1))) == Some(1) && wanted(Err(Halt::from(AllocError))).is_none()
@@ -275,7 +255,6 @@ fn halts_are_outcomes() -> bool {
 #[test]
 fn a_draft_ends_in_an_answer_or_a_halt(rt: HostRuntime) -> Result<(), AllocError> {
     assert!(rt; message_goes(rt.alloc())?);
-    assert!(rt; statuses_are_settled());
     assert!(rt; halts_are_outcomes());
     Ok(())
 }

@@ -1,11 +1,10 @@
-use Rattle.std.proofs.Common.{Ok, Err, refl, ap, inl}
+use Rattle.std.proofs.Common.{Ok, Err, refl, ap}
 use Rattle.std.proofs.lemmas.Result.{err_from_is_err_and}
 use Rattle.nfs_wire.specs.declared.calls.NfsCall.TheVariants as nfs
 use Rattle.nfs_machine.specs.declared.calls.Call.TheVariants as calls
-use Rattle.nfs_objects.specs.Calls.{named_by}
 use Rattle.nfs_objects.specs.declared.address.Addr.TheVariants as addresses
-use Rattle.nfs_inodes.proofs.Halting.{known-never_lacking}
-use Rattle.nfs_inodes.proofs.Ending.{halting, means-as, naming}
+use Rattle.nfs_inodes.proofs.Halting.{known-ends, known-never_lacking}
+use Rattle.nfs_inodes.proofs.Ending.{means-as, naming, reading-exports}
 use Rattle.nfs_data.proofs.Telling.{access-tells, refused-promised, told-promised}
 use Rattle.nfs_data.proofs.access.attempt.Goals as goal
 use Rattle.nfs_data.proofs.access.attempt.Goals.{in-Ok+in_ok-rights-in-Ok, in-Err}
@@ -26,8 +25,8 @@ returns-in_err-rights-in-Ok-clause-ends c =
     let p = err_from_is_err_and c.from_residual-in_err-rights-in-Ok.result
     c.from_residual-in_err-rights-in-Ok.ensures.1 in
     rw (p.1, p.2)
-    (halting c.args.draft (calls.Nfs (nfs.Access c.args.arguments.now)) _ c.requires
-    (c.in_err-rights-in-Ok.ensures.rights (named_by (calls.Nfs (nfs.Access c.args.arguments.now))) (inl (inl refl))))
+    (reading-exports c.args.draft (calls.Nfs (nfs.Access c.args.arguments.now)) _ c.requires
+    c.in_err-rights-in-Ok.ensures.rights)
 
 pub returns-in_err-rights-in-Ok-clause-only : goal.returns-in_err-rights-in-Ok-clause-only
 returns-in_err-rights-in-Ok-clause-only c =
@@ -35,6 +34,11 @@ returns-in_err-rights-in-Ok-clause-only c =
     c.from_residual-in_err-rights-in-Ok.ensures.1 in
     λ nothing. rw (p.1, p.2)
     (known-never_lacking {A = Unit {0}} c.args.draft addresses.Exports (Err _) c.in_ok-known.ensures.reads.0
+    c.in_err-rights-in-Ok.ensures.reads)
+
+pub returns-in_err-rights-in-Ok-clause-at_once : goal.returns-in_err-rights-in-Ok-clause-at_once
+returns-in_err-rights-in-Ok-clause-at_once c = λ nothing.
+    absurd (known-ends {A = Unit {0}} c.args.draft addresses.Exports (Err _) c.in_ok-known.ensures.reads.0
     c.in_err-rights-in-Ok.ensures.reads)
 
 pub returns-clause-ends : goal.returns-clause-ends

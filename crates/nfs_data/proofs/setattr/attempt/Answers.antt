@@ -4,13 +4,13 @@ use Rattle.nfs_wire.specs.declared.calls.NfsCall.TheVariants as nfs
 use Rattle.nfs_machine.specs.declared.calls.Call.TheVariants as calls
 use Rattle.nfs_objects.specs.Promise.{Given, Held}
 use Rattle.nfs_objects.specs.Values.{DraftValue}
-use Rattle.nfs_objects.specs.declared.address.Addr.TheVariants as addresses
 use Rattle.nfs_inodes.proofs.Halting.{known-never_asked, stops-before}
 use Rattle.nfs_inodes.proofs.Ending.{halting, lives-as, means-as, naming, reading}
 use Rattle.nfs_inodes.specs.Known.{weak_of}
 use Rattle.nfs_data.proofs.Asking.{knows-object}
 use Rattle.nfs_data.proofs.Changing.{changed-promised, refused-promised, setattr-changes}
 use Rattle.nfs_data.proofs.Setting.{shown-as}
+use Rattle.nfs_objects.specs.Calls.{addresses_of}
 use Rattle.nfs_data.proofs.setattr.attempt.Goals as goal
 use Rattle.nfs_data.proofs.setattr.attempt.Goals.{in-Ok+in_ok-done-in-Ok+in_ok-after-in-Ok, in-Err}
 
@@ -46,7 +46,8 @@ returns-in_err-after-in-Ok-clause-ends c =
     rw (p.1, p.2)
     (reading c.args.draft (calls.Nfs (nfs.Setattr c.args.arguments.now)) _ c.requires c.in-Ok.known
     (lives-as c.args.draft.view _ c.in-Ok.known c.in-Ok.is c.in_ok-known.ensures.lives)
-    (stops-before c.args.draft c.set.new.draft does.op (addresses.Inode c.in-Ok.known.number) _ does.turns
+    (stops-before c.args.draft c.set.new.draft does.op
+    (λ view. addresses_of view c.in-Ok.known.number) _ does.turns
     c.in_err-after-in-Ok.ensures.object))
 
 pub returns-in_err-after-in-Ok-clause-only : goal.returns-in_err-after-in-Ok-clause-only

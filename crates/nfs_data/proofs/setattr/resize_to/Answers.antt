@@ -4,7 +4,7 @@ use Rattle.nfs_machine.specs.Times.{time_of}
 use Rattle.nfs_objects.proofs.Promised.{turns-none}
 use Rattle.nfs_objects.specs.Knows.{Turns}
 use Rattle.nfs_inodes.specs.Makes.{bytes_changed}
-use Rattle.nfs_inodes.specs.Stops.{StopsCounting}
+use Rattle.nfs_inodes.specs.Stops.{StopsAt, counted_at}
 use Rattle.nfs_data.specs.Settings.{size_set}
 use Rattle.nfs_data.specs.declared.setattr.NewSize.{NewSize}
 use Rattle.nfs_data.proofs.setattr.resize_to.Goals as goal
@@ -24,11 +24,11 @@ returns-clause-turns c =
     subst (λ (size : Option NewSize). MatchResult c.resize.result
     (λ _. Turns d c.resize.new.draft
     (size_set (time_of d.ctx.moment) c.args.number (option_map (λ (s : NewSize). s.size) size)))
-    (StopsCounting d c.args.number)) (sym c.in-Some.is)
+    (StopsAt d (counted_at d c.args.number))) (sym c.in-Some.is)
     (subst (λ n. MatchResult c.resize.result
     (λ _. Turns d c.resize.new.draft
     (bytes_changed (time_of d.ctx.moment) n (λ old. resized old c.in-Some.wanted.size)))
-    (StopsCounting d n)) here c.resize.ensures)
+    (StopsAt d (counted_at d n))) here c.resize.ensures)
 
 pub returns-clause-only : goal.returns-clause-only
 returns-clause-only c = λ none.

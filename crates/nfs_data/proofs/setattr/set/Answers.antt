@@ -1,25 +1,26 @@
-use Rattle.std.proofs.Common.{Err, inl, inr, refl, sym, option_map, subst}
+use Rattle.std.proofs.Common.{Err, sym, option_map, subst}
 use Rattle.std.proofs.lemmas.Result.{err_from_is_err_and}
 use Rattle.nfs_wire.specs.declared.calls.NfsCall.TheVariants as nfs
 use Rattle.nfs_machine.specs.Times.{time_of}
 use Rattle.nfs_machine.specs.declared.calls.Call.TheVariants as calls
-use Rattle.nfs_objects.specs.Calls.{named_by}
+use Rattle.nfs_objects.specs.Calls.{addresses_of, named_by}
 use Rattle.nfs_objects.specs.Values.{DraftValue}
 use Rattle.nfs_objects.specs.declared.address.Addr.TheVariants as addresses
 use Rattle.nfs_inodes.proofs.Counting.{usage-lives-first}
-use Rattle.nfs_inodes.proofs.Halting.{known-never_lacking, stops-before}
+use Rattle.nfs_inodes.proofs.Halting.{any-stops, exports-stop-at, known-never_lacking, lives-stops, stops-before}
 use Rattle.nfs_inodes.proofs.Standing.{known-lives}
 use Rattle.nfs_inodes.specs.Stops.{KnowsAt}
 use Rattle.nfs_data.proofs.Setting.{Checks, file-as, none-as, refused-does, set-does}
 use Rattle.nfs_data.specs.Settings.{size_set}
 use Rattle.nfs_data.specs.declared.setattr.NewSize.{NewSize}
+use Rattle.nfs_inodes.proofs.Composing.{counted-stops}
 use Rattle.nfs_data.proofs.setattr.set.Goals as goal
 
 pub returns-in_err-exports-clause-does : goal.returns-in_err-exports-clause-does
 returns-in_err-exports-clause-does c =
     let p = err_from_is_err_and c.from_residual.result c.from_residual.ensures.1 in
-    rw (p.1, p.2) (c.in_err-exports.ensures.exports (named_by (calls.Nfs (nfs.Setattr c.args.arguments.now)))
-    (inl (inl refl)))
+    rw (p.1, p.2) (exports-stop-at c.args.draft.now
+    (named_by (calls.Nfs (nfs.Setattr c.args.arguments.now)) c.args.draft.now.view) _ c.in_err-exports.ensures.exports)
 
 pub returns-in_err-exports-clause-only : goal.returns-in_err-exports-clause-only
 returns-in_err-exports-clause-only c =
@@ -48,10 +49,12 @@ resize_to-requires-clause-file c = file-as c.args.known.now c.args.arguments.now
 pub returns-in_err-resize_to-clause-does : goal.returns-in_err-resize_to-clause-does
 returns-in_err-resize_to-clause-does c =
     let p = err_from_is_err_and c.from_residual-in_err-resize_to.result c.from_residual-in_err-resize_to.ensures.1 in
-    rw (p.1, p.2) (c.in_err-resize_to.ensures.turns (named_by (calls.Nfs (nfs.Setattr c.args.arguments.now)))
-    (inr (known-lives c.args.draft.now c.args.known.now c.requires.begins.none
-    (λ s k w. (c.requires.names s k w).known)))
-    (usage-lives-first c.args.draft.now c.args.known.now.number c.requires.begins.none))
+    rw (p.1, p.2) (any-stops c.args.draft.now
+    (named_by (calls.Nfs (nfs.Setattr c.args.arguments.now)) c.args.draft.now.view) _
+    (counted-stops c.args.draft.now c.args.known.now.number _
+    (known-lives c.args.draft.now c.args.known.now c.requires.begins.none (λ s k w. (c.requires.names s k w).known))
+    (usage-lives-first c.args.draft.now c.args.known.now.number c.requires.begins.none)
+    c.in_err-resize_to.ensures.turns))
 
 pub returns-in_err-resize_to-clause-only : goal.returns-in_err-resize_to-clause-only
 returns-in_err-resize_to-clause-only c =
@@ -66,13 +69,15 @@ pub returns-in_err-set_attributes-clause-does : goal.returns-in_err-set_attribut
 returns-in_err-set_attributes-clause-does c =
     let p = err_from_is_err_and c.from_residual-in_err-set_attributes.result
     c.from_residual-in_err-set_attributes.ensures.1 in
-    rw (p.1, p.2) (stops-before c.args.draft.now c.resize_to.new.draft
+    rw (p.1, p.2) (any-stops c.args.draft.now
+    (named_by (calls.Nfs (nfs.Setattr c.args.arguments.now)) c.args.draft.now.view) _
+    (lives-stops c.args.draft.now c.args.known.now.number _
+    (known-lives c.args.draft.now c.args.known.now c.requires.begins.none (λ s k w. (c.requires.names s k w).known))
+    (stops-before c.args.draft.now c.resize_to.new.draft
     (size_set (time_of c.args.draft.now.ctx.moment) c.args.known.now.number
     (option_map (λ (s : NewSize). s.size) c.in-Ok.size))
-    (addresses.Inode c.args.known.now.number) _ c.in_ok-resize_to.ensures.turns c.in_err-set_attributes.ensures.turns
-    (named_by (calls.Nfs (nfs.Setattr c.args.arguments.now)))
-    (inr (known-lives c.args.draft.now c.args.known.now c.requires.begins.none
-    (λ s k w. (c.requires.names s k w).known))))
+    (λ view. addresses_of view c.args.known.now.number) _ c.in_ok-resize_to.ensures.turns
+    c.in_err-set_attributes.ensures.turns)))
 
 pub returns-in_err-set_attributes-clause-only : goal.returns-in_err-set_attributes-clause-only
 returns-in_err-set_attributes-clause-only c =

@@ -4,10 +4,10 @@ use Rattle.nfs_wire.specs.declared.calls.NfsCall.TheVariants as nfs
 use Rattle.nfs_machine.specs.declared.calls.Call.TheVariants as calls
 use Rattle.nfs_objects.specs.Promise.{Given, Held}
 use Rattle.nfs_objects.specs.Values.{DraftValue}
-use Rattle.nfs_objects.specs.declared.address.Addr.TheVariants as addresses
 use Rattle.nfs_inodes.proofs.Halting.{stops-before}
 use Rattle.nfs_inodes.proofs.Ending.{lives-as, means-as, naming, reading}
 use Rattle.nfs_data.proofs.Changing.{changed-promised, refused-promised, write-changes}
+use Rattle.nfs_objects.specs.Calls.{addresses_of}
 use Rattle.nfs_data.proofs.write.attempt.Goals as goal
 use Rattle.nfs_data.proofs.write.attempt.Goals.{in-Ok+in_ok-result-in-Ok+in_ok-wcc-in-Ok, in-Err}
 
@@ -29,7 +29,8 @@ returns-in_err-wcc-in-Ok-clause-ends c =
     rw (p.1, p.2)
     (reading c.args.draft (calls.Nfs (nfs.Write c.args.arguments.now)) _ c.requires c.in-Ok.known
     (lives-as c.args.draft.view _ c.in-Ok.known c.in-Ok.is c.in_ok-known.ensures.lives)
-    (stops-before c.args.draft c.store.new.draft does.op (addresses.Inode c.in-Ok.known.number) _ does.turns
+    (stops-before c.args.draft c.store.new.draft does.op
+    (λ view. addresses_of view c.in-Ok.known.number) _ does.turns
     c.in_err-wcc-in-Ok.ensures))
 
 pub returns-clause-ends : goal.returns-clause-ends

@@ -1,4 +1,4 @@
-use Rattle.std.proofs.Common.{◌≡◌, ◌==◌, ℕ, List, true, false, inl, inr, refl, sym, ap, subst, take, arith}
+use Rattle.std.proofs.Common.{◌≡◌, ◌==◌, ℕ, List, true, false, refl, sym, ap, subst, take, arith}
 use Rattle.std.proofs.lemmas.Bool.Decides.{nat_tests}
 use Rattle.std.proofs.lemmas.Result.{err_from_is_err_and}
 use Rattle.nfs_wire.specs.declared.attributes.FileType.TheVariants as types
@@ -20,6 +20,8 @@ use Rattle.nfs_inodes.specs.Makes.{bytes_changed}
 use Rattle.nfs_inodes.specs.declared.found.Known.{Known}
 use Rattle.nfs_data.proofs.Writing.{Checks, nothing-does, refused-does, written-does}
 use Rattle.nfs_data.specs.Writes.{bytes_after}
+use Rattle.nfs_inodes.proofs.Halting.{any-stops, exports-stop-at}
+use Rattle.nfs_inodes.proofs.Composing.{counted-stops}
 use Rattle.nfs_data.proofs.write.store.Goals as goal
 use Rattle.nfs_data.proofs.write.store.Goals.{then-answer-gt0+in_ok-write, else-answer-gt0}
 
@@ -36,16 +38,18 @@ turned d new a x y more same is turns =
 pub returns-in_err-exports : goal.returns-in_err-exports
 returns-in_err-exports c =
     let p = err_from_is_err_and c.from_residual.result c.from_residual.ensures.1 in
-    rw (p.1, p.2) (c.in_err-exports.ensures.exports (named_by (calls.Nfs (nfs.Write c.args.arguments.now)))
-    (inl (inl refl)))
+    rw (p.1, p.2) (exports-stop-at c.args.draft.now
+    (named_by (calls.Nfs (nfs.Write c.args.arguments.now)) c.args.draft.now.view) _ c.in_err-exports.ensures.exports)
 
 pub returns-in_err-write : goal.returns-in_err-write
 returns-in_err-write c =
     let p = err_from_is_err_and c.from_residual-in_err-write.result c.from_residual-in_err-write.ensures.1 in
-    rw (p.1, p.2) (c.in_err-write.ensures (named_by (calls.Nfs (nfs.Write c.args.arguments.now)))
-    (inr (subst (λ (y : Known). Lives c.args.draft.now.view (addresses.Inode y.number)) (sym c.in-Ok.ensures.known)
-    (known-lives c.args.draft.now c.args.known.now c.requires.begins.none (λ s k w. (c.requires.names s k w).known))))
-    (usage-lives-first c.args.draft.now c.in-Ok.file.known.number c.requires.begins.none))
+    rw (p.1, p.2) (any-stops c.args.draft.now
+    (named_by (calls.Nfs (nfs.Write c.args.arguments.now)) c.args.draft.now.view) _
+    (counted-stops c.args.draft.now c.in-Ok.file.known.number _
+    (subst (λ (y : Known). Lives c.args.draft.now.view (addresses.Inode y.number)) (sym c.in-Ok.ensures.known)
+    (known-lives c.args.draft.now c.args.known.now c.requires.begins.none (λ s k w. (c.requires.names s k w).known)))
+    (usage-lives-first c.args.draft.now c.in-Ok.file.known.number c.requires.begins.none) c.in_err-write.ensures))
 
 pub returns-in-Err : goal.returns-in-Err
 returns-in-Err c =

@@ -73,6 +73,17 @@ returns-in_err-known-clause-once c = λ nothing.
     (reads-at {A = Unit {0}} c.args.draft.now c.in-Some.handle.fileid (Err _) c.in_ok-exports.ensures.reads
     c.in_err-known.ensures.reads) nothing)
 
+pub returns-in_err-exports-clause-at_once : goal.returns-in_err-exports-clause-at_once
+returns-in_err-exports-clause-at_once c = λ nothing.
+    absurd (exports-once (Unit {0}) c.args.draft.now c.args.handle.now _ c.in_err-exports.ensures.reads nothing)
+
+pub returns-in_err-known-clause-at_once : goal.returns-in_err-known-clause-at_once
+returns-in_err-known-clause-at_once c = λ nothing.
+    absurd (lacking-once (Unit {0}) c.args.draft.now c.args.handle.now c.requires c.in_ok-exports.ensures.reads
+    c.in-Some.handle (sym c.in-Some.ensures) _
+    (reads-at {A = Unit {0}} c.args.draft.now c.in-Some.handle.fileid (Err _) c.in_ok-exports.ensures.reads
+    c.in_err-known.ensures.reads) nothing)
+
 pub returns-then-is_target-clause-reads : goal.returns-then-is_target-clause-reads
 returns-then-is_target-clause-reads c =
     let same : c.in-Some-2.known.number ≡ c.in-Some.handle.fileid =

@@ -6,7 +6,7 @@ use Rattle.nfs_machine.specs.Times.{time_of}
 use Rattle.nfs_objects.specs.Edits.{edited}
 use Rattle.nfs_objects.specs.Knows.{Turns}
 use Rattle.nfs_inodes.specs.Makes.{removed}
-use Rattle.nfs_inodes.specs.Stops.{StopsCounting}
+use Rattle.nfs_inodes.specs.Stops.{StopsAt, counted_at}
 use Rattle.nfs_inodes.proofs.Putting.{all-stops}
 use Rattle.nfs_inodes.proofs.makers.lose_link.Goals as goal
 
@@ -15,7 +15,7 @@ returns-then-links-le1 c =
     subst (λ b. MatchResult c.free.result
     (λ _. Turns c.args.draft.now c.free.new.draft (λ k. cond b (removed c.args.number k)
     (edited k c.args.number (λ o. touched o (time_of c.args.draft.now.ctx.moment)) (λ l. l - 1))))
-    (StopsCounting c.args.draft.now c.args.number))
+    (StopsAt c.args.draft.now (counted_at c.args.draft.now c.args.number)))
     (sym (le-leb c.args.links 1 c.if-links-le1.true)) c.free.ensures
 
 pub returns-else-links-le1 : goal.returns-else-links-le1
@@ -23,7 +23,7 @@ returns-else-links-le1 c =
     subst (λ b. MatchResult c.unlink.result
     (λ _. Turns c.args.draft.now c.unlink.new.draft (λ k. cond b (removed c.args.number k)
     (edited k c.args.number (λ o. touched o (time_of c.args.draft.now.ctx.moment)) (λ l. l - 1))))
-    (StopsCounting c.args.draft.now c.args.number))
+    (StopsAt c.args.draft.now (counted_at c.args.draft.now c.args.number)))
     (sym (lt-leb c.args.links 1 c.if-links-le1.false))
     (all-stops c.args.draft.now c.args.number (λ _. Turns c.args.draft.now c.unlink.new.draft
     (λ k. edited k c.args.number (λ o. touched o (time_of c.args.draft.now.ctx.moment)) (λ l. l - 1)))

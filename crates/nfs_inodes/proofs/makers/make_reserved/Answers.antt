@@ -12,7 +12,7 @@ use Rattle.nfs_inodes.proofs.makers.make_reserved.Goals as goal
 pub returns-in_err-add_entry-clause-turns : goal.returns-in_err-add_entry-clause-turns
 returns-in_err-add_entry-clause-turns c =
     let p = err_from_is_err_and c.from_residual-in_err-add_entry.result c.from_residual-in_err-add_entry.ensures.1 in
-    rw (p.1, p.2) (making-stops c.args.draft.now (addresses.Inode c.args.directory.now.known.number)
+    rw (p.1, p.2) (making-stops c.args.draft.now c.args.directory.now.known.number
     c.args.directory.now.known.export _
     c.in_err-add_entry.ensures.turns)
 
@@ -23,7 +23,7 @@ pub returns-in_err-recount-clause-turns : goal.returns-in_err-recount-clause-tur
 returns-in_err-recount-clause-turns c =
     let p = err_from_is_err_and c.from_residual-in_err-recount.result c.from_residual-in_err-recount.ensures.1 in
     rw (p.1, p.2) (counting-stops c.args.draft.now c.add_entry.new.draft _
-    (addresses.Inode c.args.directory.now.known.number)
+    c.args.directory.now.known.number
     c.args.directory.now.known.export c.args.number _ c.in_ok-add_entry.ensures.turns c.in_err-recount.ensures.turns)
 
 pub put-requires-clause-alone : goal.put-requires-clause-alone

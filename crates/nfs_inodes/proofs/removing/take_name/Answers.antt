@@ -1,18 +1,21 @@
-use Rattle.std.proofs.Common.{◌∙◌}
+use Rattle.std.proofs.Common.{◌∙◌, ◌++◌}
 use Rattle.std.proofs.lemmas.Result.{err_from_is_err_and}
 use Rattle.nfs_machine.specs.Times.{time_of}
-use Rattle.nfs_objects.specs.declared.address.Addr.TheVariants as addresses
+use Rattle.nfs_objects.specs.Calls.{addresses_of}
 use Rattle.nfs_objects.proofs.Suiting.{change-each}
-use Rattle.nfs_inodes.proofs.Composing.{lost-directory, lost-other, turned-counting, turned-lost}
+use Rattle.nfs_inodes.proofs.Composing.{covers-first, covers-second, first-stops, group-lives, lost-directory}
+use Rattle.nfs_inodes.proofs.Composing.{lost-other, turned-within}
 use Rattle.nfs_inodes.proofs.Lived.{lived-taken, usage-there}
 use Rattle.nfs_inodes.specs.Makes.{link_lost, name_taken}
 use Rattle.nfs_inodes.specs.Removes.{directory_lost, name_lost}
+use Rattle.nfs_inodes.specs.Stops.{group_at, inode_at}
 use Rattle.nfs_inodes.proofs.removing.take_name.Goals as goal
 
 pub returns-in_err-take_entry : goal.returns-in_err-take_entry
 returns-in_err-take_entry c =
     let p = err_from_is_err_and c.from_residual.result c.from_residual.ensures.1 in
-    rw (p.1, p.2) (λ named first second. c.in_err-take_entry.ensures named first)
+    rw (p.1, p.2) (first-stops c.args.draft.now c.args.directory.now.known.number
+    (addresses_of c.args.draft.now.view c.args.object.now.number) _ c.in_err-take_entry.ensures)
 
 pub lose_directory-requires : goal.lose_directory-requires
 lose_directory-requires c = c.in_ok-take_entry.ensures.modes ∙ c.requires.alone
@@ -23,13 +26,19 @@ returns-in-Directory c =
     let now = time_of d.ctx.moment in
     let place = c.args.directory.now.known.number in
     let x = c.args.object.now in
-    turned-lost d c.take_entry.new.draft (name_taken now place c.args.name.now) c.in_ok-take_entry.ensures
+    let mid = c.take_entry.new.draft in
+    let counts = group-lives mid x.number d.view (addresses_of d.view place ++ addresses_of d.view x.number)
+    c.in_ok-take_entry.ensures.view
+    (usage-there d mid (name_taken now place c.args.name.now) c.requires.none c.in_ok-take_entry.ensures
+    (lived-taken now place c.args.name.now) x.number) in
+    turned-within d mid (name_taken now place c.args.name.now) c.in_ok-take_entry.ensures
     (λ t. directory_lost t place x.number)
     c.lose_directory.new.draft (name_lost now place c.args.name.now x)
     (lost-directory now place c.args.name.now x c.in-Directory.is) c.lose_directory.result
-    (addresses.Inode place) x.number
-    (usage-there d c.take_entry.new.draft (name_taken now place c.args.name.now) c.requires.none c.in_ok-take_entry.ensures
-    (lived-taken now place c.args.name.now) x.number) c.lose_directory.ensures
+    (λ v. addresses_of v place ++ addresses_of v x.number ++ group_at x.number (inode_at mid x.number))
+    (addresses_of d.view place ++ addresses_of d.view x.number)
+    (covers-first d.view (addresses_of d.view place) (addresses_of d.view x.number)
+    (group_at x.number (inode_at mid x.number)) counts) c.lose_directory.ensures
 
 pub lose_link-requires : goal.lose_link-requires
 lose_link-requires c =
@@ -41,10 +50,16 @@ returns-in_default c =
     let now = time_of d.ctx.moment in
     let place = c.args.directory.now.known.number in
     let x = c.args.object.now in
-    turned-counting d c.take_entry.new.draft (name_taken now place c.args.name.now) c.in_ok-take_entry.ensures
+    let mid = c.take_entry.new.draft in
+    let counts = group-lives mid x.number d.view (addresses_of d.view place ++ addresses_of d.view x.number)
+    c.in_ok-take_entry.ensures.view
+    (usage-there d mid (name_taken now place c.args.name.now) c.requires.none c.in_ok-take_entry.ensures
+    (lived-taken now place c.args.name.now) x.number) in
+    turned-within d mid (name_taken now place c.args.name.now) c.in_ok-take_entry.ensures
     (λ t. link_lost t x.number x.attributes.links)
     c.lose_link.new.draft (name_lost now place c.args.name.now x)
     (lost-other now place c.args.name.now x c.in_default.not-Directory) c.lose_link.result
-    (addresses.Inode place) x.number
-    (usage-there d c.take_entry.new.draft (name_taken now place c.args.name.now) c.requires.none c.in_ok-take_entry.ensures
-    (lived-taken now place c.args.name.now) x.number) c.lose_link.ensures
+    (λ v. addresses_of v x.number ++ group_at x.number (inode_at mid x.number))
+    (addresses_of d.view place ++ addresses_of d.view x.number)
+    (covers-second d.view (addresses_of d.view place) (addresses_of d.view x.number)
+    (group_at x.number (inode_at mid x.number)) counts) c.lose_link.ensures

@@ -1,10 +1,6 @@
-use Rattle.std.proofs.Common.{[], inl, inr, refl, sym}
+use Rattle.std.proofs.Common.{[], refl, sym}
 use Rattle.std.proofs.lemmas.Result.{err_from_is_err_and}
-use Rattle.side_wire.specs.declared.mount.MountCall.TheVariants as mount
-use Rattle.nfs_machine.specs.declared.calls.Call.TheVariants as calls
-use Rattle.nfs_objects.proofs.Knows.{lacks-stops}
-use Rattle.nfs_objects.specs.Calls.{named_by}
-use Rattle.nfs_objects.specs.declared.address.Addr.TheVariants as addresses
+use Rattle.nfs_mount.proofs.Listed.{mounts-stop}
 use Rattle.nfs_mount.proofs.Mounted.{listed-adds, table-adds}
 use Rattle.nfs_mount.proofs.mount.add_mount.Goals as goal
 use Rattle.nfs_mount.proofs.mount.add_mount.Goals.{in-Some-2+in_ok-table-in-Some-2, in-None+in_ok-table-in-None}
@@ -13,8 +9,7 @@ pub returns-in_err-table : goal.returns-in_err-table
 returns-in_err-table c =
     let p = err_from_is_err_and c.from_residual.result c.from_residual.ensures.1 in
     rw (p.1, p.2)
-    (lacks-stops c.args.draft.now (named_by (calls.Mount mount.Null)) addresses.Mounts _ c.in_err-table.ensures
-    (inl (inr (inl refl))))
+    (mounts-stop c.args.draft.now _ c.in_err-table.ensures)
 
 pub returns-in-Some : goal.returns-in-Some
 returns-in-Some c =

@@ -1,16 +1,14 @@
-use Rattle.std.proofs.Common.{inl, refl, sym, ap, ◌∙◌}
+use Rattle.std.proofs.Common.{sym, ap, ◌∙◌}
 use Rattle.std.proofs.lemmas.Result.{err_from_is_err_and}
-use Rattle.side_wire.specs.declared.mount.MountCall.TheVariants as mount
 use Rattle.nfs_machine.specs.MountSteps.{path_fault}
-use Rattle.nfs_machine.specs.declared.calls.Call.TheVariants as calls
-use Rattle.nfs_objects.specs.Calls.{named_by}
+use Rattle.nfs_mount.proofs.Listed.{exports-stop}
 use Rattle.nfs_mount.proofs.Mounted.{not-exported, root-lives, walked}
 use Rattle.nfs_mount.proofs.mount.target.Goals as goal
 
 pub returns-in_err-exports-clause-found : goal.returns-in_err-exports-clause-found
 returns-in_err-exports-clause-found c =
     let p = err_from_is_err_and c.from_residual.result c.from_residual.ensures.1 in
-    rw (p.1, p.2) (c.in_err-exports.ensures.exports (named_by (calls.Mount mount.Null)) (inl (inl refl)))
+    rw (p.1, p.2) (exports-stop c.args.draft.now _ c.in_err-exports.ensures.exports)
 
 pub walk-requires-clause-lives : goal.walk-requires-clause-lives
 walk-requires-clause-lives c =

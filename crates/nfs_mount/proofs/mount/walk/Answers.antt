@@ -1,21 +1,20 @@
-use Rattle.std.proofs.Common.{◌≡◌, inr, option_map, subst}
+use Rattle.std.proofs.Common.{◌≡◌, option_map, subst}
 use Rattle.std.proofs.lemmas.Result.{err_from_is_err_and}
-use Rattle.side_wire.specs.declared.mount.MountCall.TheVariants as mount
-use Rattle.nfs_machine.specs.declared.calls.Call.TheVariants as calls
-use Rattle.nfs_objects.specs.Calls.{named_by}
 use Rattle.nfs_machine.specs.Attributes.{entries_of}
 use Rattle.nfs_machine.specs.Checks.{entry_of}
 use Rattle.nfs_machine.specs.State.{Entry}
 use Rattle.nfs_objects.specs.Knows.{Knows}
 use Rattle.nfs_inodes.specs.Known.{IsObject, content_at}
 use Rattle.nfs_inodes.specs.declared.found.Known.{Known}
+use Rattle.nfs_mount.proofs.Listed.{object-stops}
 use Rattle.nfs_mount.proofs.Walked.{end-there, name-absent, name-there, nothing-there, lives-known, other-told}
 use Rattle.nfs_mount.proofs.mount.walk.Goals as goal
 
 pub returns-in_err-object : goal.returns-in_err-object
 returns-in_err-object c =
     let p = err_from_is_err_and c.from_residual.result c.from_residual.ensures.1 in
-    rw (p.1, p.2) (c.in_err-object.ensures.object (named_by (calls.Mount mount.Null)) (inr c.names.invariant.lives))
+    rw (p.1, p.2)
+    (object-stops c.args.draft.now c.names.number _ c.names.invariant.lives c.in_err-object.ensures.object)
 
 pub returns-in_default : goal.returns-in_default
 returns-in_default c =
@@ -38,9 +37,10 @@ pub returns-in_err-next : goal.returns-in_err-next
 returns-in_err-next c =
     let p = err_from_is_err_and c.from_residual-in_err-next.result c.from_residual-in_err-next.ensures.1 in
     rw (p.1, p.2)
-    (c.in_err-next.ensures.entry (named_by (calls.Mount mount.Null)) (inr (lives-known c.args.draft.now c.names.number c.in-Some.object
-    c.in-Ok.directory.known c.in-Ok.ensures.known (λ s k w. subst (IsObject k.state c.names.number) c.in-Some.is
-    (c.in_ok-object.ensures.object s k w)) c.requires.none c.names.invariant.lives)))
+    (object-stops c.args.draft.now c.in-Ok.directory.known.number _ (lives-known c.args.draft.now c.names.number
+    c.in-Some.object c.in-Ok.directory.known c.in-Ok.ensures.known (λ s k w. subst (IsObject k.state c.names.number)
+    c.in-Some.is (c.in_ok-object.ensures.object s k w)) c.requires.none c.names.invariant.lives)
+    c.in_err-next.ensures.entry)
 
 pub returns-in_default-2 : goal.returns-in_default-2
 returns-in_default-2 c =

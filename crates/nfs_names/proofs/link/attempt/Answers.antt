@@ -1,8 +1,8 @@
-use Rattle.std.proofs.Common.{◌∷◌, [], Ok, Err, inl, sym}
+use Rattle.std.proofs.Common.{Err, Ok, refl}
 use Rattle.std.proofs.lemmas.Result.{err_from_is_err_and}
 use Rattle.nfs_wire.specs.declared.calls.NfsCall.TheVariants as nfs
 use Rattle.nfs_machine.specs.declared.calls.Call.TheVariants as calls
-use Rattle.nfs_inodes.proofs.Ending.{halting, means-as}
+use Rattle.nfs_inodes.proofs.Ending.{means-as, naming-first}
 use Rattle.nfs_names.proofs.Linked.{file-refused}
 use Rattle.nfs_names.proofs.link.attempt.Goals as goal
 
@@ -11,8 +11,8 @@ returns-in_err-file-clause-ends c =
     let a = c.args.arguments.now in
     let p = err_from_is_err_and c.from_residual.result c.from_residual.ensures.1 in
     rw (p.1, p.2)
-    (halting c.args.draft (calls.Nfs (nfs.Link a)) _ c.requires
-    (c.in_err-file.ensures.stops (a.file ∷ a.place.directory ∷ []) (inl (sym c.as_slice.ensures))))
+    (naming-first c.args.draft (calls.Nfs (nfs.Link a)) _ c.requires a.file a.place.directory _
+    c.as_slice.ensures refl c.in_err-file.ensures.stops)
 
 pub attempt_of-requires-clause-file : goal.attempt_of-requires-clause-file
 attempt_of-requires-clause-file c =

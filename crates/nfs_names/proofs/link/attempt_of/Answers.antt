@@ -1,10 +1,9 @@
-use Rattle.std.proofs.Common.{◌∷◌, [], Ok, Err, inl, inr, refl, sym}
+use Rattle.std.proofs.Common.{Err, Ok, refl}
 use Rattle.std.proofs.lemmas.Result.{err_from_is_err_and}
 use Rattle.nfs_wire.specs.declared.calls.NfsCall.TheVariants as nfs
 use Rattle.nfs_machine.specs.declared.calls.Call.TheVariants as calls
-use Rattle.nfs_objects.specs.Calls.{named_by}
-use Rattle.nfs_objects.specs.declared.address.Addr.TheVariants as addresses
-use Rattle.nfs_inodes.proofs.Ending.{halting, lives-as, means-as, reading}
+use Rattle.nfs_objects.specs.Calls.{addresses_of}
+use Rattle.nfs_inodes.proofs.Ending.{lives-as, means-as, naming-second, reading, reading-exports}
 use Rattle.nfs_inodes.proofs.Halting.{stops-before}
 use Rattle.nfs_inodes.proofs.Standing.{known-lives}
 use Rattle.nfs_names.proofs.Linked.{directory-refused, linked-promised}
@@ -15,8 +14,8 @@ returns-in_err-directory c =
     let a = c.args.arguments.now in
     let p = err_from_is_err_and c.from_residual.result c.from_residual.ensures.1 in
     rw (p.1, p.2)
-    (halting c.args.draft (calls.Nfs (nfs.Link a)) _ c.requires.begins
-    (c.in_err-directory.ensures.stops (a.file ∷ a.place.directory ∷ []) (inr (inl (sym c.as_slice.ensures)))))
+    (naming-second c.args.draft (calls.Nfs (nfs.Link a)) _ c.requires.begins a.file a.place.directory _
+    c.as_slice.ensures refl c.in_err-directory.ensures.stops)
 
 pub link-requires-clause-directory : goal.link-requires-clause-directory
 link-requires-clause-directory c =
@@ -29,7 +28,7 @@ returns-in_err-result-in-Ok c =
     let p = err_from_is_err_and c.from_residual-in_err-result-in-Ok.result
     c.from_residual-in_err-result-in-Ok.ensures.1 in
     rw (p.1, p.2)
-    (halting c.args.draft call _ c.requires.begins (c.in_err-result-in-Ok.ensures (named_by call) (inl (inl refl))))
+    (reading-exports c.args.draft call _ c.requires.begins c.in_err-result-in-Ok.ensures)
 
 pub returns-in_err-attributes-in-Ok : goal.returns-in_err-attributes-in-Ok
 returns-in_err-attributes-in-Ok c =
@@ -40,7 +39,8 @@ returns-in_err-attributes-in-Ok c =
     rw (p.1, p.2)
     (reading c.args.draft call _ c.requires.begins c.args.file.now
     (known-lives c.args.draft c.args.file.now c.requires.begins.none (λ s k w. (c.requires.file s k w).known))
-    (stops-before c.args.draft c.link.new.draft does.op (addresses.Inode c.args.file.now.number) _ does.turns
+    (stops-before c.args.draft c.link.new.draft does.op
+    (λ view. addresses_of view c.args.file.now.number) _ does.turns
     c.in_err-attributes-in-Ok.ensures))
 
 pub returns-in_err-wcc-in-Ok : goal.returns-in_err-wcc-in-Ok
@@ -51,7 +51,8 @@ returns-in_err-wcc-in-Ok c =
     rw (p.1, p.2)
     (reading c.args.draft call _ c.requires.begins c.in-Ok.directory
     (lives-as c.args.draft.view _ c.in-Ok.directory c.in-Ok.is c.in_ok-directory.ensures.lives)
-    (stops-before c.args.draft c.link.new.draft does.op (addresses.Inode c.in-Ok.directory.number) _ does.turns
+    (stops-before c.args.draft c.link.new.draft does.op
+    (λ view. addresses_of view c.in-Ok.directory.number) _ does.turns
     c.in_err-wcc-in-Ok.ensures))
 
 pub returns-in_ok-wcc-in-Ok : goal.returns-in_ok-wcc-in-Ok

@@ -1,4 +1,4 @@
-use Rattle.std.proofs.Common.{inr}
+use Rattle.std.proofs.Common.{◌∷◌, []}
 use Rattle.std.proofs.lemmas.Result.{err_from_is_err_and}
 use Rattle.std.proofs.lemmas.Bool.{le-ltb, lt-ltb}
 use Rattle.nfs_wire.specs.declared.status.NfsStatus.TheVariants as status
@@ -7,6 +7,8 @@ use Rattle.nfs_objects.proofs.Promised.{does-nothing}
 use Rattle.nfs_inodes.proofs.Standing.{known-lives}
 use Rattle.nfs_names.proofs.Linked.{full-end, linked-does, many-end, refused-end, there-end}
 use Rattle.nfs_names.specs.Links.{IsLinkEnd}
+use Rattle.nfs_objects.specs.declared.address.Addr.TheVariants as addresses
+use Rattle.nfs_inodes.proofs.Halting.{any-stops, both-stop, lives-stops}
 use Rattle.nfs_names.proofs.link.link.Goals as goal
 
 pub returns-in_err-exports : goal.returns-in_err-exports
@@ -26,9 +28,10 @@ pub returns-in_err-entry : goal.returns-in_err-entry
 returns-in_err-entry c =
     let p = err_from_is_err_and c.from_residual-in_err-entry.result c.from_residual-in_err-entry.ensures.1 in
     let entry = rw c.in-Ok.ensures.known at c.in_err-entry.ensures.entry in
-    rw (p.1, p.2) (λ named bounded. entry named
-    (inr (known-lives c.args.draft.now c.args.known.now c.requires.none
-    (λ s k w. (c.requires.directory s k w).known))))
+    rw (p.1, p.2) (any-stops c.args.draft.now (addresses.Exports ∷ []) _
+    (lives-stops c.args.draft.now c.args.known.now.number _
+    (known-lives c.args.draft.now c.args.known.now c.requires.none (λ s k w. (c.requires.directory s k w).known))
+    entry))
 
 pub returns-then-is_some : goal.returns-then-is_some
 returns-then-is_some c =
@@ -55,9 +58,10 @@ pub returns-in_err-cookie : goal.returns-in_err-cookie
 returns-in_err-cookie c =
     let p = err_from_is_err_and c.from_residual-in_err-cookie.result c.from_residual-in_err-cookie.ensures.1 in
     let stops = rw c.in-Ok.ensures.known at c.in_err-cookie.ensures in
-    rw (p.1, p.2) (λ named bounded. stops named
-    (inr (known-lives c.args.draft.now c.args.known.now c.requires.none
-    (λ s k w. (c.requires.directory s k w).known))))
+    rw (p.1, p.2) (any-stops c.args.draft.now (addresses.Exports ∷ []) _
+    (lives-stops c.args.draft.now c.args.known.now.number _
+    (known-lives c.args.draft.now c.args.known.now c.requires.none (λ s k w. (c.requires.directory s k w).known))
+    stops))
 
 pub returns-in_default : goal.returns-in_default
 returns-in_default c =
@@ -77,9 +81,9 @@ returns-in_err-add_link c =
     let p = err_from_is_err_and c.from_residual-in_err-add_link.result
     c.from_residual-in_err-add_link.ensures.1 in
     let stops = rw c.in-Ok.ensures.known at c.in_err-add_link.ensures in
-    rw (p.1, p.2) (λ named bounded. stops named
-    (inr (known-lives c.args.draft.now c.args.known.now c.requires.none (λ s k w. (c.requires.directory s k w).known)))
-    (inr (known-lives c.args.draft.now c.args.file.now c.requires.none (λ s k w. (c.requires.file s k w).known))))
+    rw (p.1, p.2) (both-stop c.args.draft.now c.args.known.now.number c.args.file.now.number (addresses.Exports ∷ []) _
+    (known-lives c.args.draft.now c.args.known.now c.requires.none (λ s k w. (c.requires.directory s k w).known))
+    (known-lives c.args.draft.now c.args.file.now c.requires.none (λ s k w. (c.requires.file s k w).known)) stops)
 
 pub returns : goal.returns
 returns c =

@@ -1,10 +1,9 @@
-use Rattle.std.proofs.Common.{◌≡◌, Ok, Err, refl, subst}
+use Rattle.std.proofs.Common.{◌≡◌, [], Err, Ok, refl, subst}
 use Rattle.std.proofs.lemmas.Result.{err_from_is_err_and}
 use Rattle.nfs_wire.specs.declared.calls.NfsCall.TheVariants as nfs
 use Rattle.nfs_machine.specs.declared.calls.Call.TheVariants as calls
-use Rattle.nfs_objects.specs.Calls.{named_by}
 use Rattle.nfs_objects.specs.Knows.{Knows}
-use Rattle.nfs_inodes.proofs.Ending.{halting, means-as, naming}
+use Rattle.nfs_inodes.proofs.Ending.{asking, means-as, naming}
 use Rattle.nfs_names.proofs.Looked.{named-promised, refused-promised}
 use Rattle.nfs_names.specs.Lookup.{found_in}
 use Rattle.nfs_names.proofs.lookup.attempt.Goals as goal
@@ -26,8 +25,7 @@ returns-in_err-result-in-Ok-clause-ends c =
     let p = err_from_is_err_and c.from_residual-in_err-result-in-Ok.result
     c.from_residual-in_err-result-in-Ok.ensures.1 in
     rw (p.1, p.2)
-    (halting c.args.draft (calls.Nfs (nfs.Lookup c.args.place.now)) _ c.requires
-    (c.in_err-result-in-Ok.ensures (named_by (calls.Nfs (nfs.Lookup c.args.place.now)))))
+    (asking c.args.draft (calls.Nfs (nfs.Lookup c.args.place.now)) _ c.requires [] tt c.in_err-result-in-Ok.ensures)
 
 pub returns-in_ok-result-in-Ok-clause-ends : goal.returns-in_ok-result-in-Ok-clause-ends
 returns-in_ok-result-in-Ok-clause-ends c =

@@ -1,7 +1,7 @@
-use Rattle.std.proofs.Common.{inr}
 use Rattle.std.proofs.lemmas.Result.{err_from_is_err_and}
 use Rattle.nfs_inodes.proofs.Standing.{known-lives}
 use Rattle.nfs_names.proofs.Looked.{check-refused, no-entry, no-object, object-found}
+use Rattle.nfs_inodes.proofs.Halting.{lives-stops}
 use Rattle.nfs_names.proofs.lookup.found.Goals as goal
 
 pub returns-in-Err : goal.returns-in-Err
@@ -12,8 +12,9 @@ returns-in-Err c =
 pub returns-in_err-number : goal.returns-in_err-number
 returns-in_err-number c =
     let p = err_from_is_err_and c.from_residual.result c.from_residual.ensures.1 in
-    rw (p.1, p.2) (λ named. (rw c.in-Ok.ensures.known at c.in_err-number.ensures.leads) named
-    (inr (known-lives c.args.draft.now c.args.known.now c.requires.none c.requires.known)))
+    rw (p.1, p.2) (lives-stops c.args.draft.now c.args.known.now.number _
+    (known-lives c.args.draft.now c.args.known.now c.requires.none c.requires.known)
+    (rw c.in-Ok.ensures.known at c.in_err-number.ensures.leads))
 
 pub returns-in_default : goal.returns-in_default
 returns-in_default c =

@@ -1,17 +1,19 @@
 use Rattle.std.proofs.Common.{Ok, Err}
 use Rattle.std.proofs.lemmas.Result.{err_from_is_err_and}
-use Rattle.nfs_objects.specs.declared.address.Addr.TheVariants as addresses
 use Rattle.nfs_inodes.proofs.Counting.{brings-as}
 use Rattle.nfs_inodes.proofs.Ending.{exported-as, lives-as, means-as}
 use Rattle.nfs_inodes.specs.Asked.{asked_as}
 use Rattle.nfs_names.proofs.Making.{bringing-stops, made-replies, refused-replies}
 use Rattle.nfs_names.specs.Making.{there_as}
+use Rattle.nfs_inodes.proofs.Halting.{makes-stops}
+use Rattle.nfs_inodes.specs.Stops.{brought_by}
 use Rattle.nfs_names.proofs.make.make.Goals as goal
 
 pub returns-in_err-known-clause-answers : goal.returns-in_err-known-clause-answers
 returns-in_err-known-clause-answers c =
     let p = err_from_is_err_and c.from_residual.result c.from_residual.ensures.1 in
-    rw (p.1, p.2) (rw c.as_slice.ensures at c.in_err-known.ensures.stops)
+    rw (p.1, p.2) (makes-stops c.args.draft.now (brought_by c.args.draft.now.view c.args.place.now.directory) _
+    (rw c.as_slice.ensures at c.in_err-known.ensures.stops))
 
 pub make_in-requires-clause-names : goal.make_in-requires-clause-names
 make_in-requires-clause-names c =
@@ -39,7 +41,7 @@ returns-in_err-directory-in-Ok-clause-answers c =
     let does = c.in_ok-result-in-Ok.ensures in
     rw (p.1, p.2)
     (bringing-stops c.args.draft.now c.make_in.new.draft does.op c.args.place.now.directory
-    (addresses.Inode c.in-Ok.known.number) _ does.turns
+    c.in-Ok.known.number _ does.turns
     (lives-as c.args.draft.now.view _ c.in-Ok.known c.in-Ok.is c.in_ok-known.ensures.lives)
     c.in_err-directory-in-Ok.ensures)
 

@@ -1,17 +1,19 @@
-use Rattle.std.proofs.Common.{inr}
 use Rattle.std.proofs.lemmas.Result.{err_from_is_err_and}
 use Rattle.nfs_objects.proofs.Promised.{does-nothing}
-use Rattle.nfs_inodes.proofs.Halting.{exports-stop}
+use Rattle.nfs_inodes.proofs.Halting.{exports-stop, makes-stops}
 use Rattle.nfs_inodes.proofs.Standing.{known-lives}
 use Rattle.nfs_inodes.specs.Asked.{asked_as}
-use Rattle.nfs_names.proofs.Making.{new-ends, refused-end, there-ends}
+use Rattle.nfs_names.proofs.Making.{lives-making, new-ends, refused-end, there-ends}
 use Rattle.nfs_names.specs.Making.{IsMakeEnd, there_as}
+use Rattle.nfs_inodes.specs.Stops.{brought_by}
 use Rattle.nfs_names.proofs.make.make_in.Goals as goal
 
 pub returns-in_err-exports : goal.returns-in_err-exports
 returns-in_err-exports c =
     let p = err_from_is_err_and c.from_residual.result c.from_residual.ensures.1 in
-    rw (p.1, p.2) (exports-stop c.args.draft.now c.args.place.now.directory _ c.in_err-exports.ensures.exports)
+    rw (p.1, p.2) (makes-stops c.args.draft.now
+    (brought_by c.args.draft.now.view c.args.place.now.directory) _
+    (exports-stop c.args.draft.now c.args.place.now.directory _ c.in_err-exports.ensures.exports))
 
 pub returns-in-Err : goal.returns-in-Err
 returns-in-Err c =
@@ -26,8 +28,9 @@ pub returns-in_err-number : goal.returns-in_err-number
 returns-in_err-number c =
     let p = err_from_is_err_and c.from_residual-in_err-number.result c.from_residual-in_err-number.ensures.1 in
     let entry = rw c.in-Ok.ensures.known at c.in_err-number.ensures.entry in
-    rw (p.1, p.2) (λ handles brought. entry _ (inr
-    (known-lives c.args.draft.now c.args.known.now c.requires.none (λ s k w. (c.requires.names s k w).known))))
+    rw (p.1, p.2) (lives-making c.args.draft.now c.args.known.now.number
+    (brought_by c.args.draft.now.view c.args.place.now.directory) _
+    (known-lives c.args.draft.now c.args.known.now c.requires.none (λ s k w. (c.requires.names s k w).known)) entry)
 
 pub make_new-requires-clause-exported : goal.make_new-requires-clause-exported
 make_new-requires-clause-exported c = rw c.in-Ok.ensures.known c.requires.exported

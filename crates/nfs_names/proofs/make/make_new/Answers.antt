@@ -1,11 +1,11 @@
-use Rattle.std.proofs.Common.{inr}
 use Rattle.std.proofs.lemmas.Result.{err_from_is_err_and}
 use Rattle.nfs_wire.specs.declared.status.NfsStatus.TheVariants as status
 use Rattle.nfs_objects.proofs.Promised.{does-nothing}
-use Rattle.nfs_objects.specs.declared.address.Addr.TheVariants as addresses
 use Rattle.nfs_inodes.specs.Asked.{wanted_as}
-use Rattle.nfs_names.proofs.Making.{later-stops, new-does, no-space, not-given, not-refused}
+use Rattle.nfs_names.proofs.Making.{knows-making, lives-making, new-does}
+use Rattle.nfs_names.proofs.Making.{no-space, not-given, not-refused, writes-making}
 use Rattle.nfs_names.specs.Making.{IsNewEnd}
+use Rattle.nfs_objects.specs.Calls.{usages_of}
 use Rattle.nfs_names.proofs.make.make_new.Goals as goal
 
 pub returns-in-Err : goal.returns-in-Err
@@ -19,7 +19,8 @@ returns-in-Err c =
 pub returns-in_err-cookie : goal.returns-in_err-cookie
 returns-in_err-cookie c =
     let p = err_from_is_err_and c.from_residual.result c.from_residual.ensures.1 in
-    rw (p.1, p.2) (λ named usage. c.in_err-cookie.ensures named (inr c.requires.lives))
+    rw (p.1, p.2) (lives-making c.args.draft.now c.args.directory.now.known.number
+    (usages_of c.args.directory.now.known.export 64) _ c.requires.lives c.in_err-cookie.ensures)
 
 pub returns-in_default-2 : goal.returns-in_default-2
 returns-in_default-2 c =
@@ -33,14 +34,15 @@ returns-in_default-2 c =
 pub returns-in_err-reserved : goal.returns-in_err-reserved
 returns-in_err-reserved c =
     let p = err_from_is_err_and c.from_residual-in_err-reserved.result c.from_residual-in_err-reserved.ensures.1 in
-    rw (p.1, p.2) (λ named usage. c.in_err-reserved.ensures.turns named (inr c.requires.lives) usage)
+    rw (p.1, p.2) (writes-making c.args.draft.now c.args.directory.now.known.number
+    (usages_of c.args.directory.now.known.export 64) _ c.requires.lives c.in_err-reserved.ensures.turns)
 
 pub returns-in_err-made : goal.returns-in_err-made
 returns-in_err-made c =
     let p = err_from_is_err_and c.from_residual-in_err-made.result c.from_residual-in_err-made.ensures.1 in
-    rw (p.1, p.2) (λ named usage. later-stops c.args.draft.now c.make_object.new.draft _
-    (addresses.Inode c.in_ok-reserved.reserved.number) _ c.in_ok-reserved.ensures.turns.1
-    (inr c.in_ok-reserved.ensures.known) c.in_err-made.ensures named)
+    rw (p.1, p.2) (knows-making c.args.draft.now c.make_object.new.draft _
+    (usages_of c.args.directory.now.known.export 64) _ c.in_ok-reserved.ensures.turns.1
+    (c.in_err-made.ensures.known c.in_ok-reserved.ensures.known))
 
 pub returns : goal.returns
 returns c =
@@ -50,4 +52,4 @@ returns c =
     c.make_object.new.draft c.in-Some.cookie (rw c.in-Some.is at c.in_ok-cookie.ensures)
     c.requires.known c.args.directory.now.kind c.requires.absent
     c.in_ok-reserved.reserved c.in_ok-reserved.ensures.turns.0 c.in_ok-reserved.ensures.turns.1
-    c.in_ok-made.field-0 c.in_ok-made.ensures
+    c.in_ok-made.field-0 c.in_ok-made.ensures.made

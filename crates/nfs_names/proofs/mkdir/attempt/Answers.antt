@@ -2,7 +2,7 @@ use Rattle.std.proofs.Common.{refl}
 use Rattle.std.proofs.lemmas.Result.{err_from_is_err_and}
 use Rattle.nfs_wire.specs.declared.calls.NfsCall.TheVariants as nfs
 use Rattle.nfs_machine.specs.declared.calls.Call.TheVariants as calls
-use Rattle.nfs_inodes.proofs.Ending.{naming}
+use Rattle.nfs_inodes.proofs.Ending.{making}
 use Rattle.nfs_names.proofs.Made.{mkdir-promised}
 use Rattle.nfs_names.proofs.mkdir.attempt.Goals as goal
 
@@ -10,8 +10,8 @@ pub returns-in_err-reply-clause-ends : goal.returns-in_err-reply-clause-ends
 returns-in_err-reply-clause-ends c =
     let p = err_from_is_err_and c.from_residual.result c.from_residual.ensures.1 in
     rw (p.1, p.2)
-    (naming c.args.draft (calls.Nfs (nfs.Mkdir c.args.arguments.now)) _ c.requires
-    c.args.arguments.now.place.directory _ refl refl c.in_err-reply.ensures.answers)
+    (making c.args.draft (calls.Nfs (nfs.Mkdir c.args.arguments.now)) _ c.requires
+    c.args.arguments.now.place.directory _ refl refl refl c.in_err-reply.ensures.answers)
 
 pub returns-clause-ends : goal.returns-clause-ends
 returns-clause-ends c =

@@ -1,4 +1,3 @@
-use Rattle.std.proofs.Common.{inl, inr}
 use Rattle.std.proofs.lemmas.Result.{err_from_is_err_and}
 use Rattle.nfs_wire.specs.declared.status.NfsStatus.TheVariants as status
 use Rattle.nfs_objects.proofs.Promised.{does-nothing}
@@ -8,6 +7,10 @@ use Rattle.nfs_inodes.proofs.Standing.{known-lives}
 use Rattle.nfs_names.proofs.Creating.{no-answer-over, none-regular, nothing-over, over-does}
 use Rattle.nfs_names.proofs.Making.{later-stops}
 use Rattle.nfs_names.specs.Creates.{IsOverEnd}
+use Rattle.nfs_inodes.proofs.Composing.{counted-stops}
+use Rattle.std.proofs.Common.{subst, sym}
+use Rattle.nfs_objects.specs.Asks.{Lives}
+use Rattle.nfs_inodes.specs.declared.found.Known.{Known}
 use Rattle.nfs_names.proofs.over.create_over.Goals as goal
 
 pub returns-in_default : goal.returns-in_default
@@ -36,19 +39,20 @@ returns-in_err-give_size c =
     let p = err_from_is_err_and c.from_residual-in_err-give_size.result
     c.from_residual-in_err-give_size.ensures.1 in
     let there = rw c.in-Some.is at c.in_ok-object.ensures.object in
-    rw (p.1, p.2) (λ named. (rw c.in-Ok.ensures.known at c.in_err-give_size.ensures) named
-    (inr (known-lives c.args.draft.now c.in-Some.object c.requires.none (λ s k w. (there s k w).1)))
-    (usage-lives-first c.args.draft.now c.in-Some.object.number c.requires.none))
+    rw (p.1, p.2) (counted-stops c.args.draft.now c.in-Ok.file.known.number _
+    (subst (λ (y : Known). Lives c.args.draft.now.view (addresses.Inode y.number)) (sym c.in-Ok.ensures.known)
+    (known-lives c.args.draft.now c.in-Some.object c.requires.none (λ s k w. (there s k w).1)))
+    (usage-lives-first c.args.draft.now c.in-Ok.file.known.number c.requires.none) c.in_err-give_size.ensures)
 
 pub returns-in_err-made : goal.returns-in_err-made
 returns-in_err-made c =
     let p = err_from_is_err_and c.from_residual-in_err-made.result c.from_residual-in_err-made.ensures.1 in
-    rw (p.1, p.2) (later-stops c.args.draft.now c.give_size.new.draft _ (addresses.Inode c.args.number) _
-    c.in_ok-give_size.ensures (inl c.requires.lives) c.in_err-made.ensures)
+    rw (p.1, p.2) (later-stops c.args.draft.now c.give_size.new.draft _ c.args.number _
+    c.in_ok-give_size.ensures c.requires.lives c.in_err-made.ensures.made)
 
 pub returns : goal.returns
 returns c =
     over-does c.args.draft.now c.args.how.now c.args.number c.in-Some.object
     (rw c.in-Some.is at c.in_ok-object.ensures.object) c.in-Ok.file c.in-Ok.ensures.checks c.size_over.result
     (rw c.ctx.ensures at c.size_over.ensures) c.give_size.new.draft c.in-Ok-size_over.size c.in-Ok-size_over.is
-    (rw c.in-Ok.ensures.known at c.in_ok-give_size.ensures) c.in_ok-made.field-0 c.in_ok-made.ensures
+    (rw c.in-Ok.ensures.known at c.in_ok-give_size.ensures) c.in_ok-made.field-0 c.in_ok-made.ensures.made

@@ -1,7 +1,7 @@
-use Rattle.std.proofs.Common.{inr}
 use Rattle.std.proofs.lemmas.Result.{err_from_is_err_and}
 use Rattle.nfs_inodes.proofs.Standing.{known-lives}
 use Rattle.nfs_names.proofs.Paged.{page-listed, page-refused}
+use Rattle.nfs_inodes.proofs.Halting.{lives-stops}
 use Rattle.nfs_names.proofs.page.page_in.Goals as goal
 
 pub returns-in-Err-clause-page : goal.returns-in-Err-clause-page
@@ -12,8 +12,9 @@ returns-in-Err-clause-page c =
 pub returns-in_err-left-clause-page : goal.returns-in_err-left-clause-page
 returns-in_err-left-clause-page c =
     let p = err_from_is_err_and c.from_residual.result c.from_residual.ensures.1 in
-    rw (p.1, p.2) (λ named. (rw c.in-Ok.ensures.known at c.in_err-left.ensures.left) named
-    (inr (known-lives c.args.draft.now c.args.known.now c.requires.none c.requires.known)))
+    rw (p.1, p.2) (lives-stops c.args.draft.now c.args.known.now.number _
+    (known-lives c.args.draft.now c.args.known.now c.requires.none c.requires.known)
+    (rw c.in-Ok.ensures.known at c.in_err-left.ensures.left))
 
 pub returns-clause-page : goal.returns-clause-page
 returns-clause-page c =

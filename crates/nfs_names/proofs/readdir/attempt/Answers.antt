@@ -1,9 +1,8 @@
-use Rattle.std.proofs.Common.{Ok, Err, refl, subst}
+use Rattle.std.proofs.Common.{[], Err, Ok, refl, subst}
 use Rattle.std.proofs.lemmas.Result.{err_from_is_err_and}
 use Rattle.nfs_wire.specs.declared.calls.NfsCall.TheVariants as nfs
 use Rattle.nfs_machine.specs.declared.calls.Call.TheVariants as calls
-use Rattle.nfs_objects.specs.Calls.{named_by}
-use Rattle.nfs_inodes.proofs.Ending.{halting, means-as, naming}
+use Rattle.nfs_inodes.proofs.Ending.{asking, means-as, naming}
 use Rattle.nfs_names.proofs.Listed.{names-promised, names-refused}
 use Rattle.nfs_names.specs.Pages.{Lists, names_page}
 use Rattle.nfs_names.proofs.readdir.attempt.Goals as goal
@@ -25,8 +24,8 @@ returns-in_err-page-in-Ok-clause-ends c =
     let p = err_from_is_err_and c.from_residual-in_err-page-in-Ok.result
     c.from_residual-in_err-page-in-Ok.ensures.1 in
     rw (p.1, p.2)
-    (halting c.args.draft (calls.Nfs (nfs.Readdir c.args.arguments.now)) _ c.requires
-    (c.in_err-page-in-Ok.ensures (named_by (calls.Nfs (nfs.Readdir c.args.arguments.now)))))
+    (asking c.args.draft (calls.Nfs (nfs.Readdir c.args.arguments.now)) _ c.requires [] tt
+    c.in_err-page-in-Ok.ensures)
 
 pub returns-in_ok-page-in-Ok-clause-ends : goal.returns-in_ok-page-in-Ok-clause-ends
 returns-in_ok-page-in-Ok-clause-ends c =

@@ -1,10 +1,9 @@
-use Rattle.std.proofs.Common.{Ok, Err, inl}
+use Rattle.std.proofs.Common.{Ok, Err}
 use Rattle.std.proofs.lemmas.Result.{err_from_is_err_and}
-use Rattle.nfs_objects.specs.Calls.{named_by}
-use Rattle.nfs_objects.specs.declared.address.Addr.TheVariants as addresses
-use Rattle.nfs_inodes.proofs.Ending.{halting, lives-as, means-as, naming, reading}
+use Rattle.nfs_objects.specs.Calls.{addresses_of}
+use Rattle.nfs_inodes.proofs.Ending.{lives-as, means-as, naming, reading, reading-exports}
 use Rattle.nfs_inodes.proofs.Halting.{stops-before}
-use Rattle.nfs_names.proofs.Removed.{alone, among-exports, first-halted, first-read, names-directory, refused-promised}
+use Rattle.nfs_names.proofs.Removed.{alone, first-halted, first-read, names-directory, refused-promised}
 use Rattle.nfs_names.proofs.Removed.{taken-promised}
 use Rattle.nfs_names.specs.Removes.{call_of}
 use Rattle.nfs_names.proofs.remove.attempt.Goals as goal
@@ -37,9 +36,8 @@ returns-in_err-result-in-Ok-clause-ends c =
     let p = err_from_is_err_and c.from_residual-in_err-result-in-Ok.result
     c.from_residual-in_err-result-in-Ok.ensures.1 in
     rw (p.1, p.2)
-    (halting c.args.draft (call_of c.args.taking c.args.place.now) _ c.requires
-    (c.in_err-result-in-Ok.ensures (named_by (call_of c.args.taking c.args.place.now))
-    (inl (among-exports c.args.taking c.args.place.now))))
+    (reading-exports c.args.draft (call_of c.args.taking c.args.place.now) _ c.requires
+    c.in_err-result-in-Ok.ensures)
 
 pub returns-in_err-shown-in-Ok-clause-ends : goal.returns-in_err-shown-in-Ok-clause-ends
 returns-in_err-shown-in-Ok-clause-ends c =
@@ -49,7 +47,8 @@ returns-in_err-shown-in-Ok-clause-ends c =
     rw (p.1, p.2)
     (reading c.args.draft (call_of c.args.taking c.args.place.now) _ c.requires c.in-Ok.directory
     (lives-as c.args.draft.view _ c.in-Ok.directory c.in-Ok.is c.in_ok-directory.ensures.lives)
-    (stops-before c.args.draft c.take.new.draft does.op (addresses.Inode c.in-Ok.directory.number) _ does.turns
+    (stops-before c.args.draft c.take.new.draft does.op
+    (λ view. addresses_of view c.in-Ok.directory.number) _ does.turns
     c.in_err-shown-in-Ok.ensures))
 
 pub returns-in_ok-shown-in-Ok-clause-ends : goal.returns-in_ok-shown-in-Ok-clause-ends

@@ -1,14 +1,15 @@
-use Rattle.std.proofs.Common.{inr}
 use Rattle.std.proofs.lemmas.Result.{err_from_is_err_and}
 use Rattle.nfs_inodes.proofs.Standing.{known-lives}
 use Rattle.nfs_names.proofs.Removed.{judged-bad, judged-good, nothing-lives, nothing-named}
+use Rattle.nfs_inodes.proofs.Halting.{lives-stops}
 use Rattle.nfs_names.proofs.remove.takable.Goals as goal
 
 pub returns-in_err-number : goal.returns-in_err-number
 returns-in_err-number c =
     let p = err_from_is_err_and c.from_residual.result c.from_residual.ensures.1 in
-    rw (p.1, p.2) (λ named. c.in_err-number.ensures.entry named
-    (inr (known-lives c.args.draft.now c.args.directory.now.known c.requires.none c.requires.known)))
+    rw (p.1, p.2) (lives-stops c.args.draft.now c.args.directory.now.known.number _
+    (known-lives c.args.draft.now c.args.directory.now.known c.requires.none c.requires.known)
+    c.in_err-number.ensures.entry)
 
 pub returns-in_default : goal.returns-in_default
 returns-in_default c =
@@ -24,8 +25,9 @@ pub returns-in_err-verdict : goal.returns-in_err-verdict
 returns-in_err-verdict c =
     let p = err_from_is_err_and c.from_residual-in_err-verdict.result c.from_residual-in_err-verdict.ensures.1 in
     let there = rw c.in-Some-2.is at c.in_ok-object.ensures.object in
-    rw (p.1, p.2) (λ named. c.in_err-verdict.ensures named
-    (inr (known-lives c.args.draft.now c.in-Some-2.object c.requires.none (λ s k w. (there s k w).1))))
+    rw (p.1, p.2) (lives-stops c.args.draft.now c.in-Some-2.object.number _
+    (known-lives c.args.draft.now c.in-Some-2.object c.requires.none (λ s k w. (there s k w).1))
+    c.in_err-verdict.ensures)
 
 pub returns-in-Ok : goal.returns-in-Ok
 returns-in-Ok c =

@@ -1,9 +1,11 @@
-use Rattle.std.proofs.Common.{inr}
+use Rattle.std.proofs.Common.{◌∷◌, []}
 use Rattle.std.proofs.lemmas.Result.{err_from_is_err_and}
 use Rattle.nfs_objects.proofs.Promised.{does-nothing}
 use Rattle.nfs_inodes.proofs.Standing.{known-lives}
 use Rattle.nfs_names.proofs.Removed.{refused-end, taken-does, untaken-end}
 use Rattle.nfs_names.specs.Removes.{IsTakenEnd}
+use Rattle.nfs_objects.specs.declared.address.Addr.TheVariants as addresses
+use Rattle.nfs_inodes.proofs.Halting.{any-stops, both-stop}
 use Rattle.nfs_names.proofs.remove.take.Goals as goal
 
 pub returns-in_err-exports : goal.returns-in_err-exports
@@ -22,7 +24,7 @@ returns-in-Err c =
 pub returns-in_err-object : goal.returns-in_err-object
 returns-in_err-object c =
     let p = err_from_is_err_and c.from_residual-in_err-object.result c.from_residual-in_err-object.ensures.1 in
-    rw (p.1, p.2) (λ named bounded. c.in_err-object.ensures named)
+    rw (p.1, p.2) (any-stops c.args.draft.now (addresses.Exports ∷ []) _ c.in_err-object.ensures)
 
 pub returns-in-Err-2 : goal.returns-in-Err-2
 returns-in-Err-2 c =
@@ -38,10 +40,12 @@ pub returns-in_err-take_name : goal.returns-in_err-take_name
 returns-in_err-take_name c =
     let p = err_from_is_err_and c.from_residual-in_err-take_name.result c.from_residual-in_err-take_name.ensures.1 in
     let takable = rw c.in-Ok-2.is at c.in_ok-object.ensures in
-    rw (p.1, p.2) (λ named bounded. c.in_err-take_name.ensures named
-    (inr (rw c.in-Ok.ensures.known (known-lives c.args.draft.now c.args.known.now c.requires.none
-    (λ s k w. (c.requires.names s k w).known))))
-    (inr (known-lives c.args.draft.now c.in-Ok-2.object c.requires.none (λ s k w. (takable s k w).known))))
+    rw (p.1, p.2) (both-stop c.args.draft.now c.in-Ok.directory.known.number c.in-Ok-2.object.number
+    (addresses.Exports ∷ []) _
+    (rw c.in-Ok.ensures.known (known-lives c.args.draft.now c.args.known.now c.requires.none
+    (λ s k w. (c.requires.names s k w).known)))
+    (known-lives c.args.draft.now c.in-Ok-2.object c.requires.none (λ s k w. (takable s k w).known))
+    c.in_err-take_name.ensures)
 
 pub returns : goal.returns
 returns c =

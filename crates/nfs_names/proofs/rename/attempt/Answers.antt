@@ -1,10 +1,10 @@
-use Rattle.std.proofs.Common.{[], ◌∷◌, Ok, Err, inl, sym, subst}
+use Rattle.std.proofs.Common.{[], ◌∷◌, Err, Ok, refl, subst}
 use Rattle.std.proofs.lemmas.Result.{err_from_is_err_and}
 use Rattle.nfs_wire.specs.declared.calls.NfsCall.TheVariants as nfs
 use Rattle.nfs_machine.specs.declared.calls.Call.TheVariants as calls
 use Rattle.nfs_objects.specs.Attempt.{HaltsFirst}
 use Rattle.nfs_objects.specs.Modes.{modes_of}
-use Rattle.nfs_inodes.proofs.Ending.{halting, means-as, number-as}
+use Rattle.nfs_inodes.proofs.Ending.{means-as, naming-first, number-as}
 use Rattle.nfs_inodes.specs.Stops.{wanted_first}
 use Rattle.nfs_names.proofs.Renaming.{first-known, first-refused}
 use Rattle.nfs_names.proofs.rename.attempt.Goals as goal
@@ -13,9 +13,9 @@ pub returns-in_err-from-clause-ends : goal.returns-in_err-from-clause-ends
 returns-in_err-from-clause-ends c =
     let p = err_from_is_err_and c.from_residual.result c.from_residual.ensures.1 in
     rw (p.1, p.2)
-    (halting c.args.draft (calls.Nfs (nfs.Rename c.args.arguments.now)) _ c.requires.begins
-    (c.in_err-from.ensures.stops (c.args.arguments.now.from.directory ∷ c.args.arguments.now.to.directory ∷ [])
-    (inl (sym c.as_slice.ensures))))
+    (naming-first c.args.draft (calls.Nfs (nfs.Rename c.args.arguments.now)) _ c.requires.begins
+    c.args.arguments.now.from.directory c.args.arguments.now.to.directory _ c.as_slice.ensures refl
+    c.in_err-from.ensures.stops)
 
 pub attempt_from-requires-clause-names : goal.attempt_from-requires-clause-names
 attempt_from-requires-clause-names c =

@@ -1,21 +1,21 @@
-use Rattle.std.proofs.Common.{[], ◌∷◌, Ok, Err, inl, inr, sym}
+use Rattle.std.proofs.Common.{Err, Ok, refl}
 use Rattle.std.proofs.lemmas.Result.{err_from_is_err_and}
 use Rattle.nfs_wire.specs.declared.calls.NfsCall.TheVariants as nfs
 use Rattle.nfs_machine.specs.declared.calls.Call.TheVariants as calls
-use Rattle.nfs_objects.specs.declared.address.Addr.TheVariants as addresses
-use Rattle.nfs_inodes.proofs.Ending.{halting, lives-as, means-as, number-as, reading}
+use Rattle.nfs_inodes.proofs.Ending.{halting, lives-as, means-as, naming-second, number-as, reading}
 use Rattle.nfs_inodes.proofs.Halting.{stops-before}
 use Rattle.nfs_inodes.proofs.Standing.{known-lives}
 use Rattle.nfs_names.proofs.Renaming.{rename-promised, second-refused}
+use Rattle.nfs_objects.specs.Calls.{addresses_of}
 use Rattle.nfs_names.proofs.rename.attempt_from.Goals as goal
 
 pub returns-in_err-to : goal.returns-in_err-to
 returns-in_err-to c =
     let p = err_from_is_err_and c.from_residual.result c.from_residual.ensures.1 in
     rw (p.1, p.2)
-    (halting c.args.draft (calls.Nfs (nfs.Rename c.args.arguments.now)) _ c.requires.begins
-    (c.in_err-to.ensures.stops (c.args.arguments.now.from.directory ∷ c.args.arguments.now.to.directory ∷ [])
-    (inr (inl (sym c.as_slice.ensures)))))
+    (naming-second c.args.draft (calls.Nfs (nfs.Rename c.args.arguments.now)) _ c.requires.begins
+    c.args.arguments.now.from.directory c.args.arguments.now.to.directory _ c.as_slice.ensures refl
+    c.in_err-to.ensures.stops)
 
 pub rename-requires-clause-to : goal.rename-requires-clause-to
 rename-requires-clause-to c =
@@ -41,7 +41,8 @@ returns-in_err-from_shown-in-Ok c =
     rw (p.1, p.2)
     (reading c.args.draft (calls.Nfs (nfs.Rename c.args.arguments.now)) _ c.requires.begins c.args.from.now
     (known-lives c.args.draft c.args.from.now c.requires.begins.none (λ s k w. (c.requires.names s k w).known))
-    (stops-before c.args.draft c.rename.new.draft does.op (addresses.Inode c.args.from.now.number) _ does.turns
+    (stops-before c.args.draft c.rename.new.draft does.op
+    (λ view. addresses_of view c.args.from.now.number) _ does.turns
     c.in_err-from_shown-in-Ok.ensures))
 
 pub returns-in_err-to_shown-in-Ok : goal.returns-in_err-to_shown-in-Ok
@@ -52,7 +53,8 @@ returns-in_err-to_shown-in-Ok c =
     rw (p.1, p.2)
     (reading c.args.draft (calls.Nfs (nfs.Rename c.args.arguments.now)) _ c.requires.begins c.in-Ok.to
     (lives-as c.args.draft.view _ c.in-Ok.to c.in-Ok.is c.in_ok-to.ensures.lives)
-    (stops-before c.args.draft c.rename.new.draft does.op (addresses.Inode c.in-Ok.to.number) _ does.turns
+    (stops-before c.args.draft c.rename.new.draft does.op
+    (λ view. addresses_of view c.in-Ok.to.number) _ does.turns
     c.in_err-to_shown-in-Ok.ensures))
 
 pub returns-in_ok-to_shown-in-Ok : goal.returns-in_ok-to_shown-in-Ok

@@ -1,8 +1,9 @@
-use Rattle.std.proofs.Common.{inr, sym}
+use Rattle.std.proofs.Common.{sym}
 use Rattle.std.proofs.lemmas.Result.{err_from_is_err_and}
 use Rattle.nfs_objects.proofs.Promised.{turned-change}
 use Rattle.nfs_objects.specs.declared.address.Addr.TheVariants as addresses
 use Rattle.nfs_names.proofs.Renaming.{moves-one, moves-two}
+use Rattle.nfs_inodes.proofs.Halting.{lives-stops}
 use Rattle.nfs_names.proofs.rename.move_entry.Goals as goal
 
 pub returns-then-is_one_directory : goal.returns-then-is_one_directory
@@ -15,7 +16,8 @@ returns-then-is_one_directory c =
 pub returns-in_err-leave : goal.returns-in_err-leave
 returns-in_err-leave c =
     let p = err_from_is_err_and c.from_residual.result c.from_residual.ensures.1 in
-    rw (p.1, p.2) (λ named. c.in_err-leave.ensures named (inr c.requires.from))
+    rw (p.1, p.2)
+    (lives-stops c.args.draft.now c.args.renaming.now.from.known.number _ c.requires.from c.in_err-leave.ensures)
 
 pub give_name-requires-2 : goal.give_name-requires-2
 give_name-requires-2 c =

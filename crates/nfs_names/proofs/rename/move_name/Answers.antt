@@ -1,13 +1,14 @@
-use Rattle.std.proofs.Common.{inr}
 use Rattle.std.proofs.lemmas.Result.{err_from_is_err_and}
 use Rattle.nfs_machine.specs.Times.{time_of}
 use Rattle.nfs_objects.proofs.Promised.{turned-change, turns-both}
 use Rattle.nfs_objects.specs.declared.address.Addr.TheVariants as addresses
 use Rattle.nfs_inodes.proofs.Standing.{known-lives}
 use Rattle.nfs_inodes.specs.Renames.{rehomed}
-use Rattle.nfs_names.proofs.Renaming.{lives-on, moved-lived, over-counts, over-lives, stops-later, turned-after, turned-both}
+use Rattle.nfs_names.proofs.Renaming.{lives-on, moved-lived, over-counts}
+use Rattle.nfs_names.proofs.Renaming.{over-lives, stops-later, turned-after, turned-both}
 use Rattle.nfs_names.proofs.Alone.{replaced-changes}
 use Rattle.nfs_names.specs.Renames.{entry_moved, replaced_lost}
+use Rattle.nfs_inodes.proofs.Halting.{lives-stops}
 use Rattle.nfs_names.proofs.rename.move_name.Goals as goal
 
 pub move_entry-requires-clause-from : goal.move_entry-requires-clause-from
@@ -30,9 +31,10 @@ returns-in_err-rehome c =
     let p = err_from_is_err_and c.from_residual-in_err-rehome.result c.from_residual-in_err-rehome.ensures.1 in
     let moved = c.args.renaming.now.moved in
     rw (p.1, p.2) (stops-later c.args.draft.now c.move_entry.new.draft _ _ c.in_ok-move_entry.ensures
-    (λ named. c.in_err-rehome.ensures named
-    (inr (lives-on c.args.draft.now c.move_entry.new.draft _ (addresses.Inode moved.number) c.in_ok-move_entry.ensures
-    (known-lives c.args.draft.now moved c.requires.none (λ s k w. (c.requires.finds s k w).moved.1))))))
+    (lives-stops c.move_entry.new.draft moved.number _
+    (lives-on c.args.draft.now c.move_entry.new.draft _ (addresses.Inode moved.number) c.in_ok-move_entry.ensures
+    (known-lives c.args.draft.now moved c.requires.none (λ s k w. (c.requires.finds s k w).moved.1)))
+    c.in_err-rehome.ensures))
 
 pub lose_replaced-requires-clause-alone : goal.lose_replaced-requires-clause-alone
 lose_replaced-requires-clause-alone c =

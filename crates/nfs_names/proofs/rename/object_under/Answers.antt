@@ -1,15 +1,16 @@
-use Rattle.std.proofs.Common.{inr}
 use Rattle.std.proofs.lemmas.Result.{err_from_is_err_and}
 use Rattle.nfs_inodes.proofs.Standing.{known-lives}
 use Rattle.nfs_names.proofs.Alone.{led-number}
 use Rattle.nfs_names.proofs.Renaming.{reads-under, under-none}
+use Rattle.nfs_inodes.proofs.Halting.{lives-stops}
 use Rattle.nfs_names.proofs.rename.object_under.Goals as goal
 
 pub returns-in_err-number-clause-finds : goal.returns-in_err-number-clause-finds
 returns-in_err-number-clause-finds c =
     let p = err_from_is_err_and c.from_residual.result c.from_residual.ensures.1 in
-    rw (p.1, p.2) (λ named. c.in_err-number.ensures.entry named
-    (inr (known-lives c.args.draft.now c.args.directory.now.known c.requires.none c.requires.known)))
+    rw (p.1, p.2) (lives-stops c.args.draft.now c.args.directory.now.known.number _
+    (known-lives c.args.draft.now c.args.directory.now.known c.requires.none c.requires.known)
+    c.in_err-number.ensures.entry)
 
 pub returns-in-Some-clause-finds : goal.returns-in-Some-clause-finds
 returns-in-Some-clause-finds c =

@@ -1,4 +1,4 @@
-use Rattle.std.proofs.Common.{Err, Some, inl, refl}
+use Rattle.std.proofs.Common.{Err, Some, refl}
 use Rattle.std.proofs.lemmas.Result.{err_from_is_err_and}
 use Rattle.nfs_wire.specs.declared.calls.NfsCall.TheVariants as nfs
 use Rattle.nfs_wire.specs.declared.status.NfsStatus.TheVariants as status
@@ -7,13 +7,14 @@ use Rattle.nfs_objects.specs.Calls.{named_by}
 use Rattle.nfs_names.proofs.Alone.{led-as, renaming-changes}
 use Rattle.nfs_names.proofs.Renaming.{check-refused, is-renaming, no-source, settled-does, stops-named}
 use Rattle.nfs_names.specs.Renames.{IsRenameEnd}
+use Rattle.nfs_inodes.proofs.Halting.{exports-stop-at, any-stops}
 use Rattle.nfs_names.proofs.rename.rename.Goals as goal
 
 pub returns-in_err-exports : goal.returns-in_err-exports
 returns-in_err-exports c =
     let p = err_from_is_err_and c.from_residual.result c.from_residual.ensures.1 in
-    rw (p.1, p.2) (c.in_err-exports.ensures.exports (named_by (calls.Nfs (nfs.Rename c.args.arguments.now)))
-    (inl (inl refl)))
+    rw (p.1, p.2) (exports-stop-at c.args.draft.now
+    (named_by (calls.Nfs (nfs.Rename c.args.arguments.now)) c.args.draft.now.view) _ c.in_err-exports.ensures.exports)
 
 pub returns-in-Err : goal.returns-in-Err
 returns-in-Err c =
@@ -40,7 +41,8 @@ returns-in_default c =
 pub returns-in_err-moved : goal.returns-in_err-moved
 returns-in_err-moved c =
     let p = err_from_is_err_and c.from_residual-in_err-moved.result c.from_residual-in_err-moved.ensures.1 in
-    rw (p.1, p.2) (c.in_err-moved.ensures.finds (named_by (calls.Nfs (nfs.Rename c.args.arguments.now))))
+    rw (p.1, p.2) (any-stops c.args.draft.now
+    (named_by (calls.Nfs (nfs.Rename c.args.arguments.now)) c.args.draft.now.view) _ c.in_err-moved.ensures.finds)
 
 pub object_under-requires-2-clause-known : goal.object_under-requires-2-clause-known
 object_under-requires-2-clause-known c = rw c.in-Ok.ensures.to (λ s k w. (c.requires.to s k w).known)
@@ -48,7 +50,8 @@ object_under-requires-2-clause-known c = rw c.in-Ok.ensures.to (λ s k w. (c.req
 pub returns-in_err-replaced : goal.returns-in_err-replaced
 returns-in_err-replaced c =
     let p = err_from_is_err_and c.from_residual-in_err-replaced.result c.from_residual-in_err-replaced.ensures.1 in
-    rw (p.1, p.2) (c.in_err-replaced.ensures.finds (named_by (calls.Nfs (nfs.Rename c.args.arguments.now))))
+    rw (p.1, p.2) (any-stops c.args.draft.now
+    (named_by (calls.Nfs (nfs.Rename c.args.arguments.now)) c.args.draft.now.view) _ c.in_err-replaced.ensures.finds)
 
 pub rename_found-requires-clause-finds : goal.rename_found-requires-clause-finds
 rename_found-requires-clause-finds c =
@@ -62,7 +65,8 @@ rename_found-requires-clause-finds c =
 pub returns : goal.returns
 returns c =
     stops-named c.args.draft.now c.rename_found.new.draft (IsRenameEnd c.args.draft.now.ctx c.args.arguments.now)
-    (named_by (calls.Nfs (nfs.Rename c.args.arguments.now))) c.rename_found.result c.rename_found.ensures
+    (named_by (calls.Nfs (nfs.Rename c.args.arguments.now)) c.args.draft.now.view) c.rename_found.result
+    c.rename_found.ensures
 
 pub rename_found-requires-clause-alone : goal.rename_found-requires-clause-alone
 rename_found-requires-clause-alone c =

@@ -1,9 +1,10 @@
-use Rattle.std.proofs.Common.{Ok, Err, inr, sym}
+use Rattle.std.proofs.Common.{Ok, Err, sym}
 use Rattle.std.proofs.lemmas.Result.{err_from_is_err_and}
 use Rattle.nfs_wire.specs.declared.status.NfsStatus.TheVariants as status
 use Rattle.nfs_inodes.proofs.Standing.{known-lives}
 use Rattle.nfs_names.proofs.Renaming.{ends-exists, ends-invalid, ends-links, ends-one, ends-space, moved-does}
 use Rattle.nfs_names.proofs.Renaming.{settled-does}
+use Rattle.nfs_inodes.proofs.Halting.{lives-stops}
 use Rattle.nfs_names.proofs.rename.rename_found.Goals as goal
 
 pub returns-then-is_one_object : goal.returns-then-is_one_object
@@ -50,8 +51,8 @@ returns-then-not-has_room c =
 pub returns-in_err-cookie : goal.returns-in_err-cookie
 returns-in_err-cookie c =
     let p = err_from_is_err_and c.from_residual-in_err-cookie.result c.from_residual-in_err-cookie.ensures.1 in
-    rw (p.1, p.2) (λ named. c.in_err-cookie.ensures named (inr (known-lives c.args.draft.now
-    c.args.renaming.now.to.known c.requires.none (λ s k w. (c.requires.finds s k w).to.known))))
+    rw (p.1, p.2) (lives-stops c.args.draft.now c.args.renaming.now.to.known.number _ (known-lives c.args.draft.now
+    c.args.renaming.now.to.known c.requires.none (λ s k w. (c.requires.finds s k w).to.known)) c.in_err-cookie.ensures)
 
 pub returns-in_default : goal.returns-in_default
 returns-in_default c =

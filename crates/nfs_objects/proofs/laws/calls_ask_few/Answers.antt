@@ -1,4 +1,4 @@
-use Rattle.nfs_objects.proofs.Bounded.{asks-few, names-few}
+use Rattle.nfs_objects.proofs.Bounded.{asks-few, names-few, names-stay}
 use Rattle.nfs_objects.proofs.laws.calls_ask_few.Goals as goal
 
 pub returns-clause-asked : goal.returns-clause-asked
@@ -6,3 +6,6 @@ returns-clause-asked c = asks-few
 
 pub returns-clause-named : goal.returns-clause-named
 returns-clause-named c = names-few
+
+pub returns-clause-stay : goal.returns-clause-stay
+returns-clause-stay c = names-stay

@@ -2,7 +2,7 @@ use Rattle.std.proofs.Common.{sym, subst}
 use Rattle.nfs_engine.specs.Book.{store_in}
 use Rattle.nfs_engine.specs.Built.{IsBuilt}
 use Rattle.nfs_schedule.proofs.Alone.{goes_join, suited_on}
-use Rattle.nfs_schedule.proofs.Filling.{asked_unseen, need_grows, number_grows}
+use Rattle.nfs_schedule.proofs.Filling.{asked_unseen, need_grows, numbers_grow}
 use Rattle.nfs_schedule.proofs.Steps.{called_built}
 use Rattle.nfs_schedule.proofs.executing.run.Goals as goal
 
@@ -25,8 +25,8 @@ rounds-preserved-in-Ok-Need c = (
 
 pub rounds-preserved : goal.rounds-preserved
 rounds-preserved c = (
-  goes_join _ _ _ _ _ _ c.rounds.invariant.0 c.reserve.ensures.goes_on,
-  suited_on _ _ _ _ c.reserve.ensures.goes_on
-      (number_grows _ _ _ c.in_ok-reserve-in-Ok-Fresh.ensures.reserved.0 c.rounds.invariant.1
-      c.in_ok-reserve-in-Ok-Fresh.ensures.reserved.1),
+  goes_join _ _ _ _ _ _ c.rounds.invariant.0 c.reserve_all.ensures.goes_on,
+  suited_on _ _ _ _ c.reserve_all.ensures.goes_on
+      (numbers_grow _ _ _ _ _ _ _ _ c.in-Ok-Fresh.ensures c.in-Ok-Fresh.field-0-is c.rounds.invariant.1
+      c.in_ok-reserve_all-in-Ok-Fresh.ensures.reserved),
 )

@@ -18,7 +18,7 @@ returns-in-Wanting c =
 pub returns-in-Wishing : goal.returns-in-Wishing
 returns-in-Wishing c =
     let lives = rw c.in-Wishing.is at c.requires in
-    rw c.in-Wishing.is (stop_gone _ _ (Wishing c.in-Wishing.txn) _ _ _ _ c.stop_call-in-Wishing.ensures.gone _ lives.0.running refl refl refl
+    rw c.in-Wishing.is (stop_gone _ _ (Wishing c.in-Wishing.txn c.in-Wishing._left) _ _ _ _ c.stop_call-in-Wishing.ensures.gone _ lives.0.running refl refl refl
     c.stop_call-in-Wishing.ensures.answer)
 
 pub returns-in-Ready : goal.returns-in-Ready

@@ -1,4 +1,4 @@
-use Rattle.std.proofs.Common.{◌≡◌, length, arith, sym, ◌∙◌, ap}
+use Rattle.std.proofs.Common.{◌≡◌, [], length, arith, sym, ◌∙◌, ap}
 use Rattle.std.proofs.lemmas.List.{nil_from_length}
 use Rattle.std.specs.Cmp.{unsigned_Decides}
 use Rattle.std.specs.Vec.{vec_len}
@@ -12,8 +12,8 @@ returns-then-is_empty-clause-known c = λ d entries gathers.
     none-lacked d entries c.args.self gathers (nil_from_length c.args.self.asked.items (omega (arith, zero, ok)))
 
 pub returns-else-is_empty-clause-stops : goal.returns-else-is_empty-clause-stops
-returns-else-is_empty-clause-stops c = λ d entries gathers named.
-    asks-each d entries c.args.self gathers named (λ empty.
+returns-else-is_empty-clause-stops c = λ d entries gathers.
+    asks-each d entries c.args.self gathers [] (λ empty.
     (let ok = c.args.self.asked.ok in
     let none : length c.args.self.asked.items ≡ 0 = ap length empty in
     let zero : vec_len c.args.self.asked ≡ 0 = omega (arith, ok, none) in

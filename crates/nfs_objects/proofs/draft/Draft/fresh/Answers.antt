@@ -1,4 +1,5 @@
-use Rattle.std.proofs.Common.{◌≡◌, sym, ap, ◌∙◌, refl, List, [], ◌∷◌, slice_get, None, map, subst}
+use Rattle.std.proofs.Common.{◌≡◌, arith, sym, ap, ◌∙◌, refl, List, [], ◌∷◌, slice_get, None, map}
+use Rattle.std.proofs.Common.{subst}
 use Rattle.nfs_objects.proofs.Drafted.{is-first}
 use Rattle.nfs_objects.specs.Asks.{IsFirst}
 use Rattle.nfs_objects.specs.Values.{DraftValue, modes_value, write_value}
@@ -9,11 +10,13 @@ none-first [] e = refl
 none-first (x ∷ xs) e = cc
 
 pub returns-in-None : goal.returns-in-None
-returns-in-None c = (
-  ap (λ (v : DraftValue). v.view.reserved) (sym c.self.view_is)
-      ∙ none-first c.self.inside.view.now.reserved c.in-None.ensures.first,
-  refl,
-)
+returns-in-None c = record {
+  none =
+      ap (λ (v : DraftValue). v.view.reserved) (sym c.self.view_is)
+      ∙ none-first c.self.inside.view.now.reserved c.in-None.ensures.first;
+  some = omega arith;
+  whole = refl;
+}
 
 pub returns-in-Some : goal.returns-in-Some
 returns-in-Some c =
