@@ -4,6 +4,7 @@ pub mod Booked
 pub mod Bounds
 pub mod Built
 pub mod Came
+pub mod Dropped
 pub mod Ended
 pub mod Filled
 pub mod Fitting

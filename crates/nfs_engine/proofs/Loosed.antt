@@ -86,6 +86,7 @@ module _ (book : BookValue) (old new : List ShardValue) (left : List Bool) (r : 
   pub loosed : (p : Option PendingValue) → p ≡ pending_after r.after → LetsAllGo before after r p
   loosed p is = record {
     others = reheld_others book old new r.id turn all;
+    counters = record { ids = refl; generations = frees.counters };
     nothing = nothing;
     book = refl;
     leads = subst (λ (o : Option PendingValue). LeadsOn after r o) (sym is) (leads_on r.after refl);

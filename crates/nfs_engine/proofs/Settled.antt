@@ -23,7 +23,7 @@ use Rattle.nfs_engine.proofs.Parted.{stays_running, was_running}
 use Rattle.nfs_engine.specs.Book.{BookValue, Commits, IsRun, store_in}
 use Rattle.nfs_engine.specs.Calls.{FinishedValue, TxnValue, txn_of}
 use Rattle.nfs_engine.specs.Engine.{EngineValue, Frees, IsFilled, IsHeldAmong, IsLeaving, IsTied}
-use Rattle.nfs_engine.specs.Engine.{KeepsOthers, LeadsTo, Lives, freed, held_among, kept_by, mode_in, shard_among}
+use Rattle.nfs_engine.specs.Engine.{KeepsCounters, KeepsOthers, LeadsTo, Lives, freed, held_among, kept_by, mode_in, shard_among}
 use Rattle.nfs_engine.specs.Engine.{slot_among}
 use Rattle.nfs_engine.specs.Holders.{HoldersValue, hold_in, hold_of, is_among}
 use Rattle.nfs_engine.specs.Releases.{ReleaseValue}
@@ -231,6 +231,9 @@ module _ (book later : BookValue) (old mid new : List ShardValue) (f : FinishedV
 
   counters : (k : ℕ) → (shard_among new k).next_generation ≡ (shard_among old k).next_generation
   counters k = frees.counters k ∙ filled.counters k
+
+  pub settled_counters : KeepsCounters before after
+  settled_counters = record { ids = ids; generations = counters }
 
   pub settled_others : KeepsOthers f.id before after
   settled_others = record {

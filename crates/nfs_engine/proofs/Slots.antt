@@ -90,7 +90,7 @@ module _ (old new : ShardValue) (a : Addr) (o : Option SlotValue) (turn : Become
       → IsHad old new a mode id r
   had mode id (Ok (Yes x)) h = (h.0, retaken id (Some mode) h.2 h.1, h.3)
   had mode id (Ok (Taken k)) h = (h.0, same h.1)
-  had mode id (Err e) h = same h
+  had mode id (Err e) h = (h.0, same h.1)
 
   pub left : (id : ℕ) → IsSlotLeft (slot_at old a) now id → Retakes old new a id None
   left id h = retaken id None h.object h.holds
@@ -101,7 +101,7 @@ pub had_needed : {E : Type 0} (was new : SlotValue) (mode : Mode) (id : ℕ) (r 
 had_needed was new mode id (Ok (Yes x)) h needed e = somebody was.holders new.holders id mode h.1
     (ap (λ (s : SlotValue). s.holders) e)
 had_needed was new mode id (Ok (Taken k)) h needed e = needed (sym h.1 ∙ e)
-had_needed was new mode id (Err x) h needed e = needed (sym h ∙ e)
+had_needed was new mode id (Err x) h needed e = needed (sym h.1 ∙ e)
 
 -- what somebody holds has a slot, which is needed
 pub held_needed : (new : SlotValue) (j : ℕ) → IsSome (hold_of new.holders j) → new ≢ empty_slot

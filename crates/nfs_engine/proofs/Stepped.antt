@@ -1,5 +1,5 @@
 -- What the steps of a call in one shard are for the engine.
-use Rattle.std.proofs.Common.{◌≡◌, ℕ, ◌<◌, ◌==◌, true}
+use Rattle.std.proofs.Common.{◌≡◌, ℕ, ◌<◌, ◌+◌, ◌==◌, true}
 use Rattle.std.proofs.Common.{false, cond, List}
 use Rattle.std.proofs.Common.{get_or, set, length, Option, Some, None, Result, Ok, Err, option_map, refl, sym}
 use Rattle.std.proofs.Common.{◌∙◌, ap, subst}
@@ -10,13 +10,14 @@ use Rattle.nfs_objects.specs.declared.address.Addr.TheVariants.{Inode}
 use Rattle.nfs_objects.specs.declared.modes.Mode.{Mode}
 use Rattle.nfs_objects.specs.declared.modes.Mode.TheVariants.{Exclusive}
 use Rattle.nfs_engine.proofs.Acquired.{lives_as_it_was, lives_with_number, lives_with_one}
-use Rattle.nfs_engine.proofs.Lifted.{any_default}
+use Rattle.nfs_engine.proofs.Lifted.{any_default, each_shard, elsewhere, here}
 use Rattle.nfs_engine.proofs.Reheld.{Reholds, Turn, hold_so, lifted, only_in, reheld_others, reheld_tied}
 use Rattle.nfs_engine.proofs.Reheld.{reserves_holds, retakes_holds, same_holds, stay}
 use Rattle.nfs_objects.specs.declared.view.Reserved.{Reserved}
 use Rattle.nfs_engine.specs.Book.{BookValue, store_in}
 use Rattle.nfs_engine.specs.Calls.{TxnValue}
-use Rattle.nfs_engine.specs.Engine.{EngineValue, IsTied, KeepsOthers, Lives, mode_in, shard_among}
+use Rattle.nfs_engine.specs.Engine.{CountsReserved, EngineValue, IsTied, KeepsCounters, KeepsOthers, Lives, mode_in}
+use Rattle.nfs_engine.specs.Engine.{shard_among}
 use Rattle.nfs_engine.specs.Taking.{Gains, HoldsIn, IsGained, IsGot, ShardView, Stays, TakesAddress}
 use Rattle.nfs_engine.specs.Holders.{hold_of}
 use Rattle.nfs_engine.specs.Shards.{Reserves, Retakes, SameShard, ShardValue, SlotValue, hold_at, shard_of, slot_at}
@@ -109,7 +110,21 @@ module _ (book : BookValue) (shards : List ShardValue) (i : ℕ) (was s : ShardV
       IsGot old_place (record { shard = s; view = u.view }) a mode t.id r → GoesOn before after t.id u
   got_on a mode u (Ok got.Yes) where_is unseen rest is = taken a mode u where_is unseen rest is
   got_on a mode u (Ok (got.Taken h)) where_is unseen rest is = stayed u rest is.1
-  got_on a mode u (Err e) where_is unseen rest is = stayed u rest is
+  got_on a mode u (Err e) where_is unseen rest is = stayed u rest is.1
+
+  -- no counter changes
+  counted : s.next_generation ≡ (get_or shards i was).next_generation → KeepsCounters before after
+  counted same = record {
+    ids = refl;
+    generations = each_shard shards i s within (λ x y. y.next_generation ≡ x.next_generation)
+        (same ∙ ap (λ (x : ShardValue). x.next_generation) there) (λ x. refl);
+  }
+
+  pub got_counters : {E : Type 0} (a : Addr) (mode : Mode) (u : TxnValue) (r : Result Got E) →
+      IsGot old_place (record { shard = s; view = u.view }) a mode t.id r → KeepsCounters before after
+  got_counters a mode u (Ok got.Yes) is = counted is.held.next_generation
+  got_counters a mode u (Ok (got.Taken h)) is = counted is.1.shard.next_generation
+  got_counters a mode u (Err e) is = counted is.1.shard.next_generation
 
   gained : (u : TxnValue) → i < 16 → u ≡ record t { view = u.view } →
       Gains old_place (record { shard = s; view = u.view }) t.id → GoesOn before after t.id u
@@ -139,3 +154,15 @@ module _ (book : BookValue) (shards : List ShardValue) (i : ℕ) (was s : ShardV
   gained_on u (Ok done) sixteen rest is = gained u sixteen rest is
   gained_on u (Err Memory) sixteen rest is = stayed u rest is.0
   gained_on u (Err Spent) sixteen rest is = stayed u rest is.0
+
+  -- one counter does, where a number is reserved
+  pub gained_counters : (u : TxnValue) (r : Result Unit ReserveError) →
+      IsGained old_place (record { shard = s; view = u.view }) t.id r → CountsReserved before after i r
+  gained_counters u (Ok done) g = record {
+    ids = refl;
+    given = ap (λ (x : ShardValue). x.next_generation) (here shards i s within) ∙ g.shard.next_generation ∙
+        ap (λ (x : ShardValue). x.next_generation + 1) there;
+    others = λ k apart. ap (λ (x : ShardValue). x.next_generation) (elsewhere shards i s within k apart);
+  }
+  gained_counters u (Err Memory) is = counted is.0.shard.next_generation
+  gained_counters u (Err Spent) is = counted is.0.shard.next_generation

@@ -15,8 +15,8 @@ use Rattle.nfs_objects.specs.declared.object.Object.{Object}
 use Rattle.nfs_objects.specs.Values.{is_addr}
 use Rattle.std.specs.Arc.{arc_value}
 use Rattle.nfs_engine.specs.Found.{Changes, found}
-use Rattle.nfs_engine.specs.Holders.{CanHold, HoldersValue, Reholds, hold_of, holders_value, nobody}
-use Rattle.nfs_engine.specs.Shards.{Fills, IsHad, IsHeld, IsSlotHad, IsSlotLeft, IsSound, Retakes}
+use Rattle.nfs_engine.specs.Holders.{CanHold, HoldersValue, IsExcluder, Reholds, hold_of, holders_value, nobody}
+use Rattle.nfs_engine.specs.Shards.{Fills, IsHad, IsHeld, IsSlotHad, IsSlotLeft, IsSound, Retakes, SameShard}
 use Rattle.nfs_engine.specs.Shards.{ShardValue, SlotValue, empty_slot, hold_at, key_in, number_at, numbered}
 use Rattle.nfs_engine.specs.Shards.{shard_value, slot_at, slot_of, slot_value, slots_seen}
 use Rattle.nfs_engine.specs.declared.shard.Had.{Had}
@@ -84,9 +84,21 @@ module _ (old new : ShardValue) (a : Addr) (was now : SlotValue) (good : IsSound
           (subst (λ (h : HoldersValue). IsSome (hold_of h held.holder))
           (ap (λ (s : SlotValue). s.holders) at ∙ sym holders) held.holds)
 
+-- who excludes a call, by the slot of the address
+pub excluder_of : (s : ShardValue) (a : Addr) (mode : Mode) (o : Option SlotValue) (r : Option ℕ) → slot_of s a ≡ o →
+    IsExcluder mode (unwrap_or o empty_slot).holders r → IsExcluder mode (slot_at s a).holders r
+excluder_of s a mode o r is excluded =
+    subst (λ (x : Option SlotValue). IsExcluder mode (unwrap_or x empty_slot).holders r) (sym is) excluded
+
 module _ {H : Type 0} (index next : ℕ) (numbers : Slab Slot) (others : IndexMap Addr Slot H) (a : Addr) where
   abbrev before : ShardValue
   before = shard_value index numbers.slots others.entries next
+
+  -- the map has the entries that it had
+  pub unslotted : (m : IndexMap Addr Slot H) → m.entries ≡ others.entries →
+      SameShard before (shard_value index numbers.slots m.entries next)
+  unslotted m same = subst (λ es. SameShard before (shard_value index numbers.slots es next)) (sym same)
+      (record { slots = λ b. refl; next_generation = refl; index = refl })
 
   -- the slot stands in the slab
   module _ (good : IsSound before) (key : ℕ) (at_key : key_in index a ≡ Some key) (was : Slot)
@@ -215,7 +227,11 @@ module _ {H : Type 0} (index next : ℕ) (numbers : Slab Slot) (others : IndexMa
       gone = ap (λ (x : Option SlotValue). unwrap_or x empty_slot)
           (other_here ∙ ap (option_map slot_value) (sym absent))
 
-      -- which nobody holds then
+      -- so anyone can hold it
+      pub absent_free : (mode : Mode) → CanHold mode (slot_at before a).holders
+      absent_free mode = subst (λ (v : SlotValue). CanHold mode v.holders) (sym gone) (nobody_held mode)
+
+      -- and nobody holds it
       pub absent_held : IsHeld before a → ⊥
       absent_held held = held_needed empty_slot held.holder
           (subst (λ (v : SlotValue). IsSome (hold_of v.holders held.holder)) gone held.holds) refl
@@ -264,7 +280,7 @@ module _ {H : Type 0} (index next : ℕ) (numbers : Slab Slot) (others : IndexMa
         pub begins : CanHold mode (slot_at before a).holders × Retakes before (over m) a id (Some mode) ×
             (None ≡ (slot_at before a).object)
         begins = (
-          subst (λ (v : SlotValue). CanHold mode v.holders) (sym gone) (nobody_held mode),
+          absent_free mode,
           retaken before (over m) a (Some (slot_value w)) turn id (Some mode)
               (empty ∙ sym (ap (λ (v : SlotValue). v.object) gone))
               (subst (λ (v : SlotValue). Reholds v.holders (slot_value w).holders id (Some mode)) (sym gone) re),

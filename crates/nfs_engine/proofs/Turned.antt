@@ -1,5 +1,5 @@
 -- Why a call does not begin.
-use Rattle.std.proofs.Common.{◌≡◌, ℕ, ◌-◌, ◌^◌, Option, IfSome, Err, refl, sym, ap, subst}
+use Rattle.std.proofs.Common.{◌≡◌, ◌≢◌, ℕ, ◌-◌, ◌^◌, Option, IfSome, Err, inr, refl, sym, ap, subst}
 use Rattle.nfs_machine.specs.Run.{Received, Setting}
 use Rattle.nfs_replies.specs.Replies.{RepliesValue}
 use Rattle.nfs_replies.specs.declared.origins.Origin.{Origin}
@@ -22,7 +22,7 @@ module _ (b : BookValue) (received : Received) (asked : Asked) where
   arrival = record { received = received; reading = Asks asked }
 
   -- what would begin is no repeat
-  no_repeat : (origin : Option Origin) → origin ≡ origin_of received asked.call → IfSome origin (IsUnknown b) →
+  pub no_repeat : (origin : Option Origin) → origin ≡ origin_of received asked.call → IfSome origin (IsUnknown b) →
       IsNoRepeat b arrival
   no_repeat origin is unknown other same =
       subst (λ (x : Asked). IfSome (origin_of received x.call) (IsUnknown b)) (asks_same asked other same)
@@ -37,10 +37,11 @@ module _ (b : BookValue) (received : Received) (asked : Asked) where
   )
 
   -- there is no memory, and a number is left
-  pub wanting : (b.next_id ≡ 2 ^ 64 - 1 → ⊥) → Admits b b arrival (Err (Memory, arrival))
-  wanting left = (
+  pub wanting : (origin : Option Origin) → origin ≡ origin_of received asked.call → IfSome origin (IsUnknown b) →
+      b.next_id ≢ 2 ^ 64 - 1 → Admits b b arrival (Err (Memory, arrival))
+  wanting origin is unknown left = (
     record { asked = asked; asks = refl; handed = refl; unchanged = refl },
-    λ last. absurd (left last),
+    inr (left, no_repeat origin is unknown),
   )
 
 -- a call that was not begun is turned away
@@ -56,7 +57,7 @@ module _ (journal : JournalValue) (replies : RepliesValue) (calls : CallsValue) 
   turned received asked later origin Memory same is unknown = subst
       (λ (c : CallsValue). Admits (with_calls calls) (with_calls c) (arrival (with_calls calls) received asked)
       (Err (Memory, arrival (with_calls calls) received asked)))
-      (sym same.0) (wanting (with_calls calls) received asked same.1)
+      (sym same.0) (wanting (with_calls calls) received asked origin is unknown same.1)
   turned received asked later origin Spent same is unknown = subst
       (λ (c : CallsValue). Admits (with_calls calls) (with_calls c) (arrival (with_calls calls) received asked)
       (Err (Spent, arrival (with_calls calls) received asked)))

@@ -4,6 +4,7 @@ use Rattle.std.specs.Arc.{arc_value}
 use Rattle.std.specs.declared.sync.Arc.{Arc}
 use Rattle.std.specs.declared.alloc.Global.{Global}
 use Rattle.nfs_rpc.specs.declared.faults.Early.{Early}
+use Rattle.nfs_rpc.specs.declared.faults.Early.TheVariants.{Drop}
 use Rattle.nfs_machine.specs.RpcReplies.{FirstFault}
 use Rattle.nfs_machine.specs.Run as machine
 use Rattle.nfs_engine.specs.Answers.{answer_of, fault_answer}
@@ -21,6 +22,10 @@ received_value r = record { host = r.host; bytes = r.message; moment = r.moment 
 pub record ArrivalValue : Type 0 where
   pub received : machine.Received
   pub reading : Reading
+
+-- a record that has no answer: it is a reply, or it is cut short before its arguments
+abbrev pub IsDropped : List ℕ → Type 0
+IsDropped bytes = FirstFault bytes Drop
 
 -- the answer is that of the record's first fault; there is none just where the record is dropped
 pub record IsFaultAnswer (bytes : List ℕ) (answer : Option (List ℕ)) : Type 0 where

@@ -1,7 +1,7 @@
 -- The book: the present store, what led to it, and which calls are in progress.
-use Rattle.std.specs.Prelude.{◌≡◌, ◌+◌, ◌-◌, ◌^◌, ℕ, min, List, [], ◌∷◌, ◌++◌, length}
+use Rattle.std.specs.Prelude.{◌≡◌, ◌≢◌, ◌⊎◌, ◌+◌, ◌-◌, ◌^◌, ℕ, min, List, [], ◌∷◌, ◌++◌, length}
 use Rattle.std.specs.Prelude.{map, Option, Some}
-use Rattle.std.specs.Prelude.{None, Result, Ok, Err, Bool, true, ◌||◌, nat_le, IfSome}
+use Rattle.std.specs.Prelude.{None, Result, Ok, Err, Bool, true, ◌||◌, nat_le, IfSome, IsSome}
 use Rattle.side_wire.specs.declared.message.Message.{Message}
 use Rattle.nfs_machine.specs.Changing.{is_changing}
 use Rattle.nfs_machine.specs.RpcReplies.{success_message}
@@ -193,14 +193,14 @@ IsAdmitted old new a (admission.Early early) = (a.reading ≡ readings.Faulted e
     (received_value early.received ≡ a.received) × (new ≡ old)
 
 -- what is known of what came in, where it asks a call that changes something; nothing changes but that a reply that is
--- kept comes to the front
+-- kept comes to the front; no memory only for a reply that is kept
 abbrev pub Recalls : {E : Type 0} → BookValue → BookValue → Received → Result Recalled E → Type 0
 Recalls old new r (Ok (recalled.Kept reply)) = (kept_for old.replies (origin_in r) ≡ Some reply) ×
     IsAfter (Repeated r.host r.bytes) old.replies new.replies × (new ≡ record old { replies = new.replies })
 Recalls old new r (Ok recalled.Running) = (kept_for old.replies (origin_in r) ≡ None) ×
     IsInProgress old.living (origin_in r) × (new ≡ old)
-Recalls old new r (Ok (recalled.Unknown origin)) = (origin ≡ origin_in r) × IsUnknown old origin × (new ≡ old)
-Recalls old new r (Err error) = new ≡ old
+Recalls old new r (Ok recalled.Unknown) = IsUnknown old (origin_in r) × (new ≡ old)
+Recalls old new r (Err error) = IsSome (kept_for old.replies (origin_in r)) × (new ≡ old)
 
 -- only what asks a call is refused, and then all is as it was
 pub record IsRefused (old new : BookValue) (a back : ArrivalValue) : Type 0 where
@@ -214,10 +214,15 @@ abbrev pub IsNoRepeat : BookValue → ArrivalValue → Type 0
 IsNoRepeat b a = (asked : Asked) → a.reading ≡ readings.Asks asked →
     IfSome (origin_of a.received asked.call) (IsUnknown b)
 
--- no number is left just where they are at their end, and only for what would begin; there, want of memory keeps only
--- from telling whether a call that changes something is a repeat
+-- a record that asks a call that changes something, for which a reply is kept
+pub record IsRepeat (b : BookValue) (a : ArrivalValue) : Type 0 where
+  pub asks : AsksChange a
+  pub kept : IsSome (kept_for b.replies (origin_in a.received))
+
+-- No number is left just where they are at their end, and only for what would begin. There is no memory only for a reply
+-- that is kept, or for what would begin, where a number is left.
 abbrev pub IsAdmitError : BookValue → ArrivalValue → AdmitError → Type 0
-IsAdmitError b a Memory = b.next_id ≡ 2 ^ 64 - 1 → AsksChange a
+IsAdmitError b a Memory = IsRepeat b a ⊎ ((b.next_id ≢ 2 ^ 64 - 1) × IsNoRepeat b a)
 IsAdmitError b a Spent = (b.next_id ≡ 2 ^ 64 - 1) × IsNoRepeat b a
 
 abbrev pub Admits : BookValue → BookValue → ArrivalValue → Result Admission (AdmitError × ArrivalValue) →

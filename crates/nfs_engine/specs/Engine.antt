@@ -15,12 +15,13 @@ use Rattle.nfs_objects.specs.declared.view.Reserved.{Reserved}
 use Rattle.nfs_replies.specs.declared.origins.Origin.{Origin}
 use Rattle.nfs_engine.specs.Book.{BookValue, store_in}
 use Rattle.nfs_engine.specs.Calls.{FinishedValue, IsUnder, PendingValue, TxnValue, again_of, pending_of}
-use Rattle.nfs_engine.specs.Holders.{Excludes, hold_of}
+use Rattle.nfs_engine.specs.Holders.{CanHold, Excludes, hold_of}
 use Rattle.nfs_engine.specs.Locked.{IsLocked}
 use Rattle.nfs_engine.specs.Releases.{ReleaseValue}
 use Rattle.nfs_engine.specs.Repeats.{origin_of}
 use Rattle.nfs_engine.specs.Running.{running_at}
 use Rattle.nfs_engine.specs.Shards.{IsHeld, IsNew, ShardValue, SlotValue, empty_slot, shard_of, slot_at}
+use Rattle.nfs_engine.specs.Taking.{LetsGo}
 use Rattle.nfs_engine.specs.declared.taking.Got.{Got}
 use Rattle.nfs_engine.specs.declared.taking.Got.TheVariants as got
 use Rattle.nfs_engine.specs.declared.admission.Admission.{Admission}
@@ -145,16 +146,36 @@ pub record KeepsOthers (id : ℕ) (old new : EngineValue) : Type 0 where
       (shard_among old.shards k).next_generation ≤ (shard_among new.shards k).next_generation
   pub setting : new.book.setting ≡ old.book.setting
 
+-- ---- counters
+-- no call gets a number, and no shard gives a generation
+pub record KeepsCounters (old new : EngineValue) : Type 0 where
+  pub ids : new.book.next_id ≡ old.book.next_id
+  pub generations : (k : ℕ) →
+      (shard_among new.shards k).next_generation ≡ (shard_among old.shards k).next_generation
+
+-- this shard gives one generation, and no other counter changes
+pub record GivesGeneration (old new : EngineValue) (which : ℕ) : Type 0 where
+  pub ids : new.book.next_id ≡ old.book.next_id
+  pub given : (shard_among new.shards which).next_generation ≡
+      (shard_among old.shards which).next_generation + 1
+  pub others : (k : ℕ) → k ≢ which →
+      (shard_among new.shards k).next_generation ≡ (shard_among old.shards k).next_generation
+
+-- a generation is given just with a number
+abbrev pub CountsReserved : EngineValue → EngineValue → (which : ℕ) → Result Unit ReserveError → Type 0
+CountsReserved old new which (Ok done) = GivesGeneration old new which
+CountsReserved old new which (Err error) = KeepsCounters old new
+
 -- ---- what a step of a call comes to
--- The view has what stands there; Taken only where another holds it in a mode that excludes; then, and where there is
--- no memory, the call is as it was.
+-- The view has what stands there; Taken only where another holds it in a mode that excludes, and no memory only where
+-- nobody does; then the call is as it was.
 abbrev pub IsAcquired : {E : Type 0} → EngineValue → (old new : TxnValue) → Addr → Mode → Result Got E →
     Type 0
 IsAcquired e old new a mode (Ok got.Yes) = new ≡ record old
     { view = with_entry old.view (record { address = a; mode = mode; object = (store_in e.book).at a }) }
 IsAcquired e old new a mode (Ok (got.Taken h)) =
     Excludes mode (slot_among e.shards a).holders h × (h ≢ old.id) × (new ≡ old)
-IsAcquired e old new a mode (Err error) = new ≡ old
+IsAcquired e old new a mode (Err error) = CanHold mode (slot_among e.shards a).holders × (new ≡ old)
 
 -- A number of the shard, from 16 on, where nothing stood and that nobody held, with a generation above all that it gave
 -- before, is held alone and may be given; Spent just where the shard's generations are, and there was no memory only
@@ -213,23 +234,43 @@ freed_more r k = record r { done = slice_set r.done k true }
 abbrev pub HoldsNothing : ReleaseValue → Type 0
 HoldsNothing r = (a : Addr) → kept_by r a ≡ None
 
+-- the call that left still holds something in this shard
+pub record HoldsSome (r : ReleaseValue) (k : ℕ) : Type 0 where
+  pub address : Addr
+  pub shard : shard_of address ≡ k
+  pub held : IsSome (kept_by r address)
+
 -- the release leads to this
 abbrev pub IsEnd : ReleaseValue → Next → Type 0
 IsEnd r (next.More left) = ⊥
 IsEnd r (next.Aborted p) = r.after ≡ Aborted p
 IsEnd r next.Ended = r.after ≡ Ended
 
--- there is more to release, where a shard is not free; or nothing is held, and it leads to this
+-- there is more to release, where something is held in a shard; or nothing is held, and it leads to this
 abbrev pub IsNext : ReleaseValue → Next → Type 0
-IsNext r (next.More left) = (left ≡ r) × (k : ℕ) × (k < length r.done) × (is_free r k ≡ false)
+IsNext r (next.More left) = (left ≡ r) × (k : ℕ) × HoldsSome r k
 IsNext r next = HoldsNothing r × IsEnd r next
 
+-- In one shard, where it still held something, a call that left lets go all that it has read. Each other shard is as it
+-- was.
+pub record FreesOne (old new : List ShardValue) (r : ReleaseValue) (k : ℕ) : Type 0 where
+  pub held : HoldsSome r k
+  pub shard : LetsGo (shard_among old k) (shard_among new k) k r.id r.view.entries
+  pub others : (j : ℕ) → j ≢ k → shard_among new j ≡ shard_among old j
+
+-- nothing is held any more: this shard was the last, or there was none
+abbrev pub FreesLast : (old new : List ShardValue) → ReleaseValue → (last : Option ℕ) → Type 0
+FreesLast old new r (Some k) = FreesOne old new r k × HoldsNothing (freed_more r k)
+FreesLast old new r None = (new ≡ old) × HoldsNothing r
+
 -- one shard more is free of the call; it may begin again, or is over, where it holds nothing any more
-abbrev pub Releases : EngineValue → ReleaseValue → Next → Type 0
-Releases e r (next.More left) = IsLeaving e left ×
-    (k : ℕ) × (k < length r.done) × (is_free r k ≡ false) × (left ≡ freed_more r k)
-Releases e r (next.Aborted p) = (r.after ≡ Aborted p) × Waits e p
-Releases e r next.Ended = (r.after ≡ Ended) × ((a : Addr) → held_among e.shards a r.id ≡ None)
+abbrev pub Releases : EngineValue → EngineValue → ReleaseValue → Next → Type 0
+Releases old new r (next.More left) = IsLeaving new left ×
+    (k : ℕ) × FreesOne old.shards new.shards r k × (left ≡ freed_more r k)
+Releases old new r (next.Aborted p) = (r.after ≡ Aborted p) × Waits new p ×
+    (last : Option ℕ) × FreesLast old.shards new.shards r last
+Releases old new r next.Ended = (r.after ≡ Ended) × ((a : Addr) → held_among new.shards a r.id ≡ None) ×
+    (last : Option ℕ) × FreesLast old.shards new.shards r last
 
 -- of each of the sixteen shards, whether it is not yet free of the call that left
 abbrev pub AreLeft : ReleaseValue → List Bool → Type 0
@@ -248,6 +289,7 @@ LeadsOn e r (Some p) = (r.after ≡ Aborted p) × Waits e p
 -- all that the call held is let go, and the book is as it was
 pub record LetsAllGo (old new : EngineValue) (r : ReleaseValue) (left : Option PendingValue) : Type 0 where
   pub others : KeepsOthers r.id old new
+  pub counters : KeepsCounters old new
   pub nothing : (a : Addr) → held_among new.shards a r.id ≡ None
   pub book : new.book ≡ old.book
   pub leads : LeadsOn new r left

@@ -112,12 +112,13 @@ pub record SameShard (old new : ShardValue) : Type 0 where
   pub next_generation : new.next_generation ≡ old.next_generation
   pub index : new.index ≡ old.index
 
--- held, with what stands there; or somebody holds it in a mode that excludes, and nothing changed
+-- held, with what stands there; or somebody holds it in a mode that excludes, and nothing changed; or nobody does, and
+-- there was no memory
 abbrev pub IsHad : {E : Type 0} → (old new : ShardValue) → Addr → Mode → (id : ℕ) → Result Had E → Type 0
 IsHad old new a mode id (Ok (Yes o)) = CanHold mode (slot_at old a).holders × Retakes old new a id (Some mode) ×
     (option_map arc_value o ≡ (slot_at old a).object)
 IsHad old new a mode id (Ok (Taken h)) = Excludes mode (slot_at old a).holders h × SameShard old new
-IsHad old new a mode id (Err e) = SameShard old new
+IsHad old new a mode id (Err e) = CanHold mode (slot_at old a).holders × SameShard old new
 
 -- somebody holds the address
 pub record IsHeld (s : ShardValue) (a : Addr) : Type 0 where
@@ -156,7 +157,7 @@ IsSlotHad old new mode id (Ok (Yes o)) = CanHold mode old.holders ×
     Reholds old.holders new.holders id (Some mode) × (new.object ≡ old.object) ×
     (option_map arc_value o ≡ old.object)
 IsSlotHad old new mode id (Ok (Taken h)) = Excludes mode old.holders h × (new ≡ old)
-IsSlotHad old new mode id (Err e) = new ≡ old
+IsSlotHad old new mode id (Err e) = CanHold mode old.holders × (new ≡ old)
 
 -- a holder let go, and what stands there stays
 pub record IsSlotLeft (old new : SlotValue) (id : ℕ) : Type 0 where

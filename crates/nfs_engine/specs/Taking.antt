@@ -31,11 +31,11 @@ pub record TakesAddress (old new : ShardView) (a : Addr) (mode : Mode) (id : ℕ
   pub seen : new.view ≡ with_entry old.view
       (record { address = a; mode = mode; object = (slot_at old.shard a).object })
 
--- taken; or somebody holds it in a mode that excludes, and nothing changed; or there was no memory
+-- taken; or somebody holds it in a mode that excludes, and nothing changed; or nobody does, and there was no memory
 abbrev pub IsGot : {E : Type 0} → ShardView → ShardView → Addr → Mode → ℕ → Result Got E → Type 0
 IsGot old new a mode id (Ok got.Yes) = TakesAddress old new a mode id
 IsGot old new a mode id (Ok (got.Taken h)) = Excludes mode (slot_at old.shard a).holders h × Stays old new
-IsGot old new a mode id (Err error) = Stays old new
+IsGot old new a mode id (Err error) = CanHold mode (slot_at old.shard a).holders × Stays old new
 
 -- the call holds just what its view says, as far as the shard goes
 abbrev pub HoldsIn : ShardValue → (id : ℕ) → List Seen → Type 0

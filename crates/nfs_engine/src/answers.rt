@@ -1,6 +1,6 @@
 //! The bytes of answers, each one fragment.
 
-ghost use Rattle.std.specs.Prelude.{◌≡◌, ◌++◌, IfOk, OnOk};
+ghost use Rattle.std.specs.Prelude.{◌≡◌, ◌≢◌, ◌++◌, IfOk, OnErr, OnOk};
 ghost use Rattle.nfs_engine.specs.Forms.{HasForm, RefusalHasForm};
 ghost use Rattle.nfs_engine.specs.Answers.{answer_of, fault_answer};
 ghost use Rattle.nfs_machine.specs.RpcReplies.{failure_message, refusal_message, results_of, success_message};
@@ -53,9 +53,10 @@ pub fn failure(alloc: Global, xid: u32, fault: Fault) -> Result<Vec<u8>, AllocEr
 ///
 /// # Errors
 ///
-/// There is no memory for them.
+/// There is no memory for them. What is dropped wants none.
 pub fn early(alloc: Global, early: Early) -> Result<Option<Vec<u8>>, AllocError>
-    ensures { IfOk result (λ answer. answer_of answer ≡ fault_answer early) }
+    ensures answer { IfOk result (λ answer. answer_of answer ≡ fault_answer early) }
+    ensures refused { OnErr result (early ≢ Early.Drop) }
 {
     match early {
         Early::Drop => Ok(None),

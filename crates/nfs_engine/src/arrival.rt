@@ -1,7 +1,7 @@
 //! Records that came in, and what is kept of those that were executed.
 
-ghost use Rattle.std.specs.Prelude.{◌≡◌, IfOk};
-ghost use Rattle.nfs_engine.specs.Arrivals.{IsArrival, received_value};
+ghost use Rattle.std.specs.Prelude.{◌≡◌, IfOk, OnErr};
+ghost use Rattle.nfs_engine.specs.Arrivals.{IsArrival, IsDropped, received_value};
 ghost use Rattle.nfs_engine.specs.Asked.{ArgumentsHoldBytes, IsAsked};
 ghost use Rattle.nfs_engine.specs.Repeats.{origin_in};
 
@@ -84,14 +84,17 @@ impl Arrival {
     ///
     /// # Errors
     ///
-    /// There is no memory to share its arguments' bytes, or for the answer.
+    /// There is no memory to share its arguments' bytes, or for the answer. A record that is dropped, as it is a reply or
+    /// cut short (RFC 5531, 9), wants none.
     pub fn read(
         alloc: Global,
         host: Host,
         message: Record,
         moment: Moment,
     ) -> Result<Arrival, AllocError>
-        ensures { IfOk result (λ a. a.received ≡ record { host = host; bytes = message; moment = moment }) }
+        ensures received { IfOk result
+            (λ a. a.received ≡ record { host = host; bytes = message; moment = moment }) }
+        ensures refused { OnErr result (IsDropped message → ⊥) }
     {
         // It brings that the host has 1 to 255 bytes.
         host.text();

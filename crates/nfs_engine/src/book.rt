@@ -33,7 +33,7 @@ use crate::records::Era;
 use crate::request::Request;
 use crate::running::{AdmitError, Calls, Place};
 use bytes::Bytes;
-use nfs_machine::{Ctx, Exports, Limits, Moment};
+use nfs_machine::{Call, Ctx, Exports, Limits, Moment};
 use nfs_objects::{View, Write};
 use nfs_replies::{Capacity, Origin, Replies};
 use nfs_rpc::Ids;
@@ -75,8 +75,8 @@ enum Recalled {
     Kept(Bytes),
     /// A call that came with the same is in progress.
     Running,
-    /// It is none of these, and came with this.
-    Unknown(Origin),
+    /// It is none of these.
+    Unknown,
 }
 
 impl Book {
@@ -136,7 +136,7 @@ impl Book {
                 if is_changing(&asked.call) {
                     self.admit_change(alloc, received, asked)
                 } else {
-                    self.begin(alloc, received, asked, None)
+                    self.begin(alloc, received, asked)
                 }
             }
             Reading::Faulted(answer) => Ok(Admission::Early(Faulted { received, answer })),
@@ -161,43 +161,42 @@ impl Book {
                 Ok(Admission::Repeat(Kept::new(received, reply)))
             }
             Ok(Recalled::Running) => Ok(Admission::Running(Arrival::asking(received, asked))),
-            Ok(Recalled::Unknown(origin)) => self.begin(alloc, received, asked, Some(origin)),
+            Ok(Recalled::Unknown) => self.begin(alloc, received, asked),
             Err(AllocError) => Err((AdmitError::Memory, Arrival::asking(received, asked))),
         }
     }
 
-    /// What is known of a record; a reply that is kept comes to the front. An error changes nothing.
+    /// What is known of a record; a reply that is kept comes to the front. An error comes only where a reply is kept, and
+    /// changes nothing.
     fn recall(&mut self, received: &Received) -> Result<Recalled, AllocError>
         ensures { Recalls self.old self.new (received_value received.now) result }
     {
-        let origin = received.origin()?;
-        if let Some(reply) = self.replies.find(&origin.host, &origin.bytes)? {
+        let host = received.host.text();
+        if let Some(reply) = self.replies.find(host, &received.message)? {
             return Ok(Recalled::Kept(reply));
         }
-        if self.calls.has(&origin) {
+        if self.calls.has(host, &received.message) {
             return Ok(Recalled::Running);
         }
-        Ok(Recalled::Unknown(origin))
+        Ok(Recalled::Unknown)
     }
 
-    /// Begins the call that a record asks, with what it came with, if it changes something.
+    /// Begins the call that a record asks, which is no repeat.
     fn begin(
         &mut self,
         alloc: Global,
         received: Received,
         asked: Asked,
-        origin: Option<Origin>,
     ) -> Result<Admission, (AdmitError, Arrival)>
         requires asked { IsAsked (received_value received).bytes asked }
-        requires origin { origin ≡ origin_of (received_value received) asked.call }
-        requires unknown { IfSome origin (IsUnknown self.old) }
+        requires unknown { IfSome (origin_of (received_value received) asked.call) (IsUnknown self.old) }
         ensures { Admits self.old self.new
             (record { received = received_value received; reading = readings.Asks asked }) result }
     {
         if self.is_spent() {
             return Err((AdmitError::Spent, Arrival::asking(received, asked)));
         }
-        let Ok(ctx) = self.context(&received.host, asked.ids, received.moment) else {
+        let Ok((origin, ctx)) = self.beginning(&received, &asked) else {
             return Err((AdmitError::Memory, Arrival::asking(received, asked)));
         };
         let Asked { xid, ids: _, call } = asked;
@@ -233,6 +232,21 @@ impl Book {
         ensures { Decides result (self.now.next_id ≡ 2 ^ 64 - 1) }
     {
         self.calls.is_spent()
+    }
+
+    /// What a call came with, if it changes something, and what it is made under.
+    fn beginning(
+        &self,
+        received: &Received,
+        asked: &Asked,
+    ) -> Result<(Option<Origin>, Ctx), AllocError>
+        ensures origin { IfOk result (λ b. b.0 ≡ origin_of (received_value received.now) asked.now.call) }
+        ensures ctx { IfOk result (λ b.
+            b.1 ≡ context_of self.now.setting received.now.host asked.now.ids received.now.moment) }
+        ensures host { IsHost received.now.host }
+    {
+        let ctx = self.context(&received.host, asked.ids, received.moment)?;
+        Ok((origin_of(received, &asked.call)?, ctx))
     }
 
     /// What a call from the host is made under.
@@ -347,4 +361,14 @@ impl Book {
     {
         let _ = &self.calls;
     }
+}
+
+/// What a call came with, if it changes something.
+fn origin_of(received: &Received, call: &Call) -> Result<Option<Origin>, AllocError>
+    ensures { IfOk result (λ origin. origin ≡ origin_of (received_value received.now) call.now) }
+{
+    if !is_changing(call) {
+        return Ok(None);
+    }
+    Ok(Some(received.origin()?))
 }

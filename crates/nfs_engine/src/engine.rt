@@ -9,10 +9,10 @@ ghost use Rattle.nfs_engine.specs.Book.{Admits, Commits, GivesUp, Leads, MayComm
 ghost use Rattle.nfs_engine.specs.Book.{TakesMessage, is_full};
 ghost use Rattle.nfs_engine.specs.Calls.{again_of, txn_of};
 ghost use Rattle.nfs_engine.specs.Commits.{IsReceipt};
-ghost use Rattle.nfs_engine.specs.Engine.{AdmitsLiving, ArePlaces, CountsLocked, Frees, IsAcquired, IsFilled};
-ghost use Rattle.nfs_engine.specs.Engine.{IsHeldAmong};
-ghost use Rattle.nfs_engine.specs.Engine.{IsLeaving, IsReleased, IsReserved, IsTied, KeepsAll, KeepsOthers, LetsAllGo};
-ghost use Rattle.nfs_engine.specs.Engine.{Lives, Releases, Waits, held_among, release_of};
+ghost use Rattle.nfs_engine.specs.Engine.{AdmitsLiving, ArePlaces, CountsLocked, CountsReserved, Frees, IsAcquired};
+ghost use Rattle.nfs_engine.specs.Engine.{IsFilled, IsHeldAmong, IsLeaving, IsReleased, IsReserved, IsTied};
+ghost use Rattle.nfs_engine.specs.Engine.{KeepsAll, KeepsCounters, KeepsOthers, LetsAllGo, Lives, Releases, Waits};
+ghost use Rattle.nfs_engine.specs.Engine.{held_among, release_of};
 ghost use Rattle.nfs_engine.specs.Opening.{IsStartError, Opens};
 ghost use Rattle.nfs_engine.specs.Repeats.{Keeps, origin_of};
 ghost use Rattle.nfs_engine.specs.Running.{living_count};
@@ -30,7 +30,7 @@ use crate::release::{Next, Release, Then};
 use crate::running::AdmitError;
 use crate::shard::{ReserveError, SHARDS, Shard, shard_index};
 use crate::starting::{new_shards, open_all};
-use crate::taking::{Got, let_go};
+use crate::taking::Got;
 use nfs_objects::{Addr, Mode, View, Write};
 use std::alloc::{AllocError, Global};
 use std::marker::Model;
@@ -85,7 +85,8 @@ impl Engine {
     ///
     /// # Errors
     ///
-    /// There is no memory for it in the view or in the shard. Nothing is changed.
+    /// There is no memory for it in the view or in the shard, and nobody holds it in a mode that excludes. Nothing is
+    /// changed.
     pub fn acquire(
         &mut self,
         alloc: Global,
@@ -98,6 +99,7 @@ impl Engine {
         ensures lives { Lives self.new txn.new }
         ensures others { KeepsOthers txn.old.id self.old self.new }
         ensures book { self.new.book ≡ self.old.book }
+        ensures counters { KeepsCounters self.old self.new }
         ensures acquired { IsAcquired self.old txn.old txn.new address mode result }
     {
         let index = shard_index(address);
@@ -122,6 +124,7 @@ impl Engine {
         ensures lives { Lives self.new txn.new }
         ensures others { KeepsOthers txn.old.id self.old self.new }
         ensures book { self.new.book ≡ self.old.book }
+        ensures counters { CountsReserved self.old self.new shard result }
         ensures reserved { IsReserved self.old txn.old txn.new shard result }
     {
         txn.reserve_in(alloc, &mut self.shards[shard])
@@ -148,6 +151,7 @@ impl Engine {
         ensures receipt { IfOk result
             (λ r. IsReceipt (self.old.book.before + length self.old.book.records + 1) finished r.0) }
         ensures others { OnOk result (KeepsOthers finished.id self.old self.new) }
+        ensures counters { OnOk result (KeepsCounters self.old self.new) }
         ensures leaving { IfOk result (λ r. IsLeaving self.new r.1) }
         ensures release { IfOk result (λ r. IsReleased finished r.1) }
         ensures err { IfErr result (λ back. (back ≡ finished) × (self.new ≡ self.old)) }
@@ -193,13 +197,13 @@ impl Engine {
         requires { IsLeaving self.old release }
         ensures others { KeepsOthers release.id self.old self.new }
         ensures book { self.new.book ≡ self.old.book }
-        ensures next { Releases self.new release result }
+        ensures counters { KeepsCounters self.old self.new }
+        ensures next { Releases self.old self.new release result }
     {
-        let Some(shard) = release.next_shard() else {
-            return release.ended();
-        };
-        let_go(&mut self.shards[shard], shard, release.id, &release.view);
-        release.freed(shard).next()
+        match release.next_shard() {
+            Some(shard) => release.release_in(&mut self.shards[shard]),
+            None => release.next(),
+        }
     }
 
     /// Lets go all that a call that left still holds. It takes no memory. The call, where it is still in progress.

@@ -1,17 +1,20 @@
 //! What a call that left still holds, and what comes then.
 
 ghost use Rattle.std.specs.Prelude.{◌≡◌, ◌<◌, false, length, MatchOption};
-ghost use Rattle.nfs_engine.specs.Engine.{AreLeft, HoldsNothing, IsEnd, IsNext, freed_more, is_free, pending_after};
+ghost use Rattle.nfs_engine.specs.Engine.{AreLeft, HoldsNothing, HoldsSome, IsEnd, IsNext, freed_more, is_free};
+ghost use Rattle.nfs_engine.specs.Engine.{pending_after};
+ghost use Rattle.nfs_engine.specs.Taking.{LetsGo};
 
 use crate::calls::Pending;
 use crate::release::{Next, Release, Then};
-use crate::shard::{SHARDS, shard_index};
+use crate::shard::{SHARDS, Shard, shard_index};
+use crate::taking::let_go;
 
 impl Release {
     /// A shard in which something is still held.
     pub fn next_shard(&self) -> Option<usize>
         ensures { MatchOption result (HoldsNothing self.now)
-            (λ k. (k < 16) × (k < length self.now.done) × (is_free self.now k ≡ false)) }
+            (λ k. (k < 16) × (k < length self.now.done) × (is_free self.now k ≡ false) × HoldsSome self.now k) }
     {
         for place in 0..self.view.len() {
             let Some((address, _)) = self.view.entry(place) else {
@@ -53,8 +56,28 @@ impl Release {
         }
     }
 
+    /// Lets go, in this shard, all that the call still holds there: what comes next. It takes no memory.
+    pub fn release_in(self, shard: &mut Shard) -> Next
+        ensures shard { LetsGo shard.old shard.new shard.old.index self.id self.view.entries }
+        ensures next { IsNext (freed_more self shard.old.index) result }
+    {
+        let index = shard.index();
+        let_go(shard, index, self.id, &self.view);
+        self.freed(index).next()
+    }
+
+    /// What comes next: more to release, where something is still held, or what it leads to.
+    pub fn next(self) -> Next
+        ensures { IsNext self result }
+    {
+        if self.next_shard().is_some() {
+            return Next::More(self);
+        }
+        self.ended()
+    }
+
     /// The same, with one shard more that is free of the call.
-    pub fn freed(self, shard: usize) -> Release
+    fn freed(self, shard: usize) -> Release
         requires { shard < 16 }
         ensures { result ≡ freed_more self shard }
     {
@@ -74,22 +97,12 @@ impl Release {
     }
 
     /// What it leads to, where nothing is held any more.
-    pub fn ended(self) -> Next
+    fn ended(self) -> Next
         ensures { IsEnd self result }
     {
         match self.into_pending() {
             Some(pending) => Next::Aborted(pending),
             None => Next::Ended,
         }
-    }
-
-    /// What comes next: more to release, or what it leads to.
-    pub fn next(self) -> Next
-        ensures { IsNext self result }
-    {
-        if self.next_shard().is_some() {
-            return Next::More(self);
-        }
-        self.ended()
     }
 }

@@ -55,4 +55,4 @@ pub use release::{Next, Release, Then};
 pub use running::AdmitError;
 pub use shard::{Had, ReserveError, SHARDS, Shard, shard_index};
 pub use sharers::Sharers;
-pub use taking::{Got, let_go};
+pub use taking::Got;

@@ -6,6 +6,7 @@ ghost use Rattle.std.specs.Bool.{Decides};
 ghost use Rattle.nfs_replies.specs.Origins.{Adds, Removes, is_among};
 ghost use Rattle.nfs_engine.specs.Running.{IsBegun, IsInProgress, living_count, origin_at, without_call};
 
+use bytes::Bytes;
 use nfs_replies::{Origin, Origins};
 use slab::Slab;
 use std::alloc::{AllocError, Global};
@@ -76,11 +77,12 @@ impl Calls {
         self.living.len()
     }
 
-    /// Whether one of them changes something, and came with this.
-    pub(crate) fn has(&self, origin: &Origin) -> bool
-        ensures { Decides result (IsInProgress self.now.living origin.now) }
+    /// Whether one of them changes something, and came from this host with these bytes.
+    pub(crate) fn has(&self, host: &Bytes, bytes: &Bytes) -> bool
+        ensures { Decides result
+            (IsInProgress self.now.living (record { host = host.now; bytes = bytes.now })) }
     {
-        self.origins.has(origin)
+        self.origins.has(host, bytes)
     }
 
     /// What a call came with, if it is in progress and changes something.

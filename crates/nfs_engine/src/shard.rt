@@ -6,11 +6,12 @@ ghost use Rattle.std.specs.Arc.{arc_value};
 ghost use Rattle.std.specs.Bool.{Decides};
 ghost use Rattle.slab.specs.Slab.{ContainsKey, Updates};
 ghost use Rattle.nfs_engine.specs.Found.{Changes, found};
+ghost use Rattle.nfs_engine.specs.Holders.{IsExcluder};
 ghost use Rattle.nfs_engine.specs.Locked.{IsLocked};
 ghost use Rattle.nfs_engine.specs.Numbers.{IsFree, Moves};
 ghost use Rattle.nfs_engine.specs.Shards.{Fills, IsHad, IsHeld, IsNew, IsReservedIn, Retakes};
 ghost use Rattle.nfs_engine.specs.Shards.{key_in, number_at, numbered, shard_of, shard_value};
-ghost use Rattle.nfs_engine.specs.Shards.{slot_value, slots_seen};
+ghost use Rattle.nfs_engine.specs.Shards.{slot_at, slot_value, slots_seen};
 
 use crate::holders::Holders;
 use crate::slot::{Slot, held_numbers, held_others};
@@ -178,7 +179,8 @@ impl Shard {
     ///
     /// # Errors
     ///
-    /// There is no memory for a slot, or for one more holder. Nothing is changed.
+    /// There is no memory for a slot, or for one more holder, and nobody holds it in a mode that excludes. Nothing is
+    /// changed.
     pub fn acquire(
         &mut self,
         alloc: Global,
@@ -211,6 +213,27 @@ impl Shard {
     {
         let key = key_in(self.index, address)?;
         self.numbers.contains(key).then_some(key)
+    }
+
+    /// One that holds an address in a mode that excludes this one.
+    pub fn excluder(&self, address: Addr, mode: Mode) -> Option<u64>
+        ensures { IsExcluder mode (slot_at self.now address).holders result }
+    {
+        if let Some(key) = self.key_of(address) {
+            return self.numbers[key].holders.excluder(mode);
+        }
+        match self.others.get(&address) {
+            Some(slot) => slot.holders.excluder(mode),
+            None => None,
+        }
+    }
+
+    /// Which of the sixteen it is.
+    pub fn index(&self) -> usize
+        ensures which { result ≡ self.now.index }
+        ensures within { result < 16 }
+    {
+        self.index as usize
     }
 
     /// Whether the last generation was given.

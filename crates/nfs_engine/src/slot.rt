@@ -32,7 +32,7 @@ impl Slot {
         self.object.is_none() && self.holders.is_nobody()
     }
 
-    /// Takes the address for a holder. Taken and errors change nothing.
+    /// Takes the address for a holder. Taken and errors change nothing; an error comes only where nobody excludes.
     pub(crate) fn acquire(&mut self, alloc: Global, mode: Mode, id: u64) -> Result<Had, AllocError>
         ensures { IsSlotHad (slot_value self.old) (slot_value self.new) mode id result }
     {

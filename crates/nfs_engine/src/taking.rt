@@ -24,7 +24,8 @@ impl Txn {
     ///
     /// # Errors
     ///
-    /// There is no memory for it in the view or in the shard. Nothing is changed.
+    /// There is no memory for it in the view or in the shard, and nobody holds it in a mode that excludes. Nothing is
+    /// changed.
     pub fn acquire_in(
         &mut self,
         alloc: Global,
@@ -42,7 +43,10 @@ impl Txn {
             Ok(roomy) => roomy,
             Err(refused) => {
                 self.view = refused.value;
-                return Err(AllocError);
+                let Some(holder) = shard.excluder(address, mode) else {
+                    return Err(AllocError);
+                };
+                return Ok(Got::Taken(holder));
             }
         };
         let got = take(alloc, shard, &mut roomy, address, mode, self.id);
@@ -115,7 +119,7 @@ fn gain(shard: &mut Shard, view: &mut RoomyView, id: u64) -> Result<(), ReserveE
 }
 
 /// Lets go all that a call holds in the shard of this index.
-pub fn let_go(shard: &mut Shard, index: usize, id: u64, view: &View)
+pub(crate) fn let_go(shard: &mut Shard, index: usize, id: u64, view: &View)
     ensures { LetsGo shard.old shard.new index id view.now.entries }
 {
     for place in 0..view.len() {

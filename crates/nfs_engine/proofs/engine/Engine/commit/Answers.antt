@@ -5,7 +5,8 @@ use Rattle.nfs_objects.specs.declared.address.Addr.{Addr}
 use Rattle.nfs_objects.specs.declared.object.Object.{Object}
 use Rattle.nfs_machine.specs.RpcReplies.{success_message}
 use Rattle.nfs_replies.specs.declared.origins.Origin.{Origin}
-use Rattle.nfs_engine.proofs.Settled.{came_so, held_to_write, settled_leaving, settled_others, settled_tied}
+use Rattle.nfs_engine.proofs.Settled.{came_so, held_to_write, settled_counters, settled_leaving, settled_others}
+use Rattle.nfs_engine.proofs.Settled.{settled_tied}
 use Rattle.nfs_engine.specs.Calls.{txn_of}
 use Rattle.nfs_engine.specs.Engine.{IsHeldAmong}
 use Rattle.nfs_engine.specs.Repeats.{Keeps}
@@ -38,6 +39,18 @@ returns-clause-leads c = rw (← c.self.view_is) c.in-Ok.ensures.leads
 
 pub returns-clause-others : goal.returns-clause-others
 returns-clause-others c = rw (← c.self.view_is) (settled_others c.self.inside.book c.commit.new.self
+    c.self.inside.shards c.fill_all.new.shards
+    c.free_all.new.shards c.args.finished (record {
+      id = c.in-Ok.committed.id;
+      view = c.in-Ok.committed.view;
+      done = c.written_shards-written.result;
+      after = Ended;
+    }) c.self.invariant (rw (← c.self.view_is) at c.requires) c.is_finished.ensures.promised c.run.ensures.run
+    c.in-Ok.ensures.commits (map write_value c.in-Ok.committed.writes.items) c.fill_all.ensures c.free_all.ensures
+    c.in-Ok.ensures.leaves.writes c.in-Ok.ensures.leaves.id c.in-Ok.ensures.leaves.view refl)
+
+pub returns-clause-counters : goal.returns-clause-counters
+returns-clause-counters c = rw (← c.self.view_is) (settled_counters c.self.inside.book c.commit.new.self
     c.self.inside.shards c.fill_all.new.shards
     c.free_all.new.shards c.args.finished (record {
       id = c.in-Ok.committed.id;

@@ -1,6 +1,6 @@
 use Rattle.std.proofs.Common.{get_or, false, sym, ◌∙◌, ap, arith}
 use Rattle.nfs_objects.specs.Values.{Seen, seen_of}
-use Rattle.nfs_engine.proofs.Left.{free_further, holds_nothing, past_all, past_none}
+use Rattle.nfs_engine.proofs.Left.{free_further, holds_nothing, holds_some, past_all, past_none}
 use Rattle.nfs_engine.proofs.release.Release.next_shard.Goals as goal
 
 pub loop-place-preserved : goal.loop-place-preserved
@@ -20,8 +20,12 @@ returns-in_default c = holds_nothing c.args.self.now (past_none c.args.self.now 
     (rw (← c.self.view_is) c.in_default.ensures) c.loop-place.invariant)
 
 pub returns-then-not-self-index : goal.returns-then-not-self-index
-returns-then-not-self-index c = (
-  c.shard_index-index.ensures.within,
-  rw (← c.self.view_is) (omega arith),
-  rw (← c.self.view_is) c.if-not-self-index.true,
-)
+returns-then-not-self-index c =
+    let e : Seen = seen_of (c.in-Some.address, c.in-Some.field-0-1.now) in (
+      c.shard_index-index.ensures.within,
+      rw (← c.self.view_is) (omega arith),
+      rw (← c.self.view_is) c.if-not-self-index.true,
+      holds_some c.args.self.now c.loop-place.place e c.shard_index-index.result
+          (rw (← c.self.view_is) (sym c.in-Some.ensures)) c.shard_index-index.ensures.which
+          (rw (← c.self.view_is) c.if-not-self-index.true),
+    )

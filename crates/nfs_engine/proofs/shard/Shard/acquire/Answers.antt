@@ -1,6 +1,7 @@
-use Rattle.std.proofs.Common.{None, refl}
+use Rattle.std.proofs.Common.{None, refl, ap, ◌∙◌}
+use Rattle.std.proofs.lemmas.Result.{err_from_is_err_and}
 use Rattle.nfs_engine.specs.declared.slot.Slot.{Slot}
-use Rattle.nfs_engine.proofs.Steps.{begins, begins_sound, number_acquires, other_acquires}
+use Rattle.nfs_engine.proofs.Steps.{absent_free, begins, begins_sound, number_acquires, other_acquires, unslotted}
 use Rattle.nfs_engine.proofs.shard.Shard.acquire.Goals as goal
 
 pub invariant_of-self : goal.invariant_of-self
@@ -51,3 +52,24 @@ returns c =
     c.get_mut.follows.lender-at-none
     c.add_slot.new.others new c.args.mode c.args.id c.get_mut.follows.holds-at-none c.in_ok-add_slot.ensures.ok refl
     c.in_ok-add.ensures.ok)
+
+-- no memory for a holder or for a slot, where nobody holds the address
+pub returns-in_err-add : goal.returns-in_err-add
+returns-in_err-add c =
+    let p = err_from_is_err_and c.from_residual.result c.from_residual.ensures.1 in
+    rw (p.1, ← c.self.view_is) (
+      absent_free _ _ c.self.inside.numbers c.self.inside.others c.args.address c.self.invariant
+          (rw (← c.self.view_is) at c.in_default.ensures) c.in_default-get_mut.ensures.value c.args.mode,
+      unslotted _ _ c.self.inside.numbers c.self.inside.others c.args.address c.get_mut.follows.lender-at-none
+          (ap (λ m. m.entries) c.get_mut.follows.holds-at-none),
+    )
+
+pub returns-in_err-add_slot : goal.returns-in_err-add_slot
+returns-in_err-add_slot c =
+    let p = err_from_is_err_and c.from_residual-in_err-add_slot.result c.from_residual-in_err-add_slot.ensures.1 in
+    rw (p.1, ← c.self.view_is) (
+      absent_free _ _ c.self.inside.numbers c.self.inside.others c.args.address c.self.invariant
+          (rw (← c.self.view_is) at c.in_default.ensures) c.in_default-get_mut.ensures.value c.args.mode,
+      unslotted _ _ c.self.inside.numbers c.self.inside.others c.args.address c.add_slot.new.others
+          (c.in_err-add_slot.ensures.err ∙ ap (λ m. m.entries) c.get_mut.follows.holds-at-none),
+    )
