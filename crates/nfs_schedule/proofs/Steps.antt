@@ -25,6 +25,7 @@ use Rattle.nfs_replies.specs.Kept.ReplyEvent.{Repeated}
 use Rattle.nfs_replies.specs.Replies.{IsAfter}
 use Rattle.nfs_engine.proofs.Built.{asked-built}
 use Rattle.nfs_engine.proofs.Going.{seen_beside}
+use Rattle.nfs_engine.proofs.Left.{not_free}
 use Rattle.nfs_engine.specs.Arrivals.{ArrivalValue, received_value}
 use Rattle.nfs_engine.specs.Book.{Begins, BookValue, GivesUp, Repeats, StillRuns, store_in}
 use Rattle.nfs_engine.specs.Built.{IsBuilt}
@@ -230,7 +231,7 @@ committed e f done r receipt after lives k leaving released executes = record {
 -- ---- a release
 module _ (e f : EngineValue) (r : ReleaseValue) (after : Afterwards) (k : KeepsOthers r.id e f)
     (same : f.book ≡ e.book) where
-  pub released_all : Releases f r next.Ended → IsStep e f 0 (Leaving r after) Idle None
+  pub released_all : Releases e f r next.Ended → IsStep e f 0 (Leaving r after) Idle None
   released_all is = record {
     lives = tt;
     rest =
@@ -241,14 +242,14 @@ module _ (e f : EngineValue) (r : ReleaseValue) (after : Afterwards) (k : KeepsO
     named = (same, is.0, refl);
   }
 
-  pub released_more : (left : ReleaseValue) → Releases f r (next.More left) →
+  pub released_more : (left : ReleaseValue) → Releases e f r (next.More left) →
       IsStep e f 0 (Leaving r after) (Leaving left after) None
   released_more left is =
-      goes_on r.id e f 0 (Leaving r after) (Leaving left after) k refl (ap (λ (x : ReleaseValue). Some x.id) is.4)
-      (ap (λ (x : ReleaseValue). after_key x.after) is.4) same is.0
-      (same, (is.1, is.3, is.4, refl), refl)
+      goes_on r.id e f 0 (Leaving r after) (Leaving left after) k refl (ap (λ (x : ReleaseValue). Some x.id) is.3)
+      (ap (λ (x : ReleaseValue). after_key x.after) is.3) same is.0
+      (same, (is.1, not_free r is.1 is.2.held, is.3, refl), refl)
 
-  module _ (leaving : IsLeaving e r) (p : PendingValue) (is : Releases f r (next.Aborted p)) where
+  module _ (leaving : IsLeaving e r) (p : PendingValue) (is : Releases e f r (next.Aborted p)) where
     own : p.id ≡ r.id
     own = (subst (λ (x : Then). LeadsTo e r.id x) is.0 leaving.after).0
 

@@ -8,7 +8,7 @@ returns-in-Refused-clause-ok c =
       host = c.args.host.now;
       bytes = c.args.message;
       moment = c.args.moment;
-    } = c.in_ok-arrival.ensures
+    } = c.in_ok-arrival.ensures.received
     ∙ ap (λ (h : List ℕ). record { host = h; bytes = c.args.message; moment = c.args.moment }) c.in_ok-share.ensures in
     told_refusal _ _ _ _ _ came c.reading.ensures.arrival c.in-Refused.ensures.answers _ c.told.ensures
 
@@ -21,7 +21,7 @@ returns-in_default-clause-ok c =
       host = c.args.host.now;
       bytes = c.args.message;
       moment = c.args.moment;
-    } = c.in_ok-arrival.ensures
+    } = c.in_ok-arrival.ensures.received
     ∙ ap (λ (h : List ℕ). record { host = h; bytes = c.args.message; moment = c.args.moment }) c.in_ok-share.ensures in
     answered_as _ _ _ _ _ came (told_answered _ _ _ _ c.reading.ensures.arrival c.execute.ensures.answers
     (told_only _ c.in_default.not-Refused))
