@@ -88,7 +88,7 @@ few_numbering t left s k n fits stands sound formed =
       ap (λ (v : ViewValue). empty_count s (held v.entries)) n.view_is,
       empty_both s (view_after n.before).entries (map vacant n.given),
       count_by-le-length (is_empty s) (held (map vacant n.given)),
-      length-map (map vacant n.given) (λ (e : Seen). (e.address, e.mode)),
+      length-map {B = Addr × Mode} (map vacant n.given) (λ (e : Seen). (e.address, e.mode)),
       length-map n.given vacant,
       n.whole,
       few_part t n.before (Given n.given) (Fresh n.count) n.grows n.attempts n.view_is s k fits stands sound formed,
