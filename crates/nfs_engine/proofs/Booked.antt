@@ -4,12 +4,13 @@ use Rattle.nfs_machine.specs.Run.{Setting}
 use Rattle.nfs_replies.specs.Kept.ReplyEvent.{Repeated}
 use Rattle.nfs_replies.specs.Replies.{IsAfter, RepliesValue}
 use Rattle.nfs_replies.specs.declared.origins.Origin.{Origin}
-use Rattle.nfs_engine.proofs.Came.{at_place, came_before}
+use Rattle.nfs_engine.proofs.Came.{at_place, came_before, its_origin}
 use Rattle.nfs_engine.proofs.Led.{same_run}
 use Rattle.nfs_engine.proofs.Unkept as unkept
-use Rattle.nfs_engine.specs.Book.{BookValue, IsBook, IsUnknown, book_value}
+use Rattle.nfs_engine.specs.Book.{BookValue, IsBook, IsUnknown, MayCommit, book_value}
+use Rattle.nfs_engine.specs.Calls.{FinishedValue}
 use Rattle.nfs_engine.specs.Journal.{JournalValue}
-use Rattle.nfs_engine.specs.Repeats.{Keeps, NoneIsKept, kept_for}
+use Rattle.nfs_engine.specs.Repeats.{Keeps, NoneIsKept, kept_for, origin_of}
 use Rattle.nfs_engine.specs.Running.{CallsValue, IsBegun, IsInProgress, origin_at, without_call}
 use Rattle.nfs_engine.specs.declared.running.AdmitError.{AdmitError}
 use Rattle.nfs_engine.specs.declared.running.AdmitError.TheVariants.{Memory, Spent}
@@ -25,6 +26,12 @@ unkept_of : (b : BookValue) (origin : Option Origin) → IfSome origin (IsUnknow
     IfSome origin (λ o. kept_for b.replies o ≡ None)
 unkept_of b None is = tt
 unkept_of b (Some o) is = is.unkept
+
+-- what a call came with that may be committed
+pub placed_origin : (b : BookValue) (f : FinishedValue) → MayCommit b f →
+    origin_at b.living f.key f.id ≡ origin_of f.received f.done.call
+placed_origin b f may = its_origin b.living f.key
+    (record { id = f.id; origin = origin_of f.received f.done.call }) may.placed f.id refl
 
 -- the call at a place has no reply that is kept
 pub unkept_at : (b : BookValue) (key id : ℕ) → IsBook b →
@@ -47,7 +54,7 @@ module _ (journal : JournalValue) (replies : RepliesValue) (calls : CallsValue) 
   pub begun : (later : CallsValue) (origin : Option Origin) (result : Result Place AdmitError) →
       IsBegun calls later origin result → IfSome origin (IsUnknown old) → IsBook (with_calls later)
   begun later origin (Ok place) began unknown = record {
-    run = same_run old (with_calls later) refl refl refl is.run;
+    run = same_run old (with_calls later) refl refl refl refl is.run;
     unkept = unkept.joined replies calls.living later.living place.key place.id origin began.2
         (unkept_of old origin unknown) is.unkept;
   }
@@ -58,7 +65,7 @@ module _ (journal : JournalValue) (replies : RepliesValue) (calls : CallsValue) 
   pub recalled : (later : RepliesValue) (host bytes : List ℕ) → IsAfter (Repeated host bytes) replies later →
       IsBook (book_value journal later calls setting limit)
   recalled later host bytes after = record {
-    run = same_run old (book_value journal later calls setting limit) refl refl refl is.run;
+    run = same_run old (book_value journal later calls setting limit) refl refl refl refl is.run;
     unkept = unkept.repeated replies later calls.living host bytes after is.unkept;
   }
 
@@ -66,7 +73,7 @@ module _ (journal : JournalValue) (replies : RepliesValue) (calls : CallsValue) 
   pub given_up : (later : CallsValue) (key id : ℕ) →
       later ≡ record calls { living = without_call calls.living key id } → IsBook (with_calls later)
   given_up later key id over = record {
-    run = same_run old (with_calls later) refl refl refl is.run;
+    run = same_run old (with_calls later) refl refl refl refl is.run;
     unkept = λ o came. is.unkept o (came_before calls.living key id o
         (subst (λ (c : CallsValue). IsInProgress c.living o) over came));
   }

@@ -18,8 +18,8 @@ use Rattle.nfs_replies.specs.Replies.{RepliesValue}
 use Rattle.nfs_engine.proofs.Bounds.{step-within}
 use Rattle.nfs_engine.proofs.Built.{asked-built}
 use Rattle.nfs_engine.proofs.Formed.{step_form}
-use Rattle.nfs_engine.specs.Book.{BookValue, Commits, IsRun, Leads, MayCommit, Rebases, StandsFor, Steps, book_value}
-use Rattle.nfs_engine.specs.Book.{store_in}
+use Rattle.nfs_engine.specs.Book.{BookValue, Commits, IsRun, Leads, LeadsFrom, MayCommit, Rebases, StandsFor}
+use Rattle.nfs_engine.specs.Book.{Steps, book_value, store_in}
 use Rattle.nfs_engine.specs.Built.{IsBuilt}
 use Rattle.nfs_engine.specs.Calls.{FinishedValue, IsCalled, IsUnder}
 use Rattle.nfs_engine.specs.Commits.{SameJournal, Writes, counted_bytes, record_of}
@@ -39,12 +39,16 @@ same_leads old new records objects setting base l = record {
   stands = subst (λ (os : List (Addr × KeptValue)). StandsFor (store_of os) l.state) (sym objects) l.stands;
 }
 
-pub led_run : (old new : BookValue) → Leads old new → IsRun old → IsRun new
-led_run old new leads r = record { base = r.base; leads = leads r.base r.leads }
+pub led_run : (old new : BookValue) → new.base ≡ old.base → Leads old new → IsRun old → IsRun new
+led_run old new same leads r = record {
+  base = r.base;
+  began = subst (λ (os : List (Addr × KeptValue)). StandsFor (store_of os) r.base) (sym same) r.began;
+  leads = leads r.base r.leads;
+}
 
-pub same_run : (old new : BookValue) → new.records ≡ old.records → new.objects ≡ old.objects →
+pub same_run : (old new : BookValue) → new.base ≡ old.base → new.records ≡ old.records → new.objects ≡ old.objects →
     new.setting ≡ old.setting → IsRun old → IsRun new
-same_run old new records objects setting = led_run old new (same_leads old new records objects setting)
+same_run old new base records objects setting = led_run old new base (same_leads old new records objects setting)
 
 pub rebases : (old new : BookValue) → new.records ≡ [] → new.objects ≡ old.objects → Rebases old new
 rebases old new none objects base l = record {
@@ -53,8 +57,20 @@ rebases old new none objects base l = record {
   stands = subst (λ (os : List (Addr × KeptValue)). StandsFor (store_of os) l.state) (sym objects) l.stands;
 }
 
-pub rebased_run : (old new : BookValue) → Rebases old new → IsRun old → IsRun new
-rebased_run old new rebased r = record { base = r.leads.state; leads = rebased r.base r.leads }
+pub rebased_run : (old new : BookValue) → new.base ≡ old.objects → Rebases old new → IsRun old → IsRun new
+rebased_run old new base rebased r = record {
+  base = r.leads.state;
+  began = subst (λ (os : List (Addr × KeptValue)). StandsFor (store_of os) r.leads.state) (sym base) r.leads.stands;
+  leads = rebased r.base r.leads;
+}
+
+-- an era begins with no record
+pub begun_run : (b : BookValue) (base : State) → b.base ≡ b.objects → b.records ≡ [] → LeadsFrom base b → IsRun b
+begun_run b base began none l = record {
+  base = l.state;
+  began = subst (λ (os : List (Addr × KeptValue)). StandsFor (store_of os) l.state) (sym began) l.stands;
+  leads = rebases b b none refl base l;
+}
 
 -- ---- what a call asks
 module _ (received : Received) (xid : ℕ) (call : Call) (ctx : Ctx) (called : IsCalled received xid call ctx) where
@@ -94,7 +110,7 @@ abbrev kept_of : (s : Store) (m : State) → StandsFor s m → Kept
 kept_of s m stands = record { state = m; links = stands.links; parents = stands.parents; usage = stands.usage }
 
 module _ (old : BookValue) (f : FinishedValue) (called : IsCalled f.received f.xid f.done.call f.done.ctx)
-    (promised : IsPromised f.done) (may : MayCommit old f.done) where
+    (promised : IsPromised f.done) (may : MayCommit old f) where
   step_of : (m : State) (s : StandsFor (store_in old) m) → IsStep f.done (store_in old) (kept_of (store_in old) m s)
   step_of m s = promised.kept (store_in old) (kept_of (store_in old) m s) may.fits s.represents s.sound s.formed
 
@@ -164,10 +180,12 @@ journal_commits j k l q r c d setting era_records f same writes keeps ended =
       waiting = o.waiting ++ f.done.change.messages;
       room = l.outbox.room;
     } in x) same.outbox in
+    let base : l.base ≡ j.base = writes.base ∙ same.base in
     record {
       store = writes.store
           ∙ ap (λ (os : List (Addr × KeptValue)). with_writes (store_of os) f.done.change.writes) same.objects;
-      rest = λ i. book_value (record { objects = l.objects; records = records i; outbox = outbox i }) r (ended i)
+      rest = λ i. book_value
+          (record { objects = l.objects; records = records i; outbox = outbox i; base = base i }) r (ended i)
           setting era_records;
       keeps = keeps;
     }

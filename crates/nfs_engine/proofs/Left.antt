@@ -18,8 +18,8 @@ use Rattle.nfs_engine.proofs.Reheld.{reheld_others, reheld_tied}
 use Rattle.nfs_engine.specs.Book.{BookValue}
 use Rattle.nfs_engine.specs.Calls.{PendingValue}
 use Rattle.nfs_engine.specs.Engine.{EngineValue, FreesOne, HoldsNothing, HoldsSome, IsLeaving, IsNext, IsTied}
-use Rattle.nfs_engine.specs.Engine.{KeepsCounters, KeepsOthers, LeadsTo, Releases, Waits, freed_more, held_among, is_free}
-use Rattle.nfs_engine.specs.Engine.{kept_by, mode_in, shard_among}
+use Rattle.nfs_engine.specs.Engine.{KeepsCounters, KeepsOthers, LeadsTo, Releases, Waits, freed_more, held_among}
+use Rattle.nfs_engine.specs.Engine.{is_free, kept_by, mode_in, shard_among}
 use Rattle.nfs_engine.specs.Taking.{LetsGo}
 use Rattle.nfs_engine.specs.Releases.{ReleaseValue}
 use Rattle.nfs_engine.specs.Shards.{ShardValue, shard_of}

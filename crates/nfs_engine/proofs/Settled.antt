@@ -20,17 +20,18 @@ use Rattle.nfs_objects.specs.declared.view.Reserved.{Reserved}
 use Rattle.nfs_engine.proofs.Came.{its_origin}
 use Rattle.nfs_engine.proofs.Filled.{written_over}
 use Rattle.nfs_engine.proofs.Parted.{stays_running, was_running}
-use Rattle.nfs_engine.specs.Book.{BookValue, Commits, IsRun, store_in}
+use Rattle.nfs_engine.specs.Book.{BookValue, Commits, IsRun, MayCommit, store_in}
 use Rattle.nfs_engine.specs.Calls.{FinishedValue, TxnValue, txn_of}
 use Rattle.nfs_engine.specs.Engine.{EngineValue, Frees, IsFilled, IsHeldAmong, IsLeaving, IsTied}
-use Rattle.nfs_engine.specs.Engine.{KeepsCounters, KeepsOthers, LeadsTo, Lives, freed, held_among, kept_by, mode_in, shard_among}
-use Rattle.nfs_engine.specs.Engine.{slot_among}
+use Rattle.nfs_engine.specs.Engine.{KeepsCounters, KeepsOthers, LeadsTo, Lives, freed, held_among, kept_by}
+use Rattle.nfs_engine.specs.Engine.{mode_in, shard_among, slot_among}
 use Rattle.nfs_engine.specs.Holders.{HoldersValue, hold_in, hold_of, is_among}
 use Rattle.nfs_engine.specs.Releases.{ReleaseValue}
 use Rattle.nfs_engine.specs.Repeats.{origin_of}
 use Rattle.nfs_engine.specs.Running.{origin_at, running_at, without_call}
 use Rattle.nfs_engine.specs.Shards.{ShardValue, shard_of}
 use Rattle.nfs_engine.specs.declared.release.Then.TheVariants.{Ended}
+use Rattle.nfs_engine.specs.declared.running.Running.{Running}
 
 -- ---- who holds alone
 alone_only : (o : Option ℕ) (hs : List ℕ) (i j : ℕ) → hold_in o hs i ≡ Some Exclusive →
@@ -165,6 +166,17 @@ held_to_write book shards f lives promised =
     all-map (λ w. held_among shards w.0 f.id ≡ Some Exclusive) (λ w. IsHeldAmong shards w.0)
     (λ w is. record { holder = f.id; holds = subst (λ o. IsSome o) (sym is) refl }) f.done.change.writes
     (written_held book shards f lives promised)
+
+-- a call that lives may be committed
+pub may_commit : (e : EngineValue) (f : FinishedValue) → Lives e (txn_of f) → MayCommit e.book f
+may_commit e f lives =
+    let same : lives.running.running ≡ record { id = f.id; origin = origin_of f.received f.done.call } =
+    λ i. record { id = lives.running.same i; origin = lives.running.came i } in
+    record {
+      fits = lives.fits;
+      under = lives.under;
+      placed = lives.running.there ∙ ap (λ (r : Running). Some r) same;
+    }
 
 -- the book has a call that lives at its place, as it came
 pub came_so : (e : EngineValue) (t : TxnValue) → Lives e t →

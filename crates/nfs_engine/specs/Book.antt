@@ -26,7 +26,8 @@ use Rattle.nfs_engine.specs.Calls.{FinishedValue, IsUnder, PendingValue, TxnValu
 use Rattle.nfs_engine.specs.Commits.{counted_bytes, record_of}
 use Rattle.nfs_engine.specs.Journal.{JournalValue}
 use Rattle.nfs_engine.specs.Repeats.{Keeps, NoneIsKept, RepeatValue, kept_for, origin_in, origin_of}
-use Rattle.nfs_engine.specs.Running.{CallsValue, IsInProgress, Joins, origin_at, without_call}
+use Rattle.nfs_engine.specs.Running.{CallsValue, IsInProgress, Joins, origin_at, running_at}
+use Rattle.nfs_engine.specs.Running.{without_call}
 use Rattle.nfs_engine.specs.Tables.{KeptValue, store_of}
 use Rattle.nfs_engine.specs.declared.arrival.Reading.TheVariants as readings
 use Rattle.nfs_engine.specs.declared.asking.Asked.{Asked}
@@ -44,6 +45,8 @@ use Rattle.nfs_engine.specs.declared.running.Running.{Running}
 pub record BookValue : Type 0 where
   -- what is kept at each address
   pub objects : List (Addr × KeptValue)
+  -- the same, as the era began
+  pub base : List (Addr × KeptValue)
   -- what was executed since the era began, in order, and how many records were before
   pub records : List Record
   pub before : ℕ
@@ -65,6 +68,7 @@ pub record BookValue : Type 0 where
 abbrev pub book_value : JournalValue → RepliesValue → CallsValue → Setting → (era_records : ℕ) → BookValue
 book_value journal replies calls setting era_records = record {
   objects = journal.objects.slots;
+  base = journal.base;
   records = journal.records.list;
   before = journal.records.before;
   bytes = journal.records.bytes;
@@ -97,10 +101,11 @@ pub record LeadsFrom (base : State) (b : BookValue) : Type 0 where
   pub run : Run b.setting base b.records state
   pub stands : StandsFor (store_in b) state
 
--- What is true of a book at every moment: from the state in which its era began, its records are a run of the machine
--- to a state that its store stands for.
+-- What is true of a book at every moment: from a state for which the store stood with which its era began, its records
+-- are a run of the machine to one that its store stands for.
 pub record IsRun (b : BookValue) : Type 0 where
   pub base : State
+  pub began : StandsFor (store_of b.base) base
   pub leads : LeadsFrom base b
 
 -- And no reply is kept for what a call in progress came with.
@@ -219,8 +224,8 @@ pub record IsRepeat (b : BookValue) (a : ArrivalValue) : Type 0 where
   pub asks : AsksChange a
   pub kept : IsSome (kept_for b.replies (origin_in a.received))
 
--- No number is left just where they are at their end, and only for what would begin. There is no memory only for a reply
--- that is kept, or for what would begin, where a number is left.
+-- No number is left just where they are at their end, and only for what would begin. There is no memory only for a
+-- reply that is kept, or for what would begin, where a number is left.
 abbrev pub IsAdmitError : BookValue → ArrivalValue → AdmitError → Type 0
 IsAdmitError b a Memory = IsRepeat b a ⊎ ((b.next_id ≢ 2 ^ 64 - 1) × IsNoRepeat b a)
 IsAdmitError b a Spent = (b.next_id ≡ 2 ^ 64 - 1) × IsNoRepeat b a
@@ -245,11 +250,16 @@ TakesMessage old new (Some posted) =
     (old.outbox ≡ posted.message ∷ new.outbox) × (posted.number ≡ old.taken + 1) ×
     (new ≡ record old { outbox = new.outbox; taken = old.taken + 1 })
 
--- the records are the era's, and the next one has none
+-- the records are the era's, and the next one has none and begins with the present store
 pub record TakesEra (old new : BookValue) (era : Era) : Type 0 where
   pub before : era.before ≡ old.before
   pub records : map shared_value era.records.items ≡ old.records
-  pub rest : new ≡ record old { records = []; before = old.before + length old.records; bytes = 0 }
+  pub rest : new ≡ record old {
+    base = old.objects;
+    records = [];
+    before = old.before + length old.records;
+    bytes = 0;
+  }
 
 -- where the old records led, the new ones begin
 abbrev pub Rebases : BookValue → BookValue → Type 0
@@ -259,7 +269,10 @@ Rebases old new = (base : State) (l : LeadsFrom base old) → LeadsFrom l.state 
 abbrev pub is_full : BookValue → Bool
 is_full b = nat_le b.era_records (length b.records) || nat_le 67108864 b.bytes
 
--- the view of the call fits the present store, and it is made under what the server was started with
-pub record MayCommit (b : BookValue) (d : DoneValue) : Type 0 where
-  pub fits : Fits d.view (store_in b)
-  pub under : IsUnder b.setting d.ctx
+-- the view of the call fits the present store, it is made under what the server was started with, and it is in progress
+-- at its place, as it came
+pub record MayCommit (b : BookValue) (f : FinishedValue) : Type 0 where
+  pub fits : Fits f.done.view (store_in b)
+  pub under : IsUnder b.setting f.done.ctx
+  pub placed : running_at b.living f.key ≡
+      Some (record { id = f.id; origin = origin_of f.received f.done.call })

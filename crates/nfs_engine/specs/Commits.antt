@@ -1,6 +1,6 @@
 -- Commits: what is made before one, and what one writes.
-use Rattle.std.specs.Prelude.{◌≡◌, ◌+◌, ◌-◌, ◌*◌, ◌^◌, ◌<◌, ◌≤◌, ℕ, min, []}
-use Rattle.std.specs.Prelude.{◌∷◌, ◌++◌, length, map, Option}
+use Rattle.std.specs.Prelude.{◌≡◌, ◌+◌, ◌-◌, ◌*◌, ◌^◌, ◌<◌, ◌≤◌, ℕ, false, min, []}
+use Rattle.std.specs.Prelude.{◌∷◌, ◌++◌, length, map, replicate, Option}
 use Rattle.nfs_machine.specs.RpcReplies.{success_message}
 use Rattle.nfs_machine.specs.Run.{FromHost, Record}
 use Rattle.nfs_objects.specs.Store.{with_writes}
@@ -8,12 +8,14 @@ use Rattle.nfs_objects.specs.Values.{write_value}
 use Rattle.nfs_engine.specs.Arrivals.{shared_value}
 use Rattle.nfs_engine.specs.Calls.{FinishedValue}
 use Rattle.nfs_engine.specs.Journal.{JournalValue, TakesPosted}
+use Rattle.nfs_engine.specs.Releases.{ReleaseValue}
 use Rattle.nfs_engine.specs.Tables.{store_of}
 use Rattle.nfs_engine.specs.declared.journal.Committed.{Committed}
 use Rattle.nfs_engine.specs.declared.journal.Ready.{Ready}
 use Rattle.nfs_engine.specs.declared.journal.Receipt.{Receipt}
 use Rattle.nfs_engine.specs.declared.outbox.Posted.{Posted}
 use Rattle.nfs_engine.specs.declared.records.Era.{Era}
+use Rattle.nfs_engine.specs.declared.release.Then.TheVariants.{Ended}
 
 -- what is recorded of a call
 abbrev pub record_of : FinishedValue → Record
@@ -38,6 +40,7 @@ pub record SameJournal (old new : JournalValue) : Type 0 where
   pub objects : new.objects.slots ≡ old.objects.slots
   pub records : new.records ≡ record old.records { room = new.records.room }
   pub outbox : new.outbox ≡ record old.outbox { room = new.outbox.room }
+  pub base : new.base ≡ old.base
 
 -- the reply is spelled, and what the call writes, posts and records is there once more
 pub record IsMade (f : FinishedValue) (ready : Ready) : Type 0 where
@@ -70,6 +73,7 @@ pub record Writes (old new : JournalValue) (f : FinishedValue) : Type 0 where
     waiting = old.outbox.waiting ++ f.done.change.messages;
     room = new.outbox.room;
   }
+  pub base : new.base ≡ old.base
 
 -- the receipt is of this record, with the next number, and has the bytes of the reply
 pub record IsReceipt (number : ℕ) (f : FinishedValue) (receipt : Receipt) : Type 0 where
@@ -77,10 +81,13 @@ pub record IsReceipt (number : ℕ) (f : FinishedValue) (receipt : Receipt) : Ty
   pub executed : shared_value receipt.executed ≡ record_of f
   pub answer : receipt.answer ≡ success_message f.xid f.done.change.reply
 
+-- what is left of a call that was executed: it holds all that it has read
+abbrev pub executed_release : FinishedValue → ReleaseValue
+executed_release f = record { id = f.id; view = f.done.view; done = replicate 16 false; after = Ended }
+
 -- what the call still holds, and what has to be written there
 pub record Leaves (f : FinishedValue) (committed : Committed) : Type 0 where
-  pub id : committed.id ≡ f.id
-  pub view : committed.view ≡ f.done.view
+  pub release : committed.release ≡ executed_release f
   pub writes : map write_value committed.writes.items ≡ f.done.change.writes
 
 pub record IsCommitted (old : JournalValue) (f : FinishedValue) (committed : Committed) : Type 0 where
@@ -91,7 +98,7 @@ pub record TakesMessage (old new : JournalValue) (posted : Option Posted) : Type
   pub takes : TakesPosted old.outbox new.outbox posted
   pub rest : new ≡ record old { outbox = new.outbox }
 
--- the records are the era's, and the next one has none
+-- the records are the era's, and the next one has none and begins with the present store
 pub record TakesEra (old new : JournalValue) (era : Era) : Type 0 where
   pub before : era.before ≡ old.records.before
   pub records : map shared_value era.records.items ≡ old.records.list
@@ -102,4 +109,5 @@ pub record TakesEra (old new : JournalValue) (era : Era) : Type 0 where
       bytes = 0;
       room = new.records.room;
     };
+    base = old.objects.slots;
   }

@@ -2,7 +2,8 @@
 use Rattle.std.specs.Prelude.{◌≡◌, ℕ, ◌+◌, List, [], ◌∷◌, Option, Some, None}
 use Rattle.side_wire.specs.declared.message.Message.{Message}
 use Rattle.nfs_machine.specs.Run.{Record}
-use Rattle.nfs_engine.specs.Tables.{ObjectsValue}
+use Rattle.nfs_objects.specs.declared.address.Addr.{Addr}
+use Rattle.nfs_engine.specs.Tables.{KeptValue, ObjectsValue}
 use Rattle.nfs_engine.specs.declared.outbox.Posted.{Posted}
 
 -- what was executed since the era began, how many records were before, how many bytes are counted, and how many more
@@ -19,11 +20,12 @@ pub record OutboxValue : Type 0 where
   pub taken : ℕ
   pub room : ℕ
 
--- the present objects, the records of the era, and the messages that are to be sent
+-- the present objects, the records of the era, the messages that are to be sent, and the objects as the era began
 pub record JournalValue : Type 0 where
   pub objects : ObjectsValue
   pub records : RecordsValue
   pub outbox : OutboxValue
+  pub base : List (Addr × KeptValue)
 
 -- the oldest message is taken, under the next number; none only where there is none
 abbrev pub TakesPosted : OutboxValue → OutboxValue → Option Posted → Type 0

@@ -69,14 +69,15 @@ root_usage (suc n) e g = if (suc n == e) && (group_of (suc n) == g) then one_usi
 abbrev pub IsLimit : ℕ → Type 0
 IsLimit limit = (1 ≤ limit) × (limit ≤ 65536)
 
--- it was started with this, and stands for the opening state: no record, no message, no reply that is
--- kept and no call in progress
+-- it was started with this, and stands for the opening state, in which its first era begins: no record, no message, no
+-- reply that is kept and no call in progress
 pub record Opens (config : Config) (b : BookValue) : Type 0 where
   pub capacity : IsLimit config.capacity
   pub era_records : IsLimit config.era_records
   pub leads : LeadsFrom (opening config.exports config.moment) b
   pub is : b ≡ record {
     objects = b.objects;
+    base = b.objects;
     records = [];
     before = 0;
     bytes = 0;

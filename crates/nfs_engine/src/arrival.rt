@@ -84,8 +84,8 @@ impl Arrival {
     ///
     /// # Errors
     ///
-    /// There is no memory to share its arguments' bytes, or for the answer. A record that is dropped, as it is a reply or
-    /// cut short (RFC 5531, 9), wants none.
+    /// There is no memory to share its arguments' bytes, or for the answer. A record that is dropped, as it is a reply
+    /// or cut short (RFC 5531, 9), wants none.
     pub fn read(
         alloc: Global,
         host: Host,

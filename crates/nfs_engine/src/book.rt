@@ -1,20 +1,22 @@
 //! The book: the present store with the records that led to it, and which calls are in progress.
 
 ghost use Rattle.std.specs.Prelude.{◌≡◌, ◌+◌, ◌-◌, ◌^◌, ◌≤◌, ℕ, true, length, map};
-ghost use Rattle.std.specs.Prelude.{IfErr, IfOk, IfSome, OnOk};
+ghost use Rattle.std.specs.Prelude.{IfErr, IfOk, IfSome, OnOk, Some};
 ghost use Rattle.std.specs.Bool.{Decides};
 ghost use Rattle.nfs_engine.specs.Arrivals.{received_value};
 ghost use Rattle.nfs_engine.specs.Asked.{IsAsked};
 ghost use Rattle.nfs_engine.specs.Book.{Admits, Commits, GivesUp, IsRun, IsUnknown, Leads, MayCommit, Rebases};
 ghost use Rattle.nfs_engine.specs.Book.{Recalls, Steps, TakesEra, TakesMessage, is_full, store_in};
+ghost use Rattle.nfs_engine.specs.Calls.{IsUnder};
 ghost use Rattle.nfs_engine.specs.Commits.{IsReceipt, Leaves};
 ghost use Rattle.nfs_engine.specs.Hosts.{IsHost};
 ghost use Rattle.nfs_engine.specs.Opening.{IsStartError, Opens, no_store};
-ghost use Rattle.nfs_engine.specs.Repeats.{NoneIsKept, origin_of};
-ghost use Rattle.nfs_engine.specs.Running.{living_count};
+ghost use Rattle.nfs_engine.specs.Repeats.{Keeps, NoneIsKept, origin_of};
+ghost use Rattle.nfs_engine.specs.Running.{living_count, running_at};
 ghost use Rattle.nfs_objects.specs.Store.{with_writes};
 ghost use Rattle.nfs_objects.specs.Values.{write_value};
 ghost use Rattle.nfs_machine.specs.Changing.{is_changing};
+ghost use Rattle.nfs_machine.specs.RpcReplies.{success_message};
 ghost use Rattle.nfs_machine.specs.Run.{context_of};
 ghost use Rattle.nfs_engine.specs.declared.arrival.Reading.TheVariants as readings;
 
@@ -166,8 +168,8 @@ impl Book {
         }
     }
 
-    /// What is known of a record; a reply that is kept comes to the front. An error comes only where a reply is kept, and
-    /// changes nothing.
+    /// What is known of a record; a reply that is kept comes to the front. An error comes only where a reply is kept,
+    /// and changes nothing.
     fn recall(&mut self, received: &Received) -> Result<Recalled, AllocError>
         ensures { Recalls self.old self.new (received_value received.now) result }
     {
@@ -281,8 +283,10 @@ impl Book {
     /// The memory for it was refused, or the number of its record or of one of its messages would be above 2^64 - 1.
     /// Nothing is changed, and the call is handed back.
     pub fn commit(&mut self, alloc: Global, finished: Finished) -> Result<Committed, Finished>
-        requires { MayCommit self.old finished.done }
+        requires { MayCommit self.old finished }
         ensures commits { OnOk result (Commits self.old self.new finished) }
+        ensures keeps { OnOk result (Keeps (origin_of finished.received finished.done.call)
+            (success_message finished.xid finished.done.change.reply) self.old.replies self.new.replies) }
         ensures step { OnOk result (Steps self.old self.new finished.done) }
         ensures leads { OnOk result (Leads self.old self.new) }
         ensures receipt { IfOk result
@@ -304,14 +308,32 @@ impl Book {
     }
 
     /// Whether a call may be committed: what it has read stands in the present store, its numbers were never given with
-    /// such generations, and it was made under what this server was started with. It compares by value.
+    /// such generations, it was made under what this server was started with, and it is in progress here as it came. It
+    /// compares by value.
     pub fn fits(&self, finished: &Finished) -> bool
-        ensures { Decides result (MayCommit self.now finished.now.done) }
+        ensures { Decides result (MayCommit self.now finished.now) }
     {
-        let ctx = finished.ctx();
-        ctx.start == self.start
-            && ctx.limits == self.limits
+        self.is_made_here(finished.ctx())
+            && self.has(finished)
             && self.journal.objects().fits(finished.view())
+    }
+
+    /// Whether a call was made under what this server was started with.
+    fn is_made_here(&self, ctx: &Ctx) -> bool
+        ensures { Decides result (IsUnder self.now.setting ctx.now) }
+    {
+        ctx.start == self.start && ctx.limits == self.limits
+    }
+
+    /// Whether a call is in progress at its place, with its number, and came so.
+    fn has(&self, finished: &Finished) -> bool
+        ensures { Decides result (running_at self.now.living finished.now.key ≡ Some (record {
+          id = finished.now.id;
+          origin = origin_of finished.now.received finished.now.done.call;
+        })) }
+    {
+        let request = &finished.request;
+        self.calls.came_so(finished.key, finished.id, &request.received, &request.call)
     }
 
     /// Takes the oldest message that was not yet taken.

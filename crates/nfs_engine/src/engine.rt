@@ -26,7 +26,7 @@ use crate::journal::{Committed, Receipt};
 use crate::opening::{Config, StartError};
 use crate::outbox::Posted;
 use crate::records::Era;
-use crate::release::{Next, Release, Then};
+use crate::release::{Next, Release};
 use crate::running::AdmitError;
 use crate::shard::{ReserveError, SHARDS, Shard, shard_index};
 use crate::starting::{new_shards, open_all};
@@ -161,13 +161,18 @@ impl Engine {
         self.book.run();
         let Committed {
             receipt,
-            id,
-            view,
+            release,
             writes,
         } = match self.book.commit(alloc, finished) {
             Ok(committed) => committed,
             Err(back) => return Err(back),
         };
+        let Release {
+            id,
+            view,
+            done: _,
+            after,
+        } = release;
         let written = written_shards(&writes);
         fill_all(&mut self.shards, writes);
         free_all(&mut self.shards, &written, id, &view);
@@ -175,7 +180,7 @@ impl Engine {
             id,
             view,
             done: written,
-            after: Then::Ended,
+            after,
         };
         Ok((receipt, release))
     }
@@ -292,7 +297,7 @@ impl Engine {
 
     /// Whether a call may be committed. It compares by value.
     pub fn fits(&self, finished: &Finished) -> bool
-        ensures { Decides result (MayCommit self.now.book finished.now.done) }
+        ensures { Decides result (MayCommit self.now.book finished.now) }
     {
         self.book.fits(finished)
     }

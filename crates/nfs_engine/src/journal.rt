@@ -12,11 +12,14 @@ use crate::calls::Finished;
 use crate::objects::{Objects, copy_writes};
 use crate::outbox::{Outbox, Posted, copy_messages};
 use crate::records::{Era, Records};
+use crate::release::{Release, Then};
+use crate::shard::SHARDS;
 use bytes::Bytes;
-use nfs_objects::{View, Write};
+use nfs_objects::Write;
 use side_wire::Message;
 use std::alloc::{AllocError, Global};
 use std::marker::Model;
+use std::snapshot::Snapshot;
 use std::sync::Arc;
 
 /// What a message is counted as, in bytes: as much as one may have.
@@ -37,10 +40,8 @@ pub struct Receipt {
 pub struct Committed {
     /// What its caller is told.
     pub receipt: Receipt,
-    /// The call's number.
-    pub id: u64,
-    /// What it has read, which it holds still.
-    pub view: View,
+    /// What it still holds: all that it has read.
+    pub release: Release,
     /// What the shards have to write.
     pub writes: Vec<Write>,
 }
@@ -80,6 +81,8 @@ pub(crate) struct Journal {
     objects: Objects,
     records: Records,
     outbox: Outbox,
+    /// The objects as the era began. Clauses alone read it: it has no bytes.
+    began: Snapshot<Objects>,
 }
 
 impl Model for Journal {
@@ -87,21 +90,29 @@ impl Model for Journal {
 
     ghost Value = { JournalValue };
 
-    ghost view = { λ j. record { objects = j.objects; records = j.records; outbox = j.outbox } };
+    ghost view = { λ j. record {
+      objects = j.objects;
+      records = j.records;
+      outbox = j.outbox;
+      base = j.began.value.slots;
+    } };
 }
 
 impl Journal {
-    /// No record yet, and no message, over these objects.
+    /// No record yet, and no message, over these objects, with which the first era begins.
     pub(crate) fn new(alloc: Global, objects: Objects) -> Journal
         ensures objects { result.objects ≡ objects }
         ensures records { (result.records.list ≡ []) × (result.records.before ≡ 0) ×
             (result.records.bytes ≡ 0) }
         ensures outbox { (result.outbox.waiting ≡ []) × (result.outbox.taken ≡ 0) }
+        ensures base { result.base ≡ objects.slots }
     {
+        let began = Snapshot::of(&objects);
         Journal {
             objects,
             records: Records::new(alloc),
             outbox: Outbox::new(alloc),
+            began,
         }
     }
 
@@ -187,8 +198,12 @@ impl Journal {
                 executed,
                 answer,
             },
-            id,
-            view,
+            release: Release {
+                id,
+                view,
+                done: [false; SHARDS],
+                after: Then::Ended,
+            },
             writes: own,
         }
     }
@@ -200,10 +215,11 @@ impl Journal {
         self.outbox.take()
     }
 
-    /// Ends the era, and begins the next.
+    /// Ends the era, and begins the next, with the present store.
     pub(crate) fn new_era(&mut self, alloc: Global) -> Era
         ensures { TakesEra self.old self.new result }
     {
+        self.began = Snapshot::of(&self.objects);
         self.records.take(alloc)
     }
 }

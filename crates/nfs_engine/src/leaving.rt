@@ -61,9 +61,18 @@ impl Release {
         ensures shard { LetsGo shard.old shard.new shard.old.index self.id self.view.entries }
         ensures next { IsNext (freed_more self shard.old.index) result }
     {
+        self.let_go_in(shard).next()
+    }
+
+    /// Lets go, in this shard, all that the call still holds there: the same, with one shard more that is free of the
+    /// call. It takes no memory.
+    pub fn let_go_in(self, shard: &mut Shard) -> Release
+        ensures shard { LetsGo shard.old shard.new shard.old.index self.id self.view.entries }
+        ensures freed { result ≡ freed_more self shard.old.index }
+    {
         let index = shard.index();
         let_go(shard, index, self.id, &self.view);
-        self.freed(index).next()
+        self.freed(index)
     }
 
     /// What comes next: more to release, where something is still held, or what it leads to.

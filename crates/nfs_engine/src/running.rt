@@ -1,12 +1,18 @@
 //! Which calls are in progress.
 
-ghost use Rattle.std.specs.Prelude.{◌≡◌, ◌-◌, ◌^◌, [], true, IfSome, MatchOption, OnErr, OnOk};
+ghost use Rattle.std.specs.Prelude.{◌≡◌, ◌-◌, ◌^◌, [], true, IfSome, MatchOption, OnErr, OnOk, Some};
 ghost use Rattle.std.specs.Prelude.{option_copied};
 ghost use Rattle.std.specs.Bool.{Decides};
 ghost use Rattle.nfs_replies.specs.Origins.{Adds, Removes, is_among};
-ghost use Rattle.nfs_engine.specs.Running.{IsBegun, IsInProgress, living_count, origin_at, without_call};
+ghost use Rattle.nfs_engine.specs.Arrivals.{received_value};
+ghost use Rattle.nfs_engine.specs.Repeats.{origin_of};
+ghost use Rattle.nfs_engine.specs.Running.{IsBegun, IsInProgress, living_count, origin_at, running_at};
+ghost use Rattle.nfs_engine.specs.Running.{without_call};
 
+use crate::arrival::Received;
+use crate::changing::is_changing;
 use bytes::Bytes;
+use nfs_machine::Call;
 use nfs_replies::{Origin, Origins};
 use slab::Slab;
 use std::alloc::{AllocError, Global};
@@ -85,6 +91,17 @@ impl Calls {
         self.origins.has(host, bytes)
     }
 
+    /// Whether a call with this number is in progress at this place, and came so.
+    pub(crate) fn came_so(&self, key: usize, id: u64, received: &Received, call: &Call) -> bool
+        ensures { Decides result (running_at self.now.living key ≡
+            Some (record { id = id; origin = origin_of (received_value received.now) call.now })) }
+    {
+        match self.living.get(key) {
+            Some(running) => running.id == id && is_origin(&running.origin, received, call),
+            None => false,
+        }
+    }
+
     /// What a call came with, if it is in progress and changes something.
     pub(crate) fn origin(&self, key: usize, id: u64) -> Option<&Origin>
         ensures { option_copied result ≡ origin_at self.now.living key id }
@@ -138,6 +155,20 @@ impl Calls {
             return;
         };
         forget(&mut self.origins, origin);
+    }
+}
+
+/// Whether this is what a call came with, if it changes something.
+fn is_origin(origin: &Option<Origin>, received: &Received, call: &Call) -> bool
+    ensures { Decides result (origin.now ≡ origin_of (received_value received.now) call.now) }
+{
+    match origin {
+        Some(origin) => {
+            is_changing(call)
+                && origin.host == *received.host.text()
+                && origin.bytes == received.message
+        }
+        None => !is_changing(call),
     }
 }
 

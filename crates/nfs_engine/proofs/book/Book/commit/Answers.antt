@@ -3,11 +3,11 @@ use Rattle.std.specs.Option.{option_copied}
 use Rattle.nfs_machine.specs.Run.{Setting}
 use Rattle.nfs_machine.specs.RpcReplies.{success_message}
 use Rattle.nfs_replies.specs.declared.origins.Origin.{Origin}
-use Rattle.nfs_engine.proofs.Booked.{answered, unkept_at}
+use Rattle.nfs_engine.proofs.Booked.{answered, placed_origin, unkept_at}
 use Rattle.nfs_engine.proofs.Led.{committed_leads, committed_steps, journal_commits, led_run, reply_form}
-use Rattle.nfs_engine.specs.Book.{BookValue, Commits, IsBook, book_value}
+use Rattle.nfs_engine.specs.Book.{BookValue, Commits, IsBook, MayCommit, book_value}
 use Rattle.nfs_engine.specs.Calls.{FinishedValue}
-use Rattle.nfs_engine.specs.Repeats.{Keeps, kept_for}
+use Rattle.nfs_engine.specs.Repeats.{Keeps, kept_for, origin_of}
 use Rattle.nfs_engine.specs.Running.{CallsValue, IsInProgress, origin_at, without_call}
 use Rattle.nfs_engine.proofs.book.Book.commit.Goals as goal
 use Rattle.nfs_engine.proofs.book.Book.commit.Goals.{After-commit}
@@ -61,7 +61,7 @@ commits c =
 
 pub invariant_of-self-2 : goal.invariant_of-self-2
 invariant_of-self-2 c = record {
-  run = led_run _ _
+  run = led_run _ _ (ap (λ (b : BookValue). b.base) (commits c).rest)
       (committed_leads _ c.args.finished c.is_finished.ensures.called c.is_finished.ensures.promised c.requires
       (after c) (commits c))
       (subst IsBook c.self.view_is c.self.invariant).run;
@@ -74,6 +74,17 @@ invariant_of-self-2 c = record {
 
 pub returns-clause-commits : goal.returns-clause-commits
 returns-clause-commits c = commits c
+
+-- and that is what the call came with
+pub returns-clause-keeps : goal.returns-clause-keeps
+returns-clause-keeps c =
+    subst (λ (b : BookValue). Keeps (origin_of c.args.finished.received c.args.finished.done.call)
+    (success_message c.args.finished.xid c.args.finished.done.change.reply) b.replies c.keep_answer.new.replies)
+    c.self.view_is
+    (subst (λ (o : Option Origin). Keeps o (success_message c.args.finished.xid c.args.finished.done.change.reply)
+    c.self.inside.replies c.keep_answer.new.replies)
+    (placed_origin _ c.args.finished
+    (subst (λ (b : BookValue). MayCommit b c.args.finished) (sym c.self.view_is) c.requires)) (keeps c))
 
 pub returns-clause-step : goal.returns-clause-step
 returns-clause-step c =

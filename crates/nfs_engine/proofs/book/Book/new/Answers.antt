@@ -1,20 +1,21 @@
-use Rattle.std.proofs.Common.{[], ap, refl, subst, arith, ◌∙◌}
+use Rattle.std.proofs.Common.{[], ap, refl, sym, subst, arith, ◌∙◌}
 use Rattle.nfs_replies.specs.Replies.{RepliesValue}
 use Rattle.nfs_engine.proofs.Came.{nowhere}
+use Rattle.nfs_engine.proofs.Led.{begun_run}
 use Rattle.nfs_engine.proofs.Openings.{opened_lasts, opened_leads, opened_store}
 use Rattle.nfs_engine.specs.Running.{CallsValue, CameWith}
-use Rattle.nfs_engine.specs.Tables.{store_of}
+use Rattle.nfs_engine.specs.Tables.{ObjectsValue, store_of}
 use Rattle.nfs_engine.proofs.book.Book.new.Goals as goal
 
 pub invariant_of-book : goal.invariant_of-book
 invariant_of-book c = record {
-  run = record {
-    base = _;
-    leads = opened_leads c.args.config.exports c.args.config.moment _
-        (opened_store _ _ _ _ _ _ c.args.config.moment c.new-journal.ensures.objects c.in_ok-objects.ensures
-        c.deref.ensures.value c.in_ok-writes.ensures.writes c.time.ensures)
-        c.new-journal.ensures.records.0 c.opening_writes.ensures.faultless;
-  };
+  run = begun_run _ _
+      (c.new-journal.ensures.base ∙ ap (λ (o : ObjectsValue). o.slots) (sym c.new-journal.ensures.objects))
+      c.new-journal.ensures.records.0
+      (opened_leads c.args.config.exports c.args.config.moment _
+      (opened_store _ _ _ _ _ _ c.args.config.moment c.new-journal.ensures.objects c.in_ok-objects.ensures
+      c.deref.ensures.value c.in_ok-writes.ensures.writes c.time.ensures)
+      c.new-journal.ensures.records.0 c.opening_writes.ensures.faultless);
   unkept = λ o came. absurd (nowhere came.0 o (subst (λ (v : CallsValue). CameWith v.living came.0 o)
       c.new-calls.ensures came.1));
 }
@@ -29,6 +30,7 @@ returns-clause-book c = record {
       c.new-journal.ensures.records.0 c.opening_writes.ensures.faultless;
   is = λ i. record {
     objects = c.new-journal.result.objects.slots;
+    base = (c.new-journal.ensures.base ∙ ap (λ (o : ObjectsValue). o.slots) (sym c.new-journal.ensures.objects)) i;
     records = c.new-journal.ensures.records.0 i;
     before = c.new-journal.ensures.records.1 i;
     bytes = c.new-journal.ensures.records.2 i;

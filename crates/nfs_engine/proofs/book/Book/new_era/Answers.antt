@@ -6,7 +6,7 @@ use Rattle.nfs_engine.proofs.book.Book.new_era.Goals as goal
 
 pub invariant_of-self : goal.invariant_of-self
 invariant_of-self c = record {
-  run = rebased_run _ _
+  run = rebased_run _ _ (ap (λ (j : JournalValue). j.base) c.new_era.ensures.rest)
       (rebases _ _ (ap (λ (j : JournalValue). j.records.list) c.new_era.ensures.rest)
       (ap (λ (j : JournalValue). j.objects.slots) c.new_era.ensures.rest))
       c.self.invariant.run;

@@ -1,17 +1,21 @@
-use Rattle.std.proofs.Common.{List, Option, map, refl, sym, subst}
+use Rattle.std.proofs.Common.{List, Option, map, ◌∙◌, ap, sym, subst}
 use Rattle.std.specs.List.{AllByRecursion}
 use Rattle.nfs_objects.specs.Values.{write_value}
 use Rattle.nfs_objects.specs.declared.address.Addr.{Addr}
 use Rattle.nfs_objects.specs.declared.object.Object.{Object}
 use Rattle.nfs_machine.specs.RpcReplies.{success_message}
 use Rattle.nfs_replies.specs.declared.origins.Origin.{Origin}
-use Rattle.nfs_engine.proofs.Settled.{came_so, held_to_write, settled_counters, settled_leaving, settled_others}
-use Rattle.nfs_engine.proofs.Settled.{settled_tied}
+use Rattle.nfs_engine.proofs.Settled.{came_so, held_to_write, may_commit, settled_counters, settled_leaving}
+use Rattle.nfs_engine.proofs.Settled.{settled_others, settled_tied}
 use Rattle.nfs_engine.specs.Calls.{txn_of}
 use Rattle.nfs_engine.specs.Engine.{IsHeldAmong}
+use Rattle.nfs_engine.specs.Releases.{ReleaseValue}
 use Rattle.nfs_engine.specs.Repeats.{Keeps}
-use Rattle.nfs_engine.specs.declared.release.Then.TheVariants.{Ended}
 use Rattle.nfs_engine.proofs.engine.Engine.commit.Goals as goal
+
+pub commit-requires : goal.commit-requires
+commit-requires c = may_commit (record { book = c.self.inside.book; shards = c.self.inside.shards }) c.args.finished
+    (rw (← c.self.view_is) at c.requires)
 
 pub fill_all-requires : goal.fill_all-requires
 fill_all-requires c =
@@ -23,13 +27,15 @@ fill_all-requires c =
 pub invariant_of-self-2 : goal.invariant_of-self-2
 invariant_of-self-2 c = settled_tied c.self.inside.book c.commit.new.self c.self.inside.shards c.fill_all.new.shards
     c.free_all.new.shards c.args.finished (record {
-      id = c.in-Ok.committed.id;
-      view = c.in-Ok.committed.view;
+      id = c.release.inside.id;
+      view = c.release.inside.view;
       done = c.written_shards-written.result;
-      after = Ended;
+      after = c.release.inside.after;
     }) c.self.invariant (rw (← c.self.view_is) at c.requires) c.is_finished.ensures.promised c.run.ensures.run
     c.in-Ok.ensures.commits (map write_value c.in-Ok.committed.writes.items) c.fill_all.ensures c.free_all.ensures
-    c.in-Ok.ensures.leaves.writes c.in-Ok.ensures.leaves.id c.in-Ok.ensures.leaves.view refl
+    c.in-Ok.ensures.leaves.writes (ap (λ (r : ReleaseValue). r.id) (c.release.view_is ∙ c.in-Ok.ensures.leaves.release))
+    (ap (λ (r : ReleaseValue). r.view) (c.release.view_is ∙ c.in-Ok.ensures.leaves.release))
+    (ap (λ (r : ReleaseValue). r.after) (c.release.view_is ∙ c.in-Ok.ensures.leaves.release))
 
 pub returns-clause-step : goal.returns-clause-step
 returns-clause-step c = rw (← c.self.view_is) c.in-Ok.ensures.step
@@ -41,37 +47,43 @@ pub returns-clause-others : goal.returns-clause-others
 returns-clause-others c = rw (← c.self.view_is) (settled_others c.self.inside.book c.commit.new.self
     c.self.inside.shards c.fill_all.new.shards
     c.free_all.new.shards c.args.finished (record {
-      id = c.in-Ok.committed.id;
-      view = c.in-Ok.committed.view;
+      id = c.release.inside.id;
+      view = c.release.inside.view;
       done = c.written_shards-written.result;
-      after = Ended;
+      after = c.release.inside.after;
     }) c.self.invariant (rw (← c.self.view_is) at c.requires) c.is_finished.ensures.promised c.run.ensures.run
     c.in-Ok.ensures.commits (map write_value c.in-Ok.committed.writes.items) c.fill_all.ensures c.free_all.ensures
-    c.in-Ok.ensures.leaves.writes c.in-Ok.ensures.leaves.id c.in-Ok.ensures.leaves.view refl)
+    c.in-Ok.ensures.leaves.writes (ap (λ (r : ReleaseValue). r.id) (c.release.view_is ∙ c.in-Ok.ensures.leaves.release))
+    (ap (λ (r : ReleaseValue). r.view) (c.release.view_is ∙ c.in-Ok.ensures.leaves.release))
+    (ap (λ (r : ReleaseValue). r.after) (c.release.view_is ∙ c.in-Ok.ensures.leaves.release)))
 
 pub returns-clause-counters : goal.returns-clause-counters
 returns-clause-counters c = rw (← c.self.view_is) (settled_counters c.self.inside.book c.commit.new.self
     c.self.inside.shards c.fill_all.new.shards
     c.free_all.new.shards c.args.finished (record {
-      id = c.in-Ok.committed.id;
-      view = c.in-Ok.committed.view;
+      id = c.release.inside.id;
+      view = c.release.inside.view;
       done = c.written_shards-written.result;
-      after = Ended;
+      after = c.release.inside.after;
     }) c.self.invariant (rw (← c.self.view_is) at c.requires) c.is_finished.ensures.promised c.run.ensures.run
     c.in-Ok.ensures.commits (map write_value c.in-Ok.committed.writes.items) c.fill_all.ensures c.free_all.ensures
-    c.in-Ok.ensures.leaves.writes c.in-Ok.ensures.leaves.id c.in-Ok.ensures.leaves.view refl)
+    c.in-Ok.ensures.leaves.writes (ap (λ (r : ReleaseValue). r.id) (c.release.view_is ∙ c.in-Ok.ensures.leaves.release))
+    (ap (λ (r : ReleaseValue). r.view) (c.release.view_is ∙ c.in-Ok.ensures.leaves.release))
+    (ap (λ (r : ReleaseValue). r.after) (c.release.view_is ∙ c.in-Ok.ensures.leaves.release)))
 
 pub returns-clause-leaving : goal.returns-clause-leaving
 returns-clause-leaving c = settled_leaving c.self.inside.book c.commit.new.self c.self.inside.shards
     c.fill_all.new.shards
     c.free_all.new.shards c.args.finished (record {
-      id = c.in-Ok.committed.id;
-      view = c.in-Ok.committed.view;
+      id = c.release.inside.id;
+      view = c.release.inside.view;
       done = c.written_shards-written.result;
-      after = Ended;
+      after = c.release.inside.after;
     }) c.self.invariant (rw (← c.self.view_is) at c.requires) c.is_finished.ensures.promised c.run.ensures.run
     c.in-Ok.ensures.commits (map write_value c.in-Ok.committed.writes.items) c.fill_all.ensures c.free_all.ensures
-    c.in-Ok.ensures.leaves.writes c.in-Ok.ensures.leaves.id c.in-Ok.ensures.leaves.view refl
+    c.in-Ok.ensures.leaves.writes (ap (λ (r : ReleaseValue). r.id) (c.release.view_is ∙ c.in-Ok.ensures.leaves.release))
+    (ap (λ (r : ReleaseValue). r.view) (c.release.view_is ∙ c.in-Ok.ensures.leaves.release))
+    (ap (λ (r : ReleaseValue). r.after) (c.release.view_is ∙ c.in-Ok.ensures.leaves.release))
 
 -- the call is at its place as it came
 pub returns-clause-keeps : goal.returns-clause-keeps
