@@ -1,5 +1,5 @@
 -- What a record is answered: its fault, its refusal, or the reply of its step.
-use Rattle.std.proofs.Common.{◌≡◌, ℕ, ◌+◌, List, [], ◌∷◌, length, Bool, true, false, cond, Option, Some, None, IsSome, IfSome, Result, Ok, Err, IfOk, OnErr, ◌≢◌, inl, inr, refl, sym, ◌∙◌, ap, subst, arith}
+use Rattle.std.proofs.Common.{◌≡◌, ℕ, ◌+◌, List, [], ◌∷◌, ◌++◌, length, Bool, true, false, cond, Option, Some, None, IsSome, IfSome, Result, Ok, Err, IfOk, OnErr, ◌≢◌, inl, inr, refl, sym, ◌∙◌, ap, subst, arith}
 use Rattle.std.specs.declared.alloc.AllocError.{AllocError}
 use Rattle.std.specs.declared.alloc.Global.{Global}
 use Rattle.std.specs.declared.vec.Vec.{Vec}
@@ -19,6 +19,7 @@ use Rattle.nfs_engine.specs.Answers.{answer_bytes, answer_of}
 use Rattle.nfs_engine.specs.Arrivals.{ArrivalValue, IsArrival, IsFaultAnswer, IsReading}
 use Rattle.nfs_engine.specs.Asked.{IsAsked}
 use Rattle.nfs_engine.specs.Book.{BookValue, Repeats, StandsFor, TakesEra, store_in}
+use Rattle.nfs_engine.specs.Commits.{record_of}
 use Rattle.nfs_engine.specs.Engine.{EngineValue, held_among}
 use Rattle.nfs_engine.specs.Repeats.{Keeps, RepeatValue, kept_for, origin_in, origin_of}
 use Rattle.nfs_engine.specs.Running.{running_at}
@@ -31,7 +32,8 @@ use Rattle.nfs_engine.specs.declared.journal.Receipt.{Receipt}
 use Rattle.nfs_engine.specs.declared.records.Era.{Era}
 use Rattle.nfs_schedule.specs.Executions.{Answers, Executed}
 use Rattle.nfs_schedule.specs.Answers.{reply_bytes}
-use Rattle.nfs_schedule.specs.Served.{ExecutesNothing, IsAnswered, StandsAt}
+use Rattle.nfs_schedule.proofs.Eras.{keeps_era, keeps_join, keeps_one, keeps_records, keeps_same}
+use Rattle.nfs_schedule.specs.Served.{ExecutesNothing, HasEraRoom, IsAnswered, KeepsSetting, StandsAt}
 use Rattle.nfs_schedule.specs.Serving.{AnswersArrival, Standing, lists_with}
 use Rattle.nfs_schedule.specs.Turns.{KeepsStore}
 use Rattle.nfs_schedule.specs.Worlds.{IsAtRest}
@@ -40,10 +42,16 @@ use Rattle.nfs_schedule.specs.declared.answer.Answer.TheVariants as answers
 use Rattle.nfs_schedule.specs.declared.answer.Declined.{Declined}
 
 -- ---- nothing is executed
+-- store and records stay
+keeps_stored : (e f : EngineValue) → KeepsStore e f → KeepsSetting e f
+keeps_stored e f keeps =
+    keeps_records e f (ap (λ (b : BookValue). b.setting) keeps) (ap (λ (b : BookValue). b.era_records) keeps)
+    (ap (λ (b : BookValue). b.records) keeps)
+
 pub keeps_nothing : (e f : EngineValue) → KeepsStore e f → ExecutesNothing e f
 keeps_nothing e f keeps = record {
+  keeps = keeps_stored e f keeps;
   objects = ap (λ (b : BookValue). b.objects) keeps;
-  setting = ap (λ (b : BookValue). b.setting) keeps;
   outbox = ap (λ (b : BookValue). b.outbox) keeps;
   replies = ap (λ (b : BookValue). b.replies) keeps;
   count = ap (λ (b : BookValue). b.before + length b.records) keeps;
@@ -51,8 +59,8 @@ keeps_nothing e f keeps = record {
 
 pub same_nothing : (e f : EngineValue) → f ≡ e → ExecutesNothing e f
 same_nothing e f same = record {
+  keeps = keeps_same e f same;
   objects = ap (λ (x : EngineValue). x.book.objects) same;
-  setting = ap (λ (x : EngineValue). x.book.setting) same;
   outbox = ap (λ (x : EngineValue). x.book.outbox) same;
   replies = ap (λ (x : EngineValue). x.book.replies) same;
   count = ap (λ (x : EngineValue). x.book.before + length x.book.records) same;
@@ -60,8 +68,8 @@ same_nothing e f same = record {
 
 pub nothing_join : (e f g : EngineValue) → ExecutesNothing e f → ExecutesNothing f g → ExecutesNothing e g
 nothing_join e f g a b = record {
+  keeps = keeps_join e f g a.keeps b.keeps;
   objects = b.objects ∙ a.objects;
-  setting = b.setting ∙ a.setting;
   outbox = b.outbox ∙ a.outbox;
   replies = b.replies ∙ a.replies;
   count = b.count ∙ a.count;
@@ -71,8 +79,8 @@ nothing_join e f g a b = record {
 module _ (e f : EngineValue) (era : Era) (takes : TakesEra e.book f.book era) (shards : f.shards ≡ e.shards) where
   pub era_nothing : ExecutesNothing e f
   era_nothing = record {
+    keeps = keeps_era e f era takes;
     objects = ap (λ (b : BookValue). b.objects) takes.rest;
-    setting = ap (λ (b : BookValue). b.setting) takes.rest;
     outbox = ap (λ (b : BookValue). b.outbox) takes.rest;
     replies = ap (λ (b : BookValue). b.replies) takes.rest;
     count = omega (arith, ap (λ (b : BookValue). b.before) takes.rest, ap (λ (b : BookValue). length b.records) takes.rest);
@@ -105,7 +113,7 @@ early_answered e f a faulted is x =
     let fault : IsFaultAnswer a.received.bytes (answer_of faulted.answer) =
     subst (λ (r : Reading). IsReading a.received.bytes r) x.0 is.reading in
     record {
-      setting = ap (λ (y : EngineValue). y.book.setting) x.2;
+      keeps = keeps_same e f x.2;
       each = λ m stands. (
         [],
         m,
@@ -131,7 +139,7 @@ module _ (a : ArrivalValue) (asked : Asked) (is : IsAsked a.received.bytes asked
   refused_bytes : (e f : EngineValue) (bytes : List ℕ) → KeepsStore e f →
       bytes ≡ refusal_message asked.xid (refusal_of asked.call) → IsAnswered (FromHost a.received) e f bytes
   refused_bytes e f bytes keeps answered = record {
-    setting = ap (λ (b : BookValue). b.setting) keeps;
+    keeps = keeps_stored e f keeps;
     each = λ m stands. (
       [],
       m,
@@ -184,7 +192,9 @@ module _ (e f : EngineValue) (a : ArrivalValue) (kept : RepeatValue) (is : IsArr
 
   pub repeated_answered : IsAnswered (FromHost a.received) e f kept.reply
   repeated_answered = record {
-    setting = ap (λ (b : BookValue). b.setting) x.rest;
+    keeps =
+        keeps_records e f (ap (λ (b : BookValue). b.setting) x.rest)
+        (ap (λ (b : BookValue). b.era_records) x.rest) (ap (λ (b : BookValue). b.records) x.rest);
     each = λ s at. (
       [],
       record s { lists = lists_after s.capacity (Repeated a.received.host a.received.bytes) s.lists },
@@ -257,10 +267,16 @@ module _ (e f : EngineValue) (a : ArrivalValue) (receipt : Receipt) (is : IsArri
       subst (λ (c : Call). IfSome (origin_of a.received c) (λ origin. kept_for e.book.replies origin ≡ None))
       (sym x.call) x.unkept
 
-  pub executed_answered : IsAnswered (FromHost a.received) e f receipt.answer
-  executed_answered = record {
-    setting =
-        ap (λ (b : BookValue). b.setting) x.executes.commits.rest ∙ ap (λ (b : BookValue). b.setting) x.begins;
+  pub executed_answered : HasEraRoom e → IsAnswered (FromHost a.received) e f receipt.answer
+  executed_answered room = record {
+    keeps =
+        keeps_one e f (record_of x.done)
+        (ap (λ (b : BookValue). b.setting) x.executes.commits.rest ∙ ap (λ (b : BookValue). b.setting) x.begins)
+        (ap (λ (b : BookValue). b.era_records) x.executes.commits.rest
+        ∙ ap (λ (b : BookValue). b.era_records) x.begins)
+        (ap (λ (b : BookValue). b.records) x.executes.commits.rest
+        ∙ ap (λ (b : BookValue). b.records ++ record_of x.done ∷ []) x.begins)
+        room;
     each = λ s at.
         let (after, step, then) = x.executes.step s.state
         (state_on e x.begun s.state (ap (λ (b : BookValue). b.objects) x.begins) at.stands) in (
@@ -317,15 +333,15 @@ some_bytes None some = cc
 some_bytes (Some bytes) some = (bytes, refl)
 
 pub told_answered : (e f : EngineValue) (a : ArrivalValue) (answer : Answer) → IsArrival a →
-    Answers e f a answer → IsTold answer → IsAnswered (FromHost a.received) e f (reply_bytes answer)
-told_answered e f a (answers.Executed receipt) is x told = executed_answered e f a receipt is x
-told_answered e f a (answers.Repeated kept) is x told = repeated_answered e f a kept is x
-told_answered e f a (answers.Refused declined) is x told =
+    HasEraRoom e → Answers e f a answer → IsTold answer → IsAnswered (FromHost a.received) e f (reply_bytes answer)
+told_answered e f a (answers.Executed receipt) is room x told = executed_answered e f a receipt is x room
+told_answered e f a (answers.Repeated kept) is room x told = repeated_answered e f a kept is x
+told_answered e f a (answers.Refused declined) is room x told =
     let (bytes, some) = some_bytes declined.answer told in
     subst (λ (o : Option (Vec ℕ Global)). IsAnswered (FromHost a.received) e f (answer_bytes o)) (sym some)
     (refused_answered e f a declined bytes is x some)
-told_answered e f a (answers.Early faulted) is x told = early_answered e f a faulted is x
-told_answered e f a (answers.Unanswered received) is x told = absurd x
+told_answered e f a (answers.Early faulted) is room x told = early_answered e f a faulted is x
+told_answered e f a (answers.Unanswered received) is room x told = absurd x
 
 -- ---- the record of an arrival
 pub answered_as : (e f : EngineValue) (received came : Received) (answer : List ℕ) → received ≡ came →
@@ -336,27 +352,27 @@ answered_as e f received came answer same = subst (λ (r : Received). IsAnswered
 pub answered_after : (e f g : EngineValue) (arrival : Arrival) (answer : List ℕ) → ExecutesNothing e f →
     IsAnswered arrival f g answer → IsAnswered arrival e g answer
 answered_after e f g arrival answer nothing a = record {
-  setting = a.setting ∙ nothing.setting;
+  keeps = keeps_join e f g nothing.keeps a.keeps;
   each = λ m stands.
       let (records, after, answers, then) = a.each m (stands_on e f m nothing.objects nothing.replies stands) in (
         records,
         after,
-        subst (λ (s : Setting). AnswersArrival s m arrival answer records after) nothing.setting answers,
+        subst (λ (s : Setting). AnswersArrival s m arrival answer records after) nothing.keeps.setting answers,
         then,
       );
 }
 
 -- a refusal that was told
 pub told_refusal : (e f : EngineValue) (a : ArrivalValue) (came : Received) (declined : Declined) →
-    a.received ≡ came → IsArrival a → Answers e f a (answers.Refused declined) →
+    a.received ≡ came → IsArrival a → HasEraRoom e → Answers e f a (answers.Refused declined) →
     (r : Result Answer AllocError) →
     IfOk r (λ answer. (answer ≡ answers.Refused declined) × IsSome declined.answer) →
     IfOk r (λ answer. IsAnswered (FromHost came) e f (reply_bytes answer))
-told_refusal e f a came declined same is x (Ok answer) told =
+told_refusal e f a came declined same is room x (Ok answer) told =
     subst (λ (y : Answer). IsAnswered (FromHost came) e f (reply_bytes y)) (sym told.0)
     (answered_as e f a.received came (answer_bytes declined.answer) same
-    (told_answered e f a (answers.Refused declined) is x told.1))
-told_refusal e f a came declined same is x (Err error) told = tt
+    (told_answered e f a (answers.Refused declined) is room x told.1))
+told_refusal e f a came declined same is room x (Err error) told = tt
 
 -- nothing was executed where it was not told
 pub untold_nothing : (e f : EngineValue) (a : ArrivalValue) (declined : Declined) →

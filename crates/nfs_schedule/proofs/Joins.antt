@@ -1,12 +1,15 @@
 -- Answering one list of records and then another answers both: arrivals, moments, answers and runs follow one another.
 use Rattle.std.proofs.Common.{ℕ, List, [], ◌∷◌, ◌++◌, Option, Some, None, inl, inr, refl, sym, ◌∙◌, ap, subst, append_assoc, append-nil}
+use Rattle.std.proofs.KnownBytes.{Appends-nil, Appends-trans}
 use Rattle.std.specs.Io.KnownBytes.{Appends}
 use Rattle.nfs_machine.specs.Run.{Setting, Arrival, FromHost, Record, Run}
 use Rattle.nfs_machine.specs.declared.moment.Moment.{Moment}
 use Rattle.nfs_machine.proofs.Runs.{run-append}
 use Rattle.nfs_engine.specs.Engine.{EngineValue}
 use Rattle.nfs_schedule.specs.Serving.{AreFrom, AnswersArrival, Serves, Standing, Ticks}
-use Rattle.nfs_schedule.specs.Served.{StandsAt, Answered, AreAnswered, EndsBy, AreServed, EndsByFault, IsAnswered}
+use Rattle.nfs_schedule.specs.Served.{StandsAt, Answered, AreAnswered, EndsBy, AreServed, EndsByFault, IsAnswered, KeepsSetting}
+use Rattle.nfs_schedule.specs.declared.serving.StreamFault.TheVariants.{Read, Write, TooLarge, Memory}
+use Rattle.nfs_schedule.proofs.Eras.{keeps_join, keeps_none, keeps_same}
 use Rattle.nfs_schedule.specs.declared.serving.StreamFault.{StreamFault}
 
 -- an answer adds one step or none
@@ -56,16 +59,6 @@ served_join setting first mid last (arrival ∷ earlier) later w x r s (answer, 
   served_join setting next mid last earlier later others x then s serves b,
 )
 
-pub appends_join : (a b c : Option (List ℕ)) (w x : List ℕ) → Appends a b w → Appends b c x → Appends a c (w ++ x)
-appends_join None b c w x p q = tt
-appends_join (Some s) None c w x p q = absurd p
-appends_join (Some s) (Some t) None w x p q = absurd q
-appends_join (Some s) (Some t) (Some u) w x p q = q ∙ ap (λ l. l ++ x) p ∙ append_assoc s w x
-
-pub appends_nothing : (a : Option (List ℕ)) → Appends a a []
-appends_nothing None = tt
-appends_nothing (Some x) = sym (append-nil x)
-
 module _ {Clock : Type 0} (gives : Clock → Moment → Clock → Type 0) (host : List ℕ) where
   ticks_join : (first mid last : Clock) (earlier later : List Arrival) → Ticks gives first earlier mid → Ticks gives mid later last → Ticks gives first (earlier ++ later) last
   ticks_join first mid last [] later a b = subst (λ (k : Clock). Ticks gives k later last) a b
@@ -85,7 +78,7 @@ module _ {Clock : Type 0} (gives : Clock → Moment → Clock → Type 0) (host 
       joined m stands =
           let one = a.each m stands in
           let two = b.each one.after one.stands in
-          let served : Serves old.book.setting one.after two.arrivals x two.records two.after = subst (λ (s : Setting). Serves s one.after two.arrivals x two.records two.after) a.setting two.served in
+          let served : Serves old.book.setting one.after two.arrivals x two.records two.after = subst (λ (s : Setting). Serves s one.after two.arrivals x two.records two.after) a.keeps.setting two.served in
           let serves = served_join old.book.setting m one.after two.after one.arrivals two.arrivals w x one.records two.records one.served served in
           record {
             arrivals = one.arrivals ++ two.arrivals;
@@ -99,12 +92,12 @@ module _ {Clock : Type 0} (gives : Clock → Moment → Clock → Type 0) (host 
           }
 
       pub answered_join : AreAnswered gives host (c ++ d) first last old newest (w ++ x)
-      answered_join = record { setting = b.setting ∙ a.setting; each = joined }
+      answered_join = record { keeps = keeps_join old new newest a.keeps b.keeps; each = joined }
 
   -- nothing came, and nothing is answered
   pub answered_nothing : (clock : Clock) (engine : EngineValue) → AreAnswered gives host [] clock clock engine engine []
   answered_nothing clock engine = record {
-    setting = refl;
+    keeps = keeps_none engine;
     each = λ m stands. record {
       arrivals = [];
       records = [];
@@ -121,7 +114,7 @@ module _ {Clock : Type 0} (gives : Clock → Moment → Clock → Type 0) (host 
       → AreServed gives host [] clock clock engine engine written written
   goes_nothing clock engine written = record {
     answers = [];
-    written = appends_nothing written;
+    written = Appends-nil written;
     answered = answered_nothing clock engine;
   }
 
@@ -130,7 +123,7 @@ module _ {Clock : Type 0} (gives : Clock → Moment → Clock → Type 0) (host 
       → AreServed gives host (c ++ d) first last old newest before after
   goes_join first mid last c d old new newest before now after a b = record {
     answers = a.answers ++ b.answers;
-    written = appends_join before now after a.answers b.answers a.written b.written;
+    written = Appends-trans before now after a.answers b.answers a.written b.written;
     answered = answered_join first mid last c d old new newest a.answers b.answers a.answered b.answered;
   }
 
@@ -147,7 +140,7 @@ module _ {Clock : Type 0} (gives : Clock → Moment → Clock → Type 0) (host 
     sent = a.answers ++ b.sent;
     unsent = b.unsent;
     whole = ap (λ l. c ++ l) b.whole ∙ sym (append_assoc c b.first b.others);
-    written = appends_join before now after a.answers b.sent a.written b.written;
+    written = Appends-trans before now after a.answers b.sent a.written b.written;
     answered = subst (λ (w : List ℕ). AreAnswered gives host (c ++ b.first) first b.mid old b.between w)
         (sym (append_assoc a.answers b.sent b.unsent))
         (answered_join first mid b.mid c b.first old new b.between a.answers (b.sent ++ b.unsent) a.answered b.answered);
@@ -155,7 +148,7 @@ module _ {Clock : Type 0} (gives : Clock → Moment → Clock → Type 0) (host 
   }
 
   -- a fault after all of these records
-  pub goes_stops : (fault : StreamFault) (first last : Clock) (c : List (List ℕ)) (old new : EngineValue) (before after : Option (List ℕ)) → EndsBy gives fault [] [] last last new new
+  abbrev pub goes_stops : (fault : StreamFault) (first last : Clock) (c : List (List ℕ)) (old new : EngineValue) (before after : Option (List ℕ)) → EndsBy gives fault [] [] last last new new
       → AreServed gives host c first last old new before after
       → EndsByFault gives host fault c first last old new before after
   goes_stops fault first last c old new before after ends a = record {
@@ -179,7 +172,7 @@ module _ {Clock : Type 0} (gives : Clock → Moment → Clock → Type 0) (host 
   one_answered first last moment bytes old new answer ticked a =
       let arrival : Arrival = FromHost (record { host = host; bytes = bytes; moment = moment }) in
       record {
-        setting = a.setting;
+        keeps = a.keeps;
         each = λ m stands.
             let (records, after, answers, then) = a.each m stands in
             let serves : Serves old.book.setting m (arrival ∷ []) answer records after = (answer, [], records, [], after, sym (append-nil answer), sym (append-nil records), answers, (refl, refl, refl)) in
@@ -194,3 +187,20 @@ module _ {Clock : Type 0} (gives : Clock → Moment → Clock → Type 0) (host 
               stands = then;
             };
       }
+
+  -- what stays at a fault stays all in all
+  ends_keeps : (fault : StreamFault) (others : List (List ℕ)) (unsent : List ℕ) (clock later : Clock)
+      (old new : EngineValue) → EndsBy gives fault others unsent clock later old new → KeepsSetting old new
+  ends_keeps Read others unsent clock later old new ends = keeps_same old new ends.1.2
+  ends_keeps TooLarge others unsent clock later old new ends = keeps_same old new ends.1.2
+  ends_keeps Write others unsent clock later old new (inl same) = keeps_same old new same.1
+  ends_keeps Write others unsent clock later old new (inr came) = came.nothing.keeps
+  ends_keeps Memory others unsent clock later old new (sent, inl same) = keeps_same old new same.2
+  ends_keeps Memory others unsent clock later old new (sent, inr came) = came.nothing.keeps
+
+  pub stops_keeps : (fault : StreamFault) (contents : List (List ℕ)) (clock later : Clock) (old new : EngineValue)
+      (before after : Option (List ℕ)) →
+      EndsByFault gives host fault contents clock later old new before after → KeepsSetting old new
+  stops_keeps fault contents clock later old new before after s =
+      keeps_join old s.between new s.answered.keeps
+      (ends_keeps fault s.others s.unsent s.mid later s.between new s.ends)

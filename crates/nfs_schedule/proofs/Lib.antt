@@ -3,6 +3,7 @@ pub mod Answering
 pub mod AtRest
 pub mod Built
 pub mod Driven
+pub mod Eras
 pub mod Few
 pub mod Filling
 pub mod Foreseeing

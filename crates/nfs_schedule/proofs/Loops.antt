@@ -2,7 +2,8 @@
 use Rattle.std.proofs.Common.{◌≡◌, ℕ, ◌≤◌, List, [], ◌∷◌, ◌++◌, inl, inr, length, take, drop, take-append-drop, append_assoc, append-nil, Option, Result, Ok, Err, IfErr, OnOk, OnErr, refl, sym, ◌∙◌, ap, subst}
 use Rattle.nfs_schedule.specs.declared.serving.StreamFault.{StreamFault}
 use Rattle.nfs_schedule.specs.declared.serving.StreamFault.TheVariants.{Read, TooLarge, Write, Memory}
-use Rattle.nfs_schedule.proofs.Joins.{answered_join, answered_nothing, appends_join, appends_nothing}
+use Rattle.nfs_schedule.proofs.Joins.{answered_join, answered_nothing}
+use Rattle.std.proofs.KnownBytes.{Appends-nil, Appends-trans}
 use Rattle.std.specs.Io.KnownBytes.{Appends, Consumes}
 use Rattle.nfs_rpc.specs.Records.{RecordsValue, Holds, IsTooLarge}
 use Rattle.nfs_machine.specs.declared.moment.Moment.{Moment}
@@ -26,14 +27,14 @@ writing_more before now later bytes rest left failures fails failed n w more is 
   cut =
       w.cut ∙ ap (λ l. w.sent ++ l) (sym (take-append-drop n rest)) ∙ sym (append_assoc w.sent (take n rest) (drop n rest))
       ∙ ap (λ l. (w.sent ++ take n rest) ++ l) (sym is);
-  written = appends_join before now later w.sent (take n rest) w.written more;
+  written = Appends-trans before now later w.sent (take n rest) w.written more;
   same = same ∙ w.same;
 }
 
 -- ---- gathering
 -- a beginning of nothing more
 pub part_none : (before : Option (List ℕ)) (bytes : List ℕ) → WritesPart before before bytes
-part_none before bytes = record { sent = []; unsent = bytes; whole = refl; written = appends_nothing before }
+part_none before bytes = record { sent = []; unsent = bytes; whole = refl; written = Appends-nil before }
 
 -- a beginning of what comes first
 pub part_first : (before after : Option (List ℕ)) (held answer : List ℕ) → WritesPart before after held →
@@ -52,7 +53,7 @@ part_then before now after held answer a p = record {
   sent = held ++ p.sent;
   unsent = p.unsent;
   whole = ap (λ l. held ++ l) p.whole ∙ sym (append_assoc held p.sent p.unsent);
-  written = appends_join before now after held p.sent a p.written;
+  written = Appends-trans before now after held p.sent a p.written;
 }
 
 -- all was written, and nothing is gathered
@@ -61,7 +62,7 @@ pub puts_sent : (before now after : Option (List ℕ)) (held kept answer : List 
 puts_sent before now after held kept answer a b none = record {
   sent = held ++ answer;
   whole = sym (append-nil (held ++ answer)) ∙ ap (λ l. (held ++ answer) ++ l) (sym none);
-  written = appends_join before now after held answer a b;
+  written = Appends-trans before now after held answer a b;
 }
 
 -- it was gathered, and then all was written
@@ -76,7 +77,7 @@ puts_all before after held now kept answer is a none = record {
 -- it was gathered
 pub puts_gathered : (before : Option (List ℕ)) (held kept answer : List ℕ) → kept ≡ held ++ answer →
     Puts before before held kept answer
-puts_gathered before held kept answer is = record { sent = []; whole = sym is; written = appends_nothing before }
+puts_gathered before held kept answer is = record { sent = []; whole = sym is; written = Appends-nil before }
 
 -- a beginning of what was gathered
 pub part_held : (before after : Option (List ℕ)) (was held answer : List ℕ) → was ≡ held →
@@ -194,7 +195,7 @@ answering_none gives host first old before initial held failures none = record {
   served = [];
   cut = refl;
   sent = [];
-  written = appends_nothing before;
+  written = Appends-nil before;
   answered = subst (λ (w : List ℕ). AreAnswered gives host [] first first old old w) (sym none)
       (answered_nothing gives host first old);
   holds = λ stream given holds. subst (λ (l : List (List ℕ)). Holds initial stream l) (sym (append-nil given)) holds;
@@ -224,7 +225,7 @@ module _ {Clock : Type 0} (gives : Clock → Moment → Clock → Type 0) (host 
     served = a.served ++ r ∷ [];
     cut = a.cut ∙ ap (λ (v : RecordsValue). a.served ++ v.queued) is ∙ sym (append_assoc a.served (r ∷ []) left.queued);
     sent = a.sent ++ adds.puts.sent;
-    written = appends_join before now after a.sent adds.puts.sent a.written adds.puts.written;
+    written = Appends-trans before now after a.sent adds.puts.sent a.written adds.puts.written;
     answered =
         subst (λ (w : List ℕ). AreAnswered gives host (a.served ++ r ∷ []) first later old next w)
         (ap (λ l. a.sent ++ l) adds.puts.whole ∙ sym (append_assoc a.sent adds.puts.sent kept))
@@ -250,7 +251,7 @@ module _ {Clock : Type 0} (gives : Clock → Moment → Clock → Type 0) (host 
       sent = a.sent ++ c.part.sent;
       unsent = c.part.unsent;
       whole = whole ∙ sym (append_assoc a.served (r ∷ []) left.queued);
-      written = appends_join before now after a.sent c.part.sent a.written c.part.written;
+      written = Appends-trans before now after a.sent c.part.sent a.written c.part.written;
       answered =
           subst (λ (w : List ℕ). AreAnswered gives host (a.served ++ r ∷ []) first later old next w)
           (ap (λ l. a.sent ++ l) c.part.whole ∙ sym (append_assoc a.sent c.part.sent c.part.unsent))
@@ -281,7 +282,7 @@ module _ {Clock : Type 0} (gives : Clock → Moment → Clock → Type 0) (host 
       sent = a.sent ++ p.sent;
       unsent = p.unsent;
       whole = whole;
-      written = appends_join before now after a.sent p.sent a.written p.written;
+      written = Appends-trans before now after a.sent p.sent a.written p.written;
       answered =
           subst (λ (w : List ℕ). AreAnswered gives host a.served first clock old engine w)
           (ap (λ l. a.sent ++ l) p.whole ∙ sym (append_assoc a.sent p.sent p.unsent)) a.answered;
@@ -314,7 +315,7 @@ module _ {Clock : Type 0} (gives : Clock → Moment → Clock → Type 0) (host 
       (sym all_served)
       (record {
         answers = a.sent ++ held;
-        written = appends_join before now after a.sent held a.written more;
+        written = Appends-trans before now after a.sent held a.written more;
         answered = a.answered;
       })
 
@@ -340,7 +341,7 @@ module _ {Clock : Type 0} (gives : Clock → Moment → Clock → Type 0) (host 
     sent = a.sent ++ p.sent;
     unsent = p.unsent;
     whole = all_served ∙ sym (append-nil a.served);
-    written = appends_join before now after a.sent p.sent a.written p.written;
+    written = Appends-trans before now after a.sent p.sent a.written p.written;
     answered =
         subst (λ (w : List ℕ). AreAnswered gives host a.served first clock old engine w)
         (ap (λ l. a.sent ++ l) p.whole ∙ sym (append_assoc a.sent p.sent p.unsent)) a.answered;

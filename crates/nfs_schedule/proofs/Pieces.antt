@@ -1,43 +1,50 @@
 -- A piece that is taken in follows what was taken in before, and its records follow those that were answered.
 use Rattle.std.proofs.Common.{◌≡◌, ◌≢◌, ℕ, ◌+◌, ◌<◌, ◌≤◌, ◌⊎◌, inl, inr, List, [], ◌∷◌, ◌++◌, length, length-append, Option, Some, None, Result, Err, refl, sym, ◌∙◌, ap, subst, append_assoc, append-nil, arith}
+use Rattle.std.proofs.KnownBytes.{Consumes-kept, Consumes-nil, Consumes-trans}
 use Rattle.std.specs.Io.KnownBytes.{Consumes, IsAtEnd}
 use Rattle.nfs_rpc.specs.Records.{RecordsValue, Holds, IsStream, IsTooLarge}
 use Rattle.nfs_rpc.specs.Streams.{one_more}
 use Rattle.nfs_machine.specs.declared.moment.Moment.{Moment}
 use Rattle.nfs_engine.specs.Engine.{EngineValue}
-use Rattle.nfs_schedule.specs.Served.{EndsBy, AreServed, IsFaultOf, EndsByFault, ServesAll, ServesFront}
-use Rattle.nfs_schedule.specs.Taken.{FollowsOn, TakesPiece, TakesIn}
+use Rattle.nfs_schedule.specs.Served.{EndsBy, AreServed, IsFaultOf, EndsByFault, LeavesOut, ServesAll, ServesFront}
+use Rattle.nfs_schedule.specs.Taken.{FollowsOn, LeavesPiece, TakesPiece, TakesIn}
 use Rattle.nfs_schedule.specs.declared.serving.Served.{Served}
 use Rattle.nfs_schedule.specs.declared.serving.Taken.{Taken}
 use Rattle.nfs_schedule.specs.declared.serving.Taken.TheVariants.{End, Piece, Refused}
 use Rattle.nfs_schedule.specs.declared.serving.StreamFault.{StreamFault}
 use Rattle.nfs_schedule.specs.declared.serving.StreamFault.TheVariants.{Read, Write, TooLarge, Memory}
+use Rattle.nfs_schedule.specs.declared.serving.TheConstants.{BUFFER_SIZE}
 use Rattle.nfs_schedule.proofs.Joins.{goes_nothing, goes_join, stops_join, goes_stops}
 use Rattle.nfs_schedule.proofs.Loops.{Taking}
 
-consumes_join : (a b c : Option (List ℕ)) (w x : List ℕ) → Consumes a b w → Consumes b c x → Consumes a c (w ++ x)
-consumes_join None b c w x p q = tt
-consumes_join (Some s) None c w x p q = absurd p
-consumes_join (Some s) (Some t) None w x p q = absurd q
-consumes_join (Some s) (Some t) (Some u) w x p q = p ∙ ap (λ l. w ++ l) q ∙ sym (append_assoc w x u)
-
-pub consumes_nothing : (a : Option (List ℕ)) → Consumes a a []
-consumes_nothing None = tt
-consumes_nothing (Some x) = refl
-
--- what was taken in is a front of the input
-ahead_of : (unread left : Option (List ℕ)) (input fed : List ℕ) → Consumes unread left fed → unread ≡ Some input → (ahead : List ℕ) × (input ≡ fed ++ ahead)
-ahead_of None left input fed read is = cc
-ahead_of (Some x) None input fed read is = absurd read
-ahead_of (Some x) (Some y) input fed read is = (y, (let same : x ≡ input = cc in sym same ∙ read))
+-- what was read is a front of the input
+read_of : (unread left : Option (List ℕ)) (input fed : List ℕ) → Consumes unread left fed → unread ≡ Some input →
+    Consumes (Some input) left fed
+read_of unread left input fed read is = subst (λ (u : Option (List ℕ)). Consumes u left fed) is read
 
 -- at the end of the input it is all of it
-whole_of : (unread left : Option (List ℕ)) (input fed : List ℕ) → Consumes unread left fed → IsAtEnd left → unread ≡ Some input → fed ≡ input
+whole_of : (unread left : Option (List ℕ)) (input fed : List ℕ) → Consumes unread left fed → IsAtEnd left →
+    unread ≡ Some input → fed ≡ input
 whole_of None left input fed read end is = cc
 whole_of (Some x) None input fed read end is = absurd read
 whole_of (Some x) (Some y) input fed read end is =
     let same : x ≡ input = cc in
     sym (append-nil fed) ∙ ap (λ l. fed ++ l) (sym end) ∙ sym read ∙ same
+
+-- no piece is left out
+leaves_none : (fault : StreamFault) (others : List (List ℕ)) → LeavesOut fault [] others
+leaves_none Read others = refl
+leaves_none Write others = refl
+leaves_none TooLarge others = refl
+leaves_none Memory others = inl refl
+
+-- the piece that is left out at a fault, where no record is left
+piece_of : (fault : StreamFault) (left later : Option (List ℕ)) → LeavesPiece fault BUFFER_SIZE left later →
+    (piece : List ℕ) × Consumes left later piece × LeavesOut fault piece []
+piece_of Read left later keeps = ([], Consumes-kept left left later [] (Consumes-nil left) keeps, refl)
+piece_of Write left later keeps = ([], Consumes-kept left left later [] (Consumes-nil left) keeps, refl)
+piece_of TooLarge left later keeps = ([], Consumes-kept left left later [] (Consumes-nil left) keeps, refl)
+piece_of Memory left later (piece, most, read) = (piece, read, inr (most, refl))
 
 pub more_of : (taken : Taken) (old new : RecordsValue) (piece : List ℕ) (left : Option (List ℕ)) → taken ≢ End → TakesIn taken old new piece left → (0 < length piece) × FollowsOn old new piece
 more_of End old new piece left more t = absurd (more refl)
@@ -54,18 +61,23 @@ taken_within Refused old new piece left more other t = absurd (other refl)
 module _ {Clock : Type 0} (gives : Clock → Moment → Clock → Type 0) (host : List ℕ) (first clock : Clock) (old engine : EngineValue) (before now unread left : Option (List ℕ))
     (records : RecordsValue) (reads reading readings writing writings : ℕ) (t : Taking gives host first clock old engine before now unread left records reads reading readings writing writings) where
   -- a fault before the next piece
-  pub fault_taking : (fault : StreamFault) → EndsBy gives fault [] [] clock clock engine engine → IsFaultOf fault t.fed → (input : List ℕ) → unread ≡ Some input
-      → ServesFront gives host input fault first clock old engine before now
-  fault_taking fault ends is_fault input is =
-      let front = ahead_of unread left input t.fed t.read is in
+  pub fault_taking : (fault : StreamFault) (later : Option (List ℕ)) →
+      EndsBy gives fault [] [] clock clock engine engine → IsFaultOf fault t.fed →
+      LeavesPiece fault BUFFER_SIZE left later → (input : List ℕ) → unread ≡ Some input →
+      ServesFront gives host input later fault first clock old engine before now
+  fault_taking fault later ends is_fault leaves input is =
+      let (piece, read, out) = piece_of fault left later leaves in
       record {
         fed = t.fed;
-        ahead = front.0;
+        piece = piece;
         contents = t.given;
         rest = t.holds.rest;
-        front = front.1;
-        split = subst (λ (q : List (List ℕ)). IsStream t.fed q t.holds.rest) (ap (λ l. t.given ++ l) t.none ∙ append-nil t.given) t.holds.split;
+        read = read_of unread later input (t.fed ++ piece) (Consumes-trans unread left later t.fed piece t.read read) is;
+        split =
+            subst (λ (q : List (List ℕ)). IsStream t.fed q t.holds.rest)
+            (ap (λ l. t.given ++ l) t.none ∙ append-nil t.given) t.holds.split;
         stops = goes_stops gives host fault first clock t.given old engine before now ends t.goes;
+        leaves_out = out;
         is_fault = is_fault;
       }
 
@@ -73,7 +85,7 @@ module _ {Clock : Type 0} (gives : Clock → Moment → Clock → Type 0) (host 
       → (input : List ℕ) → unread ≡ Some input → ServesAll gives host input first clock old engine before now
   all_taken fuller ahead taken input is =
       let read = subst (λ (p : List ℕ). Consumes left ahead p) taken.takes.0 taken.read in
-      let whole = whole_of unread ahead input (t.fed ++ []) (consumes_join unread left ahead t.fed [] t.read read) taken.takes.2 is in
+      let whole = whole_of unread ahead input (t.fed ++ []) (Consumes-trans unread left ahead t.fed [] t.read read) taken.takes.2 is in
       record {
         contents = t.given;
         rest = t.holds.rest;
@@ -93,19 +105,23 @@ module _ {Clock : Type 0} (gives : Clock → Moment → Clock → Type 0) (host 
     pub fault_taken : (fault : StreamFault) (later : Clock) (next : EngineValue) (after : Option (List ℕ))
         → EndsByFault gives host fault fuller.queued clock later engine next now after
         → IsFaultOf fault (t.fed ++ takes.piece)
-        → (input : List ℕ) → unread ≡ Some input → ServesFront gives host input fault first later old next before after
-    fault_taken fault later next after stops is_fault input is =
-        let front = ahead_of unread ahead input (t.fed ++ takes.piece) (consumes_join unread left ahead t.fed takes.piece t.read takes.read) is in
-        record {
-          fed = t.fed ++ takes.piece;
-          ahead = front.0;
-          contents = t.given ++ fuller.queued;
-          rest = follows.rest;
-          front = front.1;
-          split = follows.split;
-          stops = stops_join gives host fault first clock later t.given fuller.queued old engine next before now after t.goes stops;
-          is_fault = is_fault;
-        }
+        → (input : List ℕ) → unread ≡ Some input
+        → ServesFront gives host input ahead fault first later old next before after
+    fault_taken fault later next after stops is_fault input is = record {
+      fed = t.fed ++ takes.piece;
+      piece = [];
+      contents = t.given ++ fuller.queued;
+      rest = follows.rest;
+      read =
+          read_of unread ahead input ((t.fed ++ takes.piece) ++ [])
+          (subst (λ (w : List ℕ). Consumes unread ahead w) (sym (append-nil (t.fed ++ takes.piece)))
+          (Consumes-trans unread left ahead t.fed takes.piece t.read takes.read))
+          is;
+      split = follows.split;
+      stops = stops_join gives host fault first clock later t.given fuller.queued old engine next before now after t.goes stops;
+      leaves_out = leaves_none fault _;
+      is_fault = is_fault;
+    }
 
     -- the piece is taken in, and its records are served
     pub taking_more : taken ≢ Refused
@@ -123,7 +139,7 @@ module _ {Clock : Type 0} (gives : Clock → Moment → Clock → Type 0) (host 
           holds = holds (t.fed ++ takes.piece) t.given follows;
           none = none;
           within = taken_within taken records fuller takes.piece ahead more other takes.takes t.fed t.given t.holds;
-          read = consumes_join unread left ahead t.fed takes.piece t.read takes.read;
+          read = Consumes-trans unread left ahead t.fed takes.piece t.read takes.read;
           goes = goes_join gives host first clock later t.given fuller.queued old engine next before now after t.goes goes;
           many = omega (arith, length-append t.fed takes.piece);
           same_reader = reader ∙ t.same_reader;
@@ -161,7 +177,7 @@ taking_none gives host first old before unread records reading writing holds = r
   holds = holds;
   none = nothing_queued records holds;
   within = none_too_large;
-  read = consumes_nothing unread;
+  read = Consumes-nil unread;
   goes = goes_nothing gives host first old before;
   many = omega arith;
   same_reader = refl;
@@ -203,18 +219,20 @@ pub refused_write : failed TooLarge ≡ failed Write → ⊥
 refused_write e = let f : TooLarge ≡ Write = cc in cc
 
 -- a fault before the first piece
-pub front_none : {Clock : Type 0} (gives : Clock → Moment → Clock → Type 0) (host : List ℕ) (first : Clock) (old : EngineValue) (before : Option (List ℕ)) (records : RecordsValue)
-    → Holds records [] [] → (input : List ℕ) → ServesFront gives host input Memory first first old old before before
-front_none gives host first old before records holds input = record {
+pub front_none : {Clock : Type 0} (gives : Clock → Moment → Clock → Type 0) (host : List ℕ) (first : Clock) (old : EngineValue) (before unread : Option (List ℕ)) (records : RecordsValue)
+    → Holds records [] [] → (input : List ℕ) → unread ≡ Some input →
+    ServesFront gives host input unread Memory first first old old before before
+front_none gives host first old before unread records holds input is = record {
   fed = [];
-  ahead = input;
+  piece = [];
   contents = records.queued;
   rest = holds.rest;
-  front = refl;
+  read = read_of unread unread input [] (Consumes-nil unread) is;
   split = holds.split;
   stops = subst (λ (c : List (List ℕ)). EndsByFault gives host Memory c first first old old before before)
       (sym (nothing_queued records holds))
       (goes_stops gives host Memory first first [] old old before before (refl, inl (refl, refl, refl))
       (goes_nothing gives host first old before));
+  leaves_out = inl refl;
   is_fault = tt;
 }

@@ -1,16 +1,17 @@
 -- What serving the records of a stream comes to.
-use Rattle.std.specs.Prelude.{◌≡◌, ◌⊎◌, ◌+◌, ℕ}
-use Rattle.std.specs.Prelude.{List, [], ◌∷◌, ◌++◌, length, Option}
-use Rattle.std.specs.Io.KnownBytes.{Appends}
+use Rattle.std.specs.Prelude.{◌≡◌, ◌⊎◌, ◌+◌, ◌≤◌, ℕ, false}
+use Rattle.std.specs.Prelude.{List, [], ◌∷◌, ◌++◌, length, Option, Some}
+use Rattle.std.specs.Io.KnownBytes.{Appends, Consumes}
 use Rattle.nfs_rpc.specs.Records.{IsStream, IsTooLarge}
 use Rattle.nfs_machine.specs.Run.{Setting, Arrival, Record, Run}
 use Rattle.nfs_machine.specs.declared.moment.Moment.{Moment}
-use Rattle.nfs_engine.specs.Book.{StandsFor, store_in}
+use Rattle.nfs_engine.specs.Book.{StandsFor, is_full, store_in}
 use Rattle.nfs_engine.specs.Engine.{EngineValue}
 use Rattle.nfs_replies.specs.Replies.{kept_of}
 use Rattle.nfs_schedule.specs.Serving.{AreFrom, AnswersArrival, Serves, Standing, Ticks}
 use Rattle.nfs_schedule.specs.declared.serving.StreamFault.{StreamFault}
 use Rattle.nfs_schedule.specs.declared.serving.StreamFault.TheVariants.{Read, Write, TooLarge, Memory}
+use Rattle.nfs_schedule.specs.declared.serving.TheConstants.{BUFFER_SIZE}
 
 -- the engine's store stands for the state, and these are the replies that it keeps
 pub record StandsAt (e : EngineValue) (s : Standing) : Type 0 where
@@ -18,11 +19,26 @@ pub record StandsAt (e : EngineValue) (s : Standing) : Type 0 where
   pub capacity : s.capacity ≡ e.book.replies.capacity
   pub lists : s.lists ≡ kept_of e.book.replies
 
+-- an era may have a record, and has no more than it may have
+pub record IsWithinEra (e : EngineValue) : Type 0 where
+  pub some : 1 ≤ e.book.era_records
+  pub most : length e.book.records ≤ e.book.era_records
+
+-- the era is not full, or it has no record
+abbrev pub HasEraRoom : EngineValue → Type 0
+HasEraRoom e = (is_full e.book ≡ false) ⊎ (e.book.records ≡ [])
+
+-- what the server was started with stays, and no era gets more records than it may have
+pub record KeepsSetting (old new : EngineValue) : Type 0 where
+  pub setting : new.book.setting ≡ old.book.setting
+  pub era_records : new.book.era_records ≡ old.book.era_records
+  pub era : IsWithinEra old → IsWithinEra new
+
 -- Nothing is executed: the store, what is to be sent, the replies that are kept and how many records there ever were
 -- are as they were. The era may be over, and calls may have come and gone.
 pub record ExecutesNothing (old new : EngineValue) : Type 0 where
+  pub keeps : KeepsSetting old new
   pub objects : new.book.objects ≡ old.book.objects
-  pub setting : new.book.setting ≡ old.book.setting
   pub outbox : new.book.outbox ≡ old.book.outbox
   pub replies : new.book.replies ≡ old.book.replies
   pub count : new.book.before + length new.book.records ≡ old.book.before + length old.book.records
@@ -44,7 +60,7 @@ pub record Answered {Clock : Type 0} (gives : Clock → Moment → Clock → Typ
 -- so from everywhere where the engine stood; what the server was started with stays
 pub record AreAnswered {Clock : Type 0} (gives : Clock → Moment → Clock → Type 0) (host : List ℕ)
     (contents : List (List ℕ)) (clock later : Clock) (old new : EngineValue) (answers : List ℕ) : Type 0 where
-  pub setting : new.book.setting ≡ old.book.setting
+  pub keeps : KeepsSetting old new
   pub each : (before : Standing) → StandsAt old before →
       Answered gives host contents clock later old new answers before
 
@@ -113,22 +129,29 @@ IsFaultOf TooLarge fed = IsTooLarge fed
 IsFaultOf Read fed = IsTooLarge fed → ⊥
 IsFaultOf _ fed = Unit {0}
 
--- a front of the input was taken in, and of its records the first were served
+-- What was read and not taken in. Nothing; but at want of memory it may be one piece, and then no record is left.
+abbrev pub LeavesOut : StreamFault → (piece : List ℕ) (others : List (List ℕ)) → Type 0
+LeavesOut Memory piece others = (piece ≡ []) ⊎ ((length piece ≤ BUFFER_SIZE) × (others ≡ []))
+LeavesOut fault piece others = piece ≡ []
+
+-- What was read of the input is what was taken in, and a piece that was left out. Of the records of what was taken in
+-- the first were served.
 pub record ServesFront {Clock : Type 0} (gives : Clock → Moment → Clock → Type 0) (host input : List ℕ)
-    (fault : StreamFault) (clock later : Clock) (old new : EngineValue)
+    (unread : Option (List ℕ)) (fault : StreamFault) (clock later : Clock) (old new : EngineValue)
     (before after : Option (List ℕ)) : Type 0 where
   pub fed : List ℕ
-  pub ahead : List ℕ
+  pub piece : List ℕ
   pub contents : List (List ℕ)
   pub rest : List ℕ
-  pub front : input ≡ fed ++ ahead
+  pub read : Consumes (Some input) unread (fed ++ piece)
   pub split : IsStream fed contents rest
   pub stops : EndsByFault gives host fault contents clock later old new before after
+  pub leaves_out : LeavesOut fault piece stops.others
   pub is_fault : IsFaultOf fault fed
 
 -- the record is answered so, from everywhere where the engine stood
 pub record IsAnswered (arrival : Arrival) (old new : EngineValue) (answer : List ℕ) : Type 0 where
-  pub setting : new.book.setting ≡ old.book.setting
+  pub keeps : KeepsSetting old new
   pub each : (before : Standing) → StandsAt old before → (records : List Record) × (after : Standing)
       × AnswersArrival old.book.setting before arrival answer records after × StandsAt new after
 

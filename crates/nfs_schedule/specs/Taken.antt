@@ -1,7 +1,9 @@
 -- What taking a piece of the input in does.
-use Rattle.std.specs.Prelude.{◌≡◌, ℕ, ◌<◌, List, [], ◌++◌, length, Option}
-use Rattle.std.specs.Io.KnownBytes.{Consumes, IsAtEnd}
+use Rattle.std.specs.Prelude.{◌≡◌, ℕ, ◌<◌, ◌≤◌, List, [], ◌++◌, length, Option}
+use Rattle.std.specs.Io.KnownBytes.{Consumes, IsAtEnd, Keeps}
 use Rattle.nfs_rpc.specs.Records.{RecordsValue, Holds, IsTooLarge}
+use Rattle.nfs_schedule.specs.declared.serving.StreamFault.{StreamFault}
+use Rattle.nfs_schedule.specs.declared.serving.StreamFault.TheVariants.{Memory}
 use Rattle.nfs_schedule.specs.declared.serving.Taken.{Taken}
 use Rattle.nfs_schedule.specs.declared.serving.Taken.TheVariants.{End, Piece, Refused}
 
@@ -26,3 +28,8 @@ pub record TakesPiece (taken : Taken) (old new : RecordsValue) (before left : Op
   pub piece : List ℕ
   pub read : Consumes before left piece
   pub takes : TakesIn taken old new piece left
+
+-- at want of memory at most one piece was read, and left out; at another fault nothing was read
+abbrev pub LeavesPiece : StreamFault → (most : ℕ) (before left : Option (List ℕ)) → Type 0
+LeavesPiece Memory most before left = (piece : List ℕ) × (length piece ≤ most) × Consumes before left piece
+LeavesPiece fault most before left = Keeps before left

@@ -2,15 +2,17 @@
 
 ghost use Rattle.std.specs.Prelude.{◌≡◌, ℕ, ◌+◌, ◌-◌, ◌^◌, ◌<◌, ◌≤◌, ◌⊎◌, List};
 ghost use Rattle.std.specs.Prelude.{[], ◌∷◌, ◌++◌, true, length, Some, IsSome, IfOk, IfErr, OnOk};
-ghost use Rattle.std.specs.Prelude.{OnErr, IsErrOf};
+ghost use Rattle.std.specs.Prelude.{OnErr, IsErrOf, false};
+ghost use Rattle.std.specs.Io.KnownBytes.{IsAtEnd};
+ghost use Rattle.nfs_engine.specs.Book.{is_full};
 ghost use Rattle.nfs_machine.specs.Run.{FromHost};
 ghost use Rattle.nfs_rpc.specs.Records.{Holds};
 ghost use Rattle.nfs_rpc.specs.Streams.{one_more};
 ghost use Rattle.nfs_schedule.specs.Answers.{reply_bytes};
 ghost use Rattle.nfs_schedule.specs.Gathered.{Adds, FailsBy};
-ghost use Rattle.nfs_schedule.specs.Served.{AreServed, EndsByFault, ExecutesNothing, IsAnswered, ServedIsRun};
-ghost use Rattle.nfs_schedule.specs.Served.{ServesAll, ServesFront};
-ghost use Rattle.nfs_schedule.specs.Taken.{TakesPiece};
+ghost use Rattle.nfs_schedule.specs.Served.{AreServed, EndsByFault, ExecutesNothing, HasEraRoom, IsAnswered};
+ghost use Rattle.nfs_schedule.specs.Served.{KeepsSetting, ServedIsRun, ServesAll, ServesFront};
+ghost use Rattle.nfs_schedule.specs.Taken.{LeavesPiece, TakesPiece};
 ghost use Rattle.nfs_schedule.specs.Worlds.{IsAtRest};
 
 use crate::answer::{Answer, Declined};
@@ -24,7 +26,7 @@ use std::alloc::{AllocError, Global};
 use thiserror::Error;
 
 /// How many bytes are read at once.
-const BUFFER_SIZE: usize = 65_536;
+pub const BUFFER_SIZE: usize = 65_536;
 
 /// The whole input was served.
 #[derive(Clone, Copy, Debug, PartialEq, Eq)]
@@ -68,7 +70,7 @@ enum Taken {
 ///
 /// `Read`, `TooLarge`: every whole record before the fault has its answer. `Write`: so has every record up to the one
 /// in hand, and of these answers a beginning is written. `Memory`: every record before the one in hand, which is not
-/// executed, or before the piece that was not taken in.
+/// executed, or before the piece that was not taken in. All that was read is taken in but for such a piece.
 pub fn serve_stream<C: Moments, R: Source, W: Sink>(
     alloc: Global,
     engine: &mut Engine,
@@ -79,12 +81,14 @@ pub fn serve_stream<C: Moments, R: Source, W: Sink>(
 ) -> Result<Served, StreamFault>
     requires rest { IsAtRest engine.old }
     ensures rest { IsAtRest engine.new }
+    // No era gets more records than it may have.
+    ensures keeps { KeepsSetting engine.old engine.new }
     // Answers are those of a run of the machine, but for repeats, which have the reply that is kept.
     ensures ok { IfOk result (λ _. (input : List ℕ) → R.unread reader.old ≡ Some input
         → ServesAll C.gives host.now input clock.old clock.new engine.old engine.new
         (W.written writer.old) (W.written writer.new)) }
     ensures fault { IfErr result (λ e. (input : List ℕ) → R.unread reader.old ≡ Some input
-        → ServesFront C.gives host.now input e clock.old clock.new engine.old engine.new
+        → ServesFront C.gives host.now input (R.unread reader.new) e clock.old clock.new engine.old engine.new
         (W.written writer.old) (W.written writer.new)) }
     // A fault of a stream is one that the stream counted, or there was no end of it.
     ensures read { IsErrOf result StreamFault.Read →
@@ -92,7 +96,8 @@ pub fn serve_stream<C: Moments, R: Source, W: Sink>(
         ⊎ ((input : List ℕ) → R.unread reader.old ≡ Some input → 2 ^ 64 - 1 ≤ length input) }
     ensures write { IsErrOf result StreamFault.Write →
         W.Counts.failures writer.new ≡ one_more (W.Counts.failures writer.old) }
-    // At the end every answer is sent.
+    // At the end all is read, and every answer is sent.
+    ensures end { OnOk result (IsAtEnd (R.unread reader.new)) }
     ensures sent { OnOk result (W.all_sent writer.old ≡ true → W.all_sent writer.new ≡ true) }
 {
     let mut records = Records::new(alloc);
@@ -128,21 +133,22 @@ fn serve_pieces<C: Moments, R: Source, W: Sink>(
     buffer: &mut [u8],
 ) -> Result<Served, StreamFault>
     requires rest { IsAtRest engine.old }
-    requires buffer { 0 < length buffer.old }
+    requires buffer { length buffer.old ≡ BUFFER_SIZE }
     requires records { Holds records.old [] [] }
     ensures rest { IsAtRest engine.new }
+    ensures keeps { KeepsSetting engine.old engine.new }
     ensures ok { IfOk result (λ _. (input : List ℕ) → R.unread reader.old ≡ Some input
         → ServesAll C.gives host.now input clock.old clock.new engine.old engine.new
         (W.written writer.old) (W.written writer.new)) }
     ensures fault { IfErr result (λ e. (input : List ℕ) → R.unread reader.old ≡ Some input
-        → ServesFront C.gives host.now input e clock.old clock.new engine.old engine.new
+        → ServesFront C.gives host.now input (R.unread reader.new) e clock.old clock.new engine.old engine.new
         (W.written writer.old) (W.written writer.new)) }
     ensures read { IsErrOf result StreamFault.Read →
         (R.Counts.failures reader.new ≡ one_more (R.Counts.failures reader.old))
         ⊎ ((input : List ℕ) → R.unread reader.old ≡ Some input → 2 ^ 64 - 1 ≤ length input) }
     ensures write { IsErrOf result StreamFault.Write →
         W.Counts.failures writer.new ≡ one_more (W.Counts.failures writer.old) }
-    // At the end every answer is sent.
+    ensures end { OnOk result (IsAtEnd (R.unread reader.new)) }
     ensures sent { OnOk result (W.all_sent writer.old ≡ true → W.all_sent writer.new ≡ true) }
 {
     let mut gathered = Vec::new(alloc);
@@ -174,6 +180,8 @@ fn take_piece<R: Source>(
         (λ taken. TakesPiece taken records.old records.new (R.unread reader.old) (R.unread reader.new)) }
     ensures ok { OnOk result (R.Counts.failures reader.new ≡ R.Counts.failures reader.old) }
     ensures err { OnErr result (records.new ≡ records.old) }
+    ensures left { IfErr result
+        (λ e. LeavesPiece e (length buffer.old) (R.unread reader.old) (R.unread reader.new)) }
     ensures fault { IfErr result (λ e.
         ((e ≡ StreamFault.Read) × (R.Counts.failures reader.new ≡ one_more (R.Counts.failures reader.old)))
         ⊎ (e ≡ StreamFault.Memory)) }
@@ -267,6 +275,8 @@ fn begin_era(alloc: Global, engine: &mut Engine)
     requires rest { IsAtRest engine.old }
     ensures rest { IsAtRest engine.new }
     ensures nothing { ExecutesNothing engine.old engine.new }
+    ensures room { HasEraRoom engine.new }
+    ensures stays { is_full engine.old.book ≡ false → engine.new ≡ engine.old }
 {
     if engine.era_is_full() {
         drop(engine.new_era(alloc));
@@ -286,6 +296,7 @@ fn answer(
     moment: Moment,
 ) -> Result<Answer, AllocError>
     requires rest { IsAtRest engine.old }
+    requires room { HasEraRoom engine.old }
     ensures rest { IsAtRest engine.new }
     ensures ok { IfOk result
         (λ answer. IsAnswered (FromHost (record { host = host.now; bytes = message; moment = moment }))

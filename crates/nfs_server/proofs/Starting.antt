@@ -1,5 +1,5 @@
 -- An engine that opens is at rest, and stands in the opening state.
-use Rattle.std.proofs.Common.{◌≡◌, ℕ, List, None, sym, ◌∙◌, ap, subst}
+use Rattle.std.proofs.Common.{◌≡◌, ℕ, ◌≤◌, List, length, None, sym, ◌∙◌, ap, subst, arith}
 use Rattle.nfs_machine.specs.Opening.{opening}
 use Rattle.nfs_machine.specs.Run.{Record, Run, Setting}
 use Rattle.nfs_machine.specs.State.{State}
@@ -10,7 +10,7 @@ use Rattle.nfs_engine.specs.Engine.{EngineValue, held_among}
 use Rattle.nfs_engine.specs.Opening.{Opens}
 use Rattle.nfs_engine.specs.Running.{running_at}
 use Rattle.nfs_engine.specs.declared.opening.Config.{Config}
-use Rattle.nfs_schedule.specs.Served.{StandsAt}
+use Rattle.nfs_schedule.specs.Served.{KeepsSetting, StandsAt}
 use Rattle.nfs_schedule.specs.Worlds.{IsAtRest}
 use Rattle.nfs_server.specs.Started.{opening_standing}
 
@@ -34,3 +34,13 @@ opens_standing config setting e opens exports =
       capacity = sym (ap (λ (b : BookValue). b.replies.capacity) opens.is);
       lists = sym (ap (λ (b : BookValue). kept_of b.replies) opens.is);
     }
+
+pub opens_within : (config : Config) (e f : EngineValue) → Opens config e.book → KeepsSetting e f →
+    length f.book.records ≤ config.era_records
+opens_within config e f opens keeps =
+    let limit : e.book.era_records ≡ config.era_records = ap (λ (b : BookValue). b.era_records) opens.is in
+    let within = keeps.era (record {
+      some = omega (arith, limit, opens.era_records.0);
+      most = omega (arith, ap (λ (b : BookValue). length b.records) opens.is);
+    }) in
+    omega (arith, within.most, keeps.era_records, limit)

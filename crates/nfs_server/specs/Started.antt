@@ -1,5 +1,5 @@
 -- What a server does from its start on.
-use Rattle.std.specs.Prelude.{◌≡◌, ◌⊎◌, ℕ, List, [], Option, Some, unwrap_or}
+use Rattle.std.specs.Prelude.{◌≡◌, ◌⊎◌, ◌≤◌, ℕ, List, [], length, Option, Some, unwrap_or}
 use Rattle.nfs_machine.specs.Opening.{opening}
 use Rattle.nfs_machine.specs.Run.{Setting}
 use Rattle.nfs_machine.specs.declared.moment.Moment.{Moment}
@@ -26,34 +26,36 @@ abbrev pub opening_standing : Setting → (capacity : ℕ) → Moment → Standi
 opening_standing setting capacity moment =
     record { state = opening setting.exports moment; capacity = capacity; lists = λ host. [] }
 
--- the clock's first moment made the opening state, in which the engine stood, and so it went on from there
+-- The clock's first moment made the opening state, in which the engine stood, and so it went on from there. No era
+-- has more records than the options say.
 pub record FromStart {Clock : Type 0} (gives : Clock → Moment → Clock → Type 0) (setting : Setting)
-    (capacity : ℕ) (clock : Clock) (GoesOn : Clock → EngineValue → EngineValue → Type 0) : Type 0 where
+    (capacity era_records : ℕ) (clock : Clock) (GoesOn : Clock → EngineValue → EngineValue → Type 0) : Type 0 where
   pub moment : Moment
   pub started : Clock
   pub opened : EngineValue
-  pub left : EngineValue
+  pub ended : EngineValue
   pub ticked : gives clock moment started
   pub under : opened.book.setting ≡ setting
   pub stands : StandsAt opened (opening_standing setting capacity moment)
-  pub on : GoesOn started opened left
+  pub on : GoesOn started opened ended
+  pub era : length ended.book.records ≤ era_records
 
 -- all records of the input were served
 abbrev pub ServesFromStart : {Clock : Type 0} → (Clock → Moment → Clock → Type 0) → Setting →
-    (capacity : ℕ) (host : List ℕ) (unread : Option (List ℕ)) (clock later : Clock)
+    (capacity era_records : ℕ) (host : List ℕ) (unread : Option (List ℕ)) (clock later : Clock)
     (before after : Option (List ℕ)) → Type 0
-ServesFromStart gives setting capacity host unread clock later before after =
-    (input : List ℕ) → unread ≡ Some input → FromStart gives setting capacity clock
-    (λ started opened left. ServesAll gives host input started later opened left before after)
+ServesFromStart gives setting capacity era_records host unread clock later before after =
+    (input : List ℕ) → unread ≡ Some input → FromStart gives setting capacity era_records clock
+    (λ started opened ended. ServesAll gives host input started later opened ended before after)
 
 -- The program ends early: by want of memory, where nothing was written, or by a fault of the stream, which the
--- streams tell, where a front of the input was taken in and the first of its records were served.
+-- streams tell, where what was read of the input was taken in and the first of its records were served.
 abbrev pub FailsFromStart : {Clock : Type 0} → (Clock → Moment → Clock → Type 0) → Setting →
-    (capacity : ℕ) (host : List ℕ) (unread : Option (List ℕ)) (clock later : Clock)
+    (capacity era_records : ℕ) (host : List ℕ) (unread left : Option (List ℕ)) (clock later : Clock)
     (before after : Option (List ℕ)) →
     (StreamFault → Type 0) → Exit → Type 0
-FailsFromStart gives setting capacity host unread clock later before after IsTold exit =
+FailsFromStart gives setting capacity era_records host unread left clock later before after IsTold exit =
     ((exit ≡ Memory) × (after ≡ before))
     ⊎ ((fault : StreamFault) × (exit ≡ exit_of fault) × IsTold fault
-    × ((input : List ℕ) → unread ≡ Some input → FromStart gives setting capacity clock
-    (λ started opened left. ServesFront gives host input fault started later opened left before after)))
+    × ((input : List ℕ) → unread ≡ Some input → FromStart gives setting capacity era_records clock
+    (λ started opened ended. ServesFront gives host input left fault started later opened ended before after)))

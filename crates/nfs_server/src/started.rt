@@ -2,6 +2,7 @@
 
 ghost use Rattle.std.specs.Prelude.{◌≡◌, ℕ, ◌-◌, ◌^◌, ◌≤◌, ◌⊎◌, true, List, length, Some};
 ghost use Rattle.std.specs.Prelude.{IfErr, IfOk, OnOk};
+ghost use Rattle.std.specs.Io.KnownBytes.{IsAtEnd};
 ghost use Rattle.nfs_engine.specs.Opening.{IsLimit, Opens};
 ghost use Rattle.nfs_rpc.specs.Streams.{one_more};
 ghost use Rattle.nfs_schedule.specs.Worlds.{IsAtRest};
@@ -32,18 +33,19 @@ pub fn serve_options<C: Moments, R: Source, W: Sink>(
     requires era { IsLimit options.era_records }
     requires capacity { IsLimit options.capacity }
     ensures ok { OnOk result
-        (ServesFromStart C.gives (setting_of options start) options.capacity options.host (R.unread reader.old)
-        clock.old clock.new (W.written writer.old) (W.written writer.new)) }
+        (ServesFromStart C.gives (setting_of options start) options.capacity options.era_records options.host
+        (R.unread reader.old) clock.old clock.new (W.written writer.old) (W.written writer.new)) }
     // A fault of a stream is one that the stream counted, or there was no end of it.
     ensures fault { IfErr result
-        (FailsFromStart C.gives (setting_of options start) options.capacity options.host (R.unread reader.old)
-        clock.old clock.new (W.written writer.old) (W.written writer.new)
+        (FailsFromStart C.gives (setting_of options start) options.capacity options.era_records options.host
+        (R.unread reader.old) (R.unread reader.new) clock.old clock.new (W.written writer.old) (W.written writer.new)
         (λ fault. (fault ≡ StreamFault.Read →
         (R.Counts.failures reader.new ≡ one_more (R.Counts.failures reader.old))
         ⊎ ((input : List ℕ) → R.unread reader.old ≡ Some input → 2 ^ 64 - 1 ≤ length input))
         × (fault ≡ StreamFault.Write →
         W.Counts.failures writer.new ≡ one_more (W.Counts.failures writer.old)))) }
-    // At the end every answer is sent.
+    // At the end all is read, and every answer is sent.
+    ensures end { OnOk result (IsAtEnd (R.unread reader.new)) }
     ensures sent { OnOk result (W.all_sent writer.old ≡ true → W.all_sent writer.new ≡ true) }
 {
     let Options {

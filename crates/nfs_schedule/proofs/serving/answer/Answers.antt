@@ -10,7 +10,7 @@ returns-in-Refused-clause-ok c =
       moment = c.args.moment;
     } = c.in_ok-arrival.ensures.received
     ∙ ap (λ (h : List ℕ). record { host = h; bytes = c.args.message; moment = c.args.moment }) c.in_ok-share.ensures in
-    told_refusal _ _ _ _ _ came c.reading.ensures.arrival c.in-Refused.ensures.answers _ c.told.ensures
+    told_refusal _ _ _ _ _ came c.reading.ensures.arrival c.requires.room c.in-Refused.ensures.answers _ c.told.ensures
 
 pub returns-in-Refused-clause-err : goal.returns-in-Refused-clause-err
 returns-in-Refused-clause-err c = untold_nothing _ _ _ _ c.in-Refused.ensures.answers c.told.result
@@ -23,5 +23,5 @@ returns-in_default-clause-ok c =
       moment = c.args.moment;
     } = c.in_ok-arrival.ensures.received
     ∙ ap (λ (h : List ℕ). record { host = h; bytes = c.args.message; moment = c.args.moment }) c.in_ok-share.ensures in
-    answered_as _ _ _ _ _ came (told_answered _ _ _ _ c.reading.ensures.arrival c.execute.ensures.answers
+    answered_as _ _ _ _ _ came (told_answered _ _ _ _ c.reading.ensures.arrival c.requires.room c.execute.ensures.answers
     (told_only _ c.in_default.not-Refused))

@@ -1,7 +1,7 @@
 use Rattle.std.proofs.Common.{inr, refl, ap, Err}
 use Rattle.nfs_engine.specs.Book.{BookValue}
 use Rattle.nfs_schedule.specs.declared.serving.StreamFault.{StreamFault}
-use Rattle.nfs_server.proofs.Starting.{opens_standing}
+use Rattle.nfs_server.proofs.Starting.{opens_standing, opens_within}
 use Rattle.nfs_server.specs.Started.{setting_of}
 use Rattle.nfs_server.proofs.started.serve_options.Goals as goal
 
@@ -10,13 +10,14 @@ returns-in-Ok-clause-ok g c = λ input is. record {
   moment = c.moment-moment.result;
   started = c.moment-moment.new.self;
   opened = c.in_ok-engine.engine;
-  left = c.serve_stream-served.new.engine;
+  ended = c.serve_stream-served.new.engine;
   ticked = c.moment-moment.ensures;
   under = rw (← c.unwrap_or.ensures) (ap (λ (b : BookValue). b.setting) c.in_ok-engine.ensures.opens.is);
   stands =
       opens_standing _ (setting_of c.args.options c.args.start) c.in_ok-engine.engine
       c.in_ok-engine.ensures.opens refl;
   on = c.in-Ok.ensures.ok input is;
+  era = opens_within _ _ _ c.in_ok-engine.ensures.opens c.serve_stream-served.ensures.keeps;
 }
 
 pub returns-in-Err-clause-fault : goal.returns-in-Err-clause-fault
@@ -31,12 +32,13 @@ returns-in-Err-clause-fault g c = inr (
     moment = c.moment-moment.result;
     started = c.moment-moment.new.self;
     opened = c.in_ok-engine.engine;
-    left = c.serve_stream-served.new.engine;
+    ended = c.serve_stream-served.new.engine;
     ticked = c.moment-moment.ensures;
     under = rw (← c.unwrap_or.ensures) (ap (λ (b : BookValue). b.setting) c.in_ok-engine.ensures.opens.is);
     stands =
         opens_standing _ (setting_of c.args.options c.args.start) c.in_ok-engine.engine
         c.in_ok-engine.ensures.opens refl;
     on = c.in-Err.ensures.fault input is;
+    era = opens_within _ _ _ c.in_ok-engine.ensures.opens c.serve_stream-served.ensures.keeps;
   },
 )
