@@ -2,13 +2,9 @@ pub mod Answers
 pub mod Events
 pub mod Executions
 pub mod Foreseen
-pub mod Gathered
 pub mod Grown
 pub mod Order
-pub mod Served
-pub mod Serving
 pub mod Stops
-pub mod Taken
 pub mod Turns
 pub mod Workers
 pub mod Worlds

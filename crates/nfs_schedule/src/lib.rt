@@ -2,8 +2,7 @@
 //!
 //! `attempt` is what a call comes to on what it has read, by its program. A `Worker` thinks with no engine, and makes
 //! one step of the engine at each turn. A `World` has an engine with its workers. `drive` makes the steps of a list of
-//! events. `execute` brings one call to its answer with no worker, on an engine at rest, and `serve_stream` so each
-//! record of a stream.
+//! events. `execute` brings one call to its answer with no worker, on an engine at rest.
 #![tactic(auto)]
 
 pub mod answer;
@@ -11,10 +10,8 @@ pub mod attempts;
 pub mod driving;
 pub mod executing;
 mod foreseen;
-mod gathering;
 mod nlm;
 pub mod resting;
-pub mod serving;
 mod stop;
 pub mod worker;
 pub mod world;
@@ -24,6 +21,5 @@ pub use attempts::attempt;
 pub use driving::{Event, drive};
 pub use executing::execute;
 pub use resting::is_at_rest;
-pub use serving::{Served, StreamFault, serve_stream, served_is_a_run};
 pub use worker::{Afterwards, Worker};
 pub use world::World;

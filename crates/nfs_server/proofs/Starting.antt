@@ -10,7 +10,7 @@ use Rattle.nfs_engine.specs.Engine.{EngineValue, held_among}
 use Rattle.nfs_engine.specs.Opening.{Opens}
 use Rattle.nfs_engine.specs.Running.{running_at}
 use Rattle.nfs_engine.specs.declared.opening.Config.{Config}
-use Rattle.nfs_schedule.specs.Served.{KeepsSetting, StandsAt}
+use Rattle.nfs_streams.specs.Served.{KeepsSetting, StandsAt}
 use Rattle.nfs_schedule.specs.Worlds.{IsAtRest}
 use Rattle.nfs_server.specs.Started.{opening_standing}
 

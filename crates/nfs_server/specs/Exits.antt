@@ -8,8 +8,8 @@ use Rattle.nfs_machine.specs.declared.exports.ExportError.{ExportError}
 use Rattle.nfs_machine.specs.declared.exports.ExportError.TheVariants as export
 use Rattle.nfs_server.specs.declared.exit.Exit.{Exit}
 use Rattle.nfs_server.specs.declared.exit.Exit.TheVariants.{CommandLine, NoTransport, Exports, Memory, StandardStream}
-use Rattle.nfs_schedule.specs.declared.serving.StreamFault.{StreamFault}
-use Rattle.nfs_schedule.specs.declared.serving.StreamFault.TheVariants as stream
+use Rattle.nfs_streams.specs.declared.serving.StreamFault.{StreamFault}
+use Rattle.nfs_streams.specs.declared.serving.StreamFault.TheVariants as stream
 
 -- what ends a stream early ends the program
 abbrev pub exit_of : StreamFault → Exit

@@ -4,9 +4,9 @@ use Rattle.nfs_machine.specs.Opening.{opening}
 use Rattle.nfs_machine.specs.Run.{Setting}
 use Rattle.nfs_machine.specs.declared.moment.Moment.{Moment}
 use Rattle.nfs_engine.specs.Engine.{EngineValue}
-use Rattle.nfs_schedule.specs.Served.{ServesAll, ServesFront, StandsAt}
-use Rattle.nfs_schedule.specs.Serving.{Standing}
-use Rattle.nfs_schedule.specs.declared.serving.StreamFault.{StreamFault}
+use Rattle.nfs_streams.specs.Served.{ServesAll, ServesFront, StandsAt}
+use Rattle.nfs_streams.specs.Serving.{Standing}
+use Rattle.nfs_streams.specs.declared.serving.StreamFault.{StreamFault}
 use Rattle.nfs_server.specs.Exits.{exit_of}
 use Rattle.nfs_server.specs.declared.exit.Exit.{Exit}
 use Rattle.nfs_server.specs.declared.exit.Exit.TheVariants.{Memory}

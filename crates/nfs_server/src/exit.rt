@@ -4,7 +4,7 @@ ghost use Rattle.std.specs.Prelude.{◌≡◌};
 
 use clap::error::ErrorKind;
 use nfs_machine::ExportError;
-use nfs_schedule::StreamFault;
+use nfs_streams::StreamFault;
 use std::alloc::AllocError;
 use std::io;
 use thiserror::Error;

@@ -1,7 +1,7 @@
 //! The server: an engine that is started as a command line says, and a stream of records served from it.
 //!
 //! What is written is, byte for byte, the answers of a run of the machine over the records of the input, in order, from
-//! the opening state (`serve_options`). It stands on `nfs_engine` for the store and its records, and on `nfs_schedule`
+//! the opening state (`serve_options`). It stands on `nfs_engine` for the store and its records, and on `nfs_streams`
 //! for how a stream is served.
 #![tactic(auto)]
 
@@ -16,7 +16,7 @@ pub use clock::{FixedClock, MachineClock, ServerClock, start_number};
 pub use command_line::{arguments, configure};
 pub use exit::Exit;
 pub use nfs_engine::Host;
-pub use nfs_schedule::{Served, StreamFault, serve_stream};
+pub use nfs_streams::{Served, StreamFault, serve_stream};
 pub use options::Options;
 pub use started::serve_options;
 pub use stdio::serve_stdio;

@@ -13,7 +13,7 @@ use crate::options::Options;
 use nfs_engine::{Config, Engine, StartError};
 use nfs_machine::{Limits, Moments};
 use nfs_rpc::stream::{Sink, Source};
-use nfs_schedule::{Served, StreamFault, serve_stream};
+use nfs_streams::{Served, StreamFault, serve_stream};
 use std::alloc::Global;
 
 /// Serves the input as the options say, with this start number where they name none: from the opening state, which is

@@ -8,6 +8,7 @@ ghost use Rattle.nfs_schedule.specs.Worlds.{IsAtRest};
 mod attributes;
 mod clocks;
 mod command_lines;
+mod connections;
 mod create;
 mod credentials;
 mod exchanges;

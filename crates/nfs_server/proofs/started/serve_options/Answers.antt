@@ -1,6 +1,6 @@
 use Rattle.std.proofs.Common.{inr, refl, ap, Err}
 use Rattle.nfs_engine.specs.Book.{BookValue}
-use Rattle.nfs_schedule.specs.declared.serving.StreamFault.{StreamFault}
+use Rattle.nfs_streams.specs.declared.serving.StreamFault.{StreamFault}
 use Rattle.nfs_server.proofs.Starting.{opens_standing, opens_within}
 use Rattle.nfs_server.specs.Started.{setting_of}
 use Rattle.nfs_server.proofs.started.serve_options.Goals as goal

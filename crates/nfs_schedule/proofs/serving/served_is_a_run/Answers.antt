@@ -1,5 +1,0 @@
-use Rattle.nfs_schedule.proofs.Joins.{served_run}
-use Rattle.nfs_schedule.proofs.serving.served_is_a_run.Goals as goal
-
-pub returns : goal.returns
-returns c = served_run

@@ -1,0 +1,9 @@
+pub mod Answering
+pub mod Carried
+pub mod Datagrammed
+pub mod Eras
+pub mod Joins
+pub mod Loops
+pub mod Pieces
+pub mod Single
+pub mod Wholly

@@ -1,0 +1,5 @@
+use Rattle.nfs_streams.proofs.Datagrammed.{replies_make}
+use Rattle.nfs_streams.proofs.datagrams.replies_make_datagrams.Goals as goal
+
+pub returns : goal.returns
+returns c = replies_make

@@ -1,0 +1,5 @@
+use Rattle.nfs_streams.proofs.Joins.{served_run}
+use Rattle.nfs_streams.proofs.serving.served_is_a_run.Goals as goal
+
+pub returns : goal.returns
+returns c = served_run

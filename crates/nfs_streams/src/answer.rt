@@ -1,0 +1,95 @@
+//! The answer to one record, on an engine at rest.
+
+ghost use Rattle.std.specs.Prelude.{◌≡◌, false, ◌∷◌, [], IfOk, IsSome, OnErr};
+ghost use Rattle.nfs_engine.specs.Book.{is_full};
+ghost use Rattle.nfs_machine.specs.Run.{FromHost};
+ghost use Rattle.nfs_schedule.specs.Answers.{reply_bytes};
+ghost use Rattle.nfs_schedule.specs.Worlds.{IsAtRest};
+ghost use Rattle.nfs_streams.specs.Served.{AreAnswered, ExecutesNothing, HasEraRoom, HasNoAnswer, IsAnswered};
+
+use nfs_engine::{Arrival, Engine, Host};
+use nfs_machine::{Moment, Moments};
+use nfs_rpc::Record;
+use nfs_schedule::{Answer, Declined, execute};
+use std::alloc::{AllocError, Global};
+
+/// The answer to a record that came in from the host, at the clock's next moment. Where an era is full, the next one
+/// begins before it.
+///
+/// No call is in progress in the engine, and none is afterwards.
+///
+/// # Errors
+///
+/// There is no memory to take the record in, or to say that there is none. It is not executed.
+pub fn answer_record<C: Moments>(
+    alloc: Global,
+    engine: &mut Engine,
+    host: &Host,
+    clock: &mut C,
+    message: Record,
+) -> Result<Answer, AllocError>
+    requires rest { IsAtRest engine.old }
+    ensures rest { IsAtRest engine.new }
+    ensures ok { IfOk result
+        (λ answer. AreAnswered C.gives host.now (message ∷ []) clock.old clock.new engine.old engine.new
+        (reply_bytes answer)) }
+    ensures err { OnErr result
+        (HasNoAnswer C.gives (message ∷ []) clock.old clock.new engine.old engine.new) }
+{
+    let moment = clock.moment();
+    begin_era(alloc, engine);
+    answer(alloc, engine, host, message, moment)
+}
+
+/// Begins a new era where the present one is full. What was recorded in that one is dropped.
+fn begin_era(alloc: Global, engine: &mut Engine)
+    requires rest { IsAtRest engine.old }
+    ensures rest { IsAtRest engine.new }
+    ensures nothing { ExecutesNothing engine.old engine.new }
+    ensures room { HasEraRoom engine.new }
+    ensures stays { is_full engine.old.book ≡ false → engine.new ≡ engine.old }
+{
+    if engine.era_is_full() {
+        drop(engine.new_era(alloc));
+    }
+}
+
+/// The answer to a record that came in from the host, at this moment.
+///
+/// # Errors
+///
+/// There is no memory to take the record in, or to say that there is none. It is not executed.
+fn answer(
+    alloc: Global,
+    engine: &mut Engine,
+    host: &Host,
+    message: Record,
+    moment: Moment,
+) -> Result<Answer, AllocError>
+    requires rest { IsAtRest engine.old }
+    requires room { HasEraRoom engine.old }
+    ensures rest { IsAtRest engine.new }
+    ensures ok { IfOk result
+        (λ answer. IsAnswered (FromHost (record { host = host.now; bytes = message; moment = moment }))
+        engine.old engine.new (reply_bytes answer)) }
+    ensures err { OnErr result (ExecutesNothing engine.old engine.new) }
+{
+    let arrival = Arrival::read(alloc, host.share()?, message, moment)?;
+    // It brings that this is what the record asks.
+    arrival.reading();
+    match execute(alloc, engine, arrival) {
+        Answer::Refused(declined) => told(declined),
+        answer => Ok(answer),
+    }
+}
+
+/// A refusal, where there was memory to say it.
+fn told(declined: Declined) -> Result<Answer, AllocError>
+    ensures { IfOk result (λ answer. (answer ≡ Answer.Refused declined) × IsSome declined.answer) }
+{
+    if declined.answer.is_none() {
+        drop(declined);
+        return Err(AllocError);
+    }
+    Ok(Answer::Refused(declined))
+}
