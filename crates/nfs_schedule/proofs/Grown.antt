@@ -1,7 +1,7 @@
 -- What a worker's call has read grows by rounds: each turn keeps that.
 use Rattle.std.proofs.Common.{◌≡◌, ℕ, ◌+◌, ◌<◌, ◌≤◌, arith, false, inl, inr, List, [], ◌∷◌, ◌++◌, append-nil}
 use Rattle.std.proofs.Common.{append_assoc, length, length-append, map}
-use Rattle.std.proofs.Common.{Option, Some, None, Err, refl, sym, ◌∙◌, ap, subst}
+use Rattle.std.proofs.Common.{Option, Some, None, refl, sym, ◌∙◌, ap, subst}
 use Rattle.std.specs.List.{AllByRecursion}
 use Rattle.std.specs.Vec.Iter.{into_iter_items}
 use Rattle.std.proofs.lemmas.List.{map-append}
@@ -25,10 +25,9 @@ use Rattle.nfs_objects.specs.declared.view.Reserved.{Reserved}
 use Rattle.nfs_engine.specs.Arrivals.{ArrivalValue}
 use Rattle.nfs_engine.specs.Book.{store_in}
 use Rattle.nfs_engine.specs.Calls.{FinishedValue, PendingValue, TxnValue, again_of, txn_of}
-use Rattle.nfs_engine.specs.Engine.{EngineValue, IsReserved}
+use Rattle.nfs_engine.specs.Engine.{EngineValue}
 use Rattle.nfs_engine.specs.Releases.{ReleaseValue}
-use Rattle.nfs_engine.specs.declared.shard.ReserveError.{ReserveError}
-use Rattle.nfs_engine.specs.declared.shard.ReserveError.TheVariants as refusals
+use Rattle.nfs_schedule.proofs.Arrived.{unacquired, unreserved_same}
 use Rattle.nfs_schedule.specs.Grown.{AsksFor, HasGrown, IsAsking, IsGrown, IsNumbering}
 use Rattle.nfs_schedule.specs.Turns.{Acquires, Admits, Declines, Ends, Follows, Gains, IsNamed, KeepsQueue}
 use Rattle.nfs_schedule.specs.Turns.{TakesArrival}
@@ -254,7 +253,7 @@ acquires_grown e t a others (Wanting u left) is asking =
 acquires_grown e t a others (Blocked u) is asking =
     subst (λ (x : TxnValue). HasGrown x) (sym is.1.2) (grown_part t (a ∷ others) asking)
 acquires_grown e t a others (Failing u) is asking =
-    inl (subst (λ (x : TxnValue). HasGrown x) (sym is) (grown_part t (a ∷ others) asking))
+    inl (subst (λ (x : TxnValue). HasGrown x) (sym (unacquired e t u a is.0 is.1)) (grown_part t (a ∷ others) asking))
 acquires_grown e t a others Idle is asking = absurd is
 acquires_grown e t a others (Wishing u left) is asking = absurd is
 acquires_grown e t a others (Ready d) is asking = absurd is
@@ -267,18 +266,13 @@ first_grown : (e : EngineValue) (t : TxnValue) (wanted : List (Addr × Mode)) (v
 first_grown e t [] v is asking = same_grown (Trying t) v is (grown_part t [] asking)
 first_grown e t (a ∷ others) v is asking = acquires_grown e t a others v is asking
 
-unreserved : (e : EngineValue) (shard : ℕ) (t u : TxnValue) (error : ReserveError) →
-    IsReserved e t u shard (Err error) → u ≡ t
-unreserved e shard t u refusals.Memory is = is.1
-unreserved e shard t u refusals.Spent is = is.1
-
 gains_grown : (e : EngineValue) (shard : ℕ) (t : TxnValue) (left : ℕ) (v : Worker) → Gains e shard t left v →
     IsNumbering t left → IsGrown v
 gains_grown e shard t left (Trying u) is n = grown_numbers t u is.0.reserved left is.0.call n is.1
 gains_grown e shard t left (Wishing u others) is n =
     numbering_less t u is.0.reserved left is.0.call n others is.1 is.2
 gains_grown e shard t left (Failing u) is n =
-    inr (left, subst (λ (x : TxnValue). IsNumbering x left) (sym (unreserved e shard t u is.0 is.1)) n)
+    inr (left, subst (λ (x : TxnValue). IsNumbering x left) (sym (unreserved_same e shard t u is.0 is.1)) n)
 gains_grown e shard t left Idle is n = absurd is
 gains_grown e shard t left (Wanting u wanted) is n = absurd is
 gains_grown e shard t left (Ready d) is n = absurd is
@@ -306,19 +300,20 @@ after_grown : (p : PendingValue) (after : Afterwards) → IsGrown (after_all p a
 after_grown p Again = tt
 after_grown p GiveUp = tt
 
-follows_grown : (r : ReleaseValue) (after : Afterwards) (v : Worker) → Follows r after v → IsGrown v
-follows_grown r after Idle is = tt
-follows_grown r after (Leaving left still) is = tt
-follows_grown r after (PutOff p) is = tt
-follows_grown r after (Refusing p) is = tt
-follows_grown r after (Trying t) is = same_grown (after_all is.0 after) (Trying t) is.2 (after_grown is.0 after)
-follows_grown r after (Wanting t wanted) is =
+follows_grown : (e f : EngineValue) (r : ReleaseValue) (after : Afterwards) (v : Worker) → Follows e f r after v →
+    IsGrown v
+follows_grown e f r after Idle is = tt
+follows_grown e f r after (Leaving left still) is = tt
+follows_grown e f r after (PutOff p) is = tt
+follows_grown e f r after (Refusing p) is = tt
+follows_grown e f r after (Trying t) is = same_grown (after_all is.0 after) (Trying t) is.2 (after_grown is.0 after)
+follows_grown e f r after (Wanting t wanted) is =
     same_grown (after_all is.0 after) (Wanting t wanted) is.2 (after_grown is.0 after)
-follows_grown r after (Wishing t left) is =
+follows_grown e f r after (Wishing t left) is =
     same_grown (after_all is.0 after) (Wishing t left) is.2 (after_grown is.0 after)
-follows_grown r after (Ready d) is = same_grown (after_all is.0 after) (Ready d) is.2 (after_grown is.0 after)
-follows_grown r after (Blocked t) is = same_grown (after_all is.0 after) (Blocked t) is.2 (after_grown is.0 after)
-follows_grown r after (Failing t) is = same_grown (after_all is.0 after) (Failing t) is.2 (after_grown is.0 after)
+follows_grown e f r after (Ready d) is = same_grown (after_all is.0 after) (Ready d) is.2 (after_grown is.0 after)
+follows_grown e f r after (Blocked t) is = same_grown (after_all is.0 after) (Blocked t) is.2 (after_grown is.0 after)
+follows_grown e f r after (Failing t) is = same_grown (after_all is.0 after) (Failing t) is.2 (after_grown is.0 after)
 
 declines_grown : (p : PendingValue) (v : Worker) (answer : Option Answer) → Declines p v answer → IsGrown v
 declines_grown p Idle answer is = tt
@@ -344,7 +339,7 @@ named_grown e f queue later shard (Wishing t left) v answer n q g = gains_grown 
 named_grown e f queue later shard (Ready d) v answer n q g = ends_grown e f d v answer n g
 named_grown e f queue later shard (Blocked t) v answer n q g = subst (λ (x : Worker). IsGrown x) (sym n.1) tt
 named_grown e f queue later shard (Failing t) v answer n q g = subst (λ (x : Worker). IsGrown x) (sym n.1) tt
-named_grown e f queue later shard (Leaving r after) v answer n q g = follows_grown r after v n.1
+named_grown e f queue later shard (Leaving r after) v answer n q g = follows_grown e f r after v n.1
 named_grown e f queue later shard (PutOff p) v answer n q g =
     same_grown (Trying (again_of p)) v n.1 (grown_none (again_of p) refl)
 named_grown e f queue later shard (Refusing p) v answer n q g = declines_grown p v answer n

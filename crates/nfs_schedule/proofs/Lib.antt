@@ -1,4 +1,6 @@
+pub mod Accounted
 pub mod Alone
+pub mod Arrived
 pub mod AtRest
 pub mod Built
 pub mod Driven
@@ -7,6 +9,7 @@ pub mod Filling
 pub mod Foreseeing
 pub mod Grown
 pub mod Kept
+pub mod Ledgers
 pub mod Nothing
 pub mod Ordered
 pub mod Others

@@ -8,7 +8,7 @@ use Rattle.nfs_engine.specs.Book.{BookValue, Leads, TakesMessage}
 use Rattle.nfs_engine.specs.Engine.{EngineValue}
 use Rattle.nfs_engine.specs.declared.outbox.Posted.{Posted}
 use Rattle.nfs_engine.specs.declared.records.Era.{Era}
-use Rattle.nfs_schedule.specs.Turns.{Effect, KeepsStore}
+use Rattle.nfs_schedule.specs.Turns.{Effect, KeepsBook, KeepsStore}
 use Rattle.nfs_schedule.specs.Worlds.{RunsOn, Stops, TakesOldest, TakesTurn, TurnsEra, WorldValue, records_of}
 use Rattle.nfs_schedule.specs.declared.answer.Answer.{Answer}
 use Rattle.nfs_schedule.specs.declared.answer.Answer.TheVariants as answers
@@ -35,6 +35,11 @@ store_leads e f same = record {
   setting = ap (λ (b : BookValue). b.setting) same;
 }
 
+-- only which calls are in progress may be another
+pub book_store : (e f : EngineValue) → KeepsBook e f → KeepsStore e f
+book_store e f same =
+    same ∙ ap (λ n. record e.book { living = f.book.living; next_id = n }) (sym (ap (λ (b : BookValue). b.next_id) same))
+
 effect_leads : (e f : EngineValue) (answer : Option Answer) → Effect e f answer → LeadsOn e f
 effect_leads e f None is = store_leads e f is
 effect_leads e f (Some (answers.Executed receipt)) is =
@@ -57,7 +62,7 @@ turn_runs old new worker answer t =
 pub stop_runs : (old new : WorldValue) (worker : ℕ) (answer : Option Answer) → Stops old new worker answer →
     RunsOn old new
 stop_runs old new worker answer s =
-    runs_on old new (store_leads old.engine new.engine s.stop.store) (ap (λ (w : WorldValue). w.eras) s.rest)
+    runs_on old new (store_leads old.engine new.engine (book_store old.engine new.engine s.stop.store)) (ap (λ (w : WorldValue). w.eras) s.rest)
 
 -- ---- messages
 message_leads : (e f : EngineValue) (posted : Option Posted) → TakesMessage e.book f.book posted → LeadsOn e f
@@ -82,7 +87,7 @@ message_runs old new t = runs_on old new (message_leads old.engine new.engine t.
     (ap (λ (w : WorldValue). w.eras) t.rest)
 
 -- ---- eras
-records_joined : (eras : List Era) (era : Era) →
+pub records_joined : (eras : List Era) (era : Era) →
     records_of (eras ++ era ∷ []) ≡ records_of eras ++ map shared_value era.records.items
 records_joined [] era = append-nil (map shared_value era.records.items)
 records_joined (first ∷ eras) era =
@@ -113,6 +118,5 @@ era_runs old new t base r = record {
         ∙ ap (λ (l : List Record). records_of old.eras ++ l) t.takes.records
 
 -- ---- one step after the other
-pub store_both : (e m f : EngineValue) → KeepsStore e m → KeepsStore m f → KeepsStore e f
-store_both e m f first then =
-    then ∙ ap (λ (b : BookValue). record b { living = f.book.living; next_id = f.book.next_id }) first
+pub store_both : (e m f : EngineValue) → KeepsBook e m → KeepsBook m f → KeepsBook e f
+store_both e m f first then = then ∙ ap (λ (b : BookValue). record b { living = f.book.living }) first

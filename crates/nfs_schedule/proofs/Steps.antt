@@ -1,6 +1,6 @@
 -- Each step of a worker, by what the engine does.
 use Rattle.std.proofs.Common.{◌≡◌, ℕ, ◌+◌, ◌<◌, ◌≤◌, true, false, List, [], ◌∷◌, ◌++◌, append-nil, append_assoc}
-use Rattle.std.proofs.Common.{Option, Some, None, Ok, Err, refl, sym, ◌∙◌, ap, subst}
+use Rattle.std.proofs.Common.{Option, Some, None, Ok, Err, refl, sym, ◌∙◌, ap, subst, arith}
 use Rattle.std.specs.Vec.Iter.{into_iter_items}
 use Rattle.std.specs.declared.alloc.AllocError.{AllocError}
 use Rattle.std.specs.declared.alloc.Global.{Global}
@@ -26,7 +26,6 @@ use Rattle.nfs_replies.specs.Kept.ReplyEvent.{Repeated}
 use Rattle.nfs_replies.specs.Replies.{IsAfter}
 use Rattle.nfs_engine.proofs.Built.{asked-built}
 use Rattle.nfs_engine.proofs.Going.{seen_beside}
-use Rattle.nfs_engine.proofs.Left.{not_free}
 use Rattle.nfs_engine.specs.Arrivals.{ArrivalValue, received_value}
 use Rattle.nfs_engine.specs.Book.{Begins, BookValue, GivesUp, Repeats, StillRuns, store_in}
 use Rattle.nfs_engine.specs.Built.{IsBuilt}
@@ -41,13 +40,13 @@ use Rattle.nfs_engine.specs.declared.journal.Receipt.{Receipt}
 use Rattle.nfs_engine.specs.declared.release.Next.TheVariants as next
 use Rattle.nfs_engine.specs.declared.release.Then.{Then}
 use Rattle.nfs_engine.specs.declared.shard.ReserveError.{ReserveError}
-use Rattle.nfs_engine.specs.declared.shard.ReserveError.TheVariants as refusals
 use Rattle.nfs_engine.specs.declared.taking.Got.TheVariants as got
+use Rattle.nfs_schedule.proofs.Arrived.{unacquired, unreserved_same}
 use Rattle.nfs_schedule.proofs.Others.{all_both}
 use Rattle.nfs_schedule.proofs.Rest.{places_same, places_without, rest_all, rest_begun, rest_still, rest_with, rest_without}
 use Rattle.nfs_schedule.specs.Answers.{IsRefused, IsUnanswered}
 use Rattle.nfs_schedule.specs.Grown.{AsksFor}
-use Rattle.nfs_schedule.specs.Turns.{Admits, Declines, Effect, Executes, IsNamed, IsStep, KeepsStore, Recalls, TakesFirst, after_all}
+use Rattle.nfs_schedule.specs.Turns.{Admits, Declines, Effect, Executes, IsNamed, IsStep, KeepsBook, KeepsStore, Recalls, TakesFirst, after_all, numbers_taken}
 use Rattle.nfs_schedule.specs.Workers.{Comes, IsSuited, MayTake, MayThink, Thinks, Wants, WorkerLives, after_key, worker_id, worker_key}
 use Rattle.nfs_schedule.specs.declared.answer.Answer.{Answer}
 use Rattle.nfs_schedule.specs.declared.answer.Answer.TheVariants as answers
@@ -126,6 +125,22 @@ pub keeps_book : (e f : EngineValue) → f.book ≡ e.book → KeepsStore e f
 keeps_book e f same = subst (λ (b : BookValue). b ≡ record e.book { living = b.living; next_id = b.next_id })
     (sym same) refl
 
+pub keeps_living : (e f : EngineValue) → f.book ≡ e.book → KeepsBook e f
+keeps_living e f same = subst (λ (b : BookValue). b ≡ record e.book { living = b.living }) (sym same) refl
+
+-- a call that there was already takes no number, and neither does none
+had_taken : (old new : Option ℕ) (id : ℕ) → old ≡ Some id → numbers_taken old new ≡ 0
+had_taken old new id is = subst (λ (o : Option ℕ). numbers_taken o new ≡ 0) (sym is) refl
+
+same_taken : (old new : Option ℕ) → new ≡ old → numbers_taken old new ≡ 0
+same_taken None new is = subst (λ (o : Option ℕ). numbers_taken None o ≡ 0) (sym is) refl
+same_taken (Some id) new is = refl
+
+ids_kept : (e f : EngineValue) (w v : Worker) → f.book.next_id ≡ e.book.next_id →
+    numbers_taken (worker_id w) (worker_id v) ≡ 0 →
+    f.book.next_id ≡ e.book.next_id + numbers_taken (worker_id w) (worker_id v)
+ids_kept e f w v same none = omega (arith, same, none)
+
 -- the call goes on, and the book is as it was
 pub goes_on : (id : ℕ) (e f : EngineValue) (shard : ℕ) (w v : Worker) → KeepsOthers id e f → worker_id w ≡ Some id →
     worker_id v ≡ Some id → worker_key v ≡ worker_key w → f.book ≡ e.book → WorkerLives f v →
@@ -134,6 +149,7 @@ goes_on id e f shard w v k own still keys same lives named = record {
   lives = lives;
   rest = rest_with id e f w v k own still (places_same e f w v (ap (λ (b : BookValue). b.living) same) keys);
   effect = keeps_book e f same;
+  ids = ids_kept e f w v (ap (λ (b : BookValue). b.next_id) same) (had_taken (worker_id w) (worker_id v) id own);
   named = named;
 }
 
@@ -144,6 +160,7 @@ stands_still e f shard w v same ids keys lives named = record {
   lives = subst (λ (x : EngineValue). WorkerLives x v) (sym same) lives;
   rest = rest_still e f w v same ids keys;
   effect = keeps_book e f (ap (λ (x : EngineValue). x.book) same);
+  ids = ids_kept e f w v (ap (λ (x : EngineValue). x.book.next_id) same) (same_taken (worker_id w) (worker_id v) ids);
   named = named;
 }
 
@@ -181,10 +198,12 @@ module _ (e f : EngineValue) (t u : TxnValue) (a : Addr × Mode) (wanted left : 
       goes_on t.id e f 0 (Wanting t wanted) (Blocked u) k refl (ap (λ (x : TxnValue). Some x.id) is.2)
       (ap (λ (x : TxnValue). Some x.key) is.2) same later (same, leads (Blocked u) (h, is), refl)
 
-  pub acquire_fails : u ≡ t → IsStep e f 0 (Wanting t wanted) (Failing u) None
-  acquire_fails is =
-      goes_on t.id e f 0 (Wanting t wanted) (Failing u) k refl (ap (λ (x : TxnValue). Some x.id) is)
-      (ap (λ (x : TxnValue). Some x.key) is) same later (same, leads (Failing u) is, refl)
+  pub acquire_fails : (error : AllocError) → IsAcquired e t u a.0 a.1 (Err error) →
+      IsStep e f 0 (Wanting t wanted) (Failing u) None
+  acquire_fails error is =
+      let still = unacquired e t u a error is in
+      goes_on t.id e f 0 (Wanting t wanted) (Failing u) k refl (ap (λ (x : TxnValue). Some x.id) still)
+      (ap (λ (x : TxnValue). Some x.key) still) same later (same, leads (Failing u) (error, is), refl)
 
 -- ---- a number
 module _ (e f : EngineValue) (shard : ℕ) (t u : TxnValue) (left : ℕ) (lives : WorkerLives e (Wishing t left))
@@ -203,29 +222,27 @@ module _ (e f : EngineValue) (shard : ℕ) (t u : TxnValue) (left : ℕ) (lives 
       (ap (λ (x : TxnValue). Some x.key) is.call) same (later, suited_number t u is.reserved is.call lives.1)
       (same, (is, more, count), refl)
 
-  unchanged : (error : ReserveError) → IsReserved e t u shard (Err error) → u ≡ t
-  unchanged refusals.Memory is = is.1
-  unchanged refusals.Spent is = is.1
-
   pub reserve_fails : (error : ReserveError) → IsReserved e t u shard (Err error) →
       IsStep e f shard (Wishing t left) (Failing u) None
   reserve_fails error is =
-      let still = unchanged error is in
+      let still = unreserved_same e shard t u error is in
       goes_on t.id e f shard (Wishing t left) (Failing u) k refl (ap (λ (x : TxnValue). Some x.id) still)
       (ap (λ (x : TxnValue). Some x.key) still) same later (same, (error, is), refl)
 
 -- ---- a commit
 pub committed : (e f : EngineValue) (done : FinishedValue) (r : ReleaseValue) (receipt : Receipt) (after : Afterwards) →
     Lives e (txn_of done) → KeepsOthers done.id e f → IsLeaving f r → IsReleased done r → Executes e f done receipt →
+    IsCalled done.received done.xid done.done.call done.done.ctx →
     IsStep e f 0 (Ready done) (Leaving r after) (Some (answers.Executed receipt))
-committed e f done r receipt after lives k leaving released executes = record {
+committed e f done r receipt after lives k leaving released executes called = record {
   lives = leaving;
   rest =
       rest_with done.id e f (Ready done) (Leaving r after) k refl (ap Some released.id)
       (places_without e f (Ready done) (Leaving r after) done.key done.id (origin_of done.received done.done.call)
       lives.running refl
       (ap (λ (b : BookValue). b.living) executes.commits.rest));
-  effect = (done, executes);
+  effect = (done, executes, called);
+  ids = ids_kept e f (Ready done) (Leaving r after) (ap (λ (b : BookValue). b.next_id) executes.commits.rest) refl;
   named = (executes, released);
 }
 
@@ -240,7 +257,8 @@ module _ (e f : EngineValue) (r : ReleaseValue) (after : Afterwards) (k : KeepsO
         (places_same e f (Leaving r after) Idle (ap (λ (b : BookValue). b.living) same)
         (sym (ap after_key is.0)));
     effect = keeps_book e f same;
-    named = (same, is.0, refl);
+    ids = ids_kept e f (Leaving r after) Idle (ap (λ (b : BookValue). b.next_id) same) refl;
+    named = (same, (is.0, is.2, is.3), refl);
   }
 
   pub released_more : (left : ReleaseValue) → Releases e f r (next.More left) →
@@ -248,7 +266,7 @@ module _ (e f : EngineValue) (r : ReleaseValue) (after : Afterwards) (k : KeepsO
   released_more left is =
       goes_on r.id e f 0 (Leaving r after) (Leaving left after) k refl (ap (λ (x : ReleaseValue). Some x.id) is.3)
       (ap (λ (x : ReleaseValue). after_key x.after) is.3) same is.0
-      (same, (is.1, not_free r is.1 is.2.held, is.3, refl), refl)
+      (same, (is.1, is.2, is.3, refl), refl)
 
   module _ (leaving : IsLeaving e r) (p : PendingValue) (is : Releases e f r (next.Aborted p)) where
     own : p.id ≡ r.id
@@ -258,10 +276,10 @@ module _ (e f : EngineValue) (r : ReleaseValue) (after : Afterwards) (k : KeepsO
     released_to = elim after as (λ (x : Afterwards). IsStep e f 0 (Leaving r x) (after_all p x) None) [
       | Again ↦
           goes_on r.id e f 0 (Leaving r Again) (PutOff p) k refl (ap Some own) (sym (ap after_key is.0)) same is.1
-          (same, (p, is.0, refl), refl)
+          (same, (p, is.0, refl, is.2, is.3), refl)
       | GiveUp ↦
           goes_on r.id e f 0 (Leaving r GiveUp) (Refusing p) k refl (ap Some own) (sym (ap after_key is.0)) same is.1
-          (same, (p, is.0, refl), refl)
+          (same, (p, is.0, refl, is.2, is.3), refl)
     ]
 
 -- ---- the beginning and the end of a call
@@ -282,6 +300,7 @@ begun e f a t b lives k shards = record {
   effect =
       b.rest ∙ ap (λ n. record e.book { living = f.book.living; next_id = n })
       (sym (ap (λ (x : BookValue). x.next_id) b.rest));
+  ids = ap (λ (x : BookValue). x.next_id) b.rest;
   named = tt;
 }
 
@@ -292,6 +311,7 @@ answers_idle e f answer same effect = record {
   lives = tt;
   rest = rest_still e f Idle Idle same refl refl;
   effect = effect;
+  ids = ids_kept e f Idle Idle (ap (λ (x : EngineValue). x.book.next_id) same) refl;
   named = tt;
 }
 
@@ -311,6 +331,7 @@ repeated e f a kept r all shards = record {
   lives = tt;
   rest = rest_all e f all shards (ap (λ (b : BookValue). b.living) r.rest);
   effect = recalls e f a kept r;
+  ids = ids_kept e f Idle Idle (ap (λ (b : BookValue). b.next_id) r.rest) refl;
   named = tt;
 }
 
@@ -360,6 +381,7 @@ given_up e f p refused answer waits g k shards is =
           (places_without e f (Refusing p) Idle p.key p.id (origin_of p.received p.call) waits.running refl
           (ap (λ (x : BookValue). x.living) g.rest));
       effect = not_executed e f (received_value refused.received) refused.asked answer is keeps;
+      ids = ids_kept e f (Refusing p) Idle (ap (λ (x : BookValue). x.next_id) g.rest) refl;
       named = declined answer (subst (λ (x : Received). IsRefused x refused.asked answer) g.received is);
     }
   where

@@ -16,7 +16,7 @@ use Rattle.nfs_engine.specs.declared.admission.Refused as given
 use Rattle.nfs_engine.specs.declared.release.Then.{Then}
 use Rattle.nfs_engine.specs.declared.release.Then.TheVariants as then
 use Rattle.nfs_schedule.proofs.Rest.{places_same, places_without, rest_still, rest_without}
-use Rattle.nfs_schedule.proofs.Steps.{keeps_book}
+use Rattle.nfs_schedule.proofs.Steps.{keeps_living}
 use Rattle.nfs_schedule.specs.Answers.{IsUnanswered}
 use Rattle.nfs_schedule.specs.Stops.{IsGone, IsStop, received_of}
 use Rattle.nfs_schedule.specs.Workers.{worker_id, worker_key}
@@ -87,14 +87,12 @@ module _ (e f : EngineValue) (w : Worker) (key id : ℕ) (received : Received) (
         (places_without e f w Idle key id o running place living);
     store =
         gone.book
-        ∙ ap (λ l. record e.book { living = l }) (sym living)
-        ∙ ap (λ n. record e.book { living = f.book.living; next_id = n })
-        (sym (ap (λ (b : BookValue). b.next_id) gone.book));
+        ∙ ap (λ l. record e.book { living = l }) (sym living);
     stopped = (received, came, unanswered);
   }
 
 pub stop_idle : (e : EngineValue) → IsStop e e Idle None
-stop_idle e = record { rest = rest_still e e Idle Idle refl refl refl; store = keeps_book e e refl; stopped = refl }
+stop_idle e = record { rest = rest_still e e Idle Idle refl refl refl; store = keeps_living e e refl; stopped = refl }
 
 -- its call was executed, and holds nothing any more
 pub stop_ended : (e f : EngineValue) (r : ReleaseValue) (after : Afterwards) → LetsAllGo e f r None →
@@ -104,7 +102,7 @@ stop_ended e f r after lets = record {
       rest_without r.id e f (Leaving r after) Idle lets.others refl refl lets.nothing
       (places_same e f (Leaving r after) Idle (ap (λ (b : BookValue). b.living) lets.book)
       (sym (ap no_key lets.leads)));
-  store = keeps_book e f lets.book;
+  store = keeps_living e f lets.book;
   stopped = ap no_received lets.leads;
 }
   where

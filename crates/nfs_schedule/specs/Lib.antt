@@ -1,3 +1,4 @@
+pub mod Accounts
 pub mod Answers
 pub mod Events
 pub mod Executions

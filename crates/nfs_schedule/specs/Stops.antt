@@ -7,7 +7,7 @@ use Rattle.nfs_engine.specs.Running.{without_call}
 use Rattle.nfs_engine.specs.declared.release.Then.{Then}
 use Rattle.nfs_engine.specs.declared.release.Then.TheVariants as then
 use Rattle.nfs_schedule.specs.Answers.{IsUnanswered}
-use Rattle.nfs_schedule.specs.Turns.{KeepsStore}
+use Rattle.nfs_schedule.specs.Turns.{KeepsBook}
 use Rattle.nfs_schedule.specs.Workers.{KeepsRest}
 use Rattle.nfs_schedule.specs.declared.answer.Answer.{Answer}
 use Rattle.nfs_schedule.specs.declared.worker.Worker.{Worker}
@@ -50,5 +50,5 @@ pub record IsGone (e f : EngineValue) (key id : ℕ) : Type 0 where
 -- that are kept are as they were, and so is what other workers have.
 pub record IsStop (e f : EngineValue) (w : Worker) (answer : Option Answer) : Type 0 where
   pub rest : KeepsRest e f w Idle
-  pub store : KeepsStore e f
+  pub store : KeepsBook e f
   pub stopped : IsStopped w answer

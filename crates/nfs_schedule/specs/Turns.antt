@@ -1,5 +1,5 @@
 -- What a turn does: the step that the worker's state names.
-use Rattle.std.specs.Prelude.{◌≡◌, ◌+◌, ◌<◌, ◌≤◌, ℕ, false, List, [], ◌∷◌, Option, Some, None}
+use Rattle.std.specs.Prelude.{◌≡◌, ◌+◌, ◌<◌, ◌≤◌, ℕ, List, [], ◌∷◌, Option, Some, None}
 use Rattle.std.specs.Prelude.{Ok, Err, length}
 use Rattle.std.specs.Vec.Iter.{into_iter_items}
 use Rattle.nfs_machine.specs.RpcReplies.{success_message}
@@ -7,9 +7,10 @@ use Rattle.nfs_replies.specs.Kept.ReplyEvent.{Repeated}
 use Rattle.nfs_replies.specs.Replies.{IsAfter}
 use Rattle.nfs_engine.specs.Arrivals.{ArrivalValue, received_value}
 use Rattle.nfs_engine.specs.Book.{Begins, Commits, Leads, Repeats, Steps, StillRuns}
-use Rattle.nfs_engine.specs.Calls.{FinishedValue, PendingValue, TxnValue, again_of, txn_of}
+use Rattle.nfs_engine.specs.Calls.{FinishedValue, IsCalled, PendingValue, TxnValue, again_of, txn_of}
 use Rattle.nfs_engine.specs.Commits.{IsReceipt}
-use Rattle.nfs_engine.specs.Engine.{EngineValue, IsAcquired, IsReleased, IsReserved, freed_more, is_free, release_of}
+use Rattle.nfs_engine.specs.Engine.{EngineValue, FreesLast, FreesOne, IsAcquired, IsReleased, IsReserved, freed_more}
+use Rattle.nfs_engine.specs.Engine.{release_of}
 use Rattle.nfs_engine.specs.Releases.{ReleaseValue}
 use Rattle.nfs_engine.specs.Repeats.{Keeps, RepeatValue, kept_for, origin_in, origin_of}
 use Rattle.nfs_engine.specs.declared.arrival.Reading.TheVariants as readings
@@ -22,7 +23,7 @@ use Rattle.nfs_objects.specs.declared.address.Addr.{Addr}
 use Rattle.nfs_objects.specs.declared.modes.Mode.{Mode}
 use Rattle.std.specs.declared.alloc.AllocError.{AllocError}
 use Rattle.nfs_schedule.specs.Answers.{IsRefused, IsUnanswered}
-use Rattle.nfs_schedule.specs.Workers.{KeepsRest, Thinks, WorkerLives}
+use Rattle.nfs_schedule.specs.Workers.{KeepsRest, Thinks, WorkerLives, worker_id}
 use Rattle.nfs_schedule.specs.declared.answer.Answer.{Answer}
 use Rattle.nfs_schedule.specs.declared.answer.Answer.TheVariants as answers
 use Rattle.nfs_schedule.specs.declared.worker.Afterwards.{Afterwards}
@@ -36,6 +37,15 @@ use Rattle.nfs_schedule.specs.declared.worker.Worker.TheVariants.{Leaving, PutOf
 -- store, records, messages and the replies that are kept are as they were
 abbrev pub KeepsStore : EngineValue → EngineValue → Type 0
 KeepsStore e f = f.book ≡ record e.book { living = f.book.living; next_id = f.book.next_id }
+
+-- all of the book but which calls are in progress is as it was
+abbrev pub KeepsBook : EngineValue → EngineValue → Type 0
+KeepsBook e f = f.book ≡ record e.book { living = f.book.living }
+
+-- how many numbers of calls were taken: one, where there was no call and now is one
+abbrev pub numbers_taken : (old new : Option ℕ) → ℕ
+numbers_taken None (Some id) = 1
+numbers_taken old new = 0
 
 -- This call was executed: its record is the next one, and one step of the machine from the present state. If it changes
 -- something, its answer is kept for what it came with.
@@ -55,7 +65,8 @@ pub record Recalls (e f : EngineValue) (kept : RepeatValue) : Type 0 where
 
 -- only what is executed changes store, records and messages, and only that and a repeat the replies that are kept
 abbrev pub Effect : EngineValue → EngineValue → Option Answer → Type 0
-Effect e f (Some (answers.Executed receipt)) = (done : FinishedValue) × Executes e f done receipt
+Effect e f (Some (answers.Executed receipt)) = (done : FinishedValue) × Executes e f done receipt ×
+    IsCalled done.received done.xid done.done.call done.done.ctx
 Effect e f (Some (answers.Repeated kept)) = Recalls e f kept
 Effect e f answer = KeepsStore e f
 
@@ -89,7 +100,7 @@ Acquires e t a others (Trying u) = IsAcquired {E = AllocError} e t u a.0 a.1 (Ok
 Acquires e t a others (Wanting u wanted) =
     IsAcquired {E = AllocError} e t u a.0 a.1 (Ok got.Yes) × (into_iter_items wanted ≡ others)
 Acquires e t a others (Blocked u) = (h : ℕ) × IsAcquired {E = AllocError} e t u a.0 a.1 (Ok (got.Taken h))
-Acquires e t a others (Failing u) = u ≡ t
+Acquires e t a others (Failing u) = (error : AllocError) × IsAcquired e t u a.0 a.1 (Err error)
 Acquires e t a others worker = ⊥
 
 abbrev pub TakesFirst : EngineValue → TxnValue → List (Addr × Mode) → Worker → Type 0
@@ -115,12 +126,13 @@ abbrev pub after_all : PendingValue → Afterwards → Worker
 after_all p Again = PutOff p
 after_all p GiveUp = Refusing p
 
--- one shard more is let go; or all is
-abbrev pub Follows : ReleaseValue → Afterwards → Worker → Type 0
-Follows r after (Leaving left still) =
-    (k : ℕ) × (is_free r k ≡ false) × (left ≡ freed_more r k) × (still ≡ after)
-Follows r after Idle = r.after ≡ then.Ended
-Follows r after next = (p : PendingValue) × (r.after ≡ then.Aborted p) × (next ≡ after_all p after)
+-- One shard more is let go, and no other; or all is, and this shard was the last, if there was one.
+abbrev pub Follows : EngineValue → EngineValue → ReleaseValue → Afterwards → Worker → Type 0
+Follows e f r after (Leaving left still) =
+    (k : ℕ) × FreesOne e.shards f.shards r k × (left ≡ freed_more r k) × (still ≡ after)
+Follows e f r after Idle = (r.after ≡ then.Ended) × (last : Option ℕ) × FreesLast e.shards f.shards r last
+Follows e f r after next = (p : PendingValue) × (r.after ≡ then.Aborted p) × (next ≡ after_all p after) ×
+    (last : Option ℕ) × FreesLast e.shards f.shards r last
 
 -- the call is over, and was not executed
 abbrev pub Declines : PendingValue → Worker → Option Answer → Type 0
@@ -140,7 +152,7 @@ IsNamed e f shard (Blocked t) next answer =
     (f ≡ e) × (next ≡ Leaving (release_of t) Again) × (answer ≡ None)
 IsNamed e f shard (Failing t) next answer =
     (f ≡ e) × (next ≡ Leaving (release_of t) GiveUp) × (answer ≡ None)
-IsNamed e f shard (Leaving r after) next answer = (f.book ≡ e.book) × Follows r after next × (answer ≡ None)
+IsNamed e f shard (Leaving r after) next answer = (f.book ≡ e.book) × Follows e f r after next × (answer ≡ None)
 IsNamed e f shard (PutOff p) next answer = (f ≡ e) × (next ≡ Trying (again_of p)) × (answer ≡ None)
 IsNamed e f shard (Refusing p) next answer = Declines p next answer
 
@@ -155,6 +167,7 @@ pub record IsStep (e f : EngineValue) (shard : ℕ) (old new : Worker) (answer :
   pub lives : WorkerLives f new
   pub rest : KeepsRest e f old new
   pub effect : Effect e f answer
+  pub ids : f.book.next_id ≡ e.book.next_id + numbers_taken (worker_id old) (worker_id new)
   pub named : IsNamed e f shard old new answer
 
 -- a worker thinks, and makes the step that its state then names

@@ -3,6 +3,7 @@
 ghost use Rattle.std.specs.Prelude.{◌≡◌, ◌<◌, ◌++◌, IfErr, OnErr, OnOk, length, option_to_list, take};
 ghost use Rattle.std.specs.List.{AllByRecursion};
 ghost use Rattle.std.specs.Vec.{vec_capacity, vec_len};
+ghost use Rattle.nfs_schedule.specs.Accounts.{IsAccounted, made};
 ghost use Rattle.nfs_schedule.specs.Events.{Arrives, Drives, Goes, HasWorker};
 ghost use Rattle.nfs_schedule.specs.Worlds.{RunsOn};
 
@@ -42,6 +43,7 @@ pub fn drive(
     ensures ok { OnOk result (Drives world.old events.now world.new answers.old.items answers.new.items) }
     ensures err { IfErr result (λ e. (e.0 < length events.now)
         × Drives world.old (take e.0 events.now) world.new answers.old.items answers.new.items) }
+    ensures accounts { IsAccounted world.old world.new (made events.now result) answers.old.items answers.new.items }
     ensures runs { RunsOn world.old world.new }
     ensures workers { length world.new.workers ≡ length world.old.workers }
 {

@@ -248,6 +248,8 @@ fn commit(alloc: Global, engine: &mut Engine, finished: Finished) -> (Worker, Op
     requires { Lives engine.old (txn_of finished) }
     ensures { IsStep engine.old engine.new 0 (Worker.Ready finished) result.0 result.1 }
 {
+    // It brings that this is what the record asks.
+    finished.is_finished();
     match engine.commit(alloc, finished) {
         Ok((receipt, release)) => (
             Worker::Leaving(release, Afterwards::Again),

@@ -4,7 +4,7 @@ ghost use Rattle.std.specs.Prelude.{◌≡◌, ◌<◌, ◌≤◌, [], ◌∷◌
 ghost use Rattle.std.specs.Prelude.{OnOk, length, replicate};
 ghost use Rattle.nfs_schedule.specs.Order.{IsOrderly};
 ghost use Rattle.nfs_schedule.specs.Stops.{IsStop};
-ghost use Rattle.nfs_schedule.specs.Turns.{KeepsStore, Turns};
+ghost use Rattle.nfs_schedule.specs.Turns.{KeepsBook, Turns};
 ghost use Rattle.nfs_schedule.specs.Workers.{WorkerLives};
 ghost use Rattle.nfs_schedule.specs.Worlds.{IsAtRest, IsKept, RunsOn, Stops, TakesOldest, TakesTurn, TurnsEra};
 
@@ -77,7 +77,7 @@ impl World {
     /// Ends the world: stops every worker. What waits in the queue is dropped. It takes no memory.
     pub fn end(self) -> Engine
         ensures rest { IsAtRest result }
-        ensures store { KeepsStore self.engine result }
+        ensures store { KeepsBook self.engine result }
     {
         let World {
             engine,
@@ -228,7 +228,7 @@ fn idle_workers(alloc: Global, count: usize) -> Result<Vec<Worker>, AllocError>
 fn stop_all(engine: &mut Engine, workers: Vec<Worker>)
     requires { IsKept engine.old workers.items }
     ensures rest { IsAtRest engine.new }
-    ensures store { KeepsStore engine.old engine.new }
+    ensures store { KeepsBook engine.old engine.new }
 {
     let mut workers = workers;
     'workers: while let Some(worker) = workers.pop() {

@@ -1,6 +1,10 @@
-use Rattle.std.proofs.Common.{length, take, sym, ◌∙◌, ap, subst, arith}
+use Rattle.std.proofs.Common.{List, length, take, take_all, sym, ◌∙◌, ap, subst, arith}
+use Rattle.nfs_schedule.proofs.Accounted.{drives_accounts}
 use Rattle.nfs_schedule.proofs.Driven.{drives_further, drives_runs, drives_workers, has_worker}
+use Rattle.nfs_schedule.specs.Accounts.{IsAccounted}
 use Rattle.nfs_schedule.specs.Worlds.{RunsOn, WorldValue}
+use Rattle.nfs_schedule.specs.declared.answer.Answer.{Answer}
+use Rattle.nfs_schedule.specs.declared.driving.Event.{Event}
 use Rattle.nfs_schedule.proofs.driving.drive.Goals as goal
 
 pub happen-requires : goal.happen-requires
@@ -8,6 +12,22 @@ happen-requires c =
     has_worker c.args.world.now c.loop-index.world c.args.events.now c.loop-index.index c.index-events-index.result
     c.args.answers.now.items c.loop-index.answers.items c.requires (omega arith) c.index-events-index.is
     c.loop-index.invariant
+
+pub returns-in-Err-clause-accounts : goal.returns-in-Err-clause-accounts
+returns-in-Err-clause-accounts c =
+    subst (λ (w : WorldValue). IsAccounted c.args.world.now w (take c.loop-index.index c.args.events.now)
+    c.args.answers.now.items c.happen.new.answers.items) (sym c.in-Err.ensures.err.0)
+    (subst (λ (said : List Answer). IsAccounted c.args.world.now c.loop-index.world
+    (take c.loop-index.index c.args.events.now) c.args.answers.now.items said) (sym c.in-Err.ensures.err.1)
+    (drives_accounts c.args.world.now c.loop-index.world (take c.loop-index.index c.args.events.now)
+    c.args.answers.now.items c.loop-index.answers.items c.loop-index.invariant))
+
+pub returns-clause-accounts : goal.returns-clause-accounts
+returns-clause-accounts c =
+    subst (λ (events : List Event). IsAccounted c.args.world.now c.loop-index.world events c.args.answers.now.items
+    c.loop-index.answers.items) (take_all _ _ (omega arith))
+    (drives_accounts c.args.world.now c.loop-index.world (take c.loop-index.index c.args.events.now)
+    c.args.answers.now.items c.loop-index.answers.items c.loop-index.invariant)
 
 pub returns-in-Err-clause-runs : goal.returns-in-Err-clause-runs
 returns-in-Err-clause-runs c =

@@ -29,4 +29,4 @@ pub returns-in-Err : goal.returns-in-Err
 returns-in-Err c =
     let is = rw c.in-Err.is at c.acquire.ensures.acquired in
     acquire_fails _ _ _ _ _ _ c.next.new.self c.in-Some.ensures.cases.0 c.requires c.acquire.ensures.lives
-    c.acquire.ensures.others c.acquire.ensures.book is.1
+    c.acquire.ensures.others c.acquire.ensures.book _ is

@@ -1,5 +1,5 @@
 use Rattle.std.proofs.Common.{length}
-use Rattle.nfs_schedule.specs.Turns.{KeepsStore}
+use Rattle.nfs_schedule.specs.Turns.{KeepsBook}
 use Rattle.nfs_schedule.specs.Worlds.{IsKept}
 use Rattle.nfs_schedule.proofs.world.stop_all.Given as goal
 
@@ -7,7 +7,7 @@ use Rattle.nfs_schedule.proofs.world.stop_all.Given as goal
 abbrev pub invariant-workers : goal.invariant-workers
 invariant-workers l = record {
   kept : IsKept l.engine l.workers.items;
-  store : KeepsStore l.initial.engine l.engine;
+  store : KeepsBook l.initial.engine l.engine;
 }
 
 abbrev pub decreases-workers : goal.decreases-workers
