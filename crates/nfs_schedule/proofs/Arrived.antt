@@ -177,7 +177,7 @@ came_same t u same = ap (λ (x : TxnValue). Some x.received) same
 comes_received : (t : TxnValue) (v : Worker) → Comes t v → received_of v ≡ Some t.received
 comes_received t (Wanting u wanted) c = came_same t u c.0
 comes_received t (Wishing u count) c = came_same t u c.0
-comes_received t (Ready d) c = came_same t (txn_of d) c
+comes_received t (Ready d) c = came_same t (txn_of d) c.0
 comes_received t (Failing u) c = came_same t u c
 comes_received t Idle c = absurd c
 comes_received t (Trying u) c = absurd c

@@ -11,7 +11,7 @@ use Rattle.nfs_machine.specs.declared.calls.Call.{Call}
 use Rattle.nfs_machine.specs.declared.context.Ctx.{Ctx}
 use Rattle.nfs_objects.proofs.Seen.{all-map}
 use Rattle.nfs_objects.specs.Asks.{EachOnce}
-use Rattle.nfs_objects.specs.Attempt.{Attempts}
+use Rattle.nfs_objects.specs.Attempt.{AsksFirst, Attempts}
 use Rattle.nfs_objects.specs.Bound.{Given, Read, WasAsked, held, view_after, with_round}
 use Rattle.nfs_objects.specs.Fits.{vacant}
 use Rattle.nfs_objects.specs.Rooms.{with_entry, with_number}
@@ -180,15 +180,19 @@ module _ (t u : TxnValue) (r : Reserved) (left : ℕ) (is : u ≡ record t { vie
 -- what an attempt on the call's view came to is asked for
 pub asks_need : (t : TxnValue) (call : Call) (ctx : Ctx) (view : ViewValue) (outcome : Outcome)
     (asked : Vec (Addr × Mode) Global) (wanted : List (Addr × Mode)) → Attempts call ctx view outcome →
-    outcome ≡ Need asked → call ≡ t.call → ctx ≡ t.ctx → view ≡ t.view → wanted ≡ asked.items →
+    AsksFirst call view outcome → outcome ≡ Need asked → call ≡ t.call → ctx ≡ t.ctx → view ≡ t.view → wanted ≡ asked.items →
     AsksFor t wanted
-asks_need t call ctx view outcome asked wanted attempts need called under seen listed = record {
+asks_need t call ctx view outcome asked wanted attempts first need called under seen listed = record {
   asked = asked;
   attempts =
       subst (λ (o : Outcome). Attempts t.call t.ctx t.view o) need
       (subst (λ (v : ViewValue). Attempts t.call t.ctx v outcome) seen
       (subst (λ (x : Ctx). Attempts t.call x view outcome) under
       (subst (λ (c : Call). Attempts c ctx view outcome) called attempts)));
+  first =
+      subst (λ (o : Outcome). AsksFirst t.call t.view o) need
+      (subst (λ (v : ViewValue). AsksFirst t.call v outcome) seen
+      (subst (λ (c : Call). AsksFirst c view outcome) called first));
   whole = sym listed;
 }
 
@@ -198,7 +202,7 @@ comes_grown t (Wanting u wanted) c g =
     (asking_all t (into_iter_items wanted) g c.1)
 comes_grown t (Wishing u left) c g =
     subst (λ (x : TxnValue). IsNumbering x left) (sym c.0) (numbering_all t left g c.1)
-comes_grown t (Ready d) c g = subst (λ (x : TxnValue). HasGrown x) (sym c) g
+comes_grown t (Ready d) c g = subst (λ (x : TxnValue). HasGrown x) (sym c.0) g
 comes_grown t (Failing u) c g = inl (subst (λ (x : TxnValue). HasGrown x) (sym c) g)
 comes_grown t Idle c g = absurd c
 comes_grown t (Trying u) c g = absurd c

@@ -9,8 +9,10 @@ use Rattle.nfs_engine.specs.Shards.{ShardValue}
 use Rattle.nfs_engine.specs.declared.running.Running.{Running}
 use Rattle.nfs_schedule.proofs.Grown.{turn_grown}
 use Rattle.nfs_schedule.proofs.Others.{worker_known}
+use Rattle.nfs_schedule.proofs.Reading.{turn_read}
 use Rattle.nfs_schedule.proofs.Rest.{all_on}
 use Rattle.nfs_schedule.proofs.Steps.{thinks_on}
+use Rattle.nfs_schedule.specs.Asking.{HasRead}
 use Rattle.nfs_schedule.specs.Grown.{IsGrown}
 use Rattle.nfs_schedule.specs.Stops.{IsStop}
 use Rattle.nfs_schedule.specs.Turns.{Turns}
@@ -20,12 +22,12 @@ use Rattle.nfs_schedule.specs.declared.answer.Answer.{Answer}
 use Rattle.nfs_schedule.specs.declared.worker.Worker.{Worker}
 use Rattle.nfs_schedule.specs.declared.worker.Worker.TheVariants.{Idle}
 
-set_here : {X : Type 0} (xs : List X) (i : ℕ) (x y : X) → slice_get xs i ≡ Some x → slice_get (set xs i y) i ≡ Some y
+pub set_here : {X : Type 0} (xs : List X) (i : ℕ) (x y : X) → slice_get xs i ≡ Some x → slice_get (set xs i y) i ≡ Some y
 set_here [] i x y e = cc
 set_here (z ∷ xs) zero x y e = refl
 set_here (z ∷ xs) (suc i) x y e = set_here xs i x y e
 
-set_there : {X : Type 0} (xs : List X) (i j : ℕ) (y : X) → i ≢ j → slice_get (set xs i y) j ≡ slice_get xs j
+pub set_there : {X : Type 0} (xs : List X) (i j : ℕ) (y : X) → i ≢ j → slice_get (set xs i y) j ≡ slice_get xs j
 set_there [] i j y apart = refl
 set_there (z ∷ xs) zero zero y apart = absurd (apart refl)
 set_there (z ∷ xs) zero (suc j) y apart = refl
@@ -52,7 +54,8 @@ rest_thought e f w t v ids keys rest = record {
 }
 
 module _ (e f : EngineValue) (ws : List Worker) (i : ℕ) (w v : Worker) (kept : IsKept e ws)
-    (at : slice_get ws i ≡ Some w) (lives : WorkerLives f v) (grown : IsGrown v) (rest : KeepsRest e f w v) where
+    (at : slice_get ws i ≡ Some w) (lives : WorkerLives f v) (grown : IsGrown v) (read : HasRead v)
+    (rest : KeepsRest e f w v) where
   here : (j : ℕ) (u : Worker) → j ≡ i → slice_get (set ws i v) j ≡ Some u → v ≡ u
   here j u same is =
       let there : slice_get (set ws i v) j ≡ Some v =
@@ -76,6 +79,12 @@ module _ (e f : EngineValue) (ws : List Worker) (i : ℕ) (w v : Worker) (kept :
       alike_or j i
       (λ same. subst (λ (x : Worker). IsGrown x) (here j u same is) grown)
       (λ other. kept.grown j u (before j u other is))
+
+  read_after : (j : ℕ) (u : Worker) → slice_get (set ws i v) j ≡ Some u → HasRead u
+  read_after j u is =
+      alike_or j i
+      (λ same. subst (λ (x : Worker). HasRead x) (here j u same is) read)
+      (λ other. kept.read j u (before j u other is))
 
   -- the turning worker's number is its old one or a new one, so no other has it
   unique : (j : ℕ) (u : Worker) (x : ℕ) → j ≢ i → slice_get ws j ≡ Some u → worker_id v ≡ Some x →
@@ -124,6 +133,7 @@ module _ (e f : EngineValue) (ws : List Worker) (i : ℕ) (w v : Worker) (kept :
   kept_on = record {
     lives = lives_after;
     grown = grown_after;
+    read = read_after;
     apart = apart_after;
     running = λ key some. elim (rest.running key some) [
       | inl is ↦ mine worker_key key is
@@ -143,12 +153,13 @@ kept_turn e f queue later shard ws i w v answer kept at turns =
     let on = thinks_on e w turns.thought turns.thinks (kept.lives i w at) in
     kept_on e f ws i w v kept at turns.step.lives
     (turn_grown e f queue later shard w v answer turns (kept.grown i w at))
+    (turn_read e f queue later shard w v answer turns (kept.lives i w at) (kept.read i w at))
     (rest_thought e f w turns.thought v on.ids on.keys turns.step.rest)
 
 -- ---- a stop
 pub kept_stop : (e f : EngineValue) (ws : List Worker) (i : ℕ) (w : Worker) (answer : Option Answer) → IsKept e ws →
     slice_get ws i ≡ Some w → IsStop e f w answer → IsKept f (set ws i Idle)
-kept_stop e f ws i w answer kept at stop = kept_on e f ws i w Idle kept at tt tt stop.rest
+kept_stop e f ws i w answer kept at stop = kept_on e f ws i w Idle kept at tt tt tt stop.rest
 
 -- ---- a step that concerns the book alone
 -- each call, and whoever holds an address, is as it was
@@ -157,6 +168,7 @@ pub kept_all : (e f : EngineValue) (ws : List Worker) → KeepsAll e f → f.sha
 kept_all e f ws all shards living k = record {
   lives = λ i w at. all_on e f all w (k.lives i w at);
   grown = k.grown;
+  read = k.read;
   apart = k.apart;
   running = λ key some.
       k.running key (subst (λ (l : List (Option Running)). IsSome (running_at l key)) living some);
@@ -180,6 +192,7 @@ pub kept_idle : (e : EngineValue) (n : ℕ) → IsAtRest e → IsKept e (replica
 kept_idle e n rest = record {
   lives = λ i w is. subst (λ (x : Worker). WorkerLives e x) (sym (all_idle n i w is)) tt;
   grown = λ i w is. subst (λ (x : Worker). IsGrown x) (sym (all_idle n i w is)) tt;
+  read = λ i w is. subst (λ (x : Worker). HasRead x) (sym (all_idle n i w is)) tt;
   apart = λ i j w v id isw isv wx vx. absurd (idle_has_none w id (all_idle n i w isw) wx);
   running = λ key some. absurd (none_of (running_at e.book.living key) (rest.running key) some);
   held = λ a id some. absurd (none_of (held_among e.shards a id) (rest.held a id) some);
@@ -227,6 +240,7 @@ kept_first : (e : EngineValue) (ws : List Worker) → IsKept e (ws ++ Idle ∷ [
 kept_first e ws k = record {
   lives = λ i w at. k.lives i w (got_first ws i w at);
   grown = λ i w at. k.grown i w (got_first ws i w at);
+  read = λ i w at. k.read i w (got_first ws i w at);
   apart = λ i j w v id isw isv. k.apart i j w v id (got_first ws i w isw) (got_first ws j v isv);
   running = λ key some. someones_first worker_key ws key refl (k.running key some);
   held = λ a id some. someones_first worker_id ws id refl (k.held a id some);

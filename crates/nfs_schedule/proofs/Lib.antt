@@ -1,6 +1,8 @@
 pub mod Accounted
+pub mod Acquired
 pub mod Alone
 pub mod Arrived
+pub mod Asked
 pub mod AtRest
 pub mod Built
 pub mod Driven
@@ -13,6 +15,7 @@ pub mod Ledgers
 pub mod Nothing
 pub mod Ordered
 pub mod Others
+pub mod Reading
 pub mod Refusing
 pub mod Rest
 pub mod Runs

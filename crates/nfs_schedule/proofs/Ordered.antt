@@ -1,17 +1,22 @@
 -- What is true of a world at every moment, by what it keeps.
-use Rattle.std.proofs.Common.{◌≡◌, ℕ, ◌==◌, Bool, true, false, cond, Option, Some, None, IsSome, List, refl, sym, ◌∙◌, subst}
+use Rattle.std.proofs.Common.{◌≡◌, ℕ, ◌==◌, Bool, true, false, cond, Option, Some, None, IsSome, List, [], refl, sym}
+use Rattle.std.proofs.Common.{◌∙◌, subst}
 use Rattle.std.specs.Cmp.{unsigned_Decides}
+use Rattle.std.specs.Vec.Iter.{into_iter_items}
+use Rattle.nfs_objects.specs.declared.address.Addr.{Addr}
 use Rattle.nfs_objects.specs.declared.modes.Mode.{Mode}
 use Rattle.nfs_objects.specs.declared.modes.Mode.TheVariants.{Shared, Exclusive}
 use Rattle.nfs_engine.specs.Calls.{TxnValue, txn_of}
 use Rattle.nfs_engine.specs.Engine.{IsTied, Lives, slot_among}
 use Rattle.nfs_engine.specs.Holders.{hold_in, is_among}
 use Rattle.nfs_schedule.proofs.Few.{reads_few}
+use Rattle.nfs_schedule.specs.Asking.{HasRead, IsRead, wanted_by}
 use Rattle.nfs_schedule.specs.Order.{IsOrderly, IsReading, executed_by}
 use Rattle.nfs_schedule.specs.Workers.{WorkerLives}
 use Rattle.nfs_schedule.specs.Worlds.{IsKept, WorldValue}
 use Rattle.nfs_schedule.specs.declared.worker.Worker.{Worker}
-use Rattle.nfs_schedule.specs.declared.worker.Worker.TheVariants.{Idle, Trying, Wanting, Wishing, Ready, Blocked, Failing}
+use Rattle.nfs_schedule.specs.declared.worker.Worker.TheVariants.{Idle, Trying, Wanting, Wishing, Ready, Blocked}
+use Rattle.nfs_schedule.specs.declared.worker.Worker.TheVariants.{Failing}
 use Rattle.nfs_schedule.specs.declared.worker.Worker.TheVariants.{Leaving, PutOff, Refusing}
 
 -- ---- who holds an address alone
@@ -57,6 +62,24 @@ reads w (Leaving r after) t is lives = not_one w t is
 reads w (PutOff p) t is lives = not_one w t is
 reads w (Refusing p) t is lives = not_one w t is
 
+-- ---- what they want next
+asked_so : (t u : TxnValue) (wanted : List (Addr × Mode)) → Some t ≡ Some u →
+    IsRead t.call t.view.entries wanted → IsRead u.call u.view.entries wanted
+asked_so t u wanted is r =
+    let same : t ≡ u = cc in subst (λ (x : TxnValue). IsRead x.call x.view.entries wanted) same r
+
+asks_so : (u : Worker) (t : TxnValue) → executed_by u ≡ Some t → HasRead u → IsRead t.call t.view.entries (wanted_by u)
+asks_so (Trying x) t is r = asked_so x t [] is r
+asks_so (Wanting x wanted) t is r = asked_so x t (into_iter_items wanted) is r
+asks_so (Wishing x count) t is r = asked_so x t [] is r.0
+asks_so (Ready f) t is r = asked_so (txn_of f) t [] is r
+asks_so (Blocked x) t is r = asked_so x t [] is r
+asks_so (Failing x) t is r = asked_so x t [] is r
+asks_so Idle t is r = cc
+asks_so (Leaving left after) t is r = cc
+asks_so (PutOff p) t is r = cc
+asks_so (Refusing p) t is r = cc
+
 pub orderly : (w : WorldValue) → IsTied w.engine → IsKept w.engine w.workers → IsOrderly w
 orderly w tied kept = record {
   tied = tied;
@@ -64,5 +87,6 @@ orderly w tied kept = record {
       one_alone (slot_among w.engine.shards a).holders.alone (slot_among w.engine.shards a).holders.beside i j is some;
   held = kept.held;
   reads = λ i u t there is. reads w u t is (kept.lives i u there);
+  asks = λ i u t there is. asks_so u t is (kept.read i u there);
   few = λ i u t there is. reads_few u t is (kept.grown i u there);
 }

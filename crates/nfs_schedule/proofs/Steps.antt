@@ -412,9 +412,9 @@ comes_on e t (Wanting u wanted) c lives =
 comes_on e t (Wishing u left) c lives = subst (λ (x : TxnValue). ThinksOn e (Trying t) (Wishing x left)) (sym c.0)
     (record { lives = lives; ids = refl; keys = refl })
 comes_on e t (Ready d) c lives = record {
-  lives = subst (λ (x : TxnValue). Lives e x) (sym c) lives.0;
-  ids = ap (λ (x : TxnValue). Some x.id) c;
-  keys = ap (λ (x : TxnValue). Some x.key) c;
+  lives = subst (λ (x : TxnValue). Lives e x) (sym c.0) lives.0;
+  ids = ap (λ (x : TxnValue). Some x.id) c.0;
+  keys = ap (λ (x : TxnValue). Some x.key) c.0;
 }
 comes_on e t (Failing u) c lives = subst (λ (x : TxnValue). ThinksOn e (Trying t) (Failing x)) (sym c)
     (record { lives = lives.0; ids = refl; keys = refl })

@@ -4,7 +4,7 @@ use Rattle.std.specs.Vec.Iter.{into_iter_items}
 use Rattle.std.specs.declared.alloc.Global.{Global}
 use Rattle.std.specs.declared.vec.Vec.{Vec}
 use Rattle.nfs_machine.specs.WellFormed.{WellFormed}
-use Rattle.nfs_objects.specs.Attempt.{Attempts}
+use Rattle.nfs_objects.specs.Attempt.{AsksFirst, Attempts}
 use Rattle.nfs_objects.specs.Bound.{Given, Grows, Read, Round, empty_count, held, view_after, with_round}
 use Rattle.nfs_objects.specs.Calls.{named_by, new_numbers}
 use Rattle.nfs_objects.specs.Fits.{Fits}
@@ -20,10 +20,11 @@ use Rattle.nfs_engine.specs.Calls.{TxnValue, txn_of}
 use Rattle.nfs_schedule.specs.declared.worker.Worker.{Worker}
 use Rattle.nfs_schedule.specs.declared.worker.Worker.TheVariants.{Trying, Wanting, Wishing, Ready, Blocked, Failing}
 
--- an attempt of the call asks for these
+-- an attempt of the call asks for these, and for what is wanted first alone
 pub record AsksFor (t : TxnValue) (wanted : List (Addr × Mode)) : Type 0 where
   pub asked : Vec (Addr × Mode) Global
   pub attempts : Attempts t.call t.ctx t.view (Need asked)
+  pub first : AsksFirst t.call t.view (Need asked)
   pub whole : asked.items ≡ wanted
 
 -- what the call has read was given in rounds

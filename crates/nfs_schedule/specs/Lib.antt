@@ -1,5 +1,7 @@
 pub mod Accounts
+pub mod Acquires
 pub mod Answers
+pub mod Asking
 pub mod Events
 pub mod Executions
 pub mod Foreseen

@@ -6,6 +6,7 @@ use Rattle.nfs_objects.specs.declared.modes.Mode.TheVariants.{Exclusive}
 use Rattle.nfs_engine.specs.Book.{store_in}
 use Rattle.nfs_engine.specs.Calls.{TxnValue, txn_of}
 use Rattle.nfs_engine.specs.Engine.{IsTied, held_among, mode_in}
+use Rattle.nfs_schedule.specs.Asking.{IsRead, wanted_by}
 use Rattle.nfs_schedule.specs.Grown.{ReadsFew}
 use Rattle.nfs_schedule.specs.Workers.{worker_id}
 use Rattle.nfs_schedule.specs.Worlds.{IsSomeones, WorldValue}
@@ -28,7 +29,8 @@ pub record IsReading (w : WorldValue) (t : TxnValue) : Type 0 where
   pub holds : (a : Addr) → held_among w.engine.shards a t.id ≡ mode_in t.view.entries a
 
 -- The shards together are the store; who holds an address alone is the only one that holds it; whoever holds one is a
--- worker's call; what each worker's call has read stands; and few addresses of that hold nothing.
+-- worker's call; what each worker's call has read stands; few addresses of that hold nothing; and what it has read and
+-- wants next is each address once, the exports first, and then what its first handle names.
 pub record IsOrderly (w : WorldValue) : Type 0 where
   pub tied : IsTied w.engine
   pub alone : (a : Addr) (i j : ℕ) → held_among w.engine.shards a i ≡ Some Exclusive →
@@ -36,5 +38,7 @@ pub record IsOrderly (w : WorldValue) : Type 0 where
   pub held : (a : Addr) (id : ℕ) → IsSome (held_among w.engine.shards a id) → IsSomeones worker_id w.workers id
   pub reads : (i : ℕ) (u : Worker) (t : TxnValue) →
       slice_get w.workers i ≡ Some u → executed_by u ≡ Some t → IsReading w t
+  pub asks : (i : ℕ) (u : Worker) (t : TxnValue) → slice_get w.workers i ≡ Some u → executed_by u ≡ Some t →
+      IsRead t.call t.view.entries (wanted_by u)
   pub few : (i : ℕ) (u : Worker) (t : TxnValue) → slice_get w.workers i ≡ Some u → executed_by u ≡ Some t →
       ReadsFew u t

@@ -5,7 +5,7 @@ use Rattle.std.specs.List.{AllByRecursion}
 use Rattle.std.specs.Vec.Iter.{into_iter_items}
 use Rattle.nfs_machine.specs.declared.calls.Call.{Call}
 use Rattle.nfs_objects.specs.Asks.{EachOnce}
-use Rattle.nfs_objects.specs.Attempt.{Attempts}
+use Rattle.nfs_objects.specs.Attempt.{Attempts, first_wanted}
 use Rattle.nfs_objects.specs.Modes.{Suits, covers, mode_at, modes_of}
 use Rattle.nfs_objects.specs.Values.{Seen, ViewValue, seen_at}
 use Rattle.nfs_objects.specs.declared.address.Addr.{Addr}
@@ -91,11 +91,13 @@ worker_key (PutOff p) = Some p.key
 worker_key (Refusing p) = Some p.key
 
 -- ---- thinking
--- the call asks for addresses, or for new numbers, or it is done; or there was no memory to think
+-- The call asks for addresses, or for new numbers, or it is done; or there was no memory to think. Before it has read
+-- what is wanted first, it asks for that alone.
 abbrev pub Comes : TxnValue → Worker → Type 0
 Comes t (Wanting u wanted) = (u ≡ t) × AsksFor t (into_iter_items wanted)
-Comes t (Wishing u count) = (u ≡ t) × Attempts t.call t.ctx t.view (Fresh count)
-Comes t (Ready f) = txn_of f ≡ t
+Comes t (Wishing u count) =
+    (u ≡ t) × Attempts t.call t.ctx t.view (Fresh count) × (first_wanted t.call t.view ≡ None)
+Comes t (Ready f) = (txn_of f ≡ t) × (first_wanted t.call t.view ≡ None)
 Comes t (Failing u) = u ≡ t
 Comes t worker = ⊥
 

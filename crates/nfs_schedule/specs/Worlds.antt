@@ -10,6 +10,7 @@ use Rattle.nfs_engine.specs.Engine.{EngineValue, held_among}
 use Rattle.nfs_engine.specs.Running.{running_at}
 use Rattle.nfs_engine.specs.declared.outbox.Posted.{Posted}
 use Rattle.nfs_engine.specs.declared.records.Era.{Era}
+use Rattle.nfs_schedule.specs.Asking.{HasRead}
 use Rattle.nfs_schedule.specs.Grown.{IsGrown}
 use Rattle.nfs_schedule.specs.Stops.{IsStop}
 use Rattle.nfs_schedule.specs.Turns.{Turns}
@@ -40,11 +41,12 @@ pub record IsSomeones (number : Worker → Option ℕ) (workers : List Worker) (
   pub there : slice_get workers place ≡ Some worker
   pub is : number worker ≡ Some n
 
--- What each worker has lives in the engine, and what its call has read grew by rounds; no two workers have one call;
--- each call in progress is a worker's, and so is each that holds an address.
+-- What each worker has lives in the engine, and what its call has read grew by rounds, each address once and in order;
+-- no two workers have one call; each call in progress is a worker's, and so is each that holds an address.
 pub record IsKept (e : EngineValue) (workers : List Worker) : Type 0 where
   pub lives : (i : ℕ) (w : Worker) → slice_get workers i ≡ Some w → WorkerLives e w
   pub grown : (i : ℕ) (w : Worker) → slice_get workers i ≡ Some w → IsGrown w
+  pub read : (i : ℕ) (w : Worker) → slice_get workers i ≡ Some w → HasRead w
   pub apart : (i j : ℕ) (w v : Worker) (id : ℕ) →
       slice_get workers i ≡ Some w → slice_get workers j ≡ Some v →
       worker_id w ≡ Some id → worker_id v ≡ Some id → i ≡ j

@@ -1,7 +1,7 @@
 //! The attempt of a call, by its program.
 
 ghost use Rattle.std.specs.Prelude.{◌≡◌, IfOk};
-ghost use Rattle.nfs_objects.specs.Attempt.{Attempts};
+ghost use Rattle.nfs_objects.specs.Attempt.{AsksFirst, Attempts};
 ghost use Rattle.nfs_objects.specs.Modes.{Suits, modes_of};
 ghost use Rattle.nfs_engine.specs.Built.{IsBuilt};
 
@@ -11,7 +11,7 @@ use nfs_objects::{Outcome, View};
 use nfs_wire::NfsCall;
 use std::alloc::{AllocError, Global};
 
-/// What the call comes to on what was read.
+/// What the call comes to on what was read. It asks for the exports first, and then for what its first handle names.
 ///
 /// # Errors
 ///
@@ -19,7 +19,8 @@ use std::alloc::{AllocError, Global};
 pub fn attempt(alloc: Global, call: &Call, ctx: &Ctx, view: &View) -> Result<Outcome, AllocError>
     requires built { IsBuilt call.now }
     requires suits { Suits (modes_of call.now) view.now }
-    ensures { IfOk result (Attempts call.now ctx.now view.now) }
+    ensures attempts { IfOk result (Attempts call.now ctx.now view.now) }
+    ensures first { IfOk result (AsksFirst call.now view.now) }
 {
     match call {
         Call::Nfs(call) => attempt_nfs(alloc, call, ctx, view),
@@ -32,7 +33,8 @@ pub fn attempt(alloc: Global, call: &Call, ctx: &Ctx, view: &View) -> Result<Out
 fn attempt_nfs(alloc: Global, call: &NfsCall, ctx: &Ctx, view: &View) -> Result<Outcome, AllocError>
     requires built { IsBuilt (Call.Nfs call.now) }
     requires suits { Suits (modes_of (Call.Nfs call.now)) view.now }
-    ensures { IfOk result (Attempts (Call.Nfs call.now) ctx.now view.now) }
+    ensures attempts { IfOk result (Attempts (Call.Nfs call.now) ctx.now view.now) }
+    ensures first { IfOk result (AsksFirst (Call.Nfs call.now) view.now) }
 {
     if nfs_names::is_name_call(call) {
         nfs_names::attempt(alloc, call, ctx, view)

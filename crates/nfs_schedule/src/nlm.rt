@@ -1,7 +1,7 @@
 //! NLM version 4 as an attempt: NULL, the one procedure that is there (RFC 1813, appendix II).
 
 ghost use Rattle.std.specs.Prelude.{◌≡◌};
-ghost use Rattle.nfs_objects.specs.Attempt.{Attempts};
+ghost use Rattle.nfs_objects.specs.Attempt.{AsksFirst, Attempts};
 ghost use Rattle.nfs_machine.specs.declared.context.Ctx.{Ctx};
 ghost use Rattle.nfs_objects.specs.Values.{ViewValue};
 ghost use Rattle.nfs_engine.specs.Built.{IsBuilt};
@@ -14,7 +14,8 @@ use std::alloc::Global;
 /// What the call comes to, whatever was read.
 pub(crate) fn attempt(alloc: Global, call: &NlmCall) -> Outcome
     requires { IsBuilt (Call.Nlm call.now) }
-    ensures { (ctx : Ctx) (view : ViewValue) → Attempts (Call.Nlm call.now) ctx view result }
+    ensures attempts { (ctx : Ctx) (view : ViewValue) → Attempts (Call.Nlm call.now) ctx view result }
+    ensures first { (view : ViewValue) → AsksFirst (Call.Nlm call.now) view result }
 {
     match call {
         NlmCall::Null => Outcome::Done(Change {

@@ -1,6 +1,7 @@
 //! A worker, which executes one call after the other: it thinks with no engine, and each turn is a step of the engine.
 
 ghost use Rattle.std.specs.Prelude.{◌≡◌, ◌<◌, None, Some};
+ghost use Rattle.nfs_objects.specs.Attempt.{first_wanted};
 ghost use Rattle.nfs_objects.specs.Promise.{IsPromised};
 ghost use Rattle.nfs_objects.specs.Values.{change_value, done_value};
 ghost use Rattle.nfs_engine.specs.Calls.{txn_of};
@@ -150,7 +151,8 @@ fn step(
 
 /// Makes the end that an attempt came to the end of the call.
 fn finish(alloc: Global, txn: Txn, change: Change) -> Worker
-    requires { IsPromised (done_value txn.call txn.ctx txn.view (change_value change)) }
+    requires promised { IsPromised (done_value txn.call txn.ctx txn.view (change_value change)) }
+    requires read { first_wanted txn.call txn.view ≡ None }
     ensures { Comes txn result }
 {
     match txn.done(alloc, change) {
