@@ -1,0 +1,126 @@
+//! The server that a scene speaks to.
+
+ghost use Rattle.std.specs.Prelude.{IfOk};
+ghost use Rattle.nfs_schedule.specs.Worlds.{IsAtRest};
+
+use crate::fault::Fault;
+use bytes::Bytes;
+use nfs_engine::{Config, Engine};
+use nfs_machine::{Limits, Moment};
+use nfs_rpc::stream::Counted;
+use nfs_server::{FixedClock, Host, Options, Served, StreamFault, configure, serve_stream};
+use std::alloc::{AllocError, Global};
+use std::marker::Model;
+
+/// A server, and the host and the second of the calls that come next.
+#[derive(Drop)]
+pub struct Server {
+    engine: Engine,
+    host: Host,
+    clock: FixedClock,
+}
+
+impl Model for Server {
+    ghost use Rattle.nfs_engine.specs.Engine.{EngineValue};
+    ghost use Rattle.nfs_schedule.specs.Worlds.{IsAtRest};
+
+    ghost Value = { EngineValue };
+
+    ghost view = { λ s. s.engine };
+
+    ghost invariant = { λ s. IsAtRest s.engine };
+}
+
+impl Server {
+    /// A new server with the options of this command line, which says the start number and the clock's second.
+    pub fn new(alloc: Global, line: &str) -> Result<Server, Fault> {
+        let options = options(alloc, line)?;
+        let Options {
+            exports,
+            start,
+            clock,
+            host,
+            bytes,
+            era_records,
+            capacity,
+        } = options;
+        let seconds = clock.unwrap_or(0);
+        let config = Config {
+            exports,
+            start: start.unwrap_or(0),
+            moment: Moment {
+                seconds,
+                nanoseconds: 0,
+            },
+            capacity,
+            limits: Limits { total_bytes: bytes },
+            era_records,
+        };
+        Ok(Server {
+            engine: opened(alloc, config)?,
+            host,
+            clock: FixedClock { seconds },
+        })
+    }
+
+    /// The next calls come from this host.
+    pub fn set_host(&mut self, alloc: Global, name: &str) -> Result<(), Fault> {
+        let Some(host) = Host::new(Bytes::copy_from_slice(alloc, name.as_bytes())?) else {
+            return Err(Fault::Line("no host"));
+        };
+        self.host = host;
+        Ok(())
+    }
+
+    /// The next calls come at this second.
+    pub fn set_clock(&mut self, seconds: u32) {
+        self.clock = FixedClock { seconds };
+    }
+
+    /// What the server writes for this input, and how serving it ends.
+    pub fn answers(
+        &mut self,
+        alloc: Global,
+        input: &[u8],
+    ) -> (Vec<u8>, Result<Served, StreamFault>) {
+        let mut reader = Counted::new(input);
+        let mut writer = Counted::new(Vec::new(alloc));
+        let end = serve_stream(
+            alloc,
+            &mut self.engine,
+            &self.host,
+            &mut self.clock,
+            &mut reader,
+            &mut writer,
+        );
+        (writer.into_inner(), end)
+    }
+}
+
+/// The options that a line gives, besides that of the transport.
+fn options(alloc: Global, line: &str) -> Result<Options, Fault> {
+    let mut words = Vec::new(alloc);
+    words.push("nfsd")?;
+    words.push("--stdio")?;
+    for word in line.split_whitespace() {
+        words.push(word)?;
+    }
+    let options = configure(alloc, &words);
+    drop(words);
+    match options {
+        Ok(options) => Ok(options),
+        Err(exit) => {
+            drop(exit);
+            Err(Fault::Line("no options of a server"))
+        }
+    }
+}
+
+fn opened(alloc: Global, config: Config) -> Result<Engine, AllocError>
+    ensures { IfOk result IsAtRest }
+{
+    match Engine::new(alloc, config) {
+        Ok(engine) => Ok(engine),
+        Err(_fault) => Err(AllocError),
+    }
+}
