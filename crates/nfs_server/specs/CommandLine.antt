@@ -3,6 +3,8 @@ use Rattle.std.specs.Prelude.{◌≡◌, ◌<◌, ◌^◌, ◌⊎◌, ◌==◌, 
 use Rattle.std.specs.Prelude.{List, [], map, drop, Option, Some, None, unwrap_or, slice_get, codes, pos}
 use Rattle.std.specs.List.{slice_split}
 use Rattle.std.specs.Option.{SomeIff}
+use Rattle.std.specs.declared.io.ErrorKind.{ErrorKind}
+use Rattle.std.specs.declared.io.ErrorKind.TheVariants.{OutOfMemory}
 use Rattle.std.specs.Str.Parse.{IsNumeral, digits_value, without_leading_plus}
 use Rattle.clap.specs.Words.{App, IsAmong, Row, Rule, Text, all_of, fault_of, first_of, found_of, kind_of}
 use Rattle.clap.specs.Words.{matches_of, new_app, new_rule, one_of, rows_of, with_rule}
@@ -150,6 +152,11 @@ pub record Configures (words : List Text) (options : Options) : Type 0 where
 abbrev pub IsValueRefusal : Exit → Type 0
 IsValueRefusal (CommandLine e) = kind_of e ≡ ValueValidation
 IsValueRefusal _ = ⊥
+
+-- the words couldn't be read for this reason: there was no memory, or they are no text
+abbrev pub IsReadingExit : ErrorKind → Exit → Type 0
+IsReadingExit OutOfMemory exit = exit ≡ Memory
+IsReadingExit _ exit = IsValueRefusal exit
 
 -- the words couldn't be read
 abbrev pub IsReadingFault : Exit → Type 0

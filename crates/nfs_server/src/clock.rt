@@ -50,6 +50,17 @@ impl<C> MachineClock<C> {
             },
         }
     }
+
+    // The next moment, so long after 1970 began as the machine says: the last one again where that is not known, or
+    // is no moment.
+    fn goes_on(&mut self, since_1970: Option<Duration>) -> Moment
+        ensures moment { IsMomentAfter since_1970 self.old.last result }
+        ensures last { self.new.last ≡ result }
+        ensures clock { self.new.clock ≡ self.old.clock }
+    {
+        self.last = moment_after(since_1970, self.last);
+        self.last
+    }
 }
 
 impl<C: Clock> Moments for MachineClock<C> {
@@ -58,8 +69,8 @@ impl<C: Clock> Moments for MachineClock<C> {
     ghost gives = { RemembersLast };
 
     fn moment(&mut self) -> Moment {
-        self.last = moment_after(since_1970(&self.clock), self.last);
-        self.last
+        let since_1970 = since_1970(&self.clock);
+        self.goes_on(since_1970)
     }
 }
 

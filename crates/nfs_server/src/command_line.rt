@@ -2,11 +2,12 @@
 
 ghost use Rattle.std.specs.Prelude.{◌≡◌, ◌==◌, [], List, false, map, slice_get, unwrap_or};
 ghost use Rattle.std.specs.Prelude.{IfErr, IfOk, MatchResult};
+ghost use Rattle.std.specs.IoError.{error_kind};
 ghost use Rattle.std.specs.List.{slice_split};
 ghost use Rattle.clap.specs.Words.{Text, app_of, found_of, rows_of, rule_of};
 ghost use Rattle.nfs_server.specs.CommandLine.{Configures, ReadsOptions, Refuses, IsParsedFrom};
 ghost use Rattle.nfs_server.specs.CommandLine.{HasLimit, IsCapacity, IsEra, IsHostRefusal, IsLimitRefusal};
-ghost use Rattle.nfs_server.specs.CommandLine.{IsReadingFault, IsRefusal, IsValueRefusal};
+ghost use Rattle.nfs_server.specs.CommandLine.{IsReadingExit, IsReadingFault, IsRefusal, IsValueRefusal};
 ghost use Rattle.nfs_server.specs.CommandLine.{export_parts, host_of, nfsd, parts_of};
 ghost use Rattle.nfs_server.specs.CommandLine.{with_limits, with_serving};
 ghost use Rattle.nfs_server.specs.CommandLine.{flag_rule, number_rule, option_rule};
@@ -39,12 +40,6 @@ const DEFAULT_CAPACITY: u64 = 1024;
 
 /// How many records an era may have at most, and how many replies may be kept of each host.
 const MOST: u64 = 65_536;
-
-/// What is said of an era of no records, or of too many.
-const BAD_ERA: &str = "the value of '--era <N>' must be 1 to 65536";
-
-/// What is said where no replies are to be kept, or too many.
-const BAD_CACHE: &str = "the value of '--cache <N>' must be 1 to 65536";
 
 /// What is said of a host that has not 1 to 255 bytes.
 const BAD_HOST: &str = "the value of '--host <TEXT>' must have 1 to 255 bytes";
@@ -149,10 +144,17 @@ pub fn arguments<R: Env + AllocGlobal>(rt: &R) -> Result<Vec<String>, Exit>
 {
     match env::args(rt) {
         Ok(words) => Ok(words.collect(rt.alloc())?),
-        Err(error) => match error.kind() {
-            io::ErrorKind::OutOfMemory => Err(Exit::Memory),
-            _ => Err(refusal(&mut command(rt.alloc())?, BAD_TEXT)?),
-        },
+        Err(error) => Err(exit_of_words(rt.alloc(), &error)?),
+    }
+}
+
+// The exit where words can't be read, for this reason: there was no memory, or they are no text.
+fn exit_of_words(alloc: Global, error: &io::Error) -> Result<Exit, AllocError>
+    ensures { IfOk result (IsReadingExit (error_kind error.now)) }
+{
+    match error.kind() {
+        io::ErrorKind::OutOfMemory => Ok(Exit::Memory),
+        _ => refusal(&mut command(alloc)?, BAD_TEXT),
     }
 }
 
@@ -206,8 +208,8 @@ fn matched_options(
         MatchResult result (Configures words) (Refuses words) }
 {
     let host = named_host(alloc, command, matches)?;
-    let era_records = named_limit(command, matches, "era", DEFAULT_RECORDS, BAD_ERA)?;
-    let capacity = named_limit(command, matches, "cache", DEFAULT_CAPACITY, BAD_CACHE)?;
+    let era_records = named_limit(alloc, command, matches, "era", DEFAULT_RECORDS)?;
+    let capacity = named_limit(alloc, command, matches, "cache", DEFAULT_CAPACITY)?;
     if !matches.get_flag("stdio") {
         return Err(Exit::NoTransport);
     }
@@ -238,22 +240,30 @@ fn named_host(
     }
 }
 
-// The number that this option gives, or the default; it is refused with this message.
+// The number that this option gives, or the default.
 fn named_limit(
+    alloc: Global,
     command: &mut Command<'_>,
     matches: &ArgMatches<'_>,
     name: &str,
     default: u64,
-    message: &str,
 ) -> Result<u64, Exit>
     ensures { MatchResult result (HasLimit name.now default (rows_of (found_of matches.now)))
         (IsLimitRefusal name.now default (rows_of (found_of matches.now))) }
 {
     let limit = matches.get_one(name).unwrap_or(default);
     if limit < 1 || limit > MOST {
-        return Err(refusal(command, message)?);
+        return Err(limit_refusal(alloc, command, name)?);
     }
     Ok(limit)
+}
+
+// The exit where the number that this option gives is refused.
+fn limit_refusal(alloc: Global, command: &mut Command<'_>, name: &str) -> Result<Exit, AllocError>
+    ensures { IfOk result IsValueRefusal }
+{
+    let message = format!(in alloc; "the value of '--{name} <N>' must be 1 to {MOST}")?;
+    refusal(command, message.as_str())
 }
 
 // The options of a command line that is taken.

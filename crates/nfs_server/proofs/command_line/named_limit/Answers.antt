@@ -14,7 +14,7 @@ reads bits bs r = ParsesUnsigned bits 10 bs r × ExplainsUnsignedError 10 bs r �
 
 pub returns-then-limit-lt1 : goal.returns-then-limit-lt1
 returns-then-limit-lt1 c =
-    refuses_limit _ _ _ c.unwrap_or-limit.result c.in_ok-refusal.field-0 (record {
+    refuses_limit _ _ _ c.unwrap_or-limit.result c.in_ok-limit_refusal.field-0 (record {
       number = c.get_one.result;
       reads =
           number_read (reads 64) 64 (found_of c.args.matches.now) c.args.name.now c.get_one.result (λ t x g. g.0)
@@ -25,7 +25,7 @@ returns-then-limit-lt1 c =
       | then-limit-lt1-via-then-limit-lt1 w ↦ omega (arith, limit.0, w.if-limit-lt1.true)
       | then-limit-lt1-via-else-limit-lt1+then-limit-gt-MOST w ↦
           omega (arith, limit.1, w.if-limit-gt-MOST.true)
-    ]) c.in_ok-refusal.ensures
+    ]) c.in_ok-limit_refusal.ensures
 
 pub returns : goal.returns
 returns c = record {
