@@ -1,38 +1,17 @@
-//! Whole streams, where a file says nothing else through a server of `/data` for every host, started with number 7 at
-//! (1000, 0), where every moment is (1000, 0). Calls and replies are worked out by hand from RFC 5531, sections 8, 9 and
-//! 11, and RFC 1813.
+//! Streams that do not go as scenes do (those stand in the file `stdin` of `scenes`), and what stands around a stream:
+//! options, exits and clocks. The server is one of `/data` for every host, started with number 7 at (1000, 0), where
+//! every moment is (1000, 0). Calls and replies are worked out by hand from RFC 5531, sections 8, 9 and 11, and RFC 1813.
 
 ghost use Rattle.std.specs.Prelude.{IfOk};
 ghost use Rattle.nfs_schedule.specs.Worlds.{IsAtRest};
 
-mod attributes;
 mod clocks;
 mod command_lines;
 mod connections;
-mod create;
-mod credentials;
-mod exchanges;
 mod exit_lines;
 mod from_options;
-mod fsstat;
-mod handles;
-mod links;
-mod lookup;
-mod moments;
-mod mounts;
-mod names;
-mod new_objects;
-mod pages;
-mod paths;
-mod permission;
-mod read_and_write;
 mod readers_and_writers;
-mod record_answers;
-mod removals;
-mod renames;
-mod repeats;
-mod scripts;
-mod shown;
+mod runs;
 mod stream_faults;
 mod want_of_memory;
 
@@ -121,77 +100,35 @@ fn host() -> Host {
     host
 }
 
-/// An export of this path and mode for one host, or for all.
-fn export(
-    alloc: Global,
-    path: &'static [u8],
-    mode: &'static [u8],
-    host: &'static [u8],
-) -> Result<ExportText, AllocError> {
-    let hosts = vec![in alloc; Bytes::from_static(host)]?;
-    Ok(ExportText {
-        path: Bytes::from_static(path),
-        mode: Bytes::from_static(mode),
-        hosts,
-    })
-}
-
-/// These exports, which are without fault.
-fn exports_of(alloc: Global, list: Vec<ExportText>) -> Result<Exports, AllocError> {
-    match Exports::new(alloc, list) {
+/// `/data` for every host, for writing too.
+fn exports(alloc: Global) -> Result<Exports, AllocError> {
+    let data = ExportText {
+        path: Bytes::from_static(b"/data"),
+        mode: Bytes::from_static(b"rw"),
+        hosts: vec![in alloc; Bytes::from_static(b"*")]?,
+    };
+    match Exports::new(alloc, vec![in alloc; data]?) {
         Ok(exports) => Ok(exports),
         Err(_fault) => Err(AllocError),
     }
-}
-
-/// `/data` for every host, in this mode.
-fn exports(alloc: Global, mode: &'static [u8]) -> Result<Exports, AllocError> {
-    let data = export(alloc, b"/data", mode, b"*")?;
-    exports_of(alloc, vec![in alloc; data]?)
 }
 
 /// The engine in its opening state.
 fn opened(alloc: Global) -> Result<Engine, AllocError>
     ensures { IfOk result IsAtRest }
 {
-    opened_as(alloc, b"rw")
-}
-
-/// The engine in the opening state of an export in this mode.
-fn opened_as(alloc: Global, mode: &'static [u8]) -> Result<Engine, AllocError>
-    ensures { IfOk result IsAtRest }
-{
-    opened_with(alloc, exports(alloc, mode)?, 1024)
-}
-
-/// The engine in the opening state of these exports, which keeps so many replies of each host.
-fn opened_with(alloc: Global, exports: Exports, capacity: u64) -> Result<Engine, AllocError>
-    ensures { IfOk result IsAtRest }
-{
-    opened_for(alloc, exports, capacity, 65_536)
-}
-
-/// The same engine, whose eras have so many records.
-fn opened_for(
-    alloc: Global,
-    exports: Exports,
-    capacity: u64,
-    era_records: u64,
-) -> Result<Engine, AllocError>
-    ensures { IfOk result IsAtRest }
-{
     let config = Config {
-        exports,
+        exports: exports(alloc)?,
         start: 7,
         moment: Moment {
             seconds: 1000,
             nanoseconds: 0,
         },
-        capacity,
+        capacity: 1024,
         limits: Limits {
             total_bytes: 1 << 40,
         },
-        era_records,
+        era_records: 65_536,
     };
     match Engine::new(alloc, config) {
         Ok(engine) => Ok(engine),
@@ -213,59 +150,13 @@ fn serve<R: Read, W: Write>(
     serve_stream(alloc, engine, &host(), &mut clock, reader, writer)
 }
 
-/// What the engine answers to a host at this second, and how serving it ends.
-fn served_at(
-    alloc: Global,
-    engine: &mut Engine,
-    host: &Host,
-    seconds: u32,
-    calls: &[u8],
-) -> (Vec<u8>, Result<Served, StreamFault>)
-    requires { IsAtRest engine.old }
-    ensures { IsAtRest engine.new }
-{
-    let mut clock = FixedClock { seconds };
-    let mut reader = Counted::new(calls);
-    let mut writer = Counted::new(Vec::new(alloc));
-    let end = serve_stream(alloc, engine, host, &mut clock, &mut reader, &mut writer);
-    (writer.into_inner(), end)
-}
-
 /// What a new server writes for this input, and how serving it ends.
 fn answers(
     alloc: Global,
     input: &[u8],
 ) -> Result<(Vec<u8>, Result<Served, StreamFault>), AllocError> {
-    answers_as(alloc, b"rw", input)
-}
-
-/// What a new server whose export has this mode writes for this input, and how serving it ends.
-fn answers_as(
-    alloc: Global,
-    mode: &'static [u8],
-    input: &[u8],
-) -> Result<(Vec<u8>, Result<Served, StreamFault>), AllocError> {
-    let mut engine = opened_as(alloc, mode)?;
+    let mut engine = opened(alloc)?;
     let mut writer = Counted::new(Vec::new(alloc));
     let end = serve(alloc, &mut engine, &mut Counted::new(input), &mut writer);
     Ok((writer.into_inner(), end))
-}
-
-/// What a new server whose eras have so many records writes for this input, and how serving it ends.
-fn answers_in_eras(
-    alloc: Global,
-    era_records: u64,
-    input: &[u8],
-) -> Result<(Vec<u8>, Result<Served, StreamFault>), AllocError> {
-    let mut engine = opened_for(alloc, exports(alloc, b"rw")?, 1024, era_records)?;
-    let mut writer = Counted::new(Vec::new(alloc));
-    let end = serve(alloc, &mut engine, &mut Counted::new(input), &mut writer);
-    Ok((writer.into_inner(), end))
-}
-
-/// Whether a new server answers these words by those, to the end of its input.
-fn answers_words(alloc: Global, input: &[u32], wanted: &[u32]) -> Result<bool, AllocError> {
-    let input = spelled(alloc, input)?;
-    let (written, end) = answers(alloc, &input)?;
-    Ok(end == Ok(Served) && is_spelled(&written, wanted))
 }

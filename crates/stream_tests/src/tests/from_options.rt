@@ -13,7 +13,7 @@ fn started(
     input: &[u8],
 ) -> Result<(Vec<u8>, Result<(), u8>), AllocError> {
     let options = Options {
-        exports: exports(alloc, b"rw")?,
+        exports: exports(alloc)?,
         start: named,
         clock: Some(1000),
         host: host(),
