@@ -1,5 +1,7 @@
 //! Connections without IO: records that come in pieces, answers that wait, and answers as datagrams.
 
+ghost use Rattle.nfs_schedule.specs.Worlds.{IsAtRest};
+
 use super::*;
 use nfs_rpc::RecordError;
 use nfs_streams::{Connection, answer_record, datagram_of};
