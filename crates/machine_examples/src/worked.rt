@@ -10,8 +10,8 @@ ghost use Rattle.machine_examples.specs.WorkedLocks.{WorkedGrants, WorkedMounts,
 ghost use Rattle.machine_examples.specs.WorkedLocks.{WorkedShares, WorkedTests};
 ghost use Rattle.machine_examples.specs.WorkedPages.{WorkedFullPages, WorkedPages, WorkedSizes};
 ghost use Rattle.machine_examples.specs.WorkedReplies.{WorkedFileReplies, WorkedRootReplies};
-ghost use Rattle.machine_examples.specs.WorkedRun.{WorkedLeaving, WorkedLinkings, WorkedRenamings, WorkedRun, WorkedSteps};
-ghost use Rattle.machine_examples.specs.WorkedRun.{WorkedTurns};
+ghost use Rattle.machine_examples.specs.WorkedRun.{WorkedLeaving, WorkedLinkings, WorkedRenamings, WorkedRun};
+ghost use Rattle.machine_examples.specs.WorkedRun.{WorkedSteps, WorkedTurns};
 ghost use Rattle.machine_examples.specs.WorkedSetting.{WorkedAccess, WorkedGuard, WorkedKinds, WorkedLimits};
 ghost use Rattle.machine_examples.specs.WorkedSetting.{WorkedSetting, WorkedSpace};
 ghost use Rattle.machine_examples.specs.WorkedSettling.{WorkedFreed, WorkedSettling};

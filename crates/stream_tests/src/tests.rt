@@ -1,6 +1,7 @@
 //! Streams that do not go as scenes do (those stand in the file `stdin` of `scenes`), and what stands around a stream:
 //! options, exits and clocks. The server is one of `/data` for every host, started with number 7 at (1000, 0), where
-//! every moment is (1000, 0). Calls and replies are worked out by hand from RFC 5531, sections 8, 9 and 11, and RFC 1813.
+//! every moment is (1000, 0). Calls and replies are worked out by hand from RFC 5531, sections 8, 9 and 11, and RFC
+//! 1813.
 
 ghost use Rattle.std.specs.Prelude.{IfOk};
 ghost use Rattle.nfs_schedule.specs.Worlds.{IsAtRest};

@@ -1,6 +1,6 @@
 //! Worlds of workers. Each scene begins with a new engine of `/data` for every host, started with number 7 at
-//! (1000, 0), and two idle workers. What is expected is worked out by hand from RFC 5531, sections 9 and 11, RFC 1813, and the
-//! steps of workers.
+//! (1000, 0), and two idle workers. What is expected is worked out by hand from RFC 5531, sections 9 and 11, RFC 1813,
+//! and the steps of workers.
 //!
 //! A turn is one step. A worker admits the oldest record in one, takes each address that its call asks for in one (the
 //! exports first), a new number in one, and commits in one. What its commit wrote is let go with it; the rest goes
