@@ -3,7 +3,9 @@ mod LockingWorked
 mod LongestMatch
 mod MakingWorked
 mod OneFile
+mod PostingWorked
 mod Ranges
 mod Replies
 mod RunWorked
 mod Settled
+mod WaitingWorked

@@ -14,9 +14,11 @@ use Rattle.side_wire.specs.declared.nlm.TestStatus.TheVariants as tested
 use Rattle.side_wire.specs.declared.message.NlmLock.{NlmLock}
 use Rattle.nfs_machine.specs.Checks.{◌>>=◌, bytes_in, holding, is_writable}
 use Rattle.nfs_machine.specs.FileLists.{all_but, of_file, with_list}
-use Rattle.nfs_machine.specs.Grants.{ChangesLocks, IsHeldUp}
+use Rattle.nfs_machine.specs.Grants.{ChangesLocks, at_file}
+use Rattle.nfs_machine.specs.OneFile.{IsHeldUp}
 use Rattle.nfs_machine.specs.Locks.{Conflicts, HasModes, fits_offsets, is_within, mode_at, modes_with, same_owner}
 use Rattle.nfs_machine.specs.Locks.{same_sharer, shares_conflict}
+use Rattle.nfs_machine.specs.LockSteps.{CancelEnds, TestEnds, UnlockEnds}
 use Rattle.nfs_machine.specs.LockSteps.{HeldUp, IsHolder, LockFault, NotRegular, RangeTooBig, ReadOnly, StaleHandle}
 use Rattle.nfs_machine.specs.LockSteps.{is_request, share_of}
 use Rattle.side_wire.specs.declared.mount.MountStatus.{MountStatus}
@@ -164,14 +166,14 @@ file_by exports fits writes r = elim r as (λ r. Result ℕ LockFault) [
 abbrev lock_under : List LivingExport → Bool → NlmLock → Resolved → Result ℕ LockFault
 lock_under exports writes l = file_by exports (fits_offsets l) writes
 
-abbrev lock_by : Bool → NlmLock → Resolved → Result ℕ LockFault
+abbrev pub lock_by : Bool → NlmLock → Resolved → Result ℕ LockFault
 lock_by = lock_under writable
 
 -- where a path without parts leads
 abbrev walked_by : Option Living → Result Named MountStatus
 walked_by o = directory_at o >>=m λ d. Ok (numbered 1 d)
 
-is-x : resolve with_hi nobody x_bytes ≡ Names 5 x_written
+pub is-x : resolve with_hi nobody x_bytes ≡ Names 5 x_written
 is-x = x-named with_hi refl x_written refl refl x-lives
 
 -- the same under a read-only export
@@ -220,12 +222,16 @@ one_reads = with_list empty 5 (reading ∷ [])
 abbrev both_read : FinMap nat_cmp (List Share)
 both_read = with_list empty 5 (reading ∷ reading_too ∷ [])
 
+-- where nothing waits, nothing does behind it
+still-none : empty ≡ with_list {A = Request} empty 5 (of_file empty 5)
+still-none = sym (ap (with_list empty 5) (none_of 5) ∙ no-list 5)
+
 -- nothing waits
 quiet : (locks : List Lock) → AllByRecursion (IsHeldUp locks) (of_file empty 5)
 quiet locks = subst (AllByRecursion (IsHeldUp locks)) (sym (none_of 5)) tt
 
 -- B asks for byte 30 alone, which A has
-held : Conflicts (of_file locks_split 5) (range_at b 30 1) Exclusive
+pub held : Conflicts (of_file locks_split 5) (range_at b 30 1) Exclusive
 held = subst (λ l. Conflicts l (range_at b 30 1) Exclusive) (sym is-split)
     (record { other = a; offset = 30; is_other = refl; is_inside = refl; conflict = refl })
 
@@ -236,19 +242,29 @@ locks-free = subst (λ l. Conflicts l (range_at a 0 100) Exclusive → ⊥) (sym
 
 locks-whole : ChangesLocks with_hi 5 (range_at a 0 100) Exclusive [] with_whole
 locks-whole = record {
-  locks = whole;
-  lists = subst (λ l. HasModes whole (modes_with l (range_at a 0 100) Exclusive)) (sym (none_of 5)) locked;
-  settles = (quiet (of_file locks_whole 5), refl);
+  after = record (at_file with_hi 5) { locks = whole };
+  granted = [];
+  sets = record {
+    locks = whole;
+    lists = subst (λ l. HasModes whole (modes_with l (range_at a 0 100) Exclusive)) (sym (none_of 5)) locked;
+    settles = (quiet whole, refl);
+  };
+  grants = record { messages_are = refl; state_is = ap (λ x. record with_whole { waiting = x }) still-none };
 }
 
 locks-split : ChangesLocks with_whole 5 (range_at a 40 20) Unlocked [] with_split
 locks-split = record {
-  locks = split;
-  lists = subst (λ l. HasModes split (modes_with l (range_at a 40 20) Unlocked)) (sym is-whole) given-back;
-  settles = (
-    quiet (of_file (with_list locks_whole 5 split) 5),
-    ap (λ x. record with_hi { locks = x }) (sym (with-again empty 5 whole split)),
-  );
+  after = record (at_file with_whole 5) { locks = split };
+  granted = [];
+  sets = record {
+    locks = split;
+    lists = subst (λ l. HasModes split (modes_with l (range_at a 40 20) Unlocked)) (sym is-whole) given-back;
+    settles = (quiet split, refl);
+  };
+  grants = record {
+    messages_are = refl;
+    state_is = λ i. record with_hi { locks = sym (with-again empty 5 whole split) i; waiting = still-none i };
+  };
 }
 
 -- a MSG call and an NM_LOCK that are denied
@@ -256,7 +272,7 @@ is-denied : (by_message : Bool) →
     LockOf with_split nobody (locking b 30 1 false) by_message (Ok 5) status.Denied [] with_split
 is-denied by_message = inr (held, record { reply_is = refl; no_message = refl; state_is = refl })
 
-abbrev goes : Request → Bool
+abbrev pub goes : Request → Bool
 goes = is_request true (on_x b 30 1)
 
 -- what A's share and B's are to what stands
@@ -280,6 +296,35 @@ conflicts-is : (s : Share) (shares : List Share) (b : Bool) → list_any (shares
     → list_any (shares_conflict s) (of_file (with_list empty 5 shares) 5) ≡ b
 conflicts-is s shares b is = ap (list_any (shares_conflict s)) (of-there empty 5 shares) ∙ is
 
+-- A gives a part of its range back
+pub unlocks-part : UnlockEnds with_whole nobody giving_back status.Granted [] with_split
+unlocks-part =
+    subst (λ r. UnlockOf with_whole giving_back (lock_by false giving_back.lock r) status.Granted [] with_split)
+    (sym is-x) (refl, locks-split)
+
+-- B cancels what waits
+pub cancels-b : CancelEnds with_waiting nobody cancelling status.Granted [] (record with_waiting { waiting = empty })
+cancels-b =
+    subst (λ r. CancelOf with_waiting cancelling (lock_by false cancelling.lock r) status.Granted []
+    (record with_waiting { waiting = empty })) (sym is-x)
+    (subst (λ some. Cancels with_waiting 5 goes some status.Granted [] (record with_waiting { waiting = empty }))
+    (sym (ap (list_any goes) (of-there empty 5 (waiting ∷ [])))) (record {
+      reply_is = refl;
+      no_message = refl;
+      state_is = ap (λ x. record with_waiting { waiting = x })
+          (sym (next-list 5 (waiting ∷ []) (all_but goes) ∙ no-list 5));
+    }))
+
+-- B's test meets A's lock
+pub tests-b : TestEnds with_split nobody testing (tested.Denied (holder 0 40)) [] with_split
+tests-b =
+    subst (λ r. TestOf with_split testing (lock_by false testing.lock r) (tested.Denied (holder 0 40)) [] with_split)
+    (sym is-x) (
+      subst (λ l. IsHolder l (range_at b 30 1) Exclusive (holder 0 40)) (sym is-split) at-30,
+      refl,
+      refl,
+    )
+
 pub worked-locking : WorkedLocking
 unfolding NlmStep MountStep walk
 worked-locking = record {
@@ -289,12 +334,7 @@ worked-locking = record {
         status.Granted [] with_whole) (sym is-x) (inl (locks-free, refl, locks-whole)),
     refl,
   );
-  unlocks = (
-    status.Granted,
-    subst (λ r. UnlockOf with_whole giving_back (lock_by false giving_back.lock r) status.Granted [] with_split)
-        (sym is-x) (refl, locks-split),
-    refl,
-  );
+  unlocks = (status.Granted, unlocks-part, refl);
   waits = (
     status.Blocked,
     subst (λ r. LockOf with_split nobody (locking b 30 1 true) false (lock_by true ((locking b 30 1 true)).lock r)
@@ -329,19 +369,7 @@ worked-locking = record {
         )),
     refl,
   );
-  cancels = (
-    status.Granted,
-    subst (λ r. CancelOf with_waiting cancelling (lock_by false cancelling.lock r) status.Granted []
-        (record with_waiting { waiting = empty })) (sym is-x)
-        (subst (λ some. Cancels with_waiting 5 goes some status.Granted [] (record with_waiting { waiting = empty }))
-        (sym (ap (list_any goes) (of-there empty 5 (waiting ∷ [])))) (record {
-          reply_is = refl;
-          no_message = refl;
-          state_is = ap (λ x. record with_waiting { waiting = x })
-              (sym (next-list 5 (waiting ∷ []) (all_but goes) ∙ no-list 5));
-        })),
-    refl,
-  );
+  cancels = (status.Granted, cancels-b, refl);
   cancels_none = (
     status.Denied,
     subst (λ r. CancelOf with_split cancelling (lock_by false cancelling.lock r) status.Denied [] with_split)
@@ -350,16 +378,7 @@ worked-locking = record {
         (sym (ap (list_any goes) (none_of 5))) (record { reply_is = refl; no_message = refl; state_is = refl })),
     refl,
   );
-  tests = (
-    tested.Denied (holder 0 40),
-    subst (λ r. TestOf with_split testing (lock_by false testing.lock r) (tested.Denied (holder 0 40)) [] with_split)
-        (sym is-x) (
-          subst (λ l. IsHolder l (range_at b 30 1) Exclusive (holder 0 40)) (sym is-split) at-30,
-          refl,
-          refl,
-        ),
-    refl,
-  );
+  tests = (tested.Denied (holder 0 40), tests-b, refl);
   posts = (
     status.Granted,
     [],

@@ -7,7 +7,8 @@ use Rattle.std.specs.Ordering.{nat_cmp}
 use Rattle.nfs_machine.specs.FileLists.{grants_but, of_file, relisted, with_list}
 use Rattle.nfs_machine.specs.State.{PendingGrant}
 use Rattle.nfs_machine.proofs.Changes.{differs-insert, differs-remove, flipped}
-use Rattle.nfs_machine.proofs.FileMaps.{differs-with, get-grants_but, get-relisted, kept, left_of, of-there, remade}
+use Rattle.nfs_machine.proofs.FileMaps.{differs-with, get-grants_but, get-relisted, kept, kept-some, kept-there}
+use Rattle.nfs_machine.proofs.FileMaps.{left_of, of-there, remade}
 
 -- another list in its place
 pub with-again : {A : Type 0} (lists : FinMap nat_cmp (List A)) (file : ℕ) (list other : List A) →
@@ -121,3 +122,35 @@ module _ {A : Type 0} (file : ℕ) where
   relisted-none anew =
       same_map nat_cmp_total nat_cmp-IsAntisymmetric _ _ (λ q.
       get-relisted anew empty q ∙ ap (remade anew q) (get-empty nat_cmp q) ∙ sym (get-empty nat_cmp q))
+
+-- a list that is put into a map leaves none empty
+pub with-some : {A : Type 0} (lists : FinMap nat_cmp (List A)) → ((q : ℕ) → get lists q ≡ Some [] → ⊥) →
+    (file : ℕ) (list : List A) → (q : ℕ) → get (with_list lists file list) q ≡ Some [] → ⊥
+with-some lists some file list q at =
+    elim (q == file) as (λ b. cond b (kept list) (get lists q) ≡ Some [] → ⊥) [
+      | true ↦ kept-some list
+      | false ↦ some q
+    ] (sym (differs-with lists file list q) ∙ at)
+
+module _ {A : Type 0} (anew : ℕ → List A → List A) (lists : FinMap nat_cmp (List A)) where
+  -- all lists go
+  pub relisted-gone : ((q : ℕ) (list : List A) → anew q list ≡ []) → relisted anew lists ≡ empty
+  relisted-gone all =
+      same_map nat_cmp_total nat_cmp-IsAntisymmetric _ _ (λ q.
+      get-relisted anew lists q ∙ of q (get lists q) ∙ sym (get-empty nat_cmp q))
+    where
+      of : (q : ℕ) (o : Option (List A)) → remade anew q o ≡ None
+      of q None = refl
+      of q (Some list) = ap kept (all q list)
+
+  -- all lists stay
+  pub relisted-kept : ((q : ℕ) → get lists q ≡ Some [] → ⊥) →
+      ((q : ℕ) → anew q (of_file lists q) ≡ of_file lists q) → relisted anew lists ≡ lists
+  relisted-kept some all =
+      same_map nat_cmp_total nat_cmp-IsAntisymmetric _ _ (λ q. get-relisted anew lists q ∙ of q (get lists q) refl)
+    where
+      of : (q : ℕ) (o : Option (List A)) → get lists q ≡ o → remade anew q o ≡ get lists q
+      of q None at = sym at
+      of q (Some list) at =
+          let is : of_file lists q ≡ list = ap (λ o. unwrap_or o []) at in
+          ap (λ l. kept (anew q l)) (sym is) ∙ ap kept (all q) ∙ sym (kept-there lists some q)

@@ -4,7 +4,7 @@ use Rattle.std.proofs.Common.{None, find, refl, ap, arith}
 use Rattle.nfs_machine.specs.Locks.{AreListed, HasModes, is_within, mode_at, modes_with}
 use Rattle.nfs_machine.specs.LockSteps.{IsHolder}
 use Rattle.nfs_machine.specs.State.{Lock, Owner}
-use Rattle.machine_examples.specs.WorkedLocks.{a, b, holder, lock, range_at, split, to_the_end, whole, Unlocked, Exclusive}
+use Rattle.machine_examples.specs.WorkedLocks.{a, b, holder, lock, range_at, split, to_the_end, whole, Exclusive}
 use Rattle.std.specs.List.{count_by}
 use Rattle.nfs_machine.proofs.Modes.{narrower, holds, mode_by}
 
@@ -18,17 +18,21 @@ one-listed l rises fits = record {
   ];
 }
 
-pub locked : HasModes whole (modes_with [] (range_at a 0 100) Exclusive)
-locked = record { modes_are = modes; listed = one-listed (lock a 0 99 true) (omega arith) (omega arith) }
+-- where there was none
+pub one-has : (l : Lock) → l.first ≤ l.last → l.last < 2 ^ 64 →
+    HasModes (l ∷ []) (modes_with [] l.range (Some l.exclusive))
+one-has l rises fits = record { modes_are = modes; listed = one-listed l rises fits }
   where
     modes : (owner : Owner) (offset : ℕ) →
-        mode_at whole owner offset ≡ modes_with [] (range_at a 0 100) Exclusive owner offset
-    modes owner offset =
-        elim (holds owner offset (lock a 0 99 true)) as
-        (λ b. mode_by (cond b (Some (lock a 0 99 true)) None) ≡ cond b Exclusive Unlocked) [
+        mode_at (l ∷ []) owner offset ≡ modes_with [] l.range (Some l.exclusive) owner offset
+    modes owner offset = elim (holds owner offset l) as
+        (λ t. mode_by (cond t (Some l) None) ≡ cond t (Some l.exclusive) None) [
           | true ↦ refl
           | false ↦ refl
         ]
+
+pub locked : HasModes whole (modes_with [] (range_at a 0 100) Exclusive)
+locked = one-has (lock a 0 99 true) (omega arith) (omega arith)
 
 -- A's modes in the split lock
 low : (offset : ℕ) → is_within 0 39 offset ≡ true → mode_at split a offset ≡ Exclusive

@@ -52,13 +52,13 @@ use Rattle.machine_examples.specs.WorkedRun.{wrote_reply, received, WorkedLeavin
 use Rattle.machine_examples.specs.WorkedRun.{WorkedSteps, WorkedTurns, all_three, argument_bytes, arrives, executed}
 use Rattle.machine_examples.specs.WorkedRun.{first_two, nfs_header, in_root, listed_full_reply, listed_reply, listing}
 use Rattle.machine_examples.specs.WorkedRun.{linking, listing_full, made_reply, making, miscounted, nobody, opened, left}
-use Rattle.machine_examples.specs.WorkedRun.{page_reply, read_only, refused_reply, renamed, renaming, removed, removed_reply}
+use Rattle.machine_examples.specs.WorkedRun.{page_reply, read_only, refused_reply, renamed, renaming}
 use Rattle.machine_examples.specs.WorkedRun.{root_after, root_with, root_with_both, root_with_x, setting, with_x, writing}
 use Rattle.machine_examples.specs.WorkedRun.{with_hi, x, x_bytes, x_entry, x_written, y_entry}
 use Rattle.nfs_machine.specs.declared.calls.Call.TheVariants as calls
 use Rattle.nfs_machine.specs.declared.context.Ctx.{Ctx}
 use Rattle.nfs_machine.proofs.Choosing.{End, EndsAs, Fresh, known, make_new, makes-so}
-use Rattle.nfs_machine.specs.RemoveSteps.{remove_end}
+use Rattle.nfs_machine.specs.RemoveSteps.{remove_end, without_object}
 use Rattle.nfs_machine.proofs.Moves.{move_end}
 use Rattle.nfs_machine.proofs.Opened.{only_roots, roots_formed}
 use Rattle.nfs_machine.proofs.Kept.{chains_keep_form}
@@ -272,36 +272,52 @@ names-x =
       sum-insert_old (names_in 5) with_x.objects 5 x x_written x-made,
     )
 
-abbrev take_object : Option Named → Result (Unit {0} × State) NfsStatus
-take_object found =
-    ok_or found status.NoEntry >>= λ o. not_directory o.object.content >>= λ _. Ok (tt, losing_name (with_object with_hi 1 root_after) (names_of with_hi o.number) (time 1000 0) o.number o.object)
+-- "x" is removed where its locks, and what waits for it, are any
+module _ (k : State) where
+  abbrev any_locks : State
+  any_locks = record k { objects = with_hi.objects; exports = with_hi.exports }
 
-abbrev take_under : Named → DirectoryEntries → Result (Unit {0} × State) NfsStatus
-take_under directory entries =
-    ok_or (object_under with_hi (entry_of entries.list (codes "x"))) status.NoEntry >>= λ o. not_directory o.object.content >>= λ _.
-    let left = with_object with_hi directory.number (with_content directory.object (time 1000 0) (Directory (without entries.list (codes "x")) entries.last_cookie)) in
-    Ok (tt, losing_name left (names_of with_hi o.number) (time 1000 0) o.number o.object)
+  abbrev gone_of : State
+  gone_of = without_object (with_object any_locks 1 root_after) 5
 
-abbrev take_by : Resolved → Result (Unit {0} × State) NfsStatus
-take_by r =
-    object_of r >>= λ directory. entries_in directory.object.content >>= λ entries. plain_name_checked status.Invalid
-    status.Invalid (codes "x") >>= λ _. changeable writable directory.object >>= λ _. permitted nobody directory.object
-    ToChange
-    >>= λ _. take_under directory entries
+  abbrev take_object : Option Named → Result (Unit {0} × State) NfsStatus
+  take_object found =
+      ok_or found status.NoEntry >>= λ o. not_directory o.object.content >>= λ _.
+      Ok (tt, losing_name (with_object any_locks 1 root_after) (names_of any_locks o.number) (time 1000 0) o.number o.object)
 
-taken : remove_end with_hi nobody (in_root (codes "x")) ≡ Ok (tt, removed)
-taken =
-    ap take_by (root-named with_hi refl root_with_x refl refl root-written)
-    ∙ ap (λ (l : Option Living). take_object (option_map (λ (o : Living). numbered 5 o) l)) x-lives
-    ∙ ap (λ k. Ok (tt, losing_name (with_object with_hi 1 root_after) k (time 1000 0) 5 x_written)) names-x
+  abbrev take_under : Named → DirectoryEntries → Result (Unit {0} × State) NfsStatus
+  take_under directory entries =
+      ok_or (object_under any_locks (entry_of entries.list (codes "x"))) status.NoEntry >>= λ o.
+      not_directory o.object.content >>= λ _.
+      let left = with_object any_locks directory.number
+      (with_content directory.object (time 1000 0) (Directory (without entries.list (codes "x")) entries.last_cookie)) in
+      Ok (tt, losing_name left (names_of any_locks o.number) (time 1000 0) o.number o.object)
 
-takes : NfsStep with_hi nobody (nfs.Remove (in_root (codes "x"))) removed_reply [] removed
-unfolding NfsStep
-takes = record {
-  reply_is = sym (ap (λ end. nfs_replies.Remove (record { directory = wcc (state_after with_hi end) (resolve with_hi nobody root_bytes); result = answer_of end })) taken);
-  no_message = refl;
-  state_is = sym (ap (state_after with_hi) taken);
-}
+  abbrev take_by : Resolved → Result (Unit {0} × State) NfsStatus
+  take_by r =
+      object_of r >>= λ directory. entries_in directory.object.content >>= λ entries. plain_name_checked status.Invalid
+      status.Invalid (codes "x") >>= λ _. changeable writable directory.object >>= λ _. permitted nobody directory.object
+      ToChange
+      >>= λ _. take_under directory entries
+
+  taken : remove_end any_locks nobody (in_root (codes "x")) ≡ Ok (tt, gone_of)
+  taken =
+      ap take_by (root-named any_locks refl root_with_x refl refl root-written)
+      ∙ ap (λ (l : Option Living). take_object (option_map (λ (o : Living). numbered 5 o) l)) x-lives
+      ∙ ap (λ n. Ok (tt, losing_name (with_object any_locks 1 root_after) n (time 1000 0) 5 x_written)) names-x
+
+  pub takes-of : NfsStep any_locks nobody (nfs.Remove (in_root (codes "x")))
+      (nfs_replies.Remove (record { directory = wcc gone_of (resolve any_locks nobody root_bytes); result = Ok tt }))
+      [] gone_of
+  unfolding NfsStep
+  takes-of = record {
+    reply_is = sym (ap (λ end. nfs_replies.Remove (record {
+      directory = wcc (state_after any_locks end) (resolve any_locks nobody root_bytes);
+      result = answer_of end;
+    })) taken);
+    no_message = refl;
+    state_is = sym (ap (state_after any_locks) taken);
+  }
 
 executes-create : Executes setting opened (executed (nfs.Create making) made_reply) with_x
 executes-create = record { ctx = nobody; call = calls.Nfs (nfs.Create making); asks = asked (nfs.Create making) making-read making-form; step = creates }
@@ -320,7 +336,7 @@ worked-run = record {
 }
 
 pub worked-steps : WorkedSteps
-worked-steps = record { listed = lists; listed_full = lists-full; removes = takes; refuses = refused }
+worked-steps = record { listed = lists; listed_full = lists-full; removes = takes-of with_hi; refuses = refused }
 
 -- ---- LINK
 abbrev link_found : State → List ℕ → (file directory : Named) → (entries : DirectoryEntries) → (links : ℕ) → Option Entry → Result (Unit {0} × State) NfsStatus

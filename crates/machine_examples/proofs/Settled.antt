@@ -11,8 +11,9 @@ use Rattle.side_wire.specs.declared.nlm.NlmStatus.{NlmStatus}
 use Rattle.side_wire.specs.declared.nlm.NlmStatus.TheVariants as nlm_status
 use Rattle.nfs_machine.specs.Bytes.{same_bytes}
 use Rattle.nfs_machine.specs.FileLists.{all_but, of_file, with_list}
-use Rattle.nfs_machine.specs.Grants.{FileWaits, Grants, IsHeldUp, SettleInOrder, grant_cookie}
-use Rattle.nfs_machine.specs.Grants.{grant_message, requested}
+use Rattle.nfs_machine.specs.Grants.{ChangesLocks, SettleInOrder, SettlesFile, at_file, grant_cookie}
+use Rattle.nfs_machine.specs.Grants.{grant_message}
+use Rattle.nfs_machine.specs.OneFile.{FileLocks, IsGranted, IsHeldUp, SetsMode, Settles, requested}
 use Rattle.nfs_machine.specs.Locks.{HasModes, is_in, is_within, mode_at, modes_with, modes_without, same_owner}
 use Rattle.nfs_machine.specs.LockSteps.{GrantEnds, freed_with, is_answered}
 use Rattle.nfs_machine.specs.NlmSteps.{NlmStep}
@@ -26,7 +27,7 @@ use Rattle.machine_examples.proofs.OneFile.{relisted-none, relisted-one, removed
 use Rattle.nfs_machine.proofs.Firm.{none-listed}
 use Rattle.nfs_machine.proofs.Modes.{inside, listed_locks_tell, narrower, holds, mode_by}
 use Rattle.nfs_machine.proofs.Opened.{none_of}
-use Rattle.machine_examples.proofs.Ranges.{one-listed}
+use Rattle.machine_examples.proofs.Ranges.{one-has, one-listed}
 
 abbrev first_held : List Lock
 first_held = lock a 0 9 true ∷ []
@@ -148,80 +149,60 @@ shared-by-b = record {
 b-held-up : IsHeldUp first_held (waiting b 5)
 b-held-up = record { other = a; offset = 0; is_other = refl; is_inside = refl; conflict = refl }
 
--- a request of the fifth file is granted, where these are its locks and these its requests
-granting : (old : State) (before after : List Lock) (earlier : List Request) (r : Request) (later : List Request)
-    (new : State)
-    → of_file old.locks 5 ≡ before → of_file old.waiting 5 ≡ earlier ++ r ∷ later
-    → AllByRecursion (IsHeldUp before) earlier → (IsHeldUp before r → ⊥)
-    → HasModes after (modes_with before (requested r) (Some r.exclusive))
-    → new ≡ record old {
-      locks = with_list old.locks 5 after;
-      waiting = with_list old.waiting 5 (earlier ++ later);
-      granted = insert old.granted r.number (pending r);
-    }
-    → Grants old 5 (grant_message r) new
-granting old before after earlier r later new locks waits held free lists is = record {
-  earlier = earlier;
-  request = r;
-  later = later;
-  waits = waits;
-  held_up = subst (λ l. AllByRecursion (IsHeldUp l) earlier) (sym locks) held;
-  free = subst (λ l. IsHeldUp l r → ⊥) (sym locks) free;
-  locks = after;
-  lists = subst (λ l. HasModes after (modes_with l (requested r) (Some r.exclusive))) (sym locks) lists;
-  message_is = refl;
-  state_is = is;
-}
+-- a file with these shares, locks and requests
+abbrev pub having : List Share → List Lock → List Request → FileLocks
+having shares locks waiting = record { locks = locks; shares = shares; waiting = waiting }
 
--- none waits for the file
-none-waits : (m : State) → of_file m.waiting 5 ≡ [] → FileWaits m 5
-none-waits m none = subst (AllByRecursion (IsHeldUp (of_file m.locks 5))) (sym none) tt
+-- one of them is granted
+pub grants-one : (shares : List Share) (before after : List Lock) (earlier : List Request) (r : Request)
+    (later : List Request) → AllByRecursion (IsHeldUp before) earlier → (IsHeldUp before r → ⊥)
+    → HasModes after (modes_with before (requested r) (Some r.exclusive))
+    → IsGranted (having shares before (earlier ++ r ∷ later)) r (having shares after (earlier ++ later))
+grants-one shares before after earlier r later held free lists = record {
+  earlier = earlier;
+  later = later;
+  waits = refl;
+  held_up = held;
+  free = free;
+  lists = lists;
+  waiting = refl;
+  shares = refl;
+}
 
 pub worked-settling : WorkedSettling
 worked-settling m =
-    let locks : FinMap nat_cmp (List Lock) = with_list m.locks 5 two_held in
-    let waits : FinMap nat_cmp (List Request) = with_list m.waiting 5 (waiting b 5 ∷ waiting a 69 ∷ []) in
-    let given : State = record m { locks = with_list locks 5 first_held; waiting = waits } in
-    let one : State = record m {
-      locks = with_list m.locks 5 first_shared;
-      waiting = with_list m.waiting 5 (waiting b 5 ∷ []);
-      granted = insert m.granted 69 (pending (waiting a 69));
-    } in
-    let both : State = record m {
-      locks = with_list m.locks 5 both_shared;
-      waiting = with_list m.waiting 5 [];
-      granted = insert (insert m.granted 69 (pending (waiting a 69))) 5 (pending (waiting b 5));
-    } in
-    let relocked : with_list m.locks 5 first_shared ≡ with_list (with_list locks 5 first_held) 5 first_shared =
-    sym (with-again locks 5 first_held first_shared ∙ with-again m.locks 5 two_held first_shared) in
-    let rewaited = sym (with-again m.waiting 5 (waiting b 5 ∷ waiting a 69 ∷ []) (waiting b 5 ∷ [])) in
-    let last_locks = sym (with-again m.locks 5 first_shared both_shared) in
-    let last_waits = sym (with-again m.waiting 5 (waiting b 5 ∷ []) []) in record {
-      locks = first_held;
-      lists = subst (λ l. HasModes first_held (modes_with l (range_at c 10 10) Unlocked))
-          (sym (of-there m.locks 5 two_held))
-          given-back;
-      settles = (
-        one,
-        granting given first_held first_shared (waiting b 5 ∷ []) (waiting a 69) [] one (of-there locks 5 first_held)
-            (of-there m.waiting 5 (waiting b 5 ∷ waiting a 69 ∷ [])) (b-held-up, tt)
-            (listed_locks_tell first_held (range_at a 0 20) Shared refl) shared-by-a (λ i. record m {
-              locks = relocked i;
-              waiting = rewaited i;
-              granted = insert m.granted 69 (pending (waiting a 69));
-            }),
-        (
-          both,
-          granting one first_shared both_shared [] (waiting b 5) [] both (of-there m.locks 5 first_shared)
-              (of-there m.waiting 5 (waiting b 5 ∷ [])) tt
-              (listed_locks_tell first_shared (range_at b 0 20) Shared refl) shared-by-b (λ i. record m {
-                locks = last_locks i;
-                waiting = last_waits i;
-                granted = insert (insert m.granted 69 (pending (waiting a 69))) 5 (pending (waiting b 5));
-              }),
-          (none-waits both (of-there m.waiting 5 []), refl),
-        ),
-      );
+    let waits : List Request = waiting b 5 ∷ waiting a 69 ∷ [] in
+    let shares : List Share = of_file m.shares 5 in
+    let old : State = record m { locks = with_list m.locks 5 two_held; waiting = with_list m.waiting 5 waits } in
+    let has : having shares two_held waits ≡ at_file old 5 =
+    λ i. having shares (sym (of-there m.locks 5 two_held) i) (sym (of-there m.waiting 5 waits) i) in
+    let granted : List Request = waiting a 69 ∷ waiting b 5 ∷ [] in
+    let after : FileLocks = having shares both_shared [] in record {
+      after = after;
+      granted = granted;
+      sets = subst (λ x. SetsMode x (range_at c 10 10) Unlocked granted after) has (record {
+        locks = first_held;
+        lists = given-back;
+        settles = (
+          having shares first_shared (waiting b 5 ∷ []),
+          grants-one shares first_held first_shared (waiting b 5 ∷ []) (waiting a 69) [] (b-held-up, tt)
+              (listed_locks_tell first_held (range_at a 0 20) Shared refl) shared-by-a,
+          (
+            after,
+            grants-one shares first_shared both_shared [] (waiting b 5) [] tt
+                (listed_locks_tell first_shared (range_at b 0 20) Shared refl) shared-by-b,
+            (tt, refl),
+          ),
+        );
+      });
+      grants = record {
+        messages_are = refl;
+        state_is = λ i. record m {
+          locks = sym (with-again m.locks 5 two_held both_shared) i;
+          waiting = sym (with-again m.waiting 5 waits []) i;
+          granted = insert (insert m.granted 69 (pending (waiting a 69))) 5 (pending (waiting b 5));
+        };
+      };
     }
 
 -- ---- FREE_ALL, and answers of grants
@@ -235,7 +216,7 @@ same-turned owner offset other = elim (holds owner offset (lock c 0 19 true)) as
       | false ↦ λ has. refl
     ] refl
 
-freed : HasModes [] (modes_without (lock c 0 19 true ∷ []) (codes "c3"))
+pub freed : HasModes [] (modes_without (lock c 0 19 true ∷ []) (codes "c3"))
 freed = record { modes_are = modes; listed = none-listed }
   where
     modes : (owner : Owner) (offset : ℕ) →
@@ -259,7 +240,7 @@ none-freed = record { modes_are = modes; listed = none-listed }
           | false ↦ refl
         ]
 
-all-freed : (file : ℕ) →
+pub all-freed : (file : ℕ) →
     HasModes [] (modes_without (of_file (with_list empty 5 (lock c 0 19 true ∷ [])) file) (codes "c3"))
 all-freed = each-with empty 5 (lock c 0 19 true ∷ [])
     (λ q (l : List Lock). HasModes [] (modes_without l (codes "c3"))) freed
@@ -268,20 +249,7 @@ all-freed = each-with empty 5 (lock c 0 19 true ∷ [])
 -- one lock where there was none
 alone-of : (o : Owner) (exclusive : Bool) →
     HasModes (lock o 0 19 exclusive ∷ []) (modes_with [] (range_at o 0 20) (Some exclusive))
-alone-of o exclusive = record {
-  modes_are = modes;
-  listed = one-listed (lock o 0 19 exclusive) (omega arith) (omega arith);
-}
-  where
-    modes : (owner : Owner) (offset : ℕ) →
-        mode_at (lock o 0 19 exclusive ∷ []) owner offset ≡ modes_with [] (range_at o 0 20)
-        (Some exclusive) owner offset
-    modes owner offset =
-        elim (holds owner offset (lock o 0 19 exclusive)) as
-        (λ t. mode_by (cond t (Some (lock o 0 19 exclusive)) None) ≡ cond t (Some exclusive) Unlocked) [
-          | true ↦ refl
-          | false ↦ refl
-        ]
+alone-of o exclusive = one-has (lock o 0 19 exclusive) (omega arith) (omega arith)
 
 -- and none where it is given back
 none-of : (o : Owner) (exclusive : Bool) →
@@ -298,20 +266,13 @@ none-of o exclusive = record { modes_are = modes; listed = none-listed }
         ]
 
 -- the first of those that wait is granted where nothing is held
-grants-first : (old : State) (r : Request) (later : List Request) (o : Owner) (exclusive : Bool) (new : State)
-    → of_file old.locks 5 ≡ [] → of_file old.waiting 5 ≡ r ∷ later → requested r ≡ range_at o 0 20
-    → r.exclusive ≡ exclusive → new ≡ record old {
-      locks = with_list old.locks 5 (lock o 0 19 exclusive ∷ []);
-      waiting = with_list old.waiting 5 later;
-      granted = insert old.granted r.number (pending r);
-    }
-    → Grants old 5 (grant_message r) new
-grants-first old r later o exclusive new locks waits range mode is =
-    granting old [] (lock o 0 19 exclusive ∷ []) [] r later new locks waits tt
-    (λ held. listed_locks_tell [] (requested r) (Some r.exclusive) refl held)
-    (subst (λ x. HasModes (lock o 0 19 exclusive ∷ []) (modes_with [] x (Some r.exclusive))) (sym range)
-    (subst (λ e. HasModes (lock o 0 19 exclusive ∷ []) (modes_with [] (range_at o 0 20) (Some e))) (sym mode)
-    (alone-of o exclusive))) is
+pub grants-first : (o : Owner) (number : ℕ) (exclusive : Bool) (later : List Request) →
+    let r : Request = record (waiting o number) { exclusive = exclusive } in
+    IsGranted (having [] [] (r ∷ later)) r (having [] (lock o 0 19 exclusive ∷ []) later)
+grants-first o number exclusive later =
+    let r : Request = record (waiting o number) { exclusive = exclusive } in
+    grants-one [] [] (lock o 0 19 exclusive ∷ []) [] r later tt
+    (λ held. listed_locks_tell [] (requested r) (Some exclusive) refl held) (alone-of o exclusive)
 
 a-in-the-way : IsHeldUp (lock a 0 19 true ∷ []) (alone b 69)
 a-in-the-way = record { other = a; offset = 0; is_other = refl; is_inside = refl; conflict = refl }
@@ -328,7 +289,7 @@ one-waits locks waits held q =
       | false ↦ subst (AllByRecursion (IsHeldUp (of_file empty q))) (sym (none_of q)) tt
     ]))
 
-no-waits : (locks : FinMap nat_cmp (List Lock)) (q : ℕ) →
+pub no-waits : (locks : FinMap nat_cmp (List Lock)) (q : ℕ) →
     AllByRecursion (IsHeldUp (of_file locks q)) (of_file empty q)
 no-waits locks q = subst (AllByRecursion (IsHeldUp (of_file locks q))) (sym (none_of q)) tt
 
@@ -341,10 +302,10 @@ freed_of_c m first second = record m {
   granted = empty;
 }
 
-abbrev c_caller : Request → Bool
+abbrev pub c_caller : Request → Bool
 c_caller r = same_bytes r.asked.caller_name (codes "c3")
 
-abbrev nothing_listed : ℕ → List Lock
+abbrev pub nothing_listed : ℕ → List Lock
 nothing_listed file = []
 
 freed-is : (m : State) (first second : Request) →
@@ -357,13 +318,11 @@ freed-is m first second stay =
     let granted = grants-none (λ (g : PendingGrant). c_caller g.request) in
     λ i. record m { locks = locks i; shares = shares i; waiting = waits i; granted = granted i }
 
-abbrev first_has : State → State
-first_has m = record m {
-  locks = with_list empty 5 first_shared;
-  shares = empty;
-  waiting = with_list empty 5 (waiting b 69 ∷ []);
-  granted = insert empty 5 (pending (waiting a 5));
-}
+-- what the fifth file has then
+has-left : (m : State) (first second : Request) →
+    having [] [] (first ∷ second ∷ []) ≡ at_file (freed_of_c m first second) 5
+has-left m first second =
+    λ i. having (sym (none_of 5) i) (sym (none_of 5) i) (sym (of-there empty 5 (first ∷ second ∷ [])) i)
 
 abbrev both_have : State → State
 both_have m = record m {
@@ -373,64 +332,72 @@ both_have m = record m {
   granted = insert (insert empty 5 (pending (waiting a 5))) 69 (pending (waiting b 69));
 }
 
-first-granted : (m : State) →
-    Grants (freed_of_c m (waiting a 5) (waiting b 69)) 5 (grant_message (waiting a 5)) (first_has m)
-first-granted m =
-    let waits = sym (with-again empty 5 (waiting a 5 ∷ waiting b 69 ∷ []) (waiting b 69 ∷ [])) in
-    grants-first (freed_of_c m (waiting a 5) (waiting b 69)) (waiting a 5) (waiting b 69 ∷ []) a false (first_has m)
-    (none_of 5) (of-there empty 5 (waiting a 5 ∷ waiting b 69 ∷ [])) refl refl (λ i. record m {
-      locks = with_list empty 5 first_shared;
-      shares = empty;
-      waiting = waits i;
-      granted = insert empty 5 (pending (waiting a 5));
-    })
+-- both share the bytes
+both-granted : (m : State) → SettlesFile (freed_of_c m (waiting a 5) (waiting b 69)) 5
+    (grant_message (waiting a 5) ∷ grant_message (waiting b 69) ∷ []) (both_have m)
+both-granted m =
+    let waits : List Request = waiting a 5 ∷ waiting b 69 ∷ [] in
+    let after : FileLocks = having [] both_shared [] in record {
+      after = after;
+      granted = waits;
+      settles = subst (λ x. Settles x waits after) (has-left m (waiting a 5) (waiting b 69)) (
+        having [] first_shared (waiting b 69 ∷ []),
+        grants-first a 5 false (waiting b 69 ∷ []),
+        (
+          after,
+          grants-one [] first_shared both_shared [] (waiting b 69) [] tt
+              (listed_locks_tell first_shared (range_at b 0 20) Shared refl) shared-by-b,
+          (tt, refl),
+        ),
+      );
+      grants = record {
+        messages_are = refl;
+        state_is = ap (λ x. record (both_have m) { waiting = x }) (sym (with-again empty 5 waits [] ∙ no-list 5));
+      };
+    }
 
-second-granted : (m : State) → Grants (first_has m) 5 (grant_message (waiting b 69)) (both_have m)
-second-granted m =
-    let locks = sym (with-again empty 5 first_shared both_shared) in
-    let waits = sym (with-again empty 5 (waiting b 69 ∷ []) [] ∙ no-list 5) in
-    granting (first_has m) first_shared both_shared [] (waiting b 69) [] (both_have m) (of-there empty 5 first_shared)
-    (of-there empty 5 (waiting b 69 ∷ [])) tt
-    (listed_locks_tell first_shared (range_at b 0 20) Shared refl) shared-by-b
-    (λ i. record m {
-      locks = locks i;
-      shares = empty;
-      waiting = waits i;
-      granted = insert (insert empty 5 (pending (waiting a 5))) 69 (pending (waiting b 69));
-    })
-
-a-granted : (m : State) → Grants (freed_of_c m (alone a 5) (alone b 69)) 5 (grant_message (alone a 5)) (held_by_a m)
+-- A has them alone
+a-granted : (m : State) → SettlesFile (freed_of_c m (alone a 5) (alone b 69)) 5 (grant_message (alone a 5) ∷ [])
+    (held_by_a m)
 a-granted m =
-    let waits = sym (with-again empty 5 (alone a 5 ∷ alone b 69 ∷ []) (alone b 69 ∷ [])) in
-    grants-first (freed_of_c m (alone a 5) (alone b 69)) (alone a 5) (alone b 69 ∷ []) a true (held_by_a m)
-    (none_of 5) (of-there empty 5 (alone a 5 ∷ alone b 69 ∷ [])) refl refl (λ i. record m {
-      locks = with_list empty 5 (lock a 0 19 true ∷ []);
-      shares = empty;
-      waiting = waits i;
-      granted = insert empty 5 (pending (alone a 5));
-    })
+    let waits : List Request = alone a 5 ∷ alone b 69 ∷ [] in
+    let after : FileLocks = having [] (lock a 0 19 true ∷ []) (alone b 69 ∷ []) in record {
+      after = after;
+      granted = alone a 5 ∷ [];
+      settles = subst (λ x. Settles x (alone a 5 ∷ []) after) (has-left m (alone a 5) (alone b 69))
+          (after, grants-first a 5 true (alone b 69 ∷ []), ((a-in-the-way, tt), refl));
+      grants = record {
+        messages_are = refl;
+        state_is = ap (λ x. record (held_by_a m) { waiting = x }) (sym (with-again empty 5 waits (alone b 69 ∷ [])));
+      };
+    }
 
 -- A's lock is given back, and B's request is granted
-abbrev given_by_a : State → State
-given_by_a m = record (held_by_a m) {
-  locks = with_list (with_list empty 5 (lock a 0 19 true ∷ [])) 5 [];
-  granted = remove (insert empty 5 (pending (alone a 5))) 5;
-}
-
-b-granted : (m : State) → Grants (given_by_a m) 5 (grant_message (alone b 69)) (held_by_b m)
+b-granted : (m : State) → ChangesLocks (record (held_by_a m) { granted = remove (held_by_a m).granted 5 }) 5
+    (range_at a 0 20) Unlocked (grant_message (alone b 69) ∷ []) (held_by_b m)
 b-granted m =
-    let locks = sym (with-again (with_list empty 5 (lock a 0 19 true ∷ [])) 5 [] (lock b 0 19 true ∷ [])
-    ∙ with-again empty 5 (lock a 0 19 true ∷ []) (lock b 0 19 true ∷ [])) in
-    let waits = sym (with-again empty 5 (alone b 69 ∷ []) [] ∙ no-list 5) in
-    let granted = sym (removed-one 5 (pending (alone a 5))) in
-    grants-first (given_by_a m) (alone b 69) [] b true (held_by_b m)
-    (of-there (with_list empty 5 (lock a 0 19 true ∷ [])) 5 []) (of-there empty 5 (alone b 69 ∷ [])) refl refl
-    (λ i. record m {
-      locks = locks i;
-      shares = empty;
-      waiting = waits i;
-      granted = insert (granted i) 69 (pending (alone b 69));
-    })
+    let old : State = record (held_by_a m) { granted = remove (held_by_a m).granted 5 } in
+    let after : FileLocks = having [] (lock b 0 19 true ∷ []) [] in
+    let has : having [] (lock a 0 19 true ∷ []) (alone b 69 ∷ []) ≡ at_file old 5 =
+    λ i. having (sym (none_of 5) i) (sym (of-there empty 5 (lock a 0 19 true ∷ [])) i)
+    (sym (of-there empty 5 (alone b 69 ∷ [])) i) in record {
+      after = after;
+      granted = alone b 69 ∷ [];
+      sets = subst (λ x. SetsMode x (range_at a 0 20) Unlocked (alone b 69 ∷ []) after) has (record {
+        locks = [];
+        lists = none-of a true;
+        settles = (after, grants-first b 69 true [], (tt, refl));
+      });
+      grants = record {
+        messages_are = refl;
+        state_is = λ i. record m {
+          locks = sym (with-again empty 5 (lock a 0 19 true ∷ []) (lock b 0 19 true ∷ [])) i;
+          shares = empty;
+          waiting = sym (with-again empty 5 (alone b 69 ∷ []) [] ∙ no-list 5) i;
+          granted = insert (sym (removed-one 5 (pending (alone a 5))) i) 69 (pending (alone b 69));
+        };
+      };
+    }
 
 -- what an answer finds under the number 5
 answers : (m : State) (host : List ℕ) (s : NlmStatus) (messages : List Message) (new : State)
@@ -475,7 +442,7 @@ worked-freed = record {
           grant_message (waiting a 5) ∷ grant_message (waiting b 69) ∷ [],
           [],
           refl,
-          (first_has m, first-granted m, (both_have m, second-granted m, (none-waits (both_have m) (none_of 5), refl))),
+          both-granted m,
           (no-waits (both_have m).locks, refl, refl),
         );
   };
@@ -490,11 +457,7 @@ worked-freed = record {
           grant_message (alone a 5) ∷ [],
           [],
           refl,
-          (
-            held_by_a m,
-            a-granted m,
-            (one-waits (lock a 0 19 true ∷ []) (alone b 69 ∷ []) (a-in-the-way, tt) 5, refl),
-          ),
+          a-granted m,
           (one-waits (lock a 0 19 true ∷ []) (alone b 69 ∷ []) (a-in-the-way, tt), refl, refl),
         );
   };
@@ -512,12 +475,7 @@ worked-freed = record {
   refused = λ m. (
     refl,
     answers m (codes "c1") nlm_status.Denied (grant_message (alone b 69) ∷ []) (held_by_b m)
-        (Some (pending (alone a 5))) (get-one 5 (pending (alone a 5)) 5) (record {
-          locks = [];
-          lists = subst (λ l. HasModes [] (modes_with l (range_at a 0 20) Unlocked))
-              (sym (of-there empty 5 (lock a 0 19 true ∷ []))) (none-of a true);
-          settles = (held_by_b m, b-granted m, (none-waits (held_by_b m) (none_of 5), refl));
-        }),
+        (Some (pending (alone a 5))) (get-one 5 (pending (alone a 5)) 5) (b-granted m),
   );
   again = λ m. (
     refl,

@@ -8,8 +8,10 @@ pub mod WorkedLocks
 pub mod WorkedMaking
 pub mod WorkedNames
 pub mod WorkedPages
+pub mod WorkedPosting
 pub mod WorkedReplies
 pub mod WorkedRun
 pub mod WorkedSetting
 pub mod WorkedSettling
+pub mod WorkedWaiting
 pub mod WorkedWrites

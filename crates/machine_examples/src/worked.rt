@@ -9,12 +9,14 @@ ghost use Rattle.machine_examples.specs.WorkedLocking.{WorkedChecks, WorkedLocki
 ghost use Rattle.machine_examples.specs.WorkedLocks.{WorkedGrants, WorkedMounts, WorkedNewest, WorkedRanges};
 ghost use Rattle.machine_examples.specs.WorkedLocks.{WorkedShares, WorkedTests};
 ghost use Rattle.machine_examples.specs.WorkedPages.{WorkedFullPages, WorkedPages, WorkedSizes};
+ghost use Rattle.machine_examples.specs.WorkedPosting.{WorkedPosting};
 ghost use Rattle.machine_examples.specs.WorkedReplies.{WorkedFileReplies, WorkedRootReplies};
 ghost use Rattle.machine_examples.specs.WorkedRun.{WorkedLeaving, WorkedLinkings, WorkedRenamings, WorkedRun};
 ghost use Rattle.machine_examples.specs.WorkedRun.{WorkedSteps, WorkedTurns};
 ghost use Rattle.machine_examples.specs.WorkedSetting.{WorkedAccess, WorkedGuard, WorkedKinds, WorkedLimits};
 ghost use Rattle.machine_examples.specs.WorkedSetting.{WorkedSetting, WorkedSpace};
 ghost use Rattle.machine_examples.specs.WorkedSettling.{WorkedFreed, WorkedSettling};
+ghost use Rattle.machine_examples.specs.WorkedWaiting.{WorkedWaiting};
 ghost use Rattle.machine_examples.specs.WorkedWrites.{WorkedWrites};
 ghost use Rattle.machine_examples.specs.WorkedMaking.{WorkedMaking, WorkedTaking};
 ghost use Rattle.machine_examples.specs.WorkedNames.{WorkedLinks, WorkedMakes, WorkedRemovals, WorkedRenames};
@@ -261,4 +263,15 @@ pub fn worked_checks()
 /// denied, LOCK_MSG, shares; MNT, and one that is refused.
 pub fn worked_locking()
     ensures { WorkedLocking }
+{}
+
+/// TEST_MSG, CANCEL_MSG and UNLOCK_MSG, one of them where a request waits; GRANTED and GRANTED_MSG, and results that
+/// the server never asked for.
+pub fn worked_posting()
+    ensures { WorkedPosting }
+{}
+
+/// FREE_ALL over two files, a LOCK for which no number is left, and a REMOVE of a file that is waited for.
+pub fn worked_waiting()
+    ensures { WorkedWaiting }
 {}

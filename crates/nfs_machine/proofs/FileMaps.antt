@@ -91,6 +91,11 @@ module _ {A : Type 0} where
       of [] at = absurd (some file at)
       of (x ∷ xs) at = refl
 
+  -- a file's own list
+  pub with-itself : (lists : FinMap nat_cmp (List A)) → ((q : ℕ) → get lists q ≡ Some [] → ⊥) → (file : ℕ)
+      → with_list lists file (of_file lists file) ≡ lists
+  with-itself lists some file = with-same lists file (of_file lists file) (kept-there lists some file)
+
   -- ---- all lists are made anew
   module _ (anew : ℕ → List A → List A) where
     abbrev pub remade : ℕ → Option (List A) → Option (List A)

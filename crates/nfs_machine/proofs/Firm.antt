@@ -4,14 +4,14 @@ use Rattle.std.proofs.Common.{◌≡◌, ◌==◌, ℕ, ◌+◌, ◌≤◌, Bool
 use Rattle.std.proofs.Common.{List, [], ◌∷◌, ◌++◌}
 use Rattle.std.proofs.Common.{Some, None, filter, unwrap_or, is_ok, is_some, nat_le, refl, sym, ◌∙◌, ap, subst}
 use Rattle.std.proofs.Common.{arith}
-use Rattle.std.proofs.lemmas.List.Sums.{sum_by-append}
+use Rattle.std.proofs.lemmas.List.Sums.{sum_by-append, sum_by-cons}
 use Rattle.std.specs.Cmp.{unsigned_Decides}
 use Rattle.std.specs.FinMap.{FinMap, contains_key, entries, get, insert, remove, values}
-use Rattle.std.specs.List.{IsDistinct, list_any, sum_by}
+use Rattle.std.specs.List.{AllByRecursion, IsDistinct, list_any, sum_by}
 use Rattle.std.specs.Ordering.{nat_cmp}
-use Rattle.side_wire.specs.declared.message.Message.{Message}
 use Rattle.nfs_machine.specs.FileLists.{all_but, grants_but, of_file, relisted, with_list}
-use Rattle.nfs_machine.specs.Grants.{AllHeldUp, Grants, requested}
+use Rattle.nfs_machine.specs.Grants.{AllHeldUp, at_file, with_grants}
+use Rattle.nfs_machine.specs.OneFile.{FileLocks, IsGranted, Settles, requested}
 use Rattle.nfs_machine.specs.Locks.{AreListed, IsRange, same_sharer}
 use Rattle.nfs_machine.specs.LocksFormed.{AreOfFiles, AreWaiting, IsFile, IsPending, LocksFormed, NoConflict, count_of}
 use Rattle.nfs_machine.specs.LocksFormed.{uses_of}
@@ -24,9 +24,10 @@ use Rattle.nfs_wire.specs.declared.attributes.Time.{Time}
 use Rattle.side_wire.specs.declared.mount.lists.MountBody.{MountBody}
 use Rattle.nfs_machine.proofs.Changes.{differs-insert, differs-remove, flipped, itself}
 use Rattle.nfs_machine.proofs.Distinct.{distinct-last, distinct-left, distinct-none, distinct-removed}
-use Rattle.nfs_machine.proofs.FileMaps.{count-joined, count-left, differs-with, each-relisted, each-with, get-relisted}
-use Rattle.nfs_machine.proofs.FileMaps.{grants-left, has-left, kept, kept-some, remade, total-entries}
+use Rattle.nfs_machine.proofs.FileMaps.{count-left, differs-with, each-relisted, each-with, get-relisted}
+use Rattle.nfs_machine.proofs.FileMaps.{grants-left, has-left, kept, kept-some, remade, total-entries, with-itself}
 use Rattle.nfs_machine.proofs.FileMaps.{total-with}
+use Rattle.nfs_machine.proofs.Settling.{settles-count, settles-keep, settles-none}
 use Rattle.nfs_machine.proofs.Modes.{all-joined, all-left, all-middle, all-removed, none-passes}
 
 -- ---- files that live on
@@ -271,6 +272,77 @@ less-numbers m file list granted number less fewer was =
     let changed = waiting-changed m file list number in
     omega (arith, changed, less, fewer, was)
 
+-- ---- grants
+-- the state with what a file has now, and what was granted of it
+abbrev pub granting : State → (file : ℕ) → FileLocks → (granted : List Request) → State
+granting m file after granted = record m {
+  locks = with_list m.locks file after.locks;
+  waiting = with_list m.waiting file after.waiting;
+  granted = with_grants m.granted file granted;
+}
+
+abbrev Formed : (file : ℕ) → FileLocks → Type 0
+Formed file x = AreListed x.locks × AreWaiting file x.waiting
+
+abbrev IsGood : (file : ℕ) → Request → Type 0
+IsGood file r = OfRange r × Suits file r
+
+granted-formed : (file : ℕ) (before after : FileLocks) (r : Request) → IsGranted before r after → Formed file before →
+    Formed file after × IsGood file r
+granted-formed file before after r g formed =
+    let all : AreWaiting file (g.earlier ++ r ∷ g.later) = subst (AreWaiting file) g.waits formed.1 in (
+      (g.lists.listed, subst (AreWaiting file) (sym g.waiting) (waiting-removed file g.earlier r g.later all)),
+      (all-middle OfRange g.earlier r g.later all.ranges, all-middle (Suits file) g.earlier r g.later all.suit),
+    )
+
+-- each pending grant is one that was pending, or was granted now
+pending-with : (objects : FinMap nat_cmp Living) (file : ℕ) → IsFile objects file → (granted : List Request)
+    → AllByRecursion (IsGood file) granted → (pending : FinMap nat_cmp PendingGrant)
+    → ((n : ℕ) (x : PendingGrant) → get pending n ≡ Some x → IsPending objects n x)
+    → (n : ℕ) (x : PendingGrant) → get (with_grants pending file granted) n ≡ Some x → IsPending objects n x
+pending-with objects file living [] good pending all = all
+pending-with objects file living (r ∷ granted) good pending all =
+    pending-with objects file living granted good.1 (insert pending r.number grant) (λ n x at.
+    elim (n == r.number) as (λ b. (n == r.number) ≡ b → cond b (Some grant) (get pending n) ≡ Some x
+    → IsPending objects n x) [
+      | true ↦ λ e there.
+          let is : n ≡ r.number = (unsigned_Decides n r.number).0 e in
+          let same : grant ≡ x = cc in
+          subst (IsPending objects n) same (record {
+            file = living;
+            range = good.0.0;
+            own = sym is;
+            suits = ap (is_grant_number file) is ∙ good.0.1;
+          })
+      | false ↦ λ e there. all n x there
+    ] refl (sym (differs-insert pending r.number grant n) ∙ at))
+  where
+    grant : PendingGrant
+    grant = record { file = file; request = r }
+
+pending-more : (file : ℕ) (granted : List Request) (pending : FinMap nat_cmp PendingGrant) (n : ℕ) →
+    pending_count (with_grants pending file granted) n ≤ pending_count pending n + count_of n granted
+pending-more file [] pending n = omega arith
+pending-more file (r ∷ granted) pending n =
+    let grant : PendingGrant = record { file = file; request = r } in
+    let has : pending_count (insert pending r.number grant) n ≡ cond
+    (is_some (cond (n == r.number) (Some grant) (get pending n))) 1 0 =
+    ap (λ o. cond {A = ℕ} (is_some o) 1 0) (differs-insert pending r.number grant n) in
+    let one : cond {A = ℕ} (is_some (cond (n == r.number) (Some grant) (get pending n))) 1 0
+    ≤ pending_count pending n + cond (r.number == n) 1 0 =
+    elim (n == r.number) as (λ b. (n == r.number) ≡ b
+    → cond {A = ℕ} (is_some (cond b (Some grant) (get pending n))) 1 0
+    ≤ pending_count pending n + cond (r.number == n) 1 0) [
+      | true ↦ λ e.
+          let is : n ≡ r.number = (unsigned_Decides n r.number).0 e in
+          let one : cond {A = ℕ} (r.number == n) 1 0 ≡ 1 =
+          ap (λ k. cond {A = ℕ} (r.number == k) 1 0) is ∙ ap (λ b. cond {A = ℕ} b 1 0) (itself r.number) in
+          omega (arith, one)
+      | false ↦ λ e. omega arith
+    ] refl in
+    let rest = pending-more file granted (insert pending r.number grant) n in
+    omega (arith, has, one, rest, sum_by-cons (λ (q : Request). cond {A = ℕ} (q.number == n) 1 0) r granted)
+
 module _ (m : State) (f : Firm m) where
   -- a file's locks
   pub firm-locks : (file : ℕ) → IsFile m.objects file → (locks : List Lock) → AreListed locks
@@ -403,79 +475,49 @@ module _ (m : State) (f : Firm m) where
       numbers = uses-now;
     }
 
-  -- a request that waited is granted
-  module _ (file : ℕ) (message : Message) (new : State) (g : Grants m file message new) where
-    living : IsFile m.objects file
-    living = file-of m.objects m.waiting f.waiting file g.earlier g.request g.later g.waits
+  -- a file comes to have other locks, and some of what waited for it is granted
+  module _ (file : ℕ) (living : IsFile m.objects file) (before after : FileLocks) (granted : List Request)
+      (settles : Settles before granted after) (listed : AreListed before.locks)
+      (waited : before.waiting ≡ of_file m.waiting file) where
+    formed : Formed file after × AllByRecursion (IsGood file) granted
+    formed = settles-keep (Formed file) (IsGood file) (granted-formed file) before after granted settles
+        (listed, subst (AreWaiting file) (sym waited) (f.requests file))
 
-    all-wait : AreWaiting file (g.earlier ++ g.request ∷ g.later)
-    all-wait = subst (AreWaiting file) g.waits (f.requests file)
-
-    abbrev left : List Request
-    left = g.earlier ++ g.later
-
-    abbrev grant : PendingGrant
-    grant = record { file = file; request = g.request }
-
-    abbrev more : FinMap nat_cmp PendingGrant
-    more = insert m.granted g.request.number grant
-
-    pending-now : (n : ℕ) (x : PendingGrant) → get more n ≡ Some x → IsPending m.objects n x
-    pending-now n x at =
-        elim (n == g.request.number) as
-        (λ b. (n == g.request.number) ≡ b → cond b (Some grant) (get m.granted n) ≡ Some x
-        → IsPending m.objects n x) [
-          | true ↦ λ e there.
-              let is : n ≡ g.request.number = (unsigned_Decides n g.request.number).0 e in
-              let same : grant ≡ x = cc in
-              subst (IsPending m.objects n) same (record {
-                file = living;
-                range = all-middle OfRange g.earlier g.request g.later all-wait.ranges;
-                own = sym is;
-                suits = ap (is_grant_number file) is
-                    ∙ all-middle (Suits file) g.earlier g.request g.later all-wait.suit;
-              })
-          | false ↦ λ e there. f.pending n x there
-        ] refl (sym (differs-insert m.granted g.request.number grant n) ∙ at)
-
-    uses-granted : (n : ℕ) →
-        waiting_total (with_list m.waiting file left) n + pending_count more n ≤ cond (m.spent_grants n) 1 0
-    uses-granted n =
-        let changed = waiting-changed m file left n in
-        let joined = count-joined (λ (r : Request). r.number == n) g.earlier g.request g.later in
-        let had : count_of n (of_file m.waiting file) ≡ count_of n (g.earlier ++ g.request ∷ g.later) = ap
-        (count_of n) g.waits in
-        let was = f.numbers n in
-        let has : pending_count more n ≡ cond
-        (is_some (cond (n == g.request.number) (Some grant) (get m.granted n))) 1 0 =
-        ap (λ o. cond {A = ℕ} (is_some o) 1 0) (differs-insert m.granted g.request.number grant n) in
-        elim (n == g.request.number) as (λ b. (n == g.request.number) ≡ b
-        → pending_count more n ≡ cond (is_some (cond b (Some grant) (get m.granted n))) 1 0
-        → waiting_total (with_list m.waiting file left) n + pending_count more n ≤ cond (m.spent_grants n) 1 0) [
-          | true ↦ λ e now.
-              let is : n ≡ g.request.number = (unsigned_Decides n g.request.number).0 e in
-              let one : cond {A = ℕ} (g.request.number == n) 1 0 ≡ 1 =
-              ap (λ k. cond {A = ℕ} (g.request.number == k) 1 0) is ∙ ap (λ b. cond {A = ℕ} b 1 0)
-              (itself g.request.number) in
-              omega (arith, changed, joined, had, was, now, one)
-          | false ↦ λ e now.
-              let none : cond {A = ℕ} (g.request.number == n) 1 0 ≡ 0 =
-              ap (λ b. cond {A = ℕ} b 1 0) (flipped n g.request.number e) in
-              omega (arith, changed, joined, had, was, now, none)
-        ] refl has
-
-    pub firm-granted : Firm new
-    firm-granted = subst Firm (sym g.state_is) (record {
-      locks = files-with m.objects m.locks f.locks file living g.locks;
+    pub firm-granted : Firm (granting m file after granted)
+    firm-granted = record {
+      locks = files-with m.objects m.locks f.locks file living after.locks;
       shares = f.shares;
-      waiting = files-with m.objects m.waiting f.waiting file living left;
-      listed = each-with m.locks file g.locks (λ q (l : List Lock). AreListed l) g.lists.listed f.listed;
+      waiting = files-with m.objects m.waiting f.waiting file living after.waiting;
+      listed = each-with m.locks file after.locks (λ q (l : List Lock). AreListed l) formed.0.0 f.listed;
       sharers = f.sharers;
-      requests = each-with m.waiting file left AreWaiting
-          (waiting-removed file g.earlier g.request g.later all-wait) f.requests;
-      pending = pending-now;
-      numbers = uses-granted;
-    })
+      requests = each-with m.waiting file after.waiting AreWaiting formed.0.1 f.requests;
+      pending = pending-with m.objects file living granted formed.1 m.granted f.pending;
+      numbers = λ n.
+          let changed = waiting-changed m file after.waiting n in
+          let left = settles-count n before after granted settles in
+          let had : count_of n before.waiting ≡ count_of n (of_file m.waiting file) = ap (count_of n) waited in
+          let more = pending-more file granted m.granted n in
+          let was = f.numbers n in
+          omega (arith, changed, left, had, more, was);
+    }
+
+  -- what waits for a file is tried
+  pub firm-settled : (file : ℕ) (after : FileLocks) (granted : List Request) →
+      Settles (at_file m file) granted after → Firm (granting m file after granted)
+  firm-settled file after granted settles =
+      elim (of_file m.waiting file) as (λ l. of_file m.waiting file ≡ l → Firm (granting m file after granted)) [
+        | [] ↦ λ none.
+            let s = settles-none (at_file m file) after granted settles none in
+            let same : granting m file after granted ≡ m =
+            ap (λ (x : FileLocks). granting m file x granted) s.1 ∙ ap (granting m file (at_file m file)) s.0
+            ∙ (λ i. record m {
+              locks = with-itself m.locks f.locks.some file i;
+              waiting = with-itself m.waiting f.waiting.some file i;
+            }) in
+            subst Firm (sym same) f
+        | (r ∷ rest) ↦ λ is. firm-granted file (file-of m.objects m.waiting f.waiting file [] r rest is)
+            (at_file m file) after granted settles (f.listed file) refl
+      ] refl
 
   -- a caller has nothing more
   module _ (locks : ℕ → List Lock) (listed : (file : ℕ) → AreListed (locks file)) (shares : Share → Bool)

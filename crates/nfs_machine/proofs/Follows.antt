@@ -25,7 +25,8 @@ use Rattle.nfs_machine.specs.Bytes.{same_bytes}
 use Rattle.nfs_machine.specs.Checks.{◌>>=◌, holding, object_of, entries_in, bytes_in, plain_name_checked, changeable, permitted, entry_of}
 use Rattle.nfs_machine.specs.Data.{size_limit, resized, written}
 use Rattle.nfs_machine.specs.DataSteps.{WriteEnd, write_count, write_object}
-use Rattle.nfs_machine.specs.Grants.{AllHeldUp, FileWaits, IsHeldUp}
+use Rattle.nfs_machine.specs.Grants.{AllHeldUp, FileWaits}
+use Rattle.nfs_machine.specs.OneFile.{IsHeldUp}
 use Rattle.nfs_machine.specs.Laws.{GivesOnce, KeepsCookies, KeepsEntries, KeepsExports, LivesAs}
 use Rattle.nfs_machine.specs.Making.{Wanted, given_attributes, new_object, with_entry, kind_checked}
 use Rattle.nfs_machine.specs.NameSteps.{create_existing, create_over, wanted_file}

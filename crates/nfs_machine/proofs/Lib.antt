@@ -51,6 +51,7 @@ mod Visits
 pub mod Waiting
 pub mod WellFormed
 pub mod Setting
+mod Settling
 pub mod Within
 pub mod Taken
 pub mod Short

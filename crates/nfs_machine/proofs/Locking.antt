@@ -27,7 +27,8 @@ use Rattle.side_wire.specs.declared.nlm.UnlockArguments.{UnlockArguments}
 use Rattle.nfs_machine.specs.Bytes.{same_bytes}
 use Rattle.nfs_machine.specs.Checks.{◌>>=◌, bytes_in, holding, is_writable}
 use Rattle.nfs_machine.specs.FileLists.{all_but, of_file, with_list}
-use Rattle.nfs_machine.specs.Grants.{ChangesLocks, Grants, SettleInOrder, Settles, requested}
+use Rattle.nfs_machine.specs.Grants.{ChangesLocks, Grants, SettleInOrder, SettlesFile, at_file}
+use Rattle.nfs_machine.specs.OneFile.{FileLocks, requested}
 use Rattle.nfs_machine.specs.Laws.{KeepsExports}
 use Rattle.nfs_machine.specs.Locks.{Conflicts, HasModes, IsRange, Mode, denies, fits_offsets, modes_without, range_of}
 use Rattle.nfs_machine.specs.Locks.{same_sharer, shares_conflict}
@@ -43,12 +44,14 @@ use Rattle.nfs_machine.proofs.Checked.{CancelOf, Cancels, LockOf, ShareOf, Share
 use Rattle.nfs_machine.proofs.Checked.{found-pending}
 use Rattle.nfs_machine.proofs.Distinct.{distinct-last, distinct-left, passes-left}
 use Rattle.nfs_machine.proofs.FileMaps.{each-relisted, each-with, get-relisted, kept-is, remade}
-use Rattle.nfs_machine.proofs.Firm.{Firm, firm-answered, firm-cancelled, firm-freed, firm-granted, firm-locks}
+use Rattle.nfs_machine.proofs.Firm.{Firm, firm-answered, firm-cancelled, firm-freed, firm-granted, firm-settled}
+use Rattle.nfs_machine.proofs.Firm.{granting}
 use Rattle.nfs_machine.proofs.Firm.{firm-shares}
 use Rattle.nfs_machine.proofs.Firm.{firm-waits}
 use Rattle.nfs_machine.proofs.Modes.{all-mapped, apart-with, apart-without, sharer-back, shares-left, shares-with}
 use Rattle.nfs_machine.proofs.Modes.{unlocking-free}
 use Rattle.nfs_machine.proofs.Resolved.{resolved-lives}
+use Rattle.nfs_machine.proofs.Settling.{settles-apart}
 
 -- what stands beside objects and locks: the mounts and the exports
 abbrev pub kept_beside : State → List MountBody × List LivingExport × ℕ
@@ -182,25 +185,19 @@ shares-apart : (old : State) (file : ℕ) (shares : List Share) → NoSharesConf
 shares-apart old file shares here h q =
     ((h q).0, each-with old.shares file shares (λ n (l : List Share). NoSharesConflict l) here (λ n. (h n).1) q)
 
-granted : (old : State) (file : ℕ) (message : Message) (new : State) → Grants old file message new →
-    Untouched old new
-granted old file message new g = record {
-  objects = ap (λ (m : State). m.objects) g.state_is;
-  spent = ap (λ (m : State). m.spent) g.state_is;
-  mounts = ap (λ (m : State). m.mounts) g.state_is;
-  exports = record
-      { exports = ap (λ (m : State). m.exports) g.state_is; last = ap (λ (m : State). m.last_export) g.state_is };
-  apart = λ h. subst NoConflict (sym g.state_is) (locks-apart old file g.locks
-      (apart-with (of_file old.locks file) (requested g.request) (Some g.request.exclusive) g.free g.locks g.lists
-      (h file).0) h);
-  firm = λ f. firm-granted old f file message new g;
-}
+-- a file comes to have other locks, and some of what waited for it is granted
+file-granted : (old : State) (file : ℕ) (after : FileLocks) (granted : List Request) (messages : List Message) (new : State)
+    → Grants old file after granted messages new → (NoConflict old → NoLocksConflict after.locks)
+    → (Firm old → Firm (granting old file after granted)) → Untouched old new
+file-granted old file after granted messages new g apart firm =
+    from old (granting old file after granted) new refl refl refl
+    (λ h. locks-apart old file after.locks (apart h) h) firm g.state_is
 
-settled : (old : State) (file : ℕ) (messages : List Message) (new : State) → Settles old file messages new →
+settled : (old : State) (file : ℕ) (messages : List Message) (new : State) → SettlesFile old file messages new →
     Untouched old new
-settled old file [] new (held, e) = same old new e
-settled old file (message ∷ messages) new (mid, grants, rest) =
-    joined old mid new (granted old file message mid grants) (settled mid file messages new rest)
+settled old file messages new s = file-granted old file s.after s.granted messages new s.grants
+    (λ h. settles-apart (at_file old file) s.after s.granted s.settles (h file).0)
+    (λ f. firm-settled old f file s.after s.granted s.settles)
 
 settled-all : (old : State) (files : List ℕ) (messages : List Message) (new : State) →
     SettleInOrder old files messages new
@@ -209,20 +206,23 @@ settled-all old [] messages new (held, none, e) = same old new e
 settled-all old (file ∷ files) messages new (rise, mid, first, more, are, settles, rest) =
     joined old mid new (settled old file first mid settles) (settled-all mid files more new rest)
 
-changed : (old : State) (file : ℕ) (r : Range) (mode : Mode) (messages : List Message) (new : State)
-    → (Firm old → IsFile old.objects file) → (Conflicts (of_file old.locks file) r mode → ⊥)
-    → ChangesLocks old file r mode messages new → Untouched old new
-changed old file r mode messages new living free c =
-    let mid : State = record old { locks = with_list old.locks file c.locks } in
-    joined old mid new (record {
-      objects = refl;
-      spent = refl;
-      mounts = refl;
-      exports = record { exports = refl; last = refl };
-      apart = λ h. locks-apart old file c.locks
-          (apart-with (of_file old.locks file) r mode free c.locks c.lists (h file).0) h;
-      firm = λ f. firm-locks old f file (living f) c.locks c.lists.listed;
-    }) (settled mid file messages new c.settles)
+-- the locks of a file change, and then what waits for it is tried
+module _ (old : State) (file : ℕ) (r : Range) (mode : Mode) (messages : List Message) (new : State)
+    (c : ChangesLocks old file r mode messages new) where
+  abbrev changed_file : FileLocks
+  changed_file = record (at_file old file) { locks = c.sets.locks }
+
+  changed-apart : (Conflicts (of_file old.locks file) r mode → ⊥) → NoConflict old → NoLocksConflict c.after.locks
+  changed-apart free h = settles-apart changed_file c.after c.granted c.sets.settles
+      (apart-with (of_file old.locks file) r mode free c.sets.locks c.sets.lists (h file).0)
+
+  changed-firm : Firm old → IsFile old.objects file → Firm (granting old file c.after c.granted)
+  changed-firm f living =
+      firm-granted old f file living changed_file c.after c.granted c.sets.settles c.sets.lists.listed refl
+
+  changed : (Firm old → IsFile old.objects file) → (Conflicts (of_file old.locks file) r mode → ⊥) → Untouched old new
+  changed living free = file-granted old file c.after c.granted messages new c.grants (changed-apart free)
+      (λ f. changed-firm f (living f))
 
 tested : (old : State) (a : TestArguments) (checked : Result ℕ LockFault) (s : TestStatus) (messages : List Message)
     (new : State) → TestOf old a checked s messages new → Untouched old new
@@ -256,7 +256,7 @@ locked : (old : State) (ctx : Ctx) (a : LockArguments) (by_message : Bool) (chec
     → LockOf old ctx a by_message checked s messages new → Untouched old new
 locked old ctx a by_message (Err fault) s messages new living fits step = same old new step.state_is
 locked old ctx a by_message (Ok file) s messages new living fits (inl free) =
-    changed old file (range_of a.lock) (Some a.exclusive) messages new (λ f. living) free.0 free.2
+    changed old file (range_of a.lock) (Some a.exclusive) messages new free.2 (λ f. living) free.0
 locked old ctx a by_message (Ok file) s messages new living fits (inr held) =
     held-up old ctx a by_message file a.block (list_any (is_request a.exclusive a.lock) (of_file old.waiting file)) s
     messages new living (asked-range a.lock (of_file old.locks file) (Some a.exclusive) fits held.0) refl held.1
@@ -280,8 +280,8 @@ unlocked : (old : State) (a : UnlockArguments) (checked : Result ℕ LockFault) 
     (new : State) → IfOk checked (IsFile old.objects) → UnlockOf old a checked s messages new → Untouched old new
 unlocked old a (Err fault) s messages new living step = same old new step.state_is
 unlocked old a (Ok file) s messages new living step =
-    changed old file (range_of a.lock) None messages new (λ f. living)
-    (unlocking-free (of_file old.locks file) (range_of a.lock)) step.1
+    changed old file (range_of a.lock) None messages new step.1 (λ f. living)
+    (unlocking-free (of_file old.locks file) (range_of a.lock))
 
 answered : (old : State) (number : ℕ) (found : Option PendingGrant) (s : NlmStatus) (messages : List Message)
     (new : State)
@@ -293,18 +293,12 @@ answered old number (Some grant) status.Granted messages new there step =
 answered old number (Some grant) s messages new there step =
     let mid : State = record old { granted = remove old.granted number } in
     let r : Range = requested grant.request in
-    let rest = settled (record mid { locks = with_list mid.locks grant.file step.locks }) grant.file messages new
-    step.settles in
-    record {
-      objects = rest.objects;
-      spent = rest.spent;
-      mounts = rest.mounts;
-      exports = record { exports = rest.exports.exports; last = rest.exports.last };
-      apart = λ h. rest.apart (locks-apart mid grant.file step.locks (apart-with (of_file old.locks grant.file) r None
-          (unlocking-free (of_file old.locks grant.file) r) step.locks step.lists (h grant.file).0) h);
-      firm = λ f. rest.firm (firm-locks mid (firm-answered old f number) grant.file
-          (f.pending number grant (there grant refl)).file step.locks step.lists.listed);
-    }
+    from old (granting mid grant.file step.after step.granted) new refl refl refl
+    (λ h. locks-apart mid grant.file step.after.locks
+    (changed-apart mid grant.file r None messages new step (unlocking-free (of_file old.locks grant.file) r) h) h)
+    (λ f. changed-firm mid grant.file r None messages new step (firm-answered old f number)
+    (f.pending number grant (there grant refl)).file)
+    step.grants.state_is
 
 -- a share in the place of the sharer's own
 sharers-with : (share : Share) (shares : List Share) → IsDistinct same_sharer shares →

@@ -14,7 +14,7 @@ use Rattle.nfs_wire.specs.declared.attributes.Time.{Time}
 use Rattle.nfs_machine.specs.Attributes.{entries_of, is_living_directory, names_in, names_of}
 use Rattle.nfs_machine.specs.Exports.{ExportValue, export_at, numbered_exports, opening_exports}
 use Rattle.nfs_machine.specs.FileLists.{of_file}
-use Rattle.nfs_machine.specs.Grants.{IsHeldUp}
+use Rattle.nfs_machine.specs.OneFile.{IsHeldUp}
 use Rattle.nfs_machine.specs.Laws.{OpeningIsFormed}
 use Rattle.nfs_machine.specs.LockLaws.{OpeningIsApart, OpeningWaitsForNone}
 use Rattle.nfs_machine.specs.Locks.{AreListed, same_sharer}

@@ -2,7 +2,7 @@
 -- bounds.
 use Rattle.std.proofs.Common.{◌≡◌, ◌==◌, ℕ, Bool, true, false, not, ◌||◌, cond, List, [], ◌∷◌}
 use Rattle.std.proofs.Common.{◌++◌, Option, Some, None, Result, Ok, Err, filter, if◌then◌else◌}
-use Rattle.std.proofs.Common.{unwrap_or, inl, inr, refl, sym, ◌∙◌, subst, arith}
+use Rattle.std.proofs.Common.{map, unwrap_or, inl, inr, refl, sym, ◌∙◌, subst, arith}
 use Rattle.std.specs.FinMap.{get, remove}
 use Rattle.std.specs.Int.{w64, from_be_bytes}
 use Rattle.std.specs.List.{AllByRecursion, list_any}
@@ -21,7 +21,9 @@ use Rattle.side_wire.specs.declared.nlm.ShareMode.TheVariants as mode
 use Rattle.side_wire.specs.declared.nlm.TestArguments.{TestArguments}
 use Rattle.side_wire.specs.declared.nlm.UnlockArguments.{UnlockArguments}
 use Rattle.nfs_machine.specs.Bytes.{same_bytes}
-use Rattle.nfs_machine.specs.Grants.{ChangesLocks, SettleInOrder, Settles, grant_cookie, grant_message, requested}
+use Rattle.nfs_machine.specs.Grants.{ChangesLocks, Grants, SettleInOrder, SettlesFile, at_file, grant_cookie}
+use Rattle.nfs_machine.specs.Grants.{grant_message}
+use Rattle.nfs_machine.specs.OneFile.{FileLocks, IsGranted, Settles, requested}
 use Rattle.nfs_machine.specs.FileLists.{all_but, of_file, with_list}
 use Rattle.nfs_machine.specs.Locks.{HasModes, Mode, denies, is_in, mode_at, modes_with, modes_without, range_of}
 use Rattle.nfs_machine.specs.Locks.{same_sharer, shares_conflict}
@@ -34,6 +36,7 @@ use Rattle.nfs_machine.specs.declared.context.Ctx.{Ctx}
 use Rattle.nfs_machine.proofs.Checked.{CancelOf, Cancels, LockOf, ShareOf, ShareAnswers, UnlockOf, UnshareOf}
 use Rattle.nfs_machine.proofs.FileMaps.{each-relisted, each-with, get-relisted, kept-is, remade}
 use Rattle.nfs_machine.proofs.Modes.{all-joined, all-left, all-middle, all-removed, inside}
+use Rattle.nfs_machine.proofs.Settling.{settles-keep}
 use Rattle.nfs_machine.proofs.SideReplies.{test-form, test-unchanged}
 
 -- where the range's owner is within its bound, so is each owner
@@ -99,21 +102,50 @@ waits-fit m file waiting here fit q = (
       (λ n. (fit n).1) q,
 )
 
-settled : (old : State) (file : ℕ) (messages : List Message) (new : State) → Settles old file messages new →
+-- of one file
+abbrev FileFits : FileLocks → Type 0
+FileFits x = OwnersFit x.locks × AllByRecursion Asked x.waiting
+
+granted-fits : (a b : FileLocks) (r : Request) → IsGranted a r b → FileFits a → FileFits b × Asked r
+granted-fits a b r g fit =
+    let asked : AllByRecursion Asked (g.earlier ++ r ∷ g.later) = subst (AllByRecursion Asked) g.waits fit.1 in
+    let one : Asked r = all-middle Asked g.earlier r g.later asked in (
+      (
+        owners-with a.locks b.locks (requested r) (Some r.exclusive) one.2 g.lists fit.0,
+        subst (AllByRecursion Asked) (sym g.waiting)
+            (all-removed Asked Asked g.earlier r g.later (λ q h. h) asked),
+      ),
+      one,
+    )
+
+grant-forms : (granted : List Request) → AllByRecursion Asked granted →
+    AllByRecursion (λ (x : Message). HasCallbackForm x.call) (map grant_message granted)
+grant-forms [] asked = tt
+grant-forms (r ∷ granted) asked = (grant-form r asked.0, grant-forms granted asked.1)
+
+file-granted : (old : State) (file : ℕ) (before after : FileLocks) (granted : List Request) (messages : List Message)
+    (new : State) → Settles before granted after → FileFits before → Grants old file after granted messages new
+    → LocksFit old → PutsForms messages new
+file-granted old file before after granted messages new settles fits g fit =
+    let now = settles-keep FileFits Asked granted-fits before after granted settles fits in (
+      subst (λ (ms : List Message). AllByRecursion (λ (x : Message). HasCallbackForm x.call) ms) (sym g.messages_are)
+          (grant-forms granted now.1),
+      subst LocksFit (sym g.state_is) (waits-fit (record old { locks = with_list old.locks file after.locks }) file
+          after.waiting now.0.1 (locks-fit old file after.locks now.0.0 fit)),
+    )
+
+settled : (old : State) (file : ℕ) (messages : List Message) (new : State) → SettlesFile old file messages new →
     LocksFit old
     → PutsForms messages new
-settled old file [] new (all, e) fit = (tt, subst LocksFit (sym e) fit)
-settled old file (message ∷ messages) new (mid, g, rest) fit =
-    let asked = subst (AllByRecursion Asked) g.waits (fit file).1 in
-    let one : Asked g.request = all-middle Asked g.earlier g.request g.later asked in
-    let locked : LocksFit (record old { locks = with_list old.locks file g.locks }) =
-    locks-fit old file g.locks (owners-with (of_file old.locks file) g.locks (requested g.request)
-    (Some g.request.exclusive) one.2 g.lists (fit file).0) fit in
-    let after : LocksFit mid = subst LocksFit (sym g.state_is)
-    (waits-fit (record old { locks = with_list old.locks file g.locks }) file (g.earlier ++ g.later)
-    (all-removed Asked Asked g.earlier g.request g.later (λ r h. h) asked) locked) in
-    let more = settled mid file messages new rest after in
-    ((subst (λ (x : Message). HasCallbackForm x.call) (sym g.message_is) (grant-form g.request one), more.0), more.1)
+settled old file messages new s fit =
+    file-granted old file (at_file old file) s.after s.granted messages new s.settles (fit file) s.grants fit
+
+-- the locks of a file change, and then what waits for it is tried
+changed : (old : State) (file : ℕ) (r : Range) (mode : Mode) (messages : List Message) (new : State)
+    (c : ChangesLocks old file r mode messages new) → OwnersFit c.sets.locks → LocksFit old → PutsForms messages new
+changed old file r mode messages new c owners fit =
+    file-granted old file (record (at_file old file) { locks = c.sets.locks }) c.after c.granted messages new c.sets.settles
+    (owners, (fit file).1) c.grants fit
 
 settled-all : (old : State) (files : List ℕ) (messages : List Message) (new : State) →
     SettleInOrder old files messages new
@@ -130,8 +162,8 @@ settled-all old (file ∷ files) messages new (rise, mid, first, more, are, sett
 unlocks : (old : State) (file : ℕ) (r : Range) (messages : List Message) (new : State)
     → ChangesLocks old file r None messages new → LocksFit old → PutsForms messages new
 unlocks old file r messages new c fit =
-    settled (record old { locks = with_list old.locks file c.locks }) file messages new c.settles
-    (locks-fit old file c.locks (owners-unlocked (of_file old.locks file) c.locks r c.lists (fit file).0) fit)
+    changed old file r None messages new c
+    (owners-unlocked (of_file old.locks file) c.sets.locks r c.sets.lists (fit file).0) fit
 
 held-up : (old : State) (ctx : Ctx) (a : LockArguments) (by_message : Bool) (file : ℕ) (block waits : Bool)
     (s : NlmStatus)
@@ -167,10 +199,9 @@ locked old ctx a by_message (Err fault) s messages new lock step fit =
     same old messages new step.state_is step.no_message fit
 locked old ctx a by_message (Ok file) s messages new lock (inl free) fit =
     let c = free.2 in
-    settled (record old { locks = with_list old.locks file c.locks }) file messages new c.settles
-    (locks-fit old file c.locks
-    (owners-with (of_file old.locks file) c.locks (range_of a.lock) (Some a.exclusive) lock.2
-    c.lists (fit file).0) fit)
+    changed old file (range_of a.lock) (Some a.exclusive) messages new c
+    (owners-with (of_file old.locks file) c.sets.locks (range_of a.lock) (Some a.exclusive) lock.2
+    c.sets.lists (fit file).0) fit
 locked old ctx a by_message (Ok file) s messages new lock (inr up) fit =
     held-up old ctx a by_message file a.block (list_any (is_request a.exclusive a.lock) (of_file old.waiting file)) s
     messages new lock up.1 fit

@@ -2,7 +2,7 @@
 -- of other calls are grants.
 use Rattle.std.proofs.Common.{◌≡◌, ℕ, Bool, true, false, cond, if◌then◌else◌, List, [], ◌∷◌}
 use Rattle.std.proofs.Common.{◌++◌, Option, Some, None, Result, Ok, Err, inl, inr, refl, sym, ◌∙◌}
-use Rattle.std.proofs.Common.{ap, subst}
+use Rattle.std.proofs.Common.{ap, map, subst}
 use Rattle.std.specs.FinMap.{get, remove}
 use Rattle.std.specs.Int.{w64, from_be_bytes}
 use Rattle.std.specs.List.{AllByRecursion, list_any}
@@ -21,9 +21,10 @@ use Rattle.side_wire.specs.declared.nlm.ShareMode.TheVariants as mode
 use Rattle.side_wire.specs.declared.nlm.TestArguments.{TestArguments}
 use Rattle.side_wire.specs.declared.nlm.UnlockArguments.{UnlockArguments}
 use Rattle.nfs_machine.specs.Answers.{Answers}
-use Rattle.nfs_machine.specs.Grants.{ChangesLocks, SettleInOrder, Settles, grant_cookie, grant_message, requested}
+use Rattle.nfs_machine.specs.Grants.{ChangesLocks, SettleInOrder, grant_cookie, grant_message}
+use Rattle.nfs_machine.specs.OneFile.{requested}
 use Rattle.nfs_machine.specs.Locks.{Mode, denies, range_of}
-use Rattle.nfs_machine.specs.FileLists.{of_file, with_list}
+use Rattle.nfs_machine.specs.FileLists.{of_file}
 use Rattle.nfs_machine.specs.LockSteps.{CancelEnds, GrantEnds, HeldUp, LockEnds, LockFault, TestEnds, UnlockEnds}
 use Rattle.nfs_machine.specs.LockSteps.{file_checked, freed_with, is_answered, is_request, lock_checked}
 use Rattle.nfs_machine.specs.NlmSteps.{NlmStep, Posts, result_with}
@@ -63,18 +64,17 @@ grant-is r =
       | false ↦ refl
     ]
 
-settled : (old : State) (file : ℕ) (messages : List Message) (new : State) → Settles old file messages new →
-    AllByRecursion IsGrant messages
-settled old file [] new step = tt
-settled old file (message ∷ messages) new (mid, g, rest) =
-    (subst IsGrant (sym g.message_is) (grant-is g.request), settled mid file messages new rest)
+grants-are : (granted : List Request) → AllByRecursion IsGrant (map grant_message granted)
+grants-are [] = tt
+grants-are (r ∷ granted) = (grant-is r, grants-are granted)
 
 settled-all : (old : State) (files : List ℕ) (messages : List Message) (new : State) →
     SettleInOrder old files messages new → AllByRecursion IsGrant messages
 settled-all old [] messages new step = none messages step.1
 settled-all old (file ∷ files) messages new (rise, mid, first, more, are, settles, rest) =
     subst (AllByRecursion IsGrant) (sym are)
-    (all-joined IsGrant first more (settled old file first mid settles) (settled-all mid files more new rest))
+    (all-joined IsGrant first more (subst (AllByRecursion IsGrant) (sym settles.grants.messages_are)
+    (grants-are settles.granted)) (settled-all mid files more new rest))
 
 held : (old : State) (ctx : Ctx) (a : LockArguments) (by_message : Bool) (file : ℕ) (block waits : Bool)
     (s : NlmStatus)
@@ -88,7 +88,7 @@ held old ctx a by_message file true false s messages new (inr full) = none messa
 changed : (old : State) (file : ℕ) (r : Range) (mode : Mode) (messages : List Message) (new : State)
     → ChangesLocks old file r mode messages new → AllByRecursion IsGrant messages
 changed old file r mode messages new c =
-    settled (record old { locks = with_list old.locks file c.locks }) file messages new c.settles
+    subst (AllByRecursion IsGrant) (sym c.grants.messages_are) (grants-are c.granted)
 
 locked : (old : State) (ctx : Ctx) (a : LockArguments) (by_message : Bool) (checked : Result ℕ LockFault)
     (s : NlmStatus)

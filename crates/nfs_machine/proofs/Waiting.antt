@@ -21,8 +21,9 @@ use Rattle.side_wire.specs.declared.nlm.TestArguments.{TestArguments}
 use Rattle.side_wire.specs.declared.nlm.TestStatus.{TestStatus}
 use Rattle.side_wire.specs.declared.nlm.UnlockArguments.{UnlockArguments}
 use Rattle.nfs_machine.specs.FileLists.{of_file, with_list}
-use Rattle.nfs_machine.specs.Grants.{AllHeldUp, ChangesLocks, FileWaits, Grants, IsHeldUp, SettleInOrder, Settles}
-use Rattle.nfs_machine.specs.Grants.{requested}
+use Rattle.nfs_machine.specs.Grants.{AllHeldUp, ChangesLocks, FileWaits, Grants, SettleInOrder, at_file}
+use Rattle.nfs_machine.specs.OneFile.{AreHeldUp, FileLocks, IsHeldUp}
+use Rattle.nfs_machine.specs.OneFile.{requested}
 use Rattle.nfs_machine.specs.Locks.{Conflicts, Mode, denies, range_of, shares_conflict}
 use Rattle.nfs_machine.specs.LockSteps.{GrantEnds, HeldUp, LockFault, file_checked, is_answered, is_request}
 use Rattle.nfs_machine.specs.LockSteps.{lock_checked}
@@ -31,20 +32,14 @@ use Rattle.nfs_machine.specs.NlmSteps.{NlmStep}
 use Rattle.nfs_machine.specs.State.{Lock, PendingGrant, Range, Request, Share, State}
 use Rattle.nfs_machine.specs.declared.context.Ctx.{Ctx}
 use Rattle.nfs_machine.proofs.Checked.{CancelOf, Cancels, LockOf, ShareOf, ShareAnswers, TestOf, UnlockOf, UnshareOf}
-use Rattle.nfs_machine.proofs.FileMaps.{each-with, of-other}
+use Rattle.nfs_machine.proofs.FileMaps.{each-with, of-other, of-there}
+use Rattle.nfs_machine.proofs.Firm.{granting}
 use Rattle.nfs_machine.proofs.Modes.{all-joined, all-left}
+use Rattle.nfs_machine.proofs.Settling.{settles-held}
 
 -- the requests of all files but one, that is to settle, are held up
 abbrev HeldUpBut : ℕ → State → Type 0
 HeldUpBut file m = (q : ℕ) → (q == file) ≡ false → FileWaits m q
-
-granted : (old : State) (file : ℕ) (message : Message) (new : State) → Grants old file message new
-    → HeldUpBut file old → HeldUpBut file new
-granted old file message new g held = subst (HeldUpBut file) (sym g.state_is) (λ q other.
-    subst (λ (locks : List Lock). AllByRecursion (IsHeldUp locks)
-    (of_file (with_list old.waiting file (g.earlier ++ g.later)) q)) (sym (of-other old.locks file g.locks q other))
-    (subst (AllByRecursion (IsHeldUp (of_file old.locks q)))
-    (sym (of-other old.waiting file (g.earlier ++ g.later) q other)) (held q other)))
 
 -- where one file settles, all are held up
 all-settled : (m : State) (file : ℕ) → FileWaits m file → HeldUpBut file m → AllHeldUp m
@@ -54,18 +49,25 @@ all-settled m file here held q =
       | false ↦ λ e. held q e
     ] refl
 
-settled : (old : State) (file : ℕ) (messages : List Message) (new : State) → Settles old file messages new
-    → HeldUpBut file old → AllHeldUp new
-settled old file [] new (all, e) held = subst AllHeldUp (sym e) (all-settled old file all held)
-settled old file (message ∷ messages) new (mid, grants, rest) held =
-    settled mid file messages new rest (granted old file message mid grants held)
+-- what a file comes to have is held up
+file-granted : (old : State) (file : ℕ) (after : FileLocks) (granted : List Request) (messages : List Message) (new : State)
+    → Grants old file after granted messages new → AreHeldUp after → HeldUpBut file old → AllHeldUp new
+file-granted old file after granted messages new g here held =
+    let left : State = granting old file after granted in
+    subst AllHeldUp (sym g.state_is) (all-settled left file
+    (subst (λ (locks : List Lock). AllByRecursion (IsHeldUp locks) (of_file left.waiting file))
+    (sym (of-there old.locks file after.locks))
+    (subst (AllByRecursion (IsHeldUp after.locks)) (sym (of-there old.waiting file after.waiting)) here))
+    (λ q other. subst (λ (locks : List Lock). AllByRecursion (IsHeldUp locks) (of_file left.waiting q))
+    (sym (of-other old.locks file after.locks q other))
+    (subst (AllByRecursion (IsHeldUp (of_file old.locks q)))
+    (sym (of-other old.waiting file after.waiting q other)) (held q other))))
 
 changed : (old : State) (file : ℕ) (r : Range) (mode : Mode) (messages : List Message) (new : State)
     → ChangesLocks old file r mode messages new → AllHeldUp old → AllHeldUp new
-changed old file r mode messages new c held =
-    settled (record old { locks = with_list old.locks file c.locks }) file messages new c.settles (λ q other.
-    subst (λ (locks : List Lock). AllByRecursion (IsHeldUp locks) (of_file old.waiting q))
-    (sym (of-other old.locks file c.locks q other)) (held q))
+changed old file r mode messages new c held = file-granted old file c.after c.granted messages new c.grants
+    (settles-held (record (at_file old file) { locks = c.sets.locks }) c.after c.granted c.sets.settles)
+    (λ q other. held q)
 
 -- ---- files settle one after the other
 settled-all : (old : State) (files : List ℕ) (messages : List Message) (new : State)

@@ -1,25 +1,25 @@
--- Requests that wait for a lock, and what becomes of them where held locks change (RFC 1813, appendix II, 6.2:
--- procedures 2, 5 and 10).
-use Rattle.std.specs.Prelude.{◌≡◌, ℕ, ◌<◌, List, [], ◌∷◌, ◌++◌, if◌then◌else◌, Some}
-use Rattle.std.specs.FinMap.{insert}
+-- Changes of what is held of files, and the requests that are granted by them, each with a message (RFC 1813, appendix
+-- II, 6.2: procedures 2, 5 and 10).
+use Rattle.std.specs.Prelude.{◌≡◌, ℕ, ◌<◌, List, [], ◌∷◌, ◌++◌, if◌then◌else◌, map}
+use Rattle.std.specs.FinMap.{FinMap, insert}
 use Rattle.std.specs.Int.{w64, to_be_bytes}
 use Rattle.std.specs.List.{AllByRecursion}
+use Rattle.std.specs.Ordering.{nat_cmp}
 use Rattle.side_wire.specs.declared.message.Callback.TheVariants as callbacks
 use Rattle.side_wire.specs.declared.message.Message.{Message}
 use Rattle.nfs_machine.specs.FileLists.{of_file, with_list}
-use Rattle.nfs_machine.specs.Locks.{Conflicts, HasModes, Mode, modes_with, range_of}
-use Rattle.nfs_machine.specs.State.{Lock, Request, State, Range}
+use Rattle.nfs_machine.specs.Locks.{Mode}
+use Rattle.nfs_machine.specs.OneFile.{AreHeldUp, FileLocks, SetsMode, Settles}
+use Rattle.nfs_machine.specs.State.{PendingGrant, Range, Request, State}
 
-abbrev pub requested : Request → Range
-requested r = range_of r.asked
-
--- the request conflicts with what is held of its file
-abbrev pub IsHeldUp : List Lock → Request → Type 0
-IsHeldUp locks r = Conflicts locks (requested r) (Some r.exclusive)
+-- what a file has
+abbrev pub at_file : State → (file : ℕ) → FileLocks
+at_file m file = record
+    { locks = of_file m.locks file; shares = of_file m.shares file; waiting = of_file m.waiting file }
 
 -- each request that waits for a file conflicts with what is held of it
 abbrev pub FileWaits : State → (file : ℕ) → Type 0
-FileWaits m file = AllByRecursion (IsHeldUp (of_file m.locks file)) (of_file m.waiting file)
+FileWaits m file = AreHeldUp (at_file m file)
 
 -- and so of all files
 abbrev pub AllHeldUp : State → Type 0
@@ -37,39 +37,41 @@ grant_message r = record {
       (record { cookie = grant_cookie r.number; exclusive = r.exclusive; lock = r.asked });
 }
 
--- the earliest request of a file that conflicts with nothing is held and waits for its answer
-pub record Grants (old : State) (file : ℕ) (message : Message) (new : State) : Type 0 where
-  pub earlier : List Request
-  pub request : Request
-  pub later : List Request
-  pub waits : of_file old.waiting file ≡ earlier ++ request ∷ later
-  pub held_up : AllByRecursion (IsHeldUp (of_file old.locks file)) earlier
-  pub free : IsHeldUp (of_file old.locks file) request → ⊥
-  pub locks : List Lock
-  pub lists : HasModes locks (modes_with (of_file old.locks file) (requested request) (Some request.exclusive))
-  pub message_is : message ≡ grant_message request
+-- the pending grants, with these of a file
+abbrev pub with_grants : FinMap nat_cmp PendingGrant → (file : ℕ) → List Request → FinMap nat_cmp PendingGrant
+with_grants pending file [] = pending
+with_grants pending file (r ∷ granted) =
+    with_grants (insert pending r.number (record { file = file; request = r })) file granted
+
+-- these locks are held of a file and these requests wait for it; those that were granted wait for their answers, each
+-- to its message
+pub record Grants (old : State) (file : ℕ) (after : FileLocks) (granted : List Request) (messages : List Message)
+    (new : State) : Type 0 where
+  pub messages_are : messages ≡ map grant_message granted
   pub state_is : new ≡ record old {
-    locks = with_list old.locks file locks;
-    waiting = with_list old.waiting file (earlier ++ later);
-    granted = insert old.granted request.number (record { file = file; request = request });
+    locks = with_list old.locks file after.locks;
+    waiting = with_list old.waiting file after.waiting;
+    granted = with_grants old.granted file granted;
   }
 
--- requests of a file are granted one after the other, each with its message, until none of those that wait can be
-abbrev pub Settles : State → (file : ℕ) → List Message → State → Type 0
-Settles old file [] new = FileWaits old file × (new ≡ old)
-Settles old file (message ∷ messages) new = (mid : State) × Grants old file message mid ×
-    Settles mid file messages new
+-- what waits for a file is tried
+pub record SettlesFile (old : State) (file : ℕ) (messages : List Message) (new : State) : Type 0 where
+  pub after : FileLocks
+  pub granted : List Request
+  pub settles : Settles (at_file old file) granted after
+  pub grants : Grants old file after granted messages new
 
 -- Files settle one after the other, in order of fileid, until no request that waits can be granted
 abbrev pub SettleInOrder : State → List ℕ → List Message → State → Type 0
 SettleInOrder old [] messages new = AllHeldUp old × (messages ≡ []) × (new ≡ old)
 SettleInOrder old (file ∷ files) messages new =
     AllByRecursion (λ other. file < other) files × (mid : State) × (first rest : List Message) ×
-    (messages ≡ first ++ rest) × Settles old file first mid × SettleInOrder mid files rest new
+    (messages ≡ first ++ rest) × SettlesFile old file first mid × SettleInOrder mid files rest new
 
 -- the range's owner gets this mode on it, and then what waits for the file is tried
 pub record ChangesLocks (old : State) (file : ℕ) (r : Range) (mode : Mode) (messages : List Message)
     (new : State) : Type 0 where
-  pub locks : List Lock
-  pub lists : HasModes locks (modes_with (of_file old.locks file) r mode)
-  pub settles : Settles (record old { locks = with_list old.locks file locks }) file messages new
+  pub after : FileLocks
+  pub granted : List Request
+  pub sets : SetsMode (at_file old file) r mode granted after
+  pub grants : Grants old file after granted messages new

@@ -27,6 +27,7 @@ pub mod MountSteps
 pub mod NameSteps
 pub mod NfsSteps
 pub mod NlmSteps
+pub mod OneFile
 pub mod Opening
 pub mod PageSteps
 pub mod Pages

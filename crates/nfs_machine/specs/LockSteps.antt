@@ -24,9 +24,10 @@ use Rattle.nfs_machine.specs.Answers.{Answers}
 use Rattle.nfs_machine.specs.Bytes.{same_bytes}
 use Rattle.nfs_machine.specs.Checks.{◌>>=◌, bytes_in, holding, is_writable}
 use Rattle.nfs_machine.specs.FileLists.{all_but, grants_but, of_file, relisted, with_list}
-use Rattle.nfs_machine.specs.Grants.{ChangesLocks, SettleInOrder, grant_cookie, requested}
+use Rattle.nfs_machine.specs.Grants.{ChangesLocks, SettleInOrder, grant_cookie}
 use Rattle.nfs_machine.specs.Locks.{Conflicts, HasModes, Mode, denies, fits_offsets, is_within, mode_at, modes_without}
-use Rattle.nfs_machine.specs.Locks.{range_of, same_owner, same_sharer, shares_conflict}
+use Rattle.nfs_machine.specs.Locks.{range_of, same_owner}
+use Rattle.nfs_machine.specs.OneFile.{is_denied, requested, requests_without, shared, shares_without, unshared}
 use Rattle.nfs_machine.specs.Resolve.{Names, resolve}
 use Rattle.nfs_machine.specs.State.{Lock, PendingGrant, Request, Share, State, Range}
 use Rattle.nfs_machine.specs.declared.context.Ctx.{Ctx}
@@ -216,16 +217,15 @@ abbrev pub ShareEnds : State → Ctx → ShareArguments → NlmStatus → List M
 ShareEnds old ctx a = Checked nlm_status_of old
     (file_checked old ctx a.share.file true (denies mode.DenyWrite a.share.access)) (λ file.
     let share = share_of a.share in let shares = of_file old.shares file in
-    let conflicts = list_any (shares_conflict share) shares in
-    Answers (if conflicts then status.Denied else status.Granted)
-    (if conflicts then old else record old
-    { shares = with_list old.shares file (all_but (same_sharer share) shares ++ share ∷ []) }))
+    let denied = is_denied share shares in
+    Answers (if denied then status.Denied else status.Granted)
+    (if denied then old else record old { shares = with_list old.shares file (shared share shares) }))
 
 -- the sharer has no share of the file any more
 abbrev pub UnshareEnds : State → Ctx → ShareArguments → NlmStatus → List Message → State → Type 0
 UnshareEnds old ctx a = Checked nlm_status_of old (file_checked old ctx a.share.file true false) (λ file.
     Answers status.Granted (record old
-    { shares = with_list old.shares file (all_but (same_sharer (share_of a.share)) (of_file old.shares file)) }))
+    { shares = with_list old.shares file (unshared (share_of a.share) (of_file old.shares file)) }))
 
 -- ---- FREE_ALL, procedure 23; its state is not looked at
 
@@ -233,8 +233,8 @@ UnshareEnds old ctx a = Checked nlm_status_of old (file_checked old ctx a.share.
 abbrev pub freed_with : State → (name : List ℕ) → (ℕ → List Lock) → State
 freed_with m name locks = record m {
   locks = relisted (λ file _. locks file) m.locks;
-  shares = relisted (λ file. all_but (λ (s : Share). same_bytes s.caller_name name)) m.shares;
-  waiting = relisted (λ file. all_but (λ (r : Request). same_bytes r.asked.caller_name name)) m.waiting;
+  shares = relisted (λ file. shares_without name) m.shares;
+  waiting = relisted (λ file. requests_without name) m.waiting;
   granted = grants_but (λ (g : PendingGrant). same_bytes g.request.asked.caller_name name) m.granted;
 }
 

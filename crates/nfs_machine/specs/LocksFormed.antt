@@ -7,7 +7,8 @@ use Rattle.std.specs.List.{AllByRecursion, IsDistinct}
 use Rattle.std.specs.Ordering.{nat_cmp}
 use Rattle.nfs_machine.specs.Checks.{bytes_in}
 use Rattle.nfs_machine.specs.FileLists.{of_file}
-use Rattle.nfs_machine.specs.Grants.{AllHeldUp, requested}
+use Rattle.nfs_machine.specs.Grants.{AllHeldUp}
+use Rattle.nfs_machine.specs.OneFile.{requested}
 use Rattle.nfs_machine.specs.LockSteps.{is_grant_number, same_request}
 use Rattle.nfs_machine.specs.Locks.{AreListed, IsRange, mode_at, modes_conflict, same_owner, same_sharer}
 use Rattle.nfs_machine.specs.Locks.{shares_conflict}
