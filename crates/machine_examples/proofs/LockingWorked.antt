@@ -32,7 +32,8 @@ use Rattle.side_wire.specs.declared.nlm.ShareAccess.TheVariants as access
 use Rattle.side_wire.specs.declared.nlm.ShareMode.TheVariants as mode
 use Rattle.nfs_machine.specs.State.{Living, Lock, Owner, Request, Share}
 use Rattle.machine_examples.specs.Worked.{open_export, root_bytes, root_handle}
-use Rattle.machine_examples.specs.WorkedLocks.{a, b, holder, lock, range_at, reading, reading_too, split, whole, Unlocked}
+use Rattle.machine_examples.specs.WorkedLocks.{a, b, holder, lock, range_at, reading, reading_too, split, whole}
+use Rattle.machine_examples.specs.WorkedLocks.{Unlocked}
 use Rattle.machine_examples.specs.WorkedLocks.{Exclusive}
 use Rattle.machine_examples.specs.WorkedLocking.{WorkedChecks, WorkedLocking, cancelling, giving_back, locking, on_x}
 use Rattle.machine_examples.specs.WorkedLocking.{sharing, testing, waiting, with_reader, with_readers, with_split}

@@ -1,5 +1,6 @@
 -- The steps of calls that make or take away a name that are worked through: what the root's handle names, and the rest computes.
-use Rattle.std.proofs.Common.{◌≡◌, ℕ, ◌+◌, List, [], ◌∷◌, Option, Some, None, option_map, Result, Ok, Err, codes, refl, sym, ◌∙◌, ap, subst}
+use Rattle.std.proofs.Common.{◌≡◌, ℕ, ◌+◌, List, [], ◌∷◌, Option, Some, None, option_map}
+use Rattle.std.proofs.Common.{Result, Ok, Err, codes, refl, sym, ◌∙◌, ap, subst}
 use Rattle.std.specs.Prelude.{ok_or}
 use Rattle.std.specs.FinMap.{get, insert}
 use Rattle.std.specs.List.{count_by}
@@ -13,7 +14,8 @@ use Rattle.nfs_wire.specs.declared.status.NfsStatus.{NfsStatus}
 use Rattle.nfs_wire.specs.declared.status.NfsStatus.TheVariants as status
 use Rattle.nfs_machine.specs.Answers.{Ends, answer_of, state_after}
 use Rattle.nfs_machine.specs.Attributes.{is_living_directory, names_of}
-use Rattle.nfs_machine.specs.Checks.{DirectoryEntries, ◌>>=◌, changeable, entries_in, entry_of, object_of, permitted, plain_name_checked}
+use Rattle.nfs_machine.specs.Checks.{DirectoryEntries, ◌>>=◌, changeable, entries_in, entry_of, object_of}
+use Rattle.nfs_machine.specs.Checks.{permitted, plain_name_checked}
 use Rattle.nfs_machine.specs.Making.{MakeStep, Wanted, made}
 use Rattle.nfs_machine.specs.MakeSteps.{wanted_of, wanted_special}
 use Rattle.nfs_machine.specs.NameSteps.{create_existing}
@@ -27,7 +29,9 @@ use Rattle.nfs_machine.specs.State.{Content, Directory, Fifo, Link, Entry, Livin
 use Rattle.machine_examples.specs.Worked.{root_bytes}
 use Rattle.machine_examples.specs.WorkedCreate.{no_attributes}
 use Rattle.machine_examples.specs.WorkedFiles.{time}
-use Rattle.machine_examples.specs.WorkedMaking.{WorkedMaking, WorkedTaking, d_entry, bare_directory, exclusive, guarded, made_as, new, not_made, not_removed, root_with_d, with_new}
+use Rattle.machine_examples.specs.WorkedMaking.{WorkedMaking, WorkedTaking, d_entry, bare_directory, exclusive}
+use Rattle.machine_examples.specs.WorkedMaking.{guarded, made_as, new, not_made, not_removed, root_with_d}
+use Rattle.machine_examples.specs.WorkedMaking.{with_new}
 use Rattle.machine_examples.specs.WorkedReplies.{root}
 use Rattle.machine_examples.specs.WorkedRun.{in_root, nobody, opened, root_with_x, with_hi, x_entry}
 use Rattle.nfs_machine.proofs.Choosing.{End, EndsAs, known, make_new, makes-so}

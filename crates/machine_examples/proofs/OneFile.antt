@@ -1,5 +1,6 @@
 -- Maps in which one file alone has a list, and pending grants of which one goes: what becomes of them.
-use Rattle.std.proofs.Common.{◌≡◌, ◌==◌, ℕ, Bool, true, false, not, cond, List, [], ◌∷◌, Option, Some, None}
+use Rattle.std.proofs.Common.{◌≡◌, ◌==◌, ℕ, Bool, true, false, not, cond, List, [], ◌∷◌}
+use Rattle.std.proofs.Common.{Option, Some, None}
 use Rattle.std.proofs.Common.{unwrap_or, refl, sym, ◌∙◌, ap}
 use Rattle.std.specs.Cmp.{nat_cmp_total, unsigned_Decides}
 use Rattle.std.specs.FinMap.{FinMap, empty, get, get-empty, insert, nat_cmp-IsAntisymmetric, remove, same_map}
@@ -29,7 +30,8 @@ with-again {A} lists file list other =
     again-with : (q : ℕ) (other : List A) → get (with_list (with_list lists file list) file other) q
         ≡ cond (q == file) (kept other) (get lists q)
     again-with q [] =
-        differs-remove (with_list lists file list) file q ∙ ap (cond (q == file) None) (differs-with lists file list q)
+        differs-remove (with_list lists file list) file q
+        ∙ ap (cond (q == file) None) (differs-with lists file list q)
         ∙ both (q == file) None (kept list) (get lists q)
     again-with q (x ∷ xs) =
         differs-insert (with_list lists file list) file (x ∷ xs) q

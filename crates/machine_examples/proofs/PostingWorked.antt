@@ -1,6 +1,7 @@
 -- The calls of NLM whose results are messages, worked through: the steps of the calls that answer in their replies, and
 -- a range that is given back while a request waits for a part of it.
-use Rattle.std.proofs.Common.{◌≡◌, ℕ, ◌≤◌, true, false, ◌&&◌, cond, List, [], ◌∷◌, Some, None, refl, sym, ◌∙◌, ap, subst}
+use Rattle.std.proofs.Common.{◌≡◌, ℕ, ◌≤◌, true, false, ◌&&◌, cond, List, [], ◌∷◌, Some}
+use Rattle.std.proofs.Common.{None, refl, sym, ◌∙◌, ap, subst}
 use Rattle.std.proofs.Common.{arith}
 use Rattle.std.specs.FinMap.{empty}
 use Rattle.side_wire.specs.declared.nlm.NlmStatus.TheVariants as status
@@ -27,7 +28,8 @@ use Rattle.machine_examples.specs.WorkedPosting.{WorkedPosting, giving_all, with
 all-given : HasModes [] (modes_with split (range_at a 0 100) Unlocked)
 all-given = record { modes_are = modes; listed = none-listed }
   where
-    outside : (offset low high : ℕ) → high ≤ 99 → is_within 0 99 offset ≡ false → is_within low high offset ≡ false
+    outside : (offset low high : ℕ) → high ≤ 99 → is_within 0 99 offset ≡ false →
+        is_within low high offset ≡ false
     outside offset low high to out =
         elim (is_within low high offset) as (λ t. is_within low high offset ≡ t → t ≡ false) [
           | true ↦ λ e.
@@ -61,7 +63,8 @@ gives-all =
     let b_has : List Lock = lock b 30 30 true ∷ [] in
     let after : FileLocks = having [] b_has [] in
     let has : having [] split (waiting ∷ []) ≡ at_file with_waiting 5 =
-    λ i. having (sym (none_of 5) i) (sym (of-there empty 5 split) i) (sym (of-there empty 5 (waiting ∷ [])) i) in record {
+    λ i. having (sym (none_of 5) i) (sym (of-there empty 5 split) i)
+    (sym (of-there empty 5 (waiting ∷ [])) i) in record {
       after = after;
       granted = waiting ∷ [];
       sets = subst (λ x. SetsMode x (range_at a 0 100) Unlocked (waiting ∷ []) after) has (record {

@@ -1,5 +1,8 @@
 -- The run and the steps that are worked through: what lives at each number is told by the maps, and the rest computes.
-use Rattle.std.proofs.Common.{◌≡◌, ◌==◌, ℕ, ◌≤◌, ◌^◌, Bool, true, false, ◌||◌, ◌&&◌, cond, nat_le, List, [], ◌∷◌, ◌++◌, Option, Some, None, option_map, replicate, Result, Ok, codes, inl, refl, sym, ◌∙◌, ap, subst, arith}
+use Rattle.std.proofs.Common.{◌≡◌, ◌==◌, ℕ, ◌≤◌, ◌^◌, Bool, true, false, ◌||◌}
+use Rattle.std.proofs.Common.{◌&&◌, cond, nat_le, List, [], ◌∷◌, ◌++◌, Option, Some, None}
+use Rattle.std.proofs.Common.{option_map, replicate, Result, Ok, codes, inl, refl, sym, ◌∙◌, ap, subst}
+use Rattle.std.proofs.Common.{arith}
 use Rattle.std.specs.Prelude.{◌+◌, is_none, nat_lt, not, ok_or}
 use Rattle.std.proofs.lemmas.Bool.{leb-true, or_right}
 use Rattle.std.specs.FinMap.{get, insert, get-empty}
@@ -25,7 +28,8 @@ use Rattle.nfs_wire.specs.declared.status.NfsStatus.TheVariants as status
 use Rattle.nfs_machine.specs.Bytes.{same_bytes}
 use Rattle.nfs_machine.specs.Answers.{answer_of, state_after}
 use Rattle.nfs_machine.specs.Attributes.{attributes_of, entries_of, is_directory, links_of, names_in, names_of}
-use Rattle.nfs_machine.specs.Checks.{DirectoryEntries, ◌>>=◌, changeable, entries_in, entry_of, holding, link_limit, object_of, permitted, plain_name_checked}
+use Rattle.nfs_machine.specs.Checks.{DirectoryEntries, ◌>>=◌, changeable, entries_in, entry_of, holding}
+use Rattle.nfs_machine.specs.Checks.{link_limit, object_of, permitted, plain_name_checked}
 use Rattle.nfs_machine.specs.DataSteps.{write_object, verifier_of}
 use Rattle.nfs_machine.specs.LinkSteps.{link_end}
 use Rattle.nfs_machine.specs.Making.{made, with_entry}
@@ -48,12 +52,15 @@ use Rattle.machine_examples.specs.WorkedCreate.{moment, with_writable, writable}
 use Rattle.machine_examples.specs.WorkedFiles.{time}
 use Rattle.machine_examples.specs.WorkedPages.{seven, zeros}
 use Rattle.machine_examples.specs.WorkedReplies.{root}
-use Rattle.machine_examples.specs.WorkedRun.{wrote_reply, received, WorkedLeaving, WorkedLinking, WorkedRenaming, WorkedRun}
+use Rattle.machine_examples.specs.WorkedRun.{wrote_reply, received, WorkedLeaving, WorkedLinking}
+use Rattle.machine_examples.specs.WorkedRun.{WorkedRenaming, WorkedRun}
 use Rattle.machine_examples.specs.WorkedRun.{WorkedSteps, WorkedTurns, all_three, argument_bytes, arrives, executed}
 use Rattle.machine_examples.specs.WorkedRun.{first_two, nfs_header, in_root, listed_full_reply, listed_reply, listing}
-use Rattle.machine_examples.specs.WorkedRun.{linking, listing_full, made_reply, making, miscounted, nobody, opened, left}
+use Rattle.machine_examples.specs.WorkedRun.{linking, listing_full, made_reply, making, miscounted, nobody}
+use Rattle.machine_examples.specs.WorkedRun.{opened, left}
 use Rattle.machine_examples.specs.WorkedRun.{page_reply, read_only, refused_reply, renamed, renaming}
-use Rattle.machine_examples.specs.WorkedRun.{root_after, root_with, root_with_both, root_with_x, setting, with_x, writing}
+use Rattle.machine_examples.specs.WorkedRun.{root_after, root_with, root_with_both, root_with_x, setting}
+use Rattle.machine_examples.specs.WorkedRun.{with_x, writing}
 use Rattle.machine_examples.specs.WorkedRun.{with_hi, x, x_bytes, x_entry, x_written, y_entry}
 use Rattle.nfs_machine.specs.declared.calls.Call.TheVariants as calls
 use Rattle.nfs_machine.specs.declared.context.Ctx.{Ctx}
@@ -283,20 +290,27 @@ module _ (k : State) where
   abbrev take_object : Option Named → Result (Unit {0} × State) NfsStatus
   take_object found =
       ok_or found status.NoEntry >>= λ o. not_directory o.object.content >>= λ _.
-      Ok (tt, losing_name (with_object any_locks 1 root_after) (names_of any_locks o.number) (time 1000 0) o.number o.object)
+      Ok (
+        tt,
+        losing_name (with_object any_locks 1 root_after) (names_of any_locks o.number) (time 1000 0) o.number
+            o.object,
+      )
 
   abbrev take_under : Named → DirectoryEntries → Result (Unit {0} × State) NfsStatus
   take_under directory entries =
       ok_or (object_under any_locks (entry_of entries.list (codes "x"))) status.NoEntry >>= λ o.
       not_directory o.object.content >>= λ _.
       let left = with_object any_locks directory.number
-      (with_content directory.object (time 1000 0) (Directory (without entries.list (codes "x")) entries.last_cookie)) in
+      (with_content directory.object (time 1000 0)
+      (Directory (without entries.list (codes "x")) entries.last_cookie)) in
       Ok (tt, losing_name left (names_of any_locks o.number) (time 1000 0) o.number o.object)
 
   abbrev take_by : Resolved → Result (Unit {0} × State) NfsStatus
   take_by r =
-      object_of r >>= λ directory. entries_in directory.object.content >>= λ entries. plain_name_checked status.Invalid
-      status.Invalid (codes "x") >>= λ _. changeable writable directory.object >>= λ _. permitted nobody directory.object
+      object_of r >>= λ directory. entries_in directory.object.content >>= λ entries.
+      plain_name_checked status.Invalid
+      status.Invalid (codes "x") >>= λ _. changeable writable directory.object >>= λ _.
+      permitted nobody directory.object
       ToChange
       >>= λ _. take_under directory entries
 

@@ -19,7 +19,8 @@ use Rattle.nfs_machine.specs.LockSteps.{GrantEnds, freed_with, is_answered}
 use Rattle.nfs_machine.specs.NlmSteps.{NlmStep}
 use Rattle.nfs_machine.specs.State.{Lock, Owner, PendingGrant, Request, Share, State}
 use Rattle.machine_examples.specs.WorkedLocks.{a, b, lock, range_at, reading, Unlocked, Shared}
-use Rattle.machine_examples.specs.WorkedSettling.{WorkedFreed, WorkedSettling, alone, both_shared, c, held_by_a, held_by_b}
+use Rattle.machine_examples.specs.WorkedSettling.{WorkedFreed, WorkedSettling, alone, both_shared, c, held_by_a}
+use Rattle.machine_examples.specs.WorkedSettling.{held_by_b}
 use Rattle.machine_examples.specs.WorkedSettling.{held_by_c, held_by_freed, pending, two_held, waiting}
 use Rattle.nfs_machine.proofs.FileMaps.{each-with, grants-none, no-list, of-there, of-with}
 use Rattle.machine_examples.proofs.OneFile.{get-one, grants-gone}

@@ -32,7 +32,8 @@ use Rattle.machine_examples.specs.WorkedLocking.{locking, waiting, with_waiting}
 use Rattle.machine_examples.specs.WorkedLocks.{a, b, lock, split}
 use Rattle.machine_examples.specs.WorkedRun.{in_root, nobody, root_after}
 use Rattle.machine_examples.specs.WorkedSettling.{alone}
-use Rattle.machine_examples.specs.WorkedWaiting.{WorkedWaiting, in_both, none_left, of_c, two_granted, two_held_by_c}
+use Rattle.machine_examples.specs.WorkedWaiting.{WorkedWaiting, gone_reply, in_both, none_left, of_c}
+use Rattle.machine_examples.specs.WorkedWaiting.{two_granted, two_held_by_c}
 use Rattle.machine_examples.specs.WorkedWaiting.{without_waiting}
 
 -- ---- two files
@@ -61,7 +62,8 @@ none-empty = with-some (with_list empty 5 b_waits) (with-some empty none 5 b_wai
     none : (q : ℕ) → get no_requests q ≡ Some [] → ⊥
     none q at = (let no : None ≡ Some [] = sym (get-empty nat_cmp q) ∙ at in cc)
 
-all-wait : (q : ℕ) → requests_without (codes "c3") (of_file (in_both a_waits b_waits) q) ≡ of_file (in_both a_waits b_waits) q
+all-wait : (q : ℕ) →
+    requests_without (codes "c3") (of_file (in_both a_waits b_waits) q) ≡ of_file (in_both a_waits b_waits) q
 all-wait = each-with (with_list empty 5 b_waits) 3 a_waits (λ q l. requests_without (codes "c3") l ≡ l) refl
     (each-with empty 5 b_waits (λ q l. requests_without (codes "c3") l ≡ l) refl
     (λ q. subst (λ l. requests_without (codes "c3") l ≡ l) (sym (none_of q)) refl))
@@ -92,7 +94,8 @@ third : (m : State) → SettlesFile (left_by_c m) 3 (grant_message (alone a 3) �
 third m =
     let after : FileLocks = having [] a_has [] in
     let has : having [] [] a_waits ≡ at_file (left_by_c m) 3 =
-    λ i. having (sym (none_of 3) i) (sym (none_of 3) i) (sym (of-there (with_list empty 5 b_waits) 3 a_waits) i) in record {
+    λ i. having (sym (none_of 3) i) (sym (none_of 3) i)
+    (sym (of-there (with_list empty 5 b_waits) 3 a_waits) i) in record {
       after = after;
       granted = a_waits;
       settles = subst (λ x. Settles x a_waits after) has (after, grants-first a 3 true [], (tt, refl));
@@ -127,7 +130,8 @@ frees m = record {
   lists = each-with (with_list empty 5 of_c) 3 of_c
       (λ q (l : List Lock). HasModes [] (modes_without l (codes "c3"))) freed all-freed;
   files = 3 ∷ 5 ∷ [];
-  settle = subst (λ s. SettleInOrder s (3 ∷ 5 ∷ []) (grant_message (alone a 3) ∷ grant_message (alone b 69) ∷ [])
+  settle = subst (λ s. SettleInOrder s (3 ∷ 5 ∷ [])
+      (grant_message (alone a 3) ∷ grant_message (alone b 69) ∷ [])
       (two_granted m)) (left-is m) (
         (omega arith, tt),
         third_granted m,
@@ -153,7 +157,7 @@ all-given number suits = (and_parts (nat_lt number (2 ^ 64)) (number % 64 == 5) 
 
 -- ---- the file goes
 removes : NfsStep with_waiting nobody (nfs.Remove (in_root (codes "x")))
-    (nfs_replies.Remove (record { directory = wcc without_waiting (resolve with_waiting nobody root_bytes); result = Ok tt }))
+    gone_reply
     [] without_waiting
 removes =
     let left : State = without_object (with_object with_waiting 1 root_after) 5 in

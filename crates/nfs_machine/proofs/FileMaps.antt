@@ -92,7 +92,8 @@ module _ {A : Type 0} where
       of (x ∷ xs) at = refl
 
   -- a file's own list
-  pub with-itself : (lists : FinMap nat_cmp (List A)) → ((q : ℕ) → get lists q ≡ Some [] → ⊥) → (file : ℕ)
+  pub with-itself : (lists : FinMap nat_cmp (List A)) → ((q : ℕ) → get lists q ≡ Some [] → ⊥) →
+      (file : ℕ)
       → with_list lists file (of_file lists file) ≡ lists
   with-itself lists some file = with-same lists file (of_file lists file) (kept-there lists some file)
 

@@ -287,7 +287,8 @@ Formed file x = AreListed x.locks × AreWaiting file x.waiting
 abbrev IsGood : (file : ℕ) → Request → Type 0
 IsGood file r = OfRange r × Suits file r
 
-granted-formed : (file : ℕ) (before after : FileLocks) (r : Request) → IsGranted before r after → Formed file before →
+granted-formed : (file : ℕ) (before after : FileLocks) (r : Request) → IsGranted before r after →
+    Formed file before →
     Formed file after × IsGood file r
 granted-formed file before after r g formed =
     let all : AreWaiting file (g.earlier ++ r ∷ g.later) = subst (AreWaiting file) g.waits formed.1 in (

@@ -1,5 +1,6 @@
 -- NLM leaves the objects as they are, and lets no two owners conflict.
-use Rattle.std.proofs.Common.{◌≡◌, ◌==◌, ℕ, ◌+◌, ◌-◌, ◌^◌, ◌<◌, ◌≤◌, Bool, true, false, not, List, []}
+use Rattle.std.proofs.Common.{◌≡◌, ◌==◌, ℕ, ◌+◌, ◌-◌, ◌^◌, ◌<◌, ◌≤◌, Bool}
+use Rattle.std.proofs.Common.{true, false, not, List, []}
 use Rattle.std.proofs.Common.{◌∷◌, ◌++◌, Option, Some, cond, nat_le, arith}
 use Rattle.std.proofs.Common.{None, Result, Ok, Err}
 use Rattle.std.proofs.Common.{IfOk, filter, unwrap_or, is_ok, if◌then◌else◌, inl, inr, refl, sym, ◌∙◌}
@@ -186,7 +187,8 @@ shares-apart old file shares here h q =
     ((h q).0, each-with old.shares file shares (λ n (l : List Share). NoSharesConflict l) here (λ n. (h n).1) q)
 
 -- a file comes to have other locks, and some of what waited for it is granted
-file-granted : (old : State) (file : ℕ) (after : FileLocks) (granted : List Request) (messages : List Message) (new : State)
+file-granted : (old : State) (file : ℕ) (after : FileLocks) (granted : List Request) (messages : List Message)
+    (new : State)
     → Grants old file after granted messages new → (NoConflict old → NoLocksConflict after.locks)
     → (Firm old → Firm (granting old file after granted)) → Untouched old new
 file-granted old file after granted messages new g apart firm =
@@ -212,7 +214,8 @@ module _ (old : State) (file : ℕ) (r : Range) (mode : Mode) (messages : List M
   abbrev changed_file : FileLocks
   changed_file = record (at_file old file) { locks = c.sets.locks }
 
-  changed-apart : (Conflicts (of_file old.locks file) r mode → ⊥) → NoConflict old → NoLocksConflict c.after.locks
+  changed-apart : (Conflicts (of_file old.locks file) r mode → ⊥) → NoConflict old →
+      NoLocksConflict c.after.locks
   changed-apart free h = settles-apart changed_file c.after c.granted c.sets.settles
       (apart-with (of_file old.locks file) r mode free c.sets.locks c.sets.lists (h file).0)
 
@@ -220,7 +223,8 @@ module _ (old : State) (file : ℕ) (r : Range) (mode : Mode) (messages : List M
   changed-firm f living =
       firm-granted old f file living changed_file c.after c.granted c.sets.settles c.sets.lists.listed refl
 
-  changed : (Firm old → IsFile old.objects file) → (Conflicts (of_file old.locks file) r mode → ⊥) → Untouched old new
+  changed : (Firm old → IsFile old.objects file) → (Conflicts (of_file old.locks file) r mode → ⊥) →
+      Untouched old new
   changed living free = file-granted old file c.after c.granted messages new c.grants (changed-apart free)
       (λ f. changed-firm f (living f))
 

@@ -142,9 +142,11 @@ settled old file messages new s fit =
 
 -- the locks of a file change, and then what waits for it is tried
 changed : (old : State) (file : ℕ) (r : Range) (mode : Mode) (messages : List Message) (new : State)
-    (c : ChangesLocks old file r mode messages new) → OwnersFit c.sets.locks → LocksFit old → PutsForms messages new
+    (c : ChangesLocks old file r mode messages new) → OwnersFit c.sets.locks → LocksFit old →
+    PutsForms messages new
 changed old file r mode messages new c owners fit =
-    file-granted old file (record (at_file old file) { locks = c.sets.locks }) c.after c.granted messages new c.sets.settles
+    file-granted old file (record (at_file old file) { locks = c.sets.locks }) c.after c.granted messages new
+    c.sets.settles
     (owners, (fit file).1) c.grants fit
 
 settled-all : (old : State) (files : List ℕ) (messages : List Message) (new : State) →

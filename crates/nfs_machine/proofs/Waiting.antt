@@ -50,7 +50,8 @@ all-settled m file here held q =
     ] refl
 
 -- what a file comes to have is held up
-file-granted : (old : State) (file : ℕ) (after : FileLocks) (granted : List Request) (messages : List Message) (new : State)
+file-granted : (old : State) (file : ℕ) (after : FileLocks) (granted : List Request) (messages : List Message)
+    (new : State)
     → Grants old file after granted messages new → AreHeldUp after → HeldUpBut file old → AllHeldUp new
 file-granted old file after granted messages new g here held =
     let left : State = granting old file after granted in

@@ -44,7 +44,8 @@ Settles old (request ∷ granted) new =
     (mid : FileLocks) × IsGranted old request mid × Settles mid granted new
 
 -- the range's owner gets this mode on it, and then what waits is tried
-pub record SetsMode (old : FileLocks) (r : Range) (mode : Mode) (granted : List Request) (new : FileLocks) : Type 0 where
+pub record SetsMode (old : FileLocks) (r : Range) (mode : Mode) (granted : List Request) (new : FileLocks) :
+    Type 0 where
   pub locks : List Lock
   pub lists : HasModes locks (modes_with old.locks r mode)
   pub settles : Settles (record old { locks = locks }) granted new

@@ -3,8 +3,8 @@
 //! It is what every other crate is proved against. The definitions stand in `specs/`, one file for each thing:
 //! `State`, `Resolve`, `Permission`, `Attributes`, the steps of each program, `Run`. The code here is what a call is
 //! made under (`Ctx`, `Moment`), the exports, handles, the answer to a call that memory is wanting for, and the laws of
-//! the machine; worked values of the definitions stand in `machine_examples`. It stands on the call headers of `nfs_rpc`
-//! and on the calls and replies of `nfs_wire` and `side_wire`.
+//! the machine. Worked values of the definitions stand in `machine_examples`. It stands on the call headers of
+//! `nfs_rpc` and on the calls and replies of `nfs_wire` and `side_wire`.
 #![tactic(auto)]
 
 pub mod calls;
