@@ -15,9 +15,8 @@ use Rattle.side_wire.specs.declared.message.NlmLock.{NlmLock}
 use Rattle.nfs_machine.specs.Checks.{◌>>=◌, bytes_in, holding, is_writable}
 use Rattle.nfs_machine.specs.FileLists.{all_but, of_file, with_list}
 use Rattle.nfs_machine.specs.Grants.{ChangesLocks, at_file}
-use Rattle.nfs_machine.specs.OneFile.{IsHeldUp}
+use Rattle.nfs_machine.specs.OneFile.{IsHeldUp, is_denied, shared, unshared}
 use Rattle.nfs_machine.specs.Locks.{Conflicts, HasModes, fits_offsets, is_within, mode_at, modes_with, same_owner}
-use Rattle.nfs_machine.specs.Locks.{same_sharer, shares_conflict}
 use Rattle.nfs_machine.specs.LockSteps.{CancelEnds, TestEnds, UnlockEnds}
 use Rattle.nfs_machine.specs.LockSteps.{HeldUp, IsHolder, LockFault, NotRegular, RangeTooBig, ReadOnly, StaleHandle}
 use Rattle.nfs_machine.specs.LockSteps.{is_request, share_of}
@@ -293,9 +292,9 @@ abbrev c_sharer : Share
 c_sharer = share_of (sharing (record a { caller_name = codes "c3" }) mode.DenyNone access.Neither).share
 
 -- whether a share conflicts with those of the file
-conflicts-is : (s : Share) (shares : List Share) (b : Bool) → list_any (shares_conflict s) shares ≡ b
-    → list_any (shares_conflict s) (of_file (with_list empty 5 shares) 5) ≡ b
-conflicts-is s shares b is = ap (list_any (shares_conflict s)) (of-there empty 5 shares) ∙ is
+conflicts-is : (s : Share) (shares : List Share) (b : Bool) → is_denied s shares ≡ b
+    → is_denied s (of_file (with_list empty 5 shares) 5) ≡ b
+conflicts-is s shares b is = ap (is_denied s) (of-there empty 5 shares) ∙ is
 
 -- A gives a part of its range back
 pub unlocks-part : UnlockEnds with_whole nobody giving_back status.Granted [] with_split
@@ -401,11 +400,11 @@ worked-locking = record {
     subst (λ r. ShareOf with_hi (sharing a mode.DenyWrite access.Read).share (file_by writable true false r)
         status.Granted [] with_reader) (sym is-x)
         (subst (λ some. ShareAnswers with_hi 5 a_reads some status.Granted [] with_reader)
-        (sym (ap (list_any (shares_conflict a_reads)) (none_of 5))) (record {
+        (sym (ap (is_denied a_reads) (none_of 5))) (record {
           reply_is = refl;
           no_message = refl;
           state_is = ap (λ x. record with_hi { shares = x })
-              (sym (first-list 5 (λ l. all_but (same_sharer a_reads) l ++ a_reads ∷ [])));
+              (sym (first-list 5 (λ l. shared a_reads l)));
         })),
     refl,
   );
@@ -427,7 +426,7 @@ worked-locking = record {
           reply_is = refl;
           no_message = refl;
           state_is = ap (λ x. record with_hi { shares = x })
-              (sym (next-list 5 (reading ∷ []) (λ l. all_but (same_sharer b_reads) l ++ b_reads ∷ [])));
+              (sym (next-list 5 (reading ∷ []) (λ l. shared b_reads l)));
         })),
     refl,
   );
@@ -448,7 +447,7 @@ worked-locking = record {
           reply_is = refl;
           no_message = refl;
           state_is = ap (λ x. record with_hi { shares = x })
-              (sym (next-list 5 (reading ∷ reading_too ∷ []) (all_but (same_sharer c_sharer))));
+              (sym (next-list 5 (reading ∷ reading_too ∷ []) (unshared c_sharer)));
         }),
     refl,
   );
@@ -459,7 +458,7 @@ worked-locking = record {
           reply_is = refl;
           no_message = refl;
           state_is = ap (λ x. record with_hi { shares = x })
-              (sym (next-list 5 (reading ∷ reading_too ∷ []) (all_but (same_sharer a_reads))));
+              (sym (next-list 5 (reading ∷ reading_too ∷ []) (unshared a_reads)));
         }),
     refl,
   );

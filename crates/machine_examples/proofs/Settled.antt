@@ -13,7 +13,7 @@ use Rattle.nfs_machine.specs.Bytes.{same_bytes}
 use Rattle.nfs_machine.specs.FileLists.{all_but, of_file, with_list}
 use Rattle.nfs_machine.specs.Grants.{ChangesLocks, SettleInOrder, SettlesFile, at_file, grant_cookie}
 use Rattle.nfs_machine.specs.Grants.{grant_message}
-use Rattle.nfs_machine.specs.OneFile.{FileLocks, IsGranted, IsHeldUp, SetsMode, Settles, requested}
+use Rattle.nfs_machine.specs.OneFile.{FileLocks, IsGranted, IsHeldUp, SetsMode, Settles, requested, shares_without}
 use Rattle.nfs_machine.specs.Locks.{HasModes, is_in, is_within, mode_at, modes_with, modes_without, same_owner}
 use Rattle.nfs_machine.specs.LockSteps.{GrantEnds, freed_with, is_answered}
 use Rattle.nfs_machine.specs.NlmSteps.{NlmStep}
@@ -314,7 +314,7 @@ freed-is : (m : State) (first second : Request) →
     → freed_with (held_by_c m first second) (codes "c3") nothing_listed ≡ freed_of_c m first second
 freed-is m first second stay =
     let locks = relisted-one 5 (λ file (_ : List Lock). []) (lock c 0 19 true) [] ∙ no-list 5 in
-    let shares = relisted-none 5 (λ file. all_but (λ (s : Share). same_bytes s.caller_name (codes "c3"))) in
+    let shares = relisted-none 5 (λ file. shares_without (codes "c3")) in
     let waits = relisted-one 5 (λ file. all_but c_caller) first (second ∷ []) ∙ ap (with_list empty 5) stay in
     let granted = grants-none (λ (g : PendingGrant). c_caller g.request) in
     λ i. record m { locks = locks i; shares = shares i; waiting = waits i; granted = granted i }
@@ -420,7 +420,7 @@ all-gone : (m : State) → freed_with (held_by_freed m) (codes "c3") nothing_lis
 }
 all-gone m =
     let locks = relisted-one 5 (λ file (_ : List Lock). []) (lock c 0 19 true) [] ∙ no-list 5 in
-    let shares = relisted-one 5 (λ file. all_but (λ (s : Share). same_bytes s.caller_name (codes "c3"))) _
+    let shares = relisted-one 5 (λ file. shares_without (codes "c3")) _
     (reading ∷ []) in
     let waits = relisted-one 5 (λ file. all_but c_caller) _ [] ∙ no-list 5 in
     let granted = grants-gone 9 6 (pending (alone a 9)) (pending (alone c 6))

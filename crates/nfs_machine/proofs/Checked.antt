@@ -1,5 +1,5 @@
 -- What calls of NLM come to, over any outcome of their checks.
-use Rattle.std.proofs.Common.{◌≡◌, ℕ, Bool, true, false, List, [], ◌∷◌, ◌++◌, Option, Some, None}
+use Rattle.std.proofs.Common.{◌≡◌, ℕ, Bool, true, false, List, [], Option, Some, None}
 use Rattle.std.proofs.Common.{Result}
 use Rattle.std.proofs.Common.{if◌then◌else◌, ◌⊎◌}
 use Rattle.std.specs.FinMap.{get}
@@ -16,9 +16,10 @@ use Rattle.side_wire.specs.declared.nlm.UnlockArguments.{UnlockArguments}
 use Rattle.nfs_machine.specs.Answers.{Answers}
 use Rattle.nfs_machine.specs.FileLists.{all_but, of_file, with_list}
 use Rattle.nfs_machine.specs.Grants.{ChangesLocks}
-use Rattle.nfs_machine.specs.Locks.{Conflicts, range_of, same_sharer, shares_conflict}
+use Rattle.nfs_machine.specs.Locks.{Conflicts, range_of}
 use Rattle.nfs_machine.specs.LockSteps.{Checked, HeldUp, LockFault, Tests, is_answered, is_request, nlm_status_of}
 use Rattle.nfs_machine.specs.LockSteps.{share_of, test_status_of}
+use Rattle.nfs_machine.specs.OneFile.{is_denied, shared, unshared}
 use Rattle.nfs_machine.specs.State.{PendingGrant, Request, Share, State}
 use Rattle.nfs_machine.specs.declared.context.Ctx.{Ctx}
 
@@ -56,15 +57,15 @@ abbrev pub ShareAnswers : State → (file : ℕ) → Share → (conflicts : Bool
     Type 0
 ShareAnswers old file share conflicts = Answers (if conflicts then status.Denied else status.Granted)
     (if conflicts then old else record old
-    { shares = with_list old.shares file (all_but (same_sharer share) (of_file old.shares file) ++ share ∷ []) })
+    { shares = with_list old.shares file (shared share (of_file old.shares file)) })
 
 abbrev pub ShareOf : State → NlmShare → Result ℕ LockFault → NlmStatus → List Message → State → Type 0
 ShareOf old s checked = Checked nlm_status_of old checked (λ file.
-    ShareAnswers old file (share_of s) (list_any (shares_conflict (share_of s)) (of_file old.shares file)))
+    ShareAnswers old file (share_of s) (is_denied (share_of s) (of_file old.shares file)))
 
 abbrev pub UnshareOf : State → NlmShare → Result ℕ LockFault → NlmStatus → List Message → State → Type 0
 UnshareOf old s checked = Checked nlm_status_of old checked (λ file. Answers status.Granted (record old
-    { shares = with_list old.shares file (all_but (same_sharer (share_of s)) (of_file old.shares file)) }))
+    { shares = with_list old.shares file (unshared (share_of s) (of_file old.shares file)) }))
 
 -- what is answered is pending under its number
 pub found-pending : (old : State) (host cookie : List ℕ) (number : ℕ) (found : Option PendingGrant)

@@ -1,7 +1,7 @@
 -- NLM leaves the objects as they are, and lets no two owners conflict.
 use Rattle.std.proofs.Common.{◌≡◌, ◌==◌, ℕ, ◌+◌, ◌-◌, ◌^◌, ◌<◌, ◌≤◌, Bool}
 use Rattle.std.proofs.Common.{true, false, not, List, []}
-use Rattle.std.proofs.Common.{◌∷◌, ◌++◌, Option, Some, cond, nat_le, arith}
+use Rattle.std.proofs.Common.{◌∷◌, Option, Some, cond, nat_le, arith}
 use Rattle.std.proofs.Common.{None, Result, Ok, Err}
 use Rattle.std.proofs.Common.{IfOk, filter, unwrap_or, is_ok, if◌then◌else◌, inl, inr, refl, sym, ◌∙◌}
 use Rattle.std.proofs.Common.{ap, subst, ◌||◌}
@@ -27,12 +27,13 @@ use Rattle.nfs_machine.specs.Exports.{LivingExport}
 use Rattle.side_wire.specs.declared.nlm.UnlockArguments.{UnlockArguments}
 use Rattle.nfs_machine.specs.Bytes.{same_bytes}
 use Rattle.nfs_machine.specs.Checks.{◌>>=◌, bytes_in, holding, is_writable}
-use Rattle.nfs_machine.specs.FileLists.{all_but, of_file, with_list}
+use Rattle.nfs_machine.specs.FileLists.{of_file, with_list}
 use Rattle.nfs_machine.specs.Grants.{ChangesLocks, Grants, SettleInOrder, SettlesFile, at_file}
 use Rattle.nfs_machine.specs.OneFile.{FileLocks, requested}
+use Rattle.nfs_machine.specs.OneFile as one
 use Rattle.nfs_machine.specs.Laws.{KeepsExports}
 use Rattle.nfs_machine.specs.Locks.{Conflicts, HasModes, IsRange, Mode, denies, fits_offsets, modes_without, range_of}
-use Rattle.nfs_machine.specs.Locks.{same_sharer, shares_conflict}
+use Rattle.nfs_machine.specs.Locks.{same_sharer}
 use Rattle.nfs_machine.specs.LocksFormed.{IsFile, NoConflict, NoLocksConflict, NoSharesConflict}
 use Rattle.nfs_machine.specs.LockSteps.{Frees, GrantEnds, HeldUp, LockFault, NotRegular, RangeTooBig, ReadOnly}
 use Rattle.nfs_machine.specs.LockSteps.{StaleHandle}
@@ -306,7 +307,7 @@ answered old number (Some grant) s messages new there step =
 
 -- a share in the place of the sharer's own
 sharers-with : (share : Share) (shares : List Share) → IsDistinct same_sharer shares →
-    IsDistinct same_sharer (all_but (same_sharer share) shares ++ share ∷ [])
+    IsDistinct same_sharer (one.shared share shares)
 sharers-with share shares once =
     let stay : Share → Bool = λ (other : Share). not (same_sharer share other) in
     distinct-last same_sharer (filter stay shares) share
@@ -322,11 +323,11 @@ sharers-with share shares once =
 share-untouched : (old : State) (file : ℕ) (share : Share) (conflicts : Bool) (s : NlmStatus)
     (messages : List Message)
     (new : State) → IsFile old.objects file →
-    list_any (shares_conflict share) (of_file old.shares file) ≡ conflicts
+    one.is_denied share (of_file old.shares file) ≡ conflicts
     → ShareAnswers old file share conflicts s messages new → Untouched old new
 share-untouched old file share true s messages new living is step = same old new step.state_is
 share-untouched old file share false s messages new living is step =
-    let shares : List Share = all_but (same_sharer share) (of_file old.shares file) ++ share ∷ [] in
+    let shares : List Share = one.shared share (of_file old.shares file) in
     from old _ new refl refl refl
     (λ h. shares-apart old file shares (shares-with (λ (other : Share). not (same_sharer share other)) share
     (of_file old.shares file) is (h file).1) h)
@@ -338,7 +339,7 @@ shared : (old : State) (asked : NlmShare) (checked : Result ℕ LockFault) (s : 
     Untouched old new
 shared old asked (Err fault) s messages new living step = same old new step.state_is
 shared old asked (Ok file) s messages new living step =
-    share-untouched old file (share_of asked) (list_any (shares_conflict (share_of asked)) (of_file old.shares file)) s
+    share-untouched old file (share_of asked) (one.is_denied (share_of asked) (of_file old.shares file)) s
     messages new living refl step
 
 unshared : (old : State) (asked : NlmShare) (checked : Result ℕ LockFault) (s : NlmStatus) (messages : List Message)
@@ -373,7 +374,7 @@ freed old name messages new f =
       apart = λ h q. (
         subst (λ o. NoLocksConflict (unwrap_or o [])) (sym (get-relisted (λ file _. f.locks file) old.locks q))
             (freed-apart name f.locks q (get old.locks q) (f.lists q) (h q).0),
-        each-relisted (λ file. all_but (λ (s : Share). same_bytes s.caller_name name)) old.shares
+        each-relisted (λ file. one.shares_without name) old.shares
             (λ n (l : List Share). NoSharesConflict l) (λ n. tt)
             (λ n shares. shares-left (λ (s : Share). not (same_bytes s.caller_name name))
             (of_file old.shares n) shares)

@@ -24,9 +24,9 @@ use Rattle.nfs_machine.specs.Bytes.{same_bytes}
 use Rattle.nfs_machine.specs.Grants.{ChangesLocks, Grants, SettleInOrder, SettlesFile, at_file, grant_cookie}
 use Rattle.nfs_machine.specs.Grants.{grant_message}
 use Rattle.nfs_machine.specs.OneFile.{FileLocks, IsGranted, Settles, requested}
-use Rattle.nfs_machine.specs.FileLists.{all_but, of_file, with_list}
+use Rattle.nfs_machine.specs.OneFile as one
+use Rattle.nfs_machine.specs.FileLists.{of_file, with_list}
 use Rattle.nfs_machine.specs.Locks.{HasModes, Mode, denies, is_in, mode_at, modes_with, modes_without, range_of}
-use Rattle.nfs_machine.specs.Locks.{same_sharer, shares_conflict}
 use Rattle.nfs_machine.specs.LockSteps.{Frees, GrantEnds, HeldUp, LockFault, file_checked, freed_with, is_answered}
 use Rattle.nfs_machine.specs.LockSteps.{is_request, lock_checked, share_of}
 use Rattle.nfs_machine.specs.NlmSteps.{NlmStep}
@@ -245,7 +245,7 @@ share-left : (old : State) (file : ℕ) (share : Share) (conflicts : Bool) (s : 
     (new : State) → ShareAnswers old file share conflicts s messages new → LocksFit old → PutsForms messages new
 share-left old file share true s messages new step fit = same old messages new step.state_is step.no_message fit
 share-left old file share false s messages new step fit = same (record old
-    { shares = with_list old.shares file (all_but (same_sharer share) (of_file old.shares file) ++ share ∷ []) })
+    { shares = with_list old.shares file (one.shared share (of_file old.shares file)) })
     messages new step.state_is step.no_message fit
 
 shared : (old : State) (asked : NlmShare) (checked : Result ℕ LockFault) (s : NlmStatus) (messages : List Message)
@@ -253,14 +253,14 @@ shared : (old : State) (asked : NlmShare) (checked : Result ℕ LockFault) (s : 
 shared old asked (Err fault) s messages new step fit = same old messages new step.state_is step.no_message fit
 shared old asked (Ok file) s messages new step fit =
     share-left old file (share_of asked)
-    (list_any (shares_conflict (share_of asked)) (of_file old.shares file)) s messages
+    (one.is_denied (share_of asked) (of_file old.shares file)) s messages
     new step fit
 
 unshared : (old : State) (asked : NlmShare) (checked : Result ℕ LockFault) (s : NlmStatus) (messages : List Message)
     (new : State) → UnshareOf old asked checked s messages new → LocksFit old → PutsForms messages new
 unshared old asked (Err fault) s messages new step fit = same old messages new step.state_is step.no_message fit
 unshared old asked (Ok file) s messages new step fit = same (record old
-    { shares = with_list old.shares file (all_but (same_sharer (share_of asked)) (of_file old.shares file)) })
+    { shares = with_list old.shares file (one.unshared (share_of asked) (of_file old.shares file)) })
     messages new step.state_is step.no_message fit
 
 -- the locks of a file without those of a caller
@@ -278,7 +278,7 @@ freed old name messages new f fit =
     settled-all (freed_with old name f.locks) f.files messages new f.settle (λ q. (
       subst (λ o. OwnersFit (unwrap_or o [])) (sym (get-relisted (λ file _. f.locks file) old.locks q))
           (owners-freed name f.locks q (get old.locks q) (f.lists q) (fit q).0),
-      each-relisted (λ file. all_but (λ (r : Request). same_bytes r.asked.caller_name name)) old.waiting
+      each-relisted (λ file. one.requests_without name) old.waiting
           (λ n (l : List Request). AllByRecursion Asked l) (λ n. tt)
           (λ n all. all-left Asked Asked (λ (r : Request). not (same_bytes r.asked.caller_name name))
           (of_file old.waiting n) (λ r e h. h) all) (λ n. (fit n).1) q,

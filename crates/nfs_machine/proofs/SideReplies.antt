@@ -27,12 +27,13 @@ use Rattle.side_wire.specs.declared.nlm.TestStatus.TheVariants as tested
 use Rattle.nfs_machine.specs.Bytes.{same_bytes}
 use Rattle.nfs_machine.specs.Exports.{LivingExport, every_host}
 use Rattle.nfs_machine.specs.FileLists.{of_file}
-use Rattle.nfs_machine.specs.Locks.{Mode, denies, range_of, shares_conflict}
+use Rattle.nfs_machine.specs.Locks.{Mode, denies, range_of}
 use Rattle.nfs_machine.specs.LockSteps.{HeldUp, LockFault, NotRegular, RangeTooBig, ReadOnly, StaleHandle, Tests}
 use Rattle.nfs_machine.specs.LockSteps.{file_checked, is_request, lock_checked, share_of, test_status_of}
 use Rattle.nfs_machine.specs.MountSteps.{MntAnswers, MountStep, is_mounted, is_of, listed_exports, newest}
 use Rattle.nfs_machine.specs.MountSteps.{with_mount, without_mounts}
 use Rattle.nfs_machine.specs.NlmSteps.{NlmStep}
+use Rattle.nfs_machine.specs.OneFile as one
 use Rattle.nfs_machine.specs.SideLaws.{ExportsFit, MountRefusalsChangeNothing, MountRepliesHaveForm, MountsFit}
 use Rattle.nfs_machine.specs.SideLaws.{NlmRefusalsChangeNothing, NlmRepliesHaveForm, OwnersFit, PathFits}
 use Rattle.nfs_machine.specs.SideLaws.{is_mount_refusal, is_nlm_refusal, refuses}
@@ -258,7 +259,7 @@ share-unchanged : (old : State) (asked : NlmShare) (checked : Result ℕ LockFau
     (new : State) → ShareOf old asked checked s messages new → refuses s ≡ true → Nothing old messages new
 share-unchanged old asked (Err fault) s messages new step e = (step.state_is, step.no_message)
 share-unchanged old asked (Ok file) s messages new step e =
-    shares-unchanged old file (share_of asked) (list_any (shares_conflict (share_of asked)) (of_file old.shares file)) s
+    shares-unchanged old file (share_of asked) (one.is_denied (share_of asked) (of_file old.shares file)) s
     messages new step e
 
 unshare-unchanged : (old : State) (asked : NlmShare) (checked : Result ℕ LockFault) (s : NlmStatus)

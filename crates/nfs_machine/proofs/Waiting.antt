@@ -24,11 +24,12 @@ use Rattle.nfs_machine.specs.FileLists.{of_file, with_list}
 use Rattle.nfs_machine.specs.Grants.{AllHeldUp, ChangesLocks, FileWaits, Grants, SettleInOrder, at_file}
 use Rattle.nfs_machine.specs.OneFile.{AreHeldUp, FileLocks, IsHeldUp}
 use Rattle.nfs_machine.specs.OneFile.{requested}
-use Rattle.nfs_machine.specs.Locks.{Conflicts, Mode, denies, range_of, shares_conflict}
+use Rattle.nfs_machine.specs.Locks.{Conflicts, Mode, denies, range_of}
 use Rattle.nfs_machine.specs.LockSteps.{GrantEnds, HeldUp, LockFault, file_checked, is_answered, is_request}
 use Rattle.nfs_machine.specs.LockSteps.{lock_checked}
 use Rattle.nfs_machine.specs.LockSteps.{share_of}
 use Rattle.nfs_machine.specs.NlmSteps.{NlmStep}
+use Rattle.nfs_machine.specs.OneFile as one
 use Rattle.nfs_machine.specs.State.{Lock, PendingGrant, Range, Request, Share, State}
 use Rattle.nfs_machine.specs.declared.context.Ctx.{Ctx}
 use Rattle.nfs_machine.proofs.Checked.{CancelOf, Cancels, LockOf, ShareOf, ShareAnswers, TestOf, UnlockOf, UnshareOf}
@@ -159,7 +160,7 @@ share-held : (old : State) (asked : NlmShare) (checked : Result ℕ LockFault) (
     (new : State) → ShareOf old asked checked s messages new → AllHeldUp old → AllHeldUp new
 share-held old asked (Err fault) s messages new step held = stays old new step.state_is held
 share-held old asked (Ok file) s messages new step held =
-    shared old file (share_of asked) (list_any (shares_conflict (share_of asked)) (of_file old.shares file)) s messages
+    shared old file (share_of asked) (one.is_denied (share_of asked) (of_file old.shares file)) s messages
     new step held
 
 unshared : (old : State) (asked : NlmShare) (checked : Result ℕ LockFault) (s : NlmStatus) (messages : List Message)
