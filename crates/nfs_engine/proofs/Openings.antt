@@ -383,22 +383,28 @@ module _ (es : List ExportValue) (moment : Moment) where
     parents = kept.parents;
     usage = kept.usage;
     represents = record {
-      table = subst (λ (o : Option Object). IsSome o) (sym (exports_at base time (length es))) refl;
-      exports = sym (ap export_list_of (exports_at base time (length es)));
-      last_export = sym (ap last_of (exports_at base time (length es)));
-      objects = λ n. lives n ∙ ap (option_map living_of_inode) (exported faultless n);
-      links = λ n. ap links_kept (exported faultless n);
-      parents = λ n. ap parent_kept (exported faultless n);
-      given = given;
-      fits = fitting (opened-apart es faultless).0;
-      usage = λ e g live. usages_at base time (λ e g. refl) (length es) e g;
-      mounts = sym (ap mounts_of (mounts_at base time (length es)));
-      spent = λ n g. ap (nat_le g) (lasts n);
-      no_locks = refl;
-      no_shares = refl;
-      no_waiting = refl;
-      no_granted = refl;
-      no_spent_grants = λ n. refl;
+      tables = record {
+        table = subst (λ (o : Option Object). IsSome o) (sym (exports_at base time (length es))) refl;
+        exports = sym (ap export_list_of (exports_at base time (length es)));
+        last_export = sym (ap last_of (exports_at base time (length es)));
+        mounts = sym (ap mounts_of (mounts_at base time (length es)));
+      };
+      objects = record {
+        objects = λ n. lives n ∙ ap (option_map living_of_inode) (exported faultless n);
+        links = λ n. ap links_kept (exported faultless n);
+        parents = λ n. ap parent_kept (exported faultless n);
+        given = given;
+        fits = fitting (opened-apart es faultless).0;
+        spent = λ n g. ap (nat_le g) (lasts n);
+      };
+      usages = record { usage = λ e g live. usages_at base time (λ e g. refl) (length es) e g };
+      locks = record {
+        no_locks = refl;
+        no_shares = refl;
+        no_waiting = refl;
+        no_granted = refl;
+        no_spent_grants = λ n. refl;
+      };
     };
     sound = record { links = links; parents = parents; usage = usage };
     formed = opening_formed es moment faultless;

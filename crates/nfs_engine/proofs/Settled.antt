@@ -270,7 +270,7 @@ module _ (book later : BookValue) (old mid new : List ShardValue) (f : FinishedV
         sym (written_over f.done.change.writes (store_in book) a) ∙
         ap (λ (s : Store). Some (s.at a)) (sym commits.store));
     below = λ n. (let less = all_below f.done.view (store_in book) (λ k. (shard_among old k).next_generation)
-        lives.fits.entries run.leads.stands.represents.given tied.below lives.fresh f.done.change.writes
+        lives.fits.entries run.leads.stands.represents.objects.given tied.below lives.fresh f.done.change.writes
         (store_in book) tied.below promised.given n in
         let same = ap (λ (s : Store). s.last n) commits.store in
         let kept = counters (n % 16) in

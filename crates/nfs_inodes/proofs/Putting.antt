@@ -276,8 +276,8 @@ first-free d r none first number generation s k w =
     record {
       number_fits = number;
       generation_fits = generation;
-      free = stands.objects r.number ∙ ap (living_in k.state.exports) at;
-      never_given = stands.spent r.number r.generation ∙ lt-leb r.generation (s.last r.number) is.1;
+      free = stands.objects.objects r.number ∙ ap (living_in k.state.exports) at;
+      never_given = stands.objects.spent r.number r.generation ∙ lt-leb r.generation (s.last r.number) is.1;
     }
 
 -- a new object with the number and generation that were reserved, once its directory has its name

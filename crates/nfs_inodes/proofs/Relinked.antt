@@ -138,7 +138,7 @@ module _ (d : DraftValue) (n : ℕ) where
           let exported : j.export ≡ i.export = ap (λ (o : Living). o.export) is in
           let generation : j.generation ≡ i.generation = ap (λ (o : Living). o.generation) is in
           let stood = put-stands (with_writes s d.writes) k n j stands
-          (subst (λ g. g ≤ (with_writes s d.writes).last n) (sym generation) (stands.given n i at)) fit
+          (subst (λ g. g ≤ (with_writes s d.writes).last n) (sym generation) (stands.objects.given n i at)) fit
           (ap (lives_in k.state.exports) exported ∙ shows-export d n i has s k fits stands) in
           let same : rehomed now n directory k ≡ with_living k n (living_of_inode j) j.links (parent_in j.content) =
           ap (homes k) lives

@@ -36,7 +36,7 @@ content_living o = elim o [ None ↦ Socket | Some l ↦ l.content ]
 pub exports-there : (d : DraftValue) (exports : List LivingExport) → HasExports d exports →
     Shows d (λ k. k.state.exports ≡ exports)
 exports-there d exports has s k fits stands =
-    stands.exports ∙ ap exports_of (known-stands d s addresses.Exports has.object fits has.known) ∙ sym has.is
+    stands.tables.exports ∙ ap exports_of (known-stands d s addresses.Exports has.object fits has.known) ∙ sym has.is
 
 -- and so does the export of what is found
 pub shows-export : (d : DraftValue) (n : ℕ) (i : Inode) → HasInode d n (Some i) → ShowsExport d i.export
@@ -58,7 +58,7 @@ module _ (d : DraftValue) (n : ℕ) (i : Option Inode) (has : HasInode d n i) (s
       ∙ ap (inode_in has.exports) (known-stands d s (addresses.Inode n) has.object fits has.known) ∙ sym has.is
 
   pub lives-there : get k.state.objects n ≡ option_map living_of_inode i
-  lives-there = stands.objects n ∙ ap (option_map living_of_inode) stands-there
+  lives-there = stands.objects.objects n ∙ ap (option_map living_of_inode) stands-there
 
   pub contains : content_at k.state n ≡ content_in i
   contains = ap content_living lives-there ∙ by i
@@ -68,10 +68,10 @@ module _ (d : DraftValue) (n : ℕ) (i : Option Inode) (has : HasInode d n i) (s
       by (Some j) = refl
 
   pub links-there : k.links n ≡ links_kept i
-  links-there = stands.links n ∙ ap links_kept stands-there
+  links-there = stands.objects.links n ∙ ap links_kept stands-there
 
   pub parent-there : k.parents n ≡ parent_kept i
-  parent-there = stands.parents n ∙ ap parent_kept stands-there
+  parent-there = stands.objects.parents n ∙ ap parent_kept stands-there
 
 pub some-lives : (d : DraftValue) (n : ℕ) (i : Inode) (x : Known) → HasInode d n (Some i) → IsKnownOf n i x → Knows d (λ k. IsObject k.state n (Some x))
 some-lives d n i x has of s k w =

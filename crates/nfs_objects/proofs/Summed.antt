@@ -31,9 +31,9 @@ AllFit m = (n : ℕ) (o : Living) → get m.objects n ≡ Some o → (n < 2 ^ 64
 
 pub all-fit : (s : Store) (k : Kept) → Represents s k → AllFit k.state
 all-fit s k stands n o at =
-    let found = living-stands k.state.exports (s.at (addresses.Inode n)) o (sym (stands.objects n) ∙ at) in
+    let found = living-stands k.state.exports (s.at (addresses.Inode n)) o (sym (stands.objects.objects n) ∙ at) in
     subst (λ (x : Living). (n < 2 ^ 64) × (size_of x.content < 2 ^ 63)) found.is
-    (stands.fits n found.inode found.there.stands)
+    (stands.objects.fits n found.inode found.there.stands)
 
 -- so after a change too
 pub turned-fit : (old new : DraftValue) (op : Kept → Kept) → Turns old new op → (s : Store) (k : Kept) →
@@ -205,7 +205,7 @@ pub usage-lives : (s : Store) (k : Kept) (n : ℕ) (o : Living) → Represents s
     get k.state.objects n ≡ Some o → IsSome (s.at (addresses.Usage o.export (group_of n)))
 usage-lives s k n o stands sound at =
     subst (λ (x : Option Object). IsSome x)
-    (sym (stands.usage o.export (group_of n) (exported-there s k n o stands at)))
+    (sym (stands.usages.usage o.export (group_of n) (exported-there s k n o stands at)))
     (some (k.usage o.export (group_of n)) one)
   where
     itself : (q : ℕ) → (q == q) ≡ true

@@ -1,7 +1,7 @@
 -- What one write of an inode does to what the store stands for.
 use Rattle.std.proofs.Common.{◌≡◌, ◌==◌, ℕ, ◌<◌, ◌≤◌, Bool, true, false, cond, option_map}
 use Rattle.std.proofs.Common.{◌||◌, ◌&&◌, max}
-use Rattle.std.proofs.Common.{nat_le, List, Option, Some, None, inl, inr, refl, sym, ◌∙◌, ap, subst, arith}
+use Rattle.std.proofs.Common.{nat_le, List, Option, Some, None, IsSome, inl, inr, refl, sym, ◌∙◌, ap, subst, arith}
 use Rattle.std.proofs.Math.Bool.{or-false}
 use Rattle.std.proofs.Math.Nat.{le-max_left, le-max_right}
 use Rattle.std.proofs.lemmas.Bool.{and_parts, le-leb, lt-leb}
@@ -15,14 +15,15 @@ use Rattle.nfs_machine.proofs.FileMaps.{grants-none, no-list}
 use Rattle.nfs_machine.proofs.Sums.{get-inserted}
 use Rattle.nfs_machine.specs.Exports.{LivingExport}
 use Rattle.nfs_machine.specs.FileLists.{grants_but}
-use Rattle.nfs_machine.specs.State.{Living, PendingGrant}
+use Rattle.nfs_machine.specs.State.{Living, PendingGrant, State}
 use Rattle.nfs_objects.proofs.Exported.{inode-lives}
 use Rattle.nfs_objects.proofs.Seen.{known-stands, writes-append}
 use Rattle.nfs_objects.specs.Edits.{edited, freed, recounted, set_at, with_living, with_mounts, with_new}
 use Rattle.nfs_objects.specs.Fits.{Fits}
 use Rattle.nfs_objects.specs.Knows.{ShowsExport, Turns}
 use Rattle.nfs_objects.specs.Stands.{IsFitting, Kept, Represents, inode_in, links_kept, lives_in, living_in}
-use Rattle.nfs_objects.specs.Stands.{living_of_inode, parent_in, parent_kept}
+use Rattle.nfs_objects.specs.Stands.{StandLocks, StandObjects, StandTables, export_table_of, exports_of, living_of_inode}
+use Rattle.nfs_objects.specs.Stands.{mounts_of, parent_in, parent_kept}
 use Rattle.nfs_objects.specs.Store.{Store, give, put_at, with_write, with_writes}
 use Rattle.nfs_objects.specs.Sums.{exchanged, exchanged_at, group_of, in_export, is_none, is_same_usage}
 use Rattle.nfs_objects.specs.Sums.{moved, no_usage, stored_usage, usage_of}
@@ -63,12 +64,12 @@ module _ (k : Kept) (s : Store) (n : ℕ) (i : Inode) (lives : lives_in k.state.
   links-put : (q : ℕ) → set_at k.links n i.links q ≡ links_kept
       (inode_in k.state.exports (put_at s.at (addresses.Inode n) (Some (objects.Inode i)) (addresses.Inode q)))
   links-put = kept-put (λ o. links_kept (inode_in k.state.exports o)) s.at k.links n (Some (objects.Inode i)) i.links
-      (ap links_kept (inode-lives k.state.exports i lives)) stands.links
+      (ap links_kept (inode-lives k.state.exports i lives)) stands.objects.links
 
   parents-put : (q : ℕ) → set_at k.parents n (parent_in i.content) q ≡ parent_kept
       (inode_in k.state.exports (put_at s.at (addresses.Inode n) (Some (objects.Inode i)) (addresses.Inode q)))
   parents-put = kept-put (λ o. parent_kept (inode_in k.state.exports o)) s.at k.parents n (Some (objects.Inode i))
-      (parent_in i.content) (ap parent_kept (inode-lives k.state.exports i lives)) stands.parents
+      (parent_in i.content) (ap parent_kept (inode-lives k.state.exports i lives)) stands.objects.parents
 
 -- the generation of what stands somewhere is among those given
 given-put : (s : Store) (number : ℕ) (new : Inode) (last : ℕ → ℕ) →
@@ -110,29 +111,73 @@ fits-put at number new fits here n i is =
       | false ↦ λ other there. fits n i there
     ] refl is
 
+-- ---- parts that a change leaves
+abbrev tables_in : Store → State → Option Object × Option Object × List LivingExport × ℕ × List MountBody
+tables_in s m = (s.at addresses.Exports, s.at addresses.Mounts, m.exports, m.last_export, m.mounts)
+
+tables-stay : (s t : Store) (m n : State) → tables_in t n ≡ tables_in s m → StandTables s m → StandTables t n
+tables-stay s t m n same stand = record {
+  table = subst (λ o. IsSome o) (sym (ap (λ x. x.0) same)) stand.table;
+  exports = ap (λ x. x.2) same ∙ stand.exports ∙ ap (λ x. exports_of x.0) (sym same);
+  last_export = ap (λ x. x.3) same ∙ stand.last_export ∙ ap (λ x. (export_table_of x.0).last) (sym same);
+  mounts = ap (λ x. x.4) same ∙ stand.mounts ∙ ap (λ x. mounts_of x.1) (sym same);
+}
+
+abbrev objects_in : Store → Kept → (ℕ → Option Object) × (ℕ → ℕ) × List LivingExport × FinMap nat_cmp Living ×
+    (ℕ → ℕ) × (ℕ → ℕ) × (ℕ → ℕ → Bool)
+objects_in s k = (
+  λ n. s.at (addresses.Inode n),
+  s.last,
+  k.state.exports,
+  k.state.objects,
+  k.links,
+  k.parents,
+  k.state.spent,
+)
+
+objects-stay : (s t : Store) (k l : Kept) → objects_in t l ≡ objects_in s k → StandObjects s k → StandObjects t l
+objects-stay s t k l same stand = record {
+  objects = λ n.
+      ap (λ x. get x.3 n) same ∙ stand.objects n ∙ ap (λ x. living_in x.2 (x.0 n)) (sym same);
+  links = λ n.
+      ap (λ x. x.4 n) same ∙ stand.links n ∙ ap (λ x. links_kept (inode_in x.2 (x.0 n))) (sym same);
+  parents = λ n.
+      ap (λ x. x.5 n) same ∙ stand.parents n ∙ ap (λ x. parent_kept (inode_in x.2 (x.0 n))) (sym same);
+  given = λ n i at.
+      subst (λ x. i.generation ≤ x.1 n) (sym same) (stand.given n i (ap (λ x. x.0 n) (sym same) ∙ at));
+  fits = λ n i at. stand.fits n i (ap (λ x. x.0 n) (sym same) ∙ at);
+  spent = λ n g. ap (λ x. x.6 n g) same ∙ stand.spent n g ∙ ap (λ x. nat_le g (x.1 n)) (sym same);
+}
+
+locks-stay : (m n : State) → n.locks ≡ m.locks → n.shares ≡ m.shares → n.waiting ≡ m.waiting →
+    n.granted ≡ m.granted → n.spent_grants ≡ m.spent_grants → StandLocks m → StandLocks n
+locks-stay m n locks shares waiting granted spent stand = record {
+  no_locks = locks ∙ stand.no_locks;
+  no_shares = shares ∙ stand.no_shares;
+  no_waiting = waiting ∙ stand.no_waiting;
+  no_granted = granted ∙ stand.no_granted;
+  no_spent_grants = λ q. ap (λ f. f q) spent ∙ stand.no_spent_grants q;
+}
+
 pub put-stands : (s : Store) (k : Kept) (n : ℕ) (i : Inode) → Represents s k → i.generation ≤ s.last n
     → IsFitting n i → lives_in k.state.exports i.export ≡ true
     → Represents (with_write s (addresses.Inode n) (Some (objects.Inode i)))
     (with_living k n (living_of_inode i) i.links (parent_in i.content))
 put-stands s k n i stands within fits lives = record {
-  table = stands.table;
-  exports = stands.exports;
-  last_export = stands.last_export;
-  objects = lives-put k.state.exports s.at k.state.objects n i lives stands.objects;
-  links = links-put k s n i lives stands;
-  parents = parents-put k s n i lives stands;
-  given = given-put s n i (give s.last (addresses.Inode n) (Some (objects.Inode i))) stands.given
-      (λ q. (let e = last-kept s.last n i.generation q within in omega (arith, e)))
-      (let e = last-kept s.last n i.generation n within in omega (arith, e, within));
-  fits = fits-put s.at n i stands.fits fits;
-  usage = stands.usage;
-  mounts = stands.mounts;
-  spent = λ q g. stands.spent q g ∙ ap (λ l. nat_le g l) (sym (last-kept s.last n i.generation q within));
-  no_locks = stands.no_locks;
-  no_shares = stands.no_shares;
-  no_waiting = stands.no_waiting;
-  no_granted = stands.no_granted;
-  no_spent_grants = stands.no_spent_grants;
+  tables = tables-stay s _ k.state _ refl stands.tables;
+  objects = record {
+    objects = lives-put k.state.exports s.at k.state.objects n i lives stands.objects.objects;
+    links = links-put k s n i lives stands;
+    parents = parents-put k s n i lives stands;
+    given = given-put s n i (give s.last (addresses.Inode n) (Some (objects.Inode i))) stands.objects.given
+        (λ q. (let e = last-kept s.last n i.generation q within in omega (arith, e)))
+        (let e = last-kept s.last n i.generation n within in omega (arith, e, within));
+    fits = fits-put s.at n i stands.objects.fits fits;
+    spent = λ q g.
+        stands.objects.spent q g ∙ ap (λ l. nat_le g l) (sym (last-kept s.last n i.generation q within));
+  };
+  usages = record { usage = stands.usages.usage };
+  locks = locks-stay k.state _ refl refl refl refl refl stands.locks;
 }
 
 get-removed : (living : FinMap nat_cmp Living) (number n : ℕ) →
@@ -146,27 +191,29 @@ none-removed {X = X} n lists none = ap (λ (m : FinMap nat_cmp (List X)). remove
 pub free-stands : (s : Store) (k : Kept) (n : ℕ) → Represents s k →
     Represents (with_write s (addresses.Inode n) None) (freed k n)
 free-stands s k n stands = record {
-  table = stands.table;
-  exports = stands.exports;
-  last_export = stands.last_export;
-  objects = λ q. get-removed k.state.objects n q
-      ∙ elim (n == q) as (λ b. cond b None (get k.state.objects q) ≡ living_in k.state.exports
-      (cond b None (s.at (addresses.Inode q)))) [ true ↦ refl | false ↦ stands.objects q ];
-  links = kept-put (λ o. links_kept (inode_in k.state.exports o)) s.at k.links n None 0 refl stands.links;
-  parents = kept-put (λ o. parent_kept (inode_in k.state.exports o)) s.at k.parents n None 0 refl stands.parents;
-  given = λ q i at. elim (n == q) as (λ b. cond b None (s.at (addresses.Inode q)) ≡ Some (objects.Inode i) →
-      i.generation ≤ s.last q) [ true ↦ λ e. cc | false ↦ λ e. stands.given q i e ] at;
-  fits = λ q i at. elim (n == q) as (λ b. cond b None (s.at (addresses.Inode q)) ≡ Some (objects.Inode i) →
-      IsFitting q i) [ true ↦ λ e. cc | false ↦ λ e. stands.fits q i e ] at;
-  usage = stands.usage;
-  mounts = stands.mounts;
-  spent = stands.spent;
-  no_locks = none-removed n k.state.locks stands.no_locks;
-  no_shares = none-removed n k.state.shares stands.no_shares;
-  no_waiting = none-removed n k.state.waiting stands.no_waiting;
-  no_granted = ap (grants_but (λ (g : PendingGrant). g.file == n)) stands.no_granted
-      ∙ grants-none (λ (g : PendingGrant). g.file == n);
-  no_spent_grants = stands.no_spent_grants;
+  tables = tables-stay s _ k.state _ refl stands.tables;
+  objects = record {
+    objects = λ q. get-removed k.state.objects n q
+        ∙ elim (n == q) as (λ b. cond b None (get k.state.objects q) ≡ living_in k.state.exports
+        (cond b None (s.at (addresses.Inode q)))) [ true ↦ refl | false ↦ stands.objects.objects q ];
+    links = kept-put (λ o. links_kept (inode_in k.state.exports o)) s.at k.links n None 0 refl stands.objects.links;
+    parents =
+        kept-put (λ o. parent_kept (inode_in k.state.exports o)) s.at k.parents n None 0 refl stands.objects.parents;
+    given = λ q i at. elim (n == q) as (λ b. cond b None (s.at (addresses.Inode q)) ≡ Some (objects.Inode i) →
+        i.generation ≤ s.last q) [ true ↦ λ e. cc | false ↦ λ e. stands.objects.given q i e ] at;
+    fits = λ q i at. elim (n == q) as (λ b. cond b None (s.at (addresses.Inode q)) ≡ Some (objects.Inode i) →
+        IsFitting q i) [ true ↦ λ e. cc | false ↦ λ e. stands.objects.fits q i e ] at;
+    spent = stands.objects.spent;
+  };
+  usages = record { usage = stands.usages.usage };
+  locks = record {
+    no_locks = none-removed n k.state.locks stands.locks.no_locks;
+    no_shares = none-removed n k.state.shares stands.locks.no_shares;
+    no_waiting = none-removed n k.state.waiting stands.locks.no_waiting;
+    no_granted = ap (grants_but (λ (g : PendingGrant). g.file == n)) stands.locks.no_granted
+        ∙ grants-none (λ (g : PendingGrant). g.file == n);
+    no_spent_grants = stands.locks.no_spent_grants;
+  };
 }
 
 -- at most the greater of two is at most one of them
@@ -190,32 +237,27 @@ pub new-stands : (s : Store) (k : Kept) (n : ℕ) (i : Inode) → Represents s k
     → Represents (with_write s (addresses.Inode n) (Some (objects.Inode i)))
     (with_new k n (living_of_inode i) i.links (parent_in i.content))
 new-stands s k n i stands fits lives = record {
-  table = stands.table;
-  exports = stands.exports;
-  last_export = stands.last_export;
-  objects = lives-put k.state.exports s.at k.state.objects n i lives stands.objects;
-  links = links-put k s n i lives stands;
-  parents = parents-put k s n i lives stands;
-  given = given-put s n i (give s.last (addresses.Inode n) (Some (objects.Inode i))) stands.given
-      (λ q. more q)
-      (subst (λ b. i.generation ≤ cond b (max (s.last n) i.generation) (s.last n))
-      (sym ((unsigned_Decides n n).1 refl)) (le-max_right (s.last n) i.generation));
-  fits = fits-put s.at n i stands.fits fits;
-  usage = stands.usage;
-  mounts = stands.mounts;
-  spent = λ q g.
-      ap (λ b. b || ((q == n) && nat_le g i.generation)) (stands.spent q g)
-      ∙ ap (λ b. nat_le g (s.last q) || (b && nat_le g i.generation)) (nat_eq_equiv.symm q n)
-      ∙ elim (n == q) as (λ b. (nat_le g (s.last q) || (b && nat_le g i.generation)) ≡ nat_le g
-      (cond b (max (s.last q) i.generation) (s.last q))) [
-        | true ↦ below_max g (s.last q) i.generation
-        | false ↦ or-false (nat_le g (s.last q))
-      ];
-  no_locks = stands.no_locks;
-  no_shares = stands.no_shares;
-  no_waiting = stands.no_waiting;
-  no_granted = stands.no_granted;
-  no_spent_grants = stands.no_spent_grants;
+  tables = tables-stay s _ k.state _ refl stands.tables;
+  objects = record {
+    objects = lives-put k.state.exports s.at k.state.objects n i lives stands.objects.objects;
+    links = links-put k s n i lives stands;
+    parents = parents-put k s n i lives stands;
+    given = given-put s n i (give s.last (addresses.Inode n) (Some (objects.Inode i))) stands.objects.given
+        (λ q. more q)
+        (subst (λ b. i.generation ≤ cond b (max (s.last n) i.generation) (s.last n))
+        (sym ((unsigned_Decides n n).1 refl)) (le-max_right (s.last n) i.generation));
+    fits = fits-put s.at n i stands.objects.fits fits;
+    spent = λ q g.
+        ap (λ b. b || ((q == n) && nat_le g i.generation)) (stands.objects.spent q g)
+        ∙ ap (λ b. nat_le g (s.last q) || (b && nat_le g i.generation)) (nat_eq_equiv.symm q n)
+        ∙ elim (n == q) as (λ b. (nat_le g (s.last q) || (b && nat_le g i.generation)) ≡ nat_le g
+        (cond b (max (s.last q) i.generation) (s.last q))) [
+          | true ↦ below_max g (s.last q) i.generation
+          | false ↦ or-false (nat_le g (s.last q))
+        ];
+  };
+  usages = record { usage = stands.usages.usage };
+  locks = locks-stay k.state _ refl refl refl refl refl stands.locks;
 }
   where
     more : (q : ℕ) → s.last q ≤ cond (n == q) (max (s.last q) i.generation) (s.last q)
@@ -226,22 +268,15 @@ new-stands s k n i stands fits lives = record {
 pub mounts-stand : (s : Store) (k : Kept) (table : List MountBody) → Represents s k
     → Represents (with_write s addresses.Mounts (Some (objects.Mounts table))) (with_mounts k table)
 mounts-stand s k table stands = record {
-  table = stands.table;
-  exports = stands.exports;
-  last_export = stands.last_export;
-  objects = stands.objects;
-  links = stands.links;
-  parents = stands.parents;
-  given = stands.given;
-  fits = stands.fits;
-  usage = stands.usage;
-  mounts = refl;
-  spent = stands.spent;
-  no_locks = stands.no_locks;
-  no_shares = stands.no_shares;
-  no_waiting = stands.no_waiting;
-  no_granted = stands.no_granted;
-  no_spent_grants = stands.no_spent_grants;
+  tables = record {
+    table = stands.tables.table;
+    exports = stands.tables.exports;
+    last_export = stands.tables.last_export;
+    mounts = refl;
+  };
+  objects = objects-stay s _ k _ refl stands.objects;
+  usages = record { usage = stands.usages.usage };
+  locks = locks-stay k.state _ refl refl refl refl refl stands.locks;
 }
 
 -- what stands for a usage is that usage
@@ -282,11 +317,11 @@ module _ (s : Store) (k : Kept) (e n : ℕ) (before after written : Usage)
                   ∙ ap (λ u. stored_usage (exchanged before after u))
                   (ap (λ x. k.usage x (group_of n)) same
                   ∙ ap (k.usage p) ((unsigned_Decides (group_of n) q).0 group))
-              | false ↦ λ export. stands.usage p q lives
+              | false ↦ λ export. stands.usages.usage p q lives
             ] refl
         | false ↦ λ group.
             ap (λ b. cond b (stored_usage written) (s.at (addresses.Usage p q))) (and-false (e == p))
-            ∙ stands.usage p q lives
+            ∙ stands.usages.usage p q lives
       ] refl
     where
       and-false : (b : Bool) → (b && false) ≡ false
@@ -295,22 +330,10 @@ module _ (s : Store) (k : Kept) (e n : ℕ) (before after written : Usage)
 
   pub usage-stands : Represents (with_write s (addresses.Usage e (group_of n)) (stored_usage written)) now
   usage-stands = record {
-    table = stands.table;
-    exports = stands.exports;
-    last_export = stands.last_export;
-    objects = stands.objects;
-    links = stands.links;
-    parents = stands.parents;
-    given = stands.given;
-    fits = stands.fits;
-    usage = usage-put;
-    mounts = stands.mounts;
-    spent = stands.spent;
-    no_locks = stands.no_locks;
-    no_shares = stands.no_shares;
-    no_waiting = stands.no_waiting;
-    no_granted = stands.no_granted;
-    no_spent_grants = stands.no_spent_grants;
+    tables = tables-stay s _ k.state _ refl stands.tables;
+    objects = objects-stay s _ k _ refl stands.objects;
+    usages = record { usage = usage-put };
+    locks = stands.locks;
   }
 
 module _ (d : DraftValue) where
@@ -346,7 +369,7 @@ module _ (d : DraftValue) where
       by None is found = cc
       by (Some o) is found =
           let there : o ≡ stored_usage (k.usage e g) =
-          sym (known-stands d s (addresses.Usage e g) o fits is) ∙ stands.usage e g lives in
+          sym (known-stands d s (addresses.Usage e g) o fits is) ∙ stands.usages.usage e g lives in
           let here : usage_of o ≡ u = cc in
           sym (usage-stored (k.usage e g)) ∙ ap usage_of (sym there) ∙ here
 
@@ -413,11 +436,11 @@ module _ (d : DraftValue) (n : ℕ) where
       let there : inode_in k.state.exports ((with_writes s d.writes).at (addresses.Inode n)) ≡ Some i =
       ap (inode_in k.state.exports) at ∙ inode-lives k.state.exports i (live s k fits stands) in
       let lives : get k.state.objects n ≡ Some (living_of_inode i) =
-      stands.objects n ∙ ap (option_map living_of_inode) there in
-      let counted : k.links n ≡ i.links = stands.links n ∙ ap links_kept there in
-      let below : k.parents n ≡ parent_in i.content = stands.parents n ∙ ap parent_kept there in
+      stands.objects.objects n ∙ ap (option_map living_of_inode) there in
+      let counted : k.links n ≡ i.links = stands.objects.links n ∙ ap links_kept there in
+      let below : k.parents n ≡ parent_in i.content = stands.objects.parents n ∙ ap parent_kept there in
       let put = put-stands (with_writes s d.writes) k n j stands
-      (subst (λ g. g ≤ (with_writes s d.writes).last n) (sym generation) (stands.given n i at)) fitting
+      (subst (λ g. g ≤ (with_writes s d.writes).last n) (sym generation) (stands.objects.given n i at)) fitting
       (ap (lives_in k.state.exports) exported ∙ live s k fits stands) in
       let same : edited k n object links ≡ with_living k n (living_of_inode j) j.links (parent_in j.content) =
       ap

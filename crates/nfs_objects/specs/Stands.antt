@@ -112,24 +112,48 @@ parent_kept (Some i) = parent_in i.content
 abbrev pub IsFitting : ℕ → Inode → Type 0
 IsFitting number i = (number < 2 ^ 64) × (size_of (content_of i.content) < 2 ^ 63)
 
--- The store stands for this: it has a table of exports, and that of mounts. What is at each number lives if its export
--- does, with its links and its parent, and of each living export each group's usage stands for it, but for that of no
--- object. Spent are the generations of each number up to the last, that of what stands there among them.
-pub record Represents (s : Store) (k : Kept) : Type 0 where
+-- ---- what a store stands for, part by part
+-- the inode at a number, if its export lives
+abbrev pub inode_there : Store → List LivingExport → (number : ℕ) → Option Inode
+inode_there s exports n = inode_in exports (s.at (addresses.Inode n))
+
+-- what lives at a number
+abbrev pub living_at : Store → List LivingExport → (number : ℕ) → Option Living
+living_at s exports n = living_in exports (s.at (addresses.Inode n))
+
+-- the store has a table of exports, and that of mounts
+pub record StandTables (s : Store) (m : State) : Type 0 where
   pub table : IsSome (s.at addresses.Exports)
-  pub exports : k.state.exports ≡ exports_of (s.at addresses.Exports)
-  pub last_export : k.state.last_export ≡ (export_table_of (s.at addresses.Exports)).last
-  pub objects : (n : ℕ) → get k.state.objects n ≡ living_in k.state.exports (s.at (addresses.Inode n))
-  pub links : (n : ℕ) → k.links n ≡ links_kept (inode_in k.state.exports (s.at (addresses.Inode n)))
-  pub parents : (n : ℕ) → k.parents n ≡ parent_kept (inode_in k.state.exports (s.at (addresses.Inode n)))
+  pub exports : m.exports ≡ exports_of (s.at addresses.Exports)
+  pub last_export : m.last_export ≡ (export_table_of (s.at addresses.Exports)).last
+  pub mounts : m.mounts ≡ mounts_of (s.at addresses.Mounts)
+
+-- What is at each number lives if its export does, with its links and its parent. Spent are the generations of each
+-- number up to the last, that of what stands there among them.
+pub record StandObjects (s : Store) (k : Kept) : Type 0 where
+  pub objects : (n : ℕ) → get k.state.objects n ≡ living_at s k.state.exports n
+  pub links : (n : ℕ) → k.links n ≡ links_kept (inode_there s k.state.exports n)
+  pub parents : (n : ℕ) → k.parents n ≡ parent_kept (inode_there s k.state.exports n)
   pub given : (n : ℕ) (i : Inode) → s.at (addresses.Inode n) ≡ Some (stored.Inode i) → i.generation ≤ s.last n
   pub fits : (n : ℕ) (i : Inode) → s.at (addresses.Inode n) ≡ Some (stored.Inode i) → IsFitting n i
+  pub spent : (n g : ℕ) → k.state.spent n g ≡ nat_le g (s.last n)
+
+-- of each living export each group's usage stands for it, but for that of no object
+pub record StandUsages (s : Store) (k : Kept) : Type 0 where
   pub usage : (e g : ℕ) → lives_in k.state.exports e ≡ true →
       s.at (addresses.Usage e g) ≡ stored_usage (k.usage e g)
-  pub mounts : k.state.mounts ≡ mounts_of (s.at addresses.Mounts)
-  pub spent : (n g : ℕ) → k.state.spent n g ≡ nat_le g (s.last n)
-  pub no_locks : k.state.locks ≡ empty
-  pub no_shares : k.state.shares ≡ empty
-  pub no_waiting : k.state.waiting ≡ empty
-  pub no_granted : k.state.granted ≡ empty
-  pub no_spent_grants : (n : ℕ) → k.state.spent_grants n ≡ false
+
+-- there are no locks and shares, and nothing waits
+pub record StandLocks (m : State) : Type 0 where
+  pub no_locks : m.locks ≡ empty
+  pub no_shares : m.shares ≡ empty
+  pub no_waiting : m.waiting ≡ empty
+  pub no_granted : m.granted ≡ empty
+  pub no_spent_grants : (n : ℕ) → m.spent_grants n ≡ false
+
+-- the store stands for this
+pub record Represents (s : Store) (k : Kept) : Type 0 where
+  pub tables : StandTables s k.state
+  pub objects : StandObjects s k
+  pub usages : StandUsages s k
+  pub locks : StandLocks k.state

@@ -8,7 +8,7 @@ pub returns : goal.returns
 returns c = (
   ap is_some c.in_ok-find.ensures,
   λ s k possible.
-      possible.stands.mounts ∙ ap mounts_of
+      possible.stands.tables.mounts ∙ ap mounts_of
       (known-stands c.args.self.now s Mounts _ possible.fits c.in_ok-find.ensures)
       ∙ sym (ap mounts_in c.mount_table.ensures),
 )
