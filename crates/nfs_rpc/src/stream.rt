@@ -64,7 +64,8 @@ pub trait Sink: Counts {
 /// A reader or a writer, with the count of its failed calls.
 ///
 /// A call that was interrupted has failed like any other, and so has a write that took none of some bytes. Each call
-/// makes one call of the stream, and a failed one is not made again.
+/// makes one call of the stream, and a failed one is not made again: that no clause says, since a failed call leaves no
+/// trace in the bytes that are known.
 #[derive(Drop)]
 pub struct Counted<S> {
     stream: S,
