@@ -14,6 +14,7 @@ pub mod Frames
 pub mod Freed
 pub mod Garbage
 pub mod Going
+pub mod Has
 pub mod Holding
 pub mod Keys
 pub mod Led

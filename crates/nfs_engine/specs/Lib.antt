@@ -1,4 +1,5 @@
 pub mod Answers
+pub mod Apart
 pub mod Arrivals
 pub mod Asked
 pub mod Book

@@ -1,9 +1,9 @@
 //! The book: the present store with the records that led to it, and which calls are in progress.
 
-ghost use Rattle.std.specs.Prelude.{◌≡◌, ◌+◌, ◌-◌, ◌^◌, ◌≤◌, ℕ, true, length, map};
-ghost use Rattle.std.specs.Prelude.{IfErr, IfOk, IfSome, OnOk, Some};
+ghost use Rattle.std.specs.Prelude.{◌≡◌, ◌+◌, ◌-◌, ◌^◌, ◌<◌, ◌≤◌, ℕ, true, length, map};
+ghost use Rattle.std.specs.Prelude.{IfErr, IfOk, IfSome, MatchOption, OnOk, Some};
 ghost use Rattle.std.specs.Bool.{Decides};
-ghost use Rattle.nfs_engine.specs.Arrivals.{received_value};
+ghost use Rattle.nfs_engine.specs.Arrivals.{received_value, shared_value};
 ghost use Rattle.nfs_engine.specs.Asked.{IsAsked};
 ghost use Rattle.nfs_engine.specs.Book.{Admits, Commits, GivesUp, IsRun, IsUnknown, Leads, MayCommit, Rebases};
 ghost use Rattle.nfs_engine.specs.Book.{Recalls, Steps, TakesEra, TakesMessage, is_full, store_in};
@@ -21,7 +21,7 @@ ghost use Rattle.nfs_machine.specs.Run.{context_of};
 ghost use Rattle.nfs_engine.specs.declared.arrival.Reading.TheVariants as readings;
 
 use crate::admission::{Admission, Faulted, Refused};
-use crate::arrival::{Arrival, Reading, Received};
+use crate::arrival::{Arrival, Executed, Reading, Received};
 use crate::asking::Asked;
 use crate::calls::{Finished, Pending, Txn};
 use crate::changing::is_changing;
@@ -41,6 +41,7 @@ use nfs_replies::{Capacity, Origin, Replies};
 use nfs_rpc::Ids;
 use std::alloc::{AllocError, Global};
 use std::marker::Model;
+use std::sync::Arc;
 
 /// At how many bytes an era is full.
 const ERA_BYTES: u64 = 67_108_864;
@@ -366,6 +367,29 @@ impl Book {
     {
         let (records, bytes) = self.era_size();
         records >= self.era_records || bytes >= ERA_BYTES
+    }
+
+    /// The number that the next record gets; None where it would be above 2^64 - 1.
+    pub fn next_number(&self) -> Option<u64>
+        ensures { MatchOption result (self.now.before + length self.now.records + 1 ≡ 2 ^ 64)
+            (λ number. number ≡ self.now.before + length self.now.records + 1) }
+    {
+        self.journal.records().next_number()
+    }
+
+    /// How many records there were before the era.
+    pub fn before(&self) -> u64
+        ensures before { result ≡ self.now.before }
+        ensures numbers { self.now.before + length self.now.records < 2 ^ 64 }
+    {
+        self.journal.records().before()
+    }
+
+    /// What was executed since the era began, in order.
+    pub fn executed(&self) -> &[Arc<Executed>]
+        ensures { map shared_value result.now ≡ self.now.records }
+    {
+        self.journal.records().list()
     }
 
     /// How many calls are in progress.

@@ -1,8 +1,8 @@
 //! Calls in progress.
 
-ghost use Rattle.std.specs.Prelude.{◌≡◌, MatchResult};
+ghost use Rattle.std.specs.Prelude.{◌≡◌, MatchResult, map};
 ghost use Rattle.nfs_objects.specs.Promise.{IsPromised};
-ghost use Rattle.nfs_objects.specs.Values.{change_value, done_value};
+ghost use Rattle.nfs_objects.specs.Values.{change_value, done_value, write_value};
 ghost use Rattle.nfs_engine.specs.Calls.{IsCalled, IsFinished, change_from, done_from, finished_of, txn_of};
 
 use crate::arrival::Executed;
@@ -168,6 +168,20 @@ impl Finished {
         ensures { result.now ≡ self.now.done.view }
     {
         &self.view
+    }
+
+    /// A number that no other call has.
+    pub fn id(&self) -> u64
+        ensures { result ≡ self.now.id }
+    {
+        self.id
+    }
+
+    /// What it is to write.
+    pub fn writes(&self) -> &[Write]
+        ensures { map write_value result.now ≡ self.now.done.change.writes }
+    {
+        &self.writes
     }
 
     /// It is what its record asks, and keeps the promise.

@@ -81,6 +81,13 @@ impl Engine {
         let _ = &self.book;
     }
 
+    /// The book and the shards, each to stand under a lock of its own.
+    pub fn into_parts(self) -> (Book, [Shard; SHARDS])
+        ensures { (result.0 ≡ self.book) × (result.1 ≡ self.shards) }
+    {
+        (self.book, self.shards)
+    }
+
     /// Reads an address for a call, which holds it from then on in this mode. Taken changes nothing.
     ///
     /// # Errors

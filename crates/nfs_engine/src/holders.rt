@@ -1,8 +1,8 @@
 //! Who holds an address.
 
-ghost use Rattle.std.specs.Prelude.{◌≡◌, OnErr, OnOk, Some, None};
+ghost use Rattle.std.specs.Prelude.{◌≡◌, IsSome, OnErr, OnOk, Some, None};
 ghost use Rattle.std.specs.Bool.{Decides};
-ghost use Rattle.nfs_engine.specs.Holders.{CanHold, IsExcluder, Reholds, holders_value, nobody};
+ghost use Rattle.nfs_engine.specs.Holders.{CanHold, IsExcluder, Reholds, hold_of, holders_value, nobody};
 
 use crate::sharers::Sharers;
 use nfs_objects::Mode;
@@ -27,6 +27,17 @@ impl Holders {
             Holders::Nobody => true,
             Holders::One(_) => false,
             Holders::Several(sharers) => sharers.is_empty(),
+        }
+    }
+
+    /// Whether this one does.
+    pub fn has(&self, id: u64) -> bool
+        ensures { Decides result (IsSome (hold_of (holders_value self.now) id)) }
+    {
+        match self {
+            Holders::Nobody => false,
+            Holders::One(holder) => *holder == id,
+            Holders::Several(sharers) => sharers.has(id),
         }
     }
 

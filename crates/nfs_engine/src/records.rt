@@ -63,6 +63,21 @@ impl Records {
         self.list.len()
     }
 
+    /// How many there were before the era.
+    pub(crate) fn before(&self) -> u64
+        ensures before { result ≡ self.now.before }
+        ensures numbers { self.now.before + length self.now.list < 2 ^ 64 }
+    {
+        self.before
+    }
+
+    /// They, in order.
+    pub(crate) fn list(&self) -> &[Arc<Executed>]
+        ensures { map shared_value result.now ≡ self.now.list }
+    {
+        &self.list
+    }
+
     /// How many bytes they are counted as.
     pub(crate) fn bytes(&self) -> u64
         ensures { result ≡ self.now.bytes }

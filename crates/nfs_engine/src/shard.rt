@@ -9,7 +9,7 @@ ghost use Rattle.nfs_engine.specs.Found.{Changes, found};
 ghost use Rattle.nfs_engine.specs.Holders.{IsExcluder};
 ghost use Rattle.nfs_engine.specs.Locked.{IsLocked};
 ghost use Rattle.nfs_engine.specs.Numbers.{IsFree, Moves};
-ghost use Rattle.nfs_engine.specs.Shards.{Fills, IsHad, IsHeld, IsNew, IsReservedIn, Retakes};
+ghost use Rattle.nfs_engine.specs.Shards.{Fills, IsHad, IsHeld, IsNew, IsReservedIn, Retakes, hold_at};
 ghost use Rattle.nfs_engine.specs.Shards.{key_in, number_at, numbered, shard_of, shard_value};
 ghost use Rattle.nfs_engine.specs.Shards.{slot_at, slot_value, slots_seen};
 
@@ -213,6 +213,19 @@ impl Shard {
     {
         let key = key_in(self.index, address)?;
         self.numbers.contains(key).then_some(key)
+    }
+
+    /// Whether this one holds an address.
+    pub fn holds(&self, address: Addr, id: u64) -> bool
+        ensures { Decides result (IsSome (hold_at self.now address id)) }
+    {
+        if let Some(key) = self.key_of(address) {
+            return self.numbers[key].holders.has(id);
+        }
+        match self.others.get(&address) {
+            Some(slot) => slot.holders.has(id),
+            None => false,
+        }
     }
 
     /// One that holds an address in a mode that excludes this one.

@@ -54,6 +54,13 @@ impl Sharers {
         self.ids.first().copied()
     }
 
+    /// Whether this one is among them.
+    pub fn has(&self, id: u64) -> bool
+        ensures { result ≡ is_among self.now id }
+    {
+        self.ids.contains(&id)
+    }
+
     /// Adds one, who may be among them.
     ///
     /// # Errors

@@ -2,6 +2,7 @@
 
 ghost use Rattle.std.specs.Prelude.{◌≡◌, ◌<◌, None};
 ghost use Rattle.nfs_objects.specs.Values.{seen_at};
+ghost use Rattle.nfs_engine.specs.Apart.{GetsNumber};
 ghost use Rattle.nfs_engine.specs.Taking.{HoldsIn, IsGained, IsGot, LetsGo};
 
 use crate::calls::Txn;
@@ -79,6 +80,32 @@ impl Txn {
         let gained = gain(shard, &mut roomy, self.id);
         self.view = roomy.into_view();
         gained
+    }
+}
+
+impl Txn {
+    /// Gets a number of this shard, held alone and empty. No where the number that the shard gives is one that the call
+    /// has read; in a shard in which the call holds what it has read there, it is not.
+    ///
+    /// # Errors
+    ///
+    /// `Spent` where the shard's last generation was given, else `Memory`. The call is as it was.
+    pub fn reserve_tested(&mut self, shard: &mut Shard) -> Result<bool, ReserveError>
+        ensures { GetsNumber self.old self.new result }
+    {
+        let reserved = shard.reserve(self.id)?;
+        let address = Addr::Inode(reserved.number);
+        if self.view.find(address).is_some() {
+            shard.release(address, self.id);
+            return Ok(false);
+        }
+        match self.view.add_reserved(reserved) {
+            Ok(()) => Ok(true),
+            Err(AllocError) => {
+                shard.release(address, self.id);
+                Err(ReserveError::Memory)
+            }
+        }
     }
 }
 
