@@ -29,7 +29,7 @@ asked_of mode (Some h) asked is = (h, cc)
 asked_of mode None asked is = absurd cc
 
 -- what is foreseen is the exports, and what a handle names
-foreseen_by : (call : Call) (asked : List (Addr × Mode)) → Some asked ≡ foreseen call →
+pub foreseen_by : (call : Call) (asked : List (Addr × Mode)) → Some asked ≡ foreseen call →
     (h : Handle) × (asked ≡ asked_by (modes_of call).inodes h)
 foreseen_by (calls.Nfs call) asked is = asked_of (modes_of (calls.Nfs call)).inodes
     (option_and_then handle_of (slice_get (nfs_handles call) 0)) asked is

@@ -95,7 +95,7 @@ pub(crate) fn refusal_to(alloc: Global, reading: &Reading) -> Option<Vec<u8>>
 }
 
 /// The bytes of a call's refusal; None where there is no memory for them.
-fn refusal(alloc: Global, asked: &Asked) -> Option<Vec<u8>>
+pub fn refusal(alloc: Global, asked: &Asked) -> Option<Vec<u8>>
     requires { IsBuilt asked.now.call }
     ensures { IfSome result
         (λ bytes. bytes.items ≡ refusal_message asked.now.xid (refusal_of asked.now.call)) }

@@ -11,7 +11,7 @@ use nfs_wire::NfsCall;
 
 /// What a call of NFS reads before all else, each in its mode: the exports, and what its first handle names. None of
 /// another call, and where that is no handle.
-pub(crate) fn foreseen(call: &Call) -> Option<[(Addr, Mode); 2]>
+pub fn foreseen(call: &Call) -> Option<[(Addr, Mode); 2]>
     ensures { result ≡ foreseen call.now }
 {
     let Call::Nfs(nfs) = call else {

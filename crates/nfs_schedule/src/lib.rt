@@ -9,7 +9,7 @@ pub mod answer;
 pub mod attempts;
 pub mod driving;
 pub mod executing;
-mod foreseen;
+pub mod foreseen;
 pub mod laws;
 mod nlm;
 pub mod resting;
