@@ -1,0 +1,43 @@
+-- A seat with one receipt more.
+use Rattle.std.proofs.Common.{◌≡◌, ℕ, ◌<◌, ◌≤◌, List, [], ◌∷◌, ◌++◌, length, length-append, refl, sym, ◌∙◌, ap, subst, arith}
+use Rattle.std.specs.List.{AllByRecursion}
+use Rattle.nfs_machine.specs.Run.{Received}
+use Rattle.nfs_engine.specs.Arrivals.{ArrivalValue}
+use Rattle.nfs_engine.specs.declared.journal.Receipt.{Receipt}
+use Rattle.nfs_pool.specs.Passes.{IsNext}
+use Rattle.nfs_pool.specs.Seats.{Gains, IsReceiptOf, IsSeat}
+
+more_below : (last n : ℕ) → last < n → (rs : List Receipt) → AllByRecursion (λ (r : Receipt). r.number ≤ last) rs →
+    (x : Receipt) → x.number ≡ n → AllByRecursion (λ (r : Receipt). r.number ≤ n) (rs ++ x ∷ [])
+more_below last n h [] all x top = (omega (arith, top), tt)
+more_below last n h (r ∷ rs) all x top = (omega (arith, all.0, h), more_below last n h rs all.1 x top)
+
+all_under : (last n : ℕ) → last < n → (rs : List Receipt) → AllByRecursion (λ (r : Receipt). r.number ≤ last) rs →
+    AllByRecursion (λ (r : Receipt). r.number < n) rs
+all_under last n h [] all = tt
+all_under last n h (r ∷ rs) all = (omega (arith, all.0, h), all_under last n h rs all.1)
+
+pub seat_after : (shard last : ℕ) (old new : List Receipt) (parts before after parts' : ℕ) (r : Received)
+    (receipt : Receipt) → IsSeat (record { shard = shard; receipts = old; last = last }) parts before →
+    new ≡ old ++ receipt ∷ [] → IsNext r last before after receipt → parts' ≡ parts →
+    IsSeat (record { shard = shard; receipts = new; last = receipt.number }) parts' after
+seat_after shard last old new parts before after parts' r receipt seat is next same = record {
+  part = same ∙ seat.part;
+  counted = omega (arith, next.counted, seat.counted, ap length is, length-append old (receipt ∷ []));
+  below = subst (λ (rs : List Receipt). AllByRecursion (λ (x : Receipt). x.number ≤ receipt.number) rs) (sym is)
+      (more_below last receipt.number next.above old seat.below receipt refl);
+  shard = seat.shard;
+}
+
+pub seat_gains : (a : ArrivalValue) (r : Received) → r ≡ a.received → (shard last : ℕ) (old new : List Receipt)
+    (parts before after : ℕ) (receipt : Receipt) →
+    IsSeat (record { shard = shard; receipts = old; last = last }) parts before → new ≡ old ++ receipt ∷ [] →
+    IsNext r last before after receipt →
+    Gains a (record { shard = shard; receipts = old; last = last })
+    (record { shard = shard; receipts = new; last = receipt.number })
+seat_gains a r same shard last old new parts before after receipt seat is next = record {
+  receipt = receipt;
+  more = is;
+  of_call = subst (λ (x : Received). IsReceiptOf x receipt) same next.of_call;
+  above = all_under last receipt.number next.above old seat.below;
+}

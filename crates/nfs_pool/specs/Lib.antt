@@ -1,0 +1,4 @@
+pub mod Eras
+pub mod Passes
+pub mod Seats
+pub mod Steps

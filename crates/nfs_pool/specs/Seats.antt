@@ -1,0 +1,66 @@
+-- Seats, and what their callers are told.
+use Rattle.std.specs.Prelude.{◌≡◌, ℕ, ◌<◌, ◌≤◌, List, [], ◌∷◌, ◌++◌, length}
+use Rattle.std.specs.Prelude.{IfSome, Result, Ok, Err}
+use Rattle.std.specs.List.{AllByRecursion}
+use Rattle.nfs_machine.specs.Refusal.{refusal_of}
+use Rattle.nfs_machine.specs.RpcReplies.{refusal_message}
+use Rattle.nfs_machine.specs.Run.{Received}
+use Rattle.nfs_engine.specs.Arrivals.{ArrivalValue, received_value}
+use Rattle.nfs_engine.specs.Asked.{IsAsked}
+use Rattle.nfs_engine.specs.Calls.{FinishedValue, IsCalled}
+use Rattle.nfs_engine.specs.Commits.{IsReceipt}
+use Rattle.nfs_engine.specs.declared.arrival.Reading.TheVariants as readings
+use Rattle.nfs_engine.specs.declared.asking.Asked.{Asked}
+use Rattle.nfs_engine.specs.declared.journal.Receipt.{Receipt}
+use Rattle.nfs_schedule.specs.declared.answer.Declined.{Declined}
+use Rattle.nfs_pool.specs.declared.sent.PoolError.{PoolError}
+use Rattle.nfs_pool.specs.declared.sent.PoolError.TheVariants.{Memory, EraFull}
+use Rattle.nfs_pool.specs.declared.sent.Sent.{Sent}
+use Rattle.nfs_pool.specs.declared.sent.Sent.TheVariants.{Executed, Repeated, Refused, Early, Unanswered}
+
+pub record SeatValue : Type 0 where
+  -- of which shard its new numbers are
+  pub shard : ℕ
+  pub receipts : List Receipt
+  -- no receipt's number is above this one
+  pub last : ℕ
+
+-- one part of the ledger, which counts the receipts
+pub record IsSeat (s : SeatValue) (parts amount : ℕ) : Type 0 where
+  pub part : parts ≡ 1
+  pub counted : amount ≡ length s.receipts
+  pub below : AllByRecursion (λ (r : Receipt). r.number ≤ s.last) s.receipts
+  pub shard : s.shard < 16
+
+-- the receipt is of a call that is what the record asks that came in: it has the reply, spelled under that record's xid
+pub record IsReceiptOf (r : Received) (receipt : Receipt) : Type 0 where
+  pub finished : FinishedValue
+  pub received : finished.received ≡ r
+  pub called : IsCalled r finished.xid finished.done.call finished.done.ctx
+  pub made : IsReceipt receipt.number finished receipt
+
+-- one receipt more, of the call that came in, above all that were there
+pub record Gains (a : ArrivalValue) (old new : SeatValue) : Type 0 where
+  pub receipt : Receipt
+  pub more : new.receipts ≡ old.receipts ++ receipt ∷ []
+  pub of_call : IsReceiptOf a.received receipt
+  pub above : AllByRecursion (λ (r : Receipt). r.number < receipt.number) old.receipts
+
+-- the answer is the refusal of what the record asks, or nothing where there was no memory for it
+pub record IsDeclined (r : Received) (declined : Declined) : Type 0 where
+  pub asked : Asked
+  pub asks : IsAsked r.bytes asked
+  pub received : received_value declined.received ≡ r
+  pub answer : IfSome declined.answer
+      (λ bytes. bytes.items ≡ refusal_message asked.xid (refusal_of asked.call))
+
+-- Where the call was executed the seat has its receipt; else the seat is as it was. Each answer is of what came in.
+abbrev pub Tells : ArrivalValue → (old new : SeatValue) → Result Sent PoolError → Type 0
+Tells a old new (Ok Executed) = Gains a old new
+Tells a old new (Ok (Repeated kept)) = (kept.received ≡ a.received) × (new ≡ old)
+Tells a old new (Ok (Refused declined)) = IsDeclined a.received declined × (new ≡ old)
+Tells a old new (Ok (Early fault)) = (a.reading ≡ readings.Faulted fault.answer) ×
+    (received_value fault.received ≡ a.received) × (new ≡ old)
+Tells a old new (Ok (Unanswered received)) = (received_value received ≡ a.received) × (new ≡ old)
+Tells a old new (Err (Memory back)) = (back ≡ a) × (new ≡ old)
+Tells a old new (Err (EraFull back)) = (back ≡ a) × (new ≡ old)

@@ -1,0 +1,79 @@
+-- The steps of a call in a pool: what they do to the call, whatever stands in the book and the shards.
+use Rattle.std.specs.Prelude.{◌≡◌, ℕ, ◌<◌, [], true, false, Option, Result, Ok, Err}
+use Rattle.nfs_machine.specs.Run.{Received}
+use Rattle.nfs_objects.specs.Rooms.{with_entry}
+use Rattle.nfs_objects.specs.declared.address.Addr.{Addr}
+use Rattle.nfs_objects.specs.declared.modes.Mode.{Mode}
+use Rattle.nfs_objects.specs.declared.object.Object.{Object}
+use Rattle.nfs_engine.specs.Arrivals.{ArrivalValue, received_value}
+use Rattle.nfs_engine.specs.Asked.{IsAsked}
+use Rattle.nfs_engine.specs.Book.{Admits, BookValue, is_full}
+use Rattle.nfs_engine.specs.Calls.{FinishedValue, IsCalled, TxnValue}
+use Rattle.nfs_engine.specs.Commits.{IsReceipt}
+use Rattle.nfs_engine.specs.declared.admission.Admission.{Admission}
+use Rattle.nfs_engine.specs.declared.admission.Admission.TheVariants as admission
+use Rattle.nfs_engine.specs.declared.admission.Refused.{Refused}
+use Rattle.nfs_engine.specs.declared.arrival.Reading.TheVariants as readings
+use Rattle.nfs_engine.specs.declared.asking.Asked.{Asked}
+use Rattle.nfs_engine.specs.declared.journal.Receipt.{Receipt}
+use Rattle.nfs_engine.specs.declared.release.Next.{Next}
+use Rattle.nfs_engine.specs.declared.release.Next.TheVariants as next
+use Rattle.nfs_engine.specs.declared.release.Then.{Then}
+use Rattle.nfs_engine.specs.declared.release.Then.TheVariants as then
+use Rattle.nfs_engine.specs.declared.running.AdmitError.{AdmitError}
+use Rattle.nfs_engine.specs.declared.taking.Got.{Got}
+use Rattle.nfs_engine.specs.declared.taking.Got.TheVariants as got
+use Rattle.nfs_pool.specs.declared.sent.Unadmitted.{Unadmitted}
+use Rattle.nfs_pool.specs.declared.sent.Unadmitted.TheVariants as unadmitted
+
+-- ---- admissions
+-- it has read nothing
+abbrev pub IsUnread : TxnValue → Type 0
+IsUnread t = t.view ≡ record { entries = []; reserved = [] }
+
+-- the record asks a call
+abbrev pub AsksSome : ArrivalValue → Type 0
+AsksSome a = (asked : Asked) × (a.reading ≡ readings.Asks asked)
+
+-- what begins, is answered or handed back is what came in
+abbrev pub AdmitsFrom : ArrivalValue → Result Admission Unadmitted → Type 0
+AdmitsFrom a (Ok (admission.Begin t)) = (t.received ≡ a.received) × IsUnread t
+AdmitsFrom a (Ok (admission.Repeat kept)) = kept.received ≡ a.received
+AdmitsFrom a (Ok (admission.Running back)) = back ≡ a
+AdmitsFrom a (Ok (admission.Early fault)) =
+    (a.reading ≡ readings.Faulted fault.answer) × (received_value fault.received ≡ a.received)
+AdmitsFrom a (Err (unadmitted.EraFull back)) = back ≡ a
+AdmitsFrom a (Err (unadmitted.Refused back)) = (back ≡ a) × AsksSome a
+
+-- Where the era is full the book is as it was, and the record is handed back; else the book admits it.
+abbrev pub AdmitsUnlessFull : (old new : BookValue) → ArrivalValue → Result Admission Unadmitted → Type 0
+AdmitsUnlessFull old new a (Ok admission) = (is_full old ≡ false) × Admits old new a (Ok admission)
+AdmitsUnlessFull old new a (Err (unadmitted.EraFull back)) = (is_full old ≡ true) × (back ≡ a) × (new ≡ old)
+AdmitsUnlessFull old new a (Err (unadmitted.Refused back)) =
+    (is_full old ≡ false) × (error : AdmitError) × Admits old new a (Err (error, back))
+
+-- ---- what a call does in one shard
+-- the address is in the view, in this mode, with whatever stands there; or the call is as it was
+abbrev pub TakesAny : {E : Type 0} → (old new : TxnValue) → Addr → Mode → Result Got E → Type 0
+TakesAny old new a mode (Ok got.Yes) = (o : Option Object) × (new ≡ record old
+    { view = with_entry old.view (record { address = a; mode = mode; object = o }) })
+TakesAny old new a mode (Ok (got.Taken h)) = new ≡ old
+TakesAny old new a mode (Err e) = new ≡ old
+
+-- what a release leads to is what it led to
+abbrev pub LeadsThere : Then → Next → Type 0
+LeadsThere t (next.More left) = left.after ≡ t
+LeadsThere t (next.Aborted p) = t ≡ then.Aborted p
+LeadsThere t next.Ended = t ≡ then.Ended
+
+-- ---- what a call comes to
+-- the receipt is of this call, which is what its record asks, under a number above that one
+pub record IsMadeAbove (last : ℕ) (f : FinishedValue) (receipt : Receipt) : Type 0 where
+  pub called : IsCalled f.received f.xid f.done.call f.done.ctx
+  pub made : IsReceipt receipt.number f receipt
+  pub above : last < receipt.number
+
+-- what is given up is what came in, and what that asks
+pub record IsGivenUp (r : Received) (refused : Refused) : Type 0 where
+  pub received : received_value refused.received ≡ r
+  pub asks : IsAsked r.bytes refused.asked

@@ -1,0 +1,345 @@
+//! A call from its arrival to its answer, on its caller's thread.
+
+ghost use Rattle.std.specs.Prelude.{◌≡◌, ◌<◌, IfOk, OnOk, None};
+ghost use Rattle.std.specs.List.{AllByRecursion};
+ghost use Rattle.nfs_objects.specs.Asks.{EachOnce};
+ghost use Rattle.nfs_objects.specs.Promise.{IsPromised};
+ghost use Rattle.nfs_objects.specs.Values.{change_value, done_value, seen_at};
+ghost use Rattle.nfs_engine.specs.Arrivals.{received_value};
+ghost use Rattle.nfs_engine.specs.Asked.{IsAsked};
+ghost use Rattle.nfs_pool.specs.Passes.{ComesTo, EndsWith, IsSuited, LeadsOut, Reads, Retreats, Takes};
+ghost use Rattle.nfs_pool.specs.Seats.{IsDeclined, Tells};
+ghost use Rattle.nfs_pool.specs.Steps.{AsksSome, IsGivenUp, IsUnread};
+
+use crate::gate::{Gate, Step};
+use crate::seat::Seat;
+use crate::sent::{PoolError, Reason, Sent, Unadmitted, Uncommitted};
+use crate::steps::Steps;
+use nfs_engine::{
+    Admission, Arrival, Asked, Finished, Got, Next, Pending, Reading, Receipt, Received, Refused,
+    Release, Txn,
+};
+use nfs_objects::{Addr, Change, Mode, Outcome};
+use nfs_schedule::answer::refusal;
+use nfs_schedule::foreseen::foreseen;
+use nfs_schedule::{Declined, attempt};
+use std::alloc::Global;
+use std::sync::Wait;
+use std::sync::ledger::{Ledger, Share};
+
+/// What a call is brought on by, and for which seat.
+#[derive(Drop)]
+struct Means<'a, R, S, G> {
+    rt: &'a R,
+    alloc: Global,
+    steps: &'a S,
+    gate: &'a G,
+    /// Of which shard the seat's new numbers are.
+    shard: usize,
+    /// The number of the seat's last receipt.
+    last: u64,
+}
+
+/// What a call that began comes to.
+enum Ended {
+    Executed(Receipt),
+    Refused(Refused),
+}
+
+/// What one pass of a call comes to, from an empty view on. It has to be spent.
+enum Passed {
+    Executed(Receipt),
+    /// It begins anew.
+    Again(Pending),
+    /// There was no memory, or no number.
+    Failed(Pending),
+}
+
+/// Brings a record that came in to its answer by these steps. The gate is called before each.
+///
+/// # Errors
+///
+/// There is no memory for one more receipt in the seat, or the era is full. Nothing is executed.
+pub fn run_call<L: Ledger, R: Wait, S: Steps<L>, G: Gate>(
+    rt: &R,
+    alloc: Global,
+    steps: &S,
+    gate: &G,
+    seat: &mut Seat<L>,
+    arrival: Arrival,
+) -> Result<Sent, PoolError>
+    ensures { Tells arrival seat.old seat.new result }
+{
+    let Ok(()) = seat.receipts.reserve(1) else {
+        return Err(PoolError::Memory(arrival));
+    };
+    let means = Means {
+        rt,
+        alloc,
+        steps,
+        gate,
+        shard: seat.shard,
+        last: seat.last,
+    };
+    gate.before(Step::Admit);
+    let txn = match steps.admit(rt, alloc, arrival) {
+        Ok(Admission::Begin(txn)) => txn,
+        Ok(Admission::Repeat(kept)) => return Ok(Sent::Repeated(kept)),
+        Ok(Admission::Running(arrival)) => return Ok(leave(arrival)),
+        Ok(Admission::Early(faulted)) => return Ok(Sent::Early(faulted)),
+        Err(Unadmitted::EraFull(arrival)) => return Err(PoolError::EraFull(arrival)),
+        Err(Unadmitted::Refused(arrival)) => return Ok(refuse(alloc, arrival)),
+    };
+    match carry_out(&means, &mut seat.share, txn) {
+        Ended::Executed(receipt) => {
+            seat.last = receipt.number;
+            let Ok(()) = seat.receipts.push(receipt) else {
+                unreachable!();
+            };
+            Ok(Sent::Executed)
+        }
+        Ended::Refused(refused) => {
+            let Refused { received, asked } = refused;
+            Ok(Sent::Refused(decline(alloc, received, asked)))
+        }
+    }
+}
+
+/// What came in while a call that came with the same is in progress: it has no reply.
+fn leave(arrival: Arrival) -> Sent
+    ensures { (received : Received) × (result ≡ Sent.Unanswered received) ×
+        (received_value received ≡ arrival.received) }
+{
+    let (received, reading) = arrival.into_parts();
+    drop(reading);
+    Sent::Unanswered(received)
+}
+
+/// The answer to what was not admitted.
+fn refuse(alloc: Global, arrival: Arrival) -> Sent
+    requires { AsksSome arrival }
+    ensures { (declined : Declined) × (result ≡ Sent.Refused declined) × IsDeclined arrival.received declined }
+{
+    let (received, reading) = arrival.into_parts();
+    match reading {
+        Reading::Asks(asked) => Sent::Refused(decline(alloc, received, asked)),
+        Reading::Faulted(_) => unreachable!(),
+    }
+}
+
+/// The refusal of a call.
+fn decline(alloc: Global, received: Received, asked: Asked) -> Declined
+    requires { IsAsked (received_value received).bytes asked }
+    ensures { IsDeclined (received_value received) result }
+{
+    let answer = refusal(alloc, &asked);
+    drop(asked);
+    Declined { received, answer }
+}
+
+/// Brings a call that began to its end.
+fn carry_out<L: Ledger, R: Wait, S: Steps<L>, G: Gate>(
+    means: &Means<R, S, G>,
+    mine: &mut Share<L>,
+    txn: Txn,
+) -> Ended
+    requires part { mine.old.parts ≡ 1 }
+    requires shard { means.now.shard < 16 }
+    requires unread { IsUnread txn }
+    ensures parts { mine.new.parts ≡ mine.old.parts }
+    ensures ended { EndsWith txn.received means.now.last mine.old.amount mine.new.amount result }
+{
+    let mut txn = txn;
+    'passes: for _ in means.rt.forever() {
+        match pass(means, mine, txn) {
+            Passed::Executed(receipt) => return Ended::Executed(receipt),
+            Passed::Failed(pending) => return Ended::Refused(give_up(means, pending)),
+            Passed::Again(pending) => txn = pending.again(means.alloc),
+        }
+    }
+    unreachable!()
+}
+
+/// Gives a call up.
+fn give_up<L: Ledger, R: Wait, S: Steps<L>, G: Gate>(
+    means: &Means<R, S, G>,
+    pending: Pending,
+) -> Refused
+    ensures { IsGivenUp pending.received result }
+{
+    means.gate.before(Step::GiveUp);
+    means.steps.give_up(means.rt, pending)
+}
+
+/// One pass of a call that has read nothing: to its commit, or until it has to let go.
+fn pass<L: Ledger, R: Wait, S: Steps<L>, G: Gate>(
+    means: &Means<R, S, G>,
+    mine: &mut Share<L>,
+    txn: Txn,
+) -> Passed
+    requires part { mine.old.parts ≡ 1 }
+    requires shard { means.now.shard < 16 }
+    requires unread { IsUnread txn }
+    ensures parts { mine.new.parts ≡ mine.old.parts }
+    ensures comes { ComesTo txn.received means.now.last mine.old.amount mine.new.amount result }
+{
+    let mut txn = txn;
+    match run(means, &mut txn) {
+        Ok(change) => match txn.done(means.alloc, change) {
+            Ok(finished) => commit(means, mine, finished),
+            Err(txn) => retreat(means, txn, Reason::Memory),
+        },
+        Err(reason) => retreat(means, txn, reason),
+    }
+}
+
+/// Commits a call, and lets go what it still holds.
+fn commit<L: Ledger, R: Wait, S: Steps<L>, G: Gate>(
+    means: &Means<R, S, G>,
+    mine: &mut Share<L>,
+    finished: Finished,
+) -> Passed
+    requires part { mine.old.parts ≡ 1 }
+    ensures parts { mine.new.parts ≡ mine.old.parts }
+    ensures comes { ComesTo finished.received means.now.last mine.old.amount mine.new.amount result }
+{
+    means.gate.before(Step::Commit);
+    match means
+        .steps
+        .commit(means.rt, means.alloc, mine, means.last, finished)
+    {
+        Ok((receipt, release)) => match let_go(means, release) {
+            None => Passed::Executed(receipt),
+            Some(_) => unreachable!(),
+        },
+        Err(Uncommitted { finished, reason }) => retreat(means, finished.into_txn(), reason),
+    }
+}
+
+/// Gives a pass up: lets go all that the call holds. Where an address was taken it waits for that.
+fn retreat<L: Ledger, R: Wait, S: Steps<L>, G: Gate>(
+    means: &Means<R, S, G>,
+    txn: Txn,
+    reason: Reason,
+) -> Passed
+    ensures { Retreats txn.received result }
+{
+    match let_go(means, txn.abort()) {
+        Some(pending) => match reason {
+            Reason::Memory => Passed::Failed(pending),
+            Reason::Stale => Passed::Again(pending),
+            Reason::Taken(address, mode) => {
+                means.steps.wait_for(means.rt, address, mode);
+                Passed::Again(pending)
+            }
+        },
+        None => unreachable!(),
+    }
+}
+
+/// Lets go all that a call that left still holds, shard by shard. The call, where it is still in progress.
+fn let_go<L: Ledger, R: Wait, S: Steps<L>, G: Gate>(
+    means: &Means<R, S, G>,
+    release: Release,
+) -> Option<Pending>
+    ensures { LeadsOut release.after result }
+{
+    let mut release = release;
+    'shards: for _ in means.rt.forever() {
+        means.gate.before(Step::Release);
+        match means.steps.release(means.rt, release) {
+            Next::More(left) => release = left,
+            Next::Aborted(pending) => return Some(pending),
+            Next::Ended => return None,
+        }
+    }
+    unreachable!()
+}
+
+/// Attempts a call that has read nothing on what it then reads, until it is done.
+fn run<L: Ledger, R: Wait, S: Steps<L>, G: Gate>(
+    means: &Means<R, S, G>,
+    txn: &mut Txn,
+) -> Result<Change, Reason>
+    requires shard { means.now.shard < 16 }
+    requires unread { IsUnread txn.old }
+    ensures call { Reads txn.old txn.new }
+    ensures promised { IfOk result
+        (λ change. IsPromised (done_value txn.new.call txn.new.ctx txn.new.view (change_value change))) }
+{
+    foresee(means, txn)?;
+    'rounds: for _ in means.rt.forever() {
+        // It brings that this is what the record asks, so that its procedure is built.
+        txn.is_called();
+        match attempt(means.alloc, txn.call(), txn.ctx(), txn.view()) {
+            Ok(Outcome::Need(asked)) => acquire_all(means, txn, &asked)?,
+            Ok(Outcome::Fresh(count)) => reserve(means, txn, count)?,
+            Ok(Outcome::Done(change)) => return Ok(change),
+            Err(_) => return Err(Reason::Memory),
+        }
+    }
+    unreachable!()
+}
+
+/// Reads what the call will ask for first, before its first attempt: an attempt that has to ask is made for nothing.
+fn foresee<L: Ledger, R: Wait, S: Steps<L>, G: Gate>(
+    means: &Means<R, S, G>,
+    txn: &mut Txn,
+) -> Result<(), Reason>
+    requires { IsUnread txn.old }
+    ensures call { Reads txn.old txn.new }
+    ensures suited { OnOk result (IsSuited txn.new) }
+{
+    let Some(asked) = foreseen(txn.call()) else {
+        return Ok(());
+    };
+    acquire_all(means, txn, &asked)?;
+    Ok(())
+}
+
+/// Reads these addresses, each in its mode.
+fn acquire_all<L: Ledger, R: Wait, S: Steps<L>, G: Gate>(
+    means: &Means<R, S, G>,
+    txn: &mut Txn,
+    asked: &[(Addr, Mode)],
+) -> Result<(), Reason>
+    requires once { EachOnce asked.now }
+    requires unseen { AllByRecursion (λ a. seen_at txn.old.view.entries a.0 ≡ None) asked.now }
+    ensures call { Reads txn.old txn.new }
+    ensures taken { OnOk result (Takes txn.old.view txn.new.view asked.now) }
+{
+    for (address, mode) in asked {
+        means.gate.before(Step::Acquire);
+        match means
+            .steps
+            .acquire(means.rt, means.alloc, means.gate, txn, *address, *mode)
+        {
+            Ok(Got::Yes) => {}
+            Ok(Got::Taken(_)) => return Err(Reason::Taken(*address, *mode)),
+            Err(_) => return Err(Reason::Memory),
+        }
+    }
+    Ok(())
+}
+
+/// Gets so many new numbers.
+fn reserve<L: Ledger, R: Wait, S: Steps<L>, G: Gate>(
+    means: &Means<R, S, G>,
+    txn: &mut Txn,
+    count: u32,
+) -> Result<(), Reason>
+    requires shard { means.now.shard < 16 }
+    requires suited { IsSuited txn.old }
+    ensures call { Reads txn.old txn.new }
+    ensures suited { OnOk result (IsSuited txn.new) }
+{
+    for _number in 0..count {
+        means.gate.before(Step::Reserve);
+        match means.steps.reserve(means.rt, txn, means.shard) {
+            Ok(true) => {}
+            Ok(false) => return Err(Reason::Stale),
+            Err(_) => return Err(Reason::Memory),
+        }
+    }
+    Ok(())
+}

@@ -1,0 +1,163 @@
+//! What lies under the book's lock.
+
+ghost use Rattle.std.specs.Prelude.{◌≡◌, ◌+◌, ◌<◌, [], IfErr, IfOk, OnErr, OnOk, length};
+ghost use Rattle.nfs_engine.specs.Book.{Commits, GivesUp, IsRun, Rebases, TakesEra, TakesMessage};
+ghost use Rattle.nfs_engine.specs.Commits.{Leaves};
+ghost use Rattle.nfs_pool.specs.Steps.{AdmitsUnlessFull, IsMadeAbove};
+
+use crate::sent::{Reason, Unadmitted, Uncommitted};
+use nfs_engine::{Admission, Arrival, Book, Committed, Era, Finished, Pending, Posted, Refused};
+use std::alloc::Global;
+use std::sync::ledger;
+use std::sync::ledger::{Ledger, Share};
+
+/// The book, and a ledger of its records: each counts one for the seat that has its receipt. The type of `Book` keeps
+/// that the records are a run of the machine to its store; so it is whenever the lock is free.
+#[derive(Drop)]
+pub struct Desk<L: Ledger> {
+    pub(crate) book: Book,
+    counted: ledger::Book<L>,
+    /// A share of nothing, to begin others from.
+    nothing: Share<L>,
+    ghost counts: { length book.records ≡ counted.total },
+    ghost empty: { nothing.parts ≡ 0 },
+    ghost none: { nothing.amount ≡ 0 },
+}
+
+impl<L: Ledger> Desk<L> {
+    /// The book of an engine without records.
+    pub(crate) fn new(book: Book, counted: ledger::Book<L>, nothing: Share<L>) -> Desk<L>
+        requires total { counted.total ≡ 0 }
+        requires records { book.records ≡ [] }
+        requires nothing { (nothing.parts ≡ 0) × (nothing.amount ≡ 0) }
+        ensures { result.book ≡ book }
+    {
+        Desk {
+            book,
+            counted,
+            nothing,
+        }
+    }
+
+    /// Admits a record that came in, unless the era is full.
+    ///
+    /// # Errors
+    ///
+    /// The era is full; or there is no memory, or no number. Nothing is changed.
+    pub fn admit(&mut self, alloc: Global, arrival: Arrival) -> Result<Admission, Unadmitted>
+        ensures { AdmitsUnlessFull self.old.book self.new.book arrival result }
+    {
+        if self.book.era_is_full() {
+            return Err(Unadmitted::EraFull(arrival));
+        }
+        match self.book.admit(alloc, arrival) {
+            Ok(admission) => Ok(admission),
+            Err((error, arrival)) => {
+                drop(error);
+                Err(Unadmitted::Refused(arrival))
+            }
+        }
+    }
+
+    /// Gives a call up.
+    pub fn give_up(&mut self, pending: Pending) -> Refused
+        ensures { GivesUp self.old.book self.new.book pending result }
+    {
+        self.book.give_up(pending)
+    }
+
+    /// Takes the oldest message that was not yet taken.
+    pub fn take_message(&mut self) -> Option<Posted>
+        ensures { TakesMessage self.old.book self.new.book result }
+    {
+        self.book.take_message()
+    }
+
+    /// Commits a call whose view fits the present store, under a number above this one; it counts for the caller.
+    ///
+    /// # Errors
+    ///
+    /// The book is as it was, and the call is handed back.
+    pub fn commit(
+        &mut self,
+        alloc: Global,
+        mine: &mut Share<L>,
+        last: u64,
+        finished: Finished,
+    ) -> Result<Committed, Uncommitted>
+        requires { 0 < mine.old.parts }
+        ensures parts { mine.new.parts ≡ mine.old.parts }
+        ensures counted { OnOk result (mine.new.amount ≡ mine.old.amount + 1) }
+        ensures uncounted { OnErr result (mine.new.amount ≡ mine.old.amount) }
+        ensures commits { OnOk result (Commits self.old.book self.new.book finished) }
+        ensures receipt { IfOk result (λ c. IsMadeAbove last finished c.receipt) }
+        ensures leaves { IfOk result (Leaves finished) }
+        ensures back { IfErr result (λ u. u.finished ≡ finished) }
+        ensures same { OnErr result (self.new.book ≡ self.old.book) }
+    {
+        // It brings that the call is what its record asks.
+        finished.is_finished();
+        let Some(number) = self.book.next_number() else {
+            return Err(handed_back(finished, Reason::Memory));
+        };
+        if number <= last || !self.book.fits(&finished) {
+            return Err(handed_back(finished, Reason::Stale));
+        }
+        let Desk {
+            book,
+            counted,
+            nothing: _,
+        } = self;
+        match book.commit(alloc, finished) {
+            Ok(committed) => {
+                counted.add(mine, 1);
+                Ok(committed)
+            }
+            Err(finished) => Err(handed_back(finished, Reason::Memory)),
+        }
+    }
+
+    /// A share of nothing.
+    pub(crate) fn no_share(&mut self) -> Share<L>
+        ensures share { (result.parts ≡ 0) × (result.amount ≡ 0) }
+        ensures book { self.new.book ≡ self.old.book }
+    {
+        self.nothing.empty()
+    }
+
+    /// Ends the era, and begins the next. The share that has every part counts each record, and then none.
+    pub(crate) fn new_era(&mut self, alloc: Global, all: &mut Share<L>, count: u64) -> Era
+        requires parts { all.old.parts ≡ L.parts }
+        requires count { all.old.amount ≡ count }
+        ensures parts { all.new.parts ≡ all.old.parts }
+        ensures none { all.new.amount ≡ 0 }
+        ensures counted { length self.old.book.records ≡ count }
+        ensures run { IsRun self.old.book }
+        ensures takes { TakesEra self.old.book self.new.book result }
+        ensures rebases { Rebases self.old.book self.new.book }
+    {
+        self.book.run();
+        let Desk {
+            book,
+            counted,
+            nothing: _,
+        } = self;
+        counted.audit(all);
+        counted.sub(all, count);
+        book.new_era(alloc)
+    }
+
+    /// The book alone.
+    pub(crate) fn into_book(self) -> Book
+        ensures { result ≡ self.book }
+    {
+        self.book
+    }
+}
+
+/// A call that was not committed.
+fn handed_back(finished: Finished, reason: Reason) -> Uncommitted
+    ensures { result ≡ record { finished = finished; reason = reason } }
+{
+    Uncommitted { finished, reason }
+}

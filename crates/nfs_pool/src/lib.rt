@@ -1,0 +1,28 @@
+//! The book and the shards of an engine, each under a lock of its own, and calls from many threads.
+//!
+//! A call lives on its caller's thread: what it has read, what it asks for and what it is to write are values of that
+//! thread, and its proof goes by them alone (`run_call`). Each step of it (`Steps`) holds the lock of one shard, or the
+//! book's; a commit holds those of the shards that it writes, rising, and then the book's. A caller has a `Seat`, which
+//! keeps a receipt of each of its calls of the era that was executed. The end of an era shows that the receipts of all
+//! seats are its records, each once.
+#![tactic(auto)]
+
+mod carrying;
+mod committing;
+mod comparing;
+mod counting;
+pub mod desk;
+mod ending;
+pub mod gate;
+pub mod pool;
+pub mod seat;
+pub mod sent;
+pub mod steps;
+
+pub use carrying::run_call;
+pub use desk::Desk;
+pub use gate::{Gate, Open, Step};
+pub use pool::Pool;
+pub use seat::Seat;
+pub use sent::{FinishError, PoolError, Reason, Sent, Unadmitted, Uncommitted};
+pub use steps::Steps;

@@ -1,0 +1,232 @@
+//! The seventeen locks, and each step of a call under those that it needs.
+
+ghost use Rattle.std.specs.Prelude.{◌≡◌, [], IfErr, IfOk};
+ghost use Rattle.nfs_pool.specs.Eras.{AreNew};
+ghost use Rattle.nfs_pool.specs.Seats.{Tells};
+
+use crate::carrying::run_call;
+use crate::committing::written_shards;
+use crate::counting::Count;
+use crate::desk::Desk;
+use crate::gate::Gate;
+use crate::seat::{Seat, new_seats};
+use crate::sent::{PoolError, Sent, Unadmitted, Uncommitted};
+use crate::steps::Steps;
+use nfs_engine::{
+    Admission, Arrival, Committed, Engine, Finished, Got, Next, Pending, Posted, Receipt, Refused,
+    Release, ReserveError, SHARDS, Shard, Txn, shard_index,
+};
+use nfs_objects::{Addr, Mode};
+use std::alloc::{AllocError, Global};
+use std::sync::ledger::{Blank, Ledger, Share};
+use std::sync::{Condvar, Mutex, Wait};
+
+/// The book and the shards, each under a lock of its own.
+#[derive(Drop)]
+pub struct Pool<L: Ledger> {
+    pub(crate) desk: Mutex<Desk<L>>,
+    pub(crate) locks: Locks,
+    pub(crate) count: Count<L>,
+}
+
+/// The shards.
+#[derive(Drop)]
+pub(crate) struct Locks {
+    pub(crate) shards: [Mutex<Shard>; SHARDS],
+    /// Notified when a call lets go in the shard of the same index.
+    pub(crate) released: [Condvar; SHARDS],
+}
+
+impl<L: Ledger> Pool<L> {
+    /// The pool of an engine without records, and a seat for each part of the ledger.
+    ///
+    /// # Errors
+    ///
+    /// There is no memory for the seats. Ledger and engine are handed back.
+    pub fn new(
+        alloc: Global,
+        blank: Blank,
+        engine: Engine,
+        count: usize,
+    ) -> Result<(Pool<L>, Vec<Seat<L>>), (Blank, Engine)>
+        requires name { blank.name ≡ L.name }
+        requires parts { blank.parts ≡ L.parts }
+        requires count { blank.parts ≡ count }
+        requires records { engine.book.records ≡ [] }
+        ensures seats { IfOk result (λ r. AreNew r.1.items count) }
+        ensures back { IfErr result (λ r. (r.0 ≡ blank) × (r.1 ≡ engine)) }
+    {
+        let Ok(room) = Vec::with_capacity(alloc, count) else {
+            return Err((blank, engine));
+        };
+        let (counted, mut all) = blank.open::<L>();
+        let nothing = all.empty();
+        let (book, shards) = engine.into_parts();
+        let pool = Pool {
+            desk: Mutex::new(Desk::new(book, counted, nothing)),
+            locks: Locks {
+                shards: lock_all(shards),
+                released: new_bells(),
+            },
+            count: Count::new(count),
+        };
+        Ok((pool, new_seats(alloc, room, all, count)))
+    }
+
+    /// Brings a record that came in to its answer on this thread, with one hold of locks for each step. The gate is
+    /// called before each step, with no lock held, and in the hold of each acquire.
+    ///
+    /// # Errors
+    ///
+    /// There is no memory for one more receipt in the seat, or the era is full. Nothing is executed.
+    pub fn submit<R: Wait, G: Gate>(
+        &self,
+        rt: &R,
+        alloc: Global,
+        gate: &G,
+        seat: &mut Seat<L>,
+        arrival: Arrival,
+    ) -> Result<Sent, PoolError>
+        ensures { Tells arrival seat.old seat.new result }
+    {
+        run_call(rt, alloc, self, gate, seat, arrival)
+    }
+
+    /// Takes the oldest message that was not yet taken. It takes no memory.
+    pub fn message<R: Wait>(&self, rt: &R) -> Option<Posted> {
+        let mut guard = self.desk.lock(rt);
+        let desk = &mut *guard;
+        desk.take_message()
+    }
+}
+
+impl<L: Ledger> Steps<L> for Pool<L> {
+    fn admit<R: Wait>(
+        &self,
+        rt: &R,
+        alloc: Global,
+        arrival: Arrival,
+    ) -> Result<Admission, Unadmitted> {
+        let mut guard = self.desk.lock(rt);
+        let desk = &mut *guard;
+        desk.admit(alloc, arrival)
+    }
+
+    fn acquire<R: Wait, G: Gate>(
+        &self,
+        rt: &R,
+        alloc: Global,
+        gate: &G,
+        txn: &mut Txn,
+        address: Addr,
+        mode: Mode,
+    ) -> Result<Got, AllocError> {
+        let index = shard_index(address);
+        let mut guard = self.locks.shards[index].lock(rt);
+        gate.inside(index);
+        txn.acquire_in(alloc, &mut *guard, address, mode)
+    }
+
+    fn wait_for<R: Wait>(&self, rt: &R, address: Addr, mode: Mode) {
+        let index = shard_index(address);
+        let guard = self.locks.shards[index].lock(rt);
+        let free = self.locks.released[index].wait_while(
+            rt,
+            guard,
+            |shard| shard.is_taken(address, mode),
+        );
+        drop(free);
+    }
+
+    fn reserve<R: Wait>(&self, rt: &R, txn: &mut Txn, shard: usize) -> Result<bool, ReserveError> {
+        let mut guard = self.locks.shards[shard].lock(rt);
+        txn.reserve_tested(&mut *guard)
+    }
+
+    fn commit<R: Wait>(
+        &self,
+        rt: &R,
+        alloc: Global,
+        mine: &mut Share<L>,
+        last: u64,
+        finished: Finished,
+    ) -> Result<(Receipt, Release), Uncommitted> {
+        let written = written_shards(finished.writes());
+        match self.commit_from(rt, alloc, mine, last, finished, &written, 0) {
+            Ok(committed) => {
+                let Committed {
+                    receipt,
+                    id,
+                    view,
+                    writes,
+                } = committed;
+                drop(writes);
+                Ok((receipt, Release::executed(id, view, written)))
+            }
+            Err(uncommitted) => Err(uncommitted),
+        }
+    }
+
+    fn release<R: Wait>(&self, rt: &R, release: Release) -> Next {
+        let Some(index) = release.next_shard() else {
+            return release.ended();
+        };
+        {
+            let mut guard = self.locks.shards[index].lock(rt);
+            release.let_go(&mut *guard, index);
+        }
+        self.locks.released[index].notify_all();
+        release.freed(index).next()
+    }
+
+    fn give_up<R: Wait>(&self, rt: &R, pending: Pending) -> Refused {
+        let mut guard = self.desk.lock(rt);
+        let desk = &mut *guard;
+        desk.give_up(pending)
+    }
+}
+
+/// One for each shard.
+fn new_bells() -> [Condvar; SHARDS] {
+    [
+        Condvar::new(),
+        Condvar::new(),
+        Condvar::new(),
+        Condvar::new(),
+        Condvar::new(),
+        Condvar::new(),
+        Condvar::new(),
+        Condvar::new(),
+        Condvar::new(),
+        Condvar::new(),
+        Condvar::new(),
+        Condvar::new(),
+        Condvar::new(),
+        Condvar::new(),
+        Condvar::new(),
+        Condvar::new(),
+    ]
+}
+
+/// Each shard under a lock of its own.
+fn lock_all(shards: [Shard; SHARDS]) -> [Mutex<Shard>; SHARDS] {
+    let [a, b, c, d, e, f, g, h, i, j, k, l, m, n, o, p] = shards;
+    [
+        Mutex::new(a),
+        Mutex::new(b),
+        Mutex::new(c),
+        Mutex::new(d),
+        Mutex::new(e),
+        Mutex::new(f),
+        Mutex::new(g),
+        Mutex::new(h),
+        Mutex::new(i),
+        Mutex::new(j),
+        Mutex::new(k),
+        Mutex::new(l),
+        Mutex::new(m),
+        Mutex::new(n),
+        Mutex::new(o),
+        Mutex::new(p),
+    ]
+}

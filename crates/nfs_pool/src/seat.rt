@@ -1,0 +1,96 @@
+//! Who makes calls.
+
+ghost use Rattle.std.specs.Prelude.{◌≡◌, ◌+◌, ◌≤◌, [], length, vec_capacity};
+ghost use Rattle.nfs_pool.specs.Eras.{AreNew, receipts_count};
+
+use nfs_engine::Receipt;
+use std::alloc::Global;
+use std::marker::Model;
+use std::sync::ledger::{Ledger, Share};
+
+/// What one caller has: a part of the pool's ledger, and a receipt of each of its calls of the era that was executed. A
+/// clause sees it as its receipts.
+#[derive(Drop)]
+pub struct Seat<L: Ledger> {
+    /// Of which shard its new numbers are.
+    pub(crate) shard: usize,
+    pub(crate) share: Share<L>,
+    pub(crate) receipts: Vec<Receipt>,
+    /// The number of its last receipt.
+    pub(crate) last: u64,
+}
+
+impl<L: Ledger> Model for Seat<L> {
+    ghost use Rattle.nfs_pool.specs.Seats.{IsSeat, SeatValue};
+
+    ghost Value = { SeatValue };
+
+    ghost view = { λ s. record { shard = s.shard; receipts = s.receipts.items; last = s.last } };
+
+    ghost invariant = { λ s. IsSeat
+        (record { shard = s.shard; receipts = s.receipts.items; last = s.last }) s.share.parts s.share.amount };
+}
+
+impl<L: Ledger> Seat<L> {
+    /// A seat with one part of the ledger, and no receipt.
+    pub(crate) fn new(alloc: Global, number: usize, share: Share<L>) -> Seat<L>
+        requires part { share.parts ≡ 1 }
+        requires none { share.amount ≡ 0 }
+        ensures { result.receipts ≡ [] }
+    {
+        Seat {
+            shard: number % 16,
+            share,
+            receipts: Vec::new(alloc),
+            last: 0,
+        }
+    }
+
+    /// Of its calls of the era that were executed, the oldest first.
+    pub fn receipts(&self) -> &[Receipt]
+        ensures { result.now ≡ self.now.receipts }
+    {
+        &self.receipts
+    }
+
+    /// Gives its part back.
+    pub(crate) fn close(self, all: &mut Share<L>)
+        ensures parts { all.new.parts ≡ all.old.parts + 1 }
+        ensures amount { all.new.amount ≡ all.old.amount + length self.receipts }
+    {
+        all.merge(self.share);
+    }
+}
+
+/// A seat for each part of the share, in this room.
+pub(crate) fn new_seats<L: Ledger>(
+    alloc: Global,
+    room: Vec<Seat<L>>,
+    all: Share<L>,
+    count: usize,
+) -> Vec<Seat<L>>
+    requires parts { all.parts ≡ count }
+    requires none { all.amount ≡ 0 }
+    requires empty { room.items ≡ [] }
+    requires room { count ≤ vec_capacity room }
+    ensures { AreNew result.items count }
+{
+    let mut seats = room;
+    let mut all = all;
+    for number in 0..count {
+        let seat = Seat::new(alloc, number, all.split_off(1, 0));
+        seats.push_reserved(seat);
+    }
+    seats
+}
+
+/// Gives the parts of these seats back.
+pub(crate) fn close_all<L: Ledger>(seats: Vec<Seat<L>>, all: &mut Share<L>)
+    ensures parts { all.new.parts ≡ all.old.parts + length seats.items }
+    ensures amount { all.new.amount ≡ all.old.amount + receipts_count seats.items }
+{
+    let mut rest = seats.into_iter();
+    'seats: while let Some(seat) = rest.next() {
+        seat.close(all);
+    }
+}

@@ -1,0 +1,92 @@
+//! The steps of a call.
+
+ghost use Rattle.std.specs.Prelude.{◌≡◌, ◌+◌, ◌<◌, None, IfErr, IfOk, OnErr, OnOk};
+ghost use Rattle.nfs_objects.specs.Values.{seen_at};
+ghost use Rattle.nfs_engine.specs.Apart.{GetsNumber};
+ghost use Rattle.nfs_engine.specs.declared.release.Then.TheVariants as then;
+ghost use Rattle.nfs_pool.specs.Steps.{AdmitsFrom, IsGivenUp, IsMadeAbove, LeadsThere, TakesAny};
+
+use crate::gate::Gate;
+use crate::sent::{Unadmitted, Uncommitted};
+use nfs_engine::{
+    Admission, Arrival, Finished, Got, Next, Pending, Receipt, Refused, Release, ReserveError, Txn,
+};
+use nfs_objects::{Addr, Mode};
+use std::alloc::{AllocError, Global};
+use std::sync::Wait;
+use std::sync::ledger::{Ledger, Share};
+
+/// The steps of a call. A pool makes them in holds of its locks, and what is around a pool may count them. What a call
+/// reads is whatever stands there: only its commit tells whether that stands still.
+pub trait Steps<L: Ledger> {
+    /// Admits a record that came in.
+    ///
+    /// # Errors
+    ///
+    /// The era is full; or there is no memory, or no number.
+    fn admit<R: Wait>(
+        &self,
+        rt: &R,
+        alloc: Global,
+        arrival: Arrival,
+    ) -> Result<Admission, Unadmitted>
+        ensures { AdmitsFrom arrival result };
+
+    /// Takes an address, and reads what stands there. `inside` of the gate is called in the hold of its shard.
+    ///
+    /// # Errors
+    ///
+    /// There is no memory for it. Nothing is changed.
+    fn acquire<R: Wait, G: Gate>(
+        &self,
+        rt: &R,
+        alloc: Global,
+        gate: &G,
+        txn: &mut Txn,
+        address: Addr,
+        mode: Mode,
+    ) -> Result<Got, AllocError>
+        requires { seen_at txn.old.view.entries address ≡ None }
+        ensures { TakesAny txn.old txn.new address mode result };
+
+    /// Waits until nobody holds an address in a mode that excludes this one.
+    fn wait_for<R: Wait>(&self, rt: &R, address: Addr, mode: Mode);
+
+    /// Gets a new number of this shard. No where the call has to begin anew.
+    ///
+    /// # Errors
+    ///
+    /// There is no memory, or no generation. The call is as it was.
+    fn reserve<R: Wait>(&self, rt: &R, txn: &mut Txn, shard: usize) -> Result<bool, ReserveError>
+        requires { shard < 16 }
+        ensures { GetsNumber txn.old txn.new result };
+
+    /// Makes what is done the state, and counts one more receipt, under a number above this one.
+    ///
+    /// # Errors
+    ///
+    /// There is no memory or no number, or the call has to begin anew. It is handed back.
+    fn commit<R: Wait>(
+        &self,
+        rt: &R,
+        alloc: Global,
+        mine: &mut Share<L>,
+        last: u64,
+        finished: Finished,
+    ) -> Result<(Receipt, Release), Uncommitted>
+        requires { 0 < mine.old.parts }
+        ensures parts { mine.new.parts ≡ mine.old.parts }
+        ensures counted { OnOk result (mine.new.amount ≡ mine.old.amount + 1) }
+        ensures uncounted { OnErr result (mine.new.amount ≡ mine.old.amount) }
+        ensures receipt { IfOk result (λ r. IsMadeAbove last finished r.0) }
+        ensures over { IfOk result (λ r. r.1.after ≡ then.Ended) }
+        ensures back { IfErr result (λ u. u.finished ≡ finished) };
+
+    /// Lets go, in one shard, what a call that left still holds there.
+    fn release<R: Wait>(&self, rt: &R, release: Release) -> Next
+        ensures { LeadsThere release.after result };
+
+    /// The call is no longer in progress: it is not executed.
+    fn give_up<R: Wait>(&self, rt: &R, pending: Pending) -> Refused
+        ensures { IsGivenUp pending.received result };
+}
