@@ -2,11 +2,8 @@
 
 ghost use Rattle.std.specs.Prelude.{◌≡◌, false, replicate};
 ghost use Rattle.nfs_engine.specs.Calls.{pending_of};
-ghost use Rattle.nfs_engine.specs.Taking.{LetsGo};
 
 use crate::calls::{Pending, Txn};
-use crate::shard::Shard;
-use crate::taking::let_go;
 use nfs_objects::View;
 use std::marker::Model;
 
@@ -46,27 +43,6 @@ pub enum Next {
     Aborted(Pending),
     /// All is released. The call was executed.
     Ended,
-}
-
-impl Release {
-    /// What is left of a call that was executed, where these shards are free of it.
-    pub fn executed(id: u64, view: View, done: [bool; 16]) -> Release
-        ensures { result ≡ record { id = id; view = view; done = done; after = Then.Ended } }
-    {
-        Release {
-            id,
-            view,
-            done,
-            after: Then::Ended,
-        }
-    }
-
-    /// Lets go, in the shard of this index, what the call still holds there.
-    pub fn let_go(&self, shard: &mut Shard, index: usize)
-        ensures { LetsGo shard.old shard.new index self.now.id self.now.view.entries }
-    {
-        let_go(shard, index, self.id, &self.view);
-    }
 }
 
 impl Txn {

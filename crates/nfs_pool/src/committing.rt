@@ -5,7 +5,7 @@ ghost use Rattle.nfs_pool.specs.Steps.{IsMadeAbove};
 
 use crate::pool::Pool;
 use crate::sent::{Reason, Uncommitted};
-use nfs_engine::{Committed, Finished, SHARDS, Shard, let_go, shard_index};
+use nfs_engine::{Committed, Finished, SHARDS, Shard, shard_index};
 use nfs_objects::Write;
 use std::alloc::Global;
 use std::sync::Wait;
@@ -46,9 +46,10 @@ impl<L: Ledger> Pool<L> {
                 reason: Reason::Stale,
             });
         }
+        let id = finished.id();
         match self.commit_from(rt, alloc, mine, last, finished, written, index + 1) {
             Ok(committed) => {
-                let committed = settle(shard, index, committed);
+                let committed = settle(shard, index, id, committed);
                 self.locks.released[index].notify_all();
                 Ok(committed)
             }
@@ -90,13 +91,12 @@ fn may_write(shard: &Shard, index: usize, finished: &Finished) -> bool {
 }
 
 /// Makes what was written in this shard, and lets go what the call has read there.
-fn settle(shard: &mut Shard, index: usize, committed: Committed) -> Committed
+fn settle(shard: &mut Shard, index: usize, id: u64, committed: Committed) -> Committed
     ensures receipt { result.receipt ≡ committed.receipt }
 {
     let Committed {
         receipt,
-        id,
-        view,
+        release,
         mut writes,
     } = committed;
     for place in 0..writes.len() {
@@ -107,11 +107,9 @@ fn settle(shard: &mut Shard, index: usize, committed: Committed) -> Committed
             shard.fill(address, object);
         }
     }
-    let_go(shard, index, id, &view);
     Committed {
         receipt,
-        id,
-        view,
+        release: release.let_go_in(shard),
         writes,
     }
 }

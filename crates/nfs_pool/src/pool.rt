@@ -133,7 +133,7 @@ impl<L: Ledger> Steps<L> for Pool<L> {
         let free = self.locks.released[index].wait_while(
             rt,
             guard,
-            |shard| shard.is_taken(address, mode),
+            |shard| shard.excluder(address, mode).is_some(),
         );
         drop(free);
     }
@@ -156,12 +156,11 @@ impl<L: Ledger> Steps<L> for Pool<L> {
             Ok(committed) => {
                 let Committed {
                     receipt,
-                    id,
-                    view,
+                    release,
                     writes,
                 } = committed;
                 drop(writes);
-                Ok((receipt, Release::executed(id, view, written)))
+                Ok((receipt, release))
             }
             Err(uncommitted) => Err(uncommitted),
         }
@@ -169,14 +168,14 @@ impl<L: Ledger> Steps<L> for Pool<L> {
 
     fn release<R: Wait>(&self, rt: &R, release: Release) -> Next {
         let Some(index) = release.next_shard() else {
-            return release.ended();
+            return release.next();
         };
-        {
+        let next = {
             let mut guard = self.locks.shards[index].lock(rt);
-            release.let_go(&mut *guard, index);
-        }
+            release.release_in(&mut *guard)
+        };
         self.locks.released[index].notify_all();
-        release.freed(index).next()
+        next
     }
 
     fn give_up<R: Wait>(&self, rt: &R, pending: Pending) -> Refused {
