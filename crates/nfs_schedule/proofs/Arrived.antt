@@ -216,7 +216,7 @@ unanswered_answered received (answers.Early faulted) is = absurd is
 unanswered_answered received (answers.Unanswered unanswered) is = is
 
 -- what came in of a record
-abbrev arrived : Arrival → Received
+abbrev pub arrived : Arrival → Received
 arrived (FromHost received) = received
 
 -- ---- the oldest arrival

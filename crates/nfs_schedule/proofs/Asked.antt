@@ -7,19 +7,20 @@ use Rattle.nfs_machine.specs.Handles.{handle_of}
 use Rattle.nfs_machine.specs.declared.calls.Call.{Call}
 use Rattle.nfs_machine.specs.declared.context.Ctx.{Ctx}
 use Rattle.nfs_machine.specs.declared.handle.Handle.{Handle}
-use Rattle.nfs_objects.proofs.Seen.{is_addr-refl}
+use Rattle.nfs_objects.proofs.Seen.{all-map, is_addr-refl}
 use Rattle.nfs_objects.specs.Asks.{Asks, EachOnce, MayAsk}
 use Rattle.nfs_objects.specs.Attempt.{AsksFirst, Attempts, IsAsked, first_wanted, object_wanted, unless_seen}
 use Rattle.nfs_objects.specs.Bound.{held}
 use Rattle.nfs_objects.specs.Calls.{handles_of, is_null}
 use Rattle.nfs_objects.specs.Modes.{mode_at, modes_of}
-use Rattle.nfs_objects.specs.Values.{ModesValue, Seen, ViewValue, is_addr, seen_at}
+use Rattle.nfs_objects.specs.Values.{Seen, ViewValue, is_addr, seen_at}
 use Rattle.nfs_objects.specs.declared.address.Addr.{Addr}
 use Rattle.nfs_objects.specs.declared.address.Addr.TheVariants.{Exports, Inode}
 use Rattle.nfs_objects.specs.declared.change.Change.{Change}
 use Rattle.nfs_objects.specs.declared.change.Outcome.{Outcome}
 use Rattle.nfs_objects.specs.declared.change.Outcome.TheVariants.{Fresh, Done}
 use Rattle.nfs_objects.specs.declared.modes.Mode.{Mode}
+use Rattle.nfs_schedule.proofs.Grown.{front_once}
 use Rattle.nfs_schedule.specs.Asking.{Agree, HasReadFirst, IsRead, first_object, read_first}
 
 -- ---- lists that agree
@@ -163,21 +164,6 @@ unseen_all (e ∷ es) asked unseen once before = (
     all_apart [] l have all = asked_apart l all
     all_apart (x ∷ xs) l have all = (have.0, all_apart xs l have.1 all)
 
-unseen_of : (modes : ModesValue) (named : List Addr) (v : ViewValue) (asked : List (Addr × Mode)) →
-    AllByRecursion (MayAsk modes named v) asked →
-    AllByRecursion (λ (a : Addr × Mode). seen_at v.entries a.0 ≡ None) asked
-unseen_of modes named v [] all = tt
-unseen_of modes named v (a ∷ asked) all = (all.0.unseen, unseen_of modes named v asked all.1)
-
-front_every : {X : Type 0} (P : X → Type 0) (xs ys : List X) → AllByRecursion P (xs ++ ys) → AllByRecursion P xs
-front_every P [] ys all = tt
-front_every P (x ∷ xs) ys all = (all.0, front_every P xs ys all.1)
-
-front_each : (xs ys : List (Addr × Mode)) → EachOnce (xs ++ ys) → EachOnce xs
-front_each [] ys once = tt
-front_each (x ∷ xs) ys once =
-    (front_every (λ (b : Addr × Mode). is_addr x.0 b.0 ≡ false) xs ys once.0, front_each xs ys once.1)
-
 abbrev places_in : List (Addr × Mode) → List Addr
 places_in l = map (λ (a : Addr × Mode). a.0) l
 
@@ -197,7 +183,9 @@ pub read_asked : (call : Call) (named : List Addr) (v : ViewValue) (asked : List
     [ None ↦ Unit {0} | Some a ↦ asked ≡ (a, mode_at (modes_of call) v a) ∷ [] ] → IsRead call v.entries asked
 read_asked call named v asked r asks first = record {
   once =
-      unseen_all v.entries asked (unseen_of (modes_of call) named v asked asks.each) asks.once
+      unseen_all v.entries asked
+      (all-map (MayAsk (modes_of call) named v) (λ (a : Addr × Mode). seen_at v.entries a.0 ≡ None)
+      (λ a may. may.unseen) asked asks.each) asks.once
       (subst EachOnce (append-nil (held v.entries)) r.once);
   order =
       subst (λ l. Agree (read_first call) l) (sym (placed v.entries asked))
@@ -221,7 +209,7 @@ pub read_left : (call : Call) (entries : List Seen) (left : List (Addr × Mode))
     IsRead call entries []
 read_left call entries left r =
     let all = append-nil (held entries) in record {
-      once = subst EachOnce (sym all) (front_each (held entries) left r.once);
+      once = subst EachOnce (sym all) (front_once (held entries) left r.once);
       order =
           subst (λ l. Agree (read_first call) (places_in l)) (sym all)
           (agree_front (read_first call) (places_in (held entries)) (places_in left)

@@ -46,7 +46,7 @@ pub front_all : {X : Type 0} (P : X → Type 0) (xs ys : List X) → AllByRecurs
 front_all P [] ys all = tt
 front_all P (x ∷ xs) ys all = (all.0, front_all P xs ys all.1)
 
-front_once : (xs ys : List (Addr × Mode)) → EachOnce (xs ++ ys) → EachOnce xs
+pub front_once : (xs ys : List (Addr × Mode)) → EachOnce (xs ++ ys) → EachOnce xs
 front_once [] ys once = tt
 front_once (x ∷ xs) ys once =
     (front_all (λ (b : Addr × Mode). is_addr x.0 b.0 ≡ false) xs ys once.0, front_once xs ys once.1)

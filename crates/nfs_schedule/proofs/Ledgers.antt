@@ -11,7 +11,7 @@ use Rattle.std.proofs.lemmas.List.Elements.{filter_map-append}
 use Rattle.nfs_rpc.specs.Early.{call_of}
 use Rattle.side_wire.specs.declared.message.Message.{Message}
 use Rattle.nfs_machine.specs.RpcReplies.{success_message}
-use Rattle.nfs_machine.specs.Run.{Arrival, FromHost, Received, Record}
+use Rattle.nfs_machine.specs.Run.{Received, Record}
 use Rattle.nfs_machine.specs.declared.calls.Reply.{Reply}
 use Rattle.nfs_replies.specs.Replies.{RepliesValue}
 use Rattle.nfs_engine.specs.Arrivals.{received_value}
@@ -23,6 +23,7 @@ use Rattle.nfs_engine.specs.Repeats.{Keeps, origin_of}
 use Rattle.nfs_engine.specs.declared.journal.Receipt.{Receipt}
 use Rattle.nfs_engine.specs.declared.outbox.Posted.{Posted}
 use Rattle.nfs_engine.specs.declared.records.Era.{Era}
+use Rattle.nfs_schedule.proofs.Arrived.{arrived}
 use Rattle.nfs_schedule.proofs.Runs.{book_store, records_joined}
 use Rattle.nfs_schedule.specs.Accounts.{IsReplyTo, RepliesFollow, all_messages, all_records}
 use Rattle.nfs_schedule.specs.Accounts.{last_number, receipt_of, receipts_of, recorded}
@@ -152,10 +153,6 @@ kept_adds e f given none same follow =
     (ap (λ (b : BookValue). b.outbox) same)
     (subst (λ (r : RepliesValue). RepliesFollow e.book.replies given r) (sym (ap (λ (b : BookValue). b.replies) same))
     follow)
-
--- what came in of a record
-abbrev arrived : Arrival → Received
-arrived (FromHost received) = received
 
 module _ (e f : EngineValue) (done : FinishedValue) (receipt : Receipt) (x : Executes e f done receipt)
     (called : IsCalled done.received done.xid done.done.call done.done.ctx) where
