@@ -6,7 +6,7 @@ use Rattle.nfs_machine.specs.RpcReplies.{success_message}
 use Rattle.nfs_replies.specs.Kept.ReplyEvent.{Repeated}
 use Rattle.nfs_replies.specs.Replies.{IsAfter}
 use Rattle.nfs_engine.specs.Arrivals.{ArrivalValue, received_value}
-use Rattle.nfs_engine.specs.Book.{Begins, Commits, Leads, Repeats, Steps, StillRuns}
+use Rattle.nfs_engine.specs.Book.{Begins, Commits, IsAdmitError, Leads, Repeats, Steps, StillRuns}
 use Rattle.nfs_engine.specs.Calls.{FinishedValue, IsCalled, PendingValue, TxnValue, again_of, txn_of}
 use Rattle.nfs_engine.specs.Commits.{IsReceipt}
 use Rattle.nfs_engine.specs.Engine.{EngineValue, FreesLast, FreesOne, IsAcquired, IsReleased, IsReserved, freed_more}
@@ -17,6 +17,7 @@ use Rattle.nfs_engine.specs.declared.arrival.Reading.TheVariants as readings
 use Rattle.nfs_engine.specs.declared.asking.Asked.{Asked}
 use Rattle.nfs_engine.specs.declared.journal.Receipt.{Receipt}
 use Rattle.nfs_engine.specs.declared.release.Then.TheVariants as then
+use Rattle.nfs_engine.specs.declared.running.AdmitError.{AdmitError}
 use Rattle.nfs_engine.specs.declared.shard.ReserveError.{ReserveError}
 use Rattle.nfs_engine.specs.declared.taking.Got.TheVariants as got
 use Rattle.nfs_objects.specs.declared.address.Addr.{Addr}
@@ -72,7 +73,7 @@ Effect e f answer = KeepsStore e f
 
 -- ---- the step
 -- The oldest arrival: its call begins; or it is a repeat, which has the reply that is kept, or none while its call is
--- in progress; or it is refused, or it has a fault.
+-- in progress; or it has a fault; or it is refused, since it wants memory, or no number is left for it.
 abbrev pub Admits : EngineValue → EngineValue → ArrivalValue → Worker → Option Answer → Type 0
 Admits e f a (Trying t) None = Begins e.book f.book a t
 Admits e f a Idle (Some (answers.Repeated kept)) = Repeats e.book f.book a kept × (f.shards ≡ e.shards)
@@ -81,7 +82,7 @@ Admits e f a Idle (Some (answers.Unanswered received)) = StillRuns e.book f.book
 Admits e f a Idle (Some (answers.Early faulted)) = (a.reading ≡ readings.Faulted faulted.answer) ×
     (received_value faulted.received ≡ a.received) × (f ≡ e)
 Admits e f a Idle (Some answer) = (asked : Asked) × (a.reading ≡ readings.Asks asked) ×
-    IsRefused a.received asked answer × (f ≡ e)
+    IsRefused a.received asked answer × (f ≡ e) × (error : AdmitError) × IsAdmitError e.book a error
 Admits e f a next answer = ⊥
 
 -- a record that asks a call

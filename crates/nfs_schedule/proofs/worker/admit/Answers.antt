@@ -1,3 +1,4 @@
+use Rattle.nfs_schedule.proofs.Refusing.{refused_so}
 use Rattle.nfs_schedule.proofs.Steps.{begun, left_alone, left_unanswered, repeated}
 use Rattle.nfs_schedule.proofs.worker.admit.Goals as goal
 
@@ -29,3 +30,7 @@ returns-in-Ok-Running-clause-admits c =
     let lives = rw c.in-Ok-Running.field-0-is at c.in-Ok-Running.ensures.lives in
     let unanswered = rw c.in-Ok-Running.field-0-is at c.leave.ensures in
     left_unanswered _ _ _ _ _ admits lives unanswered
+
+pub returns-in-Err-clause-admits : goal.returns-in-Err-clause-admits
+returns-in-Err-clause-admits c =
+    refused_so _ _ _ _ _ _ c.in-Err.ensures.admits c.in-Err.ensures.err c.refuse_arrival.ensures
