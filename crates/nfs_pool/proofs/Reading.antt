@@ -6,6 +6,7 @@ use Rattle.nfs_objects.proofs.Suiting.{suits-wider}
 use Rattle.nfs_objects.specs.Asks.{Asks, EachOnce, MayAsk}
 use Rattle.nfs_objects.specs.Attempt.{Attempts}
 use Rattle.nfs_objects.specs.Calls.{named_by}
+use Rattle.nfs_objects.specs.Fits.{vacant}
 use Rattle.nfs_objects.specs.Modes.{Suits, covers, mode_at, modes_of, only_reads}
 use Rattle.nfs_objects.specs.Rooms.{with_entry, with_number}
 use Rattle.nfs_objects.specs.Values.{ModesValue, Seen, ViewValue, is_addr, seen_at}
@@ -22,7 +23,6 @@ use Rattle.nfs_machine.specs.declared.handle.Handle.{Handle}
 use Rattle.std.specs.declared.vec.Vec.{Vec}
 use Rattle.std.specs.declared.alloc.Global.{Global}
 use Rattle.nfs_engine.specs.Calls.{TxnValue}
-use Rattle.nfs_schedule.proofs.Filling.{number_grows}
 use Rattle.nfs_schedule.proofs.Foreseeing.{foreseen_by}
 use Rattle.nfs_schedule.specs.Foreseen.{asked_by, foreseen}
 use Rattle.nfs_pool.specs.Passes.{IsSuited, Reads, ReadsOn, Takes, asked_of}
@@ -118,17 +118,17 @@ takes_all initial view asked k h t =
 module _ (named call : Call) (ctx : Ctx) (was view : ViewValue) (outcome : Outcome) (asked : Vec (Addr × Mode) Global)
     (list : List (Addr × Mode)) (attempts : Attempts named ctx was outcome) (need : outcome ≡ Need asked)
     (called : named ≡ call) (seen : was ≡ view) (listed : list ≡ asked.items) where
-  asks : Asks (modes_of call) (named_by call) view list
+  asks : Asks (modes_of call) (named_by call view) view list
   asks = rw (listed, sym called, sym seen)
-      (let asked : Asks (modes_of named) (named_by named) was asked.items =
+      (let asked : Asks (modes_of named) (named_by named was) was asked.items =
       subst (λ (o : Outcome). Attempts named ctx was o) need attempts in asked)
 
   pub still_suits : (new : ViewValue) → Suits (modes_of call) view → Takes view new list → Suits (modes_of call) new
   still_suits new suits t =
       subst (λ (w : ViewValue). Suits (modes_of call) w) (sym t.is)
       (suits-wider view t.taken view.reserved (modes_of call) suits
-      (all-suit (modes_of call) (named_by call) view t.taken
-      (subst (λ (xs : List (Addr × Mode)). AllByRecursion (MayAsk (modes_of call) (named_by call) view) xs)
+      (all-suit (modes_of call) (named_by call view) view t.taken
+      (subst (λ (xs : List (Addr × Mode)). AllByRecursion (MayAsk (modes_of call) (named_by call view) view) xs)
       (sym t.as_asked) asks.each)))
 
 -- ---- a call that reads on
@@ -141,12 +141,19 @@ reads_twice a b c r is suits = record {
   suited = subst (λ (k : Call). Suits (modes_of k) c.view) (sym (ap (λ (t : TxnValue). t.call) is)) suits;
 }
 
+-- a view with one number more suits still: the number is held alone
+number_suits : (call : Call) (view new : ViewValue) (n : Reserved) → Suits (modes_of call) view →
+    new ≡ with_number view n → Suits (modes_of call) new
+number_suits call view new n suits is =
+    subst (λ (w : ViewValue). Suits (modes_of call) w) (sym is)
+    (suits-wider view (vacant n ∷ []) (view.reserved ++ n ∷ []) (modes_of call) suits (refl, tt))
+
 pub number_reads : (a b c : TxnValue) → ReadsOn a b →
     ((n : Reserved) × (c ≡ record b { view = with_number b.view n })) → ReadsOn a c
 number_reads a b c r g =
     let seen : c.view ≡ with_number b.view g.0 = ap (λ (t : TxnValue). t.view) g.1 in
     reads_twice a b c r (g.1 ∙ ap (λ (v : ViewValue). record b { view = v }) (sym seen))
-    (number_grows b.call b.view c.view g.0 r.suited seen).suits
+    (number_suits b.call b.view c.view g.0 r.suited seen)
 
 -- ---- what is read before the first attempt
 covers_own : (mode : Mode) (t : Bool) → covers mode (cond t Shared mode) ≡ true

@@ -1,6 +1,7 @@
 //! The commit of a call, in the holds of the shards that it writes.
 
 ghost use Rattle.std.specs.Prelude.{◌≡◌, ◌+◌, ◌<◌, ◌≤◌, IfErr, IfOk, OnErr, OnOk};
+ghost use Rattle.nfs_engine.specs.declared.release.Then.TheVariants as then;
 ghost use Rattle.nfs_pool.specs.Steps.{IsMadeAbove};
 
 use crate::pool::Pool;
@@ -30,6 +31,7 @@ impl<L: Ledger> Pool<L> {
         ensures counted { OnOk result (mine.new.amount ≡ mine.old.amount + 1) }
         ensures uncounted { OnErr result (mine.new.amount ≡ mine.old.amount) }
         ensures receipt { IfOk result (λ c. IsMadeAbove last finished c.receipt) }
+        ensures over { IfOk result (λ c. c.release.after ≡ then.Ended) }
         ensures back { IfErr result (λ u. u.finished ≡ finished) }
     {
         let index = next_written(written, index);
@@ -93,6 +95,7 @@ fn may_write(shard: &Shard, index: usize, finished: &Finished) -> bool {
 /// Makes what was written in this shard, and lets go what the call has read there.
 fn settle(shard: &mut Shard, index: usize, id: u64, committed: Committed) -> Committed
     ensures receipt { result.receipt ≡ committed.receipt }
+    ensures over { result.release.after ≡ committed.release.after }
 {
     let Committed {
         receipt,

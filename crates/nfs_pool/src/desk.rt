@@ -3,6 +3,7 @@
 ghost use Rattle.std.specs.Prelude.{◌≡◌, ◌+◌, ◌<◌, [], IfErr, IfOk, OnErr, OnOk, length};
 ghost use Rattle.nfs_engine.specs.Book.{Commits, GivesUp, IsRun, Rebases, TakesEra, TakesMessage};
 ghost use Rattle.nfs_engine.specs.Commits.{Leaves};
+ghost use Rattle.nfs_engine.specs.declared.release.Then.TheVariants as then;
 ghost use Rattle.nfs_pool.specs.Steps.{AdmitsUnlessFull, IsMadeAbove};
 
 use crate::sent::{Reason, Unadmitted, Uncommitted};
@@ -92,6 +93,7 @@ impl<L: Ledger> Desk<L> {
         ensures commits { OnOk result (Commits self.old.book self.new.book finished) }
         ensures receipt { IfOk result (λ c. IsMadeAbove last finished c.receipt) }
         ensures leaves { IfOk result (Leaves finished) }
+        ensures over { IfOk result (λ c. c.release.after ≡ then.Ended) }
         ensures back { IfErr result (λ u. u.finished ≡ finished) }
         ensures same { OnErr result (self.new.book ≡ self.old.book) }
     {

@@ -10,7 +10,7 @@ attempt-requires-clause-built g c = subst IsBuilt (sym c.call.ensures) (called_b
 
 pub acquire_all-requires-clause-unseen : goal.acquire_all-requires-clause-unseen
 acquire_all-requires-clause-unseen g c =
-    asked_unseen _ _ _ _ _ _ _ _ c.in-Ok-Need.ensures c.in-Ok-Need.field-0-is c.call.ensures c.view.ensures
+    asked_unseen _ _ _ _ _ _ _ _ c.in-Ok-Need.ensures.attempts c.in-Ok-Need.field-0-is c.call.ensures c.view.ensures
     c.deref.ensures.value
 
 pub returns-in_err-acquire_all-in-Ok-Need-clause-call : goal.returns-in_err-acquire_all-in-Ok-Need-clause-call
@@ -20,7 +20,7 @@ returns-in_err-acquire_all-in-Ok-Need-clause-call g c =
 pub rounds-preserved-in-Ok-Need : goal.rounds-preserved-in-Ok-Need
 rounds-preserved-in-Ok-Need g c =
     reads_twice c.args.txn.now c.rounds.txn c.acquire_all.new.txn c.rounds.invariant c.acquire_all.ensures.call
-    (still_suits _ _ _ _ _ _ _ _ c.in-Ok-Need.ensures c.in-Ok-Need.field-0-is c.call.ensures c.view.ensures
+    (still_suits _ _ _ _ _ _ _ _ c.in-Ok-Need.ensures.attempts c.in-Ok-Need.field-0-is c.call.ensures c.view.ensures
     c.deref.ensures.value _ c.rounds.invariant.suited c.in_ok-acquire_all-in-Ok-Need.ensures.taken)
 
 pub rounds-preserved : goal.rounds-preserved
