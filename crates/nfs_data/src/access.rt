@@ -8,7 +8,7 @@ ghost use Rattle.nfs_machine.specs.Checks.{is_writable};
 ghost use Rattle.nfs_machine.specs.Permission.{class_bits, may, reads, runs};
 ghost use Rattle.nfs_machine.specs.State.{Content, Socket};
 ghost use Rattle.nfs_machine.specs.declared.calls.Call.TheVariants as calls;
-ghost use Rattle.nfs_objects.specs.Attempt.{Ends, EndsFirst};
+ghost use Rattle.nfs_objects.specs.Attempt.{EndsCall, EndsFirst};
 ghost use Rattle.nfs_objects.specs.Begins.{Begins};
 ghost use Rattle.nfs_objects.specs.Knows.{Knows};
 ghost use Rattle.nfs_objects.specs.Only.{EndsAtOnce, EndsFirstOnly};
@@ -39,7 +39,7 @@ const EXECUTE: u32 = 32;
 /// Tries ACCESS.
 pub(crate) fn attempt(draft: Draft<'_>, arguments: &AccessArguments) -> Result<Change, Halt>
     requires { Begins (calls.Nfs (NfsCall.Access arguments.now)) draft }
-    ensures ends { Ends (calls.Nfs (NfsCall.Access arguments.now)) draft.entry.ctx draft.entry.view result }
+    ensures ends { EndsCall (calls.Nfs (NfsCall.Access arguments.now)) draft.entry.ctx draft.entry.view result }
     ensures first { EndsFirst (calls.Nfs (NfsCall.Access arguments.now)) draft.entry.view result }
     ensures only { EndsFirstOnly (calls.Nfs (NfsCall.Access arguments.now)) draft.entry.view result }
     ensures at_once { EndsAtOnce (calls.Nfs (NfsCall.Access arguments.now)) draft.entry.view result }

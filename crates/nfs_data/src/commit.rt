@@ -6,7 +6,7 @@ ghost use Rattle.nfs_machine.specs.Checks.{bytes_in};
 ghost use Rattle.nfs_machine.specs.DataSteps.{verifier_of};
 ghost use Rattle.nfs_machine.specs.State.{Content};
 ghost use Rattle.nfs_machine.specs.declared.calls.Call.TheVariants as calls;
-ghost use Rattle.nfs_objects.specs.Attempt.{Ends, EndsFirst};
+ghost use Rattle.nfs_objects.specs.Attempt.{EndsCall, EndsFirst};
 ghost use Rattle.nfs_objects.specs.Begins.{Begins};
 ghost use Rattle.nfs_objects.specs.Only.{EndsAtOnce, EndsFirstOnly};
 
@@ -19,7 +19,7 @@ use nfs_wire::{CommitArguments, CommitReply, NfsCall, NfsReply, NfsStatus, Verif
 /// Tries COMMIT.
 pub(crate) fn attempt(draft: Draft<'_>, arguments: &CommitArguments) -> Result<Change, Halt>
     requires { Begins (calls.Nfs (NfsCall.Commit arguments.now)) draft }
-    ensures ends { Ends (calls.Nfs (NfsCall.Commit arguments.now)) draft.entry.ctx draft.entry.view result }
+    ensures ends { EndsCall (calls.Nfs (NfsCall.Commit arguments.now)) draft.entry.ctx draft.entry.view result }
     ensures first { EndsFirst (calls.Nfs (NfsCall.Commit arguments.now)) draft.entry.view result }
     ensures only { EndsFirstOnly (calls.Nfs (NfsCall.Commit arguments.now)) draft.entry.view result }
     ensures at_once { EndsAtOnce (calls.Nfs (NfsCall.Commit arguments.now)) draft.entry.view result }

@@ -3,7 +3,7 @@
 ghost use Rattle.std.specs.Prelude.{◌≡◌, Some, None};
 ghost use Rattle.nfs_machine.specs.FileSystemSteps.{file_system, path_limits};
 ghost use Rattle.nfs_machine.specs.declared.calls.Call.TheVariants as calls;
-ghost use Rattle.nfs_objects.specs.Attempt.{Ends, EndsFirst};
+ghost use Rattle.nfs_objects.specs.Attempt.{EndsCall, EndsFirst};
 ghost use Rattle.nfs_objects.specs.Begins.{Begins};
 ghost use Rattle.nfs_objects.specs.Only.{EndsAtOnce, EndsFirstOnly};
 
@@ -19,7 +19,7 @@ const PROPERTIES: u32 = 1 + 2 + 8 + 16;
 /// Tries FSINFO of this handle.
 pub(crate) fn fsinfo(draft: Draft<'_>, object: &Bytes) -> Result<Change, Halt>
     requires { Begins (calls.Nfs (NfsCall.Fsinfo object.now)) draft }
-    ensures ends { Ends (calls.Nfs (NfsCall.Fsinfo object.now)) draft.entry.ctx draft.entry.view result }
+    ensures ends { EndsCall (calls.Nfs (NfsCall.Fsinfo object.now)) draft.entry.ctx draft.entry.view result }
     ensures first { EndsFirst (calls.Nfs (NfsCall.Fsinfo object.now)) draft.entry.view result }
     ensures only { EndsFirstOnly (calls.Nfs (NfsCall.Fsinfo object.now)) draft.entry.view result }
     ensures at_once { EndsAtOnce (calls.Nfs (NfsCall.Fsinfo object.now)) draft.entry.view result }
@@ -60,7 +60,7 @@ fn file_system() -> FileSystem
 /// Tries PATHCONF of this handle.
 pub(crate) fn pathconf(draft: Draft<'_>, object: &Bytes) -> Result<Change, Halt>
     requires { Begins (calls.Nfs (NfsCall.Pathconf object.now)) draft }
-    ensures ends { Ends (calls.Nfs (NfsCall.Pathconf object.now)) draft.entry.ctx draft.entry.view result }
+    ensures ends { EndsCall (calls.Nfs (NfsCall.Pathconf object.now)) draft.entry.ctx draft.entry.view result }
     ensures first { EndsFirst (calls.Nfs (NfsCall.Pathconf object.now)) draft.entry.view result }
     ensures only { EndsFirstOnly (calls.Nfs (NfsCall.Pathconf object.now)) draft.entry.view result }
     ensures at_once { EndsAtOnce (calls.Nfs (NfsCall.Pathconf object.now)) draft.entry.view result }

@@ -5,7 +5,7 @@ ghost use Rattle.std.specs.FinMap.{values};
 ghost use Rattle.nfs_machine.specs.FileSystemSteps.{space_left};
 ghost use Rattle.nfs_machine.specs.State.{State};
 ghost use Rattle.nfs_machine.specs.declared.calls.Call.TheVariants as calls;
-ghost use Rattle.nfs_objects.specs.Attempt.{Ends, EndsFirst};
+ghost use Rattle.nfs_objects.specs.Attempt.{EndsCall, EndsFirst};
 ghost use Rattle.nfs_objects.specs.Begins.{Begins};
 ghost use Rattle.nfs_objects.specs.Sums.{export_usage};
 
@@ -21,7 +21,7 @@ const TOTAL_FILES: u64 = 4_294_967_295;
 /// Tries FSSTAT of this handle.
 pub(crate) fn attempt(draft: Draft<'_>, object: &Bytes) -> Result<Change, Halt>
     requires { Begins (calls.Nfs (NfsCall.Fsstat object.now)) draft }
-    ensures ends { Ends (calls.Nfs (NfsCall.Fsstat object.now)) draft.entry.ctx draft.entry.view result }
+    ensures ends { EndsCall (calls.Nfs (NfsCall.Fsstat object.now)) draft.entry.ctx draft.entry.view result }
     ensures first { EndsFirst (calls.Nfs (NfsCall.Fsstat object.now)) draft.entry.view result }
 {
     match named(&draft, object.as_slice())? {

@@ -2,7 +2,7 @@
 
 ghost use Rattle.std.specs.Prelude.{◌≡◌, Err, Ok};
 ghost use Rattle.nfs_machine.specs.declared.calls.Call.TheVariants as calls;
-ghost use Rattle.nfs_objects.specs.Attempt.{Ends, EndsFirst};
+ghost use Rattle.nfs_objects.specs.Attempt.{EndsCall, EndsFirst};
 ghost use Rattle.nfs_objects.specs.Begins.{Begins};
 ghost use Rattle.nfs_objects.specs.Only.{EndsAtOnce, EndsFirstOnly};
 
@@ -15,7 +15,7 @@ use nfs_wire::{Attributes, NfsCall, NfsReply, NfsStatus};
 /// Tries GETATTR of this handle.
 pub(crate) fn attempt(draft: Draft<'_>, object: &Bytes) -> Result<Change, Halt>
     requires { Begins (calls.Nfs (NfsCall.Getattr object.now)) draft }
-    ensures ends { Ends (calls.Nfs (NfsCall.Getattr object.now)) draft.entry.ctx draft.entry.view result }
+    ensures ends { EndsCall (calls.Nfs (NfsCall.Getattr object.now)) draft.entry.ctx draft.entry.view result }
     ensures first { EndsFirst (calls.Nfs (NfsCall.Getattr object.now)) draft.entry.view result }
     ensures only { EndsFirstOnly (calls.Nfs (NfsCall.Getattr object.now)) draft.entry.view result }
     ensures at_once { EndsAtOnce (calls.Nfs (NfsCall.Getattr object.now)) draft.entry.view result }

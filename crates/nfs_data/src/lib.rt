@@ -7,7 +7,7 @@
 
 ghost use Rattle.std.specs.Prelude.{◌≡◌, true, IfOk};
 ghost use Rattle.nfs_machine.specs.declared.calls.Call.TheVariants as calls;
-ghost use Rattle.nfs_objects.specs.Attempt.{AsksFirst, Attempts, Ends, EndsFirst};
+ghost use Rattle.nfs_objects.specs.Attempt.{AsksFirst, Attempts, EndsCall, EndsFirst};
 ghost use Rattle.nfs_objects.specs.Begins.{Begins};
 ghost use Rattle.nfs_objects.specs.Modes.{Suits, modes_of};
 ghost use Rattle.nfs_objects.specs.Only.{AnswersAtOnce, AsksFirstOnly, EndsAtOnce, EndsFirstOnly};
@@ -48,7 +48,7 @@ pub fn attempt(alloc: Global, call: &NfsCall, ctx: &Ctx, view: &View) -> Result<
 fn ended<'a>(alloc: Global, call: &'a NfsCall, ctx: &'a Ctx, view: &'a View) -> Result<Change, Halt>
     requires data { is_data_call call.now ≡ true }
     requires suits { Suits (modes_of (calls.Nfs call.now)) view.now }
-    ensures ends { Ends (calls.Nfs call.now) ctx.now view.now result }
+    ensures ends { EndsCall (calls.Nfs call.now) ctx.now view.now result }
     ensures first { EndsFirst (calls.Nfs call.now) view.now result }
     ensures only { reads_attributes call.now ≡ true → EndsFirstOnly (calls.Nfs call.now) view.now result }
     ensures at_once { answers_at_once call.now ≡ true → EndsAtOnce (calls.Nfs call.now) view.now result }
@@ -92,7 +92,7 @@ fn ended<'a>(alloc: Global, call: &'a NfsCall, ctx: &'a Ctx, view: &'a View) -> 
 /// NULL does nothing (RFC 1813, 3.3.0).
 fn null(draft: Draft<'_>) -> Result<Change, Halt>
     requires { Begins (calls.Nfs NfsCall.Null) draft }
-    ensures ends { Ends (calls.Nfs NfsCall.Null) draft.entry.ctx draft.entry.view result }
+    ensures ends { EndsCall (calls.Nfs NfsCall.Null) draft.entry.ctx draft.entry.view result }
     ensures first { EndsFirst (calls.Nfs NfsCall.Null) draft.entry.view result }
     ensures only { EndsFirstOnly (calls.Nfs NfsCall.Null) draft.entry.view result }
     ensures at_once { EndsAtOnce (calls.Nfs NfsCall.Null) draft.entry.view result }

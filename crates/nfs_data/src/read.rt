@@ -5,7 +5,7 @@ ghost use Rattle.nfs_machine.specs.Attributes.{type_of};
 ghost use Rattle.nfs_machine.specs.DataSteps.{read_object};
 ghost use Rattle.nfs_machine.specs.State.{Content};
 ghost use Rattle.nfs_machine.specs.declared.calls.Call.TheVariants as calls;
-ghost use Rattle.nfs_objects.specs.Attempt.{Ends, EndsFirst};
+ghost use Rattle.nfs_objects.specs.Attempt.{EndsCall, EndsFirst};
 ghost use Rattle.nfs_objects.specs.Begins.{Begins};
 ghost use Rattle.nfs_objects.specs.Calls.{addresses_of};
 ghost use Rattle.nfs_objects.specs.Knows.{Knows};
@@ -22,7 +22,7 @@ use nfs_wire::{NfsCall, NfsReply, NfsStatus, ReadArguments, ReadData, ReadReply}
 /// Tries READ.
 pub(crate) fn attempt(draft: Draft<'_>, arguments: &ReadArguments) -> Result<Change, Halt>
     requires { Begins (calls.Nfs (NfsCall.Read arguments.now)) draft }
-    ensures ends { Ends (calls.Nfs (NfsCall.Read arguments.now)) draft.entry.ctx draft.entry.view result }
+    ensures ends { EndsCall (calls.Nfs (NfsCall.Read arguments.now)) draft.entry.ctx draft.entry.view result }
     ensures first { EndsFirst (calls.Nfs (NfsCall.Read arguments.now)) draft.entry.view result }
 {
     let (attributes, result) = match named(&draft, arguments.file.as_slice())? {

@@ -1,7 +1,7 @@
 //! READLINK: the text of a link (RFC 1813, 3.3.5).
 
 ghost use Rattle.nfs_machine.specs.declared.calls.Call.TheVariants as calls;
-ghost use Rattle.nfs_objects.specs.Attempt.{Ends, EndsFirst};
+ghost use Rattle.nfs_objects.specs.Attempt.{EndsCall, EndsFirst};
 ghost use Rattle.nfs_objects.specs.Begins.{Begins};
 
 use bytes::Bytes;
@@ -13,7 +13,7 @@ use nfs_wire::{NfsCall, NfsReply, ReadlinkReply};
 /// Tries READLINK of this handle.
 pub(crate) fn attempt(draft: Draft<'_>, object: &Bytes) -> Result<Change, Halt>
     requires { Begins (calls.Nfs (NfsCall.Readlink object.now)) draft }
-    ensures ends { Ends (calls.Nfs (NfsCall.Readlink object.now)) draft.entry.ctx draft.entry.view result }
+    ensures ends { EndsCall (calls.Nfs (NfsCall.Readlink object.now)) draft.entry.ctx draft.entry.view result }
     ensures first { EndsFirst (calls.Nfs (NfsCall.Readlink object.now)) draft.entry.view result }
 {
     let reply = match named(&draft, object.as_slice())? {

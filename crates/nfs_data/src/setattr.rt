@@ -8,7 +8,7 @@ ghost use Rattle.nfs_machine.specs.Permission.{ToWrite, is_member, may, mode_lim
 ghost use Rattle.nfs_machine.specs.State.{Content, Socket};
 ghost use Rattle.nfs_machine.specs.Times.{is_client_time, is_server_time, time_of};
 ghost use Rattle.nfs_machine.specs.declared.calls.Call.TheVariants as calls;
-ghost use Rattle.nfs_objects.specs.Attempt.{Ends, EndsFirst};
+ghost use Rattle.nfs_objects.specs.Attempt.{EndsCall, EndsFirst};
 ghost use Rattle.nfs_objects.specs.Begins.{Begins};
 ghost use Rattle.nfs_objects.specs.Calls.{named_by};
 ghost use Rattle.nfs_objects.specs.Knows.{Does, Knows, Turns};
@@ -35,7 +35,7 @@ use nfs_wire::{
 /// Tries SETATTR.
 pub(crate) fn attempt(mut draft: Draft<'_>, arguments: &SetattrArguments) -> Result<Change, Halt>
     requires { Begins (calls.Nfs (NfsCall.Setattr arguments.now)) draft }
-    ensures ends { Ends (calls.Nfs (NfsCall.Setattr arguments.now)) draft.entry.ctx draft.entry.view result }
+    ensures ends { EndsCall (calls.Nfs (NfsCall.Setattr arguments.now)) draft.entry.ctx draft.entry.view result }
     ensures first { EndsFirst (calls.Nfs (NfsCall.Setattr arguments.now)) draft.entry.view result }
     ensures only { is_none arguments.now.attributes.size ≡ true →
         EndsFirstOnly (calls.Nfs (NfsCall.Setattr arguments.now)) draft.entry.view result }

@@ -6,7 +6,7 @@ ghost use Rattle.nfs_machine.specs.Data.{size_limit};
 ghost use Rattle.nfs_machine.specs.DataSteps.{write_count, write_object};
 ghost use Rattle.nfs_machine.specs.State.{Content};
 ghost use Rattle.nfs_machine.specs.declared.calls.Call.TheVariants as calls;
-ghost use Rattle.nfs_objects.specs.Attempt.{Ends, EndsFirst};
+ghost use Rattle.nfs_objects.specs.Attempt.{EndsCall, EndsFirst};
 ghost use Rattle.nfs_objects.specs.Begins.{Begins};
 ghost use Rattle.nfs_objects.specs.Calls.{named_by};
 ghost use Rattle.nfs_objects.specs.Knows.{Does, Knows};
@@ -25,7 +25,7 @@ use nfs_wire::{NfsCall, NfsReply, NfsStatus, Wcc, WriteArguments, WriteReply, Wr
 /// Tries WRITE.
 pub(crate) fn attempt(mut draft: Draft<'_>, arguments: &WriteArguments) -> Result<Change, Halt>
     requires { Begins (calls.Nfs (NfsCall.Write arguments.now)) draft }
-    ensures ends { Ends (calls.Nfs (NfsCall.Write arguments.now)) draft.entry.ctx draft.entry.view result }
+    ensures ends { EndsCall (calls.Nfs (NfsCall.Write arguments.now)) draft.entry.ctx draft.entry.view result }
     ensures first { EndsFirst (calls.Nfs (NfsCall.Write arguments.now)) draft.entry.view result }
 {
     let (wcc, result) = match named(&draft, arguments.file.as_slice())? {

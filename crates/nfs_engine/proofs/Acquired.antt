@@ -7,7 +7,7 @@ use Rattle.std.specs.Cmp.{unsigned_Decides}
 use Rattle.std.specs.List.{AllByRecursion}
 use Rattle.nfs_objects.proofs.Seen.{all-append, all-map, is_addr-same, seen-before, seen-last}
 use Rattle.nfs_objects.specs.Fits.{vacant}
-use Rattle.nfs_objects.specs.Rooms.{with_entry, with_number}
+use Rattle.nfs_objects.specs.Rooms.{with_seen, with_number}
 use Rattle.nfs_objects.specs.Values.{Seen, is_addr, seen_at}
 use Rattle.nfs_objects.specs.declared.address.Addr.{Addr}
 use Rattle.nfs_objects.specs.declared.address.Addr.TheVariants.{Inode}
@@ -73,7 +73,7 @@ module _ (book : BookValue) (old new : List ShardValue) (t : TxnValue) (turn : T
       only_in i (hold_so a (Some mode)) →
       i ≡ shard_of a → seen_at t.view.entries a ≡ None → o ≡ (store_in book).at a →
       Lives (record { book = book; shards = new })
-      (record t { view = with_entry t.view (record { address = a; mode = mode; object = o }) })
+      (record t { view = with_seen t.view (record { address = a; mode = mode; object = o }) })
   lives_with_one a mode o i is where_is unseen stands =
       let e : Seen = record { address = a; mode = mode; object = o } in
       record {

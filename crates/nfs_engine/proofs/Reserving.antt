@@ -14,7 +14,7 @@ use Rattle.nfs_engine.specs.declared.holders.Holders.TheVariants as holders
 use Rattle.nfs_engine.specs.declared.slot.Slot.{Slot}
 use Rattle.nfs_engine.specs.Found.{found}
 use Rattle.nfs_engine.specs.Holders.{hold_of}
-use Rattle.nfs_engine.specs.Numbers.{IsFree, Moves}
+use Rattle.nfs_engine.specs.Numbers.{IsFreeNumber, Moves}
 use Rattle.nfs_engine.specs.Shards.{IsSound, Reserves, ShardValue, SlotValue, empty_slot, hold_at, number_at}
 use Rattle.nfs_engine.specs.Shards.{numbered, shard_value, slot_at, slot_of, slot_value, slots_seen}
 use Rattle.nfs_engine.proofs.Found.{found-changed, found-lookup, same_address}
@@ -98,7 +98,7 @@ module _ {H : Type 0} (index next : ℕ) (numbers room now : Slab Slot) (others 
     (number id key : ℕ)
     (good : IsSound (shard_value index numbers.slots others.entries next))
     (moves : Moves (shard_value index numbers.slots others.entries 0) (shard_value index room.slots left.entries 0))
-    (free : IsFree index room left.entries number) (is_key : key ≡ room.vacant_key) (vacant : get room key ≡ None)
+    (free : IsFreeNumber index room left.entries number) (is_key : key ≡ room.vacant_key) (vacant : get room key ≡ None)
     (updates : Updates room now key (Some (record { object = None; holders = holders.One id }))) where
   abbrev before : ShardValue
   before = shard_value index numbers.slots others.entries next

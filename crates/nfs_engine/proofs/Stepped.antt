@@ -3,7 +3,7 @@ use Rattle.std.proofs.Common.{◌≡◌, ℕ, ◌<◌, ◌+◌, ◌==◌, true}
 use Rattle.std.proofs.Common.{false, cond, List}
 use Rattle.std.proofs.Common.{get_or, set, length, Option, Some, None, Result, Ok, Err, option_map, refl, sym}
 use Rattle.std.proofs.Common.{◌∙◌, ap, subst}
-use Rattle.nfs_objects.specs.Rooms.{with_entry, with_number}
+use Rattle.nfs_objects.specs.Rooms.{with_seen, with_number}
 use Rattle.nfs_objects.specs.Values.{Seen, ViewValue, seen_at}
 use Rattle.nfs_objects.specs.declared.address.Addr.{Addr}
 use Rattle.nfs_objects.specs.declared.address.Addr.TheVariants.{Inode}
@@ -90,7 +90,7 @@ module _ (book : BookValue) (shards : List ShardValue) (i : ℕ) (was s : ShardV
       (retakes_holds (shard_among shards i) s a t.id (Some mode)
       (subst (λ (x : ShardValue). Retakes x s a t.id (Some mode)) there takes.held)) in
       let same : u ≡ record t {
-        view = with_entry t.view (record
+        view = with_seen t.view (record
             { address = a; mode = mode; object = (slot_at (get_or shards i was) a).object });
       } =
       rest ∙ ap (λ (v : ViewValue). record t { view = v }) takes.seen in

@@ -114,8 +114,8 @@ pub record IsBook (b : BookValue) : Type 0 where
   pub unkept : NoneIsKept b.replies b.living
 
 -- from wherever the old records led to the old store, the new ones lead to the new store
-abbrev pub Leads : BookValue → BookValue → Type 0
-Leads old new = (base : State) → LeadsFrom base old → LeadsFrom base new
+abbrev pub LeadsTo : BookValue → BookValue → Type 0
+LeadsTo old new = (base : State) → LeadsFrom base old → LeadsFrom base new
 
 -- whatever state the store stood for, the call steps from it to one that the new store stands for
 abbrev pub Steps : BookValue → BookValue → DoneValue → Type 0
@@ -158,7 +158,7 @@ pub record IsUnknown (b : BookValue) (origin : Origin) : Type 0 where
   pub idle : IsInProgress b.living origin → ⊥
 
 -- the call begins; if it changes something, it is no repeat of what is kept or in progress
-pub record Begins (old new : BookValue) (a : ArrivalValue) (t : TxnValue) : Type 0 where
+pub record BeginsCall (old new : BookValue) (a : ArrivalValue) (t : TxnValue) : Type 0 where
   pub asked : Asked
   pub asks : a.reading ≡ readings.Asks asked
   pub txn : t ≡ new_txn old a asked t.key
@@ -191,7 +191,7 @@ pub record StillRuns (old new : BookValue) (a back : ArrivalValue) : Type 0 wher
 -- A record that asks a call begins, but a repeat of a call that changes something: it has the reply that is kept, or
 -- nothing while that call is in progress. A record with a fault has its answer.
 abbrev pub IsAdmitted : BookValue → BookValue → ArrivalValue → Admission → Type 0
-IsAdmitted old new a (admission.Begin txn) = Begins old new a txn
+IsAdmitted old new a (admission.Begin txn) = BeginsCall old new a txn
 IsAdmitted old new a (admission.Repeat kept) = Repeats old new a kept
 IsAdmitted old new a (admission.Running back) = StillRuns old new a back
 IsAdmitted old new a (admission.Early early) = (a.reading ≡ readings.Faulted early.answer) ×

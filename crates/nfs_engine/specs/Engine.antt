@@ -5,7 +5,7 @@ use Rattle.std.specs.Prelude.{Ok, Err, IsSome}
 use Rattle.std.specs.Prelude.{◌+◌, is_some, length, min, not, replicate, slice_index_or, slice_set}
 use Rattle.std.specs.List.{AllByRecursion}
 use Rattle.nfs_objects.specs.Fits.{Fits}
-use Rattle.nfs_objects.specs.Rooms.{with_entry, with_number}
+use Rattle.nfs_objects.specs.Rooms.{with_seen, with_number}
 use Rattle.nfs_objects.specs.Values.{Seen, held_at, seen_at, written_at}
 use Rattle.nfs_objects.specs.declared.address.Addr.{Addr}
 use Rattle.nfs_objects.specs.declared.address.Addr.TheVariants.{Inode}
@@ -172,7 +172,7 @@ CountsReserved old new which (Err error) = KeepsCounters old new
 abbrev pub IsAcquired : {E : Type 0} → EngineValue → (old new : TxnValue) → Addr → Mode → Result Got E →
     Type 0
 IsAcquired e old new a mode (Ok got.Yes) = new ≡ record old
-    { view = with_entry old.view (record { address = a; mode = mode; object = (store_in e.book).at a }) }
+    { view = with_seen old.view (record { address = a; mode = mode; object = (store_in e.book).at a }) }
 IsAcquired e old new a mode (Ok (got.Taken h)) =
     Excludes mode (slot_among e.shards a).holders h × (h ≢ old.id) × (new ≡ old)
 IsAcquired e old new a mode (Err error) = CanHold mode (slot_among e.shards a).holders × (new ≡ old)

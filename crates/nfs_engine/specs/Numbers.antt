@@ -17,7 +17,7 @@ pub record Moves (old new : ShardValue) : Type 0 where
   pub apart : IsApart old → IsApart new
 
 -- the slab has room at the key of this number, which has no slot in the map
-pub record IsFree (index : ℕ) (numbers : Slab Slot) (others : List (Addr × Slot)) (number : ℕ) : Type 0 where
+pub record IsFreeNumber (index : ℕ) (numbers : Slab Slot) (others : List (Addr × Slot)) (number : ℕ) : Type 0 where
   pub room : HasRoomFor numbers 1
   pub key : number ≡ number_at index numbers.vacant_key
   pub free : found (shard_value index numbers.slots others 0).others (Inode number) ≡ None

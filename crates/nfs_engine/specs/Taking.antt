@@ -2,7 +2,7 @@
 use Rattle.std.specs.Prelude.{◌≡◌, ◌≢◌, ℕ, ◌-◌, ◌^◌, ◌==◌, ◌&&◌, List, None, Some}
 use Rattle.std.specs.Prelude.{Result}
 use Rattle.std.specs.Prelude.{Ok, Err, if◌then◌else◌, is_some}
-use Rattle.nfs_objects.specs.Rooms.{with_entry, with_number}
+use Rattle.nfs_objects.specs.Rooms.{with_seen, with_number}
 use Rattle.nfs_objects.specs.Values.{Seen, ViewValue, held_at, seen_at}
 use Rattle.nfs_objects.specs.declared.address.Addr.{Addr}
 use Rattle.nfs_objects.specs.declared.modes.Mode.{Mode}
@@ -28,7 +28,7 @@ pub record Stays (old new : ShardView) : Type 0 where
 pub record TakesAddress (old new : ShardView) (a : Addr) (mode : Mode) (id : ℕ) : Type 0 where
   pub free : CanHold mode (slot_at old.shard a).holders
   pub held : Retakes old.shard new.shard a id (Some mode)
-  pub seen : new.view ≡ with_entry old.view
+  pub seen : new.view ≡ with_seen old.view
       (record { address = a; mode = mode; object = (slot_at old.shard a).object })
 
 -- taken; or somebody holds it in a mode that excludes, and nothing changed; or nobody does, and there was no memory

@@ -8,7 +8,7 @@ ghost use Rattle.slab.specs.Slab.{ContainsKey, Updates};
 ghost use Rattle.nfs_engine.specs.Found.{Changes, found};
 ghost use Rattle.nfs_engine.specs.Holders.{IsExcluder};
 ghost use Rattle.nfs_engine.specs.Locked.{IsLocked};
-ghost use Rattle.nfs_engine.specs.Numbers.{IsFree, Moves};
+ghost use Rattle.nfs_engine.specs.Numbers.{IsFreeNumber, Moves};
 ghost use Rattle.nfs_engine.specs.Shards.{Fills, IsHad, IsHeld, IsNew, IsReservedIn, Retakes, hold_at};
 ghost use Rattle.nfs_engine.specs.Shards.{key_in, number_at, numbered, shard_of, shard_value};
 ghost use Rattle.nfs_engine.specs.Shards.{slot_at, slot_value, slots_seen};
@@ -127,7 +127,7 @@ fn free_number(
     requires { index < 16 }
     ensures same { Moves (shard_value index numbers.old.slots others.old.entries 0)
         (shard_value index numbers.new.slots others.new.entries 0) }
-    ensures free { IfOk result (λ number. IsFree index numbers.new others.new.entries number) }
+    ensures free { IfOk result (λ number. IsFreeNumber index numbers.new others.new.entries number) }
 {
     'keys: loop {
         numbers.reserve(1)?;

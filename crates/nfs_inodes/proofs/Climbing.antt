@@ -20,7 +20,7 @@ use Rattle.nfs_machine.specs.State.{Entry, Living, State}
 use Rattle.nfs_machine.specs.WellFormed.{IsParent, Leads, WellFormed, is_root}
 use Rattle.nfs_objects.proofs.Exported.{object-stands}
 use Rattle.nfs_objects.proofs.Seen.{is_addr-same}
-use Rattle.nfs_objects.specs.Asks.{Lives}
+use Rattle.nfs_objects.specs.Asks.{IsThere}
 use Rattle.nfs_objects.specs.Knows.{Knows, Possible}
 use Rattle.nfs_objects.specs.Stands.{Kept, Represents}
 use Rattle.nfs_objects.specs.Store.{Store, with_writes}
@@ -194,7 +194,7 @@ module _ (depth : ℕ → ℕ) (n : ℕ) where
 
 -- ---- the way up
 pub record Climbs (d : DraftValue) (upper lower number steps : ℕ) : Type 0 where
-  pub lives : Lives d.view (addresses.Inode number)
+  pub lives : IsThere d.view (addresses.Inode number)
   pub directory : Knows d (λ k. is_living_directory (get k.state.objects number) ≡ true)
   pub same : Knows d (λ k. WellFormed k.state → IsWithin k.state upper lower ↔ IsWithin k.state upper number)
   -- each step read one more

@@ -8,7 +8,7 @@ use Rattle.nfs_wire.specs.declared.attributes.Time.{Time}
 use Rattle.nfs_machine.specs.Times.{time_of}
 use Rattle.nfs_objects.proofs.Knows.{Covers, among-behind, among-front, covers-among, covers-both, stops-wider}
 use Rattle.nfs_objects.proofs.Promised.{turns-both}
-use Rattle.nfs_objects.specs.Asks.{Lives}
+use Rattle.nfs_objects.specs.Asks.{IsThere}
 use Rattle.nfs_objects.specs.Calls.{addresses_of}
 use Rattle.nfs_objects.specs.Knows.{Turns}
 use Rattle.nfs_objects.specs.Stands.{Kept, exports_of, inode_in}
@@ -98,7 +98,7 @@ group-lives d n view named same counts = by (known_at d addresses.Exports) refl 
         Covers named view (group_at n i)
     there exports object some known None is = tt
     there exports object some known (Some i) is = (
-      inr (subst (λ v. Lives v (addresses.Usage i.export (group_of n))) same (counts i (record {
+      inr (subst (λ v. IsThere v (addresses.Usage i.export (group_of n))) same (counts i (record {
         exports = exports_of exports;
         living = record { object = exports; known = some; is = refl };
         object = object;
@@ -122,7 +122,7 @@ group-lives d n view named same counts = by (known_at d addresses.Exports) refl 
         (there exports object some known (inode_in (exports_of exports) object) refl))
 
 -- an object that lives may be counted anew
-pub counted-stops : (d : DraftValue) (n : ℕ) (halt : Halt) → Lives d.view (addresses.Inode n) → UsageLives d n →
+pub counted-stops : (d : DraftValue) (n : ℕ) (halt : Halt) → IsThere d.view (addresses.Inode n) → UsageLives d n →
     StopsAt d (counted_at d n) halt → StopsAt d [] halt
 counted-stops d n halt lives counts stops =
     stops-wider d.modes (counted_at d n) [] 0 d.view halt

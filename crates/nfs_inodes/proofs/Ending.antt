@@ -4,8 +4,8 @@ use Rattle.nfs_wire.specs.declared.status.NfsStatus.{NfsStatus}
 use Rattle.nfs_machine.specs.declared.calls.Call.{Call}
 use Rattle.nfs_objects.proofs.Knows.{Covers, among-alone, among-next, covers-among, names-exports, names-objects}
 use Rattle.nfs_objects.proofs.Knows.{stops-wider, stops-within}
-use Rattle.nfs_objects.specs.Asks.{Lives}
-use Rattle.nfs_objects.specs.Attempt.{Ends, Stops}
+use Rattle.nfs_objects.specs.Asks.{IsThere}
+use Rattle.nfs_objects.specs.Attempt.{EndsCall, StopsCall}
 use Rattle.nfs_objects.specs.Calls.{IsAmong, addresses_of, handles_of, named_by, new_numbers, objects_at}
 use Rattle.nfs_objects.specs.Knows.{Knows, ShowsExport}
 use Rattle.nfs_objects.specs.Values.{DraftValue, ViewValue}
@@ -18,22 +18,22 @@ use Rattle.nfs_inodes.specs.declared.found.Known.{Known}
 use Rattle.nfs_objects.specs.Begins.{Begins}
 
 module _ (d : DraftValue) (call : Call) (halt : Halt) (begins : Begins call d) where
-  pub halting : Stops d.modes (named_by call d.view) (new_numbers call d.view) d.view halt →
-      Ends call d.ctx d.view (Err halt)
+  pub halting : StopsCall d.modes (named_by call d.view) (new_numbers call d.view) d.view halt →
+      EndsCall call d.ctx d.view (Err halt)
   halting stops =
-      subst (λ modes. Stops modes (named_by call d.view) (new_numbers call d.view) d.view halt) begins.modes stops
+      subst (λ modes. StopsCall modes (named_by call d.view) (new_numbers call d.view) d.view halt) begins.modes stops
 
   -- it asks for addresses that the call names, or where something stands
   pub asking : (few : List Addr) → Covers (named_by call d.view) d.view few → StopsAt d few halt →
-      Ends call d.ctx d.view (Err halt)
+      EndsCall call d.ctx d.view (Err halt)
   asking few covers stops =
       halting (stops-wider d.modes few (named_by call d.view) (new_numbers call d.view) d.view halt covers stops)
 
-  pub reading : (x : Known) → Lives d.view (addresses.Inode x.number) →
-      StopsAt d (addresses_of d.view x.number) halt → Ends call d.ctx d.view (Err halt)
+  pub reading : (x : Known) → IsThere d.view (addresses.Inode x.number) →
+      StopsAt d (addresses_of d.view x.number) halt → EndsCall call d.ctx d.view (Err halt)
   reading x lives stops = asking (addresses_of d.view x.number) (inr lives, tt) stops
 
-  pub reading-exports : StopsAt d (addresses.Exports ∷ []) halt → Ends call d.ctx d.view (Err halt)
+  pub reading-exports : StopsAt d (addresses.Exports ∷ []) halt → EndsCall call d.ctx d.view (Err halt)
   reading-exports stops = asking (addresses.Exports ∷ []) (inl (names-exports call d.view), tt) stops
 
   -- a handle of the call
@@ -49,13 +49,13 @@ module _ (d : DraftValue) (call : Call) (halt : Halt) (begins : Begins call d) w
         among a (inl exports) = subst (λ b. IsAmong (named_by call d.view) b) exports (names-exports call d.view)
         among a (inr objects) = names-objects call d.view a (names a objects)
 
-    naming-any : StopsAt d (brought_by d.view bytes) halt → Ends call d.ctx d.view (Err halt)
+    naming-any : StopsAt d (brought_by d.view bytes) halt → EndsCall call d.ctx d.view (Err halt)
     naming-any stops = asking (brought_by d.view bytes) brings stops
 
     making-any : new_numbers call d.view ≡ 1 → StopsMaking d (brought_by d.view bytes) halt →
-        Ends call d.ctx d.view (Err halt)
+        EndsCall call d.ctx d.view (Err halt)
     making-any one stops =
-        halting (subst (λ n. Stops d.modes (named_by call d.view) n d.view halt) (sym one)
+        halting (subst (λ n. StopsCall d.modes (named_by call d.view) n d.view halt) (sym one)
         (stops-within d.modes (brought_by d.view bytes) (named_by call d.view) 1 d.view halt brings stops))
 
   first-names : (handle : List ℕ) (others : List (List ℕ)) → handles_of call ≡ handle ∷ others → (a : Addr) →
@@ -70,22 +70,22 @@ module _ (d : DraftValue) (call : Call) (halt : Halt) (begins : Begins call d) w
 
   -- its only one
   pub naming : (handle bytes : List ℕ) → bytes ≡ handle → handles_of call ≡ handle ∷ [] →
-      StopsAt d (brought_by d.view bytes) halt → Ends call d.ctx d.view (Err halt)
+      StopsAt d (brought_by d.view bytes) halt → EndsCall call d.ctx d.view (Err halt)
   naming handle bytes same are = naming-any handle bytes same (first-names handle [] are)
 
   -- which makes an object there
   pub making : (handle bytes : List ℕ) → bytes ≡ handle → handles_of call ≡ handle ∷ [] →
-      new_numbers call d.view ≡ 1 → StopsMaking d (brought_by d.view bytes) halt → Ends call d.ctx d.view (Err halt)
+      new_numbers call d.view ≡ 1 → StopsMaking d (brought_by d.view bytes) halt → EndsCall call d.ctx d.view (Err halt)
   making handle bytes same are = making-any handle bytes same (first-names handle [] are)
 
   -- of two
   pub naming-first : (handle second bytes : List ℕ) → bytes ≡ handle → handles_of call ≡ handle ∷ second ∷ [] →
-      StopsAt d (brought_by d.view bytes) halt → Ends call d.ctx d.view (Err halt)
+      StopsAt d (brought_by d.view bytes) halt → EndsCall call d.ctx d.view (Err halt)
   naming-first handle second bytes same are =
       naming-any handle bytes same (first-names handle (second ∷ []) are)
 
   pub naming-second : (first handle bytes : List ℕ) → bytes ≡ handle → handles_of call ≡ first ∷ handle ∷ [] →
-      StopsAt d (brought_by d.view bytes) halt → Ends call d.ctx d.view (Err halt)
+      StopsAt d (brought_by d.view bytes) halt → EndsCall call d.ctx d.view (Err halt)
   naming-second first handle bytes same are = naming-any handle bytes same (second-names first handle are)
 
 pub means-as : (d : DraftValue) (handle bytes : List ℕ) (found known : Result Known NfsStatus) → bytes ≡ handle
@@ -101,9 +101,9 @@ number-as handle bytes found x same is has =
     subst (λ h. HasNumber h x.number) same (subst (λ f. IfOk f (λ (y : Known). HasNumber bytes y.number)) is has)
 
 pub lives-as : (view : ViewValue) (found : Result Known NfsStatus) (x : Known) → found ≡ Ok x
-    → IfOk found (λ y. Lives view (addresses.Inode y.number))
-    → Lives view (addresses.Inode x.number)
-lives-as view found x is lives = subst (λ f. IfOk f (λ (y : Known). Lives view (addresses.Inode y.number))) is lives
+    → IfOk found (λ y. IsThere view (addresses.Inode y.number))
+    → IsThere view (addresses.Inode x.number)
+lives-as view found x is lives = subst (λ f. IfOk f (λ (y : Known). IsThere view (addresses.Inode y.number))) is lives
 
 pub exported-as : (d : DraftValue) (found : Result Known NfsStatus) (x : Known) → found ≡ Ok x
     → IfOk found (λ y. ShowsExport d y.export) → ShowsExport d x.export

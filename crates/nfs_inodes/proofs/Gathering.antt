@@ -10,7 +10,7 @@ use Rattle.std.specs.List.{AllByRecursion, list_any}
 use Rattle.indexmap.specs.IndexSet.{insert_key}
 use Rattle.nfs_machine.specs.State.{Entry}
 use Rattle.nfs_objects.proofs.Seen.{all-append, all-map, unknown-unseen}
-use Rattle.nfs_objects.specs.Asks.{Asks, EachOnce, Lives, MayAsk}
+use Rattle.nfs_objects.specs.Asks.{Asks, EachOnce, IsThere, MayAsk}
 use Rattle.nfs_objects.specs.Bound.{WasAsked}
 use Rattle.nfs_objects.specs.Values.{DraftValue, is_addr, known_at}
 use Rattle.nfs_objects.specs.declared.address.Addr.{Addr}
@@ -87,7 +87,7 @@ module _ (d : DraftValue) (entries : List Entry) (e : Entry) (n : ℕ) (number :
   -- it is asked for now
   pub gathers-more : new.numbers.keys ≡ insert_key eqb old.numbers.keys n → (w : Addr × Mode) →
       new.asked.items ≡ old.asked.items ++ w ∷ [] → true ≡ not (list_any (eqb n) old.numbers.keys) →
-      known_at d (addresses.Inode n) ≡ None → w ≡ wish d n → Lives d.view (addresses.Inode n) →
+      known_at d (addresses.Inode n) ≡ None → w ≡ wish d n → IsThere d.view (addresses.Inode n) →
       Gathers d (entries ++ e ∷ []) new
   gathers-more inserted w pushed added unknown is lives =
       let fresh = not-true (list_any (eqb n) old.numbers.keys) (sym added) in

@@ -7,8 +7,8 @@ use Rattle.nfs_machine.specs.declared.handle.Handle.{Handle}
 use Rattle.nfs_objects.proofs.Exported.{table-lives}
 use Rattle.nfs_objects.proofs.Knows.{among-first, covers-among, covers-both, lacks-stops, stops-wider}
 use Rattle.nfs_objects.proofs.Seen.{unknown-unseen}
-use Rattle.nfs_objects.specs.Asks.{Lacks, Lives}
-use Rattle.nfs_objects.specs.Attempt.{HaltsFirst, Stops, object_wanted, unless_seen}
+use Rattle.nfs_objects.specs.Asks.{Lacks, IsThere}
+use Rattle.nfs_objects.specs.Attempt.{HaltsFirst, StopsCall, object_wanted, unless_seen}
 use Rattle.nfs_objects.specs.Calls.{addresses_of}
 use Rattle.nfs_objects.specs.Knows.{Turns}
 use Rattle.nfs_objects.specs.Only.{AsksNothing}
@@ -28,8 +28,8 @@ lacking-stops d a halt lacks = lacks-stops d (a ∷ []) 0 a halt lacks (inl (inl
 pub stops-before : (old new : DraftValue) (op : Kept → Kept) (asked : ViewValue → List Addr) (halt : Halt) →
     Turns old new op → StopsAt new (asked new.view) halt → StopsAt old (asked old.view) halt
 stops-before old new op asked halt turns stops =
-    subst (λ view. Stops old.modes (asked view) 0 view halt) turns.view
-    (subst (λ modes. Stops modes (asked new.view) 0 new.view halt) turns.modes stops)
+    subst (λ view. StopsCall old.modes (asked view) 0 view halt) turns.view
+    (subst (λ modes. StopsCall modes (asked new.view) 0 new.view halt) turns.modes stops)
 
 -- ---- what is asked for first
 module _ (d : DraftValue) (a : Addr) where
@@ -142,12 +142,12 @@ object-stops d bytes h halt is stops =
 
 -- ---- what may be asked for whatever the call names
 -- an object that lives may be read by each call
-pub lives-stops : (d : DraftValue) (n : ℕ) (halt : Halt) → Lives d.view (addresses.Inode n) →
+pub lives-stops : (d : DraftValue) (n : ℕ) (halt : Halt) → IsThere d.view (addresses.Inode n) →
     StopsAt d (addresses_of d.view n) halt → StopsAt d [] halt
 lives-stops d n halt lives stops = stops-wider d.modes (addresses_of d.view n) [] 0 d.view halt (inr lives, tt) stops
 
-pub both-stop : (d : DraftValue) (n m : ℕ) (asked : List Addr) (halt : Halt) → Lives d.view (addresses.Inode n) →
-    Lives d.view (addresses.Inode m) → StopsAt d (addresses_of d.view n ++ addresses_of d.view m) halt →
+pub both-stop : (d : DraftValue) (n m : ℕ) (asked : List Addr) (halt : Halt) → IsThere d.view (addresses.Inode n) →
+    IsThere d.view (addresses.Inode m) → StopsAt d (addresses_of d.view n ++ addresses_of d.view m) halt →
     StopsAt d asked halt
 both-stop d n m asked halt first second stops =
     stops-wider d.modes (addresses_of d.view n ++ addresses_of d.view m) asked 0 d.view halt

@@ -13,7 +13,7 @@ use Rattle.nfs_machine.specs.NameSteps.{leads_to}
 use Rattle.nfs_machine.specs.State.{Content, Entry}
 use Rattle.nfs_machine.specs.WellFormed.{Leads}
 use Rattle.nfs_objects.proofs.Exported.{object-stands}
-use Rattle.nfs_objects.specs.Asks.{Lives}
+use Rattle.nfs_objects.specs.Asks.{IsThere}
 use Rattle.nfs_objects.specs.Knows.{Knows, Possible}
 use Rattle.nfs_objects.specs.Modes.{led_at, led_in, number_under}
 use Rattle.nfs_objects.specs.Stands.{Kept, Represents, content_of, inode_of, lives_in}
@@ -88,7 +88,7 @@ module _ (d : DraftValue) (x : Known) (none : d.writes ≡ []) (known : Knows d 
   some-entry None n is = cc
   some-entry (Some e) n is = (e, refl, (let same : e.number ≡ n = cc in same))
 
-  pub entry-lives : (name : List ℕ) (number : Option ℕ) → Knows d (λ k. under (content_at k.state x.number) name ≡ number) → IfSome number (λ n. Lives d.view (addresses.Inode n))
+  pub entry-lives : (name : List ℕ) (number : Option ℕ) → Knows d (λ k. under (content_at k.state x.number) name ≡ number) → IfSome number (λ n. IsThere d.view (addresses.Inode n))
   entry-lives name None is = tt
   entry-lives name (Some n) is = λ s k fits stands sound formed.
       let w : Possible d s k = record { fits = fits; stands = on-store s k stands; sound = sound } in
@@ -97,7 +97,7 @@ module _ (d : DraftValue) (x : Known) (none : d.writes ≡ []) (known : Knows d 
       (formed.names x.number (object_at k.state x) (known s k w).lives).leads found.1 in
       object-stands s k n leads.object stands (ap (get k.state.objects) (sym found.2) ∙ leads.lives)
 
-  pub parent-lives : (n : ℕ) → x.attributes.kind ≡ types.Directory → Knows d (λ k. k.parents x.number ≡ n) → Lives d.view (addresses.Inode n)
+  pub parent-lives : (n : ℕ) → x.attributes.kind ≡ types.Directory → Knows d (λ k. k.parents x.number ≡ n) → IsThere d.view (addresses.Inode n)
   parent-lives n kind is = λ s k fits stands sound formed.
       let w : Possible d s k = record { fits = fits; stands = on-store s k stands; sound = sound } in
       let directory : is_directory (content_at k.state x.number) ≡ true = directory-kind (content_at k.state x.number) (kind-is k.state x (known s k w) ∙ kind) in

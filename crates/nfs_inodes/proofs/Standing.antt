@@ -11,7 +11,7 @@ use Rattle.nfs_machine.specs.Shown.{attributes_at, weak}
 use Rattle.nfs_machine.specs.State.{Content, Regular, Directory, Link, BlockDevice, CharacterDevice, Socket, Fifo, Living, State}
 use Rattle.nfs_objects.proofs.Exported.{inode-stands, object-stands}
 use Rattle.nfs_objects.proofs.Seen.{known-stands}
-use Rattle.nfs_objects.specs.Asks.{Lives}
+use Rattle.nfs_objects.specs.Asks.{IsThere}
 use Rattle.nfs_objects.specs.Fits.{Fits}
 use Rattle.nfs_objects.specs.Knows.{Knows, Possible, Shows, ShowsExport}
 use Rattle.nfs_objects.specs.Stands.{Kept, Represents, content_of, exports_of, inode_in, links_kept, lives_in}
@@ -103,7 +103,7 @@ shown-none m n is = ap (λ o. option_map (attributes_of m n) o) is
 pub possible : (d : DraftValue) (s : Store) (k : Kept) → d.writes ≡ [] → Possible d s k → Represents s k
 possible d s k none w = subst (λ ws. Represents (with_writes s ws) k) none w.stands
 
-pub known-lives : (d : DraftValue) (x : Known) → d.writes ≡ [] → Knows d (λ k. IsKnown k.state x) → Lives d.view (addresses.Inode x.number)
+pub known-lives : (d : DraftValue) (x : Known) → d.writes ≡ [] → Knows d (λ k. IsKnown k.state x) → IsThere d.view (addresses.Inode x.number)
 known-lives d x none is s k fits stands sound formed =
     let w : Possible d s k = record { fits = fits; stands = subst (λ ws. Represents (with_writes s ws) k) (sym none) stands; sound = sound } in
     object-stands s k x.number (object_at k.state x) stands (is s k w).lives

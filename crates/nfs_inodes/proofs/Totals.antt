@@ -11,7 +11,7 @@ use Rattle.nfs_objects.proofs.Turns.{usage-known}
 use Rattle.nfs_objects.specs.Asks.{Asks, EachOnce, Lacks, MayAsk}
 use Rattle.nfs_objects.specs.Calls.{usages_of}
 use Rattle.nfs_objects.specs.Knows.{Knows}
-use Rattle.nfs_objects.specs.Modes.{mode_at}
+use Rattle.nfs_objects.specs.Modes.{held_mode}
 use Rattle.nfs_objects.specs.Stands.{lives_in}
 use Rattle.nfs_objects.specs.Sums.{export_usage, no_usage, together, usage_of}
 use Rattle.nfs_objects.specs.Values.{DraftValue, is_addr, known_at}
@@ -40,7 +40,7 @@ once-append (b ∷ asked) a once apart = (
 
 module _ (d : DraftValue) (export : ℕ) where
   abbrev usage-at : ℕ → Addr × Mode
-  usage-at group = (addresses.Usage export group, mode_at d.modes d.view (addresses.Usage export group))
+  usage-at group = (addresses.Usage export group, held_mode d.modes d.view (addresses.Usage export group))
 
   -- ---- what is asked for
   pub unread-none : (asked : List (Addr × Mode)) → asked ≡ [] → AreUnread d export 0 asked

@@ -4,7 +4,7 @@ use Rattle.nfs_wire.specs.declared.status.NfsStatus.{NfsStatus}
 use Rattle.nfs_machine.specs.Making as machine
 use Rattle.nfs_machine.specs.State.{Content, Regular, Directory, Link, BlockDevice, CharacterDevice, Socket, Fifo}
 use Rattle.nfs_machine.specs.State.{octal}
-use Rattle.nfs_objects.specs.Stands.{verifier_of}
+use Rattle.nfs_objects.specs.Stands.{verifier_bytes}
 use Rattle.nfs_inodes.specs.declared.making.NewContent.{NewContent}
 use Rattle.nfs_inodes.specs.declared.making.NewContent.TheVariants as new
 use Rattle.nfs_inodes.specs.declared.making.Wanted.{Wanted}
@@ -30,7 +30,7 @@ wanted_as wanted = record {
   mode = mode_asked wanted.content;
   content = content_asked wanted.content;
   attributes = wanted.attributes;
-  verifier = verifier_of wanted.verifier;
+  verifier = verifier_bytes wanted.verifier;
 }
 
 abbrev pub asked_as : Result Wanted NfsStatus → Result machine.Wanted NfsStatus

@@ -5,7 +5,7 @@ use Rattle.std.specs.List.{AllByRecursion}
 use Rattle.nfs_machine.specs.Attributes.{used_of}
 use Rattle.nfs_objects.specs.Asks.{EachOnce}
 use Rattle.nfs_objects.specs.Edits.{recounted}
-use Rattle.nfs_objects.specs.Modes.{mode_at}
+use Rattle.nfs_objects.specs.Modes.{held_mode}
 use Rattle.nfs_objects.specs.Stands.{Kept, content_of}
 use Rattle.nfs_objects.specs.Sums.{group_of, is_same_usage, moved, no_usage, one_using, shares_of, usage_of}
 use Rattle.nfs_objects.specs.Values.{DraftValue, known_at}
@@ -41,7 +41,7 @@ pub record KeepsInodes (old new : DraftValue) : Type 0 where
 pub record IsUnread (d : DraftValue) (export count : ℕ) (asked : Addr × Mode) : Type 0 where
   pub group : ℕ
   pub below : group < count
-  pub address : asked ≡ (addresses.Usage export group, mode_at d.modes d.view (addresses.Usage export group))
+  pub address : asked ≡ (addresses.Usage export group, held_mode d.modes d.view (addresses.Usage export group))
   pub unknown : known_at d (addresses.Usage export group) ≡ None
 
 -- such groups, each once

@@ -2,9 +2,9 @@
 use Rattle.std.specs.Prelude.{◌≡◌, ℕ, List, map, None, IsSome, ◌⊎◌}
 use Rattle.std.specs.List.{AllByRecursion}
 use Rattle.nfs_machine.specs.State.{Entry}
-use Rattle.nfs_objects.specs.Asks.{EachOnce, Lives}
+use Rattle.nfs_objects.specs.Asks.{EachOnce, IsThere}
 use Rattle.nfs_objects.specs.Bound.{WasAsked}
-use Rattle.nfs_objects.specs.Modes.{mode_at}
+use Rattle.nfs_objects.specs.Modes.{held_mode}
 use Rattle.nfs_objects.specs.Values.{DraftValue, ViewValue, known_at, seen_at}
 use Rattle.nfs_objects.specs.declared.address.Addr.{Addr}
 use Rattle.nfs_objects.specs.declared.address.Addr.TheVariants as addresses
@@ -15,7 +15,7 @@ use Rattle.nfs_inodes.specs.declared.gather.Wishes.{Wishes}
 
 -- something stands at the number of each entry in every sound store that the view fits
 abbrev pub EachLives : ViewValue → List Entry → Type 0
-EachLives view entries = AllByRecursion (λ (e : Entry). Lives view (addresses.Inode e.number)) entries
+EachLives view entries = AllByRecursion (λ (e : Entry). IsThere view (addresses.Inode e.number)) entries
 
 -- the draft knows what stands at each entry's number
 abbrev pub EachKnown : DraftValue → List Entry → Type 0
@@ -23,7 +23,7 @@ EachKnown d entries = AllByRecursion (λ (e : Entry). IsSome (known_at d (addres
 
 -- the draft knows what stands at an address, or it is among these
 abbrev pub IsKnownOrAsked : DraftValue → List (Addr × Mode) → Addr → Type 0
-IsKnownOrAsked d asked a = IsSome (known_at d a) ⊎ WasAsked asked (a, mode_at d.modes d.view a)
+IsKnownOrAsked d asked a = IsSome (known_at d a) ⊎ WasAsked asked (a, held_mode d.modes d.view a)
 
 -- at once all is asked for that the draft lacks of what stands at the entries' numbers; or there is no memory
 abbrev pub AsksAll : DraftValue → List Entry → Halt → Type 0
@@ -34,13 +34,13 @@ AsksAll d entries halt = ⊥
 
 -- the wish for what stands at a number
 abbrev pub wish : DraftValue → ℕ → Addr × Mode
-wish d n = (addresses.Inode n, mode_at d.modes d.view (addresses.Inode n))
+wish d n = (addresses.Inode n, held_mode d.modes d.view (addresses.Inode n))
 
 -- it may be asked for, whatever the call names
 pub record MayWish (d : DraftValue) (a : Addr × Mode) : Type 0 where
   pub unseen : seen_at d.view.entries a.0 ≡ None
-  pub mode : a.1 ≡ mode_at d.modes d.view a.0
-  pub lives : Lives d.view a.0
+  pub mode : a.1 ≡ held_mode d.modes d.view a.0
+  pub lives : IsThere d.view a.0
 
 -- each number of these is asked for once, and so is all that the draft lacks of what stands at the entries' numbers
 pub record Gathers (d : DraftValue) (entries : List Entry) (wishes : Wishes) : Type 0 where

@@ -15,7 +15,7 @@ use Rattle.nfs_machine.specs.Shown.{attributes_at, shown, wcc}
 use Rattle.nfs_machine.specs.State.{Content, Regular, Directory, Socket, Living, State}
 use Rattle.nfs_machine.specs.declared.context.Ctx.{Ctx}
 use Rattle.nfs_machine.specs.declared.handle.Handle.{Handle}
-use Rattle.nfs_objects.specs.Stands.{Kept, content_of, exports_of, inode_in, living_of_inode, verifier_of}
+use Rattle.nfs_objects.specs.Stands.{Kept, content_of, exports_of, inode_in, living_of_inode, verifier_bytes}
 use Rattle.nfs_objects.specs.Values.{DraftValue, known_at}
 use Rattle.nfs_objects.specs.declared.address.Addr.TheVariants as addresses
 use Rattle.nfs_objects.specs.declared.object.Inode.{Inode}
@@ -34,7 +34,7 @@ shell x content = record {
   accessed = x.attributes.accessed;
   modified = x.attributes.modified;
   changed = x.attributes.changed;
-  verifier = verifier_of x.verifier;
+  verifier = verifier_bytes x.verifier;
 }
 
 -- what the object at a number contains; of nothing, no matter what
@@ -125,8 +125,8 @@ abbrev pub last_cookie_of : Content → ℕ
 last_cookie_of content = elim content [ Directory entries last_cookie ↦ last_cookie | other ↦ 0 ]
 
 -- the cookie of its next entry, where one is left
-abbrev pub next_cookie : (last : ℕ) → Option ℕ
-next_cookie last = if nat_lt (last + 1) (2 ^ 64) then Some (last + 1) else None
+abbrev pub new_cookie : (last : ℕ) → Option ℕ
+new_cookie last = if nat_lt (last + 1) (2 ^ 64) then Some (last + 1) else None
 
 -- what the machine sees of a directory that a check passed
 abbrev pub listed : Content → DirectoryEntries

@@ -16,6 +16,6 @@ abbrev pub listed_entry : Listed → Entry
 listed_entry l = record { name = name_of l.name; number = l.number; cookie = l.cookie }
 
 -- the names that are lent, if any are
-abbrev pub names_in : Option (Bor (List Entry)) → List Entry
-names_in None = []
-names_in (Some names) = names.now
+abbrev pub listed_names : Option (Bor (List Entry)) → List Entry
+listed_names None = []
+listed_names (Some names) = names.now

@@ -2,8 +2,8 @@
 use Rattle.std.specs.Prelude.{◌≡◌, ℕ, List, [], ◌∷◌, ◌++◌, Option, Some, None, IsSome, ◌⊎◌}
 use Rattle.std.specs.Prelude.{Result, MatchResult, option_map}
 use Rattle.nfs_machine.specs.Handles.{handle_of}
-use Rattle.nfs_objects.specs.Asks.{Lacks, Lives}
-use Rattle.nfs_objects.specs.Attempt.{Stops, object_wanted, unless_seen}
+use Rattle.nfs_objects.specs.Asks.{Lacks, IsThere}
+use Rattle.nfs_objects.specs.Attempt.{StopsCall, object_wanted, unless_seen}
 use Rattle.nfs_objects.specs.Calls.{addresses_of, objects_at}
 use Rattle.nfs_objects.specs.Stands.{exports_of, inode_in}
 use Rattle.nfs_objects.specs.Sums.{group_of}
@@ -16,11 +16,11 @@ use Rattle.nfs_inodes.specs.Known.{HasInode}
 
 -- some of these addresses are asked for, or others at which something stands; or there is no memory
 abbrev pub StopsAt : DraftValue → List Addr → Halt → Type 0
-StopsAt d asked halt = Stops d.modes asked 0 d.view halt
+StopsAt d asked halt = StopsCall d.modes asked 0 d.view halt
 
 -- the same where an object is made; or a number is asked for
 abbrev pub StopsMaking : DraftValue → List Addr → Halt → Type 0
-StopsMaking d asked halt = Stops d.modes asked 1 d.view halt
+StopsMaking d asked halt = StopsCall d.modes asked 1 d.view halt
 
 -- ---- of an object
 -- the inode that a draft knows at a number, if its export lives
@@ -45,7 +45,7 @@ counted_at d number = addresses_of d.view number ++ group_at number (inode_at d 
 -- what the group of a number uses stands there, if the draft knows an object at the number
 abbrev pub UsageLives : DraftValue → (number : ℕ) → Type 0
 UsageLives d number = (i : Inode) → HasInode d number (Some i) →
-    Lives d.view (addresses.Usage i.export (group_of number))
+    IsThere d.view (addresses.Usage i.export (group_of number))
 
 -- ---- of a handle
 -- what a call that brings the handle may ask for

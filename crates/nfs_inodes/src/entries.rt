@@ -6,12 +6,12 @@ ghost use Rattle.nfs_wire.specs.declared.status.NfsStatus.TheVariants as status;
 ghost use Rattle.nfs_machine.specs.Attributes.{entries_of};
 ghost use Rattle.nfs_machine.specs.Checks.{entry_of};
 ghost use Rattle.nfs_machine.specs.NameSteps.{leads_to};
-ghost use Rattle.nfs_objects.specs.Asks.{Lives};
+ghost use Rattle.nfs_objects.specs.Asks.{IsThere};
 ghost use Rattle.nfs_objects.specs.Calls.{addresses_of};
 ghost use Rattle.nfs_objects.specs.Knows.{Knows};
 ghost use Rattle.nfs_objects.specs.Modes.{led_at};
 ghost use Rattle.nfs_objects.specs.Stands.{content_of, parent_in};
-ghost use Rattle.nfs_inodes.specs.Known.{IsKnown, content_at, last_cookie_of, next_cookie};
+ghost use Rattle.nfs_inodes.specs.Known.{IsKnown, content_at, last_cookie_of, new_cookie};
 ghost use Rattle.nfs_inodes.specs.Stops.{ReadsInode, StopsAt};
 
 use crate::found::inode;
@@ -32,7 +32,7 @@ pub fn entry(draft: &Draft<'_>, directory: &Directory, name: &[u8]) -> Result<Op
         (λ number. Knows draft.now (λ k. option_map (λ e. e.number)
         (entry_of (entries_of (content_at k.state directory.now.known.number)) name.now) ≡ number))
         (StopsAt draft.now (addresses_of draft.now.view directory.now.known.number)) }
-    ensures lives { IfOk result (λ number. IfSome number (λ n. Lives draft.now.view (Addr.Inode n))) }
+    ensures lives { IfOk result (λ number. IfSome number (λ n. IsThere draft.now.view (Addr.Inode n))) }
     ensures led { IfOk result (λ number. IfSome number (λ n.
         led_at draft.now.view directory.now.known.number name.now ≡ Some n)) }
 {
@@ -78,7 +78,7 @@ pub fn leads_to(draft: &Draft<'_>, directory: &Directory, name: &[u8]) -> Result
         leads_to directory.now.known.number (k.parents directory.now.known.number)
         (entries_of (content_at k.state directory.now.known.number)) name.now ≡ ok_or number status.NoEntry))
         (StopsAt draft.now (addresses_of draft.now.view directory.now.known.number)) }
-    ensures lives { IfOk result (λ number. IfSome number (λ n. Lives draft.now.view (Addr.Inode n))) }
+    ensures lives { IfOk result (λ number. IfSome number (λ n. IsThere draft.now.view (Addr.Inode n))) }
 {
     if is_self(name) {
         return Ok(Some(directory.known.number));
@@ -121,10 +121,10 @@ fn is_empty_in(content: &Content) -> bool
 /// # Errors
 ///
 /// `Need` of the exports or the directory's address, and `Memory`.
-pub fn next_cookie(draft: &Draft<'_>, directory: &Directory) -> Result<Option<u64>, Halt>
+pub fn new_cookie(draft: &Draft<'_>, directory: &Directory) -> Result<Option<u64>, Halt>
     ensures { MatchResult result
         (λ cookie. Knows draft.now (λ k.
-        next_cookie (last_cookie_of (content_at k.state directory.now.known.number)) ≡ cookie))
+        new_cookie (last_cookie_of (content_at k.state directory.now.known.number)) ≡ cookie))
         (StopsAt draft.now (addresses_of draft.now.view directory.now.known.number)) }
 {
     Ok(last_cookie(draft, directory)?.checked_add(1))

@@ -8,7 +8,7 @@ ghost use Rattle.nfs_machine.specs.Bytes.{same_bytes};
 ghost use Rattle.nfs_machine.specs.Exports.{export_admits, export_at};
 ghost use Rattle.nfs_machine.specs.Shown.{attributes_at, handle_at};
 ghost use Rattle.nfs_machine.specs.State.{Socket};
-ghost use Rattle.nfs_objects.specs.Asks.{Lives};
+ghost use Rattle.nfs_objects.specs.Asks.{IsThere};
 ghost use Rattle.nfs_objects.specs.Attempt.{HaltsFirst, unless_seen};
 ghost use Rattle.nfs_objects.specs.Calls.{addresses_of};
 ghost use Rattle.nfs_objects.specs.Knows.{Knows, ShowsExport};
@@ -153,7 +153,7 @@ pub fn wcc_of(before: &Known, after: Option<Attributes>) -> Wcc
 pub fn named(draft: &Draft<'_>, handle: &[u8]) -> Result<Result<Known, NfsStatus>, Halt>
     requires { draft.now.writes ≡ [] }
     ensures means { IfOk result (λ found. Knows draft.now (Means draft.now.ctx handle.now found)) }
-    ensures lives { IfOk result (λ found. IfOk found (λ x. Lives draft.now.view (Addr.Inode x.number))) }
+    ensures lives { IfOk result (λ found. IfOk found (λ x. IsThere draft.now.view (Addr.Inode x.number))) }
     ensures number { IfOk result (λ found. IfOk found (λ x. HasNumber handle.now x.number)) }
     ensures exported { IfOk result (λ found. IfOk found (λ x. ShowsExport draft.now x.export)) }
     ensures usage { IfOk result (λ found. IfOk found (λ x. IsOfExport handle.now x.export)) }

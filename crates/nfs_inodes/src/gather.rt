@@ -2,7 +2,7 @@
 
 ghost use Rattle.std.specs.Prelude.{◌≡◌, [], ◌∷◌, ◌++◌, List, IfErr, OnOk, take};
 ghost use Rattle.nfs_machine.specs.State.{Entry};
-ghost use Rattle.nfs_objects.specs.Asks.{Lives};
+ghost use Rattle.nfs_objects.specs.Asks.{IsThere};
 ghost use Rattle.nfs_objects.specs.Values.{DraftValue};
 ghost use Rattle.nfs_inodes.specs.Gathers.{AsksAll, EachKnown, EachLives, Gathers};
 ghost use Rattle.nfs_inodes.specs.Stops.{StopsAt};
@@ -51,7 +51,7 @@ impl Wishes {
 
     /// Asks for what stands at a number besides, where the draft lacks it.
     fn add(&mut self, draft: &Draft<'_>, number: u64) -> Result<(), AllocError>
-        requires { Lives draft.now.view (Addr.Inode number) }
+        requires { IsThere draft.now.view (Addr.Inode number) }
         ensures { (entries : List Entry) (e : Entry) → e.number ≡ number → Gathers draft.now entries self.old →
             OnOk result (Gathers draft.now (entries ++ e ∷ []) self.new) }
     {

@@ -11,7 +11,7 @@ ghost use Rattle.nfs_objects.specs.Knows.{Knows};
 ghost use Rattle.nfs_objects.specs.Stands.{content_of, parent_in};
 ghost use Rattle.nfs_inodes.specs.Gathers.{EachLives};
 ghost use Rattle.nfs_inodes.specs.Known.{IsKnown, content_at};
-ghost use Rattle.nfs_inodes.specs.Listing.{listed_entry, name_of, names_in};
+ghost use Rattle.nfs_inodes.specs.Listing.{listed_entry, name_of, listed_names};
 ghost use Rattle.nfs_inodes.specs.Stops.{StopsAt};
 
 use crate::found::inode;
@@ -84,13 +84,13 @@ impl<'d> Model for EntriesLeft<'d> {
     ghost use Rattle.std.specs.Prelude.{List, drop, length, ◌<◌, ◌^◌};
     ghost use Rattle.nfs_machine.specs.Pages.{all_entries};
     ghost use Rattle.nfs_machine.specs.State.{Entry};
-    ghost use Rattle.nfs_inodes.specs.Listing.{names_in};
+    ghost use Rattle.nfs_inodes.specs.Listing.{listed_names};
 
     ghost Value = { List Entry };
 
-    ghost view = { λ e. drop e.passed (all_entries e.number e.parent (names_in e.names)) };
+    ghost view = { λ e. drop e.passed (all_entries e.number e.parent (listed_names e.names)) };
 
-    ghost invariant = { λ e. length (names_in e.names) < 2 ^ 63 };
+    ghost invariant = { λ e. length (listed_names e.names) < 2 ^ 63 };
 }
 
 impl<'d> EntriesLeft<'d> {
@@ -117,7 +117,7 @@ impl<'d> EntriesLeft<'d> {
 
 /// The entry at this place among the names that were added.
 fn name_at<'d>(names: Option<&'d Entries>, place: usize) -> Option<Listed<'d>>
-    ensures { option_map listed_entry result ≡ slice_get (names_in names.entry) place }
+    ensures { option_map listed_entry result ≡ slice_get (listed_names names.entry) place }
 {
     let (name, leaf) = names?.get_index(place)?;
     Some(Listed {
@@ -168,8 +168,8 @@ fn left_in<'d>(number: u64, content: &'d Content, cookie: u64) -> EntriesLeft<'d
 
 /// What is left of `.`, `..` and these names.
 fn left_of<'d>(number: u64, parent: u64, names: Option<&'d Entries>, cookie: u64) -> EntriesLeft<'d>
-    ensures { (last : ℕ) → CookiesRise 2 (names_in names.entry) last →
-        behind cookie (all_entries number parent (names_in names.entry)) ≡ result }
+    ensures { (last : ℕ) → CookiesRise 2 (listed_names names.entry) last →
+        behind cookie (all_entries number parent (listed_names names.entry)) ≡ result }
 {
     let names_passed = place_behind(names, cookie);
     let passed = match cookie {
@@ -188,9 +188,9 @@ fn left_of<'d>(number: u64, parent: u64, names: Option<&'d Entries>, cookie: u64
 /// The place of the first name behind a cookie.
 fn place_behind(names: Option<&Entries>, cookie: u64) -> usize
     ensures within { result < 2 ^ 63 }
-    ensures small { length (names_in names.entry) < 2 ^ 63 }
-    ensures behind { (below last : ℕ) → CookiesRise below (names_in names.entry) last →
-        drop result (names_in names.entry) ≡ behind cookie (names_in names.entry) }
+    ensures small { length (listed_names names.entry) < 2 ^ 63 }
+    ensures behind { (below last : ℕ) → CookiesRise below (listed_names names.entry) last →
+        drop result (listed_names names.entry) ≡ behind cookie (listed_names names.entry) }
 {
     match names {
         Some(names) => names.place_behind(cookie),

@@ -15,7 +15,6 @@ pub mod Firm
 pub mod Follows
 mod Handles
 pub mod Kept
-mod Listed
 mod Listing
 pub mod Modes
 mod Mounted

@@ -88,7 +88,7 @@ impl Export {
 }
 
 impl Exports {
-    ghost use Rattle.nfs_machine.specs.Exports.{LivingExport, export_admits, export_at, export_value, opening_exports};
+    ghost use Rattle.nfs_machine.specs.Exports.{export_value};
     ghost use Rattle.nfs_machine.specs.ExportFaults.{AreFaultless, export_fault, export_of};
 
     /// The exports of these texts.
@@ -127,26 +127,5 @@ impl Exports {
         ensures faultless { AreFaultless self.now }
     {
         &self.list
-    }
-
-    /// The export that has this number where a server opens with these.
-    pub fn get(&self, number: u32) -> Option<&Export>
-        ensures { option_map (λ e. export_value e.now) result ≡
-            option_map (λ (e : LivingExport). e.value) (export_at (opening_exports self.now) number) }
-    {
-        match number as usize {
-            0 => None,
-            number => self.list.get(number - 1),
-        }
-    }
-
-    /// Whether there is an export that has this number so, and it admits the host. It takes no memory.
-    pub fn admits(&self, number: u32, host: &Bytes) -> bool
-        ensures { result ≡ export_admits (export_at (opening_exports self.now) number) host.now }
-    {
-        match self.get(number) {
-            Some(export) => export.admits(host),
-            None => false,
-        }
     }
 }

@@ -20,8 +20,8 @@ use Rattle.nfs_objects.proofs.Knows.{lacks-stops, stops-wider}
 use Rattle.nfs_objects.proofs.MountTables.{all-stay}
 use Rattle.nfs_objects.proofs.Promised.{promised, promised-unchanged, turns-none}
 use Rattle.nfs_objects.proofs.Turns.{mounts-turns}
-use Rattle.nfs_objects.specs.Asks.{Lacks, Lives}
-use Rattle.nfs_objects.specs.Attempt.{Ends, Stops}
+use Rattle.nfs_objects.specs.Asks.{Lacks, IsThere}
+use Rattle.nfs_objects.specs.Attempt.{EndsCall, StopsCall}
 use Rattle.nfs_objects.specs.Begins.{Begins}
 use Rattle.nfs_objects.specs.Calls.{addresses_of, named_by}
 use Rattle.nfs_objects.specs.Edits.{with_mounts}
@@ -145,9 +145,9 @@ module _ (d : DraftValue) where
 
 -- ---- what stops a call
 module _ (d : DraftValue) (call : MountCall) (begins : Begins (calls.Mount call) d) where
-  pub stopped : (halt : Halt) → StopsAt d tables halt → Ends (calls.Mount call) d.ctx d.view (Err halt)
+  pub stopped : (halt : Halt) → StopsAt d tables halt → EndsCall (calls.Mount call) d.ctx d.view (Err halt)
   stopped halt stops =
-      subst (λ modes. Stops modes (named_by (calls.Mount call) d.view) 0 d.view halt) begins.modes stops
+      subst (λ modes. StopsCall modes (named_by (calls.Mount call) d.view) 0 d.view halt) begins.modes stops
 
 -- the exports are named by each call, and so is the table
 pub exports-stop : (d : DraftValue) (halt : Halt) → StopsAt d (addresses.Exports ∷ []) halt → StopsAt d tables halt
@@ -157,7 +157,7 @@ pub mounts-stop : (d : DraftValue) (halt : Halt) → Lacks d addresses.Mounts ha
 mounts-stop d halt lacks = lacks-stops d tables 0 addresses.Mounts halt lacks (inl (inr (inl refl)))
 
 -- an object that lives may be read by each call
-pub object-stops : (d : DraftValue) (n : ℕ) (halt : Halt) → Lives d.view (addresses.Inode n) →
+pub object-stops : (d : DraftValue) (n : ℕ) (halt : Halt) → IsThere d.view (addresses.Inode n) →
     StopsAt d (addresses_of d.view n) halt → StopsAt d tables halt
 object-stops d n halt lives stops =
     stops-wider d.modes (addresses_of d.view n) tables 0 d.view halt (inr lives, tt) stops

@@ -19,7 +19,7 @@ use Rattle.nfs_machine.specs.declared.calls.Reply.TheVariants as answers
 use Rattle.nfs_objects.proofs.Exported.{object-stands}
 use Rattle.nfs_objects.proofs.Promised.{promised, promised-unchanged, turns-none}
 use Rattle.nfs_objects.proofs.Turns.{mounts-turns}
-use Rattle.nfs_objects.specs.Asks.{Lives}
+use Rattle.nfs_objects.specs.Asks.{IsThere}
 use Rattle.nfs_objects.specs.Edits.{with_mounts}
 use Rattle.nfs_objects.specs.Knows.{Knows, Possible, Turns}
 use Rattle.nfs_objects.specs.MountTables.{mounted}
@@ -58,7 +58,7 @@ module _ (d : DraftValue) (path : List ℕ) where
           formed.exports.apart
 
       -- the root of an export lives, so it stands in each store
-      pub root-lives : d.writes ≡ [] → Lives d.view (addresses.Inode choice.root)
+      pub root-lives : d.writes ≡ [] → IsThere d.view (addresses.Inode choice.root)
       root-lives none s k fits stands sound formed =
           let w : Possible d s k = record {
             fits = fits;

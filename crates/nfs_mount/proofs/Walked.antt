@@ -16,7 +16,7 @@ use Rattle.nfs_machine.specs.State.{Entry, Living}
 use Rattle.nfs_wire.specs.declared.attributes.Attributes.{Attributes}
 use Rattle.nfs_machine.specs.Attributes.{type_of}
 use Rattle.nfs_objects.specs.Knows.{Knows, Possible}
-use Rattle.nfs_objects.specs.Asks.{Lives}
+use Rattle.nfs_objects.specs.Asks.{IsThere}
 use Rattle.nfs_objects.specs.Stands.{Represents}
 use Rattle.nfs_objects.specs.Store.{with_writes}
 use Rattle.nfs_objects.specs.declared.address.Addr.TheVariants as addresses
@@ -136,7 +136,7 @@ module _ (d : DraftValue) (root : ℕ) (start : List (List ℕ)) where
 
 -- the number of what is known there lives where its number does: each store says so for itself
 pub lives-known : (d : DraftValue) (number : ℕ) (x y : Known) → y ≡ x → Knows d (λ k. IsObject k.state number (Some x)) →
-    d.writes ≡ [] → Lives d.view (addresses.Inode number) → Lives d.view (addresses.Inode y.number)
+    d.writes ≡ [] → IsThere d.view (addresses.Inode number) → IsThere d.view (addresses.Inode y.number)
 lives-known d number x y same there none lives s k fits stands sound formed =
     let w : Possible d s k = record {
       fits = fits;

@@ -8,7 +8,7 @@
 #![tactic(auto)]
 
 ghost use Rattle.std.specs.Prelude.{IfOk};
-ghost use Rattle.nfs_objects.specs.Attempt.{AsksFirst, Attempts, Ends, EndsFirst};
+ghost use Rattle.nfs_objects.specs.Attempt.{AsksFirst, Attempts, EndsCall, EndsFirst};
 ghost use Rattle.nfs_objects.specs.Begins.{Begins};
 ghost use Rattle.nfs_objects.specs.Modes.{Suits, modes_of};
 
@@ -48,7 +48,7 @@ fn ended<'a>(
     view: &'a View,
 ) -> Result<Change, Halt>
     requires { Suits (modes_of (Call.Mount call.now)) view.now }
-    ensures ends { Ends (Call.Mount call.now) ctx.now view.now result }
+    ensures ends { EndsCall (Call.Mount call.now) ctx.now view.now result }
     ensures first { EndsFirst (Call.Mount call.now) view.now result }
 {
     match call {
@@ -66,7 +66,7 @@ fn ended<'a>(
 /// NULL does nothing (RFC 1813, 5.2.0).
 fn null(draft: Draft<'_>) -> Result<Change, Halt>
     requires { Begins (Call.Mount MountCall.Null) draft }
-    ensures ends { Ends (Call.Mount MountCall.Null) draft.entry.ctx draft.entry.view result }
+    ensures ends { EndsCall (Call.Mount MountCall.Null) draft.entry.ctx draft.entry.view result }
     ensures first { EndsFirst (Call.Mount MountCall.Null) draft.entry.view result }
 {
     Ok(draft.answer(Reply::Mount(MountReply::Null)))

@@ -2,7 +2,7 @@
 
 ghost use Rattle.std.specs.Prelude.{◌≡◌, [], ◌∷◌, IfOk, option_copied};
 ghost use Rattle.nfs_machine.specs.MountSteps.{listed_exports};
-ghost use Rattle.nfs_objects.specs.Attempt.{Ends, EndsFirst};
+ghost use Rattle.nfs_objects.specs.Attempt.{EndsCall, EndsFirst};
 ghost use Rattle.nfs_objects.specs.Begins.{Begins};
 ghost use Rattle.nfs_objects.specs.Stands.{mounts_in};
 
@@ -19,7 +19,7 @@ use std::alloc::{AllocError, Global};
 /// `Need` of the exports or of the mounts, and `Memory`.
 pub fn attempt_dump(draft: Draft<'_>) -> Result<Change, Halt>
     requires { Begins (Call.Mount MountCall.Dump) draft }
-    ensures ends { Ends (Call.Mount MountCall.Dump) draft.entry.ctx draft.entry.view result }
+    ensures ends { EndsCall (Call.Mount MountCall.Dump) draft.entry.ctx draft.entry.view result }
     ensures first { EndsFirst (Call.Mount MountCall.Dump) draft.entry.view result }
 {
     exports(&draft)?;
@@ -35,7 +35,7 @@ pub fn attempt_dump(draft: Draft<'_>) -> Result<Change, Halt>
 /// `Need` of the exports, and `Memory`.
 pub fn attempt_export(draft: Draft<'_>) -> Result<Change, Halt>
     requires { Begins (Call.Mount MountCall.Export) draft }
-    ensures ends { Ends (Call.Mount MountCall.Export) draft.entry.ctx draft.entry.view result }
+    ensures ends { EndsCall (Call.Mount MountCall.Export) draft.entry.ctx draft.entry.view result }
     ensures first { EndsFirst (Call.Mount MountCall.Export) draft.entry.view result }
 {
     let exports = exports(&draft)?;

@@ -3,8 +3,8 @@
 ghost use Rattle.std.specs.Prelude.{◌≡◌, [], MatchResult};
 ghost use Rattle.std.specs.FinMap.{get};
 ghost use Rattle.nfs_machine.specs.MountSteps.{walk};
-ghost use Rattle.nfs_objects.specs.Asks.{Lives};
-ghost use Rattle.nfs_objects.specs.Attempt.{Ends, EndsFirst, HaltsFirst, unless_seen};
+ghost use Rattle.nfs_objects.specs.Asks.{IsThere};
+ghost use Rattle.nfs_objects.specs.Attempt.{EndsCall, EndsFirst, HaltsFirst, unless_seen};
 ghost use Rattle.nfs_objects.specs.Begins.{Begins};
 ghost use Rattle.nfs_inodes.specs.Stops.{StopsAt};
 ghost use Rattle.nfs_mount.specs.Changes.{AddsMount};
@@ -25,7 +25,7 @@ use side_wire::{MountCall, MountReply, MountStatus};
 /// `Need` of the exports, of a directory that the path leads through or of the mounts, and `Memory`.
 pub fn attempt(draft: Draft<'_>, path: &Bytes) -> Result<Change, Halt>
     requires { Begins (Call.Mount (MountCall.Mnt path.now)) draft }
-    ensures ends { Ends (Call.Mount (MountCall.Mnt path.now)) draft.entry.ctx draft.entry.view result }
+    ensures ends { EndsCall (Call.Mount (MountCall.Mnt path.now)) draft.entry.ctx draft.entry.view result }
     ensures first { EndsFirst (Call.Mount (MountCall.Mnt path.now)) draft.entry.view result }
 {
     let mut draft = draft;
@@ -69,7 +69,7 @@ fn walk(
     mut names: Names<'_>,
 ) -> Result<Result<Known, MountStatus>, Halt>
     requires none { draft.now.writes ≡ [] }
-    requires lives { Lives draft.now.view (Addr.Inode root) }
+    requires lives { IsThere draft.now.view (Addr.Inode root) }
     ensures { Finds draft.now (λ found m. walk (get m.objects) root names.entry ≡ walk_end m found) result }
 {
     let mut number = root;

@@ -1,7 +1,7 @@
 //! UMNT and UMNTALL (RFC 1813, appendix I, 5.2.3 and 5.2.4).
 
 ghost use Rattle.std.specs.Prelude.{◌≡◌, [], MatchResult};
-ghost use Rattle.nfs_objects.specs.Attempt.{Ends, EndsFirst, HaltsFirst, unless_seen};
+ghost use Rattle.nfs_objects.specs.Attempt.{EndsCall, EndsFirst, HaltsFirst, unless_seen};
 ghost use Rattle.nfs_objects.specs.Begins.{Begins};
 ghost use Rattle.nfs_inodes.specs.Stops.{StopsAt};
 ghost use Rattle.nfs_mount.specs.Changes.{TakesMounts};
@@ -20,7 +20,7 @@ use side_wire::{MountCall, MountReply};
 /// `Need` of the exports or of the mounts, and `Memory`.
 pub fn attempt_path(draft: Draft<'_>, path: &Bytes) -> Result<Change, Halt>
     requires { Begins (Call.Mount (MountCall.Unmount path.now)) draft }
-    ensures ends { Ends (Call.Mount (MountCall.Unmount path.now)) draft.entry.ctx draft.entry.view result }
+    ensures ends { EndsCall (Call.Mount (MountCall.Unmount path.now)) draft.entry.ctx draft.entry.view result }
     ensures first { EndsFirst (Call.Mount (MountCall.Unmount path.now)) draft.entry.view result }
 {
     let mut draft = draft;
@@ -37,7 +37,7 @@ pub fn attempt_path(draft: Draft<'_>, path: &Bytes) -> Result<Change, Halt>
 /// `Need` of the exports or of the mounts, and `Memory`.
 pub fn attempt_all(draft: Draft<'_>) -> Result<Change, Halt>
     requires { Begins (Call.Mount MountCall.UnmountAll) draft }
-    ensures ends { Ends (Call.Mount MountCall.UnmountAll) draft.entry.ctx draft.entry.view result }
+    ensures ends { EndsCall (Call.Mount MountCall.UnmountAll) draft.entry.ctx draft.entry.view result }
     ensures first { EndsFirst (Call.Mount MountCall.UnmountAll) draft.entry.view result }
 {
     let mut draft = draft;

@@ -39,7 +39,7 @@ use Rattle.nfs_objects.specs.Store.{Store}
 use Rattle.nfs_objects.specs.Values.{DraftValue, done_value}
 use Rattle.nfs_inodes.proofs.Gaining.{gained-sound, gained-state}
 use Rattle.nfs_inodes.proofs.Standing.{directory-listed, kind-is}
-use Rattle.nfs_inodes.specs.Known.{Means, Names, content_at, entries_found, last_cookie_of, listed, next_cookie}
+use Rattle.nfs_inodes.specs.Known.{Means, Names, content_at, entries_found, last_cookie_of, listed, new_cookie}
 use Rattle.nfs_inodes.specs.Known.{object_at, weak_of}
 use Rattle.nfs_inodes.specs.Links.{link_gained}
 use Rattle.nfs_inodes.specs.declared.found.Known.{Known}
@@ -171,12 +171,12 @@ module _ (d : DraftValue) (a : LinkArguments) (file x : Known) (names : Knows d 
               (listed (content_at k.state x.number))
           roomy s k w = counted s k w ∙ passed _ (limit s k w true few) refl
 
-          pub full-end : Knows d (λ k. next_cookie (last k) ≡ None) → (s : Store) (k : Kept) → Possible d s k →
+          pub full-end : Knows d (λ k. new_cookie (last k) ≡ None) → (s : Store) (k : Kept) → Possible d s k →
               IsLinkEnd d.ctx a k.state (Err status.NoSpace)
           full-end none s k w = roomy s k w ∙ failed _ (no-cookie (nat_lt (last k + 1) (2 ^ 64)) _ status.NoSpace
               (none s k w))
 
-          module _ (cookie : ℕ) (next : Knows d (λ k. next_cookie (last k) ≡ Some cookie)) (new : DraftValue)
+          module _ (cookie : ℕ) (next : Knows d (λ k. new_cookie (last k) ≡ Some cookie)) (new : DraftValue)
               (turns : Turns d new (link_gained (time_of d.ctx.moment) x.number x.attributes.links
               (record { name = a.place.name; number = file.number; cookie = cookie })
               (file.attributes.links + 1))) where

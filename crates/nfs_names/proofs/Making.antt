@@ -35,7 +35,7 @@ use Rattle.nfs_machine.specs.declared.context.Ctx.{Ctx}
 use Rattle.nfs_objects.proofs.Knows.{covers-among, covers-both, failed, passed, stops-wider, stops-within}
 use Rattle.nfs_objects.proofs.Promised.{answer-ending, does-as, possible-after, promised, turns-none}
 use Rattle.nfs_objects.proofs.Summed.{AllFit, turned-fit}
-use Rattle.nfs_objects.specs.Asks.{Lives}
+use Rattle.nfs_objects.specs.Asks.{IsThere}
 use Rattle.nfs_objects.specs.Calls.{addresses_of, usages_of}
 use Rattle.nfs_objects.specs.Begins.{Begins}
 use Rattle.nfs_objects.specs.Knows.{Does, Knows, Possible, Turns, ending}
@@ -54,7 +54,7 @@ use Rattle.nfs_inodes.proofs.Keeping.{choice-of, fresh-of, made-is, made-sound, 
 use Rattle.nfs_inodes.proofs.Standing.{directory-listed, kind-is}
 use Rattle.nfs_inodes.specs.Asked.{content_asked, wanted_as}
 use Rattle.nfs_inodes.specs.Known.{IsKnown, IsObject, Means, Names, content_at, entries_found, last_cookie_of, listed}
-use Rattle.nfs_inodes.specs.Known.{next_cookie, object_at, shell, weak_of}
+use Rattle.nfs_inodes.specs.Known.{new_cookie, object_at, shell, weak_of}
 use Rattle.nfs_inodes.specs.Makes.{IsFree, made_under}
 use Rattle.nfs_inodes.specs.Stops.{IsOfExport, StopsAt, StopsMaking, brought_by}
 use Rattle.nfs_inodes.specs.declared.found.Known.{Known}
@@ -288,12 +288,12 @@ module _ (d : DraftValue) (asked : rust.Wanted) (x : Known) (name : List ℕ) wh
     abbrev last : Kept → ℕ
     last k = last_cookie_of (content_at k.state x.number)
 
-    pub no-space : Knows d (λ k. next_cookie (last k) ≡ None) → (s : Store) (k : Kept) → Possible d s k →
+    pub no-space : Knows d (λ k. new_cookie (last k) ≡ None) → (s : Store) (k : Kept) → Possible d s k →
         IsNewEnd d.ctx wanted x name k.state (Err status.NoSpace)
     no-space none s k w = let both = both-pass kind given judged in inl (λ choice. passed _ both.0
         (passed _ both.1 (failed _ (no-cookie (nat_lt (last k + 1) (2 ^ 64)) _ status.NoSpace (none s k w)))))
 
-    module _ (new : DraftValue) (cookie : ℕ) (next : Knows d (λ k. next_cookie (last k) ≡ Some cookie))
+    module _ (new : DraftValue) (cookie : ℕ) (next : Knows d (λ k. new_cookie (last k) ≡ Some cookie))
         (known : Knows d (λ k. IsKnown k.state x)) (is_directory : x.attributes.kind ≡ types.Directory)
         (absent : Knows d (λ k. number_of (entry_of (entries_of (content_at k.state x.number)) name) ≡ None))
         (r : Reserved) (free : Knows d (λ k. IsFree k.state r))
@@ -365,18 +365,18 @@ module _ (d : DraftValue) (asked : rust.Wanted) (x : Known) (name : List ℕ) wh
 
 -- ---- how it halts
 pub later-stops : (old new : DraftValue) (op : Kept → Kept) (n : ℕ) (halt : Halt) → Turns old new op →
-    Lives old.view (addresses.Inode n) → StopsAt new (addresses_of new.view n) halt → StopsAt old [] halt
+    IsThere old.view (addresses.Inode n) → StopsAt new (addresses_of new.view n) halt → StopsAt old [] halt
 later-stops old new op n halt turns lives stops =
     lives-stops old n halt lives (stops-before old new op (λ view. addresses_of view n) halt turns stops)
 
 -- a call that makes an object may read one that lives
-pub lives-making : (d : DraftValue) (n : ℕ) (asked : List Addr) (halt : Halt) → Lives d.view (addresses.Inode n) →
+pub lives-making : (d : DraftValue) (n : ℕ) (asked : List Addr) (halt : Halt) → IsThere d.view (addresses.Inode n) →
     StopsAt d (addresses_of d.view n) halt → StopsMaking d asked halt
 lives-making d n asked halt lives stops =
     stops-wider d.modes (addresses_of d.view n) asked 1 d.view halt (inr lives, tt) stops
 
 -- and write it
-pub writes-making : (d : DraftValue) (n : ℕ) (asked : List Addr) (halt : Halt) → Lives d.view (addresses.Inode n) →
+pub writes-making : (d : DraftValue) (n : ℕ) (asked : List Addr) (halt : Halt) → IsThere d.view (addresses.Inode n) →
     StopsMaking d (addresses_of d.view n ++ asked) halt → StopsMaking d asked halt
 writes-making d n asked halt lives stops =
     stops-within d.modes (addresses_of d.view n ++ asked) asked 1 d.view halt
@@ -391,7 +391,7 @@ knows-making old new op asked halt turns stops =
 
 -- it stops the call that brought the handle
 pub bringing-stops : (old new : DraftValue) (op : Kept → Kept) (handle : List ℕ) (n : ℕ) (halt : Halt) →
-    Turns old new op → Lives old.view (addresses.Inode n) → StopsAt new (addresses_of new.view n) halt →
+    Turns old new op → IsThere old.view (addresses.Inode n) → StopsAt new (addresses_of new.view n) halt →
     StopsMaking old (brought_by old.view handle) halt
 bringing-stops old new op handle n halt turns lives stops =
     lives-making old n (brought_by old.view handle) halt lives

@@ -43,7 +43,7 @@ use Rattle.nfs_machine.specs.declared.calls.Reply.TheVariants as answers
 use Rattle.nfs_machine.specs.declared.context.Ctx.{Ctx}
 use Rattle.nfs_objects.proofs.Knows.{failed, passed}
 use Rattle.nfs_objects.proofs.Promised.{answer-ending, promised-does, promised-unchanged, turns-both, turns-none}
-use Rattle.nfs_objects.specs.Asks.{Lives}
+use Rattle.nfs_objects.specs.Asks.{IsThere}
 use Rattle.nfs_objects.specs.Attempt.{HaltsFirst}
 use Rattle.nfs_objects.specs.Calls.{addresses_of}
 use Rattle.nfs_objects.specs.Begins.{Begins}
@@ -62,7 +62,7 @@ use Rattle.nfs_inodes.proofs.Lived.{usage-there}
 use Rattle.nfs_inodes.proofs.Moving.{changes-are, directory_over, kept_moved, moved-sound, moved-state, one_if}
 use Rattle.nfs_inodes.proofs.Standing.{directory-listed, kind-is, known-lives}
 use Rattle.nfs_inodes.specs.Known.{ChecksDirectory, IsKnown, IsObject, Means, Names, content_at, last_cookie_of, listed}
-use Rattle.nfs_inodes.specs.Known.{next_cookie, object_at, target, weak_of}
+use Rattle.nfs_inodes.specs.Known.{new_cookie, object_at, target, weak_of}
 use Rattle.nfs_inodes.specs.Makes.{link_lost}
 use Rattle.nfs_inodes.specs.Renames.{name_given, name_left, rehomed}
 use Rattle.nfs_inodes.proofs.Composing.{counted-stops}
@@ -234,7 +234,7 @@ under-number d x name number found leads is s k w = (
 
 pub reads-under : (d : DraftValue) (x : Known) (name : List ℕ) (number : ℕ) (r : Result (Option Known) Halt)
     → Knows d (λ k. option_map (λ (e : Entry). e.number) (entry_of (entries_of (content_at k.state x.number)) name)
-    ≡ Some number) → Lives d.view (addresses.Inode number)
+    ≡ Some number) → IsThere d.view (addresses.Inode number)
     → MatchResult r (λ found. Knows d (λ k. IsObject k.state number found)) (StopsAt d (addresses_of d.view number))
     → MatchResult r (λ found. Knows d (λ k. IsUnder k.state x name found)) (StopsAt d [])
 reads-under d x name number (Ok found) leads lives is = under-number d x name number found leads is
@@ -411,7 +411,7 @@ module _ (d : DraftValue) (a : RenameArguments) (r : Renaming) (finds : Knows d 
               ends-within false out s k w formed is_within tells
               ∙ ap (λ b. by_checks k.state false true false b (nat_lt (last k.state + 1) (2 ^ 64))) room
 
-          pub ends-space : Knows d (λ k. next_cookie (last k.state) ≡ None) → (s : Store) (k : Kept) →
+          pub ends-space : Knows d (λ k. new_cookie (last k.state) ≡ None) → (s : Store) (k : Kept) →
               Possible d s k → WellFormed k.state → EndsSo d a (Err status.NoSpace) k
           ends-space none s k w formed = λ is_within tells.
               ends-room s k w formed is_within tells
@@ -419,7 +419,7 @@ module _ (d : DraftValue) (a : RenameArguments) (r : Renaming) (finds : Knows d 
               (no-cookie (nat_lt (last k.state + 1) (2 ^ 64)) _ status.NoSpace (none s k w))
 
           -- ---- the change
-          module _ (cookie : ℕ) (next : Knows d (λ k. next_cookie (last k.state) ≡ Some cookie)) where
+          module _ (cookie : ℕ) (next : Knows d (λ k. new_cookie (last k.state) ≡ Some cookie)) where
             has-cookie : (s : Store) (k : Kept) → Possible d s k →
                 (holding (nat_lt (last k.state + 1) (2 ^ 64)) status.NoSpace ≡ Ok tt) × (last k.state + 1 ≡ cookie)
             has-cookie s k w = a-cookie (nat_lt (last k.state + 1) (2 ^ 64)) (last k.state + 1) cookie status.NoSpace
@@ -703,13 +703,13 @@ plain-outside d moved lower known below plain s k w formed = (
 
 -- ---- the change, step by step
 -- what lives in every store that the view fits is there once more was written
-pub lives-on : (old new : DraftValue) (op : Kept → Kept) (a : Addr) → Turns old new op → Lives old.view a →
-    Lives new.view a
-lives-on old new op a turns lives = subst (λ v. Lives v a) (sym turns.view) lives
+pub lives-on : (old new : DraftValue) (op : Kept → Kept) (a : Addr) → Turns old new op → IsThere old.view a →
+    IsThere new.view a
+lives-on old new op a turns lives = subst (λ v. IsThere v a) (sym turns.view) lives
 
 pub over-lives : (old new : DraftValue) (op : Kept → Kept) (o : Option Known) → Turns old new op →
     old.writes ≡ [] → Knows old (λ k. IfSome o (IsKnown k.state))
-    → IfSome o (λ z. Lives new.view (addresses.Inode z.number))
+    → IfSome o (λ z. IsThere new.view (addresses.Inode z.number))
 over-lives old new op None turns none known = tt
 over-lives old new op (Some z) turns none known = lives-on old new op (addresses.Inode z.number) turns
     (known-lives old z none known)
@@ -733,13 +733,13 @@ turned-after a b c f g (Ok x) first second = turned-both a b c f g first second
 turned-after a b c f g (Err halt) first stops = stops-later a b f halt first stops
 
 pub always : {A : Type 0} (d : DraftValue) (n : ℕ) (P : A → Type 0) (r : Result A Halt) →
-    Lives d.view (addresses.Inode n) → MatchResult r P (StopsAt d (addresses_of d.view n)) →
+    IsThere d.view (addresses.Inode n) → MatchResult r P (StopsAt d (addresses_of d.view n)) →
     MatchResult r P (StopsAt d [])
 always d n P (Ok x) lives is = is
 always d n P (Err halt) lives stops = lives-stops d n halt lives stops
 
 pub always-counting : {A : Type 0} (d : DraftValue) (n : ℕ) (P : A → Type 0) (r : Result A Halt) →
-    Lives d.view (addresses.Inode n) → UsageLives d n → MatchResult r P (StopsAt d (counted_at d n)) →
+    IsThere d.view (addresses.Inode n) → UsageLives d n → MatchResult r P (StopsAt d (counted_at d n)) →
     MatchResult r P (StopsAt d [])
 always-counting d n P (Ok x) lives counts is = is
 always-counting d n P (Err halt) lives counts stops = counted-stops d n halt lives counts stops
@@ -780,7 +780,7 @@ module _ (d new : DraftValue) (a : RenameArguments) (r : Renaming) (cookie : ℕ
     Moves one = MatchResult result (λ _. Turns d new (moved (time_of d.ctx.moment) one)) (StopsAt d [])
 
     -- one directory changes once
-    pub moves-one : is_one_directory r ≡ true → Lives d.view (addresses.Inode r.to.known.number) →
+    pub moves-one : is_one_directory r ≡ true → IsThere d.view (addresses.Inode r.to.known.number) →
         MatchResult result (λ _. Turns d new (given (time_of d.ctx.moment) (Some a.from.name)))
         (StopsAt d (addresses_of d.view r.to.known.number)) →
         MatchResult result (λ _. Turns d new (entry_moved (time_of d.ctx.moment) a r cookie)) (StopsAt d [])
@@ -788,7 +788,7 @@ module _ (d new : DraftValue) (a : RenameArguments) (r : Renaming) (cookie : ℕ
         (λ _. Turns d new (given (time_of d.ctx.moment) (Some a.from.name))) result lives is)
 
     pub moves-two : (mid : DraftValue) → is_one_directory r ≡ false →
-        Lives d.view (addresses.Inode r.to.known.number) →
+        IsThere d.view (addresses.Inode r.to.known.number) →
         Turns d mid (name_left (time_of d.ctx.moment) r.from.known.number a.from.name (links_left r)) →
         MatchResult result (λ _. Turns mid new (given (time_of mid.ctx.moment) None))
         (StopsAt mid (addresses_of mid.view r.to.known.number)) →

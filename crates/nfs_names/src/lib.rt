@@ -7,7 +7,7 @@
 
 ghost use Rattle.std.specs.Prelude.{◌≡◌, true, IfOk};
 ghost use Rattle.nfs_machine.specs.declared.calls.Call.TheVariants as calls;
-ghost use Rattle.nfs_objects.specs.Attempt.{AsksFirst, Attempts, Ends, EndsFirst};
+ghost use Rattle.nfs_objects.specs.Attempt.{AsksFirst, Attempts, EndsCall, EndsFirst};
 ghost use Rattle.nfs_objects.specs.Modes.{Suits, modes_of};
 ghost use Rattle.nfs_names.specs.Calls.{is_name_call};
 
@@ -69,7 +69,7 @@ pub fn is_name_call(call: &NfsCall) -> bool
 fn ended<'a>(alloc: Global, call: &'a NfsCall, ctx: &'a Ctx, view: &'a View) -> Result<Change, Halt>
     requires names { is_name_call call.now ≡ true }
     requires suits { Suits (modes_of (calls.Nfs call.now)) view.now }
-    ensures ends { Ends (calls.Nfs call.now) ctx.now view.now result }
+    ensures ends { EndsCall (calls.Nfs call.now) ctx.now view.now result }
     ensures first { EndsFirst (calls.Nfs call.now) view.now result }
 {
     match call {

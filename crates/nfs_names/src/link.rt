@@ -2,7 +2,7 @@
 
 ghost use Rattle.std.specs.Prelude.{◌≡◌, ◌∷◌, [], IfOk, MatchResult};
 ghost use Rattle.nfs_machine.specs.declared.calls.Call.TheVariants as calls;
-ghost use Rattle.nfs_objects.specs.Attempt.{Ends, EndsFirst};
+ghost use Rattle.nfs_objects.specs.Attempt.{EndsCall, EndsFirst};
 ghost use Rattle.nfs_objects.specs.Begins.{Begins};
 ghost use Rattle.nfs_objects.specs.Knows.{Does, Knows};
 ghost use Rattle.nfs_objects.specs.Modes.{changing};
@@ -23,7 +23,7 @@ use nfs_wire::{Attributes, LinkArguments, LinkedReply, NfsCall, NfsReply, NfsSta
 /// Tries LINK.
 pub(crate) fn attempt(draft: Draft<'_>, arguments: &LinkArguments) -> Result<Change, Halt>
     requires { Begins (calls.Nfs (NfsCall.Link arguments.now)) draft }
-    ensures ends { Ends (calls.Nfs (NfsCall.Link arguments.now)) draft.entry.ctx draft.entry.view result }
+    ensures ends { EndsCall (calls.Nfs (NfsCall.Link arguments.now)) draft.entry.ctx draft.entry.view result }
     ensures first { EndsFirst (calls.Nfs (NfsCall.Link arguments.now)) draft.entry.view result }
 {
     match named(&draft, arguments.file.as_slice())? {
@@ -36,7 +36,7 @@ pub(crate) fn attempt(draft: Draft<'_>, arguments: &LinkArguments) -> Result<Cha
 fn attempt_of(mut draft: Draft<'_>, file: &Known, arguments: &LinkArguments) -> Result<Change, Halt>
     requires begins { Begins (calls.Nfs (NfsCall.Link arguments.now)) draft }
     requires file { Knows draft (λ k. Names draft.ctx arguments.now.file k file.now) }
-    ensures { Ends (calls.Nfs (NfsCall.Link arguments.now)) draft.entry.ctx draft.entry.view result }
+    ensures { EndsCall (calls.Nfs (NfsCall.Link arguments.now)) draft.entry.ctx draft.entry.view result }
 {
     match named(&draft, arguments.place.directory.as_slice())? {
         Ok(directory) => {

@@ -2,7 +2,7 @@
 
 ghost use Rattle.std.specs.Prelude.{◌≡◌, [], IfOk, MatchResult};
 ghost use Rattle.nfs_machine.specs.declared.calls.Call.TheVariants as calls;
-ghost use Rattle.nfs_objects.specs.Attempt.{Ends, EndsFirst};
+ghost use Rattle.nfs_objects.specs.Attempt.{EndsCall, EndsFirst};
 ghost use Rattle.nfs_objects.specs.Begins.{Begins};
 ghost use Rattle.nfs_objects.specs.Knows.{Knows};
 ghost use Rattle.nfs_inodes.specs.Known.{IsKnown};
@@ -20,7 +20,7 @@ use nfs_wire::{Attributes, Found as Object, LookupReply, NfsCall, NfsReply, NfsS
 /// Tries LOOKUP.
 pub(crate) fn attempt(draft: Draft<'_>, place: &Place) -> Result<Change, Halt>
     requires { Begins (calls.Nfs (NfsCall.Lookup place.now)) draft }
-    ensures ends { Ends (calls.Nfs (NfsCall.Lookup place.now)) draft.entry.ctx draft.entry.view result }
+    ensures ends { EndsCall (calls.Nfs (NfsCall.Lookup place.now)) draft.entry.ctx draft.entry.view result }
     ensures first { EndsFirst (calls.Nfs (NfsCall.Lookup place.now)) draft.entry.view result }
 {
     match named(&draft, place.directory.as_slice())? {

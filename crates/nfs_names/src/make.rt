@@ -3,7 +3,7 @@
 ghost use Rattle.std.specs.Prelude.{◌≡◌, ◌∷◌, [], IfErr, IfOk, IsSome, MatchResult, None, Ok, option_map};
 ghost use Rattle.nfs_machine.specs.Attributes.{entries_of};
 ghost use Rattle.nfs_machine.specs.Checks.{entry_of};
-ghost use Rattle.nfs_objects.specs.Asks.{Lives};
+ghost use Rattle.nfs_objects.specs.Asks.{IsThere};
 ghost use Rattle.nfs_objects.specs.Attempt.{HaltsFirst};
 ghost use Rattle.nfs_objects.specs.Calls.{addresses_of, usages_of};
 ghost use Rattle.nfs_objects.specs.Knows.{Does, Knows, ShowsExport};
@@ -132,7 +132,7 @@ fn make_there(
 ) -> Result<Result<Made, NfsStatus>, Halt>
     requires none { draft.old.writes ≡ [] }
     requires alone { draft.old.modes ≡ changing }
-    requires lives { Lives draft.old.view (addresses.Inode number) }
+    requires lives { IsThere draft.old.view (addresses.Inode number) }
     ensures { MatchResult result
         (Does draft.old draft.new (IsThereEnd (there_as there.entry draft.old.ctx) number))
         (StopsAt draft.old []) }
@@ -154,7 +154,7 @@ fn make_new(
     requires alone { draft.old.modes ≡ changing }
     requires known { Knows draft.old (λ k. IsKnown k.state directory.now.known) }
     requires exported { ShowsExport draft.old directory.now.known.export }
-    requires lives { Lives draft.old.view (addresses.Inode directory.now.known.number) }
+    requires lives { IsThere draft.old.view (addresses.Inode directory.now.known.number) }
     requires absent { Knows draft.old (λ k. option_map (λ e. e.number)
         (entry_of (entries_of (content_at k.state directory.now.known.number)) name.now) ≡ None) }
     ensures { MatchResult result

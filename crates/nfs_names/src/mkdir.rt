@@ -1,7 +1,7 @@
 //! MKDIR: a new directory under a name (RFC 1813, 3.3.9).
 
 ghost use Rattle.nfs_machine.specs.declared.calls.Call.TheVariants as calls;
-ghost use Rattle.nfs_objects.specs.Attempt.{Ends, EndsFirst};
+ghost use Rattle.nfs_objects.specs.Attempt.{EndsCall, EndsFirst};
 ghost use Rattle.nfs_objects.specs.Begins.{Begins};
 
 use crate::make::{There, make};
@@ -13,7 +13,7 @@ use nfs_wire::{MkdirArguments, NfsCall, NfsReply};
 /// Tries MKDIR.
 pub(crate) fn attempt(mut draft: Draft<'_>, arguments: &MkdirArguments) -> Result<Change, Halt>
     requires { Begins (calls.Nfs (NfsCall.Mkdir arguments.now)) draft }
-    ensures ends { Ends (calls.Nfs (NfsCall.Mkdir arguments.now)) draft.entry.ctx draft.entry.view result }
+    ensures ends { EndsCall (calls.Nfs (NfsCall.Mkdir arguments.now)) draft.entry.ctx draft.entry.view result }
     ensures first { EndsFirst (calls.Nfs (NfsCall.Mkdir arguments.now)) draft.entry.view result }
 {
     let wanted = directory_wanted(&arguments.attributes);

@@ -4,7 +4,7 @@ ghost use Rattle.std.specs.Prelude.{◌≡◌, [], List, MatchResult, Ok, ℕ};
 ghost use Rattle.nfs_machine.specs.NameSteps.{create_over};
 ghost use Rattle.nfs_machine.specs.State.{Content, Socket};
 ghost use Rattle.nfs_machine.specs.Times.{time_of};
-ghost use Rattle.nfs_objects.specs.Asks.{Lives};
+ghost use Rattle.nfs_objects.specs.Asks.{IsThere};
 ghost use Rattle.nfs_objects.specs.Knows.{Does, Turns};
 ghost use Rattle.nfs_objects.specs.Modes.{changing};
 ghost use Rattle.nfs_objects.specs.declared.address.Addr.TheVariants as addresses;
@@ -26,7 +26,7 @@ pub(crate) fn create_over(
 ) -> Result<Result<Made, NfsStatus>, Halt>
     requires none { draft.old.writes ≡ [] }
     requires alone { draft.old.modes ≡ changing }
-    requires lives { Lives draft.old.view (addresses.Inode number) }
+    requires lives { IsThere draft.old.view (addresses.Inode number) }
     ensures { MatchResult result
         (Does draft.old draft.new (IsOverEnd draft.old.ctx how.now number))
         (StopsAt draft.old []) }

@@ -3,7 +3,7 @@
 ghost use Rattle.std.specs.Prelude.{◌≡◌, [], map, IfOk, MatchResult};
 ghost use Rattle.nfs_machine.specs.PageSteps.{page_entry};
 ghost use Rattle.nfs_machine.specs.declared.calls.Call.TheVariants as calls;
-ghost use Rattle.nfs_objects.specs.Attempt.{Ends, EndsFirst};
+ghost use Rattle.nfs_objects.specs.Attempt.{EndsCall, EndsFirst};
 ghost use Rattle.nfs_objects.specs.Begins.{Begins};
 ghost use Rattle.nfs_objects.specs.Knows.{Knows};
 ghost use Rattle.nfs_inodes.specs.Known.{IsKnown};
@@ -24,7 +24,7 @@ use std::alloc::{AllocError, Global};
 /// Tries READDIR.
 pub(crate) fn attempt(draft: Draft<'_>, arguments: &ReaddirArguments) -> Result<Change, Halt>
     requires { Begins (calls.Nfs (NfsCall.Readdir arguments.now)) draft }
-    ensures ends { Ends (calls.Nfs (NfsCall.Readdir arguments.now)) draft.entry.ctx draft.entry.view result }
+    ensures ends { EndsCall (calls.Nfs (NfsCall.Readdir arguments.now)) draft.entry.ctx draft.entry.view result }
     ensures first { EndsFirst (calls.Nfs (NfsCall.Readdir arguments.now)) draft.entry.view result }
 {
     match named(&draft, arguments.directory.as_slice())? {

@@ -4,8 +4,8 @@ ghost use Rattle.std.specs.Prelude.{◌≡◌, [], map, take, MatchResult};
 ghost use Rattle.nfs_machine.specs.PageSteps.{full_entry};
 ghost use Rattle.nfs_machine.specs.State.{Entry};
 ghost use Rattle.nfs_machine.specs.declared.calls.Call.TheVariants as calls;
-ghost use Rattle.nfs_objects.specs.Asks.{Lives};
-ghost use Rattle.nfs_objects.specs.Attempt.{Ends, EndsFirst};
+ghost use Rattle.nfs_objects.specs.Asks.{IsThere};
+ghost use Rattle.nfs_objects.specs.Attempt.{EndsCall, EndsFirst};
 ghost use Rattle.nfs_objects.specs.Begins.{Begins};
 ghost use Rattle.nfs_objects.specs.Knows.{Knows};
 ghost use Rattle.nfs_inodes.specs.Gathers.{EachLives};
@@ -27,7 +27,7 @@ use nfs_wire::{
 /// Tries READDIRPLUS.
 pub(crate) fn attempt(draft: Draft<'_>, arguments: &ReaddirplusArguments) -> Result<Change, Halt>
     requires { Begins (calls.Nfs (NfsCall.Readdirplus arguments.now)) draft }
-    ensures ends { Ends (calls.Nfs (NfsCall.Readdirplus arguments.now)) draft.entry.ctx draft.entry.view result }
+    ensures ends { EndsCall (calls.Nfs (NfsCall.Readdirplus arguments.now)) draft.entry.ctx draft.entry.view result }
     ensures first { EndsFirst (calls.Nfs (NfsCall.Readdirplus arguments.now)) draft.entry.view result }
 {
     match named(&draft, arguments.directory.as_slice())? {
@@ -94,7 +94,7 @@ fn entries(draft: &Draft<'_>, front: &Front<'_>) -> Result<FullNames, Halt>
 
 /// An entry as READDIRPLUS lists it.
 fn full_entry(draft: &Draft<'_>, entry: &Listed<'_>) -> Result<FullEntry, Halt>
-    requires { Lives draft.now.view (Addr.Inode entry.now.number) }
+    requires { IsThere draft.now.view (Addr.Inode entry.now.number) }
     ensures { MatchResult result
         (λ shown. Knows draft.now (λ k. full_entry k.state draft.now.ctx (listed_entry entry.now) ≡ shown))
         (StopsAt draft.now []) }

@@ -2,7 +2,7 @@
 
 ghost use Rattle.std.specs.Prelude.{◌≡◌, ◌∷◌, [], MatchResult};
 ghost use Rattle.nfs_machine.specs.RemoveSteps.{empty_directory};
-ghost use Rattle.nfs_objects.specs.Attempt.{Ends, EndsFirst};
+ghost use Rattle.nfs_objects.specs.Attempt.{EndsCall, EndsFirst};
 ghost use Rattle.nfs_objects.specs.Begins.{Begins};
 ghost use Rattle.nfs_objects.specs.Calls.{addresses_of};
 ghost use Rattle.nfs_objects.specs.Knows.{Does, Knows};
@@ -33,7 +33,7 @@ pub(crate) enum Taking {
 /// Tries REMOVE or RMDIR.
 pub(crate) fn attempt(mut draft: Draft<'_>, taking: Taking, place: &Place) -> Result<Change, Halt>
     requires { Begins (call_of taking place.now) draft }
-    ensures ends { Ends (call_of taking place.now) draft.entry.ctx draft.entry.view result }
+    ensures ends { EndsCall (call_of taking place.now) draft.entry.ctx draft.entry.view result }
     ensures first { EndsFirst (call_of taking place.now) draft.entry.view result }
 {
     match named(&draft, place.directory.as_slice())? {

@@ -8,8 +8,8 @@ ghost use Rattle.nfs_machine.specs.RenameSteps.{IsWithin, is_compatible};
 ghost use Rattle.nfs_machine.specs.Times.{time_of};
 ghost use Rattle.nfs_machine.specs.WellFormed.{WellFormed};
 ghost use Rattle.nfs_machine.specs.declared.calls.Call.TheVariants as calls;
-ghost use Rattle.nfs_objects.specs.Asks.{Lives};
-ghost use Rattle.nfs_objects.specs.Attempt.{Ends, EndsFirst};
+ghost use Rattle.nfs_objects.specs.Asks.{IsThere};
+ghost use Rattle.nfs_objects.specs.Attempt.{EndsCall, EndsFirst};
 ghost use Rattle.nfs_objects.specs.Begins.{Begins};
 ghost use Rattle.nfs_objects.specs.Calls.{named_by};
 ghost use Rattle.nfs_objects.specs.Drafts.{MayChange};
@@ -57,7 +57,7 @@ pub(crate) fn attempt(
 ) -> Result<Change, Halt>
     requires begins { Begins (calls.Nfs (NfsCall.Rename arguments.now)) draft }
     requires reads { length draft.view.entries ≤ reads }
-    ensures ends { Ends (calls.Nfs (NfsCall.Rename arguments.now)) draft.entry.ctx draft.entry.view result }
+    ensures ends { EndsCall (calls.Nfs (NfsCall.Rename arguments.now)) draft.entry.ctx draft.entry.view result }
     ensures first { EndsFirst (calls.Nfs (NfsCall.Rename arguments.now)) draft.entry.view result }
 {
     match named(&draft, arguments.from.directory.as_slice())? {
@@ -77,7 +77,7 @@ fn attempt_from(
     requires begins { Begins (calls.Nfs (NfsCall.Rename arguments.now)) draft }
     requires names { Knows draft (λ k. Names draft.ctx arguments.now.from.directory k from.now) }
     requires number { HasNumber arguments.now.from.directory from.now.number }
-    ensures { Ends (calls.Nfs (NfsCall.Rename arguments.now)) draft.entry.ctx draft.entry.view result }
+    ensures { EndsCall (calls.Nfs (NfsCall.Rename arguments.now)) draft.entry.ctx draft.entry.view result }
 {
     match named(&draft, arguments.to.directory.as_slice())? {
         Ok(to) => {
@@ -316,8 +316,8 @@ fn move_entry(
     cookie: u64,
 ) -> Result<(), Halt>
     requires alone { MayRename draft.old renaming.now }
-    requires from { Lives draft.old.view (addresses.Inode renaming.now.from.known.number) }
-    requires to { Lives draft.old.view (addresses.Inode renaming.now.to.known.number) }
+    requires from { IsThere draft.old.view (addresses.Inode renaming.now.from.known.number) }
+    requires to { IsThere draft.old.view (addresses.Inode renaming.now.to.known.number) }
     ensures { MatchResult result
         (λ _. Turns draft.old draft.new
         (entry_moved (time_of draft.old.ctx.moment) arguments.now renaming.now cookie))
@@ -345,7 +345,7 @@ fn move_entry(
 /// Takes the new name from what had it.
 fn lose_replaced(draft: &mut Draft<'_>, renaming: &Renaming) -> Result<(), Halt>
     requires alone { IfSome renaming.now.replaced (λ o. MayChange draft.old (addresses.Inode o.number)) }
-    requires lives { IfSome renaming.now.replaced (λ o. Lives draft.old.view (addresses.Inode o.number)) }
+    requires lives { IfSome renaming.now.replaced (λ o. IsThere draft.old.view (addresses.Inode o.number)) }
     requires counts { IfSome renaming.now.replaced (λ o. UsageLives draft.old o.number) }
     ensures { MatchResult result
         (λ _. Turns draft.old draft.new (replaced_lost (time_of draft.old.ctx.moment) renaming.now))

@@ -1,7 +1,7 @@
 //! SYMLINK: a new symbolic link under a name (RFC 1813, 3.3.10).
 
 ghost use Rattle.nfs_machine.specs.declared.calls.Call.TheVariants as calls;
-ghost use Rattle.nfs_objects.specs.Attempt.{Ends, EndsFirst};
+ghost use Rattle.nfs_objects.specs.Attempt.{EndsCall, EndsFirst};
 ghost use Rattle.nfs_objects.specs.Begins.{Begins};
 
 use crate::make::{There, make};
@@ -13,7 +13,7 @@ use nfs_wire::{NfsCall, NfsReply, SymlinkArguments};
 /// Tries SYMLINK.
 pub(crate) fn attempt(mut draft: Draft<'_>, arguments: &SymlinkArguments) -> Result<Change, Halt>
     requires { Begins (calls.Nfs (NfsCall.Symlink arguments.now)) draft }
-    ensures ends { Ends (calls.Nfs (NfsCall.Symlink arguments.now)) draft.entry.ctx draft.entry.view result }
+    ensures ends { EndsCall (calls.Nfs (NfsCall.Symlink arguments.now)) draft.entry.ctx draft.entry.view result }
     ensures first { EndsFirst (calls.Nfs (NfsCall.Symlink arguments.now)) draft.entry.view result }
 {
     let wanted = link_wanted(&arguments.attributes, arguments.text.as_slice());

@@ -6,7 +6,7 @@ use Rattle.nfs_objects.proofs.Seen.{all-append, is_addr-same, seen-address, seen
 use Rattle.nfs_objects.specs.Asks.{IsFirst}
 use Rattle.nfs_objects.specs.Fits.{vacant}
 use Rattle.nfs_objects.specs.Drafts.{IsDraft, MayWrite}
-use Rattle.nfs_objects.specs.Modes.{Suits, covers, mode_at}
+use Rattle.nfs_objects.specs.Modes.{Suits, covers, held_mode}
 use Rattle.nfs_objects.specs.Promise.{Given, Held, IsGeneration, IsGiven}
 use Rattle.nfs_objects.specs.Values.{DraftValue, ModesValue, Seen, ViewValue, held_at, is_addr, known_at}
 use Rattle.nfs_objects.specs.Values.{seen_at, shown_at, written_at}
@@ -44,7 +44,7 @@ alone Shared e = cc
 
 -- where a view suits the modes, what it shows is held as they want
 suits-held : (modes : ModesValue) (view : ViewValue) (a : Addr) → Suits modes view
-    → mode_at modes view a ≡ Exclusive → IsSome (shown_at view.entries a) → held_at view.entries a ≡ Some Exclusive
+    → held_mode modes view a ≡ Exclusive → IsSome (shown_at view.entries a) → held_at view.entries a ≡ Some Exclusive
 suits-held modes view a suits exclusive shown = at (seen_at view.entries a) refl shown
   where
     at : (s : Option Seen) → seen_at view.entries a ≡ s → IsSome
@@ -54,7 +54,7 @@ suits-held modes view a suits exclusive shown = at (seen_at view.entries a) refl
         let no : IsSome (option_map (λ (e : Seen). e.object) None) =
         subst (λ (s : Option Seen). IsSome (option_map (λ (e : Seen). e.object) s)) is some in cc
     at (Some x) is some =
-        let covered = seen-all (λ (e : Seen). covers e.mode (mode_at modes view e.address) ≡ true) view.entries a x
+        let covered = seen-all (λ (e : Seen). covers e.mode (held_mode modes view e.address) ≡ true) view.entries a x
         suits
         is in
         let same = seen-address view.entries a x is in
@@ -62,7 +62,7 @@ suits-held modes view a suits exclusive shown = at (seen_at view.entries a) refl
         ∙
         ap Some
         (alone x.mode (subst (λ m. covers x.mode m ≡ true) exclusive
-        (subst (λ b. covers x.mode (mode_at modes view b) ≡ true) same covered)))
+        (subst (λ b. covers x.mode (held_mode modes view b) ≡ true) same covered)))
 
 -- what is known and written is held
 held-known : (ws : List (Addr × Option Object)) (view : ViewValue) (a : Addr) (known : Option (Option Object)) →
@@ -110,7 +110,7 @@ module _ (d : DraftValue) (is : IsDraft d.modes d.view d.writes) where
   given-with addresses.Mounts o may = tt
   given-with (addresses.Usage e g) o may = tt
 
-  pub drafted : (a : Addr) (o : Option Object) → mode_at d.modes d.view a ≡ Exclusive → IsSome (known_at d a) →
+  pub drafted : (a : Addr) (o : Option Object) → held_mode d.modes d.view a ≡ Exclusive → IsSome (known_at d a) →
       MayWrite d a o
       → IsDraft d.modes d.view (d.writes ++ (a, o) ∷ [])
   drafted a o exclusive some may = record {

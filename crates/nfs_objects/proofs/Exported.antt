@@ -4,7 +4,7 @@ use Rattle.std.proofs.Common.{List, refl, sym, ◌∙◌, ap, subst}
 use Rattle.std.specs.FinMap.{get}
 use Rattle.nfs_machine.specs.Exports.{LivingExport}
 use Rattle.nfs_machine.specs.State.{Living}
-use Rattle.nfs_objects.specs.Asks.{Lives}
+use Rattle.nfs_objects.specs.Asks.{IsThere}
 use Rattle.nfs_objects.specs.Stands.{Kept, Represents, inode_in, inode_of, lives_in, living_in, living_of_inode}
 use Rattle.nfs_objects.specs.Store.{Store}
 use Rattle.nfs_objects.specs.Values.{ViewValue}
@@ -82,5 +82,5 @@ object-stands s k n o stands at =
     subst (λ (x : Option Object). IsSome x) (sym found.there.stands) refl
 
 -- each store has a table of exports
-pub table-lives : (view : ViewValue) → Lives view addresses.Exports
+pub table-lives : (view : ViewValue) → IsThere view addresses.Exports
 table-lives view = λ s k fits stands sound formed. stands.tables.table

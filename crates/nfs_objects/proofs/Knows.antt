@@ -12,11 +12,11 @@ use Rattle.nfs_machine.specs.declared.calls.Call.{Call}
 use Rattle.nfs_machine.specs.declared.calls.Call.TheVariants as calls
 use Rattle.nfs_machine.specs.declared.handle.Handle.{Handle}
 use Rattle.nfs_objects.proofs.Seen.{all-map, unknown-unseen}
-use Rattle.nfs_objects.specs.Asks.{Asks, IsFresh, Lacks, Lives, MayAsk}
-use Rattle.nfs_objects.specs.Attempt.{Stops}
+use Rattle.nfs_objects.specs.Asks.{Asks, WantsNumber, Lacks, IsThere, MayAsk}
+use Rattle.nfs_objects.specs.Attempt.{StopsCall}
 use Rattle.nfs_objects.specs.Calls.{IsAmong, addresses_of, handles_of, named_by, objects_at, usages_of}
 use Rattle.nfs_objects.specs.Knows.{Turns}
-use Rattle.nfs_objects.specs.Modes.{mode_at}
+use Rattle.nfs_objects.specs.Modes.{held_mode}
 use Rattle.nfs_objects.specs.Stands.{Kept}
 use Rattle.nfs_objects.specs.Sums.{group_of}
 use Rattle.nfs_objects.specs.Values.{DraftValue, ModesValue, ViewValue, seen_at}
@@ -29,10 +29,10 @@ use Rattle.nfs_objects.specs.declared.modes.Mode.{Mode}
 -- one address that is asked for
 pub asks-one : (modes : ModesValue) (named : List Addr) (view : ViewValue) (a : Addr) (asked : List (Addr × Mode)) →
     seen_at view.entries a ≡ None
-    → asked ≡ (a, mode_at modes view a) ∷ [] → IsAmong named a ⊎ Lives view a → Asks modes named view asked
+    → asked ≡ (a, held_mode modes view a) ∷ [] → IsAmong named a ⊎ IsThere view a → Asks modes named view asked
 asks-one modes named view a asked unseen is bounded =
     subst (Asks modes named view) (sym is) (record {
-      some = λ e. (let no : (a, mode_at modes view a) ∷ [] ≡ [] = e in cc);
+      some = λ e. (let no : (a, held_mode modes view a) ∷ [] ≡ [] = e in cc);
       once = (tt, tt);
       each = (record { unseen = unseen; mode = refl; bounded = bounded }, tt);
     })
@@ -40,35 +40,35 @@ asks-one modes named view a asked unseen is bounded =
 -- ---- how a call stops
 -- an address that the draft lacks stops the call that names it, or where something stands
 pub lacks-stops : (d : DraftValue) (named : List Addr) (numbers : ℕ) (a : Addr) (halt : Halt) → Lacks d a halt →
-    IsAmong named a ⊎ Lives d.view a → Stops d.modes named numbers d.view halt
+    IsAmong named a ⊎ IsThere d.view a → StopsCall d.modes named numbers d.view halt
 lacks-stops d named numbers a (Need asked) l bounded = asks-one d.modes named d.view a asked.items
     (unknown-unseen d a l.unknown) l.asked bounded
 lacks-stops d named numbers a (Fresh count) l bounded = absurd l.asked
 lacks-stops d named numbers a Memory l bounded = tt
 
 -- and so does a number that is wanted
-pub fresh-stops : (d : DraftValue) (named : List Addr) (halt : Halt) → IsFresh d halt →
-    Stops d.modes named 1 d.view halt
+pub fresh-stops : (d : DraftValue) (named : List Addr) (halt : Halt) → WantsNumber d halt →
+    StopsCall d.modes named 1 d.view halt
 fresh-stops d named (Fresh count) fresh = fresh
 fresh-stops d named (Need asked) fresh = absurd fresh
 fresh-stops d named Memory fresh = absurd fresh
 
 -- what stops the call with a changed draft stops it
 pub turned-stops : (d new : DraftValue) (op : Kept → Kept) (named : List Addr) (numbers : ℕ) (halt : Halt) →
-    Turns d new op → Stops new.modes named numbers new.view halt → Stops d.modes named numbers d.view halt
+    Turns d new op → StopsCall new.modes named numbers new.view halt → StopsCall d.modes named numbers d.view halt
 turned-stops d new op named numbers halt turns stops =
-    subst (λ modes. Stops modes named numbers d.view halt) turns.modes
-    (subst (λ view. Stops new.modes named numbers view halt) turns.view stops)
+    subst (λ modes. StopsCall modes named numbers d.view halt) turns.modes
+    (subst (λ view. StopsCall new.modes named numbers view halt) turns.view stops)
 
 -- each of these addresses is named, or something stands there
 abbrev pub Covers : (named : List Addr) → ViewValue → List Addr → Type 0
-Covers named view few = AllByRecursion (λ (a : Addr). IsAmong named a ⊎ Lives view a) few
+Covers named view few = AllByRecursion (λ (a : Addr). IsAmong named a ⊎ IsThere view a) few
 
 covered : (named : List Addr) (view : ViewValue) (few : List Addr) → Covers named view few → (a : Addr) →
-    IsAmong few a → IsAmong named a ⊎ Lives view a
+    IsAmong few a → IsAmong named a ⊎ IsThere view a
 covered named view [] covers a among = absurd among
 covered named view (b ∷ few) covers a (inl same) =
-    subst (λ c. IsAmong named c ⊎ Lives view c) same covers.0
+    subst (λ c. IsAmong named c ⊎ IsThere view c) same covers.0
 covered named view (b ∷ few) covers a (inr among) = covered named view few covers.1 a among
 
 asks-wider : (modes : ModesValue) (few named : List Addr) (view : ViewValue) (asked : List (Addr × Mode)) →
@@ -90,7 +90,7 @@ asks-wider modes few named view asked covers asks = record {
 
 -- what asks for some of these addresses stops a call that names them, or where something stands
 pub stops-within : (modes : ModesValue) (few named : List Addr) (numbers : ℕ) (view : ViewValue) (halt : Halt) →
-    Covers named view few → Stops modes few numbers view halt → Stops modes named numbers view halt
+    Covers named view few → StopsCall modes few numbers view halt → StopsCall modes named numbers view halt
 stops-within modes few named numbers view (Need asked) covers stops =
     asks-wider modes few named view asked.items covers stops
 stops-within modes few named numbers view (Fresh count) covers stops = stops
@@ -98,7 +98,7 @@ stops-within modes few named numbers view Memory covers stops = tt
 
 -- and what asks for no number stops it, however many it wants
 pub stops-wider : (modes : ModesValue) (few named : List Addr) (numbers : ℕ) (view : ViewValue) (halt : Halt) →
-    Covers named view few → Stops modes few 0 view halt → Stops modes named numbers view halt
+    Covers named view few → StopsCall modes few 0 view halt → StopsCall modes named numbers view halt
 stops-wider modes few named numbers view (Need asked) covers stops =
     asks-wider modes few named view asked.items covers stops
 stops-wider modes few named numbers view (Fresh count) covers stops =
@@ -115,7 +115,7 @@ covers-among (a ∷ few) named view f =
 pub covers-both : (named : List Addr) (view : ViewValue) (xs ys : List Addr) → Covers named view xs →
     Covers named view ys → Covers named view (xs ++ ys)
 covers-both named view xs ys left right =
-    all-joined (λ (a : Addr). IsAmong named a ⊎ Lives view a) xs ys left right
+    all-joined (λ (a : Addr). IsAmong named a ⊎ IsThere view a) xs ys left right
 
 pub among-behind : (more addresses : List Addr) (a : Addr) → IsAmong addresses a → IsAmong (more ++ addresses) a
 among-behind [] addresses a among = among

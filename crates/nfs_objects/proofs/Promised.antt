@@ -12,7 +12,7 @@ use Rattle.nfs_machine.specs.declared.calls.Reply.{Reply}
 use Rattle.nfs_objects.specs.Drafts.{MayChange}
 use Rattle.nfs_objects.specs.Fits.{Fits}
 use Rattle.nfs_objects.specs.Knows.{Does, Turns, Possible, ending}
-use Rattle.nfs_objects.specs.Modes.{mode_at}
+use Rattle.nfs_objects.specs.Modes.{held_mode}
 use Rattle.nfs_objects.specs.Promise.{Given, Held, IsPromised}
 use Rattle.nfs_objects.specs.Sound.{Sound}
 use Rattle.nfs_objects.specs.Stands.{Kept, Represents}
@@ -40,8 +40,8 @@ turns-both a b c f g x y = record {
 pub turned-change : (old new : DraftValue) (op : Kept → Kept) → Turns old new op → (a : Addr) →
     MayChange old a → MayChange new a
 turned-change old new op turns a may =
-    subst (λ modes. mode_at modes new.view a ≡ Exclusive) (sym turns.modes)
-    (subst (λ view. mode_at old.modes view a ≡ Exclusive) (sym turns.view) may)
+    subst (λ modes. held_mode modes new.view a ≡ Exclusive) (sym turns.modes)
+    (subst (λ view. held_mode old.modes view a ≡ Exclusive) (sym turns.view) may)
 
 -- the store that was possible before is so afterwards
 pub possible-after : (old new : DraftValue) (op : Kept → Kept) → Turns old new op → (s : Store) (k : Kept) →

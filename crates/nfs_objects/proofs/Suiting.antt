@@ -22,7 +22,7 @@ use Rattle.nfs_objects.specs.Drafts.{MayChange}
 use Rattle.nfs_objects.specs.Fits.{vacant}
 use Rattle.nfs_objects.specs.ModeLaws.{GrowsSuitably, IsShared, LiesAt, RenamesHoldTheirs, RenamesShareOthers}
 use Rattle.nfs_objects.specs.ModeLaws.{ShowsPlace, StartsSuitably}
-use Rattle.nfs_objects.specs.Modes.{Suits, changing, covers, is_apart, is_number, led_at, led_in, mode_at, modes_of}
+use Rattle.nfs_objects.specs.Modes.{Suits, changing, covers, is_apart, is_number, led_at, led_in, held_mode, modes_of}
 use Rattle.nfs_objects.specs.Modes.{only_reads}
 use Rattle.nfs_objects.specs.Values.{DraftValue, ModesValue, Seen, ViewValue, seen_at, shown_at}
 use Rattle.nfs_objects.specs.declared.address.Addr.{Addr}
@@ -102,11 +102,11 @@ module _ (view : ViewValue) (more : List Seen) (reserved : List Reserved) where
       let both = and_parts (is_apart view a.from n) (is_apart view a.to n) e in
       ap (λ b. b && is_apart wider a.to n) (apart-wider a.from n both.0) ∙ apart-wider a.to n both.1
 
-  covers-wider : (modes : ModesValue) (a : Addr) → covers (mode_at modes view a) (mode_at modes wider a) ≡ true
+  covers-wider : (modes : ModesValue) (a : Addr) → covers (held_mode modes view a) (held_mode modes wider a) ≡ true
   covers-wider modes addresses.Exports = refl
   covers-wider modes (addresses.Inode n) =
       elim (only_reads modes.renames view n) as (λ b. only_reads modes.renames view n ≡ b →
-      covers (cond b Shared modes.inodes) (mode_at modes wider (addresses.Inode n)) ≡ true) [
+      covers (cond b Shared modes.inodes) (held_mode modes wider (addresses.Inode n)) ≡ true) [
         | true ↦ λ e. ap (λ b. covers Shared (cond b Shared modes.inodes)) (reads-wider modes.renames n e)
         | false ↦ λ e.
             elim (only_reads modes.renames wider n) as
@@ -120,13 +120,13 @@ module _ (view : ViewValue) (more : List Seen) (reserved : List Reserved) where
 
   -- the view suits the modes with more entries that are held as it wanted them
   pub suits-wider : (modes : ModesValue) → Suits modes view →
-      AllByRecursion (λ (e : Seen). covers e.mode (mode_at modes view e.address) ≡ true) more → Suits modes wider
+      AllByRecursion (λ (e : Seen). covers e.mode (held_mode modes view e.address) ≡ true) more → Suits modes wider
   suits-wider modes suits new =
-      all-map (λ (e : Seen). covers e.mode (mode_at modes view e.address) ≡ true)
-      (λ (e : Seen). covers e.mode (mode_at modes wider e.address) ≡ true)
-      (λ e was. covers-both e.mode (mode_at modes view e.address) (mode_at modes wider e.address) was
+      all-map (λ (e : Seen). covers e.mode (held_mode modes view e.address) ≡ true)
+      (λ (e : Seen). covers e.mode (held_mode modes wider e.address) ≡ true)
+      (λ e was. covers-both e.mode (held_mode modes view e.address) (held_mode modes wider e.address) was
       (covers-wider modes e.address)) (view.entries ++ more)
-      (all-joined (λ (e : Seen). covers e.mode (mode_at modes view e.address) ≡ true) view.entries more suits new)
+      (all-joined (λ (e : Seen). covers e.mode (held_mode modes view e.address) ≡ true) view.entries more suits new)
 
 -- ---- what may be changed
 -- a call that may change an inode may change what its group uses
@@ -140,7 +140,7 @@ change-counts d n =
 
 -- a call that may change each object that it reads
 pub change-each : (d : DraftValue) (n : ℕ) → d.modes ≡ changing → MayChange d (addresses.Inode n)
-change-each d n is = subst (λ modes. mode_at modes d.view (addresses.Inode n) ≡ Exclusive) (sym is) refl
+change-each d n is = subst (λ modes. held_mode modes d.view (addresses.Inode n) ≡ Exclusive) (sym is) refl
 
 and-false : (b : Bool) → b && false ≡ false
 and-false true = refl
@@ -151,7 +151,7 @@ module _ (d : DraftValue) (a : RenameArguments)
     (modes : d.modes ≡ record { inodes = Exclusive; mounts = Shared; renames = Some a }) where
   at-place : (n : ℕ) → only_reads (Some a) d.view n ≡ false → MayChange d (addresses.Inode n)
   at-place n not_read =
-      subst (λ m. mode_at m d.view (addresses.Inode n) ≡ Exclusive) (sym modes)
+      subst (λ m. held_mode m d.view (addresses.Inode n) ≡ Exclusive) (sym modes)
       (ap (λ b. cond b Shared Exclusive) not_read)
 
   pub change-from : (n : ℕ) → is_apart d.view a.from n ≡ false → MayChange d (addresses.Inode n)
@@ -193,19 +193,19 @@ module _ (view : ViewValue) (place : Place) (h : Handle) (names : handle_of plac
 -- what is held in the mode that was asked for
 asked-suits : (modes : ModesValue) (named : List Addr) (view : ViewValue) (asked : List (Addr × Mode)) →
     AllByRecursion (MayAsk modes named view) asked → (e : Seen) → WasAsked asked (e.address, e.mode) →
-    covers e.mode (mode_at modes view e.address) ≡ true
+    covers e.mode (held_mode modes view e.address) ≡ true
 asked-suits modes named view [] all e was = absurd was
 asked-suits modes named view (a ∷ asked) all e (inl same) =
-    let is : e.mode ≡ mode_at modes view e.address =
+    let is : e.mode ≡ held_mode modes view e.address =
     sym (ap (λ (b : Addr × Mode). b.1) same) ∙ all.0.mode
-    ∙ ap (λ (b : Addr × Mode). mode_at modes view b.0) same in
+    ∙ ap (λ (b : Addr × Mode). held_mode modes view b.0) same in
     subst (λ m. covers e.mode m ≡ true) is (covers-self e.mode)
 asked-suits modes named view (a ∷ asked) all e (inr rest) = asked-suits modes named view asked all.1 e rest
 
 pub all-asked : (modes : ModesValue) (named : List Addr) (view : ViewValue) (asked : List (Addr × Mode)) →
     AllByRecursion (MayAsk modes named view) asked → (entries : List Seen) →
     AllByRecursion (WasAsked asked) (held entries) →
-    AllByRecursion (λ (e : Seen). covers e.mode (mode_at modes view e.address) ≡ true) entries
+    AllByRecursion (λ (e : Seen). covers e.mode (held_mode modes view e.address) ≡ true) entries
 all-asked modes named view asked all [] were = tt
 all-asked modes named view asked all (e ∷ entries) were =
     (asked-suits modes named view asked all e were.0, all-asked modes named view asked all entries were.1)
@@ -215,7 +215,7 @@ starts-suitably call = tt
 
 -- a new number's entry is held alone
 pub vacant-suit : (modes : ModesValue) (view : ViewValue) (numbers : List Reserved) →
-    AllByRecursion (λ (e : Seen). covers e.mode (mode_at modes view e.address) ≡ true) (map vacant numbers)
+    AllByRecursion (λ (e : Seen). covers e.mode (held_mode modes view e.address) ≡ true) (map vacant numbers)
 vacant-suit modes view [] = tt
 vacant-suit modes view (r ∷ numbers) = (refl, vacant-suit modes view numbers)
 

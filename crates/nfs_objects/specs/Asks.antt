@@ -5,7 +5,7 @@ use Rattle.std.specs.List.{AllByRecursion}
 use Rattle.nfs_machine.specs.WellFormed.{WellFormed}
 use Rattle.nfs_objects.specs.Calls.{IsAmong}
 use Rattle.nfs_objects.specs.Fits.{Fits}
-use Rattle.nfs_objects.specs.Modes.{mode_at}
+use Rattle.nfs_objects.specs.Modes.{held_mode}
 use Rattle.nfs_objects.specs.Sound.{Sound}
 use Rattle.nfs_objects.specs.Stands.{Kept, Represents}
 use Rattle.nfs_objects.specs.Store.{Store}
@@ -18,16 +18,16 @@ use Rattle.nfs_objects.specs.declared.modes.Mode.{Mode}
 use Rattle.nfs_objects.specs.declared.view.Reserved.{Reserved}
 
 -- something stands at the address in every sound store that the view fits
-abbrev pub Lives : ViewValue → Addr → Type 0
-Lives view a = (s : Store) (k : Kept) → Fits view s → Represents s k → Sound k → WellFormed k.state →
+abbrev pub IsThere : ViewValue → Addr → Type 0
+IsThere view a = (s : Store) (k : Kept) → Fits view s → Represents s k → Sound k → WellFormed k.state →
     IsSome (s.at a)
 
 -- An address may be asked for, in this mode: the view has it in no mode, so there is no upgrade; what the call may
 -- change is asked for alone, and what it only reads shared; and the call names the address, or something stands there.
 pub record MayAsk (modes : ModesValue) (named : List Addr) (view : ViewValue) (a : Addr × Mode) : Type 0 where
   pub unseen : seen_at view.entries a.0 ≡ None
-  pub mode : a.1 ≡ mode_at modes view a.0
-  pub bounded : IsAmong named a.0 ⊎ Lives view a.0
+  pub mode : a.1 ≡ held_mode modes view a.0
+  pub bounded : IsAmong named a.0 ⊎ IsThere view a.0
 
 -- no address stands twice
 abbrev pub EachOnce : List (Addr × Mode) → Type 0
@@ -49,7 +49,7 @@ IsNeed a mode halt = ⊥
 -- the draft does not know the address, and it is asked for
 pub record Lacks (d : DraftValue) (a : Addr) (halt : Halt) : Type 0 where
   pub unknown : known_at d a ≡ None
-  pub asked : IsNeed a (mode_at d.modes d.view a) halt
+  pub asked : IsNeed a (held_mode d.modes d.view a) halt
 
 -- the number is the first that may be given, and the draft knows its address
 pub record IsFirst (d : DraftValue) (r : Reserved) : Type 0 where
@@ -63,6 +63,6 @@ pub record AsksNumbers (numbers : ℕ) (view : ViewValue) (count : ℕ) : Type 0
   pub whole : count ≡ numbers
 
 -- a number is asked for, since none may be given
-abbrev pub IsFresh : DraftValue → Halt → Type 0
-IsFresh d (Fresh count) = AsksNumbers 1 d.view count
-IsFresh d halt = ⊥
+abbrev pub WantsNumber : DraftValue → Halt → Type 0
+WantsNumber d (Fresh count) = AsksNumbers 1 d.view count
+WantsNumber d halt = ⊥

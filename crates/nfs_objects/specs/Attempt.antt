@@ -5,7 +5,7 @@ use Rattle.nfs_machine.specs.declared.calls.Call.{Call}
 use Rattle.nfs_machine.specs.declared.context.Ctx.{Ctx}
 use Rattle.nfs_objects.specs.Asks.{Asks, AsksNumbers, IsNeed}
 use Rattle.nfs_objects.specs.Calls.{handles_of, is_null, named_by, new_numbers}
-use Rattle.nfs_objects.specs.Modes.{mode_at, modes_of}
+use Rattle.nfs_objects.specs.Modes.{held_mode, modes_of}
 use Rattle.nfs_objects.specs.Promise.{IsPromised}
 use Rattle.nfs_objects.specs.Values.{ModesValue, ViewValue, change_value, done_value, seen_at}
 use Rattle.nfs_objects.specs.declared.address.Addr.{Addr}
@@ -47,34 +47,34 @@ first_wanted call view = elim (is_null call) [
 ]
 
 -- just this is asked for
-abbrev pub IsAsked : Addr × Mode → Outcome → Type 0
-IsAsked a (Need asked) = asked.items ≡ a ∷ []
-IsAsked a outcome = ⊥
+abbrev pub IsAskedAlone : Addr × Mode → Outcome → Type 0
+IsAskedAlone a (Need asked) = asked.items ≡ a ∷ []
+IsAskedAlone a outcome = ⊥
 
 -- what is wanted first is asked for, and nothing else with it
 abbrev pub AsksFirst : Call → ViewValue → Outcome → Type 0
 AsksFirst call view outcome = elim (first_wanted call view) [
   | None ↦ Unit {0}
-  | Some a ↦ IsAsked (a, mode_at (modes_of call) view a) outcome
+  | Some a ↦ IsAskedAlone (a, held_mode (modes_of call) view a) outcome
 ]
 
 -- ---- the same of what an attempt comes to before it is an outcome
 -- A call that is not done asks for addresses, which it names or where something stands; or for its new numbers, so many;
 -- or there is no memory.
-abbrev pub Stops : ModesValue → (named : List Addr) → (numbers : ℕ) → ViewValue → Halt → Type 0
-Stops modes named numbers view (halts.Need asked) = Asks modes named view asked.items
-Stops modes named numbers view (halts.Fresh count) = AsksNumbers numbers view count
-Stops modes named numbers view halts.Memory = Unit {0}
+abbrev pub StopsCall : ModesValue → (named : List Addr) → (numbers : ℕ) → ViewValue → Halt → Type 0
+StopsCall modes named numbers view (halts.Need asked) = Asks modes named view asked.items
+StopsCall modes named numbers view (halts.Fresh count) = AsksNumbers numbers view count
+StopsCall modes named numbers view halts.Memory = Unit {0}
 
-abbrev pub Ends : Call → Ctx → ViewValue → Result Change Halt → Type 0
-Ends call ctx view (Ok change) = IsPromised (done_value call ctx view (change_value change))
-Ends call ctx view (Err halt) = Stops (modes_of call) (named_by call view) (new_numbers call view) view halt
+abbrev pub EndsCall : Call → Ctx → ViewValue → Result Change Halt → Type 0
+EndsCall call ctx view (Ok change) = IsPromised (done_value call ctx view (change_value change))
+EndsCall call ctx view (Err halt) = StopsCall (modes_of call) (named_by call view) (new_numbers call view) view halt
 
 -- this is asked for, if anything is wanted first
 abbrev pub HaltsFirst : {A : Type 0} → ModesValue → ViewValue → Option Addr → Result A Halt → Type 0
 HaltsFirst modes view None result = Unit {0}
 HaltsFirst modes view (Some a) (Ok x) = ⊥
-HaltsFirst modes view (Some a) (Err halt) = IsNeed a (mode_at modes view a) halt
+HaltsFirst modes view (Some a) (Err halt) = IsNeed a (held_mode modes view a) halt
 
 abbrev pub EndsFirst : Call → ViewValue → Result Change Halt → Type 0
 EndsFirst call view result = HaltsFirst (modes_of call) view (first_wanted call view) result

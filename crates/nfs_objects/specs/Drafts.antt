@@ -1,6 +1,6 @@
 -- What a draft keeps, and what may be written to it.
 use Rattle.std.specs.Prelude.{◌≡◌, ℕ, List, Option, Some, ◌⊎◌}
-use Rattle.nfs_objects.specs.Modes.{Suits, mode_at}
+use Rattle.nfs_objects.specs.Modes.{Suits, held_mode}
 use Rattle.nfs_objects.specs.Promise.{Given, Held, IsReserved}
 use Rattle.nfs_objects.specs.Values.{DraftValue, ModesValue, ViewValue, known_at}
 use Rattle.nfs_objects.specs.declared.address.Addr.{Addr}
@@ -18,7 +18,7 @@ pub record IsDraft (modes : ModesValue) (view : ViewValue) (writes : List (Addr 
 
 -- what stands at the address may be changed: the call wants it alone
 abbrev pub MayChange : DraftValue → Addr → Type 0
-MayChange d a = mode_at d.modes d.view a ≡ Exclusive
+MayChange d a = held_mode d.modes d.view a ≡ Exclusive
 
 -- an inode of this generation is known to live at the number
 abbrev pub KnowsGeneration : DraftValue → (number generation : ℕ) → Type 0

@@ -13,7 +13,7 @@ use Rattle.nfs_machine.specs.declared.context.Ctx.{Ctx}
 use Rattle.nfs_machine.specs.declared.handle.Handle.{Handle}
 use Rattle.nfs_objects.specs.Attempt.{Attempts}
 use Rattle.nfs_objects.specs.Bound.{Gives, Round, view_after, with_round}
-use Rattle.nfs_objects.specs.Modes.{Suits, led_at, mode_at, modes_of}
+use Rattle.nfs_objects.specs.Modes.{Suits, led_at, held_mode, modes_of}
 use Rattle.nfs_objects.specs.Values.{ViewValue, seen_at}
 use Rattle.nfs_objects.specs.declared.address.Addr.{Addr}
 use Rattle.nfs_objects.specs.declared.address.Addr.TheVariants as addresses
@@ -44,7 +44,7 @@ pub record LiesAt (view : ViewValue) (place : Place) (number : ℕ) : Type 0 whe
 abbrev pub RenamesHoldTheirs : Type 0
 RenamesHoldTheirs = (a : RenameArguments) (view : ViewValue) (n : ℕ) →
     LiesAt view a.from n ⊎ LiesAt view a.to n →
-    mode_at (modes_of (calls.Nfs (nfs.Rename a))) view (addresses.Inode n) ≡ Exclusive
+    held_mode (modes_of (calls.Nfs (nfs.Rename a))) view (addresses.Inode n) ≡ Exclusive
 
 -- the view has the directory of a name, and what the name leads to there
 pub record ShowsPlace (view : ViewValue) (place : Place) : Type 0 where

@@ -65,11 +65,11 @@ only_reads (Some a) view n = is_apart view a.from n && is_apart view a.to n
 
 -- ---- modes
 -- the mode in which an address is wanted: a call never changes the exports
-abbrev pub mode_at : ModesValue → ViewValue → Addr → Mode
-mode_at modes view addresses.Exports = Shared
-mode_at modes view (addresses.Inode n) = if only_reads modes.renames view n then Shared else modes.inodes
-mode_at modes view addresses.Mounts = modes.mounts
-mode_at modes view (addresses.Usage e g) = modes.inodes
+abbrev pub held_mode : ModesValue → ViewValue → Addr → Mode
+held_mode modes view addresses.Exports = Shared
+held_mode modes view (addresses.Inode n) = if only_reads modes.renames view n then Shared else modes.inodes
+held_mode modes view addresses.Mounts = modes.mounts
+held_mode modes view (addresses.Usage e g) = modes.inodes
 
 -- alone, where it may be changed
 abbrev pub mode_for : (changes : Bool) → Mode
@@ -101,4 +101,4 @@ changing = record { inodes = Exclusive; mounts = Shared; renames = None }
 -- all that the view has is held as it is wanted, or alone
 abbrev pub Suits : ModesValue → ViewValue → Type 0
 Suits modes view =
-    AllByRecursion (λ (e : Seen). covers e.mode (mode_at modes view e.address) ≡ true) view.entries
+    AllByRecursion (λ (e : Seen). covers e.mode (held_mode modes view e.address) ≡ true) view.entries

@@ -34,8 +34,8 @@ pub record HasRoom (roomy : RoomyValue) (places free : ℕ) : Type 0 where
   pub numbers : roomy.numbers ≤ free
 
 -- one more entry, last
-abbrev pub with_entry : ViewValue → Seen → ViewValue
-with_entry v e = record { entries = v.entries ++ e ∷ []; reserved = v.reserved }
+abbrev pub with_seen : ViewValue → Seen → ViewValue
+with_seen v e = record { entries = v.entries ++ e ∷ []; reserved = v.reserved }
 
 -- one more number, last, with its entry
 abbrev pub with_number : ViewValue → Reserved → ViewValue

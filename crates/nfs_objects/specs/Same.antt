@@ -53,8 +53,8 @@ same_content contents.Fifo contents.Fifo = true
 same_content a b = false
 
 -- what an inode has beside its content
-abbrev pub same_owner : Inode → Inode → Bool
-same_owner a b = a.mode == b.mode && (a.uid == b.uid && (a.gid == b.gid && a.links == b.links))
+abbrev pub same_ownership : Inode → Inode → Bool
+same_ownership a b = a.mode == b.mode && (a.uid == b.uid && (a.gid == b.gid && a.links == b.links))
 
 abbrev pub same_times : Inode → Inode → Bool
 same_times a b =
@@ -62,7 +62,7 @@ same_times a b =
 
 abbrev pub same_inode : Inode → Inode → Bool
 same_inode a b =
-    a.export == b.export && (a.generation == b.generation && (same_owner a b && (same_times a b &&
+    a.export == b.export && (a.generation == b.generation && (same_ownership a b && (same_times a b &&
     (option_eq same_verifier a.verifier b.verifier && same_content a.content b.content))))
 
 abbrev pub same_export : ExportValue → ExportValue → Bool

@@ -17,7 +17,7 @@ use Rattle.nfs_machine.specs.State.{Entry}
 use Rattle.nfs_objects.specs.ExportTables.{ExportTableValue}
 use Rattle.nfs_objects.specs.Same.{same_content, same_device, same_directory, same_entry, same_export, same_exports}
 use Rattle.nfs_objects.specs.Same.{same_inode, same_living, same_mode, same_mount, same_number, same_object}
-use Rattle.nfs_objects.specs.Same.{held_value, same_held, same_owner, same_pair, same_seen, same_time, same_times}
+use Rattle.nfs_objects.specs.Same.{held_value, same_held, same_ownership, same_pair, same_seen, same_time, same_times}
 use Rattle.nfs_objects.specs.Same.{same_verifier, same_view}
 use Rattle.nfs_objects.specs.Sums.{is_same_usage}
 use Rattle.nfs_objects.specs.Values.{Seen, ViewValue, is_addr}
@@ -44,9 +44,9 @@ from_self test same own a b = (same a b, λ e. subst (λ x. test a x ≡ true) e
 pub same_as : {P : Type 0} {r test : Bool} → Decides test P → r ≡ test → Decides r P
 same_as {P = P} decides is = subst (λ t. Decides t P) (sym is) decides
 
-pub told : {X : Type 0} {test : X → X → Bool} → ((a b : X) → Decides (test a b) (a ≡ b)) →
+pub decided : {X : Type 0} {test : X → X → Bool} → ((a b : X) → Decides (test a b) (a ≡ b)) →
     (r : Bool) (a b : X) → r ≡ test a b → Decides r (a ≡ b)
-told decides r a b is = same_as (decides a b) is
+decided decides r a b is = same_as (decides a b) is
 
 -- both parts pass
 pub both : (a b : Bool) → a ≡ true → b ≡ true → (a && b) ≡ true
@@ -142,7 +142,7 @@ content_decides = from_self same_content content_same content_own
 
 module _ (a b : Inode) (e : same_inode a b ≡ true) where
   abbrev behind_export : Bool
-  behind_export = a.generation == b.generation && (same_owner a b && (same_times a b &&
+  behind_export = a.generation == b.generation && (same_ownership a b && (same_times a b &&
       (option_eq same_verifier a.verifier b.verifier && same_content a.content b.content)))
 
   abbrev behind_owner : Bool
@@ -152,11 +152,11 @@ module _ (a b : Inode) (e : same_inode a b ≡ true) where
   from_generation : behind_export ≡ true
   from_generation = second_so (a.export == b.export) behind_export e
 
-  from_owner : (same_owner a b && behind_owner) ≡ true
+  from_owner : (same_ownership a b && behind_owner) ≡ true
   from_owner = second_so (a.generation == b.generation) _ from_generation
 
-  owner : same_owner a b ≡ true
-  owner = first_so (same_owner a b) behind_owner from_owner
+  owner : same_ownership a b ≡ true
+  owner = first_so (same_ownership a b) behind_owner from_owner
 
   from_uid : (a.uid == b.uid && (a.gid == b.gid && a.links == b.links)) ≡ true
   from_uid = second_so (a.mode == b.mode) _ owner
@@ -165,7 +165,7 @@ module _ (a b : Inode) (e : same_inode a b ≡ true) where
   from_gid = second_so (a.uid == b.uid) _ from_uid
 
   from_times : behind_owner ≡ true
-  from_times = second_so (same_owner a b) behind_owner from_owner
+  from_times = second_so (same_ownership a b) behind_owner from_owner
 
   times : same_times a b ≡ true
   times = first_so (same_times a b) _ from_times

@@ -31,8 +31,8 @@ content_of contents.Socket = machine.Socket
 content_of contents.Fifo = machine.Fifo
 
 -- the bytes of an exclusive CREATE
-abbrev pub verifier_of : Option Verifier → Option (List ℕ)
-verifier_of verifier = option_map (λ (v : Verifier). v.bytes) verifier
+abbrev pub verifier_bytes : Option Verifier → Option (List ℕ)
+verifier_bytes verifier = option_map (λ (v : Verifier). v.bytes) verifier
 
 -- the living object that an inode is
 abbrev pub living_of_inode : Inode → Living
@@ -46,7 +46,7 @@ living_of_inode i = record {
   accessed = i.accessed;
   modified = i.modified;
   changed = i.changed;
-  verifier = verifier_of i.verifier;
+  verifier = verifier_bytes i.verifier;
 }
 
 -- the inode that stands there
@@ -118,8 +118,8 @@ abbrev pub inode_there : Store → List LivingExport → (number : ℕ) → Opti
 inode_there s exports n = inode_in exports (s.at (addresses.Inode n))
 
 -- what lives at a number
-abbrev pub living_at : Store → List LivingExport → (number : ℕ) → Option Living
-living_at s exports n = living_in exports (s.at (addresses.Inode n))
+abbrev pub stands_alive : Store → List LivingExport → (number : ℕ) → Option Living
+stands_alive s exports n = living_in exports (s.at (addresses.Inode n))
 
 -- the store has a table of exports, and that of mounts
 pub record StandTables (s : Store) (m : State) : Type 0 where
@@ -131,7 +131,7 @@ pub record StandTables (s : Store) (m : State) : Type 0 where
 -- What is at each number lives if its export does, with its links and its parent. Spent are the generations of each
 -- number up to the last, that of what stands there among them.
 pub record StandObjects (s : Store) (k : Kept) : Type 0 where
-  pub objects : (n : ℕ) → get k.state.objects n ≡ living_at s k.state.exports n
+  pub objects : (n : ℕ) → get k.state.objects n ≡ stands_alive s k.state.exports n
   pub links : (n : ℕ) → k.links n ≡ links_kept (inode_there s k.state.exports n)
   pub parents : (n : ℕ) → k.parents n ≡ parent_kept (inode_there s k.state.exports n)
   pub given : (n : ℕ) (i : Inode) → s.at (addresses.Inode n) ≡ Some (stored.Inode i) → i.generation ≤ s.last n

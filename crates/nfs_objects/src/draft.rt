@@ -3,9 +3,9 @@
 ghost use Rattle.std.specs.Prelude.{◌≡◌, ◌∷◌, ◌++◌, [], IsSome, MatchResult, OnErr, OnOk, option_map};
 ghost use Rattle.std.specs.Prelude.{MatchOption, option_copied};
 ghost use Rattle.std.specs.Arc.{arc_value};
-ghost use Rattle.nfs_objects.specs.Asks.{IsFirst, IsFresh, IsNeed, Lacks};
+ghost use Rattle.nfs_objects.specs.Asks.{IsFirst, WantsNumber, IsNeed, Lacks};
 ghost use Rattle.nfs_objects.specs.Knows.{Knows};
-ghost use Rattle.nfs_objects.specs.Modes.{Suits, mode_at};
+ghost use Rattle.nfs_objects.specs.Modes.{Suits, held_mode};
 ghost use Rattle.nfs_objects.specs.Drafts.{MayChange, MayGive, MayWrite};
 ghost use Rattle.nfs_objects.specs.Promise.{Given, Held};
 ghost use Rattle.nfs_objects.specs.Stands.{IsFitting, mounts_in};
@@ -107,7 +107,7 @@ impl<'a> Draft<'a> {
     pub fn lacked(&self, address: Addr) -> Option<(Addr, Mode)>
         ensures { MatchOption result (IsSome (known_at self.now address))
             (λ wish. (known_at self.now address ≡ None) ×
-            (wish ≡ (address, mode_at self.now.modes self.now.view address))) }
+            (wish ≡ (address, held_mode self.now.modes self.now.view address))) }
     {
         if let Some(_object) = self.written(address) {
             return None;
@@ -120,7 +120,7 @@ impl<'a> Draft<'a> {
 
     /// The mode in which an address is wanted.
     fn mode(&self, address: Addr) -> Mode
-        ensures { result ≡ mode_at self.now.modes self.now.view address }
+        ensures { result ≡ held_mode self.now.modes self.now.view address }
     {
         self.modes.at(self.view, address)
     }
@@ -264,7 +264,7 @@ impl<'a> Draft<'a> {
     ///
     /// `Fresh` where there is none.
     pub fn fresh(&self) -> Result<Reserved, Halt>
-        ensures { MatchResult result (IsFirst self.now) (IsFresh self.now) }
+        ensures { MatchResult result (IsFirst self.now) (WantsNumber self.now) }
     {
         match self.view.fresh() {
             Some(reserved) => Ok(reserved),

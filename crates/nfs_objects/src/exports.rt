@@ -1,6 +1,6 @@
 //! The exports that live.
 
-ghost use Rattle.std.specs.Prelude.{◌≡◌, IfOk, length, option_copied};
+ghost use Rattle.std.specs.Prelude.{◌≡◌, IfOk, length};
 ghost use Rattle.std.specs.List.{list_any};
 ghost use Rattle.nfs_machine.specs.Bytes.{same_bytes};
 ghost use Rattle.nfs_machine.specs.Exports.{every_host, export_value};
@@ -170,7 +170,7 @@ impl Eq for ExportTable {
 }
 
 impl ExportTable {
-    ghost use Rattle.nfs_machine.specs.Exports.{export_at, opening_exports};
+    ghost use Rattle.nfs_machine.specs.Exports.{opening_exports};
     ghost use Rattle.nfs_objects.specs.ExportTables.{IsExportTable};
 
     /// The table that a server opens with: the exports are numbered from 1 in the order given, and their roots have the
@@ -205,13 +205,6 @@ impl ExportTable {
         ensures table { IsExportTable self.now }
     {
         &self.list
-    }
-
-    /// The export with this number; None where none lives.
-    pub fn get(&self, number: u32) -> Option<&LivingExport>
-        ensures { option_copied result ≡ export_at self.now.exports number }
-    {
-        self.list.iter().find(|export| export.number() == number)
     }
 }
 

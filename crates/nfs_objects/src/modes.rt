@@ -3,7 +3,7 @@
 ghost use Rattle.std.specs.Prelude.{◌≡◌, Some, option_copied, option_map};
 ghost use Rattle.std.specs.Arc.{arc_value};
 ghost use Rattle.nfs_machine.specs.Changing.{is_changing_mount, is_changing_nfs};
-ghost use Rattle.nfs_objects.specs.Modes.{covers, is_apart, is_number, led_in, mode_at, mode_for, modes_of};
+ghost use Rattle.nfs_objects.specs.Modes.{covers, is_apart, is_number, led_in, held_mode, mode_for, modes_of};
 ghost use Rattle.nfs_objects.specs.Modes.{only_reads, renames_of};
 ghost use Rattle.nfs_objects.specs.Values.{modes_value};
 
@@ -70,7 +70,7 @@ impl<'a> Modes<'a> {
 
     /// The mode in which a call with this view wants an address.
     pub fn at(self, view: &View, address: Addr) -> Mode
-        ensures { result ≡ mode_at (modes_value self.entry) view.now address }
+        ensures { result ≡ held_mode (modes_value self.entry) view.now address }
     {
         match address {
             Addr::Exports => Mode::Shared,
@@ -82,7 +82,7 @@ impl<'a> Modes<'a> {
 
     /// The mode in which the inode at a number is wanted.
     fn inode_mode(self, view: &View, number: u64) -> Mode
-        ensures { result ≡ mode_at (modes_value self.entry) view.now (Addr.Inode number) }
+        ensures { result ≡ held_mode (modes_value self.entry) view.now (Addr.Inode number) }
     {
         match self.renames {
             Some(arguments) if only_reads(view, arguments, number) => Mode::Shared,

@@ -1,9 +1,9 @@
-//! Ends as outcomes.
+//! EndsCall as outcomes.
 
 ghost use Rattle.std.specs.Prelude.{IfOk};
 ghost use Rattle.nfs_machine.specs.declared.calls.Call.{Call};
 ghost use Rattle.nfs_machine.specs.declared.context.Ctx.{Ctx};
-ghost use Rattle.nfs_objects.specs.Attempt.{AsksFirst, Attempts, Ends, EndsFirst};
+ghost use Rattle.nfs_objects.specs.Attempt.{AsksFirst, Attempts, EndsCall, EndsFirst};
 ghost use Rattle.nfs_objects.specs.Only.{AnswersAtOnce, AsksFirstOnly, EndsAtOnce, EndsFirstOnly};
 ghost use Rattle.nfs_objects.specs.Values.{ViewValue};
 
@@ -16,7 +16,7 @@ use std::alloc::AllocError;
 ///
 /// There was no memory for it.
 pub fn outcome(ended: Result<Change, Halt>) -> Result<Outcome, AllocError>
-    ensures attempts { (call : Call) (ctx : Ctx) (view : ViewValue) → Ends call ctx view ended →
+    ensures attempts { (call : Call) (ctx : Ctx) (view : ViewValue) → EndsCall call ctx view ended →
         IfOk result (Attempts call ctx view) }
     ensures first { (call : Call) (view : ViewValue) → EndsFirst call view ended →
         IfOk result (AsksFirst call view) }

@@ -285,14 +285,14 @@ impl Model for RoomyView {
 
 impl RoomyView {
     ghost use Rattle.std.specs.Prelude.{◌-◌, ◌<◌};
-    ghost use Rattle.nfs_objects.specs.Rooms.{with_entry, with_number};
+    ghost use Rattle.nfs_objects.specs.Rooms.{with_seen, with_number};
 
     /// Adds what is known of an address. It cannot fail.
     pub fn put(&mut self, address: Addr, mode: Mode, object: Option<Arc<Object>>)
         requires room { 0 < self.old.room }
         requires unseen { seen_at self.old.view.entries address ≡ None }
         ensures { self.new ≡ record {
-          view = with_entry self.old.view (record
+          view = with_seen self.old.view (record
               { address = address; mode = mode; object = option_map arc_value object });
           room = self.old.room - 1;
           numbers = self.old.numbers;

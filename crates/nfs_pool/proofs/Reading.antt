@@ -7,8 +7,8 @@ use Rattle.nfs_objects.specs.Asks.{Asks, EachOnce, MayAsk}
 use Rattle.nfs_objects.specs.Attempt.{Attempts}
 use Rattle.nfs_objects.specs.Calls.{named_by}
 use Rattle.nfs_objects.specs.Fits.{vacant}
-use Rattle.nfs_objects.specs.Modes.{Suits, covers, mode_at, modes_of, only_reads}
-use Rattle.nfs_objects.specs.Rooms.{with_entry, with_number}
+use Rattle.nfs_objects.specs.Modes.{Suits, covers, held_mode, modes_of, only_reads}
+use Rattle.nfs_objects.specs.Rooms.{with_seen, with_number}
 use Rattle.nfs_objects.specs.Values.{ModesValue, Seen, ViewValue, is_addr, seen_at}
 use Rattle.nfs_objects.specs.declared.address.Addr.{Addr}
 use Rattle.nfs_objects.specs.declared.address.Addr.TheVariants as addresses
@@ -68,7 +68,7 @@ covers-same Exclusive = refl
 
 all-suit : (modes : ModesValue) (named : List Addr) (view : ViewValue) (taken : List Seen) →
     AllByRecursion (MayAsk modes named view) (map asked_of taken) →
-    AllByRecursion (λ (e : Seen). covers e.mode (mode_at modes view e.address) ≡ true) taken
+    AllByRecursion (λ (e : Seen). covers e.mode (held_mode modes view e.address) ≡ true) taken
 all-suit modes named view [] all = tt
 all-suit modes named view (e ∷ taken) all = (
   subst (λ (m : Mode). covers e.mode m ≡ true) all.0.mode (covers-same e.mode),
@@ -94,7 +94,7 @@ module _ (initial view : ViewValue) (asked : List (Addr × Mode)) (k : ℕ) (a :
       (all-at (λ (b : Addr × Mode). seen_at initial.entries b.0 ≡ None) asked k a h item all)
       ∙ apart asked t.taken k a h item once t.as_asked)
 
-  pub takes_more : (later : ViewValue) (e : Seen) → asked_of e ≡ a → later ≡ with_entry view e →
+  pub takes_more : (later : ViewValue) (e : Seen) → asked_of e ≡ a → later ≡ with_seen view e →
       Takes initial later (take (k + 1) asked)
   takes_more later e same added = record {
     taken = t.taken ++ e ∷ [];
@@ -104,7 +104,7 @@ module _ (initial view : ViewValue) (asked : List (Addr × Mode)) (k : ℕ) (a :
         ∙ ap (λ (b : Addr × Mode). take k asked ++ b ∷ []) (same ∙ item)
         ∙ sym (take_more asked k a h);
     is =
-        added ∙ ap (λ (v : ViewValue). with_entry v e) t.is
+        added ∙ ap (λ (v : ViewValue). with_seen v e) t.is
         ∙ ap (λ (es : List Seen). record { entries = es; reserved = initial.reserved })
         (append_assoc initial.entries t.taken (e ∷ []));
   }
@@ -164,19 +164,19 @@ covers_own Shared false = refl
 -- the exports and what a handle names, each in its mode
 two_suit : (call : Call) (h : Handle) (view : ViewValue) (taken : List Seen) →
     map asked_of taken ≡ asked_by (modes_of call).inodes h →
-    AllByRecursion (λ (e : Seen). covers e.mode (mode_at (modes_of call) view e.address) ≡ true) taken
+    AllByRecursion (λ (e : Seen). covers e.mode (held_mode (modes_of call) view e.address) ≡ true) taken
 two_suit call h view [] same = absurd cc
 two_suit call h view (e ∷ []) same = absurd cc
 two_suit call h view (e ∷ f ∷ g ∷ more) same = absurd cc
 two_suit call h view (e ∷ f ∷ []) same =
     let first : asked_of e ≡ (addresses.Exports, Shared) = cc in
     let second : asked_of f ≡ (addresses.Inode h.fileid, (modes_of call).inodes) = cc in
-    let rest : AllByRecursion (λ (x : Seen). covers x.mode (mode_at (modes_of call) view x.address) ≡ true) (f ∷ []) = (
-      subst (λ (a : Addr × Mode). covers a.1 (mode_at (modes_of call) view a.0) ≡ true) (sym second)
+    let rest : AllByRecursion (λ (x : Seen). covers x.mode (held_mode (modes_of call) view x.address) ≡ true) (f ∷ []) = (
+      subst (λ (a : Addr × Mode). covers a.1 (held_mode (modes_of call) view a.0) ≡ true) (sym second)
           (covers_own (modes_of call).inodes (only_reads (modes_of call).renames view h.fileid)),
       tt,
     ) in
-    (subst (λ (a : Addr × Mode). covers a.1 (mode_at (modes_of call) view a.0) ≡ true) (sym first) refl, rest)
+    (subst (λ (a : Addr × Mode). covers a.1 (held_mode (modes_of call) view a.0) ≡ true) (sym first) refl, rest)
 
 module _ (t u : TxnValue) (asked : List (Addr × Mode)) (is : Some asked ≡ foreseen t.call)
     (unread : t.view ≡ record { entries = []; reserved = [] }) (reads : Reads t u)
@@ -188,5 +188,5 @@ module _ (t u : TxnValue) (asked : List (Addr × Mode)) (is : Some asked ≡ for
       ap (λ (v : ViewValue). v.entries) takes.is ∙ ap (λ (v : ViewValue). v.entries ++ takes.taken) unread in
       subst (λ (c : Call). Suits (modes_of c) u.view) (sym (ap (λ (x : TxnValue). x.call) reads))
       (subst (λ (es : List Seen). AllByRecursion (λ (e : Seen).
-      covers e.mode (mode_at (modes_of t.call) u.view e.address) ≡ true) es) (sym entries)
+      covers e.mode (held_mode (modes_of t.call) u.view e.address) ≡ true) es) (sym entries)
       (two_suit t.call by.0 u.view takes.taken (takes.as_asked ∙ by.1)))

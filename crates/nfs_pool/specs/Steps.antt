@@ -1,7 +1,7 @@
 -- The steps of a call in a pool: what they do to the call, whatever stands in the book and the shards.
 use Rattle.std.specs.Prelude.{◌≡◌, ℕ, ◌<◌, [], true, false, Option, Result, Ok, Err}
 use Rattle.nfs_machine.specs.Run.{Received}
-use Rattle.nfs_objects.specs.Rooms.{with_entry}
+use Rattle.nfs_objects.specs.Rooms.{with_seen}
 use Rattle.nfs_objects.specs.declared.address.Addr.{Addr}
 use Rattle.nfs_objects.specs.declared.modes.Mode.{Mode}
 use Rattle.nfs_objects.specs.declared.object.Object.{Object}
@@ -56,7 +56,7 @@ AdmitsUnlessFull old new a (Err (unadmitted.Refused back)) =
 -- the address is in the view, in this mode, with whatever stands there; or the call is as it was
 abbrev pub TakesAny : {E : Type 0} → (old new : TxnValue) → Addr → Mode → Result Got E → Type 0
 TakesAny old new a mode (Ok got.Yes) = (o : Option Object) × (new ≡ record old
-    { view = with_entry old.view (record { address = a; mode = mode; object = o }) })
+    { view = with_seen old.view (record { address = a; mode = mode; object = o }) })
 TakesAny old new a mode (Ok (got.Taken h)) = new ≡ old
 TakesAny old new a mode (Err e) = new ≡ old
 

@@ -5,7 +5,7 @@ use Rattle.std.proofs.Common.{arith}
 use Rattle.std.specs.Cmp.{unsigned_Decides}
 use Rattle.std.specs.Vec.Iter.{into_iter_items}
 use Rattle.nfs_objects.specs.Fits.{vacant}
-use Rattle.nfs_objects.specs.Rooms.{with_entry}
+use Rattle.nfs_objects.specs.Rooms.{with_seen}
 use Rattle.nfs_objects.specs.declared.address.Addr.{Addr}
 use Rattle.nfs_objects.specs.declared.modes.Mode.{Mode}
 use Rattle.nfs_engine.specs.Arrivals.{ArrivalValue}
@@ -17,9 +17,9 @@ use Rattle.nfs_schedule.proofs.Reading.{entry_of}
 use Rattle.nfs_schedule.specs.Acquires.{AsksForEachOnce, GoesOnAt, GoesOnOver, HasAsked, asked_by, asked_in, asked_of}
 use Rattle.nfs_schedule.specs.Acquires.{asked_over, going_on}
 use Rattle.nfs_schedule.specs.Events.{Drives, Happens}
-use Rattle.nfs_schedule.specs.Turns.{Acquires, Ends, Gains, IsNamed, TakesFirst, Turns}
+use Rattle.nfs_schedule.specs.Turns.{Acquires, EndsTurn, Gains, IsNamed, TakesFirst, Turns}
 use Rattle.nfs_schedule.specs.Workers.{Comes, Thinks}
-use Rattle.nfs_schedule.specs.Worlds.{Stops, TakesTurn, WorldValue}
+use Rattle.nfs_schedule.specs.Worlds.{StopsWorker, TakesTurn, WorldValue}
 use Rattle.nfs_schedule.specs.declared.answer.Answer.{Answer}
 use Rattle.nfs_schedule.specs.declared.driving.Event.{Event}
 use Rattle.nfs_schedule.specs.declared.driving.Event.TheVariants.{Arrive, Turn, Stop, TakeMessage, NewEra}
@@ -38,7 +38,7 @@ stands_counts v t u was is = same_counts t u (some_same t u (sym was ∙ is))
 
 module _ (e : EngineValue) (t : TxnValue) (a : Addr × Mode) (others : List (Addr × Mode)) where
   -- one entry more
-  grown_counts : (u : TxnValue) → u ≡ record t { view = with_entry t.view (entry_of e a) } → HasAsked t u 1
+  grown_counts : (u : TxnValue) → u ≡ record t { view = with_seen t.view (entry_of e a) } → HasAsked t u 1
   grown_counts u is = subst (λ (x : TxnValue). HasAsked t x 1) (sym is) (record {
     counts =
         let more : length (t.view.entries ++ entry_of e a ∷ []) ≡ length t.view.entries + 1 =
@@ -92,7 +92,7 @@ gains_counts e shard t left (Refusing p) u is on = absurd is
 
 -- a call that is committed, or fails at that, does not go on
 ends_over : (e f : EngineValue) (done : FinishedValue) (v : Worker) (answer : Option Answer) (u : TxnValue) →
-    Ends e f done v answer → going_on v ≡ Some u → ⊥
+    EndsTurn e f done v answer → going_on v ≡ Some u → ⊥
 ends_over e f done (Leaving r after) answer u is on = cc
 ends_over e f done (Failing t) answer u is on = cc
 ends_over e f done Idle answer u is on = cc
@@ -207,7 +207,7 @@ module _ (place : ℕ) (old new : WorldValue) (before : GoesOnAt place old) (aft
             (ap (λ (w : WorldValue). w.workers) t.rest))
       ] refl
 
-  stopped : (worker : ℕ) (answer : Option Answer) → Stops old new worker answer → HasAsked before.call after.call 0
+  stopped : (worker : ℕ) (answer : Option Answer) → StopsWorker old new worker answer → HasAsked before.call after.call 0
   stopped worker answer s =
       elim (worker - 1 == place) as (λ b. (worker - 1 == place) ≡ b → HasAsked before.call after.call 0) [
         | true ↦ λ is.

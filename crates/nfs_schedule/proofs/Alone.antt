@@ -6,7 +6,7 @@ use Rattle.nfs_machine.specs.RpcReplies.{success_message}
 use Rattle.nfs_machine.specs.Run.{Received}
 use Rattle.nfs_machine.specs.declared.calls.Call.{Call}
 use Rattle.nfs_objects.specs.Modes.{Suits, modes_of}
-use Rattle.nfs_objects.specs.Rooms.{with_entry, with_number}
+use Rattle.nfs_objects.specs.Rooms.{with_seen, with_number}
 use Rattle.nfs_objects.specs.Values.{ViewValue}
 use Rattle.nfs_objects.specs.declared.address.Addr.{Addr}
 use Rattle.nfs_objects.specs.declared.modes.Mode.{Mode}
@@ -14,7 +14,7 @@ use Rattle.nfs_objects.specs.declared.modes.Mode.TheVariants.{Shared, Exclusive}
 use Rattle.nfs_replies.specs.declared.origins.Origin.{Origin}
 use Rattle.nfs_engine.proofs.Lifted.{alike_or}
 use Rattle.nfs_engine.specs.Arrivals.{ArrivalValue, received_value}
-use Rattle.nfs_engine.specs.Book.{Begins, BookValue, Commits, GivesUp, IsUnknown, Leads, Repeats, Steps, StillRuns, new_txn, store_in}
+use Rattle.nfs_engine.specs.Book.{BeginsCall, BookValue, Commits, GivesUp, IsUnknown, LeadsTo, Repeats, Steps, StillRuns, new_txn, store_in}
 use Rattle.nfs_engine.specs.Calls.{FinishedValue, PendingValue, TxnValue, pending_of, txn_of}
 use Rattle.nfs_engine.specs.Commits.{IsReceipt}
 use Rattle.nfs_engine.specs.Engine.{EngineValue, IsAcquired, IsReleased, IsReserved, IsRunning, KeepsOthers, LetsAllGo}
@@ -45,18 +45,18 @@ use Rattle.nfs_schedule.specs.declared.answer.Answer.TheVariants as answers
 use Rattle.nfs_schedule.specs.declared.worker.Worker.TheVariants.{Idle, Refusing}
 
 -- ---- a call that begins
-pub begins_alone : (e f : EngineValue) (a : ArrivalValue) (t : TxnValue) → IsAtRest e → Begins e.book f.book a t →
+pub begins_alone : (e f : EngineValue) (a : ArrivalValue) (t : TxnValue) → IsAtRest e → BeginsCall e.book f.book a t →
     f.shards ≡ e.shards → IsAlone f t.id t.key
 begins_alone e f a t rest b shards = record {
   running = λ k other. b.joins.others k other ∙ rest.running k;
   held = λ x j other. ap (λ s. held_among s x j) shards ∙ rest.held x j;
 }
 
-pub begins_unread : (e f : EngineValue) (a : ArrivalValue) (t : TxnValue) → Begins e.book f.book a t →
+pub begins_unread : (e f : EngineValue) (a : ArrivalValue) (t : TxnValue) → BeginsCall e.book f.book a t →
     t.view.entries ≡ []
 begins_unread e f a t b = ap (λ (x : TxnValue). x.view.entries) b.txn
 
-pub begins_keeps : (e f : EngineValue) (a : ArrivalValue) (t : TxnValue) → Begins e.book f.book a t → KeepsStore e f
+pub begins_keeps : (e f : EngineValue) (a : ArrivalValue) (t : TxnValue) → BeginsCall e.book f.book a t → KeepsStore e f
 begins_keeps e f a t b =
     b.rest ∙ ap (λ n. record e.book { living = f.book.living; next_id = n })
     (sym (ap (λ (x : BookValue). x.next_id) b.rest))
@@ -96,7 +96,7 @@ module _ (e f : EngineValue) (t u : TxnValue) (lives : Lives f u) (k : KeepsOthe
     (alone : HoldsAlone e t.id) where
   pub goes_acquired : (a : Addr) (mode : Mode) → IsAcquired {E = AllocError} e t u a mode (Ok got.Yes) → GoesOn e f t u
   goes_acquired a mode is =
-      goes_step e f t u (with_entry t.view (record { address = a; mode = mode; object = (store_in e.book).at a })) alone
+      goes_step e f t u (with_seen t.view (record { address = a; mode = mode; object = (store_in e.book).at a })) alone
       lives k book is
 
   pub goes_unchanged : u ≡ t → GoesOn e f t u
@@ -182,7 +182,7 @@ executes_on e f g d receipt x same = record {
       subst (λ (b : BookValue). Keeps (origin_of d.received d.done.call) (success_message d.xid d.done.change.reply)
       e.book.replies b.replies) (sym same) x.keeps;
   step = subst (λ (b : BookValue). Steps e.book b d.done) (sym same) x.step;
-  leads = subst (λ (b : BookValue). Leads e.book b) (sym same) x.leads;
+  leads = subst (λ (b : BookValue). LeadsTo e.book b) (sym same) x.leads;
   receipt_is = x.receipt_is;
 }
 
@@ -249,7 +249,7 @@ executes_from e f g d receipt x same = record {
       subst (λ (b : BookValue). Keeps (origin_of d.received d.done.call) (success_message d.xid d.done.change.reply)
       b.replies g.book.replies) same x.keeps;
   step = subst (λ (b : BookValue). Steps b g.book d.done) same x.step;
-  leads = subst (λ (b : BookValue). Leads b g.book) same x.leads;
+  leads = subst (λ (b : BookValue). LeadsTo b g.book) same x.leads;
   receipt_is = subst (λ (b : BookValue). IsReceipt (b.before + length b.records + 1) d receipt) same x.receipt_is;
 }
 
@@ -281,7 +281,7 @@ pub ends_after : (e f g : EngineValue) (t u : TxnValue) (answer : Answer) → Go
 ends_after e f g t u answer on x = ends_moved e f g t u answer on.book on.call x
 
 -- ---- a record that came in
-module _ (e b g : EngineValue) (a : ArrivalValue) (t : TxnValue) (begins : Begins e.book b.book a t) where
+module _ (e b g : EngineValue) (a : ArrivalValue) (t : TxnValue) (begins : BeginsCall e.book b.book a t) where
   unkept_of : (o : Option Origin) → IfSome o (IsUnknown e.book) →
       IfSome o (λ x. kept_for e.book.replies x ≡ None)
   unkept_of None unknown = tt

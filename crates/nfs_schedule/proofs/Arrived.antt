@@ -26,10 +26,10 @@ use Rattle.nfs_schedule.specs.Accounts.{unanswered}
 use Rattle.nfs_schedule.specs.Answers.{IsRefused, IsUnanswered, answered}
 use Rattle.nfs_schedule.specs.Events.{Arrives}
 use Rattle.nfs_schedule.specs.Stops.{IsStopped, after_received, received_of}
-use Rattle.nfs_schedule.specs.Turns.{Acquires, Admits, Declines, Ends, Follows, Gains, IsNamed, KeepsQueue}
+use Rattle.nfs_schedule.specs.Turns.{Acquires, Admits, Declines, EndsTurn, Follows, Gains, IsNamed, KeepsQueue}
 use Rattle.nfs_schedule.specs.Turns.{TakesArrival, TakesFirst, after_all}
 use Rattle.nfs_schedule.specs.Workers.{Comes, Thinks}
-use Rattle.nfs_schedule.specs.Worlds.{Stops, TakesTurn, WorldValue}
+use Rattle.nfs_schedule.specs.Worlds.{StopsWorker, TakesTurn, WorldValue}
 use Rattle.nfs_schedule.specs.declared.answer.Answer.{Answer}
 use Rattle.nfs_schedule.specs.declared.answer.Answer.TheVariants as answers
 use Rattle.nfs_schedule.specs.declared.worker.Afterwards.{Afterwards}
@@ -337,7 +337,7 @@ module _ (e f : EngineValue) (queue later : List ArrivalValue) where
       (ap queued same) had none (ap (λ x. x ∷ []) is)
 
   ends_hands : (done : FinishedValue) (next : Worker) (answer : Option Answer) → later ≡ queue →
-      Ends e f done next answer → Hands (Ready done) next answer
+      EndsTurn e f done next answer → Hands (Ready done) next answer
   ends_hands done (Leaving r after) (Some (answers.Executed receipt)) same is =
       goes_out (Ready done) done.received (Leaving r after) (answers.Executed receipt) same refl
       (ap after_received is.1.over) (ap (λ (x : Record). arrived x.arrival) is.0.receipt_is.executed)
@@ -471,7 +471,7 @@ stopped_hands e f queue later w None same is = goes_on e f queue later w Idle No
 stopped_hands e f queue later w (Some answer) same is =
     goes_out e f queue later w is.0 Idle answer same is.1 refl (unanswered_answered is.0 answer is.2)
 
-pub stop_passes : (old new : WorldValue) (worker : ℕ) (answer : Option Answer) → Stops old new worker answer →
+pub stop_passes : (old new : WorldValue) (worker : ℕ) (answer : Option Answer) → StopsWorker old new worker answer →
     Passes old new [] (map answered (option_to_list answer))
 stop_passes old new worker answer s =
     worker_passes old new (worker - 1) s.was Idle answer s.there (ap (λ (w : WorldValue). w.workers) s.rest)

@@ -9,10 +9,10 @@ use Rattle.nfs_machine.specs.declared.context.Ctx.{Ctx}
 use Rattle.nfs_machine.specs.declared.handle.Handle.{Handle}
 use Rattle.nfs_objects.proofs.Seen.{all-map, is_addr-refl}
 use Rattle.nfs_objects.specs.Asks.{Asks, EachOnce, MayAsk}
-use Rattle.nfs_objects.specs.Attempt.{AsksFirst, Attempts, IsAsked, first_wanted, object_wanted, unless_seen}
+use Rattle.nfs_objects.specs.Attempt.{AsksFirst, Attempts, IsAskedAlone, first_wanted, object_wanted, unless_seen}
 use Rattle.nfs_objects.specs.Bound.{held}
 use Rattle.nfs_objects.specs.Calls.{handles_of, is_null}
-use Rattle.nfs_objects.specs.Modes.{mode_at, modes_of}
+use Rattle.nfs_objects.specs.Modes.{held_mode, modes_of}
 use Rattle.nfs_objects.specs.Values.{Seen, ViewValue, is_addr, seen_at}
 use Rattle.nfs_objects.specs.declared.address.Addr.{Addr}
 use Rattle.nfs_objects.specs.declared.address.Addr.TheVariants.{Exports, Inode}
@@ -119,7 +119,7 @@ first_follows call v =
 -- ---- what an attempt asks for
 -- what is wanted first is asked for, alone
 asked_one : (call : Call) (v : ViewValue) (o : Option Addr) (asked : List (Addr × Mode)) →
-    elim o as (λ _. Type 0) [ None ↦ Unit {0} | Some a ↦ asked ≡ (a, mode_at (modes_of call) v a) ∷ [] ] →
+    elim o as (λ _. Type 0) [ None ↦ Unit {0} | Some a ↦ asked ≡ (a, held_mode (modes_of call) v a) ∷ [] ] →
     Follows (read_first call) (places v.entries) o →
     Agree (read_first call) (places v.entries ++ map (λ (a : Addr × Mode). a.0) asked)
 asked_one call v None asked is follows = follows (map (λ (a : Addr × Mode). a.0) asked)
@@ -180,7 +180,7 @@ read_none call = record { once = tt; order = agree_none (read_first call) }
 pub read_asked : (call : Call) (named : List Addr) (v : ViewValue) (asked : List (Addr × Mode)) →
     IsRead call v.entries [] → Asks (modes_of call) named v asked →
     elim (first_wanted call v) as (λ _. Type 0)
-    [ None ↦ Unit {0} | Some a ↦ asked ≡ (a, mode_at (modes_of call) v a) ∷ [] ] → IsRead call v.entries asked
+    [ None ↦ Unit {0} | Some a ↦ asked ≡ (a, held_mode (modes_of call) v a) ∷ [] ] → IsRead call v.entries asked
 read_asked call named v asked r asks first = record {
   once =
       unseen_all v.entries asked
@@ -246,14 +246,14 @@ past_more call entries e past more =
 
 -- ---- an attempt that asks for no address wants none first
 pub wants_none : (call : Call) (v : ViewValue) (outcome : Outcome) →
-    ((a : Addr × Mode) → IsAsked a outcome → ⊥) → AsksFirst call v outcome → first_wanted call v ≡ None
+    ((a : Addr × Mode) → IsAskedAlone a outcome → ⊥) → AsksFirst call v outcome → first_wanted call v ≡ None
 wants_none call v outcome never =
     elim (first_wanted call v) as (λ (o : Option Addr). elim o as (λ _. Type 0) [
       | None ↦ Unit {0}
-      | Some a ↦ IsAsked (a, mode_at (modes_of call) v a) outcome
+      | Some a ↦ IsAskedAlone (a, held_mode (modes_of call) v a) outcome
     ] → o ≡ None) [
       | None ↦ λ is. refl
-      | Some a ↦ λ is. absurd (never (a, mode_at (modes_of call) v a) is)
+      | Some a ↦ λ is. absurd (never (a, held_mode (modes_of call) v a) is)
     ]
 
 -- nor does one that asks for a number, or is done

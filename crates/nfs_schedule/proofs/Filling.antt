@@ -7,8 +7,8 @@ use Rattle.nfs_objects.specs.Asks.{Asks, EachOnce, MayAsk}
 use Rattle.nfs_objects.specs.Attempt.{Attempts}
 use Rattle.nfs_objects.specs.Calls.{named_by}
 use Rattle.nfs_objects.specs.Fits.{vacant}
-use Rattle.nfs_objects.specs.Modes.{Suits, covers, mode_at, modes_of}
-use Rattle.nfs_objects.specs.Rooms.{with_entry, with_number}
+use Rattle.nfs_objects.specs.Modes.{Suits, covers, held_mode, modes_of}
+use Rattle.nfs_objects.specs.Rooms.{with_seen, with_number}
 use Rattle.nfs_objects.specs.Store.{Store}
 use Rattle.nfs_objects.specs.Values.{ModesValue, Seen, ViewValue, is_addr, seen_at}
 use Rattle.nfs_objects.specs.declared.address.Addr.{Addr}
@@ -74,7 +74,7 @@ module _ (modes : ModesValue) (named : List Addr) (view : ViewValue) where
   all-unseen (a ∷ asked) all = (all.0.unseen, all-unseen asked all.1)
 
   all-suit : (s : Store) (asked : List (Addr × Mode)) → AllByRecursion (MayAsk modes named view) asked →
-      AllByRecursion (λ (e : Seen). covers e.mode (mode_at modes view e.address) ≡ true) (map (shown_in s) asked)
+      AllByRecursion (λ (e : Seen). covers e.mode (held_mode modes view e.address) ≡ true) (map (shown_in s) asked)
   all-suit s [] all = tt
   all-suit s (a ∷ asked) all =
       (subst (λ (m : Mode). covers a.1 m ≡ true) all.0.mode (covers-same a.1), all-suit s asked all.1)
@@ -100,11 +100,11 @@ module _ (s : Store) (initial view : ViewValue) (asked : List (Addr × Mode)) (k
       (all-at (λ (b : Addr × Mode). seen_at initial.entries b.0 ≡ None) asked k a h item all)
       ∙ apart s asked k a h item once)
 
-  pub filling_more : (later : ViewValue) → later ≡ with_entry view (shown_in s a) →
+  pub filling_more : (later : ViewValue) → later ≡ with_seen view (shown_in s a) →
       Filling s initial later (take (k + 1) asked)
   filling_more later added = record {
     is =
-        added ∙ ap (λ (v : ViewValue). with_entry v (shown_in s a)) f.is
+        added ∙ ap (λ (v : ViewValue). with_seen v (shown_in s a)) f.is
         ∙ ap (λ (es : List Seen). record { entries = es; reserved = initial.reserved })
         (append_assoc initial.entries (map (shown_in s) (take k asked)) (shown_in s a ∷ [])
         ∙ ap (λ (es : List Seen). initial.entries ++ es)

@@ -10,7 +10,7 @@ use Rattle.nfs_machine.specs.declared.calls.Call.TheVariants as calls
 use Rattle.nfs_machine.specs.declared.handle.Handle.{Handle}
 use Rattle.nfs_objects.specs.Asks.{EachOnce}
 use Rattle.nfs_objects.specs.Calls.{nfs_handles}
-use Rattle.nfs_objects.specs.Modes.{Suits, covers, mode_at, modes_of, only_reads}
+use Rattle.nfs_objects.specs.Modes.{Suits, covers, held_mode, modes_of, only_reads}
 use Rattle.nfs_objects.specs.Store.{Store}
 use Rattle.nfs_objects.specs.Values.{Seen, ViewValue, seen_at}
 use Rattle.nfs_objects.specs.declared.address.Addr.{Addr}
@@ -55,7 +55,7 @@ covers_own Shared false = refl
 suits_by : (s : Store) (call : Call) (h : Handle) (view : ViewValue) →
     view.entries ≡ map (shown_in s) (asked_by (modes_of call).inodes h) → Suits (modes_of call) view
 suits_by s call h view entries =
-    subst (λ (es : List Seen). AllByRecursion (λ (e : Seen). covers e.mode (mode_at (modes_of call) view e.address) ≡
+    subst (λ (es : List Seen). AllByRecursion (λ (e : Seen). covers e.mode (held_mode (modes_of call) view e.address) ≡
     true) es) (sym entries)
     (refl, (covers_own (modes_of call).inodes (only_reads (modes_of call).renames view h.fileid), tt))
 
@@ -78,4 +78,4 @@ module _ (e f : EngineValue) (t u : TxnValue) (unread : t.view.entries ≡ []) (
 
 pub unread_suited : (t : TxnValue) → t.view.entries ≡ [] → IsSuited t
 unread_suited t unread = subst (λ (es : List Seen). AllByRecursion (λ (e : Seen).
-    covers e.mode (mode_at (modes_of t.call) t.view e.address) ≡ true) es) (sym unread) tt
+    covers e.mode (held_mode (modes_of t.call) t.view e.address) ≡ true) es) (sym unread) tt

@@ -14,7 +14,7 @@ use Rattle.nfs_objects.specs.Asks.{EachOnce}
 use Rattle.nfs_objects.specs.Attempt.{AsksFirst, Attempts}
 use Rattle.nfs_objects.specs.Bound.{Given, Read, WasAsked, held, view_after, with_round}
 use Rattle.nfs_objects.specs.Fits.{vacant}
-use Rattle.nfs_objects.specs.Rooms.{with_entry, with_number}
+use Rattle.nfs_objects.specs.Rooms.{with_seen, with_number}
 use Rattle.nfs_objects.specs.Values.{Seen, ViewValue, is_addr}
 use Rattle.nfs_objects.specs.declared.address.Addr.{Addr}
 use Rattle.nfs_objects.specs.declared.change.Outcome.{Outcome}
@@ -29,7 +29,7 @@ use Rattle.nfs_engine.specs.Engine.{EngineValue}
 use Rattle.nfs_engine.specs.Releases.{ReleaseValue}
 use Rattle.nfs_schedule.proofs.Arrived.{unacquired, unreserved_same}
 use Rattle.nfs_schedule.specs.Grown.{AsksFor, HasGrown, IsAsking, IsGrown, IsNumbering}
-use Rattle.nfs_schedule.specs.Turns.{Acquires, Admits, Declines, Ends, Follows, Gains, IsNamed, KeepsQueue}
+use Rattle.nfs_schedule.specs.Turns.{Acquires, Admits, Declines, EndsTurn, Follows, Gains, IsNamed, KeepsQueue}
 use Rattle.nfs_schedule.specs.Turns.{TakesArrival}
 use Rattle.nfs_schedule.specs.Turns.{TakesFirst, Turns, after_all}
 use Rattle.nfs_schedule.specs.Workers.{Comes, Thinks}
@@ -96,7 +96,7 @@ asking_all t wanted g asks = record {
 
 -- the first address of what is left is given
 module _ (t u : TxnValue) (a : Addr × Mode) (left : List (Addr × Mode)) (o : Option Object)
-    (is : u ≡ record t { view = with_entry t.view (record { address = a.0; mode = a.1; object = o }) })
+    (is : u ≡ record t { view = with_seen t.view (record { address = a.0; mode = a.1; object = o }) })
     (asking : IsAsking t (a ∷ left)) where
   abbrev entry : Seen
   entry = record { address = a.0; mode = a.1; object = o }
@@ -114,7 +114,7 @@ module _ (t u : TxnValue) (a : Addr × Mode) (left : List (Addr × Mode)) (o : O
         ∙ ap (λ (l : List (Addr × Mode)). l ++ left)
         (sym (map-append (λ (e : Seen). (e.address, e.mode)) asking.given (entry ∷ [])));
     view_is =
-        ap (λ (v : ViewValue). with_entry v entry) asking.view_is
+        ap (λ (v : ViewValue). with_seen v entry) asking.view_is
         ∙ ap (λ es. record (view_after asking.before) { entries = es })
         (append_assoc (view_after asking.before).entries asking.given (entry ∷ []));
   })
@@ -286,7 +286,7 @@ gains_grown e shard t left (PutOff p) is n = absurd is
 gains_grown e shard t left (Refusing p) is n = absurd is
 
 ends_grown : (e f : EngineValue) (done : FinishedValue) (v : Worker) (answer : Option Answer) →
-    Ends e f done v answer → HasGrown (txn_of done) → IsGrown v
+    EndsTurn e f done v answer → HasGrown (txn_of done) → IsGrown v
 ends_grown e f done (Failing t) None is g = inl (subst (λ (x : TxnValue). HasGrown x) (sym is.0) g)
 ends_grown e f done (Failing t) (Some answer) is g = absurd is
 ends_grown e f done Idle answer is g = tt

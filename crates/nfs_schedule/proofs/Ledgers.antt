@@ -29,7 +29,7 @@ use Rattle.nfs_schedule.specs.Accounts.{IsReplyTo, RepliesFollow, all_messages, 
 use Rattle.nfs_schedule.specs.Accounts.{last_number, receipt_of, receipts_of, recorded}
 use Rattle.nfs_schedule.specs.Stops.{IsStopped}
 use Rattle.nfs_schedule.specs.Turns.{Effect, Executes, KeepsStore}
-use Rattle.nfs_schedule.specs.Worlds.{Stops, TakesOldest, TakesTurn, TurnsEra, WorldValue, records_of}
+use Rattle.nfs_schedule.specs.Worlds.{StopsWorker, TakesOldest, TakesTurn, TurnsEra, WorldValue, records_of}
 use Rattle.nfs_schedule.specs.declared.answer.Answer.{Answer}
 use Rattle.nfs_schedule.specs.declared.answer.Answer.TheVariants as answers
 use Rattle.nfs_schedule.specs.declared.worker.Worker.{Worker}
@@ -262,7 +262,7 @@ stopped_follow w (Some (answers.Refused declined)) r is = (r, refl, refl)
 stopped_follow w (Some (answers.Early faulted)) r is = (r, refl, refl)
 stopped_follow w (Some (answers.Unanswered received)) r is = (r, refl, refl)
 
-pub stop_adds : (old new : WorldValue) (worker : ℕ) (answer : Option Answer) → Stops old new worker answer →
+pub stop_adds : (old new : WorldValue) (worker : ℕ) (answer : Option Answer) → StopsWorker old new worker answer →
     Adds (world_ledger old) (world_ledger new) (option_to_list answer)
 stop_adds old new worker answer s =
     world_adds old new (option_to_list answer) (ap (λ (w : WorldValue). w.eras) s.rest)

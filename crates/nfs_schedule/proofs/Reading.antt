@@ -3,7 +3,7 @@ use Rattle.std.proofs.Common.{◌≡◌, ℕ, List, [], ◌∷◌, Option, Some,
 use Rattle.std.specs.Vec.Iter.{into_iter_items}
 use Rattle.nfs_objects.specs.Calls.{named_by}
 use Rattle.nfs_objects.specs.Fits.{vacant}
-use Rattle.nfs_objects.specs.Rooms.{with_entry}
+use Rattle.nfs_objects.specs.Rooms.{with_seen}
 use Rattle.nfs_objects.specs.Values.{Seen, seen_at}
 use Rattle.nfs_objects.specs.declared.address.Addr.{Addr}
 use Rattle.nfs_objects.specs.declared.address.Addr.TheVariants.{Inode}
@@ -20,7 +20,7 @@ use Rattle.nfs_schedule.proofs.Asked.{past_first, past_more, read_asked, read_gi
 use Rattle.nfs_schedule.proofs.Steps.{thinks_on}
 use Rattle.nfs_schedule.specs.Asking.{HasRead, HasReadFirst, IsRead}
 use Rattle.nfs_schedule.specs.Grown.{AsksFor}
-use Rattle.nfs_schedule.specs.Turns.{Acquires, Admits, Declines, Ends, Follows, Gains, IsNamed, KeepsQueue}
+use Rattle.nfs_schedule.specs.Turns.{Acquires, Admits, Declines, EndsTurn, Follows, Gains, IsNamed, KeepsQueue}
 use Rattle.nfs_schedule.specs.Turns.{TakesArrival, TakesFirst, Turns, after_all}
 use Rattle.nfs_schedule.specs.Workers.{Comes, Thinks, WorkerLives}
 use Rattle.nfs_schedule.specs.declared.answer.Answer.{Answer}
@@ -100,9 +100,9 @@ abbrev pub entry_of : EngineValue → Addr × Mode → Seen
 entry_of e a = record { address = a.0; mode = a.1; object = (store_in e.book).at a.0 }
 
 given_read : (e : EngineValue) (t u : TxnValue) (a : Addr × Mode) (others : List (Addr × Mode)) →
-    u ≡ record t { view = with_entry t.view (entry_of e a) } → Reads t (a ∷ others) → Reads u others
+    u ≡ record t { view = with_seen t.view (entry_of e a) } → Reads t (a ∷ others) → Reads u others
 given_read e t u a others is r =
-    read_on (record t { view = with_entry t.view (entry_of e a) }) u others is
+    read_on (record t { view = with_seen t.view (entry_of e a) }) u others is
     (read_given t.call t.view.entries (entry_of e a) others r)
 
 acquires_read : (e : EngineValue) (t : TxnValue) (a : Addr × Mode) (others : List (Addr × Mode)) (v : Worker) →
@@ -159,7 +159,7 @@ gains_read e shard t left (PutOff p) is lives r past = absurd is
 gains_read e shard t left (Refusing p) is lives r past = absurd is
 
 ends_read : (e f : EngineValue) (done : FinishedValue) (v : Worker) (answer : Option Answer) →
-    Ends e f done v answer → Reads (txn_of done) [] → HasRead v
+    EndsTurn e f done v answer → Reads (txn_of done) [] → HasRead v
 ends_read e f done (Failing t) None is r = read_on (txn_of done) t [] is.0 r
 ends_read e f done (Failing t) (Some answer) is r = absurd is
 ends_read e f done Idle answer is r = tt

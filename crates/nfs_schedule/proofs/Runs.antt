@@ -4,18 +4,18 @@ use Rattle.nfs_machine.proofs.Runs.{run-append}
 use Rattle.nfs_machine.specs.Run.{Record, Run, Setting}
 use Rattle.nfs_engine.proofs.Led.{same_leads}
 use Rattle.nfs_engine.specs.Arrivals.{shared_value}
-use Rattle.nfs_engine.specs.Book.{BookValue, Leads, TakesMessage}
+use Rattle.nfs_engine.specs.Book.{BookValue, LeadsTo, TakesMessage}
 use Rattle.nfs_engine.specs.Engine.{EngineValue}
 use Rattle.nfs_engine.specs.declared.outbox.Posted.{Posted}
 use Rattle.nfs_engine.specs.declared.records.Era.{Era}
 use Rattle.nfs_schedule.specs.Turns.{Effect, KeepsBook, KeepsStore}
-use Rattle.nfs_schedule.specs.Worlds.{RunsOn, Stops, TakesOldest, TakesTurn, TurnsEra, WorldValue, records_of}
+use Rattle.nfs_schedule.specs.Worlds.{RunsOn, StopsWorker, TakesOldest, TakesTurn, TurnsEra, WorldValue, records_of}
 use Rattle.nfs_schedule.specs.declared.answer.Answer.{Answer}
 use Rattle.nfs_schedule.specs.declared.answer.Answer.TheVariants as answers
 
 -- what the book does leads on, and the eras that are over are the same
 pub record LeadsOn (e f : EngineValue) : Type 0 where
-  pub leads : Leads e.book f.book
+  pub leads : LeadsTo e.book f.book
   pub setting : f.book.setting ≡ e.book.setting
 
 pub runs_on : (old new : WorldValue) → LeadsOn old.engine new.engine → new.eras ≡ old.eras → RunsOn old new
@@ -59,7 +59,7 @@ turn_runs old new worker answer t =
     runs_on old new (effect_leads old.engine new.engine answer t.turns.step.effect)
     (ap (λ (w : WorldValue). w.eras) t.rest)
 
-pub stop_runs : (old new : WorldValue) (worker : ℕ) (answer : Option Answer) → Stops old new worker answer →
+pub stop_runs : (old new : WorldValue) (worker : ℕ) (answer : Option Answer) → StopsWorker old new worker answer →
     RunsOn old new
 stop_runs old new worker answer s =
     runs_on old new (store_leads old.engine new.engine (book_store old.engine new.engine s.stop.store)) (ap (λ (w : WorldValue). w.eras) s.rest)

@@ -14,8 +14,8 @@ use Rattle.nfs_objects.proofs.Suiting.{suits-wider}
 use Rattle.nfs_objects.specs.Asks.{Asks, MayAsk}
 use Rattle.nfs_objects.specs.Calls.{named_by}
 use Rattle.nfs_objects.specs.Fits.{vacant}
-use Rattle.nfs_objects.specs.Modes.{Suits, covers, mode_at, modes_of}
-use Rattle.nfs_objects.specs.Rooms.{with_entry, with_number}
+use Rattle.nfs_objects.specs.Modes.{Suits, covers, held_mode, modes_of}
+use Rattle.nfs_objects.specs.Rooms.{with_seen, with_number}
 use Rattle.nfs_objects.specs.Values.{Seen, ViewValue, is_addr}
 use Rattle.nfs_objects.specs.declared.address.Addr.{Addr}
 use Rattle.nfs_objects.specs.declared.modes.Mode.{Mode}
@@ -27,7 +27,7 @@ use Rattle.nfs_replies.specs.Replies.{IsAfter}
 use Rattle.nfs_engine.proofs.Built.{asked-built}
 use Rattle.nfs_engine.proofs.Going.{seen_beside}
 use Rattle.nfs_engine.specs.Arrivals.{ArrivalValue, received_value}
-use Rattle.nfs_engine.specs.Book.{Begins, BookValue, GivesUp, Repeats, StillRuns, store_in}
+use Rattle.nfs_engine.specs.Book.{BeginsCall, BookValue, GivesUp, Repeats, StillRuns, store_in}
 use Rattle.nfs_engine.specs.Built.{IsBuilt}
 use Rattle.nfs_engine.specs.Calls.{FinishedValue, IsCalled, PendingValue, TxnValue, txn_of}
 use Rattle.nfs_engine.specs.Engine.{EngineValue, IsAcquired, IsLeaving, IsReleased, IsReserved, KeepsAll, KeepsOthers, LeadsTo, Lives, Releases, Waits, held_among, release_of}
@@ -46,7 +46,7 @@ use Rattle.nfs_schedule.proofs.Others.{all_both}
 use Rattle.nfs_schedule.proofs.Rest.{places_same, places_without, rest_all, rest_begun, rest_still, rest_with, rest_without}
 use Rattle.nfs_schedule.specs.Answers.{IsRefused, IsUnanswered}
 use Rattle.nfs_schedule.specs.Grown.{AsksFor}
-use Rattle.nfs_schedule.specs.Turns.{Admits, Declines, Effect, Executes, IsNamed, IsStep, KeepsBook, KeepsStore, Recalls, TakesFirst, after_all, numbers_taken}
+use Rattle.nfs_schedule.specs.Turns.{Admits, Declines, Effect, Executes, IsNamed, IsTurnOf, KeepsBook, KeepsStore, Recalls, TakesFirst, after_all, numbers_taken}
 use Rattle.nfs_schedule.specs.Workers.{Comes, IsSuited, MayTake, MayThink, Thinks, Wants, WorkerLives, after_key, worker_id, worker_key}
 use Rattle.nfs_schedule.specs.declared.answer.Answer.{Answer}
 use Rattle.nfs_schedule.specs.declared.answer.Answer.TheVariants as answers
@@ -85,13 +85,13 @@ wants_suits call view wanted w = subst (λ (v : ViewValue). Suits (modes_of call
     (suits-wider w.asking w.taken w.asking.reserved (modes_of call) w.suited w.strong)
 
 module _ (t u : TxnValue) (a : Addr × Mode) (others : List (Addr × Mode)) (o : Option Object)
-    (is : u ≡ record t { view = with_entry t.view (record { address = a.0; mode = a.1; object = o }) })
+    (is : u ≡ record t { view = with_seen t.view (record { address = a.0; mode = a.1; object = o }) })
     (wants : Wants t.call t.view (a ∷ others)) where
   abbrev entry : Seen
   entry = record { address = a.0; mode = a.1; object = o }
 
   abbrev taken : TxnValue
-  taken = record t { view = with_entry t.view entry }
+  taken = record t { view = with_seen t.view entry }
 
   wants_less : Wants u.call u.view others
   wants_less = subst (λ (x : TxnValue). Wants x.call x.view others) (sym is) (record {
@@ -99,10 +99,10 @@ module _ (t u : TxnValue) (a : Addr × Mode) (others : List (Addr × Mode)) (o :
     suited = wants.suited;
     taken = wants.taken ++ entry ∷ [];
     strong =
-        all-joined (λ (e : Seen). covers e.mode (mode_at (modes_of t.call) wants.asking e.address) ≡ true)
+        all-joined (λ (e : Seen). covers e.mode (held_mode (modes_of t.call) wants.asking e.address) ≡ true)
         wants.taken (entry ∷ []) wants.strong (wants.each.0.strong, tt);
     grew =
-        ap (λ (v : ViewValue). with_entry v entry) wants.grew
+        ap (λ (v : ViewValue). with_seen v entry) wants.grew
         ∙ ap (λ es. record wants.asking { entries = es }) (append_assoc wants.asking.entries wants.taken (entry ∷ []));
     once = wants.once.1;
     each =
@@ -144,7 +144,7 @@ ids_kept e f w v same none = omega (arith, same, none)
 -- the call goes on, and the book is as it was
 pub goes_on : (id : ℕ) (e f : EngineValue) (shard : ℕ) (w v : Worker) → KeepsOthers id e f → worker_id w ≡ Some id →
     worker_id v ≡ Some id → worker_key v ≡ worker_key w → f.book ≡ e.book → WorkerLives f v →
-    IsNamed e f shard w v None → IsStep e f shard w v None
+    IsNamed e f shard w v None → IsTurnOf e f shard w v None
 goes_on id e f shard w v k own still keys same lives named = record {
   lives = lives;
   rest = rest_with id e f w v k own still (places_same e f w v (ap (λ (b : BookValue). b.living) same) keys);
@@ -155,7 +155,7 @@ goes_on id e f shard w v k own still keys same lives named = record {
 
 -- the engine is as it was
 pub stands_still : (e f : EngineValue) (shard : ℕ) (w v : Worker) → f ≡ e → worker_id v ≡ worker_id w →
-    worker_key v ≡ worker_key w → WorkerLives e v → IsNamed e f shard w v None → IsStep e f shard w v None
+    worker_key v ≡ worker_key w → WorkerLives e v → IsNamed e f shard w v None → IsTurnOf e f shard w v None
 stands_still e f shard w v same ids keys lives named = record {
   lives = subst (λ (x : EngineValue). WorkerLives x v) (sym same) lives;
   rest = rest_still e f w v same ids keys;
@@ -175,14 +175,14 @@ module _ (e f : EngineValue) (t u : TxnValue) (a : Addr × Mode) (wanted left : 
   leads v first = subst (λ (ws : List (Addr × Mode)). TakesFirst e t ws v) (sym items) first
 
   module _ (is : IsAcquired {E = AllocError} e t u a.0 a.1 (Ok got.Yes)) where
-    pub acquired_last : into_iter_items left ≡ [] → IsStep e f 0 (Wanting t wanted) (Trying u) None
+    pub acquired_last : into_iter_items left ≡ [] → IsTurnOf e f 0 (Wanting t wanted) (Trying u) None
     acquired_last none =
         goes_on t.id e f 0 (Wanting t wanted) (Trying u) k refl (ap (λ (x : TxnValue). Some x.id) is)
         (ap (λ (x : TxnValue). Some x.key) is) same
         (later, suited_more t u a (into_iter_items left) ((store_in e.book).at a.0) is wants_first)
         (same, leads (Trying u) (is, none), refl)
 
-    pub acquired_more : IsStep e f 0 (Wanting t wanted) (Wanting u left) None
+    pub acquired_more : IsTurnOf e f 0 (Wanting t wanted) (Wanting u left) None
     acquired_more =
         goes_on t.id e f 0 (Wanting t wanted) (Wanting u left) k refl (ap (λ (x : TxnValue). Some x.id) is)
         (ap (λ (x : TxnValue). Some x.key) is) same (
@@ -193,13 +193,13 @@ module _ (e f : EngineValue) (t u : TxnValue) (a : Addr × Mode) (wanted left : 
         (same, leads (Wanting u left) (is, refl), refl)
 
   pub taken_by : (h : ℕ) → IsAcquired {E = AllocError} e t u a.0 a.1 (Ok (got.Taken h)) →
-      IsStep e f 0 (Wanting t wanted) (Blocked u) None
+      IsTurnOf e f 0 (Wanting t wanted) (Blocked u) None
   taken_by h is =
       goes_on t.id e f 0 (Wanting t wanted) (Blocked u) k refl (ap (λ (x : TxnValue). Some x.id) is.2)
       (ap (λ (x : TxnValue). Some x.key) is.2) same later (same, leads (Blocked u) (h, is), refl)
 
   pub acquire_fails : (error : AllocError) → IsAcquired e t u a.0 a.1 (Err error) →
-      IsStep e f 0 (Wanting t wanted) (Failing u) None
+      IsTurnOf e f 0 (Wanting t wanted) (Failing u) None
   acquire_fails error is =
       let still = unacquired e t u a error is in
       goes_on t.id e f 0 (Wanting t wanted) (Failing u) k refl (ap (λ (x : TxnValue). Some x.id) still)
@@ -208,7 +208,7 @@ module _ (e f : EngineValue) (t u : TxnValue) (a : Addr × Mode) (wanted left : 
 -- ---- a number
 module _ (e f : EngineValue) (shard : ℕ) (t u : TxnValue) (left : ℕ) (lives : WorkerLives e (Wishing t left))
     (later : Lives f u) (k : KeepsOthers t.id e f) (same : f.book ≡ e.book) where
-  pub reserved : left ≤ 1 → IsReserved e t u shard (Ok tt) → IsStep e f shard (Wishing t left) (Trying u) None
+  pub reserved : left ≤ 1 → IsReserved e t u shard (Ok tt) → IsTurnOf e f shard (Wishing t left) (Trying u) None
   reserved last is =
       goes_on t.id e f shard (Wishing t left) (Trying u) k refl (ap (λ (x : TxnValue). Some x.id) is.call)
       (ap (λ (x : TxnValue). Some x.key) is.call) same (later, suited_number t u is.reserved is.call lives.1)
@@ -216,14 +216,14 @@ module _ (e f : EngineValue) (shard : ℕ) (t u : TxnValue) (left : ℕ) (lives 
 
   -- others are wanted still
   pub reserved_one : (others : ℕ) → 1 < left → left ≡ others + 1 → IsReserved e t u shard (Ok tt) →
-      IsStep e f shard (Wishing t left) (Wishing u others) None
+      IsTurnOf e f shard (Wishing t left) (Wishing u others) None
   reserved_one others more count is =
       goes_on t.id e f shard (Wishing t left) (Wishing u others) k refl (ap (λ (x : TxnValue). Some x.id) is.call)
       (ap (λ (x : TxnValue). Some x.key) is.call) same (later, suited_number t u is.reserved is.call lives.1)
       (same, (is, more, count), refl)
 
   pub reserve_fails : (error : ReserveError) → IsReserved e t u shard (Err error) →
-      IsStep e f shard (Wishing t left) (Failing u) None
+      IsTurnOf e f shard (Wishing t left) (Failing u) None
   reserve_fails error is =
       let still = unreserved_same e shard t u error is in
       goes_on t.id e f shard (Wishing t left) (Failing u) k refl (ap (λ (x : TxnValue). Some x.id) still)
@@ -233,7 +233,7 @@ module _ (e f : EngineValue) (shard : ℕ) (t u : TxnValue) (left : ℕ) (lives 
 pub committed : (e f : EngineValue) (done : FinishedValue) (r : ReleaseValue) (receipt : Receipt) (after : Afterwards) →
     Lives e (txn_of done) → KeepsOthers done.id e f → IsLeaving f r → IsReleased done r → Executes e f done receipt →
     IsCalled done.received done.xid done.done.call done.done.ctx →
-    IsStep e f 0 (Ready done) (Leaving r after) (Some (answers.Executed receipt))
+    IsTurnOf e f 0 (Ready done) (Leaving r after) (Some (answers.Executed receipt))
 committed e f done r receipt after lives k leaving released executes called = record {
   lives = leaving;
   rest =
@@ -249,7 +249,7 @@ committed e f done r receipt after lives k leaving released executes called = re
 -- ---- a release
 module _ (e f : EngineValue) (r : ReleaseValue) (after : Afterwards) (k : KeepsOthers r.id e f)
     (same : f.book ≡ e.book) where
-  pub released_all : Releases e f r next.Ended → IsStep e f 0 (Leaving r after) Idle None
+  pub released_all : Releases e f r next.Ended → IsTurnOf e f 0 (Leaving r after) Idle None
   released_all is = record {
     lives = tt;
     rest =
@@ -262,7 +262,7 @@ module _ (e f : EngineValue) (r : ReleaseValue) (after : Afterwards) (k : KeepsO
   }
 
   pub released_more : (left : ReleaseValue) → Releases e f r (next.More left) →
-      IsStep e f 0 (Leaving r after) (Leaving left after) None
+      IsTurnOf e f 0 (Leaving r after) (Leaving left after) None
   released_more left is =
       goes_on r.id e f 0 (Leaving r after) (Leaving left after) k refl (ap (λ (x : ReleaseValue). Some x.id) is.3)
       (ap (λ (x : ReleaseValue). after_key x.after) is.3) same is.0
@@ -272,8 +272,8 @@ module _ (e f : EngineValue) (r : ReleaseValue) (after : Afterwards) (k : KeepsO
     own : p.id ≡ r.id
     own = (subst (λ (x : Then). LeadsTo e r.id x) is.0 leaving.after).0
 
-    pub released_to : IsStep e f 0 (Leaving r after) (after_all p after) None
-    released_to = elim after as (λ (x : Afterwards). IsStep e f 0 (Leaving r x) (after_all p x) None) [
+    pub released_to : IsTurnOf e f 0 (Leaving r after) (after_all p after) None
+    released_to = elim after as (λ (x : Afterwards). IsTurnOf e f 0 (Leaving r x) (after_all p x) None) [
       | Again ↦
           goes_on r.id e f 0 (Leaving r Again) (PutOff p) k refl (ap Some own) (sym (ap after_key is.0)) same is.1
           (same, (p, is.0, refl, is.2, is.3), refl)
@@ -291,8 +291,8 @@ not_executed e f received asked (answers.Refused declined) is keeps = keeps
 not_executed e f received asked (answers.Early faulted) is keeps = keeps
 not_executed e f received asked (answers.Unanswered unanswered) is keeps = keeps
 
-pub begun : (e f : EngineValue) (a : ArrivalValue) (t : TxnValue) → Begins e.book f.book a t → Lives f t →
-    KeepsOthers t.id e f → f.shards ≡ e.shards → IsStep e f 0 Idle (Trying t) None
+pub begun : (e f : EngineValue) (a : ArrivalValue) (t : TxnValue) → BeginsCall e.book f.book a t → Lives f t →
+    KeepsOthers t.id e f → f.shards ≡ e.shards → IsTurnOf e f 0 Idle (Trying t) None
 begun e f a t b lives k shards = record {
   lives = (lives, subst (λ (x : TxnValue). IsSuited x) (sym b.txn) tt);
   rest = rest_begun e f (Trying t) t.id t.key (origin_of a.received b.asked.call) k (ap (λ (x : TxnValue). x.id) b.txn)
@@ -306,7 +306,7 @@ begun e f a t b lives k shards = record {
 
 -- nothing is changed, and the worker stays idle
 pub answers_idle : (e f : EngineValue) (answer : Answer) → f ≡ e → Effect e f (Some answer) →
-    IsStep e f 0 Idle Idle (Some answer)
+    IsTurnOf e f 0 Idle Idle (Some answer)
 answers_idle e f answer same effect = record {
   lives = tt;
   rest = rest_still e f Idle Idle same refl refl;
@@ -326,7 +326,7 @@ recalls e f a kept r = record {
 }
 
 pub repeated : (e f : EngineValue) (a : ArrivalValue) (kept : RepeatValue) → Repeats e.book f.book a kept →
-    KeepsAll e f → f.shards ≡ e.shards → IsStep e f 0 Idle Idle (Some (answers.Repeated kept))
+    KeepsAll e f → f.shards ≡ e.shards → IsTurnOf e f 0 Idle Idle (Some (answers.Repeated kept))
 repeated e f a kept r all shards = record {
   lives = tt;
   rest = rest_all e f all shards (ap (λ (b : BookValue). b.living) r.rest);
@@ -346,7 +346,7 @@ effect_unanswered e f received (answers.Unanswered unanswered) same is =
     keeps_book e f (ap (λ (x : EngineValue). x.book) same)
 
 pub left_alone : (e f : EngineValue) (received : Received) (answer : Answer) → f ≡ e → IsUnanswered received answer →
-    IsStep e f 0 Idle Idle (Some answer)
+    IsTurnOf e f 0 Idle Idle (Some answer)
 left_alone e f received answer same is = answers_idle e f answer same (effect_unanswered e f received answer same is)
 
 admits_left : (e f : EngineValue) (a back : ArrivalValue) (answer : Answer) → StillRuns e.book f.book a back → f ≡ e →
@@ -367,7 +367,7 @@ left_unanswered e f a back answer runs same is = admits_left e f a back answer r
 pub given_up : (e f : EngineValue) (p : PendingValue) (refused : given.Refused) (answer : Answer) → Waits e p →
     GivesUp e.book f.book p refused → KeepsOthers p.id e f → f.shards ≡ e.shards →
     IsRefused (received_value refused.received) refused.asked answer →
-    IsStep e f 0 (Refusing p) Idle (Some answer)
+    IsTurnOf e f 0 (Refusing p) Idle (Some answer)
 given_up e f p refused answer waits g k shards is =
     let keeps : KeepsStore e f =
     g.rest ∙ ap (λ n. record e.book { living = without_call e.book.living p.key p.id; next_id = n })
@@ -467,20 +467,20 @@ called_built received xid call ctx called =
 
 -- ---- what is given up
 pub commit_fails : (e f : EngineValue) (done : FinishedValue) (t : TxnValue) → f ≡ e → t ≡ txn_of done →
-    Lives e (txn_of done) → IsStep e f 0 (Ready done) (Failing t) None
+    Lives e (txn_of done) → IsTurnOf e f 0 (Ready done) (Failing t) None
 commit_fails e f done t same is lives =
     stands_still e f 0 (Ready done) (Failing t) same (ap (λ (x : TxnValue). Some x.id) is)
     (ap (λ (x : TxnValue). Some x.key) is) (subst (λ (x : TxnValue). Lives e x) (sym is) lives) (is, same)
 
 module _ (e : EngineValue) (shard : ℕ) (t : TxnValue) (r : ReleaseValue) (is : r ≡ release_of t)
     (leaving : IsLeaving e r) where
-  pub blocked_leaves : IsStep e e shard (Blocked t) (Leaving r Again) None
+  pub blocked_leaves : IsTurnOf e e shard (Blocked t) (Leaving r Again) None
   blocked_leaves =
       stands_still e e shard (Blocked t) (Leaving r Again) refl (ap (λ (x : ReleaseValue). Some x.id) is)
       (ap (λ (x : ReleaseValue). after_key x.after) is) leaving
       (refl, ap (λ (x : ReleaseValue). Leaving x Again) is, refl)
 
-  pub failing_leaves : IsStep e e shard (Failing t) (Leaving r GiveUp) None
+  pub failing_leaves : IsTurnOf e e shard (Failing t) (Leaving r GiveUp) None
   failing_leaves =
       stands_still e e shard (Failing t) (Leaving r GiveUp) refl (ap (λ (x : ReleaseValue). Some x.id) is)
       (ap (λ (x : ReleaseValue). after_key x.after) is) leaving

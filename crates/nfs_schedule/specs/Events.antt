@@ -3,7 +3,7 @@ use Rattle.std.specs.Prelude.{◌≡◌, ℕ, ◌<◌, ◌≤◌, List, [], ◌�
 use Rattle.std.specs.Prelude.{option_to_list}
 use Rattle.nfs_engine.specs.Arrivals.{ArrivalValue, IsArrival, received_value}
 use Rattle.nfs_engine.specs.declared.arrival.Received.{Received}
-use Rattle.nfs_schedule.specs.Worlds.{Stops, TakesOldest, TakesTurn, TurnsEra, WorldValue}
+use Rattle.nfs_schedule.specs.Worlds.{StopsWorker, TakesOldest, TakesTurn, TurnsEra, WorldValue}
 use Rattle.nfs_schedule.specs.declared.answer.Answer.{Answer}
 use Rattle.nfs_schedule.specs.declared.driving.Event.{Event}
 use Rattle.nfs_schedule.specs.declared.driving.Event.TheVariants.{Arrive, Turn, Stop, TakeMessage, NewEra}
@@ -25,7 +25,7 @@ pub record Arrives (old new : WorldValue) (came : Received) : Type 0 where
 abbrev pub Happens : WorldValue → Event → Option Answer → WorldValue → Type 0
 Happens old (Arrive came) answer new = Arrives old new came × (answer ≡ None)
 Happens old (Turn worker) answer new = TakesTurn old new worker answer
-Happens old (Stop worker) answer new = Stops old new worker answer
+Happens old (Stop worker) answer new = StopsWorker old new worker answer
 Happens old TakeMessage answer new = TakesOldest old new × (answer ≡ None)
 Happens old NewEra answer new = TurnsEra old new × (answer ≡ None)
 

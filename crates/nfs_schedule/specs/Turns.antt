@@ -6,7 +6,7 @@ use Rattle.nfs_machine.specs.RpcReplies.{success_message}
 use Rattle.nfs_replies.specs.Kept.ReplyEvent.{Repeated}
 use Rattle.nfs_replies.specs.Replies.{IsAfter}
 use Rattle.nfs_engine.specs.Arrivals.{ArrivalValue, received_value}
-use Rattle.nfs_engine.specs.Book.{Begins, Commits, IsAdmitError, Leads, Repeats, Steps, StillRuns}
+use Rattle.nfs_engine.specs.Book.{BeginsCall, Commits, IsAdmitError, LeadsTo, Repeats, Steps, StillRuns}
 use Rattle.nfs_engine.specs.Calls.{FinishedValue, IsCalled, PendingValue, TxnValue, again_of, txn_of}
 use Rattle.nfs_engine.specs.Commits.{IsReceipt}
 use Rattle.nfs_engine.specs.Engine.{EngineValue, FreesLast, FreesOne, IsAcquired, IsReleased, IsReserved, freed_more}
@@ -55,7 +55,7 @@ pub record Executes (e f : EngineValue) (done : FinishedValue) (receipt : Receip
   pub keeps : Keeps (origin_of done.received done.done.call) (success_message done.xid done.done.change.reply)
       e.book.replies f.book.replies
   pub step : Steps e.book f.book done.done
-  pub leads : Leads e.book f.book
+  pub leads : LeadsTo e.book f.book
   pub receipt_is : IsReceipt (e.book.before + length e.book.records + 1) done receipt
 
 -- a reply that is kept comes to the front, and nothing else changes
@@ -75,7 +75,7 @@ Effect e f answer = KeepsStore e f
 -- The oldest arrival: its call begins; or it is a repeat, which has the reply that is kept, or none while its call is
 -- in progress; or it has a fault; or it is refused, since it wants memory, or no number is left for it.
 abbrev pub Admits : EngineValue → EngineValue → ArrivalValue → Worker → Option Answer → Type 0
-Admits e f a (Trying t) None = Begins e.book f.book a t
+Admits e f a (Trying t) None = BeginsCall e.book f.book a t
 Admits e f a Idle (Some (answers.Repeated kept)) = Repeats e.book f.book a kept × (f.shards ≡ e.shards)
 Admits e f a Idle (Some (answers.Unanswered received)) = StillRuns e.book f.book a a ×
     IsUnanswered a.received (answers.Unanswered received) × (f ≡ e)
@@ -116,11 +116,11 @@ Gains e shard t left (Failing u) = (error : ReserveError) × IsReserved e t u sh
 Gains e shard t left worker = ⊥
 
 -- the call is executed and answered, or there was no memory for it
-abbrev pub Ends : EngineValue → EngineValue → FinishedValue → Worker → Option Answer → Type 0
-Ends e f done (Leaving r after) (Some (answers.Executed receipt)) =
+abbrev pub EndsTurn : EngineValue → EngineValue → FinishedValue → Worker → Option Answer → Type 0
+EndsTurn e f done (Leaving r after) (Some (answers.Executed receipt)) =
     Executes e f done receipt × IsReleased done r
-Ends e f done (Failing t) None = (t ≡ txn_of done) × (f ≡ e)
-Ends e f done worker answer = ⊥
+EndsTurn e f done (Failing t) None = (t ≡ txn_of done) × (f ≡ e)
+EndsTurn e f done worker answer = ⊥
 
 -- what comes of a call that holds nothing any more
 abbrev pub after_all : PendingValue → Afterwards → Worker
@@ -148,7 +148,7 @@ IsNamed e f shard (Trying t) next answer = (f ≡ e) × (next ≡ Trying t) × (
 IsNamed e f shard (Wanting t wanted) next answer =
     (f.book ≡ e.book) × TakesFirst e t (into_iter_items wanted) next × (answer ≡ None)
 IsNamed e f shard (Wishing t left) next answer = (f.book ≡ e.book) × Gains e shard t left next × (answer ≡ None)
-IsNamed e f shard (Ready done) next answer = Ends e f done next answer
+IsNamed e f shard (Ready done) next answer = EndsTurn e f done next answer
 IsNamed e f shard (Blocked t) next answer =
     (f ≡ e) × (next ≡ Leaving (release_of t) Again) × (answer ≡ None)
 IsNamed e f shard (Failing t) next answer =
@@ -164,7 +164,7 @@ KeepsQueue e f queue later Idle next answer = TakesArrival e f queue later next 
 KeepsQueue e f queue later worker next answer = later ≡ queue
 
 -- a step of a worker
-pub record IsStep (e f : EngineValue) (shard : ℕ) (old new : Worker) (answer : Option Answer) : Type 0 where
+pub record IsTurnOf (e f : EngineValue) (shard : ℕ) (old new : Worker) (answer : Option Answer) : Type 0 where
   pub lives : WorkerLives f new
   pub rest : KeepsRest e f old new
   pub effect : Effect e f answer
@@ -176,5 +176,5 @@ pub record Turns (e f : EngineValue) (queue later : List ArrivalValue) (shard : 
     (answer : Option Answer) : Type 0 where
   pub thought : Worker
   pub thinks : Thinks old thought
-  pub step : IsStep e f shard thought new answer
+  pub step : IsTurnOf e f shard thought new answer
   pub queued : KeepsQueue e f queue later thought new answer

@@ -6,7 +6,7 @@ use Rattle.std.specs.Vec.Iter.{into_iter_items}
 use Rattle.nfs_machine.specs.declared.calls.Call.{Call}
 use Rattle.nfs_objects.specs.Asks.{EachOnce}
 use Rattle.nfs_objects.specs.Attempt.{Attempts, first_wanted}
-use Rattle.nfs_objects.specs.Modes.{Suits, covers, mode_at, modes_of}
+use Rattle.nfs_objects.specs.Modes.{Suits, covers, held_mode, modes_of}
 use Rattle.nfs_objects.specs.Values.{Seen, ViewValue, seen_at}
 use Rattle.nfs_objects.specs.declared.address.Addr.{Addr}
 use Rattle.nfs_objects.specs.declared.change.Outcome.TheVariants.{Fresh}
@@ -25,14 +25,14 @@ use Rattle.nfs_schedule.specs.declared.worker.Worker.TheVariants.{Leaving, PutOf
 -- an address that a call may take: it has it not, and the mode is as strong as its attempt needed when it asked
 pub record MayTake (call : Call) (asking view : ViewValue) (a : Addr × Mode) : Type 0 where
   pub unseen : seen_at view.entries a.0 ≡ None
-  pub strong : covers a.1 (mode_at (modes_of call) asking a.0) ≡ true
+  pub strong : covers a.1 (held_mode (modes_of call) asking a.0) ≡ true
 
 -- What is left of what an attempt asked for: on this view it asked, and what was taken since is held as it asked.
 pub record Wants (call : Call) (view : ViewValue) (wanted : List (Addr × Mode)) : Type 0 where
   pub asking : ViewValue
   pub suited : Suits (modes_of call) asking
   pub taken : List Seen
-  pub strong : AllByRecursion (λ (e : Seen). covers e.mode (mode_at (modes_of call) asking e.address) ≡ true) taken
+  pub strong : AllByRecursion (λ (e : Seen). covers e.mode (held_mode (modes_of call) asking e.address) ≡ true) taken
   pub grew : view ≡ record asking { entries = asking.entries ++ taken }
   pub once : EachOnce wanted
   pub each : AllByRecursion (MayTake call asking view) wanted

@@ -83,7 +83,7 @@ pub record TakesTurn (old new : WorldValue) (worker : ℕ) (answer : Option Answ
   }
 
 -- this worker, from 1, is stopped, and is idle
-pub record Stops (old new : WorldValue) (worker : ℕ) (answer : Option Answer) : Type 0 where
+pub record StopsWorker (old new : WorldValue) (worker : ℕ) (answer : Option Answer) : Type 0 where
   pub was : Worker
   pub there : slice_get old.workers (worker - 1) ≡ Some was
   pub stop : IsStop old.engine new.engine was answer

@@ -9,7 +9,7 @@ ghost use Rattle.nfs_engine.specs.Engine.{IsLeaving, Lives, Waits};
 ghost use Rattle.nfs_engine.specs.declared.arrival.Reading.TheVariants as readings;
 ghost use Rattle.nfs_engine.specs.declared.asking.Asked.{Asked};
 ghost use Rattle.nfs_schedule.specs.Answers.{IsRefused, IsUnanswered};
-ghost use Rattle.nfs_schedule.specs.Turns.{Admits, AsksCall, IsStep, KeepsQueue, TakesArrival, after_all};
+ghost use Rattle.nfs_schedule.specs.Turns.{Admits, AsksCall, IsTurnOf, KeepsQueue, TakesArrival, after_all};
 ghost use Rattle.nfs_schedule.specs.Workers.{Comes, IsSuited, MayThink, Thinks, WorkerLives};
 
 use crate::answer::{Answer, Declined, refusal_to, refuse};
@@ -75,7 +75,7 @@ impl Worker {
     ) -> Option<Answer>
         requires lives { WorkerLives engine.old self.old }
         requires shard { shard < 16 }
-        ensures step { IsStep engine.old engine.new shard self.old self.new result }
+        ensures step { IsTurnOf engine.old engine.new shard self.old self.new result }
         ensures queue { KeepsQueue engine.old engine.new queue.old.items queue.new.items self.old self.new result }
     {
         let worker = mem::replace(self, Worker::Idle);
@@ -132,7 +132,7 @@ fn step(
 ) -> (Worker, Option<Answer>)
     requires lives { WorkerLives engine.old worker }
     requires shard { shard < 16 }
-    ensures step { IsStep engine.old engine.new shard worker result.0 result.1 }
+    ensures step { IsTurnOf engine.old engine.new shard worker result.0 result.1 }
     ensures queue { KeepsQueue engine.old engine.new queue.old.items queue.new.items worker result.0 result.1 }
 {
     match worker {
@@ -167,7 +167,7 @@ fn begin(
     engine: &mut Engine,
     queue: &mut VecDeque<Arrival>,
 ) -> (Worker, Option<Answer>)
-    ensures step { IsStep engine.old engine.new 0 Worker.Idle result.0 result.1 }
+    ensures step { IsTurnOf engine.old engine.new 0 Worker.Idle result.0 result.1 }
     ensures queue { TakesArrival engine.old engine.new queue.old.items queue.new.items result.0 result.1 }
 {
     let Some(arrival) = queue.pop_front() else {
@@ -178,7 +178,7 @@ fn begin(
 
 /// Admits an arrival.
 fn admit(alloc: Global, engine: &mut Engine, arrival: Arrival) -> (Worker, Option<Answer>)
-    ensures step { IsStep engine.old engine.new 0 Worker.Idle result.0 result.1 }
+    ensures step { IsTurnOf engine.old engine.new 0 Worker.Idle result.0 result.1 }
     ensures admits { Admits engine.old engine.new arrival result.0 result.1 }
 {
     match engine.admit(alloc, arrival) {
@@ -216,7 +216,7 @@ pub(crate) fn refuse_arrival(alloc: Global, arrival: Arrival) -> Answer
 /// Asks for the first of these addresses.
 fn acquire(alloc: Global, engine: &mut Engine, txn: Txn, wanted: IntoIter<(Addr, Mode)>) -> Worker
     requires { WorkerLives engine.old (Worker.Wanting txn wanted) }
-    ensures { IsStep engine.old engine.new 0 (Worker.Wanting txn wanted) result None }
+    ensures { IsTurnOf engine.old engine.new 0 (Worker.Wanting txn wanted) result None }
 {
     let mut txn = txn;
     let mut wanted = wanted;
@@ -235,7 +235,7 @@ fn acquire(alloc: Global, engine: &mut Engine, txn: Txn, wanted: IntoIter<(Addr,
 fn reserve(alloc: Global, engine: &mut Engine, shard: usize, txn: Txn, left: u32) -> Worker
     requires lives { WorkerLives engine.old (Worker.Wishing txn left) }
     requires shard { shard < 16 }
-    ensures { IsStep engine.old engine.new shard (Worker.Wishing txn left) result None }
+    ensures { IsTurnOf engine.old engine.new shard (Worker.Wishing txn left) result None }
 {
     let mut txn = txn;
     match engine.reserve(alloc, &mut txn, shard) {
@@ -248,7 +248,7 @@ fn reserve(alloc: Global, engine: &mut Engine, shard: usize, txn: Txn, left: u32
 /// Makes what is done the state.
 fn commit(alloc: Global, engine: &mut Engine, finished: Finished) -> (Worker, Option<Answer>)
     requires { Lives engine.old (txn_of finished) }
-    ensures { IsStep engine.old engine.new 0 (Worker.Ready finished) result.0 result.1 }
+    ensures { IsTurnOf engine.old engine.new 0 (Worker.Ready finished) result.0 result.1 }
 {
     // It brings that this is what the record asks.
     finished.is_finished();
@@ -264,7 +264,7 @@ fn commit(alloc: Global, engine: &mut Engine, finished: Finished) -> (Worker, Op
 /// Lets go what the call still holds in one shard.
 fn let_go(engine: &mut Engine, release: Release, afterwards: Afterwards) -> Worker
     requires { IsLeaving engine.old release }
-    ensures { IsStep engine.old engine.new 0 (Worker.Leaving release afterwards) result None }
+    ensures { IsTurnOf engine.old engine.new 0 (Worker.Leaving release afterwards) result None }
 {
     match engine.release(release) {
         Next::More(release) => Worker::Leaving(release, afterwards),
@@ -286,7 +286,7 @@ fn begin_again(pending: Pending, afterwards: Afterwards) -> Worker
 /// Gives the call up, and answers its refusal.
 fn give_up(alloc: Global, engine: &mut Engine, pending: Pending) -> Answer
     requires { Waits engine.old pending }
-    ensures { IsStep engine.old engine.new 0 (Worker.Refusing pending) Worker.Idle (Some result) }
+    ensures { IsTurnOf engine.old engine.new 0 (Worker.Refusing pending) Worker.Idle (Some result) }
 {
     let refused = engine.give_up(pending);
     refuse(alloc, refused.received, refused.asked)

@@ -6,7 +6,7 @@ ghost use Rattle.nfs_schedule.specs.Order.{IsOrderly};
 ghost use Rattle.nfs_schedule.specs.Stops.{IsStop};
 ghost use Rattle.nfs_schedule.specs.Turns.{KeepsBook, Turns};
 ghost use Rattle.nfs_schedule.specs.Workers.{WorkerLives};
-ghost use Rattle.nfs_schedule.specs.Worlds.{IsAtRest, IsKept, RunsOn, Stops, TakesOldest, TakesTurn, TurnsEra};
+ghost use Rattle.nfs_schedule.specs.Worlds.{IsAtRest, IsKept, RunsOn, StopsWorker, TakesOldest, TakesTurn, TurnsEra};
 
 use crate::answer::Answer;
 use crate::stop::stop;
@@ -166,11 +166,11 @@ impl World {
         )
     }
 
-    /// Stops this worker, from 1: what it has is given up with no reply, and it is idle. It takes no memory.
+    /// StopsWorker this worker, from 1: what it has is given up with no reply, and it is idle. It takes no memory.
     pub fn stop(&mut self, worker: usize) -> Option<Answer>
         requires first { 0 < worker }
         requires last { worker ≤ length self.old.workers }
-        ensures stops { Stops self.old self.new worker result }
+        ensures stops { StopsWorker self.old self.new worker result }
         ensures runs { RunsOn self.old self.new }
     {
         stop_at(&mut self.engine, &mut self.workers[worker - 1])
@@ -223,7 +223,7 @@ fn idle_workers(alloc: Global, count: usize) -> Result<Vec<Worker>, AllocError>
     Ok(workers)
 }
 
-/// Stops each of these workers, who are all that there are.
+/// StopsWorker each of these workers, who are all that there are.
 #[tactic(auto, using(crate::proofs::Kept::rest_empty))]
 fn stop_all(engine: &mut Engine, workers: Vec<Worker>)
     requires { IsKept engine.old workers.items }
@@ -253,7 +253,7 @@ fn turn_at(
     worker.turn(alloc, engine, queue, shard)
 }
 
-/// Stops a worker where it stands.
+/// StopsWorker a worker where it stands.
 fn stop_at(engine: &mut Engine, worker: &mut Worker) -> Option<Answer>
     requires { WorkerLives engine.old worker.old }
     ensures idle { worker.new ≡ Worker.Idle }

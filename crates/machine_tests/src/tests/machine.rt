@@ -1,7 +1,7 @@
 //! Handles, exports, copies, and what is answered for want of memory.
 
 use super::*;
-use nfs_machine::{Call, ExportError, Handle, Refusal, Reply};
+use nfs_machine::{Call, Export, ExportError, Handle, Refusal, Reply};
 use nfs_wire::{NfsCall, NfsReply, NfsStatus};
 use side_wire::{
     FreeAllArguments, LockArguments, MountCall, MountReply, MountStatus, NlmCall, NlmLock,
@@ -17,50 +17,38 @@ fn a_handle_of_another_mark_is_none(rt: HostRuntime) {
     assert_eq!(rt; Handle::read(OTHER_MARK), None);
 }
 
-fn admits(exports: &Exports, number: u32, host: &'static [u8]) -> bool {
+/// Whether the export is read only so, and admits 10.0.0.1 so. Each export admits 10.0.0.2.
+fn is_told(export: &Export, read_only: bool, admits_first: bool) -> bool {
+    export.read_only == read_only
+        && admits(export, b"10.0.0.1") == admits_first
+        && admits(export, b"10.0.0.2")
+}
+
+fn admits(export: &Export, host: &'static [u8]) -> bool {
     let host = Bytes::from_static(host);
-    let admits = exports.admits(number, &host);
+    let admits = export.admits(&host);
     drop(host);
     admits
 }
 
-/// Whether the export with this number is read only, where it is there.
-fn is_read_only(exports: &Exports, number: u32) -> Option<bool> {
-    match exports.get(number) {
-        Some(export) => Some(export.read_only),
-        None => None,
-    }
+/// Whether these are the exports of `TWO`.
+fn has_two(exports: &Exports) -> bool {
+    let [first, second] = exports.list() else {
+        return false;
+    };
+    is_told(first, false, true) && is_told(second, true, false)
 }
 
-/// The first number of an export of `TWO` that is not told so: they have the numbers 1 and 2, and each admits its
-/// hosts.
-fn first_wrong_export(exports: &Exports) -> Option<u32> {
-    for (number, read_only, admits_first, admits_second) in [
-        (0, None, false, false),
-        (1, Some(false), true, true),
-        (2, Some(true), false, true),
-        (3, None, false, false),
-    ] {
-        if is_read_only(exports, number) != read_only
-            || admits(exports, number, b"10.0.0.1") != admits_first
-            || admits(exports, number, b"10.0.0.2") != admits_second
-        {
-            return Some(number);
-        }
-    }
-    None
-}
-
-/// How many there are, and the same of exports that are dropped.
-fn told(exports: Exports) -> (usize, Option<u32>) {
-    let told = (exports.list().len(), first_wrong_export(&exports));
+/// The same of exports that are dropped.
+fn had_two(exports: Exports) -> bool {
+    let has_two = has_two(&exports);
     drop(exports);
-    told
+    has_two
 }
 
 #[test]
-fn exports_are_numbered_from_1(rt: HostRuntime) -> Result<(), AllocError> {
-    assert_eq!(rt; told(given_exports(rt.alloc(), &TWO)?), (2, None));
+fn exports_are_kept_in_order(rt: HostRuntime) -> Result<(), AllocError> {
+    assert!(rt; had_two(given_exports(rt.alloc(), &TWO)?));
     Ok(())
 }
 

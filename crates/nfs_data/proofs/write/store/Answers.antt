@@ -9,7 +9,7 @@ use Rattle.nfs_machine.specs.Data.{written}
 use Rattle.nfs_machine.specs.DataSteps.{write_count}
 use Rattle.nfs_machine.specs.Times.{time_of}
 use Rattle.nfs_machine.specs.declared.calls.Call.TheVariants as calls
-use Rattle.nfs_objects.specs.Asks.{Lives}
+use Rattle.nfs_objects.specs.Asks.{IsThere}
 use Rattle.nfs_objects.specs.Calls.{named_by}
 use Rattle.nfs_objects.specs.Knows.{Turns}
 use Rattle.nfs_objects.specs.Values.{DraftValue}
@@ -47,7 +47,7 @@ returns-in_err-write c =
     rw (p.1, p.2) (any-stops c.args.draft.now
     (named_by (calls.Nfs (nfs.Write c.args.arguments.now)) c.args.draft.now.view) _
     (counted-stops c.args.draft.now c.in-Ok.file.known.number _
-    (subst (λ (y : Known). Lives c.args.draft.now.view (addresses.Inode y.number)) (sym c.in-Ok.ensures.known)
+    (subst (λ (y : Known). IsThere c.args.draft.now.view (addresses.Inode y.number)) (sym c.in-Ok.ensures.known)
     (known-lives c.args.draft.now c.args.known.now c.requires.begins.none (λ s k w. (c.requires.names s k w).known)))
     (usage-lives-first c.args.draft.now c.in-Ok.file.known.number c.requires.begins.none) c.in_err-write.ensures))
 

@@ -1,6 +1,6 @@
 use Rattle.std.proofs.Common.{[], ◌∷◌, ◌++◌, refl, sym, ap, ◌∙◌, take, subst, option_map}
 use Rattle.nfs_machine.specs.State.{Entry}
-use Rattle.nfs_objects.specs.Asks.{Lives}
+use Rattle.nfs_objects.specs.Asks.{IsThere}
 use Rattle.nfs_objects.specs.declared.address.Addr.TheVariants as addresses
 use Rattle.nfs_inodes.proofs.Taking.{all-at, take-none, take-some}
 use Rattle.nfs_inodes.specs.Gathers.{Gathers}
@@ -13,7 +13,7 @@ loop-index-init c = c.new-wishes.ensures c.args.draft.now
 
 pub add-requires : goal.add-requires
 add-requires c =
-    all-at (λ (e : Entry). Lives c.args.draft.now.view (addresses.Inode e.number)) c.args.left.now c.loop-index.index
+    all-at (λ (e : Entry). IsThere c.args.draft.now.view (addresses.Inode e.number)) c.args.left.now c.loop-index.index
     (listed_entry c.in-Some.entry) c.requires
     (sym c.get.ensures.entry ∙ ap (option_map listed_entry) c.in-Some.is)
 

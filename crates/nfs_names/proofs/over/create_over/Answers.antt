@@ -9,7 +9,7 @@ use Rattle.nfs_names.proofs.Making.{later-stops}
 use Rattle.nfs_names.specs.Creates.{IsOverEnd}
 use Rattle.nfs_inodes.proofs.Composing.{counted-stops}
 use Rattle.std.proofs.Common.{subst, sym}
-use Rattle.nfs_objects.specs.Asks.{Lives}
+use Rattle.nfs_objects.specs.Asks.{IsThere}
 use Rattle.nfs_inodes.specs.declared.found.Known.{Known}
 use Rattle.nfs_names.proofs.over.create_over.Goals as goal
 
@@ -40,7 +40,7 @@ returns-in_err-give_size c =
     c.from_residual-in_err-give_size.ensures.1 in
     let there = rw c.in-Some.is at c.in_ok-object.ensures.object in
     rw (p.1, p.2) (counted-stops c.args.draft.now c.in-Ok.file.known.number _
-    (subst (λ (y : Known). Lives c.args.draft.now.view (addresses.Inode y.number)) (sym c.in-Ok.ensures.known)
+    (subst (λ (y : Known). IsThere c.args.draft.now.view (addresses.Inode y.number)) (sym c.in-Ok.ensures.known)
     (known-lives c.args.draft.now c.in-Some.object c.requires.none (λ s k w. (there s k w).1)))
     (usage-lives-first c.args.draft.now c.in-Ok.file.known.number c.requires.none) c.in_err-give_size.ensures)
 

@@ -2,7 +2,7 @@ use Rattle.std.proofs.Common.{◌++◌, ◌∷◌, [], map, take, option_map, sy
 use Rattle.std.proofs.lemmas.List.{map-append}
 use Rattle.nfs_machine.specs.PageSteps.{full_entry}
 use Rattle.nfs_machine.specs.State.{Entry}
-use Rattle.nfs_objects.specs.Asks.{Lives}
+use Rattle.nfs_objects.specs.Asks.{IsThere}
 use Rattle.nfs_objects.specs.declared.address.Addr.TheVariants as addresses
 use Rattle.nfs_inodes.proofs.Taking.{all-at, take-none, take-some}
 use Rattle.nfs_inodes.specs.Listing.{listed_entry}
@@ -11,7 +11,7 @@ use Rattle.nfs_names.proofs.readdirplus.entries.Goals.{in-Some+in_ok-full_entry+
 
 pub full_entry-requires : goal.full_entry-requires
 full_entry-requires c =
-    all-at (λ (e : Entry). Lives c.args.draft.now.view (addresses.Inode e.number)) c.args.front.now.left
+    all-at (λ (e : Entry). IsThere c.args.draft.now.view (addresses.Inode e.number)) c.args.front.now.left
     c.loop-index.index (listed_entry c.in-Some.entry) c.requires.lives
     (sym c.get.ensures.entry ∙ ap (option_map listed_entry) c.in-Some.is)
 

@@ -1,6 +1,6 @@
 use Rattle.std.proofs.Common.{sym, subst, None}
 use Rattle.nfs_schedule.proofs.Steps.{released_all, released_more, released_to}
-use Rattle.nfs_schedule.specs.Turns.{IsStep}
+use Rattle.nfs_schedule.specs.Turns.{IsTurnOf}
 use Rattle.nfs_schedule.specs.declared.worker.Worker.{Worker}
 use Rattle.nfs_schedule.specs.declared.worker.Worker.TheVariants.{Leaving}
 use Rattle.nfs_schedule.proofs.worker.let_go.Goals as goal
@@ -10,7 +10,7 @@ returns-in-More c = released_more _ _ _ _ c.in-More.ensures.others c.in-More.ens
 
 pub returns-in-Aborted : goal.returns-in-Aborted
 returns-in-Aborted c =
-    subst (λ (v : Worker). IsStep c.args.engine.now c.release.new.self 0 (Leaving c.args.release c.args.afterwards) v None)
+    subst (λ (v : Worker). IsTurnOf c.args.engine.now c.release.new.self 0 (Leaving c.args.release c.args.afterwards) v None)
     (sym c.begin_again.ensures)
     (released_to _ _ _ _ c.in-Aborted.ensures.others c.in-Aborted.ensures.book c.requires _ c.in-Aborted.ensures.next)
 

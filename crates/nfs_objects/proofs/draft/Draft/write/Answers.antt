@@ -3,7 +3,7 @@ use Rattle.std.proofs.lemmas.List.{map-append}
 use Rattle.std.specs.Arc.{arc_value}
 use Rattle.nfs_objects.proofs.Drafted.{drafted}
 use Rattle.nfs_objects.specs.Drafts.{MayWrite}
-use Rattle.nfs_objects.specs.Modes.{mode_at}
+use Rattle.nfs_objects.specs.Modes.{held_mode}
 use Rattle.nfs_objects.specs.Values.{DraftValue, known_at, modes_value, write_value}
 use Rattle.nfs_objects.proofs.draft.Draft.write.Goals as goal
 
@@ -17,7 +17,7 @@ invariant_of-self-2 c =
       writes = map write_value c.self.inside.writes.items;
       messages = c.self.inside.messages.items;
     }) c.self.invariant _ _
-    (ap (λ (v : DraftValue). mode_at v.modes v.view c.args.address) c.self.view_is ∙ c.requires.alone)
+    (ap (λ (v : DraftValue). held_mode v.modes v.view c.args.address) c.self.view_is ∙ c.requires.alone)
     (subst (λ (v : DraftValue). IsSome (known_at v c.args.address)) (sym c.self.view_is) c.requires.known)
     (subst (λ (v : DraftValue). MayWrite v c.args.address (option_map arc_value c.args.object))
     (sym c.self.view_is) c.requires.given))
