@@ -52,7 +52,7 @@ use Rattle.machine_examples.specs.WorkedCreate.{moment, with_writable, writable}
 use Rattle.machine_examples.specs.WorkedFiles.{time}
 use Rattle.machine_examples.specs.WorkedPages.{seven, zeros}
 use Rattle.machine_examples.specs.WorkedReplies.{root}
-use Rattle.machine_examples.specs.WorkedRun.{wrote_reply, received, WorkedLeaving, WorkedLinking}
+use Rattle.machine_examples.specs.WorkedRun.{wrote_reply, exported, received, WorkedLeaving, WorkedLinking}
 use Rattle.machine_examples.specs.WorkedRun.{WorkedRenaming, WorkedRun}
 use Rattle.machine_examples.specs.WorkedRun.{WorkedSteps, WorkedTurns, all_three, argument_bytes, arrives, executed}
 use Rattle.machine_examples.specs.WorkedRun.{first_two, nfs_header, in_root, listed_full_reply, listed_reply, listing}
@@ -261,7 +261,7 @@ lists-full =
 -- ---- REMOVE
 names-x : names_of with_hi 5 ≡ 1
 names-x =
-    let none : names_of opened 5 ≡ 0 = sum-none (names_in 5) opened.objects (λ q v at. subst (λ (o : Living). names_in 5 o ≡ 0) (only_roots setting.exports moment q v at).0 refl) in
+    let none : names_of opened 5 ≡ 0 = sum-none (names_in 5) opened.objects (λ q v at. subst (λ (o : Living). names_in 5 o ≡ 0) (only_roots exported moment q v at).0 refl) in
     let free : get (insert opened.objects 1 root_with_x) 5 ≡ None = get-inserted opened.objects 1 root_with_x 5 ∙ none-opened in
     let one : names_in 5 root_with_x ≡ 1 = refl in
     let of_root : names_in 5 root ≡ 0 = refl in
@@ -601,7 +601,7 @@ with-x-formed : WellFormed with_x
 with-x-formed =
     let c = runs_are_chains setting opened with_x (executed (nfs.Create making) made_reply ∷ [])
     (with_x, executes-create, refl) in
-    chains_keep_form opened with_x c.0 c.1 (roots_formed setting.exports moment (within 1 64 refl) (tt, tt))
+    chains_keep_form opened with_x c.0 c.1 (roots_formed exported moment (within 1 64 refl) (tt, tt))
 
 pub worked-turns : WorkedTurns
 worked-turns = record {

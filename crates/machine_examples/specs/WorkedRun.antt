@@ -22,6 +22,7 @@ use Rattle.nfs_wire.specs.declared.entries.FullEntry.{FullEntry}
 use Rattle.nfs_wire.specs.declared.replies.NfsReply.{NfsReply}
 use Rattle.nfs_wire.specs.declared.replies.NfsReply.TheVariants as nfs_replies
 use Rattle.nfs_wire.specs.declared.status.NfsStatus.TheVariants as status
+use Rattle.nfs_machine.specs.Exports.{ExportValue}
 use Rattle.nfs_machine.specs.Attributes.{attributes_of, names_of}
 use Rattle.nfs_machine.specs.Chains.{Chain, Transition}
 use Rattle.nfs_machine.specs.Checks.{entry_of}
@@ -53,7 +54,11 @@ use Rattle.nfs_machine.specs.declared.calls.Reply.TheVariants as replies
 use Rattle.nfs_machine.specs.declared.context.Ctx.{Ctx}
 
 abbrev pub setting : Setting
-setting = record { start = 7; exports = open_export ∷ []; limits = record { total_bytes = 0 } }
+setting = record { start = 7; limits = record { total_bytes = 0 } }
+
+-- what it exports
+abbrev pub exported : List ExportValue
+exported = open_export ∷ []
 
 -- a call by nobody: xid, CALL, RPC 2, NFS 3, its procedure, AUTH_NONE twice, and its arguments (RFC 5531, 9)
 abbrev pub argument_bytes : NfsCall → List ℕ
@@ -88,7 +93,7 @@ executed call reply = record { arrival = arrives call; reply = replies.Nfs reply
 
 -- the state of a server with one export
 abbrev pub opened : State
-opened = opening (open_export ∷ []) moment
+opened = opening exported moment
 
 -- a file "x" is made, with the number 5 and the generation 1
 abbrev pub in_root : List ℕ → Place

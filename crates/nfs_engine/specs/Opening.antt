@@ -86,7 +86,7 @@ pub record Opens (config : Config) (b : BookValue) : Type 0 where
     replies = record { capacity = config.capacity; hosts = [] };
     living = [];
     next_id = 0;
-    setting = record { start = config.start; exports = config.exports; limits = config.limits };
+    setting = record { start = config.start; limits = config.limits };
     era_records = config.era_records;
   }
 

@@ -35,7 +35,7 @@ use crate::records::Era;
 use crate::request::Request;
 use crate::running::{AdmitError, Calls, Place};
 use bytes::Bytes;
-use nfs_machine::{Call, Ctx, Exports, Limits, Moment};
+use nfs_machine::{Call, Ctx, Limits, Moment};
 use nfs_objects::{View, Write};
 use nfs_replies::{Capacity, Origin, Replies};
 use nfs_rpc::Ids;
@@ -55,7 +55,6 @@ pub struct Book {
     replies: Replies,
     calls: Calls,
     start: u64,
-    exports: Exports,
     limits: Limits,
     era_records: u64,
 }
@@ -66,10 +65,10 @@ impl Model for Book {
     ghost Value = { BookValue };
 
     ghost view = { λ b. book_value b.journal b.replies b.calls
-        (record { start = b.start; exports = b.exports; limits = b.limits }) b.era_records };
+        (record { start = b.start; limits = b.limits }) b.era_records };
 
     ghost invariant = { λ b. IsBook (book_value b.journal b.replies b.calls
-        (record { start = b.start; exports = b.exports; limits = b.limits }) b.era_records) };
+        (record { start = b.start; limits = b.limits }) b.era_records) };
 }
 
 /// What is known of a record that asks a call that changes something.
@@ -112,7 +111,6 @@ impl Book {
             replies,
             calls,
             start: config.start,
-            exports: config.exports,
             limits: config.limits,
             era_records: config.era_records,
         };

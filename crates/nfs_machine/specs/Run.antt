@@ -10,7 +10,6 @@ use Rattle.nfs_wire.specs.Calls.{procedure_of, SpellsArguments}
 use Rattle.side_wire.specs.Mount.{mount_procedure_of, SpellsMountArguments}
 use Rattle.side_wire.specs.Nlm.{nlm_procedure_of, SpellsNlmArguments}
 use Rattle.side_wire.specs.declared.message.Message.{Message}
-use Rattle.nfs_machine.specs.Exports.{ExportValue}
 use Rattle.nfs_machine.specs.State.{State}
 use Rattle.nfs_machine.specs.Step.{Step}
 use Rattle.nfs_machine.specs.declared.calls.Call.{Call}
@@ -20,10 +19,9 @@ use Rattle.nfs_machine.specs.declared.context.Ctx.{Ctx}
 use Rattle.nfs_machine.specs.declared.context.Limits.{Limits}
 use Rattle.nfs_machine.specs.declared.moment.Moment.{Moment}
 
--- what a server was started with
+-- what a server was started with, beside its exports, which stand in its state
 pub record Setting : Type 0 where
   pub start : ℕ
-  pub exports : List ExportValue
   pub limits : Limits
 
 -- a record that came in: from whom, its bytes, and when

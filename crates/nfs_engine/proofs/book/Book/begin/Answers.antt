@@ -25,7 +25,7 @@ pub invariant_of-self : goal.invariant_of-self
 invariant_of-self c =
     let book = c.self.inside in
     begun book.journal book.replies book.calls
-    (record { start = book.start; exports = book.exports; limits = book.limits }) book.era_records c.self.invariant
+    (record { start = book.start; limits = book.limits }) book.era_records c.self.invariant
     c.begin.new.self c.in-Ok.origin c.begin.result c.begin.ensures
     (subst (λ (b : BookValue). IfSome c.in-Ok.origin (IsUnknown b)) (sym c.self.view_is)
     (subst (λ (o : Option Origin). IfSome o (IsUnknown c.args.self.now)) (sym c.in-Ok.ensures.origin)

@@ -24,7 +24,7 @@ keep_answer-requires c =
     (unkept_at _ _ _ c.self.invariant)
 
 abbrev setting : After-commit → Setting
-setting c = record { start = c.self.inside.start; exports = c.self.inside.exports; limits = c.self.inside.limits }
+setting c = record { start = c.self.inside.start; limits = c.self.inside.limits }
 
 -- the book after it
 abbrev after : After-commit → BookValue

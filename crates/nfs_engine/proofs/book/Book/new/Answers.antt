@@ -41,7 +41,7 @@ returns-clause-book c = record {
     living = ap (λ (v : CallsValue). v.living) c.new-calls.ensures i;
     next_id = ap (λ (v : CallsValue). v.next_id) c.new-calls.ensures i;
     setting = record
-        { start = c.args.config.start; exports = c.args.config.exports; limits = c.args.config.limits };
+        { start = c.args.config.start; limits = c.args.config.limits };
     era_records = c.args.config.era_records;
   };
 }
