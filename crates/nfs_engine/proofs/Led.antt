@@ -18,7 +18,7 @@ use Rattle.nfs_replies.specs.Replies.{RepliesValue}
 use Rattle.nfs_engine.proofs.Bounds.{step-within}
 use Rattle.nfs_engine.proofs.Built.{asked-built}
 use Rattle.nfs_engine.proofs.Formed.{step_form}
-use Rattle.nfs_engine.specs.Book.{BookValue, Commits, IsRun, LeadsTo, LeadsFrom, MayCommit, Rebases, StandsFor}
+use Rattle.nfs_engine.specs.Book.{BookValue, Commits, IsRun, LeadsBook, LeadsFrom, MayCommit, Rebases, StandsFor}
 use Rattle.nfs_engine.specs.Book.{Steps, book_value, store_in}
 use Rattle.nfs_engine.specs.Built.{IsBuilt}
 use Rattle.nfs_engine.specs.Calls.{FinishedValue, IsCalled, IsUnder}
@@ -31,7 +31,7 @@ use Rattle.nfs_engine.specs.Tables.{KeptValue, store_of}
 
 -- ---- what changes neither records nor store
 pub same_leads : (old new : BookValue) → new.records ≡ old.records → new.objects ≡ old.objects →
-    new.setting ≡ old.setting → LeadsTo old new
+    new.setting ≡ old.setting → LeadsBook old new
 same_leads old new records objects setting base l = record {
   state = l.state;
   run = subst (λ (s : Setting). Run s base new.records l.state) (sym setting)
@@ -39,7 +39,7 @@ same_leads old new records objects setting base l = record {
   stands = subst (λ (os : List (Addr × KeptValue)). StandsFor (store_of os) l.state) (sym objects) l.stands;
 }
 
-pub led_run : (old new : BookValue) → new.base ≡ old.base → LeadsTo old new → IsRun old → IsRun new
+pub led_run : (old new : BookValue) → new.base ≡ old.base → LeadsBook old new → IsRun old → IsRun new
 led_run old new same leads r = record {
   base = r.base;
   began = subst (λ (os : List (Addr × KeptValue)). StandsFor (store_of os) r.base) (sym same) r.began;
@@ -140,7 +140,7 @@ module _ (old : BookValue) (f : FinishedValue) (called : IsCalled f.received f.x
     pub committed_steps : Steps old new f.done
     committed_steps m s = ((step_of m s).new.state, (step_of m s).step, stands_on m s)
 
-    pub committed_leads : LeadsTo old new
+    pub committed_leads : LeadsBook old new
     committed_leads base l =
         let k = step_of l.state l.stands in
         let e : Executes old.setting l.state (record_of f) k.new.state = record {

@@ -114,8 +114,8 @@ pub record IsBook (b : BookValue) : Type 0 where
   pub unkept : NoneIsKept b.replies b.living
 
 -- from wherever the old records led to the old store, the new ones lead to the new store
-abbrev pub LeadsTo : BookValue → BookValue → Type 0
-LeadsTo old new = (base : State) → LeadsFrom base old → LeadsFrom base new
+abbrev pub LeadsBook : BookValue → BookValue → Type 0
+LeadsBook old new = (base : State) → LeadsFrom base old → LeadsFrom base new
 
 -- whatever state the store stood for, the call steps from it to one that the new store stands for
 abbrev pub Steps : BookValue → BookValue → DoneValue → Type 0

@@ -5,7 +5,7 @@ ghost use Rattle.std.specs.Prelude.{IfErr, IfOk, IfSome, MatchOption, OnOk, Some
 ghost use Rattle.std.specs.Bool.{Decides};
 ghost use Rattle.nfs_engine.specs.Arrivals.{received_value, shared_value};
 ghost use Rattle.nfs_engine.specs.Asked.{IsAsked};
-ghost use Rattle.nfs_engine.specs.Book.{Admits, Commits, GivesUp, IsRun, IsUnknown, LeadsTo, MayCommit, Rebases};
+ghost use Rattle.nfs_engine.specs.Book.{Admits, Commits, GivesUp, IsRun, IsUnknown, LeadsBook, MayCommit, Rebases};
 ghost use Rattle.nfs_engine.specs.Book.{Recalls, Steps, TakesEra, TakesMessage, is_full, store_in};
 ghost use Rattle.nfs_engine.specs.Calls.{IsUnder};
 ghost use Rattle.nfs_engine.specs.Commits.{IsReceipt, Leaves};
@@ -287,7 +287,7 @@ impl Book {
         ensures keeps { OnOk result (Keeps (origin_of finished.received finished.done.call)
             (success_message finished.xid finished.done.change.reply) self.old.replies self.new.replies) }
         ensures step { OnOk result (Steps self.old self.new finished.done) }
-        ensures leads { OnOk result (LeadsTo self.old self.new) }
+        ensures leads { OnOk result (LeadsBook self.old self.new) }
         ensures receipt { IfOk result
             (λ c. IsReceipt (self.old.before + length self.old.records + 1) finished c.receipt) }
         ensures leaves { IfOk result (Leaves finished) }

@@ -5,7 +5,7 @@ ghost use Rattle.std.specs.Prelude.{length, map};
 ghost use Rattle.std.specs.Bool.{Decides};
 ghost use Rattle.std.specs.List.{AllByRecursion};
 ghost use Rattle.nfs_objects.specs.Values.{seen_at, write_value};
-ghost use Rattle.nfs_engine.specs.Book.{Admits, Commits, GivesUp, LeadsTo, MayCommit, Rebases, Steps, TakesEra};
+ghost use Rattle.nfs_engine.specs.Book.{Admits, Commits, GivesUp, LeadsBook, MayCommit, Rebases, Steps, TakesEra};
 ghost use Rattle.nfs_engine.specs.Book.{TakesMessage, is_full};
 ghost use Rattle.nfs_engine.specs.Calls.{again_of, txn_of};
 ghost use Rattle.nfs_engine.specs.Commits.{IsReceipt};
@@ -154,7 +154,7 @@ impl Engine {
         ensures keeps { OnOk result (Keeps (origin_of finished.received finished.done.call)
             (success_message finished.xid finished.done.change.reply) self.old.book.replies self.new.book.replies) }
         ensures step { OnOk result (Steps self.old.book self.new.book finished.done) }
-        ensures leads { OnOk result (LeadsTo self.old.book self.new.book) }
+        ensures leads { OnOk result (LeadsBook self.old.book self.new.book) }
         ensures receipt { IfOk result
             (λ r. IsReceipt (self.old.book.before + length self.old.book.records + 1) finished r.0) }
         ensures others { OnOk result (KeepsOthers finished.id self.old self.new) }

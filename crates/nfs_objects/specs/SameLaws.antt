@@ -44,9 +44,9 @@ from_self test same own a b = (same a b, λ e. subst (λ x. test a x ≡ true) e
 pub same_as : {P : Type 0} {r test : Bool} → Decides test P → r ≡ test → Decides r P
 same_as {P = P} decides is = subst (λ t. Decides t P) (sym is) decides
 
-pub decided : {X : Type 0} {test : X → X → Bool} → ((a b : X) → Decides (test a b) (a ≡ b)) →
+pub told_so : {X : Type 0} {test : X → X → Bool} → ((a b : X) → Decides (test a b) (a ≡ b)) →
     (r : Bool) (a b : X) → r ≡ test a b → Decides r (a ≡ b)
-decided decides r a b is = same_as (decides a b) is
+told_so decides r a b is = same_as (decides a b) is
 
 -- both parts pass
 pub both : (a b : Bool) → a ≡ true → b ≡ true → (a && b) ≡ true

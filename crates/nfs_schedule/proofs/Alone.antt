@@ -14,7 +14,7 @@ use Rattle.nfs_objects.specs.declared.modes.Mode.TheVariants.{Shared, Exclusive}
 use Rattle.nfs_replies.specs.declared.origins.Origin.{Origin}
 use Rattle.nfs_engine.proofs.Lifted.{alike_or}
 use Rattle.nfs_engine.specs.Arrivals.{ArrivalValue, received_value}
-use Rattle.nfs_engine.specs.Book.{BeginsCall, BookValue, Commits, GivesUp, IsUnknown, LeadsTo, Repeats, Steps, StillRuns, new_txn, store_in}
+use Rattle.nfs_engine.specs.Book.{BeginsCall, BookValue, Commits, GivesUp, IsUnknown, LeadsBook, Repeats, Steps, StillRuns, new_txn, store_in}
 use Rattle.nfs_engine.specs.Calls.{FinishedValue, PendingValue, TxnValue, pending_of, txn_of}
 use Rattle.nfs_engine.specs.Commits.{IsReceipt}
 use Rattle.nfs_engine.specs.Engine.{EngineValue, IsAcquired, IsReleased, IsReserved, IsRunning, KeepsOthers, LetsAllGo}
@@ -182,7 +182,7 @@ executes_on e f g d receipt x same = record {
       subst (λ (b : BookValue). Keeps (origin_of d.received d.done.call) (success_message d.xid d.done.change.reply)
       e.book.replies b.replies) (sym same) x.keeps;
   step = subst (λ (b : BookValue). Steps e.book b d.done) (sym same) x.step;
-  leads = subst (λ (b : BookValue). LeadsTo e.book b) (sym same) x.leads;
+  leads = subst (λ (b : BookValue). LeadsBook e.book b) (sym same) x.leads;
   receipt_is = x.receipt_is;
 }
 
@@ -249,7 +249,7 @@ executes_from e f g d receipt x same = record {
       subst (λ (b : BookValue). Keeps (origin_of d.received d.done.call) (success_message d.xid d.done.change.reply)
       b.replies g.book.replies) same x.keeps;
   step = subst (λ (b : BookValue). Steps b g.book d.done) same x.step;
-  leads = subst (λ (b : BookValue). LeadsTo b g.book) same x.leads;
+  leads = subst (λ (b : BookValue). LeadsBook b g.book) same x.leads;
   receipt_is = subst (λ (b : BookValue). IsReceipt (b.before + length b.records + 1) d receipt) same x.receipt_is;
 }
 

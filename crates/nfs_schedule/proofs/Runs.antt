@@ -4,7 +4,7 @@ use Rattle.nfs_machine.proofs.Runs.{run-append}
 use Rattle.nfs_machine.specs.Run.{Record, Run, Setting}
 use Rattle.nfs_engine.proofs.Led.{same_leads}
 use Rattle.nfs_engine.specs.Arrivals.{shared_value}
-use Rattle.nfs_engine.specs.Book.{BookValue, LeadsTo, TakesMessage}
+use Rattle.nfs_engine.specs.Book.{BookValue, LeadsBook, TakesMessage}
 use Rattle.nfs_engine.specs.Engine.{EngineValue}
 use Rattle.nfs_engine.specs.declared.outbox.Posted.{Posted}
 use Rattle.nfs_engine.specs.declared.records.Era.{Era}
@@ -15,7 +15,7 @@ use Rattle.nfs_schedule.specs.declared.answer.Answer.TheVariants as answers
 
 -- what the book does leads on, and the eras that are over are the same
 pub record LeadsOn (e f : EngineValue) : Type 0 where
-  pub leads : LeadsTo e.book f.book
+  pub leads : LeadsBook e.book f.book
   pub setting : f.book.setting ≡ e.book.setting
 
 pub runs_on : (old new : WorldValue) → LeadsOn old.engine new.engine → new.eras ≡ old.eras → RunsOn old new

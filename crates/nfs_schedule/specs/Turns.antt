@@ -6,7 +6,7 @@ use Rattle.nfs_machine.specs.RpcReplies.{success_message}
 use Rattle.nfs_replies.specs.Kept.ReplyEvent.{Repeated}
 use Rattle.nfs_replies.specs.Replies.{IsAfter}
 use Rattle.nfs_engine.specs.Arrivals.{ArrivalValue, received_value}
-use Rattle.nfs_engine.specs.Book.{BeginsCall, Commits, IsAdmitError, LeadsTo, Repeats, Steps, StillRuns}
+use Rattle.nfs_engine.specs.Book.{BeginsCall, Commits, IsAdmitError, LeadsBook, Repeats, Steps, StillRuns}
 use Rattle.nfs_engine.specs.Calls.{FinishedValue, IsCalled, PendingValue, TxnValue, again_of, txn_of}
 use Rattle.nfs_engine.specs.Commits.{IsReceipt}
 use Rattle.nfs_engine.specs.Engine.{EngineValue, FreesLast, FreesOne, IsAcquired, IsReleased, IsReserved, freed_more}
@@ -55,7 +55,7 @@ pub record Executes (e f : EngineValue) (done : FinishedValue) (receipt : Receip
   pub keeps : Keeps (origin_of done.received done.done.call) (success_message done.xid done.done.change.reply)
       e.book.replies f.book.replies
   pub step : Steps e.book f.book done.done
-  pub leads : LeadsTo e.book f.book
+  pub leads : LeadsBook e.book f.book
   pub receipt_is : IsReceipt (e.book.before + length e.book.records + 1) done receipt
 
 -- a reply that is kept comes to the front, and nothing else changes

@@ -3,7 +3,7 @@ use Rattle.std.specs.Cmp.Derive.Mapped.{pointwise-map}
 use Rattle.std.specs.Cmp.Lexicographic.{pointwise}
 use Rattle.nfs_objects.specs.Entries.{entry}
 use Rattle.nfs_objects.specs.Same.{same_entry}
-use Rattle.nfs_objects.specs.SameLaws.{entries_decide, decided}
+use Rattle.nfs_objects.specs.SameLaws.{entries_decide, told_so}
 use Rattle.nfs_objects.specs.declared.directory.Leaf.{Leaf}
 use Rattle.nfs_objects.proofs.directory.EntriesPartialEq.eq.Goals as goal
 
@@ -18,4 +18,4 @@ returns-clause-test c =
     ∙ (λ i. pointwise same_entry (c.map.ensures i) (c.map-2.ensures i))
 
 pub returns-clause-same : goal.returns-clause-same
-returns-clause-same c = decided entries_decide _ _ _ (returns-clause-test c)
+returns-clause-same c = told_so entries_decide _ _ _ (returns-clause-test c)

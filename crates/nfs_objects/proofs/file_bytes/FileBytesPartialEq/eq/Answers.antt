@@ -1,7 +1,7 @@
 use Rattle.std.proofs.Common.{◌&&◌, false, sym, ap, ◌∙◌}
 use Rattle.std.specs.Cmp.Lexicographic.{bytes_decides}
 use Rattle.nfs_machine.specs.Bytes.{same_bytes}
-use Rattle.nfs_objects.specs.SameLaws.{decided}
+use Rattle.nfs_objects.specs.SameLaws.{told_so}
 use Rattle.nfs_objects.proofs.FileParts.{same-parts}
 use Rattle.nfs_objects.proofs.file_bytes.FileBytesPartialEq.eq.Goals as goal
 
@@ -14,7 +14,7 @@ returns-then-eq-clause-test c =
     ∙ (λ i. same_bytes (c.self.view_is i) (c.other.view_is i))
 
 pub returns-then-eq-clause-same : goal.returns-then-eq-clause-same
-returns-then-eq-clause-same c = decided bytes_decides _ _ _ (returns-then-eq-clause-test c)
+returns-then-eq-clause-same c = told_so bytes_decides _ _ _ (returns-then-eq-clause-test c)
 
 pub returns-else-eq-clause-test : goal.returns-else-eq-clause-test
 returns-else-eq-clause-test c =
@@ -25,4 +25,4 @@ returns-else-eq-clause-test c =
     ∙ (λ i. same_bytes (c.self.view_is i) (c.other.view_is i))
 
 pub returns-else-eq-clause-same : goal.returns-else-eq-clause-same
-returns-else-eq-clause-same c = decided bytes_decides _ _ _ (returns-else-eq-clause-test c)
+returns-else-eq-clause-same c = told_so bytes_decides _ _ _ (returns-else-eq-clause-test c)

@@ -1,12 +1,12 @@
 use Rattle.std.proofs.Common.{rules}
-use Rattle.nfs_objects.specs.SameLaws.{object_decides, decided}
+use Rattle.nfs_objects.specs.SameLaws.{object_decides, told_so}
 use Rattle.nfs_objects.proofs.object.ObjectPartialEq.eq.Goals as goal
 
 pub returns-in-Exports-Exports-clause-same : goal.returns-in-Exports-Exports-clause-same
-returns-in-Exports-Exports-clause-same c = decided object_decides _ _ _ (search rules)
+returns-in-Exports-Exports-clause-same c = told_so object_decides _ _ _ (search rules)
 
 pub returns-in-Inode-Inode-clause-same : goal.returns-in-Inode-Inode-clause-same
-returns-in-Inode-Inode-clause-same c = decided object_decides _ _ _ (search rules)
+returns-in-Inode-Inode-clause-same c = told_so object_decides _ _ _ (search rules)
 
 pub returns-in-Mounts-Mounts-clause-same : goal.returns-in-Mounts-Mounts-clause-same
-returns-in-Mounts-Mounts-clause-same c = decided object_decides _ _ _ (search rules)
+returns-in-Mounts-Mounts-clause-same c = told_so object_decides _ _ _ (search rules)
