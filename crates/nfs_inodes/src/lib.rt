@@ -32,7 +32,7 @@ pub use asked::{directory_wanted, file_wanted, link_wanted, special_wanted};
 pub use attributes::BLOCK;
 pub use checks::{changeable, directory, is_writable, no_directory, permitted, regular};
 pub use data::{SIZE_LIMIT, TRANSFER_LIMIT, read, text, verifier};
-pub use entries::{entry, is_empty, leads_to, next_cookie};
+pub use entries::{entry, is_empty, leads_to, new_cookie};
 pub use found::{Known, exports, handle, is_verifier, named, object, shown, wcc, wcc_of};
 pub use gather::read_objects;
 pub use kinds::{Directory, File};

@@ -13,7 +13,7 @@ ghost use Rattle.nfs_names.specs.Links.{IsLinkEnd, LinkComesTo};
 use crate::checking::changed_directory;
 use crate::make::nothing_shown;
 use nfs_inodes::{
-    Directory, Known, LINK_LIMIT, add_link, entry, exports, named, next_cookie, no_directory,
+    Directory, Known, LINK_LIMIT, add_link, entry, exports, named, new_cookie, no_directory,
     shown, wcc,
 };
 use nfs_machine::{Ctx, Reply};
@@ -78,7 +78,7 @@ fn link(
     if file.attributes.links >= LINK_LIMIT {
         return Ok(Err(NfsStatus::TooManyLinks));
     }
-    let Some(cookie) = next_cookie(draft, &directory)? else {
+    let Some(cookie) = new_cookie(draft, &directory)? else {
         return Ok(Err(NfsStatus::NoSpace));
     };
     let links = file.attributes.links + 1;

@@ -20,7 +20,7 @@ ghost use Rattle.nfs_names.specs.Making.{judged, there_as};
 use crate::over::create_over;
 use nfs_inodes::{
     Directory, Known, Right, Wanted, changeable, directory, entry, exports, given_attributes,
-    handle, kind_checked, make_object, named, next_cookie, object, permitted, plain_name_checked,
+    handle, kind_checked, make_object, named, new_cookie, object, permitted, plain_name_checked,
     wcc,
 };
 use nfs_machine::Ctx;
@@ -164,7 +164,7 @@ fn make_new(
     if let Err(status) = judged(draft.ctx(), directory, wanted) {
         return Ok(Err(status));
     }
-    let Some(cookie) = next_cookie(draft, directory)? else {
+    let Some(cookie) = new_cookie(draft, directory)? else {
         return Ok(Err(NfsStatus::NoSpace));
     };
     let reserved = make_object(draft, directory, name, cookie, wanted)?;

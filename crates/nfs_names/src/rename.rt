@@ -26,7 +26,7 @@ ghost use Rattle.nfs_names.specs.Renames.{names_counted, rename_checked, renamed
 use crate::make::nothing_shown;
 use nfs_inodes::{
     Directory, Known, LINK_LIMIT, Right, changeable, directory, entry, exports, give_name,
-    is_empty, is_within, leave, lose_link, named, next_cookie, object, permitted,
+    is_empty, is_within, leave, lose_link, named, new_cookie, object, permitted,
     plain_name_checked, rehome, wcc,
 };
 use nfs_machine::{Ctx, Reply};
@@ -211,7 +211,7 @@ fn rename_found(
     if !has_room(renaming) {
         return Ok(Err(NfsStatus::TooManyLinks));
     }
-    let Some(cookie) = next_cookie(draft, &renaming.to)? else {
+    let Some(cookie) = new_cookie(draft, &renaming.to)? else {
         return Ok(Err(NfsStatus::NoSpace));
     };
     move_name(draft, renaming, arguments, cookie)?;

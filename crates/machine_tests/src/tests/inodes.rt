@@ -6,7 +6,7 @@ ghost use Rattle.nfs_objects.specs.Modes.{Suits, reading};
 use super::*;
 use nfs_inodes::{
     Right, changeable, entry, given_attributes, handle, is_verifier, leads_to, may, name_checked,
-    named, next_cookie, object, permitted, plain_name_checked, regular, shown, verifier, wcc,
+    named, new_cookie, object, permitted, plain_name_checked, regular, shown, verifier, wcc,
 };
 use nfs_machine::Handle;
 use nfs_objects::{Draft, Leaf};
@@ -68,7 +68,7 @@ fn next(draft: &Draft<'_>) -> Result<Option<u64>, Halt> {
     let Ok(place) = nfs_inodes::directory(&known) else {
         return Ok(None);
     };
-    next_cookie(draft, &place)
+    new_cookie(draft, &place)
 }
 
 /// The status that a call with this handle gets, if any.

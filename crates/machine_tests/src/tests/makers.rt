@@ -6,7 +6,7 @@ ghost use Rattle.nfs_objects.specs.Modes.{Suits, changing};
 
 use super::*;
 use nfs_inodes::{
-    File, add_entry, file_wanted, lose_link, make_object, next_cookie, object, read, regular,
+    File, add_entry, file_wanted, lose_link, make_object, new_cookie, object, read, regular,
     resize, take_entry, write,
 };
 use nfs_objects::object::living;
@@ -209,7 +209,7 @@ fn led(draft: &Draft<'_>, name: &[u8]) -> Option<u64> {
 /// The cookie of the next entry of directory 9.
 fn next(draft: &Draft<'_>) -> Result<Option<u64>, Halt> {
     match place(draft)? {
-        Some(place) => next_cookie(draft, &place),
+        Some(place) => new_cookie(draft, &place),
         None => Ok(None),
     }
 }
