@@ -30,7 +30,7 @@ use Rattle.nfs_inodes.specs.Known.{IsKnown, Means, content_at, entries_found}
 use Rattle.nfs_inodes.specs.declared.found.Known.{Known}
 use Rattle.nfs_inodes.specs.declared.kinds.Directory.{Directory}
 use Rattle.nfs_names.specs.Checking.{ComesTo}
-use Rattle.nfs_names.specs.Pages.{IsPageOf, KnowsPage, Lists, fit_of, left_in, page_found, list_checked, bytes_taken}
+use Rattle.nfs_names.specs.Pages.{IsPageOf, KnowsPage, Lists, fit_of, left_in, page_found, list_checked, result_size}
 use Rattle.nfs_names.specs.Pages.{sizes_fit, sizes_of}
 use Rattle.nfs_names.specs.declared.page.Budget.{Budget}
 use Rattle.nfs_names.specs.declared.page.Budget.TheVariants as budgets
@@ -47,17 +47,17 @@ pub budget-shrinks : (budget : Budget) → Shrinks (fit_of budget)
 budget-shrinks (budgets.Names count) = fits-shrinks count
 budget-shrinks (budgets.Full directory_count most) = full-shrinks directory_count most
 
-below : (budget : Budget) (e : Entry) → entry_size e ≤ bytes_taken budget e
+below : (budget : Budget) (e : Entry) → entry_size e ≤ result_size budget e
 below (budgets.Names count) e = omega arith
 below (budgets.Full directory_count most) e = omega arith
 
-sums-below : (budget : Budget) (front : List Entry) → sum_by entry_size front ≤ sum_by (bytes_taken budget) front
+sums-below : (budget : Budget) (front : List Entry) → sum_by entry_size front ≤ sum_by (result_size budget) front
 sums-below budget [] = omega arith
 sums-below budget (e ∷ front) =
     let one = below budget e in
     let rest = sums-below budget front in
     let names = sum_by-cons entry_size e front in
-    let whole = sum_by-cons (bytes_taken budget) e front in
+    let whole = sum_by-cons (result_size budget) e front in
     omega (arith, one, rest, names, whole)
 
 pub names-below : (budget : Budget) (front : List Entry) →
@@ -67,14 +67,14 @@ names-below budget front = let le = sums-below budget front in omega (arith, le)
 -- one entry more
 pub sizes-more : (budget : Budget) (front : List Entry) (e : Entry) (old new : Sizes) →
     old ≡ sizes_of budget front →
-    new.whole ≡ old.whole + bytes_taken budget e → new.names ≡ old.names + entry_size e →
+    new.whole ≡ old.whole + result_size budget e → new.names ≡ old.names + entry_size e →
     new ≡ sizes_of budget (front ++ e ∷ [])
 sizes-more budget front e old new is whole names =
-    let all = sum_by_push (bytes_taken budget) front e in
+    let all = sum_by_push (result_size budget) front e in
     let listed = sum_by_push entry_size front e in
     let old_whole = ap (λ (s : Sizes). s.whole) is in
     let old_names = ap (λ (s : Sizes). s.names) is in
-    let w : new.whole ≡ 104 + sum_by (bytes_taken budget) (front ++ e ∷ []) = omega (arith, all, whole, old_whole) in
+    let w : new.whole ≡ 104 + sum_by (result_size budget) (front ++ e ∷ []) = omega (arith, all, whole, old_whole) in
     let n : new.names ≡ sum_by entry_size (front ++ e ∷ []) = omega (arith, listed, names, old_names) in
     λ i. record { whole = w i; names = n i }
 

@@ -39,13 +39,13 @@ fit_of (budgets.Names count) = fits count
 fit_of (budgets.Full directory_count most) = fits_full directory_count most
 
 -- the bytes of an entry in the result
-abbrev pub bytes_taken : Budget → Entry → ℕ
-bytes_taken (budgets.Names count) = entry_size
-bytes_taken (budgets.Full directory_count most) = full_entry_size
+abbrev pub result_size : Budget → Entry → ℕ
+result_size (budgets.Names count) = entry_size
+result_size (budgets.Full directory_count most) = full_entry_size
 
 -- the bytes of a result with these entries, and those of their numbers, names and cookies
 abbrev pub sizes_of : Budget → List Entry → Sizes
-sizes_of budget front = record { whole = 104 + sum_by (bytes_taken budget) front; names = sum_by entry_size front }
+sizes_of budget front = record { whole = 104 + sum_by (result_size budget) front; names = sum_by entry_size front }
 
 -- the same test of the bytes
 abbrev pub sizes_fit : Budget → Sizes → Bool

@@ -10,7 +10,7 @@ ghost use Rattle.nfs_inodes.specs.Gathers.{EachLives};
 ghost use Rattle.nfs_inodes.specs.Known.{IsKnown};
 ghost use Rattle.nfs_inodes.specs.Listing.{listed_entry};
 ghost use Rattle.nfs_names.specs.Checking.{ComesTo};
-ghost use Rattle.nfs_names.specs.Pages.{KnowsPage, fit_of, list_checked, page_found, bytes_taken, sizes_fit, sizes_of};
+ghost use Rattle.nfs_names.specs.Pages.{KnowsPage, fit_of, list_checked, page_found, result_size, sizes_fit, sizes_of};
 ghost use Rattle.nfs_inodes.specs.Stops.{StopsAt};
 
 use nfs_inodes::{
@@ -162,7 +162,7 @@ impl Budget {
     fn with_entry(&self, sizes: &Sizes, entry: &Listed<'_>) -> Sizes
         requires fit { sizes_fit self.now sizes.now ≡ true }
         requires names { sizes.now.names ≤ sizes.now.whole }
-        ensures whole { result.whole ≡ sizes.now.whole + bytes_taken self.now (listed_entry entry.now) }
+        ensures whole { result.whole ≡ sizes.now.whole + result_size self.now (listed_entry entry.now) }
         ensures names { result.names ≡ sizes.now.names + entry_size (listed_entry entry.now) }
     {
         let size = entry_size(entry);
