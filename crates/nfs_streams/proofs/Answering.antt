@@ -3,6 +3,7 @@ use Rattle.std.proofs.Common.{◌≡◌, ℕ, ◌+◌, List, [], ◌∷◌, ◌+
 use Rattle.std.specs.declared.alloc.AllocError.{AllocError}
 use Rattle.std.specs.declared.alloc.Global.{Global}
 use Rattle.std.specs.declared.vec.Vec.{Vec}
+use Rattle.nfs_rpc.specs.declared.faults.Early.TheVariants.{Drop}
 use Rattle.nfs_machine.specs.Changing.{is_changing}
 use Rattle.nfs_machine.specs.Refusal.{refusal_of}
 use Rattle.nfs_machine.specs.Run.{Arrival, FromHost, IsCall, Received, Setting, context_of}
@@ -16,7 +17,7 @@ use Rattle.nfs_replies.specs.Replies.{RepliesValue, kept_of}
 use Rattle.nfs_replies.specs.declared.origins.Origin.{Origin}
 use Rattle.nfs_engine.proofs.Answered.{fault_bytes}
 use Rattle.nfs_engine.specs.Answers.{answer_bytes, answer_of}
-use Rattle.nfs_engine.specs.Arrivals.{ArrivalValue, IsArrival, IsFaultAnswer, IsReading}
+use Rattle.nfs_engine.specs.Arrivals.{ArrivalValue, IsArrival, IsDropped, IsFaultAnswer, IsReading}
 use Rattle.nfs_engine.specs.Asked.{IsAsked}
 use Rattle.nfs_engine.specs.Book.{BookValue, Repeats, StandsFor, TakesEra, store_in}
 use Rattle.nfs_engine.specs.Commits.{record_of}
@@ -33,6 +34,7 @@ use Rattle.nfs_engine.specs.declared.records.Era.{Era}
 use Rattle.nfs_schedule.specs.Executions.{Answers, Executed}
 use Rattle.nfs_schedule.specs.Answers.{reply_bytes}
 use Rattle.nfs_streams.proofs.Eras.{keeps_era, keeps_join, keeps_one, keeps_records, keeps_same}
+use Rattle.nfs_streams.specs.Connections.{bytes_of}
 use Rattle.nfs_streams.specs.Served.{ExecutesNothing, HasEraRoom, IsAnswered, KeepsSetting, StandsAt}
 use Rattle.nfs_streams.specs.Serving.{AnswersArrival, Standing, lists_with}
 use Rattle.nfs_schedule.specs.Turns.{KeepsStore}
@@ -365,18 +367,18 @@ answered_after e f g arrival answer nothing a = record {
 -- a refusal that was told
 pub told_refusal : (e f : EngineValue) (a : ArrivalValue) (came : Received) (declined : Declined) →
     a.received ≡ came → IsArrival a → HasEraRoom e → Answers e f a (answers.Refused declined) →
-    (r : Result Answer AllocError) →
-    IfOk r (λ answer. (answer ≡ answers.Refused declined) × IsSome declined.answer) →
-    IfOk r (λ answer. IsAnswered (FromHost came) e f (reply_bytes answer))
+    (r : Result (Option Answer) AllocError) →
+    IfOk r (λ answer. (answer ≡ Some (answers.Refused declined)) × IsSome declined.answer) →
+    IfOk r (λ answer. IsAnswered (FromHost came) e f (bytes_of answer))
 told_refusal e f a came declined same is room x (Ok answer) told =
-    subst (λ (y : Answer). IsAnswered (FromHost came) e f (reply_bytes y)) (sym told.0)
+    subst (λ (y : Option Answer). IsAnswered (FromHost came) e f (bytes_of y)) (sym told.0)
     (answered_as e f a.received came (answer_bytes declined.answer) same
     (told_answered e f a (answers.Refused declined) is room x told.1))
 told_refusal e f a came declined same is room x (Err error) told = tt
 
 -- nothing was executed where it was not told
 pub untold_nothing : (e f : EngineValue) (a : ArrivalValue) (declined : Declined) →
-    Answers e f a (answers.Refused declined) → (r : Result Answer AllocError) → OnErr r (ExecutesNothing e f)
+    Answers e f a (answers.Refused declined) → (r : Result (Option Answer) AllocError) → OnErr r (ExecutesNothing e f)
 untold_nothing e f a declined x (Ok answer) = tt
 untold_nothing e f a declined x (Err error) = refused_nothing e f a declined x
 
@@ -386,3 +388,36 @@ told_only (answers.Repeated kept) other = tt
 told_only (answers.Refused declined) other = absurd (other declined refl)
 told_only (answers.Early faulted) other = tt
 told_only (answers.Unanswered received) other = tt
+
+-- ---- a record that is dropped
+pub dropped_answered : (e : EngineValue) (came : Received) → IsDropped came.bytes → IsAnswered (FromHost came) e e []
+dropped_answered e came dropped = record {
+  keeps = keeps_same e e refl;
+  each = λ m stands. (
+    [],
+    m,
+    inl (record { fault = Drop; is = dropped; answered = refl; nothing = refl; unchanged = refl }),
+    stands,
+  );
+}
+
+pub unowned_answered : (e : EngineValue) (came : Received) (r : Result (Option Answer) AllocError) →
+    IfOk r (λ answer. (answer ≡ None) × IsDropped came.bytes) →
+    IfOk r (λ answer. IsAnswered (FromHost came) e e (bytes_of answer))
+unowned_answered e came (Ok answer) is =
+    subst (λ (y : Option Answer). IsAnswered (FromHost came) e e (bytes_of y)) (sym is.0)
+    (dropped_answered e came is.1)
+unowned_answered e came (Err error) is = tt
+
+-- a record that asks a call is not dropped
+asked_owed : (bytes : List ℕ) (asked : Asked) → IsAsked bytes asked → IsDropped bytes → ⊥
+asked_owed bytes asked is (inl none) = let no : Ok is.header ≡ Err Drop = sym is.read ∙ none in cc
+asked_owed bytes asked is (inr (header, read, none, fault)) = cc
+
+pub refused_owed : (e f : EngineValue) (a : ArrivalValue) (came : Received) (declined : Declined) →
+    a.received ≡ came → IsArrival a → Answers e f a (answers.Refused declined) →
+    (r : Result (Option Answer) AllocError) → OnErr r (IsDropped came.bytes → ⊥)
+refused_owed e f a came declined same is x (Ok answer) = tt
+refused_owed e f a came declined same is x (Err error) =
+    subst (λ (y : Received). IsDropped y.bytes → ⊥) same
+    (asked_owed a.received.bytes x.0 (asks_of a x.0 is x.1))

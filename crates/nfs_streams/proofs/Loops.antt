@@ -7,6 +7,7 @@ use Rattle.std.proofs.KnownBytes.{Appends-nil, Appends-trans}
 use Rattle.std.specs.Io.KnownBytes.{Appends, Consumes}
 use Rattle.nfs_rpc.specs.Records.{RecordsValue, Holds, IsTooLarge}
 use Rattle.nfs_machine.specs.declared.moment.Moment.{Moment}
+use Rattle.nfs_engine.specs.Arrivals.{IsDropped}
 use Rattle.nfs_engine.specs.Engine.{EngineValue}
 use Rattle.nfs_streams.specs.Sent.{Adds, FailsBy, IsCut, Puts, WritesPart}
 use Rattle.nfs_streams.specs.Served.{AreAnswered, EndsBy, ExecutesNothing, AreServed, HasNoAnswer, EndsByFault}
@@ -154,14 +155,15 @@ module _ {Clock : Type 0} (gives : Clock → Moment → Clock → Type 0) (host 
       (inl (put_cut part is a))
 
 pub unanswered : {Clock : Type 0} (gives : Clock → Moment → Clock → Type 0) (hand : List ℕ) (first last : Clock)
-    (old new : EngineValue) (moment : Moment) → gives first moment last → ExecutesNothing old new →
-    HasNoAnswer gives (hand ∷ []) first last old new
-unanswered gives hand first last old new moment ticked nothing = record {
+    (old new : EngineValue) (moment : Moment) → gives first moment last → (IsDropped hand → ⊥) →
+    ExecutesNothing old new → HasNoAnswer gives (hand ∷ []) first last old new
+unanswered gives hand first last old new moment ticked owed nothing = record {
   hand = hand;
   behind = [];
   whole = refl;
   moment = moment;
   ticked = ticked;
+  owed = owed;
   nothing = nothing;
 }
 
@@ -268,6 +270,7 @@ module _ {Clock : Type 0} (gives : Clock → Moment → Clock → Type 0) (host 
       whole = refl;
       moment = u.moment;
       ticked = u.ticked;
+      owed = u.owed;
       nothing = u.nothing;
     }
 

@@ -1,7 +1,15 @@
 -- A connection of a peer: what it sent, and what waits to be sent to it.
 use Rattle.std.specs.Prelude.{◌≡◌, ℕ, Bool, false, List, [], ◌∷◌, ◌++◌}
+use Rattle.std.specs.Prelude.{Option, Some, None}
 use Rattle.std.specs.List.{concat}
 use Rattle.nfs_rpc.specs.Records.{RecordsValue, Holds}
+use Rattle.nfs_schedule.specs.Answers.{reply_bytes}
+use Rattle.nfs_schedule.specs.declared.answer.Answer.{Answer}
+
+-- the bytes of an answer, if there is one
+abbrev pub bytes_of : Option Answer → List ℕ
+bytes_of (Some answer) = reply_bytes answer
+bytes_of None = []
 
 -- What a clause sees of a `Connection`: the records that came and were not given yet, with the rest of the stream; the
 -- bytes that are sent first, and those behind them; whether these are to be sent before the next answer.

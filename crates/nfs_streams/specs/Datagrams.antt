@@ -1,5 +1,6 @@
 -- Answers as datagrams, which have no record marks.
-use Rattle.std.specs.Prelude.{◌≡◌, ℕ, ◌+◌, ◌<◌, ◌≤◌, ◌&&◌, true, nat_le, nat_lt, if◌then◌else◌}
+use Rattle.std.specs.Prelude.{◌≡◌, ℕ, ◌+◌, ◌<◌, ◌≤◌, ◌&&◌, true, nat_le, nat_lt}
+use Rattle.std.specs.Prelude.{if◌then◌else◌}
 use Rattle.std.specs.Prelude.{List, length, drop, Option, Some, None}
 use Rattle.nfs_rpc.specs.Records.{fragment}
 use Rattle.nfs_streams.specs.declared.datagrams.TheConstants.{MARK_SIZE, MOST_IN_DATAGRAM}

@@ -38,8 +38,8 @@ pub record IsCut {Clock : Type 0} (gives : Clock → Moment → Clock → Type 0
 -- What was done at a fault with the record in hand. Memory: it has no answer, and what was gathered is written. Write:
 -- it is answered or has no answer, and of all answers a beginning is written.
 abbrev pub FailsBy : {Clock : Type 0} → (Clock → Moment → Clock → Type 0) → (host : List ℕ) →
-    StreamFault → (content : List ℕ) (clock later : Clock) (old new : EngineValue) (before after : Option (List ℕ))
-    (held : List ℕ) → Type 0
+    StreamFault → (content : List ℕ) (clock later : Clock) (old new : EngineValue)
+    (before after : Option (List ℕ)) (held : List ℕ) → Type 0
 FailsBy gives host Write content clock later old new before after held =
     IsCut gives host content clock later old new before after held
     ⊎ (WritesPart before after held × HasNoAnswer gives (content ∷ []) clock later old new)

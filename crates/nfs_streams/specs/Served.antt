@@ -5,6 +5,7 @@ use Rattle.std.specs.Io.KnownBytes.{Appends, Consumes}
 use Rattle.nfs_rpc.specs.Records.{IsStream, IsTooLarge}
 use Rattle.nfs_machine.specs.Run.{Setting, Arrival, Record, Run}
 use Rattle.nfs_machine.specs.declared.moment.Moment.{Moment}
+use Rattle.nfs_engine.specs.Arrivals.{IsDropped}
 use Rattle.nfs_engine.specs.Book.{StandsFor, is_full, store_in}
 use Rattle.nfs_engine.specs.Engine.{EngineValue}
 use Rattle.nfs_replies.specs.Replies.{kept_of}
@@ -76,7 +77,7 @@ pub record AreServed {Clock : Type 0} (gives : Clock → Moment → Clock → Ty
 abbrev pub Stays : {Clock : Type 0} → List (List ℕ) → (clock later : Clock) (old new : EngineValue) → Type 0
 Stays contents clock later old new = (contents ≡ []) × (later ≡ clock) × (new ≡ old)
 
--- the first of these records came at the clock's next moment, and has no answer
+-- the first of these records came at the clock's next moment, and has no answer though it is owed one
 pub record HasNoAnswer {Clock : Type 0} (gives : Clock → Moment → Clock → Type 0) (contents : List (List ℕ))
     (clock later : Clock) (old new : EngineValue) : Type 0 where
   pub hand : List ℕ
@@ -84,6 +85,7 @@ pub record HasNoAnswer {Clock : Type 0} (gives : Clock → Moment → Clock → 
   pub whole : contents ≡ hand ∷ behind
   pub moment : Moment
   pub ticked : gives clock moment later
+  pub owed : IsDropped hand → ⊥
   pub nothing : ExecutesNothing old new
 
 -- What was done at a fault with the records that have no answer, and which bytes of the answers were not written. Read

@@ -1,15 +1,16 @@
 //! The answer to one record, on an engine at rest.
 
-ghost use Rattle.std.specs.Prelude.{◌≡◌, false, ◌∷◌, [], IfOk, IsSome, OnErr};
+ghost use Rattle.std.specs.Prelude.{◌≡◌, false, ◌∷◌, [], IfOk, IsSome, OnErr, Some, None};
+ghost use Rattle.nfs_engine.specs.Arrivals.{IsDropped};
 ghost use Rattle.nfs_engine.specs.Book.{is_full};
 ghost use Rattle.nfs_machine.specs.Run.{FromHost};
-ghost use Rattle.nfs_schedule.specs.Answers.{reply_bytes};
 ghost use Rattle.nfs_schedule.specs.Worlds.{IsAtRest};
+ghost use Rattle.nfs_streams.specs.Connections.{bytes_of};
 ghost use Rattle.nfs_streams.specs.Served.{AreAnswered, ExecutesNothing, HasEraRoom, HasNoAnswer, IsAnswered};
 
 use nfs_engine::{Arrival, Engine, Host};
 use nfs_machine::{Moment, Moments};
-use nfs_rpc::Record;
+use nfs_rpc::{Early, Record, read_call};
 use nfs_schedule::{Answer, Declined, execute};
 use std::alloc::{AllocError, Global};
 
@@ -20,19 +21,20 @@ use std::alloc::{AllocError, Global};
 ///
 /// # Errors
 ///
-/// There is no memory to take the record in, or to say that there is none. It is not executed.
+/// There is no memory to take the record in, or to say that there is none. It is not executed, and none that is
+/// dropped.
 pub fn answer_record<C: Moments>(
     alloc: Global,
     engine: &mut Engine,
     host: &Host,
     clock: &mut C,
     message: Record,
-) -> Result<Answer, AllocError>
+) -> Result<Option<Answer>, AllocError>
     requires rest { IsAtRest engine.old }
     ensures rest { IsAtRest engine.new }
     ensures ok { IfOk result
         (λ answer. AreAnswered C.gives host.now (message ∷ []) clock.old clock.new engine.old engine.new
-        (reply_bytes answer)) }
+        (bytes_of answer)) }
     ensures err { OnErr result
         (HasNoAnswer C.gives (message ∷ []) clock.old clock.new engine.old engine.new) }
 {
@@ -65,31 +67,46 @@ fn answer(
     host: &Host,
     message: Record,
     moment: Moment,
-) -> Result<Answer, AllocError>
+) -> Result<Option<Answer>, AllocError>
     requires rest { IsAtRest engine.old }
     requires room { HasEraRoom engine.old }
     ensures rest { IsAtRest engine.new }
     ensures ok { IfOk result
         (λ answer. IsAnswered (FromHost (record { host = host.now; bytes = message; moment = moment }))
-        engine.old engine.new (reply_bytes answer)) }
+        engine.old engine.new (bytes_of answer)) }
     ensures err { OnErr result (ExecutesNothing engine.old engine.new) }
+    ensures owed { OnErr result (IsDropped message → ⊥) }
 {
-    let arrival = Arrival::read(alloc, host.share()?, message, moment)?;
+    let Ok(owner) = host.share() else {
+        return unowned(&message);
+    };
+    let arrival = Arrival::read(alloc, owner, message, moment)?;
     // It brings that this is what the record asks.
     arrival.reading();
     match execute(alloc, engine, arrival) {
         Answer::Refused(declined) => told(declined),
-        answer => Ok(answer),
+        answer => Ok(Some(answer)),
+    }
+}
+
+/// What a record is answered that came with no owner of its host's name: nothing, where it is dropped.
+fn unowned(message: &Record) -> Result<Option<Answer>, AllocError>
+    ensures ok { IfOk result (λ answer. (answer ≡ None) × IsDropped message.now) }
+    ensures owed { OnErr result (IsDropped message.now → ⊥) }
+{
+    match read_call(message) {
+        Err(Early::Drop) => Ok(None),
+        _ => Err(AllocError),
     }
 }
 
 /// A refusal, where there was memory to say it.
-fn told(declined: Declined) -> Result<Answer, AllocError>
-    ensures { IfOk result (λ answer. (answer ≡ Answer.Refused declined) × IsSome declined.answer) }
+fn told(declined: Declined) -> Result<Option<Answer>, AllocError>
+    ensures { IfOk result (λ answer. (answer ≡ Some (Answer.Refused declined)) × IsSome declined.answer) }
 {
     if declined.answer.is_none() {
         drop(declined);
         return Err(AllocError);
     }
-    Ok(Answer::Refused(declined))
+    Ok(Some(Answer::Refused(declined)))
 }

@@ -1,6 +1,7 @@
 //! A connection of a peer, with no IO of its own.
 
-ghost use Rattle.std.specs.Prelude.{◌≡◌, ℕ, ◌<◌, List, [], ◌∷◌, ◌++◌, false, length, IfSome, IfNone, IsErrOf, OnOk};
+ghost use Rattle.std.specs.Prelude.{◌≡◌, ℕ, ◌<◌, List, [], ◌∷◌, ◌++◌, false, length};
+ghost use Rattle.std.specs.Prelude.{IfSome, IfNone, IsErrOf, OnOk};
 ghost use Rattle.nfs_rpc.specs.Records.{Holds, IsTooLarge};
 ghost use Rattle.nfs_schedule.specs.Answers.{reply_bytes};
 ghost use Rattle.nfs_streams.specs.Connections.{CarriesOn, waiting};

@@ -3,8 +3,7 @@
 ghost use Rattle.std.specs.Prelude.{◌≡◌, ◌++◌, [], true, IfErr, OnErr, OnOk, false};
 ghost use Rattle.std.specs.Io.KnownBytes.{Appends};
 ghost use Rattle.nfs_rpc.specs.Streams.{one_more};
-ghost use Rattle.nfs_schedule.specs.Answers.{reply_bytes};
-ghost use Rattle.nfs_streams.specs.Connections.{SendsAll, waiting};
+ghost use Rattle.nfs_streams.specs.Connections.{SendsAll, bytes_of, waiting};
 ghost use Rattle.nfs_streams.specs.Sent.{Puts, WritesPart};
 
 use crate::connection::Connection;
@@ -12,12 +11,12 @@ use crate::serving::StreamFault;
 use nfs_rpc::stream::Sink;
 use nfs_schedule::Answer;
 
-/// Puts an answer behind those that wait, and sends all on where the connection is full then. At a fault a beginning of
+/// Puts an answer, if there is one, behind those that wait, and sends all on where the connection is full then. At a fault a beginning of
 /// all is written.
 pub(crate) fn put<W: Sink>(
     writer: &mut W,
     connection: &mut Connection,
-    answer: Answer,
+    answer: Option<Answer>,
 ) -> Result<(), StreamFault>
     requires room { connection.old.full ≡ false }
     ensures room { OnOk result (connection.new.full ≡ false) }
@@ -25,14 +24,17 @@ pub(crate) fn put<W: Sink>(
     ensures sent { OnOk result (W.all_sent writer.old ≡ true → W.all_sent writer.new ≡ true) }
     ensures puts { OnOk result
         (Puts (W.written writer.old) (W.written writer.new) (waiting connection.old) (waiting connection.new)
-        (reply_bytes answer)) }
+        (bytes_of answer)) }
     ensures ok { OnOk result (W.Counts.failures writer.new ≡ W.Counts.failures writer.old) }
     ensures part { OnErr result
-        (WritesPart (W.written writer.old) (W.written writer.new) (waiting connection.old ++ reply_bytes answer)) }
+        (WritesPart (W.written writer.old) (W.written writer.new) (waiting connection.old ++ bytes_of answer)) }
     ensures fault { IfErr result
         (λ e. (e ≡ StreamFault.Write)
         × (W.Counts.failures writer.new ≡ one_more (W.Counts.failures writer.old))) }
 {
+    let Some(answer) = answer else {
+        return Ok(());
+    };
     connection.put(answer);
     if connection.is_full() {
         return send(writer, connection);

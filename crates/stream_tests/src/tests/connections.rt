@@ -22,7 +22,9 @@ fn answers_next(
         return Ok(false);
     };
     let mut clock = FixedClock { seconds: 1000 };
-    let answer = answer_record(alloc, engine, &host(), &mut clock, record)?;
+    let Some(answer) = answer_record(alloc, engine, &host(), &mut clock, record)? else {
+        return Ok(false);
+    };
     connection.put(answer);
     Ok(true)
 }

@@ -10,4 +10,4 @@ returns-clause-ok g c =
 pub returns-clause-err : goal.returns-clause-err
 returns-clause-err g c =
     record_unanswered _ [] _ _ _ _ _ _ _ c.moment-moment.ensures c.begin_era.ensures.nothing c.answer.result
-    c.answer.ensures.err
+    c.answer.ensures.owed c.answer.ensures.err
