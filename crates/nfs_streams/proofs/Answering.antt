@@ -414,10 +414,7 @@ asked_owed : (bytes : List ℕ) (asked : Asked) → IsAsked bytes asked → IsDr
 asked_owed bytes asked is (inl none) = let no : Ok is.header ≡ Err Drop = sym is.read ∙ none in cc
 asked_owed bytes asked is (inr (header, read, none, fault)) = cc
 
-pub refused_owed : (e f : EngineValue) (a : ArrivalValue) (came : Received) (declined : Declined) →
-    a.received ≡ came → IsArrival a → Answers e f a (answers.Refused declined) →
-    (r : Result (Option Answer) AllocError) → OnErr r (IsDropped came.bytes → ⊥)
-refused_owed e f a came declined same is x (Ok answer) = tt
-refused_owed e f a came declined same is x (Err error) =
-    subst (λ (y : Received). IsDropped y.bytes → ⊥) same
-    (asked_owed a.received.bytes x.0 (asks_of a x.0 is x.1))
+pub refused_owed : (a : ArrivalValue) (asked : Asked) → IsArrival a → a.reading ≡ readings.Asks asked →
+    (r : Result (Option Answer) AllocError) → OnErr r (IsDropped a.received.bytes → ⊥)
+refused_owed a asked is asks (Ok answer) = tt
+refused_owed a asked is asks (Err error) = asked_owed a.received.bytes asked (asks_of a asked is asks)

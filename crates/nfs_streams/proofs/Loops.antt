@@ -154,6 +154,11 @@ module _ {Clock : Type 0} (gives : Clock → Moment → Clock → Type 0) (host 
       subst (λ (f : StreamFault). FailsBy gives host f hand first last old new before after held) (sym fault.0)
       (inl (put_cut part is a))
 
+-- the first of these records
+abbrev front_of : List (List ℕ) → List ℕ
+front_of [] = []
+front_of (first ∷ others) = first
+
 pub unanswered : {Clock : Type 0} (gives : Clock → Moment → Clock → Type 0) (hand : List ℕ) (first last : Clock)
     (old new : EngineValue) (moment : Moment) → gives first moment last → (IsDropped hand → ⊥) →
     ExecutesNothing old new → HasNoAnswer gives (hand ∷ []) first last old new
@@ -270,7 +275,7 @@ module _ {Clock : Type 0} (gives : Clock → Moment → Clock → Type 0) (host 
       whole = refl;
       moment = u.moment;
       ticked = u.ticked;
-      owed = u.owed;
+      owed = subst (λ (bytes : List ℕ). IsDropped bytes → ⊥) (sym (ap front_of u.whole)) u.owed;
       nothing = u.nothing;
     }
 

@@ -81,6 +81,27 @@ fn answer(
         return unowned(&message);
     };
     let arrival = Arrival::read(alloc, owner, message, moment)?;
+    answer_arrival(alloc, engine, arrival)
+}
+
+/// The answer to what came in.
+///
+/// # Errors
+///
+/// There is no memory to say that there is none. It is not executed.
+fn answer_arrival(
+    alloc: Global,
+    engine: &mut Engine,
+    arrival: Arrival,
+) -> Result<Option<Answer>, AllocError>
+    requires rest { IsAtRest engine.old }
+    requires room { HasEraRoom engine.old }
+    ensures rest { IsAtRest engine.new }
+    ensures ok { IfOk result
+        (λ answer. IsAnswered (FromHost arrival.received) engine.old engine.new (bytes_of answer)) }
+    ensures err { OnErr result (ExecutesNothing engine.old engine.new) }
+    ensures owed { OnErr result (IsDropped arrival.received.bytes → ⊥) }
+{
     // It brings that this is what the record asks.
     arrival.reading();
     match execute(alloc, engine, arrival) {

@@ -11,8 +11,8 @@ use crate::serving::StreamFault;
 use nfs_rpc::stream::Sink;
 use nfs_schedule::Answer;
 
-/// Puts an answer, if there is one, behind those that wait, and sends all on where the connection is full then. At a fault a beginning of
-/// all is written.
+/// Puts an answer, if there is one, behind those that wait, and sends all on where the connection is full then. At a
+/// fault a beginning of all is written.
 pub(crate) fn put<W: Sink>(
     writer: &mut W,
     connection: &mut Connection,
