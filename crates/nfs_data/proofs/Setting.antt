@@ -29,11 +29,13 @@ use Rattle.nfs_objects.specs.Store.{Store}
 use Rattle.nfs_objects.specs.Values.{DraftValue}
 use Rattle.nfs_inodes.proofs.Keeping.{attributes-sound, bytes-is, bytes-sound, changed-is}
 use Rattle.nfs_inodes.proofs.Standing.{kind-is, regular-bytes, shown-none, shown-some}
+use Rattle.nfs_inodes.specs.Kinds.{IsShown}
 use Rattle.nfs_inodes.specs.Known.{IsKnown, IsObject, Names, bytes_of, content_at, object_at, shell}
+use Rattle.nfs_inodes.specs.Makes.{size_set}
 use Rattle.nfs_inodes.specs.Sets.{attributes_changed, with_settings}
 use Rattle.nfs_inodes.specs.declared.found.Known.{Known}
 use Rattle.nfs_inodes.specs.declared.setting.Settings.{Settings}
-use Rattle.nfs_data.specs.Settings.{IsSetEnd, IsSizeOf, content_after, set_found, settings_after, size_set}
+use Rattle.nfs_data.specs.Settings.{IsSetEnd, IsSizeOf, content_after, set_found, settings_after}
 use Rattle.nfs_data.specs.declared.setattr.NewSize.{NewSize}
 
 -- an object in the place of another, which was put there just now
@@ -101,6 +103,13 @@ file-as x None None sized = tt
 file-as x None (Some new) sized = absurd sized
 file-as x (Some wanted) None sized = absurd sized
 file-as x (Some wanted) (Some new) sized = ap (λ (y : Known). y.number) sized.0
+
+pub file-shown : (d : DraftValue) (x : Known) (wanted : Option ℕ) (size : Option NewSize) → IsSizeOf x wanted size
+    → IsShown d x → IfSome size (λ (s : NewSize). IsShown d s.file.known)
+file-shown d x None None sized shown = tt
+file-shown d x None (Some new) sized shown = absurd sized
+file-shown d x (Some wanted) None sized shown = absurd sized
+file-shown d x (Some wanted) (Some new) sized shown = subst (λ (y : Known). IsShown d y) (sym sized.0) shown
 
 pub none-as : (x : Known) (wanted : Option ℕ) (size : Option NewSize) → IsSizeOf x wanted size
     → is_none wanted ≡ true → is_none size ≡ true

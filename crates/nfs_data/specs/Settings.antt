@@ -2,7 +2,6 @@
 use Rattle.std.specs.Prelude.{◌≡◌, ◌%◌, ℕ, Option, Some, None, Result, Ok, Err}
 use Rattle.std.specs.Prelude.{is_some, option_map, unwrap_or, if◌then◌else◌}
 use Rattle.nfs_wire.specs.declared.attributes.SetAttributes.{SetAttributes}
-use Rattle.nfs_wire.specs.declared.attributes.Time.{Time}
 use Rattle.nfs_wire.specs.declared.calls.SetattrArguments.{SetattrArguments}
 use Rattle.nfs_wire.specs.declared.status.NfsStatus.{NfsStatus}
 use Rattle.nfs_machine.specs.AttributeSteps.{setattr_end}
@@ -12,9 +11,7 @@ use Rattle.nfs_machine.specs.Permission.{mode_limit}
 use Rattle.nfs_machine.specs.State.{Content, Regular, Living, State}
 use Rattle.nfs_machine.specs.Times.{time_of, time_set, touch}
 use Rattle.nfs_machine.specs.declared.context.Ctx.{Ctx}
-use Rattle.nfs_objects.specs.Stands.{Kept}
 use Rattle.nfs_inodes.specs.Known.{bytes_of, shell}
-use Rattle.nfs_inodes.specs.Makes.{bytes_changed}
 use Rattle.nfs_inodes.specs.Sets.{with_settings}
 use Rattle.nfs_inodes.specs.declared.found.Known.{Known}
 use Rattle.nfs_inodes.specs.declared.setting.Settings.{Settings}
@@ -44,13 +41,6 @@ content_after content size = elim size [ None ↦ content | Some size ↦ Regula
 abbrev pub content_found : {A : Type 0} → Content → Option ℕ → Result A NfsStatus → Result Content NfsStatus
 content_found content size (Ok checked) = Ok (content_after content size)
 content_found content size (Err e) = Err e
-
--- what is kept once the file has its new size, if one is set
-abbrev pub size_set : Time → (number : ℕ) → Option ℕ → Kept → Kept
-size_set now number size k = elim size [
-  | None ↦ k
-  | Some size ↦ bytes_changed now number (λ old. resized old size) k
-]
 
 -- the attributes after it, of what was known
 abbrev pub settings_after : Ctx → Known → SetAttributes → Settings

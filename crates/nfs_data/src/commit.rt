@@ -10,8 +10,7 @@ ghost use Rattle.nfs_objects.specs.Attempt.{EndsCall, EndsFirst};
 ghost use Rattle.nfs_objects.specs.Begins.{Begins};
 ghost use Rattle.nfs_objects.specs.Only.{EndsAtOnce, EndsFirstOnly};
 
-use crate::write::nothing_shown;
-use nfs_inodes::{Known, named, regular, verifier, wcc_of};
+use nfs_inodes::{Known, named, nothing_shown, regular, verifier, wcc_of};
 use nfs_machine::{Ctx, Reply};
 use nfs_objects::{Change, Draft, Halt};
 use nfs_wire::{CommitArguments, CommitReply, NfsCall, NfsReply, NfsStatus, Verifier};

@@ -14,16 +14,17 @@ ghost use Rattle.nfs_objects.specs.Calls.{named_by};
 ghost use Rattle.nfs_objects.specs.Knows.{Does, Knows, Turns};
 ghost use Rattle.nfs_objects.specs.Modes.{changing};
 ghost use Rattle.nfs_objects.specs.Only.{AsksNothing, EndsFirstOnly};
+ghost use Rattle.nfs_inodes.specs.Kinds.{IsShown};
 ghost use Rattle.nfs_inodes.specs.Known.{Names, shell};
+ghost use Rattle.nfs_inodes.specs.Makes.{size_set};
 ghost use Rattle.nfs_inodes.specs.Stops.{KnowsAt, StopsAt, counted_at};
 ghost use Rattle.nfs_data.specs.Settings.{IsSetEnd, IsSizeOf, content_found};
-ghost use Rattle.nfs_data.specs.Settings.{content_set, set_found, settings_after, size_set};
+ghost use Rattle.nfs_data.specs.Settings.{content_set, set_found, settings_after};
 
-use crate::write::nothing_shown;
 use nfs_inodes::{
     File, Known, MODE_LIMIT, Right, SIZE_LIMIT, Settings, changeable, exports, is_client_time,
-    is_member, is_server_time, is_time, may, named, now, object, regular, resize, set_attributes,
-    time_set, touch, wcc_of,
+    is_member, is_server_time, is_time, may, named, nothing_shown, now, object, regular, resize,
+    set_attributes, time_set, touch, wcc_of,
 };
 use nfs_machine::{Ctx, Reply};
 use nfs_objects::{Change, Draft, Halt, LivingExport};
@@ -71,6 +72,7 @@ fn set(
 ) -> Result<Result<(), NfsStatus>, Halt>
     requires begins { Begins (calls.Nfs (NfsCall.Setattr arguments.now)) draft.old }
     requires names { Knows draft.old (λ k. Names draft.old.ctx arguments.now.object k known.now) }
+    requires shown { IsShown draft.old known.now }
     ensures does { MatchResult result
         (Does draft.old draft.new (IsSetEnd draft.old.ctx arguments.now))
         (StopsAt draft.old (named_by (calls.Nfs (NfsCall.Setattr arguments.now)) draft.old.view)) }
@@ -91,6 +93,7 @@ fn set(
 fn resize_to(draft: &mut Draft<'_>, number: u64, size: Option<NewSize>) -> Result<(), Halt>
     requires alone { draft.old.modes ≡ changing }
     requires file { IfSome size (λ new. new.file.known.number ≡ number) }
+    requires shown { IfSome size (λ new. IsShown draft.old new.file.known) }
     ensures turns { MatchResult result
         (λ _. Turns draft.old draft.new
         (size_set (time_of draft.old.ctx.moment) number (option_map (λ new. new.size) size)))

@@ -1,6 +1,6 @@
 //! WRITE: bytes into a file (RFC 1813, 3.3.7).
 
-ghost use Rattle.std.specs.Prelude.{◌≡◌, ◌+◌, ◌==◌, ◌||◌, IfOk, MatchResult, None, nat_le};
+ghost use Rattle.std.specs.Prelude.{◌≡◌, ◌+◌, ◌==◌, ◌||◌, IfOk, MatchResult, nat_le};
 ghost use Rattle.nfs_machine.specs.Attributes.{type_of};
 ghost use Rattle.nfs_machine.specs.Data.{size_limit};
 ghost use Rattle.nfs_machine.specs.DataSteps.{write_count, write_object};
@@ -10,17 +10,18 @@ ghost use Rattle.nfs_objects.specs.Attempt.{EndsCall, EndsFirst};
 ghost use Rattle.nfs_objects.specs.Begins.{Begins};
 ghost use Rattle.nfs_objects.specs.Calls.{named_by};
 ghost use Rattle.nfs_objects.specs.Knows.{Does, Knows};
+ghost use Rattle.nfs_inodes.specs.Kinds.{IsShown};
 ghost use Rattle.nfs_inodes.specs.Known.{Names, shell};
 ghost use Rattle.nfs_inodes.specs.Stops.{StopsAt};
 ghost use Rattle.nfs_data.specs.Writes.{HasRoom, IsWriteEnd, answer_to, write_found};
 
 use nfs_inodes::{
-    File, Known, Right, SIZE_LIMIT, TRANSFER_LIMIT, changeable, exports, named, permitted, regular,
-    verifier, wcc, write,
+    File, Known, Right, SIZE_LIMIT, TRANSFER_LIMIT, changeable, exports, named, nothing_shown,
+    permitted, regular, verifier, wcc, write,
 };
 use nfs_machine::{Ctx, Reply};
 use nfs_objects::{Change, Draft, Halt, LivingExport};
-use nfs_wire::{NfsCall, NfsReply, NfsStatus, Wcc, WriteArguments, WriteReply, Written};
+use nfs_wire::{NfsCall, NfsReply, NfsStatus, WriteArguments, WriteReply, Written};
 
 /// Tries WRITE.
 pub(crate) fn attempt(mut draft: Draft<'_>, arguments: &WriteArguments) -> Result<Change, Halt>
@@ -47,6 +48,7 @@ fn store(
 ) -> Result<Result<Written, NfsStatus>, Halt>
     requires begins { Begins (calls.Nfs (NfsCall.Write arguments.now)) draft.old }
     requires names { Knows draft.old (λ k. Names draft.old.ctx arguments.now.file k known.now) }
+    requires shown { IsShown draft.old known.now }
     ensures { MatchResult result
         (Does draft.old draft.new (IsWriteEnd draft.old.ctx arguments.now))
         (StopsAt draft.old (named_by (calls.Nfs (NfsCall.Write arguments.now)) draft.old.view)) }
@@ -113,15 +115,5 @@ fn answer_to(ctx: &Ctx, arguments: &WriteArguments) -> Written
         count: count_of(arguments),
         committed: arguments.stable,
         verifier: verifier(ctx),
-    }
-}
-
-/// What is shown where a handle names nothing.
-pub(crate) fn nothing_shown() -> Wcc
-    ensures { result ≡ record { before = None; after = None } }
-{
-    Wcc {
-        before: None,
-        after: None,
     }
 }

@@ -15,6 +15,7 @@ pub mod Moving
 pub mod Naming
 pub mod Putting
 pub mod Relinked
+pub mod Showing
 pub mod SoundBut
 pub mod Standing
 pub mod Taking

@@ -409,7 +409,7 @@ all-stops d n P (Ok x) does = does
 all-stops d n P (Err halt) stops = object-stops d n halt stops
 
 -- the inode that the draft knows there
-inode-known : (d : DraftValue) (n : ℕ) (i : Option Inode) → HasInode d n i → inode_at d n ≡ i
+pub inode-known : (d : DraftValue) (n : ℕ) (i : Option Inode) → HasInode d n i → inode_at d n ≡ i
 inode-known d n i has =
     ap (λ (e : Option (Option Object)). elim e [
       | None ↦ None

@@ -1,7 +1,8 @@
 -- Fronts of lists, one element longer.
-use Rattle.std.proofs.Common.{◌≡◌, ℕ, zero, suc, ◌+◌, List, [], ◌∷◌, ◌++◌, take, drop, Some}
+use Rattle.std.proofs.Common.{◌≡◌, ℕ, zero, suc, ◌+◌, ◌<◌, List, [], ◌∷◌, ◌++◌, length, map, take, drop, get_or, Some}
 use Rattle.std.proofs.Common.{None, arith, refl, ◌∙◌, ap}
-use Rattle.std.proofs.Common.{subst}
+use Rattle.std.proofs.Common.{subst, sym}
+use Rattle.std.proofs.lemmas.List.{map-append, take_more}
 use Rattle.std.specs.Prelude.{slice_get}
 use Rattle.std.specs.List.{AllByRecursion}
 
@@ -43,9 +44,29 @@ module _ {X : Type 0} where
   drop-none (suc i) [] is = refl
   drop-none (suc i) (y ∷ xs) is = drop-none i xs is
 
+  -- the list from a place on, without its first
+  pub drop-first : (i : ℕ) (xs : List X) (x : X) → slice_get xs i ≡ Some x → drop i xs ≡ x ∷ drop (i + 1) xs
+  drop-first i xs x is =
+      drop-some i xs x is ∙ ap (λ n. x ∷ drop n xs) (let e : suc i ≡ i + 1 = omega arith in e)
+
   -- what is so of each is so of one
   pub all-at : (P : X → Type 0) (xs : List X) (i : ℕ) (x : X) → AllByRecursion P xs →
       slice_get xs i ≡ Some x → P x
   all-at P [] i x each is = cc
   all-at P (y ∷ xs) zero x each is = subst P (let same : y ≡ x = cc in same) each.0
   all-at P (y ∷ xs) (suc i) x each is = all-at P xs i x each.1 is
+
+-- ---- of a list that is gone over
+module _ {X Y : Type 0} (f : X → Y) where
+  pub map-more : (xs : List X) (i : ℕ) (x : X) → i < length xs → x ≡ get_or xs i x →
+      map f (take (i + 1) xs) ≡ map f (take i xs) ++ f x ∷ []
+  map-more xs i x within at =
+      ap (map f) (take_more xs i x within) ∙ map-append f (take i xs) (get_or xs i x ∷ [])
+      ∙ ap (λ y. map f (take i xs) ++ f y ∷ []) (sym at)
+
+  pub each-mapped : (P : Y → Type 0) (xs : List X) (i : ℕ) (x : X) → AllByRecursion P (map f xs) → i < length xs →
+      x ≡ get_or xs i x → P (f x)
+  each-mapped P [] i x each within at = absurd (let no = within in omega (arith, no))
+  each-mapped P (y ∷ xs) zero x each within at = subst (λ z. P (f z)) (sym at) each.0
+  each-mapped P (y ∷ xs) (suc i) x each within at =
+      each-mapped P xs i x each.1 (let less = within in omega (arith, less)) at

@@ -72,6 +72,7 @@ pub record HasInode (d : DraftValue) (number : ℕ) (inode : Option Inode) : Typ
 -- what is known of an inode: its object, and its attributes with the links that it counts
 pub record IsKnownOf (number : ℕ) (i : Inode) (x : Known) : Type 0 where
   pub number_is : x.number ≡ number
+  pub kind_is : x.attributes.kind ≡ type_of (content_of i.content)
   pub shell_is : shell x (content_of i.content) ≡ living_of_inode i
   pub attributes_are : (m : State) →
       x.attributes ≡ record (attributes_of m number (living_of_inode i)) { links = i.links }

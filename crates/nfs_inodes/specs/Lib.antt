@@ -1,6 +1,7 @@
 pub mod Asked
 pub mod Counts
 pub mod Gathers
+pub mod Kinds
 pub mod Known
 pub mod Links
 pub mod Listing

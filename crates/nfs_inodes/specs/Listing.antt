@@ -2,9 +2,9 @@
 use Rattle.std.specs.Prelude.{ℕ, List, [], Option, Some, None, codes}
 use Rattle.std.specs.Borrow.{Bor}
 use Rattle.nfs_machine.specs.State.{Entry}
-use Rattle.nfs_inodes.specs.declared.listing.EntryName.{EntryName}
-use Rattle.nfs_inodes.specs.declared.listing.EntryName.TheVariants as names
-use Rattle.nfs_inodes.specs.declared.listing.Listed.{Listed}
+use Rattle.nfs_inodes.specs.declared.content.listing.EntryName.{EntryName}
+use Rattle.nfs_inodes.specs.declared.content.listing.EntryName.TheVariants as names
+use Rattle.nfs_inodes.specs.declared.content.listing.Listed.{Listed}
 
 -- the bytes of a name
 abbrev pub name_of : EntryName → List ℕ

@@ -6,6 +6,7 @@ use Rattle.std.specs.FinMap.{get}
 use Rattle.nfs_wire.specs.declared.attributes.Time.{Time}
 use Rattle.nfs_machine.specs.Attributes.{is_directory}
 use Rattle.nfs_machine.specs.Checks.{bytes_in, entries_in, entry_of}
+use Rattle.nfs_machine.specs.Data.{resized}
 use Rattle.nfs_machine.specs.RemoveSteps.{without}
 use Rattle.nfs_machine.specs.Shown.{touched, with_content}
 use Rattle.nfs_machine.specs.State.{Content, Regular, Directory, Entry, Living, State}
@@ -38,6 +39,13 @@ with_bytes now change o = elim (bytes_in o.content) [
 abbrev pub bytes_changed : Time → (number : ℕ) → (List ℕ → List ℕ) → Kept → Kept
 bytes_changed now number change k = counted_anew number (get k.state.objects number)
     (changed_at k number (with_bytes now change))
+
+-- the file has another size from now on, if one is set
+abbrev pub size_set : Time → (number : ℕ) → Option ℕ → Kept → Kept
+size_set now number size k = elim size [
+  | None ↦ k
+  | Some size ↦ bytes_changed now number (λ old. resized old size) k
+]
 
 -- the directory with one more name, where it has it not: the entry stands last, and its cookie is the greatest that was
 -- used (RFC 1813, 3.3.16)

@@ -15,11 +15,12 @@ ghost use Rattle.nfs_objects.specs.Knows.{Knows, ShowsExport};
 ghost use Rattle.nfs_objects.specs.Only.{AsksNothing};
 ghost use Rattle.nfs_objects.specs.Stands.{inode_in};
 ghost use Rattle.nfs_objects.specs.Values.{known_at};
+ghost use Rattle.nfs_inodes.specs.Kinds.{IsShown};
 ghost use Rattle.nfs_inodes.specs.Known.{HasExports, HasInode, HasNumber, IsKnownOf, IsObject, Means};
 ghost use Rattle.nfs_inodes.specs.Known.{is_handle_of, shell, weak_of};
 ghost use Rattle.nfs_inodes.specs.Stops.{IsOfExport, ReadsAt, ReadsInode, StopsAt, brought_by, wanted_first};
 
-use crate::attributes::{device, file_type, size, used};
+use crate::content::shape::{device, file_type, size, used};
 use bytes::Bytes;
 use nfs_machine::{Ctx, Handle};
 use nfs_objects::object::{export_list, living};
@@ -74,6 +75,7 @@ pub fn object(draft: &Draft<'_>, number: u64) -> Result<Option<Known>, Halt>
         (StopsAt draft.now (addresses_of draft.now.view number)) }
     ensures number { IfOk result (λ x. IfSome x (λ x. x.number ≡ number)) }
     ensures exported { IfOk result (λ x. IfSome x (λ x. ShowsExport draft.now x.export)) }
+    ensures shown { IfOk result (λ x. IfSome x (IsShown draft.now)) }
     ensures reads { ReadsInode draft.now number result }
 {
     match inode(draft, number)? {
@@ -144,6 +146,16 @@ pub fn wcc_of(before: &Known, after: Option<Attributes>) -> Wcc
     }
 }
 
+/// What is shown where a handle names nothing.
+pub fn nothing_shown() -> Wcc
+    ensures { result ≡ record { before = None; after = None } }
+{
+    Wcc {
+        before: None,
+        after: None,
+    }
+}
+
 /// What a handle names for the caller, or the status of a call that brings it. The exports are read first, and then the
 /// object.
 ///
@@ -156,6 +168,7 @@ pub fn named(draft: &Draft<'_>, handle: &[u8]) -> Result<Result<Known, NfsStatus
     ensures lives { IfOk result (λ found. IfOk found (λ x. IsThere draft.now.view (Addr.Inode x.number))) }
     ensures number { IfOk result (λ found. IfOk found (λ x. HasNumber handle.now x.number)) }
     ensures exported { IfOk result (λ found. IfOk found (λ x. ShowsExport draft.now x.export)) }
+    ensures shown { IfOk result (λ found. IfOk found (IsShown draft.now)) }
     ensures usage { IfOk result (λ found. IfOk found (λ x. IsOfExport handle.now x.export)) }
     ensures stops { IfErr result (StopsAt draft.now (brought_by draft.now.view handle.now)) }
     ensures first { HaltsFirst draft.now.modes draft.now.view (wanted_first draft.now.view (handle.now ∷ []))

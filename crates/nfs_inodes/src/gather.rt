@@ -1,33 +1,32 @@
 //! Objects that are read at once.
 
-ghost use Rattle.std.specs.Prelude.{◌≡◌, [], ◌∷◌, ◌++◌, List, IfErr, OnOk, take};
+ghost use Rattle.std.specs.Prelude.{◌≡◌, [], ◌∷◌, ◌++◌, List, IfErr, OnOk, map};
 ghost use Rattle.nfs_machine.specs.State.{Entry};
 ghost use Rattle.nfs_objects.specs.Asks.{IsThere};
 ghost use Rattle.nfs_objects.specs.Values.{DraftValue};
 ghost use Rattle.nfs_inodes.specs.Gathers.{AsksAll, EachKnown, EachLives, Gathers};
+ghost use Rattle.nfs_inodes.specs.Listing.{listed_entry};
 ghost use Rattle.nfs_inodes.specs.Stops.{StopsAt};
 
-use crate::listing::EntriesLeft;
+use crate::content::listing::Listed;
 use indexmap::IndexSet;
 use nfs_objects::{Addr, Draft, Halt, Mode};
 use std::alloc::{AllocError, Global};
 
-/// Reads the objects of the first `count` entries, so that each of them is known.
+/// Reads the objects of these entries, so that each of them is known.
 ///
 /// # Errors
 ///
 /// `Need` of all those objects that are not known yet, each once; and `Memory`.
-pub fn read_objects(draft: &Draft<'_>, left: &EntriesLeft<'_>, count: usize) -> Result<(), Halt>
-    requires { EachLives draft.now.view left.now }
-    ensures known { OnOk result (EachKnown draft.now (take count left.now)) }
-    ensures asks { IfErr result (AsksAll draft.now (take count left.now)) }
+pub fn read_objects(draft: &Draft<'_>, entries: &[Listed<'_>]) -> Result<(), Halt>
+    requires { EachLives draft.now.view (map listed_entry entries.now) }
+    ensures known { OnOk result (EachKnown draft.now (map listed_entry entries.now)) }
+    ensures asks { IfErr result (AsksAll draft.now (map listed_entry entries.now)) }
     ensures stops { IfErr result (StopsAt draft.now []) }
 {
     let mut wishes = Wishes::new(draft.alloc());
-    for index in 0..count {
-        if let Some(entry) = left.get(index) {
-            wishes.add(draft, entry.number)?;
-        }
+    for entry in entries {
+        wishes.add(draft, entry.number)?;
     }
     wishes.ask()
 }

@@ -2,50 +2,49 @@
 //! with it, names, bytes, and changes of objects.
 //!
 //! A reader's contract is a fact of the state in every store that the draft's view fits; a maker's is what it does to
-//! what the store stands for. Readers and makers halt where something has to be read first. What a maker is for may not
-//! be there: then it changes nothing, as its contract says. No inode is shown above this crate.
+//! what the store stands for. Readers and makers halt where something has to be read first. What an object contains is
+//! read and changed by `content` alone. No inode is shown above this crate.
 #![tactic(auto)]
 
 pub mod asked;
-mod attributes;
 pub mod checks;
-mod content;
+pub mod content;
 pub mod data;
-pub mod entries;
 pub mod found;
 pub mod gather;
 pub mod kinds;
 pub mod linking;
-pub mod listing;
 pub mod makers;
 pub mod making;
 pub mod names;
 pub mod permission;
 pub mod removing;
-pub mod renaming;
 pub mod setting;
 pub mod times;
 pub mod tree;
 mod usage;
 
 pub use asked::{directory_wanted, file_wanted, link_wanted, special_wanted};
-pub use attributes::BLOCK;
 pub use checks::{changeable, directory, is_writable, no_directory, permitted, regular};
-pub use data::{SIZE_LIMIT, TRANSFER_LIMIT, read, text, verifier};
-pub use entries::{entry, is_empty, leads_to, new_cookie};
-pub use found::{Known, exports, handle, is_verifier, named, object, shown, wcc, wcc_of};
+pub use content::entries::{entry, is_empty, leads_to, new_cookie};
+pub use content::file::{read, resize, text, write};
+pub use content::listing::{EntriesLeft, EntryName, Listed, entries_left};
+pub use content::naming::{add_entry, give_name, leave, rehome, take_entry};
+pub use content::shape::BLOCK;
+pub use data::{SIZE_LIMIT, TRANSFER_LIMIT, verifier};
+pub use found::{
+    Known, exports, handle, is_verifier, named, nothing_shown, object, shown, wcc, wcc_of,
+};
 pub use gather::read_objects;
 pub use kinds::{Directory, File};
 pub use linking::add_link;
-pub use listing::{EntriesLeft, EntryName, Listed, entries_left};
-pub use makers::{add_entry, lose_link, make_object, resize, take_entry, write};
+pub use makers::{lose_link, make_object};
 pub use making::{
     LINK_LIMIT, MAX_TEXT, MODE_LIMIT, NewContent, Wanted, given_attributes, kind_checked,
 };
 pub use names::{MAX_NAME, name_checked, plain_name_checked};
 pub use permission::{Right, class_bits, is_member, may, reads, runs};
 pub use removing::take_name;
-pub use renaming::{give_name, leave, rehome};
 pub use setting::{Settings, set_attributes};
 pub use times::{is_client_time, is_server_time, is_time, now, time_set, touch};
 pub use tree::is_within;

@@ -5,12 +5,13 @@ ghost use Rattle.nfs_machine.specs.Times.{time_of};
 ghost use Rattle.nfs_objects.specs.Calls.{addresses_of};
 ghost use Rattle.nfs_objects.specs.Knows.{Turns};
 ghost use Rattle.nfs_objects.specs.Modes.{changing};
+ghost use Rattle.nfs_inodes.specs.Kinds.{IsShown};
 ghost use Rattle.nfs_inodes.specs.Links.{link_gained, linked_so};
 ghost use Rattle.nfs_inodes.specs.Stops.{StopsAt};
 
+use crate::content::naming::add_entry;
 use crate::found::inode;
 use crate::kinds::Directory;
-use crate::makers::add_entry;
 use crate::times::{now, touch};
 use nfs_objects::{Addr, Draft, Halt};
 
@@ -28,7 +29,8 @@ pub fn add_link(
     number: u64,
     links: u32,
 ) -> Result<(), Halt>
-    requires { draft.old.modes ≡ changing }
+    requires alone { draft.old.modes ≡ changing }
+    requires shown { IsShown draft.old directory.now.known }
     ensures { MatchResult result
         (λ _. Turns draft.old draft.new (link_gained (time_of draft.old.ctx.moment) directory.now.known.number
         directory.now.known.attributes.links (record { name = name.now; number = number; cookie = cookie }) links))

@@ -1,23 +1,23 @@
 //! New objects: what is asked for, the checks of it, and what they are given (RFC 1813, 3.3.8 to 3.3.11).
 
-ghost use Rattle.std.specs.Prelude.{◌≡◌, ◌==◌, ◌||◌, ◌&&◌, IfOk, length, nat_le, not, replicate};
+ghost use Rattle.std.specs.Prelude.{◌≡◌, ◌==◌, ◌||◌, ◌&&◌, IfOk, length, nat_le, not};
 ghost use Rattle.std.specs.Prelude.{unwrap_or, ℕ};
 ghost use Rattle.std.specs.List.{list_any};
 ghost use Rattle.nfs_machine.specs.Making.{given_attributes, kind_checked, new_object};
 ghost use Rattle.nfs_machine.specs.Permission.{is_member};
 ghost use Rattle.nfs_machine.specs.State.{Link};
 ghost use Rattle.nfs_machine.specs.declared.context.Ctx.{Ctx as Context};
-ghost use Rattle.nfs_objects.specs.Stands.{content_of, living_of_inode, parent_in};
+ghost use Rattle.nfs_objects.specs.Stands.{living_of_inode, parent_in};
 ghost use Rattle.nfs_inodes.specs.Asked.{content_asked, mode_asked, wanted_as};
 ghost use Rattle.nfs_inodes.specs.Makes.{first_links, first_parent, links_with};
 
+use crate::content::fresh::new_content;
 use crate::data::SIZE_LIMIT;
 use crate::kinds::Directory;
 use crate::permission::is_member;
 use crate::times::{is_time, now, time_set};
-use bytes::Bytes;
 use nfs_machine::Ctx;
-use nfs_objects::{Content, Entries, FileBytes, Inode};
+use nfs_objects::Inode;
 use nfs_rpc::Ids;
 use nfs_wire::{DeviceNumber, NfsStatus, SetAttributes, Verifier};
 use std::alloc::{AllocError, Global};
@@ -55,9 +55,6 @@ pub const MAX_TEXT: usize = 4_096;
 
 /// A mode has twelve bits (RFC 1813, 2.5: fattr3); it is below this.
 pub const MODE_LIMIT: u32 = 0o10000;
-
-/// The cookie of `..`, the greatest that a new directory has used (RFC 1813, 3.3.16).
-const ABOVE_COOKIE: u64 = 2;
 
 /// Judges the attributes that a new object is given (RFC 1813, 2.5: sattr3).
 ///
@@ -181,26 +178,6 @@ pub(crate) fn new_inode(
     })
 }
 
-/// The content of a new object in a directory with this number.
-fn new_content(alloc: Global, content: &NewContent<'_>, parent: u64) -> Result<Content, AllocError>
-    ensures content { IfOk result (λ made. content_of made ≡ content_asked content.now) }
-    ensures parent { IfOk result (λ made. parent_in made ≡ first_parent parent (content_asked content.now)) }
-{
-    Ok(match content {
-        NewContent::Regular(size) => Content::Regular(zeros(alloc, *size as usize)?),
-        NewContent::Directory => Content::Directory(nfs_objects::Directory {
-            parent,
-            last_cookie: ABOVE_COOKIE,
-            entries: Entries::new(alloc)?,
-        }),
-        NewContent::Link(text) => Content::Link(Bytes::copy_from_slice(alloc, text)?),
-        NewContent::BlockDevice(device) => Content::BlockDevice(*device),
-        NewContent::CharacterDevice(device) => Content::CharacterDevice(*device),
-        NewContent::Socket => Content::Socket,
-        NewContent::Fifo => Content::Fifo,
-    })
-}
-
 /// The mode of an object that is given none.
 fn mode_of(content: &NewContent<'_>) -> u32
     ensures { result ≡ mode_asked content.now }
@@ -220,10 +197,4 @@ fn first_links(content: &NewContent<'_>) -> u32
         NewContent::Directory => 2,
         _ => 1,
     }
-}
-
-fn zeros(alloc: Global, size: usize) -> Result<FileBytes, AllocError>
-    ensures { IfOk result (λ content. content ≡ replicate size 0) }
-{
-    FileBytes::new(alloc).resized(alloc, size)
 }

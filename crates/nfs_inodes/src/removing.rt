@@ -5,12 +5,14 @@ ghost use Rattle.nfs_machine.specs.Times.{time_of};
 ghost use Rattle.nfs_objects.specs.Calls.{addresses_of};
 ghost use Rattle.nfs_objects.specs.Knows.{Turns};
 ghost use Rattle.nfs_objects.specs.Modes.{changing};
+ghost use Rattle.nfs_inodes.specs.Kinds.{IsShown};
 ghost use Rattle.nfs_inodes.specs.Removes.{directory_lost, name_lost, subdirectory_lost};
 ghost use Rattle.nfs_inodes.specs.Stops.{StopsAt, counted_at};
 
+use crate::content::naming::take_entry;
 use crate::found::{Known, inode};
 use crate::kinds::Directory;
-use crate::makers::{lose_link, take_entry};
+use crate::makers::lose_link;
 use nfs_objects::{Addr, Draft, Halt};
 use nfs_wire::FileType;
 
@@ -28,6 +30,7 @@ pub fn take_name(
 ) -> Result<(), Halt>
     requires none { draft.old.writes ≡ [] }
     requires alone { draft.old.modes ≡ changing }
+    requires shown { IsShown draft.old directory.now.known }
     ensures { MatchResult result
         (λ _. Turns draft.old draft.new
         (name_lost (time_of draft.old.ctx.moment) directory.now.known.number name.now object.now))
@@ -55,11 +58,7 @@ fn lose_directory(draft: &mut Draft<'_>, directory: &Directory, number: u64) -> 
 }
 
 /// Takes one of a directory's links away, since a directory in it goes (RFC 1813, 2.5: nlink).
-///
-/// # Errors
-///
-/// `Need` of what has to be held for it, and `Memory`. The draft is of no use then.
-pub fn lose_subdirectory(draft: &mut Draft<'_>, directory: &Directory) -> Result<(), Halt>
+fn lose_subdirectory(draft: &mut Draft<'_>, directory: &Directory) -> Result<(), Halt>
     requires { draft.old.modes ≡ changing }
     ensures { MatchResult result
         (λ _. Turns draft.old draft.new (subdirectory_lost directory.now.known.number))

@@ -7,7 +7,7 @@ ghost use Rattle.nfs_objects.specs.Knows.{Knows};
 ghost use Rattle.nfs_inodes.specs.Known.{IsKnown};
 ghost use Rattle.nfs_inodes.specs.Stops.{StopsAt};
 
-use crate::entries::parent;
+use crate::content::entries::parent;
 use crate::kinds::Directory;
 use nfs_objects::{Draft, Halt};
 

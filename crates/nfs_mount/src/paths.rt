@@ -6,12 +6,10 @@ ghost use Rattle.nfs_machine.specs.MountSteps.{path_fault};
 ghost use Rattle.nfs_machine.specs.Paths.{begins_with_slash, is_dots, parts};
 ghost use Rattle.nfs_mount.specs.Fronts.{BeginsNot};
 
+use nfs_inodes::MAX_NAME;
 use nfs_machine::paths::split_piece;
 use side_wire::MountStatus;
 use std::marker::Model;
-
-/// The greatest length of a name, in bytes.
-const MAX_NAME: usize = 255;
 
 /// The names that a path walks, from left to right; empty parts are skipped.
 #[derive(Drop)]

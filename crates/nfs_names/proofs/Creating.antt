@@ -24,11 +24,12 @@ use Rattle.nfs_objects.specs.Values.{DraftValue}
 use Rattle.nfs_inodes.proofs.Keeping.{bytes-is, bytes-sound}
 use Rattle.nfs_inodes.proofs.Standing.{kind-is}
 use Rattle.nfs_inodes.specs.Known.{ChecksRegular, IsKnown, IsObject, bytes_of, content_at, object_at, shell}
+use Rattle.nfs_inodes.specs.Makes.{size_set}
 use Rattle.nfs_inodes.specs.declared.found.Known.{Known}
 use Rattle.nfs_inodes.specs.declared.kinds.File.{File}
 use Rattle.nfs_names.proofs.Looked.{lives-at}
 use Rattle.nfs_names.proofs.Making.{get-here, now_of, told_of}
-use Rattle.nfs_names.specs.Creates.{IsOverEnd, file_over, sized, sized_file}
+use Rattle.nfs_names.specs.Creates.{IsOverEnd, file_over, sized_file}
 use Rattle.nfs_names.specs.Making.{MakeEnd, made_at}
 
 made-over : (m : State) (ctx : Ctx) (n : ℕ) (o : Living) → get m.objects n ≡ Some o →
@@ -39,14 +40,14 @@ made-over m ctx n o lives (Some p) = ap (told_of (with_object m n p) ctx n) (get
 
 sized-state : (k : Kept) (x : Known) (now : Time) (bytes : List ℕ) → IsKnown k.state x →
     bytes_in (content_at k.state x.number) ≡ Ok bytes → (size : Option ℕ) →
-    (sized now x.number size k).state ≡ replaced k.state x.number (sized_file now (object_at k.state x) bytes size)
+    (size_set now x.number size k).state ≡ replaced k.state x.number (sized_file now (object_at k.state x) bytes size)
 sized-state k x now bytes is regular None = refl
 sized-state k x now bytes is regular (Some s) = ap (λ (q : Kept). q.state)
     (bytes-is k x now (λ old. resized old s) bytes is regular)
 
 sized-sound : (k : Kept) (n : ℕ) (now : Time) (size : Option ℕ) → Sound k
-    → AllFit (sized now n size k).state →
-    Sound (sized now n size k)
+    → AllFit (size_set now n size k).state →
+    Sound (size_set now n size k)
 sized-sound k n now None sound fit = sound
 sized-sound k n now (Some s) sound fit = bytes-sound k n now (λ old. resized old s) sound fit
 
@@ -100,7 +101,7 @@ module _ (d : DraftValue) (how : CreateHow) (number : ℕ) where
       no-answer-over e is s k w = sized-end s k w (Err e) is
 
       module _ (new : DraftValue) (some : Option ℕ) (is : size ≡ Ok some)
-          (turns : Turns d new (sized (now_of d) x.number some))
+          (turns : Turns d new (size_set (now_of d) x.number some))
           (told : Made) (tells : Knows new (λ k. told ≡ made_at k.state new.ctx number)) where
         abbrev over_state : State → State
         over_state m = replaced m number (sized_file (now_of d) (object_at m x) (bytes m) some)
@@ -110,7 +111,7 @@ module _ (d : DraftValue) (how : CreateHow) (number : ℕ) where
             (unwrap_or (sized_file (now_of d) (object_at m x) (bytes m) some) (object_at m x))
 
         over-state-is : (s : Store) (k : Kept) → Possible d s k →
-            over_state k.state ≡ (sized (now_of d) x.number some k).state
+            over_state k.state ≡ (size_set (now_of d) x.number some k).state
         over-state-is s k w = sym (sized-state k x (now_of d) (bytes k.state) (there s k w).1 (regular s k w) some
             ∙ ap (λ n. replaced k.state n (sized_file (now_of d) (object_at k.state x) (bytes k.state) some))
             (there s k w).0)
@@ -118,15 +119,15 @@ module _ (d : DraftValue) (how : CreateHow) (number : ℕ) where
         over-answer-is : (s : Store) (k : Kept) → Possible d s k → over_answer k.state ≡ told
         over-answer-is s k w =
             let sound = sized-sound k x.number (now_of d) some w.sound (turned-fit d new _ turns s k w) in
-            sym (tells s (sized (now_of d) x.number some k) (possible-after d new _ turns s k w sound)
-            ∙ ap (λ c. made_at (sized (now_of d) x.number some k).state c number) turns.ctx
+            sym (tells s (size_set (now_of d) x.number some k) (possible-after d new _ turns s k w sound)
+            ∙ ap (λ c. made_at (size_set (now_of d) x.number some k).state c number) turns.ctx
             ∙ ap (λ m. made_at m d.ctx number) (sym (over-state-is s k w))
             ∙ made-over k.state d.ctx number (object_at k.state x) (lives s k w)
             (sized_file (now_of d) (object_at k.state x) (bytes k.state) some))
 
         pub over-does : Does d new (IsOverEnd d.ctx how number) (Ok told)
         over-does = record {
-          op = sized (now_of d) x.number some;
+          op = size_set (now_of d) x.number some;
           turns = turns;
           sound = λ s k w formed. sized-sound k x.number (now_of d) some w.sound (turned-fit d new _ turns s k w);
           ends = λ s k w formed. sized-end s k w (Ok some) is

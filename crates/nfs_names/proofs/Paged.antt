@@ -1,17 +1,13 @@
 -- The page that fits, entry by entry; and what is listed is a step of the machine.
-use Rattle.std.proofs.Common.{◌≡◌, ℕ, zero, suc, ◌+◌, ◌≤◌, Bool, true, false, if◌then◌else◌}
-use Rattle.std.proofs.Common.{List, [], ◌∷◌, ◌++◌}
-use Rattle.std.proofs.Common.{take, drop, Option, Some, None, Result, Ok, Err, arith, refl, sym, ◌∙◌, ap, subst}
-use Rattle.std.specs.Prelude.{slice_get, ◌==◌}
-use Rattle.std.proofs.lemmas.Bool.Decides.{nat_tests}
-use Rattle.std.proofs.lemmas.List.{append-nil, take-append-drop}
+use Rattle.std.proofs.Common.{◌≡◌, ℕ, ◌+◌, ◌≤◌, Bool, true, false, List, [], ◌∷◌, ◌++◌, map, Option, Some, None}
+use Rattle.std.proofs.Common.{Result, Ok, Err, IfOk, arith, refl, sym, ◌∙◌, ap, subst}
 use Rattle.std.proofs.lemmas.List.Sums.{sum_by-cons, sum_by_push}
-use Rattle.std.specs.List.{sum_by}
+use Rattle.std.specs.List.{AllByRecursion, sum_by}
 use Rattle.nfs_wire.specs.declared.attributes.Attributes.{Attributes}
 use Rattle.nfs_wire.specs.declared.replies.NfsReply.{NfsReply}
 use Rattle.nfs_wire.specs.declared.status.NfsStatus.{NfsStatus}
 use Rattle.nfs_wire.specs.declared.status.NfsStatus.TheVariants as status
-use Rattle.nfs_machine.proofs.Pages.{Shrinks, fits-shrinks, full-shrinks, page-ends, page-first, page-stops}
+use Rattle.nfs_machine.proofs.Pages.{Shrinks, fits-shrinks, full-shrinks, page-first, page-stops}
 use Rattle.nfs_machine.specs.Attributes.{entries_of}
 use Rattle.nfs_machine.specs.Checks.{◌>>=◌, DirectoryEntries}
 use Rattle.nfs_machine.specs.PageSteps.{PageStep}
@@ -20,20 +16,25 @@ use Rattle.nfs_machine.specs.Resolve.{Named}
 use Rattle.nfs_machine.specs.State.{Entry, State}
 use Rattle.nfs_machine.specs.WellFormed.{WellFormed}
 use Rattle.nfs_objects.proofs.Knows.{failed}
+use Rattle.nfs_objects.specs.Asks.{IsThere}
 use Rattle.nfs_objects.specs.Knows.{Knows, Possible}
 use Rattle.nfs_objects.specs.Stands.{Kept}
 use Rattle.nfs_objects.specs.Store.{Store}
-use Rattle.nfs_objects.specs.Values.{DraftValue}
+use Rattle.nfs_objects.specs.Values.{DraftValue, ViewValue}
+use Rattle.nfs_objects.specs.declared.address.Addr.TheVariants as addresses
 use Rattle.nfs_inodes.proofs.Standing.{kind-is}
-use Rattle.nfs_inodes.proofs.Taking.{drop-none, drop-some}
+use Rattle.nfs_inodes.specs.Gathers.{EachLives}
 use Rattle.nfs_inodes.specs.Known.{IsKnown, Means, content_at, entries_found}
+use Rattle.nfs_inodes.specs.Listing.{listed_entry}
+use Rattle.nfs_inodes.specs.declared.content.listing.Listed.{Listed}
 use Rattle.nfs_inodes.specs.declared.found.Known.{Known}
 use Rattle.nfs_inodes.specs.declared.kinds.Directory.{Directory}
 use Rattle.nfs_names.specs.Checking.{ComesTo}
-use Rattle.nfs_names.specs.Pages.{IsPageOf, KnowsPage, Lists, fit_of, left_in, page_found, list_checked, result_size}
-use Rattle.nfs_names.specs.Pages.{sizes_fit, sizes_of}
+use Rattle.nfs_names.specs.Pages.{IsPageOf, KnowsPage, Lists, fit_of, front_page, left_in, list_checked, page_cut}
+use Rattle.nfs_names.specs.Pages.{page_found, result_size, sizes_fit, sizes_of}
 use Rattle.nfs_names.specs.declared.page.Budget.{Budget}
 use Rattle.nfs_names.specs.declared.page.Budget.TheVariants as budgets
+use Rattle.nfs_names.specs.declared.page.Front.{Front}
 use Rattle.nfs_names.specs.declared.page.PageAsked.{PageAsked}
 use Rattle.nfs_names.specs.declared.page.Sizes.{Sizes}
 
@@ -79,42 +80,30 @@ sizes-more budget front e old new is whole names =
     λ i. record { whole = w i; names = n i }
 
 -- ---- where the page ends
-module _ (fit : List Entry → Bool) (shrinks : Shrinks fit) where
-  -- what does not fit ends it
-  pub stops-at : (n : ℕ) (xs : List Entry) (x : Entry) → slice_get xs n ≡ Some x → fit (take n xs) ≡ true →
-      fit (take n xs ++ x ∷ []) ≡ false →
-      Pages fit xs (if n == 0 then Err status.TooSmall else Ok (record { entries = take n xs; eof = false }))
-  stops-at zero [] x is here next = cc
-  stops-at zero (y ∷ ys) x is here next =
-      page-first fit shrinks y ys (ap (λ z. fit (z ∷ [])) (let same : y ≡ x = cc in same) ∙ next)
-  stops-at (suc n) [] x is here next = cc
-  stops-at (suc n) (f ∷ ys) x is here next =
-      subst (λ b. Pages fit (f ∷ ys)
-      (if b then Err status.TooSmall else Ok (record { entries = f ∷ take n ys; eof = false })))
-      (let no : false ≡ (suc n == 0) = grind (arith, nat_tests) in no)
-      (subst (λ zs. Pages fit (f ∷ zs) (Ok (record { entries = f ∷ take n ys; eof = false })))
-      (ap (λ zs. take n ys ++ zs) (sym (drop-some n ys x is)) ∙ take-append-drop n ys)
-      (page-stops fit shrinks f (take n ys) x (drop (suc n) ys) here next))
-
-  -- and so does the end of the entries
-  pub ends-at : (n : ℕ) (xs : List Entry) → slice_get xs n ≡ None → fit (take n xs) ≡ true →
-      Pages fit xs (Ok (record { entries = take n xs; eof = true }))
-  ends-at n xs is here =
-      subst (λ zs. Pages fit zs (Ok (record { entries = take n xs; eof = true })))
-      (sym (append-nil (take n xs)) ∙ ap (λ zs. take n xs ++ zs) (sym (drop-none n xs is)) ∙ take-append-drop n xs)
-      (page-ends fit (take n xs) here)
+-- what does not fit ends it
+pub stops-here : (fit : List Entry → Bool) → Shrinks fit → (front : List Entry) (x : Entry) (rest : List Entry) →
+    fit front ≡ true → fit (front ++ x ∷ []) ≡ false → Pages fit (front ++ x ∷ rest) (page_cut front)
+stops-here fit shrinks [] x rest here next = page-first fit shrinks x rest next
+stops-here fit shrinks (f ∷ front) x rest here next = page-stops fit shrinks f front x rest here next
 
 -- the page that is cut
-pub cut-found : (left : List Entry) (n : ℕ) →
-    page_found (if n == 0 then Err status.TooSmall else Ok (record { left = left; count = n; eof = false }))
-    ≡ (if n == 0 then Err status.TooSmall else Ok (record { entries = take n left; eof = false }))
-cut-found left n =
-    elim (n == 0) as (λ b. page_found (if b then Err status.TooSmall else Ok
-    (record { left = left; count = n; eof = false }))
-    ≡ (if b then Err status.TooSmall else Ok (record { entries = take n left; eof = false }))) [
-      | true ↦ refl
-      | false ↦ refl
-    ]
+pub cut-listed : (entries : List Listed) → (entries ≡ [] → ⊥) →
+    Ok (record { entries = map listed_entry entries; eof = false }) ≡ page_cut (map listed_entry entries)
+cut-listed [] some = absurd (some refl)
+cut-listed (e ∷ entries) some = refl
+
+-- something lives at the number of each of its entries
+front-each : (P : Entry → Type 0) (front rest : List Entry) → AllByRecursion P (front ++ rest) → AllByRecursion P front
+front-each P [] rest each = tt
+front-each P (e ∷ front) rest each = (each.0, front-each P front rest each.1)
+
+pub front-lives : (view : ViewValue) (fit : List Entry → Bool) (left : List Entry) (found : Result Front NfsStatus) →
+    EachLives view left → Pages fit left (page_found found) →
+    IfOk found (λ (front : Front). EachLives view (front_page front).entries)
+front-lives view fit left (Ok front) each pages =
+    front-each (λ (e : Entry). IsThere view (addresses.Inode e.number)) (front_page front).entries pages.0
+    (subst (EachLives view) pages.1.0 each)
+front-lives view fit left (Err e) each pages = tt
 
 -- ---- the directory
 module _ (d : DraftValue) (x : Known) (asked : PageAsked) (known : Knows d (λ k. IsKnown k.state x)) where

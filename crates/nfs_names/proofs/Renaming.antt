@@ -73,7 +73,8 @@ use Rattle.nfs_inodes.specs.declared.kinds.Directory as kinds
 use Rattle.nfs_names.proofs.Making.{a-cookie, no-cookie}
 use Rattle.nfs_names.proofs.Looked.{lives-at}
 use Rattle.nfs_names.specs.Renames.{ComesToBoth, IsRenameEnd, IsRenaming, IsUnder, both_found, entry_moved}
-use Rattle.nfs_names.specs.Renames.{is_directory_kind, is_one_directory, links_given, links_left, names_counted}
+use Rattle.nfs_inodes.specs.Removes.{is_directory_type}
+use Rattle.nfs_names.specs.Renames.{is_one_directory, links_given, links_left, names_counted}
 use Rattle.nfs_names.specs.Renames.{rename_checked, renamed, replaced_lost}
 use Rattle.nfs_names.specs.declared.rename.Places.{Places}
 use Rattle.nfs_names.specs.declared.rename.Renaming.{Renaming}
@@ -104,7 +105,7 @@ module _ (d : DraftValue) (a : RenameArguments) where
   }
 
 -- ---- kinds
-kind-of : (c : Content) → is_directory c ≡ is_directory_kind (type_of c)
+kind-of : (c : Content) → is_directory c ≡ is_directory_type (type_of c)
 kind-of (Directory entries last) = refl
 kind-of (Regular bytes) = refl
 kind-of (Link text) = refl
@@ -123,8 +124,8 @@ no-directory Socket e is = refl
 no-directory Fifo e is = refl
 
 pub known-kind : (m : State) (x : Known) → IsKnown m x →
-    is_directory (content_at m x.number) ≡ is_directory_kind x.attributes.kind
-known-kind m x is = kind-of (content_at m x.number) ∙ ap is_directory_kind (kind-is m x is)
+    is_directory (content_at m x.number) ≡ is_directory_type x.attributes.kind
+known-kind m x is = kind-of (content_at m x.number) ∙ ap is_directory_type (kind-is m x is)
 
 pub known-links : (m : State) (x : Known) → IsKnown m x →
     x.attributes.links ≡ links_of m x.number (content_at m x.number)
@@ -295,7 +296,7 @@ module _ (d : DraftValue) (a : RenameArguments) (r : Renaming) (finds : Knows d 
   is_one = option_map_or (λ (o : Known). o.number == r.moved.number) r.replaced false
 
   abbrev has_room : Bool
-  has_room = not (is_directory_kind r.moved.attributes.kind) || is_one_directory r || is_some r.replaced || nat_lt
+  has_room = not (is_directory_type r.moved.attributes.kind) || is_one_directory r || is_some r.replaced || nat_lt
       y.attributes.links link_limit
 
   abbrev fits : State → Bool
@@ -338,11 +339,11 @@ module _ (d : DraftValue) (a : RenameArguments) (r : Renaming) (finds : Knows d 
       link_limit) (nat_lt (last m + 1) (2 ^ 64)))
       (known-kind m r.moved moved)
       ∙ ap (λ b. by_checks m is_one (fits m) (is_within r.moved.number y.number)
-      (not (is_directory_kind r.moved.attributes.kind) || is_one_directory r || b || nat_lt
+      (not (is_directory_type r.moved.attributes.kind) || is_one_directory r || b || nat_lt
       (links_of m y.number (content_at m y.number)) link_limit) (nat_lt (last m + 1) (2 ^ 64)))
       (map-some (target m) r.replaced)
       ∙ ap (λ n. by_checks m is_one (fits m) (is_within r.moved.number y.number)
-      (not (is_directory_kind r.moved.attributes.kind) || is_one_directory r || is_some r.replaced || nat_lt n
+      (not (is_directory_type r.moved.attributes.kind) || is_one_directory r || is_some r.replaced || nat_lt n
       link_limit) (nat_lt (last m + 1) (2 ^ 64)))
       (sym (known-links m y f.to.known))
 
@@ -377,7 +378,7 @@ module _ (d : DraftValue) (a : RenameArguments) (r : Renaming) (finds : Knows d 
           is_living_directory (get k.state.objects y.number) ≡ true
       directory-there s k w kind =
           ap is_living_directory (finds s k w).to.known.lives ∙ known-kind k.state y (finds s k w).to.known
-          ∙ ap is_directory_kind kind
+          ∙ ap is_directory_type kind
 
       ends-within : (b : Bool) → Within b → (s : Store) (k : Kept) → Possible d s k → WellFormed k.state →
           (is_within : (upper lower : ℕ) → Bool) → TellsWithin k.state is_within
@@ -480,7 +481,7 @@ module _ (d : DraftValue) (a : RenameArguments) (r : Renaming) (finds : Knows d 
 
               over-kinds : (o : Option Known) → IfSome o (IsKnown m) →
                   directory_over (option_map (target m) o) ≡
-                  one_if (elim o [ None ↦ false | Some z ↦ is_directory_kind z.attributes.kind ])
+                  one_if (elim o [ None ↦ false | Some z ↦ is_directory_type z.attributes.kind ])
               over-kinds None is = refl
               over-kinds (Some z) is = ap one_if (known-kind m z is)
 
@@ -491,7 +492,7 @@ module _ (d : DraftValue) (a : RenameArguments) (r : Renaming) (finds : Knows d 
                   let links = known-links m x f.from.known in
                   let two-links = directory-links x f.from.known r.from.kind in
                   ap (λ b. links_left r + one_if b) (known-kind m r.moved f.moved.1)
-                  ∙ by (is_directory_kind r.moved.attributes.kind) links two-links
+                  ∙ by (is_directory_type r.moved.attributes.kind) links two-links
                 where
                   by : (b : Bool) → x.attributes.links ≡ links_of m x.number (content_at m x.number) →
                       2 ≤ x.attributes.links
@@ -501,10 +502,10 @@ module _ (d : DraftValue) (a : RenameArguments) (r : Renaming) (finds : Knows d 
                   by false links some = omega (arith, links)
 
               abbrev replaces : Option Known → Bool
-              replaces o = elim o [ None ↦ false | Some z ↦ is_directory_kind z.attributes.kind ]
+              replaces o = elim o [ None ↦ false | Some z ↦ is_directory_type z.attributes.kind ]
 
               -- where a directory comes and none goes, there is room
-              small : (o : Option Known) → r.replaced ≡ o → is_directory_kind r.moved.attributes.kind ≡ true →
+              small : (o : Option Known) → r.replaced ≡ o → is_directory_type r.moved.attributes.kind ≡ true →
                   is_one_directory r ≡ false → replaces o ≡ false → y.attributes.links < link_limit
               small None e brings two goes =
                   let less : nat_lt y.attributes.links link_limit ≡ true =
@@ -532,7 +533,7 @@ module _ (d : DraftValue) (a : RenameArguments) (r : Renaming) (finds : Knows d 
                   let links = known-links m y f.to.known in
                   let two-links = directory-links y f.to.known r.to.kind in
                   ap (λ n. links_given r + n) (over-kinds r.replaced f.replaced.1)
-                  ∙ by (is_directory_kind r.moved.attributes.kind) (is_one_directory r) (replaces r.replaced)
+                  ∙ by (is_directory_type r.moved.attributes.kind) (is_one_directory r) (replaces r.replaced)
                   (small r.replaced refl) links two-links
                   ∙ ap (λ b. links_of m y.number (content_at m y.number) + cond (is_one_directory r) 0 (one_if b))
                   (sym (known-kind m r.moved f.moved.1))
@@ -561,7 +562,7 @@ module _ (d : DraftValue) (a : RenameArguments) (r : Renaming) (finds : Knows d 
               names-of z e =
                   let known : IsKnown m z = subst (λ (q : Option Known). IfSome q (IsKnown m)) e f.replaced.1 in
                   let links = known-links m z known in
-                  elim (is_directory_kind z.attributes.kind) as (λ b. is_directory_kind z.attributes.kind ≡ b →
+                  elim (is_directory_type z.attributes.kind) as (λ b. is_directory_type z.attributes.kind ≡ b →
                   cond b 1 z.attributes.links ≡ names_of m z.number) [
                     | true ↦ λ is.
                         let kind : is_directory (content_at m z.number) ≡ true = known-kind m z known ∙ is in
@@ -640,7 +641,7 @@ module _ (d : DraftValue) (moved : Known) (known : Knows d (λ k. IsKnown k.stat
 
   module _ (o : Known) (there : Knows d (λ k. IsKnown k.state o)) where
     by-kinds : (s : Store) (k : Kept) → Possible d s k → (a b : Bool) →
-        is_directory_kind moved.attributes.kind ≡ a → is_directory_kind o.attributes.kind ≡ b
+        is_directory_type moved.attributes.kind ≡ a → is_directory_type o.attributes.kind ≡ b
         → is_compatible (content_at k.state moved.number) (content_at k.state o.number) ≡
         compatible a b (facts.are_none (entries_of (content_at k.state o.number)))
     by-kinds s k w a b first second =
@@ -649,11 +650,11 @@ module _ (d : DraftValue) (moved : Known) (known : Knows d (λ k. IsKnown k.stat
         ∙ ap (λ q. compatible a q (facts.are_none (entries_of (content_at k.state o.number))))
         (known-kind k.state o (there s k w) ∙ second)
 
-    pub over-plain : is_directory_kind moved.attributes.kind ≡ false → (b : Bool) →
-        is_directory_kind o.attributes.kind ≡ b → Replaceable (Some o) (not b)
+    pub over-plain : is_directory_type moved.attributes.kind ≡ false → (b : Bool) →
+        is_directory_type o.attributes.kind ≡ b → Replaceable (Some o) (not b)
     over-plain plain b kind s k w = by-kinds s k w false b plain kind
 
-    pub over-directory : is_directory_kind moved.attributes.kind ≡ true → (r : Result kinds.Directory NfsStatus) →
+    pub over-directory : is_directory_type moved.attributes.kind ≡ true → (r : Result kinds.Directory NfsStatus) →
         ChecksDirectory o r → (e : NfsStatus) → r ≡ Err e → Replaceable (Some o) false
     over-directory moves r checks e is s k w =
         let none : is_directory (content_at k.state o.number) ≡ false =
@@ -663,15 +664,15 @@ module _ (d : DraftValue) (moved : Known) (known : Knows d (λ k. IsKnown k.stat
         (checks (content_at k.state o.number) (kind-is k.state o (there s k w)))) in
         by-kinds s k w true false moves (sym (known-kind k.state o (there s k w)) ∙ none)
 
-    pub over-empty : is_directory_kind moved.attributes.kind ≡ true → (directory : kinds.Directory) →
+    pub over-empty : is_directory_type moved.attributes.kind ≡ true → (directory : kinds.Directory) →
         directory.known ≡ o → (r : Result Bool Halt)
         → MatchResult r (λ empty. Knows d (λ k. facts.are_none
         (entries_of (content_at k.state directory.known.number)) ≡ empty))
         (StopsAt d (addresses_of d.view directory.known.number))
         → d.writes ≡ [] → MatchResult r (Replaceable (Some o)) (StopsAt d [])
     over-empty moves directory same (Ok empty) reads none = λ s k w.
-        by-kinds s k w true true moves (ap (λ (z : Known). is_directory_kind z.attributes.kind) (sym same)
-        ∙ ap is_directory_kind directory.kind)
+        by-kinds s k w true true moves (ap (λ (z : Known). is_directory_type z.attributes.kind) (sym same)
+        ∙ ap is_directory_type directory.kind)
         ∙ or-none (facts.are_none (entries_of (content_at k.state o.number)))
         ∙ ap (λ (z : Known). facts.are_none (entries_of (content_at k.state z.number))) (sym same) ∙ reads s k w
       where
@@ -685,7 +686,7 @@ module _ (d : DraftValue) (moved : Known) (known : Knows d (λ k. IsKnown k.stat
 -- ---- nothing is within what is no directory
 pub plain-outside : (d : DraftValue) (moved : Known) (lower : kinds.Directory) →
     Knows d (λ k. IsKnown k.state moved) → Knows d (λ k. IsKnown k.state lower.known) →
-    is_directory_kind moved.attributes.kind ≡ false
+    is_directory_type moved.attributes.kind ≡ false
     → Knows d (λ k. WellFormed k.state → (false ≡ true) ↔ IsWithin k.state moved.number lower.known.number)
 plain-outside d moved lower known below plain s k w formed = (
   (λ x. cc),
@@ -696,7 +697,7 @@ plain-outside d moved lower known below plain s k w formed = (
       within-empty k.state moved.number (object_at k.state moved) (known s k w).lives
       (no_entries (content_at k.state moved.number) kind) moved.number lower.known.number within refl in
       let both : is_directory (content_at k.state lower.known.number) ≡ true =
-      known-kind k.state lower.known (below s k w) ∙ ap is_directory_kind lower.kind in
+      known-kind k.state lower.known (below s k w) ∙ ap is_directory_type lower.kind in
       let no : true ≡ false = sym both ∙ ap (λ n. is_directory (content_at k.state n)) same ∙ kind in
       cc),
 )

@@ -1,5 +1,5 @@
 -- What CREATE comes to where the name is there (RFC 1813, 3.3.8).
-use Rattle.std.specs.Prelude.{◌≡◌, ℕ, List, Option, Some, None, option_map, Result, Ok, nat_le}
+use Rattle.std.specs.Prelude.{◌≡◌, ℕ, List, Option, option_map, Result, Ok, nat_le}
 use Rattle.std.specs.FinMap.{get}
 use Rattle.nfs_wire.specs.declared.attributes.Time.{Time}
 use Rattle.nfs_wire.specs.declared.calls.CreateHow.{CreateHow}
@@ -13,8 +13,6 @@ use Rattle.nfs_machine.specs.Permission.{ToWrite}
 use Rattle.nfs_machine.specs.Shown.{with_content}
 use Rattle.nfs_machine.specs.State.{Living, Regular, State}
 use Rattle.nfs_machine.specs.declared.context.Ctx.{Ctx}
-use Rattle.nfs_objects.specs.Stands.{Kept}
-use Rattle.nfs_inodes.specs.Makes.{bytes_changed}
 
 -- the name leads to this number
 abbrev pub IsOverEnd : Ctx → CreateHow → ℕ → State → Result (Made × State) NfsStatus → Type 0
@@ -34,7 +32,3 @@ sized_file now o bytes size = option_map (λ s. with_content o now (Regular (res
 abbrev pub file_over : Time → Living → List ℕ → (size : Result (Option ℕ) NfsStatus) →
     Result (Option Living) NfsStatus
 file_over now o bytes size = size >>= λ s. Ok (sized_file now o bytes s)
-
--- the file at a number with a size, where one is given
-abbrev pub sized : Time → (number : ℕ) → Option ℕ → Kept → Kept
-sized now number size k = elim size [ None ↦ k | Some s ↦ bytes_changed now number (λ old. resized old s) k ]

@@ -1,7 +1,7 @@
 -- Pages of a directory (RFC 1813, 3.3.16 and 3.3.17).
 use Rattle.std.specs.Prelude.{◌≡◌, ℕ, ◌+◌, ◌&&◌, ◌||◌, Bool, List, map, min, Result, Ok, Err}
 use Rattle.std.specs.Prelude.{◌==◌, nat_le}
-use Rattle.std.specs.Prelude.{take}
+use Rattle.std.specs.Prelude.{[], ◌∷◌, false}
 use Rattle.std.specs.List.{sum_by}
 use Rattle.nfs_wire.specs.declared.calls.ReaddirArguments.{ReaddirArguments}
 use Rattle.nfs_wire.specs.declared.calls.ReaddirplusArguments.{ReaddirplusArguments}
@@ -24,6 +24,7 @@ use Rattle.nfs_objects.specs.Knows.{Knows}
 use Rattle.nfs_objects.specs.Stands.{Kept}
 use Rattle.nfs_objects.specs.Values.{DraftValue}
 use Rattle.nfs_inodes.specs.Known.{object_at}
+use Rattle.nfs_inodes.specs.Listing.{listed_entry}
 use Rattle.nfs_inodes.specs.declared.found.Known.{Known}
 use Rattle.nfs_names.specs.Checking.{ChecksOf}
 use Rattle.nfs_names.specs.declared.page.Budget.{Budget}
@@ -54,9 +55,14 @@ sizes_fit (budgets.Full directory_count most) s = nat_le s.whole (min most trans
     nat_le s.names directory_count
 
 -- ---- the page
--- the first entries of those that are left
+-- the entries of a page, and whether they are all
 abbrev pub front_page : Front → DirectoryPage
-front_page front = record { entries = take front.count front.left; eof = front.eof }
+front_page front = record { entries = map listed_entry front.entries.items; eof = front.eof }
+
+-- the page of these entries where the next one does not fit
+abbrev pub page_cut : List Entry → Result DirectoryPage NfsStatus
+page_cut [] = Err status.TooSmall
+page_cut (e ∷ entries) = Ok (record { entries = e ∷ entries; eof = false })
 
 abbrev pub page_found : Result Front NfsStatus → Result DirectoryPage NfsStatus
 page_found found = found >>= λ front. Ok (front_page front)

@@ -1,9 +1,7 @@
 -- What RENAME comes to (RFC 1813, 3.3.14).
-use Rattle.std.specs.Prelude.{◌≡◌, ◌==◌, ◌&&◌, ◌+◌, ◌-◌, ◌^◌, ℕ, Bool, true, false, not}
+use Rattle.std.specs.Prelude.{◌≡◌, ◌==◌, ◌&&◌, ◌+◌, ◌-◌, ◌^◌, ℕ, Bool, false, not}
 use Rattle.std.specs.Prelude.{List, Option}
 use Rattle.std.specs.Prelude.{Some, None, IfSome, min, option_map, Result, Ok, Err, if◌then◌else◌}
-use Rattle.nfs_wire.specs.declared.attributes.FileType.{FileType}
-use Rattle.nfs_wire.specs.declared.attributes.FileType.TheVariants as types
 use Rattle.nfs_wire.specs.declared.attributes.Time.{Time}
 use Rattle.nfs_wire.specs.declared.calls.RenameArguments.{RenameArguments}
 use Rattle.nfs_wire.specs.declared.status.NfsStatus.{NfsStatus}
@@ -21,8 +19,10 @@ use Rattle.nfs_objects.specs.Drafts.{MayChange}
 use Rattle.nfs_objects.specs.Stands.{Kept}
 use Rattle.nfs_objects.specs.Values.{DraftValue}
 use Rattle.nfs_objects.specs.declared.address.Addr.TheVariants as addresses
+use Rattle.nfs_inodes.specs.Kinds.{IsShown}
 use Rattle.nfs_inodes.specs.Known.{IsKnown, Names, content_at, listed, shell, target}
 use Rattle.nfs_inodes.specs.Makes.{link_lost}
+use Rattle.nfs_inodes.specs.Removes.{is_directory_type}
 use Rattle.nfs_inodes.specs.Renames.{name_given, name_left, rehomed}
 use Rattle.nfs_inodes.specs.declared.found.Known.{Known}
 use Rattle.nfs_names.specs.declared.rename.Places.{Places}
@@ -88,27 +88,27 @@ pub record MayRename (d : DraftValue) (r : Renaming) : Type 0 where
   pub moved : MayChange d (addresses.Inode r.moved.number)
   pub replaced : IfSome r.replaced (λ o. MayChange d (addresses.Inode o.number))
 
--- ---- links
-abbrev pub is_directory_kind : FileType → Bool
-is_directory_kind types.Directory = true
-is_directory_kind kind = false
+-- the draft shows both directories
+abbrev pub BothShown : DraftValue → (from to : Known) → Type 0
+BothShown d from to = IsShown d from × IsShown d to
 
+-- ---- links
 abbrev pub is_one_directory : Renaming → Bool
 is_one_directory r = r.to.known.number == r.from.known.number
 
 -- a directory gets a new parent
 abbrev pub brings_directory : Renaming → Bool
-brings_directory r = is_directory_kind r.moved.attributes.kind && not (is_one_directory r)
+brings_directory r = is_directory_type r.moved.attributes.kind && not (is_one_directory r)
 
 -- a directory goes that had the new name
 abbrev pub replaces_directory : Renaming → Bool
-replaces_directory r = elim r.replaced [ None ↦ false | Some o ↦ is_directory_kind o.attributes.kind ]
+replaces_directory r = elim r.replaced [ None ↦ false | Some o ↦ is_directory_type o.attributes.kind ]
 
 -- the links of the old name's directory, where it is another one, after it; and those of the new name's
 abbrev pub links_left : Renaming → ℕ
 links_left r =
     let links = r.from.known.attributes.links in
-    if is_directory_kind r.moved.attributes.kind then links - 1 else links
+    if is_directory_type r.moved.attributes.kind then links - 1 else links
 
 abbrev pub links_given : Renaming → ℕ
 links_given r =
@@ -118,7 +118,7 @@ links_given r =
 
 -- how many names an object has, where a directory has one
 abbrev pub names_counted : Known → ℕ
-names_counted x = if is_directory_kind x.attributes.kind then 1 else x.attributes.links
+names_counted x = if is_directory_type x.attributes.kind then 1 else x.attributes.links
 
 -- ---- the change
 -- of both directories; one directory changes once

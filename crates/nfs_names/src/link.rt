@@ -6,15 +6,15 @@ ghost use Rattle.nfs_objects.specs.Attempt.{EndsCall, EndsFirst};
 ghost use Rattle.nfs_objects.specs.Begins.{Begins};
 ghost use Rattle.nfs_objects.specs.Knows.{Does, Knows};
 ghost use Rattle.nfs_objects.specs.Modes.{changing};
+ghost use Rattle.nfs_inodes.specs.Kinds.{IsShown};
 ghost use Rattle.nfs_inodes.specs.Known.{Names};
 ghost use Rattle.nfs_inodes.specs.Stops.{StopsAt};
 ghost use Rattle.nfs_names.specs.Links.{IsLinkEnd, LinkComesTo};
 
 use crate::checking::changed_directory;
-use crate::make::nothing_shown;
 use nfs_inodes::{
     Directory, Known, LINK_LIMIT, add_link, entry, exports, named, new_cookie, no_directory,
-    shown, wcc,
+    nothing_shown, shown, wcc,
 };
 use nfs_machine::{Ctx, Reply};
 use nfs_objects::{Addr, Change, Draft, Halt, LivingExport};
@@ -63,6 +63,7 @@ fn link(
     requires alone { draft.old.modes ≡ changing }
     requires file { Knows draft.old (λ k. Names draft.old.ctx arguments.now.file k file.now) }
     requires directory { Knows draft.old (λ k. Names draft.old.ctx arguments.now.place.directory k known.now) }
+    requires shown { IsShown draft.old known.now }
     ensures { MatchResult result
         (Does draft.old draft.new (IsLinkEnd draft.old.ctx arguments.now))
         (StopsAt draft.old (Addr.Exports ∷ [])) }

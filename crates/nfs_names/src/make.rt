@@ -11,6 +11,7 @@ ghost use Rattle.nfs_objects.specs.Modes.{changing};
 ghost use Rattle.nfs_objects.specs.Values.{known_at};
 ghost use Rattle.nfs_objects.specs.declared.address.Addr.TheVariants as addresses;
 ghost use Rattle.nfs_inodes.specs.Asked.{asked_as, wanted_as};
+ghost use Rattle.nfs_inodes.specs.Kinds.{IsShown};
 ghost use Rattle.nfs_inodes.specs.Known.{IsKnown, Names, content_at};
 ghost use Rattle.nfs_inodes.specs.Stops.{IsOfExport, StopsAt, StopsMaking, brought_by, wanted_first};
 ghost use Rattle.nfs_names.specs.Checking.{ComesTo};
@@ -20,12 +21,12 @@ ghost use Rattle.nfs_names.specs.Making.{judged, there_as};
 use crate::over::create_over;
 use nfs_inodes::{
     Directory, Known, Right, Wanted, changeable, directory, entry, exports, given_attributes,
-    handle, kind_checked, make_object, named, new_cookie, object, permitted, plain_name_checked,
-    wcc,
+    handle, kind_checked, make_object, named, new_cookie, nothing_shown, object, permitted,
+    plain_name_checked, wcc,
 };
 use nfs_machine::Ctx;
 use nfs_objects::{Draft, Halt, LivingExport};
-use nfs_wire::{CreateHow, Made, MadeReply, NfsStatus, Place, Wcc};
+use nfs_wire::{CreateHow, Made, MadeReply, NfsStatus, Place};
 
 /// What a call makes of a name that is there.
 #[derive(Clone, Copy)]
@@ -80,6 +81,7 @@ fn make_in(
     requires alone { draft.old.modes ≡ changing }
     requires names { Knows draft.old (λ k. Names draft.old.ctx place.now.directory k known.now) }
     requires exported { ShowsExport draft.old known.now.export }
+    requires shown { IsShown draft.old known.now }
     requires usage { IsOfExport place.now.directory known.now.export }
     ensures { MatchResult result
         (Does draft.old draft.new (IsMakeEnd draft.old.ctx place.now (asked_as asked.entry)
@@ -154,6 +156,7 @@ fn make_new(
     requires alone { draft.old.modes ≡ changing }
     requires known { Knows draft.old (λ k. IsKnown k.state directory.now.known) }
     requires exported { ShowsExport draft.old directory.now.known.export }
+    requires shown { IsShown draft.old directory.now.known }
     requires lives { IsThere draft.old.view (addresses.Inode directory.now.known.number) }
     requires absent { Knows draft.old (λ k. option_map (λ e. e.number)
         (entry_of (entries_of (content_at k.state directory.now.known.number)) name.now) ≡ None) }
@@ -196,15 +199,5 @@ pub(crate) fn made(draft: &Draft<'_>, number: u64) -> Result<Made, Halt>
             object: None,
             attributes: None,
         }),
-    }
-}
-
-/// What is shown where a handle names nothing.
-pub(crate) fn nothing_shown() -> Wcc
-    ensures { result ≡ record { before = None; after = None } }
-{
-    Wcc {
-        before: None,
-        after: None,
     }
 }

@@ -8,9 +8,11 @@ ghost use Rattle.nfs_objects.specs.Asks.{IsThere};
 ghost use Rattle.nfs_objects.specs.Knows.{Does, Turns};
 ghost use Rattle.nfs_objects.specs.Modes.{changing};
 ghost use Rattle.nfs_objects.specs.declared.address.Addr.TheVariants as addresses;
+ghost use Rattle.nfs_inodes.specs.Kinds.{IsShown};
 ghost use Rattle.nfs_inodes.specs.Known.{shell};
+ghost use Rattle.nfs_inodes.specs.Makes.{size_set};
 ghost use Rattle.nfs_inodes.specs.Stops.{StopsAt, counted_at};
-ghost use Rattle.nfs_names.specs.Creates.{IsOverEnd, file_over, size_checked, sized};
+ghost use Rattle.nfs_names.specs.Creates.{IsOverEnd, file_over, size_checked};
 
 use crate::make::made;
 use nfs_inodes::{File, Known, Right, SIZE_LIMIT, is_verifier, object, permitted, regular, resize};
@@ -76,9 +78,10 @@ fn size_allowed(ctx: &Ctx, file: &Known, size: u64) -> Result<(), NfsStatus>
 
 /// Cuts the file off, or fills it up, where a size is given.
 fn give_size(draft: &mut Draft<'_>, file: &File, size: Option<u64>) -> Result<(), Halt>
-    requires { draft.old.modes ≡ changing }
+    requires alone { draft.old.modes ≡ changing }
+    requires shown { IsShown draft.old file.now.known }
     ensures { MatchResult result
-        (λ _. Turns draft.old draft.new (sized (time_of draft.old.ctx.moment) file.now.known.number size))
+        (λ _. Turns draft.old draft.new (size_set (time_of draft.old.ctx.moment) file.now.known.number size))
         (StopsAt draft.old (counted_at draft.old file.now.known.number)) }
 {
     match size {

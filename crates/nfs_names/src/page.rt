@@ -1,16 +1,14 @@
 //! Pages of directories, for READDIR and READDIRPLUS (RFC 1813, 3.3.16 and 3.3.17).
 
-ghost use Rattle.std.specs.Prelude.{◌≡◌, ◌+◌, ◌<◌, ◌≤◌, ◌^◌, [], true, false, IfOk};
-ghost use Rattle.std.specs.Prelude.{MatchResult, Ok, Err};
-ghost use Rattle.std.specs.Prelude.{if◌then◌else◌, ◌==◌};
-ghost use Rattle.nfs_wire.specs.declared.status.NfsStatus.TheVariants as status;
+ghost use Rattle.std.specs.Prelude.{◌≡◌, ◌+◌, ◌<◌, ◌≤◌, ◌^◌, [], map, true, IfOk, MatchResult};
 ghost use Rattle.nfs_machine.specs.Pages.{Pages, entry_size};
 ghost use Rattle.nfs_objects.specs.Knows.{Knows};
 ghost use Rattle.nfs_inodes.specs.Gathers.{EachLives};
 ghost use Rattle.nfs_inodes.specs.Known.{IsKnown};
 ghost use Rattle.nfs_inodes.specs.Listing.{listed_entry};
 ghost use Rattle.nfs_names.specs.Checking.{ComesTo};
-ghost use Rattle.nfs_names.specs.Pages.{KnowsPage, fit_of, list_checked, page_found, result_size, sizes_fit, sizes_of};
+ghost use Rattle.nfs_names.specs.Pages.{KnowsPage, fit_of, front_page, list_checked, page_cut, page_found};
+ghost use Rattle.nfs_names.specs.Pages.{result_size, sizes_fit, sizes_of};
 ghost use Rattle.nfs_inodes.specs.Stops.{StopsAt};
 
 use nfs_inodes::{
@@ -20,6 +18,7 @@ use nfs_inodes::{
 use nfs_machine::Ctx;
 use nfs_objects::{Draft, Halt};
 use nfs_wire::{NfsStatus, Verifier};
+use std::alloc::{AllocError, Global};
 
 /// The bytes of a result without its status (4) and its entries: the directory's attributes (88), the verifier (8), the
 /// end of the list (4) and eof (4).
@@ -56,9 +55,7 @@ pub struct Sizes {
 /// A page: the first entries of those that are left.
 #[derive(Drop)]
 pub struct Front<'d> {
-    pub left: EntriesLeft<'d>,
-    /// How many entries the page has.
-    pub count: usize,
+    pub entries: Vec<Listed<'d>>,
     /// Whether these are all.
     pub eof: bool,
 }
@@ -74,14 +71,14 @@ pub(crate) fn page_in<'d>(
     ensures page { MatchResult result
         (λ found. KnowsPage draft.now known.now asked.now (page_found found))
         (StopsAt draft.now []) }
-    ensures lives { IfOk result (λ found. IfOk found (λ front. EachLives draft.now.view front.left)) }
+    ensures lives { IfOk result (λ found. IfOk found (λ front. EachLives draft.now.view (front_page front).entries)) }
 {
     let directory = match listable(draft.ctx(), known, asked) {
         Ok(directory) => directory,
         Err(status) => return Ok(Err(status)),
     };
     let left = entries_left(draft, &directory, asked.cookie)?;
-    Ok(longest_page(left, asked.budget))
+    Ok(longest_page(draft.alloc(), left, asked.budget)?)
 }
 
 /// The checks of READDIR and READDIRPLUS: where they pass, the rest decides.
@@ -98,48 +95,45 @@ fn listable(ctx: &Ctx, known: &Known, asked: &PageAsked) -> Result<Directory, Nf
     }
 }
 
-/// As many of the entries as fit.
+/// As many of the entries as fit; `TooSmall` where not even an empty page fits, or not the first entry.
 ///
 /// # Errors
 ///
-/// `TooSmall` where not even an empty page fits, or not the first entry.
-fn longest_page(left: EntriesLeft<'_>, budget: Budget) -> Result<Front<'_>, NfsStatus>
-    ensures page { Pages (fit_of budget) left.entry (page_found result) }
-    ensures left { IfOk result (λ front. front.left ≡ left.entry) }
+/// `AllocError` where the memory for the list was refused.
+fn longest_page<'d>(
+    alloc: Global,
+    mut left: EntriesLeft<'d>,
+    budget: Budget,
+) -> Result<Result<Front<'d>, NfsStatus>, AllocError>
+    ensures { IfOk result (λ found. Pages (fit_of budget) left.entry (page_found found)) }
 {
     let mut sizes = Sizes {
         whole: EMPTY_PAGE,
         names: 0,
     };
     if !budget.allows(&sizes) {
-        return Err(NfsStatus::TooSmall);
+        return Ok(Err(NfsStatus::TooSmall));
     }
-    let mut count = 0;
-    while let Some(entry) = left.get(count) {
+    let mut entries = Vec::new(alloc);
+    while let Some(entry) = left.next() {
         sizes = budget.with_entry(&sizes, &entry);
         if !budget.allows(&sizes) {
-            return cut(left, count);
+            return Ok(cut(entries));
         }
-        count += 1;
+        entries.push(entry)?;
     }
-    Ok(Front {
-        left,
-        count,
-        eof: true,
-    })
+    Ok(Ok(Front { entries, eof: true }))
 }
 
-/// The page that ends in front of the entry that did not fit.
-fn cut(left: EntriesLeft<'_>, count: usize) -> Result<Front<'_>, NfsStatus>
-    ensures { result ≡ if count == 0 then Err status.TooSmall else
-        Ok (record { left = left.entry; count = count; eof = false }) }
+/// The page of these entries, which ends in front of the one that did not fit.
+fn cut(entries: Vec<Listed<'_>>) -> Result<Front<'_>, NfsStatus>
+    ensures { page_found result ≡ page_cut (map listed_entry entries.entry.items) }
 {
-    if count == 0 {
+    if entries.is_empty() {
         return Err(NfsStatus::TooSmall);
     }
     Ok(Front {
-        left,
-        count,
+        entries,
         eof: false,
     })
 }

@@ -8,10 +8,10 @@ ghost use Rattle.nfs_objects.specs.Begins.{Begins};
 ghost use Rattle.nfs_objects.specs.Knows.{Knows};
 ghost use Rattle.nfs_inodes.specs.Known.{IsKnown};
 ghost use Rattle.nfs_inodes.specs.Listing.{listed_entry};
-ghost use Rattle.nfs_names.specs.Pages.{Lists, front_page, names_asked, names_page};
+ghost use Rattle.nfs_names.specs.Pages.{Lists, names_asked, names_page};
 ghost use Rattle.nfs_inodes.specs.Stops.{StopsAt};
 
-use crate::page::{Budget, Front, PageAsked, page_in};
+use crate::page::{Budget, PageAsked, page_in};
 use nfs_inodes::{Known, Listed, named, verifier};
 use nfs_machine::Reply;
 use nfs_objects::{Change, Draft, Halt};
@@ -61,7 +61,7 @@ fn listed(
     match page_in(draft, known, asked)? {
         Ok(front) => Ok(Ok(Page {
             verifier: verifier(draft.ctx()),
-            entries: names(draft.alloc(), &front)?,
+            entries: names(draft.alloc(), &front.entries)?,
             eof: front.eof,
         })),
         Err(status) => Ok(Err(status)),
@@ -69,14 +69,12 @@ fn listed(
 }
 
 /// The entries of a page, as READDIR lists them.
-fn names(alloc: Global, front: &Front<'_>) -> Result<Names, AllocError>
-    ensures { IfOk result (λ names. names ≡ map page_entry (front_page front.now).entries) }
+fn names(alloc: Global, entries: &[Listed<'_>]) -> Result<Names, AllocError>
+    ensures { IfOk result (λ names. names ≡ map page_entry (map listed_entry entries.now)) }
 {
-    let mut names = Vec::with_capacity(alloc, front.count)?;
-    for index in 0..front.count {
-        if let Some(entry) = front.left.get(index) {
-            names.push(page_entry(&entry)?)?;
-        }
+    let mut names = Vec::with_capacity(alloc, entries.len())?;
+    for entry in entries {
+        names.push(page_entry(entry)?)?;
     }
     Ok(Names::from_vec(names))
 }

@@ -1,6 +1,6 @@
 //! READDIRPLUS: the names of a directory with what they name, page by page (RFC 1813, 3.3.17).
 
-ghost use Rattle.std.specs.Prelude.{◌≡◌, [], map, take, MatchResult};
+ghost use Rattle.std.specs.Prelude.{◌≡◌, [], map, MatchResult};
 ghost use Rattle.nfs_machine.specs.PageSteps.{full_entry};
 ghost use Rattle.nfs_machine.specs.State.{Entry};
 ghost use Rattle.nfs_machine.specs.declared.calls.Call.TheVariants as calls;
@@ -11,10 +11,10 @@ ghost use Rattle.nfs_objects.specs.Knows.{Knows};
 ghost use Rattle.nfs_inodes.specs.Gathers.{EachLives};
 ghost use Rattle.nfs_inodes.specs.Known.{IsKnown};
 ghost use Rattle.nfs_inodes.specs.Listing.{listed_entry};
-ghost use Rattle.nfs_names.specs.Pages.{Lists, front_page, full_asked, full_page};
+ghost use Rattle.nfs_names.specs.Pages.{Lists, full_asked, full_page};
 ghost use Rattle.nfs_inodes.specs.Stops.{StopsAt};
 
-use crate::page::{Budget, Front, PageAsked, page_in};
+use crate::page::{Budget, PageAsked, page_in};
 use crate::readdir::page_entry;
 use nfs_inodes::{Known, Listed, handle, named, object, read_objects, verifier};
 use nfs_machine::Reply;
@@ -63,10 +63,10 @@ fn listed(
 {
     match page_in(draft, known, asked)? {
         Ok(front) => {
-            read_objects(draft, &front.left, front.count)?;
+            read_objects(draft, &front.entries)?;
             Ok(Ok(PagePlus {
                 verifier: verifier(draft.ctx()),
-                entries: entries(draft, &front)?,
+                entries: entries(draft, &front.entries)?,
                 eof: front.eof,
             }))
         }
@@ -75,19 +75,17 @@ fn listed(
 }
 
 /// The entries of a page, as READDIRPLUS lists them.
-fn entries(draft: &Draft<'_>, front: &Front<'_>) -> Result<FullNames, Halt>
+fn entries(draft: &Draft<'_>, list: &[Listed<'_>]) -> Result<FullNames, Halt>
     requires none { draft.now.writes ≡ [] }
-    requires lives { EachLives draft.now.view front.now.left }
+    requires lives { EachLives draft.now.view (map listed_entry list.now) }
     ensures { MatchResult result
         (λ entries. Knows draft.now (λ k.
-        map (full_entry k.state draft.now.ctx) (front_page front.now).entries ≡ entries))
+        map (full_entry k.state draft.now.ctx) (map listed_entry list.now) ≡ entries))
         (StopsAt draft.now []) }
 {
-    let mut entries = Vec::with_capacity(draft.alloc(), front.count)?;
-    for index in 0..front.count {
-        if let Some(entry) = front.left.get(index) {
-            entries.push(full_entry(draft, &entry)?)?;
-        }
+    let mut entries = Vec::with_capacity(draft.alloc(), list.len())?;
+    for entry in list {
+        entries.push(full_entry(draft, entry)?)?;
     }
     Ok(FullNames::from_vec(entries))
 }

@@ -7,15 +7,15 @@ ghost use Rattle.nfs_objects.specs.Begins.{Begins};
 ghost use Rattle.nfs_objects.specs.Calls.{addresses_of};
 ghost use Rattle.nfs_objects.specs.Knows.{Does, Knows};
 ghost use Rattle.nfs_objects.specs.Modes.{changing};
+ghost use Rattle.nfs_inodes.specs.Kinds.{IsShown};
 ghost use Rattle.nfs_inodes.specs.Known.{IsKnown, Names, content_at};
 ghost use Rattle.nfs_inodes.specs.Stops.{StopsAt};
 ghost use Rattle.nfs_names.specs.Removes.{IsTakable, IsTakenEnd, above, call_of, judged, reply_of};
 
 use crate::checking::changed_directory;
-use crate::make::nothing_shown;
 use nfs_inodes::{
-    Directory, Known, directory, entry, exports, is_empty, named, no_directory, object, take_name,
-    wcc,
+    Directory, Known, directory, entry, exports, is_empty, named, no_directory, nothing_shown,
+    object, take_name, wcc,
 };
 use nfs_machine::Reply;
 use nfs_objects::{Addr, Change, Draft, Halt};
@@ -56,6 +56,7 @@ fn take(
     requires none { draft.old.writes ≡ [] }
     requires alone { draft.old.modes ≡ changing }
     requires names { Knows draft.old (λ k. Names draft.old.ctx place.now.directory k known.now) }
+    requires shown { IsShown draft.old known.now }
     ensures { MatchResult result
         (Does draft.old draft.new (IsTakenEnd taking draft.old.ctx place.now))
         (StopsAt draft.old (Addr.Exports ∷ [])) }

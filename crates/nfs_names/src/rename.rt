@@ -16,17 +16,18 @@ ghost use Rattle.nfs_objects.specs.Drafts.{MayChange};
 ghost use Rattle.nfs_objects.specs.Knows.{Does, Knows, Turns};
 ghost use Rattle.nfs_objects.specs.Modes.{led_at};
 ghost use Rattle.nfs_objects.specs.declared.address.Addr.TheVariants as addresses;
+ghost use Rattle.nfs_inodes.specs.Kinds.{IsShown};
 ghost use Rattle.nfs_inodes.specs.Known.{HasNumber, IsKnown, Names, content_at};
+ghost use Rattle.nfs_inodes.specs.Removes.{is_directory_type};
 ghost use Rattle.nfs_inodes.specs.Stops.{StopsAt, UsageLives};
-ghost use Rattle.nfs_names.specs.Renames.{ComesToBoth, IsRenameEnd, IsRenaming, IsUnder, MayRename};
+ghost use Rattle.nfs_names.specs.Renames.{BothShown, ComesToBoth, IsRenameEnd, IsRenaming, IsUnder, MayRename};
 ghost use Rattle.nfs_names.specs.Renames.{brings_directory};
-ghost use Rattle.nfs_names.specs.Renames.{entry_moved, is_directory_kind, is_one_directory, links_given, links_left};
+ghost use Rattle.nfs_names.specs.Renames.{entry_moved, is_one_directory, links_given, links_left};
 ghost use Rattle.nfs_names.specs.Renames.{names_counted, rename_checked, renamed, replaced_lost, replaces_directory};
 
-use crate::make::nothing_shown;
 use nfs_inodes::{
     Directory, Known, LINK_LIMIT, Right, changeable, directory, entry, exports, give_name,
-    is_empty, is_within, leave, lose_link, named, new_cookie, object, permitted,
+    is_empty, is_within, leave, lose_link, named, new_cookie, nothing_shown, object, permitted,
     plain_name_checked, rehome, wcc,
 };
 use nfs_machine::{Ctx, Reply};
@@ -77,6 +78,7 @@ fn attempt_from(
     requires begins { Begins (calls.Nfs (NfsCall.Rename arguments.now)) draft }
     requires names { Knows draft (λ k. Names draft.ctx arguments.now.from.directory k from.now) }
     requires number { HasNumber arguments.now.from.directory from.now.number }
+    requires shown { IsShown draft from.now }
     ensures { EndsCall (calls.Nfs (NfsCall.Rename arguments.now)) draft.entry.ctx draft.entry.view result }
 {
     match named(&draft, arguments.to.directory.as_slice())? {
@@ -107,6 +109,7 @@ fn rename(
     requires to { Knows draft.old (λ k. Names draft.old.ctx arguments.now.to.directory k to.now) }
     requires source { HasNumber arguments.now.from.directory from.now.number }
     requires target { HasNumber arguments.now.to.directory to.now.number }
+    requires shown { BothShown draft.old from.now to.now }
     ensures { MatchResult result
         (Does draft.old draft.new (IsRenameEnd draft.old.ctx arguments.now))
         (StopsAt draft.old (named_by (calls.Nfs (NfsCall.Rename arguments.now)) draft.old.view)) }
@@ -194,6 +197,7 @@ fn rename_found(
     requires reads { length draft.old.view.entries ≤ reads }
     requires none { draft.old.writes ≡ [] }
     requires alone { MayRename draft.old renaming.now }
+    requires shown { BothShown draft.old renaming.now.from.known renaming.now.to.known }
     requires finds { Knows draft.old (λ k. IsRenaming k draft.old.ctx arguments.now renaming.now) }
     ensures { MatchResult result
         (Does draft.old draft.new (IsRenameEnd draft.old.ctx arguments.now))
@@ -229,7 +233,7 @@ fn is_one_object(renaming: &Renaming) -> bool
 }
 
 fn is_directory(known: &Known) -> bool
-    ensures { result ≡ is_directory_kind known.now.attributes.kind }
+    ensures { result ≡ is_directory_type known.now.attributes.kind }
 {
     matches!(known.attributes.kind, FileType::Directory)
 }
@@ -278,7 +282,7 @@ fn goes_into_itself(draft: &Draft<'_>, reads: usize, renaming: &Renaming) -> Res
 
 /// Whether the new parent of a directory may have one link more, if it gets one.
 fn has_room(renaming: &Renaming) -> bool
-    ensures { result ≡ (not (is_directory_kind renaming.now.moved.attributes.kind)
+    ensures { result ≡ (not (is_directory_type renaming.now.moved.attributes.kind)
         || is_one_directory renaming.now
         || is_some renaming.now.replaced || nat_lt renaming.now.to.known.attributes.links link_limit) }
 {
@@ -297,6 +301,7 @@ fn move_name(
 ) -> Result<(), Halt>
     requires none { draft.old.writes ≡ [] }
     requires alone { MayRename draft.old renaming.now }
+    requires shown { BothShown draft.old renaming.now.from.known renaming.now.to.known }
     requires finds { Knows draft.old (λ k. IsRenaming k draft.old.ctx arguments.now renaming.now) }
     ensures { MatchResult result
         (λ _. Turns draft.old draft.new
@@ -316,6 +321,7 @@ fn move_entry(
     cookie: u64,
 ) -> Result<(), Halt>
     requires alone { MayRename draft.old renaming.now }
+    requires shown { BothShown draft.old renaming.now.from.known renaming.now.to.known }
     requires from { IsThere draft.old.view (addresses.Inode renaming.now.from.known.number) }
     requires to { IsThere draft.old.view (addresses.Inode renaming.now.to.known.number) }
     ensures { MatchResult result

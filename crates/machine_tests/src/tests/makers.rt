@@ -3,6 +3,7 @@
 ghost use Rattle.std.specs.Prelude.{◌≡◌, [], IfOk, IfSome, OnOk};
 ghost use Rattle.nfs_objects.specs.Knows.{ShowsExport};
 ghost use Rattle.nfs_objects.specs.Modes.{Suits, changing};
+ghost use Rattle.nfs_inodes.specs.Kinds.{IsShown};
 
 use super::*;
 use nfs_inodes::{
@@ -89,7 +90,9 @@ fn start_inode(alloc: Global, start: Start) -> Result<Inode, AllocError> {
 }
 
 /// Regular file 9.
-fn file(draft: &Draft<'_>) -> Result<Option<File>, Halt> {
+fn file(draft: &Draft<'_>) -> Result<Option<File>, Halt>
+    ensures { IfOk result (λ file. IfSome file (λ file. IsShown draft.now file.known)) }
+{
     match object(draft, 9)? {
         Some(known) => Ok(regular(&known).ok()),
         None => Ok(None),
@@ -118,7 +121,8 @@ fn written(draft: &mut Draft<'_>, offset: u32, bytes: &[u8]) -> Result<bool, Hal
 
 /// Directory 9.
 fn place(draft: &Draft<'_>) -> Result<Option<nfs_inodes::Directory>, Halt>
-    ensures { IfOk result (λ place. IfSome place (λ place. ShowsExport draft.now place.known.export)) }
+    ensures exported { IfOk result (λ place. IfSome place (λ place. ShowsExport draft.now place.known.export)) }
+    ensures shown { IfOk result (λ place. IfSome place (λ place. IsShown draft.now place.known)) }
 {
     match object(draft, 9)? {
         Some(known) => Ok(nfs_inodes::directory(&known).ok()),

@@ -7,6 +7,7 @@ use Rattle.nfs_objects.specs.Values.{DraftValue}
 use Rattle.nfs_inodes.proofs.Halting.{known-never_asked, stops-before}
 use Rattle.nfs_inodes.proofs.Ending.{halting, lives-as, means-as, naming, reading}
 use Rattle.nfs_inodes.specs.Known.{weak_of}
+use Rattle.nfs_inodes.proofs.Showing.{shown-so}
 use Rattle.nfs_data.proofs.Asking.{knows-object}
 use Rattle.nfs_data.proofs.Changing.{changed-promised, refused-promised, setattr-changes}
 use Rattle.nfs_data.proofs.Setting.{shown-as}
@@ -80,3 +81,7 @@ returns-clause-ends c = elim c.match-branch-2.branch [
       (means-as c.args.draft c.args.arguments.now.object _ _ (Err w.in-Err.status) c.as_slice.ensures w.in-Err.is
       c.in_ok-known.ensures.means))
 ]
+
+pub set-requires-clause-shown : goal.set-requires-clause-shown
+set-requires-clause-shown c =
+    shown-so c.args.draft _ c.in-Ok.known c.in-Ok.is c.in_ok-known.ensures.shown

@@ -3,9 +3,9 @@ use Rattle.nfs_machine.specs.Data.{resized}
 use Rattle.nfs_machine.specs.Times.{time_of}
 use Rattle.nfs_objects.proofs.Promised.{turns-none}
 use Rattle.nfs_objects.specs.Knows.{Turns}
-use Rattle.nfs_inodes.specs.Makes.{bytes_changed}
+use Rattle.nfs_inodes.specs.Kinds.{IsShown}
+use Rattle.nfs_inodes.specs.Makes.{bytes_changed, size_set}
 use Rattle.nfs_inodes.specs.Stops.{StopsAt, counted_at}
-use Rattle.nfs_data.specs.Settings.{size_set}
 use Rattle.nfs_data.specs.declared.setattr.NewSize.{NewSize}
 use Rattle.nfs_data.proofs.setattr.resize_to.Goals as goal
 
@@ -33,3 +33,8 @@ returns-clause-turns c =
 pub returns-clause-only : goal.returns-clause-only
 returns-clause-only c = λ none.
     let no : false ≡ true = subst (λ (size : Option NewSize). is_none size ≡ true) c.in-Some.is none in cc
+
+pub resize-requires-clause-shown : goal.resize-requires-clause-shown
+resize-requires-clause-shown c =
+    subst (λ (size : Option NewSize). IfSome size (λ (s : NewSize). IsShown c.args.draft.now s.file.known))
+    c.in-Some.is c.requires.shown

@@ -9,9 +9,9 @@ use Rattle.nfs_objects.specs.declared.address.Addr.TheVariants as addresses
 use Rattle.nfs_inodes.proofs.Counting.{usage-lives-first}
 use Rattle.nfs_inodes.proofs.Halting.{any-stops, exports-stop-at, known-never_lacking, lives-stops, stops-before}
 use Rattle.nfs_inodes.proofs.Standing.{known-lives}
+use Rattle.nfs_inodes.specs.Makes.{size_set}
 use Rattle.nfs_inodes.specs.Stops.{KnowsAt}
-use Rattle.nfs_data.proofs.Setting.{Checks, file-as, none-as, refused-does, set-does}
-use Rattle.nfs_data.specs.Settings.{size_set}
+use Rattle.nfs_data.proofs.Setting.{Checks, file-as, file-shown, none-as, refused-does, set-does}
 use Rattle.nfs_data.specs.declared.setattr.NewSize.{NewSize}
 use Rattle.nfs_inodes.proofs.Composing.{counted-stops}
 use Rattle.nfs_data.proofs.setattr.set.Goals as goal
@@ -105,3 +105,8 @@ returns-clause-does c =
 
 pub returns-clause-only : goal.returns-clause-only
 returns-clause-only c = λ none knows. (tt, c.in_ok-set_attributes.ensures.known)
+
+pub resize_to-requires-clause-shown : goal.resize_to-requires-clause-shown
+resize_to-requires-clause-shown c =
+    file-shown c.args.draft.now c.args.known.now c.args.arguments.now.attributes.size c.in-Ok.size c.in-Ok.ensures.size
+    c.requires.shown

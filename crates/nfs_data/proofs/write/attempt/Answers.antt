@@ -6,6 +6,7 @@ use Rattle.nfs_objects.specs.Promise.{Given, Held}
 use Rattle.nfs_objects.specs.Values.{DraftValue}
 use Rattle.nfs_inodes.proofs.Halting.{stops-before}
 use Rattle.nfs_inodes.proofs.Ending.{lives-as, means-as, naming, reading}
+use Rattle.nfs_inodes.proofs.Showing.{shown-so}
 use Rattle.nfs_data.proofs.Changing.{changed-promised, refused-promised, write-changes}
 use Rattle.nfs_objects.specs.Calls.{addresses_of}
 use Rattle.nfs_data.proofs.write.attempt.Goals as goal
@@ -50,3 +51,7 @@ returns-clause-ends c = elim c.match-branch-2.branch [
       (means-as c.args.draft c.args.arguments.now.file _ _ (Err w.in-Err.status) c.as_slice.ensures w.in-Err.is
       c.in_ok-known.ensures.means))
 ]
+
+pub store-requires-clause-shown : goal.store-requires-clause-shown
+store-requires-clause-shown c =
+    shown-so c.args.draft _ c.in-Ok.known c.in-Ok.is c.in_ok-known.ensures.shown

@@ -16,6 +16,7 @@ use Rattle.nfs_objects.specs.Values.{DraftValue}
 use Rattle.nfs_objects.specs.declared.address.Addr.TheVariants as addresses
 use Rattle.nfs_inodes.proofs.Counting.{usage-lives-first}
 use Rattle.nfs_inodes.proofs.Standing.{known-lives}
+use Rattle.nfs_inodes.specs.Kinds.{IsShown}
 use Rattle.nfs_inodes.specs.Makes.{bytes_changed}
 use Rattle.nfs_inodes.specs.declared.found.Known.{Known}
 use Rattle.nfs_data.proofs.Writing.{Checks, nothing-does, refused-does, written-does}
@@ -80,3 +81,7 @@ returns c =
           checks c.in-Ok.file c.in-Ok.is
           (subst (λ n. (n == 0) ≡ true) counts (let none = w.if-answer-gt0.false in grind (arith, nat_tests))))
     ]
+
+pub write-requires-clause-shown : goal.write-requires-clause-shown
+write-requires-clause-shown c =
+    subst (λ (y : Known). IsShown c.args.draft.now y) (sym c.in-Ok.ensures.known) c.requires.shown

@@ -9,6 +9,7 @@ use Rattle.nfs_inodes.proofs.Standing.{known-lives}
 use Rattle.nfs_objects.specs.Knows.{ShowsExport}
 use Rattle.nfs_objects.specs.Values.{known_at}
 use Rattle.nfs_objects.specs.declared.address.Addr.TheVariants as addresses
+use Rattle.nfs_inodes.specs.Kinds.{IsShown}
 use Rattle.nfs_inodes.specs.Known.{IsObject}
 use Rattle.nfs_inodes.specs.declared.found.Known.{Known}
 use Rattle.nfs_inodes.proofs.found.named.Goals as goal
@@ -108,3 +109,7 @@ pub returns-then-is_target-clause-exported : goal.returns-then-is_target-clause-
 returns-then-is_target-clause-exported c =
     subst (λ o. IfSome o (λ (x : Known). ShowsExport c.args.draft.now x.export)) c.in-Some-2.is
     c.in_ok-known.ensures.exported
+
+pub returns-then-is_target-clause-shown : goal.returns-then-is_target-clause-shown
+returns-then-is_target-clause-shown c =
+    subst (λ o. IfSome o (λ (x : Known). IsShown c.args.draft.now x)) c.in-Some-2.is c.in_ok-known.ensures.shown

@@ -15,7 +15,7 @@ returns-in_err-add_entry c =
     (addresses_of c.args.draft.now.view c.args.number) _ c.in_err-add_entry.ensures.turns)
 
 pub set_links-requires : goal.set_links-requires
-set_links-requires c = c.in_ok-add_entry.ensures.turns.modes ∙ c.requires
+set_links-requires c = c.in_ok-add_entry.ensures.turns.modes ∙ c.requires.alone
 
 pub returns : goal.returns
 returns c =

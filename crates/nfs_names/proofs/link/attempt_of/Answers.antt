@@ -5,6 +5,7 @@ use Rattle.nfs_machine.specs.declared.calls.Call.TheVariants as calls
 use Rattle.nfs_objects.specs.Calls.{addresses_of}
 use Rattle.nfs_inodes.proofs.Ending.{lives-as, means-as, naming-second, reading, reading-exports}
 use Rattle.nfs_inodes.proofs.Halting.{stops-before}
+use Rattle.nfs_inodes.proofs.Showing.{shown-so}
 use Rattle.nfs_inodes.proofs.Standing.{known-lives}
 use Rattle.nfs_names.proofs.Linked.{directory-refused, linked-promised}
 use Rattle.nfs_names.proofs.link.attempt_of.Goals as goal
@@ -72,3 +73,7 @@ returns-in-Err c =
     c.answer-in-Err.ensures.given c.args.file.now c.in-Err.status c.requires.file
     (means-as c.args.draft c.args.arguments.now.place.directory _ _ (Err c.in-Err.status) c.as_slice.ensures c.in-Err.is
     c.in_ok-directory.ensures.means))
+
+pub link-requires-clause-shown : goal.link-requires-clause-shown
+link-requires-clause-shown c =
+    shown-so c.args.draft _ c.in-Ok.directory c.in-Ok.is c.in_ok-directory.ensures.shown

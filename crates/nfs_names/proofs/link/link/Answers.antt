@@ -1,4 +1,4 @@
-use Rattle.std.proofs.Common.{◌∷◌, []}
+use Rattle.std.proofs.Common.{◌∷◌, [], subst, sym}
 use Rattle.std.proofs.lemmas.Result.{err_from_is_err_and}
 use Rattle.std.proofs.lemmas.Bool.{le-ltb, lt-ltb}
 use Rattle.nfs_wire.specs.declared.status.NfsStatus.TheVariants as status
@@ -9,6 +9,8 @@ use Rattle.nfs_names.proofs.Linked.{full-end, linked-does, many-end, refused-end
 use Rattle.nfs_names.specs.Links.{IsLinkEnd}
 use Rattle.nfs_objects.specs.declared.address.Addr.TheVariants as addresses
 use Rattle.nfs_inodes.proofs.Halting.{any-stops, both-stop, lives-stops}
+use Rattle.nfs_inodes.specs.declared.found.Known.{Known}
+use Rattle.nfs_inodes.specs.Kinds.{IsShown}
 use Rattle.nfs_names.proofs.link.link.Goals as goal
 
 pub returns-in_err-exports : goal.returns-in_err-exports
@@ -97,3 +99,6 @@ returns c =
     (lt-ltb file.attributes.links link_limit c.if-file-ge-LINK_LIMIT.false)
     c.in-Some.cookie (rw (c.in-Ok.ensures.known, c.in-Some.is) at c.in_ok-cookie.ensures) c.add_link.new.draft
     (rw (c.in-Ok.ensures.known, c.as_slice-name.ensures) at c.in_ok-add_link.ensures)
+
+pub add_link-requires-clause-shown : goal.add_link-requires-clause-shown
+add_link-requires-clause-shown c = subst (λ (z : Known). IsShown c.args.draft.now z) (sym c.in-Ok.ensures.known) c.requires.shown

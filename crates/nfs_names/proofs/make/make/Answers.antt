@@ -2,6 +2,7 @@ use Rattle.std.proofs.Common.{Ok, Err}
 use Rattle.std.proofs.lemmas.Result.{err_from_is_err_and}
 use Rattle.nfs_inodes.proofs.Counting.{brings-as}
 use Rattle.nfs_inodes.proofs.Ending.{exported-as, lives-as, means-as}
+use Rattle.nfs_inodes.proofs.Showing.{shown-so}
 use Rattle.nfs_inodes.specs.Asked.{asked_as}
 use Rattle.nfs_names.proofs.Making.{bringing-stops, made-replies, refused-replies}
 use Rattle.nfs_names.specs.Making.{there_as}
@@ -60,3 +61,7 @@ returns-in-Err-clause-answers c =
     (refused-replies c.args.place.now (asked_as c.args.asked) (there_as c.args.there d.ctx) d c.in-Err.status
     (means-as d c.args.place.now.directory _ _ (Err c.in-Err.status) c.as_slice.ensures c.in-Err.is
     c.in_ok-known.ensures.means))
+
+pub make_in-requires-clause-shown : goal.make_in-requires-clause-shown
+make_in-requires-clause-shown c =
+    shown-so c.args.draft.now _ c.in-Ok.known c.in-Ok.is c.in_ok-known.ensures.shown

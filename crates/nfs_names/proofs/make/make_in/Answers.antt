@@ -1,3 +1,4 @@
+use Rattle.std.proofs.Common.{subst, sym}
 use Rattle.std.proofs.lemmas.Result.{err_from_is_err_and}
 use Rattle.nfs_objects.proofs.Promised.{does-nothing}
 use Rattle.nfs_inodes.proofs.Halting.{exports-stop, makes-stops}
@@ -6,6 +7,8 @@ use Rattle.nfs_inodes.specs.Asked.{asked_as}
 use Rattle.nfs_names.proofs.Making.{lives-making, new-ends, refused-end, there-ends}
 use Rattle.nfs_names.specs.Making.{IsMakeEnd, there_as}
 use Rattle.nfs_inodes.specs.Stops.{brought_by}
+use Rattle.nfs_inodes.specs.declared.found.Known.{Known}
+use Rattle.nfs_inodes.specs.Kinds.{IsShown}
 use Rattle.nfs_names.proofs.make.make_in.Goals as goal
 
 pub returns-in_err-exports : goal.returns-in_err-exports
@@ -59,3 +62,6 @@ returns-in-None c =
     c.make_new.new.draft c.make_new.result c.requires.usage
     (rw (c.in-Ok.ensures.known, c.as_slice-name.ensures, c.in-None.is) at c.in_ok-number.ensures.entry)
     (rw (c.in-Ok.ensures.known, c.as_slice-name.ensures) at c.make_new.ensures)
+
+pub make_new-requires-clause-shown : goal.make_new-requires-clause-shown
+make_new-requires-clause-shown c = subst (λ (z : Known). IsShown c.args.draft.now z) (sym c.in-Ok.ensures.known) c.requires.shown

@@ -11,6 +11,7 @@ use Rattle.nfs_inodes.proofs.Composing.{counted-stops}
 use Rattle.std.proofs.Common.{subst, sym}
 use Rattle.nfs_objects.specs.Asks.{IsThere}
 use Rattle.nfs_inodes.specs.declared.found.Known.{Known}
+use Rattle.nfs_inodes.specs.Kinds.{IsShown}
 use Rattle.nfs_names.proofs.over.create_over.Goals as goal
 
 pub returns-in_default : goal.returns-in_default
@@ -56,3 +57,6 @@ returns c =
     (rw c.in-Some.is at c.in_ok-object.ensures.object) c.in-Ok.file c.in-Ok.ensures.checks c.size_over.result
     (rw c.ctx.ensures at c.size_over.ensures) c.give_size.new.draft c.in-Ok-size_over.size c.in-Ok-size_over.is
     (rw c.in-Ok.ensures.known at c.in_ok-give_size.ensures) c.in_ok-made.field-0 c.in_ok-made.ensures.made
+
+pub give_size-requires-clause-shown : goal.give_size-requires-clause-shown
+give_size-requires-clause-shown c = subst (λ (z : Known). IsShown c.args.draft.now z) (sym c.in-Ok.ensures.known) (rw c.in-Some.is at c.in_ok-object.ensures.shown)

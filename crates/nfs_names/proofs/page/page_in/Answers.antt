@@ -1,6 +1,7 @@
 use Rattle.std.proofs.lemmas.Result.{err_from_is_err_and}
 use Rattle.nfs_inodes.proofs.Standing.{known-lives}
-use Rattle.nfs_names.proofs.Paged.{page-listed, page-refused}
+use Rattle.nfs_names.proofs.Paged.{front-lives, page-listed, page-refused}
+use Rattle.nfs_names.specs.Pages.{fit_of}
 use Rattle.nfs_inodes.proofs.Halting.{lives-stops}
 use Rattle.nfs_names.proofs.page.page_in.Goals as goal
 
@@ -20,4 +21,9 @@ pub returns-clause-page : goal.returns-clause-page
 returns-clause-page c =
     page-listed c.args.draft.now c.args.known.now c.args.asked.now c.requires.known c.in-Ok.directory
     (rw (c.ctx.ensures, c.in-Ok.is) at c.listable.ensures.checks) c.in_ok-left.left
-    (rw c.in-Ok.ensures.known at c.in_ok-left.ensures.left) _ c.longest_page.ensures.page
+    (rw c.in-Ok.ensures.known at c.in_ok-left.ensures.left) _ c.in_ok-longest_page.ensures
+
+pub returns-clause-lives : goal.returns-clause-lives
+returns-clause-lives c =
+    front-lives c.args.draft.now.view (fit_of c.args.asked.now.budget) c.in_ok-left.left _ c.in_ok-left.ensures.lives
+    c.in_ok-longest_page.ensures

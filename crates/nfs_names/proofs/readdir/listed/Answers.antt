@@ -10,7 +10,7 @@ returns-in_ok-names-in-Ok c = record {
       c.in_ok-front.ensures.page;
   shows = λ s k w.
       let verifier = sym (c.verifier.ensures ∙ ap verifier_of c.ctx.ensures) in
-      let entries = sym c.in_ok-names-in-Ok.ensures in
+      let entries = sym (rw c.deref.ensures.value at c.in_ok-names-in-Ok.ensures) in
       λ i. Ok (record { verifier = verifier i; entries = entries i; eof = c.in-Ok.front.eof });
 }
 

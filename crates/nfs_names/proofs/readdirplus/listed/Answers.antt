@@ -10,7 +10,7 @@ returns-in_ok-entries-in-Ok c = record {
       c.in_ok-front.ensures.page;
   shows = λ s k w.
       let verifier = sym (c.verifier.ensures ∙ ap verifier_of c.ctx.ensures) in
-      let entries = c.in_ok-entries-in-Ok.ensures s k w in
+      let entries = (rw c.deref-in-Ok.ensures.value at c.in_ok-entries-in-Ok.ensures) s k w in
       λ i. Ok (record { verifier = verifier i; entries = entries i; eof = c.in-Ok.front.eof });
 }
 

@@ -3,6 +3,7 @@ use Rattle.std.proofs.lemmas.Result.{err_from_is_err_and}
 use Rattle.nfs_objects.specs.Calls.{addresses_of}
 use Rattle.nfs_inodes.proofs.Ending.{lives-as, means-as, naming, reading, reading-exports}
 use Rattle.nfs_inodes.proofs.Halting.{stops-before}
+use Rattle.nfs_inodes.proofs.Showing.{shown-so}
 use Rattle.nfs_names.proofs.Removed.{alone, first-halted, first-read, names-directory, refused-promised}
 use Rattle.nfs_names.proofs.Removed.{taken-promised}
 use Rattle.nfs_names.specs.Removes.{call_of}
@@ -86,3 +87,7 @@ pub returns-in-Err-clause-first : goal.returns-in-Err-clause-first
 returns-in-Err-clause-first c =
     first-read c.args.taking c.args.place.now c.args.draft c.requires _ c.as_slice.ensures _ _
     c.in_ok-directory.ensures.first
+
+pub take-requires-clause-shown : goal.take-requires-clause-shown
+take-requires-clause-shown c =
+    shown-so c.args.draft _ c.in-Ok.directory c.in-Ok.is c.in_ok-directory.ensures.shown

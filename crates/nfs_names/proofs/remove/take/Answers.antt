@@ -1,4 +1,4 @@
-use Rattle.std.proofs.Common.{◌∷◌, []}
+use Rattle.std.proofs.Common.{◌∷◌, [], subst, sym}
 use Rattle.std.proofs.lemmas.Result.{err_from_is_err_and}
 use Rattle.nfs_objects.proofs.Promised.{does-nothing}
 use Rattle.nfs_inodes.proofs.Standing.{known-lives}
@@ -6,6 +6,8 @@ use Rattle.nfs_names.proofs.Removed.{refused-end, taken-does, untaken-end}
 use Rattle.nfs_names.specs.Removes.{IsTakenEnd}
 use Rattle.nfs_objects.specs.declared.address.Addr.TheVariants as addresses
 use Rattle.nfs_inodes.proofs.Halting.{any-stops, both-stop}
+use Rattle.nfs_inodes.specs.declared.found.Known.{Known}
+use Rattle.nfs_inodes.specs.Kinds.{IsShown}
 use Rattle.nfs_names.proofs.remove.take.Goals as goal
 
 pub returns-in_err-exports : goal.returns-in_err-exports
@@ -57,3 +59,6 @@ returns c =
     (rw (c.in-Ok.ensures.known, c.as_slice-name.ensures, c.in-Ok-2.is) at c.in_ok-object.ensures)
     c.take_name.new.draft
     (rw (c.in-Ok.ensures.known, c.as_slice-name.ensures) at c.in_ok-take_name.ensures)
+
+pub take_name-requires-clause-shown : goal.take_name-requires-clause-shown
+take_name-requires-clause-shown c = subst (λ (z : Known). IsShown c.args.draft.now z) (sym c.in-Ok.ensures.known) c.requires.shown

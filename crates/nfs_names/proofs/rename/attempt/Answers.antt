@@ -5,6 +5,7 @@ use Rattle.nfs_machine.specs.declared.calls.Call.TheVariants as calls
 use Rattle.nfs_objects.specs.Attempt.{HaltsFirst}
 use Rattle.nfs_objects.specs.Modes.{modes_of}
 use Rattle.nfs_inodes.proofs.Ending.{means-as, naming-first, number-as}
+use Rattle.nfs_inodes.proofs.Showing.{shown-so}
 use Rattle.nfs_inodes.specs.Stops.{wanted_first}
 use Rattle.nfs_names.proofs.Renaming.{first-known, first-refused}
 use Rattle.nfs_names.proofs.rename.attempt.Goals as goal
@@ -43,3 +44,7 @@ returns-in-Err-clause-ends c =
     c.in-Err.status
     (means-as c.args.draft c.args.arguments.now.from.directory _ _ (Err c.in-Err.status) c.as_slice.ensures c.in-Err.is
     c.in_ok-from.ensures.means))
+
+pub attempt_from-requires-clause-shown : goal.attempt_from-requires-clause-shown
+attempt_from-requires-clause-shown c =
+    shown-so c.args.draft _ c.in-Ok.from c.in-Ok.is c.in_ok-from.ensures.shown

@@ -4,6 +4,7 @@ use Rattle.nfs_wire.specs.declared.calls.NfsCall.TheVariants as nfs
 use Rattle.nfs_machine.specs.declared.calls.Call.TheVariants as calls
 use Rattle.nfs_inodes.proofs.Ending.{halting, lives-as, means-as, naming-second, number-as, reading}
 use Rattle.nfs_inodes.proofs.Halting.{stops-before}
+use Rattle.nfs_inodes.proofs.Showing.{shown-so}
 use Rattle.nfs_inodes.proofs.Standing.{known-lives}
 use Rattle.nfs_names.proofs.Renaming.{rename-promised, second-refused}
 use Rattle.nfs_objects.specs.Calls.{addresses_of}
@@ -88,3 +89,7 @@ returns-in_ok-from_shown-in-Err c =
     c.in_ok-from_shown-in-Err.from_shown c.requires.names
     (means-as c.args.draft c.args.arguments.now.to.directory _ _ (Err c.in-Err.status) c.as_slice.ensures c.in-Err.is
     c.in_ok-to.ensures.means) c.in_ok-from_shown-in-Err.ensures)
+
+pub rename-requires-clause-shown : goal.rename-requires-clause-shown
+rename-requires-clause-shown c =
+    (c.requires.shown, shown-so c.args.draft _ c.in-Ok.to c.in-Ok.is c.in_ok-to.ensures.shown)

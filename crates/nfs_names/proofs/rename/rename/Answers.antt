@@ -1,4 +1,4 @@
-use Rattle.std.proofs.Common.{Err, Some, refl}
+use Rattle.std.proofs.Common.{Err, Some, refl, subst, sym}
 use Rattle.std.proofs.lemmas.Result.{err_from_is_err_and}
 use Rattle.nfs_wire.specs.declared.calls.NfsCall.TheVariants as nfs
 use Rattle.nfs_wire.specs.declared.status.NfsStatus.TheVariants as status
@@ -8,6 +8,8 @@ use Rattle.nfs_names.proofs.Alone.{led-as, renaming-changes}
 use Rattle.nfs_names.proofs.Renaming.{check-refused, is-renaming, no-source, settled-does, stops-named}
 use Rattle.nfs_names.specs.Renames.{IsRenameEnd}
 use Rattle.nfs_inodes.proofs.Halting.{exports-stop-at, any-stops}
+use Rattle.nfs_inodes.specs.Kinds.{IsShown}
+use Rattle.nfs_inodes.specs.declared.found.Known.{Known}
 use Rattle.nfs_names.proofs.rename.rename.Goals as goal
 
 pub returns-in_err-exports : goal.returns-in_err-exports
@@ -77,3 +79,9 @@ rename_found-requires-clause-alone c =
     (Some c.in-Some.moved) c.in-Ok.ensures.from c.as_slice.ensures c.in-Some.is c.in_ok-moved.ensures.led)
     (led-as c.args.draft.now.view c.in-Ok.places.to.known c.args.to.now _ c.args.arguments.now.to.name _
     c.in_ok-replaced.replaced c.in-Ok.ensures.to c.as_slice-2.ensures refl c.in_ok-replaced.ensures.led)
+
+pub rename_found-requires-clause-shown : goal.rename_found-requires-clause-shown
+rename_found-requires-clause-shown c = (
+  subst (λ (z : Known). IsShown c.args.draft.now z) (sym c.in-Ok.ensures.from) c.requires.shown.0,
+  subst (λ (z : Known). IsShown c.args.draft.now z) (sym c.in-Ok.ensures.to) c.requires.shown.1,
+)

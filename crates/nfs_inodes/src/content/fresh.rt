@@ -1,0 +1,48 @@
+//! What new objects contain (RFC 1813, 3.3.8 to 3.3.11).
+
+ghost use Rattle.std.specs.Prelude.{◌≡◌, IfOk, replicate};
+ghost use Rattle.nfs_objects.specs.Stands.{content_of, parent_in};
+ghost use Rattle.nfs_inodes.specs.Asked.{content_asked};
+ghost use Rattle.nfs_inodes.specs.Makes.{first_parent};
+
+use crate::making::NewContent;
+use bytes::Bytes;
+use nfs_objects::{Content, Entries, FileBytes};
+use std::alloc::{AllocError, Global};
+
+/// The cookie of `..`, the greatest that a new directory has used (RFC 1813, 3.3.16).
+const ABOVE_COOKIE: u64 = 2;
+
+/// The content of a new object in a directory with this number.
+///
+/// # Errors
+///
+/// `AllocError` where the memory for it was refused.
+pub(crate) fn new_content(
+    alloc: Global,
+    content: &NewContent<'_>,
+    parent: u64,
+) -> Result<Content, AllocError>
+    ensures content { IfOk result (λ made. content_of made ≡ content_asked content.now) }
+    ensures parent { IfOk result (λ made. parent_in made ≡ first_parent parent (content_asked content.now)) }
+{
+    Ok(match content {
+        NewContent::Regular(size) => Content::Regular(zeros(alloc, *size as usize)?),
+        NewContent::Directory => Content::Directory(nfs_objects::Directory {
+            parent,
+            last_cookie: ABOVE_COOKIE,
+            entries: Entries::new(alloc)?,
+        }),
+        NewContent::Link(text) => Content::Link(Bytes::copy_from_slice(alloc, text)?),
+        NewContent::BlockDevice(device) => Content::BlockDevice(*device),
+        NewContent::CharacterDevice(device) => Content::CharacterDevice(*device),
+        NewContent::Socket => Content::Socket,
+        NewContent::Fifo => Content::Fifo,
+    })
+}
+
+fn zeros(alloc: Global, size: usize) -> Result<FileBytes, AllocError>
+    ensures { IfOk result (λ content. content ≡ replicate size 0) }
+{
+    FileBytes::new(alloc).resized(alloc, size)
+}
