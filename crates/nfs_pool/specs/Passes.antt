@@ -1,10 +1,6 @@
 -- Passes of a call: what it reads, and what it comes to.
-use Rattle.std.specs.Prelude.{◌≡◌, ℕ, ◌+◌, ◌<◌, List, ◌++◌, map, Option, Some, None}
+use Rattle.std.specs.Prelude.{◌≡◌, ℕ, ◌+◌, ◌<◌, Option, Some, None}
 use Rattle.nfs_machine.specs.Run.{Received}
-use Rattle.nfs_objects.specs.Modes.{Suits, modes_of}
-use Rattle.nfs_objects.specs.Values.{Seen, ViewValue}
-use Rattle.nfs_objects.specs.declared.address.Addr.{Addr}
-use Rattle.nfs_objects.specs.declared.modes.Mode.{Mode}
 use Rattle.nfs_engine.specs.Calls.{PendingValue, TxnValue}
 use Rattle.nfs_engine.specs.declared.journal.Receipt.{Receipt}
 use Rattle.nfs_engine.specs.declared.release.Then.{Then}
@@ -20,24 +16,6 @@ use Rattle.nfs_pool.specs.declared.carrying.Passed.TheVariants as passed
 -- nothing but its view changed
 abbrev pub Reads : (old new : TxnValue) → Type 0
 Reads old new = new ≡ record old { view = new.view }
-
--- what it has read is held as it is wanted
-abbrev pub IsSuited : TxnValue → Type 0
-IsSuited t = Suits (modes_of t.call) t.view
-
--- the call has read on
-pub record ReadsOn (old new : TxnValue) : Type 0 where
-  pub call : Reads old new
-  pub suited : IsSuited new
-
-abbrev pub asked_of : Seen → Addr × Mode
-asked_of e = (e.address, e.mode)
-
--- the view has more: each of these addresses, in its mode, with whatever stood there
-pub record Takes (old new : ViewValue) (asked : List (Addr × Mode)) : Type 0 where
-  pub taken : List Seen
-  pub as_asked : map asked_of taken ≡ asked
-  pub is : new ≡ record old { entries = old.entries ++ taken }
 
 -- ---- what it comes to
 -- the call, where it is in progress when all is let go

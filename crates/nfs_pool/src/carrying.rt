@@ -1,13 +1,17 @@
 //! A call from its arrival to its answer, on its caller's thread.
 
-ghost use Rattle.std.specs.Prelude.{◌≡◌, ◌<◌, IfOk, OnOk, None};
-ghost use Rattle.std.specs.List.{AllByRecursion};
-ghost use Rattle.nfs_objects.specs.Asks.{EachOnce};
+ghost use Rattle.std.specs.Prelude.{◌≡◌, ◌<◌, IfOk, OnErr, OnOk, None, Option};
 ghost use Rattle.nfs_objects.specs.Promise.{IsPromised};
+ghost use Rattle.nfs_objects.specs.Rooms.{with_number};
 ghost use Rattle.nfs_objects.specs.Values.{change_value, done_value, seen_at};
+ghost use Rattle.nfs_objects.specs.declared.object.Object.{Object};
+ghost use Rattle.nfs_objects.specs.declared.view.Reserved.{Reserved};
 ghost use Rattle.nfs_engine.specs.Arrivals.{received_value};
 ghost use Rattle.nfs_engine.specs.Asked.{IsAsked};
-ghost use Rattle.nfs_pool.specs.Passes.{ComesTo, EndsWith, IsSuited, LeadsOut, Reads, Retreats, Takes};
+ghost use Rattle.nfs_schedule.specs.Courses.{IsAt};
+ghost use Rattle.nfs_schedule.specs.Executions.{HasTaken};
+ghost use Rattle.nfs_schedule.specs.declared.course.Course.{Course};
+ghost use Rattle.nfs_pool.specs.Passes.{ComesTo, EndsWith, LeadsOut, Reads, Retreats};
 ghost use Rattle.nfs_pool.specs.Seats.{IsDeclined, Tells};
 ghost use Rattle.nfs_pool.specs.Steps.{AsksSome, IsGivenUp, IsUnread};
 
@@ -19,10 +23,9 @@ use nfs_engine::{
     Admission, Arrival, Asked, Finished, Got, Next, Pending, Reading, Receipt, Received, Refused,
     Release, Txn,
 };
-use nfs_objects::{Addr, Change, Mode, Outcome};
+use nfs_objects::{Addr, Change, Mode};
 use nfs_schedule::answer::refusal;
-use nfs_schedule::foreseen::foreseen;
-use nfs_schedule::{Declined, attempt};
+use nfs_schedule::{Course, Declined, NextStep, next_step};
 use std::alloc::Global;
 use std::sync::Wait;
 use std::sync::ledger::{Ledger, Share};
@@ -256,7 +259,7 @@ fn let_go<L: Ledger, R: Wait, S: Steps<L>, G: Gate>(
     unreachable!()
 }
 
-/// Attempts a call that has read nothing on what it then reads, until it is done.
+/// Makes the steps of a call that has read nothing, on its course, until it is done.
 fn run<L: Ledger, R: Wait, S: Steps<L>, G: Gate>(
     means: &Means<R, S, G>,
     txn: &mut Txn,
@@ -264,82 +267,65 @@ fn run<L: Ledger, R: Wait, S: Steps<L>, G: Gate>(
     requires shard { means.now.shard < 16 }
     requires unread { IsUnread txn.old }
     ensures call { Reads txn.old txn.new }
+    ensures course { (course : Course) × IsAt course txn.new }
     ensures promised { IfOk result
         (λ change. IsPromised (done_value txn.new.call txn.new.ctx txn.new.view (change_value change))) }
 {
-    foresee(means, txn)?;
-    'rounds: for _ in means.rt.forever() {
-        // It brings that this is what the record asks, so that its procedure is built.
-        txn.is_called();
-        match attempt(means.alloc, txn.call(), txn.ctx(), txn.view()) {
-            Ok(Outcome::Need(asked)) => acquire_all(means, txn, &asked)?,
-            Ok(Outcome::Fresh(count)) => reserve(means, txn, count)?,
-            Ok(Outcome::Done(change)) => return Ok(change),
-            Err(_) => return Err(Reason::Memory),
+    let mut course = Course::Begun;
+    'steps: loop {
+        // Each step adds to the view, which is shorter than 2^64: so they come to an end.
+        let _known = txn.view().len();
+        match next_step(means.alloc, txn, course) {
+            NextStep::Acquire(address, mode, after) => {
+                acquire(means, txn, address, mode)?;
+                course = after;
+            }
+            NextStep::Reserve(after) => {
+                reserve(means, txn)?;
+                course = after;
+            }
+            NextStep::Commit(change) => return Ok(change),
+            NextStep::Fail => return Err(Reason::Memory),
         }
     }
-    unreachable!()
 }
 
-/// Reads what the call will ask for first, before its first attempt: an attempt that has to ask is made for nothing.
-fn foresee<L: Ledger, R: Wait, S: Steps<L>, G: Gate>(
+/// Takes an address, with whatever stands there. An error leaves the call as it was.
+fn acquire<L: Ledger, R: Wait, S: Steps<L>, G: Gate>(
     means: &Means<R, S, G>,
     txn: &mut Txn,
+    address: Addr,
+    mode: Mode,
 ) -> Result<(), Reason>
-    requires { IsUnread txn.old }
-    ensures call { Reads txn.old txn.new }
-    ensures suited { OnOk result (IsSuited txn.new) }
+    requires { seen_at txn.old.view.entries address ≡ None }
+    ensures taken { OnOk result ((o : Option Object) ×
+        HasTaken txn.old txn.new (record { address = address; mode = mode; object = o })) }
+    ensures kept { OnErr result (txn.new ≡ txn.old) }
 {
-    let Some(asked) = foreseen(txn.call()) else {
-        return Ok(());
-    };
-    acquire_all(means, txn, &asked)?;
-    Ok(())
-}
-
-/// Reads these addresses, each in its mode.
-fn acquire_all<L: Ledger, R: Wait, S: Steps<L>, G: Gate>(
-    means: &Means<R, S, G>,
-    txn: &mut Txn,
-    asked: &[(Addr, Mode)],
-) -> Result<(), Reason>
-    requires once { EachOnce asked.now }
-    requires unseen { AllByRecursion (λ a. seen_at txn.old.view.entries a.0 ≡ None) asked.now }
-    ensures call { Reads txn.old txn.new }
-    ensures taken { OnOk result (Takes txn.old.view txn.new.view asked.now) }
-{
-    for (address, mode) in asked {
-        means.gate.before(Step::Acquire);
-        match means
-            .steps
-            .acquire(means.rt, means.alloc, means.gate, txn, *address, *mode)
-        {
-            Ok(Got::Yes) => {}
-            Ok(Got::Taken(_)) => return Err(Reason::Taken(*address, *mode)),
-            Err(_) => return Err(Reason::Memory),
-        }
+    means.gate.before(Step::Acquire);
+    match means
+        .steps
+        .acquire(means.rt, means.alloc, means.gate, txn, address, mode)
+    {
+        Ok(Got::Yes) => Ok(()),
+        Ok(Got::Taken(_)) => Err(Reason::Taken(address, mode)),
+        Err(_) => Err(Reason::Memory),
     }
-    Ok(())
 }
 
-/// Gets so many new numbers.
+/// Gets a new number. An error leaves the call as it was.
 fn reserve<L: Ledger, R: Wait, S: Steps<L>, G: Gate>(
     means: &Means<R, S, G>,
     txn: &mut Txn,
-    count: u32,
 ) -> Result<(), Reason>
-    requires shard { means.now.shard < 16 }
-    requires suited { IsSuited txn.old }
-    ensures call { Reads txn.old txn.new }
-    ensures suited { OnOk result (IsSuited txn.new) }
+    requires { means.now.shard < 16 }
+    ensures reserved { OnOk result ((r : Reserved) × (txn.new ≡ record txn.old { view = with_number txn.old.view r })) }
+    ensures kept { OnErr result (txn.new ≡ txn.old) }
 {
-    for _number in 0..count {
-        means.gate.before(Step::Reserve);
-        match means.steps.reserve(means.rt, txn, means.shard) {
-            Ok(true) => {}
-            Ok(false) => return Err(Reason::Stale),
-            Err(_) => return Err(Reason::Memory),
-        }
+    means.gate.before(Step::Reserve);
+    match means.steps.reserve(means.rt, txn, means.shard) {
+        Ok(true) => Ok(()),
+        Ok(false) => Err(Reason::Stale),
+        Err(_) => Err(Reason::Memory),
     }
-    Ok(())
 }

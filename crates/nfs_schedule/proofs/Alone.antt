@@ -4,8 +4,7 @@ use Rattle.std.proofs.Common.{get_or, set, inl, inr, IfSome}
 use Rattle.std.specs.declared.alloc.AllocError.{AllocError}
 use Rattle.nfs_machine.specs.RpcReplies.{success_message}
 use Rattle.nfs_machine.specs.Run.{Received}
-use Rattle.nfs_machine.specs.declared.calls.Call.{Call}
-use Rattle.nfs_objects.specs.Modes.{Suits, modes_of}
+use Rattle.nfs_objects.specs.Bound.{view_after}
 use Rattle.nfs_objects.specs.Rooms.{with_seen, with_number}
 use Rattle.nfs_objects.specs.Values.{ViewValue}
 use Rattle.nfs_objects.specs.declared.address.Addr.{Addr}
@@ -32,13 +31,12 @@ use Rattle.nfs_engine.specs.declared.running.Running.{Running}
 use Rattle.nfs_engine.specs.declared.shard.ReserveError.{ReserveError}
 use Rattle.nfs_engine.specs.declared.shard.ReserveError.TheVariants as refusals
 use Rattle.nfs_engine.specs.declared.taking.Got.TheVariants as got
-use Rattle.nfs_schedule.proofs.Filling.{Grows}
 use Rattle.nfs_schedule.proofs.Rest.{places_without}
 use Rattle.nfs_schedule.proofs.Steps.{keeps_book}
 use Rattle.nfs_schedule.specs.Answers.{IsRefused}
+use Rattle.nfs_schedule.specs.Courses.{HasReadFew}
 use Rattle.nfs_schedule.specs.Executions.{Answers, EndsIn, Frees, GoesOn, HoldsAlone, IsAlone}
 use Rattle.nfs_schedule.specs.Turns.{Executes, KeepsStore}
-use Rattle.nfs_schedule.specs.Workers.{IsSuited}
 use Rattle.nfs_schedule.specs.Worlds.{IsAtRest}
 use Rattle.nfs_schedule.specs.declared.answer.Answer.{Answer}
 use Rattle.nfs_schedule.specs.declared.answer.Answer.TheVariants as answers
@@ -53,8 +51,8 @@ begins_alone e f a t rest b shards = record {
 }
 
 pub begins_unread : (e f : EngineValue) (a : ArrivalValue) (t : TxnValue) → BeginsCall e.book f.book a t →
-    t.view.entries ≡ []
-begins_unread e f a t b = ap (λ (x : TxnValue). x.view.entries) b.txn
+    t.view ≡ view_after []
+begins_unread e f a t b = ap (λ (x : TxnValue). x.view) b.txn
 
 pub begins_keeps : (e f : EngineValue) (a : ArrivalValue) (t : TxnValue) → BeginsCall e.book f.book a t → KeepsStore e f
 begins_keeps e f a t b =
@@ -108,11 +106,6 @@ module _ (e f : EngineValue) (t u : TxnValue) (lives : Lives f u) (k : KeepsOthe
   pub goes_unreserved : (shard : ℕ) (error : ReserveError) → IsReserved e t u shard (Err error) → GoesOn e f t u
   goes_unreserved shard refusals.Memory is = goes_unchanged is.1
   goes_unreserved shard refusals.Spent is = goes_unchanged is.1
-
--- and suits its call where its view does
-pub suited_on : (e f : EngineValue) (t u : TxnValue) → GoesOn e f t u → Grows t.call t.view u.view → IsSuited u
-suited_on e f t u g grows =
-    subst (λ (c : Call). Suits (modes_of c) u.view) (sym (ap (λ (x : TxnValue). x.call) g.call)) grows.suits
 
 -- what goes on is alone still
 pub goes_alone : (e f : EngineValue) (t u : TxnValue) → IsAlone e t.id t.key → GoesOn e f t u → IsAlone f u.id u.key
@@ -187,10 +180,12 @@ executes_on e f g d receipt x same = record {
 }
 
 pub ends_executed : (e f g : EngineValue) (d : FinishedValue) (r : ReleaseValue) (receipt : Receipt) →
-    Executes e f d receipt → Frees f g r None → EndsIn e g (txn_of d) (answers.Executed receipt)
-ends_executed e f g d r receipt x free = record {
+    HasReadFew (txn_of d) → Executes e f d receipt → Frees f g r None →
+    EndsIn e g (txn_of d) (answers.Executed receipt)
+ends_executed e f g d r receipt few x free = record {
   done = d;
   call = refl;
+  few = few;
   executes = executes_on e f g d receipt x free.book;
 }
 
@@ -265,6 +260,7 @@ ends_moved : (e f g : EngineValue) (t u : TxnValue) (answer : Answer) → f.book
 ends_moved e f g t u (answers.Executed receipt) book call x = record {
   done = x.done;
   call = x.call ∙ ap (λ (v : TxnValue). record v { view = x.done.done.view }) call;
+  few = x.few;
   executes = executes_from e f g x.done receipt x.executes book;
 }
 ends_moved e f g t u (answers.Repeated kept) book call x = absurd x
@@ -303,6 +299,7 @@ module _ (e b g : EngineValue) (a : ArrivalValue) (t : TxnValue) (begins : Begin
         xid = ap (λ (v : TxnValue). v.xid) began;
         call = ap (λ (v : TxnValue). v.call) began;
         ctx = ap (λ (v : TxnValue). v.ctx) began;
+        few = x.few;
         executes = x.executes;
       }
   answers_begun (answers.Repeated kept) x = absurd x

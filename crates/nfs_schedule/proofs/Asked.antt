@@ -164,6 +164,13 @@ unseen_all (e ∷ es) asked unseen once before = (
     all_apart [] l have all = asked_apart l all
     all_apart (x ∷ xs) l have all = (have.0, all_apart xs l have.1 all)
 
+-- one entry more, whose address was not seen
+pub once_more : (entries : List Seen) (e : Seen) → EachOnce (held entries) → seen_at entries e.address ≡ None →
+    EachOnce (held (entries ++ e ∷ []))
+once_more entries e once unseen =
+    subst EachOnce (sym (map-append (λ (x : Seen). (x.address, x.mode)) entries (e ∷ [])))
+    (unseen_all entries ((e.address, e.mode) ∷ []) (unseen, tt) (tt, tt) once)
+
 abbrev places_in : List (Addr × Mode) → List Addr
 places_in l = map (λ (a : Addr × Mode). a.0) l
 

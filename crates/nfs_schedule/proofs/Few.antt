@@ -1,5 +1,5 @@
--- What a worker's call has read and wants next holds few addresses at which nothing stands.
-use Rattle.std.proofs.Common.{◌≡◌, ℕ, ◌+◌, ◌≤◌, Bool, cond, List, map}
+-- What a call has read and wants next holds few addresses at which nothing stands.
+use Rattle.std.proofs.Common.{◌≡◌, ℕ, ◌+◌, ◌≤◌, Bool, cond, List, [], ◌∷◌, map}
 use Rattle.std.proofs.Common.{◌++◌, length, inl, inr, Some, None, sym, ◌∙◌, ap}
 use Rattle.std.proofs.Common.{subst, arith}
 use Rattle.std.proofs.lemmas.List.{length-map, map-append}
@@ -22,8 +22,11 @@ use Rattle.nfs_objects.specs.declared.change.Outcome.{Outcome}
 use Rattle.nfs_objects.specs.declared.change.Outcome.TheVariants.{Need, Fresh}
 use Rattle.nfs_objects.specs.declared.modes.Mode.{Mode}
 use Rattle.nfs_engine.specs.Calls.{TxnValue, txn_of}
+use Rattle.nfs_schedule.proofs.Grown.{grown_none}
+use Rattle.nfs_schedule.specs.Courses.{CoursesAreFew}
 use Rattle.nfs_schedule.specs.Grown.{HasGrown, IsAsking, IsGrown, IsNumbering, ReadsFew}
 use Rattle.nfs_schedule.specs.Order.{executed_by}
+use Rattle.nfs_schedule.specs.declared.course.Course.TheVariants.{Begun, Foreseen, Due, Asked, Numbers}
 use Rattle.nfs_schedule.specs.declared.worker.Worker.{Worker}
 use Rattle.nfs_schedule.specs.declared.worker.Worker.TheVariants.{Idle, Trying, Wanting, Wishing, Ready, Blocked}
 use Rattle.nfs_schedule.specs.declared.worker.Worker.TheVariants.{Failing}
@@ -41,7 +44,7 @@ module _ (s : Store) where
       ∙ sum_by-append (λ (a : Addr × Mode). cond {A = ℕ} (is_empty a) 1 0) (held xs) (held ys)
 
 -- ---- workers
-few_grown : (t : TxnValue) → HasGrown t → ReadsFew (Trying t) t
+pub few_grown : (t : TxnValue) → HasGrown t → ReadsFew (Trying t) t
 few_grown t g s k fits stands sound formed =
     let few = read-among t.call t.ctx s k stands sound formed (named_by t.call (view_after g.rounds)) g.rounds g.grows
     (subst (λ (v : ViewValue). Fits v s) g.view_is fits) (λ a among. among) in
@@ -118,3 +121,13 @@ reads_few Idle t is g = nobody Idle t is
 reads_few (Leaving r after) t is g = nobody (Leaving r after) t is
 reads_few (PutOff p) t is g = nobody (PutOff p) t is
 reads_few (Refusing p) t is g = nobody (Refusing p) t is
+
+-- ---- calls on their course
+pub courses-few : CoursesAreFew
+courses-few Begun t unread = few_grown t (grown_none t unread)
+courses-few (Foreseen address mode) t a =
+    λ s k fits stands sound formed. few_asking t ((address, mode) ∷ []) s k a fits stands sound formed
+courses-few Due t g = few_grown t g
+courses-few (Asked wanted) t a =
+    λ s k fits stands sound formed. few_asking t (into_iter_items wanted) s k a fits stands sound formed
+courses-few (Numbers left) t n = λ s k fits stands sound formed. few_numbering t left s k n fits stands sound formed

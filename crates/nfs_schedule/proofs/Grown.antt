@@ -60,11 +60,11 @@ front_asked (x ∷ xs) ys = (
 
 -- ---- what a call has read
 -- it has read nothing
-grown_none : (t : TxnValue) → t.view ≡ record { entries = []; reserved = [] } → HasGrown t
+pub grown_none : (t : TxnValue) → t.view ≡ record { entries = []; reserved = [] } → HasGrown t
 grown_none t none = record { rounds = []; grows = tt; view_is = none }
 
 -- some of what was asked for was given
-grown_part : (t : TxnValue) (left : List (Addr × Mode)) → IsAsking t left → HasGrown t
+pub grown_part : (t : TxnValue) (left : List (Addr × Mode)) → IsAsking t left → HasGrown t
 grown_part t left a = record {
   rounds = Read a.given ∷ a.before;
   grows = (
@@ -81,7 +81,7 @@ grown_part t left a = record {
 }
 
 -- an attempt asks
-asking_all : (t : TxnValue) (wanted : List (Addr × Mode)) → HasGrown t → AsksFor t wanted → IsAsking t wanted
+pub asking_all : (t : TxnValue) (wanted : List (Addr × Mode)) → HasGrown t → AsksFor t wanted → IsAsking t wanted
 asking_all t wanted g asks = record {
   before = g.rounds;
   grows = g.grows;
@@ -101,7 +101,7 @@ module _ (t u : TxnValue) (a : Addr × Mode) (left : List (Addr × Mode)) (o : O
   abbrev entry : Seen
   entry = record { address = a.0; mode = a.1; object = o }
 
-  asking_less : IsAsking u left
+  pub asking_less : IsAsking u left
   asking_less = subst (λ (x : TxnValue). IsAsking x left) (sym is) (record {
     before = asking.before;
     grows = asking.grows;
@@ -120,7 +120,7 @@ module _ (t u : TxnValue) (a : Addr × Mode) (left : List (Addr × Mode)) (o : O
   })
 
 -- an attempt asks for new numbers
-numbering_all : (t : TxnValue) (count : ℕ) → HasGrown t → Attempts t.call t.ctx t.view (Fresh count) →
+pub numbering_all : (t : TxnValue) (count : ℕ) → HasGrown t → Attempts t.call t.ctx t.view (Fresh count) →
     IsNumbering t count
 numbering_all t count g attempts = record {
   before = g.rounds;
@@ -155,7 +155,7 @@ module _ (t u : TxnValue) (r : Reserved) (left : ℕ) (is : u ≡ record t { vie
         reserved = append_assoc (view_after n.before).reserved n.given (r ∷ []) i;
       })
 
-  numbering_less : (others : ℕ) → 1 < left → left ≡ others + 1 → IsNumbering u others
+  pub numbering_less : (others : ℕ) → 1 < left → left ≡ others + 1 → IsNumbering u others
   numbering_less others more count = subst (λ (x : TxnValue). IsNumbering x others) (sym is) (record {
     before = n.before;
     grows = n.grows;
@@ -167,7 +167,7 @@ module _ (t u : TxnValue) (r : Reserved) (left : ℕ) (is : u ≡ record t { vie
     view_is = given_is;
   })
 
-  grown_numbers : left ≤ 1 → HasGrown u
+  pub grown_numbers : left ≤ 1 → HasGrown u
   grown_numbers last =
       let all : length given ≡ n.count = omega (arith, n.whole, n.some, last, length-append n.given (r ∷ [])) in
       subst (λ (x : TxnValue). HasGrown x) (sym is) (record {

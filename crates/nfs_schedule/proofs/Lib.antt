@@ -7,8 +7,6 @@ pub mod AtRest
 pub mod Built
 pub mod Driven
 pub mod Few
-pub mod Filling
-pub mod Foreseeing
 pub mod Grown
 pub mod Kept
 pub mod Ledgers
@@ -19,5 +17,6 @@ pub mod Reading
 pub mod Refusing
 pub mod Rest
 pub mod Runs
+pub mod Stepping
 pub mod Steps
 pub mod Stopping

@@ -131,7 +131,7 @@ none_mapped : (o : Option Seen) → None ≡ option_map (λ (s : Seen). s.mode) 
 none_mapped None is = refl
 none_mapped (Some s) is = cc
 
-number_unseen : (e : EngineValue) (t u : TxnValue) (shard : ℕ) (r : Reserving e t u shard) → Lives e t →
+pub number_unseen : (e : EngineValue) (t u : TxnValue) (shard : ℕ) (r : Reserving e t u shard) → Lives e t →
     seen_at t.view.entries (Inode r.reserved.number) ≡ None
 number_unseen e t u shard r lives = none_mapped (seen_at t.view.entries (Inode r.reserved.number))
     (sym (ap (λ (s : SlotValue). hold_of s.holders t.id) r.empty) ∙ lives.holds.exactly (Inode r.reserved.number))

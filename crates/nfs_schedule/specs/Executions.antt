@@ -1,10 +1,11 @@
 -- One call from its arrival to its answer, on an engine at rest.
-use Rattle.std.specs.Prelude.{◌≡◌, ◌≢◌, ℕ, List, length, Option, None, IfSome}
+use Rattle.std.specs.Prelude.{◌≡◌, ◌≢◌, ℕ, Option, None, IfSome}
 use Rattle.nfs_machine.specs.Run.{context_of}
-use Rattle.nfs_objects.specs.Bound.{Given, with_round}
+use Rattle.nfs_objects.specs.Rooms.{with_seen, with_number}
 use Rattle.nfs_objects.specs.Store.{Store}
-use Rattle.nfs_objects.specs.Values.{Seen, ViewValue}
+use Rattle.nfs_objects.specs.Values.{Seen, seen_at}
 use Rattle.nfs_objects.specs.declared.address.Addr.{Addr}
+use Rattle.nfs_objects.specs.declared.address.Addr.TheVariants.{Inode}
 use Rattle.nfs_objects.specs.declared.modes.Mode.{Mode}
 use Rattle.nfs_objects.specs.declared.view.Reserved.{Reserved}
 use Rattle.nfs_engine.specs.Arrivals.{ArrivalValue, received_value}
@@ -18,6 +19,7 @@ use Rattle.nfs_engine.specs.declared.arrival.Reading.TheVariants as readings
 use Rattle.nfs_engine.specs.declared.asking.Asked.{Asked}
 use Rattle.nfs_engine.specs.declared.journal.Receipt.{Receipt}
 use Rattle.nfs_schedule.specs.Answers.{IsRefused}
+use Rattle.nfs_schedule.specs.Courses.{HasReadFew}
 use Rattle.nfs_schedule.specs.Turns.{Executes, KeepsStore}
 use Rattle.nfs_schedule.specs.declared.answer.Answer.{Answer}
 use Rattle.nfs_schedule.specs.declared.answer.Answer.TheVariants as answers
@@ -42,11 +44,14 @@ pub record GoesOn (e f : EngineValue) (t u : TxnValue) : Type 0 where
   pub book : f.book ≡ e.book
   pub call : u ≡ record t { view = u.view }
 
--- so many new numbers were reserved
-pub record Numbered (old new : ViewValue) (count : ℕ) : Type 0 where
-  pub numbers : List Reserved
-  pub all : length numbers ≡ count
-  pub is : new ≡ with_round old (Given numbers)
+-- the call has read this, and nothing else of it changed
+abbrev pub HasTaken : TxnValue → TxnValue → Seen → Type 0
+HasTaken old new e = new ≡ record old { view = with_seen old.view e }
+
+-- the call has a new number, which it had not read, and nothing else of it changed
+pub record HasNumber (old new : TxnValue) (r : Reserved) : Type 0 where
+  pub unseen : seen_at old.view.entries (Inode r.number) ≡ None
+  pub call : new ≡ record old { view = with_number old.view r }
 
 -- nobody holds anything any more, and the book is as it was
 pub record Frees (e f : EngineValue) (r : ReleaseValue) (left : Option PendingValue) : Type 0 where
@@ -54,10 +59,12 @@ pub record Frees (e f : EngineValue) (r : ReleaseValue) (left : Option PendingVa
   pub held : (a : Addr) (j : ℕ) → held_among f.shards a j ≡ None
   pub leads : LeadsOn f r left
 
--- the call was executed: its record is the next one, and one step of the machine from the present state
+-- The call was executed: its record is the next one, and one step of the machine from the present state. It read each
+-- address once, and few that hold nothing.
 pub record Finishes (e f : EngineValue) (t : TxnValue) (receipt : Receipt) : Type 0 where
   pub done : FinishedValue
   pub call : txn_of done ≡ record t { view = done.done.view }
+  pub few : HasReadFew (txn_of done)
   pub executes : Executes e f done receipt
 
 -- the call came to its end, or it was refused, and store and records are as they were
@@ -68,7 +75,7 @@ EndsIn e f t (answers.Refused declined) = KeepsStore e f ×
 EndsIn e f t answer = ⊥
 
 -- The record asks a call, which began and was executed as the next record. If it changes something, no reply was kept
--- for it.
+-- for it. It read each address once, and few that hold nothing.
 pub record Executed (e f : EngineValue) (a : ArrivalValue) (receipt : Receipt) : Type 0 where
   pub asked : Asked
   pub asks : a.reading ≡ readings.Asks asked
@@ -80,6 +87,7 @@ pub record Executed (e f : EngineValue) (a : ArrivalValue) (receipt : Receipt) :
   pub xid : done.xid ≡ asked.xid
   pub call : done.done.call ≡ asked.call
   pub ctx : done.done.ctx ≡ context_of e.book.setting a.received.host asked.ids a.received.moment
+  pub few : HasReadFew (txn_of done)
   pub executes : Executes begun f done receipt
 
 -- What came in was executed as the next record; or it is a repeat, and has the reply that is kept; or it was refused,

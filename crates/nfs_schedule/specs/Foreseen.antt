@@ -1,5 +1,5 @@
 -- What a call will ask for first.
-use Rattle.std.specs.Prelude.{List, [], ◌∷◌, Option, None, option_map, slice_get}
+use Rattle.std.specs.Prelude.{Option, None, option_map, slice_get}
 use Rattle.std.specs.Option.{option_and_then}
 use Rattle.nfs_machine.specs.Handles.{handle_of}
 use Rattle.nfs_machine.specs.declared.calls.Call.{Call}
@@ -10,14 +10,13 @@ use Rattle.nfs_objects.specs.Modes.{modes_of}
 use Rattle.nfs_objects.specs.declared.address.Addr.{Addr}
 use Rattle.nfs_objects.specs.declared.address.Addr.TheVariants as addresses
 use Rattle.nfs_objects.specs.declared.modes.Mode.{Mode}
-use Rattle.nfs_objects.specs.declared.modes.Mode.TheVariants.{Shared}
 
--- the exports, and what a handle names in this mode
-abbrev pub asked_by : Mode → Handle → List (Addr × Mode)
-asked_by mode h = (addresses.Exports, Shared) ∷ (addresses.Inode h.fileid, mode) ∷ []
+-- what a handle names, in this mode
+abbrev pub object_in : Mode → Handle → Addr × Mode
+object_in mode h = (addresses.Inode h.fileid, mode)
 
--- what a call of NFS reads before all else, where it has a handle
-abbrev pub foreseen : Call → Option (List (Addr × Mode))
-foreseen (calls.Nfs call) = option_map (asked_by (modes_of (calls.Nfs call)).inodes)
+-- what a call of NFS reads after the exports and before all else, where it has a handle
+abbrev pub foreseen : Call → Option (Addr × Mode)
+foreseen (calls.Nfs call) = option_map (object_in (modes_of (calls.Nfs call)).inodes)
     (option_and_then handle_of (slice_get (nfs_handles call) 0))
 foreseen call = None

@@ -2,6 +2,7 @@ pub mod Accounts
 pub mod Acquires
 pub mod Answers
 pub mod Asking
+pub mod Courses
 pub mod Events
 pub mod Executions
 pub mod Foreseen

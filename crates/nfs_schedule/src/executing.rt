@@ -1,26 +1,24 @@
 //! One call from its arrival to its answer, on an engine at rest: no worker, no turns.
 
-ghost use Rattle.std.specs.Prelude.{◌≡◌, [], ◌++◌, None, map, IfOk, OnOk};
-ghost use Rattle.std.specs.List.{AllByRecursion};
-ghost use Rattle.nfs_objects.specs.Asks.{EachOnce};
+ghost use Rattle.std.specs.Prelude.{◌≡◌, [], None, IfOk, OnErr, OnOk};
+ghost use Rattle.nfs_objects.specs.Bound.{view_after};
 ghost use Rattle.nfs_objects.specs.Promise.{IsPromised};
-ghost use Rattle.nfs_objects.specs.Rooms.{with_number};
 ghost use Rattle.nfs_objects.specs.declared.view.Reserved.{Reserved};
 ghost use Rattle.nfs_objects.specs.Values.{change_value, done_value, seen_at};
 ghost use Rattle.nfs_engine.specs.Book.{store_in};
 ghost use Rattle.nfs_engine.specs.Calls.{txn_of};
 ghost use Rattle.nfs_engine.specs.Engine.{IsLeaving, Lives};
-ghost use Rattle.nfs_schedule.specs.Executions.{Answers, EndsIn, Frees, GoesOn, HoldsAlone, IsAlone};
-ghost use Rattle.nfs_schedule.specs.Executions.{Numbered, shown_in};
-ghost use Rattle.nfs_schedule.specs.Workers.{IsSuited};
+ghost use Rattle.nfs_schedule.specs.Courses.{HasReadFew, IsAt};
+ghost use Rattle.nfs_schedule.specs.Executions.{Answers, EndsIn, Frees, GoesOn, HasNumber, HasTaken, HoldsAlone};
+ghost use Rattle.nfs_schedule.specs.Executions.{IsAlone, shown_in};
 ghost use Rattle.nfs_schedule.specs.Worlds.{IsAtRest};
+ghost use Rattle.nfs_schedule.specs.declared.course.Course.{Course};
 
 use crate::answer::{Answer, refuse};
-use crate::attempts::attempt;
-use crate::foreseen::foreseen;
+use crate::course::{Course, NextStep, next_step};
 use crate::worker::refuse_arrival;
 use nfs_engine::{Admission, Arrival, Engine, Finished, Got, Pending, Release, Txn};
-use nfs_objects::{Addr, Change, Mode, Outcome};
+use nfs_objects::{Addr, Change, Mode};
 use std::alloc::Global;
 
 /// The shard of new numbers: that of the first worker of a world, so that a call makes the same there and here.
@@ -55,7 +53,7 @@ pub fn execute(alloc: Global, engine: &mut Engine, arrival: Arrival) -> Answer
 fn carry_out(alloc: Global, engine: &mut Engine, txn: Txn) -> Answer
     requires lives { Lives engine.old txn }
     requires alone { IsAlone engine.old txn.id txn.key }
-    requires unread { txn.view.entries ≡ [] }
+    requires unread { txn.view ≡ view_after [] }
     ensures rest { IsAtRest engine.new }
     ensures ends { EndsIn engine.old engine.new txn result }
 {
@@ -66,93 +64,65 @@ fn carry_out(alloc: Global, engine: &mut Engine, txn: Txn) -> Answer
     }
 }
 
-/// Attempts the call on what it has read, and reads more, until it is done.
+/// Makes the steps of a call on its course, until it is done.
 fn run(alloc: Global, engine: &mut Engine, txn: &mut Txn) -> Result<Change, Unmet>
     requires lives { Lives engine.old txn.old }
     requires alone { IsAlone engine.old txn.old.id txn.old.key }
-    requires unread { txn.old.view.entries ≡ [] }
+    requires unread { txn.old.view ≡ view_after [] }
     ensures goes_on { GoesOn engine.old engine.new txn.old txn.new }
+    ensures course { (course : Course) × IsAt course txn.new }
     ensures promised { IfOk result
         (λ change. IsPromised (done_value txn.new.call txn.new.ctx txn.new.view (change_value change))) }
+    ensures few { OnOk result (HasReadFew txn.new) }
 {
-    foresee(alloc, engine, txn)?;
-    'rounds: loop {
-        // Each round adds to the view, which is shorter than 2^64: so rounds come to an end.
+    let mut course = Course::Begun;
+    'steps: loop {
+        // Each step adds to the view, which is shorter than 2^64: so they come to an end.
         let _known = txn.view().len();
-        // It brings that this is what the record asks, so that its procedure is built.
-        txn.is_called();
-        match attempt(alloc, txn.call(), txn.ctx(), txn.view()) {
-            Ok(Outcome::Need(asked)) => acquire_all(alloc, engine, txn, &asked)?,
-            Ok(Outcome::Fresh(count)) => reserve_all(alloc, engine, txn, count)?,
-            Ok(Outcome::Done(change)) => return Ok(change),
-            Err(_) => return Err(Unmet),
+        match next_step(alloc, txn, course) {
+            NextStep::Acquire(address, mode, after) => {
+                acquire(alloc, engine, txn, address, mode)?;
+                course = after;
+            }
+            NextStep::Reserve(after) => {
+                reserve(alloc, engine, txn)?;
+                course = after;
+            }
+            NextStep::Commit(change) => return Ok(change),
+            NextStep::Fail => return Err(Unmet),
         }
     }
 }
 
-/// Reads what the call will ask for first, before its first attempt: an attempt that has to ask is made for nothing.
-fn foresee(alloc: Global, engine: &mut Engine, txn: &mut Txn) -> Result<(), Unmet>
-    requires lives { Lives engine.old txn.old }
-    requires alone { IsAlone engine.old txn.old.id txn.old.key }
-    requires unread { txn.old.view.entries ≡ [] }
-    ensures goes_on { GoesOn engine.old engine.new txn.old txn.new }
-    ensures suited { OnOk result (IsSuited txn.new) }
-{
-    let Some(asked) = foreseen(txn.call()) else {
-        return Ok(());
-    };
-    acquire_all(alloc, engine, txn, &asked)?;
-    Ok(())
-}
-
-/// Reads these addresses, each in its mode. None of them is taken, since no other call is in progress.
-fn acquire_all(
+/// Reads an address. It is not taken, since no other call is in progress. An error leaves the call as it was.
+fn acquire(
     alloc: Global,
     engine: &mut Engine,
     txn: &mut Txn,
-    asked: &[(Addr, Mode)],
+    address: Addr,
+    mode: Mode,
 ) -> Result<(), Unmet>
     requires lives { Lives engine.old txn.old }
     requires alone { IsAlone engine.old txn.old.id txn.old.key }
-    requires once { EachOnce asked.now }
-    requires unseen { AllByRecursion (λ a. seen_at txn.old.view.entries a.0 ≡ None) asked.now }
+    requires unseen { seen_at txn.old.view.entries address ≡ None }
     ensures goes_on { GoesOn engine.old engine.new txn.old txn.new }
-    ensures filled { OnOk result
-        (txn.new.view ≡ record {
-          entries = txn.old.view.entries ++ map (shown_in (store_in engine.old.book)) asked.now;
-          reserved = txn.old.view.reserved;
-        }) }
+    ensures taken { OnOk result (HasTaken txn.old txn.new (shown_in (store_in engine.old.book) (address, mode))) }
+    ensures kept { OnErr result (txn.new ≡ txn.old) }
 {
-    for (address, mode) in asked {
-        match engine.acquire(alloc, txn, *address, *mode) {
-            Ok(Got::Yes) => {}
-            Ok(Got::Taken(_)) => unreachable!(),
-            Err(_) => return Err(Unmet),
-        }
+    match engine.acquire(alloc, txn, address, mode) {
+        Ok(Got::Yes) => Ok(()),
+        Ok(Got::Taken(_)) => unreachable!(),
+        Err(_) => Err(Unmet),
     }
-    Ok(())
 }
 
-/// Gets so many new numbers.
-fn reserve_all(alloc: Global, engine: &mut Engine, txn: &mut Txn, count: u32) -> Result<(), Unmet>
-    requires lives { Lives engine.old txn.old }
-    requires alone { IsAlone engine.old txn.old.id txn.old.key }
-    ensures goes_on { GoesOn engine.old engine.new txn.old txn.new }
-    ensures reserved { OnOk result (Numbered txn.old.view txn.new.view count) }
-{
-    for _number in 0..count {
-        reserve(alloc, engine, txn)?;
-    }
-    Ok(())
-}
-
-/// Gets a new number.
+/// Gets a new number. An error leaves the call as it was.
 fn reserve(alloc: Global, engine: &mut Engine, txn: &mut Txn) -> Result<(), Unmet>
     requires lives { Lives engine.old txn.old }
     requires alone { IsAlone engine.old txn.old.id txn.old.key }
     ensures goes_on { GoesOn engine.old engine.new txn.old txn.new }
-    ensures reserved { OnOk result
-        ((r : Reserved) × (txn.new.view ≡ with_number txn.old.view r)) }
+    ensures reserved { OnOk result ((r : Reserved) × HasNumber txn.old txn.new r) }
+    ensures kept { OnErr result (txn.new ≡ txn.old) }
 {
     match engine.reserve(alloc, txn, SHARD) {
         Ok(()) => Ok(()),
@@ -165,6 +135,7 @@ fn finish(alloc: Global, engine: &mut Engine, txn: Txn, change: Change) -> Answe
     requires lives { Lives engine.old txn }
     requires alone { IsAlone engine.old txn.id txn.key }
     requires promised { IsPromised (done_value txn.call txn.ctx txn.view (change_value change)) }
+    requires few { HasReadFew txn }
     ensures rest { IsAtRest engine.new }
     ensures ends { EndsIn engine.old engine.new txn result }
 {
@@ -178,6 +149,7 @@ fn finish(alloc: Global, engine: &mut Engine, txn: Txn, change: Change) -> Answe
 fn commit(alloc: Global, engine: &mut Engine, finished: Finished) -> Answer
     requires lives { Lives engine.old (txn_of finished) }
     requires alone { IsAlone engine.old finished.id finished.key }
+    requires few { HasReadFew (txn_of finished) }
     ensures rest { IsAtRest engine.new }
     ensures ends { EndsIn engine.old engine.new (txn_of finished) result }
 {

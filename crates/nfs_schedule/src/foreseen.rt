@@ -9,19 +9,16 @@ use nfs_machine::{Call, Handle};
 use nfs_objects::{Addr, Mode, Modes};
 use nfs_wire::NfsCall;
 
-/// What a call of NFS reads before all else, each in its mode: the exports, and what its first handle names. None of
+/// What a call of NFS reads before all else but the exports, with its mode: what its first handle names. None of
 /// another call, and where that is no handle.
-pub fn foreseen(call: &Call) -> Option<[(Addr, Mode); 2]>
+pub(crate) fn foreseen(call: &Call) -> Option<(Addr, Mode)>
     ensures { result ≡ foreseen call.now }
 {
     let Call::Nfs(nfs) = call else {
         return None;
     };
     let handle = Handle::read(first_handle(nfs)?.as_slice())?;
-    Some([
-        (Addr::Exports, Mode::Shared),
-        (Addr::Inode(handle.fileid), Modes::of(call).inodes),
-    ])
+    Some((Addr::Inode(handle.fileid), Modes::of(call).inodes))
 }
 
 /// The handle that a call names first, if it names one (RFC 1813, 3.3).

@@ -2,14 +2,15 @@
 //!
 //! `attempt` is what a call comes to on what it has read, by its program. A `Worker` thinks with no engine, and makes
 //! one step of the engine at each turn. A `World` has an engine with its workers. `drive` makes the steps of a list of
-//! events. `execute` brings one call to its answer with no worker, on an engine at rest.
+//! events. `next_step` tells which step of a call comes next, and `execute` makes these steps on an engine at rest.
 #![tactic(auto)]
 
 pub mod answer;
 pub mod attempts;
+pub mod course;
 pub mod driving;
 pub mod executing;
-pub mod foreseen;
+mod foreseen;
 pub mod laws;
 mod nlm;
 pub mod resting;
@@ -19,9 +20,10 @@ pub mod world;
 
 pub use answer::{Answer, Declined};
 pub use attempts::attempt;
+pub use course::{Course, NextStep, next_step};
 pub use driving::{Event, drive};
 pub use executing::execute;
-pub use laws::calls_ask_once;
+pub use laws::{calls_ask_once, courses_are_few};
 pub use resting::is_at_rest;
 pub use worker::{Afterwards, Worker};
 pub use world::World;

@@ -13,7 +13,7 @@ ghost use Rattle.nfs_schedule.specs.Turns.{Admits, AsksCall, IsTurnOf, KeepsQueu
 ghost use Rattle.nfs_schedule.specs.Workers.{Comes, IsSuited, MayThink, Thinks, WorkerLives};
 
 use crate::answer::{Answer, Declined, refusal_to, refuse};
-use crate::attempts::attempt;
+use crate::course::attempt_on;
 use nfs_engine::{Admission, Arrival, Engine, Finished, Got, Next, Pending, Release, Txn};
 use nfs_objects::{Addr, Change, Mode, Outcome};
 use std::alloc::Global;
@@ -112,9 +112,7 @@ fn consider(alloc: Global, txn: Txn) -> Worker
     requires { IsSuited txn }
     ensures { Comes txn result }
 {
-    // It brings that this is what the record asks, so that its procedure is built.
-    txn.is_called();
-    match attempt(alloc, txn.call(), txn.ctx(), txn.view()) {
+    match attempt_on(alloc, &txn) {
         Ok(Outcome::Need(wanted)) => Worker::Wanting(txn, wanted.into_iter()),
         Ok(Outcome::Fresh(count)) => Worker::Wishing(txn, count),
         Ok(Outcome::Done(change)) => finish(alloc, txn, change),

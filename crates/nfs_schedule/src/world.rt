@@ -23,7 +23,9 @@ pub struct World {
     engine: Engine,
     workers: Vec<Worker>,
     queue: VecDeque<Arrival>,
+    /// Each era that is over: a world lets none go, so it grows by all that comes in.
     eras: Vec<Era>,
+    /// Each message that was taken: none is let go either.
     taken: Vec<Posted>,
 }
 

@@ -13,7 +13,7 @@ returns-in-None-clause-rest c =
 
 pub returns-in-None-clause-ends : goal.returns-in-None-clause-ends
 returns-in-None-clause-ends c =
-    ends_executed _ _ _ _ _ _ (record {
+    ends_executed _ _ _ _ _ _ c.requires.few (record {
       commits = c.in-Ok.ensures.commits;
       keeps = c.in-Ok.ensures.keeps;
       step = c.in-Ok.ensures.step;

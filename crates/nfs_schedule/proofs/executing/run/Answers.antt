@@ -1,32 +1,25 @@
-use Rattle.std.proofs.Common.{sym, subst}
 use Rattle.nfs_engine.specs.Book.{store_in}
-use Rattle.nfs_engine.specs.Built.{IsBuilt}
-use Rattle.nfs_schedule.proofs.Alone.{goes_join, suited_on}
-use Rattle.nfs_schedule.proofs.Filling.{asked_unseen, need_grows, numbers_grow}
-use Rattle.nfs_schedule.proofs.Steps.{called_built}
+use Rattle.nfs_schedule.proofs.Alone.{goes_join}
+use Rattle.nfs_schedule.proofs.Stepping.{number_on, number_once, read_few, taken_on, taken_once}
 use Rattle.nfs_schedule.proofs.executing.run.Goals as goal
 
-pub attempt-requires-clause-built : goal.attempt-requires-clause-built
-attempt-requires-clause-built c = subst IsBuilt (sym c.call.ensures) (called_built _ _ _ _ c.is_called.ensures)
-
-pub acquire_all-requires-clause-unseen : goal.acquire_all-requires-clause-unseen
-acquire_all-requires-clause-unseen c =
-    asked_unseen _ _ _ _ _ _ _ _ c.in-Ok-Need.ensures.attempts c.in-Ok-Need.field-0-is c.call.ensures c.view-in-rounds.ensures
-    c.deref.ensures.value
-
-pub rounds-preserved-in-Ok-Need : goal.rounds-preserved-in-Ok-Need
-rounds-preserved-in-Ok-Need c = (
-  goes_join _ _ _ _ _ _ c.rounds.invariant.0 c.acquire_all.ensures.goes_on,
-  suited_on _ _ _ _ c.acquire_all.ensures.goes_on
-      (need_grows _ _ _ _ _ _ _ _ c.in-Ok-Need.ensures.attempts c.in-Ok-Need.field-0-is c.call.ensures
-      c.view-in-rounds.ensures c.deref.ensures.value (store_in c.rounds.engine.book) _ c.rounds.invariant.1
-      c.in_ok-acquire_all-in-Ok-Need.ensures.filled),
+pub steps-preserved-in-Acquire : goal.steps-preserved-in-Acquire
+steps-preserved-in-Acquire c = (
+  goes_join _ _ _ _ _ _ c.steps.invariant.0 c.acquire.ensures.goes_on,
+  taken_on c.steps.txn c.acquire.new.txn (c.in-Acquire.address, c.in-Acquire.mode)
+      ((store_in c.steps.engine.book).at c.in-Acquire.address) _ c.in-Acquire.ensures
+      c.in_ok-acquire-in-Acquire.ensures.taken,
+  taken_once c.steps.txn c.acquire.new.txn _ c.steps.invariant.2 c.in-Acquire.ensures.unseen
+      c.in_ok-acquire-in-Acquire.ensures.taken,
 )
 
-pub rounds-preserved : goal.rounds-preserved
-rounds-preserved c = (
-  goes_join _ _ _ _ _ _ c.rounds.invariant.0 c.reserve_all.ensures.goes_on,
-  suited_on _ _ _ _ c.reserve_all.ensures.goes_on
-      (numbers_grow _ _ _ _ _ _ _ _ c.in-Ok-Fresh.ensures.attempts c.in-Ok-Fresh.field-0-is c.rounds.invariant.1
-      c.in_ok-reserve_all-in-Ok-Fresh.ensures.reserved),
-)
+pub steps-preserved : goal.steps-preserved
+steps-preserved c =
+    let got = c.in_ok-reserve-in-Reserve.ensures.reserved in (
+      goes_join _ _ _ _ _ _ c.steps.invariant.0 c.reserve.ensures.goes_on,
+      number_on c.steps.txn c.reserve.new.txn got.0 _ c.in-Reserve.ensures got.1.call,
+      number_once c.steps.txn c.reserve.new.txn got.0 c.steps.invariant.2 got.1,
+    )
+
+pub returns-in-Commit-clause-few : goal.returns-in-Commit-clause-few
+returns-in-Commit-clause-few c = read_few c.steps.txn c.steps.invariant.2 c.in-Commit.ensures.0

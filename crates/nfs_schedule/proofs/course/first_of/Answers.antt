@@ -1,0 +1,5 @@
+use Rattle.nfs_schedule.proofs.Stepping.{first_is}
+use Rattle.nfs_schedule.proofs.course.first_of.Goals as goal
+
+pub returns : goal.returns
+returns c = first_is _ _ c.next.new.self c.in-Some.ensures.cases.0

@@ -1,0 +1,5 @@
+use Rattle.nfs_schedule.proofs.Few.{courses-few}
+use Rattle.nfs_schedule.proofs.laws.courses_are_few.Goals as goal
+
+pub returns : goal.returns
+returns c = courses-few

@@ -1,0 +1,128 @@
+//! The course of a call: which step comes next, until it is done or there is no memory. It touches no engine, so whoever
+//! has the call makes the step that is named, each in its own way.
+
+ghost use Rattle.std.specs.Prelude.{◌≡◌, [], IfOk};
+ghost use Rattle.std.specs.Vec.Iter.{into_iter_items};
+ghost use Rattle.nfs_objects.specs.Attempt.{AsksFirst, Attempts};
+ghost use Rattle.nfs_objects.specs.Bound.{view_after};
+ghost use Rattle.nfs_schedule.specs.Courses.{IsAfterNumber, IsAt, IsFirstOf, IsNextStep};
+ghost use Rattle.nfs_schedule.specs.Grown.{HasGrown};
+ghost use Rattle.nfs_schedule.specs.Workers.{IsSuited};
+
+use crate::attempts::attempt;
+use crate::foreseen::foreseen;
+use nfs_engine::Txn;
+use nfs_objects::{Addr, Change, Mode, Outcome};
+use std::alloc::{AllocError, Global};
+use std::vec::IntoIter;
+
+/// Where a call is between two of its steps.
+#[derive(Drop)]
+pub enum Course {
+    /// It has read nothing.
+    Begun,
+    /// It took the exports ahead of its first attempt, and wants this address next.
+    Foreseen(Addr, Mode),
+    /// It has to be attempted on what it has read.
+    Due,
+    /// It wants these addresses of those that its attempt asked for, the first one first.
+    Asked(IntoIter<(Addr, Mode)>),
+    /// It wants so many new numbers.
+    Numbers(u32),
+}
+
+/// The next step of a call. Once it is made the call is at what is told with it.
+#[derive(Drop)]
+pub enum NextStep {
+    /// It takes this address in this mode, with whatever stands there.
+    Acquire(Addr, Mode, Course),
+    /// It gets a new number.
+    Reserve(Course),
+    /// It is done: this is what it comes to.
+    Commit(Change),
+    /// There was no memory to attempt it.
+    Fail,
+}
+
+/// What comes next of a call that is there on its course.
+pub fn next_step(alloc: Global, txn: &Txn, course: Course) -> NextStep
+    requires { IsAt course txn.now }
+    ensures { IsNextStep txn.now result }
+{
+    match course {
+        Course::Begun => begin(alloc, txn),
+        Course::Foreseen(address, mode) => NextStep::Acquire(address, mode, Course::Due),
+        Course::Due => consider(alloc, txn),
+        Course::Asked(wanted) => match first_of(wanted) {
+            Some(next) => next,
+            None => consider(alloc, txn),
+        },
+        Course::Numbers(left) => NextStep::Reserve(after_number(left)),
+    }
+}
+
+/// The first step of a call: what an attempt asks for first is taken ahead of it, where it is foreseen.
+fn begin(alloc: Global, txn: &Txn) -> NextStep
+    requires { txn.now.view ≡ view_after [] }
+    ensures { IsNextStep txn.now result }
+{
+    match foreseen(txn.call()) {
+        Some((address, mode)) => {
+            NextStep::Acquire(Addr::Exports, Mode::Shared, Course::Foreseen(address, mode))
+        }
+        None => consider(alloc, txn),
+    }
+}
+
+/// The next step of a call that is attempted on what it has read.
+fn consider(alloc: Global, txn: &Txn) -> NextStep
+    requires { HasGrown txn.now }
+    ensures { IsNextStep txn.now result }
+{
+    match attempt_on(alloc, txn) {
+        Ok(Outcome::Need(asked)) => match first_of(asked.into_iter()) {
+            Some(next) => next,
+            None => unreachable!(),
+        },
+        Ok(Outcome::Fresh(count)) => NextStep::Reserve(after_number(count)),
+        Ok(Outcome::Done(change)) => NextStep::Commit(change),
+        Err(_) => NextStep::Fail,
+    }
+}
+
+/// What a call comes to on what it has read.
+///
+/// # Errors
+///
+/// There is no memory for it.
+pub(crate) fn attempt_on(alloc: Global, txn: &Txn) -> Result<Outcome, AllocError>
+    requires { IsSuited txn.now }
+    ensures attempts { IfOk result (Attempts txn.now.call txn.now.ctx txn.now.view) }
+    ensures first { IfOk result (AsksFirst txn.now.call txn.now.view) }
+{
+    // It brings that this is what the record asks, so that its procedure is built.
+    txn.is_called();
+    attempt(alloc, txn.call(), txn.ctx(), txn.view())
+}
+
+/// The step to the first of these addresses, and the others behind it. None where there is no address.
+fn first_of(wanted: IntoIter<(Addr, Mode)>) -> Option<NextStep>
+    ensures { IsFirstOf (into_iter_items wanted) result }
+{
+    let mut wanted = wanted;
+    let Some((address, mode)) = wanted.next() else {
+        return None;
+    };
+    Some(NextStep::Acquire(address, mode, Course::Asked(wanted)))
+}
+
+/// Where a call is that wanted so many new numbers and got one.
+fn after_number(left: u32) -> Course
+    ensures { IsAfterNumber left result }
+{
+    if left > 1 {
+        Course::Numbers(left - 1)
+    } else {
+        Course::Due
+    }
+}
