@@ -1,17 +1,16 @@
 -- Writes into the shards, one after the other.
 use Rattle.std.proofs.Common.{◌≡◌, ℕ, ◌<◌, true, false, cond, List}
 use Rattle.std.proofs.Common.{[], ◌∷◌, get_or, set, length}
-use Rattle.std.proofs.Common.{Option, Some, IsSome, refl, sym, ◌∙◌, ap, subst}
-use Rattle.std.specs.List.{AllByRecursion}
-use Rattle.nfs_objects.proofs.Seen.{all-map, is_addr-same}
+use Rattle.std.proofs.Common.{Option, Some, refl, sym, ◌∙◌, ap, subst}
+use Rattle.nfs_objects.proofs.Seen.{is_addr-same}
 use Rattle.nfs_objects.specs.Store.{Store, with_write, with_writes}
 use Rattle.nfs_objects.specs.Values.{is_addr, written_at}
 use Rattle.nfs_objects.specs.declared.address.Addr.{Addr}
 use Rattle.nfs_objects.specs.declared.object.Object.{Object}
 use Rattle.nfs_engine.proofs.Lifted.{any_default, each_shard, each_slot}
-use Rattle.nfs_engine.specs.Engine.{IsFilled, IsHeldAmong, held_among, shard_among, slot_among}
+use Rattle.nfs_engine.specs.Engine.{IsFilled, held_among, shard_among, slot_among}
 use Rattle.nfs_engine.specs.Holders.{hold_of}
-use Rattle.nfs_engine.specs.Shards.{Fills, IsHeld, ShardValue, shard_of}
+use Rattle.nfs_engine.specs.Shards.{Fills, ShardValue, shard_of}
 
 -- some of the writes are made, and the rest are still to be
 pub record Making (initial now : List ShardValue) (all rest : List (Addr × Option Object)) : Type 0 where
@@ -74,42 +73,6 @@ module _ (initial now : List ShardValue) (all rest left : List (Addr × Option O
     indices = λ k. each_shard now i s within (λ x y. y.index ≡ x.index) there.index (λ x. refl) k ∙
         before.indices k;
   }
-
--- ---- writes at addresses that somebody holds
-pub record Filling (initial now : List ShardValue) (all rest : List (Addr × Option Object)) : Type 0 where
-  pub made : Making initial now all rest
-  pub held : AllByRecursion (λ w. IsHeldAmong now w.0) rest
-
-pub filling_all : (initial now : List ShardValue) (all rest : List (Addr × Option Object)) →
-    Filling initial now all rest → rest ≡ [] → IsFilled initial now all
-filling_all initial now all rest f is = making_all initial now all rest f.made is
-
--- what is written next is held, in the shard where it was found
-pub next_held : (initial now : List ShardValue) (all rest left : List (Addr × Option Object)) (w : Addr ×
-    Option Object)
-    (i : ℕ) (was : ShardValue) → Filling initial now all rest → rest ≡ w ∷ left → i ≡ shard_of w.0 →
-    i < length now →
-    IsHeld (get_or now i was) w.0
-next_held initial now all rest left w i was f is where_is within =
-    subst (λ (x : ShardValue). IsHeld x w.0)
-    (sym (any_default now i was within ∙ ap (shard_among now) where_is))
-    (subst (λ ws. AllByRecursion (λ x. IsHeldAmong now x.0) ws) is f.held).0
-
-pub filling_more : (initial now : List ShardValue) (all rest left : List (Addr × Option Object)) (w : Addr ×
-    Option Object)
-    (i : ℕ) (s was : ShardValue) → Filling initial now all rest → rest ≡ w ∷ left → i ≡
-    shard_of w.0 → i < length now →
-    Fills (get_or now i was) s w.0 w.1 → Filling initial (set now i s) all left
-filling_more initial now all rest left w i s was f is where_is within fills = record {
-  made = making_more initial now all rest left w i s was f.made is where_is within fills;
-  held = all-map (λ v. IsHeldAmong now v.0) (λ v. IsHeldAmong (set now i s) v.0)
-      (λ v x. record {
-        holder = x.holder;
-        holds = subst (λ m. IsSome m)
-            (sym (filled_holds initial now all rest left w i s was f.made is where_is within fills v.0 x.holder))
-            x.holds;
-      }) left (subst (λ ws. AllByRecursion (λ x. IsHeldAmong now x.0) ws) is f.held).1;
-}
 
 -- the writes of a store, at each address
 pub written_over : (ws : List (Addr × Option Object)) (s : Store) (a : Addr) →

@@ -22,6 +22,7 @@ pub mod Left
 pub mod Lifted
 pub mod Listed
 pub mod Loosed
+pub mod Making
 pub mod Opened
 pub mod Openings
 pub mod Parted
@@ -30,6 +31,7 @@ pub mod Places
 pub mod Reheld
 pub mod Reserving
 pub mod Settled
+pub mod Sixteen
 pub mod Sizes
 pub mod Slots
 pub mod Stepped

@@ -22,13 +22,14 @@ use Rattle.nfs_engine.proofs.Filled.{written_over}
 use Rattle.nfs_engine.proofs.Parted.{stays_running, was_running}
 use Rattle.nfs_engine.specs.Book.{BookValue, Commits, IsRun, MayCommit, store_in}
 use Rattle.nfs_engine.specs.Calls.{FinishedValue, TxnValue, txn_of}
-use Rattle.nfs_engine.specs.Engine.{EngineValue, Frees, IsFilled, IsHeldAmong, IsLeaving, IsTied}
+use Rattle.nfs_engine.specs.Engine.{EngineValue, IsHeldAmong, IsLeaving, IsTied}
 use Rattle.nfs_engine.specs.Engine.{KeepsCounters, KeepsOthers, LeadsTo, Lives, freed, held_among, kept_by}
 use Rattle.nfs_engine.specs.Engine.{mode_in, shard_among, slot_among}
 use Rattle.nfs_engine.specs.Holders.{HoldersValue, hold_in, hold_of, is_among}
 use Rattle.nfs_engine.specs.Releases.{ReleaseValue}
 use Rattle.nfs_engine.specs.Repeats.{origin_of}
 use Rattle.nfs_engine.specs.Running.{origin_at, running_at, without_call}
+use Rattle.nfs_engine.specs.Settling.{IsSettled}
 use Rattle.nfs_engine.specs.Shards.{ShardValue, shard_of}
 use Rattle.nfs_engine.specs.declared.release.Then.TheVariants.{Ended}
 use Rattle.nfs_engine.specs.declared.running.Running.{Running}
@@ -185,11 +186,11 @@ came_so e t lives =
     its_origin e.book.living t.key lives.running.running lives.running.there t.id lives.running.same
     ∙ lives.running.came
 
-module _ (book later : BookValue) (old mid new : List ShardValue) (f : FinishedValue) (r : ReleaseValue)
+module _ (book later : BookValue) (old new : List ShardValue) (f : FinishedValue) (r : ReleaseValue)
     (tied : IsTied (record { book = book; shards = old })) (lives : Lives (record { book = book; shards = old })
     (txn_of f))
     (promised : IsPromised f.done) (run : IsRun book) (commits : Commits book later f)
-    (ws : List (Addr × Option Object)) (made : IsFilled old mid ws) (let_go : Frees mid new r.done r.id r.view.entries)
+    (ws : List (Addr × Option Object)) (done : IsSettled old new r.done r.id r.view.entries ws)
     (writes : ws ≡ f.done.change.writes) (id : r.id ≡ f.id) (view : r.view ≡ f.done.view) (over : r.after ≡
     Ended) where
   abbrev pub before : EngineValue
@@ -198,12 +199,10 @@ module _ (book later : BookValue) (old mid new : List ShardValue) (f : FinishedV
   abbrev pub after : EngineValue
   after = record { book = later; shards = new }
 
-  filled : IsFilled old mid f.done.change.writes
-  filled = subst (λ (xs : List (Addr × Option Object)). IsFilled old mid xs) writes made
-
-  frees : Frees mid new r.done f.id f.done.view.entries
-  frees = subst (λ k. Frees mid new r.done k f.done.view.entries) id
-      (subst (λ (v : ViewValue). Frees mid new r.done r.id v.entries) view let_go)
+  settled : IsSettled old new r.done f.id f.done.view.entries f.done.change.writes
+  settled = subst (λ (xs : List (Addr × Option Object)). IsSettled old new r.done f.id f.done.view.entries xs) writes
+      (subst (λ k. IsSettled old new r.done k f.done.view.entries ws) id
+      (subst (λ (v : ViewValue). IsSettled old new r.done r.id v.entries ws) view done))
 
   ids : later.next_id ≡ book.next_id
   ids = ap (λ (b : BookValue). b.next_id) commits.rest
@@ -216,8 +215,7 @@ module _ (book later : BookValue) (old mid new : List ShardValue) (f : FinishedV
 
   holds : (b : Addr) (j : ℕ) → held_among new b j ≡
       none_where ((f.id == j) && freed r.done f.done.view.entries b) (held_among old b j)
-  holds b j = frees.holds b j ∙ ap (λ (m : Option Mode).
-      none_where ((f.id == j) && freed r.done f.done.view.entries b) m) (filled.holds b j)
+  holds b j = settled.holds b j
 
   others_hold : (b : Addr) (j : ℕ) → j ≢ f.id → held_among new b j ≡ held_among old b j
   others_hold b j apart = holds b j ∙ elim (f.id == j) as (λ t. (f.id == j) ≡ t →
@@ -242,7 +240,7 @@ module _ (book later : BookValue) (old mid new : List ShardValue) (f : FinishedV
       seen_or false x = refl
 
   counters : (k : ℕ) → (shard_among new k).next_generation ≡ (shard_among old k).next_generation
-  counters k = frees.counters k ∙ filled.counters k
+  counters k = settled.counters k
 
   pub settled_counters : KeepsCounters before after
   settled_counters = record { ids = ids; generations = counters }
@@ -265,8 +263,8 @@ module _ (book later : BookValue) (old mid new : List ShardValue) (f : FinishedV
 
   pub settled_tied : IsTied after
   settled_tied = record {
-    objects = λ a. frees.objects a ∙ some_same (slot_among mid a).object ((store_in later).at a)
-        (filled.objects a ∙ ap (λ o. written_at (Some o) f.done.change.writes a) (tied.objects a) ∙
+    objects = λ a. some_same (slot_among new a).object ((store_in later).at a)
+        (settled.objects a ∙ ap (λ o. written_at (Some o) f.done.change.writes a) (tied.objects a) ∙
         sym (written_over f.done.change.writes (store_in book) a) ∙
         ap (λ (s : Store). Some (s.at a)) (sym commits.store));
     below = λ n. (let less = all_below f.done.view (store_in book) (λ k. (shard_among old k).next_generation)
@@ -276,7 +274,7 @@ module _ (book later : BookValue) (old mid new : List ShardValue) (f : FinishedV
         let kept = counters (n % 16) in
         omega arith);
     held = λ a j some. (let same = ids in let was = tied.held a j (fewer a j some) in omega arith);
-    indices = λ k within. frees.indices k ∙ filled.indices k ∙ tied.indices k within;
+    indices = λ k within. settled.indices k ∙ tied.indices k within;
   }
     where
       some_same : (x y : Option Object) → Some x ≡ Some y → x ≡ y

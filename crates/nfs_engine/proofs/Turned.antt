@@ -1,16 +1,24 @@
 -- Why a call does not begin.
-use Rattle.std.proofs.Common.{◌≡◌, ◌≢◌, ℕ, ◌-◌, ◌^◌, Option, IfSome, Err, inr, refl, sym, ap, subst}
-use Rattle.nfs_machine.specs.Run.{Received, Setting}
-use Rattle.nfs_replies.specs.Replies.{RepliesValue}
+use Rattle.std.proofs.Common.{◌≡◌, ◌≢◌, ℕ, ◌-◌, ◌^◌, Bool, true, false, cond, List, [], Option, Some, None, IfSome}
+use Rattle.std.proofs.Common.{IsSome, Ok, Err, inl, inr, refl, sym, ap, subst, ◌∙◌}
+use Rattle.nfs_machine.specs.Changing.{is_changing}
+use Rattle.nfs_machine.specs.Run.{Received, Setting, context_of}
+use Rattle.nfs_replies.specs.Kept.ReplyEvent.{Repeated}
+use Rattle.nfs_replies.specs.Replies.{IsAfter, RepliesValue}
 use Rattle.nfs_replies.specs.declared.origins.Origin.{Origin}
-use Rattle.nfs_engine.specs.Arrivals.{ArrivalValue}
-use Rattle.nfs_engine.specs.Book.{Admits, BookValue, IsNoRepeat, IsUnknown, book_value}
+use Rattle.nfs_engine.specs.Arrivals.{ArrivalValue, received_value}
+use Rattle.nfs_engine.specs.Book.{Admits, AsksChange, BeginsCall, BookValue, IsNoRepeat, IsUnknown, Repeats}
+use Rattle.nfs_engine.specs.Book.{StillRuns, book_value}
+use Rattle.nfs_engine.specs.Calls.{TxnValue}
+use Rattle.nfs_engine.specs.Candidates.{IsCandidate, candidate_value}
 use Rattle.nfs_engine.specs.Journal.{JournalValue}
-use Rattle.nfs_engine.specs.Repeats.{origin_of}
-use Rattle.nfs_engine.specs.Running.{CallsValue, IsBegun}
+use Rattle.nfs_engine.specs.Repeats.{RepeatValue, kept_for, origin_in, origin_of}
+use Rattle.nfs_engine.specs.Running.{CallsValue, IsBegun, IsInProgress, Joins}
 use Rattle.nfs_engine.specs.declared.arrival.Reading.{Reading}
 use Rattle.nfs_engine.specs.declared.arrival.Reading.TheVariants.{Asks, Faulted}
 use Rattle.nfs_engine.specs.declared.asking.Asked.{Asked}
+use Rattle.nfs_engine.specs.declared.request.Request.{Request}
+use Rattle.nfs_engine.specs.declared.running.Place.{Place}
 use Rattle.nfs_engine.specs.declared.running.AdmitError.{AdmitError}
 use Rattle.nfs_engine.specs.declared.running.AdmitError.TheVariants.{Memory, Spent}
 
@@ -62,3 +70,105 @@ module _ (journal : JournalValue) (replies : RepliesValue) (calls : CallsValue) 
       (λ (c : CallsValue). Admits (with_calls calls) (with_calls c) (arrival (with_calls calls) received asked)
       (Err (Spent, arrival (with_calls calls) received asked)))
       (sym same.0) (spent (with_calls calls) received asked origin is unknown same.1)
+
+-- ---- candidates
+module _ (r : Request) (origin : Option Origin) (is : IsCandidate r origin) where
+  abbrev asked_by : Asked
+  asked_by = record { xid = r.xid; ids = r.ctx.ids; call = r.call }
+
+  -- what one would begin is no repeat, where nothing is known of what it came with
+  pub none_known : (b : BookValue) → IfSome origin (IsUnknown b) → IsNoRepeat b (candidate_value r)
+  none_known b unknown = no_repeat b (received_value r.received) asked_by origin is.origin_is unknown
+
+  -- and the other way round
+  pub known_of : (b : BookValue) → IsNoRepeat b (candidate_value r) → IfSome origin (IsUnknown b)
+  known_of b none = subst (λ (o : Option Origin). IfSome o (IsUnknown b)) (sym is.origin_is) (none asked_by refl)
+
+  -- where a repeat would come with this, it changes something
+  pub changes_with : (o : Origin) → origin ≡ Some o →
+      (is_changing r.call ≡ true) × (o ≡ origin_in (received_value r.received))
+  changes_with o some = by (is_changing r.call) (sym is.origin_is ∙ some)
+    where
+      by : (t : Bool) → cond t (Some (origin_in (received_value r.received))) None ≡ Some o →
+          (t ≡ true) × (o ≡ origin_in (received_value r.received))
+      by true e = (refl, let same : o ≡ origin_in (received_value r.received) = cc in same)
+      by false e = cc
+
+  pub asks_change : (o : Origin) → origin ≡ Some o → AsksChange (candidate_value r)
+  asks_change o some = record { asked = asked_by; asks = refl; changes = (changes_with o some).0 }
+
+  -- what is known of what it came with, as the book tells it
+  module _ (old new : BookValue) (o x : Origin) (some : origin ≡ Some o) (same : x ≡ o) where
+    came : x ≡ origin_in (received_value r.received)
+    came = same ∙ (changes_with o some).1
+
+    pub recalled_kept : (reply : List ℕ) (kept : RepeatValue) → (kept_for old.replies x ≡ Some reply) ×
+        IsAfter (Repeated x.host x.bytes) old.replies new.replies × (new ≡ record old { replies = new.replies }) →
+        kept ≡ record { received = received_value r.received; reply = reply } →
+        Repeats old new (candidate_value r) kept
+    recalled_kept reply kept known is_kept = record {
+      asks = asks_change o some;
+      received = ap (λ (k : RepeatValue). k.received) is_kept;
+      reply = ap (kept_for old.replies) (sym came) ∙ known.0 ∙
+          ap (λ (k : RepeatValue). Some k.reply) (sym is_kept);
+      front = subst (λ (y : Origin). IsAfter (Repeated y.host y.bytes) old.replies new.replies) came known.1;
+      rest = known.2;
+    }
+
+    pub recalled_running : (back : ArrivalValue) → (kept_for old.replies x ≡ None) × IsInProgress old.living x ×
+        (new ≡ old) →
+        back ≡ candidate_value r → StillRuns old new (candidate_value r) back
+    recalled_running back known handed = record {
+      asks = asks_change o some;
+      unkept = ap (kept_for old.replies) (sym came) ∙ known.0;
+      running = subst (IsInProgress old.living) came known.1;
+      handed = handed;
+      unchanged = known.2;
+    }
+
+    pub recalled_wanting : (back : ArrivalValue) → IsSome (kept_for old.replies x) × (new ≡ old) →
+        back ≡ candidate_value r → Admits old new (candidate_value r) (Err (Memory, back))
+    recalled_wanting back known handed = (
+      record { asked = asked_by; asks = refl; handed = handed; unchanged = known.1 },
+      inl (record {
+        asks = asks_change o some;
+        kept = subst (λ (y : Origin). IsSome (kept_for old.replies y)) came known.0;
+      }),
+    )
+
+-- a call that begins is made under what the server was started with
+pub entered : (journal : JournalValue) (replies : RepliesValue) (calls later : CallsValue) (setting : Setting)
+    (limit : ℕ) (r : Request) (origin : Option Origin) (t : TxnValue) (place : Place) → IsCandidate r origin →
+    IsNoRepeat (book_value journal replies calls setting limit) (candidate_value r) →
+    IsBegun calls later origin (Ok place) → t ≡ record {
+      id = place.id;
+      key = place.key;
+      received = received_value r.received;
+      xid = r.xid;
+      call = r.call;
+      ctx = record (r.ctx) { start = setting.start; limits = setting.limits };
+      view = record { entries = []; reserved = [] };
+    } → BeginsCall (book_value journal replies calls setting limit) (book_value journal replies later setting limit)
+    (candidate_value r) t
+entered journal replies calls later setting limit r origin t place is none began txn = record {
+  asked = asked_by r origin is;
+  asks = refl;
+  txn = txn ∙ (λ i. let u : TxnValue = record {
+    id = began.0 i;
+    key = key_is i;
+    received = received_value r.received;
+    xid = r.xid;
+    call = r.call;
+    ctx = context_of setting (is.host i) r.ctx.ids (is.moment i);
+    view = record { entries = []; reserved = [] };
+  } in u);
+  unknown = none (asked_by r origin is) refl;
+  joins = subst (λ (p : Option Origin). Joins calls.living later.living t.key t.id p) is.origin_is
+      (subst (λ n. Joins calls.living later.living t.key n origin) (sym (ap (λ (u : TxnValue). u.id) txn))
+      (subst (λ n. Joins calls.living later.living n place.id origin) key_is began.2));
+  rest = λ i. book_value journal replies (let c : CallsValue = record
+      { living = later.living; next_id = began.1 i } in c) setting limit;
+}
+  where
+    key_is : place.key ≡ t.key
+    key_is = sym (ap (λ (u : TxnValue). u.key) txn)

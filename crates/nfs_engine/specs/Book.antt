@@ -5,7 +5,7 @@ use Rattle.std.specs.Prelude.{None, Result, Ok, Err, Bool, true, ◌||◌, nat_l
 use Rattle.side_wire.specs.declared.message.Message.{Message}
 use Rattle.nfs_machine.specs.Changing.{is_changing}
 use Rattle.nfs_machine.specs.RpcReplies.{success_message}
-use Rattle.nfs_machine.specs.Run.{Received, Record, Run, Setting, context_of}
+use Rattle.nfs_machine.specs.Run.{Record, Run, Setting, context_of}
 use Rattle.nfs_machine.specs.State.{State}
 use Rattle.nfs_machine.specs.Step.{Step}
 use Rattle.nfs_machine.specs.WellFormed.{WellFormed}
@@ -36,6 +36,8 @@ use Rattle.nfs_engine.specs.declared.admission.Admission.TheVariants as admissio
 use Rattle.nfs_engine.specs.declared.admission.Refused.{Refused}
 use Rattle.nfs_engine.specs.declared.book.Recalled.{Recalled}
 use Rattle.nfs_engine.specs.declared.book.Recalled.TheVariants as recalled
+use Rattle.nfs_engine.specs.declared.candidate.Prepared.{Prepared}
+use Rattle.nfs_engine.specs.declared.candidate.Prepared.TheVariants as prepared
 use Rattle.nfs_engine.specs.declared.outbox.Posted.{Posted}
 use Rattle.nfs_engine.specs.declared.records.Era.{Era}
 use Rattle.nfs_engine.specs.declared.running.AdmitError.{AdmitError}
@@ -197,15 +199,27 @@ IsAdmitted old new a (admission.Running back) = StillRuns old new a back
 IsAdmitted old new a (admission.Early early) = (a.reading ≡ readings.Faulted early.answer) ×
     (received_value early.received ≡ a.received) × (new ≡ old)
 
--- what is known of what came in, where it asks a call that changes something; nothing changes but that a reply that is
--- kept comes to the front; no memory only for a reply that is kept
-abbrev pub Recalls : {E : Type 0} → BookValue → BookValue → Received → Result Recalled E → Type 0
-Recalls old new r (Ok (recalled.Kept reply)) = (kept_for old.replies (origin_in r) ≡ Some reply) ×
-    IsAfter (Repeated r.host r.bytes) old.replies new.replies × (new ≡ record old { replies = new.replies })
-Recalls old new r (Ok recalled.Running) = (kept_for old.replies (origin_in r) ≡ None) ×
-    IsInProgress old.living (origin_in r) × (new ≡ old)
-Recalls old new r (Ok recalled.Unknown) = IsUnknown old (origin_in r) × (new ≡ old)
-Recalls old new r (Err error) = IsSome (kept_for old.replies (origin_in r)) × (new ≡ old)
+-- what is known of what came with this, where it asks a call that changes something; nothing changes but that a reply
+-- that is kept comes to the front; no memory only for a reply that is kept
+abbrev pub Recalls : {E : Type 0} → BookValue → BookValue → Origin → Result Recalled E → Type 0
+Recalls old new origin (Ok (recalled.Kept reply)) = (kept_for old.replies origin ≡ Some reply) ×
+    IsAfter (Repeated origin.host origin.bytes) old.replies new.replies × (new ≡ record old { replies = new.replies })
+Recalls old new origin (Ok recalled.Running) = (kept_for old.replies origin ≡ None) ×
+    IsInProgress old.living origin × (new ≡ old)
+Recalls old new origin (Ok recalled.Unknown) = IsUnknown old origin × (new ≡ old)
+Recalls old new origin (Err error) = IsSome (kept_for old.replies origin) × (new ≡ old)
+
+-- what is wanting for a call for which there is no memory: a number, just where they are at their end
+abbrev pub IsWant : BookValue → AdmitError → Type 0
+IsWant b Memory = b.next_id ≢ 2 ^ 64 - 1
+IsWant b Spent = b.next_id ≡ 2 ^ 64 - 1
+
+-- what asks a call is ready for its admission, unless there is no memory; what has a fault has its answer
+abbrev pub Prepares : ArrivalValue → Result Prepared ArrivalValue → Type 0
+Prepares a (Ok (prepared.Call candidate)) = candidate ≡ a
+Prepares a (Ok (prepared.Early fault)) =
+    (a.reading ≡ readings.Faulted fault.answer) × (received_value fault.received ≡ a.received)
+Prepares a (Err back) = (back ≡ a) × (asked : Asked) × (a.reading ≡ readings.Asks asked)
 
 -- only what asks a call is refused, and then all is as it was
 pub record IsRefused (old new : BookValue) (a back : ArrivalValue) : Type 0 where

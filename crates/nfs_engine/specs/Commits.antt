@@ -11,7 +11,7 @@ use Rattle.nfs_engine.specs.Journal.{JournalValue, TakesPosted}
 use Rattle.nfs_engine.specs.Releases.{ReleaseValue}
 use Rattle.nfs_engine.specs.Tables.{store_of}
 use Rattle.nfs_engine.specs.declared.journal.Committed.{Committed}
-use Rattle.nfs_engine.specs.declared.journal.Ready.{Ready}
+use Rattle.nfs_engine.specs.declared.journal.Numbered.{Numbered}
 use Rattle.nfs_engine.specs.declared.journal.Receipt.{Receipt}
 use Rattle.nfs_engine.specs.declared.outbox.Posted.{Posted}
 use Rattle.nfs_engine.specs.declared.records.Era.{Era}
@@ -42,24 +42,17 @@ pub record SameJournal (old new : JournalValue) : Type 0 where
   pub outbox : new.outbox ≡ record old.outbox { room = new.outbox.room }
   pub base : new.base ≡ old.base
 
--- the reply is spelled, and what the call writes, posts and records is there once more
-pub record IsMade (f : FinishedValue) (ready : Ready) : Type 0 where
-  pub answer : ready.answer ≡ success_message f.xid f.done.change.reply
-  pub writes : map write_value ready.writes.items ≡ f.done.change.writes
-  pub messages : ready.messages.items ≡ f.done.change.messages
-  pub executed : shared_value ready.executed ≡ record_of f
-
 -- there is room for so many writes and messages, and for one more record
 pub record HasRoom (j : JournalValue) (writes messages : ℕ) : Type 0 where
   pub objects : writes ≤ j.objects.room
   pub records : 0 < j.records.room
   pub outbox : messages ≤ j.outbox.room
 
--- all that the call's commit wants is made, and there is room
-pub record IsReady (j : JournalValue) (f : FinishedValue) (ready : Ready) : Type 0 where
-  pub numbers : HasNumbers j f ready.number
-  pub made : IsMade f ready
-  pub room : HasRoom j (length ready.writes.items) (length ready.messages.items)
+-- the call's record has its number and its answer, and there is room
+pub record IsReady (j : JournalValue) (f : FinishedValue) (numbered : Numbered) : Type 0 where
+  pub numbers : HasNumbers j f numbered.number
+  pub answer : numbered.answer ≡ success_message f.xid f.done.change.reply
+  pub room : HasRoom j (length f.done.change.writes) (length f.done.change.messages)
 
 -- the writes are made, one record more, and its messages are to be sent
 pub record Writes (old new : JournalValue) (f : FinishedValue) : Type 0 where

@@ -6,6 +6,7 @@ pub mod Book
 pub mod Bounds
 pub mod Built
 pub mod Calls
+pub mod Candidates
 pub mod Commits
 pub mod Engine
 pub mod EngineLaws
@@ -15,11 +16,13 @@ pub mod Holders
 pub mod Hosts
 pub mod Journal
 pub mod Locked
+pub mod Made
 pub mod Numbers
 pub mod Opening
 pub mod Releases
 pub mod Repeats
 pub mod Running
+pub mod Settling
 pub mod Shards
 pub mod Tables
 pub mod Taking

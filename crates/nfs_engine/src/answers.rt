@@ -1,18 +1,31 @@
 //! The bytes of answers, each one fragment.
 
-ghost use Rattle.std.specs.Prelude.{◌≡◌, ◌≢◌, ◌++◌, IfOk, OnErr, OnOk};
+ghost use Rattle.std.specs.Prelude.{◌≡◌, ◌≢◌, ◌++◌, IfOk, IfSome, OnErr, OnOk};
 ghost use Rattle.nfs_engine.specs.Forms.{HasForm, RefusalHasForm};
 ghost use Rattle.nfs_engine.specs.Answers.{answer_of, fault_answer};
+ghost use Rattle.nfs_wire.specs.Replies.{HasNfsForm};
+ghost use Rattle.nfs_machine.specs.declared.calls.Reply.TheVariants as replies;
 ghost use Rattle.nfs_machine.specs.RpcReplies.{failure_message, refusal_message, results_of, success_message};
 
+use crate::forms::is_formed;
 use nfs_machine::{Refusal, Reply};
 use nfs_rpc::{Answer, Early, Fault, finish_record, start_record, write_reply};
+use nfs_wire::NfsReply;
 use nfs_xdr::{Writer, XdrError};
 use side_wire::{mount, nlm};
 use std::alloc::{AllocError, Global};
 
 /// Room for most answers.
 const CAPACITY: usize = 256;
+
+/// Room for a reply with no result (RFC 5531, section 9): its header.
+const NOTHING: usize = 24;
+
+/// Room for a reply with a status and attributes (RFC 1813, 2.6).
+const ATTRIBUTES: usize = NOTHING + 4 + 84;
+
+/// The most bytes of a reply of NFS that are spelled before its call is committed.
+const MAX_LENGTH: usize = 1 << 30;
 
 /// The bytes of the reply to a call that was executed: its results.
 ///
@@ -34,6 +47,55 @@ fn write_success(alloc: Global, xid: u32, reply: &Reply) -> Result<Vec<u8>, XdrE
     write_reply(&mut writer, xid, Answer::Success)?;
     write_results(&mut writer, reply)?;
     Ok(finish_record(writer))
+}
+
+/// The bytes of the reply to a call, where its form is seen in the reply alone: one of NFS whose parts are within their
+/// bounds. None for any other.
+///
+/// # Errors
+///
+/// There is no memory for them.
+pub(crate) fn spell(alloc: Global, xid: u32, reply: &Reply) -> Result<Option<Vec<u8>>, AllocError>
+    ensures { IfOk result (λ answer. IfSome answer (λ bytes. bytes.items ≡ success_message xid reply.now)) }
+{
+    match reply {
+        Reply::Nfs(nfs) => {
+            if !is_formed(nfs) {
+                return Ok(None);
+            }
+            spell_nfs(alloc, xid, nfs).map_err(|_| AllocError)
+        }
+        Reply::Mount(_) => Ok(None),
+        Reply::Nlm(_) => Ok(None),
+    }
+}
+
+/// The bytes of a reply of NFS; None where one fragment does not hold them (RFC 5531, section 11).
+fn spell_nfs(alloc: Global, xid: u32, reply: &NfsReply) -> Result<Option<Vec<u8>>, XdrError>
+    requires { HasNfsForm reply.now }
+    ensures { IfOk result
+        (λ answer. IfSome answer (λ bytes. bytes.items ≡ success_message xid (replies.Nfs reply.now))) }
+{
+    let mut writer = start_record(alloc, room_for(reply))?;
+    write_reply(&mut writer, xid, Answer::Success)?;
+    nfs_wire::write_result(&mut writer, reply)?;
+    if writer.len() > MAX_LENGTH {
+        return Ok(None);
+    }
+    Ok(Some(finish_record(writer)))
+}
+
+/// Room for a reply of NFS, so that most are written without growth and few keep more than they have.
+fn room_for(reply: &NfsReply) -> usize {
+    match reply {
+        NfsReply::Null => NOTHING,
+        NfsReply::Getattr(_) => ATTRIBUTES,
+        NfsReply::Read(read) => match &read.result {
+            Ok(read) => read.data.len().saturating_add(CAPACITY),
+            Err(_) => CAPACITY,
+        },
+        _ => CAPACITY,
+    }
 }
 
 /// The bytes of the reply that tells this fault.

@@ -9,7 +9,7 @@ use crate::answers;
 use crate::asking::{Asked, Unasked, read_record};
 use crate::host::Host;
 use nfs_machine::{Moment, Reply};
-use nfs_replies::Origin;
+use nfs_replies::{Hashed, Origin};
 use nfs_rpc::Record;
 use side_wire::Message;
 use std::alloc::{AllocError, Global};
@@ -42,13 +42,13 @@ impl Received {
         })
     }
 
-    /// What a repeat of it would come with too; it shares the bytes.
+    /// What a repeat of it would come with too; it shares the bytes, and reads them for their hash.
     pub(crate) fn origin(&self) -> Result<Origin, AllocError>
         ensures { IfOk result (λ origin. origin ≡ origin_in (received_value self.now)) }
     {
         Ok(Origin {
             host: self.host.text().clone()?,
-            bytes: self.message.clone()?,
+            bytes: Hashed::new(self.message.clone()?),
         })
     }
 }

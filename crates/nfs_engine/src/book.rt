@@ -5,11 +5,10 @@ ghost use Rattle.std.specs.Prelude.{IfErr, IfOk, IfSome, MatchOption, OnOk, Some
 ghost use Rattle.std.specs.Bool.{Decides};
 ghost use Rattle.nfs_engine.specs.Arrivals.{received_value, shared_value};
 ghost use Rattle.nfs_engine.specs.Asked.{IsAsked};
-ghost use Rattle.nfs_engine.specs.Book.{Admits, Commits, GivesUp, IsRun, IsUnknown, LeadsBook, MayCommit, Rebases};
-ghost use Rattle.nfs_engine.specs.Book.{Recalls, Steps, TakesEra, TakesMessage, is_full, store_in};
+ghost use Rattle.nfs_engine.specs.Book.{Admits, Commits, GivesUp, IsNoRepeat, IsRun, IsWant, LeadsBook, MayCommit};
+ghost use Rattle.nfs_engine.specs.Book.{Rebases, Recalls, Steps, TakesEra, TakesMessage, is_full, store_in};
 ghost use Rattle.nfs_engine.specs.Calls.{IsUnder};
 ghost use Rattle.nfs_engine.specs.Commits.{IsReceipt, Leaves};
-ghost use Rattle.nfs_engine.specs.Hosts.{IsHost};
 ghost use Rattle.nfs_engine.specs.Opening.{IsStartError, Opens, no_store};
 ghost use Rattle.nfs_engine.specs.Repeats.{Keeps, NoneIsKept, origin_of};
 ghost use Rattle.nfs_engine.specs.Running.{living_count, running_at};
@@ -17,28 +16,25 @@ ghost use Rattle.nfs_objects.specs.Store.{with_writes};
 ghost use Rattle.nfs_objects.specs.Values.{write_value};
 ghost use Rattle.nfs_machine.specs.Changing.{is_changing};
 ghost use Rattle.nfs_machine.specs.RpcReplies.{success_message};
-ghost use Rattle.nfs_machine.specs.Run.{context_of};
 ghost use Rattle.nfs_engine.specs.declared.arrival.Reading.TheVariants as readings;
 
-use crate::admission::{Admission, Faulted, Refused};
+use crate::admission::{Admission, Refused};
 use crate::arrival::{Arrival, Executed, Reading, Received};
 use crate::asking::Asked;
 use crate::calls::{Finished, Pending, Txn};
+use crate::candidate::{Candidate, Prepared};
 use crate::changing::is_changing;
-use crate::host::Host;
 use crate::journal::{Committed, Journal};
 use crate::kept::{Kept, keep_answer};
 use crate::objects::Objects;
 use crate::opening::{Config, StartError, is_limit, opening_writes};
 use crate::outbox::Posted;
 use crate::records::Era;
-use crate::request::Request;
 use crate::running::{AdmitError, Calls, Place};
 use bytes::Bytes;
-use nfs_machine::{Call, Ctx, Limits, Moment};
+use nfs_machine::{Ctx, Limits};
 use nfs_objects::{View, Write};
-use nfs_replies::{Capacity, Origin, Replies};
-use nfs_rpc::Ids;
+use nfs_replies::{Capacity, Replies, Sought};
 use std::alloc::{AllocError, Global};
 use std::marker::Model;
 use std::sync::Arc;
@@ -131,23 +127,61 @@ impl Book {
     ) -> Result<Admission, (AdmitError, Arrival)>
         ensures { Admits self.old self.new arrival result }
     {
-        let (received, reading) = arrival.into_parts();
-        match reading {
-            Reading::Asks(asked) => {
-                if is_changing(&asked.call) {
-                    self.admit_change(alloc, received, asked)
-                } else {
-                    self.begin(alloc, received, asked)
-                }
-            }
-            Reading::Faulted(answer) => Ok(Admission::Early(Faulted { received, answer })),
+        match arrival.prepare(alloc) {
+            Ok(Prepared::Call(candidate)) => self.admit_call(alloc, candidate),
+            Ok(Prepared::Early(faulted)) => Ok(Admission::Early(faulted)),
+            Err(arrival) => self.turn_away(arrival),
         }
     }
 
-    /// Admits a record that asks a call that changes something.
-    fn admit_change(
+    /// Admits a record that asks a call, for which all is made: its call is in progress, or it is a repeat of a call
+    /// that changes something, and has the reply that is kept, or waits for that call.
+    ///
+    /// # Errors
+    ///
+    /// As `admit`.
+    pub fn admit_call(
         &mut self,
         alloc: Global,
+        candidate: Candidate,
+    ) -> Result<Admission, (AdmitError, Arrival)>
+        ensures { Admits self.old self.new candidate result }
+    {
+        let Some(origin) = &candidate.origin else {
+            return self.enter(alloc, candidate);
+        };
+        match self.recall(&origin.host, origin.bytes.sought()) {
+            Ok(Recalled::Kept(reply)) => {
+                let received = candidate.into_received();
+                Ok(Admission::Repeat(Kept::new(received, reply)))
+            }
+            Ok(Recalled::Running) => Ok(Admission::Running(candidate.into_arrival())),
+            Ok(Recalled::Unknown) => self.enter(alloc, candidate),
+            Err(AllocError) => Err((AdmitError::Memory, candidate.into_arrival())),
+        }
+    }
+
+    /// Turns a record away that asks a call for which there is no memory; but a repeat has the reply that is kept, or
+    /// waits for the call that came with the same.
+    fn turn_away(&mut self, arrival: Arrival) -> Result<Admission, (AdmitError, Arrival)>
+        requires { (asked : Asked) × (arrival.reading ≡ readings.Asks asked) }
+        ensures { Admits self.old self.new arrival result }
+    {
+        let (received, reading) = arrival.into_parts();
+        match reading {
+            Reading::Asks(asked) => {
+                if !is_changing(&asked.call) {
+                    return Err((self.want(), Arrival::asking(received, asked)));
+                }
+                self.turn_change_away(received, asked)
+            }
+            Reading::Faulted(_) => unreachable!(),
+        }
+    }
+
+    /// The same of one that asks a call that changes something.
+    fn turn_change_away(
+        &mut self,
         received: Received,
         asked: Asked,
     ) -> Result<Admission, (AdmitError, Arrival)>
@@ -156,64 +190,56 @@ impl Book {
         ensures { Admits self.old self.new
             (record { received = received_value received; reading = readings.Asks asked }) result }
     {
-        match self.recall(&received) {
+        match self.recall(received.host.text(), Sought::new(&received.message)) {
             Ok(Recalled::Kept(reply)) => {
                 drop(asked);
                 Ok(Admission::Repeat(Kept::new(received, reply)))
             }
             Ok(Recalled::Running) => Ok(Admission::Running(Arrival::asking(received, asked))),
-            Ok(Recalled::Unknown) => self.begin(alloc, received, asked),
+            Ok(Recalled::Unknown) => Err((self.want(), Arrival::asking(received, asked))),
             Err(AllocError) => Err((AdmitError::Memory, Arrival::asking(received, asked))),
         }
     }
 
-    /// What is known of a record; a reply that is kept comes to the front. An error comes only where a reply is kept,
-    /// and changes nothing.
-    fn recall(&mut self, received: &Received) -> Result<Recalled, AllocError>
-        ensures { Recalls self.old self.new (received_value received.now) result }
+    /// What is wanting for one more call, for which there is no memory.
+    fn want(&self) -> AdmitError
+        ensures { IsWant self.now result }
     {
-        let host = received.host.text();
-        if let Some(reply) = self.replies.find(host, &received.message)? {
+        if self.calls.is_spent() {
+            return AdmitError::Spent;
+        }
+        AdmitError::Memory
+    }
+
+    /// What is known of a record that came from this host; a reply that is kept comes to the front. An error comes only
+    /// where a reply is kept, and changes nothing.
+    fn recall(&mut self, host: &Bytes, sought: Sought<'_>) -> Result<Recalled, AllocError>
+        ensures { Recalls self.old self.new
+            (record { host = host.now; bytes = sought.entry.bytes.now }) result }
+    {
+        if let Some(reply) = self.replies.find(host, sought)? {
             return Ok(Recalled::Kept(reply));
         }
-        if self.calls.has(host, &received.message) {
+        if self.calls.has(host, sought) {
             return Ok(Recalled::Running);
         }
         Ok(Recalled::Unknown)
     }
 
     /// Begins the call that a record asks, which is no repeat.
-    fn begin(
+    fn enter(
         &mut self,
         alloc: Global,
-        received: Received,
-        asked: Asked,
+        candidate: Candidate,
     ) -> Result<Admission, (AdmitError, Arrival)>
-        requires asked { IsAsked (received_value received).bytes asked }
-        requires unknown { IfSome (origin_of (received_value received) asked.call) (IsUnknown self.old) }
-        ensures { Admits self.old self.new
-            (record { received = received_value received; reading = readings.Asks asked }) result }
+        requires { IsNoRepeat self.old candidate }
+        ensures { Admits self.old self.new candidate result }
     {
-        if self.is_spent() {
-            return Err((AdmitError::Spent, Arrival::asking(received, asked)));
-        }
-        let Ok((origin, ctx)) = self.beginning(&received, &asked) else {
-            return Err((AdmitError::Memory, Arrival::asking(received, asked)));
-        };
-        let Asked { xid, ids: _, call } = asked;
-        let request = Request {
-            received,
-            xid,
-            call,
-            ctx,
-        };
-        let request = match Box::new(alloc, request) {
-            Ok(request) => request,
-            Err(refused) => {
-                let (received, asked) = refused.value.into_parts();
-                return Err((AdmitError::Memory, Arrival::asking(received, asked)));
-            }
-        };
+        let Candidate {
+            mut request,
+            origin,
+        } = candidate;
+        request.begin_under(self.start, self.limits);
         match self.calls.begin(origin) {
             Ok(Place { id, key }) => Ok(Admission::Begin(Txn {
                 id,
@@ -226,42 +252,6 @@ impl Book {
                 Err((error, Arrival::asking(received, asked)))
             }
         }
-    }
-
-    /// Whether no number is left for one more call.
-    fn is_spent(&self) -> bool
-        ensures { Decides result (self.now.next_id ≡ 2 ^ 64 - 1) }
-    {
-        self.calls.is_spent()
-    }
-
-    /// What a call came with, if it changes something, and what it is made under.
-    fn beginning(
-        &self,
-        received: &Received,
-        asked: &Asked,
-    ) -> Result<(Option<Origin>, Ctx), AllocError>
-        ensures origin { IfOk result (λ b. b.0 ≡ origin_of (received_value received.now) asked.now.call) }
-        ensures ctx { IfOk result (λ b.
-            b.1 ≡ context_of self.now.setting received.now.host asked.now.ids received.now.moment) }
-        ensures host { IsHost received.now.host }
-    {
-        let ctx = self.context(&received.host, asked.ids, received.moment)?;
-        Ok((origin_of(received, &asked.call)?, ctx))
-    }
-
-    /// What a call from the host is made under.
-    fn context(&self, host: &Host, ids: Ids, moment: Moment) -> Result<Ctx, AllocError>
-        ensures value { IfOk result (λ ctx. ctx ≡ context_of self.now.setting host.now ids moment) }
-        ensures host { IsHost host.now }
-    {
-        Ok(Ctx {
-            host: host.text().clone()?,
-            ids,
-            moment,
-            start: self.start,
-            limits: self.limits,
-        })
     }
 
     /// The call is no longer in progress: it is not executed.
@@ -295,15 +285,15 @@ impl Book {
     {
         // It brings that this is what its record asks, and keeps the promise.
         finished.is_finished();
-        let Some(ready) = self.journal.make_ready(alloc, &finished) else {
+        let Some(numbered) = self.journal.make_room_for(alloc, &finished) else {
             return Err(finished);
         };
         let origin = self.calls.origin(finished.key, finished.id);
-        let Ok(()) = keep_answer(alloc, &mut self.replies, origin, &ready.answer) else {
+        let Ok(()) = keep_answer(alloc, &mut self.replies, origin, &numbered.answer) else {
             return Err(finished);
         };
         self.calls.end(finished.key, finished.id);
-        Ok(self.journal.commit(finished, ready))
+        Ok(self.journal.commit(finished, numbered))
     }
 
     /// Whether a call may be committed: what it has read stands in the present store, its numbers were never given with
@@ -405,14 +395,4 @@ impl Book {
     {
         let _ = &self.calls;
     }
-}
-
-/// What a call came with, if it changes something.
-fn origin_of(received: &Received, call: &Call) -> Result<Option<Origin>, AllocError>
-    ensures { IfOk result (λ origin. origin ≡ origin_of (received_value received.now) call.now) }
-{
-    if !is_changing(call) {
-        return Ok(None);
-    }
-    Ok(Some(received.origin()?))
 }

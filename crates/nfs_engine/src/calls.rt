@@ -1,15 +1,22 @@
 //! Calls in progress.
 
-ghost use Rattle.std.specs.Prelude.{◌≡◌, MatchResult, map};
+ghost use Rattle.std.specs.Prelude.{◌≡◌, IfOk, MatchResult, map};
 ghost use Rattle.nfs_objects.specs.Promise.{IsPromised};
 ghost use Rattle.nfs_objects.specs.Values.{change_value, done_value, write_value};
+ghost use Rattle.nfs_machine.specs.RpcReplies.{success_message};
+ghost use Rattle.nfs_engine.specs.Arrivals.{shared_value};
 ghost use Rattle.nfs_engine.specs.Calls.{IsCalled, IsFinished, change_from, done_from, finished_of, txn_of};
+ghost use Rattle.nfs_engine.specs.Made.{IsMade};
+ghost use Rattle.nfs_engine.specs.Forms.{HasForm};
 
+use crate::answers;
 use crate::arrival::Executed;
+use crate::ready::Ready;
 use crate::request::Request;
+use bytes::Bytes;
 use nfs_machine::{Call, Ctx};
 use nfs_objects::{Change, View, Write};
-use std::alloc::Global;
+use std::alloc::{AllocError, Global};
 use std::marker::Model;
 use std::sync::Arc;
 
@@ -94,19 +101,29 @@ impl Txn {
             reply,
             messages,
         };
-        match Arc::new(alloc, executed) {
-            Ok(executed) => Ok(self.finish(writes, executed)),
+        let executed = match Arc::new(alloc, executed) {
+            Ok(executed) => executed,
             Err(refused) => {
                 drop(refused);
                 drop(writes);
+                return Err(self);
+            }
+        };
+        match Ready::new(alloc, self.request.xid, &writes, &executed) {
+            Ok(ready) => Ok(self.finish(writes, executed, ready)),
+            Err(AllocError) => {
+                drop(writes);
+                drop(executed);
                 Err(self)
             }
         }
     }
 
-    /// The call with its writes, and with what it is recorded as.
-    fn finish(self, writes: Vec<Write>, executed: Arc<Executed>) -> Finished
-        requires { IsFinished self.received self.xid (done_from self.call self.ctx self.view writes executed) executed }
+    /// The call with its writes, with what it is recorded as, and with what its commit gives away.
+    fn finish(self, writes: Vec<Write>, executed: Arc<Executed>, ready: Ready) -> Finished
+        requires finished { IsFinished self.received self.xid
+            (done_from self.call self.ctx self.view writes executed) executed }
+        requires made { IsMade self.xid (map write_value writes.items) (shared_value executed) ready }
         ensures { result ≡ finished_of self (change_from writes executed) }
     {
         let Txn {
@@ -122,6 +139,7 @@ impl Txn {
             view,
             writes,
             executed,
+            ready,
         }
     }
 }
@@ -135,11 +153,15 @@ pub struct Finished {
     pub(crate) view: View,
     pub(crate) writes: Vec<Write>,
     pub(crate) executed: Arc<Executed>,
+    pub(crate) ready: Ready,
 }
 
 impl Model for Finished {
-    ghost use Rattle.nfs_engine.specs.Arrivals.{received_value};
+    ghost use Rattle.std.specs.Prelude.{map};
+    ghost use Rattle.nfs_objects.specs.Values.{write_value};
+    ghost use Rattle.nfs_engine.specs.Arrivals.{received_value, shared_value};
     ghost use Rattle.nfs_engine.specs.Calls.{FinishedValue, IsFinished, done_from};
+    ghost use Rattle.nfs_engine.specs.Made.{IsMade};
 
     ghost Value = { FinishedValue };
 
@@ -152,7 +174,8 @@ impl Model for Finished {
     } };
 
     ghost invariant = { λ f. IsFinished (received_value f.request.value.received) f.request.value.xid
-        (done_from f.request.value.call f.request.value.ctx f.view f.writes f.executed) f.executed };
+        (done_from f.request.value.call f.request.value.ctx f.view f.writes f.executed) f.executed ×
+        IsMade f.request.value.xid (map write_value f.writes.items) (shared_value f.executed) f.ready };
 }
 
 impl Finished {
@@ -184,6 +207,20 @@ impl Finished {
         &self.writes
     }
 
+    /// The bytes of its answer. They are spelled here only where the reply alone does not tell that it has a form.
+    pub(crate) fn answer(&self, alloc: Global) -> Result<Bytes, AllocError>
+        requires { HasForm self.now.done.change.reply }
+        ensures { IfOk result (λ bytes. bytes ≡ success_message self.now.xid self.now.done.change.reply) }
+    {
+        match &self.ready.answer {
+            Some(answer) => answer.clone(),
+            None => {
+                let answer = answers::success(alloc, self.request.xid, &self.executed.reply)?;
+                Ok(Bytes::from_vec(answer)?)
+            }
+        }
+    }
+
     /// It is what its record asks, and keeps the promise.
     pub fn is_finished(&self)
         ensures called { IsCalled self.now.received self.now.xid self.now.done.call self.now.done.ctx }
@@ -203,9 +240,11 @@ impl Finished {
             view,
             writes,
             executed,
+            ready,
         } = self;
         drop(writes);
         drop(executed);
+        drop(ready);
         Txn {
             id,
             key,

@@ -10,12 +10,13 @@ ghost use Rattle.nfs_engine.specs.Book.{TakesMessage, is_full};
 ghost use Rattle.nfs_engine.specs.Calls.{again_of, txn_of};
 ghost use Rattle.nfs_engine.specs.Commits.{IsReceipt};
 ghost use Rattle.nfs_engine.specs.Engine.{AdmitsLiving, ArePlaces, CountsLocked, CountsReserved, Frees, IsAcquired};
-ghost use Rattle.nfs_engine.specs.Engine.{IsFilled, IsHeldAmong, IsLeaving, IsReleased, IsReserved, IsTied};
+ghost use Rattle.nfs_engine.specs.Engine.{IsHeldAmong, IsLeaving, IsReleased, IsReserved, IsTied};
 ghost use Rattle.nfs_engine.specs.Engine.{KeepsAll, KeepsCounters, KeepsOthers, LetsAllGo, Lives, Releases, Waits};
-ghost use Rattle.nfs_engine.specs.Engine.{held_among, release_of};
+ghost use Rattle.nfs_engine.specs.Engine.{held_among, release_of, shard_among};
 ghost use Rattle.nfs_engine.specs.Opening.{IsStartError, Opens};
 ghost use Rattle.nfs_engine.specs.Repeats.{Keeps, origin_of};
 ghost use Rattle.nfs_engine.specs.Running.{living_count};
+ghost use Rattle.nfs_engine.specs.Settling.{IsSettled};
 ghost use Rattle.nfs_machine.specs.RpcReplies.{success_message};
 
 use crate::admission::{Admission, Refused};
@@ -169,11 +170,13 @@ impl Engine {
         let Committed {
             receipt,
             release,
-            writes,
+            mut writes,
+            spent,
         } = match self.book.commit(alloc, finished) {
             Ok(committed) => committed,
             Err(back) => return Err(back),
         };
+        drop(spent);
         let Release {
             id,
             view,
@@ -181,8 +184,7 @@ impl Engine {
             after,
         } = release;
         let written = written_shards(&writes);
-        fill_all(&mut self.shards, writes);
-        free_all(&mut self.shards, &written, id, &view);
+        settle_all(&mut self.shards, &written, id, &view, &mut writes);
         let release = Release {
             id,
             view,
@@ -348,15 +350,24 @@ fn written_shards(writes: &[Write]) -> [bool; SHARDS]
     written
 }
 
-/// Makes writes in the shards, each at an address that somebody holds.
-fn fill_all(shards: &mut [Shard; SHARDS], writes: Vec<Write>)
-    requires { AllByRecursion (λ w. IsHeldAmong shards.old w.0) (map write_value writes.items) }
-    ensures { IsFilled shards.old shards.new (map write_value writes.items) }
+/// Makes writes in the shards, each at an address that somebody holds, and lets go all that a call has read in those
+/// that are written.
+fn settle_all(
+    shards: &mut [Shard; SHARDS],
+    written: &[bool; SHARDS],
+    id: u64,
+    view: &View,
+    writes: &mut [Write],
+)
+    requires held { AllByRecursion (λ w. IsHeldAmong shards.old w.0) (map write_value writes.old) }
+    requires places { ArePlaces (map write_value writes.old) written.now }
+    requires indices { (k : ℕ) → k < 16 → (shard_among shards.old k).index ≡ k }
+    ensures { IsSettled shards.old shards.new written.now id view.now.entries (map write_value writes.old) }
 {
-    let mut writes = writes.into_iter();
-    'writes: while let Some(write) = writes.next() {
-        let index = shard_index(write.address);
-        shards[index].fill(write.address, write.object);
+    for index in 0..SHARDS {
+        if written[index] {
+            shards[index].settle(id, view, writes);
+        }
     }
 }
 

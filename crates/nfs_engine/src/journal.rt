@@ -1,22 +1,22 @@
-//! The present store with the records that led to it, and commits of calls: first all that may want memory, then what
-//! cannot fail.
+//! The present store with the records that led to it, and commits of calls: first room, which may want memory, then
+//! what cannot fail.
 
-ghost use Rattle.std.specs.Prelude.{◌≡◌, ◌+◌, ◌-◌, ◌*◌, ◌^◌, [], length, min, IfOk, IfSome, OnOk};
-ghost use Rattle.nfs_engine.specs.Commits.{HasNumbers, HasRoom, IsCommitted, IsMade, IsReady, SameJournal};
+ghost use Rattle.std.specs.Prelude.{◌≡◌, ◌+◌, ◌-◌, ◌*◌, ◌^◌, [], min, IfSome, OnOk};
+ghost use Rattle.nfs_engine.specs.Commits.{HasRoom, IsCommitted, IsReady, SameJournal};
 ghost use Rattle.nfs_engine.specs.Commits.{TakesEra, TakesMessage, Writes};
 ghost use Rattle.nfs_engine.specs.Forms.{HasForm};
 
-use crate::answers;
 use crate::arrival::Executed;
 use crate::calls::Finished;
-use crate::objects::{Objects, copy_writes};
-use crate::outbox::{Outbox, Posted, copy_messages};
+use crate::objects::Objects;
+use crate::outbox::{Outbox, Posted};
+use crate::ready::Ready;
 use crate::records::{Era, Records};
 use crate::release::{Release, Then};
+use crate::request::Request;
 use crate::shard::SHARDS;
 use bytes::Bytes;
 use nfs_objects::Write;
-use side_wire::Message;
 use std::alloc::{AllocError, Global};
 use std::marker::Model;
 use std::snapshot::Snapshot;
@@ -44,35 +44,21 @@ pub struct Committed {
     pub release: Release,
     /// What the shards have to write.
     pub writes: Vec<Write>,
+    /// What is of no more use.
+    pub spent: Spent,
 }
 
-/// What is made before a commit, so that it cannot fail.
+/// What a call that was executed has no more use for. It is to be dropped when no lock is held.
 #[derive(Drop)]
-pub(crate) struct Ready {
+pub struct Spent {
+    request: Box<Request>,
+}
+
+/// What a commit is told in the end: under which number, and with which answer.
+#[derive(Drop)]
+pub(crate) struct Numbered {
     pub number: u64,
     pub answer: Bytes,
-    pub writes: Vec<Write>,
-    pub messages: Vec<Message>,
-    pub executed: Arc<Executed>,
-}
-
-impl Ready {
-    /// What the commit of this call under this number gives away.
-    fn new(alloc: Global, number: u64, finished: &Finished) -> Result<Ready, AllocError>
-        requires { HasForm finished.now.done.change.reply }
-        ensures number { IfOk result (λ ready. ready.number ≡ number) }
-        ensures made { IfOk result (IsMade finished.now) }
-    {
-        let record = &finished.executed;
-        let answer = answers::success(alloc, finished.request.xid, &record.reply)?;
-        Ok(Ready {
-            number,
-            answer: Bytes::from_vec(answer)?,
-            writes: copy_writes(alloc, &finished.writes)?,
-            messages: copy_messages(alloc, &record.messages)?,
-            executed: Arc::try_clone(record)?,
-        })
-    }
 }
 
 /// The present store, the records of the era, and the messages that are to be sent.
@@ -130,29 +116,21 @@ impl Journal {
         &self.records
     }
 
-    /// Makes all that a commit wants. None where there is no memory for it, or no number is left for the record or one
-    /// of its messages; nothing is changed.
-    pub(crate) fn make_ready(&mut self, alloc: Global, finished: &Finished) -> Option<Ready>
+    /// The number of the call's record, and the bytes of its answer, with room for what it writes and posts. None where
+    /// there is no memory for it, or no number is left for the record or one of its messages; nothing is changed.
+    pub(crate) fn make_room_for(&mut self, alloc: Global, finished: &Finished) -> Option<Numbered>
         requires { HasForm finished.now.done.change.reply }
         ensures same { SameJournal self.old self.new }
         ensures ready { IfSome result (IsReady self.new finished.now) }
     {
         let number = self.records.next_number()?;
-        if !self.outbox.has_numbers(finished.executed.messages.len()) {
+        let messages = finished.ready.messages.len();
+        if !self.outbox.has_numbers(messages) {
             return None;
         }
-        self.grow(alloc, number, finished).ok()
-    }
-
-    /// Makes all that a commit under this number wants. An error changes nothing.
-    fn grow(&mut self, alloc: Global, number: u64, finished: &Finished) -> Result<Ready, AllocError>
-        requires form { HasForm finished.now.done.change.reply }
-        requires numbers { HasNumbers self.old finished.now number }
-        ensures same { SameJournal self.old self.new }
-        ensures ready { IfOk result (IsReady self.new finished.now) }
-    {
-        self.make_room(finished.writes.len(), finished.executed.messages.len())?;
-        Ready::new(alloc, number, finished)
+        self.make_room(finished.ready.writes.len(), messages).ok()?;
+        let answer = finished.answer(alloc).ok()?;
+        Some(Numbered { number, answer })
     }
 
     /// Makes room for so many writes and messages, and for one more record. An error changes nothing.
@@ -165,19 +143,13 @@ impl Journal {
         self.outbox.make_room(messages)
     }
 
-    /// Commits a call for which all is made.
-    pub(crate) fn commit(&mut self, finished: Finished, ready: Ready) -> Committed
-        requires { IsReady self.old finished ready }
+    /// Commits a call, under its number and with its answer.
+    pub(crate) fn commit(&mut self, finished: Finished, numbered: Numbered) -> Committed
+        requires { IsReady self.old finished numbered }
         ensures journal { Writes self.old self.new finished }
         ensures committed { IsCommitted self.old finished result }
     {
-        let Ready {
-            number,
-            answer,
-            writes,
-            messages,
-            executed,
-        } = ready;
+        let Numbered { number, answer } = numbered;
         let Finished {
             id,
             key: _,
@@ -185,10 +157,16 @@ impl Journal {
             view,
             writes: own,
             executed: record,
+            ready,
         } = finished;
+        let Ready {
+            answer: spelled,
+            writes,
+            messages,
+            executed,
+        } = ready;
+        drop(spelled);
         let bytes = counted(request.received.message.len(), answer.len(), messages.len());
-        // A call of `drop`, since a drop at the end is proved for every variant of a call, in minutes.
-        drop(request);
         self.objects.install(writes);
         self.outbox.post(messages);
         self.records.push(record, bytes);
@@ -205,6 +183,7 @@ impl Journal {
                 after: Then::Ended,
             },
             writes: own,
+            spent: Spent { request },
         }
     }
 

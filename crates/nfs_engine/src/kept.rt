@@ -66,7 +66,7 @@ pub(crate) fn keep_answer(
     let Some(origin) = origin else {
         return Ok(());
     };
-    let bytes = origin.bytes.clone()?;
+    let bytes = origin.bytes.share()?;
     let answer = answer.clone()?;
     let kept = replies.keep(alloc, &origin.host, bytes, answer);
     kept.map_err(|_| AllocError)

@@ -86,7 +86,7 @@ impl Release {
     }
 
     /// The same, with one shard more that is free of the call.
-    fn freed(self, shard: usize) -> Release
+    pub(crate) fn freed(self, shard: usize) -> Release
         requires { shard < 16 }
         ensures { result ≡ freed_more self shard }
     {

@@ -4,7 +4,7 @@ ghost use Rattle.std.specs.Prelude.{◌≡◌};
 
 use crate::arrival::Received;
 use crate::asking::Asked;
-use nfs_machine::{Call, Ctx};
+use nfs_machine::{Call, Ctx, Limits};
 
 /// What a call was admitted with: the record that came in, what it asks, and what it is made under. It stays at one
 /// place from its admission to its end.
@@ -17,6 +17,15 @@ pub(crate) struct Request {
 }
 
 impl Request {
+    /// The call is made under this start number and these limits.
+    pub(crate) fn begin_under(&mut self, start: u64, limits: Limits)
+        ensures { self.new ≡ record self.old
+            { ctx = record self.old.ctx { start = start; limits = limits } } }
+    {
+        self.ctx.start = start;
+        self.ctx.limits = limits;
+    }
+
     /// What came in, and what it asks.
     pub(crate) fn into_parts(self) -> (Received, Asked)
         ensures received { result.0 ≡ self.received }

@@ -13,7 +13,7 @@ use crate::arrival::Received;
 use crate::changing::is_changing;
 use bytes::Bytes;
 use nfs_machine::Call;
-use nfs_replies::{Origin, Origins};
+use nfs_replies::{Origin, Origins, Sought};
 use slab::Slab;
 use std::alloc::{AllocError, Global};
 use std::marker::Model;
@@ -83,12 +83,12 @@ impl Calls {
         self.living.len()
     }
 
-    /// Whether one of them changes something, and came from this host with these bytes.
-    pub(crate) fn has(&self, host: &Bytes, bytes: &Bytes) -> bool
+    /// Whether one of them changes something, and came from this host as this record.
+    pub(crate) fn has(&self, host: &Bytes, sought: Sought<'_>) -> bool
         ensures { Decides result
-            (IsInProgress self.now.living (record { host = host.now; bytes = bytes.now })) }
+            (IsInProgress self.now.living (record { host = host.now; bytes = sought.entry.bytes.now })) }
     {
-        self.origins.has(host, bytes)
+        self.origins.has(host, sought)
     }
 
     /// Whether a call with this number is in progress at this place, and came so.
@@ -166,7 +166,7 @@ fn is_origin(origin: &Option<Origin>, received: &Received, call: &Call) -> bool
         Some(origin) => {
             is_changing(call)
                 && origin.host == *received.host.text()
-                && origin.bytes == received.message
+                && *origin.bytes.bytes() == received.message
         }
         None => !is_changing(call),
     }

@@ -1,5 +1,5 @@
 -- The steps of a call in a pool: what they do to the call, whatever stands in the book and the shards.
-use Rattle.std.specs.Prelude.{◌≡◌, ℕ, ◌<◌, [], true, false, Option, Result, Ok, Err}
+use Rattle.std.specs.Prelude.{◌≡◌, ℕ, ◌<◌, List, [], true, false, map, Option, Result, Ok, Err}
 use Rattle.nfs_machine.specs.Run.{Received}
 use Rattle.nfs_objects.specs.Rooms.{with_seen}
 use Rattle.nfs_objects.specs.declared.address.Addr.{Addr}
@@ -67,6 +67,10 @@ LeadsThere t (next.Aborted p) = t ≡ then.Aborted p
 LeadsThere t next.Ended = t ≡ then.Ended
 
 -- ---- what a call comes to
+-- what these writes are at
+abbrev pub addresses : List (Addr × Option Object) → List Addr
+addresses writes = map (λ w. w.0) writes
+
 -- the receipt is of this call, which is what its record asks, under a number above that one
 pub record IsMadeAbove (last : ℕ) (f : FinishedValue) (receipt : Receipt) : Type 0 where
   pub called : IsCalled f.received f.xid f.done.call f.done.ctx

@@ -1,12 +1,14 @@
 //! The commit of a call, in the holds of the shards that it writes.
 
-ghost use Rattle.std.specs.Prelude.{◌≡◌, ◌+◌, ◌<◌, ◌≤◌, IfErr, IfOk, OnErr, OnOk};
+ghost use Rattle.std.specs.Prelude.{◌≡◌, ◌+◌, ◌<◌, ◌≤◌, IfErr, IfOk, OnErr, OnOk, map};
+ghost use Rattle.nfs_objects.specs.Values.{write_value};
 ghost use Rattle.nfs_engine.specs.declared.release.Then.TheVariants as then;
-ghost use Rattle.nfs_pool.specs.Steps.{IsMadeAbove};
+ghost use Rattle.nfs_pool.specs.Steps.{IsMadeAbove, addresses};
 
+use crate::locking::take;
 use crate::pool::Pool;
 use crate::sent::{Reason, Uncommitted};
-use nfs_engine::{Committed, Finished, SHARDS, Shard, shard_index};
+use nfs_engine::{Committed, Finished, SHARDS, shard_index};
 use nfs_objects::Write;
 use std::alloc::Global;
 use std::sync::Wait;
@@ -32,26 +34,27 @@ impl<L: Ledger> Pool<L> {
         ensures uncounted { OnErr result (mine.new.amount ≡ mine.old.amount) }
         ensures receipt { IfOk result (λ c. IsMadeAbove last finished c.receipt) }
         ensures over { IfOk result (λ c. c.release.after ≡ then.Ended) }
+        ensures places { IfOk result
+            (λ c. addresses (map write_value c.writes.items) ≡ addresses finished.done.change.writes) }
         ensures back { IfErr result (λ u. u.finished ≡ finished) }
     {
         let index = next_written(written, index);
         if index == SHARDS {
-            let mut guard = self.desk.lock(rt);
+            let mut guard = take(rt, &self.desk);
             let desk = &mut *guard;
             return desk.commit(alloc, mine, last, finished);
         }
-        let mut guard = self.locks.shards[index].lock(rt);
+        let mut guard = take(rt, &self.locks.shards[index]);
         let shard = &mut *guard;
-        if !may_write(shard, index, &finished) {
+        if !finished.holds_written(shard) {
             return Err(Uncommitted {
                 finished,
                 reason: Reason::Stale,
             });
         }
-        let id = finished.id();
         match self.commit_from(rt, alloc, mine, last, finished, written, index + 1) {
             Ok(committed) => {
-                let committed = settle(shard, index, id, committed);
+                let committed = committed.settle_in(shard);
                 self.locks.released[index].notify_all();
                 Ok(committed)
             }
@@ -80,39 +83,4 @@ fn next_written(written: &[bool; SHARDS], from: usize) -> usize
         }
     }
     SHARDS
-}
-
-/// Whether the call holds all that it writes in this shard.
-fn may_write(shard: &Shard, index: usize, finished: &Finished) -> bool {
-    for write in finished.writes() {
-        if shard_index(write.address) == index && !shard.holds(write.address, finished.id()) {
-            return false;
-        }
-    }
-    true
-}
-
-/// Makes what was written in this shard, and lets go what the call has read there.
-fn settle(shard: &mut Shard, index: usize, id: u64, committed: Committed) -> Committed
-    ensures receipt { result.receipt ≡ committed.receipt }
-    ensures over { result.release.after ≡ committed.release.after }
-{
-    let Committed {
-        receipt,
-        release,
-        mut writes,
-    } = committed;
-    for place in 0..writes.len() {
-        let write = &mut writes[place];
-        let address = write.address;
-        if shard_index(address) == index && shard.holds(address, id) {
-            let object = write.object.take();
-            shard.fill(address, object);
-        }
-    }
-    Committed {
-        receipt,
-        release: release.let_go_in(shard),
-        writes,
-    }
 }

@@ -7,7 +7,9 @@ ghost use Rattle.nfs_engine.specs.declared.release.Then.TheVariants as then;
 ghost use Rattle.nfs_pool.specs.Steps.{AdmitsUnlessFull, IsMadeAbove};
 
 use crate::sent::{Reason, Unadmitted, Uncommitted};
-use nfs_engine::{Admission, Arrival, Book, Committed, Era, Finished, Pending, Posted, Refused};
+use nfs_engine::{
+    Admission, Arrival, Book, Candidate, Committed, Era, Finished, Pending, Posted, Refused,
+};
 use std::alloc::Global;
 use std::sync::ledger;
 use std::sync::ledger::{Ledger, Share};
@@ -52,6 +54,31 @@ impl<L: Ledger> Desk<L> {
             return Err(Unadmitted::EraFull(arrival));
         }
         match self.book.admit(alloc, arrival) {
+            Ok(admission) => Ok(admission),
+            Err((error, arrival)) => {
+                drop(error);
+                Err(Unadmitted::Refused(arrival))
+            }
+        }
+    }
+
+    /// Admits a record that asks a call, for which all is made, unless the era is full.
+    ///
+    /// # Errors
+    ///
+    /// As `admit`.
+    pub fn admit_call(
+        &mut self,
+        alloc: Global,
+        candidate: Candidate,
+    ) -> Result<Admission, Unadmitted>
+        ensures { AdmitsUnlessFull self.old.book self.new.book candidate result }
+    {
+        let full = self.book.era_is_full();
+        if full {
+            return Err(Unadmitted::EraFull(candidate.into_arrival()));
+        }
+        match self.book.admit_call(alloc, candidate) {
             Ok(admission) => Ok(admission),
             Err((error, arrival)) => {
                 drop(error);

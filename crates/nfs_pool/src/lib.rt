@@ -14,6 +14,7 @@ mod counting;
 pub mod desk;
 mod ending;
 pub mod gate;
+mod locking;
 pub mod pool;
 pub mod seat;
 pub mod sent;

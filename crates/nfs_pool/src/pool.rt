@@ -9,12 +9,13 @@ use crate::committing::written_shards;
 use crate::counting::Count;
 use crate::desk::Desk;
 use crate::gate::Gate;
+use crate::locking::take;
 use crate::seat::{Seat, new_seats};
 use crate::sent::{PoolError, Sent, Unadmitted, Uncommitted};
 use crate::steps::Steps;
 use nfs_engine::{
-    Admission, Arrival, Committed, Engine, Finished, Got, Next, Pending, Posted, Receipt, Refused,
-    Release, ReserveError, SHARDS, Shard, Txn, shard_index,
+    Admission, Arrival, Committed, Engine, Finished, Got, Next, Pending, Posted, Prepared, Receipt,
+    Refused, Release, ReserveError, SHARDS, Shard, Txn, shard_index,
 };
 use nfs_objects::{Addr, Mode};
 use std::alloc::{AllocError, Global};
@@ -94,7 +95,7 @@ impl<L: Ledger> Pool<L> {
 
     /// Takes the oldest message that was not yet taken. It takes no memory.
     pub fn message<R: Wait>(&self, rt: &R) -> Option<Posted> {
-        let mut guard = self.desk.lock(rt);
+        let mut guard = take(rt, &self.desk);
         let desk = &mut *guard;
         desk.take_message()
     }
@@ -107,9 +108,19 @@ impl<L: Ledger> Steps<L> for Pool<L> {
         alloc: Global,
         arrival: Arrival,
     ) -> Result<Admission, Unadmitted> {
-        let mut guard = self.desk.lock(rt);
-        let desk = &mut *guard;
-        desk.admit(alloc, arrival)
+        match arrival.prepare(alloc) {
+            Ok(Prepared::Call(candidate)) => {
+                let mut guard = take(rt, &self.desk);
+                let desk = &mut *guard;
+                desk.admit_call(alloc, candidate)
+            }
+            Ok(Prepared::Early(faulted)) => Ok(Admission::Early(faulted)),
+            Err(arrival) => {
+                let mut guard = take(rt, &self.desk);
+                let desk = &mut *guard;
+                desk.admit(alloc, arrival)
+            }
+        }
     }
 
     fn acquire<R: Wait, G: Gate>(
@@ -122,14 +133,14 @@ impl<L: Ledger> Steps<L> for Pool<L> {
         mode: Mode,
     ) -> Result<Got, AllocError> {
         let index = shard_index(address);
-        let mut guard = self.locks.shards[index].lock(rt);
+        let mut guard = take(rt, &self.locks.shards[index]);
         gate.inside(index);
         txn.acquire_in(alloc, &mut *guard, address, mode)
     }
 
     fn wait_for<R: Wait>(&self, rt: &R, address: Addr, mode: Mode) {
         let index = shard_index(address);
-        let guard = self.locks.shards[index].lock(rt);
+        let guard = take(rt, &self.locks.shards[index]);
         let free = self.locks.released[index].wait_while(
             rt,
             guard,
@@ -139,7 +150,7 @@ impl<L: Ledger> Steps<L> for Pool<L> {
     }
 
     fn reserve<R: Wait>(&self, rt: &R, txn: &mut Txn, shard: usize) -> Result<bool, ReserveError> {
-        let mut guard = self.locks.shards[shard].lock(rt);
+        let mut guard = take(rt, &self.locks.shards[shard]);
         txn.reserve_tested(&mut *guard)
     }
 
@@ -158,8 +169,10 @@ impl<L: Ledger> Steps<L> for Pool<L> {
                     receipt,
                     release,
                     writes,
+                    spent,
                 } = committed;
                 drop(writes);
+                drop(spent);
                 Ok((receipt, release))
             }
             Err(uncommitted) => Err(uncommitted),
@@ -171,7 +184,7 @@ impl<L: Ledger> Steps<L> for Pool<L> {
             return release.next();
         };
         let next = {
-            let mut guard = self.locks.shards[index].lock(rt);
+            let mut guard = take(rt, &self.locks.shards[index]);
             release.release_in(&mut *guard)
         };
         self.locks.released[index].notify_all();
@@ -179,7 +192,7 @@ impl<L: Ledger> Steps<L> for Pool<L> {
     }
 
     fn give_up<R: Wait>(&self, rt: &R, pending: Pending) -> Refused {
-        let mut guard = self.desk.lock(rt);
+        let mut guard = take(rt, &self.desk);
         let desk = &mut *guard;
         desk.give_up(pending)
     }

@@ -8,8 +8,9 @@
 //! A list shares the buffers of its records and replies, and keeps them alive: of one host at most as many of each as
 //! the capacity says. At 1,024 replies, records of 73,728 bytes each are 72 MiB.
 //!
-//! Lists are found by the hash of the host, and replies by that of the record's head; all bytes of a record are
-//! compared. A host that sends many records with the same head makes the look-ups in its own list slower.
+//! Lists are found by the hash of the host, and replies by that of the record, which is taken once, of all its bytes,
+//! and kept beside them. A look-up compares hashes first, and bytes only with those of a record that has the same hash:
+//! so many records that differ at their ends alone are looked up as fast as others.
 #![tactic(auto)]
 
 mod capacity;
@@ -20,5 +21,6 @@ mod replies;
 pub mod worked;
 
 pub use capacity::Capacity;
+pub use key::{Hashed, Sought};
 pub use origins::{Origin, Origins};
 pub use replies::Replies;

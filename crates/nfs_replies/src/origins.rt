@@ -3,11 +3,11 @@
 ghost use Rattle.std.specs.Prelude.{◌≡◌, ◌∷◌, ◌&&◌, [], true, IfOk, OnErr, OnOk};
 ghost use Rattle.std.proofs.lemmas.Bool.{and_parts};
 ghost use Rattle.std.specs.Cmp.Lexicographic.{bytes_decides, nat_list_eq_equiv};
-ghost use Rattle.nfs_replies.specs.Keys.{head_input};
+ghost use Rattle.nfs_replies.specs.Keys.{digest_input};
 ghost use Rattle.nfs_replies.specs.Kept.{same_bytes};
 ghost use Rattle.nfs_replies.specs.Origins.{Adds, Removes, is_among};
 
-use crate::key::head;
+use crate::key::{Hashed, Sought};
 use bytes::Bytes;
 use indexmap::{Equivalent, IndexSet};
 use std::alloc::{AllocError, Global};
@@ -18,7 +18,7 @@ use std::marker::Model;
 #[derive(Drop, PartialEq, Eq)]
 pub struct Origin {
     pub host: Bytes,
-    pub bytes: Bytes,
+    pub bytes: Hashed,
 }
 
 impl Origin {
@@ -32,66 +32,67 @@ impl Origin {
     {
         Ok(Origin {
             host: self.host.clone()?,
-            bytes: self.bytes.clone()?,
+            bytes: self.bytes.share()?,
         })
     }
 }
 
 impl Hash for Origin {
-    ghost hash_input = { λ origin. origin.host ∷ head_input origin.bytes };
+    ghost hash_input = { λ origin. origin.host ∷ digest_input origin.bytes };
 
     ghost respects_eq = { λ x y same i.
         let parts = and_parts (same_bytes x.host y.host) (same_bytes x.bytes y.bytes) same in
-        (bytes_decides x.host y.host).0 parts.0 i ∷ head_input ((bytes_decides x.bytes y.bytes).0 parts.1 i) };
+        (bytes_decides x.host y.host).0 parts.0 i ∷ digest_input ((bytes_decides x.bytes y.bytes).0 parts.1 i) };
 
     fn hash<H: Hasher>(&self, state: &mut H) {
         state.write(self.host.as_slice());
-        state.write(head(self.bytes.as_slice()));
+        self.bytes.hash(state);
     }
 }
 
-/// What is looked up: a host, and the bytes of a record. It is hashed and compared as an `Origin` is.
+/// What is looked up: a host, and a record. It is hashed and compared as an `Origin` is.
 #[derive(Clone, Copy, PartialEq, Eq)]
-struct Sought<'a> {
+struct Came<'a> {
     host: &'a Bytes,
-    bytes: &'a Bytes,
+    sought: Sought<'a>,
 }
 
-impl<'a> Hash for Sought<'a> {
-    ghost hash_input = { λ sought. sought.host.now ∷ head_input sought.bytes.now };
+impl<'a> Hash for Came<'a> {
+    ghost hash_input = { λ came. came.host.now ∷ digest_input came.sought.bytes.now };
 
     ghost respects_eq = { λ x y same i.
-        let parts = and_parts (same_bytes x.host.now y.host.now) (same_bytes x.bytes.now y.bytes.now) same in
+        let parts = and_parts (same_bytes x.host.now y.host.now)
+        (same_bytes x.sought.bytes.now y.sought.bytes.now) same in
         (bytes_decides x.host.now y.host.now).0 parts.0 i ∷
-        head_input ((bytes_decides x.bytes.now y.bytes.now).0 parts.1 i) };
+        digest_input ((bytes_decides x.sought.bytes.now y.sought.bytes.now).0 parts.1 i) };
 
     fn hash<H: Hasher>(&self, state: &mut H) {
         state.write(self.host.as_slice());
-        state.write(head(self.bytes.as_slice()));
+        self.sought.hash(state);
     }
 }
 
-impl<'a> Equivalent<Origin> for Sought<'a> {
-    ghost equivalent = { λ sought origin.
-        same_bytes sought.host.now origin.host && same_bytes sought.bytes.now origin.bytes };
+impl<'a> Equivalent<Origin> for Came<'a> {
+    ghost equivalent = { λ came origin.
+        same_bytes came.host.now origin.host && same_bytes came.sought.bytes.now origin.bytes };
 
-    ghost respects_hash = { λ sought origin same i.
-        let parts = and_parts (same_bytes sought.host.now origin.host)
-        (same_bytes sought.bytes.now origin.bytes) same in
-        (bytes_decides sought.host.now origin.host).0 parts.0 i ∷
-        head_input ((bytes_decides sought.bytes.now origin.bytes).0 parts.1 i) };
+    ghost respects_hash = { λ came origin same i.
+        let parts = and_parts (same_bytes came.host.now origin.host)
+        (same_bytes came.sought.bytes.now origin.bytes) same in
+        (bytes_decides came.host.now origin.host).0 parts.0 i ∷
+        digest_input ((bytes_decides came.sought.bytes.now origin.bytes).0 parts.1 i) };
 
-    ghost respects_eq = { λ sought x y same i.
-        let parts = and_parts (same_bytes sought.host.now x.host) (same_bytes sought.bytes.now x.bytes) same in
-        nat_list_eq_equiv.congr sought.host.now x.host y.host parts.0 i &&
-        nat_list_eq_equiv.congr sought.bytes.now x.bytes y.bytes parts.1 i };
+    ghost respects_eq = { λ came x y same i.
+        let parts = and_parts (same_bytes came.host.now x.host) (same_bytes came.sought.bytes.now x.bytes) same in
+        nat_list_eq_equiv.congr came.host.now x.host y.host parts.0 i &&
+        nat_list_eq_equiv.congr came.sought.bytes.now x.bytes y.bytes parts.1 i };
 
     fn equivalent(&self, origin: &Origin) -> bool {
-        *self.host == origin.host && *self.bytes == origin.bytes
+        *self.host == origin.host && self.sought.is(&origin.bytes)
     }
 }
 
-/// What calls in progress came with, each once. It is found by the hash of the host and of the record's head.
+/// What calls in progress came with, each once. It is found by the hashes of the host and of the record.
 #[derive(Drop)]
 pub struct Origins {
     set: IndexSet<Origin>,
@@ -116,11 +117,11 @@ impl Origins {
         }
     }
 
-    /// Whether a record of these bytes from this host is among them.
-    pub fn has(&self, host: &Bytes, bytes: &Bytes) -> bool
-        ensures { result ≡ is_among self.now (record { host = host.now; bytes = bytes.now }) }
+    /// Whether this record from this host is among them.
+    pub fn has(&self, host: &Bytes, sought: Sought<'_>) -> bool
+        ensures { result ≡ is_among self.now (record { host = host.now; bytes = sought.entry.bytes.now }) }
     {
-        self.set.contains(Sought { host, bytes })
+        self.set.contains(Came { host, sought })
     }
 
     /// Adds one.

@@ -8,7 +8,7 @@ ghost use Rattle.nfs_replies.specs.Kept.ReplyEvent.{Replied, Repeated};
 ghost use Rattle.nfs_replies.specs.Replies.{IsAfter, kept_of, list_of};
 
 use crate::capacity::Capacity;
-use crate::key::{Key, Sought, handed_back};
+use crate::key::{Hashed, Sought};
 use bytes::Bytes;
 use indexmap::IndexMap;
 use lru::LruCache;
@@ -20,7 +20,7 @@ use std::marker::Model;
 #[derive(Drop)]
 pub struct Replies {
     capacity: Capacity,
-    lists: IndexMap<Bytes, LruCache<Key, Bytes>>,
+    lists: IndexMap<Bytes, LruCache<Hashed, Bytes>>,
 }
 
 impl Model for Replies {
@@ -45,28 +45,28 @@ impl Replies {
         }
     }
 
-    /// The reply that is kept for a record of these bytes from this host, shared and not copied; it comes to the front
-    /// of the host's list. None where there is none, and then nothing changes.
+    /// The reply that is kept for this record from this host, shared and not copied; it comes to the front of the list
+    /// of the host. None where there is none, and then nothing changes.
     ///
     /// # Errors
     ///
     /// Only where a reply is kept and can't be shared; nothing changes.
-    pub fn find(&mut self, host: &Bytes, bytes: &Bytes) -> Result<Option<Bytes>, AllocError>
-        ensures found { IfOk result (λ reply. reply ≡ reply_for bytes.now (kept_of self.old host.now)) }
-        ensures front { OnOk result (IsAfter (Repeated host.now bytes.now) self.old self.new) }
-        ensures absent { reply_for bytes.now (kept_of self.old host.now) ≡ None → self.new ≡ self.old }
-        ensures refused { OnErr result (IsSome (reply_for bytes.now (kept_of self.old host.now))) }
+    pub fn find(&mut self, host: &Bytes, sought: Sought<'_>) -> Result<Option<Bytes>, AllocError>
+        ensures found { IfOk result (λ reply. reply ≡ reply_for sought.entry.bytes.now (kept_of self.old host.now)) }
+        ensures front { OnOk result (IsAfter (Repeated host.now sought.entry.bytes.now) self.old self.new) }
+        ensures absent { reply_for sought.entry.bytes.now (kept_of self.old host.now) ≡ None → self.new ≡ self.old }
+        ensures refused { OnErr result (IsSome (reply_for sought.entry.bytes.now (kept_of self.old host.now))) }
         ensures err { OnErr result (self.new ≡ self.old) }
     {
-        let Some(reply) = self.reply(host, bytes) else {
+        let Some(reply) = self.reply(host, sought) else {
             return Ok(None);
         };
         let reply = reply.clone()?;
-        self.bring_to_front(host, bytes);
+        self.bring_to_front(host, sought);
         Ok(Some(reply))
     }
 
-    /// Keeps the reply to a record of these bytes from this host, in front of the host's list. Where the list exceeds
+    /// Keeps the reply to this record from this host, in front of the host's list. Where the list exceeds
     /// the capacity, its last reply goes.
     ///
     /// # Errors
@@ -76,36 +76,36 @@ impl Replies {
         &mut self,
         alloc: Global,
         host: &Bytes,
-        bytes: Bytes,
+        bytes: Hashed,
         reply: Bytes,
-    ) -> Result<(), AllocFailed<(Bytes, Bytes)>>
+    ) -> Result<(), AllocFailed<(Hashed, Bytes)>>
         requires { reply_for bytes (kept_of self.old host.now) ≡ None }
         ensures front { OnOk result (IsAfter (Replied host.now bytes reply) self.old self.new) }
         ensures returned { IfErr result (λ refused. refused.value ≡ (bytes, reply)) }
         ensures err { OnErr result (self.new ≡ self.old) }
     {
         match self.lists.get_mut(host) {
-            Some(list) => match list.put(Key::new(bytes), reply) {
+            Some(list) => match list.put(bytes, reply) {
                 Ok(_) => Ok(()),
-                Err(refused) => Err(handed_back(refused)),
+                Err(refused) => Err(refused),
             },
             None => self.keep_first(alloc, host, bytes, reply),
         }
     }
 
     /// The reply that is kept; the order stays.
-    fn reply(&self, host: &Bytes, bytes: &Bytes) -> Option<&Bytes>
-        ensures { option_copied result ≡ reply_for bytes.now (kept_of self.now host.now) }
+    fn reply(&self, host: &Bytes, sought: Sought<'_>) -> Option<&Bytes>
+        ensures { option_copied result ≡ reply_for sought.entry.bytes.now (kept_of self.now host.now) }
     {
-        self.lists.get(host)?.peek(Sought { bytes })
+        self.lists.get(host)?.peek(sought)
     }
 
     /// What is kept for a record goes to the front of its host's list.
-    fn bring_to_front(&mut self, host: &Bytes, bytes: &Bytes)
-        ensures { IsAfter (Repeated host.now bytes.now) self.old self.new }
+    fn bring_to_front(&mut self, host: &Bytes, sought: Sought<'_>)
+        ensures { IsAfter (Repeated host.now sought.entry.bytes.now) self.old self.new }
     {
         if let Some(list) = self.lists.get_mut(host) {
-            list.promote(Sought { bytes });
+            list.promote(sought);
         }
     }
 
@@ -114,9 +114,9 @@ impl Replies {
         &mut self,
         alloc: Global,
         host: &Bytes,
-        bytes: Bytes,
+        bytes: Hashed,
         reply: Bytes,
-    ) -> Result<(), AllocFailed<(Bytes, Bytes)>>
+    ) -> Result<(), AllocFailed<(Hashed, Bytes)>>
         requires { list_of self.old host.now ≡ None }
         ensures front { OnOk result (IsAfter (Replied host.now bytes reply) self.old self.new) }
         ensures returned { IfErr result (λ refused. refused.value ≡ (bytes, reply)) }
@@ -138,9 +138,9 @@ fn first_list(
     alloc: Global,
     host: &Bytes,
     capacity: &Capacity,
-    bytes: Bytes,
+    bytes: Hashed,
     reply: Bytes,
-) -> Result<(Bytes, LruCache<Key, Bytes>), AllocFailed<(Bytes, Bytes)>>
+) -> Result<(Bytes, LruCache<Hashed, Bytes>), AllocFailed<(Hashed, Bytes)>>
     ensures host { IfOk result (λ made. made.0 ≡ host.now) }
     ensures list { IfOk result (λ made. made.1 ≡ lru_cache
         (put_entries same_bytes (lru_cache [] capacity.now) bytes reply) capacity.now) }
@@ -152,9 +152,9 @@ fn first_list(
             value: (bytes, reply),
         });
     };
-    match list.put(Key::new(bytes), reply) {
+    match list.put(bytes, reply) {
         Ok(_) => Ok((host, list)),
-        Err(refused) => Err(handed_back(refused)),
+        Err(refused) => Err(refused),
     }
 }
 
@@ -164,7 +164,7 @@ fn new_list(
     alloc: Global,
     host: &Bytes,
     capacity: &Capacity,
-) -> Result<(Bytes, LruCache<Key, Bytes>), AllocError>
+) -> Result<(Bytes, LruCache<Hashed, Bytes>), AllocError>
     ensures host { IfOk result (λ made. made.0 ≡ host.now) }
     ensures list { IfOk result (λ made. made.1 ≡ lru_cache [] capacity.now) }
     ensures some { OnOk result (0 < capacity.now) }

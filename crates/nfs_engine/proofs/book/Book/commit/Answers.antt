@@ -12,8 +12,8 @@ use Rattle.nfs_engine.specs.Running.{CallsValue, IsInProgress, origin_at, withou
 use Rattle.nfs_engine.proofs.book.Book.commit.Goals as goal
 use Rattle.nfs_engine.proofs.book.Book.commit.Goals.{After-commit}
 
-pub make_ready-requires : goal.make_ready-requires
-make_ready-requires c =
+pub make_room_for-requires : goal.make_room_for-requires
+make_room_for-requires c =
     reply_form _ c.args.finished c.is_finished.ensures.called c.is_finished.ensures.promised c.requires
     (subst IsBook c.self.view_is c.self.invariant).run
 
@@ -50,14 +50,14 @@ keeps c = subst (λ (f : FinishedValue). Keeps (origin_at c.self.inside.calls.li
     c.keep_answer.new.replies) c.origin-origin.ensures
     (subst (λ (answer : List ℕ). Keeps (option_copied c.origin-origin.result) answer
     c.self.inside.replies c.keep_answer.new.replies)
-    c.in-Some.ensures.ready.made.answer c.in-Ok.ensures.keeps))
+    c.in-Some.ensures.ready.answer c.in-Ok.ensures.keeps))
 
 commits : (c : After-commit) → Commits c.args.self.now (after c) c.args.finished
 commits c =
     subst (λ (b : BookValue). Commits b (after c) c.args.finished) c.self.view_is
-    (journal_commits c.self.inside.journal c.make_ready.new.self c.commit.new.self c.self.inside.replies
+    (journal_commits c.self.inside.journal c.make_room_for.new.self c.commit.new.self c.self.inside.replies
     c.keep_answer.new.replies c.self.inside.calls c.end.new.self (setting c) c.self.inside.era_records
-    c.args.finished c.make_ready.ensures.same c.commit.ensures.journal (keeps c) (ended c))
+    c.args.finished c.make_room_for.ensures.same c.commit.ensures.journal (keeps c) (ended c))
 
 pub invariant_of-self-2 : goal.invariant_of-self-2
 invariant_of-self-2 c = record {

@@ -1,10 +1,4 @@
-use Rattle.std.proofs.Common.{◌≡◌, None, refl, sym, ◌∙◌, ap, subst}
-use Rattle.nfs_replies.specs.Replies.{RepliesValue}
 use Rattle.nfs_engine.proofs.Booked.{recalled}
-use Rattle.nfs_engine.specs.Arrivals.{received_value}
-use Rattle.nfs_engine.specs.Book.{BookValue, book_value}
-use Rattle.nfs_engine.specs.Repeats.{kept_for, origin_in}
-use Rattle.nfs_engine.specs.Running.{IsInProgress}
 use Rattle.nfs_engine.proofs.book.Book.recall.Goals as goal
 
 pub invariant_of-self-in-Some : goal.invariant_of-self-in-Some

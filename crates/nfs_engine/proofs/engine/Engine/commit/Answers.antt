@@ -17,23 +17,23 @@ pub commit-requires : goal.commit-requires
 commit-requires c = may_commit (record { book = c.self.inside.book; shards = c.self.inside.shards }) c.args.finished
     (rw (← c.self.view_is) at c.requires)
 
-pub fill_all-requires : goal.fill_all-requires
-fill_all-requires c =
+pub settle_all-requires-clause-held : goal.settle_all-requires-clause-held
+settle_all-requires-clause-held c =
     subst (λ (ws : List (Addr × Option Object)). AllByRecursion (λ (w : Addr × Option Object).
-    IsHeldAmong c.self.inside.shards w.0) ws) (sym c.in-Ok.ensures.leaves.writes)
+    IsHeldAmong c.self.inside.shards w.0) ws)
+    (sym (ap (map write_value) c.deref_mut.ensures.value ∙ c.in-Ok.ensures.leaves.writes))
     (held_to_write c.self.inside.book c.self.inside.shards c.args.finished
     (rw (← c.self.view_is) at c.requires) c.is_finished.ensures.promised)
 
 pub invariant_of-self-2 : goal.invariant_of-self-2
-invariant_of-self-2 c = settled_tied c.self.inside.book c.commit.new.self c.self.inside.shards c.fill_all.new.shards
-    c.free_all.new.shards c.args.finished (record {
-      id = c.release.inside.id;
-      view = c.release.inside.view;
-      done = c.written_shards-written.result;
-      after = c.release.inside.after;
-    }) c.self.invariant (rw (← c.self.view_is) at c.requires) c.is_finished.ensures.promised c.run.ensures.run
-    c.in-Ok.ensures.commits (map write_value c.in-Ok.committed.writes.items) c.fill_all.ensures c.free_all.ensures
-    c.in-Ok.ensures.leaves.writes (ap (λ (r : ReleaseValue). r.id) (c.release.view_is ∙ c.in-Ok.ensures.leaves.release))
+invariant_of-self-2 c = settled_tied c.self.inside.book c.commit.new.self c.self.inside.shards c.settle_all.new.shards c.args.finished (record {
+  id = c.release.inside.id;
+  view = c.release.inside.view;
+  done = c.written_shards-written.result;
+  after = c.release.inside.after;
+}) c.self.invariant (rw (← c.self.view_is) at c.requires) c.is_finished.ensures.promised c.run.ensures.run
+    c.in-Ok.ensures.commits (map write_value c.deref_mut.result.now) c.settle_all.ensures
+    (ap (map write_value) c.deref_mut.ensures.value ∙ c.in-Ok.ensures.leaves.writes) (ap (λ (r : ReleaseValue). r.id) (c.release.view_is ∙ c.in-Ok.ensures.leaves.release))
     (ap (λ (r : ReleaseValue). r.view) (c.release.view_is ∙ c.in-Ok.ensures.leaves.release))
     (ap (λ (r : ReleaseValue). r.after) (c.release.view_is ∙ c.in-Ok.ensures.leaves.release))
 
@@ -45,43 +45,40 @@ returns-clause-leads c = rw (← c.self.view_is) c.in-Ok.ensures.leads
 
 pub returns-clause-others : goal.returns-clause-others
 returns-clause-others c = rw (← c.self.view_is) (settled_others c.self.inside.book c.commit.new.self
-    c.self.inside.shards c.fill_all.new.shards
-    c.free_all.new.shards c.args.finished (record {
+    c.self.inside.shards c.settle_all.new.shards c.args.finished (record {
       id = c.release.inside.id;
       view = c.release.inside.view;
       done = c.written_shards-written.result;
       after = c.release.inside.after;
     }) c.self.invariant (rw (← c.self.view_is) at c.requires) c.is_finished.ensures.promised c.run.ensures.run
-    c.in-Ok.ensures.commits (map write_value c.in-Ok.committed.writes.items) c.fill_all.ensures c.free_all.ensures
-    c.in-Ok.ensures.leaves.writes (ap (λ (r : ReleaseValue). r.id) (c.release.view_is ∙ c.in-Ok.ensures.leaves.release))
+    c.in-Ok.ensures.commits (map write_value c.deref_mut.result.now) c.settle_all.ensures
+    (ap (map write_value) c.deref_mut.ensures.value ∙ c.in-Ok.ensures.leaves.writes) (ap (λ (r : ReleaseValue). r.id) (c.release.view_is ∙ c.in-Ok.ensures.leaves.release))
     (ap (λ (r : ReleaseValue). r.view) (c.release.view_is ∙ c.in-Ok.ensures.leaves.release))
     (ap (λ (r : ReleaseValue). r.after) (c.release.view_is ∙ c.in-Ok.ensures.leaves.release)))
 
 pub returns-clause-counters : goal.returns-clause-counters
 returns-clause-counters c = rw (← c.self.view_is) (settled_counters c.self.inside.book c.commit.new.self
-    c.self.inside.shards c.fill_all.new.shards
-    c.free_all.new.shards c.args.finished (record {
+    c.self.inside.shards c.settle_all.new.shards c.args.finished (record {
       id = c.release.inside.id;
       view = c.release.inside.view;
       done = c.written_shards-written.result;
       after = c.release.inside.after;
     }) c.self.invariant (rw (← c.self.view_is) at c.requires) c.is_finished.ensures.promised c.run.ensures.run
-    c.in-Ok.ensures.commits (map write_value c.in-Ok.committed.writes.items) c.fill_all.ensures c.free_all.ensures
-    c.in-Ok.ensures.leaves.writes (ap (λ (r : ReleaseValue). r.id) (c.release.view_is ∙ c.in-Ok.ensures.leaves.release))
+    c.in-Ok.ensures.commits (map write_value c.deref_mut.result.now) c.settle_all.ensures
+    (ap (map write_value) c.deref_mut.ensures.value ∙ c.in-Ok.ensures.leaves.writes) (ap (λ (r : ReleaseValue). r.id) (c.release.view_is ∙ c.in-Ok.ensures.leaves.release))
     (ap (λ (r : ReleaseValue). r.view) (c.release.view_is ∙ c.in-Ok.ensures.leaves.release))
     (ap (λ (r : ReleaseValue). r.after) (c.release.view_is ∙ c.in-Ok.ensures.leaves.release)))
 
 pub returns-clause-leaving : goal.returns-clause-leaving
 returns-clause-leaving c = settled_leaving c.self.inside.book c.commit.new.self c.self.inside.shards
-    c.fill_all.new.shards
-    c.free_all.new.shards c.args.finished (record {
+    c.settle_all.new.shards c.args.finished (record {
       id = c.release.inside.id;
       view = c.release.inside.view;
       done = c.written_shards-written.result;
       after = c.release.inside.after;
     }) c.self.invariant (rw (← c.self.view_is) at c.requires) c.is_finished.ensures.promised c.run.ensures.run
-    c.in-Ok.ensures.commits (map write_value c.in-Ok.committed.writes.items) c.fill_all.ensures c.free_all.ensures
-    c.in-Ok.ensures.leaves.writes (ap (λ (r : ReleaseValue). r.id) (c.release.view_is ∙ c.in-Ok.ensures.leaves.release))
+    c.in-Ok.ensures.commits (map write_value c.deref_mut.result.now) c.settle_all.ensures
+    (ap (map write_value) c.deref_mut.ensures.value ∙ c.in-Ok.ensures.leaves.writes) (ap (λ (r : ReleaseValue). r.id) (c.release.view_is ∙ c.in-Ok.ensures.leaves.release))
     (ap (λ (r : ReleaseValue). r.view) (c.release.view_is ∙ c.in-Ok.ensures.leaves.release))
     (ap (λ (r : ReleaseValue). r.after) (c.release.view_is ∙ c.in-Ok.ensures.leaves.release))
 

@@ -13,7 +13,7 @@ invariant_of-self c = elim c.match-get_mut.branch [
   | in-Some w ↦ (
       let fields = c.self.inside in
       let host = c.args.host.now in
-      let bytes = c.args.bytes.now in
+      let bytes = c.args.sought.bytes.now in
       let was = w.in-Some.list.now in
       let new = w.promote.new.self in
       let found : Some was ≡ lookup (same_bytes host) fields.lists.entries =
@@ -30,7 +30,7 @@ returns c = elim c.match-get_mut.branch [
   | in-Some w ↦ (
       let fields = c.self.inside in
       let host = c.args.host.now in
-      let bytes = c.args.bytes.now in
+      let bytes = c.args.sought.bytes.now in
       let was = w.in-Some.list.now in
       let new = w.promote.new.self in
       let found : Some was ≡ lookup (same_bytes host) fields.lists.entries =
@@ -42,6 +42,6 @@ returns c = elim c.match-get_mut.branch [
   | in_default w ↦ (
       let fields = c.self.inside in
       rw (w.self-inside-is, c.get_mut.follows.holds-at-none, ← c.self.view_is) (is-after-unkept _ c.args.host.now
-      c.args.bytes.now (reply-at fields.capacity fields.lists.entries c.args.host.now c.args.bytes.now None
+      c.args.sought.bytes.now (reply-at fields.capacity fields.lists.entries c.args.host.now c.args.sought.bytes.now None
       w.in_default.ensures.value)))
 ]

@@ -32,9 +32,7 @@ left c =
     ∙ sym (reply-at fields.capacity fields.lists.entries host c.args.bytes (Some was) (found c))
     ∙ subst (λ (replies : RepliesValue). reply_for c.args.bytes (kept_of replies host) ≡ None)
     (sym c.self.view_is) c.requires in
-    put-left fields.capacity host c.args.bytes was (is c) c.args.reply c.put.new.self none
-    (c.in-Ok.ensures.entries
-    ∙ ap (λ bytes. lru_cache (put_entries same_bytes was bytes c.args.reply) was.cap) c.new.ensures)
+    put-left fields.capacity host c.args.bytes was (is c) c.args.reply c.put.new.self none c.in-Ok.ensures.entries
 
 pub invariant_of-self : goal.invariant_of-self
 invariant_of-self c =

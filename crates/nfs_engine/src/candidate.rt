@@ -1,0 +1,154 @@
+//! What the admission of a call wants, made before it.
+
+ghost use Rattle.std.specs.Prelude.{◌≡◌, IfOk, IfErr};
+ghost use Rattle.nfs_engine.specs.Arrivals.{received_value};
+ghost use Rattle.nfs_engine.specs.Asked.{IsAsked};
+ghost use Rattle.nfs_engine.specs.Book.{Prepares};
+ghost use Rattle.nfs_engine.specs.Hosts.{IsHost};
+ghost use Rattle.nfs_engine.specs.Repeats.{origin_of};
+ghost use Rattle.nfs_engine.specs.declared.arrival.Reading.TheVariants as readings;
+
+use crate::admission::Faulted;
+use crate::arrival::{Arrival, Reading, Received};
+use crate::asking::Asked;
+use crate::changing::is_changing;
+use crate::request::Request;
+use nfs_machine::{Call, Ctx, Limits};
+use nfs_replies::Origin;
+use std::alloc::{AllocError, Global};
+use std::marker::Model;
+
+/// A record that came in and asks a call, with all that the call's admission wants. A clause sees it as the arrival.
+#[derive(Drop)]
+pub struct Candidate {
+    pub(crate) request: Box<Request>,
+    /// What a repeat of it would come with, if it changes something.
+    pub(crate) origin: Option<Origin>,
+}
+
+impl Model for Candidate {
+    ghost use Rattle.nfs_engine.specs.Arrivals.{ArrivalValue};
+    ghost use Rattle.nfs_engine.specs.Candidates.{IsCandidate, candidate_value};
+
+    ghost Value = { ArrivalValue };
+
+    ghost view = { λ c. candidate_value c.request.value };
+
+    ghost invariant = { λ c. IsCandidate c.request.value c.origin };
+}
+
+/// What a record is for its admission.
+#[derive(Drop)]
+pub enum Prepared {
+    /// It asks a call.
+    Call(Candidate),
+    /// It has a fault.
+    Early(Faulted),
+}
+
+impl Arrival {
+    /// Makes what the admission wants memory for, so that an admission under a lock wants little.
+    ///
+    /// # Errors
+    ///
+    /// It asks a call, for which there is no memory: the arrival is handed back.
+    pub fn prepare(self, alloc: Global) -> Result<Prepared, Arrival>
+        ensures { Prepares self result }
+    {
+        let (received, reading) = self.into_parts();
+        match reading {
+            Reading::Asks(asked) => match Candidate::new(alloc, received, asked) {
+                Ok(candidate) => Ok(Prepared::Call(candidate)),
+                Err(arrival) => Err(arrival),
+            },
+            Reading::Faulted(answer) => Ok(Prepared::Early(Faulted { received, answer })),
+        }
+    }
+}
+
+impl Candidate {
+    /// The candidate of a record that asks this.
+    ///
+    /// # Errors
+    ///
+    /// The arrival, where there is no memory for it.
+    fn new(alloc: Global, received: Received, asked: Asked) -> Result<Candidate, Arrival>
+        requires { IsAsked (received_value received).bytes asked }
+        ensures made { IfOk result (λ candidate. candidate ≡ record {
+          received = received_value received;
+          reading = readings.Asks asked;
+        }) }
+        ensures back { IfErr result (λ arrival. arrival ≡ record {
+          received = received_value received;
+          reading = readings.Asks asked;
+        }) }
+    {
+        let Ok((origin, ctx)) = beginning(&received, &asked) else {
+            return Err(Arrival::asking(received, asked));
+        };
+        let Asked { xid, ids: _, call } = asked;
+        let request = Request {
+            received,
+            xid,
+            call,
+            ctx,
+        };
+        match Box::new(alloc, request) {
+            Ok(request) => Ok(Candidate { request, origin }),
+            Err(refused) => {
+                let (received, asked) = refused.value.into_parts();
+                Err(Arrival::asking(received, asked))
+            }
+        }
+    }
+
+    /// The arrival.
+    pub fn into_arrival(self) -> Arrival
+        ensures { result ≡ self }
+    {
+        let Candidate { request, origin } = self;
+        drop(origin);
+        let (received, asked) = Box::into_inner(request).into_parts();
+        Arrival::asking(received, asked)
+    }
+
+    /// What came in.
+    pub(crate) fn into_received(self) -> Received
+        ensures { received_value result ≡ self.received }
+    {
+        let Candidate { request, origin } = self;
+        drop(origin);
+        let (received, asked) = Box::into_inner(request).into_parts();
+        drop(asked);
+        received
+    }
+}
+
+/// What a call came with, if it changes something, and what it is made under. What the server was started with comes at
+/// the admission.
+fn beginning(received: &Received, asked: &Asked) -> Result<(Option<Origin>, Ctx), AllocError>
+    ensures origin { IfOk result (λ b. b.0 ≡ origin_of (received_value received.now) asked.now.call) }
+    ensures host { IfOk result (λ b. b.1.host ≡ received.now.host) }
+    ensures ids { IfOk result (λ b. b.1.ids ≡ asked.now.ids) }
+    ensures moment { IfOk result (λ b. b.1.moment ≡ received.now.moment) }
+    ensures named { IsHost received.now.host }
+{
+    let ctx = Ctx {
+        host: received.host.text().clone()?,
+        ids: asked.ids,
+        moment: received.moment,
+        start: 0,
+        limits: Limits { total_bytes: 0 },
+    };
+    Ok((origin_of(received, &asked.call)?, ctx))
+}
+
+/// What a call came with, if it changes something.
+fn origin_of(received: &Received, call: &Call) -> Result<Option<Origin>, AllocError>
+    ensures { IfOk result (λ origin. origin ≡ origin_of (received_value received.now) call.now) }
+{
+    if !is_changing(call) {
+        return Ok(None);
+    }
+    Ok(Some(received.origin()?))
+}

@@ -1,0 +1,138 @@
+//! Whether the parts of a reply are within their bounds.
+
+ghost use Rattle.std.specs.Prelude.{◌≡◌, true};
+ghost use Rattle.std.specs.Bool.{Decides};
+ghost use Rattle.std.specs.List.{All};
+ghost use Rattle.nfs_wire.specs.Replies.{FitsWord, HasEntryForm, HasFullEntryForm, HasLookupForm, HasMadeForm};
+ghost use Rattle.nfs_wire.specs.Replies.{HasNfsForm, HasReadForm, HasReaddirForm, HasReaddirplusForm};
+ghost use Rattle.nfs_wire.specs.Replies.{HasReadlinkForm, IsHandle};
+
+use bytes::Bytes;
+use nfs_wire::{
+    FullEntry, LookupReply, MadeReply, NfsReply, PageEntry, ReadReply, ReaddirReply,
+    ReaddirplusReply, ReadlinkReply,
+};
+
+/// The most bytes of a handle, NFS3_FHSIZE (RFC 1813, 2.4).
+const MAX_HANDLE: usize = 64;
+
+/// Whether the handles and the texts of a reply of NFS are within their bounds.
+pub(crate) fn is_formed(reply: &NfsReply) -> bool
+    ensures { result ≡ true → HasNfsForm reply.now }
+{
+    match reply {
+        NfsReply::Lookup(reply) => lookup_is_formed(reply),
+        NfsReply::Readlink(reply) => readlink_is_formed(reply),
+        NfsReply::Read(reply) => read_is_formed(reply),
+        NfsReply::Create(reply) => made_is_formed(reply),
+        NfsReply::Mkdir(reply) => made_is_formed(reply),
+        NfsReply::Symlink(reply) => made_is_formed(reply),
+        NfsReply::Mknod(reply) => made_is_formed(reply),
+        NfsReply::Readdir(reply) => readdir_is_formed(reply),
+        NfsReply::Readdirplus(reply) => readdirplus_is_formed(reply),
+        _ => true,
+    }
+}
+
+fn lookup_is_formed(reply: &LookupReply) -> bool
+    ensures { Decides result (HasLookupForm reply.now) }
+{
+    match &reply.result {
+        Ok(found) => is_handle(&found.object),
+        Err(_) => true,
+    }
+}
+
+fn readlink_is_formed(reply: &ReadlinkReply) -> bool
+    ensures { Decides result (HasReadlinkForm reply.now) }
+{
+    match &reply.result {
+        Ok(text) => fits_word(text),
+        Err(_) => true,
+    }
+}
+
+fn read_is_formed(reply: &ReadReply) -> bool
+    ensures { Decides result (HasReadForm reply.now) }
+{
+    match &reply.result {
+        Ok(read) => fits_word(&read.data),
+        Err(_) => true,
+    }
+}
+
+fn made_is_formed(reply: &MadeReply) -> bool
+    ensures { Decides result (HasMadeForm reply.now) }
+{
+    match &reply.result {
+        Ok(made) => match &made.object {
+            Some(object) => is_handle(object),
+            None => true,
+        },
+        Err(_) => true,
+    }
+}
+
+fn readdir_is_formed(reply: &ReaddirReply) -> bool
+    ensures { result ≡ true → HasReaddirForm reply.now }
+{
+    match &reply.result {
+        Ok(page) => names_are_formed(page.entries.as_slice()),
+        Err(_) => true,
+    }
+}
+
+fn names_are_formed(entries: &[PageEntry]) -> bool
+    ensures { result ≡ true → All HasEntryForm entries.now }
+{
+    for entry in entries {
+        if !fits_word(&entry.name) {
+            return false;
+        }
+    }
+    true
+}
+
+fn readdirplus_is_formed(reply: &ReaddirplusReply) -> bool
+    ensures { result ≡ true → HasReaddirplusForm reply.now }
+{
+    match &reply.result {
+        Ok(page) => entries_are_formed(page.entries.as_slice()),
+        Err(_) => true,
+    }
+}
+
+fn entries_are_formed(entries: &[FullEntry]) -> bool
+    ensures { result ≡ true → All HasFullEntryForm entries.now }
+{
+    for entry in entries {
+        if !entry_is_formed(entry) {
+            return false;
+        }
+    }
+    true
+}
+
+fn entry_is_formed(full: &FullEntry) -> bool
+    ensures { Decides result (HasFullEntryForm full.now) }
+{
+    if !fits_word(&full.entry.name) {
+        return false;
+    }
+    match &full.object {
+        Some(object) => is_handle(object),
+        None => true,
+    }
+}
+
+fn is_handle(handle: &Bytes) -> bool
+    ensures { Decides result (IsHandle handle.now) }
+{
+    handle.len() <= MAX_HANDLE
+}
+
+fn fits_word(text: &Bytes) -> bool
+    ensures { Decides result (FitsWord text.now) }
+{
+    text.len() as u64 <= u64::from(u32::MAX)
+}
