@@ -44,7 +44,7 @@ impl<L: Ledger> Pool<L> {
             let desk = &mut *guard;
             return desk.commit(alloc, mine, last, finished);
         }
-        let mut guard = take(rt, &self.locks.shards[index]);
+        let mut guard = take(rt, &self.places[index].shard);
         let shard = &mut *guard;
         if !finished.holds_written(shard) {
             return Err(Uncommitted {
@@ -55,7 +55,7 @@ impl<L: Ledger> Pool<L> {
         match self.commit_from(rt, alloc, mine, last, finished, written, index + 1) {
             Ok(committed) => {
                 let committed = committed.settle_in(shard);
-                self.locks.released[index].notify_all();
+                self.places[index].released.notify_all();
                 Ok(committed)
             }
             Err(uncommitted) => Err(uncommitted),

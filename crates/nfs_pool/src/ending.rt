@@ -30,13 +30,21 @@ impl<L: Ledger> Pool<L> {
         ensures era { IfOk result (λ r. EndsIn r.1 (told_by seats.items) r.0) }
         ensures back { IfErr result (λ e. e.2.items ≡ seats.items) }
     {
-        let Pool { desk, locks, count } = self;
+        let Pool {
+            desk,
+            places,
+            count,
+        } = self;
         let mut desk = desk.into_inner();
         match close_era(alloc, &mut desk, &count, seats) {
             Ok((era, _)) => Ok((era, desk.into_book())),
             Err((error, seats)) => {
                 let desk = Mutex::new(desk);
-                Err((error, Pool { desk, locks, count }, seats))
+                Err((error, Pool {
+            desk,
+            places,
+            count,
+        }, seats))
             }
         }
     }
@@ -56,11 +64,19 @@ impl<L: Ledger> Pool<L> {
         ensures seats { IfOk result (λ r. AreNew r.2.items (length seats.items)) }
         ensures back { IfErr result (λ e. e.2.items ≡ seats.items) }
     {
-        let Pool { desk, locks, count } = self;
+        let Pool {
+            desk,
+            places,
+            count,
+        } = self;
         let mut desk = desk.into_inner();
         let closed = close_era(alloc, &mut desk, &count, seats);
         let desk = Mutex::new(desk);
-        let pool = Pool { desk, locks, count };
+        let pool = Pool {
+            desk,
+            places,
+            count,
+        };
         match closed {
             Ok((era, seats)) => Ok((era, pool, seats)),
             Err((error, seats)) => Err((error, pool, seats)),
@@ -71,10 +87,10 @@ impl<L: Ledger> Pool<L> {
     pub fn end(self) -> Book {
         let Pool {
             desk,
-            locks,
+            places,
             count: _,
         } = self;
-        drop(locks);
+        drop(places);
         desk.into_inner().into_book()
     }
 }

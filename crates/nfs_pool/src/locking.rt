@@ -1,11 +1,36 @@
-//! Locks that are waited for awake.
+//! Locks that are waited for awake, and the places of the shards.
 
+use nfs_engine::Shard;
 use std::hint::spin_loop;
-use std::sync::{Mutex, MutexGuard, Wait};
+use std::sync::{Condvar, Mutex, MutexGuard, Wait};
 
 /// How often a lock is looked at before its thread sleeps. A hold is some hundred instructions, and to wake a thread
 /// takes many times as long.
 const LOOKS: u32 = 500;
+
+/// So many words are more than a line of a processor's cache.
+const LINE: usize = 16;
+
+/// A shard under its lock.
+#[derive(Drop)]
+pub(crate) struct Place {
+    pub(crate) shard: Mutex<Shard>,
+    /// Notified when a call lets go in the shard.
+    pub(crate) released: Condvar,
+    /// It keeps the next place off this one's lines, so that threads in two shards don't wait for each other's writes.
+    _apart: [u64; LINE],
+}
+
+impl Place {
+    /// A shard that nobody has locked.
+    pub(crate) fn new(shard: Shard) -> Place {
+        Place {
+            shard: Mutex::new(shard),
+            released: Condvar::new(),
+            _apart: [0; LINE],
+        }
+    }
+}
 
 /// Takes a lock. It is looked at for a while before the thread sleeps.
 pub(crate) fn take<'a, R: Wait, T>(rt: &R, mutex: &'a Mutex<T>) -> MutexGuard<'a, T> {

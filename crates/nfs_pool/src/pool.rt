@@ -9,7 +9,7 @@ use crate::committing::written_shards;
 use crate::counting::Count;
 use crate::desk::Desk;
 use crate::gate::Gate;
-use crate::locking::take;
+use crate::locking::{Place, take};
 use crate::seat::{Seat, new_seats};
 use crate::sent::{PoolError, Sent, Unadmitted, Uncommitted};
 use crate::steps::Steps;
@@ -20,22 +20,14 @@ use nfs_engine::{
 use nfs_objects::{Addr, Mode};
 use std::alloc::{AllocError, Global};
 use std::sync::ledger::{Blank, Ledger, Share};
-use std::sync::{Condvar, Mutex, Wait};
+use std::sync::{Mutex, Wait};
 
 /// The book and the shards, each under a lock of its own.
 #[derive(Drop)]
 pub struct Pool<L: Ledger> {
     pub(crate) desk: Mutex<Desk<L>>,
-    pub(crate) locks: Locks,
+    pub(crate) places: [Place; SHARDS],
     pub(crate) count: Count<L>,
-}
-
-/// The shards.
-#[derive(Drop)]
-pub(crate) struct Locks {
-    pub(crate) shards: [Mutex<Shard>; SHARDS],
-    /// Notified when a call lets go in the shard of the same index.
-    pub(crate) released: [Condvar; SHARDS],
 }
 
 impl<L: Ledger> Pool<L> {
@@ -65,10 +57,7 @@ impl<L: Ledger> Pool<L> {
         let (book, shards) = engine.into_parts();
         let pool = Pool {
             desk: Mutex::new(Desk::new(book, counted, nothing)),
-            locks: Locks {
-                shards: lock_all(shards),
-                released: new_bells(),
-            },
+            places: lock_all(shards),
             count: Count::new(count),
         };
         Ok((pool, new_seats(alloc, room, all, count)))
@@ -133,15 +122,15 @@ impl<L: Ledger> Steps<L> for Pool<L> {
         mode: Mode,
     ) -> Result<Got, AllocError> {
         let index = shard_index(address);
-        let mut guard = take(rt, &self.locks.shards[index]);
+        let mut guard = take(rt, &self.places[index].shard);
         gate.inside(index);
         txn.acquire_in(alloc, &mut *guard, address, mode)
     }
 
     fn wait_for<R: Wait>(&self, rt: &R, address: Addr, mode: Mode) {
         let index = shard_index(address);
-        let guard = take(rt, &self.locks.shards[index]);
-        let free = self.locks.released[index].wait_while(
+        let guard = take(rt, &self.places[index].shard);
+        let free = self.places[index].released.wait_while(
             rt,
             guard,
             |shard| shard.excluder(address, mode).is_some(),
@@ -150,7 +139,7 @@ impl<L: Ledger> Steps<L> for Pool<L> {
     }
 
     fn reserve<R: Wait>(&self, rt: &R, txn: &mut Txn, shard: usize) -> Result<bool, ReserveError> {
-        let mut guard = take(rt, &self.locks.shards[shard]);
+        let mut guard = take(rt, &self.places[shard].shard);
         txn.reserve_tested(&mut *guard)
     }
 
@@ -184,10 +173,10 @@ impl<L: Ledger> Steps<L> for Pool<L> {
             return release.next();
         };
         let next = {
-            let mut guard = take(rt, &self.locks.shards[index]);
+            let mut guard = take(rt, &self.places[index].shard);
             release.release_in(&mut *guard)
         };
-        self.locks.released[index].notify_all();
+        self.places[index].released.notify_all();
         next
     }
 
@@ -198,47 +187,25 @@ impl<L: Ledger> Steps<L> for Pool<L> {
     }
 }
 
-/// One for each shard.
-fn new_bells() -> [Condvar; SHARDS] {
-    [
-        Condvar::new(),
-        Condvar::new(),
-        Condvar::new(),
-        Condvar::new(),
-        Condvar::new(),
-        Condvar::new(),
-        Condvar::new(),
-        Condvar::new(),
-        Condvar::new(),
-        Condvar::new(),
-        Condvar::new(),
-        Condvar::new(),
-        Condvar::new(),
-        Condvar::new(),
-        Condvar::new(),
-        Condvar::new(),
-    ]
-}
-
 /// Each shard under a lock of its own.
-fn lock_all(shards: [Shard; SHARDS]) -> [Mutex<Shard>; SHARDS] {
+fn lock_all(shards: [Shard; SHARDS]) -> [Place; SHARDS] {
     let [a, b, c, d, e, f, g, h, i, j, k, l, m, n, o, p] = shards;
     [
-        Mutex::new(a),
-        Mutex::new(b),
-        Mutex::new(c),
-        Mutex::new(d),
-        Mutex::new(e),
-        Mutex::new(f),
-        Mutex::new(g),
-        Mutex::new(h),
-        Mutex::new(i),
-        Mutex::new(j),
-        Mutex::new(k),
-        Mutex::new(l),
-        Mutex::new(m),
-        Mutex::new(n),
-        Mutex::new(o),
-        Mutex::new(p),
+        Place::new(a),
+        Place::new(b),
+        Place::new(c),
+        Place::new(d),
+        Place::new(e),
+        Place::new(f),
+        Place::new(g),
+        Place::new(h),
+        Place::new(i),
+        Place::new(j),
+        Place::new(k),
+        Place::new(l),
+        Place::new(m),
+        Place::new(n),
+        Place::new(o),
+        Place::new(p),
     ]
 }
