@@ -1,3 +1,4 @@
+pub mod Crossing
 pub mod Numbered
 pub mod Reading
 pub mod Seated
