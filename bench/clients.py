@@ -1,20 +1,18 @@
 #!/usr/bin/env python3
 """Tries the server with clients that others wrote: Debian's libnfs-utils (apt-get install libnfs-utils).
 
-    bench/clients.py [PORT]
+It starts nfsd on a port of the system's choice, copies a file of 1 MiB there and back with nfs-cp, makes 1,000 files,
+which nfs-ls must list, and reads one with nfs-cat.
 
-It starts a bridge on 127.0.0.1:PORT (20490), copies a file of 1 MiB there and back with nfs-cp, makes 1,000 files, which
-nfs-ls must list, and reads one with nfs-cat.
+usage: bench/clients.py [PROGRAM]
 """
 import os
 import pathlib
+import re
 import subprocess
-import sys
 import tempfile
 
 import nfsd
-
-BRIDGE = pathlib.Path(__file__).resolve().parent / "bridge.py"
 
 
 def url(path, port):
@@ -53,16 +51,16 @@ def lists(folder, port):
 
 def main():
     words = nfsd.parser(__doc__)
-    words.add_argument("port", metavar="PORT", nargs="?", type=int, default=20490, help="the bridge's port (20490)")
-    port = words.parse_args().port
-    with subprocess.Popen([sys.executable, BRIDGE, str(port)], stdout=subprocess.PIPE) as bridge:
-        bridge.stdout.readline()
+    words.add_argument("program", metavar="PROGRAM", nargs="?", default=nfsd.PROGRAM, help="the program (this one)")
+    options = ["--tcp", "127.0.0.1:0", "--export", "/data,rw,*"]
+    with subprocess.Popen([words.parse_args().program, *options], stderr=subprocess.PIPE) as server:
         try:
+            port = re.search(rb":(\d+) \(TCP\)", server.stderr.readline())[1].decode()
             with tempfile.TemporaryDirectory() as folder:
                 copies(pathlib.Path(folder), port)
                 lists(pathlib.Path(folder), port)
         finally:
-            bridge.terminate()
+            server.terminate()
 
 
 if __name__ == "__main__":

@@ -1,2 +1,3 @@
+mod Crossing
 pub mod Parsed
 pub mod Starting

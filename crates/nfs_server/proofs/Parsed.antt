@@ -1,10 +1,10 @@
 -- The program's command is one of which clap states the matches and the faults exactly: its options are plain flags and options, and
 -- none has a rule on another. What the getters of the matches give is then a function of the words.
-use Rattle.std.proofs.Common.{◌≡◌, ℕ, Bool, true, List, [], ◌∷◌, map, refl, subst, ap, sym, ◌∙◌, inl, inr}
-use Rattle.std.specs.Prelude.{◌⊎◌, IfSome, MatchResult, Option, Some, None, Result, Ok, Err, option_map, unwrap_or, codes}
+use Rattle.std.proofs.Common.{◌≡◌, ◌≤◌, ℕ, Bool, true, false, List, [], ◌∷◌, map, refl, subst, ap, sym, ◌∙◌, inl, inr}
+use Rattle.std.specs.Prelude.{◌⊎◌, IfSome, MatchResult, Option, Some, None, IsSome, Result, Ok, Err, is_some, option_map, unwrap_or, codes}
 use Rattle.std.specs.Borrow.{Bor}
 use Rattle.std.specs.Str.Parse.{ParsesUnsigned}
-use Rattle.clap.specs.Words.{App, HasKind, HasMatchesOf, ReadsOne, Row, Text, fault_of, first_value, found_of, is_simple, is_simple_and_free, kind_of, matched_of, matches_of, one_of, one_text, raw_values, rows_of}
+use Rattle.clap.specs.Words.{App, HasKind, HasMatchesOf, ReadsOne, Row, Text, fault_of, first_of, first_value, found_of, is_simple, is_simple_and_free, kind_of, matched_of, matches_of, one_of, one_text, raw_values, rows_of}
 use Rattle.clap.specs.declared.error.Error.{Error}
 use Rattle.clap.specs.declared.error.kind.ErrorKind.{ErrorKind}
 use Rattle.clap.specs.declared.error.kind.ErrorKind.TheVariants as kind
@@ -19,12 +19,17 @@ use Rattle.nfs_machine.specs.declared.exports.ExportError.{ExportError}
 use Rattle.nfs_machine.specs.declared.exports.ExportError.TheVariants as export
 use Rattle.nfs_machine.specs.declared.exports.ExportText.{ExportText}
 use Rattle.nfs_engine.specs.Opening.{IsLimit}
-use Rattle.nfs_server.specs.CommandLine.{AreRefused, Configures, IsCapacity, IsEra, IsHostRefusal, IsLimitRefusal, IsParsedFrom, IsRefusal, IsTaken, IsValueRefusal, NamesLimit, ReadsOptions, ReadsFlag, ReadsNumber, Refuses, export_parts, exports_of, host_of, nfsd, parts_of}
+use Rattle.nfs_server.specs.Limits.{IsWithin}
+use Rattle.nfs_server.specs.declared.limits.Limit.{Limit}
+use Rattle.nfs_server.specs.declared.limits.Limits.{Limits}
+use Rattle.nfs_server.specs.CommandLine.{AreRefused, AreWithin, AsksAlone, AsksStdio, Configures, HasLimits, HasWorkers, IsConflict, IsHostRefusal, IsLimitRefusal, IsParsedFrom, IsRefusal, IsTaken, IsTransportRefusal, IsValueRefusal, NamesAddress, NamesLimit, ReadsOptions, ReadsFlag, ReadsNumber, ReadsTransport, Refuses, export_parts, exports_of, host_of, nfsd, parts_of}
 use Rattle.nfs_engine.specs.Hosts.{IsHost}
 use Rattle.nfs_server.specs.Exits.{exit_of_command, exit_of_exports, exit_of_kind}
 use Rattle.nfs_server.specs.declared.exit.Exit.{Exit}
 use Rattle.nfs_server.specs.declared.options.Options.{Options}
-use Rattle.nfs_server.specs.declared.exit.Exit.TheVariants.{CommandLine, Exports, Memory, NoTransport, StandardStream}
+use Rattle.nfs_server.specs.declared.options.Transport.{Transport}
+use Rattle.nfs_server.specs.declared.options.Transport.TheVariants.{Stdio, Network}
+use Rattle.nfs_server.specs.declared.exit.Exit.TheVariants.{CannotListen, CommandLine, Exports, Memory, NoTransport, StandardStream}
 
 nfsd_is_simple : is_simple nfsd ≡ true
 unfolding nfsd clap_on_literals
@@ -115,93 +120,155 @@ host_taken : (words : List Text) (m : ArgMatches) (host : Text) → IsParsedFrom
 host_taken words m host parsed is =
     subst (λ (rows : List Row). IsHost (host_of rows)) parsed.rows (subst IsHost is.0 is.1)
 
--- words whose matches are found, with a host of its length and limits within their bounds, are taken
-pub taken : (words : List Text) (m : ArgMatches) (host : Text) (era capacity : ℕ) → IsParsedFrom words m
-    → (host ≡ host_of (rows_of (found_of m))) × IsHost host → IsEra (rows_of (found_of m)) era
-    → IsCapacity (rows_of (found_of m)) capacity → IsTaken words
-taken words m host era capacity parsed is its kept = record {
+false_is_not_true : false ≡ true → ⊥
+false_is_not_true same = cc
+
+-- words whose matches are found, with a host of its length, numbers within their bounds and one transport, are taken
+pub taken : (words : List Text) (m : ArgMatches) (host : Text) (limits : Limits) → IsParsedFrom words m
+    → (host ≡ host_of (rows_of (found_of m))) × IsHost host → HasLimits (rows_of (found_of m)) limits
+    → AsksAlone (rows_of (found_of m)) → IsTaken words
+taken words m host limits parsed is its apart = record {
   faultless = parsed.faultless;
   host = host_taken words m host parsed is;
-  era = (era, subst (λ (rows : List Row). IsEra rows era) parsed.rows its);
-  capacity = (capacity, subst (λ (rows : List Row). IsCapacity rows capacity) parsed.rows kept);
+  limits = (limits, subst (λ (rows : List Row). HasLimits rows limits) parsed.rows its);
+  apart = subst AsksAlone parsed.rows apart;
 }
 
 -- a number outside the bounds is refused
-pub refuses_limit : (name : Text) (default : ℕ) (rows : List Row) (limit : ℕ) (exit : Exit)
-    → NamesLimit name default rows limit → (IsLimit limit → ⊥) → IsValueRefusal exit
-    → IsLimitRefusal name default rows exit
-refuses_limit name default rows limit (CommandLine e) names other refused = (limit, names, other, refused)
-refuses_limit name default rows limit Memory names other refused = tt
-refuses_limit name default rows limit NoTransport names other refused = absurd refused
-refuses_limit name default rows limit (Exports e) names other refused = absurd refused
-refuses_limit name default rows limit StandardStream names other refused = absurd refused
+pub refuses_limit : (limit : Limit) (rows : List Row) (value : ℕ) (exit : Exit) → NamesLimit limit rows value
+    → (IsWithin limit value → ⊥) → IsValueRefusal exit → IsLimitRefusal rows exit
+refuses_limit limit rows value (CommandLine e) names other refused = (limit, value, names, other, refused)
+refuses_limit limit rows value Memory names other refused = tt
+refuses_limit limit rows value NoTransport names other refused = absurd refused
+refuses_limit limit rows value (Exports e) names other refused = absurd refused
+refuses_limit limit rows value StandardStream names other refused = absurd refused
+refuses_limit limit rows value (CannotListen text) names other refused = absurd refused
 
--- and so are its words
-pub refused_era : (words : List Text) (m : ArgMatches) (host : Text) (exit : Exit) → IsParsedFrom words m
-    → (host ≡ host_of (rows_of (found_of m))) × IsHost host
-    → IsLimitRefusal (codes "era") 65536 (rows_of (found_of m)) exit → Refuses words exit
-refused_era words m host (CommandLine e) parsed is refused = inr (inr (inl (
-  parsed.faultless,
-  host_taken words m host parsed is,
-  subst (λ (rows : List Row). IsLimitRefusal (codes "era") 65536 rows (CommandLine e)) parsed.rows refused,
-)))
-refused_era words m host Memory parsed is refused = tt
-refused_era words m host NoTransport parsed is refused = absurd refused
-refused_era words m host (Exports e) parsed is refused = absurd refused
-refused_era words m host StandardStream parsed is refused = absurd refused
+-- two transports are refused
+pub refuses_conflict : (rows : List Row) (exit : Exit) → AsksStdio rows true → NamesAddress rows → IsConflict exit
+    → IsTransportRefusal rows exit
+refuses_conflict rows (CommandLine e) asks names refused = (asks, names, refused)
+refuses_conflict rows Memory asks names refused = tt
+refuses_conflict rows NoTransport asks names refused = absurd refused
+refuses_conflict rows (Exports e) asks names refused = absurd refused
+refuses_conflict rows StandardStream asks names refused = absurd refused
+refuses_conflict rows (CannotListen text) asks names refused = absurd refused
 
-pub refused_capacity : (words : List Text) (m : ArgMatches) (host : Text) (era : ℕ) (exit : Exit)
-    → IsParsedFrom words m → (host ≡ host_of (rows_of (found_of m))) × IsHost host
-    → IsEra (rows_of (found_of m)) era → IsLimitRefusal (codes "cache") 1024 (rows_of (found_of m)) exit
-    → Refuses words exit
-refused_capacity words m host era (CommandLine e) parsed is its refused = inr (inr (inr (
-  parsed.faultless,
-  host_taken words m host parsed is,
-  (era, subst (λ (rows : List Row). IsEra rows era) parsed.rows its),
-  subst (λ (rows : List Row). IsLimitRefusal (codes "cache") 1024 rows (CommandLine e)) parsed.rows refused,
-)))
-refused_capacity words m host era Memory parsed is its refused = tt
-refused_capacity words m host era NoTransport parsed is its refused = absurd refused
-refused_capacity words m host era (Exports e) parsed is its refused = absurd refused
-refused_capacity words m host era StandardStream parsed is its refused = absurd refused
-
--- a host that is refused refuses its words
+-- a value that is refused refuses its words
 pub refused_host : (words : List Text) (m : ArgMatches) (exit : Exit) → IsParsedFrom words m
     → IsHostRefusal (rows_of (found_of m)) exit → Refuses words exit
-refused_host words m (CommandLine e) parsed refused = inr (inl (
+refused_host words m (CommandLine e) parsed refused = inr (
   parsed.faultless,
-  subst (λ (rows : List Row). IsHost (host_of rows) → ⊥) parsed.rows refused.0,
-  refused.1,
-))
+  inl (subst (λ (rows : List Row). IsHostRefusal rows (CommandLine e)) parsed.rows refused),
+)
 refused_host words m Memory parsed refused = tt
 refused_host words m NoTransport parsed refused = absurd refused
 refused_host words m (Exports e) parsed refused = absurd refused
 refused_host words m StandardStream parsed refused = absurd refused
+refused_host words m (CannotListen text) parsed refused = absurd refused
 
--- a flag that is read is that of the words
-pub flag_read : (words : List Text) (m : ArgMatches) (id : Text) (is_set : Bool) → IsParsedFrom words m
-    → ReadsFlag (one_text (found_of m) id) is_set → ReadsFlag (one_of id (matches_of nfsd words)) is_set
-flag_read words m id is_set parsed reads =
-    subst (λ (text : Option Text). ReadsFlag text is_set) (one_text-rows (found_of m) id ∙ ap (one_of id) parsed.rows) reads
+pub refused_limit : (words : List Text) (m : ArgMatches) (exit : Exit) → IsParsedFrom words m
+    → IsLimitRefusal (rows_of (found_of m)) exit → Refuses words exit
+refused_limit words m (CommandLine e) parsed refused = inr (
+  parsed.faultless,
+  inr (inl (subst (λ (rows : List Row). IsLimitRefusal rows (CommandLine e)) parsed.rows refused)),
+)
+refused_limit words m Memory parsed refused = tt
+refused_limit words m NoTransport parsed refused = absurd refused
+refused_limit words m (Exports e) parsed refused = absurd refused
+refused_limit words m StandardStream parsed refused = absurd refused
+refused_limit words m (CannotListen text) parsed refused = absurd refused
+
+-- and so does a transport; where none is named the words are taken
+pub refused_transport : (words : List Text) (m : ArgMatches) (host : Text) (limits : Limits) (exit : Exit)
+    → IsParsedFrom words m → (host ≡ host_of (rows_of (found_of m))) × IsHost host
+    → HasLimits (rows_of (found_of m)) limits → IsTransportRefusal (rows_of (found_of m)) exit → Refuses words exit
+refused_transport words m host limits (CommandLine e) parsed is its refused = inr (
+  parsed.faultless,
+  inr (inr (subst (λ (rows : List Row). IsTransportRefusal rows (CommandLine e)) parsed.rows refused)),
+)
+refused_transport words m host limits Memory parsed is its refused = tt
+refused_transport words m host limits NoTransport parsed is its refused = (
+  taken words m host limits parsed is its (false, refused.0, λ same. absurd (false_is_not_true same)),
+  subst (λ (rows : List Row). IsTransportRefusal rows NoTransport) parsed.rows refused,
+)
+refused_transport words m host limits (Exports e) parsed is its refused = absurd refused
+refused_transport words m host limits StandardStream parsed is its refused = absurd refused
+refused_transport words m host limits (CannotListen text) parsed is its refused = absurd refused
+
+-- a transport that is read is the only one
+pub one_transport : (rows : List Row) (limits : Limits) (transport : Transport) → ReadsTransport rows limits transport
+    → AsksAlone rows
+one_transport rows limits Stdio reads = (true, reads.0, λ same. reads.1)
+one_transport rows limits (Network network) reads = (false, reads.0, λ same. absurd (false_is_not_true same))
+
+-- a flag that is read is that of the rows
+pub flag_read : (f : Found) (id : Text) (is_set : Bool) → ReadsFlag (one_text f id) is_set
+    → ReadsFlag (one_of id (rows_of f)) is_set
+flag_read f id is_set reads = subst (λ (text : Option Text). ReadsFlag text is_set) (one_text-rows f id) reads
+
+-- the text that is read is that of the rows
+pub text_read : (f : Found) (id : Text) (r : Option (Bor Text)) (named : Option Text)
+    → option_map (λ s. s.now) r ≡ first_value f id → named ≡ option_map (λ s. s.now) r → named ≡ first_of id (rows_of f)
+text_read f id r named is same = same ∙ is ∙ first_value-rows f id
+
+-- whether a text is named is told by whether one is read
+pub is_named : (f : Found) (id : Text) (r : Option (Bor Text)) → option_map (λ s. s.now) r ≡ first_value f id
+    → is_some r ≡ true → IsSome (first_of id (rows_of f))
+is_named f id None is some = absurd (false_is_not_true some)
+is_named f id (Some t) is some = subst (λ (o : Option Text). IsSome o) (is ∙ first_value-rows f id) refl
+
+pub is_not_named : (f : Found) (id : Text) (r : Option (Bor Text)) → option_map (λ s. s.now) r ≡ first_value f id
+    → is_some r ≡ false → IsSome (first_of id (rows_of f)) → ⊥
+is_not_named f id None is none = subst (λ (o : Option Text). IsSome o → ⊥) (is ∙ first_value-rows f id)
+    (λ some. false_is_not_true some)
+is_not_named f id (Some t) is none = absurd (false_is_not_true (sym none))
 
 -- the options of the rows are those of the words
 pub options_read : (words : List Text) (m : ArgMatches) (options : Options) → IsParsedFrom words m → IsTaken words
-    → ReadsFlag (one_of (codes "stdio") (matches_of nfsd words)) true → ReadsOptions (rows_of (found_of m)) options → Configures words options
-options_read words m options parsed is_taken transport reads = record {
+    → ReadsOptions (rows_of (found_of m)) options → Configures words options
+options_read words m options parsed is_taken reads = record {
   taken = is_taken;
-  transport = transport;
   reads = subst (λ (rows : List Row). ReadsOptions rows options) parsed.rows reads;
 }
 
+-- its workers are as many as a pool has seats for
+workers_within : (rows : List Row) (limits : Limits) (transport : Transport) → HasLimits rows limits
+    → ReadsTransport rows limits transport → HasWorkers transport
+workers_within rows limits Stdio has reads = tt
+workers_within rows limits (Network network) has reads =
+    subst (λ (n : ℕ). (1 ≤ n) × (n ≤ 64)) (sym reads.2.workers) (has.workers.within.some, has.workers.within.few)
+
+-- the numbers of options that are read are within their bounds
+pub options_within : (rows : List Row) (options : Options) → ReadsOptions rows options → AreWithin options
+options_within rows options reads =
+    let (limits, has, era, capacity, transport) = reads.limits in record {
+      era = subst IsLimit (sym era) (has.era.within.some, has.era.within.few);
+      capacity = subst IsLimit (sym capacity) (has.capacity.within.some, has.capacity.within.few);
+      network = workers_within rows limits options.transport has transport;
+    }
+
+-- a transport that is read is one
+has_transport : (rows : List Row) (limits : Limits) (transport : Transport) → ReadsTransport rows limits transport
+    → AsksStdio rows true ⊎ NamesAddress rows
+has_transport rows limits Stdio reads = inl reads.0
+has_transport rows limits (Network network) reads = inr reads.1
+
 -- and so is what refuses them
-pub refuses_options : (words : List Text) (m : ArgMatches) (exit : Exit) → IsParsedFrom words m → IsTaken words
-    → ReadsFlag (one_of (codes "stdio") (matches_of nfsd words)) true → IsRefusal (rows_of (found_of m)) exit → Refuses words exit
-refuses_options words m (Exports e) parsed is_taken transport refused =
-    (is_taken, transport, subst (λ (rows : List Row). AreRefused rows e) parsed.rows refused)
-refuses_options words m Memory parsed is_taken transport refused = tt
-refuses_options words m (CommandLine e) parsed is_taken transport refused = absurd refused
-refuses_options words m NoTransport parsed is_taken transport refused = absurd refused
-refuses_options words m StandardStream parsed is_taken transport refused = absurd refused
+pub refuses_options : (words : List Text) (m : ArgMatches) (limits : Limits) (transport : Transport) (exit : Exit)
+    → IsParsedFrom words m → IsTaken words → ReadsTransport (rows_of (found_of m)) limits transport
+    → IsRefusal (rows_of (found_of m)) exit → Refuses words exit
+refuses_options words m limits transport (Exports e) parsed is_taken reads refused = (
+  is_taken,
+  subst (λ (rows : List Row). AreRefused rows e) parsed.rows refused,
+  subst (λ (rows : List Row). AsksStdio rows true ⊎ NamesAddress rows) parsed.rows
+      (has_transport (rows_of (found_of m)) limits transport reads),
+)
+refuses_options words m limits transport Memory parsed is_taken reads refused = tt
+refuses_options words m limits transport (CommandLine e) parsed is_taken reads refused = absurd refused
+refuses_options words m limits transport NoTransport parsed is_taken reads refused = absurd refused
+refuses_options words m limits transport StandardStream parsed is_taken reads refused = absurd refused
+refuses_options words m limits transport (CannotListen text) parsed is_taken reads refused = absurd refused
 
 -- what `Exports::new` says, by its result
 pub exports_made : (list : List ExportText) (r : Result (List ExportValue) ExportError) → IfSome (export_fault list) (λ fault. r ≡ Err fault)
@@ -224,3 +291,4 @@ refuses_host rows Memory other refused = tt
 refuses_host rows NoTransport other refused = absurd refused
 refuses_host rows (Exports e) other refused = absurd refused
 refuses_host rows StandardStream other refused = absurd refused
+refuses_host rows (CannotListen text) other refused = absurd refused

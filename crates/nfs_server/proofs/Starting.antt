@@ -1,7 +1,7 @@
 -- An engine that opens is at rest, and stands in the opening state.
 use Rattle.std.proofs.Common.{◌≡◌, ℕ, ◌≤◌, List, length, None, sym, ◌∙◌, ap, subst, arith}
 use Rattle.nfs_machine.specs.Opening.{opening}
-use Rattle.nfs_machine.specs.Run.{Record, Run, Setting}
+use Rattle.nfs_machine.specs.Run.{Record, Run}
 use Rattle.nfs_machine.specs.State.{State}
 use Rattle.nfs_objects.specs.declared.address.Addr.{Addr}
 use Rattle.nfs_replies.specs.Replies.{kept_of}
@@ -21,16 +21,14 @@ opens_rests config e opens free = record {
   held = free;
 }
 
-pub opens_standing : (config : Config) (setting : Setting) (e : EngineValue) → Opens config e.book →
-    setting.exports ≡ config.exports → StandsAt e (opening_standing setting config.capacity config.moment)
-opens_standing config setting e opens exports =
+pub opens_standing : (config : Config) (e : EngineValue) → Opens config e.book →
+    StandsAt e (opening_standing config.exports config.capacity config.moment)
+opens_standing config e opens =
     let run : opens.leads.state ≡ opening config.exports config.moment =
     subst (λ (rs : List Record). Run e.book.setting (opening config.exports config.moment) rs opens.leads.state)
     (ap (λ (b : BookValue). b.records) opens.is) opens.leads.run in
-    let same : opens.leads.state ≡ opening setting.exports config.moment =
-    run ∙ ap (λ es. opening es config.moment) (sym exports) in
     record {
-      stands = subst (λ (m : State). StandsFor (store_in e.book) m) same opens.leads.stands;
+      stands = subst (λ (m : State). StandsFor (store_in e.book) m) run opens.leads.stands;
       capacity = sym (ap (λ (b : BookValue). b.replies.capacity) opens.is);
       lists = sym (ap (λ (b : BookValue). kept_of b.replies) opens.is);
     }

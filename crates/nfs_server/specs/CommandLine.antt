@@ -1,26 +1,37 @@
 -- The command line: which words are taken, and what they ask for.
-use Rattle.std.specs.Prelude.{◌≡◌, ◌<◌, ◌^◌, ◌⊎◌, ◌==◌, ℕ, Bool, true, false}
-use Rattle.std.specs.Prelude.{List, [], map, drop, Option, Some, None, unwrap_or, slice_get, codes, pos}
+use Rattle.std.specs.Prelude.{◌≡◌, ◌<◌, ◌≤◌, ◌^◌, ◌⊎◌, ◌==◌, ℕ, Bool, true, false}
+use Rattle.std.specs.Prelude.{List, [], map, drop, Option, Some, None, IsSome, option_map, unwrap_or, slice_get}
+use Rattle.std.specs.Prelude.{codes, pos}
 use Rattle.std.specs.List.{slice_split}
 use Rattle.std.specs.Option.{SomeIff}
 use Rattle.std.specs.declared.io.ErrorKind.{ErrorKind}
 use Rattle.std.specs.declared.io.ErrorKind.TheVariants.{OutOfMemory}
+use Rattle.std.specs.Prelude.{String}
+use Rattle.std.specs.String.{string_bytes}
+use Rattle.std.specs.declared.alloc.Global.{Global}
 use Rattle.std.specs.Str.Parse.{IsNumeral, digits_value, without_leading_plus}
 use Rattle.clap.specs.Words.{App, IsAmong, Row, Rule, Text, all_of, fault_of, first_of, found_of, kind_of}
 use Rattle.clap.specs.Words.{matches_of, new_app, new_rule, one_of, rows_of, with_rule}
 use Rattle.clap.specs.declared.builder.action.ArgAction.TheVariants.{Append, SetTrue}
 use Rattle.clap.specs.declared.builder.value_parser.ValueParser.{ValueParser}
 use Rattle.clap.specs.declared.builder.value_parser.ValueParser.TheVariants.{Signed, Unsigned}
-use Rattle.clap.specs.declared.error.kind.ErrorKind.TheVariants.{ValueValidation}
+use Rattle.clap.specs.declared.error.kind.ErrorKind.TheVariants.{ArgumentConflict, ValueValidation}
 use Rattle.clap.specs.declared.parser.matches.ArgMatches.{ArgMatches}
 use Rattle.nfs_machine.specs.ExportFaults.{export_fault, export_of}
 use Rattle.nfs_machine.specs.declared.exports.ExportError.{ExportError}
 use Rattle.nfs_machine.specs.declared.exports.ExportText.{ExportText}
 use Rattle.nfs_engine.specs.Hosts.{IsHost}
 use Rattle.nfs_engine.specs.Opening.{IsLimit}
+use Rattle.nfs_server.specs.Limits.{IsWithin, default_of, name_of}
+use Rattle.nfs_server.specs.declared.limits.Limit.{Limit}
+use Rattle.nfs_server.specs.declared.limits.Limit.TheVariants.{Era, Cache, Workers, Connections}
+use Rattle.nfs_server.specs.declared.limits.Limits.{Limits}
 use Rattle.nfs_server.specs.declared.exit.Exit.{Exit}
 use Rattle.nfs_server.specs.declared.exit.Exit.TheVariants.{CommandLine, NoTransport, Exports, Memory, StandardStream}
+use Rattle.nfs_server.specs.declared.options.Network.{Network as NetworkOptions}
 use Rattle.nfs_server.specs.declared.options.Options.{Options}
+use Rattle.nfs_server.specs.declared.options.Transport.{Transport}
+use Rattle.nfs_server.specs.declared.options.Transport.TheVariants.{Stdio, Network}
 
 -- ---- the options
 
@@ -36,27 +47,41 @@ option_rule name = record (new_rule name) { long = Some name; value_names = 1 }
 abbrev pub number_rule : Text → ValueParser → Rule
 number_rule name parser = record (option_rule name) { parser = Some parser }
 
--- a program with the options that say what is served, and to whom; `--export` may be given more than once
-abbrev pub with_serving : App → App
-with_serving app =
+-- a program that tells its version
+abbrev pub with_version : App → App
+with_version app = record app { top = record app.top { has_version = true } }
+
+-- a program with the options that say on what is served
+abbrev pub with_transport : App → App
+with_transport app =
+    let tcp = option_rule (codes "tcp") in
+    let udp = option_rule (codes "udp") in
     let stdio = flag_rule (codes "stdio") in
+    let host = option_rule (codes "host") in
+    with_rule (with_rule (with_rule (with_rule app tcp) udp) stdio) host
+
+-- a program with the options that say what is served; `--export` may be given more than once
+abbrev pub with_files : App → App
+with_files app =
     let export = record (option_rule (codes "export")) { required = true; action = Some Append } in
     let start = number_rule (codes "start") (Unsigned 0 18446744073709551615) in
     let clock = number_rule (codes "clock") (Signed (pos 0) (pos 4294967295)) in
-    with_rule (with_rule (with_rule (with_rule app stdio) export) start) clock
+    let bytes = number_rule (codes "bytes") (Unsigned 0 18446744073709551615) in
+    with_rule (with_rule (with_rule (with_rule app export) start) clock) bytes
 
--- a program with the options of the peer, and of how much there is or is kept
+-- a program with the options that say how much there is at once, or is kept
 abbrev pub with_limits : App → App
 with_limits app =
-    let host = option_rule (codes "host") in
-    let bytes = number_rule (codes "bytes") (Unsigned 0 18446744073709551615) in
+    let workers = number_rule (codes "workers") (Unsigned 0 18446744073709551615) in
+    let connections = number_rule (codes "connections") (Unsigned 0 18446744073709551615) in
+    let accept = number_rule (codes "accept") (Unsigned 0 18446744073709551615) in
     let era = number_rule (codes "era") (Unsigned 0 18446744073709551615) in
     let cache = number_rule (codes "cache") (Unsigned 0 18446744073709551615) in
-    with_rule (with_rule (with_rule (with_rule app host) bytes) era) cache
+    with_rule (with_rule (with_rule (with_rule (with_rule app workers) connections) accept) era) cache
 
 -- the program's options
 unfoldable pub nfsd : App
-nfsd = with_limits (with_serving (new_app (codes "nfsd")))
+nfsd = with_limits (with_files (with_transport (with_version (new_app (codes "nfsd")))))
 
 -- ---- what a value spells
 
@@ -91,24 +116,62 @@ exports_of rows = unwrap_or (all_of (codes "export") rows) []
 
 -- ---- what the words come to
 
--- the number that an option gives, or else the default
-pub record NamesLimit (name : Text) (default : ℕ) (rows : List Row) (limit : ℕ) : Type 0 where
+-- the number that an option gives, or else this one
+pub record NamesNumber (name : Text) (otherwise : ℕ) (rows : List Row) (value : ℕ) : Type 0 where
   pub number : Option ℕ
   pub reads : ReadsNumber 64 (one_of name rows) number
-  pub is : limit ≡ unwrap_or number default
+  pub is : value ≡ unwrap_or number otherwise
+
+abbrev pub NamesLimit : Limit → List Row → ℕ → Type 0
+NamesLimit limit rows value = NamesNumber (name_of limit) (default_of limit) rows value
 
 -- and it is within the bounds
-pub record HasLimit (name : Text) (default : ℕ) (rows : List Row) (limit : ℕ) : Type 0 where
-  pub names : NamesLimit name default rows limit
-  pub within : IsLimit limit
+pub record HasLimit (limit : Limit) (rows : List Row) (value : ℕ) : Type 0 where
+  pub names : NamesLimit limit rows value
+  pub within : IsWithin limit value
 
--- the number of records at which an era is full
-abbrev pub IsEra : List Row → (era : ℕ) → Type 0
-IsEra rows era = HasLimit (codes "era") 65536 rows era
+-- so are all
+pub record HasLimits (rows : List Row) (limits : Limits) : Type 0 where
+  pub era : HasLimit Era rows limits.era_records
+  pub capacity : HasLimit Cache rows limits.capacity
+  pub workers : HasLimit Workers rows limits.workers
+  pub connections : HasLimit Connections rows limits.connections
 
--- how many replies are kept of each host
-abbrev pub IsCapacity : List Row → (capacity : ℕ) → Type 0
-IsCapacity rows capacity = HasLimit (codes "cache") 1024 rows capacity
+-- ---- the transport
+-- standard streams are asked for, or not
+abbrev pub AsksStdio : List Row → Bool → Type 0
+AsksStdio rows is_asked = ReadsFlag (one_of (codes "stdio") rows) is_asked
+
+-- an address is named
+abbrev pub NamesAddress : List Row → Type 0
+NamesAddress rows = IsSome (first_of (codes "tcp") rows) ⊎ IsSome (first_of (codes "udp") rows)
+
+-- standard streams are asked for alone, or not
+abbrev pub AsksAlone : List Row → Type 0
+AsksAlone rows = (is_asked : Bool) × AsksStdio rows is_asked × (is_asked ≡ true → NamesAddress rows → ⊥)
+
+-- the text that is named, if any
+abbrev pub text_of : Option (String Global) → Option Text
+text_of named = option_map string_bytes named
+
+-- the options of the network
+pub record ReadsNetwork (rows : List Row) (limits : Limits) (network : NetworkOptions) : Type 0 where
+  pub tcp : text_of network.tcp ≡ first_of (codes "tcp") rows
+  pub udp : text_of network.udp ≡ first_of (codes "udp") rows
+  pub workers : network.workers ≡ limits.workers
+  pub connections : network.connections ≡ limits.connections
+  pub accept : NamesNumber (codes "accept") 0 rows network.accept
+
+-- so many workers as a pool has seats for, beside those of connections
+abbrev pub HasWorkers : Transport → Type 0
+HasWorkers Stdio = Unit {0}
+HasWorkers (Network network) = (1 ≤ network.workers) × (network.workers ≤ 64)
+
+-- standard streams and no address, or else the network
+abbrev pub ReadsTransport : List Row → Limits → Transport → Type 0
+ReadsTransport rows limits Stdio = AsksStdio rows true × (NamesAddress rows → ⊥)
+ReadsTransport rows limits (Network network) =
+    AsksStdio rows false × NamesAddress rows × ReadsNetwork rows limits network
 
 -- the rows of a command line that is taken give the options
 pub record ReadsOptions (rows : List Row) (options : Options) : Type 0 where
@@ -117,8 +180,8 @@ pub record ReadsOptions (rows : List Row) (options : Options) : Type 0 where
   pub bytes : (number : Option ℕ) × ReadsNumber 64 (one_of (codes "bytes") rows) number
       × (options.bytes ≡ unwrap_or number 1099511627776)
   pub host : options.host ≡ host_of rows
-  pub era : IsEra rows options.era_records
-  pub capacity : IsCapacity rows options.capacity
+  pub limits : (limits : Limits) × HasLimits rows limits × (options.era_records ≡ limits.era_records)
+      × (options.capacity ≡ limits.capacity) × ReadsTransport rows limits options.transport
   pub exports : (list : List ExportText)
       × (map parts_of list ≡ map export_parts (exports_of rows)) × (export_fault list ≡ None)
       × (options.exports ≡ map export_of list)
@@ -135,23 +198,34 @@ IsRefusal rows (Exports e) = AreRefused rows e
 IsRefusal rows Memory = Unit {0}
 IsRefusal rows _ = ⊥
 
--- the words are those of the program's options, the host has its length, and era and kept replies have their bounds
+-- the words are those of the program's options, the host has its length, the numbers have their bounds, and standard
+-- streams are not asked for beside an address
 pub record IsTaken (words : List Text) : Type 0 where
   pub faultless : fault_of nfsd words ≡ []
   pub host : IsHost (host_of (matches_of nfsd words))
-  pub era : (era : ℕ) × IsEra (matches_of nfsd words) era
-  pub capacity : (capacity : ℕ) × IsCapacity (matches_of nfsd words) capacity
+  pub limits : (limits : Limits) × HasLimits (matches_of nfsd words) limits
+  pub apart : AsksAlone (matches_of nfsd words)
 
--- the words are taken, name a transport, and ask for these options
+-- the words are taken, and ask for these options
 pub record Configures (words : List Text) (options : Options) : Type 0 where
   pub taken : IsTaken words
-  pub transport : ReadsFlag (one_of (codes "stdio") (matches_of nfsd words)) true
   pub reads : ReadsOptions (matches_of nfsd words) options
+
+-- its numbers are within their bounds
+pub record AreWithin (options : Options) : Type 0 where
+  pub era : IsLimit options.era_records
+  pub capacity : IsLimit options.capacity
+  pub network : HasWorkers options.transport
 
 -- a value is refused
 abbrev pub IsValueRefusal : Exit → Type 0
 IsValueRefusal (CommandLine e) = kind_of e ≡ ValueValidation
 IsValueRefusal _ = ⊥
+
+-- two arguments are refused together
+abbrev pub IsConflict : Exit → Type 0
+IsConflict (CommandLine e) = kind_of e ≡ ArgumentConflict
+IsConflict _ = ⊥
 
 -- the words couldn't be read for this reason: there was no memory, or they are no text
 abbrev pub IsReadingExit : ErrorKind → Exit → Type 0
@@ -174,27 +248,32 @@ IsHostRefusal rows (CommandLine e) = (IsHost (host_of rows) → ⊥) × (kind_of
 IsHostRefusal rows Memory = Unit {0}
 IsHostRefusal rows _ = ⊥
 
--- the number that an option gives is outside the bounds
-abbrev pub IsLimitRefusal : (name : Text) (default : ℕ) → List Row → Exit → Type 0
-IsLimitRefusal name default rows (CommandLine e) =
-    (limit : ℕ) × NamesLimit name default rows limit × (IsLimit limit → ⊥) × (kind_of e ≡ ValueValidation)
-IsLimitRefusal name default rows Memory = Unit {0}
-IsLimitRefusal name default rows _ = ⊥
+-- a number that an option gives is outside the bounds
+abbrev pub IsLimitRefusal : List Row → Exit → Type 0
+IsLimitRefusal rows (CommandLine e) = (limit : Limit) × (value : ℕ) × NamesLimit limit rows value ×
+    (IsWithin limit value → ⊥) × (kind_of e ≡ ValueValidation)
+IsLimitRefusal rows Memory = Unit {0}
+IsLimitRefusal rows _ = ⊥
+
+-- standard streams are asked for beside an address, or neither is
+abbrev pub IsTransportRefusal : List Row → Exit → Type 0
+IsTransportRefusal rows (CommandLine e) =
+    AsksStdio rows true × NamesAddress rows × (kind_of e ≡ ArgumentConflict)
+IsTransportRefusal rows NoTransport = AsksStdio rows false × (NamesAddress rows → ⊥)
+IsTransportRefusal rows Memory = Unit {0}
+IsTransportRefusal rows _ = ⊥
+
+-- a value of words that the program takes is refused
+abbrev pub RefusesValue : List Row → Exit → Type 0
+RefusesValue rows exit = IsHostRefusal rows exit ⊎ IsLimitRefusal rows exit ⊎ IsTransportRefusal rows exit
 
 -- why the words are refused: the first that is at fault of the command line, the transport and the exports
 abbrev pub Refuses : List Text → Exit → Type 0
 Refuses words (CommandLine e) =
     IsAmong (kind_of e) (fault_of nfsd words)
-    ⊎ ((fault_of nfsd words ≡ []) × (IsHost (host_of (matches_of nfsd words)) → ⊥)
-    × (kind_of e ≡ ValueValidation))
-    ⊎ ((fault_of nfsd words ≡ []) × IsHost (host_of (matches_of nfsd words))
-    × IsLimitRefusal (codes "era") 65536 (matches_of nfsd words) (CommandLine e))
-    ⊎ ((fault_of nfsd words ≡ []) × IsHost (host_of (matches_of nfsd words))
-    × ((era : ℕ) × IsEra (matches_of nfsd words) era)
-    × IsLimitRefusal (codes "cache") 1024 (matches_of nfsd words) (CommandLine e))
-Refuses words NoTransport = IsTaken words × ReadsFlag (one_of (codes "stdio") (matches_of nfsd words)) false
-Refuses words (Exports e) =
-    IsTaken words × ReadsFlag (one_of (codes "stdio") (matches_of nfsd words)) true
-    × AreRefused (matches_of nfsd words) e
+    ⊎ ((fault_of nfsd words ≡ []) × RefusesValue (matches_of nfsd words) (CommandLine e))
+Refuses words NoTransport = IsTaken words × IsTransportRefusal (matches_of nfsd words) NoTransport
+Refuses words (Exports e) = IsTaken words × AreRefused (matches_of nfsd words) e
+    × (AsksStdio (matches_of nfsd words) true ⊎ NamesAddress (matches_of nfsd words))
 Refuses words Memory = Unit {0}
-Refuses words StandardStream = ⊥
+Refuses words _ = ⊥

@@ -29,9 +29,10 @@ abbrev pub exit_of_exports : ExportError → Exit
 exit_of_exports export.Memory = Memory
 exit_of_exports e = Exports e
 
--- help is no mistake
+-- to ask for help or for the version is no mistake
 abbrev pub command_status : ErrorKind → ℕ
 command_status kind.DisplayHelp = 0
+command_status kind.DisplayVersion = 0
 command_status _ = 2
 
 abbrev pub status_of : Exit → ℕ

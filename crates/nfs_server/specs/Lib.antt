@@ -1,4 +1,5 @@
 pub mod Clocks
 pub mod CommandLine
 pub mod Exits
+pub mod Limits
 pub mod Started

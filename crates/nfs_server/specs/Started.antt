@@ -1,5 +1,6 @@
 -- What a server does from its start on.
 use Rattle.std.specs.Prelude.{◌≡◌, ◌⊎◌, ◌≤◌, ℕ, List, [], length, Option, Some, unwrap_or}
+use Rattle.nfs_machine.specs.Exports.{ExportValue}
 use Rattle.nfs_machine.specs.Opening.{opening}
 use Rattle.nfs_machine.specs.Run.{Setting}
 use Rattle.nfs_machine.specs.declared.moment.Moment.{Moment}
@@ -15,47 +16,41 @@ use Rattle.nfs_server.specs.declared.options.Options.{Options}
 -- what the options say, with this start number where they name none
 abbrev pub setting_of : Options → ℕ → Setting
 setting_of options otherwise =
-    record {
-      start = unwrap_or options.start otherwise;
-      exports = options.exports;
-      limits = record { total_bytes = options.bytes };
-    }
+    record { start = unwrap_or options.start otherwise; limits = record { total_bytes = options.bytes } }
 
--- the opening state, in which no reply is kept
-abbrev pub opening_standing : Setting → (capacity : ℕ) → Moment → Standing
-opening_standing setting capacity moment =
-    record { state = opening setting.exports moment; capacity = capacity; lists = λ host. [] }
+-- the opening state of these exports, in which no reply is kept
+abbrev pub opening_standing : List ExportValue → (capacity : ℕ) → Moment → Standing
+opening_standing exports capacity moment =
+    record { state = opening exports moment; capacity = capacity; lists = λ host. [] }
 
--- The clock's first moment made the opening state, in which the engine stood, and so it went on from there. No era
--- has more records than the options say.
-pub record FromStart {Clock : Type 0} (gives : Clock → Moment → Clock → Type 0) (setting : Setting)
-    (capacity era_records : ℕ) (clock : Clock) (GoesOn : Clock → EngineValue → EngineValue → Type 0) : Type 0 where
+-- The clock's first moment made the opening state of the options' exports, in which the engine stood, and so it went on
+-- from there. No era has more records than the options say.
+pub record FromStart {Clock : Type 0} (gives : Clock → Moment → Clock → Type 0) (options : Options) (otherwise : ℕ)
+    (clock : Clock) (GoesOn : Clock → EngineValue → EngineValue → Type 0) : Type 0 where
   pub moment : Moment
   pub started : Clock
   pub opened : EngineValue
   pub ended : EngineValue
   pub ticked : gives clock moment started
-  pub under : opened.book.setting ≡ setting
-  pub stands : StandsAt opened (opening_standing setting capacity moment)
+  pub under : opened.book.setting ≡ setting_of options otherwise
+  pub stands : StandsAt opened (opening_standing options.exports options.capacity moment)
   pub on : GoesOn started opened ended
-  pub era : length ended.book.records ≤ era_records
+  pub era : length ended.book.records ≤ options.era_records
 
 -- all records of the input were served
-abbrev pub ServesFromStart : {Clock : Type 0} → (Clock → Moment → Clock → Type 0) → Setting →
-    (capacity era_records : ℕ) (host : List ℕ) (unread : Option (List ℕ)) (clock later : Clock)
-    (before after : Option (List ℕ)) → Type 0
-ServesFromStart gives setting capacity era_records host unread clock later before after =
-    (input : List ℕ) → unread ≡ Some input → FromStart gives setting capacity era_records clock
-    (λ started opened ended. ServesAll gives host input started later opened ended before after)
+abbrev pub ServesFromStart : {Clock : Type 0} → (Clock → Moment → Clock → Type 0) → Options → (otherwise : ℕ)
+    (unread : Option (List ℕ)) (clock later : Clock) (before after : Option (List ℕ)) → Type 0
+ServesFromStart gives options otherwise unread clock later before after =
+    (input : List ℕ) → unread ≡ Some input → FromStart gives options otherwise clock
+    (λ started opened ended. ServesAll gives options.host input started later opened ended before after)
 
 -- The program ends early: by want of memory, where nothing was written, or by a fault of the stream, which the
 -- streams tell, where what was read of the input was taken in and the first of its records were served.
-abbrev pub FailsFromStart : {Clock : Type 0} → (Clock → Moment → Clock → Type 0) → Setting →
-    (capacity era_records : ℕ) (host : List ℕ) (unread left : Option (List ℕ)) (clock later : Clock)
-    (before after : Option (List ℕ)) →
+abbrev pub FailsFromStart : {Clock : Type 0} → (Clock → Moment → Clock → Type 0) → Options → (otherwise : ℕ)
+    (unread left : Option (List ℕ)) (clock later : Clock) (before after : Option (List ℕ)) →
     (StreamFault → Type 0) → Exit → Type 0
-FailsFromStart gives setting capacity era_records host unread left clock later before after IsTold exit =
+FailsFromStart gives options otherwise unread left clock later before after IsTold exit =
     ((exit ≡ Memory) × (after ≡ before))
     ⊎ ((fault : StreamFault) × (exit ≡ exit_of fault) × IsTold fault
-    × ((input : List ℕ) → unread ≡ Some input → FromStart gives setting capacity era_records clock
-    (λ started opened ended. ServesFront gives host input left fault started later opened ended before after)))
+    × ((input : List ℕ) → unread ≡ Some input → FromStart gives options otherwise clock
+    (λ started opened ended. ServesFront gives options.host input left fault started later opened ended before after)))

@@ -1,20 +1,23 @@
 //! The command line: which options there are, and what they ask for.
 
-ghost use Rattle.std.specs.Prelude.{◌≡◌, ◌==◌, [], List, false, map, slice_get, unwrap_or};
+ghost use Rattle.std.specs.Prelude.{◌≡◌, ◌==◌, [], List, false, true, map, option_map, slice_get, unwrap_or};
 ghost use Rattle.std.specs.Prelude.{IfErr, IfOk, MatchResult};
 ghost use Rattle.std.specs.IoError.{error_kind};
 ghost use Rattle.std.specs.List.{slice_split};
 ghost use Rattle.clap.specs.Words.{Text, app_of, found_of, rows_of, rule_of};
-ghost use Rattle.nfs_server.specs.CommandLine.{Configures, ReadsOptions, Refuses, IsParsedFrom};
-ghost use Rattle.nfs_server.specs.CommandLine.{HasLimit, IsCapacity, IsEra, IsHostRefusal, IsLimitRefusal};
-ghost use Rattle.nfs_server.specs.CommandLine.{IsReadingExit, IsReadingFault, IsRefusal, IsValueRefusal};
+ghost use Rattle.nfs_server.specs.CommandLine.{AreWithin, Configures, ReadsOptions, Refuses, IsParsedFrom};
+ghost use Rattle.nfs_server.specs.CommandLine.{HasLimit, HasLimits, IsHostRefusal, IsLimitRefusal};
+ghost use Rattle.nfs_server.specs.CommandLine.{AsksStdio, IsTransportRefusal, NamesAddress, ReadsNetwork};
+ghost use Rattle.nfs_server.specs.CommandLine.{ReadsTransport, text_of};
+ghost use Rattle.nfs_server.specs.CommandLine.{IsConflict, IsReadingExit, IsReadingFault, IsRefusal, IsValueRefusal};
 ghost use Rattle.nfs_server.specs.CommandLine.{export_parts, host_of, nfsd, parts_of};
-ghost use Rattle.nfs_server.specs.CommandLine.{with_limits, with_serving};
+ghost use Rattle.nfs_server.specs.CommandLine.{with_files, with_limits, with_transport};
 ghost use Rattle.nfs_server.specs.CommandLine.{flag_rule, number_rule, option_rule};
 ghost use Rattle.nfs_engine.specs.Hosts.{IsHost};
 
 use crate::exit::Exit;
-use crate::options::Options;
+use crate::limits::{Limit, Limits};
+use crate::options::{Network, Options, Transport};
 use bytes::Bytes;
 use clap::builder::ValueParser;
 use clap::error::ErrorKind;
@@ -26,40 +29,58 @@ use std::convert::AsStr;
 use std::rt::Env;
 use std::{env, io};
 
+/// What `--version` tells.
+const VERSION: &str = "0.1.0";
+
 /// The peer's host where the command line names none.
 const DEFAULT_HOST: &str = "127.0.0.1";
 
 /// The total that FSSTAT tells where the command line says none, in bytes.
 const DEFAULT_BYTES: u64 = 1_099_511_627_776;
 
-/// At how many records an era is full where the command line says nothing.
-const DEFAULT_RECORDS: u64 = 65_536;
-
-/// How many replies are kept of each host where the command line says nothing.
-const DEFAULT_CAPACITY: u64 = 1024;
-
-/// How many records an era may have at most, and how many replies may be kept of each host.
-const MOST: u64 = 65_536;
-
 /// What is said of a host that has not 1 to 255 bytes.
 const BAD_HOST: &str = "the value of '--host <TEXT>' must have 1 to 255 bytes";
+
+/// What is said where standard streams are asked for beside an address.
+const TWO_TRANSPORTS: &str =
+    "the argument '--stdio' cannot be used with '--tcp <ADDR:PORT>' or '--udp <ADDR:PORT>'";
 
 /// What is said of words that are no text.
 const BAD_TEXT: &str = "invalid UTF-8 was detected in one or more arguments";
 
-// What the help says of each option.
-const STDIO_HELP: &str = "Serve records from standard input to standard output";
+// What the help says of each option, in these groups.
+const TRANSPORT: &str = "Transport";
+
+const STDIO_HELP: &str =
+    "Serve records from standard input to standard output; not with --tcp or --udp";
+
+const HOST_HELP: &str = "The peer's host with --stdio, 1 to 255 bytes [default: 127.0.0.1]";
+
+const TCP_HELP: &str =
+    "Take connections at this address; port 0: the system's choice [default: none]";
+
+const UDP_HELP: &str =
+    "Take datagrams at this address; port 0: the system's choice [default: none]";
+
+const FILES: &str = "Files";
 
 const EXPORT_HELP: &str =
-    "Export PATH, for writing too (rw) or not (ro), to these hosts, or to all (*); once or more";
+    "Export PATH, for writing too (rw) or not (ro), to these IP addresses, or to all (*); once or more";
 
 const START_HELP: &str = "The start number in handles [default: the machine's time in nanoseconds]";
 
 const CLOCK_HELP: &str = "Make every moment second S since 1970 [default: the machine's clock]";
 
-const HOST_HELP: &str = "The peer's host, 1 to 255 bytes [default: 127.0.0.1]";
-
 const BYTES_HELP: &str = "The total that FSSTAT tells, in bytes [default: 1099511627776]";
+
+const LIMITS: &str = "Limits";
+
+const WORKERS_HELP: &str =
+    "Have so many workers beside the connections' own threads, 1 to 64 [default: 4]";
+
+const CONNECTIONS_HELP: &str = "Have so many connections open at most, 1 to 1024 [default: 64]";
+
+const ACCEPT_HELP: &str = "End after so many connections have come and ended [default: 0, never]";
 
 const ERA_HELP: &str = "Keep so many records at most, 1 to 65536 [default: 65536]";
 
@@ -105,31 +126,54 @@ fn number<'a>(
 fn command<'a>(alloc: Global) -> Result<Command<'a>, AllocError>
     ensures { IfOk result (λ command. app_of command ≡ nfsd) }
 {
-    let command = Command::new(alloc, "nfsd").about("Serve files by NFS version 3");
-    with_limits(alloc, with_serving(alloc, command)?)
+    let command = Command::new(alloc, "nfsd")
+        .version(VERSION)
+        .about("Serve files by NFS version 3");
+    with_limits(alloc, with_files(alloc, with_transport(alloc, command)?)?)
 }
 
-// The command with the options that say what is served, and to whom.
-fn with_serving<'a>(alloc: Global, command: Command<'a>) -> Result<Command<'a>, AllocError>
-    ensures { IfOk result (λ more. app_of more ≡ with_serving (app_of command.entry)) }
+// The command with the options that say on what is served.
+fn with_transport<'a>(alloc: Global, command: Command<'a>) -> Result<Command<'a>, AllocError>
+    ensures { IfOk result (λ more. app_of more ≡ with_transport (app_of command.entry)) }
+{
+    command
+        .next_help_heading(TRANSPORT)
+        .arg(option(alloc, "tcp", "ADDR:PORT", TCP_HELP))?
+        .arg(option(alloc, "udp", "ADDR:PORT", UDP_HELP))?
+        .arg(flag(alloc, "stdio", STDIO_HELP))?
+        .arg(option(alloc, "host", "TEXT", HOST_HELP))
+}
+
+// The command with the options that say what is served.
+fn with_files<'a>(alloc: Global, command: Command<'a>) -> Result<Command<'a>, AllocError>
+    ensures { IfOk result (λ more. app_of more ≡ with_files (app_of command.entry)) }
 {
     let export = option(alloc, "export", "PATH,MODE,HOST[,HOST..]", EXPORT_HELP)
         .required(true)
         .action(ArgAction::Append);
     command
-        .arg(flag(alloc, "stdio", STDIO_HELP))?
+        .next_help_heading(FILES)
         .arg(export)?
         .arg(number(alloc, "start", "N", value_parser!(u64), START_HELP))?
-        .arg(number(alloc, "clock", "S", value_parser!(u32), CLOCK_HELP))
+        .arg(number(alloc, "clock", "S", value_parser!(u32), CLOCK_HELP))?
+        .arg(number(alloc, "bytes", "N", value_parser!(u64), BYTES_HELP))
 }
 
-// The command with the options of the peer, and of how much there is or is kept.
+// The command with the options that say how much there is at once, or is kept.
 fn with_limits<'a>(alloc: Global, command: Command<'a>) -> Result<Command<'a>, AllocError>
     ensures { IfOk result (λ more. app_of more ≡ with_limits (app_of command.entry)) }
 {
     command
-        .arg(option(alloc, "host", "TEXT", HOST_HELP))?
-        .arg(number(alloc, "bytes", "N", value_parser!(u64), BYTES_HELP))?
+        .next_help_heading(LIMITS)
+        .arg(number(alloc, "workers", "N", value_parser!(u64), WORKERS_HELP))?
+        .arg(number(
+            alloc,
+            "connections",
+            "N",
+            value_parser!(u64),
+            CONNECTIONS_HELP,
+        ))?
+        .arg(number(alloc, "accept", "K", value_parser!(u64), ACCEPT_HELP))?
         .arg(number(alloc, "era", "N", value_parser!(u64), ERA_HELP))?
         .arg(number(alloc, "cache", "N", value_parser!(u64), CACHE_HELP))
 }
@@ -165,15 +209,24 @@ fn refusal(command: &mut Command<'_>, message: &str) -> Result<Exit, AllocError>
     Ok(Exit::CommandLine(command.error(ErrorKind::ValueValidation, message)?))
 }
 
+// The exit where standard streams are asked for beside an address.
+fn two_transports(command: &mut Command<'_>) -> Result<Exit, AllocError>
+    ensures { IfOk result IsConflict }
+{
+    Ok(Exit::CommandLine(command.error(ErrorKind::ArgumentConflict, TWO_TRANSPORTS)?))
+}
+
 /// What a command line asks for, of which the first word is the program's name.
 ///
 /// # Errors
 ///
-/// Faults are looked for in this order: `CommandLine` where the words are none that the program takes, ask for its
-/// help, give a host of no byte or of more than 255, an era of no record or of more than 65,536, or no replies to keep
-/// or more than 65,536; `NoTransport`; `Exports` where these are refused. `Memory` where memory was refused.
+/// Faults are looked for in this order: `CommandLine` where the words are none that the program takes, ask for its help
+/// or its version, give a host of no byte or of more than 255 or a number that is out of its bounds, or ask for
+/// standard streams beside an address; `NoTransport`; `Exports` where these are refused. `Memory` where memory was
+/// refused.
 pub fn configure<S: AsStr>(alloc: Global, words: &[S]) -> Result<Options, Exit>
-    ensures { MatchResult result (Configures (map S.text words.now)) (Refuses (map S.text words.now)) }
+    ensures asked { MatchResult result (Configures (map S.text words.now)) (Refuses (map S.text words.now)) }
+    ensures limits { IfOk result AreWithin }
 {
     let mut command = command(alloc)?;
     let options = configure_by(alloc, &mut command, words);
@@ -208,12 +261,9 @@ fn matched_options(
         MatchResult result (Configures words) (Refuses words) }
 {
     let host = named_host(alloc, command, matches)?;
-    let era_records = named_limit(alloc, command, matches, "era", DEFAULT_RECORDS)?;
-    let capacity = named_limit(alloc, command, matches, "cache", DEFAULT_CAPACITY)?;
-    if !matches.get_flag("stdio") {
-        return Err(Exit::NoTransport);
-    }
-    read_options(alloc, matches, host, era_records, capacity)
+    let limits = named_limits(alloc, command, matches)?;
+    let transport = named_transport(alloc, command, matches, &limits)?;
+    read_options(alloc, matches, host, &limits, transport)
 }
 
 fn parse<'a, S: AsStr>(command: &mut Command<'a>, words: &'a [S]) -> Result<ArgMatches<'a>, Exit>
@@ -240,30 +290,112 @@ fn named_host(
     }
 }
 
+// The numbers that the options give, or the defaults.
+fn named_limits(
+    alloc: Global,
+    command: &mut Command<'_>,
+    matches: &ArgMatches<'_>,
+) -> Result<Limits, Exit>
+    ensures { MatchResult result (HasLimits (rows_of (found_of matches.now)))
+        (IsLimitRefusal (rows_of (found_of matches.now))) }
+{
+    Ok(Limits {
+        era_records: named_limit(alloc, command, matches, Limit::Era)?,
+        capacity: named_limit(alloc, command, matches, Limit::Cache)?,
+        workers: named_limit(alloc, command, matches, Limit::Workers)?,
+        connections: named_limit(alloc, command, matches, Limit::Connections)?,
+    })
+}
+
 // The number that this option gives, or the default.
 fn named_limit(
     alloc: Global,
     command: &mut Command<'_>,
     matches: &ArgMatches<'_>,
-    name: &str,
-    default: u64,
+    limit: Limit,
 ) -> Result<u64, Exit>
-    ensures { MatchResult result (HasLimit name.now default (rows_of (found_of matches.now)))
-        (IsLimitRefusal name.now default (rows_of (found_of matches.now))) }
+    ensures { MatchResult result (HasLimit limit (rows_of (found_of matches.now)))
+        (IsLimitRefusal (rows_of (found_of matches.now))) }
 {
-    let limit = matches.get_one(name).unwrap_or(default);
-    if limit < 1 || limit > MOST {
-        return Err(limit_refusal(alloc, command, name)?);
+    let value = matches.get_one(limit.name()).unwrap_or(limit.default());
+    if value < 1 || value > limit.most() {
+        return Err(limit_refusal(alloc, command, limit)?);
     }
-    Ok(limit)
+    Ok(value)
 }
 
 // The exit where the number that this option gives is refused.
-fn limit_refusal(alloc: Global, command: &mut Command<'_>, name: &str) -> Result<Exit, AllocError>
+fn limit_refusal(alloc: Global, command: &mut Command<'_>, limit: Limit) -> Result<Exit, AllocError>
     ensures { IfOk result IsValueRefusal }
 {
-    let message = format!(in alloc; "the value of '--{name} <N>' must be 1 to {MOST}")?;
+    let (name, most) = (limit.name(), limit.most());
+    let message = format!(in alloc; "the value of '--{name} <N>' must be 1 to {most}")?;
     refusal(command, message.as_str())
+}
+
+// On what is served.
+fn named_transport(
+    alloc: Global,
+    command: &mut Command<'_>,
+    matches: &ArgMatches<'_>,
+    limits: &Limits,
+) -> Result<Transport, Exit>
+    ensures { MatchResult result (ReadsTransport (rows_of (found_of matches.now)) limits.now)
+        (IsTransportRefusal (rows_of (found_of matches.now))) }
+{
+    let has_address = names_address(matches);
+    if asks_stdio(matches) {
+        if has_address {
+            return Err(two_transports(command)?);
+        }
+        return Ok(Transport::Stdio);
+    }
+    if !has_address {
+        return Err(Exit::NoTransport);
+    }
+    Ok(Transport::Network(named_network(alloc, matches, limits)?))
+}
+
+// Whether standard streams are asked for.
+fn asks_stdio(matches: &ArgMatches<'_>) -> bool
+    ensures { AsksStdio (rows_of (found_of matches.now)) result }
+{
+    matches.get_flag("stdio")
+}
+
+// Whether an address is named.
+fn names_address(matches: &ArgMatches<'_>) -> bool
+    ensures some { result ≡ true → NamesAddress (rows_of (found_of matches.now)) }
+    ensures none { result ≡ false → NamesAddress (rows_of (found_of matches.now)) → ⊥ }
+{
+    matches.get_str("tcp").is_some() || matches.get_str("udp").is_some()
+}
+
+// The options of the network.
+fn named_network(
+    alloc: Global,
+    matches: &ArgMatches<'_>,
+    limits: &Limits,
+) -> Result<Network, AllocError>
+    ensures { IfOk result (ReadsNetwork (rows_of (found_of matches.now)) limits.now) }
+{
+    Ok(Network {
+        tcp: named_text(alloc, matches.get_str("tcp"))?,
+        udp: named_text(alloc, matches.get_str("udp"))?,
+        workers: limits.workers,
+        connections: limits.connections,
+        accept: matches.get_one("accept").unwrap_or(0),
+    })
+}
+
+// The text that an option gives, if any.
+fn named_text(alloc: Global, text: Option<&str>) -> Result<Option<String>, AllocError>
+    ensures { IfOk result (λ named. text_of named ≡ option_map (λ t. t.now) text.entry) }
+{
+    match text {
+        Some(text) => Ok(Some(String::from_str(alloc, text)?)),
+        None => Ok(None),
+    }
 }
 
 // The options of a command line that is taken.
@@ -271,12 +403,12 @@ fn read_options(
     alloc: Global,
     matches: &ArgMatches<'_>,
     host: Host,
-    era_records: u64,
-    capacity: u64,
+    limits: &Limits,
+    transport: Transport,
 ) -> Result<Options, Exit>
     requires host { host ≡ host_of (rows_of (found_of matches.now)) }
-    requires era { IsEra (rows_of (found_of matches.now)) era_records }
-    requires capacity { IsCapacity (rows_of (found_of matches.now)) capacity }
+    requires limits { HasLimits (rows_of (found_of matches.now)) limits.now }
+    requires transport { ReadsTransport (rows_of (found_of matches.now)) limits.now transport }
     ensures { MatchResult result (ReadsOptions (rows_of (found_of matches.now)))
         (IsRefusal (rows_of (found_of matches.now))) }
 {
@@ -287,8 +419,9 @@ fn read_options(
         clock: matches.get_one("clock"),
         host,
         bytes: matches.get_one("bytes").unwrap_or(DEFAULT_BYTES),
-        era_records,
-        capacity,
+        era_records: limits.era_records,
+        capacity: limits.capacity,
+        transport,
     })
 }
 

@@ -12,7 +12,7 @@ use thiserror::Error;
 /// Why the program ends, but for the end of its input. Its `Display` is the text for the user.
 #[derive(Debug, Drop, Error)]
 pub enum Exit {
-    /// The command line is refused, or asks for help: clap's text.
+    /// The command line is refused, or asks for help or for the version: clap's text.
     #[error("{0}")]
     CommandLine(clap::Error),
     /// The command line names nothing to serve on.
@@ -21,6 +21,9 @@ pub enum Exit {
     /// The exports are refused.
     #[error("nfsd: {0}")]
     Exports(ExportError),
+    /// An address can't be listened on: its text.
+    #[error("nfsd: cannot listen on {0}")]
+    CannotListen(String),
     /// There was no memory to begin to serve, or to take in a record or to answer it.
     #[error("nfsd: out of memory")]
     Memory,
@@ -42,21 +45,22 @@ impl Exit {
         }
     }
 
-    /// The exit status: 0 for help, 2 where the command line is refused or names no transport, and else 1.
+    /// The exit status: 0 for help and for the version, 2 where the command line is refused or names no transport, and
+    /// else 1.
     pub fn status(&self) -> u8
         ensures { result ≡ status_of self.now }
     {
         match self {
             Exit::CommandLine(error) => match error.kind() {
-                ErrorKind::DisplayHelp => 0,
+                ErrorKind::DisplayHelp | ErrorKind::DisplayVersion => 0,
                 _ => 2,
             },
             Exit::NoTransport => 2,
-            Exit::Exports(_) | Exit::Memory | Exit::StandardStream => 1,
+            Exit::Exports(_) | Exit::CannotListen(_) | Exit::Memory | Exit::StandardStream => 1,
         }
     }
 
-    /// Prints help on standard output, and all else on standard error.
+    /// Prints help and the version on standard output, and all else on standard error.
     ///
     /// # Errors
     ///

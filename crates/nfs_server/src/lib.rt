@@ -8,15 +8,23 @@
 pub mod clock;
 pub mod command_line;
 pub mod exit;
+pub mod limits;
+pub mod network;
 pub mod options;
+pub mod serving;
 pub mod started;
 pub mod stdio;
+pub mod warnings;
 
 pub use clock::{FixedClock, MachineClock, ServerClock, start_number};
 pub use command_line::{arguments, configure};
 pub use exit::Exit;
+pub use limits::{Limit, Limits};
+pub use network::{Sockets, serve_network, serve_sockets};
 pub use nfs_engine::Host;
 pub use nfs_streams::{Served, StreamFault, serve_stream};
-pub use options::Options;
+pub use options::{Network, Options, Transport};
+pub use serving::serve;
 pub use started::serve_options;
 pub use stdio::serve_stdio;
+pub use warnings::warn_of_hosts;

@@ -12,7 +12,7 @@ pub struct Options {
     pub start: Option<u64>,
     /// The second of every moment; None where the machine's clock gives the moments.
     pub clock: Option<u32>,
-    /// The peer's host.
+    /// The peer's host on standard streams.
     pub host: Host,
     /// The total that FSSTAT tells, in bytes.
     pub bytes: u64,
@@ -20,4 +20,30 @@ pub struct Options {
     pub era_records: u64,
     /// How many replies are kept of each host, from 1 to 65,536.
     pub capacity: u64,
+    /// On what it is served.
+    pub transport: Transport,
+}
+
+/// On what records come and answers go.
+#[derive(Drop)]
+pub enum Transport {
+    /// Standard input and output.
+    Stdio,
+    /// Sockets.
+    Network(Network),
+}
+
+/// Where the server listens, and how many it serves at once.
+#[derive(Drop)]
+pub struct Network {
+    /// Where connections are taken, as the command line names it.
+    pub tcp: Option<String>,
+    /// Where datagrams are taken, as the command line names it.
+    pub udp: Option<String>,
+    /// How many workers there are, from 1 to 64.
+    pub workers: u64,
+    /// How many connections may be open at once, from 1 to 1,024.
+    pub connections: u64,
+    /// After how many connections, which have ended, the server ends; 0: never.
+    pub accept: u64,
 }

@@ -6,7 +6,7 @@ ghost use Rattle.std.specs.Io.KnownBytes.{IsAtEnd};
 ghost use Rattle.nfs_engine.specs.Opening.{IsLimit, Opens};
 ghost use Rattle.nfs_rpc.specs.Streams.{one_more};
 ghost use Rattle.nfs_schedule.specs.Worlds.{IsAtRest};
-ghost use Rattle.nfs_server.specs.Started.{FailsFromStart, ServesFromStart, setting_of};
+ghost use Rattle.nfs_server.specs.Started.{FailsFromStart, ServesFromStart};
 
 use crate::exit::Exit;
 use crate::options::Options;
@@ -33,12 +33,12 @@ pub fn serve_options<C: Moments, R: Source, W: Sink>(
     requires era { IsLimit options.era_records }
     requires capacity { IsLimit options.capacity }
     ensures ok { OnOk result
-        (ServesFromStart C.gives (setting_of options start) options.capacity options.era_records options.host
-        (R.unread reader.old) clock.old clock.new (W.written writer.old) (W.written writer.new)) }
+        (ServesFromStart C.gives options start (R.unread reader.old) clock.old clock.new
+        (W.written writer.old) (W.written writer.new)) }
     // A fault of a stream is one that the stream counted, or there was no end of it.
     ensures fault { IfErr result
-        (FailsFromStart C.gives (setting_of options start) options.capacity options.era_records options.host
-        (R.unread reader.old) (R.unread reader.new) clock.old clock.new (W.written writer.old) (W.written writer.new)
+        (FailsFromStart C.gives options start (R.unread reader.old) (R.unread reader.new) clock.old clock.new
+        (W.written writer.old) (W.written writer.new)
         (λ fault. (fault ≡ StreamFault.Read →
         (R.Counts.failures reader.new ≡ one_more (R.Counts.failures reader.old))
         ⊎ ((input : List ℕ) → R.unread reader.old ≡ Some input → 2 ^ 64 - 1 ≤ length input))
@@ -56,7 +56,9 @@ pub fn serve_options<C: Moments, R: Source, W: Sink>(
         bytes,
         era_records,
         capacity,
+        transport,
     } = options;
+    drop(transport);
     let limits = Limits { total_bytes: bytes };
     let moment = clock.moment();
     let config = Config {
@@ -79,7 +81,7 @@ pub fn serve_options<C: Moments, R: Source, W: Sink>(
 }
 
 /// The engine in its opening state.
-fn open(alloc: Global, config: Config) -> Result<Engine, Exit>
+pub(crate) fn open(alloc: Global, config: Config) -> Result<Engine, Exit>
     requires capacity { IsLimit config.capacity }
     requires era { IsLimit config.era_records }
     ensures opens { IfOk result (λ engine. Opens config engine.book) }

@@ -1,14 +1,17 @@
-//! `nfsd`: a server of NFS version 3, MOUNT version 3 and NLM version 4 on standard input and output.
+//! `nfsd`: a server of NFS version 3, MOUNT version 3 and NLM version 4 on sockets, or on standard input and output.
 //!
 //! It has no contract: what its words mean, how they are refused and what is served is the library's.
 #![tactic(auto)]
 
-use nfs_server::{Exit, arguments, configure, serve_stdio};
+use nfs_server::{Exit, arguments, configure, serve};
+use std::net::{Net, TcpListener, TcpStream};
 use std::process::ExitCode;
 use std::rt::{Clock, Env};
+use std::sync::Wait;
+use std::thread::Threads;
 
 fn main(rt: HostRuntime) -> ExitCode {
-    match run(&rt) {
+    match run(rt) {
         Ok(()) => ExitCode::SUCCESS,
         Err(exit) => {
             // Where printing fails too, the status still tells.
@@ -18,8 +21,25 @@ fn main(rt: HostRuntime) -> ExitCode {
     }
 }
 
-fn run<R: AllocGlobal + Clock + Env + Input + Print>(rt: &R) -> Result<(), Exit> {
-    let words = arguments(rt)?;
+fn run<
+    R: AllocGlobal
+        + Clock
+        + Env
+        + Input
+        + Print
+        + Eprint
+        + Net<Listener = TcpListener, Stream = TcpStream>
+        + Threads
+        + Wait
+        + Copy
+        + Drop
+        + Send
+        + Sync
+        + 'static,
+>(
+    rt: R,
+) -> Result<(), Exit> {
+    let words = arguments(&rt)?;
     let options = configure(rt.alloc(), &words)?;
-    serve_stdio(rt, options)
+    serve(rt, options)
 }

@@ -43,7 +43,9 @@ impl Server {
             bytes,
             era_records,
             capacity,
+            transport,
         } = options;
+        drop(transport);
         let seconds = clock.unwrap_or(0);
         let config = Config {
             exports,

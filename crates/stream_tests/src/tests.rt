@@ -20,7 +20,9 @@ use bytes::Bytes;
 use nfs_engine::{Config, Engine};
 use nfs_machine::{ExportText, Exports, Limits, Moment};
 use nfs_rpc::stream::Counted;
-use nfs_server::{FixedClock, Host, Options, Served, StreamFault, serve_options, serve_stream};
+use nfs_server::{
+    FixedClock, Host, Options, Served, StreamFault, Transport, serve_options, serve_stream,
+};
 use std::alloc::{AllocError, Global};
 use std::io::{Read, Write};
 use std::process::Abort;

@@ -1,6 +1,6 @@
 //! Command lines: what they ask for, and what is said of one that is refused.
 
-use nfs_server::{Exit, Options, arguments, configure};
+use nfs_server::{Exit, Network, Options, Transport, arguments, configure};
 use std::alloc::Global;
 use std::env::FillError;
 use std::process::Abort;
@@ -185,6 +185,14 @@ const ERA: &str = "error: the value of '--era <N>' must be 1 to 65536\n\nUsage: 
 
 const CACHE: &str = "error: the value of '--cache <N>' must be 1 to 65536\n\nUsage: nfsd ";
 
+const WORKERS: &str = "error: the value of '--workers <N>' must be 1 to 64\n\nUsage: nfsd ";
+
+const CONNECTIONS: &str =
+    "error: the value of '--connections <N>' must be 1 to 1024\n\nUsage: nfsd ";
+
+const TWO_TRANSPORTS: &str =
+    "error: the argument '--stdio' cannot be used with '--tcp <ADDR:PORT>' or '--udp <ADDR:PORT>'\n";
+
 #[test]
 fn refused_command_lines(rt: HostRuntime) -> Result<(), Fail> {
     let alloc = rt.alloc();
@@ -227,10 +235,12 @@ fn refused_command_lines(rt: HostRuntime) -> Result<(), Fail> {
             ["--start"].as_slice(),
             "error: a value is required for '--start <N>' but none was supplied\n",
         ),
-        (
-            ["--tcp", "127.0.0.1:2049"].as_slice(),
-            "error: unexpected argument '--tcp' found\n",
-        ),
+        (["--workers", "0"].as_slice(), WORKERS),
+        (["--workers", "65"].as_slice(), WORKERS),
+        (["--connections", "0"].as_slice(), CONNECTIONS),
+        (["--connections", "1025"].as_slice(), CONNECTIONS),
+        (["--tcp", "127.0.0.1:2049"].as_slice(), TWO_TRANSPORTS),
+        (["--udp", "127.0.0.1:2049"].as_slice(), TWO_TRANSPORTS),
         (
             ["more"].as_slice(),
             "error: unexpected argument 'more' found\n",
@@ -247,10 +257,62 @@ fn refused_command_lines(rt: HostRuntime) -> Result<(), Fail> {
 }
 
 #[test]
-fn help_is_no_fault(rt: HostRuntime) -> Result<(), Fail> {
+fn help_and_version_are_no_fault(rt: HostRuntime) -> Result<(), Fail> {
     let help =
         "Serve files by NFS version 3\n\nUsage: nfsd [OPTIONS] --export <PATH,MODE,HOST[,HOST..]>\n";
     assert!(rt; is_refused(rt.alloc(), &["nfsd", "--help"], 0, help)?);
+    assert!(rt; is_refused(rt.alloc(), &["nfsd", "--version"], 0, "nfsd 0.1.0\n")?);
+    Ok(())
+}
+
+const NETWORK: [&str; 13] = [
+    "nfsd",
+    "--export",
+    "/data,rw,*",
+    "--tcp",
+    "127.0.0.1:2049",
+    "--udp",
+    "[::1]:2049",
+    "--workers",
+    "64",
+    "--connections",
+    "1024",
+    "--accept",
+    "3",
+];
+
+/// Whether the network is as it is given.
+fn is_network(network: &Network) -> bool {
+    let (Some(tcp), Some(udp)) = (&network.tcp, &network.udp) else {
+        return false;
+    };
+    let numbers = (network.workers, network.connections, network.accept);
+    tcp.as_str() == "127.0.0.1:2049" && udp.as_str() == "[::1]:2049" && numbers == (64, 1024, 3)
+}
+
+#[test]
+fn the_network(rt: HostRuntime) -> Result<(), Fail> {
+    let options = options(rt.alloc(), &NETWORK)?;
+    assert!(rt; matches!(&options.transport, Transport::Network(network) if is_network(network)));
+    Ok(())
+}
+
+/// Four workers and 64 connections, for ever.
+#[test]
+fn the_defaults_of_the_network(rt: HostRuntime) -> Result<(), Fail> {
+    let options = options(rt.alloc(), &NETWORK[..5])?;
+    assert!(rt;
+        matches!(
+            &options.transport,
+            Transport::Network(Network {
+                udp: None,
+                workers: 4,
+                connections: 64,
+                accept: 0,
+                ..
+            })
+        )
+    );
     Ok(())
 }
 

@@ -2,7 +2,7 @@
 
 use super::{
     Abort, AllocError, Counted, Fail, FixedClock, GETATTR, GETATTR_REPLY, Global, MNT, MNT_REPLY,
-    Options, exports, host, serve_options, spelled,
+    Options, Transport, exports, host, serve_options, spelled,
 };
 
 /// What is written for this input where the options name this start number, and 7 is taken where they name none; and
@@ -20,6 +20,7 @@ fn started(
         bytes: 1 << 40,
         era_records: 65_536,
         capacity: 1024,
+        transport: Transport::Stdio,
     };
     let mut clock = FixedClock { seconds: 1000 };
     let mut reader = Counted::new(input);

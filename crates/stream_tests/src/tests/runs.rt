@@ -1,6 +1,6 @@
 //! The program over a runtime that is no machine's: what it makes of the machine's time, and where it says what.
 
-use super::{Abort, Fail, Global, MNT, Options, exports, host, spelled};
+use super::{Abort, Fail, Global, MNT, Options, Transport, exports, host, spelled};
 use nfs_server::{Exit, configure, serve_stdio};
 use std::alloc::Allocator;
 use std::cell::Cell;
@@ -79,6 +79,7 @@ fn start_at(alloc: Global, now: Duration) -> Result<u64, Fail> {
         bytes: 1 << 40,
         era_records: 65_536,
         capacity: 1024,
+        transport: Transport::Stdio,
     };
     match serve_stdio(&(&run, alloc), options) {
         Ok(()) => Ok(u64::from_be_bytes(run.start.get())),

@@ -1,30 +1,33 @@
 -- The number is what its option gives, or the default.
-use Rattle.std.proofs.Common.{arith, rules, ℕ, List}
-use Rattle.std.specs.Prelude.{Result}
+use Rattle.std.proofs.Common.{arith, rules, ℕ, List, ap, subst, ◌∙◌}
+use Rattle.std.specs.Prelude.{Option, Result, unwrap_or}
 use Rattle.std.specs.Str.Parse.{ExplainsUnsignedError, HasUnsignedDigitsIfOk, ParsesUnsigned}
 use Rattle.std.specs.declared.num.ParseIntError.{ParseIntError}
-use Rattle.clap.specs.Words.{found_of}
+use Rattle.clap.specs.Words.{Text, found_of, one_of, rows_of}
+use Rattle.nfs_server.specs.CommandLine.{ReadsNumber}
 use Rattle.nfs_server.proofs.Parsed.{number_read, refuses_limit}
 use Rattle.nfs_server.proofs.command_line.named_limit.Goals as goal
-use Rattle.nfs_server.proofs.command_line.named_limit.Goals.{then-limit-lt1-via-then-limit-lt1, then-limit-lt1-via-else-limit-lt1+then-limit-gt-MOST}
+use Rattle.nfs_server.proofs.command_line.named_limit.Goals.{then-value-lt1-via-then-value-lt1, then-value-lt1-via-else-value-lt1+then-value-most}
 
 -- what `from_str` says of an unsigned number
 abbrev reads : ℕ → List ℕ → Result ℕ ParseIntError → Type 0
 reads bits bs r = ParsesUnsigned bits 10 bs r × ExplainsUnsignedError 10 bs r × HasUnsignedDigitsIfOk bs r
 
-pub returns-then-limit-lt1 : goal.returns-then-limit-lt1
-returns-then-limit-lt1 c =
-    refuses_limit _ _ _ c.unwrap_or-limit.result c.in_ok-limit_refusal.field-0 (record {
+pub returns-then-value-lt1 : goal.returns-then-value-lt1
+returns-then-value-lt1 c =
+    refuses_limit c.args.limit _ c.unwrap_or-value.result c.in_ok-limit_refusal.field-0 (record {
       number = c.get_one.result;
       reads =
-          number_read (reads 64) 64 (found_of c.args.matches.now) c.args.name.now c.get_one.result (λ t x g. g.0)
-          c.get_one.ensures.none c.get_one.ensures.value;
-      is = c.unwrap_or-limit.ensures;
+          subst (λ (n : Text). ReadsNumber 64 (one_of n (rows_of (found_of c.args.matches.now))) c.get_one.result)
+          c.name.ensures
+          (number_read (reads 64) 64 (found_of c.args.matches.now) _ c.get_one.result (λ t x g. g.0)
+          c.get_one.ensures.none c.get_one.ensures.value);
+      is = c.unwrap_or-value.ensures ∙ ap (unwrap_or c.get_one.result) c.default.ensures;
     })
-    (λ limit. elim c.then-limit-lt1.branch [
-      | then-limit-lt1-via-then-limit-lt1 w ↦ omega (arith, limit.0, w.if-limit-lt1.true)
-      | then-limit-lt1-via-else-limit-lt1+then-limit-gt-MOST w ↦
-          omega (arith, limit.1, w.if-limit-gt-MOST.true)
+    (λ within. elim c.then-value-lt1.branch [
+      | then-value-lt1-via-then-value-lt1 w ↦ omega (arith, within.some, w.if-value-lt1.true)
+      | then-value-lt1-via-else-value-lt1+then-value-most w ↦
+          omega (arith, within.few, w.most.ensures, w.if-value-most.true)
     ]) c.in_ok-limit_refusal.ensures
 
 pub returns : goal.returns
@@ -32,9 +35,11 @@ returns c = record {
   names = record {
     number = c.get_one.result;
     reads =
-        number_read (reads 64) 64 (found_of c.args.matches.now) c.args.name.now c.get_one.result (λ t x g. g.0)
-        c.get_one.ensures.none c.get_one.ensures.value;
-    is = c.unwrap_or-limit.ensures;
+        subst (λ (n : Text). ReadsNumber 64 (one_of n (rows_of (found_of c.args.matches.now))) c.get_one.result)
+        c.name.ensures
+        (number_read (reads 64) 64 (found_of c.args.matches.now) _ c.get_one.result (λ t x g. g.0)
+        c.get_one.ensures.none c.get_one.ensures.value);
+    is = c.unwrap_or-value.ensures ∙ ap (unwrap_or c.get_one.result) c.default.ensures;
   };
   within = search rules;
 }

@@ -37,8 +37,7 @@ returns c =
         c.unwrap_or-2.ensures,
       );
       host = search rules;
-      era = c.requires.era;
-      capacity = c.requires.capacity;
+      limits = (c.args.limits.now, c.requires.limits, refl, refl, c.requires.transport);
       exports = (
         c.in_ok-list.list.items,
         c.in_ok-list.ensures

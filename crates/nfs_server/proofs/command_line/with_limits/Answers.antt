@@ -2,22 +2,28 @@
 use Rattle.std.proofs.Common.{rules, ◌≡◌, ◌∙◌, ap, ap₂}
 use Rattle.std.specs.Prelude.{codes}
 use Rattle.std.proofs.lemmas.Result.{IfOk-weaker}
+use Rattle.clap.specs.Simple.{app_of_fields}
 use Rattle.clap.specs.Words.{app_of, rule_of, with_rule}
 use Rattle.clap.specs.declared.builder.value_parser.ValueParser.TheVariants.{Unsigned}
-use Rattle.nfs_server.specs.CommandLine.{number_rule, option_rule}
+use Rattle.nfs_server.specs.CommandLine.{number_rule}
 use Rattle.nfs_server.proofs.command_line.with_limits.Goals as goal
 
 pub returns : goal.returns
 returns c =
-    let host : rule_of c.option.result ≡ option_rule (codes "host") = search rules in
-    let bytes : rule_of c.number.result ≡ number_rule (codes "bytes") (Unsigned 0 18446744073709551615) =
-    c.number.ensures.rule ∙ ap (number_rule (codes "bytes")) c.value_parser.ensures in
-    let era : rule_of c.number-2.result ≡ number_rule (codes "era") (Unsigned 0 18446744073709551615) =
-    c.number-2.ensures.rule ∙ ap (number_rule (codes "era")) c.value_parser-2.ensures in
-    let cache : rule_of c.number-3.result ≡ number_rule (codes "cache") (Unsigned 0 18446744073709551615) =
-    c.number-3.ensures.rule ∙ ap (number_rule (codes "cache")) c.value_parser-3.ensures in
-    let with_host = c.in_ok-arg.ensures.shape (search rules) ∙ ap (with_rule (app_of c.args.command)) host in
-    let with_bytes = c.in_ok-arg-2.ensures.shape (search rules) ∙ ap₂ with_rule with_host bytes in
-    let with_era = c.in_ok-arg-3.ensures.shape (search rules) ∙ ap₂ with_rule with_bytes era in
-    IfOk-weaker c.arg-4.result _ _ (λ command adds. adds.shape (search rules) ∙ ap₂ with_rule with_era cache)
-    c.arg-4.ensures
+    let workers : rule_of c.number.result ≡ number_rule (codes "workers") (Unsigned 0 18446744073709551615) =
+    c.number.ensures.rule ∙ ap (number_rule (codes "workers")) c.value_parser.ensures in
+    let connections : rule_of c.number-2.result ≡ number_rule (codes "connections") (Unsigned 0 18446744073709551615) =
+    c.number-2.ensures.rule ∙ ap (number_rule (codes "connections")) c.value_parser-2.ensures in
+    let accept : rule_of c.number-3.result ≡ number_rule (codes "accept") (Unsigned 0 18446744073709551615) =
+    c.number-3.ensures.rule ∙ ap (number_rule (codes "accept")) c.value_parser-3.ensures in
+    let era : rule_of c.number-4.result ≡ number_rule (codes "era") (Unsigned 0 18446744073709551615) =
+    c.number-4.ensures.rule ∙ ap (number_rule (codes "era")) c.value_parser-4.ensures in
+    let cache : rule_of c.number-5.result ≡ number_rule (codes "cache") (Unsigned 0 18446744073709551615) =
+    c.number-5.ensures.rule ∙ ap (number_rule (codes "cache")) c.value_parser-5.ensures in
+    let headed = ap app_of_fields c.next_help_heading.ensures in
+    let with_workers = c.in_ok-arg.ensures.shape (search rules) ∙ ap₂ with_rule headed workers in
+    let with_connections = c.in_ok-arg-2.ensures.shape (search rules) ∙ ap₂ with_rule with_workers connections in
+    let with_accept = c.in_ok-arg-3.ensures.shape (search rules) ∙ ap₂ with_rule with_connections accept in
+    let with_era = c.in_ok-arg-4.ensures.shape (search rules) ∙ ap₂ with_rule with_accept era in
+    IfOk-weaker c.arg-5.result _ _ (λ command adds. adds.shape (search rules) ∙ ap₂ with_rule with_era cache)
+    c.arg-5.ensures

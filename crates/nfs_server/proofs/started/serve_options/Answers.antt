@@ -1,8 +1,7 @@
-use Rattle.std.proofs.Common.{inr, refl, ap, Err}
+use Rattle.std.proofs.Common.{inr, ap, Err}
 use Rattle.nfs_engine.specs.Book.{BookValue}
 use Rattle.nfs_streams.specs.declared.serving.StreamFault.{StreamFault}
 use Rattle.nfs_server.proofs.Starting.{opens_standing, opens_within}
-use Rattle.nfs_server.specs.Started.{setting_of}
 use Rattle.nfs_server.proofs.started.serve_options.Goals as goal
 
 pub returns-in-Ok-clause-ok : goal.returns-in-Ok-clause-ok
@@ -14,8 +13,7 @@ returns-in-Ok-clause-ok g c = λ input is. record {
   ticked = c.moment-moment.ensures;
   under = rw (← c.unwrap_or.ensures) (ap (λ (b : BookValue). b.setting) c.in_ok-engine.ensures.opens.is);
   stands =
-      opens_standing _ (setting_of c.args.options c.args.start) c.in_ok-engine.engine
-      c.in_ok-engine.ensures.opens refl;
+      opens_standing _ c.in_ok-engine.engine c.in_ok-engine.ensures.opens;
   on = c.in-Ok.ensures.ok input is;
   era = opens_within _ _ _ c.in_ok-engine.ensures.opens c.serve_stream-served.ensures.keeps;
 }
@@ -36,8 +34,7 @@ returns-in-Err-clause-fault g c = inr (
     ticked = c.moment-moment.ensures;
     under = rw (← c.unwrap_or.ensures) (ap (λ (b : BookValue). b.setting) c.in_ok-engine.ensures.opens.is);
     stands =
-        opens_standing _ (setting_of c.args.options c.args.start) c.in_ok-engine.engine
-        c.in_ok-engine.ensures.opens refl;
+        opens_standing _ c.in_ok-engine.engine c.in_ok-engine.ensures.opens;
     on = c.in-Err.ensures.fault input is;
     era = opens_within _ _ _ c.in_ok-engine.ensures.opens c.serve_stream-served.ensures.keeps;
   },

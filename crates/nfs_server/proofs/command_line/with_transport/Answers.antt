@@ -1,0 +1,21 @@
+-- Each option adds the rule that its builder states, in the order of the chain.
+use Rattle.std.proofs.Common.{rules, ◌≡◌, ◌∙◌, ap, ap₂}
+use Rattle.std.specs.Prelude.{codes}
+use Rattle.std.proofs.lemmas.Result.{IfOk-weaker}
+use Rattle.clap.specs.Simple.{app_of_fields}
+use Rattle.clap.specs.Words.{app_of, rule_of, with_rule}
+use Rattle.nfs_server.specs.CommandLine.{flag_rule, option_rule}
+use Rattle.nfs_server.proofs.command_line.with_transport.Goals as goal
+
+pub returns : goal.returns
+returns c =
+    let tcp : rule_of c.option.result ≡ option_rule (codes "tcp") = search rules in
+    let udp : rule_of c.option-2.result ≡ option_rule (codes "udp") = search rules in
+    let stdio : rule_of c.flag.result ≡ flag_rule (codes "stdio") = search rules in
+    let host : rule_of c.option-3.result ≡ option_rule (codes "host") = search rules in
+    let headed = ap app_of_fields c.next_help_heading.ensures in
+    let with_tcp = c.in_ok-arg.ensures.shape (search rules) ∙ ap₂ with_rule headed tcp in
+    let with_udp = c.in_ok-arg-2.ensures.shape (search rules) ∙ ap₂ with_rule with_tcp udp in
+    let with_stdio = c.in_ok-arg-3.ensures.shape (search rules) ∙ ap₂ with_rule with_udp stdio in
+    IfOk-weaker c.arg-4.result _ _ (λ command adds. adds.shape (search rules) ∙ ap₂ with_rule with_stdio host)
+    c.arg-4.ensures

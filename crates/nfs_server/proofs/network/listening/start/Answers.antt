@@ -1,0 +1,15 @@
+-- The reader and the attendance go to the connection's thread.
+use denote.Param.{copied, param}
+use denote.Param.Send.{sendable}
+use Rattle.std.proofs.Crossing.{crosses}
+use Rattle.nfs_server.proofs.Crossing.{reader_send}
+use Rattle.nfs_server.proofs.network.attendance.Attendance.TheSendSync as attendance
+use Rattle.nfs_server.proofs.network.listening.start.Goals as goal
+
+pub spawn-requires-send-F : goal.spawn-requires-send-F
+spawn-requires-send-F g c κs within =
+    let rt = c.type_bounds.send-R in
+    let reader =
+    reader_send (param 1 g.row.L) g.L.Ledger c.type_bounds.send-L c.type_bounds.sync-L (copied 0 g.row.R)
+    c.type_bounds.send-R in
+    search (sendable, crosses, attendance.the_send, attendance.the_sync) depth 20

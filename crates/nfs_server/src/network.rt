@@ -1,0 +1,261 @@
+//! Serving on the network: connections over TCP and datagrams over UDP, by threads over one pool.
+//!
+//! The thread that read a connection's bytes answers their records itself, on a place that it takes for them, and the
+//! answers leave together. Where no place is free, and for datagrams, a worker does. `docs/ARCHITECTURE.md` tells of
+//! the threads.
+
+mod attendance;
+mod clerk;
+mod jobs;
+mod line;
+mod listening;
+mod places;
+mod reading;
+
+ghost use Rattle.std.specs.Prelude.{◌≡◌, ◌≤◌, []};
+ghost use Rattle.nfs_engine.specs.Opening.{IsLimit};
+ghost use Rattle.nfs_server.specs.CommandLine.{AreWithin};
+
+use crate::clock::{ServerClock, start_number};
+use crate::exit::Exit;
+use crate::network::attendance::Attendance;
+use crate::network::jobs::{JOBS, Job};
+pub use crate::network::listening::Sockets;
+use crate::network::listening::{Service, let_in, take_datagrams};
+use crate::network::places::{Keeper, Places, hand_out};
+use crate::options::{Network, Options, Transport};
+use crate::started::open;
+use crossbeam_channel::{Receiver, bounded};
+use nfs_engine::{Config, Engine};
+use nfs_machine::{Limits, Moments};
+use nfs_pool::{Pool, Seat};
+use std::alloc::{AllocError, Global};
+use std::marker::Brand;
+use std::net::{Net, TcpListener, TcpStream, UdpSocket};
+use std::rt::Clock;
+use std::sync::ledger::{Blank, Ledger};
+use std::sync::{Arc, Wait};
+use std::thread;
+use std::thread::Threads;
+
+/// How many connections have a place of their own; those beyond share them with the workers.
+const OWN_PLACES: u64 = 64;
+
+/// Serves on the network as the options say: until so many connections have come and ended, or for ever.
+///
+/// # Errors
+///
+/// `CannotListen`; `Memory` where there is none to begin; `NoTransport` where the options name no address.
+pub fn serve_network<
+    R: AllocGlobal
+        + Net<Listener = TcpListener, Stream = TcpStream>
+        + Threads
+        + Wait
+        + Clock
+        + Eprint
+        + Copy
+        + Drop
+        + Send
+        + Sync
+        + 'static,
+>(rt: R, options: Options) -> Result<(), Exit>
+    requires { AreWithin options }
+{
+    let sockets = Sockets::bind(&rt, rt.alloc(), &options)?;
+    sockets.tell(&rt);
+    serve_sockets(rt, options, sockets)
+}
+
+/// Serves on these sockets as the options say: until so many connections have come and ended, or for ever.
+///
+/// # Errors
+///
+/// `Memory` where there is none to begin; `NoTransport` where the options name no address.
+pub fn serve_sockets<R: AllocGlobal + Threads + Wait + Clock + Copy + Drop + Send + Sync + 'static>(
+    rt: R,
+    options: Options,
+    sockets: Sockets,
+) -> Result<(), Exit>
+    requires { AreWithin options }
+{
+    let Options {
+        exports,
+        start,
+        clock,
+        host,
+        bytes,
+        era_records,
+        capacity,
+        transport,
+    } = options;
+    drop(host);
+    let Transport::Network(network) = transport else {
+        return Err(Exit::NoTransport);
+    };
+    let mut first = ServerClock::new(rt, clock);
+    let config = Config {
+        exports,
+        start: start.unwrap_or(start_number(&rt)),
+        moment: first.moment(),
+        capacity,
+        limits: Limits { total_bytes: bytes },
+        era_records,
+    };
+    serve_from(rt, config, &network, sockets, clock)
+}
+
+/// Serves from the opening state that is configured so.
+fn serve_from<R: AllocGlobal + Threads + Wait + Clock + Copy + Drop + Send + Sync + 'static>(
+    rt: R,
+    config: Config,
+    network: &Network,
+    sockets: Sockets,
+    clock: Option<u32>,
+) -> Result<(), Exit>
+    requires capacity { IsLimit config.capacity }
+    requires era { IsLimit config.era_records }
+    requires workers { network.now.workers ≤ 64 }
+{
+    let alloc = rt.alloc();
+    let engine = open(alloc, config)?;
+    let count = network.workers + network.connections.min(OWN_PLACES);
+    let blank = Blank::new(count);
+    serve_pool::<Brand, R>(
+        rt,
+        alloc,
+        blank,
+        engine,
+        count as usize,
+        sockets,
+        network,
+        clock,
+    )
+}
+
+/// Serves with a pool of so many seats.
+fn serve_pool<
+    L: Ledger + Send + Sync + 'static,
+    R: Threads + Wait + Clock + Copy + Drop + Send + Sync + 'static,
+>(
+    rt: R,
+    alloc: Global,
+    blank: Blank,
+    engine: Engine,
+    count: usize,
+    sockets: Sockets,
+    network: &Network,
+    clock: Option<u32>,
+) -> Result<(), Exit>
+    requires name { blank.name ≡ L.name }
+    requires parts { blank.parts ≡ L.parts }
+    requires count { blank.parts ≡ count }
+    requires records { engine.book.records ≡ [] }
+{
+    let Ok((pool, seats)) = Pool::<L>::new(alloc, blank, engine, count) else {
+        return Err(Exit::Memory);
+    };
+    let places = open_places(rt, alloc, pool, seats, count)?;
+    let (jobs, queue) = bounded(alloc, JOBS)?;
+    let service = Service {
+        places,
+        jobs,
+        clock,
+    };
+    start_workers(rt, alloc, &service, queue, network.workers)?;
+    attend(rt, alloc, sockets, network, service)
+}
+
+/// A place for each seat, and the thread that ends eras.
+fn open_places<
+    L: Ledger + Send + Sync + 'static,
+    R: Threads + Wait + Clock + Copy + Drop + Send + Sync + 'static,
+>(
+    rt: R,
+    alloc: Global,
+    pool: Pool<L>,
+    seats: Vec<Seat<L>>,
+    count: usize,
+) -> Result<Places<L>, AllocError> {
+    let (back, free) = bounded(alloc, count)?;
+    let (full, filled) = bounded(alloc, count)?;
+    let pool = Arc::new(alloc, pool)?;
+    let room = hand_out(&rt, &back, pool, seats, 0, false);
+    let keeper = Keeper {
+        free: free.clone()?,
+        back: back.clone()?,
+        full: filled,
+        count,
+    };
+    thread::spawn(&rt, move || keeper.work(&rt, alloc, room))?;
+    Ok(Places::new(free, back, full))
+}
+
+/// Starts the workers.
+fn start_workers<
+    L: Ledger + Send + Sync + 'static,
+    R: Threads + Wait + Clock + Copy + Drop + Send + Sync + 'static,
+>(
+    rt: R,
+    alloc: Global,
+    service: &Service<L>,
+    queue: Receiver<Job>,
+    count: u64,
+) -> Result<(), AllocError> {
+    for _ in 0..count {
+        let mut clerk = service.clerk(rt)?;
+        let jobs = queue.clone()?;
+        thread::spawn(&rt, move || clerk.work(&rt, alloc, &jobs))?;
+    }
+    Ok(())
+}
+
+/// Serves those who come: datagrams by a thread of their own, where connections are taken too.
+fn attend<
+    L: Ledger + Send + Sync + 'static,
+    R: Threads + Wait + Clock + Copy + Drop + Send + Sync + 'static,
+>(
+    rt: R,
+    alloc: Global,
+    sockets: Sockets,
+    network: &Network,
+    service: Service<L>,
+) -> Result<(), Exit> {
+    let Sockets { tcp, udp } = sockets;
+    match (tcp, udp) {
+        (Some(listener), None) => Ok(serve_connections(&rt, alloc, &listener, network, &service)?),
+        (Some(listener), Some(socket)) => {
+            start_datagrams(rt, alloc, socket, service.share()?)?;
+            Ok(serve_connections(&rt, alloc, &listener, network, &service)?)
+        }
+        (None, Some(socket)) => Ok(take_datagrams(&rt, alloc, socket, &service)?),
+        (None, None) => Err(Exit::NoTransport),
+    }
+}
+
+/// Serves connections until so many have come and ended.
+fn serve_connections<
+    L: Ledger + Send + Sync + 'static,
+    R: Threads + Wait + Clock + Copy + Drop + Send + Sync + 'static,
+>(
+    rt: &R,
+    alloc: Global,
+    listener: &TcpListener,
+    network: &Network,
+    service: &Service<L>,
+) -> Result<(), AllocError> {
+    let attendance = Arc::new(alloc, Attendance::new())?;
+    let_in(rt, alloc, listener, network, service, &attendance);
+    attendance.wait(rt);
+    Ok(())
+}
+
+/// Starts the thread that takes datagrams.
+fn start_datagrams<
+    L: Ledger + Send + Sync + 'static,
+    R: Threads + Wait + Copy + Drop + Send + Sync + 'static,
+>(rt: R, alloc: Global, socket: UdpSocket, service: Service<L>) -> Result<(), AllocError> {
+    thread::spawn(&rt, move || {
+        let _ = take_datagrams(&rt, alloc, socket, &service);
+    })?;
+    Ok(())
+}

@@ -1,0 +1,237 @@
+//! What answers records: each is executed on a place, and no place is held while answers are sent.
+
+ghost use Rattle.std.specs.Prelude.{◌≡◌, false};
+ghost use Rattle.nfs_engine.specs.Arrivals.{received_value};
+ghost use Rattle.nfs_engine.specs.Asked.{IsAsked};
+
+use crate::clock::ServerClock;
+use crate::network::line::Line;
+use crate::network::places::{Place, Places};
+use nfs_engine::{Arrival, Asked, Faulted, Host, Reading, Receipt, Received};
+use nfs_machine::Moments;
+use nfs_pool::{Open, PoolError, Seat, Sent};
+use nfs_rpc::Record;
+use nfs_schedule::answer::refusal;
+use nfs_schedule::{Answer, Declined};
+use nfs_streams::Connection;
+use std::alloc::{AllocError, Global};
+use std::io;
+use std::rt::Clock;
+use std::sync::ledger::Ledger;
+use std::sync::{Arc, Wait};
+
+/// A peer can't be served any more: a read or a write failed, or there was no memory for a record or its answer.
+#[derive(Clone, Copy)]
+pub(crate) struct Closed;
+
+impl From<AllocError> for Closed {
+    fn from(_error: AllocError) -> Closed {
+        Closed
+    }
+}
+
+impl From<io::Error> for Closed {
+    fn from(_error: io::Error) -> Closed {
+        Closed
+    }
+}
+
+/// The answer to a record, or that there was no memory for it.
+pub(crate) type Answered = Result<Answer, Closed>;
+
+/// What answers records, on a place that it takes for them and at the moments of its clock.
+#[derive(Drop)]
+pub(crate) struct Clerk<L: Ledger, C> {
+    pub(crate) places: Places<L>,
+    pub(crate) clock: ServerClock<C>,
+}
+
+impl<L: Ledger, C: Clock> Clerk<L, C> {
+    /// Answers records of a connection, one after the other, and sends the answers. The place is given back behind the
+    /// last one, and whenever the answers that wait are to be sent before the next one.
+    ///
+    /// # Errors
+    ///
+    /// There was no memory to take a record in or to answer it, or the answers can't be sent. The records behind it are
+    /// let go.
+    pub(crate) fn answer_all<R: Wait>(
+        &mut self,
+        rt: &R,
+        alloc: Global,
+        line: &Line,
+        place: Place<L>,
+        records: Vec<Record>,
+        waiting: &mut Connection,
+    ) -> Result<(), Closed>
+        requires { waiting.old.full ≡ false }
+        ensures { waiting.new.full ≡ false }
+    {
+        let mut place = place;
+        'records: for record in records {
+            let (left, answered) = self.answer(rt, alloc, &line.host, place, record);
+            place = left;
+            match answered {
+                Ok(answer) => {
+                    if put(waiting, answer) {
+                        self.places.give(rt, place);
+                        line.send(rt, waiting)?;
+                        place = self.places.take(rt);
+                    }
+                }
+                Err(closed) => {
+                    self.places.give(rt, place);
+                    line.send(rt, waiting)?;
+                    return Err(closed);
+                }
+            }
+        }
+        self.places.give(rt, place);
+        line.send(rt, waiting)
+    }
+
+    /// Answers a record. The place that is handed back may be another one.
+    ///
+    /// # Errors
+    ///
+    /// There was no memory to take the record in or to answer it.
+    pub(crate) fn answer<R: Wait>(
+        &mut self,
+        rt: &R,
+        alloc: Global,
+        host: &Host,
+        place: Place<L>,
+        record: Record,
+    ) -> (Place<L>, Answered) {
+        let moment = self.clock.moment();
+        match host.share() {
+            Ok(host) => match Arrival::read(alloc, host, record, moment) {
+                Ok(arrival) => self.execute(rt, alloc, place, arrival),
+                Err(_) => (place, Err(Closed)),
+            },
+            Err(_) => (place, Err(Closed)),
+        }
+    }
+
+    /// Executes what a record asks. Where the era is full it is ended first, and where memory is wanting too, once:
+    /// what was recorded in it is let go.
+    fn execute<R: Wait>(
+        &self,
+        rt: &R,
+        alloc: Global,
+        place: Place<L>,
+        arrival: Arrival,
+    ) -> (Place<L>, Answered) {
+        let mut place = place;
+        let mut arrival = arrival;
+        let mut is_anew = false;
+        for _ in rt.forever() {
+            let back = match submit(rt, alloc, &mut place, arrival) {
+                Ok(answered) => return (place, answered),
+                Err(PoolError::EraFull(back)) => back,
+                Err(PoolError::Memory(back)) => {
+                    if is_anew {
+                        return (place, decline(alloc, back));
+                    }
+                    back
+                }
+            };
+            place = self.places.turn(rt, place);
+            if place.is_stuck {
+                return (place, decline(alloc, back));
+            }
+            is_anew = true;
+            arrival = back;
+        }
+        unreachable!()
+    }
+}
+
+/// Puts an answer behind those that wait. Whether these are to be sent before the next one.
+fn put(waiting: &mut Connection, answer: Answer) -> bool
+    requires { waiting.old.full ≡ false }
+    ensures { result ≡ waiting.new.full }
+{
+    waiting.put(answer);
+    waiting.is_full()
+}
+
+/// Submits a record to the pool of a place.
+///
+/// # Errors
+///
+/// The era is full, or memory was wanting: the record is handed back.
+fn submit<R: Wait, L: Ledger>(
+    rt: &R,
+    alloc: Global,
+    place: &mut Place<L>,
+    arrival: Arrival,
+) -> Result<Answered, PoolError> {
+    let Place { pool, seat, .. } = place;
+    match pool.submit(rt, alloc, &Open, seat, arrival)? {
+        Sent::Executed => Ok(executed(seat)),
+        Sent::Repeated(kept) => Ok(Ok(Answer::Repeated(kept))),
+        Sent::Refused(declined) => refused(alloc, declined),
+        Sent::Early(faulted) => Ok(Ok(Answer::Early(faulted))),
+        Sent::Unanswered(received) => Ok(Ok(Answer::Unanswered(received))),
+    }
+}
+
+/// The answer that a seat's last receipt tells, and shares with it.
+fn executed<L: Ledger>(seat: &Seat<L>) -> Answered {
+    let receipt = seat.receipts().last().ok_or(Closed)?;
+    Ok(Answer::Executed(Receipt {
+        number: receipt.number,
+        executed: Arc::try_clone(&receipt.executed)?,
+        answer: receipt.answer.clone()?,
+    }))
+}
+
+/// A call that was refused for want of memory is handed back as it came in. Its refusal, where there is none for that.
+fn refused(alloc: Global, declined: Declined) -> Result<Answered, PoolError> {
+    let Declined { received, answer } = declined;
+    match again(alloc, &received) {
+        Ok(arrival) => {
+            drop(received);
+            drop(answer);
+            Err(PoolError::Memory(arrival))
+        }
+        Err(_) => Ok(told(Declined { received, answer })),
+    }
+}
+
+/// The same record as it came in.
+fn again(alloc: Global, received: &Received) -> Result<Arrival, AllocError> {
+    let Received {
+        host,
+        message,
+        moment,
+    } = received.share()?;
+    Arrival::read(alloc, host, message, moment)
+}
+
+/// The answer to a record that is not executed.
+fn decline(alloc: Global, arrival: Arrival) -> Answered {
+    let (received, reading) = arrival.into_parts();
+    match reading {
+        Reading::Asks(asked) => told(declined(alloc, received, asked)),
+        Reading::Faulted(answer) => Ok(Answer::Early(Faulted { received, answer })),
+    }
+}
+
+/// The refusal of a call.
+fn declined(alloc: Global, received: Received, asked: Asked) -> Declined
+    requires { IsAsked (received_value received).bytes asked }
+{
+    let answer = refusal(alloc, &asked);
+    drop(asked);
+    Declined { received, answer }
+}
+
+/// A refusal, where there was memory to say it.
+fn told(declined: Declined) -> Answered {
+    if declined.answer.is_none() {
+        drop(declined);
+        return Err(Closed);
+    }
+    Ok(Answer::Refused(declined))
+}

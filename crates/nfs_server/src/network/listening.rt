@@ -1,0 +1,259 @@
+//! Sockets that listen, and who comes.
+
+use crate::clock::ServerClock;
+use crate::exit::Exit;
+use crate::network::attendance::Attendance;
+use crate::network::clerk::Clerk;
+use crate::network::jobs::Job;
+use crate::network::line::Line;
+use crate::network::places::Places;
+use crate::network::reading::Reader;
+use crate::options::{Network, Options, Transport};
+use bytes::Bytes;
+use crossbeam_channel::Sender;
+use nfs_engine::Host;
+use std::alloc::{AllocError, Global};
+use std::net::{IpAddr, Net, SocketAddr, TcpListener, TcpStream, UdpSocket};
+use std::rt::Clock;
+use std::sync::ledger::Ledger;
+use std::sync::{Arc, Wait};
+use std::thread::Threads;
+use std::time::Duration;
+use std::{io, thread};
+
+/// How many bytes a datagram has at most.
+const DATAGRAM_SIZE: usize = 65_536;
+
+/// How long nobody is let in where the system has no room for one more connection, in milliseconds.
+const PAUSE: u64 = 10;
+
+/// How long a write waits for a peer that reads nothing, in seconds. Where a part was written another wait follows, and
+/// then it fails.
+const PATIENCE: u64 = 15;
+
+/// The sockets that listen.
+#[derive(Drop)]
+pub struct Sockets {
+    pub(crate) tcp: Option<TcpListener>,
+    pub(crate) udp: Option<UdpSocket>,
+}
+
+impl Sockets {
+    /// Sockets at the addresses that the options name, TCP's first.
+    ///
+    /// # Errors
+    ///
+    /// `CannotListen` at one of them; `Memory` where there is none to say that; `NoTransport` where none is named.
+    pub fn bind<R: Net<Listener = TcpListener, Stream = TcpStream>>(
+        rt: &R,
+        alloc: Global,
+        options: &Options,
+    ) -> Result<Sockets, Exit> {
+        let Transport::Network(network) = &options.transport else {
+            return Err(Exit::NoTransport);
+        };
+        let tcp = match &network.tcp {
+            Some(text) => Some(bind_tcp(rt, alloc, text.as_str())?),
+            None => None,
+        };
+        let udp = match &network.udp {
+            Some(text) => Some(bind_udp(rt, alloc, text.as_str())?),
+            None => None,
+        };
+        Ok(Sockets { tcp, udp })
+    }
+
+    /// Where connections are taken, if they are.
+    pub fn tcp_address(&self) -> Option<SocketAddr> {
+        match &self.tcp {
+            Some(listener) => listener.local_addr().ok(),
+            None => None,
+        }
+    }
+
+    /// Where datagrams are taken, if they are.
+    pub fn udp_address(&self) -> Option<SocketAddr> {
+        match &self.udp {
+            Some(socket) => socket.local_addr().ok(),
+            None => None,
+        }
+    }
+
+    /// Says on standard error where they listen, a line for each.
+    pub fn tell<R: Eprint>(&self, rt: &R) {
+        if let Some(address) = self.tcp_address() {
+            let _ = eprintln!(rt; "nfsd: listening on {address} (TCP)");
+        }
+        if let Some(address) = self.udp_address() {
+            let _ = eprintln!(rt; "nfsd: listening on {address} (UDP)");
+        }
+    }
+}
+
+fn bind_tcp<R: Net<Listener = TcpListener, Stream = TcpStream>>(
+    rt: &R,
+    alloc: Global,
+    text: &str,
+) -> Result<TcpListener, Exit> {
+    let Ok(address) = text.parse::<SocketAddr>() else {
+        return Err(cannot_listen(alloc, text));
+    };
+    match TcpListener::bind(rt, address) {
+        Ok(listener) => Ok(listener),
+        Err(_) => Err(cannot_listen(alloc, text)),
+    }
+}
+
+/// The exit where this address can't be listened on.
+fn cannot_listen(alloc: Global, text: &str) -> Exit {
+    match String::from_str(alloc, text) {
+        Ok(text) => Exit::CannotListen(text),
+        Err(_) => Exit::Memory,
+    }
+}
+
+fn bind_udp<R: Net>(rt: &R, alloc: Global, text: &str) -> Result<UdpSocket, Exit> {
+    let Ok(address) = text.parse::<SocketAddr>() else {
+        return Err(cannot_listen(alloc, text));
+    };
+    match UdpSocket::bind(rt, address) {
+        Ok(socket) => Ok(socket),
+        Err(_) => Err(cannot_listen(alloc, text)),
+    }
+}
+
+/// The host of a peer: its address as text, without a port. One of IP version 4 is written as such, also where it came
+/// over a socket of version 6.
+fn host_at(alloc: Global, address: IpAddr) -> Result<Host, AllocError> {
+    let text = format!(in alloc; "{}", address.to_canonical())?;
+    let name = Bytes::copy_from_slice(alloc, text.as_bytes())?;
+    Host::new(name).ok_or(AllocError)
+}
+
+/// What each thread that serves peers has.
+#[derive(Drop)]
+pub(crate) struct Service<L: Ledger> {
+    pub(crate) places: Places<L>,
+    pub(crate) jobs: Sender<Job>,
+    /// The second at which every moment is, if any.
+    pub(crate) clock: Option<u32>,
+}
+
+impl<L: Ledger> Service<L> {
+    /// One more owner.
+    pub(crate) fn share(&self) -> Result<Service<L>, AllocError> {
+        Ok(Service {
+            places: self.places.share()?,
+            jobs: self.jobs.clone()?,
+            clock: self.clock,
+        })
+    }
+
+    /// What answers records, by this clock.
+    pub(crate) fn clerk<C: Drop>(&self, clock: C) -> Result<Clerk<L, C>, AllocError> {
+        Ok(Clerk {
+            places: self.places.share()?,
+            clock: ServerClock::new(clock, self.clock),
+        })
+    }
+}
+
+/// Lets connections in, each served by a thread of its own: so many in all, or for ever. One that comes while so many
+/// are open as may be is closed at once.
+pub(crate) fn let_in<
+    R: Threads + Wait + Clock + Copy + Drop + Send + Sync + 'static,
+    L: Ledger + Send + Sync + 'static,
+>(
+    rt: &R,
+    alloc: Global,
+    listener: &TcpListener,
+    network: &Network,
+    service: &Service<L>,
+    attendance: &Arc<Attendance>,
+) {
+    let mut came: u64 = 0;
+    for _ in rt.forever() {
+        match listener.accept() {
+            Ok((stream, peer)) => {
+                came = came.saturating_add(1);
+                if attendance.enter(rt, network.connections as usize)
+                    && start(rt, alloc, stream, peer, service, attendance).is_err()
+                {
+                    attendance.leave(rt);
+                }
+            }
+            Err(_) => thread::sleep(rt, Duration::from_millis(PAUSE)),
+        }
+        if network.accept != 0 && came >= network.accept {
+            return;
+        }
+    }
+    unreachable!()
+}
+
+/// Starts the thread of a connection.
+fn start<
+    R: Threads + Wait + Clock + Copy + Drop + Send + Sync + 'static,
+    L: Ledger + Send + Sync + 'static,
+>(
+    rt: &R,
+    alloc: Global,
+    stream: TcpStream,
+    peer: SocketAddr,
+    service: &Service<L>,
+    attendance: &Arc<Attendance>,
+) -> io::Result<()> {
+    stream.set_nodelay(true)?;
+    stream.set_write_timeout(Some(Duration::from_secs(PATIENCE)))?;
+    let host = host_at(alloc, peer.ip())?;
+    let mut reader = Reader {
+        line: Arc::new(alloc, Line::new(stream, host))?,
+        clerk: service.clerk(*rt)?,
+        jobs: service.jobs.clone()?,
+    };
+    let attendance = Arc::try_clone(attendance)?;
+    let rt = *rt;
+    thread::spawn(&rt, move || {
+        reader.work(&rt, alloc);
+        drop(reader);
+        attendance.leave(&rt);
+    })?;
+    Ok(())
+}
+
+/// Takes datagrams, each a record of its own with no mark, and hands them to the workers.
+pub(crate) fn take_datagrams<R: Wait, L: Ledger>(
+    rt: &R,
+    alloc: Global,
+    socket: UdpSocket,
+    service: &Service<L>,
+) -> Result<(), AllocError> {
+    let socket = Arc::new(alloc, socket)?;
+    let mut buffer = Vec::from_elem(alloc, 0u8, DATAGRAM_SIZE)?;
+    for _ in rt.forever() {
+        if let Ok((count, peer)) = socket.recv_from(buffer.as_mut_slice()) {
+            // One that can't be taken in is dropped.
+            let _ = take(rt, alloc, &socket, peer, &buffer[..count], service);
+        }
+    }
+    unreachable!()
+}
+
+/// Hands a datagram to the workers.
+fn take<R: Wait, L: Ledger>(
+    rt: &R,
+    alloc: Global,
+    socket: &Arc<UdpSocket>,
+    peer: SocketAddr,
+    datagram: &[u8],
+    service: &Service<L>,
+) -> Result<(), AllocError> {
+    let job = Job::Datagram {
+        socket: Arc::try_clone(socket)?,
+        peer,
+        host: host_at(alloc, peer.ip())?,
+        record: Bytes::copy_from_slice(alloc, datagram)?,
+    };
+    drop(service.jobs.send(rt, job));
+    Ok(())
+}

@@ -1,0 +1,212 @@
+//! Who may execute calls: seats that wait to be taken, and the end of eras.
+//!
+//! A seat travels with its pool. Whoever executes calls takes a place, and gives it back behind them. So when all
+//! places are gathered nobody else has the pool, and its era can be ended: no thread has to be joined for that.
+
+use crossbeam_channel::{Receiver, Sender};
+use nfs_pool::{Pool, Seat};
+use std::alloc::{AllocError, Global};
+use std::rt::Clock;
+use std::sync::ledger::Ledger;
+use std::sync::{Arc, Wait};
+use std::thread;
+use std::time::Duration;
+
+/// How long the keeper waits for memory before it tries again, in milliseconds.
+const PAUSE: u64 = 10;
+
+/// A seat with its pool: the leave to execute calls.
+#[derive(Drop)]
+pub(crate) struct Place<L: Ledger> {
+    pub(crate) pool: Arc<Pool<L>>,
+    pub(crate) seat: Seat<L>,
+    /// How often an era was to be ended before it was handed out.
+    pub(crate) turns: u64,
+    /// The last time there was no memory for that.
+    pub(crate) is_stuck: bool,
+}
+
+/// The places that nobody has.
+#[derive(Drop)]
+pub(crate) struct Places<L: Ledger> {
+    free: Receiver<Place<L>>,
+    back: Sender<Place<L>>,
+    full: Sender<Place<L>>,
+}
+
+impl<L: Ledger> Places<L> {
+    /// Places come from `free`, whose other end is `back`, and go to `back`, or where the era is to be ended to `full`.
+    pub(crate) fn new(
+        free: Receiver<Place<L>>,
+        back: Sender<Place<L>>,
+        full: Sender<Place<L>>,
+    ) -> Places<L> {
+        Places { free, back, full }
+    }
+
+    /// One more owner of the places.
+    ///
+    /// # Errors
+    ///
+    /// There is no memory for one more owner.
+    pub(crate) fn share(&self) -> Result<Places<L>, AllocError> {
+        Ok(Places {
+            free: self.free.clone()?,
+            back: self.back.clone()?,
+            full: self.full.clone()?,
+        })
+    }
+
+    /// A place, once there is one.
+    pub(crate) fn take<R: Wait>(&self, rt: &R) -> Place<L> {
+        // The other end stays, as it is here too: a receive does not fail.
+        for _ in rt.forever() {
+            if let Ok(place) = self.free.recv(rt) {
+                return place;
+            }
+        }
+        unreachable!()
+    }
+
+    /// A place, if one is free now.
+    pub(crate) fn take_now<R: Wait>(&self, rt: &R) -> Option<Place<L>> {
+        self.free.try_recv(rt).ok()
+    }
+
+    /// Gives a place back.
+    pub(crate) fn give<R: Wait>(&self, rt: &R, place: Place<L>) {
+        drop(self.back.send(rt, place));
+    }
+
+    /// Hands a place in, so that the era is ended, and takes one that was handed out after that was tried.
+    pub(crate) fn turn<R: Wait>(&self, rt: &R, place: Place<L>) -> Place<L> {
+        let before = place.turns;
+        let mut place = place;
+        for _ in rt.forever() {
+            drop(self.full.send(rt, place));
+            place = self.take(rt);
+            if place.turns > before {
+                return place;
+            }
+        }
+        unreachable!()
+    }
+}
+
+/// What ends eras.
+#[derive(Drop)]
+pub(crate) struct Keeper<L: Ledger> {
+    pub(crate) free: Receiver<Place<L>>,
+    pub(crate) back: Sender<Place<L>>,
+    /// Places whose era is to be ended.
+    pub(crate) full: Receiver<Place<L>>,
+    /// How many places there are.
+    pub(crate) count: usize,
+}
+
+impl<L: Ledger> Keeper<L> {
+    /// Ends eras, until nobody calls any more. What was recorded in them is let go by this thread, which serves nobody.
+    /// There is room for all seats.
+    pub(crate) fn work<R: Wait + Clock>(&self, rt: &R, alloc: Global, room: Vec<Seat<L>>) {
+        let mut seats = room;
+        for first in self.full.iter(rt) {
+            let turns = first.turns.saturating_add(1);
+            match self.gather(rt, first, &mut seats) {
+                Some(pool) => seats = self.turn(rt, alloc, pool, seats, turns),
+                None => return,
+            }
+        }
+    }
+
+    /// All seats, and the pool, which nobody else has then. It takes no memory.
+    fn gather<R: Wait>(
+        &self,
+        rt: &R,
+        first: Place<L>,
+        seats: &mut Vec<Seat<L>>,
+    ) -> Option<Pool<L>> {
+        let mut last = first;
+        for _ in 1..self.count {
+            let next = self.next(rt)?;
+            seats.push(last.seat).ok()?;
+            drop(last.pool);
+            last = next;
+        }
+        seats.push(last.seat).ok()?;
+        Arc::into_inner(last.pool)
+    }
+
+    /// The next place that comes, handed in or free.
+    fn next<R: Wait>(&self, rt: &R) -> Option<Place<L>> {
+        match self.free.try_recv(rt) {
+            Ok(place) => Some(place),
+            Err(_) => self.full.recv(rt).ok(),
+        }
+    }
+
+    /// Ends the era, hands out the places of the next one, and lets go what was recorded. Their room is left.
+    fn turn<R: Wait + Clock>(
+        &self,
+        rt: &R,
+        alloc: Global,
+        pool: Pool<L>,
+        seats: Vec<Seat<L>>,
+        turns: u64,
+    ) -> Vec<Seat<L>> {
+        match pool.turn_era(alloc, seats) {
+            Ok((era, pool, seats)) => match Arc::new(alloc, pool) {
+                Ok(pool) => {
+                    let room = hand_out(rt, &self.back, pool, seats, turns, false);
+                    drop(era);
+                    room
+                }
+                Err(refused) => {
+                    drop(era);
+                    let pool = shared(rt, alloc, refused.value);
+                    hand_out(rt, &self.back, pool, seats, turns, false)
+                }
+            },
+            Err((_, pool, seats)) => {
+                let pool = shared(rt, alloc, pool);
+                hand_out(rt, &self.back, pool, seats, turns, true)
+            }
+        }
+    }
+}
+
+/// The pool as one that several own. Where there is no memory for that it is waited for.
+fn shared<R: Wait + Clock, L: Ledger>(rt: &R, alloc: Global, pool: Pool<L>) -> Arc<Pool<L>> {
+    let mut pool = pool;
+    for _ in rt.forever() {
+        match Arc::new(alloc, pool) {
+            Ok(pool) => return pool,
+            Err(refused) => pool = refused.value,
+        }
+        thread::sleep(rt, Duration::from_millis(PAUSE));
+    }
+    unreachable!()
+}
+
+/// Makes a place of each seat, and hands it out. The room of the seats is left.
+pub(crate) fn hand_out<R: Wait, L: Ledger>(
+    rt: &R,
+    back: &Sender<Place<L>>,
+    pool: Arc<Pool<L>>,
+    seats: Vec<Seat<L>>,
+    turns: u64,
+    is_stuck: bool,
+) -> Vec<Seat<L>> {
+    let mut seats = seats;
+    for _ in 0..seats.len() {
+        if let (Some(seat), Ok(pool)) = (seats.pop(), Arc::try_clone(&pool)) {
+            let place = Place {
+                pool,
+                seat,
+                turns,
+                is_stuck,
+            };
+            drop(back.send(rt, place));
+        }
+    }
+    seats
+}

@@ -1,0 +1,43 @@
+//! The transport that the options name.
+
+ghost use Rattle.nfs_server.specs.CommandLine.{AreWithin};
+
+use crate::exit::Exit;
+use crate::network::serve_network;
+use crate::options::{Options, Transport};
+use crate::stdio::serve_stdio;
+use crate::warnings::warn_of_hosts;
+use std::net::{Net, TcpListener, TcpStream};
+use std::rt::Clock;
+use std::sync::Wait;
+use std::thread::Threads;
+
+/// Serves on what the options name: standard streams to the end of the input, or sockets. A host that an export names
+/// and no peer has is warned of on standard error.
+///
+/// # Errors
+///
+/// Those of `serve_stdio` and of `serve_network`.
+pub fn serve<
+    R: AllocGlobal
+        + Clock
+        + Input
+        + Print
+        + Eprint
+        + Net<Listener = TcpListener, Stream = TcpStream>
+        + Threads
+        + Wait
+        + Copy
+        + Drop
+        + Send
+        + Sync
+        + 'static,
+>(rt: R, options: Options) -> Result<(), Exit>
+    requires { AreWithin options }
+{
+    warn_of_hosts(&rt, &options);
+    if let Transport::Stdio = &options.transport {
+        return serve_stdio(&rt, options);
+    }
+    serve_network(rt, options)
+}
