@@ -40,11 +40,15 @@ impl<L: Ledger> Pool<L> {
             Ok((era, _)) => Ok((era, desk.into_book())),
             Err((error, seats)) => {
                 let desk = Mutex::new(desk);
-                Err((error, Pool {
-            desk,
-            places,
-            count,
-        }, seats))
+                Err((
+                    error,
+                    Pool {
+                        desk,
+                        places,
+                        count,
+                    },
+                    seats,
+                ))
             }
         }
     }

@@ -130,11 +130,9 @@ impl<L: Ledger> Steps<L> for Pool<L> {
     fn wait_for<R: Wait>(&self, rt: &R, address: Addr, mode: Mode) {
         let index = shard_index(address);
         let guard = take(rt, &self.places[index].shard);
-        let free = self.places[index].released.wait_while(
-            rt,
-            guard,
-            |shard| shard.excluder(address, mode).is_some(),
-        );
+        let free = self.places[index]
+            .released
+            .wait_while(rt, guard, |shard| shard.excluder(address, mode).is_some());
         drop(free);
     }
 

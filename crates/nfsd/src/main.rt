@@ -36,9 +36,7 @@ fn run<
         + Send
         + Sync
         + 'static,
->(
-    rt: R,
-) -> Result<(), Exit> {
+>(rt: R) -> Result<(), Exit> {
     let words = arguments(&rt)?;
     let options = configure(rt.alloc(), &words)?;
     serve(rt, options)
