@@ -5,7 +5,7 @@ ghost use Rattle.nfs_replies.specs.Kept.{reply_for};
 ghost use Rattle.nfs_replies.specs.Replies.{kept_of};
 
 use bytes::Bytes;
-use nfs_replies::{Capacity, Replies};
+use nfs_replies::{Capacity, Hashed, Replies, Sought};
 use std::alloc::{AllocError, Global};
 use std::test::Fail;
 
@@ -48,10 +48,10 @@ fn answered(
     let host = Bytes::from_static(host);
     let bytes = Bytes::from_static(bytes);
     let reply = Bytes::from_static(reply);
-    if let Some(kept) = replies.find(&host, &bytes)? {
+    if let Some(kept) = replies.find(&host, Sought::new(&bytes))? {
         return Ok(kept);
     }
-    replies.keep(alloc, &host, bytes, reply.clone()?)?;
+    replies.keep(alloc, &host, Hashed::new(bytes), reply.clone()?)?;
     Ok(reply)
 }
 
@@ -180,14 +180,15 @@ fn kept_at_last(
 {
     let host = Bytes::from_static(host);
     let reply = Bytes::from_static(OK);
-    let Err(refused) = replies.keep(alloc, &host, Bytes::from_static(bytes), reply) else {
+    let record = Hashed::new(Bytes::from_static(bytes));
+    let Err(refused) = replies.keep(alloc, &host, record, reply) else {
         return Ok(true);
     };
     let (record, reply) = refused.value;
-    if record.as_slice() != bytes || reply.as_slice() != OK {
+    if record.bytes().as_slice() != bytes || reply.as_slice() != OK {
         return Ok(false);
     }
-    if replies.find(&host, &record)?.is_some() {
+    if replies.find(&host, record.sought())?.is_some() {
         return Ok(false);
     }
     replies.keep(alloc, &host, record, reply)?;
@@ -205,7 +206,10 @@ fn a_refused_growth_changes_nothing(rt: HostRuntime) -> Result<(), Fail> {
         (FIRST, REMOVE),
     ] {
         let key = Bytes::from_static(host);
-        if replies.find(&key, &Bytes::from_static(record))?.is_none() {
+        if replies
+            .find(&key, Sought::new(&Bytes::from_static(record)))?
+            .is_none()
+        {
             assert!(rt; kept_at_last(rt.alloc(), &mut replies, host, record)?);
         }
     }
@@ -216,7 +220,7 @@ fn a_refused_growth_changes_nothing(rt: HostRuntime) -> Result<(), Fail> {
         (FIRST, REMOVE, true),
     ] {
         let key = Bytes::from_static(host);
-        let found = replies.find(&key, &Bytes::from_static(record))?;
+        let found = replies.find(&key, Sought::new(&Bytes::from_static(record)))?;
         assert_eq!(rt; found.is_some(), is_kept);
     }
     Ok(())
