@@ -1,5 +1,5 @@
 -- An engine that opens is at rest, and stands in the opening state.
-use Rattle.std.proofs.Common.{◌≡◌, ℕ, ◌≤◌, List, length, None, sym, ◌∙◌, ap, subst, arith}
+use Rattle.std.proofs.Common.{◌≡◌, ℕ, ◌≤◌, List, length, None, sym, ap, subst, arith}
 use Rattle.nfs_machine.specs.Opening.{opening}
 use Rattle.nfs_machine.specs.Run.{Record, Run}
 use Rattle.nfs_machine.specs.State.{State}

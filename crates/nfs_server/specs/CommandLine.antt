@@ -27,7 +27,7 @@ use Rattle.nfs_server.specs.declared.limits.Limit.{Limit}
 use Rattle.nfs_server.specs.declared.limits.Limit.TheVariants.{Era, Cache, Workers, Connections}
 use Rattle.nfs_server.specs.declared.limits.Limits.{Limits}
 use Rattle.nfs_server.specs.declared.exit.Exit.{Exit}
-use Rattle.nfs_server.specs.declared.exit.Exit.TheVariants.{CommandLine, NoTransport, Exports, Memory, StandardStream}
+use Rattle.nfs_server.specs.declared.exit.Exit.TheVariants.{CommandLine, NoTransport, Exports, Memory}
 use Rattle.nfs_server.specs.declared.options.Network.{Network as NetworkOptions}
 use Rattle.nfs_server.specs.declared.options.Options.{Options}
 use Rattle.nfs_server.specs.declared.options.Transport.{Transport}

@@ -1,5 +1,4 @@
 -- The command line is taken once its words, its host, its limits and its transport are; what is left is the exports.
-use Rattle.std.proofs.Common.{rules}
 use Rattle.std.proofs.lemmas.Result.{MatchResult-weaker, err_from_is_err_and}
 use Rattle.clap.specs.Words.{found_of, rows_of}
 use Rattle.nfs_server.proofs.Parsed.{one_transport, options_read, refused_host, refused_limit, refused_transport}

@@ -1,6 +1,6 @@
 -- The number is what its option gives, or the default.
 use Rattle.std.proofs.Common.{arith, rules, ℕ, List, ap, subst, ◌∙◌}
-use Rattle.std.specs.Prelude.{Option, Result, unwrap_or}
+use Rattle.std.specs.Prelude.{Result, unwrap_or}
 use Rattle.std.specs.Str.Parse.{ExplainsUnsignedError, HasUnsignedDigitsIfOk, ParsesUnsigned}
 use Rattle.std.specs.declared.num.ParseIntError.{ParseIntError}
 use Rattle.clap.specs.Words.{Text, found_of, one_of, rows_of}

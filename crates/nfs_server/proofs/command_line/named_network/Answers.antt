@@ -1,5 +1,5 @@
 -- Each field is what its option gives by the rows.
-use Rattle.std.proofs.Common.{ℕ, List, refl, ◌∙◌}
+use Rattle.std.proofs.Common.{ℕ, List, refl}
 use Rattle.std.specs.Prelude.{Result, codes}
 use Rattle.std.specs.Str.Parse.{ExplainsUnsignedError, HasUnsignedDigitsIfOk, ParsesUnsigned}
 use Rattle.std.specs.declared.num.ParseIntError.{ParseIntError}
