@@ -33,13 +33,6 @@ impl<'a> Reader<'a> {
         Reader { bytes }
     }
 
-    /// Another reader at the same place.
-    pub fn fork(&self) -> Reader<'a>
-        ensures { result ≡ self.entry.now }
-    {
-        Reader { bytes: self.bytes }
-    }
-
     /// How many bytes are left.
     pub fn len(&self) -> usize
         ensures { result ≡ length self.now }

@@ -72,16 +72,6 @@ impl<'a> SharedReader<'a> {
         SharedReader { source, left }
     }
 
-    /// Another reader at the same place.
-    pub fn fork(&self) -> SharedReader<'a>
-        ensures { result ≡ self.entry.now }
-    {
-        SharedReader {
-            source: self.source,
-            left: self.left,
-        }
-    }
-
     /// How many bytes are left.
     pub fn len(&self) -> usize
         ensures { result ≡ length self.now }

@@ -171,7 +171,7 @@ fn has_numbers(reader: &mut Reader<'_>) -> bool {
 #[test]
 fn reads_each_item(rt: HostRuntime) -> Result<(), Fail> {
     let mut reader = Reader::new(&ITEMS);
-    assert!(rt; reader.fork().len() == 41);
+    assert!(rt; reader.len() == 41);
     assert!(rt; has_numbers(&mut reader));
     assert!(rt; reader.fixed(3) == Ok([10, 11, 12].as_slice()));
     assert!(rt; reader.opaque(5) == Ok([1, 2, 3, 4, 5].as_slice()));
@@ -192,7 +192,7 @@ fn has_shared_numbers(reader: &mut SharedReader<'_>) -> bool {
 fn reads_each_number_of_a_record(rt: HostRuntime) -> Result<(), Fail> {
     let record = record(rt.alloc(), &ITEMS)?;
     let mut reader = SharedReader::new(&record);
-    assert!(rt; reader.fork().len() == 41);
+    assert!(rt; reader.len() == 41);
     assert!(rt; has_shared_numbers(&mut reader));
     assert!(rt; reader.fixed(3)?.share()?.as_slice() == [10, 11, 12].as_slice());
     assert!(rt; reader.opaque(5)?.share()?.as_slice() == [1, 2, 3, 4, 5].as_slice());
