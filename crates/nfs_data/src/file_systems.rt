@@ -8,8 +8,9 @@ ghost use Rattle.nfs_objects.specs.Begins.{Begins};
 ghost use Rattle.nfs_objects.specs.Only.{EndsAtOnce, EndsFirstOnly};
 
 use bytes::Bytes;
-use nfs_inodes::{BLOCK, LINK_LIMIT, MAX_NAME, SIZE_LIMIT, TRANSFER_LIMIT, named};
+use nfs_inodes::{BLOCK, LINK_LIMIT, SIZE_LIMIT, TRANSFER_LIMIT, named};
 use nfs_machine::Reply;
+use nfs_machine::paths::MAX_NAME;
 use nfs_objects::{Change, Draft, Halt};
 use nfs_wire::{FileSystem, FsinfoReply, NfsCall, NfsReply, PathLimits, PathconfReply, Time};
 

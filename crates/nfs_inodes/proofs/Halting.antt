@@ -8,7 +8,7 @@ use Rattle.nfs_objects.proofs.Exported.{table-lives}
 use Rattle.nfs_objects.proofs.Knows.{among-first, covers-among, covers-both, lacks-stops, stops-wider}
 use Rattle.nfs_objects.proofs.Seen.{unknown-unseen}
 use Rattle.nfs_objects.specs.Asks.{Lacks, IsThere}
-use Rattle.nfs_objects.specs.Attempt.{HaltsFirst, StopsCall, object_wanted, unless_seen}
+use Rattle.nfs_objects.specs.Attempt.{HaltsFirst, StopsCall, first_wanted_with, object_wanted, unless_seen}
 use Rattle.nfs_objects.specs.Calls.{addresses_of}
 use Rattle.nfs_objects.specs.Knows.{Turns}
 use Rattle.nfs_objects.specs.Only.{AsksNothing}
@@ -18,7 +18,7 @@ use Rattle.nfs_objects.specs.declared.address.Addr.{Addr}
 use Rattle.nfs_objects.specs.declared.address.Addr.TheVariants as addresses
 use Rattle.nfs_objects.specs.declared.change.Halt.{Halt}
 use Rattle.nfs_objects.specs.declared.object.Object.{Object}
-use Rattle.nfs_inodes.specs.Stops.{KnowsAt, ReadsAt, ReadsInode, StopsAt, StopsMaking, brought_by, wanted_first}
+use Rattle.nfs_inodes.specs.Stops.{KnowsAt, ReadsAt, ReadsInode, StopsAt, StopsMaking, brought_by}
 
 -- what a draft lacks is asked for
 pub lacking-stops : (d : DraftValue) (a : Addr) (halt : Halt) → Lacks d a halt → StopsAt d (a ∷ []) halt
@@ -56,7 +56,7 @@ lacking-first-at A d a halt lacks = subst (λ w. HaltsFirst {A = A} d.modes d.vi
 
 module _ (A : Type 0) (d : DraftValue) (bytes : List ℕ) where
   abbrev First : Result A Halt → Type 0
-  First r = HaltsFirst {A = A} d.modes d.view (wanted_first d.view (bytes ∷ [])) r
+  First r = HaltsFirst {A = A} d.modes d.view (first_wanted_with d.view (bytes ∷ [])) r
 
   abbrev past : Option Addr → Option Addr
   past w = elim w [ Some a ↦ Some a | None ↦ object_wanted d.view (bytes ∷ []) ]
@@ -65,14 +65,14 @@ module _ (A : Type 0) (d : DraftValue) (bytes : List ℕ) where
   exports-first halt lacks = subst (λ w. HaltsFirst {A = A} d.modes d.view (past w) (Err halt)) (sym (lacking-unseen d addresses.Exports halt lacks)) lacks.asked
 
   pub exports-once : (halt : Halt) → Lacks d addresses.Exports halt
-      → wanted_first d.view (bytes ∷ []) ≡ None → ⊥
+      → first_wanted_with d.view (bytes ∷ []) ≡ None → ⊥
   exports-once halt lacks none =
-      let wants : wanted_first d.view (bytes ∷ []) ≡ Some addresses.Exports =
+      let wants : first_wanted_with d.view (bytes ∷ []) ≡ Some addresses.Exports =
       ap past (lacking-unseen d addresses.Exports halt lacks) in cc
 
   module _ (none : d.writes ≡ []) (known : IsSome (known_at d addresses.Exports)) where
     wants : (o : Option Handle) → handle_of bytes ≡ o
-        → wanted_first d.view (bytes ∷ []) ≡ elim o [ None ↦ None | Some h ↦ unless_seen d.view (addresses.Inode h.fileid) ]
+        → first_wanted_with d.view (bytes ∷ []) ≡ elim o [ None ↦ None | Some h ↦ unless_seen d.view (addresses.Inode h.fileid) ]
     wants o is =
         ap past (known-shown d addresses.Exports none known)
         ∙ ap (λ (x : Option Handle). elim x [ None ↦ None | Some h ↦ unless_seen d.view (addresses.Inode h.fileid) ]) is
@@ -90,9 +90,9 @@ module _ (A : Type 0) (d : DraftValue) (bytes : List ℕ) where
           subst (λ w. HaltsFirst {A = A} d.modes d.view w (Err halt)) (sym (wants (Some h) is ∙ lacking-unseen d (addresses.Inode h.fileid) halt lacks)) lacks.asked
 
       pub lacking-once : (halt : Halt) → Lacks d (addresses.Inode h.fileid) halt
-          → wanted_first d.view (bytes ∷ []) ≡ None → ⊥
+          → first_wanted_with d.view (bytes ∷ []) ≡ None → ⊥
       lacking-once halt lacks nothing =
-          let wanted-is : wanted_first d.view (bytes ∷ []) ≡ Some (addresses.Inode h.fileid) = wants (Some h) is
+          let wanted-is : first_wanted_with d.view (bytes ∷ []) ≡ Some (addresses.Inode h.fileid) = wants (Some h) is
           ∙ lacking-unseen d (addresses.Inode h.fileid) halt lacks in cc
 
 never-both : (o : Option (Option Object)) → o ≡ None → IsSome o → ⊥

@@ -3,7 +3,7 @@ use Rattle.std.specs.Prelude.{◌≡◌, ℕ, List, [], ◌∷◌, ◌++◌, Opt
 use Rattle.std.specs.Prelude.{Result, MatchResult, option_map}
 use Rattle.nfs_machine.specs.Handles.{handle_of}
 use Rattle.nfs_objects.specs.Asks.{Lacks, IsThere}
-use Rattle.nfs_objects.specs.Attempt.{StopsCall, object_wanted, unless_seen}
+use Rattle.nfs_objects.specs.Attempt.{StopsCall}
 use Rattle.nfs_objects.specs.Calls.{addresses_of, objects_at}
 use Rattle.nfs_objects.specs.Stands.{exports_of, inode_in}
 use Rattle.nfs_objects.specs.Sums.{group_of}
@@ -70,10 +70,3 @@ pub record KnowsAt (d : DraftValue) (number : ℕ) : Type 0 where
 abbrev pub ReadsInode : {A : Type 0} → DraftValue → (number : ℕ) → Result A Halt → Type 0
 ReadsInode d number result = MatchResult result (λ x. KnowsAt d number)
     (λ halt. Lacks d addresses.Exports halt ⊎ Lacks d (addresses.Inode number) halt)
-
--- what a call with these handles wants first: the exports, and then the first handle's object
-abbrev pub wanted_first : ViewValue → List (List ℕ) → Option Addr
-wanted_first view handles = elim (unless_seen view addresses.Exports) [
-  | Some a ↦ Some a
-  | None ↦ object_wanted view handles
-]

@@ -9,7 +9,7 @@ ghost use Rattle.nfs_machine.specs.Exports.{export_admits, export_at};
 ghost use Rattle.nfs_machine.specs.Shown.{attributes_at, handle_at};
 ghost use Rattle.nfs_machine.specs.State.{Socket};
 ghost use Rattle.nfs_objects.specs.Asks.{IsThere};
-ghost use Rattle.nfs_objects.specs.Attempt.{HaltsFirst, unless_seen};
+ghost use Rattle.nfs_objects.specs.Attempt.{HaltsFirst, first_wanted_with, unless_seen};
 ghost use Rattle.nfs_objects.specs.Calls.{addresses_of};
 ghost use Rattle.nfs_objects.specs.Knows.{Knows, ShowsExport};
 ghost use Rattle.nfs_objects.specs.Only.{AsksNothing};
@@ -18,7 +18,7 @@ ghost use Rattle.nfs_objects.specs.Values.{known_at};
 ghost use Rattle.nfs_inodes.specs.Kinds.{IsShown};
 ghost use Rattle.nfs_inodes.specs.Known.{HasExports, HasInode, HasNumber, IsKnownOf, IsObject, Means};
 ghost use Rattle.nfs_inodes.specs.Known.{is_handle_of, shell, weak_of};
-ghost use Rattle.nfs_inodes.specs.Stops.{IsOfExport, ReadsAt, ReadsInode, StopsAt, brought_by, wanted_first};
+ghost use Rattle.nfs_inodes.specs.Stops.{IsOfExport, ReadsAt, ReadsInode, StopsAt, brought_by};
 
 use crate::content::shape::{device, file_type, size, used};
 use bytes::Bytes;
@@ -171,10 +171,10 @@ pub fn named(draft: &Draft<'_>, handle: &[u8]) -> Result<Result<Known, NfsStatus
     ensures shown { IfOk result (λ found. IfOk found (IsShown draft.now)) }
     ensures usage { IfOk result (λ found. IfOk found (λ x. IsOfExport handle.now x.export)) }
     ensures stops { IfErr result (StopsAt draft.now (brought_by draft.now.view handle.now)) }
-    ensures first { HaltsFirst draft.now.modes draft.now.view (wanted_first draft.now.view (handle.now ∷ []))
+    ensures first { HaltsFirst draft.now.modes draft.now.view (first_wanted_with draft.now.view (handle.now ∷ []))
         result }
-    ensures once { wanted_first draft.now.view (handle.now ∷ []) ≡ None → AsksNothing result }
-    ensures at_once { wanted_first draft.now.view (handle.now ∷ []) ≡ None → IfErr result (λ halt. ⊥) }
+    ensures once { first_wanted_with draft.now.view (handle.now ∷ []) ≡ None → AsksNothing result }
+    ensures at_once { first_wanted_with draft.now.view (handle.now ∷ []) ≡ None → IfErr result (λ halt. ⊥) }
     ensures reads { IfOk result (λ found. IsSome (known_at draft.now Addr.Exports)
         × IfOk found (λ x. IsSome (known_at draft.now (Addr.Inode x.number)))) }
 {

@@ -42,7 +42,7 @@ pub use makers::{lose_link, make_object};
 pub use making::{
     LINK_LIMIT, MAX_TEXT, MODE_LIMIT, NewContent, Wanted, given_attributes, kind_checked,
 };
-pub use names::{MAX_NAME, name_checked, plain_name_checked};
+pub use names::{name_checked, plain_name_checked};
 pub use permission::{Right, class_bits, is_member, may, reads, runs};
 pub use removing::take_name;
 pub use setting::{Settings, set_attributes};

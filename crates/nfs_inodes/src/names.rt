@@ -6,10 +6,8 @@ ghost use Rattle.nfs_machine.specs.Bytes.{same_bytes};
 ghost use Rattle.nfs_machine.specs.Checks.{name_checked, plain_name_checked};
 ghost use Rattle.nfs_machine.specs.Paths.{slash};
 
+use nfs_machine::paths::MAX_NAME;
 use nfs_wire::NfsStatus;
-
-/// The greatest length of a name, in bytes.
-pub const MAX_NAME: usize = 255;
 
 /// Looks at the form of a name.
 ///

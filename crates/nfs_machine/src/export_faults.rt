@@ -7,7 +7,7 @@ ghost use Rattle.nfs_machine.specs.ExportFaults.{are_export_hosts, export_fault,
 ghost use Rattle.nfs_machine.specs.ExportFaults.{is_export_mode, is_export_part, is_export_path};
 
 use crate::exports::{ExportError, ExportText};
-use crate::paths::split_piece;
+use crate::paths::{MAX_NAME, split_piece};
 use bytes::Bytes;
 
 /// The greatest count of exports.
@@ -18,9 +18,6 @@ const MAX_PATH: usize = 1_024;
 
 /// The greatest count of an export's hosts.
 const MAX_HOSTS: usize = 1_024;
-
-/// The greatest length of a part of a path, and of a host, in bytes.
-const MAX_NAME: usize = 255;
 
 /// Finds what is to be told of a list: that it is too long, or what is wrong with its first export at fault.
 pub(crate) fn check_list(list: &[ExportText]) -> Result<(), ExportError>

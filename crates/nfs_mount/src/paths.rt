@@ -6,8 +6,7 @@ ghost use Rattle.nfs_machine.specs.MountSteps.{path_fault};
 ghost use Rattle.nfs_machine.specs.Paths.{begins_with_slash, is_dots, parts};
 ghost use Rattle.nfs_mount.specs.Fronts.{BeginsNot};
 
-use nfs_inodes::MAX_NAME;
-use nfs_machine::paths::split_piece;
+use nfs_machine::paths::{MAX_NAME, split_piece};
 use side_wire::MountStatus;
 use std::marker::Model;
 

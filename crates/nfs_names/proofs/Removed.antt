@@ -24,7 +24,7 @@ use Rattle.nfs_machine.specs.declared.calls.Reply.TheVariants as answers
 use Rattle.nfs_machine.specs.declared.context.Ctx.{Ctx}
 use Rattle.nfs_objects.proofs.Knows.{failed, passed}
 use Rattle.nfs_objects.proofs.Promised.{answer-ending, promised-does, promised-unchanged}
-use Rattle.nfs_objects.specs.Attempt.{HaltsFirst, first_wanted}
+use Rattle.nfs_objects.specs.Attempt.{HaltsFirst, first_wanted, first_wanted_with}
 use Rattle.nfs_objects.specs.Begins.{Begins}
 use Rattle.nfs_objects.specs.Calls.{handles_of}
 use Rattle.nfs_objects.specs.Knows.{Does, Knows, Possible, Turns, ending}
@@ -41,7 +41,6 @@ use Rattle.nfs_inodes.proofs.Standing.{directory-listed, kind-is}
 use Rattle.nfs_inodes.specs.Known.{ChecksDirectory, IsKnown, IsObject, Means, Names, content_at, entries_found, listed}
 use Rattle.nfs_inodes.specs.Known.{object_at, target, weak_of}
 use Rattle.nfs_inodes.specs.Removes.{name_lost}
-use Rattle.nfs_inodes.specs.Stops.{wanted_first}
 use Rattle.nfs_inodes.specs.declared.found.Known.{Known}
 use Rattle.nfs_inodes.specs.declared.kinds.Directory.{Directory as DirectoryKnown}
 use Rattle.nfs_names.proofs.Looked.{lives-at}
@@ -60,7 +59,7 @@ pub names-directory : (taking : Taking) (place : Place) → handles_of (call_of 
 names-directory Remove place = refl
 names-directory Rmdir place = refl
 
-wants : (taking : Taking) (place : Place) (view : ViewValue) → wanted_first view (place.directory ∷ []) ≡
+wants : (taking : Taking) (place : Place) (view : ViewValue) → first_wanted_with view (place.directory ∷ []) ≡
     first_wanted (call_of taking place) view
 wants Remove place view = refl
 wants Rmdir place view = refl
@@ -276,17 +275,17 @@ module _ (taking : Taking) (d : DraftValue) (place : Place) (begins : Begins (ca
 -- ---- what is asked for first
 module _ (taking : Taking) (place : Place) (d : DraftValue) (begins : Begins (call_of taking place) d)
     (handle : List ℕ) (is : handle ≡ place.directory) where
-  first-asked : {A : Type 0} (r : Result A Halt) → HaltsFirst d.modes d.view (wanted_first d.view (handle ∷ [])) r →
+  first-asked : {A : Type 0} (r : Result A Halt) → HaltsFirst d.modes d.view (first_wanted_with d.view (handle ∷ [])) r →
       HaltsFirst (modes_of (call_of taking place)) d.view (first_wanted (call_of taking place) d.view) r
   first-asked r first =
       subst (λ modes. HaltsFirst modes d.view (first_wanted (call_of taking place) d.view) r) begins.modes
       (subst (λ wanted. HaltsFirst d.modes d.view wanted r)
-      (ap (λ h. wanted_first d.view (h ∷ [])) is ∙ wants taking place d.view) first)
+      (ap (λ h. first_wanted_with d.view (h ∷ [])) is ∙ wants taking place d.view) first)
 
   pub first-halted : (A B : Type 0) (halt : Halt) →
-      HaltsFirst {A = A} d.modes d.view (wanted_first d.view (handle ∷ [])) (Err halt) →
+      HaltsFirst {A = A} d.modes d.view (first_wanted_with d.view (handle ∷ [])) (Err halt) →
       HaltsFirst {A = B} (modes_of (call_of taking place)) d.view (first_wanted (call_of taking place) d.view) (Err halt)
-  first-halted A B halt first = first-asked (Err halt) (by (wanted_first d.view (handle ∷ [])) first)
+  first-halted A B halt first = first-asked (Err halt) (by (first_wanted_with d.view (handle ∷ [])) first)
     where
       by : (w : Option Addr) → HaltsFirst {A = A} d.modes d.view w (Err halt) → HaltsFirst {A = B} d.modes d.view w (Err halt)
       by None first = tt
@@ -294,9 +293,9 @@ module _ (taking : Taking) (place : Place) (d : DraftValue) (begins : Begins (ca
 
   -- once it was read, any end will do
   pub first-read : {A B : Type 0} (x : A) (r : Result B Halt) →
-      HaltsFirst d.modes d.view (wanted_first d.view (handle ∷ [])) (Ok x) →
+      HaltsFirst d.modes d.view (first_wanted_with d.view (handle ∷ [])) (Ok x) →
       HaltsFirst (modes_of (call_of taking place)) d.view (first_wanted (call_of taking place) d.view) r
-  first-read x r first = first-asked r (by (wanted_first d.view (handle ∷ [])) first)
+  first-read x r first = first-asked r (by (first_wanted_with d.view (handle ∷ [])) first)
     where
       by : (w : Option Addr) → HaltsFirst d.modes d.view w (Ok x) → HaltsFirst d.modes d.view w r
       by None read = tt

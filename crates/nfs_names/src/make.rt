@@ -4,7 +4,7 @@ ghost use Rattle.std.specs.Prelude.{◌≡◌, ◌∷◌, [], IfErr, IfOk, IsSom
 ghost use Rattle.nfs_machine.specs.Attributes.{entries_of};
 ghost use Rattle.nfs_machine.specs.Checks.{entry_of};
 ghost use Rattle.nfs_objects.specs.Asks.{IsThere};
-ghost use Rattle.nfs_objects.specs.Attempt.{HaltsFirst};
+ghost use Rattle.nfs_objects.specs.Attempt.{HaltsFirst, first_wanted_with};
 ghost use Rattle.nfs_objects.specs.Calls.{addresses_of, usages_of};
 ghost use Rattle.nfs_objects.specs.Knows.{Does, Knows, ShowsExport};
 ghost use Rattle.nfs_objects.specs.Modes.{changing};
@@ -13,7 +13,7 @@ ghost use Rattle.nfs_objects.specs.declared.address.Addr.TheVariants as addresse
 ghost use Rattle.nfs_inodes.specs.Asked.{asked_as, wanted_as};
 ghost use Rattle.nfs_inodes.specs.Kinds.{IsShown};
 ghost use Rattle.nfs_inodes.specs.Known.{IsKnown, Names, content_at};
-ghost use Rattle.nfs_inodes.specs.Stops.{IsOfExport, StopsAt, StopsMaking, brought_by, wanted_first};
+ghost use Rattle.nfs_inodes.specs.Stops.{IsOfExport, StopsAt, StopsMaking, brought_by};
 ghost use Rattle.nfs_names.specs.Checking.{ComesTo};
 ghost use Rattle.nfs_names.specs.Making.{IsMakeEnd, IsNewEnd, IsThereEnd, MakesReply, add_checked, made_at};
 ghost use Rattle.nfs_names.specs.Making.{judged, there_as};
@@ -54,7 +54,7 @@ pub(crate) fn make(
         (MakesReply draft.old draft.new place.now (asked_as asked.entry) (there_as there.entry draft.old.ctx))
         (StopsMaking draft.old (brought_by draft.old.view place.now.directory)) }
     ensures first { HaltsFirst draft.old.modes draft.old.view
-        (wanted_first draft.old.view (place.now.directory ∷ [])) result }
+        (first_wanted_with draft.old.view (place.now.directory ∷ [])) result }
 {
     match named(draft, place.directory.as_slice())? {
         Ok(known) => {

@@ -36,15 +36,16 @@ object_wanted view (handle ∷ handles) = elim (handle_of handle) [
   | Some h ↦ unless_seen view (addresses.Inode h.fileid)
 ]
 
--- the exports, by every call but NULL; then the object of the first handle
-abbrev pub first_wanted : Call → ViewValue → Option Addr
-first_wanted call view = elim (is_null call) [
-  | true ↦ None
-  | false ↦ elim (unless_seen view addresses.Exports) [
-    | Some a ↦ Some a
-    | None ↦ object_wanted view (handles_of call)
-  ]
+-- by a call with these handles: the exports, and then the first handle's object
+abbrev pub first_wanted_with : ViewValue → List (List ℕ) → Option Addr
+first_wanted_with view handles = elim (unless_seen view addresses.Exports) [
+  | Some a ↦ Some a
+  | None ↦ object_wanted view handles
 ]
+
+-- NULL wants nothing
+abbrev pub first_wanted : Call → ViewValue → Option Addr
+first_wanted call view = elim (is_null call) [ true ↦ None | false ↦ first_wanted_with view (handles_of call) ]
 
 -- just this is asked for
 abbrev pub IsAskedAlone : Addr × Mode → Outcome → Type 0

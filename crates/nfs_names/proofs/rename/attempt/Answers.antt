@@ -2,11 +2,10 @@ use Rattle.std.proofs.Common.{[], ◌∷◌, Err, Ok, refl, subst}
 use Rattle.std.proofs.lemmas.Result.{err_from_is_err_and}
 use Rattle.nfs_wire.specs.declared.calls.NfsCall.TheVariants as nfs
 use Rattle.nfs_machine.specs.declared.calls.Call.TheVariants as calls
-use Rattle.nfs_objects.specs.Attempt.{HaltsFirst}
+use Rattle.nfs_objects.specs.Attempt.{HaltsFirst, first_wanted_with}
 use Rattle.nfs_objects.specs.Modes.{modes_of}
 use Rattle.nfs_inodes.proofs.Ending.{means-as, naming-first, number-as}
 use Rattle.nfs_inodes.proofs.Showing.{shown-so}
-use Rattle.nfs_inodes.specs.Stops.{wanted_first}
 use Rattle.nfs_names.proofs.Renaming.{first-known, first-refused}
 use Rattle.nfs_names.proofs.rename.attempt.Goals as goal
 
@@ -31,9 +30,9 @@ attempt_from-requires-clause-number c =
 pub returns-in-Ok-clause-first : goal.returns-in-Ok-clause-first
 returns-in-Ok-clause-first c =
     first-known c.args.draft.modes (modes_of (calls.Nfs (nfs.Rename c.args.arguments.now)))
-    c.args.draft.view (wanted_first c.args.draft.view (c.args.arguments.now.from.directory ∷ [])) c.in_ok-from.field-0
+    c.args.draft.view (first_wanted_with c.args.draft.view (c.args.arguments.now.from.directory ∷ [])) c.in_ok-from.field-0
     c.attempt_from.result
-    (subst (λ h. HaltsFirst c.args.draft.modes c.args.draft.view (wanted_first c.args.draft.view (h ∷ [])) (Ok c.in_ok-from.field-0))
+    (subst (λ h. HaltsFirst c.args.draft.modes c.args.draft.view (first_wanted_with c.args.draft.view (h ∷ [])) (Ok c.in_ok-from.field-0))
     c.as_slice.ensures
     c.in_ok-from.ensures.first)
 
