@@ -128,7 +128,7 @@ impl Engine {
         shard: usize,
     ) -> Result<(), ReserveError>
         requires lives { Lives self.old txn.old }
-        requires shard { shard < 16 }
+        requires shard { shard < SHARDS }
         ensures lives { Lives self.new txn.new }
         ensures others { KeepsOthers txn.old.id self.old self.new }
         ensures book { self.new.book ≡ self.old.book }
@@ -361,7 +361,7 @@ fn settle_all(
 )
     requires held { AllByRecursion (λ w. IsHeldAmong shards.old w.0) (map write_value writes.old) }
     requires places { ArePlaces (map write_value writes.old) written.now }
-    requires indices { (k : ℕ) → k < 16 → (shard_among shards.old k).index ≡ k }
+    requires indices { (k : ℕ) → k < SHARDS → (shard_among shards.old k).index ≡ k }
     ensures { IsSettled shards.old shards.new written.now id view.now.entries (map write_value writes.old) }
 {
     for index in 0..SHARDS {

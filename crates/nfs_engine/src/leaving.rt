@@ -14,7 +14,7 @@ impl Release {
     /// A shard in which something is still held.
     pub fn next_shard(&self) -> Option<usize>
         ensures { MatchOption result (HoldsNothing self.now)
-            (λ k. (k < 16) × (k < length self.now.done) × (is_free self.now k ≡ false) × HoldsSome self.now k) }
+            (λ k. (k < SHARDS) × (k < length self.now.done) × (is_free self.now k ≡ false) × HoldsSome self.now k) }
     {
         for place in 0..self.view.len() {
             let Some((address, _)) = self.view.entry(place) else {
@@ -87,7 +87,7 @@ impl Release {
 
     /// The same, with one shard more that is free of the call.
     pub(crate) fn freed(self, shard: usize) -> Release
-        requires { shard < 16 }
+        requires { shard < SHARDS }
         ensures { result ≡ freed_more self shard }
     {
         let Release {

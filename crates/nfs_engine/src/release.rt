@@ -4,6 +4,7 @@ ghost use Rattle.std.specs.Prelude.{◌≡◌, false, replicate};
 ghost use Rattle.nfs_engine.specs.Calls.{pending_of};
 
 use crate::calls::{Pending, Txn};
+use crate::shard::SHARDS;
 use nfs_objects::View;
 use std::marker::Model;
 
@@ -12,7 +13,7 @@ pub struct Release {
     pub(crate) id: u64,
     pub(crate) view: View,
     /// Which shards are let go.
-    pub(crate) done: [bool; 16],
+    pub(crate) done: [bool; SHARDS],
     pub(crate) after: Then,
 }
 
@@ -24,7 +25,7 @@ impl Model for Release {
 
     ghost view = { λ r. record { id = r.id; view = r.view; done = r.done; after = r.after } };
 
-    ghost invariant = { λ r. length r.done ≡ 16 };
+    ghost invariant = { λ r. length r.done ≡ SHARDS };
 }
 
 /// What comes when all is released.
@@ -51,7 +52,7 @@ impl Txn {
         ensures { result ≡ record {
           id = self.id;
           view = self.view;
-          done = replicate 16 false;
+          done = replicate SHARDS false;
           after = Then.Aborted (pending_of self);
         } }
     {
@@ -65,7 +66,7 @@ impl Txn {
         Release {
             id,
             view,
-            done: [false; 16],
+            done: [false; SHARDS],
             after: Then::Aborted(pending),
         }
     }

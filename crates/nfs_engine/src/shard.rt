@@ -33,7 +33,7 @@ const FIRST_GENERATION: u64 = 2;
 /// of the group modulo 16, the tables of exports and of mounts in the first one.
 pub fn shard_index(address: Addr) -> usize
     ensures which { result ≡ shard_of address }
-    ensures within { result < 16 }
+    ensures within { result < SHARDS }
 {
     match address {
         Addr::Exports | Addr::Mounts => 0,
@@ -81,7 +81,7 @@ fn key_in(index: u64, address: Addr) -> Option<usize>
 
 /// The number at a key; None where it would pass 2^64 - 1.
 fn number_at(index: u64, key: usize) -> Option<u64>
-    requires { index < 16 }
+    requires { index < SHARDS }
     ensures { MatchOption result (2 ^ 64 ≤ number_at index key) (λ number. number ≡ number_at index key) }
 {
     (key as u64)
@@ -124,7 +124,7 @@ fn free_number(
     others: &mut IndexMap<Addr, Slot>,
     index: u64,
 ) -> Result<u64, AllocError>
-    requires { index < 16 }
+    requires { index < SHARDS }
     ensures same { Moves (shard_value index numbers.old.slots others.old.entries 0)
         (shard_value index numbers.new.slots others.new.entries 0) }
     ensures free { IfOk result (λ number. IsFreeNumber index numbers.new others.new.entries number) }
@@ -164,7 +164,7 @@ pub enum ReserveError {
 impl Shard {
     /// The shard with this index, empty.
     pub fn new(alloc: Global, index: u64) -> Shard
-        requires { index < 16 }
+        requires { index < SHARDS }
         ensures { IsNew index result }
     {
         Shard {
@@ -244,7 +244,7 @@ impl Shard {
     /// Which of the sixteen it is.
     pub fn index(&self) -> usize
         ensures which { result ≡ self.now.index }
-        ensures within { result < 16 }
+        ensures within { result < SHARDS }
     {
         self.index as usize
     }

@@ -15,7 +15,7 @@ const OPENER: u64 = 0;
 /// Sixteen shards in which nothing stands.
 pub(crate) fn new_shards(alloc: Global) -> [Shard; SHARDS]
     ensures new { AreNew result 0 }
-    ensures sixteen { length result ≡ 16 }
+    ensures sixteen { length result ≡ SHARDS }
 {
     [
         Shard::new(alloc, 0),

@@ -1,4 +1,4 @@
-//! EndsCall as outcomes.
+//! What ends an attempt, as an outcome.
 
 ghost use Rattle.std.specs.Prelude.{IfOk};
 ghost use Rattle.nfs_machine.specs.declared.calls.Call.{Call};

@@ -21,7 +21,7 @@ use crate::sent::{PoolError, Reason, Sent, Unadmitted, Uncommitted};
 use crate::steps::Steps;
 use nfs_engine::{
     Admission, Arrival, Asked, Finished, Got, Next, Pending, Reading, Receipt, Received, Refused,
-    Release, Txn,
+    Release, SHARDS, Txn,
 };
 use nfs_objects::{Addr, Change, Mode};
 use nfs_schedule::answer::refusal;
@@ -147,7 +147,7 @@ fn carry_out<L: Ledger, R: Wait, S: Steps<L>, G: Gate>(
     txn: Txn,
 ) -> Ended
     requires part { mine.old.parts ≡ 1 }
-    requires shard { means.now.shard < 16 }
+    requires shard { means.now.shard < SHARDS }
     requires unread { IsUnread txn }
     ensures parts { mine.new.parts ≡ mine.old.parts }
     ensures ended { EndsWith txn.received means.now.last mine.old.amount mine.new.amount result }
@@ -181,7 +181,7 @@ fn pass<L: Ledger, R: Wait, S: Steps<L>, G: Gate>(
     txn: Txn,
 ) -> Passed
     requires part { mine.old.parts ≡ 1 }
-    requires shard { means.now.shard < 16 }
+    requires shard { means.now.shard < SHARDS }
     requires unread { IsUnread txn }
     ensures parts { mine.new.parts ≡ mine.old.parts }
     ensures comes { ComesTo txn.received means.now.last mine.old.amount mine.new.amount result }
@@ -264,7 +264,7 @@ fn run<L: Ledger, R: Wait, S: Steps<L>, G: Gate>(
     means: &Means<R, S, G>,
     txn: &mut Txn,
 ) -> Result<Change, Reason>
-    requires shard { means.now.shard < 16 }
+    requires shard { means.now.shard < SHARDS }
     requires unread { IsUnread txn.old }
     ensures call { Reads txn.old txn.new }
     ensures course { (course : Course) × IsAt course txn.new }
@@ -318,7 +318,7 @@ fn reserve<L: Ledger, R: Wait, S: Steps<L>, G: Gate>(
     means: &Means<R, S, G>,
     txn: &mut Txn,
 ) -> Result<(), Reason>
-    requires { means.now.shard < 16 }
+    requires { means.now.shard < SHARDS }
     ensures reserved { OnOk result ((r : Reserved) × (txn.new ≡ record txn.old { view = with_number txn.old.view r })) }
     ensures kept { OnErr result (txn.new ≡ txn.old) }
 {

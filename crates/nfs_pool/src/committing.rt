@@ -28,7 +28,7 @@ impl<L: Ledger> Pool<L> {
         index: usize,
     ) -> Result<Committed, Uncommitted>
         requires parts { 0 < mine.old.parts }
-        requires index { index ≤ 16 }
+        requires index { index ≤ SHARDS }
         ensures parts { mine.new.parts ≡ mine.old.parts }
         ensures counted { OnOk result (mine.new.amount ≡ mine.old.amount + 1) }
         ensures uncounted { OnErr result (mine.new.amount ≡ mine.old.amount) }
@@ -72,10 +72,10 @@ pub(crate) fn written_shards(writes: &[Write]) -> [bool; SHARDS] {
     written
 }
 
-/// The first of the written shards from this one on; 16 where there is none.
+/// The first of the written shards from this one on; `SHARDS` where there is none.
 fn next_written(written: &[bool; SHARDS], from: usize) -> usize
-    requires { from ≤ 16 }
-    ensures { (from ≤ result) × (result ≤ 16) }
+    requires { from ≤ SHARDS }
+    ensures { (from ≤ result) × (result ≤ SHARDS) }
 {
     for index in from..SHARDS {
         if written[index] {

@@ -3,7 +3,7 @@
 ghost use Rattle.std.specs.Prelude.{◌≡◌, ◌+◌, ◌≤◌, [], length, vec_capacity};
 ghost use Rattle.nfs_pool.specs.Eras.{AreNew, receipts_count};
 
-use nfs_engine::Receipt;
+use nfs_engine::{Receipt, SHARDS};
 use std::alloc::Global;
 use std::marker::Model;
 use std::sync::ledger::{Ledger, Share};
@@ -39,7 +39,7 @@ impl<L: Ledger> Seat<L> {
         ensures { result.receipts ≡ [] }
     {
         Seat {
-            shard: number % 16,
+            shard: number % SHARDS,
             share,
             receipts: Vec::new(alloc),
             last: 0,

@@ -9,7 +9,8 @@ ghost use Rattle.nfs_pool.specs.Steps.{AdmitsFrom, IsGivenUp, IsMadeAbove, Leads
 use crate::gate::Gate;
 use crate::sent::{Unadmitted, Uncommitted};
 use nfs_engine::{
-    Admission, Arrival, Finished, Got, Next, Pending, Receipt, Refused, Release, ReserveError, Txn,
+    Admission, Arrival, Finished, Got, Next, Pending, Receipt, Refused, Release, ReserveError,
+    SHARDS, Txn,
 };
 use nfs_objects::{Addr, Mode};
 use std::alloc::{AllocError, Global};
@@ -58,7 +59,7 @@ pub trait Steps<L: Ledger> {
     ///
     /// There is no memory, or no generation. The call is as it was.
     fn reserve<R: Wait>(&self, rt: &R, txn: &mut Txn, shard: usize) -> Result<bool, ReserveError>
-        requires { shard < 16 }
+        requires { shard < SHARDS }
         ensures { GetsNumber txn.old txn.new result };
 
     /// Makes what is done the state, and counts one more receipt, under a number above this one.

@@ -14,7 +14,7 @@ ghost use Rattle.nfs_schedule.specs.Workers.{Comes, IsSuited, MayThink, Thinks, 
 
 use crate::answer::{Answer, Declined, refusal_to, refuse};
 use crate::course::attempt_on;
-use nfs_engine::{Admission, Arrival, Engine, Finished, Got, Next, Pending, Release, Txn};
+use nfs_engine::{Admission, Arrival, Engine, Finished, Got, Next, Pending, Release, SHARDS, Txn};
 use nfs_objects::{Addr, Change, Mode, Outcome};
 use std::alloc::Global;
 use std::collections::VecDeque;
@@ -74,7 +74,7 @@ impl Worker {
         shard: usize,
     ) -> Option<Answer>
         requires lives { WorkerLives engine.old self.old }
-        requires shard { shard < 16 }
+        requires shard { shard < SHARDS }
         ensures step { IsTurnOf engine.old engine.new shard self.old self.new result }
         ensures queue { KeepsQueue engine.old engine.new queue.old.items queue.new.items self.old self.new result }
     {
@@ -129,7 +129,7 @@ fn step(
     worker: Worker,
 ) -> (Worker, Option<Answer>)
     requires lives { WorkerLives engine.old worker }
-    requires shard { shard < 16 }
+    requires shard { shard < SHARDS }
     ensures step { IsTurnOf engine.old engine.new shard worker result.0 result.1 }
     ensures queue { KeepsQueue engine.old engine.new queue.old.items queue.new.items worker result.0 result.1 }
 {
@@ -232,7 +232,7 @@ fn acquire(alloc: Global, engine: &mut Engine, txn: Txn, wanted: IntoIter<(Addr,
 /// Asks for one of so many new numbers, of this shard.
 fn reserve(alloc: Global, engine: &mut Engine, shard: usize, txn: Txn, left: u32) -> Worker
     requires lives { WorkerLives engine.old (Worker.Wishing txn left) }
-    requires shard { shard < 16 }
+    requires shard { shard < SHARDS }
     ensures { IsTurnOf engine.old engine.new shard (Worker.Wishing txn left) result None }
 {
     let mut txn = txn;

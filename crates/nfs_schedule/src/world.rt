@@ -11,7 +11,7 @@ ghost use Rattle.nfs_schedule.specs.Worlds.{IsAtRest, IsKept, RunsOn, StopsWorke
 use crate::answer::Answer;
 use crate::stop::stop;
 use crate::worker::Worker;
-use nfs_engine::{Arrival, Engine, Era, Posted};
+use nfs_engine::{Arrival, Engine, Era, Posted, SHARDS};
 use std::alloc::{AllocError, Global};
 use std::collections::VecDeque;
 use std::marker::Model;
@@ -164,11 +164,11 @@ impl World {
             &mut self.engine,
             &mut self.queue,
             &mut self.workers[worker - 1],
-            worker % 16,
+            worker % SHARDS,
         )
     }
 
-    /// StopsWorker this worker, from 1: what it has is given up with no reply, and it is idle. It takes no memory.
+    /// Stops this worker, from 1: what it has is given up with no reply, and it is idle. It takes no memory.
     pub fn stop(&mut self, worker: usize) -> Option<Answer>
         requires first { 0 < worker }
         requires last { worker ≤ length self.old.workers }
@@ -225,7 +225,7 @@ fn idle_workers(alloc: Global, count: usize) -> Result<Vec<Worker>, AllocError>
     Ok(workers)
 }
 
-/// StopsWorker each of these workers, who are all that there are.
+/// Stops each of these workers, who are all that there are.
 #[tactic(auto, using(crate::proofs::Kept::rest_empty))]
 fn stop_all(engine: &mut Engine, workers: Vec<Worker>)
     requires { IsKept engine.old workers.items }
@@ -248,14 +248,14 @@ fn turn_at(
     shard: usize,
 ) -> Option<Answer>
     requires lives { WorkerLives engine.old worker.old }
-    requires shard { shard < 16 }
+    requires shard { shard < SHARDS }
     ensures { Turns engine.old engine.new queue.old.items queue.new.items shard worker.old worker.new result }
 {
     worker.think(alloc);
     worker.turn(alloc, engine, queue, shard)
 }
 
-/// StopsWorker a worker where it stands.
+/// Stops a worker where it stands.
 fn stop_at(engine: &mut Engine, worker: &mut Worker) -> Option<Answer>
     requires { WorkerLives engine.old worker.old }
     ensures idle { worker.new ≡ Worker.Idle }
