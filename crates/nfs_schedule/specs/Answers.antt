@@ -6,9 +6,6 @@ use Rattle.nfs_machine.specs.RpcReplies.{refusal_message}
 use Rattle.nfs_machine.specs.Run as machine
 use Rattle.nfs_engine.specs.Answers.{answer_bytes}
 use Rattle.nfs_engine.specs.Arrivals.{received_value}
-use Rattle.nfs_engine.specs.Built.{IsBuilt}
-use Rattle.nfs_engine.specs.declared.arrival.Reading.{Reading}
-use Rattle.nfs_engine.specs.declared.arrival.Reading.TheVariants.{Asks, Faulted}
 use Rattle.nfs_engine.specs.declared.asking.Asked.{Asked}
 use Rattle.nfs_schedule.specs.declared.answer.Answer.{Answer}
 use Rattle.nfs_schedule.specs.declared.answer.Answer.TheVariants.{Executed, Repeated, Refused, Early, Unanswered}
@@ -34,16 +31,6 @@ abbrev pub IsRefused : machine.Received → Asked → Answer → Type 0
 IsRefused received asked (Refused declined) = (received_value declined.received ≡ received) ×
     IfSome declined.answer (λ bytes. bytes.items ≡ refusal_message asked.xid (refusal_of asked.call))
 IsRefused received asked answer = ⊥
-
--- a record asks a call of a program that is built
-abbrev pub AsksBuilt : Reading → Type 0
-AsksBuilt (Asks asked) = IsBuilt asked.call
-AsksBuilt (Faulted answer) = ⊥
-
--- the bytes are the refusal of the call that a record asks
-abbrev pub IsRefusalTo : Reading → (bytes : List ℕ) → Type 0
-IsRefusalTo (Asks asked) bytes = bytes ≡ refusal_message asked.xid (refusal_of asked.call)
-IsRefusalTo (Faulted answer) bytes = ⊥
 
 -- it came in, and has no reply
 abbrev pub IsUnanswered : machine.Received → Answer → Type 0

@@ -7,9 +7,12 @@ ghost use Rattle.nfs_engine.specs.Asked.{IsAsked};
 ghost use Rattle.nfs_engine.specs.Built.{IsBuilt};
 ghost use Rattle.nfs_machine.specs.Refusal.{refusal_of};
 ghost use Rattle.nfs_machine.specs.RpcReplies.{refusal_message};
-ghost use Rattle.nfs_schedule.specs.Answers.{AsksBuilt, IsRefusalTo, IsRefused, answered, reply_bytes};
+ghost use Rattle.nfs_engine.specs.declared.arrival.Reading.TheVariants as readings;
+ghost use Rattle.nfs_engine.specs.declared.asking.Asked.{Asked};
+ghost use Rattle.nfs_schedule.specs.Answers.{IsRefused, answered, reply_bytes};
+ghost use Rattle.nfs_schedule.specs.Turns.{AsksCall};
 
-use nfs_engine::{Asked, Faulted, Kept, Reading, Receipt, Received, answers};
+use nfs_engine::{Arrival, Asked, Faulted, Kept, Reading, Receipt, Received, answers};
 use std::alloc::Global;
 
 /// A call that was not executed, for want of memory or of a number.
@@ -83,13 +86,14 @@ pub(crate) fn refuse(alloc: Global, received: Received, asked: Asked) -> Answer
     Answer::Refused(Declined { received, answer })
 }
 
-/// The bytes of the refusal of the call that a record asks; None where there is no memory for them.
-pub(crate) fn refusal_to(alloc: Global, reading: &Reading) -> Option<Vec<u8>>
-    requires { AsksBuilt reading.now }
-    ensures { IfSome result (λ bytes. IsRefusalTo reading.now bytes.items) }
+/// The answer to an arrival that was not admitted.
+pub(crate) fn refuse_arrival(alloc: Global, arrival: Arrival) -> Answer
+    requires { AsksCall arrival }
+    ensures { (asked : Asked) → arrival.reading ≡ readings.Asks asked → IsRefused arrival.received asked result }
 {
+    let (received, reading) = arrival.into_parts();
     match reading {
-        Reading::Asks(asked) => refusal(alloc, asked),
+        Reading::Asks(asked) => refuse(alloc, received, asked),
         Reading::Faulted(_) => unreachable!(),
     }
 }

@@ -1,4 +1,4 @@
-//! The course of a call: which step comes next, until it is done or there is no memory. It touches no engine, so whoever
+//! The course of a call: which step comes next, until it is done or there is no memory. It touches no engine: whoever
 //! has the call makes the step that is named, each in its own way.
 
 ghost use Rattle.std.specs.Prelude.{◌≡◌, [], IfOk};

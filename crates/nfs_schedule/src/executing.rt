@@ -14,9 +14,8 @@ ghost use Rattle.nfs_schedule.specs.Executions.{IsAlone, shown_in};
 ghost use Rattle.nfs_schedule.specs.Worlds.{IsAtRest};
 ghost use Rattle.nfs_schedule.specs.declared.course.Course.{Course};
 
-use crate::answer::{Answer, refuse};
+use crate::answer::{Answer, refuse, refuse_arrival};
 use crate::course::{Course, NextStep, next_step};
-use crate::worker::refuse_arrival;
 use nfs_engine::{Admission, Arrival, Engine, Finished, Got, Pending, Release, Txn};
 use nfs_objects::{Addr, Change, Mode};
 use std::alloc::Global;

@@ -6,13 +6,11 @@ ghost use Rattle.nfs_objects.specs.Promise.{IsPromised};
 ghost use Rattle.nfs_objects.specs.Values.{change_value, done_value};
 ghost use Rattle.nfs_engine.specs.Calls.{txn_of};
 ghost use Rattle.nfs_engine.specs.Engine.{IsLeaving, Lives, Waits};
-ghost use Rattle.nfs_engine.specs.declared.arrival.Reading.TheVariants as readings;
-ghost use Rattle.nfs_engine.specs.declared.asking.Asked.{Asked};
-ghost use Rattle.nfs_schedule.specs.Answers.{IsRefused, IsUnanswered};
-ghost use Rattle.nfs_schedule.specs.Turns.{Admits, AsksCall, IsTurnOf, KeepsQueue, TakesArrival, after_all};
+ghost use Rattle.nfs_schedule.specs.Answers.{IsUnanswered};
+ghost use Rattle.nfs_schedule.specs.Turns.{Admits, IsTurnOf, KeepsQueue, TakesArrival, after_all};
 ghost use Rattle.nfs_schedule.specs.Workers.{Comes, IsSuited, MayThink, Thinks, WorkerLives};
 
-use crate::answer::{Answer, Declined, refusal_to, refuse};
+use crate::answer::{Answer, refuse, refuse_arrival};
 use crate::course::attempt_on;
 use nfs_engine::{Admission, Arrival, Engine, Finished, Got, Next, Pending, Release, SHARDS, Txn};
 use nfs_objects::{Addr, Change, Mode, Outcome};
@@ -198,17 +196,6 @@ fn leave(arrival: Arrival) -> Answer
     let (received, reading) = arrival.into_parts();
     drop(reading);
     Answer::Unanswered(received)
-}
-
-/// The answer to an arrival that was not admitted.
-pub(crate) fn refuse_arrival(alloc: Global, arrival: Arrival) -> Answer
-    requires { AsksCall arrival }
-    ensures { (asked : Asked) → arrival.reading ≡ readings.Asks asked → IsRefused arrival.received asked result }
-{
-    let answer = refusal_to(alloc, arrival.reading());
-    let (received, reading) = arrival.into_parts();
-    drop(reading);
-    Answer::Refused(Declined { received, answer })
 }
 
 /// Asks for the first of these addresses.
