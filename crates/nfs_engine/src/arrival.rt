@@ -86,6 +86,7 @@ impl Arrival {
     ///
     /// There is no memory to share its arguments' bytes, or for the answer. A record that is dropped, as it is a reply
     /// or cut short (RFC 5531, 9), wants none.
+    #[inline(always)]
     pub fn read(
         alloc: Global,
         host: Host,

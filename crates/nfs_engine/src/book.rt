@@ -120,6 +120,7 @@ impl Book {
     ///
     /// The call, or what a repeat is answered by, wants memory; or the call would begin, and no number is left for it.
     /// Nothing is changed, and the arrival is handed back.
+    #[inline(always)]
     pub fn admit(
         &mut self,
         alloc: Global,
@@ -140,6 +141,7 @@ impl Book {
     /// # Errors
     ///
     /// As `admit`.
+    #[inline(always)]
     pub fn admit_call(
         &mut self,
         alloc: Global,

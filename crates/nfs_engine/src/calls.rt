@@ -82,6 +82,7 @@ impl Txn {
     /// # Errors
     ///
     /// The call as it was, where the memory was refused.
+    #[inline(always)]
     pub fn done(self, alloc: Global, change: Change) -> Result<Finished, Txn>
         requires { IsPromised (done_value self.call self.ctx self.view (change_value change)) }
         ensures { MatchResult result

@@ -52,6 +52,7 @@ impl Arrival {
     /// # Errors
     ///
     /// It asks a call, for which there is no memory: the arrival is handed back.
+    #[inline(always)]
     pub fn prepare(self, alloc: Global) -> Result<Prepared, Arrival>
         ensures { Prepares self result }
     {

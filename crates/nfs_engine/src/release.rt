@@ -20,6 +20,7 @@ pub struct Release {
 impl Model for Release {
     ghost use Rattle.std.specs.Prelude.{◌≡◌, length};
     ghost use Rattle.nfs_engine.specs.Releases.{ReleaseValue};
+    ghost use Rattle.nfs_engine.specs.declared.shard.TheConstants.{SHARDS};
 
     ghost Value = { ReleaseValue };
 

@@ -45,6 +45,7 @@ pub enum NextStep {
 }
 
 /// What comes next of a call that is there on its course.
+#[inline(always)]
 pub fn next_step(alloc: Global, txn: &Txn, course: Course) -> NextStep
     requires { IsAt course txn.now }
     ensures { IsNextStep txn.now result }
@@ -75,6 +76,7 @@ fn begin(alloc: Global, txn: &Txn) -> NextStep
 }
 
 /// The next step of a call that is attempted on what it has read.
+#[inline(always)]
 fn consider(alloc: Global, txn: &Txn) -> NextStep
     requires { HasGrown txn.now }
     ensures { IsNextStep txn.now result }
