@@ -1,17 +1,21 @@
-//! `scenes`: plays the scenes of its standard input, each with a server of its own, and tells which line was answered
-//! otherwise than it must be. It is a test: its contracts are its safety alone.
+//! `scenes`: plays the scenes of its standard input, each with a server or a world of its own, and tells which line was
+//! answered otherwise than it must be. It is a test: its contracts are its safety alone.
 //!
 //! The head of the file `stdin` says what the lines are.
 #![tactic(auto)]
 
 mod fault;
 mod groups;
+mod messages;
 mod numbers;
 mod play;
+mod playing;
 mod scene;
 mod server;
 mod spelling;
+mod steps;
 mod stream;
+mod world;
 
 use fault::Fault;
 use play::Play;
@@ -25,13 +29,21 @@ fn main(rt: HostRuntime) -> ExitCode {
     }
 }
 
-/// Whether all scenes are as they must be.
+/// Whether all scenes are as they must be. Where memory was refused they are played once more, from the first on.
 fn run<R: AllocGlobal + Input + Print>(rt: &R) -> Result<bool, Fault> {
     let text = io::read_to_string(rt.alloc(), rt.reader())?;
-    let mut play = Play::new(rt.alloc());
-    let played = play_all(rt, &mut play, text.as_str());
-    drop(play);
+    let played = match play_once(rt, text.as_str()) {
+        Err(Fault::Memory) => play_once(rt, text.as_str()),
+        played => played,
+    };
     drop(text);
+    played
+}
+
+fn play_once<R: AllocGlobal + Print>(rt: &R, text: &str) -> Result<bool, Fault> {
+    let mut play = Play::new(rt.alloc());
+    let played = play_all(rt, &mut play, text);
+    drop(play);
     played
 }
 

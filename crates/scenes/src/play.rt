@@ -5,14 +5,22 @@ use crate::groups::Groups;
 use crate::numbers::read_number;
 use crate::scene::Scene;
 use crate::spelling::{bytes, items};
+use crate::world::WorldScene;
 use std::alloc::Global;
+
+/// A scene of one of the two kinds.
+#[derive(Drop)]
+enum Begun<'a> {
+    Stream(Scene<'a>),
+    World(WorldScene<'a>),
+}
 
 /// The scenes so far, and the last of them, which goes on.
 #[derive(Drop)]
 pub struct Play<'a> {
     alloc: Global,
     groups: Groups<'a>,
-    scene: Option<Scene<'a>>,
+    scene: Option<Begun<'a>>,
     /// How many scenes were as they must be, and how many were not.
     pub kept: u64,
     pub broken: u64,
@@ -36,6 +44,7 @@ impl<'a> Play<'a> {
             "" | "#" => Ok(()),
             "let" => self.name(rest),
             "scene" => self.begin(rt, rest),
+            "world" => self.begin_world(rt, rest),
             _ => self.go_on(rt, line, verb, rest),
         }
     }
@@ -56,21 +65,33 @@ impl<'a> Play<'a> {
         self.groups.add(name, places.len(), items)
     }
 
-    /// A new scene begins, where the last one ends.
+    /// A scene of streams begins, where the last one ends.
     fn begin<R: Print>(&mut self, rt: &R, title: &'a str) -> Result<(), Fault> {
         self.end(rt)?;
         let scene = Scene::new(self.alloc, title)?;
-        drop(self.scene.replace(scene));
+        drop(self.scene.replace(Begun::Stream(scene)));
+        Ok(())
+    }
+
+    /// A scene of a world begins, where the last one ends.
+    fn begin_world<R: Print>(&mut self, rt: &R, title: &'a str) -> Result<(), Fault> {
+        self.end(rt)?;
+        let scene = WorldScene::new(self.alloc, title)?;
+        drop(self.scene.replace(Begun::World(scene)));
         Ok(())
     }
 
     /// The last scene ends.
     pub fn end<R: Print>(&mut self, rt: &R) -> Result<(), Fault> {
-        let Some(scene) = &mut self.scene else {
-            return Ok(());
+        let is_kept = match &mut self.scene {
+            None => return Ok(()),
+            Some(Begun::Stream(scene)) => {
+                scene.play(rt)?;
+                scene.is_kept
+            }
+            Some(Begun::World(scene)) => scene.play(rt)?,
         };
-        scene.play(rt)?;
-        if scene.is_kept {
+        if is_kept {
             self.kept = self.kept.wrapping_add(1);
         } else {
             self.broken = self.broken.wrapping_add(1);
@@ -79,27 +100,68 @@ impl<'a> Play<'a> {
     }
 
     /// The scene goes on by a line.
-    fn go_on<R: Print>(&mut self, rt: &R, line: u64, verb: &str, rest: &str) -> Result<(), Fault> {
-        let Some(scene) = &mut self.scene else {
-            return Err(Fault::Line("no scene has begun"));
-        };
-        match verb {
-            "options" => scene.set_options(rest),
-            "host" => scene.set_host(rt, rest),
-            "clock" => scene.set_clock(rt, small(rest)?),
-            "xid" => {
-                scene.set_xid(small(rest)?);
-                Ok(())
-            }
-            "again" => scene.repeat(line),
-            _ => {
-                let bytes = bytes(self.alloc, &self.groups, rest)?;
-                let taken = scene.take(line, verb, &bytes);
-                drop(bytes);
-                taken
-            }
+    fn go_on<R: Print>(
+        &mut self,
+        rt: &R,
+        line: u64,
+        verb: &str,
+        rest: &'a str,
+    ) -> Result<(), Fault> {
+        match &mut self.scene {
+            None => Err(Fault::Line("no scene has begun")),
+            Some(Begun::Stream(scene)) => stream_line(rt, &self.groups, scene, line, verb, rest),
+            Some(Begun::World(scene)) => world_line(&self.groups, scene, line, verb, rest),
         }
     }
+}
+
+/// A scene of streams goes on by a line.
+fn stream_line<R: Print>(
+    rt: &R,
+    groups: &Groups<'_>,
+    scene: &mut Scene<'_>,
+    line: u64,
+    verb: &str,
+    rest: &str,
+) -> Result<(), Fault> {
+    match verb {
+        "options" => scene.set_options(rest),
+        "host" => scene.set_host(rt, rest),
+        "clock" => scene.set_clock(rt, small(rest)?),
+        "xid" => {
+            scene.set_xid(small(rest)?);
+            Ok(())
+        }
+        "again" => scene.repeat(line),
+        _ => {
+            let bytes = bytes(scene.alloc, groups, rest)?;
+            let taken = scene.take(line, verb, &bytes);
+            drop(bytes);
+            taken
+        }
+    }
+}
+
+/// A scene of a world goes on by a line.
+fn world_line<'a>(
+    groups: &Groups<'_>,
+    scene: &mut WorldScene<'a>,
+    line: u64,
+    verb: &str,
+    rest: &'a str,
+) -> Result<(), Fault> {
+    match verb {
+        "options" => scene.set_options(rest),
+        "host" => scene.set_host(rest),
+        "xid" => scene.set_xid(small(rest)?),
+        _ => {
+            let bytes = bytes(scene.alloc, groups, rest)?;
+            let taken = scene.take(line, verb, &bytes);
+            drop(bytes);
+            return taken;
+        }
+    }
+    Ok(())
 }
 
 /// A number of 32 bits.

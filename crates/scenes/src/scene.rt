@@ -1,31 +1,17 @@
 //! A scene: what a new server is sent in one stream or more, and what it must answer.
 
 use crate::fault::Fault;
-use crate::server::Server;
+use crate::messages::{USER_0, call_message, record, success_message, words_in};
+use crate::server::{OPTIONS, Server};
 use crate::stream::{Difference, Stream, part};
 use nfs_server::{Served, StreamFault};
-use std::alloc::{AllocError, Global};
-use std::fmt::Write;
+use std::alloc::Global;
 use std::mem;
-
-/// The options of a server where a scene gives none.
-const OPTIONS: &str = "--export /data,rw,* --start 7 --clock 1000 --host 10.0.0.1";
-
-/// AUTH_SYS of user 0 and group 0 (RFC 5531, appendix A), the credential of calls where a scene gives none.
-const USER_0: [u8; 28] = [
-    0, 0, 0, 1, 0, 0, 0, 20, 0, 0, 0, 0, 0, 0, 0, 0, 0, 0, 0, 0, 0, 0, 0, 0, 0, 0, 0, 0,
-];
-
-/// How many bytes the program, the version and the procedure of a call have, with which its words begin.
-const PROCEDURE: usize = 12;
-
-/// How many bytes are shown at most of an answer.
-const MOST_SHOWN: usize = 2048;
 
 /// A scene, and the stream that its server is sent next.
 #[derive(Drop)]
 pub struct Scene<'a> {
-    alloc: Global,
+    pub alloc: Global,
     title: &'a str,
     server: Server,
     stream: Stream,
@@ -102,25 +88,16 @@ impl<'a> Scene<'a> {
         Ok(())
     }
 
-    /// A call is sent: its program, version and procedure, and its arguments (RFC 5531, section 9).
-    fn call(&mut self, bytes: &[u8]) -> Result<(), Fault> {
-        let Some((procedure, arguments)) = bytes.split_at_checked(PROCEDURE) else {
-            return Err(Fault::Line("a call has a program, a version and a procedure"));
-        };
-        let mut body = Vec::new(self.alloc);
-        body.extend_from_slice(&[0, 0, 0, 0, 0, 0, 0, 2])?;
-        body.extend_from_slice(procedure)?;
-        body.extend_from_slice(&self.caller)?;
-        body.extend_from_slice(&[0; 8])?;
-        body.extend_from_slice(arguments)?;
-        self.ask(&body)
+    /// A call is sent: its program, version and procedure, and its arguments.
+    fn call(&mut self, words: &[u8]) -> Result<(), Fault> {
+        let message = call_message(self.alloc, &self.caller, words)?;
+        self.ask(&message)
     }
 
     /// The last call must be accepted with success, and these results.
     fn answer(&mut self, line: u64, results: &[u8]) -> Result<(), Fault> {
-        let accepted = [0, 0, 0, 1, 0, 0, 0, 0, 0, 0, 0, 0, 0, 0, 0, 0, 0, 0, 0, 0];
-        let body = joined(self.alloc, &[&accepted, results])?;
-        self.reply(line, &body)
+        let message = success_message(self.alloc, results)?;
+        self.reply(line, &message)
     }
 
     /// A message is sent, with a new transaction id before it.
@@ -176,39 +153,9 @@ fn tell<R: Print>(
 ) -> Result<(), Fault> {
     let Difference { line, start, end } = difference;
     println!(rt; "line {line}: {title}")?;
-    let wanted = words(alloc, part(&stream.replies, start, end))?;
+    let wanted = words_in(alloc, part(&stream.replies, start, end))?;
     println!(rt; "  must be {wanted}")?;
-    let given = words(alloc, part(written, start, written.len()))?;
+    let given = words_in(alloc, part(written, start, written.len()))?;
     println!(rt; "  is      {given}")?;
     Ok(())
-}
-
-/// Bytes in hexadecimal digits, by words.
-fn words(alloc: Global, bytes: &[u8]) -> Result<String, AllocError> {
-    let mut text = String::new(alloc);
-    for (place, byte) in bytes.iter().take(MOST_SHOWN).enumerate() {
-        if place % 4 == 0 {
-            text.push(' ')?;
-        }
-        write!(text, "{byte:02x}")?;
-    }
-    Ok(text)
-}
-
-/// A record of one fragment, with a transaction id and what follows it (RFC 5531, sections 9 and 11).
-fn record(alloc: Global, xid: u32, message: &[u8]) -> Result<Vec<u8>, Fault> {
-    let Ok(length) = u32::try_from(message.len()) else {
-        return Err(Fault::Line("a record of so many bytes has no mark"));
-    };
-    let mark = 0x80000000 | length.wrapping_add(4);
-    Ok(joined(alloc, &[&mark.to_be_bytes(), &xid.to_be_bytes(), message])?)
-}
-
-/// These bytes, one after the other.
-fn joined(alloc: Global, parts: &[&[u8]]) -> Result<Vec<u8>, AllocError> {
-    let mut bytes = Vec::new(alloc);
-    for part in parts {
-        bytes.extend_from_slice(part)?;
-    }
-    Ok(bytes)
 }

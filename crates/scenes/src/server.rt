@@ -8,9 +8,13 @@ use bytes::Bytes;
 use nfs_engine::{Config, Engine};
 use nfs_machine::{Limits, Moment};
 use nfs_rpc::stream::Counted;
+use nfs_schedule::World;
 use nfs_server::{FixedClock, Host, Options, Served, StreamFault, configure, serve_stream};
 use std::alloc::{AllocError, Global};
 use std::marker::Model;
+
+/// The options of a server where a scene gives none.
+pub const OPTIONS: &str = "--export /data,rw,* --start 7 --clock 1000 --host 10.0.0.1";
 
 /// A server, and the host and the second of the calls that come next.
 #[derive(Drop)]
@@ -67,10 +71,7 @@ impl Server {
 
     /// The next calls come from this host.
     pub fn set_host(&mut self, alloc: Global, name: &str) -> Result<(), Fault> {
-        let Some(host) = Host::new(Bytes::copy_from_slice(alloc, name.as_bytes())?) else {
-            return Err(Fault::Line("no host"));
-        };
-        self.host = host;
+        self.host = host_named(alloc, name)?;
         Ok(())
     }
 
@@ -96,6 +97,31 @@ impl Server {
             &mut writer,
         );
         (writer.into_inner(), end)
+    }
+}
+
+/// A world of two workers on a new engine, with the options of this command line.
+pub fn new_world(alloc: Global, line: &str) -> Result<World, Fault> {
+    let Server {
+        engine,
+        host,
+        clock: _,
+    } = Server::new(alloc, line)?;
+    drop(host);
+    match World::new(alloc, engine, 2) {
+        Ok(world) => Ok(world),
+        Err((error, engine)) => {
+            drop(engine);
+            Err(Fault::from(error))
+        }
+    }
+}
+
+/// The host of this name.
+pub fn host_named(alloc: Global, name: &str) -> Result<Host, Fault> {
+    match Host::new(Bytes::copy_from_slice(alloc, name.as_bytes())?) {
+        Some(host) => Ok(host),
+        None => Err(Fault::Line("no host")),
     }
 }
 
