@@ -1,16 +1,13 @@
-//! Admissions: of calls, and of records that have a fault.
+//! What a call that begins is.
 
 ghost use Rattle.std.specs.Prelude.{◌≡◌, IfSome};
-ghost use Rattle.nfs_engine.specs.Engine.{AdmitsLiving, KeepsOthers, Lives};
-ghost use Rattle.engine_tests.specs.Beside.{BeginsAs};
+ghost use Rattle.nfs_engine.specs.Engine.{AdmitsLiving, Lives};
 ghost use Rattle.nfs_engine.specs.declared.admission.Admission.TheVariants.{Begin};
 
 use super::alone::Alone;
-use super::arrivals::ROOT;
-use super::beside::Beside;
 use super::openings::{close, opened};
-use super::records::{GETATTR, NULL, arrival, moment, spelled};
-use nfs_engine::{Admission, Arrival, Engine, Faulted, Txn};
+use super::records::{GETATTR, arrival, moment};
+use nfs_engine::{Admission, Arrival, Engine, Txn};
 use nfs_machine::Call;
 use nfs_wire::NfsCall;
 use std::alloc::AllocError;
@@ -48,8 +45,7 @@ fn came_in(rt: &(impl Abort + AllocGlobal), words: &[u32]) -> Arrival {
 
 /// What admitting the record of these words comes to, if need be by a second try.
 fn admission(rt: &(impl Abort + AllocGlobal), engine: &mut Engine, words: &[u32]) -> Admission
-    ensures living { AdmitsLiving engine.old engine.new result }
-    ensures next { BeginsAs engine.old.book.next_id result }
+    ensures { AdmitsLiving engine.old engine.new result }
 {
     match engine.admit(rt.alloc(), came_in(rt, words)) {
         Ok(admission) => admission,
@@ -62,9 +58,7 @@ fn admission(rt: &(impl Abort + AllocGlobal), engine: &mut Engine, words: &[u32]
 
 /// The call of the record of these words, in progress.
 pub(super) fn admitted(rt: &(impl Abort + AllocGlobal), engine: &mut Engine, words: &[u32]) -> Txn
-    ensures lives { Lives engine.new result }
-    ensures others { KeepsOthers result.id engine.old engine.new }
-    ensures next { result.id ≡ engine.old.book.next_id }
+    ensures { Lives engine.new result }
 {
     match begun(admission(rt, engine, words)) {
         Some(txn) => txn,
@@ -72,51 +66,8 @@ pub(super) fn admitted(rt: &(impl Abort + AllocGlobal), engine: &mut Engine, wor
     }
 }
 
-/// Whether the fault has this answer, or none.
-fn has_answer(faulted: Faulted, answer: Option<&[u8]>) -> bool {
-    let is_answer = faulted.answer.as_deref() == answer;
-    drop(faulted);
-    is_answer
-}
-
-/// Whether the record of these words has a fault with this answer, and no call begins.
-fn is_early(
-    rt: &(impl Abort + AllocGlobal),
-    engine: &mut Engine,
-    words: &[u32],
-    answer: Option<&[u8]>,
-) -> bool {
-    match admission(rt, engine, words) {
-        Admission::Begin(_txn) => panic!(rt; "it asks nothing"),
-        Admission::Repeat(kept) => {
-            drop(kept);
-            false
-        }
-        Admission::Running(arrival) => {
-            drop(arrival);
-            false
-        }
-        Admission::Early(faulted) => has_answer(faulted, answer),
-    }
-}
-
-#[test]
-fn a_fault_is_answered(rt: HostRuntime) -> Result<(), Fail> {
-    let mut engine = opened(rt.alloc())?;
-    let answer = spelled(rt.alloc(), &[0x80000018, 4, 1, 0, 0, 0, 1])?;
-    let call = [4, 0, 2, 100000, 3, 0, 0, 0, 0, 0];
-    assert!(rt; is_early(&rt, &mut engine, &call, Some(answer.as_slice())));
-    close(&rt, engine);
-    Ok(())
-}
-
-#[test]
-fn what_is_no_call_is_dropped(rt: HostRuntime) -> Result<(), Fail> {
-    let mut engine = opened(rt.alloc())?;
-    assert!(rt; is_early(&rt, &mut engine, &[4, 0], None));
-    close(&rt, engine);
-    Ok(())
-}
+/// The handle in GETATTR.
+const ROOT: &[u8] = b"NFD3\0\0\0\x01\0\0\0\0\0\0\0\x07\0\0\0\0\0\0\0\x01\0\0\0\0\0\0\0\x01";
 
 /// Whether the call is GETATTR of the root, under who sent it and when, and has read nothing.
 fn shows_getattr(alone: &Alone) -> bool {
@@ -141,14 +92,5 @@ fn a_call_that_begins_shows_what_it_is(rt: HostRuntime) -> Result<(), Fail> {
     assert!(rt; shows_getattr(&alone));
     assert_eq!(rt; alone.counts(), (1, 0));
     close(&rt, alone.end(&rt));
-    Ok(())
-}
-
-#[test]
-fn each_call_that_begins_is_one_more_in_progress(rt: HostRuntime) -> Result<(), Fail> {
-    let engine = opened(rt.alloc())?;
-    let beside = Beside::begun(&rt, engine, &GETATTR, &NULL);
-    assert_eq!(rt; beside.counts(), (2, 0));
-    close(&rt, beside.end(&rt));
     Ok(())
 }

@@ -1,7 +1,7 @@
 //! An engine with one call in progress, from its beginning to its end.
 
-ghost use Rattle.std.specs.Prelude.{◌≡◌, ◌<◌};
-ghost use Rattle.nfs_engine.specs.Engine.{KeepsOthers, Lives};
+ghost use Rattle.std.specs.Prelude.{◌<◌};
+ghost use Rattle.nfs_engine.specs.Engine.{Lives};
 
 use super::admissions::admitted;
 use nfs_engine::{Engine, Got, Next, Pending, Release, ReserveError, Txn};
@@ -12,7 +12,7 @@ use std::marker::Model;
 use std::process::Abort;
 
 /// What asking for an address comes to that the call has not read.
-pub(super) fn acquire(
+fn acquire(
     rt: &(impl Abort + AllocGlobal),
     engine: &mut Engine,
     txn: &mut Txn,
@@ -20,16 +20,14 @@ pub(super) fn acquire(
     mode: Mode,
 ) -> Result<Got, AllocError>
     requires { Lives engine.old txn.old }
-    ensures lives { Lives engine.new txn.new }
-    ensures others { KeepsOthers txn.old.id engine.old engine.new }
-    ensures same { txn.new.id ≡ txn.old.id }
+    ensures { Lives engine.new txn.new }
 {
     assert!(rt; txn.view().find(address).is_none());
     engine.acquire(rt.alloc(), txn, address, mode)
 }
 
 /// What asking for a number of a shard comes to.
-pub(super) fn reserve(
+fn reserve(
     rt: &(impl Abort + AllocGlobal),
     engine: &mut Engine,
     txn: &mut Txn,
@@ -37,9 +35,7 @@ pub(super) fn reserve(
 ) -> Result<(), ReserveError>
     requires lives { Lives engine.old txn.old }
     requires shard { shard < 16 }
-    ensures lives { Lives engine.new txn.new }
-    ensures others { KeepsOthers txn.old.id engine.old engine.new }
-    ensures same { txn.new.id ≡ txn.old.id }
+    ensures { Lives engine.new txn.new }
 {
     engine.reserve(rt.alloc(), txn, shard)
 }
@@ -66,19 +62,6 @@ impl Alone {
         let mut engine = engine;
         let txn = admitted(rt, &mut engine, words);
         Alone { engine, txn }
-    }
-
-    pub(super) fn new(engine: Engine, txn: Txn) -> Alone
-        requires { Lives engine txn }
-    {
-        Alone { engine, txn }
-    }
-
-    pub(super) fn into_parts(self) -> (Engine, Txn)
-        ensures { Lives result.0 result.1 }
-    {
-        let Alone { engine, txn } = self;
-        (engine, txn)
     }
 
     /// How many calls are in progress, and how many addresses are held.
@@ -161,24 +144,6 @@ impl Model for Leaving {
 }
 
 impl Leaving {
-    /// How many calls are in progress, and how many addresses are held.
-    pub(super) fn counts(&self) -> (usize, usize) {
-        (self.engine.living(), self.engine.locked())
-    }
-
-    /// One shard is let go, and there are more.
-    pub(super) fn let_go_one(self, rt: &impl Abort) -> Leaving {
-        let Leaving {
-            mut engine,
-            release,
-        } = self;
-        match engine.release(release) {
-            Next::More(release) => Leaving { engine, release },
-            Next::Aborted(_pending) => panic!(rt; "a shard is left"),
-            Next::Ended => panic!(rt; "it was given up"),
-        }
-    }
-
     /// The only shard that is left is let go, if there is one.
     pub(super) fn let_go_last(self, rt: &impl Abort) -> Waiting {
         let Leaving {

@@ -158,6 +158,17 @@ fn two_calls_get_two_numbers(rt: HostRuntime) -> Result<(), Fail> {
     Ok(())
 }
 
+#[test]
+fn a_call_gets_two_numbers(rt: HostRuntime) -> Result<(), Fail> {
+    let mut shard = Shard::new(rt.alloc(), 15);
+    let first = reserved(&mut shard, 1)?;
+    let second = reserved(&mut shard, 1)?;
+    assert_eq!(rt; (first.number % 16, second.number % 16), (15, 15));
+    assert!(rt; first.number != second.number && first.generation < second.generation);
+    assert_eq!(rt; shard.locked(), 2);
+    Ok(())
+}
+
 /// A call that gives its number back takes its generation along.
 #[test]
 fn a_generation_is_given_once(rt: HostRuntime) -> Result<(), Fail> {
