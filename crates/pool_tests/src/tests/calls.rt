@@ -1,0 +1,106 @@
+//! Calls as words (RFC 1813, 3.3).
+
+use bytes::Bytes;
+use std::alloc::{AllocError, Global};
+
+/// A handle of 32 bytes, as words.
+pub(super) type Handle = [u32; 8];
+
+/// The root of `/data`.
+pub(super) const ROOT: Handle = [0x4e464433, 1, 0, 7, 0, 1, 0, 1];
+
+/// AUTH_SYS of user 0 and group 0 (RFC 5531, appendix A), and a verifier.
+const USER_0: [u32; 9] = [1, 20, 0, 0, 0, 0, 0, 0, 0];
+
+/// A call of one who has a file. A name has four bytes, and stands in the root.
+#[derive(Clone, Copy)]
+pub(super) enum Ask {
+    /// GETATTR of the file.
+    Getattr,
+    /// GETATTR of the first 31 bytes of the file's handle.
+    GetattrCut,
+    /// SETATTR of the file's mode, with no guard.
+    SetMode(u32),
+    /// LOOKUP of a name.
+    Lookup(u32),
+    /// READ of the file's first four bytes.
+    Read,
+    /// WRITE of this word at the file's beginning.
+    Write(u32),
+    /// CREATE GUARDED of a name.
+    Create(u32),
+    /// CREATE EXCLUSIVE of a name, with this verifier.
+    CreateOnce(u32, u32),
+    /// REMOVE of a name.
+    Remove(u32),
+    /// LINK of the file under a name.
+    Link(u32),
+}
+
+impl Ask {
+    /// Its record, under this transaction id, by one who has this file.
+    pub(super) fn record(
+        &self,
+        alloc: Global,
+        xid: u32,
+        file: &Handle,
+    ) -> Result<Bytes, AllocError> {
+        let mut bytes = Vec::new(alloc);
+        add(&mut bytes, &[xid, 0, 2, 100003, 3, self.procedure()])?;
+        add(&mut bytes, &USER_0)?;
+        self.add_arguments(&mut bytes, file)?;
+        Ok(Bytes::from_vec(bytes)?)
+    }
+
+    fn procedure(&self) -> u32 {
+        match self {
+            Ask::Getattr | Ask::GetattrCut => 1,
+            Ask::SetMode(_) => 2,
+            Ask::Lookup(_) => 3,
+            Ask::Read => 6,
+            Ask::Write(_) => 7,
+            Ask::Create(_) | Ask::CreateOnce(..) => 8,
+            Ask::Remove(_) => 12,
+            Ask::Link(_) => 15,
+        }
+    }
+
+    fn add_arguments(&self, bytes: &mut Vec<u8>, file: &Handle) -> Result<(), AllocError> {
+        match self {
+            Ask::Getattr => add_on(bytes, 32, file, &[]),
+            Ask::GetattrCut => add_on(bytes, 31, file, &[]),
+            Ask::SetMode(mode) => add_on(bytes, 32, file, &[1, *mode, 0, 0, 0, 0, 0, 0]),
+            Ask::Read => add_on(bytes, 32, file, &[0, 0, 4]),
+            Ask::Write(word) => add_on(bytes, 32, file, &[0, 0, 4, 2, 4, *word]),
+            Ask::Create(name) => add_on(bytes, 32, &ROOT, &[4, *name, 1, 0, 0, 0, 0, 0, 0]),
+            Ask::CreateOnce(name, verifier) => {
+                add_on(bytes, 32, &ROOT, &[4, *name, 2, 0, *verifier])
+            }
+            Ask::Lookup(name) | Ask::Remove(name) => add_on(bytes, 32, &ROOT, &[4, *name]),
+            Ask::Link(name) => {
+                add_on(bytes, 32, file, &[])?;
+                add_on(bytes, 32, &ROOT, &[4, *name])
+            }
+        }
+    }
+}
+
+/// Adds a handle of so many bytes, and these words.
+fn add_on(
+    bytes: &mut Vec<u8>,
+    length: u32,
+    handle: &Handle,
+    words: &[u32],
+) -> Result<(), AllocError> {
+    add(bytes, &[length])?;
+    add(bytes, handle)?;
+    add(bytes, words)
+}
+
+/// Adds these words.
+fn add(bytes: &mut Vec<u8>, words: &[u32]) -> Result<(), AllocError> {
+    for word in words {
+        bytes.extend_from_slice(&word.to_be_bytes())?;
+    }
+    Ok(())
+}

@@ -1,0 +1,307 @@
+//! A call that is held up does not hold others up.
+
+use super::callers::{Caller, OK, Told};
+use super::calls::Ask;
+use super::ends::End;
+use super::pools::{Course, Part, Runs, in_pool};
+use super::rows::X;
+use nfs_engine::{
+    Admission, Arrival, Finished, Got, Next, Pending, Receipt, Refused, Release, ReserveError, Txn,
+};
+use nfs_objects::{Addr, Mode};
+use nfs_pool::{Gate, Pool, Step, Steps, Unadmitted, Uncommitted, run_call};
+use std::alloc::{AllocError, Global};
+use std::sync::Wait;
+use std::sync::atomic::{AtomicU64, Ordering};
+use std::sync::ledger::{Ledger, Share};
+use std::thread;
+use std::time::Duration;
+
+/// How often one looks whether the other has come so far.
+const TURNS: u32 = 10_000;
+
+/// Whose call is held up: a file that it made is in the shard of this number.
+const HELD: u32 = 3;
+
+/// Whose call goes on.
+const FREE: u32 = 4;
+
+/// Where a call is held up.
+#[derive(Clone, Copy, PartialEq, Eq)]
+enum Place {
+    /// Before its commit, with no lock held.
+    BeforeCommit,
+    /// In the hold of this shard.
+    Inside(usize),
+}
+
+/// By what the call that is held up is made.
+#[derive(Clone, Copy)]
+enum Way {
+    Submitted,
+    /// By the pool's steps, counted.
+    Counted,
+}
+
+/// How far both calls have come.
+#[derive(Drop)]
+struct Meeting {
+    /// 1 once the first call is held up.
+    held: AtomicU64,
+    /// 1 once the second call is answered.
+    answered: AtomicU64,
+    /// 1 where the first call was let go before.
+    late: AtomicU64,
+    /// Of the first call, where its steps are counted.
+    acquired: AtomicU64,
+    committed: AtomicU64,
+    /// What was counted when it was held up.
+    acquired_then: AtomicU64,
+    committed_then: AtomicU64,
+}
+
+impl Meeting {
+    fn new() -> Meeting {
+        Meeting {
+            held: AtomicU64::new(0),
+            answered: AtomicU64::new(0),
+            late: AtomicU64::new(0),
+            acquired: AtomicU64::new(0),
+            committed: AtomicU64::new(0),
+            acquired_then: AtomicU64::new(0),
+            committed_then: AtomicU64::new(0),
+        }
+    }
+}
+
+fn count(word: &AtomicU64) -> u64 {
+    word.load(Ordering::SeqCst)
+}
+
+fn copy(from: &AtomicU64, to: &AtomicU64) {
+    to.store(count(from), Ordering::SeqCst);
+}
+
+/// Waits until this is 1; no where it takes too long.
+fn comes<R: Runs>(rt: &R, word: &AtomicU64) -> bool {
+    for _turn in 0..TURNS {
+        if count(word) == 1 {
+            return true;
+        }
+        thread::sleep(rt, Duration::from_millis(1));
+    }
+    false
+}
+
+/// Holds a call up at a place until the other is answered.
+#[derive(Drop)]
+struct Holding<'a, R> {
+    rt: &'a R,
+    meeting: &'a Meeting,
+    place: Place,
+}
+
+impl<'a, R: Runs> Holding<'a, R> {
+    fn meet(&self, place: Place) {
+        if place != self.place {
+            return;
+        }
+        let meeting = self.meeting;
+        copy(&meeting.acquired, &meeting.acquired_then);
+        copy(&meeting.committed, &meeting.committed_then);
+        meeting.held.store(1, Ordering::SeqCst);
+        if !comes(self.rt, &meeting.answered) {
+            meeting.late.store(1, Ordering::SeqCst);
+        }
+    }
+}
+
+impl<'a, R: Runs> Gate for Holding<'a, R> {
+    fn before(&self, step: Step) {
+        if step == Step::Commit {
+            self.meet(Place::BeforeCommit);
+        }
+    }
+
+    fn inside(&self, shard: usize) {
+        self.meet(Place::Inside(shard));
+    }
+}
+
+/// The steps of a pool, counted.
+#[derive(Drop)]
+struct Counting<'a, L: Ledger> {
+    pool: &'a Pool<L>,
+    meeting: &'a Meeting,
+}
+
+impl<'a, L: Ledger> Steps<L> for Counting<'a, L> {
+    fn admit<R: Wait>(
+        &self,
+        rt: &R,
+        alloc: Global,
+        arrival: Arrival,
+    ) -> Result<Admission, Unadmitted> {
+        self.pool.admit(rt, alloc, arrival)
+    }
+
+    fn acquire<R: Wait, G: Gate>(
+        &self,
+        rt: &R,
+        alloc: Global,
+        gate: &G,
+        txn: &mut Txn,
+        address: Addr,
+        mode: Mode,
+    ) -> Result<Got, AllocError> {
+        self.meeting.acquired.fetch_add(1, Ordering::SeqCst);
+        self.pool.acquire(rt, alloc, gate, txn, address, mode)
+    }
+
+    fn wait_for<R: Wait>(&self, rt: &R, address: Addr, mode: Mode) {
+        self.pool.wait_for(rt, address, mode);
+    }
+
+    fn reserve<R: Wait>(&self, rt: &R, txn: &mut Txn, shard: usize) -> Result<bool, ReserveError> {
+        self.pool.reserve(rt, txn, shard)
+    }
+
+    fn commit<R: Wait>(
+        &self,
+        rt: &R,
+        alloc: Global,
+        mine: &mut Share<L>,
+        last: u64,
+        finished: Finished,
+    ) -> Result<(Receipt, Release), Uncommitted> {
+        self.meeting.committed.fetch_add(1, Ordering::SeqCst);
+        self.pool.commit(rt, alloc, mine, last, finished)
+    }
+
+    fn release<R: Wait>(&self, rt: &R, release: Release) -> Next {
+        self.pool.release(rt, release)
+    }
+
+    fn give_up<R: Wait>(&self, rt: &R, pending: Pending) -> Refused {
+        self.pool.give_up(rt, pending)
+    }
+}
+
+/// Two callers make a file each. Then a call of the first is held up at a place until a call of the second is
+/// answered.
+#[derive(Drop)]
+struct HeldUp {
+    way: Way,
+    place: Place,
+    ask: Ask,
+    meeting: Meeting,
+}
+
+impl HeldUp {
+    fn new(way: Way, place: Place, ask: Ask) -> HeldUp {
+        HeldUp {
+            way,
+            place,
+            ask,
+            meeting: Meeting::new(),
+        }
+    }
+
+    /// Makes the call that is held up.
+    fn call_held<L: Ledger, R: Runs>(&self, caller: &mut Caller<L, R>) -> Told {
+        let Ok(arrival) = caller.arrival(3, self.ask) else {
+            return Told::Refused;
+        };
+        let gate = Holding {
+            rt: caller.rt,
+            meeting: &self.meeting,
+            place: self.place,
+        };
+        let alloc = caller.rt.alloc();
+        let sent = match self.way {
+            Way::Submitted => {
+                caller
+                    .pool
+                    .submit(caller.rt, alloc, &gate, &mut *caller.seat, arrival)
+            }
+            Way::Counted => {
+                let steps = Counting {
+                    pool: caller.pool,
+                    meeting: &self.meeting,
+                };
+                run_call(caller.rt, alloc, &steps, &gate, &mut *caller.seat, arrival)
+            }
+        };
+        caller.told(sent)
+    }
+
+    /// Makes the other call while that one is held up.
+    fn call_free<L: Ledger, R: Runs>(&self, caller: &mut Caller<L, R>) -> Told {
+        if !comes(caller.rt, &self.meeting.held) {
+            return Told::Other;
+        }
+        let told = caller.call(4, Ask::Getattr);
+        self.meeting.answered.store(1, Ordering::SeqCst);
+        told
+    }
+}
+
+impl Part for HeldUp {
+    fn acts<L: Ledger, R: Runs>(&self, caller: &mut Caller<L, R>, number: u32) -> u64 {
+        if number != HELD && number != FREE {
+            return 0;
+        }
+        let made = caller.makes(number.wrapping_add(10), X.wrapping_add(number));
+        let told = if number == HELD {
+            self.call_held(caller)
+        } else {
+            self.call_free(caller)
+        };
+        if made && told == OK { 2 } else { 0 }
+    }
+}
+
+/// It goes so in a new pool, and the second call is answered before the first is let go.
+fn holds_up<R: Runs + Sync>(rt: &R, held_up: &HeldUp) -> Result<(), AllocError> {
+    let course = Course {
+        seats: 5,
+        era_records: 65_536,
+        calls: 4,
+        end: End::Finished,
+    };
+    in_pool(rt, course, held_up)?;
+    assert_eq!(rt; count(&held_up.meeting.held), 1);
+    assert_eq!(rt; count(&held_up.meeting.late), 0);
+    Ok(())
+}
+
+/// A call goes on while another that is submitted waits before its commit.
+#[test]
+fn a_call_goes_on_beside_one_that_waits(rt: HostRuntime) -> Result<(), AllocError> {
+    holds_up(
+        &rt,
+        &HeldUp::new(Way::Submitted, Place::BeforeCommit, Ask::Write(1)),
+    )
+}
+
+/// The same with steps that are counted: before its commit the call has made all its acquires, and no commit.
+#[test]
+fn a_call_goes_on_beside_one_that_is_counted(rt: HostRuntime) -> Result<(), AllocError> {
+    let held_up = HeldUp::new(Way::Counted, Place::BeforeCommit, Ask::Write(1));
+    holds_up(&rt, &held_up)?;
+    let meeting = &held_up.meeting;
+    assert!(rt; count(&meeting.acquired) > 0);
+    assert_eq!(rt; count(&meeting.acquired_then), count(&meeting.acquired));
+    assert_eq!(rt; count(&meeting.committed_then), 0);
+    assert_eq!(rt; count(&meeting.committed), 1);
+    Ok(())
+}
+
+/// A call goes on while another is in the hold of another shard.
+#[test]
+fn a_call_goes_on_beside_one_in_a_shard(rt: HostRuntime) -> Result<(), AllocError> {
+    holds_up(
+        &rt,
+        &HeldUp::new(Way::Submitted, Place::Inside(HELD as usize), Ask::Getattr),
+    )
+}
