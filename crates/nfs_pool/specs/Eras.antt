@@ -2,6 +2,7 @@
 use Rattle.std.specs.Prelude.{◌≡◌, ℕ, ◌+◌, Bool, true, List, [], ◌∷◌, ◌++◌, length, map}
 use Rattle.std.specs.Prelude.{IsPermutation, Some, slice_get}
 use Rattle.std.specs.List.{AllByRecursion}
+use Rattle.std.specs.declared.vec.Vec.{Vec}
 use Rattle.std.specs.Cmp.Lexicographic.{pointwise}
 use Rattle.side_wire.specs.contracts.message.MessagePartialEq.TheImpl.{eq-value as message}
 use Rattle.side_wire.specs.declared.message.Message.{Message}
@@ -28,6 +29,11 @@ told_value t = (t.number, shared_value t.executed)
 abbrev pub told_by : List SeatValue → List (ℕ × Record)
 told_by [] = []
 told_by (s ∷ seats) = map told s.receipts ++ told_by seats
+
+-- what the receipts of these lists tell
+abbrev pub told_in : List (Vec Receipt) → List (ℕ × Record)
+told_in [] = []
+told_in (list ∷ lists) = map told list.items ++ told_in lists
 
 -- how many receipts these seats have
 abbrev pub receipts_count : List SeatValue → ℕ
@@ -60,13 +66,13 @@ pub record IsToldAt (tells : List (ℕ × Record)) (place number : ℕ) (r : Rec
   pub told : IsTold number r tell
 
 -- the record at this place is told there, with its number
-abbrev pub StandsAt : BookValue → (tells : List (ℕ × Record)) → (place : ℕ) → Type 0
-StandsAt b tells place = (r : Record) → slice_get b.records place ≡ Some r →
-    IsToldAt tells place (b.before + place + 1) r
+abbrev pub StandsAt : (before : ℕ) → List Record → (tells : List (ℕ × Record)) → (place : ℕ) → Type 0
+StandsAt before records tells place = (r : Record) → slice_get records place ≡ Some r →
+    IsToldAt tells place (before + place + 1) r
 
 -- these begin with the records of the era
-abbrev pub BeginSo : BookValue → (tells : List (ℕ × Record)) → Type 0
-BeginSo b tells = (place : ℕ) → StandsAt b tells place
+abbrev pub BeginSo : (before : ℕ) → List Record → (tells : List (ℕ × Record)) → Type 0
+BeginSo before records tells = (place : ℕ) → StandsAt before records tells place
 
 -- these are the records, one for one and in order, with the numbers from the next one on
 abbrev pub AreTold : (before : ℕ) → List Record → (tells : List (ℕ × Record)) → Type 0
@@ -81,6 +87,22 @@ pub record TellAll (b : BookValue) (receipts : List (ℕ × Record)) : Type 0 wh
   pub are : AreTold b.before b.records tells
 
 -- ---- the end of an era
+-- The records are a run, and so many. They are the era's, and the next one begins with none, where they led.
+pub record LeavesEra (old new : BookValue) (count : ℕ) (era : Era) : Type 0 where
+  pub run : IsRun old
+  pub counted : length old.records ≡ count
+  pub takes : TakesEra old new era
+  pub rebases : Rebases old new
+
+-- an era that is over, and what its receipts tell
+pub record EndedValue : Type 0 where
+  pub era : Era
+  pub receipts : List (ℕ × Record)
+
+-- a book came to another with this era, and there are as many receipts
+abbrev pub IsLeft : EndedValue → Type 0
+IsLeft e = (old : BookValue) × (new : BookValue) × LeavesEra old new (length e.receipts) e.era
+
 -- The records are a run, and these receipts tell them, each once. They are the era's, and the next one begins with
 -- none, where they led.
 pub record EndsEra (old new : BookValue) (receipts : List (ℕ × Record)) (era : Era) : Type 0 where

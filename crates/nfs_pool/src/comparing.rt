@@ -1,11 +1,12 @@
 //! Receipts beside the records of an era.
 
 ghost use Rattle.std.specs.Prelude.{◌≡◌, ◌++◌, IfOk, IsPermutation, OnOk, map, true};
-ghost use Rattle.nfs_engine.specs.Arrivals.{received_value, record_value};
-ghost use Rattle.nfs_pool.specs.Eras.{BeginSo, IsAlike, IsTold, IsToldAt, StandsAt, told, told_by, told_value};
+ghost use Rattle.nfs_engine.specs.Arrivals.{received_value, record_value, shared_value};
+ghost use Rattle.nfs_pool.specs.Eras.{BeginSo, IsAlike, IsTold, IsToldAt, StandsAt, told, told_by, told_in};
+ghost use Rattle.nfs_pool.specs.Eras.{told_value};
 
 use crate::seat::Seat;
-use nfs_engine::{Book, Executed, Receipt, Received};
+use nfs_engine::{Executed, Receipt, Received};
 use std::alloc::{AllocError, Global};
 use std::sync::Arc;
 use std::sync::ledger::Ledger;
@@ -36,6 +37,22 @@ pub(crate) fn told_in_order<L: Ledger>(
     Ok(tells)
 }
 
+/// What the receipts of these lists tell, in order of their numbers.
+///
+/// # Errors
+///
+/// There is no memory for it.
+pub(crate) fn left_in_order(alloc: Global, lists: &[Vec<Receipt>]) -> Result<Vec<Told>, AllocError>
+    ensures { IfOk result (λ tells. IsPermutation (told_in lists.now) (map told_value tells.items)) }
+{
+    let mut tells = Vec::new(alloc);
+    for list in lists {
+        add_receipts(&mut tells, list)?;
+    }
+    tells.sort_unstable_by_key(|tell| tell.number);
+    Ok(tells)
+}
+
 /// Adds what receipts tell.
 fn add_receipts(tells: &mut Vec<Told>, receipts: &[Receipt]) -> Result<(), AllocError>
     ensures { OnOk result (map told_value tells.new.items ≡ map told_value tells.old.items ++ map told receipts.now) }
@@ -49,12 +66,12 @@ fn add_receipts(tells: &mut Vec<Told>, receipts: &[Receipt]) -> Result<(), Alloc
     Ok(())
 }
 
-/// Whether these begin with the records of the era, in order.
-pub(crate) fn begin_so(book: &Book, tells: &[Told]) -> bool
-    ensures { result ≡ true → BeginSo book.now (map told_value tells.now) }
+/// Whether these begin with the records, in order, which have the numbers behind this one.
+pub(crate) fn begin_so(before: u64, records: &[Arc<Executed>], tells: &[Told]) -> bool
+    ensures { result ≡ true → BeginSo before (map shared_value records.now) (map told_value tells.now) }
 {
-    for place in 0..book.executed().len() {
-        if !stands_at(book, tells, place) {
+    for place in 0..records.len() {
+        if !stands_at(before, records, tells, place) {
             return false;
         }
     }
@@ -62,13 +79,16 @@ pub(crate) fn begin_so(book: &Book, tells: &[Told]) -> bool
 }
 
 /// Whether the record at this place is told there, with its number.
-fn stands_at(book: &Book, tells: &[Told], place: usize) -> bool
-    ensures { result ≡ true → StandsAt book.now (map told_value tells.now) place }
+fn stands_at(before: u64, records: &[Arc<Executed>], tells: &[Told], place: usize) -> bool
+    ensures { result ≡ true → StandsAt before (map shared_value records.now) (map told_value tells.now) place }
 {
-    match book.executed().get(place) {
-        Some(executed) => tells_at(tells, place, book.before() + place as u64 + 1, executed),
-        None => true,
-    }
+    let Some(executed) = records.get(place) else {
+        return true;
+    };
+    let Some(number) = before.checked_add(place as u64 + 1) else {
+        return false;
+    };
+    tells_at(tells, place, number, executed)
 }
 
 /// Whether this is told at this place, with this number.

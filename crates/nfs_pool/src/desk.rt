@@ -1,9 +1,10 @@
 //! What lies under the book's lock.
 
 ghost use Rattle.std.specs.Prelude.{◌≡◌, ◌+◌, ◌<◌, [], IfErr, IfOk, OnErr, OnOk, length};
-ghost use Rattle.nfs_engine.specs.Book.{Commits, GivesUp, IsRun, Rebases, TakesEra, TakesMessage};
+ghost use Rattle.nfs_engine.specs.Book.{Commits, GivesUp, TakesMessage};
 ghost use Rattle.nfs_engine.specs.Commits.{Leaves};
 ghost use Rattle.nfs_engine.specs.declared.release.Then.TheVariants as then;
+ghost use Rattle.nfs_pool.specs.Eras.{LeavesEra};
 ghost use Rattle.nfs_pool.specs.Steps.{AdmitsUnlessFull, IsMadeAbove};
 
 use crate::sent::{Reason, Unadmitted, Uncommitted};
@@ -155,17 +156,14 @@ impl<L: Ledger> Desk<L> {
     }
 
     /// Ends the era, and begins the next. The share that has every part counts each record, and then none.
-    pub(crate) fn new_era(&mut self, alloc: Global, all: &mut Share<L>, count: u64) -> Era
+    pub(crate) fn new_era(&mut self, alloc: Global, all: &mut Share<L>) -> Era
         requires parts { all.old.parts ≡ L.parts }
-        requires count { all.old.amount ≡ count }
         ensures parts { all.new.parts ≡ all.old.parts }
         ensures none { all.new.amount ≡ 0 }
-        ensures counted { length self.old.book.records ≡ count }
-        ensures run { IsRun self.old.book }
-        ensures takes { TakesEra self.old.book self.new.book result }
-        ensures rebases { Rebases self.old.book self.new.book }
+        ensures leaves { LeavesEra self.old.book self.new.book all.old.amount result }
     {
         self.book.run();
+        let count = self.book.executed().len() as u64;
         let Desk {
             book,
             counted,

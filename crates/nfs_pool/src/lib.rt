@@ -12,6 +12,7 @@ mod committing;
 mod comparing;
 mod counting;
 pub mod desk;
+mod ended;
 mod ending;
 pub mod gate;
 mod locking;
@@ -22,6 +23,7 @@ pub mod steps;
 
 pub use carrying::run_call;
 pub use desk::Desk;
+pub use ended::Ended;
 pub use gate::{Gate, Open, Step};
 pub use pool::Pool;
 pub use seat::Seat;

@@ -1,7 +1,7 @@
 //! Who makes calls.
 
 ghost use Rattle.std.specs.Prelude.{◌≡◌, ◌+◌, ◌≤◌, [], length, vec_capacity};
-ghost use Rattle.nfs_pool.specs.Eras.{AreNew, receipts_count};
+ghost use Rattle.nfs_pool.specs.Eras.{AreNew, receipts_count, told_by, told_in};
 
 use nfs_engine::{Receipt, SHARDS};
 use std::alloc::Global;
@@ -53,12 +53,20 @@ impl<L: Ledger> Seat<L> {
         &self.receipts
     }
 
-    /// Gives its part back.
-    pub(crate) fn close(self, all: &mut Share<L>)
+    /// Gives its part back, and leaves its receipts.
+    pub(crate) fn leave(self, all: &mut Share<L>) -> Vec<Receipt>
         ensures parts { all.new.parts ≡ all.old.parts + 1 }
         ensures amount { all.new.amount ≡ all.old.amount + length self.receipts }
+        ensures receipts { result.items ≡ self.receipts }
     {
-        all.merge(self.share);
+        let Seat {
+            shard: _,
+            share,
+            receipts,
+            last: _,
+        } = self;
+        all.merge(share);
+        receipts
     }
 }
 
@@ -84,13 +92,22 @@ pub(crate) fn new_seats<L: Ledger>(
     seats
 }
 
-/// Gives the parts of these seats back.
-pub(crate) fn close_all<L: Ledger>(seats: Vec<Seat<L>>, all: &mut Share<L>)
+/// Gives the parts of these seats back, and leaves the receipts of each in this room.
+pub(crate) fn leave_all<L: Ledger>(
+    seats: Vec<Seat<L>>,
+    room: Vec<Vec<Receipt>>,
+    all: &mut Share<L>,
+) -> Vec<Vec<Receipt>>
+    requires empty { room.items ≡ [] }
+    requires room { length seats.items ≤ vec_capacity room }
     ensures parts { all.new.parts ≡ all.old.parts + length seats.items }
     ensures amount { all.new.amount ≡ all.old.amount + receipts_count seats.items }
+    ensures told { told_in result.items ≡ told_by seats.items }
 {
+    let mut lists = room;
     let mut rest = seats.into_iter();
     'seats: while let Some(seat) = rest.next() {
-        seat.close(all);
+        lists.push_reserved(seat.leave(all));
     }
+    lists
 }

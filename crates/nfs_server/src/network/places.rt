@@ -4,7 +4,7 @@
 //! places are gathered nobody else has the pool, and its era can be ended: no thread has to be joined for that.
 
 use crossbeam_channel::{Receiver, Sender};
-use nfs_pool::{Pool, Seat};
+use nfs_pool::{Ended, FinishError, Pool, Seat};
 use std::alloc::{AllocError, Global};
 use std::rt::Clock;
 use std::sync::ledger::Ledger;
@@ -14,6 +14,9 @@ use std::time::Duration;
 
 /// How long the keeper waits for memory before it tries again, in milliseconds.
 const PAUSE: u64 = 10;
+
+/// How often the keeper tries to compare an era. Then it is let go all the same, since its records take memory too.
+const TRIES: usize = 100;
 
 /// A seat with its pool: the leave to execute calls.
 #[derive(Drop)]
@@ -105,15 +108,21 @@ pub(crate) struct Keeper<L: Ledger> {
 }
 
 impl<L: Ledger> Keeper<L> {
-    /// Ends eras, until nobody calls any more. What was recorded in them is let go by this thread, which serves nobody.
+    /// Ends eras, until nobody calls any more. What was recorded in them is compared and let go by this thread, which
+    /// serves nobody; after a record without its receipt no era is ended any more, so nothing is executed behind it.
     /// There is room for all seats.
     pub(crate) fn work<R: Wait + Clock>(&self, rt: &R, alloc: Global, room: Vec<Seat<L>>) {
         let mut seats = room;
+        let mut is_told = true;
         for first in self.full.iter(rt) {
             let turns = first.turns.saturating_add(1);
-            match self.gather(rt, first, &mut seats) {
-                Some(pool) => seats = self.turn(rt, alloc, pool, seats, turns),
-                None => return,
+            let Some(pool) = self.gather(rt, first, &mut seats) else {
+                return;
+            };
+            if is_told {
+                (seats, is_told) = self.turn(rt, alloc, pool, seats, turns);
+            } else {
+                seats = self.hold(rt, alloc, pool, seats, turns);
             }
         }
     }
@@ -144,7 +153,8 @@ impl<L: Ledger> Keeper<L> {
         }
     }
 
-    /// Ends the era, hands out the places of the next one, and lets go what was recorded. Their room is left.
+    /// Ends the era, hands out the places of the next one, and lets go what was recorded. Their room is left, and
+    /// whether no record was without its receipt.
     fn turn<R: Wait + Clock>(
         &self,
         rt: &R,
@@ -152,26 +162,57 @@ impl<L: Ledger> Keeper<L> {
         pool: Pool<L>,
         seats: Vec<Seat<L>>,
         turns: u64,
-    ) -> Vec<Seat<L>> {
-        match pool.turn_era(alloc, seats) {
-            Ok((era, pool, seats)) => match Arc::new(alloc, pool) {
+    ) -> (Vec<Seat<L>>, bool) {
+        match pool.next_era(alloc, seats) {
+            Ok((ended, pool, seats)) => match Arc::new(alloc, pool) {
                 Ok(pool) => {
                     let room = hand_out(rt, &self.back, pool, seats, turns, false);
-                    drop(era);
-                    room
+                    (room, is_told(rt, alloc, ended))
                 }
                 Err(refused) => {
-                    drop(era);
+                    let is_told = is_told(rt, alloc, ended);
                     let pool = shared(rt, alloc, refused.value);
-                    hand_out(rt, &self.back, pool, seats, turns, false)
+                    let room = hand_out(rt, &self.back, pool, seats, turns, false);
+                    (room, is_told)
                 }
             },
-            Err((_, pool, seats)) => {
-                let pool = shared(rt, alloc, pool);
-                hand_out(rt, &self.back, pool, seats, turns, true)
-            }
+            Err((_, pool, seats)) => (self.hold(rt, alloc, pool, seats, turns), true),
         }
     }
+
+    /// Hands out the places of the same era. Their room is left.
+    fn hold<R: Wait + Clock>(
+        &self,
+        rt: &R,
+        alloc: Global,
+        pool: Pool<L>,
+        seats: Vec<Seat<L>>,
+        turns: u64,
+    ) -> Vec<Seat<L>> {
+        let pool = shared(rt, alloc, pool);
+        hand_out(rt, &self.back, pool, seats, turns, true)
+    }
+}
+
+/// Whether each record of an era has its receipt, or there was no memory to compare them. All is let go.
+fn is_told<R: Wait + Clock>(rt: &R, alloc: Global, ended: Ended) -> bool {
+    let mut ended = ended;
+    for _ in 0..TRIES {
+        match ended.compare(alloc) {
+            Ok(era) => {
+                drop(era);
+                return true;
+            }
+            Err((FinishError::Missing, left)) => {
+                drop(left);
+                return false;
+            }
+            Err((FinishError::Memory, left)) => ended = left,
+        }
+        thread::sleep(rt, Duration::from_millis(PAUSE));
+    }
+    drop(ended);
+    true
 }
 
 /// The pool as one that several own. Where there is no memory for that it is waited for.

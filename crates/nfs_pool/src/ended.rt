@@ -1,0 +1,67 @@
+//! An era that is over, and the receipts that its seats left.
+
+ghost use Rattle.std.specs.Prelude.{◌≡◌, ◌×◌, IfErr, IfOk, length};
+ghost use Rattle.nfs_engine.specs.Book.{BookValue};
+ghost use Rattle.nfs_pool.specs.Eras.{EndsSome, LeavesEra, told_in};
+
+use crate::comparing::{begin_so, left_in_order};
+use crate::sent::FinishError;
+use nfs_engine::{Era, Receipt};
+use std::alloc::Global;
+use std::marker::Model;
+
+/// An era that is over, whose receipts are as many as its records and not yet compared with them. A clause sees what
+/// they tell.
+#[derive(Drop)]
+pub struct Ended {
+    era: Era,
+    /// The receipts of each seat.
+    lists: Vec<Vec<Receipt>>,
+}
+
+impl Model for Ended {
+    ghost use Rattle.std.specs.Prelude.{length};
+    ghost use Rattle.nfs_pool.specs.Eras.{EndedValue, IsLeft, told_in};
+
+    ghost Value = { EndedValue };
+
+    ghost view = { λ e. record { era = e.era; receipts = told_in e.lists.items } };
+
+    ghost invariant = { λ e. IsLeft (record { era = e.era; receipts = told_in e.lists.items }) };
+}
+
+impl Ended {
+    /// The era that a book came from, and the receipts of each seat.
+    pub(crate) fn new(era: Era, lists: Vec<Vec<Receipt>>) -> Ended
+        requires { (old : BookValue) × (new : BookValue) × LeavesEra old new (length (told_in lists.items)) era }
+        ensures { result ≡ record { era = era; receipts = told_in lists.items } }
+    {
+        Ended { era, lists }
+    }
+
+    /// The records, where the receipts of all seats are they, each once.
+    ///
+    /// # Errors
+    ///
+    /// A record has no equal receipt (`Missing`), or there is no memory to compare them. All is handed back.
+    pub fn compare(self, alloc: Global) -> Result<Era, (FinishError, Ended)>
+        ensures era { IfOk result (λ era. era ≡ self.era) }
+        ensures ends { IfOk result (EndsSome self.receipts) }
+        ensures back { IfErr result (λ e. e.1 ≡ self) }
+    {
+        let Ok(tells) = left_in_order(alloc, &self.lists) else {
+            return Err((FinishError::Memory, self));
+        };
+        if !begin_so(self.era.before, &self.era.records, &tells) {
+            return Err((FinishError::Missing, self));
+        }
+        Ok(self.into_era())
+    }
+
+    /// The records, as they are.
+    pub(crate) fn into_era(self) -> Era
+        ensures { result ≡ self.era }
+    {
+        self.era
+    }
+}
