@@ -4,6 +4,7 @@ use Rattle.std.proofs.Common.{slice_get}
 use Rattle.std.proofs.Math.Bridge.{le_prop}
 use Rattle.std.specs.Cmp.{first_so, second_so, unsigned_Decides}
 use Rattle.std.specs.Prelude.{IsPermutation}
+use Rattle.std.specs.declared.vec.Vec.{Vec}
 use Rattle.std.proofs.lemmas.List.{length-map, take_more}
 use Rattle.std.proofs.lemmas.List.Sorted.{length_permutation}
 use Rattle.std.proofs.lemmas.Option.{slice_get-map, slice_get_past, slice_get_read}
@@ -11,7 +12,7 @@ use Rattle.nfs_machine.specs.Run.{Record}
 use Rattle.nfs_machine.specs.declared.moment.Moment.{Moment}
 use Rattle.nfs_engine.specs.Book.{BookValue}
 use Rattle.nfs_engine.specs.declared.journal.Receipt.{Receipt}
-use Rattle.nfs_pool.specs.Eras.{AreTold, BeginSo, IsTold, IsToldAt, StandsAt, TellAll, receipts_count, told, told_by, told_value}
+use Rattle.nfs_pool.specs.Eras.{AreTold, BeginSo, IsTold, IsToldAt, StandsAt, TellAll, receipts_count, told, told_by, told_in, told_value}
 use Rattle.nfs_pool.specs.Seats.{SeatValue}
 use Rattle.nfs_pool.specs.declared.comparing.Told.{Told}
 
@@ -46,20 +47,20 @@ are-told before (r ∷ records) (t ∷ tells) len each =
     (first, are-told (before + 1) records tells (omega (arith, len)) behind)
 
 pub tell-all : (b : BookValue) (receipts tells : List (ℕ × Record)) → IsPermutation receipts tells →
-    length tells ≡ length b.records → BeginSo b tells → TellAll b receipts
+    length tells ≡ length b.records → BeginSo b.before b.records tells → TellAll b receipts
 tell-all b receipts tells moved len begin =
     record { tells = tells; moved = moved; are = are-told b.before b.records tells len begin }
 
 -- ---- a place
-module _ (b : BookValue) (tells : List (ℕ × Record)) (place : ℕ) where
+module _ (before : ℕ) (records : List Record) (tells : List (ℕ × Record)) (place : ℕ) where
   -- no record is there
-  pub stands_past : slice_get b.records place ≡ None → StandsAt b tells place
+  pub stands_past : slice_get records place ≡ None → StandsAt before records tells place
   stands_past none r at = absurd (none_some r (sym none ∙ at))
 
-  pub stands_here : (e : Record) → slice_get b.records place ≡ Some e →
-      IsToldAt tells place (b.before + place + 1) e → StandsAt b tells place
+  pub stands_here : (e : Record) → slice_get records place ≡ Some e →
+      IsToldAt tells place (before + place + 1) e → StandsAt before records tells place
   stands_here e here is x at =
-      subst (λ (y : Record). IsToldAt tells place (b.before + place + 1) y) (some_same e x (sym here ∙ at)) is
+      subst (λ (y : Record). IsToldAt tells place (before + place + 1) y) (some_same e x (sym here ∙ at)) is
 
 -- what stands at a place of a list stands there in what is made of it
 pub at_map : {A B : Type 0} (v : A → B) (xs : List A) (place : ℕ) (x : A) (ys : List B) → map v xs ≡ ys →
@@ -94,6 +95,26 @@ told-more seats k s receipts within item same =
     ∙ sym (told_by-append (take k seats) (s ∷ []))
     ∙ ap (λ (x : SeatValue). told_by (take k seats ++ x ∷ [])) item
     ∙ ap told_by (sym (take_more seats k s within))
+
+-- one list more
+told_in-append : (lists more : List (Vec Receipt)) → told_in (lists ++ more) ≡ told_in lists ++ told_in more
+told_in-append [] more = refl
+told_in-append (list ∷ lists) more =
+    ap (λ (ts : List (ℕ × Record)). map told list.items ++ ts) (told_in-append lists more)
+    ∙ sym (append_assoc (map told list.items) (told_in lists) (told_in more))
+
+pub told_in-more : (lists : List (Vec Receipt)) (list : Vec Receipt) (receipts : List Receipt) →
+    list.items ≡ receipts → told_in (lists ++ list ∷ []) ≡ told_in lists ++ map told receipts
+told_in-more lists list receipts same =
+    told_in-append lists (list ∷ []) ∙ ap (λ (ts : List (ℕ × Record)). told_in lists ++ ts)
+    (append-nil (map told list.items) ∙ ap (map told) same)
+
+pub told_in-next : (lists : List (Vec Receipt)) (k : ℕ) (list : Vec Receipt) → k < length lists →
+    list ≡ get_or lists k list → told_in (take k lists) ++ map told list.items ≡ told_in (take (k + 1) lists)
+told_in-next lists k list within item =
+    sym (told_in-more (take k lists) list list.items refl)
+    ∙ ap (λ (x : Vec Receipt). told_in (take k lists ++ x ∷ [])) item
+    ∙ ap told_in (sym (take_more lists k list within))
 
 pub told-count : (seats : List SeatValue) (tells : List Told) → IsPermutation (told_by seats) (map told_value tells) →
     length tells ≡ receipts_count seats

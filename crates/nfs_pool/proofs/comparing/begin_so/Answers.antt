@@ -1,7 +1,6 @@
-use Rattle.std.proofs.Common.{◌≡◌, ◌∙◌, ap, arith, length, map, refl, sym, List}
+use Rattle.std.proofs.Common.{◌≡◌, arith, length, map, refl}
 use Rattle.std.proofs.lemmas.List.{length-map}
 use Rattle.std.proofs.lemmas.Option.{slice_get_within}
-use Rattle.nfs_machine.specs.Run.{Record}
 use Rattle.nfs_engine.specs.Arrivals.{shared_value}
 use Rattle.nfs_pool.specs.Eras.{StandsAt, told_value}
 use Rattle.nfs_pool.proofs.Numbered.{one_more}
@@ -9,13 +8,11 @@ use Rattle.nfs_pool.proofs.comparing.begin_so.Goals as goal
 
 pub loop-place-preserved : goal.loop-place-preserved
 loop-place-preserved c =
-    one_more (StandsAt c.args.book.now (map told_value c.args.tells.now)) c.loop-place.place c.loop-place.invariant
-    (c.if-not-stands_at.ensures refl)
+    one_more (StandsAt c.args.before (map shared_value c.args.records.now) (map told_value c.args.tells.now))
+    c.loop-place.place c.loop-place.invariant (c.if-not-stands_at.ensures refl)
 
 pub returns : goal.returns
 returns c so place r at =
-    let records = c.executed-place-end.result.now in
-    let len : length c.args.book.now.records ≡ length records =
-    sym (ap (λ (rs : List Record). length rs) c.executed-place-end.ensures) ∙ length-map records shared_value in
-    let within = slice_get_within c.args.book.now.records place r at in
+    let len = length-map c.args.records.now shared_value in
+    let within = slice_get_within (map shared_value c.args.records.now) place r at in
     c.loop-place.invariant place (omega (arith, len, within, c.loop-place-test.false)) r at
