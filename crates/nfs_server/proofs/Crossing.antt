@@ -41,7 +41,4 @@ module _ (L : RattleType) (g : Ghosts L.Denot) (s : IsSend L) (y : IsSync L) whe
 
   pub reader_send : (C : RattleType) → IsSend C → IsSend (Reader.the_row L C g)
   reader_send C c =
-      declared_send (Reader.the_type L C g) (
-        search (sendable, crosses, line.the_send, line.the_sync) depth 20,
-        (clerk_send C c, (search (sendable, crosses, sender.the_send, job.the_send) depth 20, tt)),
-      )
+      declared_send (Reader.the_type L C g) (search (sendable, crosses, line.the_send) depth 20, (clerk_send C c, tt))

@@ -1,8 +1,7 @@
 //! Serving on the network: connections over TCP and datagrams over UDP, by threads over one pool.
 //!
 //! The thread that read a connection's bytes answers their records itself, on a place that it takes for them, and the
-//! answers leave together. Where no place is free, and for datagrams, a worker does. `docs/ARCHITECTURE.md` tells of
-//! the threads.
+//! answers leave together. Workers answer datagrams. `docs/ARCHITECTURE.md` tells of the threads.
 
 mod attendance;
 mod clerk;
@@ -38,7 +37,7 @@ use std::sync::{Arc, Wait};
 use std::thread;
 use std::thread::Threads;
 
-/// How many connections have a place of their own; those beyond share them with the workers.
+/// For how many connections there are places beside those of the workers; more connections share them.
 const OWN_PLACES: u64 = 64;
 
 /// Serves on the network as the options say: until so many connections have come and ended, or for ever.
@@ -252,7 +251,7 @@ fn serve_connections<
 /// Starts the thread that takes datagrams.
 fn start_datagrams<
     L: Ledger + Send + Sync + 'static,
-    R: Threads + Wait + Copy + Drop + Send + Sync + 'static,
+    R: Threads + Wait + Clock + Copy + Drop + Send + Sync + 'static,
 >(rt: R, alloc: Global, socket: UdpSocket, service: Service<L>) -> Result<(), AllocError> {
     thread::spawn(&rt, move || {
         let _ = take_datagrams(&rt, alloc, socket, &service);

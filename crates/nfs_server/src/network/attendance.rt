@@ -1,8 +1,8 @@
-//! How many there are of what comes and goes.
+//! How many connections there are.
 
 use std::sync::{Condvar, Mutex, Wait};
 
-/// How many are there: connections of the server, or jobs of a connection.
+/// How many connections are open.
 #[derive(Drop)]
 pub(crate) struct Attendance {
     present: Mutex<usize>,

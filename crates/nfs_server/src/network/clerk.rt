@@ -74,19 +74,19 @@ impl<L: Ledger, C: Clock> Clerk<L, C> {
                 Ok(answer) => {
                     if put(waiting, answer) {
                         self.places.give(rt, place);
-                        line.send(rt, waiting)?;
+                        line.send(waiting)?;
                         place = self.places.take(rt);
                     }
                 }
                 Err(closed) => {
                     self.places.give(rt, place);
-                    line.send(rt, waiting)?;
+                    line.send(waiting)?;
                     return Err(closed);
                 }
             }
         }
         self.places.give(rt, place);
-        line.send(rt, waiting)
+        line.send(waiting)
     }
 
     /// Answers a record. The place that is handed back may be another one.

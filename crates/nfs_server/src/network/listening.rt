@@ -24,12 +24,15 @@ use std::{io, thread};
 /// How many bytes a datagram has at most.
 const DATAGRAM_SIZE: usize = 65_536;
 
-/// How long nobody is let in where the system has no room for one more connection, in milliseconds.
+/// How long nothing is taken where the system has no room for a connection or a datagram, in milliseconds.
 const PAUSE: u64 = 10;
 
 /// How long a write waits for a peer that reads nothing, in seconds. Where a part was written another wait follows, and
 /// then it fails.
 const PATIENCE: u64 = 15;
+
+/// How long a read waits, in seconds: what a peer that is gone had open is closed then. Clients connect anew.
+const IDLE: u64 = 600;
 
 /// The sockets that listen.
 #[derive(Drop)]
@@ -205,16 +208,16 @@ fn start<
 ) -> io::Result<()> {
     stream.set_nodelay(true)?;
     stream.set_write_timeout(Some(Duration::from_secs(PATIENCE)))?;
+    stream.set_read_timeout(Some(Duration::from_secs(IDLE)))?;
     let host = host_at(alloc, peer.ip())?;
     let mut reader = Reader {
-        line: Arc::new(alloc, Line::new(stream, host))?,
+        line: Line { stream, host },
         clerk: service.clerk(*rt)?,
-        jobs: service.jobs.clone()?,
     };
     let attendance = Arc::try_clone(attendance)?;
     let rt = *rt;
     thread::spawn(&rt, move || {
-        reader.work(&rt, alloc);
+        let _ = reader.work(&rt, alloc);
         drop(reader);
         attendance.leave(&rt);
     })?;
@@ -222,7 +225,7 @@ fn start<
 }
 
 /// Takes datagrams, each a record of its own with no mark, and hands them to the workers.
-pub(crate) fn take_datagrams<R: Wait, L: Ledger>(
+pub(crate) fn take_datagrams<R: Wait + Clock, L: Ledger>(
     rt: &R,
     alloc: Global,
     socket: UdpSocket,
@@ -231,9 +234,12 @@ pub(crate) fn take_datagrams<R: Wait, L: Ledger>(
     let socket = Arc::new(alloc, socket)?;
     let mut buffer = Vec::from_elem(alloc, 0u8, DATAGRAM_SIZE)?;
     for _ in rt.forever() {
-        if let Ok((count, peer)) = socket.recv_from(buffer.as_mut_slice()) {
-            // One that can't be taken in is dropped.
-            let _ = take(rt, alloc, &socket, peer, &buffer[..count], service);
+        match socket.recv_from(buffer.as_mut_slice()) {
+            Ok((count, peer)) => {
+                // One that can't be taken in is dropped.
+                let _ = take(rt, alloc, &socket, peer, &buffer[..count], service);
+            }
+            Err(_) => thread::sleep(rt, Duration::from_millis(PAUSE)),
         }
     }
     unreachable!()
@@ -248,7 +254,7 @@ fn take<R: Wait, L: Ledger>(
     datagram: &[u8],
     service: &Service<L>,
 ) -> Result<(), AllocError> {
-    let job = Job::Datagram {
+    let job = Job {
         socket: Arc::try_clone(socket)?,
         peer,
         host: host_at(alloc, peer.ip())?,

@@ -71,11 +71,6 @@ impl<L: Ledger> Places<L> {
         unreachable!()
     }
 
-    /// A place, if one is free now.
-    pub(crate) fn take_now<R: Wait>(&self, rt: &R) -> Option<Place<L>> {
-        self.free.try_recv(rt).ok()
-    }
-
     /// Gives a place back.
     pub(crate) fn give<R: Wait>(&self, rt: &R, place: Place<L>) {
         drop(self.back.send(rt, place));
