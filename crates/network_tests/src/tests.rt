@@ -1,0 +1,108 @@
+//! A server of `/data` for every host, started with number 7 at (1000, 0), where every moment is (1000, 0), and a
+//! client in another thread. Calls and replies are worked out by hand from RFC 5531, sections 8, 9 and 11, and RFC
+//! 1813.
+
+ghost use Rattle.std.specs.Prelude.{IfOk};
+ghost use Rattle.nfs_server.specs.CommandLine.{AreWithin};
+
+mod answers;
+mod clients;
+mod sockets;
+
+use crate::tests::clients::Visit;
+use nfs_server::{Options, Sockets, configure, serve_sockets};
+use std::alloc::{AllocError, Global};
+use std::net::{Net, TcpListener, TcpStream};
+use std::rt::Clock;
+use std::sync::Wait;
+use std::test::Fail;
+use std::thread;
+use std::thread::Threads;
+
+const SERVE: [&str; 9] = [
+    "nfsd",
+    "--export",
+    "/data,rw,*",
+    "--start",
+    "7",
+    "--clock",
+    "1000",
+    "--workers",
+    "1",
+];
+
+/// The words of every server here, and more.
+fn words(alloc: Global, more: &[&str]) -> Result<Vec<String>, AllocError> {
+    let mut words = Vec::new(alloc);
+    for word in SERVE.iter().chain(more) {
+        words.push(String::from_str(alloc, word)?)?;
+    }
+    Ok(words)
+}
+
+/// The options of every server here, and more.
+fn options(alloc: Global, more: &[&str]) -> Result<Options, Fail>
+    ensures { IfOk result AreWithin }
+{
+    let words = words(alloc, more)?;
+    let options = configure(alloc, &words);
+    drop(words);
+    match options {
+        Ok(options) => Ok(options),
+        Err(exit) => {
+            drop(exit);
+            Err(Fail::from("options"))
+        }
+    }
+}
+
+/// Serves a client on sockets of the system's choice, until so many connections have come and ended as the words say.
+/// Whether all went as it should.
+fn is_served<
+    R: AllocGlobal
+        + Net<Listener = TcpListener, Stream = TcpStream>
+        + Threads
+        + Wait
+        + Clock
+        + Copy
+        + Drop
+        + Send
+        + Sync
+        + 'static,
+>(rt: R, more: &[&str], visit: Visit) -> Result<bool, Fail> {
+    let options = options(rt.alloc(), more)?;
+    match Sockets::bind(&rt, rt.alloc(), &options) {
+        Ok(sockets) => Ok(serve_beside(rt, options, sockets, visit)),
+        Err(exit) => {
+            drop(exit);
+            drop(options);
+            Ok(false)
+        }
+    }
+}
+
+/// Serves on these sockets beside a client.
+fn serve_beside<
+    R: AllocGlobal
+        + Net<Listener = TcpListener, Stream = TcpStream>
+        + Threads
+        + Wait
+        + Clock
+        + Copy
+        + Drop
+        + Send
+        + Sync
+        + 'static,
+>(rt: R, options: Options, sockets: Sockets, visit: Visit) -> bool
+    requires { AreWithin options }
+{
+    let (tcp, udp) = (sockets.tcp_address(), sockets.udp_address());
+    let client = thread::spawn(&rt, move || visit.is_well(&rt, tcp, udp));
+    let ended = serve_sockets(rt, options, sockets);
+    let is_well = ended.is_ok();
+    drop(ended);
+    match client {
+        Ok(client) => client.join(&rt) && is_well,
+        Err(_) => false,
+    }
+}

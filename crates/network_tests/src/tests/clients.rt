@@ -1,0 +1,219 @@
+//! What clients do.
+
+use std::alloc::{AllocError, Global};
+use std::io;
+use std::io::{Read, Write};
+use std::net::{Net, Shutdown, SocketAddr, TcpListener, TcpStream, UdpSocket};
+use std::time::Duration;
+
+/// How long a client waits for an answer, in seconds.
+const PATIENCE: u64 = 20;
+
+/// The most bytes of an answer.
+const MOST: usize = 512;
+
+/// A call, and its answer, as words with their marks. One that shall have no answer has none here.
+pub type Exchange = (&'static [u32], &'static [u32]);
+
+/// What a client does.
+#[derive(Clone, Copy)]
+pub enum Visit {
+    /// These exchanges over a connection.
+    Connection(&'static [Exchange]),
+    /// These exchanges by datagrams, which have no marks; then it opens a connection and closes it.
+    Datagrams(&'static [Exchange]),
+    /// A connection that is closed when the answer to this call has come and is not read; and one over which the call
+    /// is sent twice again, and then this exchange.
+    Lost(&'static [u32], Exchange),
+    /// A connection with this exchange, one beside it that is closed at once, and the exchange again.
+    Refused(Exchange),
+    /// A connection with this exchange, one beside it over which these words are sent, that begin with the call and
+    /// close it, and the exchange again.
+    Closed(Exchange, &'static [u32]),
+    /// The same, where the client ends what it sends behind these words.
+    Ended(Exchange, &'static [u32]),
+}
+
+impl Visit {
+    /// Whether all is answered as it should be.
+    pub fn is_well<R: AllocGlobal + Net<Listener = TcpListener, Stream = TcpStream>>(
+        self,
+        rt: &R,
+        tcp: Option<SocketAddr>,
+        udp: Option<SocketAddr>,
+    ) -> bool {
+        let Some(tcp) = tcp else {
+            return false;
+        };
+        let well = match self {
+            Visit::Connection(exchanges) => exchange_all(rt, tcp, exchanges),
+            Visit::Datagrams(exchanges) => exchange_datagrams(rt, tcp, udp, exchanges),
+            Visit::Lost(call, then) => lose(rt, tcp, call, then),
+            Visit::Refused(exchange) => open_beside(rt, tcp, exchange, &[], false),
+            Visit::Closed(exchange, words) => open_beside(rt, tcp, exchange, words, false),
+            Visit::Ended(exchange, words) => open_beside(rt, tcp, exchange, words, true),
+        };
+        well.unwrap_or(false)
+    }
+}
+
+/// Words as bytes.
+fn spelled(alloc: Global, words: &[u32]) -> Result<Vec<u8>, AllocError> {
+    let mut bytes = Vec::new(alloc);
+    for word in words {
+        bytes.extend_from_slice(&word.to_be_bytes())?;
+    }
+    Ok(bytes)
+}
+
+/// A connection, which waits for no answer for ever.
+fn connect<R: AllocGlobal + Net<Listener = TcpListener, Stream = TcpStream>>(
+    rt: &R,
+    address: SocketAddr,
+) -> io::Result<TcpStream> {
+    let stream = TcpStream::connect(rt, address)?;
+    stream.set_read_timeout(Some(Duration::from_secs(PATIENCE)))?;
+    Ok(stream)
+}
+
+/// Sends words over a connection.
+fn send(alloc: Global, stream: &TcpStream, words: &[u32]) -> io::Result<()> {
+    let mut stream = stream;
+    let bytes = spelled(alloc, words)?;
+    stream.write_all(&bytes)
+}
+
+/// Whether this answer is what comes next over a connection.
+fn is_next(alloc: Global, stream: &TcpStream, answer: &[u32]) -> io::Result<bool> {
+    let mut stream = stream;
+    let answer = spelled(alloc, answer)?;
+    let mut told = Vec::from_elem(alloc, 0u8, answer.len())?;
+    stream.read_exact(told.as_mut_slice())?;
+    Ok(told == answer)
+}
+
+/// Whether a call has this answer over a connection.
+fn exchange(alloc: Global, stream: &TcpStream, exchange: Exchange) -> io::Result<bool> {
+    send(alloc, stream, exchange.0)?;
+    is_next(alloc, stream, exchange.1)
+}
+
+fn exchange_all<R: AllocGlobal + Net<Listener = TcpListener, Stream = TcpStream>>(
+    rt: &R,
+    tcp: SocketAddr,
+    exchanges: &[Exchange],
+) -> io::Result<bool> {
+    let stream = connect(rt, tcp)?;
+    for each in exchanges {
+        if !exchange(rt.alloc(), &stream, *each)? {
+            return Ok(false);
+        }
+    }
+    Ok(true)
+}
+
+/// Whether a call has this answer by datagrams, or shall have none.
+fn exchange_datagram(
+    alloc: Global,
+    socket: &UdpSocket,
+    udp: SocketAddr,
+    exchange: Exchange,
+) -> io::Result<bool> {
+    let (call, answer) = (spelled(alloc, exchange.0)?, spelled(alloc, exchange.1)?);
+    let mut told = [0u8; MOST];
+    socket.send_to(call.get(4..).unwrap_or(&[]), udp)?;
+    if answer.is_empty() {
+        return Ok(true);
+    }
+    let (count, peer) = socket.recv_from(&mut told)?;
+    Ok(peer == udp && told.get(..count) == answer.get(4..))
+}
+
+fn exchange_datagrams<R: AllocGlobal + Net<Listener = TcpListener, Stream = TcpStream>>(
+    rt: &R,
+    tcp: SocketAddr,
+    udp: Option<SocketAddr>,
+    exchanges: &[Exchange],
+) -> io::Result<bool> {
+    let Some(udp) = udp else {
+        return Ok(false);
+    };
+    let socket = UdpSocket::bind(rt, "127.0.0.1:0")?;
+    socket.set_read_timeout(Some(Duration::from_secs(PATIENCE)))?;
+    let mut is_well = true;
+    for each in exchanges {
+        is_well = is_well && exchange_datagram(rt.alloc(), &socket, udp, *each)?;
+    }
+    connect(rt, tcp)?;
+    Ok(is_well)
+}
+
+/// What comes next over a connection, at most 512 bytes of it.
+fn next(alloc: Global, stream: &TcpStream) -> io::Result<Vec<u8>> {
+    let mut stream = stream;
+    let mut bytes = [0u8; MOST];
+    let count = stream.read(&mut bytes)?;
+    Ok(Vec::from_slice(alloc, bytes.get(..count).unwrap_or(&[]))?)
+}
+
+fn lose<R: AllocGlobal + Net<Listener = TcpListener, Stream = TcpStream>>(
+    rt: &R,
+    tcp: SocketAddr,
+    call: &[u32],
+    then: Exchange,
+) -> io::Result<bool> {
+    let alloc = rt.alloc();
+    let mut peeked = [0u8; MOST];
+    let count = send_and_leave(rt, tcp, call, &mut peeked)?;
+    let stream = connect(rt, tcp)?;
+    send(alloc, &stream, call)?;
+    let first = next(alloc, &stream)?;
+    send(alloc, &stream, call)?;
+    let second = next(alloc, &stream)?;
+    let is_kept = count > 0 && peeked.get(..count) == Some(first.as_slice()) && first == second;
+    Ok(is_kept && exchange(alloc, &stream, then)?)
+}
+
+/// Sends a call, and closes the connection once its answer has come, which is looked at and not read.
+fn send_and_leave<R: AllocGlobal + Net<Listener = TcpListener, Stream = TcpStream>>(
+    rt: &R,
+    tcp: SocketAddr,
+    call: &[u32],
+    peeked: &mut [u8],
+) -> io::Result<usize> {
+    let stream = connect(rt, tcp)?;
+    send(rt.alloc(), &stream, call)?;
+    stream.peek(peeked)
+}
+
+fn open_beside<R: AllocGlobal + Net<Listener = TcpListener, Stream = TcpStream>>(
+    rt: &R,
+    tcp: SocketAddr,
+    each: Exchange,
+    words: &[u32],
+    ends: bool,
+) -> io::Result<bool> {
+    let alloc = rt.alloc();
+    let stream = connect(rt, tcp)?;
+    let before = exchange(alloc, &stream, each)?;
+    let beside = connect(rt, tcp)?;
+    let answer = if words.is_empty() { &[] } else { each.1 };
+    let closed = is_closed_behind(alloc, &beside, words, ends, answer)?;
+    let behind = exchange(alloc, &stream, each)?;
+    Ok(before && closed && behind)
+}
+
+/// Whether a connection over which these words are sent gives this answer, and is closed then.
+fn is_closed_behind(
+    alloc: Global,
+    stream: &TcpStream,
+    words: &[u32],
+    ends: bool,
+    answer: &[u32],
+) -> io::Result<bool> {
+    send(alloc, stream, words)?;
+    if ends {
+        stream.shutdown(Shutdown::Write)?;
+    }
+    Ok(is_next(alloc, stream, answer)? && next(alloc, stream)?.is_empty())
+}
