@@ -8,11 +8,11 @@ usage: bench/clients.py [PROGRAM]
 """
 import os
 import pathlib
-import re
 import subprocess
 import tempfile
 
 import nfsd
+import network
 
 
 def url(path, port):
@@ -52,15 +52,9 @@ def lists(folder, port):
 def main():
     words = nfsd.parser(__doc__)
     words.add_argument("program", metavar="PROGRAM", nargs="?", default=nfsd.PROGRAM, help="the program (this one)")
-    options = ["--tcp", "127.0.0.1:0", "--export", "/data,rw,*"]
-    with subprocess.Popen([words.parse_args().program, *options], stderr=subprocess.PIPE) as server:
-        try:
-            port = re.search(rb":(\d+) \(TCP\)", server.stderr.readline())[1].decode()
-            with tempfile.TemporaryDirectory() as folder:
-                copies(pathlib.Path(folder), port)
-                lists(pathlib.Path(folder), port)
-        finally:
-            server.terminate()
+    with network.Server(words.parse_args().program) as server, tempfile.TemporaryDirectory() as folder:
+        copies(pathlib.Path(folder), server.port)
+        lists(pathlib.Path(folder), server.port)
 
 
 if __name__ == "__main__":
