@@ -20,19 +20,24 @@ use std::rt::Clock;
 use std::sync::ledger::Ledger;
 use std::sync::{Arc, Wait};
 
-/// A peer can't be served any more: a read or a write failed, or there was no memory for a record or its answer.
+/// Why a peer can't be served any more.
 #[derive(Clone, Copy)]
-pub(crate) struct Closed;
+pub(crate) enum Closed {
+    /// A read or a write failed, or a record was too large.
+    Failed,
+    /// There was no memory for a record or its answer.
+    Memory,
+}
 
 impl From<AllocError> for Closed {
     fn from(_error: AllocError) -> Closed {
-        Closed
+        Closed::Memory
     }
 }
 
 impl From<io::Error> for Closed {
     fn from(_error: io::Error) -> Closed {
-        Closed
+        Closed::Failed
     }
 }
 
@@ -106,9 +111,9 @@ impl<L: Ledger, C: Clock> Clerk<L, C> {
         match host.share() {
             Ok(host) => match Arrival::read(alloc, host, record, moment) {
                 Ok(arrival) => self.execute(rt, alloc, place, arrival),
-                Err(_) => (place, Err(Closed)),
+                Err(_) => (place, Err(Closed::Memory)),
             },
-            Err(_) => (place, Err(Closed)),
+            Err(_) => (place, Err(Closed::Memory)),
         }
     }
 
@@ -167,6 +172,9 @@ fn submit<R: Wait, L: Ledger>(
     arrival: Arrival,
 ) -> Result<Answered, PoolError> {
     let Place { pool, seat, .. } = place;
+    let Some(pool) = &**pool else {
+        return Err(PoolError::EraFull(arrival));
+    };
     match pool.submit(rt, alloc, &Open, seat, arrival)? {
         Sent::Executed => Ok(executed(seat)),
         Sent::Repeated(kept) => Ok(Ok(Answer::Repeated(kept))),
@@ -178,7 +186,7 @@ fn submit<R: Wait, L: Ledger>(
 
 /// The answer that a seat's last receipt tells, and shares with it.
 fn executed<L: Ledger>(seat: &Seat<L>) -> Answered {
-    let receipt = seat.receipts().last().ok_or(Closed)?;
+    let receipt = seat.receipts().last().ok_or(Closed::Memory)?;
     Ok(Answer::Executed(Receipt {
         number: receipt.number,
         executed: Arc::try_clone(&receipt.executed)?,
@@ -231,7 +239,7 @@ fn declined(alloc: Global, received: Received, asked: Asked) -> Declined
 fn told(declined: Declined) -> Answered {
     if declined.answer.is_none() {
         drop(declined);
-        return Err(Closed);
+        return Err(Closed::Memory);
     }
     Ok(Answer::Refused(declined))
 }

@@ -42,11 +42,14 @@ impl<L: Ledger, C: Clock> Clerk<L, C> {
         let place = self.places.take(rt);
         let (place, answered) = self.answer(rt, alloc, &host, place, record);
         self.places.give(rt, place);
-        if let Ok(answer) = answered {
-            if let Some(datagram) = datagram_of(answer.bytes()) {
-                let _ = socket.send_to(datagram, peer);
+        match answered {
+            Ok(answer) => {
+                if let Some(datagram) = datagram_of(answer.bytes()) {
+                    let _ = socket.send_to(datagram, peer);
+                }
+                drop(answer);
             }
-            drop(answer);
+            Err(_) => self.places.relieve(rt),
         }
     }
 }

@@ -24,7 +24,7 @@ impl Line {
     {
         let written = self.write(waiting);
         waiting.sent();
-        written.map_err(|_| Closed)
+        Ok(written?)
     }
 
     /// Writes the answers that wait.

@@ -183,6 +183,7 @@ pub(crate) fn let_in<
                     && start(rt, alloc, stream, peer, service, attendance).is_err()
                 {
                     attendance.leave(rt);
+                    service.places.relieve(rt);
                 }
             }
             Err(_) => thread::sleep(rt, Duration::from_millis(PAUSE)),
@@ -217,7 +218,7 @@ fn start<
     let attendance = Arc::try_clone(attendance)?;
     let rt = *rt;
     thread::spawn(&rt, move || {
-        let _ = reader.work(&rt, alloc);
+        reader.work(&rt, alloc);
         drop(reader);
         attendance.leave(&rt);
     })?;
@@ -237,7 +238,9 @@ pub(crate) fn take_datagrams<R: Wait + Clock, L: Ledger>(
         match socket.recv_from(buffer.as_mut_slice()) {
             Ok((count, peer)) => {
                 // One that can't be taken in is dropped.
-                let _ = take(rt, alloc, &socket, peer, &buffer[..count], service);
+                if take(rt, alloc, &socket, peer, &buffer[..count], service).is_err() {
+                    service.places.relieve(rt);
+                }
             }
             Err(_) => thread::sleep(rt, Duration::from_millis(PAUSE)),
         }

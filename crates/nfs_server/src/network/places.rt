@@ -18,10 +18,13 @@ const PAUSE: u64 = 10;
 /// How often the keeper tries to compare an era. Then it is let go all the same, since its records take memory too.
 const TRIES: usize = 100;
 
+/// The pool, which all places have. While its era is ended the keeper has it in hand, and here is none.
+pub(crate) type Shared<L> = Arc<Option<Pool<L>>>;
+
 /// A seat with its pool: the leave to execute calls.
 #[derive(Drop)]
 pub(crate) struct Place<L: Ledger> {
-    pub(crate) pool: Arc<Pool<L>>,
+    pub(crate) pool: Shared<L>,
     pub(crate) seat: Seat<L>,
     /// How often an era was to be ended before it was handed out.
     pub(crate) turns: u64,
@@ -76,6 +79,12 @@ impl<L: Ledger> Places<L> {
         drop(self.back.send(rt, place));
     }
 
+    /// Has the era ended, so that what was recorded is let go where memory is wanting.
+    pub(crate) fn relieve<R: Wait>(&self, rt: &R) {
+        let place = self.take(rt);
+        self.give(rt, self.turn(rt, place));
+    }
+
     /// Hands a place in, so that the era is ended, and takes one that was handed out after that was tried.
     pub(crate) fn turn<R: Wait>(&self, rt: &R, place: Place<L>) -> Place<L> {
         let before = place.turns;
@@ -111,13 +120,16 @@ impl<L: Ledger> Keeper<L> {
         let mut is_told = true;
         for first in self.full.iter(rt) {
             let turns = first.turns.saturating_add(1);
-            let Some(pool) = self.gather(rt, first, &mut seats) else {
+            let Some(mut shared) = self.gather(rt, first, &mut seats) else {
+                return;
+            };
+            let Some(pool) = taken(&mut shared) else {
                 return;
             };
             if is_told {
-                (seats, is_told) = self.turn(rt, alloc, pool, seats, turns);
+                (seats, is_told) = self.turn(rt, alloc, shared, pool, seats, turns);
             } else {
-                seats = self.hold(rt, alloc, pool, seats, turns);
+                seats = self.go_on(rt, shared, pool, seats, turns, true);
             }
         }
     }
@@ -128,7 +140,7 @@ impl<L: Ledger> Keeper<L> {
         rt: &R,
         first: Place<L>,
         seats: &mut Vec<Seat<L>>,
-    ) -> Option<Pool<L>> {
+    ) -> Option<Shared<L>> {
         let mut last = first;
         for _ in 1..self.count {
             let next = self.next(rt)?;
@@ -137,7 +149,7 @@ impl<L: Ledger> Keeper<L> {
             last = next;
         }
         seats.push(last.seat).ok()?;
-        Arc::into_inner(last.pool)
+        Some(last.pool)
     }
 
     /// The next place that comes, handed in or free.
@@ -154,39 +166,41 @@ impl<L: Ledger> Keeper<L> {
         &self,
         rt: &R,
         alloc: Global,
+        shared: Shared<L>,
         pool: Pool<L>,
         seats: Vec<Seat<L>>,
         turns: u64,
     ) -> (Vec<Seat<L>>, bool) {
         match pool.next_era(alloc, seats) {
-            Ok((ended, pool, seats)) => match Arc::new(alloc, pool) {
-                Ok(pool) => {
-                    let room = hand_out(rt, &self.back, pool, seats, turns, false);
-                    (room, is_told(rt, alloc, ended))
-                }
-                Err(refused) => {
-                    let is_told = is_told(rt, alloc, ended);
-                    let pool = shared(rt, alloc, refused.value);
-                    let room = hand_out(rt, &self.back, pool, seats, turns, false);
-                    (room, is_told)
-                }
-            },
-            Err((_, pool, seats)) => (self.hold(rt, alloc, pool, seats, turns), true),
+            Ok((ended, pool, seats)) => {
+                let room = self.go_on(rt, shared, pool, seats, turns, false);
+                (room, is_told(rt, alloc, ended))
+            }
+            Err((_, pool, seats)) => (self.go_on(rt, shared, pool, seats, turns, true), true),
         }
     }
 
-    /// Hands out the places of the same era. Their room is left.
-    fn hold<R: Wait + Clock>(
+    /// Puts the pool back, and hands out its places. Their room is left. It takes no memory.
+    fn go_on<R: Wait>(
         &self,
         rt: &R,
-        alloc: Global,
+        shared: Shared<L>,
         pool: Pool<L>,
         seats: Vec<Seat<L>>,
         turns: u64,
+        is_stuck: bool,
     ) -> Vec<Seat<L>> {
-        let pool = shared(rt, alloc, pool);
-        hand_out(rt, &self.back, pool, seats, turns, true)
+        let mut shared = shared;
+        if let Some(room) = Arc::get_mut(&mut shared) {
+            *room = Some(pool);
+        }
+        hand_out(rt, &self.back, shared, seats, turns, is_stuck)
     }
+}
+
+/// The pool, where nobody else has it.
+fn taken<L: Ledger>(shared: &mut Shared<L>) -> Option<Pool<L>> {
+    Arc::get_mut(shared)?.take()
 }
 
 /// Whether each record of an era has its receipt, or there was no memory to compare them. All is let go.
@@ -210,24 +224,11 @@ fn is_told<R: Wait + Clock>(rt: &R, alloc: Global, ended: Ended) -> bool {
     true
 }
 
-/// The pool as one that several own. Where there is no memory for that it is waited for.
-fn shared<R: Wait + Clock, L: Ledger>(rt: &R, alloc: Global, pool: Pool<L>) -> Arc<Pool<L>> {
-    let mut pool = pool;
-    for _ in rt.forever() {
-        match Arc::new(alloc, pool) {
-            Ok(pool) => return pool,
-            Err(refused) => pool = refused.value,
-        }
-        thread::sleep(rt, Duration::from_millis(PAUSE));
-    }
-    unreachable!()
-}
-
 /// Makes a place of each seat, and hands it out. The room of the seats is left.
 pub(crate) fn hand_out<R: Wait, L: Ledger>(
     rt: &R,
     back: &Sender<Place<L>>,
-    pool: Arc<Pool<L>>,
+    pool: Shared<L>,
     seats: Vec<Seat<L>>,
     turns: u64,
     is_stuck: bool,

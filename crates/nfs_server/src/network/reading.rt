@@ -4,7 +4,7 @@ ghost use Rattle.std.specs.Prelude.{◌≡◌, false};
 
 use crate::network::clerk::{Clerk, Closed};
 use crate::network::line::Line;
-use nfs_rpc::Record;
+use nfs_rpc::{Record, RecordError};
 use nfs_streams::Connection;
 use std::alloc::{AllocError, Global};
 use std::io::Read;
@@ -29,12 +29,15 @@ pub(crate) struct Reader<L: Ledger, C> {
 }
 
 impl<L: Ledger, C: Clock> Reader<L, C> {
+    /// Serves the connection to its end. Where that is for want of memory the era is ended.
+    pub(crate) fn work<R: Wait>(&mut self, rt: &R, alloc: Global) {
+        if let Err(Closed::Memory) = self.read(rt, alloc) {
+            self.clerk.places.relieve(rt);
+        }
+    }
+
     /// Serves the connection to its end.
-    ///
-    /// # Errors
-    ///
-    /// A read or a write failed, or a record is too large or can't be taken in.
-    pub(crate) fn work<R: Wait>(&mut self, rt: &R, alloc: Global) -> Result<(), Closed> {
+    fn read<R: Wait>(&mut self, rt: &R, alloc: Global) -> Result<(), Closed> {
         let mut connection = Connection::new(alloc);
         let mut buffer = Vec::from_elem(alloc, 0u8, FIRST_SIZE)?;
         'pieces: for _ in rt.forever() {
@@ -44,8 +47,10 @@ impl<L: Ledger, C: Clock> Reader<L, C> {
             }
             let taken = connection.take_in(&buffer[..count]);
             self.answer_piece(rt, alloc, &mut connection)?;
-            if taken.is_err() {
-                return Err(Closed);
+            match taken {
+                Ok(()) => {}
+                Err(RecordError::TooLarge) => return Err(Closed::Failed),
+                Err(RecordError::Memory) => return Err(Closed::Memory),
             }
             if count == buffer.len() {
                 // Where there is no memory for a larger one, this one does.
