@@ -4,6 +4,7 @@ use Rattle.std.proofs.Common.{slice_get}
 use Rattle.std.proofs.Math.Bridge.{le_prop}
 use Rattle.std.specs.Cmp.{first_so, second_so, unsigned_Decides}
 use Rattle.std.specs.Prelude.{IsPermutation}
+use Rattle.std.specs.declared.alloc.Global.{Global}
 use Rattle.std.specs.declared.vec.Vec.{Vec}
 use Rattle.std.proofs.lemmas.List.{length-map, take_more}
 use Rattle.std.proofs.lemmas.List.Sorted.{length_permutation}
@@ -74,7 +75,7 @@ past_map v xs place ys is past = subst (λ l. slice_get l place ≡ None) is
     (slice_get-map v xs place ∙ ap (option_map v) (slice_get_past xs place past))
 
 -- ---- what receipts tell
-count-told : (seats : List SeatValue) → length (told_by seats) ≡ receipts_count seats
+pub count-told : (seats : List SeatValue) → length (told_by seats) ≡ receipts_count seats
 count-told [] = refl
 count-told (s ∷ seats) =
     omega (arith, length-append (map told s.receipts) (told_by seats), length-map s.receipts told, count-told seats)
@@ -97,23 +98,33 @@ told-more seats k s receipts within item same =
     ∙ ap told_by (sym (take_more seats k s within))
 
 -- one list more
-told_in-append : (lists more : List (Vec Receipt)) → told_in (lists ++ more) ≡ told_in lists ++ told_in more
+told_in-append : (lists more : List (Vec Receipt Global)) → told_in (lists ++ more) ≡ told_in lists ++ told_in more
 told_in-append [] more = refl
 told_in-append (list ∷ lists) more =
     ap (λ (ts : List (ℕ × Record)). map told list.items ++ ts) (told_in-append lists more)
     ∙ sym (append_assoc (map told list.items) (told_in lists) (told_in more))
 
-pub told_in-more : (lists : List (Vec Receipt)) (list : Vec Receipt) (receipts : List Receipt) →
+pub told_in-more : (lists : List (Vec Receipt Global)) (list : Vec Receipt Global) (receipts : List Receipt) →
     list.items ≡ receipts → told_in (lists ++ list ∷ []) ≡ told_in lists ++ map told receipts
 told_in-more lists list receipts same =
     told_in-append lists (list ∷ []) ∙ ap (λ (ts : List (ℕ × Record)). told_in lists ++ ts)
     (append-nil (map told list.items) ∙ ap (map told) same)
 
-pub told_in-next : (lists : List (Vec Receipt)) (k : ℕ) (list : Vec Receipt) → k < length lists →
+-- what was a seat's is a list's
+pub told_in-left : (lists new : List (Vec Receipt Global)) (list : Vec Receipt Global) (s : SeatValue)
+    (rest seats : List SeatValue) → list.items ≡ s.receipts → new ≡ lists ++ list ∷ [] → seats ≡ s ∷ rest →
+    told_in new ++ told_by rest ≡ told_in lists ++ told_by seats
+told_in-left lists new list s rest seats same is left =
+    ap (λ (ls : List (Vec Receipt Global)). told_in ls ++ told_by rest) is
+    ∙ ap (λ (ts : List (ℕ × Record)). ts ++ told_by rest) (told_in-more lists list s.receipts same)
+    ∙ append_assoc (told_in lists) (map told s.receipts) (told_by rest)
+    ∙ ap (λ (ss : List SeatValue). told_in lists ++ told_by ss) (sym left)
+
+pub told_in-next : (lists : List (Vec Receipt Global)) (k : ℕ) (list : Vec Receipt Global) → k < length lists →
     list ≡ get_or lists k list → told_in (take k lists) ++ map told list.items ≡ told_in (take (k + 1) lists)
 told_in-next lists k list within item =
     sym (told_in-more (take k lists) list list.items refl)
-    ∙ ap (λ (x : Vec Receipt). told_in (take k lists ++ x ∷ [])) item
+    ∙ ap (λ (x : Vec Receipt Global). told_in (take k lists ++ x ∷ [])) item
     ∙ ap told_in (sym (take_more lists k list within))
 
 pub told-count : (seats : List SeatValue) (tells : List Told) → IsPermutation (told_by seats) (map told_value tells) →

@@ -2,6 +2,7 @@
 use Rattle.std.specs.Prelude.{◌≡◌, ℕ, ◌+◌, Bool, true, List, [], ◌∷◌, ◌++◌, length, map}
 use Rattle.std.specs.Prelude.{IsPermutation, Some, slice_get}
 use Rattle.std.specs.List.{AllByRecursion}
+use Rattle.std.specs.declared.alloc.Global.{Global}
 use Rattle.std.specs.declared.vec.Vec.{Vec}
 use Rattle.std.specs.Cmp.Lexicographic.{pointwise}
 use Rattle.side_wire.specs.contracts.message.MessagePartialEq.TheImpl.{eq-value as message}
@@ -31,7 +32,7 @@ told_by [] = []
 told_by (s ∷ seats) = map told s.receipts ++ told_by seats
 
 -- what the receipts of these lists tell
-abbrev pub told_in : List (Vec Receipt) → List (ℕ × Record)
+abbrev pub told_in : List (Vec Receipt Global) → List (ℕ × Record)
 told_in [] = []
 told_in (list ∷ lists) = map told list.items ++ told_in lists
 

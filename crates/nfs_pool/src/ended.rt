@@ -1,6 +1,6 @@
 //! An era that is over, and the receipts that its seats left.
 
-ghost use Rattle.std.specs.Prelude.{◌≡◌, ◌×◌, IfErr, IfOk, length};
+ghost use Rattle.std.specs.Prelude.{◌≡◌, IfErr, IfOk, length};
 ghost use Rattle.nfs_engine.specs.Book.{BookValue};
 ghost use Rattle.nfs_pool.specs.Eras.{EndsSome, LeavesEra, told_in};
 

@@ -1,6 +1,6 @@
 //! The end of an era, and of a pool.
 
-ghost use Rattle.std.specs.Prelude.{IfErr, IfOk, OnErr, ◌≡◌, ◌×◌, length};
+ghost use Rattle.std.specs.Prelude.{IfErr, IfOk, OnErr, ◌≡◌, length};
 ghost use Rattle.nfs_pool.specs.Eras.{AreNew, EndsEra, EndsIn, EndsSome, LeavesEra, told_by};
 
 use crate::comparing::{begin_so, told_in_order};

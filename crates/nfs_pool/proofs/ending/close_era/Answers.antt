@@ -1,37 +1,42 @@
-use Rattle.std.proofs.Common.{◌≡◌, List, arith, map, refl, sym, subst, length}
+use Rattle.std.proofs.Common.{◌≡◌, List, ap, arith, length, map, refl, subst, sym, ℕ}
 use Rattle.std.specs.Prelude.{IsPermutation}
 use Rattle.std.proofs.lemmas.List.{length-map}
-use Rattle.nfs_engine.specs.Book.{BookValue}
+use Rattle.nfs_machine.specs.Run.{Record}
+use Rattle.nfs_engine.specs.Arrivals.{shared_value}
+use Rattle.nfs_engine.specs.declared.records.Era.{Era}
 use Rattle.nfs_pool.specs.Eras.{BeginSo, EndsEra, told_by, told_value}
 use Rattle.nfs_pool.specs.Seats.{SeatValue}
 use Rattle.nfs_pool.specs.declared.comparing.Told.{Told}
-use Rattle.nfs_pool.proofs.Numbered.{tell-all, told-count}
+use Rattle.nfs_pool.proofs.Numbered.{count-told, tell-all, told-count}
 use Rattle.nfs_pool.proofs.ending.close_era.Goals as goal
-
-pub new_era-era-requires-clause-count : goal.new_era-era-requires-clause-count
-new_era-era-requires-clause-count g c =
-    let moved : IsPermutation (told_by c.args.seats.items) (map told_value c.in-Ok.tells.items) =
-    subst (λ (ss : List SeatValue). IsPermutation (told_by ss) (map told_value c.in-Ok.tells.items))
-    c.deref.ensures.value c.in-Ok.ensures in
-    let count = told-count c.args.seats.items c.in-Ok.tells.items moved in
-    omega (arith, count, c.close_all.ensures.amount, c.no_share-all.ensures.share.1, c.len.ensures)
 
 pub returns-clause-era : goal.returns-clause-era
 returns-clause-era g c =
-    let moved : IsPermutation (told_by c.args.seats.items) (map told_value c.in-Ok.tells.items) =
-    subst (λ (ss : List SeatValue). IsPermutation (told_by ss) (map told_value c.in-Ok.tells.items))
-    c.deref.ensures.value c.in-Ok.ensures in
-    let begins : BeginSo c.args.desk.now.book (map told_value c.in-Ok.tells.items) =
-    subst (λ (ts : List Told). BeginSo c.args.desk.now.book (map told_value ts)) c.deref-2.ensures.value
-    (c.if-not-begin_so.ensures refl) in
-    let same = c.no_share-all.ensures.book in
-    let len : length (map told_value c.in-Ok.tells.items) ≡ length c.no_share-all.new.self.book.records =
-    omega (arith, length-map c.in-Ok.tells.items told_value, c.len.ensures, c.new_era-era.ensures.counted) in
-    subst (λ (b : BookValue). EndsEra b c.new_era-era.new.self.book (told_by c.args.seats.items) c.new_era-era.result)
-    same (record {
-      run = c.new_era-era.ensures.run;
-      told = tell-all c.no_share-all.new.self.book (told_by c.args.seats.items) (map told_value c.in-Ok.tells.items)
-          moved len (subst (λ (b : BookValue). BeginSo b (map told_value c.in-Ok.tells.items)) (sym same) begins);
-      takes = c.new_era-era.ensures.takes;
-      rebases = c.new_era-era.ensures.rebases;
+    let old = c.args.desk.now.book in
+    let tells = map told_value c.in-Ok.tells.items in
+    let moved : IsPermutation (told_by c.args.seats.items) tells =
+    subst (λ (ss : List SeatValue). IsPermutation (told_by ss) tells) c.deref.ensures.value c.in-Ok.ensures in
+    let begins : BeginSo old.before old.records tells =
+    subst (λ (n : ℕ). BeginSo n old.records tells) c.before-2.ensures.before
+    (subst (λ (rs : List Record). BeginSo c.before-2.result rs tells) c.executed.ensures
+    (subst (λ (ts : List Told). BeginSo c.before-2.result (map shared_value c.executed.result.now)
+    (map told_value ts)) c.deref-2.ensures.value (c.if-not-begin_so.ensures refl))) in
+    let leaves = c.in_ok-ended.ensures.leaves in
+    let count = told-count c.args.seats.items c.in-Ok.tells.items moved in
+    let receipts = ap length c.in_ok-ended.ensures.ended in
+    let len : length tells ≡ length old.records =
+    omega (
+      arith,
+      length-map c.in-Ok.tells.items told_value,
+      count,
+      count-told c.args.seats.items,
+      receipts,
+      leaves.counted,
+    ) in
+    subst (λ (era : Era). EndsEra old c.leave_era.new.desk.book (told_by c.args.seats.items) era)
+    (sym c.into_era.ensures) (record {
+      run = leaves.run;
+      told = tell-all old (told_by c.args.seats.items) tells moved len begins;
+      takes = leaves.takes;
+      rebases = leaves.rebases;
     })
