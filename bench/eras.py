@@ -9,8 +9,8 @@ waited at most, and how often longer than 10 ms. A benchmark, not a test.
 
 usage: bench/eras.py [--eras N] [--seconds S] [PROGRAM]
 """
+import concurrent.futures
 import statistics
-import threading
 import time
 
 import nfsd
@@ -88,29 +88,27 @@ def tell_ends(program, name, make, eras):
     )
 
 
-def load(server, until, answered):
-    """GETATTRs in pieces, until then."""
-    connection = network.Connection(server.port)
+def load(port, until):
+    """GETATTRs in pieces, until then. How many."""
+    connection = network.Connection(port)
     piece = b"".join(nfsd.call(xid, nfsd.GETATTR, nfsd.ROOT) for xid in range(PIECE))
+    calls = 0
     while time.monotonic() < until:
         connection.answer(piece, PIECE * nfsd.SHOWN)
-        answered.append(PIECE)
+        calls += PIECE
+    return calls
 
 
 def tell_waits(program, seconds):
     """Prints how long one client waits beside others that load the server."""
-    with network.Server(program) as server:
+    with network.Server(program) as server, concurrent.futures.ProcessPoolExecutor(LOADERS) as processes:
         connection = network.Connection(server.port)
-        answered, waits = [], []
+        waits = []
         until = time.monotonic() + seconds
-        loaders = [threading.Thread(target=load, args=(server, until, answered)) for _ in range(LOADERS)]
-        for loader in loaders:
-            loader.start()
+        loaders = [processes.submit(load, server.port, until) for _ in range(LOADERS)]
         while time.monotonic() < until:
             waits.append(connection.answer(nfsd.call(len(waits), nfsd.GETATTR, nfsd.ROOT), nfsd.SHOWN))
-        for loader in loaders:
-            loader.join()
-    calls = sum(answered) + len(waits)
+        calls = sum(loader.result() for loader in loaders) + len(waits)
     print(
         f"{calls / seconds:,.0f} calls a second in {calls // RECORDS} eras: one client waits"
         f" {1e3 * statistics.median(waits):.2f} ms, at most {1e3 * max(waits):.1f} ms, and longer than 10 ms"
