@@ -1,0 +1,4 @@
+pub mod Cutting
+pub mod Held
+pub mod Same
+pub mod SameLaws
