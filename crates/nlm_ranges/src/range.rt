@@ -86,7 +86,6 @@ impl<'a> LockRange<'a> {
         ensures last { result ≡ self.now.last }
         ensures rises { self.now.first ≤ self.now.last }
     {
-        let _first = self.first;
         self.last
     }
 
