@@ -160,8 +160,8 @@ pub fn steps_keep_exports()
 /// cookies rise, the texts of links are within their bound, and what is mounted stands once and within its bound.
 /// Locks, shares, waiting requests and pending grants are of living regular files, conflict with nothing, or with what
 /// is held where they wait, and have numbers of their own that were given. What is locked, waited for or pending is a
-/// range of 64-bit offsets; a sharer has one share of a file, and equal requests wait once. The exports that it starts with are
-/// faultless, as those of `Exports::new` are.
+/// range of 64-bit offsets; a sharer has one share of a file, and equal requests wait once. The exports that it starts
+/// with are faultless, as those of `Exports::new` are.
 ///
 /// Such a run is `worked_run`. Locks are held and waited for in `worked_locking`.
 pub fn states_stay_well_formed()

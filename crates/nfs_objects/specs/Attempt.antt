@@ -60,8 +60,8 @@ AsksFirst call view outcome = elim (first_wanted call view) [
 ]
 
 -- ---- the same of what an attempt comes to before it is an outcome
--- A call that is not done asks for addresses, which it names or where something stands; or for its new numbers, so many;
--- or there is no memory.
+-- A call that is not done asks for addresses, which it names or where something stands; or for its new numbers, so
+-- many; or there is no memory.
 abbrev pub StopsCall : ModesValue → (named : List Addr) → (numbers : ℕ) → ViewValue → Halt → Type 0
 StopsCall modes named numbers view (halts.Need asked) = Asks modes named view asked.items
 StopsCall modes named numbers view (halts.Fresh count) = AsksNumbers numbers view count

@@ -2,9 +2,9 @@
 //!
 //! A store is a map from addresses to objects, and stands for one state of the machine of `nfs_machine`. A call runs on
 //! a `Draft`: the `View`, which is the part of the store that it has read, and the writes that it would make. It comes
-//! to a `Change`, or halts with addresses or numbers that it needs first. What a change promises (`IsPromised`): in every
-//! sound store that the view fits, its reply, messages and writes are one step of the machine, which leaves the store
-//! sound.
+//! to a `Change`, or halts with addresses or numbers that it needs first. What a change promises (`IsPromised`): in
+//! every sound store that the view fits, its reply, messages and writes are one step of the machine, which leaves the
+//! store sound.
 #![tactic(auto)]
 
 pub mod address;

@@ -67,8 +67,8 @@ pub record HasAsked (before after : TxnValue) (asked : ℕ) : Type 0 where
   pub counts : length after.view.entries + length before.view.reserved ≡
       length before.view.entries + length after.view.reserved + asked
 
--- While a worker's call goes on, it asks the engine for just as many addresses as its view grows by, the numbers that it
--- is given left aside.
+-- While a worker's call goes on, it asks the engine for just as many addresses as its view grows by, the numbers that
+-- it is given left aside.
 abbrev pub AsksForEachOnce : Type 0
 AsksForEachOnce = (place : ℕ) (old new : WorldValue) (events : List Event) (said later : List Answer)
     (drives : Drives old events new said later) → GoesOnOver place old new events said later drives →

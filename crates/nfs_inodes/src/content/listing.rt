@@ -70,8 +70,8 @@ impl<'d> Listed<'d> {
     }
 }
 
-/// The entries of a directory that are left behind a cookie, `.` and `..` among them, each of which is read as it comes.
-/// A clause sees those that are left as a list.
+/// The entries of a directory that are left behind a cookie, `.` and `..` among them, each of which is read as it
+/// comes. A clause sees those that are left as a list.
 #[derive(Drop)]
 pub struct EntriesLeft<'d> {
     number: u64,
