@@ -1,0 +1,52 @@
+#!/bin/busybox sh
+# The first process of the machine that bench/linux.py starts: mounts the export at $nfs_port and makes checks.
+export PATH=/sbin:/bin
+/bin/busybox --install -s /bin
+/bin/busybox mount -t proc proc /proc
+/bin/busybox mount -t sysfs sys /sys
+/bin/busybox mount -t devtmpfs dev /dev
+while read -r module; do insmod "/modules/$module"; done < /modules/order
+ifconfig eth0 10.0.2.15 netmask 255.255.255.0 up
+sleep 1
+
+# (10.0.2.2 is the loopback address of the machine that runs QEMU)
+enter() {
+    mount.linux -t nfs -o vers=3,proto=tcp,port="$nfs_port",mountport="$nfs_port",mountproto=tcp,nolock \
+        10.0.2.2:/data /mnt
+}
+passed=0
+failed=0
+check() {
+    if eval "$2"; then passed=$((passed + 1)); else failed=$((failed + 1)); echo "linux: failed: $1"; fi
+}
+
+echo "linux: $(uname -r)"
+check "mount" enter
+cd /mnt
+check "write and read" 'echo hello > a; [ "$(cat a)" = hello ]'
+check "append" 'echo world >> a; [ "$(cat a | tr "\n" " ")" = "hello world " ]'
+check "mkdir -p" 'mkdir -p d/e/f'
+check "list" '[ "$(ls | tr "\n" " ")" = "a d " ]'
+check "rename" 'mv a d/e/b && [ -f d/e/b ] && [ ! -e a ]'
+check "hard link" 'ln d/e/b c && [ "$(stat -c %h c)" = 2 ]'
+check "symbolic link" 'ln -s d/e/b s && [ "$(readlink s)" = d/e/b ] && [ "$(head -1 s)" = hello ]'
+check "chmod" 'chmod 600 c && [ "$(stat -c %a c)" = 600 ]'
+check "chown" 'chown 1000:1000 c && [ "$(stat -c %u:%g c)" = 1000:1000 ]'
+check "cut" 'truncate -s 3 c && [ "$(cat c)" = hel ]'
+check "grow" 'truncate -s 100 c && [ "$(stat -c %s c)" = 100 ]'
+check "fifo" 'mkfifo p && [ -p p ]'
+check "remove" 'rm c && [ ! -e c ] && [ -e d/e/b ]'
+check "rmdir of what holds names" '! rmdir d 2> /dev/null'
+check "900 KiB" 'dd if=/dev/urandom of=/tmp/big bs=1024 count=900 2> /dev/null; cp /tmp/big big; cmp /tmp/big big'
+check "200 files" 'mkdir many; for i in $(seq 200); do echo $i > many/$i; done; [ "$(ls many | wc -l)" = 200 ]'
+check "each of them" 'for i in $(seq 200); do [ "$(cat many/$i)" = $i ] || break; done; [ $i = 200 ]'
+check "tar" 'tar cf /tmp/tar many && mkdir out && tar xf /tmp/tar -C out && diff -r many out/many'
+check "df" 'df /mnt | grep -q 1073741824'
+cd /
+check "umount" 'umount.linux /mnt'
+check "mount again" enter
+check "what was written" 'cmp /tmp/big /mnt/big && [ "$(head -c 3 /mnt/d/e/b)" = hel ]'
+check "rm -r" 'rm -r /mnt/many /mnt/out && [ ! -e /mnt/many ]'
+check "umount again" 'umount.linux /mnt'
+echo "linux: $passed passed, $failed failed"
+poweroff -f
