@@ -1,5 +1,5 @@
 -- The part, the pool and the runtime are shared by all callers.
-use denote.Param.{copied, param}
+use denote.Param.{param}
 use denote.Param.Send.{sendable}
 use Rattle.std.proofs.Crossing.{crosses}
 use Rattle.nfs_pool.proofs.Crossing.{pool_sync}
