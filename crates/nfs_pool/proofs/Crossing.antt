@@ -18,7 +18,6 @@ use Rattle.nfs_pool.proofs.counting.Count.TheSendSync as counting
 use Rattle.nfs_pool.proofs.locking.Place.TheSendSync as place
 use Rattle.nfs_pool.specs.contracts.counting.Count as Count
 use Rattle.nfs_pool.specs.contracts.desk.Desk as Desk
-use Rattle.nfs_pool.specs.contracts.locking.Place as Place
 use Rattle.nfs_pool.specs.contracts.pool.Pool as Pool
 
 -- what the era began with is read by clauses alone, so it stands in no thread's way

@@ -1,21 +1,24 @@
 -- Receipts in the order of their numbers, beside the records.
-use Rattle.std.proofs.Common.{◌≡◌, ℕ, zero, suc, ◌+◌, ◌<◌, ◌≤◌, ◌&&◌, ◌==◌, true, List, [], ◌∷◌, ◌++◌, length, length-append, map, take, get_or, Some, None, option_map, refl, sym, ◌∙◌, ap, subst, append_assoc, append-nil, arith}
+use Rattle.std.proofs.Common.{◌≡◌, ℕ, zero, suc, ◌+◌, ◌<◌, ◌≤◌, ◌&&◌, ◌==◌, Bool, true, false, List, [], ◌∷◌, ◌++◌, length, length-append, map, take, get_or, Some, None, option_map, refl, sym, ◌∙◌, ap, subst, append_assoc, append-nil, arith}
 use Rattle.std.proofs.Common.{slice_get}
 use Rattle.std.proofs.Math.Bridge.{le_prop}
+use Rattle.std.specs.Bool.{Decides}
 use Rattle.std.specs.Cmp.{first_so, second_so, unsigned_Decides}
+use Rattle.std.proofs.lemmas.Bool.{and_from, false≢true}
 use Rattle.std.specs.Prelude.{IsPermutation}
 use Rattle.std.specs.declared.alloc.Global.{Global}
 use Rattle.std.specs.declared.vec.Vec.{Vec}
 use Rattle.std.proofs.lemmas.List.{length-map, take_more}
 use Rattle.std.proofs.lemmas.List.Sorted.{length_permutation}
 use Rattle.std.proofs.lemmas.Option.{slice_get-map, slice_get_past, slice_get_read}
-use Rattle.nfs_machine.specs.Run.{Record}
+use Rattle.nfs_machine.specs.Run.{Received, Record}
 use Rattle.nfs_machine.specs.declared.moment.Moment.{Moment}
-use Rattle.nfs_engine.specs.Book.{BookValue}
 use Rattle.nfs_engine.specs.declared.journal.Receipt.{Receipt}
-use Rattle.nfs_pool.specs.Eras.{AreTold, BeginSo, IsTold, IsToldAt, StandsAt, TellAll, receipts_count, told, told_by, told_in, told_value}
+use Rattle.nfs_pool.specs.Eras.{AreTold, BeginSo, IfMissing, IsTold, IsToldAt, StandsAt, TellAll, receipts_count, told, told_by, told_each, told_in, told_value}
 use Rattle.nfs_pool.specs.Seats.{SeatValue}
 use Rattle.nfs_pool.specs.declared.comparing.Told.{Told}
+use Rattle.nfs_pool.specs.declared.sent.FinishError.{FinishError}
+use Rattle.nfs_pool.specs.declared.sent.FinishError.TheVariants.{Memory, Missing}
 
 some_same : {X : Type 0} (x y : X) → Some x ≡ Some y → x ≡ y
 some_same x y same = cc
@@ -47,10 +50,11 @@ are-told before (r ∷ records) (t ∷ tells) len each =
     }) in
     (first, are-told (before + 1) records tells (omega (arith, len)) behind)
 
-pub tell-all : (b : BookValue) (receipts tells : List (ℕ × Record)) → IsPermutation receipts tells →
-    length tells ≡ length b.records → BeginSo b.before b.records tells → TellAll b receipts
-tell-all b receipts tells moved len begin =
-    record { tells = tells; moved = moved; are = are-told b.before b.records tells len begin }
+pub tell-all : (before : ℕ) (records : List Record) (receipts tells : List (ℕ × Record)) →
+    IsPermutation receipts tells → length tells ≡ length records → BeginSo before records tells →
+    TellAll before records receipts
+tell-all before records receipts tells moved len begin =
+    record { tells = tells; moved = moved; are = are-told before records tells len begin }
 
 -- ---- a place
 module _ (before : ℕ) (records : List Record) (tells : List (ℕ × Record)) (place : ℕ) where
@@ -58,10 +62,25 @@ module _ (before : ℕ) (records : List Record) (tells : List (ℕ × Record)) (
   pub stands_past : slice_get records place ≡ None → StandsAt before records tells place
   stands_past none r at = absurd (none_some r (sym none ∙ at))
 
-  pub stands_here : (e : Record) → slice_get records place ≡ Some e →
-      IsToldAt tells place (before + place + 1) e → StandsAt before records tells place
-  stands_here e here is x at =
-      subst (λ (y : Record). IsToldAt tells place (before + place + 1) y) (some_same e x (sym here ∙ at)) is
+  pub stands_if : (e : Record) (b : Bool) → slice_get records place ≡ Some e →
+      Decides b (IsToldAt tells place (before + place + 1) e) → Decides b (StandsAt before records tells place)
+  stands_if e b here told = (
+    λ yes x at. subst (λ (y : Record). IsToldAt tells place (before + place + 1) y) (some_same e x (sym here ∙ at))
+        (told.0 yes),
+    λ stands. told.1 (stands e here),
+  )
+
+-- whether a record is told at a place
+module _ (tells : List (ℕ × Record)) (place n : ℕ) (r : Record) where
+  pub told_there : (t : ℕ × Record) (b : Bool) → slice_get tells place ≡ Some t → Decides b (IsTold n r t) →
+      Decides b (IsToldAt tells place n r)
+  told_there t b there told = (
+    λ yes. record { tell = t; there = there; told = told.0 yes },
+    λ is. told.1 (subst (λ (x : ℕ × Record). IsTold n r x) (some_same is.tell t (sym is.there ∙ there)) is.told),
+  )
+
+  pub told_nowhere : slice_get tells place ≡ None → Decides false (IsToldAt tells place n r)
+  told_nowhere none = (λ no. absurd (false≢true no), λ is. absurd (none_some is.tell (sym none ∙ is.there)))
 
 -- what stands at a place of a list stands there in what is made of it
 pub at_map : {A B : Type 0} (v : A → B) (xs : List A) (place : ℕ) (x : A) (ys : List B) → map v xs ≡ ys →
@@ -80,35 +99,27 @@ count-told [] = refl
 count-told (s ∷ seats) =
     omega (arith, length-append (map told s.receipts) (told_by seats), length-map s.receipts told, count-told seats)
 
--- one seat more
-told_by-append : (seats more : List SeatValue) → told_by (seats ++ more) ≡ told_by seats ++ told_by more
-told_by-append [] more = refl
-told_by-append (s ∷ seats) more =
-    ap (λ (ts : List (ℕ × Record)). map told s.receipts ++ ts) (told_by-append seats more)
-    ∙ sym (append_assoc (map told s.receipts) (told_by seats) (told_by more))
+module _ {X : Type 0} (receipts : X → List Receipt) where
+  told_each-append : (xs more : List X) →
+      told_each receipts (xs ++ more) ≡ told_each receipts xs ++ told_each receipts more
+  told_each-append [] more = refl
+  told_each-append (x ∷ xs) more =
+      ap (λ (ts : List (ℕ × Record)). map told (receipts x) ++ ts) (told_each-append xs more)
+      ∙ sym (append_assoc (map told (receipts x)) (told_each receipts xs) (told_each receipts more))
 
-pub told-more : (seats : List SeatValue) (k : ℕ) (s : SeatValue) (receipts : List Receipt) → k < length seats →
-    s ≡ get_or seats k s → receipts ≡ s.receipts →
-    told_by (take k seats) ++ map told receipts ≡ told_by (take (k + 1) seats)
-told-more seats k s receipts within item same =
-    ap (λ (rs : List Receipt). told_by (take k seats) ++ map told rs) same
-    ∙ ap (λ (ts : List (ℕ × Record)). told_by (take k seats) ++ ts) (sym (append-nil (map told s.receipts)))
-    ∙ sym (told_by-append (take k seats) (s ∷ []))
-    ∙ ap (λ (x : SeatValue). told_by (take k seats ++ x ∷ [])) item
-    ∙ ap told_by (sym (take_more seats k s within))
+  -- one more
+  pub told_each-more : (xs : List X) (x : X) (list : List Receipt) → list ≡ receipts x →
+      told_each receipts (xs ++ x ∷ []) ≡ told_each receipts xs ++ map told list
+  told_each-more xs x list same =
+      told_each-append xs (x ∷ []) ∙ ap (λ (ts : List (ℕ × Record)). told_each receipts xs ++ ts)
+      (append-nil (map told (receipts x)) ∙ ap (map told) (sym same))
 
--- one list more
-told_in-append : (lists more : List (Vec Receipt Global)) → told_in (lists ++ more) ≡ told_in lists ++ told_in more
-told_in-append [] more = refl
-told_in-append (list ∷ lists) more =
-    ap (λ (ts : List (ℕ × Record)). map told list.items ++ ts) (told_in-append lists more)
-    ∙ sym (append_assoc (map told list.items) (told_in lists) (told_in more))
-
-pub told_in-more : (lists : List (Vec Receipt Global)) (list : Vec Receipt Global) (receipts : List Receipt) →
-    list.items ≡ receipts → told_in (lists ++ list ∷ []) ≡ told_in lists ++ map told receipts
-told_in-more lists list receipts same =
-    told_in-append lists (list ∷ []) ∙ ap (λ (ts : List (ℕ × Record)). told_in lists ++ ts)
-    (append-nil (map told list.items) ∙ ap (map told) same)
+  pub told_each-next : (xs : List X) (k : ℕ) (x : X) (list : List Receipt) → k < length xs → x ≡ get_or xs k x →
+      list ≡ receipts x → told_each receipts (take k xs) ++ map told list ≡ told_each receipts (take (k + 1) xs)
+  told_each-next xs k x list within item same =
+      sym (told_each-more (take k xs) x list same)
+      ∙ ap (λ (y : X). told_each receipts (take k xs ++ y ∷ [])) item
+      ∙ ap (told_each receipts) (sym (take_more xs k x within))
 
 -- what was a seat's is a list's
 pub told_in-left : (lists new : List (Vec Receipt Global)) (list : Vec Receipt Global) (s : SeatValue)
@@ -116,22 +127,21 @@ pub told_in-left : (lists new : List (Vec Receipt Global)) (list : Vec Receipt G
     told_in new ++ told_by rest ≡ told_in lists ++ told_by seats
 told_in-left lists new list s rest seats same is left =
     ap (λ (ls : List (Vec Receipt Global)). told_in ls ++ told_by rest) is
-    ∙ ap (λ (ts : List (ℕ × Record)). ts ++ told_by rest) (told_in-more lists list s.receipts same)
+    ∙ ap (λ (ts : List (ℕ × Record)). ts ++ told_by rest)
+    (told_each-more (λ (l : Vec Receipt Global). l.items) lists list s.receipts (sym same))
     ∙ append_assoc (told_in lists) (map told s.receipts) (told_by rest)
     ∙ ap (λ (ss : List SeatValue). told_in lists ++ told_by ss) (sym left)
-
-pub told_in-next : (lists : List (Vec Receipt Global)) (k : ℕ) (list : Vec Receipt Global) → k < length lists →
-    list ≡ get_or lists k list → told_in (take k lists) ++ map told list.items ≡ told_in (take (k + 1) lists)
-told_in-next lists k list within item =
-    sym (told_in-more (take k lists) list list.items refl)
-    ∙ ap (λ (x : Vec Receipt Global). told_in (take k lists ++ x ∷ [])) item
-    ∙ ap told_in (sym (take_more lists k list within))
 
 pub told-count : (seats : List SeatValue) (tells : List Told) → IsPermutation (told_by seats) (map told_value tells) →
     length tells ≡ receipts_count seats
 told-count seats tells moved =
     sym (length-map tells told_value) ∙ length_permutation (told_by seats) (map told_value tells) moved
     ∙ count-told seats
+
+-- ---- an era that is not ended
+pub if_missing-weaker : (e : FinishError) (P Q : Type 0) → (P → Q) → IfMissing e P → IfMissing e Q
+if_missing-weaker Missing P Q so is = so is
+if_missing-weaker Memory P Q so is = tt
 
 -- ---- moments
 abbrev moment : (seconds nanoseconds : ℕ) → nanoseconds < 1000000000 → Moment
@@ -142,11 +152,23 @@ parts_same a b p q =
     subst (λ n. (h : n < 1000000000) → a ≡ moment b.seconds n h) q
     (λ h i. moment (p i) a.nanoseconds (le_prop a.in_range h i)) b.in_range
 
-pub moment_same : (a b : Moment) → (a.seconds == b.seconds && a.nanoseconds == b.nanoseconds) ≡ true → a ≡ b
+moment_same : (a b : Moment) → (a.seconds == b.seconds && a.nanoseconds == b.nanoseconds) ≡ true → a ≡ b
 moment_same a b same = parts_same a b
     ((unsigned_Decides a.seconds b.seconds).0 (first_so (a.seconds == b.seconds) (a.nanoseconds == b.nanoseconds) same))
     ((unsigned_Decides a.nanoseconds b.nanoseconds).0
     (second_so (a.seconds == b.seconds) (a.nanoseconds == b.nanoseconds) same))
+
+-- two that came in from one host with the same bytes came alike where their moments are one
+pub received_same : (a b : Received) (t : Bool) → a.host ≡ b.host → a.bytes ≡ b.bytes →
+    t ≡ (a.moment.seconds == b.moment.seconds && a.moment.nanoseconds == b.moment.nanoseconds) → Decides t (a ≡ b)
+received_same a b t host bytes is = (
+  λ yes. (let moment = moment_same a.moment b.moment (sym is ∙ yes) in
+      λ i. record { host = host i; bytes = bytes i; moment = moment i }),
+  λ same. is ∙ and_from (a.moment.seconds == b.moment.seconds) (a.moment.nanoseconds == b.moment.nanoseconds)
+      ((unsigned_Decides a.moment.seconds b.moment.seconds).1 (ap (λ (r : Received). r.moment.seconds) same))
+      ((unsigned_Decides a.moment.nanoseconds b.moment.nanoseconds).1
+      (ap (λ (r : Received). r.moment.nanoseconds) same)),
+)
 
 -- ---- places from the first one on
 pub one_more : (P : ℕ → Type 0) (n : ℕ) → ((k : ℕ) → k < n → P k) → P n → (k : ℕ) → k < n + 1 → P k

@@ -16,6 +16,8 @@ use Rattle.nfs_engine.specs.declared.journal.Receipt.{Receipt}
 use Rattle.nfs_engine.specs.declared.records.Era.{Era}
 use Rattle.nfs_pool.specs.Seats.{SeatValue}
 use Rattle.nfs_pool.specs.declared.comparing.Told.{Told}
+use Rattle.nfs_pool.specs.declared.sent.FinishError.{FinishError}
+use Rattle.nfs_pool.specs.declared.sent.FinishError.TheVariants.{Memory, Missing}
 
 -- ---- what receipts tell
 -- a receipt: its record, with the number
@@ -26,15 +28,22 @@ told receipt = (receipt.number, shared_value receipt.executed)
 abbrev pub told_value : Told → ℕ × Record
 told_value t = (t.number, shared_value t.executed)
 
--- what the receipts of these seats tell
-abbrev pub told_by : List SeatValue → List (ℕ × Record)
-told_by [] = []
-told_by (s ∷ seats) = map told s.receipts ++ told_by seats
+-- its number
+abbrev pub told_number : Told → ℕ
+told_number t = t.number
 
--- what the receipts of these lists tell
+-- what the receipts of each of these tell
+abbrev pub told_each : {X : Type 0} → (receipts : X → List Receipt) → List X → List (ℕ × Record)
+told_each receipts [] = []
+told_each receipts (x ∷ xs) = map told (receipts x) ++ told_each receipts xs
+
+-- of seats
+abbrev pub told_by : List SeatValue → List (ℕ × Record)
+told_by seats = told_each (λ (s : SeatValue). s.receipts) seats
+
+-- of lists
 abbrev pub told_in : List (Vec Receipt Global) → List (ℕ × Record)
-told_in [] = []
-told_in (list ∷ lists) = map told list.items ++ told_in lists
+told_in lists = told_each (λ (list : Vec Receipt Global). list.items) lists
 
 -- how many receipts these seats have
 abbrev pub receipts_count : List SeatValue → ℕ
@@ -82,10 +91,10 @@ AreTold before (r ∷ records) (t ∷ tells) = IsTold (before + 1) r t × AreTol
 AreTold before records tells = ⊥
 
 -- in the order of their numbers these are the records of the era, each once
-pub record TellAll (b : BookValue) (receipts : List (ℕ × Record)) : Type 0 where
+pub record TellAll (before : ℕ) (records : List Record) (receipts : List (ℕ × Record)) : Type 0 where
   pub tells : List (ℕ × Record)
   pub moved : IsPermutation receipts tells
-  pub are : AreTold b.before b.records tells
+  pub are : AreTold before records tells
 
 -- ---- the end of an era
 -- The records are a run, and so many. They are the era's, and the next one begins with none, where they led.
@@ -108,7 +117,7 @@ IsLeft e = (old : BookValue) × (new : BookValue) × LeavesEra old new (length e
 -- none, where they led.
 pub record EndsEra (old new : BookValue) (receipts : List (ℕ × Record)) (era : Era) : Type 0 where
   pub run : IsRun old
-  pub told : TellAll old receipts
+  pub told : TellAll old.before old.records receipts
   pub takes : TakesEra old new era
   pub rebases : Rebases old new
 
@@ -120,6 +129,17 @@ EndsIn new receipts era = (old : BookValue) × EndsEra old new receipts era
 abbrev pub EndsSome : List (ℕ × Record) → Era → Type 0
 EndsSome receipts era = (new : BookValue) × EndsIn new receipts era
 
+-- ---- an era that is not ended
+-- that something is missing is said only where this is so
+abbrev pub IfMissing : FinishError → Type 0 → Type 0
+IfMissing Missing P = P
+IfMissing Memory P = Unit {0}
+
+-- the records of a book are a run, and these receipts do not tell them
+abbrev pub LeaveOut : List (ℕ × Record) → Type 0
+LeaveOut receipts = (b : BookValue) × IsRun b × (TellAll b.before b.records receipts → ⊥)
+
+-- ---- the next era
 -- as many seats, which have no receipt
 pub record AreNew (seats : List SeatValue) (count : ℕ) : Type 0 where
   pub count_is : length seats ≡ count

@@ -1,8 +1,11 @@
 //! Receipts beside the records of an era.
 
-ghost use Rattle.std.specs.Prelude.{◌≡◌, ◌++◌, IfOk, IsPermutation, OnOk, map, true};
+ghost use Rattle.std.specs.Prelude.{◌≡◌, ◌+◌, ◌++◌, IfOk, IsPermutation, List, OnOk, map};
+ghost use Rattle.std.specs.Bool.{Decides};
+ghost use Rattle.std.specs.List.Sorted.{IsNonDecreasingBy};
 ghost use Rattle.nfs_engine.specs.Arrivals.{received_value, record_value, shared_value};
-ghost use Rattle.nfs_pool.specs.Eras.{BeginSo, IsAlike, IsTold, IsToldAt, StandsAt, told, told_by, told_in};
+ghost use Rattle.nfs_engine.specs.declared.journal.Receipt.{Receipt};
+ghost use Rattle.nfs_pool.specs.Eras.{BeginSo, IsAlike, IsTold, IsToldAt, StandsAt, told, told_each, told_number};
 ghost use Rattle.nfs_pool.specs.Eras.{told_value};
 
 use crate::seat::Seat;
@@ -18,36 +21,46 @@ pub(crate) struct Told {
     executed: Arc<Executed>,
 }
 
-/// What the receipts of these seats tell, in order of their numbers.
-///
-/// # Errors
-///
-/// There is no memory for it.
-pub(crate) fn told_in_order<L: Ledger>(
-    alloc: Global,
-    seats: &[Seat<L>],
-) -> Result<Vec<Told>, AllocError>
-    ensures { IfOk result (λ tells. IsPermutation (told_by seats.now) (map told_value tells.items)) }
-{
-    let mut tells = Vec::new(alloc);
-    for seat in seats {
-        add_receipts(&mut tells, seat.receipts())?;
-    }
-    tells.sort_unstable_by_key(|tell| tell.number);
-    Ok(tells)
+/// What has receipts.
+pub(crate) trait HasReceipts {
+    ghost receipts_of: { Self → List Receipt };
+
+    /// Its receipts.
+    fn list(&self) -> &[Receipt]
+        ensures { result.now ≡ receipts_of self.now };
 }
 
-/// What the receipts of these lists tell, in order of their numbers.
+impl<L: Ledger> HasReceipts for Seat<L> {
+    ghost receipts_of = { λ s. s.receipts };
+
+    fn list(&self) -> &[Receipt] {
+        self.receipts()
+    }
+}
+
+impl HasReceipts for Vec<Receipt> {
+    ghost receipts_of = { λ v. v.items };
+
+    fn list(&self) -> &[Receipt] {
+        self.as_slice()
+    }
+}
+
+/// What the receipts of all these tell, in order of their numbers.
 ///
 /// # Errors
 ///
 /// There is no memory for it.
-pub(crate) fn left_in_order(alloc: Global, lists: &[Vec<Receipt>]) -> Result<Vec<Told>, AllocError>
-    ensures { IfOk result (λ tells. IsPermutation (told_in lists.now) (map told_value tells.items)) }
+pub(crate) fn told_in_order<T: HasReceipts>(
+    alloc: Global,
+    all: &[T],
+) -> Result<Vec<Told>, AllocError>
+    ensures told { IfOk result (λ tells. IsPermutation (told_each T.receipts_of all.now) (map told_value tells.items)) }
+    ensures rises { IfOk result (λ tells. IsNonDecreasingBy told_number tells.items) }
 {
     let mut tells = Vec::new(alloc);
-    for list in lists {
-        add_receipts(&mut tells, list)?;
+    for each in all {
+        add_receipts(&mut tells, each.list())?;
     }
     tells.sort_unstable_by_key(|tell| tell.number);
     Ok(tells)
@@ -68,7 +81,7 @@ fn add_receipts(tells: &mut Vec<Told>, receipts: &[Receipt]) -> Result<(), Alloc
 
 /// Whether these begin with the records, in order, which have the numbers behind this one.
 pub(crate) fn begin_so(before: u64, records: &[Arc<Executed>], tells: &[Told]) -> bool
-    ensures { result ≡ true → BeginSo before (map shared_value records.now) (map told_value tells.now) }
+    ensures { Decides result (BeginSo before (map shared_value records.now) (map told_value tells.now)) }
 {
     for place in 0..records.len() {
         if !stands_at(before, records, tells, place) {
@@ -80,59 +93,53 @@ pub(crate) fn begin_so(before: u64, records: &[Arc<Executed>], tells: &[Told]) -
 
 /// Whether the record at this place is told there, with its number.
 fn stands_at(before: u64, records: &[Arc<Executed>], tells: &[Told], place: usize) -> bool
-    ensures { result ≡ true → StandsAt before (map shared_value records.now) (map told_value tells.now) place }
+    ensures { Decides result (StandsAt before (map shared_value records.now) (map told_value tells.now) place) }
 {
-    let Some(executed) = records.get(place) else {
-        return true;
-    };
-    let Some(number) = before.checked_add(place as u64 + 1) else {
-        return false;
-    };
-    tells_at(tells, place, number, executed)
+    match records.get(place) {
+        Some(executed) => tells_at(before, tells, place, executed),
+        None => true,
+    }
 }
 
-/// Whether this is told at this place, with this number.
-fn tells_at(tells: &[Told], place: usize, number: u64, executed: &Executed) -> bool
-    ensures { result ≡ true → IsToldAt (map told_value tells.now) place number (record_value executed.now) }
+/// Whether this is told at this place, with the number of a record there.
+fn tells_at(before: u64, tells: &[Told], place: usize, executed: &Executed) -> bool
+    ensures { Decides result
+        (IsToldAt (map told_value tells.now) place (before + place + 1) (record_value executed.now)) }
 {
     match tells.get(place) {
-        Some(tell) => is_told(tell, number, executed),
+        Some(tell) => is_told(before, place, tell, executed),
         None => false,
     }
 }
 
-/// Whether it tells this, with this number.
-fn is_told(tell: &Told, number: u64, executed: &Executed) -> bool
-    ensures { result ≡ true → IsTold number (record_value executed.now) (told_value tell.now) }
+/// Whether it tells this, with the number of a record at this place.
+fn is_told(before: u64, place: usize, tell: &Told, executed: &Executed) -> bool
+    ensures { Decides result (IsTold (before + place + 1) (record_value executed.now) (told_value tell.now)) }
 {
-    if !(tell.number == number) {
-        return false;
-    }
-    is_same(&tell.executed, executed)
+    is_numbered(before, place, tell.number) && is_same(&tell.executed, executed)
+}
+
+/// Whether this is the number of a record at this place.
+fn is_numbered(before: u64, place: usize, number: u64) -> bool
+    ensures { Decides result (number ≡ before + place + 1) }
+{
+    before < number && number - before - 1 == place as u64
 }
 
 /// Whether they are recorded alike.
 fn is_same(one: &Executed, other: &Executed) -> bool
-    ensures { result ≡ true → IsAlike (record_value one.now) (record_value other.now) }
+    ensures { Decides result (IsAlike (record_value one.now) (record_value other.now)) }
 {
-    if !came_alike(&one.received, &other.received) {
-        return false;
-    }
-    if !(one.reply == other.reply) {
-        return false;
-    }
-    one.messages == other.messages
+    came_alike(&one.received, &other.received)
+        && one.reply == other.reply
+        && one.messages == other.messages
 }
 
 /// Whether they came in alike.
 fn came_alike(one: &Received, other: &Received) -> bool
-    ensures { result ≡ true → received_value one.now ≡ received_value other.now }
+    ensures { Decides result (received_value one.now ≡ received_value other.now) }
 {
-    if !(one.host.text() == other.host.text()) {
-        return false;
-    }
-    if !(one.message == other.message) {
-        return false;
-    }
-    one.moment == other.moment
+    one.host.text() == other.host.text()
+        && one.message == other.message
+        && one.moment == other.moment
 }

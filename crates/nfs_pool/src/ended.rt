@@ -1,10 +1,11 @@
 //! An era that is over, and the receipts that its seats left.
 
-ghost use Rattle.std.specs.Prelude.{◌≡◌, IfErr, IfOk, length};
+ghost use Rattle.std.specs.Prelude.{◌≡◌, IfErr, IfOk, length, map};
+ghost use Rattle.nfs_engine.specs.Arrivals.{shared_value};
 ghost use Rattle.nfs_engine.specs.Book.{BookValue};
-ghost use Rattle.nfs_pool.specs.Eras.{EndsSome, LeavesEra, told_in};
+ghost use Rattle.nfs_pool.specs.Eras.{EndsSome, IfMissing, LeavesEra, TellAll, told_in};
 
-use crate::comparing::{begin_so, left_in_order};
+use crate::comparing::{begin_so, told_in_order};
 use crate::sent::FinishError;
 use nfs_engine::{Era, Receipt};
 use std::alloc::Global;
@@ -47,9 +48,11 @@ impl Ended {
     pub fn compare(self, alloc: Global) -> Result<Era, (FinishError, Ended)>
         ensures era { IfOk result (λ era. era ≡ self.era) }
         ensures ends { IfOk result (EndsSome self.receipts) }
+        ensures missing { IfErr result (λ e. IfMissing e.0
+            (TellAll self.era.before (map shared_value self.era.records.items) self.receipts → ⊥)) }
         ensures back { IfErr result (λ e. e.1 ≡ self) }
     {
-        let Ok(tells) = left_in_order(alloc, &self.lists) else {
+        let Ok(tells) = told_in_order(alloc, &self.lists) else {
             return Err((FinishError::Memory, self));
         };
         if !begin_so(self.era.before, &self.era.records, &tells) {

@@ -1,7 +1,9 @@
 //! The end of an era, and of a pool.
 
 ghost use Rattle.std.specs.Prelude.{IfErr, IfOk, OnErr, ◌≡◌, length};
-ghost use Rattle.nfs_pool.specs.Eras.{AreNew, EndsEra, EndsIn, EndsSome, LeavesEra, told_by};
+ghost use Rattle.nfs_engine.specs.Book.{IsRun};
+ghost use Rattle.nfs_pool.specs.Eras.{AreNew, EndsEra, EndsIn, EndsSome, IfMissing, LeaveOut, LeavesEra, TellAll};
+ghost use Rattle.nfs_pool.specs.Eras.{told_by};
 
 use crate::comparing::{begin_so, told_in_order};
 use crate::counting::Count;
@@ -21,14 +23,15 @@ impl<L: Ledger> Pool<L> {
     ///
     /// # Errors
     ///
-    /// A seat of the pool is not given, or a record has no equal receipt in those that are; or there is no memory to
-    /// compare them. All is handed back as it was.
+    /// As `turn_era`. All is handed back as it was.
     pub fn finish(
         self,
         alloc: Global,
         seats: Vec<Seat<L>>,
     ) -> Result<(Era, Book), (FinishError, Pool<L>, Vec<Seat<L>>)>
         ensures era { IfOk result (λ r. EndsIn r.1 (told_by seats.items) r.0) }
+        ensures missing { IfErr result (λ e. IfMissing e.0
+            (length seats.items ≡ L.parts → LeaveOut (told_by seats.items))) }
         ensures back { IfErr result (λ e. e.2.items ≡ seats.items) }
     {
         let Pool {
@@ -58,34 +61,20 @@ impl<L: Ledger> Pool<L> {
     ///
     /// # Errors
     ///
-    /// A seat of the pool is not given, or a record has no equal receipt in those that are; or there is no memory to
-    /// compare them, or for the new seats. All is handed back as it was.
+    /// A seat of the pool is not given, or a record has no equal receipt in those that are (`Missing`); or there is no
+    /// memory to compare them, or for the new seats. The pool is as it was, and the seats are handed back.
     pub fn turn_era(
-        self,
+        &mut self,
         alloc: Global,
         seats: Vec<Seat<L>>,
-    ) -> Result<(Era, Pool<L>, Vec<Seat<L>>), (FinishError, Pool<L>, Vec<Seat<L>>)>
+    ) -> Result<(Era, Vec<Seat<L>>), (FinishError, Vec<Seat<L>>)>
         ensures era { IfOk result (λ r. EndsSome (told_by seats.items) r.0) }
-        ensures seats { IfOk result (λ r. AreNew r.2.items (length seats.items)) }
-        ensures back { IfErr result (λ e. e.2.items ≡ seats.items) }
+        ensures seats { IfOk result (λ r. AreNew r.1.items (length seats.items)) }
+        ensures missing { IfErr result (λ e. IfMissing e.0
+            (length seats.items ≡ L.parts → LeaveOut (told_by seats.items))) }
+        ensures back { IfErr result (λ e. e.1.items ≡ seats.items) }
     {
-        let Pool {
-            desk,
-            places,
-            count,
-        } = self;
-        let mut desk = desk.into_inner();
-        let closed = close_era(alloc, &mut desk, &count, seats);
-        let desk = Mutex::new(desk);
-        let pool = Pool {
-            desk,
-            places,
-            count,
-        };
-        match closed {
-            Ok((era, seats)) => Ok((era, pool, seats)),
-            Err((error, seats)) => Err((error, pool, seats)),
-        }
+        close_era(alloc, self.desk.get_mut(), &self.count, seats)
     }
 
     /// Ends the era, and begins the next, with as many new seats. That the receipts of these seats are its records is
@@ -93,33 +82,19 @@ impl<L: Ledger> Pool<L> {
     ///
     /// # Errors
     ///
-    /// A seat of the pool is not given (`Missing`), or there is no memory. All is handed back as it was.
+    /// A seat of the pool is not given (`Missing`), or there is no memory. The pool is as it was, and the seats are
+    /// handed back.
     pub fn next_era(
-        self,
+        &mut self,
         alloc: Global,
         seats: Vec<Seat<L>>,
-    ) -> Result<(Ended, Pool<L>, Vec<Seat<L>>), (FinishError, Pool<L>, Vec<Seat<L>>)>
+    ) -> Result<(Ended, Vec<Seat<L>>), (FinishError, Vec<Seat<L>>)>
         ensures ended { IfOk result (λ r. r.0.receipts ≡ told_by seats.items) }
-        ensures seats { IfOk result (λ r. AreNew r.2.items (length seats.items)) }
-        ensures back { IfErr result (λ e. e.2.items ≡ seats.items) }
+        ensures seats { IfOk result (λ r. AreNew r.1.items (length seats.items)) }
+        ensures missing { IfErr result (λ e. IfMissing e.0 (length seats.items ≡ L.parts → ⊥)) }
+        ensures back { IfErr result (λ e. e.1.items ≡ seats.items) }
     {
-        let Pool {
-            desk,
-            places,
-            count,
-        } = self;
-        let mut desk = desk.into_inner();
-        let left = leave_era(alloc, &mut desk, &count, seats);
-        let desk = Mutex::new(desk);
-        let pool = Pool {
-            desk,
-            places,
-            count,
-        };
-        match left {
-            Ok((ended, seats)) => Ok((ended, pool, seats)),
-            Err((error, seats)) => Err((error, pool, seats)),
-        }
+        leave_era(alloc, self.desk.get_mut(), &self.count, seats)
     }
 
     /// Ends the pool: its book is handed out. It takes no memory.
@@ -147,9 +122,14 @@ fn close_era<L: Ledger>(
 ) -> Result<(Era, Vec<Seat<L>>), (FinishError, Vec<Seat<L>>)>
     ensures era { IfOk result (λ r. EndsEra desk.old.book desk.new.book (told_by seats.items) r.0) }
     ensures seats { IfOk result (λ r. AreNew r.1.items (length seats.items)) }
+    ensures missing { IfErr result (λ e. IfMissing e.0 (length seats.items ≡ L.parts →
+        TellAll desk.old.book.before desk.old.book.records (told_by seats.items) → ⊥)) }
     ensures back { IfErr result (λ e. e.1.items ≡ seats.items) }
+    ensures run { IsRun desk.old.book }
     ensures same { OnErr result (desk.new.book ≡ desk.old.book) }
 {
+    // It brings that the records are a run.
+    desk.book.run();
     let Ok(tells) = told_in_order(alloc, &seats) else {
         return Err((FinishError::Memory, seats));
     };
@@ -175,6 +155,7 @@ fn leave_era<L: Ledger>(
     ensures leaves { IfOk result (λ r.
         LeavesEra desk.old.book desk.new.book (length r.0.receipts) r.0.era) }
     ensures seats { IfOk result (λ r. AreNew r.1.items (length seats.items)) }
+    ensures missing { IfErr result (λ e. IfMissing e.0 (length seats.items ≡ L.parts → ⊥)) }
     ensures back { IfErr result (λ e. e.1.items ≡ seats.items) }
     ensures same { OnErr result (desk.new.book ≡ desk.old.book) }
 {

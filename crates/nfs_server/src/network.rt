@@ -177,7 +177,7 @@ fn open_places<
 ) -> Result<Places<L>, AllocError> {
     let (back, free) = bounded(alloc, count)?;
     let (full, filled) = bounded(alloc, count)?;
-    let pool = Arc::new(alloc, Some(pool))?;
+    let pool = Arc::new(alloc, pool)?;
     let room = hand_out(&rt, &back, pool, seats, 0, false);
     let keeper = Keeper {
         free: free.clone()?,

@@ -172,9 +172,6 @@ fn submit<R: Wait, L: Ledger>(
     arrival: Arrival,
 ) -> Result<Answered, PoolError> {
     let Place { pool, seat, .. } = place;
-    let Some(pool) = &**pool else {
-        return Err(PoolError::EraFull(arrival));
-    };
     match pool.submit(rt, alloc, &Open, seat, arrival)? {
         Sent::Executed => Ok(executed(seat)),
         Sent::Repeated(kept) => Ok(Ok(Answer::Repeated(kept))),

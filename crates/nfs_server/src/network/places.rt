@@ -18,13 +18,21 @@ const PAUSE: u64 = 10;
 /// How often the keeper tries to compare an era. Then it is let go all the same, since its records take memory too.
 const TRIES: usize = 100;
 
-/// The pool, which all places have. While its era is ended the keeper has it in hand, and here is none.
-pub(crate) type Shared<L> = Arc<Option<Pool<L>>>;
+/// What was found where the receipts of an era were compared with its records.
+#[derive(Clone, Copy, PartialEq, Eq)]
+enum Compared {
+    /// Each record has its receipt.
+    Told,
+    /// A record has none.
+    Missing,
+    /// There was no memory to compare them.
+    Unknown,
+}
 
 /// A seat with its pool: the leave to execute calls.
 #[derive(Drop)]
 pub(crate) struct Place<L: Ledger> {
-    pub(crate) pool: Shared<L>,
+    pub(crate) pool: Arc<Pool<L>>,
     pub(crate) seat: Seat<L>,
     /// How often an era was to be ended before it was handed out.
     pub(crate) turns: u64,
@@ -117,19 +125,16 @@ impl<L: Ledger> Keeper<L> {
     /// There is room for all seats.
     pub(crate) fn work<R: Wait + Clock>(&self, rt: &R, alloc: Global, room: Vec<Seat<L>>) {
         let mut seats = room;
-        let mut is_told = true;
+        let mut compared = Compared::Told;
         for first in self.full.iter(rt) {
             let turns = first.turns.saturating_add(1);
-            let Some(mut shared) = self.gather(rt, first, &mut seats) else {
+            let Some(pool) = self.gather(rt, first, &mut seats) else {
                 return;
             };
-            let Some(pool) = taken(&mut shared) else {
-                return;
-            };
-            if is_told {
-                (seats, is_told) = self.turn(rt, alloc, shared, pool, seats, turns);
+            if compared == Compared::Missing {
+                seats = hand_out(rt, &self.back, pool, seats, turns, true);
             } else {
-                seats = self.go_on(rt, shared, pool, seats, turns, true);
+                (seats, compared) = self.turn(rt, alloc, pool, seats, turns);
             }
         }
     }
@@ -140,7 +145,7 @@ impl<L: Ledger> Keeper<L> {
         rt: &R,
         first: Place<L>,
         seats: &mut Vec<Seat<L>>,
-    ) -> Option<Shared<L>> {
+    ) -> Option<Arc<Pool<L>>> {
         let mut last = first;
         for _ in 1..self.count {
             let next = self.next(rt)?;
@@ -160,75 +165,72 @@ impl<L: Ledger> Keeper<L> {
         }
     }
 
-    /// Ends the era, hands out the places of the next one, and lets go what was recorded. Their room is left, and
-    /// whether no record was without its receipt.
+    /// Ends the era, hands out the places of the next one, and lets go what was recorded. Their room is left, and what
+    /// was found of it. Where there is no memory for the next seats the era stays, and nothing is found.
     fn turn<R: Wait + Clock>(
         &self,
         rt: &R,
         alloc: Global,
-        shared: Shared<L>,
-        pool: Pool<L>,
+        pool: Arc<Pool<L>>,
         seats: Vec<Seat<L>>,
         turns: u64,
-    ) -> (Vec<Seat<L>>, bool) {
-        match pool.next_era(alloc, seats) {
-            Ok((ended, pool, seats)) => {
-                let room = self.go_on(rt, shared, pool, seats, turns, false);
-                (room, is_told(rt, alloc, ended))
+    ) -> (Vec<Seat<L>>, Compared) {
+        let mut pool = pool;
+        match next_era(alloc, &mut pool, seats) {
+            Ok((ended, seats)) => {
+                let room = hand_out(rt, &self.back, pool, seats, turns, false);
+                (room, compare(rt, alloc, ended))
             }
-            Err((_, pool, seats)) => (self.go_on(rt, shared, pool, seats, turns, true), true),
+            Err(seats) => {
+                let room = hand_out(rt, &self.back, pool, seats, turns, true);
+                (room, Compared::Unknown)
+            }
         }
-    }
-
-    /// Puts the pool back, and hands out its places. Their room is left. It takes no memory.
-    fn go_on<R: Wait>(
-        &self,
-        rt: &R,
-        shared: Shared<L>,
-        pool: Pool<L>,
-        seats: Vec<Seat<L>>,
-        turns: u64,
-        is_stuck: bool,
-    ) -> Vec<Seat<L>> {
-        let mut shared = shared;
-        if let Some(room) = Arc::get_mut(&mut shared) {
-            *room = Some(pool);
-        }
-        hand_out(rt, &self.back, shared, seats, turns, is_stuck)
     }
 }
 
-/// The pool, where nobody else has it.
-fn taken<L: Ledger>(shared: &mut Shared<L>) -> Option<Pool<L>> {
-    Arc::get_mut(shared)?.take()
+/// Ends the era of a pool that nobody else has, and begins the next: what is left of it, and the next seats.
+///
+/// # Errors
+///
+/// There is no memory for the next seats. These are handed back.
+fn next_era<L: Ledger>(
+    alloc: Global,
+    pool: &mut Arc<Pool<L>>,
+    seats: Vec<Seat<L>>,
+) -> Result<(Ended, Vec<Seat<L>>), Vec<Seat<L>>> {
+    let Some(pool) = Arc::get_mut(pool) else {
+        return Err(seats);
+    };
+    pool.next_era(alloc, seats).map_err(|(_, seats)| seats)
 }
 
-/// Whether each record of an era has its receipt, or there was no memory to compare them. All is let go.
-fn is_told<R: Wait + Clock>(rt: &R, alloc: Global, ended: Ended) -> bool {
+/// Compares an era that is over, and lets it go.
+fn compare<R: Wait + Clock>(rt: &R, alloc: Global, ended: Ended) -> Compared {
     let mut ended = ended;
     for _ in 0..TRIES {
         match ended.compare(alloc) {
             Ok(era) => {
                 drop(era);
-                return true;
+                return Compared::Told;
             }
             Err((FinishError::Missing, left)) => {
                 drop(left);
-                return false;
+                return Compared::Missing;
             }
             Err((FinishError::Memory, left)) => ended = left,
         }
         thread::sleep(rt, Duration::from_millis(PAUSE));
     }
     drop(ended);
-    true
+    Compared::Unknown
 }
 
 /// Makes a place of each seat, and hands it out. The room of the seats is left.
 pub(crate) fn hand_out<R: Wait, L: Ledger>(
     rt: &R,
     back: &Sender<Place<L>>,
-    pool: Shared<L>,
+    pool: Arc<Pool<L>>,
     seats: Vec<Seat<L>>,
     turns: u64,
     is_stuck: bool,

@@ -146,8 +146,9 @@ fn with_seat<L: Ledger>(seats: Vec<Seat<L>>, seat: Option<Seat<L>>) -> Vec<Seat<
 
 /// Whether the full era ends, and the pool behind the next one.
 fn turns_era<L: Ledger, R: Runs>(rt: &R, pool: Pool<L>, seats: Vec<Seat<L>>, records: u64) -> bool {
-    match turn_era(rt, pool, seats) {
-        Ok((era, pool, seats)) => {
+    let mut pool = pool;
+    match turn_era(rt, &mut pool, seats) {
+        Ok((era, seats)) => {
             let turned = has_records(&era, 0, records);
             drop(era);
             let over = goes_on(rt, pool, seats, records);
@@ -155,6 +156,7 @@ fn turns_era<L: Ledger, R: Runs>(rt: &R, pool: Pool<L>, seats: Vec<Seat<L>>, rec
         }
         Err(back) => {
             drop(back);
+            drop(pool);
             false
         }
     }
@@ -163,12 +165,12 @@ fn turns_era<L: Ledger, R: Runs>(rt: &R, pool: Pool<L>, seats: Vec<Seat<L>>, rec
 /// Ends the era, if need be by a second try.
 fn turn_era<L: Ledger, R: Runs>(
     rt: &R,
-    pool: Pool<L>,
+    pool: &mut Pool<L>,
     seats: Vec<Seat<L>>,
-) -> Result<(Era, Pool<L>, Vec<Seat<L>>), (FinishError, Pool<L>, Vec<Seat<L>>)> {
+) -> Result<(Era, Vec<Seat<L>>), (FinishError, Vec<Seat<L>>)> {
     match pool.turn_era(rt.alloc(), seats) {
         Ok(turned) => Ok(turned),
-        Err((_, pool, seats)) => pool.turn_era(rt.alloc(), seats),
+        Err((_, seats)) => pool.turn_era(rt.alloc(), seats),
     }
 }
 

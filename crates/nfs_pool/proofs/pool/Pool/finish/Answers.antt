@@ -1,0 +1,6 @@
+use Rattle.nfs_pool.proofs.Numbered.{if_missing-weaker}
+use Rattle.nfs_pool.proofs.pool.Pool.finish.Goals as goal
+
+pub returns-in-Err-clause-missing : goal.returns-in-Err-clause-missing
+returns-in-Err-clause-missing g c = if_missing-weaker c.in-Err.error _ _
+    (λ told count. (c.into_inner-desk.result.book, c.close_era.ensures.run, told count)) c.in-Err.ensures.missing
