@@ -1,4 +1,5 @@
 pub mod Crossing
+pub mod LetGo
 pub mod Numbered
 pub mod Ordered
 pub mod Reading

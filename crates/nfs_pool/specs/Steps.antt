@@ -1,5 +1,6 @@
 -- The steps of a call in a pool: what they do to the call, whatever stands in the book and the shards.
-use Rattle.std.specs.Prelude.{◌≡◌, ℕ, ◌<◌, List, [], true, false, map, Option, Result, Ok, Err}
+use Rattle.std.specs.Prelude.{◌≡◌, ℕ, ◌<◌, ◌&&◌, Bool, nat_le, List, [], length, slice_index_or, true, false, map}
+use Rattle.std.specs.Prelude.{Option, Result, Ok, Err}
 use Rattle.nfs_machine.specs.Run.{Received}
 use Rattle.nfs_objects.specs.Rooms.{with_seen}
 use Rattle.nfs_objects.specs.declared.address.Addr.{Addr}
@@ -10,6 +11,7 @@ use Rattle.nfs_engine.specs.Asked.{IsAsked}
 use Rattle.nfs_engine.specs.Book.{Admits, BookValue, is_full}
 use Rattle.nfs_engine.specs.Calls.{FinishedValue, IsCalled, TxnValue}
 use Rattle.nfs_engine.specs.Commits.{IsReceipt}
+use Rattle.nfs_engine.specs.Engine.{is_written}
 use Rattle.nfs_engine.specs.declared.admission.Admission.{Admission}
 use Rattle.nfs_engine.specs.declared.admission.Admission.TheVariants as admission
 use Rattle.nfs_engine.specs.declared.admission.Refused.{Refused}
@@ -70,6 +72,11 @@ LeadsThere t next.Ended = t ≡ then.Ended
 -- what these writes are at
 abbrev pub addresses : List (Addr × Option Object) → List Addr
 addresses writes = map (λ w. w.0) writes
+
+-- of the shards from this one on, those where a call wrote are free of it, and no other shard is
+pub record LetGoFrom (index : ℕ) (writes : List (Addr × Option Object)) (done : List Bool) : Type 0 where
+  pub sixteen : length done ≡ 16
+  pub are : (k : ℕ) → slice_index_or done k false ≡ nat_le index k && is_written writes k
 
 -- the receipt is of this call, which is what its record asks, under a number above that one
 pub record IsMadeAbove (last : ℕ) (f : FinishedValue) (receipt : Receipt) : Type 0 where

@@ -1,14 +1,17 @@
 //! The commit of a call, in the holds of the shards that it writes.
 
-ghost use Rattle.std.specs.Prelude.{◌≡◌, ◌+◌, ◌<◌, ◌≤◌, IfErr, IfOk, OnErr, OnOk, map};
+ghost use Rattle.std.specs.Prelude.{◌≡◌, ◌+◌, ◌<◌, ◌≤◌, ℕ, IfErr, IfOk, OnErr, OnOk, false, map, slice_index_or, true};
+ghost use Rattle.std.specs.List.{AllByRecursion};
 ghost use Rattle.nfs_objects.specs.Values.{write_value};
+ghost use Rattle.nfs_engine.specs.Engine.{ArePlaces};
+ghost use Rattle.nfs_engine.specs.Settling.{HoldsWritten};
 ghost use Rattle.nfs_engine.specs.declared.release.Then.TheVariants as then;
-ghost use Rattle.nfs_pool.specs.Steps.{IsMadeAbove, addresses};
+ghost use Rattle.nfs_pool.specs.Steps.{IsMadeAbove, LetGoFrom, addresses};
 
 use crate::locking::take;
 use crate::pool::Pool;
 use crate::sent::{Reason, Uncommitted};
-use nfs_engine::{Committed, Finished, SHARDS, shard_index};
+use nfs_engine::{Committed, Finished, SHARDS, Shard, shard_index};
 use nfs_objects::Write;
 use std::alloc::Global;
 use std::sync::Wait;
@@ -29,11 +32,13 @@ impl<L: Ledger> Pool<L> {
     ) -> Result<Committed, Uncommitted>
         requires parts { 0 < mine.old.parts }
         requires index { index ≤ SHARDS }
+        requires written { ArePlaces finished.done.change.writes written.now }
         ensures parts { mine.new.parts ≡ mine.old.parts }
         ensures counted { OnOk result (mine.new.amount ≡ mine.old.amount + 1) }
         ensures uncounted { OnErr result (mine.new.amount ≡ mine.old.amount) }
         ensures receipt { IfOk result (λ c. IsMadeAbove last finished c.receipt) }
         ensures over { IfOk result (λ c. c.release.after ≡ then.Ended) }
+        ensures free { IfOk result (λ c. LetGoFrom index finished.done.change.writes c.release.done) }
         ensures places { IfOk result
             (λ c. addresses (map write_value c.writes.items) ≡ addresses finished.done.change.writes) }
         ensures back { IfErr result (λ u. u.finished ≡ finished) }
@@ -46,7 +51,7 @@ impl<L: Ledger> Pool<L> {
         }
         let mut guard = take(rt, &self.places[index].shard);
         let shard = &mut *guard;
-        if !finished.holds_written(shard) {
+        if !may_settle(&finished, shard, index) {
             return Err(Uncommitted {
                 finished,
                 reason: Reason::Stale,
@@ -63,8 +68,21 @@ impl<L: Ledger> Pool<L> {
     }
 }
 
+/// Whether this is the shard of this index, and the call holds in it all that it is to write there.
+fn may_settle(finished: &Finished, shard: &Shard, index: usize) -> bool
+    ensures { result ≡ true → (shard.now.index ≡ index)
+        × AllByRecursion (HoldsWritten shard.now finished.now.id) finished.now.done.change.writes }
+{
+    if shard.index() != index {
+        return false;
+    }
+    finished.holds_written(shard)
+}
+
 /// Which shards these writes are in.
-pub(crate) fn written_shards(writes: &[Write]) -> [bool; SHARDS] {
+pub(crate) fn written_shards(writes: &[Write]) -> [bool; SHARDS]
+    ensures { ArePlaces (map write_value writes.now) result }
+{
     let mut written = [false; SHARDS];
     for write in writes {
         written[shard_index(write.address)] = true;
@@ -75,7 +93,9 @@ pub(crate) fn written_shards(writes: &[Write]) -> [bool; SHARDS] {
 /// The first of the written shards from this one on; `SHARDS` where there is none.
 fn next_written(written: &[bool; SHARDS], from: usize) -> usize
     requires { from ≤ SHARDS }
-    ensures { (from ≤ result) × (result ≤ SHARDS) }
+    ensures within { (from ≤ result) × (result ≤ SHARDS) }
+    ensures passed { (k : ℕ) → from ≤ k → k < result → slice_index_or written.now k false ≡ false }
+    ensures found { result < SHARDS → slice_index_or written.now result false ≡ true }
 {
     for index in from..SHARDS {
         if written[index] {

@@ -3,6 +3,7 @@
 ghost use Rattle.std.specs.Prelude.{◌≡◌, ◌+◌, ◌<◌, None, IfErr, IfOk, OnErr, OnOk};
 ghost use Rattle.nfs_objects.specs.Values.{seen_at};
 ghost use Rattle.nfs_engine.specs.Apart.{GetsNumber};
+ghost use Rattle.nfs_engine.specs.Engine.{ArePlaces};
 ghost use Rattle.nfs_engine.specs.declared.release.Then.TheVariants as then;
 ghost use Rattle.nfs_pool.specs.Steps.{AdmitsFrom, IsGivenUp, IsMadeAbove, LeadsThere, TakesAny};
 
@@ -62,7 +63,8 @@ pub trait Steps<L: Ledger> {
         requires { shard < SHARDS }
         ensures { GetsNumber txn.old txn.new result };
 
-    /// Makes what is done the state, and counts one more receipt, under a number above this one.
+    /// Makes what is done the state, and counts one more receipt, under a number above this one. The shards that are
+    /// written are free of the call then.
     ///
     /// # Errors
     ///
@@ -81,6 +83,7 @@ pub trait Steps<L: Ledger> {
         ensures uncounted { OnErr result (mine.new.amount ≡ mine.old.amount) }
         ensures receipt { IfOk result (λ r. IsMadeAbove last finished r.0) }
         ensures over { IfOk result (λ r. r.1.after ≡ then.Ended) }
+        ensures free { IfOk result (λ r. ArePlaces finished.done.change.writes r.1.done) }
         ensures back { IfErr result (λ u. u.finished ≡ finished) };
 
     /// Lets go, in one shard, what a call that left still holds there.
