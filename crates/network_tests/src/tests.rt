@@ -7,6 +7,7 @@ ghost use Rattle.nfs_server.specs.CommandLine.{AreWithin};
 
 mod answers;
 mod clients;
+mod eras;
 mod sockets;
 
 use crate::tests::clients::Visit;

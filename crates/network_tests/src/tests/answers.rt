@@ -6,7 +6,7 @@ use std::process::Abort;
 use std::test::Fail;
 
 /// NULL of NFS without a credential (RFC 1813, 3.3.0).
-const NULL: Exchange = (
+pub(super) const NULL: Exchange = (
     &[0x80000028, 1, 0, 2, 100003, 3, 0, 0, 0, 0, 0],
     &[0x80000018, 1, 1, 0, 0, 0, 0],
 );
@@ -36,7 +36,7 @@ const GETATTR: [u32; 20] = [
 ];
 
 /// A directory of mode 0777, with 2 links, of 4096 bytes, on file system 1, made at (1000, 0).
-const OPENED: Exchange = (
+pub(super) const OPENED: Exchange = (
     &GETATTR,
     &[
         0x80000070, 3, 1, 0, 0, 0, 0, 0, 2, 0x1ff, 2, 0, 0, 0, 0x1000, 0, 0x1000, 0, 0, 0, 1, 0, 1,

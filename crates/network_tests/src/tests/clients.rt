@@ -12,12 +12,16 @@ const PATIENCE: u64 = 20;
 /// The most bytes of an answer.
 const MOST: usize = 512;
 
+/// A word of an answer over a connection that may be any: RFC 1813 leaves open which number and generation a new object
+/// has.
+pub(super) const ANY: u32 = 0x616e7921;
+
 /// A call, and its answer, as words with their marks. One that shall have no answer has none here.
-pub type Exchange = (&'static [u32], &'static [u32]);
+pub(super) type Exchange = (&'static [u32], &'static [u32]);
 
 /// What a client does.
 #[derive(Clone, Copy)]
-pub enum Visit {
+pub(super) enum Visit {
     /// These exchanges over a connection.
     Connection(&'static [Exchange]),
     /// These exchanges by datagrams, which have no marks; then it opens a connection and closes it.
@@ -36,7 +40,7 @@ pub enum Visit {
 
 impl Visit {
     /// Whether all is answered as it should be.
-    pub fn is_well<R: AllocGlobal + Net<Listener = TcpListener, Stream = TcpStream>>(
+    pub(super) fn is_well<R: AllocGlobal + Net<Listener = TcpListener, Stream = TcpStream>>(
         self,
         rt: &R,
         tcp: Option<SocketAddr>,
@@ -89,7 +93,18 @@ fn is_next(alloc: Global, stream: &TcpStream, answer: &[u32]) -> io::Result<bool
     let answer = spelled(alloc, answer)?;
     let mut told = Vec::from_elem(alloc, 0u8, answer.len())?;
     stream.read_exact(told.as_mut_slice())?;
-    Ok(told == answer)
+    Ok(are_like(&told, &answer))
+}
+
+/// Whether each word is told that is wanted.
+fn are_like(told: &[u8], wanted: &[u8]) -> bool {
+    let any = ANY.to_be_bytes();
+    for (told, wanted) in told.chunks(4).zip(wanted.chunks(4)) {
+        if wanted != any.as_slice() && told != wanted {
+            return false;
+        }
+    }
+    true
 }
 
 /// Whether a call has this answer over a connection.
