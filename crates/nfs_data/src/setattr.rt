@@ -103,7 +103,7 @@ fn resize_to(draft: &mut Draft<'_>, number: u64, size: Option<NewSize>) -> Resul
     let Some(wanted) = size else {
         return Ok(());
     };
-    resize(draft, &wanted.file, wanted.size as usize)
+    resize(draft, &wanted.file, wanted.size)
 }
 
 /// A file, and the size that it gets in bytes.

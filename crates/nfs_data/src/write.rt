@@ -60,7 +60,7 @@ fn store(
     let answer = answer_to(draft.ctx(), arguments);
     if answer.count > 0 {
         let bytes = &arguments.data.as_slice()[..answer.count as usize];
-        write(draft, &file, arguments.offset as usize, bytes)?;
+        write(draft, &file, arguments.offset, bytes)?;
     }
     Ok(Ok(answer))
 }

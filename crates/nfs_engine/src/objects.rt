@@ -27,8 +27,8 @@ pub(crate) struct Kept {
 }
 
 /// What stands at each address, and which generation its number was given last. An address that is not there is empty,
-/// and its number was never given. An address that was written stays in it, empty or not; of its look-ups only
-/// comparisons of views (`fits`) make use.
+/// and its number was never given. The address of a number that was given stays in it, empty or not, and others as long
+/// as something stands there; of its look-ups only comparisons of views (`fits`) make use.
 #[derive(Drop)]
 pub(crate) struct Objects {
     slots: IndexMap<Addr, Kept>,
@@ -153,6 +153,10 @@ impl Objects {
         ensures room { self.old.room ≤ self.new.room + 1 }
     {
         let last = self.last(address).max(generation(&object));
+        if object.is_none() && last == 0 {
+            self.slots.swap_remove(&address);
+            return;
+        }
         self.slots.insert(address, Kept { object, last }).unwrap();
     }
 }

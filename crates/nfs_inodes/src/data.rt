@@ -10,7 +10,7 @@ use nfs_wire::Verifier;
 pub const TRANSFER_LIMIT: u32 = 65_536;
 
 /// The size of the largest file, in bytes (RFC 1813, 3.3.19: maxfilesize).
-pub const SIZE_LIMIT: u64 = 1_048_576;
+pub const SIZE_LIMIT: u64 = 1_073_741_824;
 
 /// The start number of the server, which a caller compares to see whether it was started again (RFC 1813, 3.3.7 and
 /// 3.3.21).

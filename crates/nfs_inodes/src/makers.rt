@@ -16,6 +16,7 @@ ghost use Rattle.nfs_inodes.specs.Kinds.{IsShown};
 ghost use Rattle.nfs_inodes.specs.Makes.{IsFree, link_lost, made_under, removed};
 ghost use Rattle.nfs_inodes.specs.Stops.{StopsAt, StopsMaking, counted_at};
 
+use crate::content::file::clear;
 use crate::content::naming::add_entry;
 use crate::found::inode;
 use crate::kinds::Directory;
@@ -48,6 +49,7 @@ fn free(draft: &mut Draft<'_>, number: u64) -> Result<(), Halt>
         (StopsAt draft.old (counted_at draft.old number)) }
 {
     uncount(draft, number)?;
+    clear(draft, number)?;
     Ok(draft.free(number)?)
 }
 

@@ -11,6 +11,7 @@ ghost use Rattle.nfs_objects.specs.declared.usage.Usage.{Usage as Sums};
 ghost use Rattle.nfs_inodes.specs.Counts.{AreUnread, IsCount, IsShareOf, KeepsInodes, uncounted};
 ghost use Rattle.nfs_inodes.specs.Stops.{StopsAt, counted_at};
 
+use crate::content::asking::Asking;
 use crate::found::inode;
 use nfs_objects::usage::group_of;
 use nfs_objects::{Addr, Draft, GROUPS, Halt, Inode, Mode, Usage};
@@ -52,6 +53,24 @@ pub(crate) fn counted(
     }
     let usage = draft.usage(before.export, group_of(number))?;
     Ok(Some(usage.moved(before.usage, after)))
+}
+
+/// Asks for what the group of a number uses, where its object gets another share.
+pub(crate) fn ask_counted(
+    draft: &Draft<'_>,
+    number: u64,
+    before: Share,
+    after: Usage,
+    asking: &mut Asking,
+) -> Result<(), AllocError> {
+    if before.usage == after {
+        return Ok(());
+    }
+    let address = Addr::Usage {
+        export: before.export,
+        group: group_of(number),
+    };
+    asking.add(draft, address)
 }
 
 /// Puts what the group of a number uses from now on, if it is another.

@@ -85,7 +85,7 @@ fn give_size(draft: &mut Draft<'_>, file: &File, size: Option<u64>) -> Result<()
         (StopsAt draft.old (counted_at draft.old file.now.known.number)) }
 {
     match size {
-        Some(size) => resize(draft, file, size as usize),
+        Some(size) => resize(draft, file, size),
         None => Ok(()),
     }
 }

@@ -10,6 +10,20 @@ pub enum Addr {
     Exports,
     /// The object with this number, its fileid.
     Inode(u64),
+    /// Which blocks of a file are there, of `MAP_BLOCKS` that follow each other.
+    Map {
+        /// The number of the file.
+        file: u64,
+        /// From 0.
+        page: u64,
+    },
+    /// The bytes of a block of a file.
+    Block {
+        /// The number of the file.
+        file: u64,
+        /// From 0.
+        index: u64,
+    },
     /// The table of mounts.
     Mounts,
     /// What a group of objects uses.

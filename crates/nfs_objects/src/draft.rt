@@ -8,18 +8,21 @@ ghost use Rattle.nfs_objects.specs.Knows.{Knows};
 ghost use Rattle.nfs_objects.specs.Modes.{Suits, held_mode};
 ghost use Rattle.nfs_objects.specs.Drafts.{MayChange, MayGive, MayWrite};
 ghost use Rattle.nfs_objects.specs.Promise.{Given, Held};
-ghost use Rattle.nfs_objects.specs.Stands.{IsFitting, mounts_in};
+ghost use Rattle.nfs_objects.specs.FileMaps.{stored_map};
+ghost use Rattle.nfs_objects.specs.Stands.{IsFitting, block_of, map_of, mounts_in};
 ghost use Rattle.nfs_objects.specs.Sums.{stored_usage, usage_of};
 ghost use Rattle.nfs_objects.specs.Values.{change_value, known_at, modes_value, new_draft, pointed, with_written};
 ghost use Rattle.nfs_objects.specs.Values.{written_at};
 
 use crate::address::{Addr, is_same};
+use crate::bits::Bits;
 use crate::change::{Change, Halt, Write};
 use crate::modes::{Mode, Modes};
 use crate::mounts::MountTable;
-use crate::object::{Inode, Object, mount_table};
+use crate::object::{Inode, Object, block_known, map_known, mount_table};
 use crate::usage::{Usage, usage_known};
 use crate::view::{Reserved, View};
+use bytes::Bytes;
 use nfs_machine::{Ctx, Reply};
 use side_wire::Message;
 use std::alloc::{AllocError, Global};
@@ -184,6 +187,82 @@ impl<'a> Draft<'a> {
         ensures err { OnErr result (self.new ≡ self.old) }
     {
         self.write(Addr::Inode(number), None)
+    }
+
+    /// Which blocks of a page of a file are there.
+    ///
+    /// # Errors
+    ///
+    /// `Need` of its address where it was not read, and `Memory`.
+    pub fn map(&self, file: u64, page: u64) -> Result<Bits, Halt>
+        ensures { MatchResult result
+            (λ bits. option_map map_of (known_at self.now (Addr.Map file page)) ≡ Some bits)
+            (Lacks self.now (Addr.Map file page)) }
+    {
+        Ok(map_known(self.find(Addr::Map { file, page })?))
+    }
+
+    /// The bytes of a block of a file; None where it is absent.
+    ///
+    /// # Errors
+    ///
+    /// `Need` of its address where it was not read, and `Memory`.
+    pub fn block(&self, file: u64, index: u64) -> Result<Option<&Bytes>, Halt>
+        ensures { MatchResult result
+            (λ block. option_map block_of (known_at self.now (Addr.Block file index)) ≡ Some (option_copied block))
+            (Lacks self.now (Addr.Block file index)) }
+    {
+        Ok(block_known(self.find(Addr::Block { file, index })?))
+    }
+
+    /// Puts which blocks of a page of a file are there in the place of what was read; where there are none, nothing
+    /// stands there.
+    ///
+    /// # Errors
+    ///
+    /// `AllocError` where the memory was refused. It changes nothing.
+    pub fn put_map(&mut self, file: u64, page: u64, bits: Bits) -> Result<(), AllocError>
+        requires alone { MayChange self.old (Addr.Map file page) }
+        requires known { IsSome (known_at self.old (Addr.Map file page)) }
+        ensures ok { OnOk result (self.new ≡ with_written self.old (Addr.Map file page) (stored_map bits)) }
+        ensures err { OnErr result (self.new ≡ self.old) }
+    {
+        let address = Addr::Map { file, page };
+        if bits.is_none() {
+            return self.write(address, None);
+        }
+        let object = Arc::new(self.alloc, Object::Map(bits))?;
+        self.write(address, Some(object))
+    }
+
+    /// Puts a block of a file in the place of what was read.
+    ///
+    /// # Errors
+    ///
+    /// `AllocError` where the memory was refused. It changes nothing.
+    pub fn put_block(&mut self, file: u64, index: u64, bytes: Bytes) -> Result<(), AllocError>
+        requires alone { MayChange self.old (Addr.Block file index) }
+        requires known { IsSome (known_at self.old (Addr.Block file index)) }
+        ensures ok { OnOk result
+            (self.new ≡ with_written self.old (Addr.Block file index) (Some (Object.Block bytes))) }
+        ensures err { OnErr result (self.new ≡ self.old) }
+    {
+        let object = Arc::new(self.alloc, Object::Block(bytes))?;
+        self.write(Addr::Block { file, index }, Some(object))
+    }
+
+    /// Frees a block of a file that was read.
+    ///
+    /// # Errors
+    ///
+    /// `AllocError` where the memory was refused. It changes nothing.
+    pub fn free_block(&mut self, file: u64, index: u64) -> Result<(), AllocError>
+        requires alone { MayChange self.old (Addr.Block file index) }
+        requires known { IsSome (known_at self.old (Addr.Block file index)) }
+        ensures ok { OnOk result (self.new ≡ with_written self.old (Addr.Block file index) None) }
+        ensures err { OnErr result (self.new ≡ self.old) }
+    {
+        self.write(Addr::Block { file, index }, None)
     }
 
     /// Puts a table of mounts in the place of the one that was read.

@@ -8,11 +8,13 @@
 #![tactic(auto)]
 
 pub mod address;
+pub mod bits;
+pub mod block;
 pub mod change;
 pub mod directory;
 pub mod draft;
 pub mod exports;
-pub mod file_bytes;
+pub mod file_map;
 pub mod laws;
 pub mod modes;
 pub mod mounts;
@@ -22,11 +24,13 @@ pub mod usage;
 pub mod view;
 
 pub use address::Addr;
+pub use bits::Bits;
+pub use block::{BLOCK_SIZE, MAP_BLOCKS};
 pub use change::{Change, Halt, Outcome, Write};
 pub use directory::{Directory, Entries, Leaf};
 pub use draft::Draft;
 pub use exports::{ExportTable, LivingExport};
-pub use file_bytes::{FileBytes, PART_SIZE};
+pub use file_map::FileMap;
 pub use modes::{CHANGING, MOUNTING, Mode, Modes, READING};
 pub use mounts::{Leaving, MOUNT_LIMIT, Mount, MountTable, Mounts};
 pub use nfs_machine::Handle;

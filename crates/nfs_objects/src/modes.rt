@@ -28,7 +28,7 @@ pub enum Mode {
 /// shared.
 #[derive(Clone, Copy)]
 pub struct Modes<'a> {
-    /// Of inodes, and of what groups of them use.
+    /// Of inodes, of the maps and blocks of files, and of what groups of inodes use.
     pub inodes: Mode,
     pub mounts: Mode,
     /// The names that RENAME moves: other inodes than theirs it only reads.
@@ -75,6 +75,9 @@ impl<'a> Modes<'a> {
         match address {
             Addr::Exports => Mode::Shared,
             Addr::Inode(number) => self.inode_mode(view, number),
+            Addr::Map { file, page: _ } | Addr::Block { file, index: _ } => {
+                self.inode_mode(view, file)
+            }
             Addr::Mounts => self.mounts,
             Addr::Usage { .. } => self.inodes,
         }

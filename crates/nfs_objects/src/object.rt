@@ -3,11 +3,12 @@
 ghost use Rattle.std.specs.Prelude.{◌≡◌, false, MatchOption, option_map, option_copied};
 ghost use Rattle.std.specs.Arc.{arc_value};
 ghost use Rattle.nfs_machine.specs.Attributes.{is_directory};
-ghost use Rattle.nfs_objects.specs.Stands.{content_of, exports_of, inode_of, table_of};
+ghost use Rattle.nfs_objects.specs.Stands.{block_of, content_of, exports_of, inode_of, map_of, table_of};
 
+use crate::bits::Bits;
 use crate::directory::Directory;
 use crate::exports::{ExportTable, LivingExport};
-use crate::file_bytes::FileBytes;
+use crate::file_map::FileMap;
 use crate::mounts::MountTable;
 use crate::usage::Usage;
 use bytes::Bytes;
@@ -18,8 +19,8 @@ use std::sync::Arc;
 /// What an object is and contains.
 #[derive(Drop)]
 pub enum Content {
-    /// The bytes of a file.
-    Regular(FileBytes),
+    /// A file, whose bytes stand in blocks of their own.
+    Regular(FileMap),
     Directory(Directory),
     /// The text of a symbolic link.
     Link(Bytes),
@@ -34,7 +35,7 @@ impl Clone for Content {
 
     fn clone(&self) -> Result<Content, AllocError> {
         Ok(match self {
-            Content::Regular(bytes) => Content::Regular(bytes.clone()?),
+            Content::Regular(map) => Content::Regular(map.copy()),
             Content::Directory(directory) => Content::Directory(directory.clone()?),
             Content::Link(text) => Content::Link(text.clone()?),
             Content::BlockDevice(device) => Content::BlockDevice(*device),
@@ -58,7 +59,7 @@ impl Content {
         ensures small { result < 2 ^ 63 }
     {
         match self {
-            Content::Regular(bytes) => bytes.len() as u64,
+            Content::Regular(map) => map.size(),
             Content::Directory(_) => DIRECTORY_SIZE,
             Content::Link(text) => text.len() as u64,
             Content::BlockDevice(_) => 0,
@@ -212,6 +213,10 @@ impl Eq for Inode {
 pub enum Object {
     Exports(ExportTable),
     Inode(Inode),
+    /// Which of so many blocks of a file are there.
+    Map(Bits),
+    /// The bytes of a block of a file, at most `BLOCK_SIZE`.
+    Block(Bytes),
     Mounts(MountTable),
     /// What a group of objects uses.
     Usage(Usage),
@@ -234,6 +239,8 @@ impl PartialEq for Object {
         match (self, other) {
             (Object::Exports(a), Object::Exports(b)) => a == b,
             (Object::Inode(a), Object::Inode(b)) => a == b,
+            (Object::Map(a), Object::Map(b)) => a == b,
+            (Object::Block(a), Object::Block(b)) => a == b,
             (Object::Mounts(a), Object::Mounts(b)) => a == b,
             (Object::Usage(a), Object::Usage(b)) => a == b,
             _ => false,
@@ -265,7 +272,7 @@ pub fn living(known: &Option<Arc<Object>>) -> Option<&Inode>
 {
     match &**known.as_ref()? {
         Object::Inode(inode) => Some(inode),
-        Object::Exports(_) | Object::Mounts(_) | Object::Usage(_) => None,
+        _ => None,
     }
 }
 
@@ -275,6 +282,26 @@ pub fn mount_table(known: &Option<Arc<Object>>) -> Option<&MountTable>
 {
     match &**known.as_ref()? {
         Object::Mounts(table) => Some(table),
-        Object::Exports(_) | Object::Inode(_) | Object::Usage(_) => None,
+        _ => None,
+    }
+}
+
+/// The blocks that the map tells of that stands where this is known; none where nothing does, or what is no map.
+pub fn map_known(known: &Option<Arc<Object>>) -> Bits
+    ensures { result ≡ map_of (option_map arc_value known.now) }
+{
+    match known.as_deref() {
+        Some(Object::Map(bits)) => *bits,
+        _ => Bits::none(),
+    }
+}
+
+/// The block that stands where this is known; None where nothing does, or what is no block.
+pub fn block_known(known: &Option<Arc<Object>>) -> Option<&Bytes>
+    ensures { option_copied result ≡ block_of (option_map arc_value known.now) }
+{
+    match known.as_deref() {
+        Some(Object::Block(bytes)) => Some(bytes),
+        _ => None,
     }
 }

@@ -13,19 +13,22 @@ ghost use Rattle.nfs_inodes.specs.Known.{bytes_of, content_at};
 ghost use Rattle.nfs_inodes.specs.Makes.{bytes_changed};
 ghost use Rattle.nfs_inodes.specs.Stops.{StopsAt, counted_at};
 
+use crate::content::asking::Asking;
+use crate::content::blocks::{Mapped, Range, ask_written, read_range, write_range};
+use crate::content::cut::cut_off;
 use crate::content::{file_at, with_content};
 use crate::data::TRANSFER_LIMIT;
 use crate::found::{Known, inode};
 use crate::kinds::File;
 use crate::times::now;
-use crate::usage::{count, counted, share_of};
+use crate::usage::{ask_counted, count, counted, share_of};
 use bytes::Bytes;
-use nfs_objects::{Content, Draft, FileBytes, Halt, Usage};
+use nfs_objects::{Content, Draft, FileMap, Halt, Usage};
 use nfs_wire::{NfsStatus, ReadData};
-use std::alloc::{AllocError, Global};
+use std::alloc::AllocError;
 
 /// What is read of a file at the offset, at most `count` bytes and at most those of one transfer, and whether the file
-/// ends with it. The data is shared with the file where it lies in one of its parts, and else copied.
+/// ends with it. The data is shared with the file where it lies in one of its blocks, and else copied.
 ///
 /// # Errors
 ///
@@ -34,42 +37,25 @@ pub fn read(draft: &Draft<'_>, file: &File, offset: u64, count: u32) -> Result<R
     ensures { MatchResult result
         (λ found. Knows draft.now (λ k.
         found ≡ read_at (bytes_of (content_at k.state file.now.known.number)) offset count))
-        (StopsAt draft.now (addresses_of draft.now.view file.now.known.number)) }
+        (StopsAt draft.now (read_from draft.now.view file.now.known.number offset)) }
 {
-    match inode(draft, file.known.number)? {
-        Some(inode) => Ok(read_content(draft.alloc(), &inode.content, offset, count)?),
-        None => Ok(nothing_read()),
-    }
-}
-
-fn read_content(
-    alloc: Global,
-    content: &Content,
-    offset: u64,
-    count: u32,
-) -> Result<ReadData, AllocError>
-    ensures { IfOk result (λ found. found ≡ read_at (bytes_of (content_of content.now)) offset count) }
-{
-    match content {
-        Content::Regular(bytes) => read_at(alloc, bytes, offset, count),
-        _ => Ok(nothing_read()),
-    }
-}
-
-fn read_at(
-    alloc: Global,
-    bytes: &FileBytes,
-    offset: u64,
-    count: u32,
-) -> Result<ReadData, AllocError>
-    ensures { IfOk result (λ found. found ≡ read_at bytes.now offset count) }
-{
-    let start = bytes.len().min(offset as usize);
-    let length = (bytes.len() - start).min(count.min(TRANSFER_LIMIT) as usize);
+    let number = file.known.number;
+    let Some(inode) = inode(draft, number)? else {
+        return Ok(nothing_read());
+    };
+    let Content::Regular(map) = &inode.content else {
+        return Ok(nothing_read());
+    };
+    let offset = offset.min(map.size());
+    let count = (map.size() - offset).min(u64::from(count.min(TRANSFER_LIMIT))) as usize;
+    let data = match count {
+        0 => Bytes::new(),
+        _ => read_range(draft, Mapped { number, map }, Range { offset, count })?,
+    };
     Ok(ReadData {
-        count: length as u32,
-        eof: start + length == bytes.len(),
-        data: bytes.read(alloc, start, length)?,
+        count: count as u32,
+        eof: offset + count as u64 == map.size(),
+        data,
     })
 }
 
@@ -109,27 +95,44 @@ fn text_in(content: &Content) -> Result<Result<Bytes, NfsStatus>, AllocError>
     }
 }
 
-/// Writes bytes at an offset of a file; a gap before it is zeros. The bytes end below 2^64.
+/// Writes bytes, at least one, at an offset of a file; a gap before it is zeros. They end within the largest file.
 ///
 /// # Errors
 ///
 /// `Need` of what has to be held for it, and `Memory`. The draft is of no use then.
-pub fn write(draft: &mut Draft<'_>, file: &File, offset: usize, bytes: &[u8]) -> Result<(), Halt>
+pub fn write(draft: &mut Draft<'_>, file: &File, offset: u64, bytes: &[u8]) -> Result<(), Halt>
     requires alone { draft.old.modes ≡ changing }
     requires shown { IsShown draft.old file.now.known }
-    requires room { offset + length bytes.now < 2 ^ 64 }
+    requires some { 0 < length bytes.now }
+    requires room { offset + length bytes.now ≤ size_limit }
     ensures { MatchResult result
         (λ _. Turns draft.old draft.new (bytes_changed (time_of draft.old.ctx.moment) file.now.known.number
         (λ old. written old offset bytes.now)))
-        (StopsAt draft.old (counted_at draft.old file.now.known.number)) }
+        (StopsAt draft.old (written_from draft.old file.now.known.number offset)) }
 {
     let number = file.known.number;
+    let range = Range {
+        offset,
+        count: bytes.len(),
+    };
     let kept = file_at(draft, file)?;
     let share = share_of(kept.inode);
-    let size = kept.bytes.len().max(offset + bytes.len());
-    let usage = counted(draft, number, share, Usage::of_one(size as u64))?;
-    let content = kept.bytes.with_written(draft.alloc(), offset, bytes)?;
-    let new = with_content(kept.inode, now(draft.ctx()), Content::Regular(content));
+    let size = kept.map.size().max(offset + bytes.len() as u64);
+    let after = Usage::of_one(size);
+    let mapped = Mapped {
+        number,
+        map: kept.map,
+    };
+    let mut asking = Asking::new(draft.alloc());
+    ask_counted(draft, number, share, after, &mut asking)?;
+    ask_written(draft, mapped, range, &mut asking)?;
+    asking.ask()?;
+    let usage = counted(draft, number, share, after)?;
+    let pages = kept.map.pages();
+    let inode = kept.inode.clone()?;
+    let pages = write_range(draft, number, pages, range, bytes)?;
+    let content = Content::Regular(FileMap::new(size, pages)?);
+    let new = with_content(&inode, now(draft.ctx()), content);
     count(draft, share.export, number, usage)?;
     Ok(draft.put(number, new)?)
 }
@@ -139,7 +142,7 @@ pub fn write(draft: &mut Draft<'_>, file: &File, offset: usize, bytes: &[u8]) ->
 /// # Errors
 ///
 /// `Need` of what has to be held for it, and `Memory`. The draft is of no use then.
-pub fn resize(draft: &mut Draft<'_>, file: &File, size: usize) -> Result<(), Halt>
+pub fn resize(draft: &mut Draft<'_>, file: &File, size: u64) -> Result<(), Halt>
     requires alone { draft.old.modes ≡ changing }
     requires shown { IsShown draft.old file.now.known }
     ensures { MatchResult result
@@ -150,9 +153,34 @@ pub fn resize(draft: &mut Draft<'_>, file: &File, size: usize) -> Result<(), Hal
     let number = file.known.number;
     let kept = file_at(draft, file)?;
     let share = share_of(kept.inode);
-    let usage = counted(draft, number, share, Usage::of_one(size as u64))?;
-    let content = kept.bytes.resized(draft.alloc(), size)?;
-    let new = with_content(kept.inode, now(draft.ctx()), Content::Regular(content));
+    let usage = counted(draft, number, share, Usage::of_one(size))?;
+    let pages = kept.map.pages();
+    let old_size = kept.map.size();
+    let inode = kept.inode.clone()?;
+    let pages = if size < old_size {
+        cut_off(draft, number, pages, size)?
+    } else {
+        pages
+    };
+    let content = Content::Regular(FileMap::new(size, pages)?);
+    let new = with_content(&inode, now(draft.ctx()), content);
     count(draft, share.export, number, usage)?;
     Ok(draft.put(number, new)?)
+}
+
+/// Frees all blocks and maps of what lives at a number, which is to go; what is no file has none.
+///
+/// # Errors
+///
+/// `Need` of what has to be held for it, and `Memory`. The draft is of no use then.
+pub(crate) fn clear(draft: &mut Draft<'_>, number: u64) -> Result<(), Halt> {
+    let Some(inode) = inode(draft, number)? else {
+        return Ok(());
+    };
+    let Content::Regular(map) = &inode.content else {
+        return Ok(());
+    };
+    let pages = map.pages();
+    cut_off(draft, number, pages, 0)?;
+    Ok(())
 }

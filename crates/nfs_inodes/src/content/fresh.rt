@@ -7,7 +7,7 @@ ghost use Rattle.nfs_inodes.specs.Makes.{first_parent};
 
 use crate::making::NewContent;
 use bytes::Bytes;
-use nfs_objects::{Content, Entries, FileBytes};
+use nfs_objects::{Bits, Content, Entries, FileMap};
 use std::alloc::{AllocError, Global};
 
 /// The cookie of `..`, the greatest that a new directory has used (RFC 1813, 3.3.16).
@@ -27,7 +27,7 @@ pub(crate) fn new_content(
     ensures parent { IfOk result (λ made. parent_in made ≡ first_parent parent (content_asked content.now)) }
 {
     Ok(match content {
-        NewContent::Regular(size) => Content::Regular(zeros(alloc, *size as usize)?),
+        NewContent::Regular(size) => Content::Regular(FileMap::new(*size, Bits::none())?),
         NewContent::Directory => Content::Directory(nfs_objects::Directory {
             parent,
             last_cookie: ABOVE_COOKIE,
@@ -39,10 +39,4 @@ pub(crate) fn new_content(
         NewContent::Socket => Content::Socket,
         NewContent::Fifo => Content::Fifo,
     })
-}
-
-fn zeros(alloc: Global, size: usize) -> Result<FileBytes, AllocError>
-    ensures { IfOk result (λ content. content ≡ replicate size 0) }
-{
-    FileBytes::new(alloc).resized(alloc, size)
 }

@@ -1,0 +1,70 @@
+//! The bytes of a block of a file. Those that it has not, up to `BLOCK_SIZE`, are zeros.
+
+ghost use Rattle.std.specs.Prelude.{◌≡◌, ◌++◌, ◌+◌, ◌≤◌, IfOk, OnOk, drop, length, take};
+ghost use Rattle.nfs_machine.specs.Data.{resized, written};
+
+use crate::bits::BITS;
+use bytes::Bytes;
+use std::alloc::{AllocError, Global};
+
+/// How many bytes a block has at most, and the place in a file of each block but the first is a multiple of it.
+pub const BLOCK_SIZE: usize = 4_096;
+
+/// How many blocks a map page tells of.
+pub const MAP_BLOCKS: u64 = BITS;
+
+/// A block once the data was written in it at this place; a gap before it is zeros. All is copied.
+///
+/// # Errors
+///
+/// `AllocError` where the memory for it was refused.
+pub fn written(alloc: Global, old: &[u8], at: usize, data: &[u8]) -> Result<Bytes, AllocError>
+    requires { at + length «data».now ≤ BLOCK_SIZE }
+    ensures { IfOk result (λ bytes. bytes ≡ written old.now at «data».now) }
+{
+    let end = at + data.len();
+    let mut bytes = Vec::with_capacity(alloc, end.max(old.len()))?;
+    bytes.extend_from_slice(&old[..at.min(old.len())])?;
+    bytes.resize(at, 0)?;
+    bytes.extend_from_slice(data)?;
+    bytes.extend_from_slice(&old[end.min(old.len())..])?;
+    Ok(Bytes::from_vec(bytes)?)
+}
+
+/// At most so many of a block's first bytes, copied.
+///
+/// # Errors
+///
+/// `AllocError` where the memory for them was refused.
+pub fn cut(alloc: Global, old: &[u8], count: usize) -> Result<Bytes, AllocError>
+    ensures { IfOk result (λ bytes. bytes ≡ take count old.now) }
+{
+    Bytes::copy_from_slice(alloc, window(old, 0, count))
+}
+
+/// Adds so many of a block's bytes from this place on; zeros where it has fewer.
+///
+/// # Errors
+///
+/// `AllocError` where the memory for them was refused.
+pub fn add_part(
+    found: &mut Vec<u8>,
+    block: &[u8],
+    start: usize,
+    count: usize,
+) -> Result<(), AllocError>
+    requires { length found.old.items + count ≤ usize.max }
+    ensures { OnOk result (found.new.items ≡ found.old.items ++ resized (drop start block.now) count) }
+{
+    let end = found.len() + count;
+    found.extend_from_slice(window(block, start, count))?;
+    found.resize(end, 0)
+}
+
+/// At most so many bytes from a place on.
+pub fn window(bytes: &[u8], start: usize, count: usize) -> &[u8]
+    ensures { result.now ≡ take count (drop start bytes.now) }
+{
+    let behind = &bytes[start.min(bytes.len())..];
+    &behind[..count.min(behind.len())]
+}
