@@ -9,9 +9,9 @@ ghost use Rattle.std.specs.Prelude.{◌≡◌, ◌++◌, [], ◌∷◌, IfOk, No
 ghost use Rattle.nfs_objects.specs.Modes.{Suits, changing, reading};
 ghost use Rattle.nfs_objects.specs.Values.{seen_at};
 
+mod blocks;
 mod drafts;
 mod exports;
-mod file_bytes;
 mod inodes;
 mod machine;
 mod makers;
@@ -24,8 +24,8 @@ use bytes::Bytes;
 use nfs_inodes::Known;
 use nfs_machine::{Ctx, ExportText, Exports, Limits, Moment};
 use nfs_objects::{
-    Addr, CHANGING, Content, Directory, Entries, ExportTable, FileBytes, Halt, Inode, MOUNTING,
-    Mode, Object, READING, Reserved, Usage, View,
+    Addr, Bits, CHANGING, Content, Directory, Entries, ExportTable, FileMap, Halt, Inode,
+    MOUNTING, Mode, Object, READING, Reserved, Usage, View,
 };
 use nfs_rpc::{Gids, Ids};
 use nfs_wire::{Attributes, DeviceNumber, FileType, SetAttributes, SetTime, Time};
@@ -83,12 +83,10 @@ fn fifo(mode: u32) -> Inode {
     inode(Content::Fifo, mode)
 }
 
-/// A file of 5 bytes with so many links.
-fn hello(alloc: Global, links: u32) -> Result<Inode, AllocError> {
-    let empty = FileBytes::new(alloc);
-    let bytes = empty.with_written(alloc, 0, b"hello");
-    drop(empty);
-    let mut hello = inode(Content::Regular(bytes?), 0o600);
+/// A file of 5 bytes with so many links: its first block, and so its first map page, is there.
+fn hello(links: u32) -> Result<Inode, AllocError> {
+    let map = FileMap::new(5, Bits::none().with(0))?;
+    let mut hello = inode(Content::Regular(map), 0o600);
     hello.links = links;
     Ok(hello)
 }
@@ -263,6 +261,10 @@ fn exported(alloc: Global) -> Result<View, AllocError>
 #[derive(Clone, Copy)]
 enum Beside {
     Nothing,
+    /// The bytes of file 9: its first block alone.
+    Block(&'static [u8]),
+    /// The same, and what the group of inode 9 uses.
+    BlockOf(&'static [u8], Usage),
     /// What the group of inode 9 uses.
     Group(Usage),
     /// A number to give, whose group is empty.
@@ -287,6 +289,15 @@ const NEW_GROUP: Addr = Addr::Usage {
     group: 10,
 };
 
+/// The first map page of file 9.
+const MAP: Addr = Addr::Map { file: 9, page: 0 };
+
+/// The first block of file 9.
+const BLOCK: Addr = Addr::Block {
+    file: 9,
+    index: 0,
+};
+
 /// Adds an inode as number 9, the exports, and what is shown beside to a view that has read nothing.
 fn fill(view: &mut View, alloc: Global, inode: Inode, beside: Beside) -> Result<(), AllocError>
     requires { view.old ≡ record { entries = []; reserved = [] } }
@@ -304,6 +315,19 @@ fn fill(view: &mut View, alloc: Global, inode: Inode, beside: Beside) -> Result<
     add(view, alloc, Addr::Exports, Mode::Shared, exports)?;
     match beside {
         Beside::Nothing => Ok(()),
+        Beside::Block(bytes) => {
+            let map = Object::Map(Bits::none().with(0));
+            add(view, alloc, MAP, Mode::Exclusive, map)?;
+            let block = Object::Block(Bytes::from_static(bytes));
+            add(view, alloc, BLOCK, Mode::Exclusive, block)
+        }
+        Beside::BlockOf(bytes, usage) => {
+            let map = Object::Map(Bits::none().with(0));
+            add(view, alloc, MAP, Mode::Exclusive, map)?;
+            let block = Object::Block(Bytes::from_static(bytes));
+            add(view, alloc, BLOCK, Mode::Exclusive, block)?;
+            add(view, alloc, GROUP, Mode::Exclusive, Object::Usage(usage))
+        }
         Beside::Group(usage) => {
             add(view, alloc, GROUP, Mode::Exclusive, Object::Usage(usage))?;
             Ok(())

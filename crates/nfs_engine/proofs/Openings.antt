@@ -1,6 +1,6 @@
 -- What the opening writes make of nothing stands for the machine's opening state: the roots live, and nothing else.
 use Rattle.std.proofs.Common.{◌≡◌, ℕ, zero, suc, ◌+◌, ◌==◌, ◌<◌, ◌≤◌, ◌⊎◌, inl, inr}
-use Rattle.std.proofs.Common.{true, false, cond, max, nat_le, ◌&&◌, if◌then◌else◌}
+use Rattle.std.proofs.Common.{true, false, cond, max, nat_le, ◌&&◌, ◌/◌, ◌%◌, if◌then◌else◌}
 use Rattle.std.proofs.Common.{List, [], ◌∷◌, ◌++◌, length, map, option_map, Option, Some, None, IsSome, refl}
 use Rattle.std.proofs.Common.{sym}
 use Rattle.std.proofs.Common.{◌∙◌, ap, subst, arith}
@@ -27,15 +27,19 @@ use Rattle.nfs_machine.specs.State.{Living}
 use Rattle.nfs_machine.specs.Times.{time_of}
 use Rattle.nfs_machine.specs.WellFormed.{IsParent}
 use Rattle.nfs_machine.specs.declared.moment.Moment.{Moment}
-use Rattle.nfs_objects.proofs.Exported.{inode-as}
+use Rattle.nfs_objects.proofs.BitSets.{has-none}
+use Rattle.nfs_objects.proofs.Exported.{inode-as, inode-stands}
 use Rattle.nfs_objects.proofs.Summed.{both-sums, counted-by, used-by}
 use Rattle.nfs_objects.proofs.Tallies.{insert-total, none-total, total}
 use Rattle.nfs_objects.specs.Stands.{IsFitting, Kept, export_table_of, exports_of, inode_in, inode_of, links_kept}
-use Rattle.nfs_objects.specs.Stands.{living_of_inode, mounts_of, parent_kept}
+use Rattle.nfs_objects.specs.Bits.{has, no_bits}
+use Rattle.nfs_objects.specs.FileMaps.{FileMapValue}
+use Rattle.nfs_objects.specs.Stands.{IsMapped, IsStored, StandFiles, bytes_at, file_of, living_of_inode, map_in, map_of}
+use Rattle.nfs_objects.specs.Stands.{mounts_of, parent_kept}
 use Rattle.nfs_objects.specs.Store.{Store, with_write, with_writes}
 use Rattle.nfs_objects.specs.Sums.{group_of, no_usage, one_using, stored_usage, usage_in}
 use Rattle.nfs_objects.specs.declared.address.Addr.{Addr}
-use Rattle.nfs_objects.specs.declared.address.Addr.TheVariants.{Exports, Inode, Mounts, Usage as UsageOf}
+use Rattle.nfs_objects.specs.declared.address.Addr.TheVariants.{Exports, Inode, Map, Block, Mounts, Usage as UsageOf}
 use Rattle.nfs_objects.specs.ExportTables.{ExportTableValue}
 use Rattle.nfs_objects.specs.Values.{write_value}
 use Rattle.nfs_objects.specs.declared.change.Write.{Write}
@@ -74,6 +78,14 @@ module _ (base : Store) (time : Time) where
   mounts_at : (n : ℕ) → (roots n).at Mounts ≡ base.at Mounts
   mounts_at zero = ap (λ (s : Store). s.at Mounts) none_yet
   mounts_at (suc n) = ap (λ (s : Store). s.at Mounts) (one_more n) ∙ mounts_at n
+
+  maps_at : (n k page : ℕ) → (roots n).at (Map k page) ≡ base.at (Map k page)
+  maps_at zero k page = ap (λ (s : Store). s.at (Map k page)) none_yet
+  maps_at (suc n) k page = ap (λ (s : Store). s.at (Map k page)) (one_more n) ∙ maps_at n k page
+
+  blocks_at : (n k i : ℕ) → (roots n).at (Block k i) ≡ base.at (Block k i)
+  blocks_at zero k i = ap (λ (s : Store). s.at (Block k i)) none_yet
+  blocks_at (suc n) k i = ap (λ (s : Store). s.at (Block k i)) (one_more n) ∙ blocks_at n k i
 
   inode_more : (n k : ℕ) → (roots (suc n)).at (Inode k)
       ≡ cond (suc n == k) (Some (objects.Inode (root_of (suc n) time))) ((roots n).at (Inode k))
@@ -279,14 +291,14 @@ module _ (es : List ExportValue) (moment : Moment) where
       ]
 
   -- what lives where this stands, if every export does
-  abbrev living_of : Option Object → Option Living
-  living_of o = option_map living_of_inode (inode_of o)
+  abbrev living_of : List ℕ → Option Object → Option Living
+  living_of bytes o = option_map (living_of_inode bytes) (inode_of o)
 
-  lives : (n : ℕ) → get (opening_roots 1 es time) n ≡ living_of (store.at (Inode n))
-  lives n =
+  lives : (bytes : List ℕ) (n : ℕ) → get (opening_roots 1 es time) n ≡ living_of bytes (store.at (Inode n))
+  lives bytes n =
       elim (within_or n) [
-        | inl h ↦ root_found time es 1 n h.0 (omega (arith, h.1)) ∙ sym (ap living_of (found n h.0 h.1).0)
-        | inr out ↦ root_none time es 1 n (beyond n out) ∙ sym (ap living_of (nothing (length es) n out).0)
+        | inl h ↦ root_found time es 1 n h.0 (omega (arith, h.1)) ∙ sym (ap (living_of bytes) (found n h.0 h.1).0)
+        | inr out ↦ root_none time es 1 n (beyond n out) ∙ sym (ap (living_of bytes) (nothing (length es) n out).0)
       ]
     where
       beyond : (k : ℕ) → (k < 1) ⊎ (length es < k) → (k < 1) ⊎ (1 + length es ≤ k)
@@ -297,8 +309,15 @@ module _ (es : List ExportValue) (moment : Moment) where
   exported : AreFaultless es → (n : ℕ) →
       inode_of (store.at (Inode n)) ≡ inode_in (opening_exports es) (store.at (Inode n))
   exported faultless n = sym (inode-as (opening_exports es) (store.at (Inode n))
-      (λ i is. (opening_formed es moment faultless).exported n (living_of_inode i)
-      (lives n ∙ ap (option_map living_of_inode) is)))
+      (λ i is. (opening_formed es moment faultless).exported n (living_of_inode [] i)
+      (lives [] n ∙ ap (option_map (living_of_inode [])) is)))
+
+  -- no file is there
+  no_file : (n : ℕ) → file_of (store.at (Inode n)) ≡ None
+  no_file n = elim (within_or n) [
+    | inl h ↦ ap file_of (found n h.0 h.1).0
+    | inr out ↦ ap file_of (nothing (length es) n out).0
+  ]
 
   -- the last generation that a number was given
   abbrev last_given : ℕ → ℕ
@@ -348,6 +367,27 @@ module _ (es : List ExportValue) (moment : Moment) where
     usage = root_usage (length es);
   }
 
+  files : StandFiles store kept
+  files = record {
+    blocks = λ n. record {
+      maps = λ page. subst (λ b. IsMapped b (store.at (Map n page)))
+          (sym (ap (λ (f : Option FileMapValue). has (elim f [ None ↦ no_bits | Some map ↦ map.pages ]) page) (no_file n)
+          ∙ has-none page)) (maps_at base time (length es) n page);
+      blocks = λ i. subst (λ b. IsStored b (store.at (Block n i)))
+          (sym (ap (λ (o : Option Object). has (map_of o) (i % 512)) (maps_at base time (length es) n (i / 512))
+          ∙ has-none (i % 512))) (blocks_at base time (length es) n i);
+    };
+    bytes = λ n i map there is. absurd (none_there n i map there is);
+  }
+    where
+      none_there : (n : ℕ) (i : Stored) (map : FileMapValue) → inode_in (opening_exports es) (store.at (Inode n)) ≡ Some i →
+          map_in i.content ≡ Some map → ⊥
+      none_there n i map there is =
+          let at : store.at (Inode n) ≡ Some (objects.Inode i) =
+          (inode-stands (opening_exports es) (store.at (Inode n)) i there).stands in
+          let none : map_in i.content ≡ None = ap file_of (sym at) ∙ no_file n in
+          let both : Some map ≡ None = sym is ∙ none in cc
+
   abbrev LivesAt : ℕ → Living → Type 0
   LivesAt n o = get (opening_roots 1 es time) n ≡ Some o
 
@@ -390,13 +430,15 @@ module _ (es : List ExportValue) (moment : Moment) where
         mounts = sym (ap mounts_of (mounts_at base time (length es)));
       };
       objects = record {
-        objects = λ n. lives n ∙ ap (option_map living_of_inode) (exported faultless n);
+        objects = λ n. lives (bytes_at (opening es moment) n) n
+            ∙ ap (option_map (living_of_inode (bytes_at (opening es moment) n))) (exported faultless n);
         links = λ n. ap links_kept (exported faultless n);
         parents = λ n. ap parent_kept (exported faultless n);
         given = given;
         fits = fitting (opened-apart es faultless).0;
         spent = λ n g. ap (nat_le g) (lasts n);
       };
+      files = files;
       usages = record { usage = λ e g live. usages_at base time (λ e g. refl) (length es) e g };
       locks = record {
         no_locks = refl;

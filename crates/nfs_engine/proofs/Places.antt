@@ -7,7 +7,7 @@ use Rattle.std.proofs.lemmas.Bool.Decides.{nat_tests}
 use Rattle.std.specs.Option.{option_and_then, option_or}
 use Rattle.slab.specs.Slab.{Slab, Updates, get}
 use Rattle.nfs_objects.specs.declared.address.Addr.{Addr}
-use Rattle.nfs_objects.specs.declared.address.Addr.TheVariants.{Exports, Inode, Mounts, Usage}
+use Rattle.nfs_objects.specs.declared.address.Addr.TheVariants.{Exports, Inode, Map, Block, Mounts, Usage}
 use Rattle.nfs_objects.specs.Values.{is_addr}
 use Rattle.nfs_engine.specs.Found.{Changes, found}
 use Rattle.nfs_engine.specs.Numbers.{IsApart}
@@ -93,6 +93,8 @@ module _ (index next : ℕ) (small : index < 16) (m n : Slab Slot) (es : List (A
           ap (option_and_then (at_key n.slots)) at ∙ keys_changed m n key o updates k
           ∙ ap (λ b. cond b (option_map slot_value o) (at_key m.slots k)) other
           ∙ sym (ap (option_and_then (at_key m.slots)) at))
+  numbered_changed (Map m page) = refl
+  numbered_changed (Block m i) = refl
   numbered_changed Mounts = refl
   numbered_changed (Usage e g) = refl
 

@@ -7,7 +7,7 @@ use Rattle.std.proofs.lemmas.List.{take_more}
 use Rattle.std.proofs.lemmas.List.Sums.{sum_by-cons}
 use Rattle.nfs_objects.specs.Values.{is_addr}
 use Rattle.nfs_objects.specs.declared.address.Addr.{Addr}
-use Rattle.nfs_objects.specs.declared.address.Addr.TheVariants.{Exports, Inode, Mounts, Usage}
+use Rattle.nfs_objects.specs.declared.address.Addr.TheVariants.{Exports, Inode, Map, Block, Mounts, Usage}
 use Rattle.nfs_engine.specs.Engine.{CountsLocked, LockedSum, held_among, no_shard, shard_among}
 use Rattle.nfs_engine.specs.Found.{found}
 use Rattle.nfs_engine.specs.Holders.{hold_in, hold_of}
@@ -64,6 +64,8 @@ nowhere Exports j = refl
 nowhere (Inode n) j = elim ((n % 16 == 0) && nat_le 16 n) as (λ t.
     hold_of (unwrap_or (option_or (option_and_then (λ key. slice_index_or {A = Option SlotValue} [] key None)
     (cond t (Some (n / 16 - 1)) None)) None) empty_slot).holders j ≡ None) [ true ↦ refl | false ↦ refl ]
+nowhere (Map n page) j = refl
+nowhere (Block n i) j = refl
 nowhere Mounts j = refl
 nowhere (Usage e g) j = refl
 

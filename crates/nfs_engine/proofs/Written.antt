@@ -6,7 +6,7 @@ use Rattle.std.specs.Cmp.{unsigned_Decides}
 use Rattle.std.specs.Map.{lookup}
 use Rattle.indexmap.specs.IndexMap.{IndexMap, UpdatesBy}
 use Rattle.nfs_objects.specs.declared.address.Addr.{Addr}
-use Rattle.nfs_objects.specs.declared.address.Addr.TheVariants.{Exports, Inode, Mounts, Usage}
+use Rattle.nfs_objects.specs.declared.address.Addr.TheVariants.{Exports, Inode, Map, Block, Mounts, Usage}
 use Rattle.nfs_objects.specs.declared.object.Object.{Object}
 use Rattle.nfs_objects.specs.declared.object.Object.TheVariants as objects
 use Rattle.nfs_objects.specs.Store.{Store, give, with_write, with_writes}
@@ -44,10 +44,14 @@ filled_last : (last : Addr → ℕ) (a : Addr) (o : Option Object) (n : ℕ)
     ≡ give (λ k. last (Inode k)) a o n
 filled_last last (Inode k) (Some (objects.Inode i)) n = given_there (λ j. last (Inode j)) k n i.generation
 filled_last last (Inode k) (Some (objects.Mounts t)) n = given_nothing (λ j. last (Inode j)) k n
+filled_last last (Inode k) (Some (objects.Map b)) n = given_nothing (λ j. last (Inode j)) k n
+filled_last last (Inode k) (Some (objects.Block b)) n = given_nothing (λ j. last (Inode j)) k n
 filled_last last (Inode k) (Some (objects.Exports t)) n = given_nothing (λ j. last (Inode j)) k n
 filled_last last (Inode k) (Some (objects.Usage u)) n = given_nothing (λ j. last (Inode j)) k n
 filled_last last (Inode k) None n = given_nothing (λ j. last (Inode j)) k n
 filled_last last Exports o n = refl
+filled_last last (Map m page) o n = refl
+filled_last last (Block m i) o n = refl
 filled_last last Mounts o n = refl
 filled_last last (Usage e g) o n = refl
 
@@ -80,6 +84,37 @@ put_store old new a k o updates is =
     (subst (λ (x : KeptValue).
     Changes (found (seen kept_value old.entries)) (found (seen kept_value new.entries)) a (Some x)) is
     (found-changed kept_value old new a (Some k) updates))
+
+-- nothing is kept where no generation was given and nothing is put
+pub gone-as : (k : KeptValue) → k.last ≡ 0 → empty_kept ≡ filled k None
+gone-as k none = λ i. record { object = None; last = (sym none ∙ same) i }
+  where
+    same : k.last ≡ max k.last 0
+    same = omega arith
+
+-- what is taken out of the map is empty in the store, where its number was given no generation
+module _ (old new : List (Addr × KeptValue)) (a : Addr) (o : Option Object)
+    (h : Changes (found old) (found new) a None) (none : empty_kept ≡ filled (kept_at old a) o) where
+  field_gone : {X : Type 0} (f : KeptValue → X) (b : Addr) →
+      f (kept_at new b) ≡ cond (is_addr a b) (f (filled (kept_at old a) o)) (f (kept_at old b))
+  field_gone f b =
+      ap (λ (x : Option KeptValue). f (unwrap_or x empty_kept)) (h b)
+      ∙ elim (is_addr a b) as (λ t. f (unwrap_or (cond t None (found old b)) empty_kept)
+      ≡ cond t (f (filled (kept_at old a) o)) (f (kept_at old b))) [ true ↦ ap f none | false ↦ refl ]
+
+  gone_store : store_of new ≡ with_write (store_of old) a o
+  gone_store = λ i. record {
+    at = λ b. field_gone (λ x. x.object) b i;
+    last = λ n. (field_gone (λ x. x.last) (Inode n) ∙ filled_last (λ b. (kept_at old b).last) a o n) i;
+  }
+
+pub free_store : {H : Type 0} (old new : IndexMap Addr Kept H) (a : Addr) (o : Option Object)
+    → UpdatesBy same_address (same_address a) old new None
+    → empty_kept ≡ filled (kept_at (seen kept_value old.entries) a) o
+    → store_of (seen kept_value new.entries) ≡ with_write (store_of (seen kept_value old.entries)) a o
+free_store old new a o updates none =
+    gone_store (seen kept_value old.entries) (seen kept_value new.entries) a o
+    (found-changed kept_value old new a None updates) none
 
 -- some of the writes are made, and for the rest there is room
 pub record Installing (initial now : ObjectsValue) (all rest : List (Addr × Option Object)) : Type 0 where

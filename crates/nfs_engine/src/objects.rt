@@ -154,10 +154,19 @@ impl Objects {
     {
         let last = self.last(address).max(generation(&object));
         if object.is_none() && last == 0 {
-            self.slots.swap_remove(&address);
+            self.take_out(address);
             return;
         }
         self.slots.insert(address, Kept { object, last }).unwrap();
+    }
+
+    /// Takes away what stands at an address, whose number was never given, and the address with it.
+    fn take_out(&mut self, address: Addr)
+        requires { (kept_at self.old.slots address).last ≡ 0 }
+        ensures store { store_of self.new.slots ≡ with_write (store_of self.old.slots) address None }
+        ensures room { self.old.room ≤ self.new.room }
+    {
+        self.slots.swap_remove(&address);
     }
 }
 

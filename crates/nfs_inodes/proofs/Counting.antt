@@ -21,7 +21,7 @@ use Rattle.nfs_objects.specs.Edits.{counted_anew, recounted}
 use Rattle.nfs_objects.specs.Fits.{Fits}
 use Rattle.nfs_objects.specs.Knows.{Possible, Turns}
 use Rattle.nfs_objects.specs.Sound.{Sound}
-use Rattle.nfs_objects.specs.Stands.{Kept, Represents, living_of_inode}
+use Rattle.nfs_objects.specs.Stands.{Kept, Represents, bytes_at, living_of_inode}
 use Rattle.nfs_objects.specs.Store.{Store, with_writes}
 use Rattle.nfs_objects.specs.Sums.{group_of, in_export, no_usage, shares_of, stored_usage, usage_of}
 use Rattle.nfs_objects.specs.Values.{DraftValue, ViewValue, known_at, with_written}
@@ -106,7 +106,7 @@ module _ (old d : DraftValue) (none : old.writes ≡ []) (op : Kept → Kept) (t
             (sym none) stands;
         sound = sound;
       } in
-      let was = lived s k w formed (living_of_inode i)
+      let was = lived s k w formed (living_of_inode (bytes_at (op k).state n) i)
       (lives-there d n (Some i) has s (op k) fits (turns.turns s k before w.stands)) in
       subst (λ e. IsSome (s.at (addresses.Usage e (group_of n)))) was.same
       (usage-lives s k n was.object stands sound was.lives)

@@ -23,7 +23,7 @@ use Rattle.nfs_objects.specs.declared.address.Addr.TheVariants as addresses
 use Rattle.nfs_objects.specs.declared.change.Halt.{Halt}
 use Rattle.nfs_objects.specs.declared.object.Inode.{Inode}
 use Rattle.nfs_objects.specs.declared.object.Object.{Object}
-use Rattle.nfs_inodes.proofs.Standing.{contains, content_in, directory-kind, kind-is}
+use Rattle.nfs_inodes.proofs.Standing.{contains-as, content_in, directory-kind, kind-is}
 use Rattle.nfs_inodes.specs.Known.{HasInode, IsKnown, content_at, last_cookie_of, object_at}
 use Rattle.nfs_inodes.specs.declared.found.Known.{Known}
 
@@ -39,7 +39,8 @@ led_of o name = elim o [ None ↦ None | Some object ↦ led_in object name ]
 
 pub entry-there : (d : DraftValue) (n : ℕ) (name : List ℕ) (i : Option Inode) (number : Option ℕ) → HasInode d n i → number ≡ under (content_in i) name
     → Knows d (λ k. under (content_at k.state n) name ≡ number)
-entry-there d n name i number has is s k w = ap (λ c. under c name) (contains d n i has s k w.fits w.stands) ∙ sym is
+entry-there d n name i number has is s k w =
+    contains-as d n i has s k w.fits w.stands (λ c. under c name) (λ b more. refl) ∙ sym is
 
 -- the view shows it where nothing was written
 pub entry-led : (d : DraftValue) (n : ℕ) (name : List ℕ) (i : Inode) (number : Option ℕ) → d.writes ≡ [] →
@@ -70,11 +71,13 @@ entry-led d n name i number none has is = by number (is ∙ sym stands ∙ sym (
 
 pub cookie-there : (d : DraftValue) (n : ℕ) (i : Option Inode) (last : ℕ) → HasInode d n i → last ≡ last_cookie_of (content_in i)
     → Knows d (λ k. last_cookie_of (content_at k.state n) ≡ last)
-cookie-there d n i last has is s k w = ap last_cookie_of (contains d n i has s k w.fits w.stands) ∙ sym is
+cookie-there d n i last has is s k w =
+    contains-as d n i has s k w.fits w.stands last_cookie_of (λ b more. refl) ∙ sym is
 
 pub empty-there : (d : DraftValue) (n : ℕ) (i : Option Inode) (empty : Bool) → HasInode d n i → empty ≡ are_none (entries_of (content_in i))
     → Knows d (λ k. are_none (entries_of (content_at k.state n)) ≡ empty)
-empty-there d n i empty has is s k w = ap (λ c. are_none (entries_of c)) (contains d n i has s k w.fits w.stands) ∙ sym is
+empty-there d n i empty has is s k w =
+    contains-as d n i has s k w.fits w.stands (λ c. are_none (entries_of c)) (λ b more. refl) ∙ sym is
 
 -- ---- what a name leads to stands in each store
 module _ (d : DraftValue) (x : Known) (none : d.writes ≡ []) (known : Knows d (λ k. IsKnown k.state x)) where

@@ -22,7 +22,7 @@ use Rattle.nfs_objects.specs.Store.{Store, with_writes}
 use Rattle.nfs_objects.specs.Values.{DraftValue}
 use Rattle.nfs_objects.specs.declared.address.Addr.TheVariants as addresses
 use Rattle.nfs_objects.specs.declared.object.Inode.{Inode}
-use Rattle.nfs_inodes.proofs.Standing.{contains, content_in, directory-kind, kind-is, parent-there}
+use Rattle.nfs_inodes.proofs.Standing.{contains-as, content_in, directory-kind, kind-is, parent-there}
 use Rattle.nfs_inodes.specs.Gathers.{EachLives}
 use Rattle.nfs_inodes.specs.Known.{HasInode, IsKnown, content_at, object_at}
 use Rattle.nfs_inodes.specs.declared.found.Known.{Known}
@@ -93,12 +93,13 @@ module _ (d : DraftValue) (x : Known) (known : Knows d (λ k. IsKnown k.state x)
       behind cookie (all_entries x.number (parent_kept i) (entries_of (content_in i))) ≡ left)
       → IsLeft
   left-there i has is s k w formed =
-      let content = contains d x.number i has s k w.fits w.stands in
+      let content : entries_of (content_at k.state x.number) ≡ entries_of (content_in i) =
+      contains-as d x.number i has s k w.fits w.stands entries_of (λ b more. refl) in
       let parent = parent-there d x.number i has s k w.fits w.stands in
       let rise = rising-in k.state formed x.number (object_at k.state x) (known s k w).lives in
-      ap (λ c. behind cookie (all_entries x.number (k.parents x.number) (entries_of c))) content
+      ap (λ es. behind cookie (all_entries x.number (k.parents x.number) es)) content
       ∙ ap (λ p. behind cookie (all_entries x.number p (entries_of (content_in i)))) parent
-      ∙ is rise.0 (subst (λ c. CookiesRise 2 (entries_of c) rise.0) content rise.1)
+      ∙ is rise.0 (subst (λ es. CookiesRise 2 es rise.0) content rise.1)
 
 -- ---- what is listed lives
 all-filter : {X : Type 0} (P : X → Type 0) (test : X → Bool) (xs : List X) → AllByRecursion P xs →

@@ -4,6 +4,7 @@ pub mod Counting
 pub mod Editing
 pub mod Ending
 pub mod Gaining
+pub mod Filing
 pub mod Gathering
 pub mod Halting
 pub mod Keeping

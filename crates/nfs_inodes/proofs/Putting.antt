@@ -32,7 +32,8 @@ use Rattle.nfs_objects.specs.Edits.{counted_anew, edited, freed, recounted, with
 use Rattle.nfs_objects.specs.Entries.{leaf_of}
 use Rattle.nfs_objects.specs.Fits.{Fits, vacant}
 use Rattle.nfs_objects.specs.Knows.{Knows, ShowsExport, Turns}
-use Rattle.nfs_objects.specs.Stands.{IsFitting, Kept, Represents, content_of, living_in, living_of_inode}
+use Rattle.nfs_objects.specs.Stands.{IsFitting, Kept, Represents, bytes_at, content_of, file_bytes, living_alone}
+use Rattle.nfs_objects.specs.Stands.{living_in, living_of_inode, map_in, pages_of, with_file}
 use Rattle.nfs_objects.specs.Stands.{exports_of, inode_in, parent_in}
 use Rattle.nfs_objects.specs.Store.{Store, with_writes}
 use Rattle.nfs_objects.specs.Sums.{exchanged, exchanged_at, group_of, in_export, is_same_usage, moved, no_usage}
@@ -52,7 +53,10 @@ use Rattle.nfs_objects.specs.declared.view.Reserved.{Reserved}
 use Rattle.nfs_inodes.proofs.Counting.{no-share}
 use Rattle.nfs_inodes.proofs.Halting.{stops-before}
 use Rattle.nfs_inodes.proofs.Keeping.{changed-is, put-there}
-use Rattle.nfs_inodes.proofs.Standing.{lives-there, shows-export}
+use Rattle.nfs_objects.proofs.Filed.{living-as, size-stands}
+use Rattle.nfs_objects.specs.Bits.{no_bits}
+use Rattle.nfs_objects.specs.FileMaps.{FileMapValue}
+use Rattle.nfs_inodes.proofs.Standing.{lives-there, shows-export, stands-there}
 use Rattle.nfs_inodes.specs.Counts.{IsShareOf, KeepsInodes, uncounted}
 use Rattle.nfs_inodes.specs.Known.{HasInode}
 use Rattle.nfs_inodes.specs.Sets.{attributes_changed, with_settings}
@@ -118,13 +122,12 @@ no-entry None e = refl
 no-entry (Some x) e = cc
 
 -- the file of an inode, with other bytes
-with-bytes : (i : Inode) (old content : List ℕ) (now : Time) (change : List ℕ → List ℕ)
-    → i.content ≡ contents.Regular old → content ≡ change old
-    → with_bytes now change (living_of_inode i) ≡ Some
-    (with_content (living_of_inode i) now (machine.Regular content))
-with-bytes i old content now change was is =
-    ap (λ c. with_bytes now change (record (living_of_inode i) { content = content_of c })) was
-    ∙ ap (λ b. Some (with_content (living_of_inode i) now (machine.Regular b))) (sym is)
+pub with-bytes : (i : Inode) (map after : FileMapValue) (bytes : List ℕ) (now : Time) (change : List ℕ → List ℕ)
+    → i.content ≡ contents.Regular map
+    → with_bytes now change (living_of_inode bytes i) ≡ Some (living_of_inode (change bytes) (record i
+    { content = contents.Regular after; modified = touch i.changed now; changed = touch i.changed now }))
+with-bytes i map after bytes now change was =
+    ap (λ c. with_bytes now change (record (living_alone i) { content = with_file bytes (content_of c) })) was
 
 module _ (d : DraftValue) (n : ℕ) where
   abbrev put : Inode → DraftValue
@@ -144,45 +147,48 @@ module _ (d : DraftValue) (n : ℕ) where
     pub none-turns-with : HasInode d n None → Turns d d op
     none-turns-with has = turns-as d d (λ k. k) op (λ s k fits stands. sym (ap (over k) (lives-there d n None has s k fits stands))) (turns-none d)
 
-    pub same-turns-with : (i : Inode) → HasInode d n (Some i) → change (living_of_inode i) ≡ None → Turns d d op
+    pub same-turns-with : (i : Inode) → HasInode d n (Some i)
+        → ((bytes : List ℕ) → change (living_of_inode bytes i) ≡ None) → Turns d d op
     same-turns-with i has is =
-        turns-as d d (λ k. k) op (λ s k fits stands. sym (ap (over k) (lives-there d n (Some i) has s k fits stands) ∙ ap (into k) is)) (turns-none d)
+        turns-as d d (λ k. k) op (λ s k fits stands. sym (ap (over k) (lives-there d n (Some i) has s k fits stands)
+        ∙ ap (into k) (is (bytes_at k.state n)))) (turns-none d)
 
-    pub put-turns-with : (i j : Inode) → HasInode d n (Some i) → change (living_of_inode i) ≡ Some (living_of_inode j) → j.links ≡ links i.links → parent_in j.content ≡ parent_in i.content
+    pub put-turns-with : (i j : Inode) → HasInode d n (Some i)
+        → ((bytes : List ℕ) → change (living_of_inode bytes i) ≡ Some (living_of_inode bytes j))
+        → map_in j.content ≡ map_in i.content → j.links ≡ links i.links → parent_in j.content ≡ parent_in i.content
         → j.generation ≡ i.generation → j.export ≡ i.export → IsFitting n j → Turns d (put j) op
-    put-turns-with i j has is linked under generation exported fits =
-        turns-as d (put j) (λ k. edited k n (λ o. living_of_inode j) links) op
-        (λ s k fit stands. (let lives = lives-there d n (Some i) has s k fit stands in
-        ap (λ (o : Option Living). elim o [ None ↦ k | Some o ↦ with_living k n (living_of_inode j) (links (k.links n)) (k.parents n) ]) lives
-        ∙ sym (ap (over k) lives ∙ ap (into k) is)))
-        (edit-turns d n i j (λ o. living_of_inode j) links (known-inode d n i has) (shows-export d n i has) exported
-        refl linked under generation fits)
+    put-turns-with i j has is kept linked under generation exported fits =
+        turns-as d (put j) (λ k. edited k n made links) op
+        (λ s k fit stands. (let bytes = bytes_at k.state n in
+        let lives = lives-there d n (Some i) has s k fit stands in
+        ap (λ (o : Option Living). elim o [ None ↦ k | Some o ↦ with_living k n (made o) (links (k.links n)) (k.parents n) ]) lives
+        ∙ ap (λ (o : Living). with_living k n o (links (k.links n)) (k.parents n)) (sym (made-is bytes))
+        ∙ sym (ap (over k) lives ∙ ap (into k) (is bytes))))
+        (edit-turns d n i j made links (known-inode d n i has) (shows-export d n i has) exported
+        made-is kept linked under generation fits)
+      where
+        -- the other inode, with the bytes that a file had
+        made : Living → Living
+        made o = living_of_inode (file_bytes o.content) j
+
+        made-is : (bytes : List ℕ) → living_of_inode bytes j ≡ made (living_of_inode bytes i)
+        made-is bytes = sym (living-as bytes i j kept)
 
   -- the same where the count stays
   module _ (change : Living → Option Living) where
     pub none-turns : HasInode d n None → Turns d d (λ k. changed_at k n change)
     none-turns = none-turns-with change (λ l. l)
 
-    pub same-turns : (i : Inode) → HasInode d n (Some i) → change (living_of_inode i) ≡ None → Turns d d (λ k. changed_at k n change)
+    pub same-turns : (i : Inode) → HasInode d n (Some i)
+        → ((bytes : List ℕ) → change (living_of_inode bytes i) ≡ None) → Turns d d (λ k. changed_at k n change)
     same-turns = same-turns-with change (λ l. l)
 
-    pub put-turns : (i j : Inode) → HasInode d n (Some i) → change (living_of_inode i) ≡ Some (living_of_inode j) → j.links ≡ i.links → parent_in j.content ≡ parent_in i.content
+    pub put-turns : (i j : Inode) → HasInode d n (Some i)
+        → ((bytes : List ℕ) → change (living_of_inode bytes i) ≡ Some (living_of_inode bytes j))
+        → map_in j.content ≡ map_in i.content → j.links ≡ i.links → parent_in j.content ≡ parent_in i.content
         → j.generation ≡ i.generation → j.export ≡ i.export → IsFitting n j
         → Turns d (put j) (λ k. changed_at k n change)
     put-turns = put-turns-with change (λ l. l)
-
-  -- ---- the bytes of a file
-  bytes-turns : (new : DraftValue) (i j : Inode) (old content : List ℕ) (now : Time) (change : List ℕ → List ℕ)
-      → HasInode d n (Some i) → i.content ≡ contents.Regular old
-      → content ≡ change old → j ≡ record i { content = contents.Regular content; modified = touch i.changed now; changed = touch i.changed now } → new ≡ put j
-      → IsFitting n j → Turns d new (λ k. changed_at k n (with_bytes now change))
-  bytes-turns new i j old content now change has was is made put-is fits =
-      let j1 : Inode = record i { content = contents.Regular content; modified = touch i.changed now; changed = touch i.changed now } in
-      subst (λ (x : DraftValue). Turns d x (λ k. changed_at k n (with_bytes now change)))
-      (sym (put-is ∙ ap put made))
-      (put-turns (with_bytes now change) i j1 has
-      (with-bytes i old content now change was is)
-      refl (sym (ap parent_in was)) refl refl (subst (IsFitting n) made fits))
 
   -- ---- the attributes of an object
   pub set-turns : (new : DraftValue) (i j : Inode) (set : Settings) → HasInode d n (Some i)
@@ -191,7 +197,8 @@ module _ (d : DraftValue) (n : ℕ) where
   set-turns new i j set has made put-is fits =
       let j1 : Inode = record i { mode = set.mode; uid = set.uid; gid = set.gid; accessed = set.accessed; modified = set.modified; changed = set.changed; verifier = None } in
       subst (λ (x : DraftValue). Turns d x (attributes_changed n set)) (sym (put-is ∙ ap put made))
-      (put-turns (λ o. Some (with_settings set o)) i j1 has refl refl refl refl refl (subst (IsFitting n) made fits))
+      (put-turns (λ o. Some (with_settings set o)) i j1 has (λ bytes. refl) refl refl refl refl refl
+      (subst (IsFitting n) made fits))
 
   -- ---- an object with one link less
   pub unlinked-none : (now : Time) → HasInode d n None → Turns d d (λ k. edited k n (λ o. touched o now) (λ l. l - 1))
@@ -207,11 +214,8 @@ module _ (d : DraftValue) (n : ℕ) where
   unlinked-turns new i j now has made put-is fits =
       subst (λ (x : DraftValue). Turns d x (λ k. edited k n (λ o. touched o now) (λ l. l - 1))) (sym (put-is ∙ ap put made))
       (edit-turns d n i (record i { links = i.links - 1; changed = touch i.changed now }) (λ o. touched o now)
-      (λ l. l - 1) (known-inode d n i has) (shows-export d n i has) refl refl refl refl refl
+      (λ l. l - 1) (known-inode d n i has) (shows-export d n i has) refl (λ bytes. refl) refl refl refl refl
       (subst (IsFitting n) made fits))
-
-  freed-turns : (new : DraftValue) → new ≡ with_written d (addresses.Inode n) None → Turns d new (λ k. freed k n)
-  freed-turns new is = subst (λ (x : DraftValue). Turns d x (λ k. freed k n)) (sym is) (free-turns d n)
 
   -- ---- the names of a directory
   pub taken-turns : (new : DraftValue) (i j : Inode) (old narrower : Directory) (now : Time) (name : List ℕ) → HasInode d n (Some i) → i.content ≡ contents.Directory old
@@ -223,22 +227,26 @@ module _ (d : DraftValue) (n : ℕ) where
       let less : Directory = record old { entries = without old.entries name } in
       subst (λ (x : DraftValue). Turns d x (name_taken now n name)) (sym (put-is ∙ ap put (made ∙ ap made-as is)))
       (put-turns (without_name now name) i (made-as less) has
-      (ap (λ c. without_name now name (record (living_of_inode i) { content = content_of c })) was) refl
-      (sym (ap parent_in was)) refl refl
+      (λ bytes. ap (λ c. without_name now name (record (living_alone i) { content = with_file bytes (content_of c) })) was)
+      (sym (ap map_in was)) refl (sym (ap parent_in was)) refl refl
       (subst (IsFitting n) (made ∙ ap made-as is) fits))
 
   module _ (i : Inode) (old : Directory) (now : Time) (name : List ℕ) (number cookie links : ℕ) (has : HasInode d n (Some i)) (was : i.content ≡ contents.Directory old) where
     abbrev new-entry : Entry
     new-entry = record { name = name; number = number; cookie = cookie }
 
-    abbrev over-entry : Option Entry → Option Living
-    over-entry f = elim f [ None ↦ Some (with_content (living_of_inode i) now (machine.Directory (old.entries ++ new-entry ∷ []) cookie)) | Some there ↦ None ]
+    abbrev over-entry : List ℕ → Option Entry → Option Living
+    over-entry bytes f = elim f [ None ↦ Some (with_content (living_of_inode bytes i) now (machine.Directory (old.entries ++ new-entry ∷ []) cookie)) | Some there ↦ None ]
 
-    added-change : (f : Option Entry) → find (λ (e : Entry). same_bytes e.name name) old.entries ≡ f → with_name now new-entry (living_of_inode i) ≡ over-entry f
-    added-change f is = ap (λ c. with_name now new-entry (record (living_of_inode i) { content = content_of c })) was ∙ ap over-entry is
+    added-change : (bytes : List ℕ) (f : Option Entry) → find (λ (e : Entry). same_bytes e.name name) old.entries ≡ f →
+        with_name now new-entry (living_of_inode bytes i) ≡ over-entry bytes f
+    added-change bytes f is =
+        ap (λ c. with_name now new-entry (record (living_alone i) { content = with_file bytes (content_of c) })) was
+        ∙ ap (over-entry bytes) is
 
     pub kept-turns : (e : Entry) → find (λ (e : Entry). same_bytes e.name name) old.entries ≡ Some e → Turns d d (name_added now n links new-entry)
-    kept-turns e there = same-turns-with (with_name now new-entry) (λ l. links) i has (added-change (Some e) there)
+    kept-turns e there = same-turns-with (with_name now new-entry) (λ l. links) i has
+        (λ bytes. added-change bytes (Some e) there)
 
     pub added-turns : (new : DraftValue) (j : Inode) (wider : Directory) → find (λ (e : Entry). same_bytes e.name name) old.entries ≡ None
         → wider ≡ record old { last_cookie = cookie; entries = old.entries ++ new-entry ∷ [] }
@@ -248,8 +256,8 @@ module _ (d : DraftValue) (n : ℕ) where
         let made-as : Directory → Inode = λ x. record i { content = contents.Directory x; modified = touch i.changed now; changed = touch i.changed now; links = links } in
         let more : Directory = record old { last_cookie = cookie; entries = old.entries ++ new-entry ∷ [] } in
         subst (λ (x : DraftValue). Turns d x (name_added now n links new-entry)) (sym (put-is ∙ ap put (made ∙ ap made-as is)))
-        (put-turns-with (with_name now new-entry) (λ l. links) i (made-as more) has (added-change None absent) refl
-        (sym (ap parent_in was)) refl refl
+        (put-turns-with (with_name now new-entry) (λ l. links) i (made-as more) has
+        (λ bytes. added-change bytes None absent) (sym (ap map_in was)) refl (sym (ap parent_in was)) refl refl
         (subst (IsFitting n) (made ∙ ap made-as is) fits))
 
   -- what was known stays known
@@ -276,7 +284,7 @@ first-free d r none first number generation s k w =
     record {
       number_fits = number;
       generation_fits = generation;
-      free = stands.objects.objects r.number ∙ ap (living_in k.state.exports) at;
+      free = stands.objects.objects r.number ∙ ap (living_in k.state.exports (bytes_at k.state r.number)) at;
       never_given = stands.objects.spent r.number r.generation ∙ lt-leb r.generation (s.last r.number) is.1;
     }
 
@@ -285,15 +293,16 @@ put-new-turns : (old mid new : DraftValue) (f : Kept → Kept) (r : Reserved) (i
     (links parent : ℕ)
     → Turns old mid f → ((k : Kept) → (f k).state.exports ≡ k.state.exports) → ShowsExport old o.export
     → new ≡ with_written mid (addresses.Inode r.number) (Some (objects.Inode i))
-    → living_of_inode i ≡ o → i.links ≡ links → parent_in i.content ≡ parent → IsFitting r.number i
+    → known_at mid (addresses.Inode r.number) ≡ Some None → pages_of (Some (objects.Inode i)) ≡ no_bits
+    → living_alone i ≡ o → i.links ≡ links → parent_in i.content ≡ parent → IsFitting r.number i
     → Turns old new (λ k. with_new (f k) r.number o links parent)
-put-new-turns old mid new f r i o links parent turns stay live is lives linked under fits =
+put-new-turns old mid new f r i o links parent turns stay live is vacant none lives linked under fits =
     let put : DraftValue = with_written mid (addresses.Inode r.number) (Some (objects.Inode i)) in
     subst (λ (x : DraftValue). Turns old x (λ k. with_new (f k) r.number o links parent)) (sym is)
     (subst (λ (l : Living). Turns old put (λ k. with_new (f k) r.number l links parent)) lives
-    (subst (λ l. Turns old put (λ k. with_new (f k) r.number (living_of_inode i) l parent)) linked
-    (subst (λ p. Turns old put (λ k. with_new (f k) r.number (living_of_inode i) i.links p)) under
-    (new-turns mid r.number old f turns stay i fits
+    (subst (λ l. Turns old put (λ k. with_new (f k) r.number (living_alone i) l parent)) linked
+    (subst (λ p. Turns old put (λ k. with_new (f k) r.number (living_alone i) i.links p)) under
+    (new-turns mid r.number old f turns stay i vacant none fits
     (subst (ShowsExport old) (sym (ap (λ (l : Living). l.export) lives)) live)))))
 
 -- a change of what lives at a number leaves the exports
@@ -317,12 +326,12 @@ exports-stay k n links change = by (get k.state.objects n)
 
 -- ---- what is counted anew
 -- shares that are the same in each export
-same-shares : (n : ℕ) (usage : ℕ → ℕ → Usage) (a b c d : ℕ → Usage) → ((e : ℕ) → a e ≡ c e)
+pub same-shares : (n : ℕ) (usage : ℕ → ℕ → Usage) (a b c d : ℕ → Usage) → ((e : ℕ) → a e ≡ c e)
     → ((e : ℕ) → b e ≡ d e)
     → exchanged_at n a b usage ≡ exchanged_at n c d usage
 same-shares n usage a b c d before after = λ i. exchanged_at n (λ e. before e i) (λ e. after e i) usage
 
-has-kept : (d mid : DraftValue) (n : ℕ) (i : Option Inode) → KeepsInodes d mid → HasInode d n i
+pub has-kept : (d mid : DraftValue) (n : ℕ) (i : Option Inode) → KeepsInodes d mid → HasInode d n i
     → HasInode mid n i
 has-kept d mid n i keeps has = record {
   exports = has.exports;
@@ -333,47 +342,8 @@ has-kept d mid n i keeps has = record {
 }
 
 -- the object at a number has another share of this export
-abbrev counted : (number export : ℕ) → (before after : Usage) → Kept → Kept
+abbrev pub counted : (number export : ℕ) → (before after : Usage) → Kept → Kept
 counted number export before after k = recounted number (in_export export before) (in_export export after) k
-
--- the bytes of a file, once its group is counted anew
-module _ (d mid new : DraftValue) (n : ℕ) (i j : Inode) (old content : List ℕ) (now : Time)
-    (change : List ℕ → List ℕ) where
-  abbrev file : Living
-  file = with_content (living_of_inode i) now (machine.Regular content)
-
-  pub written-turns : (share : Share) (after : Usage) → HasInode d n (Some i) → i.content ≡ contents.Regular old
-      → content ≡ change old
-      → j ≡ record i {
-        content = contents.Regular content;
-        modified = touch i.changed now;
-        changed = touch
-            i.changed now;
-      }
-      → IsShareOf i share → after ≡ one_using (used_of (machine.Regular content))
-      → Turns d mid (recounted n (in_export share.export share.usage) (in_export share.export after))
-      → KeepsInodes d mid
-      → new ≡ with_written mid (addresses.Inode n) (Some (objects.Inode j)) → IsFitting n j
-      → Turns d new (bytes_changed now n change)
-  written-turns share after has was is made shares uses counts keeps put-is fits =
-      turns-as d new (λ k. changed_at (counted n share.export share.usage after k) n (with_bytes now change))
-      (bytes_changed now n change) (λ s k stand represents.
-      let lives : get k.state.objects n ≡ Some (living_of_inode i) = lives-there d n (Some i) has s k stand
-      represents in
-      let changed = with-bytes i old content now change was is in
-      changed-is (counted n share.export share.usage after k) n (k.links n) (with_bytes now change) (living_of_inode i)
-      file lives changed
-      ∙ ap (λ u. record (with_living k n file (k.links n) (k.parents n)) { usage = u })
-      (same-shares n k.usage (in_export share.export share.usage) (in_export share.export after)
-      (shares_of (get k.state.objects n)) (shares_of (get (with_object k.state n file).objects n))
-      (λ e. ap (λ (x : Share). in_export x.export x.usage e) shares ∙ ap (λ p. shares_of p e) (sym lives))
-      (λ e. ap (λ (x : Share). in_export x.export after e) shares ∙ ap (λ u. in_export i.export u e) uses
-      ∙ ap (λ p. shares_of p e) (sym (put-there k.state n file))))
-      ∙ ap (λ (q : Kept). counted_anew n (get k.state.objects n) q)
-      (sym (changed-is k n (k.links n) (with_bytes now change) (living_of_inode i) file lives changed)))
-      (turns-both d mid new (counted n share.export share.usage after)
-      (λ k. changed_at k n (with_bytes now change)) counts
-      (bytes-turns mid n new i j old content now change (has-kept d mid n (Some i) keeps has) was is made put-is fits))
 
 -- ---- why it may be asked for
 pub object-stops : (d : DraftValue) (n : ℕ) (halt : Halt) → StopsAt d (addresses_of d.view n) halt
@@ -465,24 +435,21 @@ module _ (d : DraftValue) (n : ℕ) (change : Living → Option Living) where
   none-counted has = same-counts d n (λ k. changed_at k n change) (none-turns d n change has)
       (λ s k stand represents. ap (over d n change (λ l. l) k) (lives-there d n None has s k stand represents))
 
-  pub same-counted : (i : Inode) → HasInode d n (Some i) → change (living_of_inode i) ≡ None
+  pub same-counted : (i : Inode) → HasInode d n (Some i) → ((bytes : List ℕ) → change (living_of_inode bytes i) ≡ None)
       → Turns d d (λ k. counted_anew n (get k.state.objects n) (changed_at k n change))
   same-counted i has is = same-counts d n (λ k. changed_at k n change) (same-turns d n change i has is)
       (λ s k stand represents. ap (over d n change (λ l. l) k) (lives-there d n (Some i) has s k stand represents)
-      ∙ ap (into d n change (λ l. l) k) is)
+      ∙ ap (into d n change (λ l. l) k) (is (bytes_at k.state n)))
 
--- ---- sizes
-pub resized-size : (old : List ℕ) (size : ℕ) (content : List ℕ) → content ≡ resized old size
-    → one_using ((size + 4095) / block * block) ≡ one_using (used_of (machine.Regular content))
-resized-size old size content is = ap (λ s. one_using ((s + 4095) / block * block))
-    (sym (ap length is ∙ resized-length old size))
-
-pub written-size : (old : List ℕ) (offset : ℕ) (more : List ℕ) (content : List ℕ) (size : ℕ)
-    → content ≡ written old offset more
-    → size ≡ max (length old) (offset + length more)
-    → one_using ((size + 4095) / block * block) ≡ one_using (used_of (machine.Regular content))
-written-size old offset more content size is sized =
-    ap (λ s. one_using ((s + 4095) / block * block)) (sized ∙ sym (ap length is ∙ written-length old offset more))
+-- the share that an inode tells is that of what lives there
+pub share-stands : (d : DraftValue) (n : ℕ) (i : Inode) (share : Share) → HasInode d n (Some i) → IsShareOf i share
+    → (s : Store) (k : Kept) → Fits d.view s → Represents (with_writes s d.writes) k
+    → (e : ℕ) → in_export share.export share.usage e ≡ shares_of (get k.state.objects n) e
+share-stands d n i share has shares s k fits stands e =
+    ap (λ (x : Share). in_export x.export x.usage e) shares
+    ∙ ap (λ z. in_export i.export (one_using ((z + 4095) / block * block)) e)
+    (sym (size-stands (with_writes s d.writes) k n i stands (stands-there d n (Some i) has s k fits stands)))
+    ∙ ap (λ p. shares_of p e) (sym (lives-there d n (Some i) has s k fits stands))
 
 -- an object that is counted no more
 pub uncounted-none : (d : DraftValue) (n : ℕ) → HasInode d n None → Turns d d (uncounted n)
@@ -512,8 +479,7 @@ uncounted-some d mid n i share none has shares is counts =
     ap (λ u. record k { usage = u })
     (same-shares n k.usage (in_export share.export share.usage) (in_export share.export none)
     (shares_of (get k.state.objects n)) (λ e. no_usage)
-    (λ e. ap (λ (x : Share). in_export x.export x.usage e) shares
-    ∙ ap (λ p. shares_of p e) (sym (lives-there d n (Some i) has s k stand represents)))
+    (share-stands d n i share has shares s k stand represents)
     (λ e. ap (λ u. in_export share.export u e) is ∙ sym (no-share share.export e)))) counts
 
 -- the same of a result that is handed on
@@ -526,16 +492,15 @@ uncounted-result d mid n i share none (Ok x) has shares is counts = uncounted-so
     shares is counts
 uncounted-result d mid n i share none (Err halt) has shares is stops = usage-stops d n i share halt has shares stops
 
-pub removed-turns : (d mid new : DraftValue) (n : ℕ) → Turns d mid (uncounted n)
-    → new ≡ with_written mid (addresses.Inode n) None
+pub removed-turns : (d mid new : DraftValue) (n : ℕ) → Turns d mid (uncounted n) → Turns mid new (λ k. freed k n)
     → Turns d new (removed n)
-removed-turns d mid new n counts is =
+removed-turns d mid new n counts frees =
     turns-as d new (λ k. freed (uncounted n k) n) (removed n) (λ s k stand represents.
     ap (λ u. record (freed k n) { usage = u })
     (same-shares n k.usage (shares_of (get k.state.objects n)) (λ e. no_usage)
     (shares_of (get k.state.objects n)) (shares_of (get (freed k n).state.objects n))
     (λ e. refl) (λ e. ap (λ p. shares_of p e) (sym (gone k)))))
-    (turns-both d mid new (uncounted n) (λ k. freed k n) counts (freed-turns mid n new is))
+    (turns-both d mid new (uncounted n) (λ k. freed k n) counts frees)
   where
     gone : (k : Kept) → get (freed k n).state.objects n ≡ None
     gone k = get-removed k.state.objects n n
@@ -561,11 +526,12 @@ pub made-turns : (old mid late new : DraftValue) (f : Kept → Kept) (r : Reserv
     → ((k : Kept) → (f k).state.exports ≡ k.state.exports) → ShowsExport old o.export
     → Turns mid late (recounted r.number (in_export export no_usage) (in_export export after))
     → new ≡ with_written late (addresses.Inode r.number) (Some (objects.Inode i))
-    → living_of_inode i ≡ o → i.links ≡ links → parent_in i.content ≡ parent → IsFitting r.number i
+    → known_at late (addresses.Inode r.number) ≡ Some None → pages_of (Some (objects.Inode i)) ≡ no_bits
+    → living_alone i ≡ o → i.links ≡ links → parent_in i.content ≡ parent → IsFitting r.number i
     → export ≡ o.export → after ≡ one_using (used_of o.content)
     → Turns old new (λ k. counted_anew r.number None (with_new (f k) r.number o links parent))
-made-turns old mid late new f r i o links parent export after turns stay live counts is lives linked under fits exported
-    uses =
+made-turns old mid late new f r i o links parent export after turns stay live counts is vacant none lives linked under fits
+    exported uses =
     turns-as old new (λ k. with_new (counted r.number export no_usage after (f k)) r.number o links parent)
     (λ k. counted_anew r.number None (with_new (f k) r.number o links parent))
     (λ s k stand represents.
@@ -576,8 +542,8 @@ made-turns old mid late new f r i o links parent export after turns stay live co
     (λ e. ap (λ x. in_export x after e) exported ∙ ap (λ u. in_export o.export u e) uses
     ∙ ap (λ p. shares_of p e) (sym (put-there (f k).state r.number o)))))
     (put-new-turns old late new (λ k. counted r.number export no_usage after (f k)) r i o links parent
-    (turns-both old mid late f (counted r.number export no_usage after) turns counts) stay live is lives linked under
-    fits)
+    (turns-both old mid late f (counted r.number export no_usage after) turns counts) stay live is vacant none lives linked
+    under fits)
 
 -- the number may be given, as it might before
 pub may-give : (old new : DraftValue) (r : Reserved) (generation : ℕ) → new.view ≡ old.view → IsFirst old r → generation ≡ r.generation → MayGive new r.number generation

@@ -12,11 +12,13 @@ use Rattle.nfs_machine.specs.State.{Entry, Living}
 use Rattle.nfs_machine.specs.Times.{touch}
 use Rattle.nfs_objects.proofs.Promised.{turns-none}
 use Rattle.nfs_objects.proofs.Seen.{known-stands, writes-append}
-use Rattle.nfs_objects.proofs.Turns.{put-stands}
+use Rattle.nfs_objects.proofs.Filed.{stands-but}
+use Rattle.nfs_objects.proofs.Turns.{content-same, filed-same, put-stands}
 use Rattle.nfs_objects.specs.Drafts.{MayGive}
 use Rattle.nfs_objects.specs.Edits.{with_living}
 use Rattle.nfs_objects.specs.Knows.{Turns}
-use Rattle.nfs_objects.specs.Stands.{IsFitting, Kept, Represents, content_of, lives_in, living_of_inode, parent_in}
+use Rattle.nfs_objects.specs.Stands.{IsFitting, Kept, Represents, content_of, lives_in, living_alone, living_of_inode, map_in}
+use Rattle.nfs_objects.specs.Stands.{bytes_at, parent_in, with_file}
 use Rattle.nfs_objects.specs.Store.{Store, with_write, with_writes}
 use Rattle.nfs_objects.specs.Values.{DraftValue, with_written}
 use Rattle.nfs_objects.specs.declared.address.Addr.TheVariants as addresses
@@ -26,7 +28,7 @@ use Rattle.nfs_objects.specs.declared.object.Content.TheVariants as contents
 use Rattle.nfs_objects.specs.declared.object.Inode.{Inode}
 use Rattle.nfs_objects.specs.declared.object.Object.TheVariants as objects
 use Rattle.nfs_inodes.proofs.Putting.{known-inode, put-turns-with, turns-as}
-use Rattle.nfs_inodes.proofs.Standing.{links-there, lives-there, parent-there, shows-export}
+use Rattle.nfs_inodes.proofs.Standing.{links-there, lives-there, parent-there, shows-export, stands-there, whatever}
 use Rattle.nfs_inodes.specs.Known.{HasInode}
 use Rattle.nfs_inodes.specs.Makes.{changed_with, without_name}
 use Rattle.nfs_inodes.specs.Renames.{name_given, name_left, rehomed, staying, with_name_given}
@@ -79,12 +81,12 @@ module _ (d : DraftValue) (n : ℕ) where
 
     as-made : (change : Living → Option Living) (x y : Directory) → y ≡ x → j ≡ made-as y →
         x.parent ≡ old.parent
-        → change (living_of_inode i) ≡ Some (living_of_inode (made-as x)) →
+        → ((bytes : List ℕ) → change (living_of_inode bytes i) ≡ Some (living_of_inode bytes (made-as x))) →
         IsFitting n j → Turns d new (λ k. changed_with k n links change)
     as-made change x y same made parent is fits =
         subst (λ (z : DraftValue). Turns d z (λ k. changed_with k n links change))
         (sym (put-is ∙ ap put (made ∙ ap made-as same)))
-        (put-turns-with d n change (λ l. links) i (made-as x) has is refl (parent ∙ sym (ap parent_in was)) refl refl
+        (put-turns-with d n change (λ l. links) i (made-as x) has is (sym (ap map_in was)) refl (parent ∙ sym (ap parent_in was)) refl refl
         (subst (IsFitting n) (made ∙ ap made-as same) fits))
 
     pub left-turns : (narrower : Directory) (name : List ℕ) →
@@ -92,7 +94,8 @@ module _ (d : DraftValue) (n : ℕ) where
         IsFitting n j → Turns d new (name_left now n name links)
     left-turns narrower name is made fits =
         as-made (without_name now name) (record old { entries = without old.entries name }) narrower is made refl
-        (ap (λ c. without_name now name (record (living_of_inode i) { content = content_of c })) was) fits
+        (λ bytes. ap (λ c. without_name now name (record (living_alone i) { content = with_file bytes (content_of c) })) was)
+        fits
 
     pub given-turns : (wider : Directory) (left : Option (List ℕ)) (name : List ℕ) (number cookie : ℕ)
         → wider ≡ record old {
@@ -105,7 +108,8 @@ module _ (d : DraftValue) (n : ℕ) where
         let e : Entry = record { name = name; number = number; cookie = cookie } in
         as-made (with_name_given now left e) (record old
         { last_cookie = cookie; entries = staying old.entries name left ++ e ∷ [] }) wider is made refl
-        (ap (λ c. with_name_given now left e (record (living_of_inode i) { content = content_of c })) was) fits
+        (λ bytes. ap (λ c. with_name_given now left e (record (living_alone i) { content = with_file bytes (content_of c) }))
+        was) fits
 
   -- ---- the object that moves
   module _ (now : Time) (directory : ℕ) where
@@ -119,11 +123,12 @@ module _ (d : DraftValue) (n : ℕ) where
     none-rehomed has = turns-as d d (λ k. k) (rehomed now n directory)
         (λ s k fits stands. sym (ap (homes k) (lives-there d n None has s k fits stands))) (turns-none d)
 
-    put-rehomed : (i j : Inode) → HasInode d n (Some i) → living_of_inode j ≡ touched (living_of_inode i) now →
-        j.links ≡ i.links
+    put-rehomed : (i j : Inode) → HasInode d n (Some i) →
+        ((bytes : List ℕ) → living_of_inode bytes j ≡ touched (living_of_inode bytes i) now) →
+        map_in j.content ≡ map_in i.content → j.links ≡ i.links
         → parent_in j.content ≡ cond (is_directory (content_of i.content)) directory (parent_in i.content) →
         IsFitting n j → Turns d (put j) (rehomed now n directory)
-    put-rehomed i j has is linked under fit = record {
+    put-rehomed i j has is kept linked under fit = record {
       ctx = refl;
       view = refl;
       modes = refl;
@@ -131,23 +136,29 @@ module _ (d : DraftValue) (n : ℕ) where
       turns = λ s k fits stands.
           let at : (with_writes s d.writes).at (addresses.Inode n) ≡ Some (objects.Inode i) =
           known-stands d s (addresses.Inode n) (Some (objects.Inode i)) fits (known-inode d n i has) in
-          let lives : get k.state.objects n ≡ Some (living_of_inode i) =
+          let bytes = bytes_at k.state n in
+          let lives : get k.state.objects n ≡ Some (living_of_inode bytes i) =
           lives-there d n (Some i) has s k fits stands in
           let links : k.links n ≡ i.links = links-there d n (Some i) has s k fits stands in
           let parent : k.parents n ≡ parent_in i.content = parent-there d n (Some i) has s k fits stands in
-          let exported : j.export ≡ i.export = ap (λ (o : Living). o.export) is in
-          let generation : j.generation ≡ i.generation = ap (λ (o : Living). o.generation) is in
-          let stood = put-stands (with_writes s d.writes) k n j stands
+          let exported : j.export ≡ i.export = ap (λ (o : Living). o.export) (is bytes) in
+          let generation : j.generation ≡ i.generation = ap (λ (o : Living). o.generation) (is bytes) in
+          let there = stands-there d n (Some i) has s k fits stands in
+          let stood = put-stands (with_writes s d.writes) k n j bytes (stands-but n (with_writes s d.writes) k stands)
+          (filed-same (with_writes s d.writes) k n i j stands at kept)
+          (content-same (with_writes s d.writes) k n i j stands there kept)
           (subst (λ g. g ≤ (with_writes s d.writes).last n) (sym generation) (stands.objects.given n i at)) fit
           (ap (lives_in k.state.exports) exported ∙ shows-export d n i has s k fits stands) in
-          let same : rehomed now n directory k ≡ with_living k n (living_of_inode j) j.links (parent_in j.content) =
+          let same : rehomed now n directory k ≡ with_living k n (living_of_inode bytes j) j.links (parent_in j.content) =
           ap (homes k) lives
-          ∙ ap (λ l. with_living k n (touched (living_of_inode i) now) l
-          (cond (is_directory (content_of i.content)) directory (k.parents n))) (links ∙ sym linked)
-          ∙ ap (λ p. with_living k n (touched (living_of_inode i) now) j.links
+          ∙ ap (λ l. with_living k n (touched (living_of_inode bytes i) now) l
+          (cond (is_directory (with_file bytes (content_of i.content))) directory (k.parents n))) (links ∙ sym linked)
+          ∙ ap (λ b. with_living k n (touched (living_of_inode bytes i) now) j.links (cond b directory (k.parents n)))
+          (whatever is_directory (λ b more. refl) bytes (content_of i.content))
+          ∙ ap (λ p. with_living k n (touched (living_of_inode bytes i) now) j.links
           (cond (is_directory (content_of i.content)) directory p)) parent
-          ∙ ap (λ p. with_living k n (touched (living_of_inode i) now) j.links p) (sym under)
-          ∙ ap (λ o. with_living k n o j.links (parent_in j.content)) (sym is) in
+          ∙ ap (λ p. with_living k n (touched (living_of_inode bytes i) now) j.links p) (sym under)
+          ∙ ap (λ o. with_living k n o j.links (parent_in j.content)) (sym (is bytes)) in
           subst (λ (x : Store). Represents x (rehomed now n directory k))
           (sym (writes-append d.writes s (addresses.Inode n) (Some (objects.Inode j))))
           (subst (Represents (with_write (with_writes s d.writes) (addresses.Inode n) (Some (objects.Inode j))))
@@ -156,17 +167,18 @@ module _ (d : DraftValue) (n : ℕ) where
 
     pub rehomed-turns : (new : DraftValue) (i copy : Inode) (content : Content) (changed : Time) →
         HasInode d n (Some i) → copy ≡ i → changed ≡ touch copy.changed now →
-        content_of content ≡ content_of copy.content
+        content_of content ≡ content_of copy.content → map_in content ≡ map_in copy.content
         → parent_in content ≡ cond (is_directory (content_of copy.content)) directory (parent_in copy.content)
         → new ≡ put (record copy { content = content; changed = changed })
         → IsFitting n (record copy { content = content; changed = changed })
         → Turns d new (rehomed now n directory)
-    rehomed-turns new i copy content changed has same touched-is content-is under put-is fits =
+    rehomed-turns new i copy content changed has same touched-is content-is map-is under put-is fits =
         subst (λ (z : DraftValue). Turns d z (rehomed now n directory)) (sym put-is)
         (put-rehomed i (record copy { content = content; changed = changed }) has
-        (ap (λ c. record (living_of_inode copy) { content = c; changed = changed }) content-is
-        ∙ ap (λ t. record (living_of_inode copy) { changed = t }) touched-is
-        ∙ ap (λ (x : Inode). touched (living_of_inode x) now) same)
+        (λ bytes. ap (λ c. record (living_alone copy) { content = with_file bytes c; changed = changed }) content-is
+        ∙ ap (λ t. record (living_of_inode bytes copy) { changed = t }) touched-is
+        ∙ ap (λ (x : Inode). touched (living_of_inode bytes x) now) same)
+        (map-is ∙ ap (λ (x : Inode). map_in x.content) same)
         (ap (λ (x : Inode). x.links) same)
         (under ∙ ap (λ (x : Inode). cond (is_directory (content_of x.content)) directory (parent_in x.content))
         same) fits)

@@ -1,21 +1,22 @@
 -- What stands at a number is what lives there.
 use Rattle.std.proofs.Common.{◌≡◌, ℕ, true, List, [], Option, Some, None, Ok, option_map, refl, sym, ◌∙◌}
-use Rattle.std.proofs.Common.{ap, subst}
+use Rattle.std.proofs.Common.{ap, subst, ◌+◌, ◌*◌, ◌/◌}
 use Rattle.std.specs.FinMap.{get}
 use Rattle.nfs_wire.specs.declared.attributes.Attributes.{Attributes}
 use Rattle.nfs_wire.specs.declared.attributes.FileType.TheVariants as types
-use Rattle.nfs_machine.specs.Attributes.{attributes_of, is_directory, links_of, type_of}
+use Rattle.nfs_machine.specs.Attributes.{attributes_of, block, device_of, is_directory, links_of, size_of, type_of}
 use Rattle.nfs_machine.specs.Checks.{bytes_in, entries_in}
 use Rattle.nfs_machine.specs.Exports.{LivingExport}
 use Rattle.nfs_machine.specs.Shown.{attributes_at, weak}
 use Rattle.nfs_machine.specs.State.{Content, Regular, Directory, Link, BlockDevice, CharacterDevice, Socket, Fifo, Living, State}
 use Rattle.nfs_objects.proofs.Exported.{inode-stands, object-stands}
+use Rattle.nfs_objects.proofs.Filed.{size-stands}
 use Rattle.nfs_objects.proofs.Seen.{known-stands}
 use Rattle.nfs_objects.specs.Asks.{IsThere}
 use Rattle.nfs_objects.specs.Fits.{Fits}
 use Rattle.nfs_objects.specs.Knows.{Knows, Possible, Shows, ShowsExport}
 use Rattle.nfs_objects.specs.Stands.{Kept, Represents, content_of, exports_of, inode_in, links_kept, lives_in}
-use Rattle.nfs_objects.specs.Stands.{living_of_inode, parent_kept}
+use Rattle.nfs_objects.specs.Stands.{bytes_at, living_alone, living_of_inode, parent_kept, with_file}
 use Rattle.nfs_objects.specs.Store.{Store, with_writes}
 use Rattle.nfs_objects.specs.Values.{DraftValue}
 use Rattle.nfs_objects.specs.declared.address.Addr.TheVariants as addresses
@@ -31,6 +32,29 @@ content_in (Some i) = content_of i.content
 
 abbrev content_living : Option Living → Content
 content_living o = elim o [ None ↦ Socket | Some l ↦ l.content ]
+
+-- what does not depend on the bytes of a file
+pub whatever : {A : Type 0} (F : Content → A) → ((bytes more : List ℕ) → F (Regular bytes) ≡ F (Regular more)) →
+    (bytes : List ℕ) (c : Content) → F (with_file bytes c) ≡ F c
+whatever F same bytes (Regular more) = same bytes more
+whatever F same bytes (Directory entries last) = refl
+whatever F same bytes (Link text) = refl
+whatever F same bytes (BlockDevice device) = refl
+whatever F same bytes (CharacterDevice device) = refl
+whatever F same bytes Socket = refl
+whatever F same bytes Fifo = refl
+
+-- with bytes that are as many as it tells, an inode shows the same attributes
+attributes-with : (m : State) (n : ℕ) (bytes : List ℕ) (i : Inode) →
+    size_of (with_file bytes (content_of i.content)) ≡ size_of (content_of i.content) →
+    attributes_of m n (living_of_inode bytes i) ≡ attributes_of m n (living_alone i)
+attributes-with m n bytes i size = λ j. record (attributes_of m n (living_alone i)) {
+  kind = whatever type_of (λ b more. refl) bytes (content_of i.content) j;
+  links = whatever (links_of m n) (λ b more. refl) bytes (content_of i.content) j;
+  size = size j;
+  used = (size j + 4095) / block * block;
+  device = whatever device_of (λ b more. refl) bytes (content_of i.content) j;
+}
 
 -- the exports that are known live
 pub exports-there : (d : DraftValue) (exports : List LivingExport) → HasExports d exports →
@@ -57,15 +81,21 @@ module _ (d : DraftValue) (n : ℕ) (i : Option Inode) (has : HasInode d n i) (s
       (exports-there d has.exports has.living s k fits stands)
       ∙ ap (inode_in has.exports) (known-stands d s (addresses.Inode n) has.object fits has.known) ∙ sym has.is
 
-  pub lives-there : get k.state.objects n ≡ option_map living_of_inode i
-  lives-there = stands.objects.objects n ∙ ap (option_map living_of_inode) stands-there
+  pub lives-there : get k.state.objects n ≡ option_map (living_of_inode (bytes_at k.state n)) i
+  lives-there = stands.objects.objects n ∙ ap (option_map (living_of_inode (bytes_at k.state n))) stands-there
 
-  pub contains : content_at k.state n ≡ content_in i
+  pub contains : content_at k.state n ≡ with_file (bytes_at k.state n) (content_in i)
   contains = ap content_living lives-there ∙ by i
     where
-      by : (j : Option Inode) → content_living (option_map living_of_inode j) ≡ content_in j
+      by : (j : Option Inode) → content_living (option_map (living_of_inode (bytes_at k.state n)) j) ≡
+          with_file (bytes_at k.state n) (content_in j)
       by None = refl
       by (Some j) = refl
+
+  -- of what does not depend on the bytes of a file the inode tells by itself
+  pub contains-as : {A : Type 0} (F : Content → A) → ((bytes more : List ℕ) → F (Regular bytes) ≡ F (Regular more)) →
+      F (content_at k.state n) ≡ F (content_in i)
+  contains-as F same = ap F contains ∙ whatever F same (bytes_at k.state n) (content_in i)
 
   pub links-there : k.links n ≡ links_kept i
   links-there = stands.objects.links n ∙ ap links_kept stands-there
@@ -75,16 +105,22 @@ module _ (d : DraftValue) (n : ℕ) (i : Option Inode) (has : HasInode d n i) (s
 
 pub some-lives : (d : DraftValue) (n : ℕ) (i : Inode) (x : Known) → HasInode d n (Some i) → IsKnownOf n i x → Knows d (λ k. IsObject k.state n (Some x))
 some-lives d n i x has of s k w =
-    let lives : get k.state.objects n ≡ Some (living_of_inode i) = lives-there d n (Some i) has s k w.fits w.stands in
-    let content : content_at k.state x.number ≡ content_of i.content = ap (content_at k.state) of.number_is ∙ ap content_living lives in
-    let same : object_at k.state x ≡ living_of_inode i = ap (shell x) content ∙ of.shell_is in
-    let links : i.links ≡ links_of k.state n (content_of i.content) =
-    sym (links-there d n (Some i) has s k w.fits w.stands) ∙ w.sound.links n (living_of_inode i) lives in (
+    let bytes = bytes_at k.state n in
+    let filled = living_of_inode bytes i in
+    let lives : get k.state.objects n ≡ Some filled = lives-there d n (Some i) has s k w.fits w.stands in
+    let content : content_at k.state x.number ≡ filled.content = ap (content_at k.state) of.number_is ∙ ap content_living lives in
+    let same : object_at k.state x ≡ filled =
+    ap (shell x) content ∙ ap (λ (o : Living). record o { content = filled.content }) of.shell_is in
+    let size = size-stands (with_writes s d.writes) k n i w.stands (stands-there d n (Some i) has s k w.fits w.stands) in
+    let links : i.links ≡ links_of k.state n filled.content =
+    sym (links-there d n (Some i) has s k w.fits w.stands) ∙ w.sound.links n filled lives in (
       of.number_is,
       record {
         lives = ap (get k.state.objects) of.number_is ∙ lives ∙ ap (λ o. Some o) (sym same);
-        shows = of.attributes_are k.state ∙ ap (λ l. record (attributes_of k.state n (living_of_inode i)) { links = l }) links
-            ∙ ap (λ q. attributes_of k.state q (living_of_inode i)) (sym of.number_is) ∙ ap (attributes_of k.state x.number) (sym same);
+        shows = of.attributes_are k.state
+            ∙ ap (λ a. record a { links = i.links }) (sym (attributes-with k.state n bytes i size))
+            ∙ ap (λ l. record (attributes_of k.state n filled) { links = l }) links
+            ∙ ap (λ q. attributes_of k.state q filled) (sym of.number_is) ∙ ap (attributes_of k.state x.number) (sym same);
       },
     )
 

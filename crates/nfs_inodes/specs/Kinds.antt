@@ -1,7 +1,8 @@
 -- Of which kind the objects are that a draft shows.
-use Rattle.std.specs.Prelude.{◌≡◌, ℕ, List, Option, Some, option_map}
+use Rattle.std.specs.Prelude.{◌≡◌, ℕ, Option, Some, option_map}
 use Rattle.nfs_wire.specs.declared.attributes.FileType.{FileType}
 use Rattle.nfs_machine.specs.Attributes.{type_of}
+use Rattle.nfs_objects.specs.FileMaps.{FileMapValue}
 use Rattle.nfs_objects.specs.Stands.{content_of}
 use Rattle.nfs_objects.specs.Values.{DraftValue}
 use Rattle.nfs_objects.specs.declared.directory.Directory.{Directory}
@@ -27,10 +28,10 @@ IsShown d x = kind_at d x.number ≡ Some x.attributes.kind
 abbrev pub KeepsKinds : (old new : DraftValue) → Type 0
 KeepsKinds old new = (n : ℕ) → kind_at new n ≡ kind_at old n
 
--- the file with these bytes stands at a number
-pub record HasFile (d : DraftValue) (number : ℕ) (i : Inode) (bytes : List ℕ) : Type 0 where
+-- the file with this map stands at a number
+pub record HasFile (d : DraftValue) (number : ℕ) (i : Inode) (map : FileMapValue) : Type 0 where
   pub inode : HasInode d number (Some i)
-  pub content : i.content ≡ contents.Regular bytes
+  pub content : i.content ≡ contents.Regular map
 
 -- this directory stands at a number
 pub record HasDirectory (d : DraftValue) (number : ℕ) (i : Inode) (directory : Directory) : Type 0 where

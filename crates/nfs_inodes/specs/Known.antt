@@ -15,7 +15,7 @@ use Rattle.nfs_machine.specs.Shown.{attributes_at, shown, wcc}
 use Rattle.nfs_machine.specs.State.{Content, Regular, Directory, Socket, Living, State}
 use Rattle.nfs_machine.specs.declared.context.Ctx.{Ctx}
 use Rattle.nfs_machine.specs.declared.handle.Handle.{Handle}
-use Rattle.nfs_objects.specs.Stands.{Kept, content_of, exports_of, inode_in, living_of_inode, verifier_bytes}
+use Rattle.nfs_objects.specs.Stands.{Kept, content_of, exports_of, inode_in, living_alone, verifier_bytes}
 use Rattle.nfs_objects.specs.Values.{DraftValue, known_at}
 use Rattle.nfs_objects.specs.declared.address.Addr.TheVariants as addresses
 use Rattle.nfs_objects.specs.declared.object.Inode.{Inode}
@@ -69,13 +69,13 @@ pub record HasInode (d : DraftValue) (number : ℕ) (inode : Option Inode) : Typ
   pub known : known_at d (addresses.Inode number) ≡ Some object
   pub is : inode ≡ inode_in exports object
 
--- what is known of an inode: its object, and its attributes with the links that it counts
+-- what is known of an inode: its object but for the bytes of a file, and its attributes with the links that it counts
 pub record IsKnownOf (number : ℕ) (i : Inode) (x : Known) : Type 0 where
   pub number_is : x.number ≡ number
   pub kind_is : x.attributes.kind ≡ type_of (content_of i.content)
-  pub shell_is : shell x (content_of i.content) ≡ living_of_inode i
+  pub shell_is : shell x (content_of i.content) ≡ living_alone i
   pub attributes_are : (m : State) →
-      x.attributes ≡ record (attributes_of m number (living_of_inode i)) { links = i.links }
+      x.attributes ≡ record (attributes_of m number (living_alone i)) { links = i.links }
 
 -- ---- what a handle names
 -- it is a handle of this number

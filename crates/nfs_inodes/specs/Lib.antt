@@ -1,4 +1,6 @@
 pub mod Asked
+pub mod Asking
+pub mod Blocks
 pub mod Counts
 pub mod Gathers
 pub mod Kinds

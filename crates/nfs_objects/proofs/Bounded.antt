@@ -1,5 +1,5 @@
 -- A call asks for few addresses where nothing stands: each of them is one that it names, and is asked for once.
-use Rattle.std.proofs.Common.{◌≡◌, ℕ, zero, suc, ◌+◌, ◌*◌, ◌<◌, ◌≤◌, true, false, Bool, cond}
+use Rattle.std.proofs.Common.{◌≡◌, ℕ, zero, suc, ◌+◌, ◌*◌, ◌/◌, ◌<◌, ◌≤◌, true, false, Bool, cond}
 use Rattle.std.proofs.Common.{◌||◌, List, []}
 use Rattle.std.proofs.Common.{◌∷◌, ◌++◌, length, map, Option, Some, None, IsSome, is_some, inl, inr}
 use Rattle.std.proofs.Common.{length-append, refl, sym, ◌∙◌, ap, subst, arith}
@@ -25,7 +25,7 @@ use Rattle.nfs_objects.specs.Bound.{AsksFew, Given, Gives, Grows, NamesFew, Name
 use Rattle.nfs_objects.specs.Bound.{asked_count}
 use Rattle.nfs_objects.specs.Bound.{empty_count, held, view_after, with_round}
 use Rattle.nfs_objects.specs.Calls.{IsAmong, addresses_of, made_by, named_by, new_numbers, nfs_handles, nlm_handles}
-use Rattle.nfs_objects.specs.Calls.{objects_at, usages_of}
+use Rattle.nfs_objects.specs.Calls.{blocks_at, blocks_from, data_of, in_file, maps_at, objects_at, usages_of}
 use Rattle.nfs_objects.specs.Fits.{Fits, vacant}
 use Rattle.nfs_objects.specs.Modes.{modes_of}
 use Rattle.nfs_objects.specs.Sound.{Sound}
@@ -425,6 +425,48 @@ objects-few view (handle ∷ handles) =
       )
     ]
 
+blocks-few : (file first count : ℕ) → length (blocks_from file first count) ≡ count
+unfolding blocks_from
+blocks-few file first zero = refl
+blocks-few file first (suc count) = ap suc (blocks-few file (suc first) count)
+
+-- of the file of a handle at most as many as of each file
+in-few : (handle : List ℕ) (places : ℕ → List Addr) → ((file : ℕ) → length (places file) ≤ 19) →
+    length (in_file handle places) ≤ 19
+in-few handle places few =
+    elim (handle_of handle) as (λ (h : Option Handle).
+    length (elim h as (λ (o : Option Handle). List Addr) [ None ↦ [] | Some x ↦ places x.fileid ]) ≤ 19)
+    [ None ↦ omega arith | Some h ↦ few h.fileid ]
+
+data-few : (call : NfsCall) → length (data_of call) ≤ 19
+data-few (nfs.Read a) =
+    in-few a.file (λ file. blocks_at file a.offset)
+    (λ file. (let few = blocks-few file (a.offset / 4096) 17 in omega (arith, few)))
+data-few (nfs.Write a) =
+    in-few a.file (λ file. blocks_at file a.offset ++ maps_at file a.offset)
+    (λ file. (let few = blocks-few file (a.offset / 4096) 17 in
+    let both = length-append (blocks_at file a.offset) (maps_at file a.offset) in omega (arith, few, both)))
+data-few nfs.Null = omega arith
+data-few (nfs.Getattr a) = omega arith
+data-few (nfs.Setattr a) = omega arith
+data-few (nfs.Lookup a) = omega arith
+data-few (nfs.Access a) = omega arith
+data-few (nfs.Readlink a) = omega arith
+data-few (nfs.Create a) = omega arith
+data-few (nfs.Mkdir a) = omega arith
+data-few (nfs.Symlink a) = omega arith
+data-few (nfs.Mknod a) = omega arith
+data-few (nfs.Remove a) = omega arith
+data-few (nfs.Rmdir a) = omega arith
+data-few (nfs.Readdir a) = omega arith
+data-few (nfs.Readdirplus a) = omega arith
+data-few (nfs.Fsstat a) = omega arith
+data-few (nfs.Fsinfo a) = omega arith
+data-few (nfs.Pathconf a) = omega arith
+data-few (nfs.Commit a) = omega arith
+data-few (nfs.Rename a) = omega arith
+data-few (nfs.Link a) = omega arith
+
 nfs-handles-few : (call : NfsCall) → length (nfs_handles call) ≤ 2
 nfs-handles-few nfs.Null = omega arith
 nfs-handles-few (nfs.Getattr a) = omega arith
@@ -497,6 +539,13 @@ made-few (nfs.Link a) = omega arith
 
 pub names-few : NamesFew
 names-few (calls.Nfs call) view =
-    omega (arith, objects-few view (nfs_handles call), nfs-handles-few call, made-few call)
+    omega (
+      arith,
+      objects-few view (nfs_handles call),
+      nfs-handles-few call,
+      made-few call,
+      data-few call,
+      length-append (objects_at view (nfs_handles call)) (data_of call),
+    )
 names-few (calls.Mount call) view = omega arith
 names-few (calls.Nlm call) view = omega (arith, objects-few view (nlm_handles call), nlm-handles-few call)

@@ -103,10 +103,14 @@ module _ (d : DraftValue) (is : IsDraft d.modes d.view d.writes) where
       (λ j e. inl (j, e, refl)) known.1)
   given-with (addresses.Inode n) (Some (objects.Inode i)) (inr reserved) = inr reserved
   given-with (addresses.Inode n) (Some (objects.Exports table)) may = tt
+  given-with (addresses.Inode n) (Some (objects.Map bits)) may = tt
+  given-with (addresses.Inode n) (Some (objects.Block bytes)) may = tt
   given-with (addresses.Inode n) (Some (objects.Mounts table)) may = tt
   given-with (addresses.Inode n) (Some (objects.Usage u)) may = tt
   given-with (addresses.Inode n) None may = tt
   given-with addresses.Exports o may = tt
+  given-with (addresses.Map n page) o may = tt
+  given-with (addresses.Block n i) o may = tt
   given-with addresses.Mounts o may = tt
   given-with (addresses.Usage e g) o may = tt
 

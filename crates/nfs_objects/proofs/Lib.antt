@@ -1,11 +1,15 @@
+pub mod BitSets
 pub mod Bounded
 pub mod Compared
+pub mod Contents
 pub mod Drafted
 pub mod ExportTables
 pub mod Exported
 pub mod FileParts
+pub mod Filed
 pub mod Grouped
 pub mod Knows
+pub mod Laying
 pub mod Listed
 pub mod Looked
 pub mod MountTables

@@ -10,7 +10,7 @@ use Rattle.indexmap.proofs.CallerLemmas.{insert_entry-new}
 use Rattle.indexmap.specs.IndexMap.{IndexMap, insert_entry}
 use Rattle.nfs_objects.specs.contracts.address.AddrPartialEq.TheImpl.{eq-value}
 use Rattle.nfs_objects.specs.declared.address.Addr.{Addr}
-use Rattle.nfs_objects.specs.declared.address.Addr.TheVariants.{Exports, Inode, Mounts, Usage}
+use Rattle.nfs_objects.specs.declared.address.Addr.TheVariants.{Exports, Inode, Map, Block, Mounts, Usage}
 use Rattle.nfs_objects.specs.declared.view.Entry.{Entry}
 use Rattle.nfs_objects.specs.Values.{Seen, is_addr, seen_at, seen_of, shown_at}
 
@@ -21,37 +21,79 @@ same_address a b = (eq-value).it a b
 pub tests : (a b : Addr) → same_address a b ≡ is_addr b a
 tests Exports Exports = refl
 tests Exports (Inode m) = refl
+tests Exports (Map m q) = refl
+tests Exports (Block m j) = refl
 tests Exports Mounts = refl
 tests Exports (Usage f h) = refl
 tests (Inode n) Exports = refl
 tests (Inode n) (Inode m) = nat_eq_equiv.symm n m
+tests (Inode n) (Map m q) = refl
+tests (Inode n) (Block m j) = refl
 tests (Inode n) Mounts = refl
 tests (Inode n) (Usage f h) = refl
+tests (Map n p) Exports = refl
+tests (Map n p) (Inode m) = refl
+tests (Map n p) (Map m q) = 
+    ap (λ b. b && nat_eq p q) (nat_eq_equiv.symm n m) ∙ ap (λ b. nat_eq m n && b) (nat_eq_equiv.symm p q)
+tests (Map n p) (Block m j) = refl
+tests (Map n p) Mounts = refl
+tests (Map n p) (Usage f h) = refl
+tests (Block n i) Exports = refl
+tests (Block n i) (Inode m) = refl
+tests (Block n i) (Map m q) = refl
+tests (Block n i) (Block m j) = 
+    ap (λ b. b && nat_eq i j) (nat_eq_equiv.symm n m) ∙ ap (λ b. nat_eq m n && b) (nat_eq_equiv.symm i j)
+tests (Block n i) Mounts = refl
+tests (Block n i) (Usage f h) = refl
 tests Mounts Exports = refl
 tests Mounts (Inode m) = refl
+tests Mounts (Map m q) = refl
+tests Mounts (Block m j) = refl
 tests Mounts Mounts = refl
 tests Mounts (Usage f h) = refl
 tests (Usage e g) Exports = refl
 tests (Usage e g) (Inode m) = refl
+tests (Usage e g) (Map m q) = refl
+tests (Usage e g) (Block m j) = refl
 tests (Usage e g) Mounts = refl
-tests (Usage e g) (Usage f h) =
+tests (Usage e g) (Usage f h) = 
     ap (λ b. b && nat_eq g h) (nat_eq_equiv.symm e f) ∙ ap (λ b. nat_eq f e && b) (nat_eq_equiv.symm g h)
 
 pub tested : (a b : Addr) → same_address a b ≡ is_addr a b
 tested Exports Exports = refl
 tested Exports (Inode m) = refl
+tested Exports (Map m q) = refl
+tested Exports (Block m j) = refl
 tested Exports Mounts = refl
 tested Exports (Usage f h) = refl
 tested (Inode n) Exports = refl
 tested (Inode n) (Inode m) = refl
+tested (Inode n) (Map m q) = refl
+tested (Inode n) (Block m j) = refl
 tested (Inode n) Mounts = refl
 tested (Inode n) (Usage f h) = refl
+tested (Map n p) Exports = refl
+tested (Map n p) (Inode m) = refl
+tested (Map n p) (Map m q) = refl
+tested (Map n p) (Block m j) = refl
+tested (Map n p) Mounts = refl
+tested (Map n p) (Usage f h) = refl
+tested (Block n i) Exports = refl
+tested (Block n i) (Inode m) = refl
+tested (Block n i) (Map m q) = refl
+tested (Block n i) (Block m j) = refl
+tested (Block n i) Mounts = refl
+tested (Block n i) (Usage f h) = refl
 tested Mounts Exports = refl
 tested Mounts (Inode m) = refl
+tested Mounts (Map m q) = refl
+tested Mounts (Block m j) = refl
 tested Mounts Mounts = refl
 tested Mounts (Usage f h) = refl
 tested (Usage e g) Exports = refl
 tested (Usage e g) (Inode m) = refl
+tested (Usage e g) (Map m q) = refl
+tested (Usage e g) (Block m j) = refl
 tested (Usage e g) Mounts = refl
 tested (Usage e g) (Usage f h) = refl
 

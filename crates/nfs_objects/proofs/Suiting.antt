@@ -102,9 +102,9 @@ module _ (view : ViewValue) (more : List Seen) (reserved : List Reserved) where
       let both = and_parts (is_apart view a.from n) (is_apart view a.to n) e in
       ap (λ b. b && is_apart wider a.to n) (apart-wider a.from n both.0) ∙ apart-wider a.to n both.1
 
-  covers-wider : (modes : ModesValue) (a : Addr) → covers (held_mode modes view a) (held_mode modes wider a) ≡ true
-  covers-wider modes addresses.Exports = refl
-  covers-wider modes (addresses.Inode n) =
+  inode-wider : (modes : ModesValue) (n : ℕ) → covers (held_mode modes view (addresses.Inode n))
+      (held_mode modes wider (addresses.Inode n)) ≡ true
+  inode-wider modes n =
       elim (only_reads modes.renames view n) as (λ b. only_reads modes.renames view n ≡ b →
       covers (cond b Shared modes.inodes) (held_mode modes wider (addresses.Inode n)) ≡ true) [
         | true ↦ λ e. ap (λ b. covers Shared (cond b Shared modes.inodes)) (reads-wider modes.renames n e)
@@ -115,6 +115,12 @@ module _ (view : ViewValue) (more : List Seen) (reserved : List Reserved) where
               | false ↦ covers-self modes.inodes
             ]
       ] refl
+
+  covers-wider : (modes : ModesValue) (a : Addr) → covers (held_mode modes view a) (held_mode modes wider a) ≡ true
+  covers-wider modes addresses.Exports = refl
+  covers-wider modes (addresses.Inode n) = inode-wider modes n
+  covers-wider modes (addresses.Map n page) = inode-wider modes n
+  covers-wider modes (addresses.Block n i) = inode-wider modes n
   covers-wider modes addresses.Mounts = covers-self modes.mounts
   covers-wider modes (addresses.Usage e g) = covers-self modes.inodes
 
@@ -293,5 +299,7 @@ renames-share a ctx view asked attempts from to =
         (ap (λ b. b && is_apart view a.to n) (unseen-apart view a.from n from may.unseen)
         ∙ unseen-apart view a.to n to may.unseen)
     shared (addresses.Exports, mode) may = tt
+    shared (addresses.Map n page, mode) may = tt
+    shared (addresses.Block n i, mode) may = tt
     shared (addresses.Mounts, mode) may = tt
     shared (addresses.Usage e g, mode) may = tt

@@ -9,12 +9,13 @@ use Rattle.std.specs.FinMap.{FinMap, get, remove}
 use Rattle.std.specs.Ordering.{nat_cmp}
 use Rattle.nfs_machine.specs.Attributes.{size_of, used_of}
 use Rattle.nfs_machine.specs.State.{Living, State}
-use Rattle.nfs_objects.proofs.Exported.{exported-there, living-stands}
+use Rattle.nfs_objects.proofs.Exported.{exported-there, inode-lives, living-stands}
+use Rattle.nfs_objects.proofs.Filed.{size-stands}
 use Rattle.nfs_objects.proofs.Tallies.{part, same-without, split-total, total, total-bound}
 use Rattle.nfs_objects.specs.Edits.{counted_anew}
 use Rattle.nfs_objects.specs.Knows.{Possible, Turns}
 use Rattle.nfs_objects.specs.Sound.{Sound}
-use Rattle.nfs_objects.specs.Stands.{Kept, Represents}
+use Rattle.nfs_objects.specs.Stands.{Kept, Represents, bytes_at, inode_in, inode_there}
 use Rattle.nfs_objects.specs.Store.{Store}
 use Rattle.nfs_objects.specs.Sums.{exchanged, group_of, is_counted, is_none, is_same_usage, moved, no_usage}
 use Rattle.nfs_objects.specs.Sums.{one_using, shares_of, stored_usage, usage_in}
@@ -31,9 +32,13 @@ AllFit m = (n : ℕ) (o : Living) → get m.objects n ≡ Some o → (n < 2 ^ 64
 
 pub all-fit : (s : Store) (k : Kept) → Represents s k → AllFit k.state
 all-fit s k stands n o at =
-    let found = living-stands k.state.exports (s.at (addresses.Inode n)) o (sym (stands.objects.objects n) ∙ at) in
+    let found = living-stands k.state.exports (bytes_at k.state n) (s.at (addresses.Inode n)) o
+    (sym (stands.objects.objects n) ∙ at) in
+    let there : inode_there s k.state.exports n ≡ Some found.inode =
+    ap (inode_in k.state.exports) found.there.stands ∙ inode-lives k.state.exports found.inode found.there.lives in
     subst (λ (x : Living). (n < 2 ^ 64) × (size_of x.content < 2 ^ 63)) found.is
-    (stands.objects.fits n found.inode found.there.stands)
+    (subst (λ z. (n < 2 ^ 64) × (z < 2 ^ 63)) (sym (size-stands s k n found.inode stands there))
+    (stands.objects.fits n found.inode found.there.stands))
 
 -- so after a change too
 pub turned-fit : (old new : DraftValue) (op : Kept → Kept) → Turns old new op → (s : Store) (k : Kept) →

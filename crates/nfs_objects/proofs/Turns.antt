@@ -1,5 +1,5 @@
 -- What one write of an inode does to what the store stands for.
-use Rattle.std.proofs.Common.{◌≡◌, ◌==◌, ℕ, ◌<◌, ◌≤◌, Bool, true, false, cond, option_map}
+use Rattle.std.proofs.Common.{◌≡◌, ◌==◌, ℕ, ◌<◌, ◌≤◌, ◌/◌, ◌%◌, Bool, true, false, cond, option_map, [], replicate}
 use Rattle.std.proofs.Common.{◌||◌, ◌&&◌, max}
 use Rattle.std.proofs.Common.{nat_le, List, Option, Some, None, IsSome, inl, inr, refl, sym, ◌∙◌, ap, subst, arith}
 use Rattle.std.proofs.Math.Bool.{or-false}
@@ -18,10 +18,20 @@ use Rattle.nfs_machine.specs.FileLists.{grants_but}
 use Rattle.nfs_machine.specs.State.{Living, PendingGrant, State}
 use Rattle.nfs_objects.proofs.Exported.{inode-lives}
 use Rattle.nfs_objects.proofs.Seen.{known-stands, writes-append}
+use Rattle.nfs_objects.proofs.BitSets.{has-none}
+use Rattle.nfs_objects.proofs.Contents.{content-new}
+use Rattle.nfs_objects.proofs.Filed.{HasContent, alone-is, bytes-own, living_bytes, files-put, files-stay, living-own, stands-but}
+use Rattle.nfs_objects.specs.Bits.{has, no_bits}
+use Rattle.nfs_objects.specs.FileMaps.{FileMapValue, IsContent}
+use Rattle.nfs_objects.specs.Unfiled.{RepresentsBut}
+use Rattle.nfs_objects.specs.declared.object.Content.{Content}
+use Rattle.nfs_objects.specs.declared.object.Content.TheVariants as contents
 use Rattle.nfs_objects.specs.Edits.{edited, freed, recounted, set_at, with_living, with_mounts, with_new}
 use Rattle.nfs_objects.specs.Fits.{Fits}
 use Rattle.nfs_objects.specs.Knows.{ShowsExport, Turns}
-use Rattle.nfs_objects.specs.Stands.{IsFitting, Kept, Represents, inode_in, links_kept, lives_in, living_in}
+use Rattle.nfs_objects.specs.Stands.{IsFitting, Kept, Represents, inode_in, inode_there, links_kept, lives_in}
+use Rattle.nfs_objects.specs.Stands.{HasBlocks, IsMapped, IsStored, StandFiles, bytes_at, file_bytes, content_of, file_of, living_in}
+use Rattle.nfs_objects.specs.Stands.{map_in, map_of, living_alone, pages_of, stored_in}
 use Rattle.nfs_objects.specs.Stands.{StandLocks, StandObjects, StandTables, export_table_of, exports_of, living_of_inode}
 use Rattle.nfs_objects.specs.Stands.{mounts_of, parent_in, parent_kept}
 use Rattle.nfs_objects.specs.Store.{Store, give, put_at, with_write, with_writes}
@@ -37,18 +47,38 @@ use Rattle.nfs_objects.specs.declared.usage.Usage.{Usage}
 
 -- what stands where an inode was put
 lives-put : (exports : List LivingExport) (at : Addr → Option Object) (living : FinMap nat_cmp Living) (number : ℕ)
-    (i : Inode) → lives_in exports i.export ≡ true
-    → ((n : ℕ) → get living n ≡ living_in exports (at (addresses.Inode n)))
-    → (n : ℕ) → get (insert living number (living_of_inode i)) n ≡ living_in exports
+    (i : Inode) (bytes : List ℕ) → lives_in exports i.export ≡ true
+    → ((n : ℕ) → get living n ≡ living_in exports (living_bytes (get living n)) (at (addresses.Inode n)))
+    → (n : ℕ) → get (insert living number (living_of_inode bytes i)) n ≡ living_in exports
+    (living_bytes (get (insert living number (living_of_inode bytes i)) n))
     (put_at at (addresses.Inode number) (Some (objects.Inode i)) (addresses.Inode n))
-lives-put exports at living number i lives stands n =
-    get-inserted living number (living_of_inode i) n
-    ∙ ap (λ b. cond b (Some (living_of_inode i)) (get living n)) (nat_eq_equiv.symm n number)
-    ∙ elim (number == n) as (λ b. cond b (Some (living_of_inode i)) (get living n) ≡ living_in exports
-    (cond b (Some (objects.Inode i)) (at (addresses.Inode n)))) [
-      | true ↦ sym (ap (option_map living_of_inode) (inode-lives exports i lives))
+lives-put exports at living number i bytes lives stands n =
+    subst (λ g. g ≡ living_in exports (living_bytes g)
+    (put_at at (addresses.Inode number) (Some (objects.Inode i)) (addresses.Inode n)))
+    (sym (get-inserted living number new n
+    ∙ ap (λ b. cond b (Some new) (get living n)) (nat_eq_equiv.symm n number)))
+    (elim (number == n) as (λ b. cond b (Some new) (get living n) ≡ living_in exports
+    (living_bytes (cond b (Some new) (get living n))) (cond b (Some (objects.Inode i)) (at (addresses.Inode n)))) [
+      | true ↦ ap Some (sym (living-own bytes i))
+          ∙ sym (ap (option_map (living_of_inode (file_bytes new.content))) (inode-lives exports i lives))
       | false ↦ stands n
-    ]
+    ])
+  where
+    new : Living
+    new = living_of_inode bytes i
+
+-- the bytes of other files stay, and those of the file at a number are these
+bytes-there : (living : FinMap nat_cmp Living) (number : ℕ) (o : Living) (n : ℕ) → (number == n) ≡ false →
+    living_bytes (get (insert living number o) n) ≡ living_bytes (get living n)
+bytes-there living number o n other =
+    ap living_bytes (get-inserted living number o n
+    ∙ ap (λ b. cond b (Some o) (get living n)) (nat_eq_equiv.symm n number ∙ other))
+
+bytes-here : (living : FinMap nat_cmp Living) (number : ℕ) (o : Living) →
+    living_bytes (get (insert living number o) number) ≡ file_bytes o.content
+bytes-here living number o =
+    ap living_bytes (get-inserted living number o number
+    ∙ ap (λ b. cond b (Some o) (get living number)) ((unsigned_Decides number number).1 refl))
 
 -- a function of what stands at each number, after a write at one
 kept-put : (f : Option Object → ℕ) (at : Addr → Option Object) (kept : ℕ → ℕ) (number : ℕ)
@@ -60,7 +90,7 @@ kept-put f at kept number o value is was n =
 
 -- what an inode keeps, where its export lives
 module _ (k : Kept) (s : Store) (n : ℕ) (i : Inode) (lives : lives_in k.state.exports i.export ≡ true)
-    (stands : Represents s k) where
+    (stands : RepresentsBut n s k) where
   links-put : (q : ℕ) → set_at k.links n i.links q ≡ links_kept
       (inode_in k.state.exports (put_at s.at (addresses.Inode n) (Some (objects.Inode i)) (addresses.Inode q)))
   links-put = kept-put (λ o. links_kept (inode_in k.state.exports o)) s.at k.links n (Some (objects.Inode i)) i.links
@@ -138,7 +168,7 @@ objects_in s k = (
 objects-stay : (s t : Store) (k l : Kept) → objects_in t l ≡ objects_in s k → StandObjects s k → StandObjects t l
 objects-stay s t k l same stand = record {
   objects = λ n.
-      ap (λ x. get x.3 n) same ∙ stand.objects n ∙ ap (λ x. living_in x.2 (x.0 n)) (sym same);
+      ap (λ x. get x.3 n) same ∙ stand.objects n ∙ ap (λ x. living_in x.2 (living_bytes (get x.3 n)) (x.0 n)) (sym same);
   links = λ n.
       ap (λ x. x.4 n) same ∙ stand.links n ∙ ap (λ x. links_kept (inode_in x.2 (x.0 n))) (sym same);
   parents = λ n.
@@ -159,14 +189,38 @@ locks-stay m n locks shares waiting granted spent stand = record {
   no_spent_grants = λ q. ap (λ f. f q) spent ∙ stand.no_spent_grants q;
 }
 
-pub put-stands : (s : Store) (k : Kept) (n : ℕ) (i : Inode) → Represents s k → i.generation ≤ s.last n
+-- the files of the store where an inode was put
+put-files : (s : Store) (k : Kept) (n : ℕ) (i : Inode) (bytes : List ℕ) (last : ℕ → ℕ) → RepresentsBut n s k
+    → HasBlocks s n (pages_of (Some (objects.Inode i))) → HasContent s n bytes i → lives_in k.state.exports i.export ≡ true
+    → (l : Kept) → l.state.exports ≡ k.state.exports
+    → l.state.objects ≡ insert k.state.objects n (living_of_inode bytes i)
+    → StandFiles (record { at = put_at s.at (addresses.Inode n) (Some (objects.Inode i)); last = last }) l
+put-files s k n i bytes last stands filed content lives l exports living =
+    files-put s k n (Some (objects.Inode i)) last stands.files filed l exports
+    (λ q other. ap (λ m. living_bytes (get m q)) living ∙ bytes-there k.state.objects n new q other)
+    (λ j there map is.
+    let same : i ≡ j = one (sym (inode-lives l.state.exports i (ap (λ es. lives_in es i.export) exports ∙ lives)) ∙ there) in
+    let was : map_in i.content ≡ Some map = ap (λ (x : Inode). map_in x.content) same ∙ is in
+    subst (IsContent map.size (λ b. stored_in (s.at (addresses.Block n b))))
+    (sym (ap (λ m. living_bytes (get m n)) living ∙ bytes-here k.state.objects n new ∙ bytes-own bytes i.content map was))
+    (content map was))
+  where
+    new : Living
+    new = living_of_inode bytes i
+
+    one : {a b : Inode} → Some a ≡ Some b → a ≡ b
+    one e = cc
+
+-- an inode is put, where the blocks and maps of its file are as it says, and have these bytes
+pub put-stands : (s : Store) (k : Kept) (n : ℕ) (i : Inode) (bytes : List ℕ) → RepresentsBut n s k
+    → HasBlocks s n (pages_of (Some (objects.Inode i))) → HasContent s n bytes i → i.generation ≤ s.last n
     → IsFitting n i → lives_in k.state.exports i.export ≡ true
     → Represents (with_write s (addresses.Inode n) (Some (objects.Inode i)))
-    (with_living k n (living_of_inode i) i.links (parent_in i.content))
-put-stands s k n i stands within fits lives = record {
+    (with_living k n (living_of_inode bytes i) i.links (parent_in i.content))
+put-stands s k n i bytes stands filed content within fits lives = record {
   tables = tables-stay s _ k.state _ refl stands.tables;
   objects = record {
-    objects = lives-put k.state.exports s.at k.state.objects n i lives stands.objects.objects;
+    objects = lives-put k.state.exports s.at k.state.objects n i bytes lives stands.objects.objects;
     links = links-put k s n i lives stands;
     parents = parents-put k s n i lives stands;
     given = given-put s n i (give s.last (addresses.Inode n) (Some (objects.Inode i))) stands.objects.given
@@ -176,6 +230,8 @@ put-stands s k n i stands within fits lives = record {
     spent = λ q g.
         stands.objects.spent q g ∙ ap (λ l. nat_le g l) (sym (last-kept s.last n i.generation q within));
   };
+  files = put-files s k n i bytes (give s.last (addresses.Inode n) (Some (objects.Inode i))) stands filed content lives
+      (with_living k n (living_of_inode bytes i) i.links (parent_in i.content)) refl refl;
   usages = record { usage = stands.usages.usage };
   locks = locks-stay k.state _ refl refl refl refl refl stands.locks;
 }
@@ -188,14 +244,17 @@ get-removed living number n = differs-remove living number n ∙ ap (λ b. cond 
 none-removed : {X : Type 0} (n : ℕ) (lists : FinMap nat_cmp (List X)) → lists ≡ empty → remove lists n ≡ empty
 none-removed {X = X} n lists none = ap (λ (m : FinMap nat_cmp (List X)). remove m n) none ∙ no-list n
 
-pub free-stands : (s : Store) (k : Kept) (n : ℕ) → Represents s k →
+pub free-stands : (s : Store) (k : Kept) (n : ℕ) → RepresentsBut n s k → HasBlocks s n no_bits →
     Represents (with_write s (addresses.Inode n) None) (freed k n)
-free-stands s k n stands = record {
+free-stands s k n stands filed = record {
   tables = tables-stay s _ k.state _ refl stands.tables;
   objects = record {
-    objects = λ q. get-removed k.state.objects n q
-        ∙ elim (n == q) as (λ b. cond b None (get k.state.objects q) ≡ living_in k.state.exports
-        (cond b None (s.at (addresses.Inode q)))) [ true ↦ refl | false ↦ stands.objects.objects q ];
+    objects = λ q. subst
+        (λ g. g ≡ living_in k.state.exports (living_bytes g) (cond (n == q) None (s.at (addresses.Inode q))))
+        (sym (get-removed k.state.objects n q))
+        (elim (n == q) as (λ b. cond b None (get k.state.objects q) ≡ living_in k.state.exports
+        (living_bytes (cond b None (get k.state.objects q))) (cond b None (s.at (addresses.Inode q))))
+        [ true ↦ refl | false ↦ stands.objects.objects q ]);
     links = kept-put (λ o. links_kept (inode_in k.state.exports o)) s.at k.links n None 0 refl stands.objects.links;
     parents =
         kept-put (λ o. parent_kept (inode_in k.state.exports o)) s.at k.parents n None 0 refl stands.objects.parents;
@@ -205,6 +264,9 @@ free-stands s k n stands = record {
         IsFitting q i) [ true ↦ λ e. cc | false ↦ λ e. stands.objects.fits q i e ] at;
     spent = stands.objects.spent;
   };
+  files = files-put s k n None s.last stands.files filed (freed k n) refl
+      (λ q other. ap living_bytes (get-removed k.state.objects n q ∙ ap (λ b. cond b None (get k.state.objects q)) other))
+      (λ i there. cc);
   usages = record { usage = stands.usages.usage };
   locks = record {
     no_locks = none-removed n k.state.locks stands.locks.no_locks;
@@ -232,16 +294,48 @@ below_max g a b = elim (leb_tells g a) [
     max-lt : (x y z : ℕ) → x < z → y < z → max x y < z
     max-lt x y z h k = omega (arith, h, k)
 
-pub new-stands : (s : Store) (k : Kept) (n : ℕ) (i : Inode) → Represents s k → IsFitting n i
-    → lives_in k.state.exports i.export ≡ true
+-- no block stands where no inode does
+nothing-stored : (s : Store) (k : Kept) (n : ℕ) → Represents s k → s.at (addresses.Inode n) ≡ None →
+    (i : ℕ) → stored_in (s.at (addresses.Block n i)) ≡ []
+nothing-stored s k n stands vacant i =
+    let mapped : IsMapped false (s.at (addresses.Map n (i / 512))) =
+    subst (λ b. IsMapped b (s.at (addresses.Map n (i / 512)))) (ap (λ o. has (pages_of o) (i / 512)) vacant
+    ∙ has-none (i / 512)) ((stands.files.blocks n).maps (i / 512)) in
+    let none : IsStored false (s.at (addresses.Block n i)) =
+    subst (λ b. IsStored b (s.at (addresses.Block n i))) (ap (λ o. has (map_of o) (i % 512)) mapped
+    ∙ has-none (i % 512)) ((stands.files.blocks n).blocks i) in
+    ap stored_in none
+
+-- the bytes of a new file
+new-content : (s : Store) (n : ℕ) (i : Inode) → ((b : ℕ) → stored_in (s.at (addresses.Block n b)) ≡ []) →
+    HasContent s n (file_bytes (content_of i.content)) i
+new-content s n i none map is = by i.content is
+  where
+    by : (c : Content) → map_in c ≡ Some map →
+        IsContent map.size (λ b. stored_in (s.at (addresses.Block n b))) (file_bytes (content_of c))
+    by (contents.Regular own) is =
+        let same : own ≡ map = cc in
+        subst (λ (m : FileMapValue). IsContent m.size (λ b. stored_in (s.at (addresses.Block n b))) (replicate own.size 0))
+        same (content-new own.size (λ b. stored_in (s.at (addresses.Block n b))) none)
+    by (contents.Directory directory) is = cc
+    by (contents.Link text) is = cc
+    by (contents.BlockDevice device) is = cc
+    by (contents.CharacterDevice device) is = cc
+    by contents.Socket is = cc
+    by contents.Fifo is = cc
+
+pub new-stands : (s : Store) (k : Kept) (n : ℕ) (i : Inode) → Represents s k → s.at (addresses.Inode n) ≡ None
+    → pages_of (Some (objects.Inode i)) ≡ no_bits → IsFitting n i → lives_in k.state.exports i.export ≡ true
     → Represents (with_write s (addresses.Inode n) (Some (objects.Inode i)))
-    (with_new k n (living_of_inode i) i.links (parent_in i.content))
-new-stands s k n i stands fits lives = record {
+    (with_new k n (living_alone i) i.links (parent_in i.content))
+new-stands s k n i stands vacant none fits lives = subst (λ (o : Living).
+    Represents (with_write s (addresses.Inode n) (Some (objects.Inode i))) (with_new k n o i.links (parent_in i.content)))
+    (alone-is i) (record {
   tables = tables-stay s _ k.state _ refl stands.tables;
   objects = record {
-    objects = lives-put k.state.exports s.at k.state.objects n i lives stands.objects.objects;
-    links = links-put k s n i lives stands;
-    parents = parents-put k s n i lives stands;
+    objects = lives-put k.state.exports s.at k.state.objects n i zeros lives stands.objects.objects;
+    links = links-put k s n i lives but;
+    parents = parents-put k s n i lives but;
     given = given-put s n i (give s.last (addresses.Inode n) (Some (objects.Inode i))) stands.objects.given
         (λ q. more q)
         (subst (λ b. i.generation ≤ cond b (max (s.last n) i.generation) (s.last n))
@@ -256,10 +350,26 @@ new-stands s k n i stands fits lives = record {
           | false ↦ or-false (nat_le g (s.last q))
         ];
   };
+  files = put-files s k n i zeros (give s.last (addresses.Inode n) (Some (objects.Inode i))) but filed
+      (new-content s n i (nothing-stored s k n stands vacant)) lives
+      (with_new k n (living_of_inode zeros i) i.links (parent_in i.content)) refl refl;
   usages = record { usage = stands.usages.usage };
   locks = locks-stay k.state _ refl refl refl refl refl stands.locks;
-}
+})
   where
+    zeros : List ℕ
+    zeros = file_bytes (content_of i.content)
+
+    but : RepresentsBut n s k
+    but = stands-but n s k stands
+
+    filed : HasBlocks s n (pages_of (Some (objects.Inode i)))
+    filed = record {
+      maps = λ page. subst (λ b. IsMapped (has b page) (s.at (addresses.Map n page)))
+          (ap pages_of vacant ∙ sym none) ((stands.files.blocks n).maps page);
+      blocks = (stands.files.blocks n).blocks;
+    }
+
     more : (q : ℕ) → s.last q ≤ cond (n == q) (max (s.last q) i.generation) (s.last q)
     more q = elim (n == q) as (λ b. s.last q ≤ cond b (max (s.last q) i.generation) (s.last q))
         [ true ↦ le-max_left (s.last q) i.generation | false ↦ omega arith ]
@@ -275,6 +385,7 @@ mounts-stand s k table stands = record {
     mounts = refl;
   };
   objects = objects-stay s _ k _ refl stands.objects;
+  files = files-stay s _ k _ refl stands.files;
   usages = record { usage = stands.usages.usage };
   locks = locks-stay k.state _ refl refl refl refl refl stands.locks;
 }
@@ -332,6 +443,7 @@ module _ (s : Store) (k : Kept) (e n : ℕ) (before after written : Usage)
   usage-stands = record {
     tables = tables-stay s _ k.state _ refl stands.tables;
     objects = objects-stay s _ k _ refl stands.objects;
+    files = files-stay s _ k _ refl stands.files;
     usages = record { usage = usage-put };
     locks = stands.locks;
   }
@@ -413,6 +525,21 @@ module _ (d : DraftValue) where
       stays : (k : Kept) → k.usage ≡ exchanged_at n (in_export e before) (in_export e after) k.usage
       stays k = λ i p q. sym (at k p q) i
 
+-- where an inode is put in the place of another with the same map, the file there is as it was
+pub filed-same : (s : Store) (k : Kept) (n : ℕ) (i j : Inode) → Represents s k
+    → s.at (addresses.Inode n) ≡ Some (objects.Inode i) → map_in j.content ≡ map_in i.content
+    → HasBlocks s n (pages_of (Some (objects.Inode j)))
+filed-same s k n i j stands at same = record {
+  maps = λ page. subst (λ b. IsMapped (has b page) (s.at (addresses.Map n page)))
+      (ap pages_of at ∙ ap (λ f. elim f [ None ↦ no_bits | Some map ↦ map.pages ]) (sym same)) ((stands.files.blocks n).maps page);
+  blocks = (stands.files.blocks n).blocks;
+}
+
+pub content-same : (s : Store) (k : Kept) (n : ℕ) (i j : Inode) → Represents s k
+    → inode_there s k.state.exports n ≡ Some i → map_in j.content ≡ map_in i.content
+    → HasContent s n (bytes_at k.state n) j
+content-same s k n i j stands there same = λ map is. stands.files.bytes n i map there (sym same ∙ is)
+
 module _ (d : DraftValue) (n : ℕ) where
   -- the draft after it
   abbrev next : Option Object → DraftValue
@@ -426,52 +553,70 @@ module _ (d : DraftValue) (n : ℕ) where
   -- one inode in the place of another, of the same living export, the same generation and with the same parent
   pub edit-turns : (i j : Inode) (object : Living → Living) (links : ℕ → ℕ) →
       known_at d (addresses.Inode n) ≡ Some (Some (objects.Inode i)) → ShowsExport d i.export
-      → j.export ≡ i.export → living_of_inode j ≡ object (living_of_inode i) → j.links ≡ links i.links →
+      → j.export ≡ i.export
+      → ((bytes : List ℕ) → living_of_inode bytes j ≡ object (living_of_inode bytes i))
+      → map_in j.content ≡ map_in i.content → j.links ≡ links i.links →
       parent_in j.content ≡ parent_in i.content → j.generation ≡ i.generation → IsFitting n j
       → Turns d (next (Some (objects.Inode j))) (λ k. edited k n object links)
-  edit-turns i j object links known live exported is linked under generation fitting =
+  edit-turns i j object links known live exported is kept linked under generation fitting =
       turns-next (Some (objects.Inode j)) (λ k. edited k n object links) (λ s k fits stands.
       let at : (with_writes s d.writes).at (addresses.Inode n) ≡ Some (objects.Inode i) =
       known-stands d s (addresses.Inode n) (Some (objects.Inode i)) fits known in
       let there : inode_in k.state.exports ((with_writes s d.writes).at (addresses.Inode n)) ≡ Some i =
       ap (inode_in k.state.exports) at ∙ inode-lives k.state.exports i (live s k fits stands) in
-      let lives : get k.state.objects n ≡ Some (living_of_inode i) =
-      stands.objects.objects n ∙ ap (option_map living_of_inode) there in
+      let bytes = bytes_at k.state n in
+      let lives : get k.state.objects n ≡ Some (living_of_inode bytes i) =
+      stands.objects.objects n ∙ ap (option_map (living_of_inode bytes)) there in
       let counted : k.links n ≡ i.links = stands.objects.links n ∙ ap links_kept there in
       let below : k.parents n ≡ parent_in i.content = stands.objects.parents n ∙ ap parent_kept there in
-      let put = put-stands (with_writes s d.writes) k n j stands
+      let put = put-stands (with_writes s d.writes) k n j bytes (stands-but n (with_writes s d.writes) k stands)
+      (filed-same (with_writes s d.writes) k n i j stands at kept)
+      (content-same (with_writes s d.writes) k n i j stands there kept)
       (subst (λ g. g ≤ (with_writes s d.writes).last n) (sym generation) (stands.objects.given n i at)) fitting
       (ap (lives_in k.state.exports) exported ∙ live s k fits stands) in
-      let same : edited k n object links ≡ with_living k n (living_of_inode j) j.links (parent_in j.content) =
+      let same : edited k n object links ≡ with_living k n (living_of_inode bytes j) j.links (parent_in j.content) =
       ap
       (λ (o : Option Living). elim o [
         | None ↦ k
         | Some o ↦ with_living k n (object o) (links (k.links n))
             (k.parents n)
       ]) lives
-      ∙ ap (λ (o : Living). with_living k n o (links (k.links n)) (k.parents n)) (sym is)
-      ∙ ap (λ l. with_living k n (living_of_inode j) l (k.parents n)) (ap links counted ∙ sym linked)
-      ∙ ap (λ p. with_living k n (living_of_inode j) j.links p) (below ∙ sym under) in
+      ∙ ap (λ (o : Living). with_living k n o (links (k.links n)) (k.parents n)) (sym (is bytes))
+      ∙ ap (λ l. with_living k n (living_of_inode bytes j) l (k.parents n)) (ap links counted ∙ sym linked)
+      ∙ ap (λ p. with_living k n (living_of_inode bytes j) j.links p) (below ∙ sym under) in
       subst
       (λ (x : Kept). Represents (with_write (with_writes s d.writes) (addresses.Inode n) (Some (objects.Inode j)))
       x) (sym same) put)
 
-  pub free-turns : Turns d (next None) (λ k. freed k n)
-  free-turns = turns-next None (λ k. freed k n) (λ s k fits stands. free-stands (with_writes s d.writes) k n stands)
+  -- what is no file goes
+  pub free-turns : (i : Option Object) → known_at d (addresses.Inode n) ≡ Some i → file_of i ≡ None →
+      Turns d (next None) (λ k. freed k n)
+  free-turns i known other = turns-next None (λ k. freed k n) (λ s k fits stands.
+      let at : (with_writes s d.writes).at (addresses.Inode n) ≡ i = known-stands d s (addresses.Inode n) i fits known in
+      free-stands (with_writes s d.writes) k n (stands-but n (with_writes s d.writes) k stands) (record {
+        maps = λ page. subst (λ b. IsMapped (has b page) ((with_writes s d.writes).at (addresses.Map n page)))
+            (ap pages_of at ∙ no-pages i other) ((stands.files.blocks n).maps page);
+        blocks = (stands.files.blocks n).blocks;
+      }))
+    where
+      no-pages : (o : Option Object) → file_of o ≡ None → pages_of o ≡ no_bits
+      no-pages o is = ap (λ f. elim f [ None ↦ no_bits | Some map ↦ map.pages ]) is
 
   -- a new inode, once the draft was changed so; the exports stayed, and its own lived before
   pub new-turns : (old : DraftValue) (f : Kept → Kept) → Turns old d f → ((k : Kept) →
-      (f k).state.exports ≡ k.state.exports) → (i : Inode) → IsFitting n i → ShowsExport old i.export
+      (f k).state.exports ≡ k.state.exports) → (i : Inode) → known_at d (addresses.Inode n) ≡ Some None
+      → pages_of (Some (objects.Inode i)) ≡ no_bits → IsFitting n i → ShowsExport old i.export
       → Turns old (next (Some (objects.Inode i)))
-      (λ k. with_new (f k) n (living_of_inode i) i.links (parent_in i.content))
-  new-turns old f turns stay i fitting live = record {
+      (λ k. with_new (f k) n (living_alone i) i.links (parent_in i.content))
+  new-turns old f turns stay i vacant none fitting live = record {
     ctx = turns.ctx;
     view = turns.view;
     modes = turns.modes;
     messages = turns.messages;
     turns = λ s k fits stands.
-        subst (λ (x : Store). Represents x (with_new (f k) n (living_of_inode i) i.links (parent_in i.content)))
+        subst (λ (x : Store). Represents x (with_new (f k) n (living_alone i) i.links (parent_in i.content)))
         (sym (writes-append d.writes s (addresses.Inode n) (Some (objects.Inode i))))
-        (new-stands (with_writes s d.writes) (f k) n i (turns.turns s k fits stands) fitting
+        (new-stands (with_writes s d.writes) (f k) n i (turns.turns s k fits stands)
+        (known-stands d s (addresses.Inode n) None (subst (λ v. Fits v s) (sym turns.view) fits) vacant) none fitting
         (ap (λ es. lives_in es i.export) (stay k) ∙ live s k fits stands));
   }

@@ -1,6 +1,6 @@
 -- What calls name.
 use Rattle.std.specs.Prelude.{◌≡◌, ℕ, zero, suc, Bool, true, false, List, [], ◌∷◌, ◌++◌, Some, None}
-use Rattle.std.specs.Prelude.{◌⊎◌}
+use Rattle.std.specs.Prelude.{◌⊎◌, ◌/◌}
 use Rattle.nfs_wire.specs.declared.calls.NfsCall.{NfsCall}
 use Rattle.nfs_wire.specs.declared.calls.NfsCall.TheVariants as nfs
 use Rattle.side_wire.specs.declared.mount.MountCall.TheVariants as mount
@@ -85,11 +85,35 @@ objects_at view (handle ∷ handles) = elim (handle_of handle) [
   | Some h ↦ addresses_of view h.fileid ++ usages_of h.export 64 ++ objects_at view handles
 ]
 
+-- the addresses of so many of a file's blocks from one on
+unfoldable pub blocks_from : (file first count : ℕ) → List Addr
+blocks_from file first zero = []
+blocks_from file first (suc count) = addresses.Block file first ∷ blocks_from file (suc first) count
+
+-- those of the blocks from an offset on that the bytes of one call lie in, which are at most 65,536
+abbrev pub blocks_at : (file offset : ℕ) → List Addr
+blocks_at file offset = blocks_from file (offset / 4096) 17
+
+-- those of the map pages that tell of these
+abbrev pub maps_at : (file offset : ℕ) → List Addr
+maps_at file offset =
+    addresses.Map file (offset / 4096 / 512) ∷ addresses.Map file (suc (offset / 4096 / 512)) ∷ []
+
+-- these of the file that a handle names
+abbrev pub in_file : (handle : List ℕ) → (ℕ → List Addr) → List Addr
+in_file handle places = elim (handle_of handle) [ None ↦ [] | Some h ↦ places h.fileid ]
+
+-- the addresses where the data of a call of NFS lies: a block may be absent, and be the first of its map page
+abbrev pub data_of : NfsCall → List Addr
+data_of (nfs.Read a) = in_file a.file (λ file. blocks_at file a.offset)
+data_of (nfs.Write a) = in_file a.file (λ file. blocks_at file a.offset ++ maps_at file a.offset)
+data_of call = []
+
 -- The addresses that a call names, whether anything stands there or not, once it has read so much: the exports, the
--- objects of its handles with what their exports use, and those that are its program's alone. What it named it names
+-- objects of its handles with what their exports use, where its data lies, and those that are its program's alone. What it named it names
 -- still as it reads more.
 abbrev pub named_by : Call → ViewValue → List Addr
-named_by (calls.Nfs call) view = addresses.Exports ∷ objects_at view (nfs_handles call)
+named_by (calls.Nfs call) view = addresses.Exports ∷ objects_at view (nfs_handles call) ++ data_of call
 named_by (calls.Mount call) view = addresses.Exports ∷ addresses.Mounts ∷ []
 named_by (calls.Nlm call) view = addresses.Exports ∷ objects_at view (nlm_handles call)
 

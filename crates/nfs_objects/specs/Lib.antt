@@ -1,6 +1,7 @@
 pub mod Asks
 pub mod Attempt
 pub mod Begins
+pub mod Bits
 pub mod Bound
 pub mod Calls
 pub mod Derived
@@ -8,7 +9,7 @@ pub mod Drafts
 pub mod Edits
 pub mod Entries
 pub mod ExportTables
-pub mod FileBytes
+pub mod FileMaps
 pub mod Fits
 pub mod Knows
 pub mod Leaving
@@ -24,4 +25,5 @@ pub mod Sound
 pub mod Stands
 pub mod Store
 pub mod Sums
+pub mod Unfiled
 pub mod Values

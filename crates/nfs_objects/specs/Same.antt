@@ -11,7 +11,9 @@ use Rattle.side_wire.specs.declared.mount.lists.MountBody.{MountBody}
 use Rattle.nfs_machine.specs.Bytes.{same_bytes}
 use Rattle.nfs_machine.specs.Exports.{ExportValue, LivingExport}
 use Rattle.nfs_machine.specs.State.{Entry}
+use Rattle.nfs_objects.specs.Bits.{same_bits}
 use Rattle.nfs_objects.specs.ExportTables.{ExportTableValue}
+use Rattle.nfs_objects.specs.FileMaps.{FileMapValue}
 use Rattle.nfs_objects.specs.Sums.{is_same_usage}
 use Rattle.nfs_objects.specs.Values.{Seen, ViewValue, is_addr}
 use Rattle.nfs_objects.specs.declared.directory.Directory.{Directory}
@@ -42,8 +44,11 @@ abbrev pub same_directory : Directory → Directory → Bool
 same_directory a b =
     a.parent == b.parent && (a.last_cookie == b.last_cookie && pointwise same_entry a.entries b.entries)
 
+abbrev pub same_file_map : FileMapValue → FileMapValue → Bool
+same_file_map a b = a.size == b.size && same_bits a.pages b.pages
+
 abbrev pub same_content : Content → Content → Bool
-same_content (contents.Regular a) (contents.Regular b) = same_bytes a b
+same_content (contents.Regular a) (contents.Regular b) = same_file_map a b
 same_content (contents.Directory a) (contents.Directory b) = same_directory a b
 same_content (contents.Link a) (contents.Link b) = same_bytes a b
 same_content (contents.BlockDevice a) (contents.BlockDevice b) = same_device a b
@@ -81,6 +86,8 @@ same_mount a b = same_bytes a.hostname b.hostname && same_bytes a.directory b.di
 abbrev pub same_object : Object → Object → Bool
 same_object (objects.Exports a) (objects.Exports b) = same_exports a b
 same_object (objects.Inode a) (objects.Inode b) = same_inode a b
+same_object (objects.Map a) (objects.Map b) = same_bits a b
+same_object (objects.Block a) (objects.Block b) = same_bytes a b
 same_object (objects.Mounts a) (objects.Mounts b) = pointwise same_mount a b
 same_object (objects.Usage a) (objects.Usage b) = is_same_usage a b
 same_object a b = false

@@ -14,7 +14,10 @@ use Rattle.side_wire.specs.declared.mount.lists.MountBody.{MountBody}
 use Rattle.nfs_machine.specs.Bytes.{same_bytes}
 use Rattle.nfs_machine.specs.Exports.{ExportValue, LivingExport}
 use Rattle.nfs_machine.specs.State.{Entry}
+use Rattle.nfs_objects.specs.Bits.{same_bits}
 use Rattle.nfs_objects.specs.ExportTables.{ExportTableValue}
+use Rattle.nfs_objects.specs.FileMaps.{FileMapValue}
+use Rattle.nfs_objects.specs.Same.{same_file_map}
 use Rattle.nfs_objects.specs.Same.{same_content, same_device, same_directory, same_entry, same_export, same_exports}
 use Rattle.nfs_objects.specs.Same.{same_inode, same_living, same_mode, same_mount, same_number, same_object}
 use Rattle.nfs_objects.specs.Same.{held_value, same_held, same_ownership, same_pair, same_seen, same_time, same_times}
@@ -23,6 +26,7 @@ use Rattle.nfs_objects.specs.Sums.{is_same_usage}
 use Rattle.nfs_objects.specs.Values.{Seen, ViewValue, is_addr}
 use Rattle.nfs_objects.specs.declared.address.Addr.{Addr}
 use Rattle.nfs_objects.specs.declared.address.Addr.TheVariants as addresses
+use Rattle.nfs_objects.specs.declared.bits.Bits.{Bits}
 use Rattle.nfs_objects.specs.declared.directory.Directory.{Directory}
 use Rattle.nfs_objects.specs.declared.modes.Mode.{Mode}
 use Rattle.nfs_objects.specs.declared.modes.Mode.TheVariants.{Shared, Exclusive}
@@ -116,8 +120,23 @@ directory_decides = from_self same_directory directory_same
     (λ a. both _ _ (nat_own a.parent) (both _ _ (nat_own a.last_cookie) ((entries_decide a.entries a.entries).1 refl)))
 
 -- ---- contents and inodes
+pub bits_decides : (a b : Bits) → Decides (same_bits a b) (a ≡ b)
+bits_decides = from_self same_bits
+    (λ a b e. ap (λ words. let bits : Bits = record { words = words } in bits) ((bytes_decides a.words b.words).0 e))
+    (λ a. bytes_own a.words)
+
+file_map_same : (a b : FileMapValue) → same_file_map a b ≡ true → a ≡ b
+file_map_same a b e = λ i. record {
+  size = (unsigned_Decides a.size b.size).0 (first_so (a.size == b.size) _ e) i;
+  pages = (bits_decides a.pages b.pages).0 (second_so (a.size == b.size) _ e) i;
+}
+
+pub file_map_decides : (a b : FileMapValue) → Decides (same_file_map a b) (a ≡ b)
+file_map_decides = from_self same_file_map file_map_same
+    (λ a. both _ _ (nat_own a.size) ((bits_decides a.pages a.pages).1 refl))
+
 content_same : (a b : Content) → same_content a b ≡ true → a ≡ b
-content_same (contents.Regular a) (contents.Regular b) e = ap contents.Regular ((bytes_decides a b).0 e)
+content_same (contents.Regular a) (contents.Regular b) e = ap contents.Regular ((file_map_decides a b).0 e)
 content_same (contents.Directory a) (contents.Directory b) e = ap contents.Directory ((directory_decides a b).0 e)
 content_same (contents.Link a) (contents.Link b) e = ap contents.Link ((bytes_decides a b).0 e)
 content_same (contents.BlockDevice a) (contents.BlockDevice b) e =
@@ -129,7 +148,7 @@ content_same contents.Fifo contents.Fifo e = refl
 content_same a b e = cc
 
 content_own : (a : Content) → same_content a a ≡ true
-content_own (contents.Regular a) = bytes_own a
+content_own (contents.Regular a) = (file_map_decides a a).1 refl
 content_own (contents.Directory a) = (directory_decides a a).1 refl
 content_own (contents.Link a) = bytes_own a
 content_own (contents.BlockDevice a) = (device_decides a a).1 refl
@@ -265,6 +284,8 @@ usage_decides = from_self is_same_usage (λ a b e. grind rules)
 object_same : (a b : Object) → same_object a b ≡ true → a ≡ b
 object_same (objects.Exports a) (objects.Exports b) e = ap objects.Exports ((exports_decide a b).0 e)
 object_same (objects.Inode a) (objects.Inode b) e = ap objects.Inode ((inode_decides a b).0 e)
+object_same (objects.Map a) (objects.Map b) e = ap objects.Map ((bits_decides a b).0 e)
+object_same (objects.Block a) (objects.Block b) e = ap objects.Block ((bytes_decides a b).0 e)
 object_same (objects.Mounts a) (objects.Mounts b) e = ap objects.Mounts ((mounts_decide a b).0 e)
 object_same (objects.Usage a) (objects.Usage b) e = ap objects.Usage ((usage_decides a b).0 e)
 object_same a b e = cc
@@ -272,6 +293,8 @@ object_same a b e = cc
 object_own : (a : Object) → same_object a a ≡ true
 object_own (objects.Exports a) = (exports_decide a a).1 refl
 object_own (objects.Inode a) = (inode_decides a a).1 refl
+object_own (objects.Map a) = (bits_decides a a).1 refl
+object_own (objects.Block a) = bytes_own a
 object_own (objects.Mounts a) = (mounts_decide a a).1 refl
 object_own (objects.Usage a) = (usage_decides a a).1 refl
 
@@ -282,6 +305,10 @@ object_decides = from_self same_object object_same object_own
 address_same : (a b : Addr) → is_addr a b ≡ true → a ≡ b
 address_same addresses.Exports addresses.Exports e = refl
 address_same (addresses.Inode a) (addresses.Inode b) e = ap addresses.Inode ((unsigned_Decides a b).0 e)
+address_same (addresses.Map n p) (addresses.Map m q) e = λ i. addresses.Map
+    ((unsigned_Decides n m).0 (first_so (n == m) _ e) i) ((unsigned_Decides p q).0 (second_so (n == m) _ e) i)
+address_same (addresses.Block n p) (addresses.Block m q) e = λ i. addresses.Block
+    ((unsigned_Decides n m).0 (first_so (n == m) _ e) i) ((unsigned_Decides p q).0 (second_so (n == m) _ e) i)
 address_same addresses.Mounts addresses.Mounts e = refl
 address_same (addresses.Usage e g) (addresses.Usage f h) p = λ i. addresses.Usage
     ((unsigned_Decides e f).0 (first_so (e == f) _ p) i) ((unsigned_Decides g h).0 (second_so (e == f) _ p) i)
@@ -290,6 +317,8 @@ address_same a b e = cc
 address_own : (a : Addr) → is_addr a a ≡ true
 address_own addresses.Exports = refl
 address_own (addresses.Inode n) = nat_own n
+address_own (addresses.Map n p) = both _ _ (nat_own n) (nat_own p)
+address_own (addresses.Block n i) = both _ _ (nat_own n) (nat_own i)
 address_own addresses.Mounts = refl
 address_own (addresses.Usage e g) = both _ _ (nat_own e) (nat_own g)
 

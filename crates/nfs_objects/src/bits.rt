@@ -1,7 +1,7 @@
 //! Sets of numbers below 512.
 
 ghost use Rattle.std.specs.Prelude.{◌≡◌, ◌<◌, ◌==◌, ◌&&◌, ◌||◌, ℕ, nat_lt};
-ghost use Rattle.nfs_objects.specs.Bits.{has, no_bits};
+ghost use Rattle.nfs_objects.specs.Bits.{IsMask, IsWordBelow, has, no_bits, same_bits};
 
 /// How many numbers a set of bits may have.
 pub const BITS: u64 = 512;
@@ -25,7 +25,7 @@ impl Bits {
 
     /// Whether there is no number in it.
     pub fn is_none(self) -> bool
-        ensures { (n : ℕ) → result ≡ true → has self n ≡ false }
+        ensures { result ≡ same_bits self no_bits }
     {
         self == Bits::none()
     }
@@ -51,16 +51,34 @@ impl Bits {
     pub fn below(self, number: u64) -> Bits
         ensures { (n : ℕ) → has result n ≡ (has self n && nat_lt n number) }
     {
-        let mut below = Bits::none();
-        for place in 0..8 {
-            below.words[place] = self.words[place] & mask(number.saturating_sub(place as u64 * WORD));
+        Bits {
+            words: [
+                self.word_below(0, number),
+                self.word_below(1, number),
+                self.word_below(2, number),
+                self.word_below(3, number),
+                self.word_below(4, number),
+                self.word_below(5, number),
+                self.word_below(6, number),
+                self.word_below(7, number),
+            ],
         }
-        below
+    }
+
+    /// The word at a place, without the bits of this number and of those behind it.
+    fn word_below(self, place: usize, number: u64) -> u64
+        requires { place < 8 }
+        ensures { IsWordBelow self.words place number result }
+    {
+        let first = place as u64 * WORD;
+        self.words[place] & mask(number.saturating_sub(first))
     }
 }
 
 /// The first so many bits of a word; all of them from `WORD` on.
-fn mask(count: u64) -> u64 {
+fn mask(count: u64) -> u64
+    ensures { IsMask count result }
+{
     if count < WORD {
         (1 << count) - 1
     } else {

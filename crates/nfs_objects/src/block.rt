@@ -1,6 +1,6 @@
 //! The bytes of a block of a file. Those that it has not, up to `BLOCK_SIZE`, are zeros.
 
-ghost use Rattle.std.specs.Prelude.{◌≡◌, ◌++◌, ◌+◌, ◌≤◌, IfOk, OnOk, drop, length, take};
+ghost use Rattle.std.specs.Prelude.{◌≡◌, ◌++◌, ◌+◌, ◌<◌, ◌≤◌, ◌^◌, IfOk, OnOk, drop, length, take};
 ghost use Rattle.nfs_machine.specs.Data.{resized, written};
 
 use crate::bits::BITS;
@@ -23,9 +23,7 @@ pub fn written(alloc: Global, old: &[u8], at: usize, data: &[u8]) -> Result<Byte
     ensures { IfOk result (λ bytes. bytes ≡ written old.now at «data».now) }
 {
     let end = at + data.len();
-    let mut bytes = Vec::with_capacity(alloc, end.max(old.len()))?;
-    bytes.extend_from_slice(&old[..at.min(old.len())])?;
-    bytes.resize(at, 0)?;
+    let mut bytes = front(alloc, end.max(old.len()), old, at)?;
     bytes.extend_from_slice(data)?;
     bytes.extend_from_slice(&old[end.min(old.len())..])?;
     Ok(Bytes::from_vec(bytes)?)
@@ -53,7 +51,7 @@ pub fn add_part(
     start: usize,
     count: usize,
 ) -> Result<(), AllocError>
-    requires { length found.old.items + count ≤ usize.max }
+    requires { length found.old.items + count < 2 ^ 64 }
     ensures { OnOk result (found.new.items ≡ found.old.items ++ resized (drop start block.now) count) }
 {
     let end = found.len() + count;
@@ -67,4 +65,14 @@ pub fn window(bytes: &[u8], start: usize, count: usize) -> &[u8]
 {
     let behind = &bytes[start.min(bytes.len())..];
     &behind[..count.min(behind.len())]
+}
+
+/// So many bytes, cut off or filled up with zeros, with room for more.
+fn front(alloc: Global, capacity: usize, old: &[u8], size: usize) -> Result<Vec<u8>, AllocError>
+    ensures { IfOk result (λ front. front.items ≡ resized old.now size) }
+{
+    let mut front = Vec::with_capacity(alloc, capacity)?;
+    front.extend_from_slice(&old[..size.min(old.len())])?;
+    front.resize(size, 0)?;
+    Ok(front)
 }

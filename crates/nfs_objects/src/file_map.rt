@@ -14,6 +14,7 @@ pub struct FileMap {
 }
 
 impl Model for FileMap {
+    ghost use Rattle.std.specs.Prelude.{◌<◌, ◌^◌};
     ghost use Rattle.nfs_objects.specs.FileMaps.{FileMapValue};
 
     ghost Value = { FileMapValue };

@@ -446,8 +446,8 @@ fn gift_fault(user: u32, owner: Option<u32>, size: Option<u64>) -> Option<NfsSta
 fn gifts_are_told() -> bool {
     gift_fault(1, Some(1), None).is_none()
         && gift_fault(2, Some(1), None) == Some(NfsStatus::Permission)
-        && gift_fault(1, None, Some(1_048_576)).is_none()
-        && gift_fault(1, None, Some(1_048_577)) == Some(NfsStatus::FileTooBig)
+        && gift_fault(1, None, Some(1_073_741_824)).is_none()
+        && gift_fault(1, None, Some(1_073_741_825)) == Some(NfsStatus::FileTooBig)
 }
 
 #[test]

@@ -33,9 +33,9 @@ enum Start {
 #[derive(Clone, Copy)]
 enum Change {
     /// The file is cut off, or filled up with zeros, to this size.
-    Resize(usize),
+    Resize(u64),
     /// These bytes are written from this place on.
-    Write(u32, &'static [u8]),
+    Write(u8, &'static [u8]),
     /// One of so many links goes.
     LoseLink(u32),
     /// `a`, which leads to 7, and `b`, which leads to 8, are added, and `b` is taken out.
@@ -51,8 +51,6 @@ enum Find {
     Bytes(&'static [u8]),
     /// It has others.
     OtherBytes(&'static [u8]),
-    /// From this place on it has these 4 bytes.
-    Ends(u64, &'static [u8]),
     /// Object 9 has so many links, and was modified and changed at these times.
     Links(u32, Time, Time),
     /// Object 9 is gone.
@@ -81,7 +79,7 @@ struct Case {
 
 fn start_inode(alloc: Global, start: Start) -> Result<Inode, AllocError> {
     match start {
-        Start::Hello(links) => hello(alloc, links),
+        Start::Hello(links) => hello(links),
         Start::Place => {
             let content = Content::Directory(directory(Entries::new(alloc)?, 2));
             Ok(inode(content, 0o777))
@@ -99,7 +97,7 @@ fn file(draft: &Draft<'_>) -> Result<Option<File>, Halt>
     }
 }
 
-fn resized(draft: &mut Draft<'_>, size: usize) -> Result<bool, Halt>
+fn resized(draft: &mut Draft<'_>, size: u64) -> Result<bool, Halt>
     requires { draft.old.modes ≡ changing }
 {
     let Some(file) = file(draft)? else {
@@ -109,13 +107,17 @@ fn resized(draft: &mut Draft<'_>, size: usize) -> Result<bool, Halt>
     Ok(true)
 }
 
-fn written(draft: &mut Draft<'_>, offset: u32, bytes: &[u8]) -> Result<bool, Halt>
+/// Writes at most 100 bytes, and at least one.
+fn written(draft: &mut Draft<'_>, offset: u8, bytes: &[u8]) -> Result<bool, Halt>
     requires { draft.old.modes ≡ changing }
 {
+    if bytes.is_empty() || bytes.len() > 100 {
+        return Ok(false);
+    }
     let Some(file) = file(draft)? else {
         return Ok(false);
     };
-    write(draft, &file, offset as usize, bytes)?;
+    write(draft, &file, u64::from(offset), bytes)?;
     Ok(true)
 }
 
@@ -235,7 +237,6 @@ fn finds(draft: &Draft<'_>, find: &Find) -> Result<bool, Halt> {
     match *find {
         Find::Bytes(bytes) => ends(draft, 0, 100, bytes),
         Find::OtherBytes(bytes) => Ok(!ends(draft, 0, 100, bytes)?),
-        Find::Ends(start, bytes) => ends(draft, start, 4, bytes),
         Find::Links(links, modified, changed) => has_links(draft, links, modified, changed),
         Find::Gone => Ok(object(draft, 9)?.is_none()),
         Find::Uses(group, usage) => Ok(draft.usage(1, group)? == usage),
@@ -279,7 +280,7 @@ fn tried(alloc: Global, case: &Case) -> Result<bool, Halt> {
 const HELLO: Case = Case {
     name: "a file",
     start: Start::Hello(1),
-    beside: Beside::Nothing,
+    beside: Beside::Block(b"hello"),
     change: Change::Resize(5),
     finds: &[],
 };
@@ -345,12 +346,12 @@ const THREE: Usage = Usage {
 
 /// The same file, whose group is three objects of one block each.
 const GROUPED: Case = Case {
-    beside: Beside::Group(THREE),
+    beside: Beside::BlockOf(b"hello", THREE),
     ..HELLO
 };
 
 /// Space is used in whole blocks (RFC 1813, 2.5: used).
-const GROUPS: [Case; 5] = [
+const GROUPS: [Case; 4] = [
     Case {
         name: "an object goes with its last link",
         change: Change::LoseLink(1),
@@ -368,7 +369,7 @@ const GROUPS: [Case; 5] = [
     },
     Case {
         name: "an empty group has no usage",
-        beside: Beside::Group(ONE),
+        beside: Beside::BlockOf(b"hello", ONE),
         change: Change::LoseLink(1),
         finds: &[Find::UsesNothing],
         ..HELLO
@@ -392,12 +393,6 @@ const GROUPS: [Case; 5] = [
                 },
             ),
         ],
-        ..GROUPED
-    },
-    Case {
-        name: "a file is written and read across parts",
-        change: Change::Write(65_534, b"abcd"),
-        finds: &[Find::Ends(65_534, b"abcd")],
         ..GROUPED
     },
 ];

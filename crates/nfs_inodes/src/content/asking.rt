@@ -1,5 +1,14 @@
 //! Addresses that are asked for at once.
 
+ghost use Rattle.std.specs.Prelude.{◌≡◌, ◌⊎◌, [], IfErr, IsSome, List, OnErr, OnOk, false};
+ghost use Rattle.std.specs.List.{AllByRecursion};
+ghost use Rattle.nfs_objects.specs.Asks.{IsThere};
+ghost use Rattle.nfs_objects.specs.Calls.{IsAmong};
+ghost use Rattle.nfs_objects.specs.Values.{DraftValue, is_addr};
+ghost use Rattle.nfs_objects.specs.declared.address.Addr.{Addr as Address};
+ghost use Rattle.nfs_inodes.specs.Asking.{IsAsking, with_wish};
+ghost use Rattle.nfs_inodes.specs.Stops.{StopsAt};
+
 use nfs_objects::{Addr, Draft, Halt, Mode};
 use std::alloc::{AllocError, Global};
 
@@ -11,18 +20,23 @@ pub(crate) struct Asking {
 
 impl Asking {
     /// Nothing.
-    pub(crate) fn new(alloc: Global) -> Asking {
+    pub(crate) fn new(alloc: Global) -> Asking
+        ensures { result.asked.items ≡ [] }
+    {
         Asking {
             asked: Vec::new(alloc),
         }
     }
 
-    /// Asks for an address besides, where the draft lacks it. It was not asked for before.
+    /// Asks for an address besides, where the draft lacks it.
     ///
     /// # Errors
     ///
-    /// `AllocError` where the memory was refused.
-    pub(crate) fn add(&mut self, draft: &Draft<'_>, address: Addr) -> Result<(), AllocError> {
+    /// `AllocError` where the memory was refused. It changes nothing.
+    pub(crate) fn add(&mut self, draft: &Draft<'_>, address: Addr) -> Result<(), AllocError>
+        ensures ok { OnOk result (self.new.asked.items ≡ with_wish draft.now address self.old.asked.items) }
+        ensures err { OnErr result (self.new.asked.items ≡ self.old.asked.items) }
+    {
         match draft.lacked(address) {
             Some(wish) => Ok(self.asked.push(wish)?),
             None => Ok(()),
@@ -34,7 +48,11 @@ impl Asking {
     /// # Errors
     ///
     /// `Need` of all that was asked for.
-    pub(crate) fn ask(self) -> Result<(), Halt> {
+    pub(crate) fn ask(self) -> Result<(), Halt>
+        ensures nothing { OnOk result (self.asked.items ≡ []) }
+        ensures stops { (d : DraftValue) (named : List Address) → IsAsking d named self.asked.items →
+            IfErr result (StopsAt d named) }
+    {
         if self.asked.is_empty() {
             Ok(())
         } else {

@@ -11,7 +11,7 @@ ghost use Rattle.nfs_objects.specs.Drafts.{MayChange};
 ghost use Rattle.nfs_objects.specs.Entries.{entry};
 ghost use Rattle.nfs_objects.specs.Knows.{Turns};
 ghost use Rattle.nfs_objects.specs.Modes.{changing};
-ghost use Rattle.nfs_objects.specs.Stands.{content_of, parent_in};
+ghost use Rattle.nfs_objects.specs.Stands.{content_of, map_in, parent_in};
 ghost use Rattle.nfs_objects.specs.Values.{known_at};
 ghost use Rattle.nfs_objects.specs.declared.address.Addr.{Addr as Address};
 ghost use Rattle.nfs_inodes.specs.Kinds.{IsShown, KeepsKinds};
@@ -226,6 +226,7 @@ pub fn rehome(draft: &mut Draft<'_>, number: u64, directory: u64) -> Result<(), 
 /// The content, which has this parent where it is a directory's.
 fn below(content: Content, parent: u64) -> Content
     ensures content { content_of result ≡ content_of content }
+    ensures map { map_in result ≡ map_in content }
     ensures parent { parent_in result ≡ (if is_directory (content_of content) then parent else parent_in content) }
 {
     match content {

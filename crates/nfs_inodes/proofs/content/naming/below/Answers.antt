@@ -5,6 +5,7 @@ use Rattle.nfs_inodes.proofs.content.naming.below.Goals as goal
 pub returns-in_default : goal.returns-in_default
 returns-in_default c = record {
   content = refl;
+  map = refl;
   parent = other-parent c.args.content c.args.parent
       c.in_default.not-Directory;
 }

@@ -1,0 +1,85 @@
+//! Blocks of files, and sets of bits.
+
+use super::*;
+use nfs_objects::block::{add_part, cut, window, written};
+
+/// A block of these bytes, others that are written from a place on, and the bytes that it has then.
+#[derive(Clone, Copy)]
+struct Written(&'static [u8], usize, &'static [u8], &'static [u8]);
+
+const WRITTEN: [Written; 4] = [
+    Written(b"", 0, b"ab", b"ab"),
+    Written(b"hello", 1, b"ip", b"hiplo"),
+    Written(b"hello", 4, b"!!", b"hell!!"),
+    // A gap is zeros.
+    Written(b"hello", 7, b"!!", b"hello\0\0!!"),
+];
+
+/// The first row whose block has other bytes then.
+fn first_wrong_write(alloc: Global) -> Result<Option<usize>, AllocError> {
+    for (row, case) in WRITTEN.iter().enumerate() {
+        let Written(old, at, data, want) = *case;
+        if at > 100 || data.len() > 100 {
+            return Ok(Some(row));
+        }
+        let block = written(alloc, old, at, data)?;
+        let is_so = block.as_slice() == want;
+        drop(block);
+        if !is_so {
+            return Ok(Some(row));
+        }
+    }
+    Ok(None)
+}
+
+/// Whether a block of 5 bytes, cut off after 3 and after 7 of them, has these.
+fn is_cut(alloc: Global) -> Result<bool, AllocError> {
+    let three = cut(alloc, b"hello", 3)?;
+    let are_three = three.as_slice() == b"hel".as_slice();
+    drop(three);
+    let all = cut(alloc, b"hello", 7);
+    Ok(are_three && all?.as_slice() == b"hello".as_slice())
+}
+
+/// Whether what a block lacks is read as zeros.
+fn is_filled(alloc: Global) -> Result<bool, AllocError> {
+    let mut found = Vec::new(alloc);
+    let added = add_part(&mut found, b"hello", 3, 4);
+    let is_so = added.is_ok() && found.as_slice() == b"lo\0\0".as_slice();
+    drop(found);
+    Ok(is_so)
+}
+
+/// Whether 0, 63, 64 and 511 are in a set that they were added to, and no others beside them.
+fn are_in() -> bool {
+    let bits = Bits::none().with(0).with(63).with(64).with(511);
+    let has = bits.has(0) && bits.has(63) && bits.has(64) && bits.has(511);
+    let has_others = bits.has(1) || bits.has(62) || bits.has(65) || bits.has(512);
+    has && !has_others
+}
+
+/// Whether those below 64, below 65 and below 0 are told.
+fn are_below() -> bool {
+    let bits = Bits::none().with(0).with(63).with(64).with(511);
+    let few = bits.below(64);
+    few == Bits::none().with(0).with(63)
+        && bits.below(65).has(64)
+        && !bits.below(511).has(511)
+        && bits.below(600) == bits
+        && bits.below(0).is_none()
+}
+
+#[test]
+fn blocks_are_written_and_cut(rt: HostRuntime) -> Result<(), AllocError> {
+    assert_eq!(rt; first_wrong_write(rt.alloc())?, None);
+    assert!(rt; is_cut(rt.alloc())?);
+    assert!(rt; is_filled(rt.alloc())?);
+    assert!(rt; window(b"hello", 1, 2) == b"el".as_slice());
+    Ok(())
+}
+
+#[test]
+fn bits_are_set_and_told(rt: HostRuntime) {
+    assert!(rt; are_in());
+    assert!(rt; are_below());
+}

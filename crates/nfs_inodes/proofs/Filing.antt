@@ -1,0 +1,145 @@
+-- Files whose blocks and maps were written: their inode is put, or goes, and the store stands for the file with its new
+-- bytes, or without it.
+use Rattle.std.proofs.Common.{◌≡◌, true, ℕ, ◌+◌, ◌*◌, ◌/◌, length, List, [], ◌∷◌, ◌++◌, Option, Some, None, refl, sym, ◌∙◌, ap, subst}
+use Rattle.std.specs.FinMap.{get}
+use Rattle.nfs_wire.specs.declared.attributes.Time.{Time}
+use Rattle.nfs_machine.specs.Attributes.{block}
+use Rattle.nfs_machine.specs.Shown.{with_object}
+use Rattle.nfs_machine.specs.State.{Living}
+use Rattle.nfs_machine.specs.Times.{touch}
+use Rattle.nfs_objects.proofs.Exported.{inode-lives}
+use Rattle.nfs_objects.proofs.Filed.{HasContent, stands-but}
+use Rattle.nfs_objects.proofs.Promised.{turns-both}
+use Rattle.nfs_objects.proofs.Seen.{known-stands, writes-append}
+use Rattle.nfs_objects.proofs.Turns.{free-stands, put-stands}
+use Rattle.nfs_objects.specs.Bits.{no_bits}
+use Rattle.nfs_objects.specs.Edits.{counted_anew, freed, recounted, with_living}
+use Rattle.nfs_objects.specs.Sums.{in_export, one_using, shares_of}
+use Rattle.nfs_objects.specs.declared.usage.Usage.{Usage}
+use Rattle.nfs_objects.specs.FileMaps.{FileMapValue, IsContent}
+use Rattle.nfs_objects.specs.Fits.{Fits}
+use Rattle.nfs_objects.specs.Knows.{Turns}
+use Rattle.nfs_objects.specs.Stands.{HasBlocks, IsFitting, Kept, Represents, bytes_at, inode_in, lives_in, living_of_inode}
+use Rattle.nfs_objects.specs.Stands.{map_in, parent_in, stored_in}
+use Rattle.nfs_objects.specs.Store.{Store, with_write, with_writes}
+use Rattle.nfs_objects.specs.Unfiled.{Lays, RepresentsBut}
+use Rattle.nfs_objects.specs.Values.{DraftValue, with_written}
+use Rattle.nfs_objects.specs.declared.address.Addr.TheVariants as addresses
+use Rattle.nfs_objects.specs.declared.object.Content.TheVariants as contents
+use Rattle.nfs_objects.specs.declared.object.Inode.{Inode}
+use Rattle.nfs_objects.specs.declared.object.Object.TheVariants as objects
+use Rattle.nfs_inodes.proofs.Keeping.{changed-is, put-there}
+use Rattle.nfs_inodes.proofs.Putting.{counted, has-kept, known-inode, same-shares, share-stands, turns-as, with-bytes}
+use Rattle.nfs_inodes.proofs.Standing.{links-there, lives-there, parent-there, shows-export}
+use Rattle.nfs_inodes.specs.Known.{HasInode}
+use Rattle.nfs_inodes.specs.Counts.{IsShareOf, KeepsInodes}
+use Rattle.nfs_inodes.specs.Makes.{bytes_changed, changed_at, with_bytes}
+use Rattle.nfs_inodes.specs.declared.usage.Share.{Share}
+
+module _ (d laid : DraftValue) (n : ℕ) (i : Inode) (has : HasInode d n (Some i)) (lays : Lays n d laid) where
+  -- the draft with another inode of the file
+  pub file-turns : (map after : FileMapValue) (now : Time) (change : List ℕ → List ℕ) →
+      let j : Inode = record i
+          { content = contents.Regular after; modified = touch i.changed now; changed = touch i.changed now } in
+      i.content ≡ contents.Regular map
+      → ((s : Store) (k : Kept) → Fits d.view s → Represents (with_writes s d.writes) k →
+      HasBlocks (with_writes s laid.writes) n after.pages)
+      → ((s : Store) (k : Kept) → Fits d.view s → Represents (with_writes s d.writes) k →
+      IsContent after.size (λ b. stored_in ((with_writes s laid.writes).at (addresses.Block n b)))
+      (change (bytes_at k.state n)))
+      → IsFitting n j
+      → Turns d (with_written laid (addresses.Inode n) (Some (objects.Inode j)))
+      (λ k. changed_at k n (with_bytes now change))
+  file-turns map after now change was blocks content fitting = record {
+    ctx = lays.ctx;
+    view = lays.view;
+    modes = lays.modes;
+    messages = lays.messages;
+    turns = λ s k fits stands.
+        let bytes : List ℕ = bytes_at k.state n in
+        let t : Store = with_writes s laid.writes in
+        let but : RepresentsBut n t k = lays.lays s k (stands-but n (with_writes s d.writes) k stands) in
+        let at : t.at (addresses.Inode n) ≡ Some (objects.Inode i) = lays.inodes s n
+        ∙ known-stands d s (addresses.Inode n) (Some (objects.Inode i)) fits (known-inode d n i has) in
+        let lives : lives_in k.state.exports i.export ≡ true = shows-export d n i has s k fits stands in
+        let has-content : HasContent t n (change bytes) j =
+        λ m is. subst (λ (x : FileMapValue). IsContent x.size (λ b. stored_in (t.at (addresses.Block n b))) (change bytes))
+        (let e : after ≡ m = cc in e) (content s k fits stands) in
+        let put = put-stands t k n j (change bytes) but (blocks s k fits stands) has-content
+        (but.objects.given n i at) fitting lives in
+        let links : k.links n ≡ i.links = links-there d n (Some i) has s k fits stands in
+        let parent : k.parents n ≡ parent_in j.content =
+        parent-there d n (Some i) has s k fits stands ∙ ap parent_in was in
+        let same : changed_at k n (with_bytes now change) ≡
+        with_living k n (living_of_inode (change bytes) j) j.links (parent_in j.content) =
+        changed-is k n (k.links n) (with_bytes now change) (living_of_inode bytes i) (living_of_inode (change bytes) j)
+        (lives-there d n (Some i) has s k fits stands) (with-bytes i map after bytes now change was)
+        ∙ ap (λ l. with_living k n (living_of_inode (change bytes) j) l (k.parents n)) links
+        ∙ ap (λ p. with_living k n (living_of_inode (change bytes) j) i.links p) parent in
+        subst (λ (x : Store). Represents x (changed_at k n (with_bytes now change)))
+        (sym (writes-append laid.writes s (addresses.Inode n) (Some (objects.Inode j))))
+        (subst (Represents (with_write t (addresses.Inode n) (Some (objects.Inode j)))) (sym same) put);
+  }
+    where
+      j : Inode
+      j = record i { content = contents.Regular after; modified = touch i.changed now; changed = touch i.changed now }
+
+-- what lives at a number goes, once no block and no map of it is there
+pub gone-turns : (d laid : DraftValue) (n : ℕ) → Lays n d laid
+    → ((s : Store) (k : Kept) → Fits d.view s → Represents (with_writes s d.writes) k →
+    HasBlocks (with_writes s laid.writes) n no_bits)
+    → Turns d (with_written laid (addresses.Inode n) None) (λ k. freed k n)
+gone-turns d laid n lays blocks = record {
+  ctx = lays.ctx;
+  view = lays.view;
+  modes = lays.modes;
+  messages = lays.messages;
+  turns = λ s k fits stands.
+      subst (λ (x : Store). Represents x (freed k n)) (sym (writes-append laid.writes s (addresses.Inode n) None))
+      (free-stands (with_writes s laid.writes) k n
+      (lays.lays s k (stands-but n (with_writes s d.writes) k stands)) (blocks s k fits stands));
+}
+
+-- ---- once the group of a file is counted anew
+module _ (d mid laid : DraftValue) (n : ℕ) (i : Inode) (map after : FileMapValue) (now : Time)
+    (change : List ℕ → List ℕ) where
+  abbrev put : Inode
+  put = record i { content = contents.Regular after; modified = touch i.changed now; changed = touch i.changed now }
+
+  pub written-turns : (share : Share) (uses : Usage) (new : DraftValue) (j : Inode) → HasInode d n (Some i)
+      → i.content ≡ contents.Regular map → Lays n mid laid
+      → ((s : Store) (k : Kept) → Fits mid.view s → Represents (with_writes s mid.writes) k →
+      HasBlocks (with_writes s laid.writes) n after.pages)
+      → ((s : Store) (k : Kept) → Fits mid.view s → Represents (with_writes s mid.writes) k →
+      IsContent after.size (λ b. stored_in ((with_writes s laid.writes).at (addresses.Block n b)))
+      (change (bytes_at k.state n)))
+      → j ≡ put → IsShareOf i share → uses ≡ one_using ((after.size + 4095) / block * block)
+      → Turns d mid (recounted n (in_export share.export share.usage) (in_export share.export uses))
+      → KeepsInodes d mid → new ≡ with_written laid (addresses.Inode n) (Some (objects.Inode j)) → IsFitting n j
+      → Turns d new (bytes_changed now n change)
+  written-turns share uses new j has was lays blocks content made shares used counts keeps put-is fits =
+      turns-as d new (λ k. changed_at (counted n share.export share.usage uses k) n (with_bytes now change))
+      (bytes_changed now n change) (λ s k stand represents.
+      let bytes : List ℕ = bytes_at k.state n in
+      let file : Living = living_of_inode (change bytes) put in
+      let lives : get k.state.objects n ≡ Some (living_of_inode bytes i) = lives-there d n (Some i) has s k stand represents in
+      let changed = with-bytes i map after bytes now change was in
+      let length-is : length (change bytes) ≡ after.size =
+      (content s (counted n share.export share.usage uses k) (subst (λ v. Fits v s) (sym counts.view) stand)
+      (counts.turns s k stand represents)).counted in
+      changed-is (counted n share.export share.usage uses k) n (k.links n) (with_bytes now change) (living_of_inode bytes i)
+      file lives changed
+      ∙ ap (λ u. record (with_living k n file (k.links n) (k.parents n)) { usage = u })
+      (same-shares n k.usage (in_export share.export share.usage) (in_export share.export uses)
+      (shares_of (get k.state.objects n)) (shares_of (get (with_object k.state n file).objects n))
+      (share-stands d n i share has shares s k stand represents)
+      (λ e. ap (λ (x : Share). in_export x.export uses e) shares ∙ ap (λ u. in_export i.export u e) used
+      ∙ ap (λ z. in_export i.export (one_using ((z + 4095) / block * block)) e) (sym length-is)
+      ∙ ap (λ p. shares_of p e) (sym (put-there k.state n file))))
+      ∙ ap (λ (q : Kept). counted_anew n (get k.state.objects n) q)
+      (sym (changed-is k n (k.links n) (with_bytes now change) (living_of_inode bytes i) file lives changed)))
+      (turns-both d mid new (counted n share.export share.usage uses) (λ k. changed_at k n (with_bytes now change)) counts
+      (subst (λ (x : DraftValue). Turns mid x (λ k. changed_at k n (with_bytes now change)))
+      (sym (put-is ∙ ap (λ x. with_written laid (addresses.Inode n) (Some (objects.Inode x))) made))
+      (file-turns mid laid n i (has-kept d mid n (Some i) keeps has) lays map after now change was blocks content
+      (subst (IsFitting n) made fits))))

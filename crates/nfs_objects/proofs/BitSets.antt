@@ -1,0 +1,163 @@
+-- Sets of bits with one number more.
+use Rattle.std.proofs.Common.{◌≡◌, ◌≢◌, ◌==◌, ◌&&◌, ◌||◌, ℕ, ◌<◌, ◌+◌, ◌*◌, ◌/◌, ◌%◌, ◌^◌, Bool, true, false, nat_lt}
+use Rattle.std.proofs.Common.{List, length, replicate, suc, zero, slice_index_or, slice_set, bit_or, refl, sym, ap, ◌∙◌, subst, arith}
+use Rattle.std.proofs.Math.Bool.{or-false}
+use Rattle.std.proofs.lemmas.Nat.{one_shl}
+use Rattle.std.proofs.lemmas.Bool.{lt-ltb, ltb-false, ltb-true}
+use Rattle.std.proofs.Common.{cond, min, bit_and, [], ◌∷◌, ◌-◌, ◌≤◌}
+use Rattle.std.proofs.lemmas.List.{get_or-set_other, get_or-set_same}
+use Rattle.std.proofs.lemmas.Nat.Bits.{bit_at-lt, bit_at-zero, bit_at_and, bit_at_ones, bit_at_ones_above, bit_at_set_other}
+use Rattle.std.proofs.lemmas.Nat.Bits.{bit_at_set_same}
+use Rattle.std.specs.Cmp.{unsigned_Decides}
+use Rattle.std.specs.Int.{bit_at, w64}
+use Rattle.nfs_objects.specs.Bits.{IsMask, IsWordBelow, has, no_bits}
+use Rattle.nfs_objects.specs.declared.bits.Bits.{Bits}
+
+module _ (words : List ℕ) (m : ℕ) (within : m < 512) (eight : length words ≡ 8) where
+  abbrev word : ℕ
+  word = slice_index_or words (m / 64) 0
+
+  abbrev set : ℕ
+  set = bit_or word (1 * 2 ^ (m % 64) % 2 ^ 64)
+
+  abbrev after : List ℕ
+  after = slice_set words (m / 64) set
+
+  abbrev bits : List ℕ → Bits
+  bits ws = record { words = ws }
+
+  -- the bit of a number after it
+  bit-after : (n : ℕ) → (n == m) ≡ false → bit_at (slice_index_or after (n / 64) 0) (n % 64) ≡
+      bit_at (slice_index_or words (n / 64) 0) (n % 64)
+  bit-after n other = by (n / 64 == m / 64) refl
+    where
+      differs : n ≢ m
+      differs e = absurd (let f = (unsigned_Decides n m).1 e in cc)
+
+      by : (b : Bool) → (n / 64 == m / 64) ≡ b → bit_at (slice_index_or after (n / 64) 0) (n % 64) ≡
+          bit_at (slice_index_or words (n / 64) 0) (n % 64)
+      by true e =
+          let same : n / 64 ≡ m / 64 = (unsigned_Decides (n / 64) (m / 64)).0 e in
+          let place : n % 64 ≢ m % 64 = λ f. differs (omega (arith, same, f)) in
+          ap (λ p. bit_at (slice_index_or after p 0) (n % 64)) same
+          ∙ ap (λ w. bit_at w (n % 64)) (get_or-set_same words (m / 64) set 0 (omega (arith, within, eight)))
+          ∙ bit_at_set_other w64 word (m % 64) (omega arith) (n % 64) place
+          ∙ ap (λ p. bit_at (slice_index_or words p 0) (n % 64)) (sym same)
+      by false e =
+          let apart : n / 64 ≢ m / 64 = λ f. absurd (let g = (unsigned_Decides (n / 64) (m / 64)).1 f in cc) in
+          ap (λ w. bit_at w (n % 64)) (get_or-set_other words (m / 64) (n / 64) set 0 apart)
+
+  bit-set : bit_at (slice_index_or after (m / 64) 0) (m % 64) ≡ 1
+  bit-set =
+      ap (λ w. bit_at w (m % 64)) (get_or-set_same words (m / 64) set 0 (omega (arith, within, eight)))
+      ∙ bit_at_set_same w64 word (m % 64) (omega arith)
+
+  or_true : (b : Bool) → (b || true) ≡ true
+  or_true true = refl
+  or_true false = refl
+
+  pub with-has : (n : ℕ) → has (bits after) n ≡ (has (bits words) n || (n == m))
+  with-has n = by (n == m) refl
+    where
+      by : (b : Bool) → (n == m) ≡ b → has (bits after) n ≡ (has (bits words) n || b)
+      by true e =
+          let same : n ≡ m = (unsigned_Decides n m).0 e in
+          subst (λ q. has (bits after) q ≡ (has (bits words) q || true)) (sym same)
+          ((λ i. lt-ltb m 512 within i && (bit-set i == 1)) ∙ sym (or_true (has (bits words) m)))
+      by false e = ap (λ b. nat_lt n 512 && (b == 1)) (bit-after n e) ∙ sym (or-false (has (bits words) n))
+
+
+and_true : (b : Bool) → (b && true) ≡ b
+and_true true = refl
+and_true false = refl
+
+and_false : (b : Bool) → (b && false) ≡ false
+and_false true = refl
+and_false false = refl
+
+-- ---- the empty set
+zero-words : (count i : ℕ) → slice_index_or {A = ℕ} (replicate count 0) i 0 ≡ 0
+zero-words zero i = refl
+zero-words (suc count) zero = refl
+zero-words (suc count) (suc i) = zero-words count i
+
+pub has-none : (n : ℕ) → has no_bits n ≡ false
+has-none n =
+    ap (λ w. nat_lt n 512 && (bit_at w (n % 64) == 1)) (zero-words 8 (n / 64))
+    ∙ ap (λ b. nat_lt n 512 && (b == 1)) (bit_at-zero (n % 64)) ∙ and_false (nat_lt n 512)
+
+-- ---- those below a number
+pub mask-few : (count : ℕ) → count < 64 → IsMask count (2 ^ count - 1)
+mask-few count few i within = by (nat_lt i count) refl
+  where
+    by : (b : Bool) → nat_lt i count ≡ b → bit_at (2 ^ count - 1) i ≡ cond b 1 0
+    by true e = bit_at_ones count i (ltb-true i count e)
+    by false e = bit_at_ones_above count i (ltb-false i count e)
+
+-- as the code makes it
+pub mask-made : (count : ℕ) → count < 64 → IsMask count (1 * 2 ^ count % 2 ^ 64 - 1)
+mask-made count few = subst (λ m. IsMask count (m - 1)) (sym whole) (mask-few count few)
+  where
+    whole : 1 * 2 ^ count % 2 ^ 64 ≡ 2 ^ count
+    whole = one_shl count 64 few
+
+pub mask-all : (count : ℕ) → 64 ≤ count → IsMask count (2 ^ 64 - 1)
+mask-all count many i within =
+    bit_at_ones 64 i within ∙ ap (λ b. cond {A = ℕ} b 1 0) (sym (lt-ltb i count (omega (arith, many, within))))
+
+pub masked : (words : List ℕ) (place number mask : ℕ) → IsMask (number - place * 64) mask →
+    IsWordBelow words place number (bit_and (slice_index_or words place 0) mask)
+masked words place number mask is i within =
+    bit_at_and word mask i ∙ ap (min (bit_at word i)) (is i within)
+    ∙ same (nat_lt i (number - place * 64)) (nat_lt (place * 64 + i) number) refl refl
+  where
+    word : ℕ
+    word = slice_index_or words place 0
+
+    bit : bit_at word i < 2
+    bit = bit_at-lt word i
+
+    same : (a b : Bool) → nat_lt i (number - place * 64) ≡ a → nat_lt (place * 64 + i) number ≡ b →
+        min (bit_at word i) (cond a 1 0) ≡ cond b (bit_at word i) 0
+    same true true x y = omega (arith, bit)
+    same false false x y = omega arith
+    same true false x y =
+        let less = ltb-true i (number - place * 64) x in
+        let more = ltb-false (place * 64 + i) number y in absurd (omega (arith, less, more))
+    same false true x y =
+        let more = ltb-false i (number - place * 64) x in
+        let less = ltb-true (place * 64 + i) number y in absurd (omega (arith, less, more))
+
+-- the one of eight at a place
+pub at-place : (P : ℕ → ℕ → Type 0) (a b c d e f g h : ℕ) → P 0 a → P 1 b → P 2 c → P 3 d → P 4 e → P 5 f → P 6 g →
+    P 7 h → (k : ℕ) → k < 8 → P k (slice_index_or (a ∷ b ∷ c ∷ d ∷ e ∷ f ∷ g ∷ h ∷ []) k 0)
+at-place P a b c d e f g h p0 p1 p2 p3 p4 p5 p6 p7 zero within = p0
+at-place P a b c d e f g h p0 p1 p2 p3 p4 p5 p6 p7 (suc zero) within = p1
+at-place P a b c d e f g h p0 p1 p2 p3 p4 p5 p6 p7 (suc (suc zero)) within = p2
+at-place P a b c d e f g h p0 p1 p2 p3 p4 p5 p6 p7 (suc (suc (suc zero))) within = p3
+at-place P a b c d e f g h p0 p1 p2 p3 p4 p5 p6 p7 (suc (suc (suc (suc zero)))) within = p4
+at-place P a b c d e f g h p0 p1 p2 p3 p4 p5 p6 p7 (suc (suc (suc (suc (suc zero))))) within = p5
+at-place P a b c d e f g h p0 p1 p2 p3 p4 p5 p6 p7 (suc (suc (suc (suc (suc (suc zero)))))) within = p6
+at-place P a b c d e f g h p0 p1 p2 p3 p4 p5 p6 p7 (suc (suc (suc (suc (suc (suc (suc zero))))))) within = p7
+at-place P a b c d e f g h p0 p1 p2 p3 p4 p5 p6 p7 (suc (suc (suc (suc (suc (suc (suc (suc k)))))))) within =
+    absurd (omega (arith, within))
+
+pub below-has : (words : List ℕ) (number : ℕ) (left : List ℕ) →
+    ((k : ℕ) → k < 8 → IsWordBelow words k number (slice_index_or left k 0)) → (n : ℕ) →
+    has (record { words = left }) n ≡ (has (record { words = words }) n && nat_lt n number)
+below-has words number left each n = by (nat_lt n 512) refl
+  where
+    by : (b : Bool) → nat_lt n 512 ≡ b → (b && (bit_at (slice_index_or left (n / 64) 0) (n % 64) == 1)) ≡
+        ((b && (bit_at (slice_index_or words (n / 64) 0) (n % 64) == 1)) && nat_lt n number)
+    by false e = refl
+    by true e =
+        let within = ltb-true n 512 e in
+        let whole : n / 64 * 64 + n % 64 ≡ n = omega arith in
+        ap (λ w. w == 1) (each (n / 64) (omega (arith, within)) (n % 64) (omega arith)
+        ∙ ap (λ m. cond (nat_lt m number) (bit_at (slice_index_or words (n / 64) 0) (n % 64)) 0) whole)
+        ∙ cut (nat_lt n number)
+      where
+        cut : (b : Bool) → (cond b (bit_at (slice_index_or words (n / 64) 0) (n % 64)) 0 == 1) ≡
+            ((bit_at (slice_index_or words (n / 64) 0) (n % 64) == 1) && b)
+        cut true = sym (and_true (bit_at (slice_index_or words (n / 64) 0) (n % 64) == 1))
+        cut false = sym (and_false (bit_at (slice_index_or words (n / 64) 0) (n % 64) == 1))
