@@ -4,7 +4,7 @@ use Rattle.std.specs.Prelude.{Some, IsSome, length, take, drop, min}
 use Rattle.std.specs.List.{AllByRecursion}
 use Rattle.nfs_machine.specs.Data.{written}
 use Rattle.nfs_objects.specs.Asks.{IsThere}
-use Rattle.nfs_objects.specs.Bits.{has}
+use Rattle.nfs_objects.specs.Bits.{has, no_bits}
 use Rattle.nfs_objects.specs.Calls.{IsAmong, addresses_of, blocks_at, maps_at}
 use Rattle.nfs_objects.specs.FileMaps.{FileMapValue, block_size}
 use Rattle.nfs_objects.specs.Fits.{Fits}
@@ -33,6 +33,11 @@ pub record HasMap (d : DraftValue) (number : ℕ) (map : FileMapValue) : Type 0 
   pub inode : Inode
   pub stands : HasInode d number (Some inode)
   pub content : map_in inode.content ≡ Some map
+
+-- the object at a number has these map pages, in every store that the draft's view fits; what is no file has none
+abbrev pub HasPages : DraftValue → (number : ℕ) → Bits → Type 0
+HasPages d number pages = (s : Store) → Fits d.view s →
+    pages_of ((with_writes s d.writes).at (addresses.Inode number)) ≡ pages
 
 -- what is read at an offset may be asked for: the object, and the blocks that it may lie in
 abbrev pub read_from : ViewValue → (file offset : ℕ) → List Addr
@@ -98,7 +103,6 @@ pub record WritesRange (old new : DraftValue) (file offset : ℕ) (bytes : List 
       (with_writes s new.writes).at (addresses.Block file i) ≡ Some (objects.Block (written
       (stored_in ((with_writes s old.writes).at (addresses.Block file i))) (place_in offset i) (part_in offset bytes i)))
   pub maps : (s : Store) (k : Kept) → Fits old.view s → Represents (with_writes s old.writes) k →
-      pages_of ((with_writes s old.writes).at (addresses.Inode file)) ≡ before →
       HasBlocks (with_writes s new.writes) file after
 
 -- ---- what goes
@@ -117,5 +121,10 @@ pub record IsCutAt (old new : DraftValue) (number size : ℕ) (pages left : Bits
       stored_in ((with_writes s new.writes).at (addresses.Block number i)) ≡
       take (size - i * block_size) (stored_in ((with_writes s old.writes).at (addresses.Block number i)))
   pub maps : (s : Store) (k : Kept) → Fits old.view s → Represents (with_writes s old.writes) k →
-      pages_of ((with_writes s old.writes).at (addresses.Inode number)) ≡ pages →
       HasBlocks (with_writes s new.writes) number left
+
+-- no block and no map of what lives at a number is there any more
+pub record IsCleared (old new : DraftValue) (number : ℕ) : Type 0 where
+  pub lays : Lays number old new
+  pub maps : (s : Store) (k : Kept) → Fits old.view s → Represents (with_writes s old.writes) k →
+      HasBlocks (with_writes s new.writes) number no_bits

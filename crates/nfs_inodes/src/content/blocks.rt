@@ -1,5 +1,17 @@
 //! The blocks that files are kept in: those of a range, and what is read there and written.
 
+ghost use Rattle.std.specs.Prelude.{◌≡◌, ◌+◌, ◌-◌, ◌*◌, ◌/◌, ◌<◌, ◌≤◌, ◌^◌, [], IfSome, MatchResult, OnOk};
+ghost use Rattle.std.specs.Prelude.{drop, length, option_copied, take, unwrap_or};
+ghost use Rattle.nfs_machine.specs.Data.{size_limit};
+ghost use Rattle.nfs_objects.specs.Asks.{Lacks};
+ghost use Rattle.nfs_objects.specs.Calls.{blocks_at, maps_at};
+ghost use Rattle.nfs_objects.specs.Drafts.{MayChange};
+ghost use Rattle.nfs_objects.specs.Knows.{Knows};
+ghost use Rattle.nfs_objects.specs.Stands.{bytes_at};
+ghost use Rattle.nfs_inodes.specs.Blocks.{AreWritten, AsksToWrite, HasMap, HasPages, KnowsMapped, KnowsRange, ShowsBlock};
+ghost use Rattle.nfs_inodes.specs.Blocks.{WritesRange, end_of, first_of};
+ghost use Rattle.nfs_inodes.specs.Stops.{StopsAt};
+
 use crate::content::asking::Asking;
 use bytes::Bytes;
 use nfs_objects::block::{add_part, window, written};
@@ -16,33 +28,52 @@ pub(crate) struct Mapped<'d> {
     pub map: &'d FileMap,
 }
 
-/// Some of a file's bytes that follow each other, at least one.
+/// Some of a file's bytes that follow each other, at least one and at most those of one transfer.
 #[derive(Clone, Copy)]
 pub(crate) struct Range {
     /// The place of the first one.
     pub offset: u64,
     pub count: usize,
+    pub ghost some: { 0 < count },
+    pub ghost few: { count ≤ 65536 },
+    pub ghost ends: { offset + count < 2 ^ 63 },
 }
 
 impl Range {
     /// The first block in which some of them lie.
-    fn first(self) -> u64 {
+    fn first(self) -> u64
+        ensures { result ≡ first_of self.offset }
+    {
         self.offset / BLOCK
     }
 
     /// The block behind the last one in which some of them lie.
-    fn end(self) -> u64 {
+    fn end(self) -> u64
+        ensures { result ≡ end_of self.offset self.count }
+    {
         (self.offset + self.count as u64 - 1) / BLOCK + 1
     }
 
-    /// Where those that lie in this block begin there.
-    fn start_in(self, index: u64) -> usize {
+    /// Where those that lie in this block, or behind it, begin there.
+    fn start_in(self, index: u64) -> usize
+        requires { index * 4096 < 2 ^ 64 }
+        ensures { result ≡ self.offset - index * 4096 }
+    {
         self.offset.saturating_sub(index * BLOCK) as usize
     }
 }
 
 /// What a block of a file has; None where it is absent, as all blocks are whose map page is.
-fn stored<'d>(draft: &'d Draft<'_>, file: Mapped<'_>, index: u64) -> Result<Option<&'d Bytes>, Halt> {
+fn stored<'d>(
+    draft: &'d Draft<'_>,
+    file: Mapped<'_>,
+    index: u64,
+) -> Result<Option<&'d Bytes>, Halt>
+    requires { HasMap draft.now file.number file.map.now }
+    ensures { MatchResult result
+        (λ block. ShowsBlock draft.now file.number index (unwrap_or (option_copied block) []))
+        (Lacks draft.now (Addr.Block file.number index)) }
+{
     if !file.map.pages().has(index / MAP_BLOCKS) {
         return Ok(None);
     }
@@ -50,7 +81,9 @@ fn stored<'d>(draft: &'d Draft<'_>, file: Mapped<'_>, index: u64) -> Result<Opti
 }
 
 /// The bytes that a block has; none where it is absent.
-fn bytes_of(block: Option<&Bytes>) -> &[u8] {
+fn bytes_of(block: Option<&Bytes>) -> &[u8]
+    ensures { result.now ≡ unwrap_or (option_copied block.entry) [] }
+{
     match block {
         Some(bytes) => bytes.as_slice(),
         None => &[],
@@ -63,7 +96,14 @@ fn bytes_of(block: Option<&Bytes>) -> &[u8] {
 /// # Errors
 ///
 /// `Need` of all blocks of the range that were not read, and `Memory`.
-pub(crate) fn read_range(draft: &Draft<'_>, file: Mapped<'_>, range: Range) -> Result<Bytes, Halt> {
+pub(crate) fn read_range(draft: &Draft<'_>, file: Mapped<'_>, range: Range) -> Result<Bytes, Halt>
+    requires mapped { HasMap draft.now file.number file.map.now }
+    requires within { range.offset + range.count ≤ file.map.now.size }
+    ensures { MatchResult result
+        (λ found. Knows draft.now (λ k.
+        found ≡ take range.count (drop range.offset (bytes_at k.state file.number))))
+        (StopsAt draft.now (blocks_at file.number range.offset)) }
+{
     let mut asking = Asking::new(draft.alloc());
     for index in range.first()..range.end() {
         if file.map.pages().has(index / MAP_BLOCKS) {
@@ -78,7 +118,19 @@ pub(crate) fn read_range(draft: &Draft<'_>, file: Mapped<'_>, range: Range) -> R
 }
 
 /// The bytes of a range, shared with the block that has them all; None where no block does.
-fn whole_in_one(draft: &Draft<'_>, file: Mapped<'_>, range: Range) -> Result<Option<Bytes>, Halt> {
+fn whole_in_one(
+    draft: &Draft<'_>,
+    file: Mapped<'_>,
+    range: Range,
+) -> Result<Option<Bytes>, Halt>
+    requires mapped { HasMap draft.now file.number file.map.now }
+    requires within { range.offset + range.count ≤ file.map.now.size }
+    requires known { KnowsMapped draft.now file.number file.map.now.pages range.offset range.count }
+    ensures { MatchResult result
+        (λ found. IfSome found (λ found. Knows draft.now (λ k.
+        found ≡ take range.count (drop range.offset (bytes_at k.state file.number)))))
+        (StopsAt draft.now []) }
+{
     let Some(bytes) = stored(draft, file, range.first())? else {
         return Ok(None);
     };
@@ -90,7 +142,15 @@ fn whole_in_one(draft: &Draft<'_>, file: Mapped<'_>, range: Range) -> Result<Opt
 }
 
 /// The bytes of a range, copied.
-fn gathered(draft: &Draft<'_>, file: Mapped<'_>, range: Range) -> Result<Bytes, Halt> {
+fn gathered(draft: &Draft<'_>, file: Mapped<'_>, range: Range) -> Result<Bytes, Halt>
+    requires mapped { HasMap draft.now file.number file.map.now }
+    requires within { range.offset + range.count ≤ file.map.now.size }
+    requires known { KnowsMapped draft.now file.number file.map.now.pages range.offset range.count }
+    ensures { MatchResult result
+        (λ found. Knows draft.now (λ k.
+        found ≡ take range.count (drop range.offset (bytes_at k.state file.number))))
+        (StopsAt draft.now []) }
+{
     let mut found = Vec::with_capacity(draft.alloc(), range.count)?;
     for index in range.first()..range.end() {
         let block = bytes_of(stored(draft, file, index)?);
@@ -116,7 +176,11 @@ pub(crate) fn ask_written(
     file: Mapped<'_>,
     range: Range,
     asking: &mut Asking,
-) -> Result<(), AllocError> {
+) -> Result<(), AllocError>
+    requires { HasMap draft.now file.number file.map.now }
+    ensures { OnOk result
+        (AsksToWrite draft.now file.number range.offset range.count asking.old.asked.items asking.new.asked.items) }
+{
     for index in range.first()..range.end() {
         asking.add(draft, block_at(file.number, index))?;
     }
@@ -152,7 +216,16 @@ pub(crate) fn write_range(
     pages: Bits,
     range: Range,
     data: &[u8],
-) -> Result<Bits, Halt> {
+) -> Result<Bits, Halt>
+    requires alone { MayChange draft.old (Addr.Inode number) }
+    requires pages { HasPages draft.old number pages }
+    requires whole { range.count ≡ length «data».now }
+    requires room { range.offset + range.count ≤ size_limit }
+    requires known { KnowsRange draft.old number range.offset range.count }
+    ensures { MatchResult result
+        (WritesRange draft.old draft.new number range.offset «data».now pages)
+        (StopsAt draft.old (maps_at number range.offset)) }
+{
     let maps = maps_after(draft, number, range)?;
     let blocks = blocks_after(draft, number, range, data)?;
     let mut index = range.first();
@@ -174,7 +247,14 @@ fn blocks_after(
     number: u64,
     range: Range,
     data: &[u8],
-) -> Result<Vec<Bytes>, Halt> {
+) -> Result<Vec<Bytes>, Halt>
+    requires whole { range.count ≡ length «data».now }
+    requires known { KnowsRange draft.now number range.offset range.count }
+    ensures { MatchResult result
+        (λ blocks. (length blocks.items ≡ end_of range.offset range.count - first_of range.offset) ×
+        AreWritten draft.now number range.offset «data».now (first_of range.offset) blocks.items)
+        (StopsAt draft.now []) }
+{
     let mut blocks = Vec::with_capacity(draft.alloc(), (range.end() - range.first()) as usize)?;
     for index in range.first()..range.end() {
         let old = bytes_of(draft.block(number, index)?);

@@ -1,5 +1,10 @@
 //! The blocks that go where a file is cut off.
 
+ghost use Rattle.std.specs.Prelude.{[], MatchResult};
+ghost use Rattle.nfs_objects.specs.Drafts.{MayChange};
+ghost use Rattle.nfs_inodes.specs.Blocks.{FileLives, HasPages, IsCutAt};
+ghost use Rattle.nfs_inodes.specs.Stops.{StopsAt};
+
 use crate::content::asking::Asking;
 use crate::content::blocks::{BLOCK, Mapped};
 use bytes::Bytes;
@@ -17,7 +22,12 @@ pub(crate) fn cut_off(
     number: u64,
     pages: Bits,
     size: u64,
-) -> Result<Bits, Halt> {
+) -> Result<Bits, Halt>
+    requires alone { MayChange draft.old (Addr.Inode number) }
+    requires pages { HasPages draft.old number pages }
+    requires lives { FileLives draft.old number }
+    ensures { MatchResult result (IsCutAt draft.old draft.new number size pages) (StopsAt draft.old []) }
+{
     let maps = maps_behind(draft, number, pages, size)?;
     ask_blocks(draft, number, &maps, size)?;
     let last = last_block(draft, number, &maps, size)?;

@@ -2,12 +2,15 @@
 
 ghost use Rattle.std.specs.Prelude.{◌≡◌, ◌+◌, ◌<◌, ◌^◌, ℕ, [], IfOk, MatchResult, length};
 ghost use Rattle.nfs_machine.specs.Checks.{text_in};
-ghost use Rattle.nfs_machine.specs.Data.{read_at, resized, written};
+ghost use Rattle.nfs_machine.specs.Data.{read_at, resized, size_limit, transfer_limit, written};
 ghost use Rattle.nfs_machine.specs.Times.{time_of};
 ghost use Rattle.nfs_objects.specs.Calls.{addresses_of};
 ghost use Rattle.nfs_objects.specs.Knows.{Knows, Turns};
 ghost use Rattle.nfs_objects.specs.Modes.{changing};
 ghost use Rattle.nfs_objects.specs.Stands.{content_of};
+ghost use Rattle.nfs_objects.specs.Drafts.{MayChange};
+ghost use Rattle.nfs_objects.specs.declared.address.Addr.TheVariants as Addr;
+ghost use Rattle.nfs_inodes.specs.Blocks.{FileLives, IsCleared, read_from, written_from};
 ghost use Rattle.nfs_inodes.specs.Kinds.{IsShown};
 ghost use Rattle.nfs_inodes.specs.Known.{bytes_of, content_at};
 ghost use Rattle.nfs_inodes.specs.Makes.{bytes_changed};
@@ -104,6 +107,7 @@ pub fn write(draft: &mut Draft<'_>, file: &File, offset: u64, bytes: &[u8]) -> R
     requires alone { draft.old.modes ≡ changing }
     requires shown { IsShown draft.old file.now.known }
     requires some { 0 < length bytes.now }
+    requires few { length bytes.now ≤ transfer_limit }
     requires room { offset + length bytes.now ≤ size_limit }
     ensures { MatchResult result
         (λ _. Turns draft.old draft.new (bytes_changed (time_of draft.old.ctx.moment) file.now.known.number
@@ -130,10 +134,10 @@ pub fn write(draft: &mut Draft<'_>, file: &File, offset: u64, bytes: &[u8]) -> R
     let usage = counted(draft, number, share, after)?;
     let pages = kept.map.pages();
     let inode = kept.inode.clone()?;
+    count(draft, share.export, number, usage)?;
     let pages = write_range(draft, number, pages, range, bytes)?;
     let content = Content::Regular(FileMap::new(size, pages)?);
     let new = with_content(&inode, now(draft.ctx()), content);
-    count(draft, share.export, number, usage)?;
     Ok(draft.put(number, new)?)
 }
 
@@ -143,6 +147,7 @@ pub fn write(draft: &mut Draft<'_>, file: &File, offset: u64, bytes: &[u8]) -> R
 ///
 /// `Need` of what has to be held for it, and `Memory`. The draft is of no use then.
 pub fn resize(draft: &mut Draft<'_>, file: &File, size: u64) -> Result<(), Halt>
+    requires none { draft.old.writes ≡ [] }
     requires alone { draft.old.modes ≡ changing }
     requires shown { IsShown draft.old file.now.known }
     ensures { MatchResult result
@@ -157,6 +162,7 @@ pub fn resize(draft: &mut Draft<'_>, file: &File, size: u64) -> Result<(), Halt>
     let pages = kept.map.pages();
     let old_size = kept.map.size();
     let inode = kept.inode.clone()?;
+    count(draft, share.export, number, usage)?;
     let pages = if size < old_size {
         cut_off(draft, number, pages, size)?
     } else {
@@ -164,7 +170,6 @@ pub fn resize(draft: &mut Draft<'_>, file: &File, size: u64) -> Result<(), Halt>
     };
     let content = Content::Regular(FileMap::new(size, pages)?);
     let new = with_content(&inode, now(draft.ctx()), content);
-    count(draft, share.export, number, usage)?;
     Ok(draft.put(number, new)?)
 }
 
@@ -173,7 +178,12 @@ pub fn resize(draft: &mut Draft<'_>, file: &File, size: u64) -> Result<(), Halt>
 /// # Errors
 ///
 /// `Need` of what has to be held for it, and `Memory`. The draft is of no use then.
-pub(crate) fn clear(draft: &mut Draft<'_>, number: u64) -> Result<(), Halt> {
+pub(crate) fn clear(draft: &mut Draft<'_>, number: u64) -> Result<(), Halt>
+    requires alone { MayChange draft.old (Addr.Inode number) }
+    requires lives { FileLives draft.old number }
+    ensures { MatchResult result (λ _. IsCleared draft.old draft.new number)
+        (StopsAt draft.old (addresses_of draft.old.view number)) }
+{
     let Some(inode) = inode(draft, number)? else {
         return Ok(());
     };
