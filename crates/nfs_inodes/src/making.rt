@@ -1,13 +1,14 @@
 //! New objects: what is asked for, the checks of it, and what they are given (RFC 1813, 3.3.8 to 3.3.11).
 
-ghost use Rattle.std.specs.Prelude.{◌≡◌, ◌==◌, ◌||◌, ◌&&◌, IfOk, length, nat_le, not};
+ghost use Rattle.std.specs.Prelude.{◌≡◌, ◌==◌, ◌||◌, ◌&&◌, IfOk, IfSome, length, nat_le, not};
+ghost use Rattle.nfs_objects.specs.Bits.{no_bits};
 ghost use Rattle.std.specs.Prelude.{unwrap_or, ℕ};
 ghost use Rattle.std.specs.List.{list_any};
 ghost use Rattle.nfs_machine.specs.Making.{given_attributes, kind_checked, new_object};
 ghost use Rattle.nfs_machine.specs.Permission.{is_member};
 ghost use Rattle.nfs_machine.specs.State.{Link};
 ghost use Rattle.nfs_machine.specs.declared.context.Ctx.{Ctx as Context};
-ghost use Rattle.nfs_objects.specs.Stands.{living_alone, parent_in};
+ghost use Rattle.nfs_objects.specs.Stands.{living_alone, map_in, parent_in};
 ghost use Rattle.nfs_inodes.specs.Asked.{content_asked, mode_asked, wanted_as};
 ghost use Rattle.nfs_inodes.specs.Makes.{first_links, first_parent, links_with};
 
@@ -157,6 +158,7 @@ pub(crate) fn new_inode(
 ) -> Result<Inode, AllocError>
     ensures living { IfOk result (λ inode.
         living_alone inode ≡ new_object ctx.now directory.now.known.export generation (wanted_as wanted.now)) }
+    ensures blank { IfOk result (λ inode. IfSome (map_in inode.content) (λ map. map.pages ≡ no_bits)) }
     ensures links { IfOk result (λ inode. inode.links ≡ first_links (content_asked wanted.now.content)) }
     ensures parent { IfOk result (λ inode.
         parent_in inode.content ≡ first_parent directory.now.known.number (content_asked wanted.now.content)) }

@@ -1,7 +1,8 @@
 //! What new objects contain (RFC 1813, 3.3.8 to 3.3.11).
 
-ghost use Rattle.std.specs.Prelude.{◌≡◌, IfOk, replicate};
-ghost use Rattle.nfs_objects.specs.Stands.{content_of, parent_in};
+ghost use Rattle.std.specs.Prelude.{◌≡◌, IfOk, IfSome};
+ghost use Rattle.nfs_objects.specs.Bits.{no_bits};
+ghost use Rattle.nfs_objects.specs.Stands.{content_of, map_in, parent_in};
 ghost use Rattle.nfs_inodes.specs.Asked.{content_asked};
 ghost use Rattle.nfs_inodes.specs.Makes.{first_parent};
 
@@ -25,6 +26,7 @@ pub(crate) fn new_content(
 ) -> Result<Content, AllocError>
     ensures content { IfOk result (λ made. content_of made ≡ content_asked content.now) }
     ensures parent { IfOk result (λ made. parent_in made ≡ first_parent parent (content_asked content.now)) }
+    ensures blank { IfOk result (λ made. IfSome (map_in made) (λ map. map.pages ≡ no_bits)) }
 {
     Ok(match content {
         NewContent::Regular(size) => Content::Regular(FileMap::new(*size, Bits::none())?),
