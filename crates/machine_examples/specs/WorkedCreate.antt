@@ -68,10 +68,10 @@ file bytes changed verifier = record {
 -- what a new object may be given
 pub record WorkedAttributes : Type 0 where
   pub none : given_attributes (called_as 9) no_attributes ≡ Ok tt
-  pub too_big : given_attributes (called_as 9) (sized 1048577) ≡ Err status.FileTooBig
-  pub biggest : given_attributes (called_as 9) (sized 1048576) ≡ Ok tt
+  pub too_big : given_attributes (called_as 9) (sized 1073741825) ≡ Err status.FileTooBig
+  pub biggest : given_attributes (called_as 9) (sized 1073741824) ≡ Ok tt
   pub bad_time : given_attributes (called_as 9)
-      (record (sized 1048577) { accessed = ToClient (time 0 1000000000) }) ≡ Err status.Invalid
+      (record (sized 1073741825) { accessed = ToClient (time 0 1000000000) }) ≡ Err status.Invalid
   pub foreign : given_attributes (called_as 9) (record no_attributes { uid = Some 8 }) ≡ Err status.Permission
   pub foreign_group : given_attributes (called_as 9) (record no_attributes { gid = Some 8 }) ≡ Err status.Permission
   pub own_group : given_attributes (called_as 9) (record no_attributes { gid = Some 9 }) ≡ Ok tt
@@ -112,7 +112,7 @@ pub record WorkedExisting : Type 0 where
       (Some (file (0 ∷ 0 ∷ []) (time 1000 1) None))
   pub not_permitted : over 5 (Unchecked (sized 0)) (file [] (time 1000 0) None) ≡ Err status.Access
   pub looked_up : over 5 (Unchecked no_attributes) (file [] (time 1000 0) None) ≡ Ok None
-  pub too_big : over 9 (Unchecked (sized 1048577)) (file [] (time 1000 0) None) ≡ Err status.FileTooBig
+  pub too_big : over 9 (Unchecked (sized 1073741825)) (file [] (time 1000 0) None) ≡ Err status.FileTooBig
   pub directory : over 9 (Unchecked no_attributes) (opening_root 1 (time 1000 0)) ≡ Err status.Exists
   pub exclusive_directory : over 9 (Exclusive made_by) (opening_root 1 (time 1000 0)) ≡ Err status.Exists
   pub own_maker : over 9 (Exclusive made_by) (file [] (time 1000 0) (Some made_by.bytes)) ≡ Ok None

@@ -161,7 +161,7 @@ pub record WorkedLimits : Type 0 where
   pub written : file_system.write_most ≡ 65536
   pub multiple : file_system.write_multiple ≡ 4096
   pub page : file_system.directory_preferred ≡ 32768
-  pub largest : file_system.largest_file ≡ 1048576
+  pub largest : file_system.largest_file ≡ 1073741824
   pub step : file_system.time_step ≡ time 0 1
   pub properties : file_system.properties ≡ 27
   pub links : path_limits.most_links ≡ 32000

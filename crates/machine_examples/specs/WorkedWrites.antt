@@ -35,7 +35,7 @@ pub record WorkedWrites : Type 0 where
   pub no_space : used_of (Regular []) ≡ 0
   pub last_offset : write_object writable (called_as 9) known
       (writing (2 ^ 64 - 1) 1 (codes "!")) ≡ Err status.FileTooBig
-  pub above : write_object writable (called_as 9) known (writing 1048576 1 (codes "!")) ≡ Err status.FileTooBig
+  pub above : write_object writable (called_as 9) known (writing 1073741824 1 (codes "!")) ≡ Err status.FileTooBig
   -- no byte is written at any offset
   pub none : write_object writable (called_as 9) known (writing (2 ^ 64 - 1) 0 [])
       ≡ Ok (record { told = answered 0; after = None })

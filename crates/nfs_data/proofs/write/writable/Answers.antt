@@ -3,7 +3,7 @@ use Rattle.std.proofs.Common.{◌∙◌}
 use Rattle.std.proofs.lemmas.Bool.Decides.{nat_tests}
 use Rattle.nfs_data.proofs.write.writable.Goals as goal
 
-below : (offset count : ℕ) → ((count == 0) || nat_le (offset + count) 1048576) ≡ true → 0 < count
+below : (offset count : ℕ) → ((count == 0) || nat_le (offset + count) 1073741824) ≡ true → 0 < count
     → offset + count < 2 ^ 64
 below offset count e some = grind (arith, nat_tests)
 
