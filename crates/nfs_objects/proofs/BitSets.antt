@@ -66,7 +66,6 @@ module _ (words : List ℕ) (m : ℕ) (within : m < 512) (eight : length words �
           ((λ i. lt-ltb m 512 within i && (bit-set i == 1)) ∙ sym (or_true (has (bits words) m)))
       by false e = ap (λ b. nat_lt n 512 && (b == 1)) (bit-after n e) ∙ sym (or-false (has (bits words) n))
 
-
 and_true : (b : Bool) → (b && true) ≡ b
 and_true true = refl
 and_true false = refl

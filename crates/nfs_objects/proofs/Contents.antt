@@ -136,14 +136,16 @@ module _ (size : ℕ) (stored : ℕ → List ℕ) (bytes : List ℕ) (is : IsCon
           (length (after i) ≤ length (part_at (written bytes offset more) i))
       part i = elim (cases_lt 0 (length w)) [
         | inl some ↦
-            let e = changed i some in
-            (whole ∙ (λ j. resized (sym e j) (sym count j)),
-            (let a = ap length e in let b = written-length s at w in omega (arith, a, b, count, short)))
+            let e = changed i some in (
+              whole ∙ (λ j. resized (sym e j) (sym count j)),
+              (let a = ap length e in let b = written-length s at w in omega (arith, a, b, count, short)),
+            )
         | inr none ↦
             let nothing : length w ≡ 0 = omega (arith, none) in
-            let e = same i nothing in
-            (quiet nothing ∙ ap (λ x. resized x (length (part_at (written bytes offset more) i))) (sym e),
-            (let a = ap length e in omega (arith, a, count, short)))
+            let e = same i nothing in (
+              quiet nothing ∙ ap (λ x. resized x (length (part_at (written bytes offset more) i))) (sym e),
+              (let a = ap length e in omega (arith, a, count, short)),
+            )
       ]
         where
           w : List ℕ

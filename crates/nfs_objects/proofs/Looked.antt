@@ -33,7 +33,7 @@ tests (Inode n) Mounts = refl
 tests (Inode n) (Usage f h) = refl
 tests (Map n p) Exports = refl
 tests (Map n p) (Inode m) = refl
-tests (Map n p) (Map m q) = 
+tests (Map n p) (Map m q) =
     ap (λ b. b && nat_eq p q) (nat_eq_equiv.symm n m) ∙ ap (λ b. nat_eq m n && b) (nat_eq_equiv.symm p q)
 tests (Map n p) (Block m j) = refl
 tests (Map n p) Mounts = refl
@@ -41,7 +41,7 @@ tests (Map n p) (Usage f h) = refl
 tests (Block n i) Exports = refl
 tests (Block n i) (Inode m) = refl
 tests (Block n i) (Map m q) = refl
-tests (Block n i) (Block m j) = 
+tests (Block n i) (Block m j) =
     ap (λ b. b && nat_eq i j) (nat_eq_equiv.symm n m) ∙ ap (λ b. nat_eq m n && b) (nat_eq_equiv.symm i j)
 tests (Block n i) Mounts = refl
 tests (Block n i) (Usage f h) = refl
@@ -56,7 +56,7 @@ tests (Usage e g) (Inode m) = refl
 tests (Usage e g) (Map m q) = refl
 tests (Usage e g) (Block m j) = refl
 tests (Usage e g) Mounts = refl
-tests (Usage e g) (Usage f h) = 
+tests (Usage e g) (Usage f h) =
     ap (λ b. b && nat_eq g h) (nat_eq_equiv.symm e f) ∙ ap (λ b. nat_eq f e && b) (nat_eq_equiv.symm g h)
 
 pub tested : (a b : Addr) → same_address a b ≡ is_addr a b

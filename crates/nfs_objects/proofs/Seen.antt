@@ -33,7 +33,7 @@ is_addr-same (Inode n) Mounts e = cc
 is_addr-same (Inode n) (Usage f h) e = cc
 is_addr-same (Map n p) Exports e = cc
 is_addr-same (Map n p) (Inode m) e = cc
-is_addr-same (Map n p) (Map m q) e = 
+is_addr-same (Map n p) (Map m q) e =
     let both = and_parts (n == m) (p == q) e in
     ap (λ k. Map k p) ((unsigned_Decides n m).0 both.0) ∙ ap (Map m) ((unsigned_Decides p q).0 both.1)
 is_addr-same (Map n p) (Block m j) e = cc
@@ -42,7 +42,7 @@ is_addr-same (Map n p) (Usage f h) e = cc
 is_addr-same (Block n i) Exports e = cc
 is_addr-same (Block n i) (Inode m) e = cc
 is_addr-same (Block n i) (Map m q) e = cc
-is_addr-same (Block n i) (Block m j) e = 
+is_addr-same (Block n i) (Block m j) e =
     let both = and_parts (n == m) (i == j) e in
     ap (λ k. Block k i) ((unsigned_Decides n m).0 both.0) ∙ ap (Block m) ((unsigned_Decides i j).0 both.1)
 is_addr-same (Block n i) Mounts e = cc
@@ -58,7 +58,7 @@ is_addr-same (Usage e g) (Inode m) is = cc
 is_addr-same (Usage e g) (Map m q) is = cc
 is_addr-same (Usage e g) (Block m j) is = cc
 is_addr-same (Usage e g) Mounts is = cc
-is_addr-same (Usage e g) (Usage f h) is = 
+is_addr-same (Usage e g) (Usage f h) is =
     let both = and_parts (e == f) (g == h) is in
     ap (λ k. Usage k g) ((unsigned_Decides e f).0 both.0) ∙ ap (Usage f) ((unsigned_Decides g h).0 both.1)
 

@@ -331,31 +331,31 @@ pub new-stands : (s : Store) (k : Kept) (n : ℕ) (i : Inode) → Represents s k
 new-stands s k n i stands vacant none fits lives = subst (λ (o : Living).
     Represents (with_write s (addresses.Inode n) (Some (objects.Inode i))) (with_new k n o i.links (parent_in i.content)))
     (alone-is i) (record {
-  tables = tables-stay s _ k.state _ refl stands.tables;
-  objects = record {
-    objects = lives-put k.state.exports s.at k.state.objects n i zeros lives stands.objects.objects;
-    links = links-put k s n i lives but;
-    parents = parents-put k s n i lives but;
-    given = given-put s n i (give s.last (addresses.Inode n) (Some (objects.Inode i))) stands.objects.given
-        (λ q. more q)
-        (subst (λ b. i.generation ≤ cond b (max (s.last n) i.generation) (s.last n))
-        (sym ((unsigned_Decides n n).1 refl)) (le-max_right (s.last n) i.generation));
-    fits = fits-put s.at n i stands.objects.fits fits;
-    spent = λ q g.
-        ap (λ b. b || ((q == n) && nat_le g i.generation)) (stands.objects.spent q g)
-        ∙ ap (λ b. nat_le g (s.last q) || (b && nat_le g i.generation)) (nat_eq_equiv.symm q n)
-        ∙ elim (n == q) as (λ b. (nat_le g (s.last q) || (b && nat_le g i.generation)) ≡ nat_le g
-        (cond b (max (s.last q) i.generation) (s.last q))) [
-          | true ↦ below_max g (s.last q) i.generation
-          | false ↦ or-false (nat_le g (s.last q))
-        ];
-  };
-  files = put-files s k n i zeros (give s.last (addresses.Inode n) (Some (objects.Inode i))) but filed
-      (new-content s n i (nothing-stored s k n stands vacant)) lives
-      (with_new k n (living_of_inode zeros i) i.links (parent_in i.content)) refl refl;
-  usages = record { usage = stands.usages.usage };
-  locks = locks-stay k.state _ refl refl refl refl refl stands.locks;
-})
+      tables = tables-stay s _ k.state _ refl stands.tables;
+      objects = record {
+        objects = lives-put k.state.exports s.at k.state.objects n i zeros lives stands.objects.objects;
+        links = links-put k s n i lives but;
+        parents = parents-put k s n i lives but;
+        given = given-put s n i (give s.last (addresses.Inode n) (Some (objects.Inode i))) stands.objects.given
+            (λ q. more q)
+            (subst (λ b. i.generation ≤ cond b (max (s.last n) i.generation) (s.last n))
+            (sym ((unsigned_Decides n n).1 refl)) (le-max_right (s.last n) i.generation));
+        fits = fits-put s.at n i stands.objects.fits fits;
+        spent = λ q g.
+            ap (λ b. b || ((q == n) && nat_le g i.generation)) (stands.objects.spent q g)
+            ∙ ap (λ b. nat_le g (s.last q) || (b && nat_le g i.generation)) (nat_eq_equiv.symm q n)
+            ∙ elim (n == q) as (λ b. (nat_le g (s.last q) || (b && nat_le g i.generation)) ≡ nat_le g
+            (cond b (max (s.last q) i.generation) (s.last q))) [
+              | true ↦ below_max g (s.last q) i.generation
+              | false ↦ or-false (nat_le g (s.last q))
+            ];
+      };
+      files = put-files s k n i zeros (give s.last (addresses.Inode n) (Some (objects.Inode i))) but filed
+          (new-content s n i (nothing-stored s k n stands vacant)) lives
+          (with_new k n (living_of_inode zeros i) i.links (parent_in i.content)) refl refl;
+      usages = record { usage = stands.usages.usage };
+      locks = locks-stay k.state _ refl refl refl refl refl stands.locks;
+    })
   where
     zeros : List ℕ
     zeros = file_bytes (content_of i.content)
