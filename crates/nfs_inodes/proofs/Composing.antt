@@ -98,7 +98,7 @@ group-lives d n view named same counts = by (known_at d addresses.Exports) refl 
         Covers named view (group_at n i)
     there exports object some known None is = tt
     there exports object some known (Some i) is = (
-      inr (subst (λ v. IsThere v (addresses.Usage i.export (group_of n))) same (counts i (record {
+      inr (subst (λ v. IsThere v (addresses.Usage i.export (group_of n))) same (counts.usage i (record {
         exports = exports_of exports;
         living = record { object = exports; known = some; is = refl };
         object = object;

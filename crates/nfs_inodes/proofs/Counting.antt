@@ -33,7 +33,7 @@ use Rattle.nfs_inodes.proofs.Standing.{lives-there}
 use Rattle.nfs_inodes.specs.Counts.{IsCount, KeepsInodes}
 use Rattle.nfs_inodes.specs.Known.{is_handle_of}
 use Rattle.nfs_objects.specs.declared.change.Halt.{Halt}
-use Rattle.nfs_inodes.specs.Stops.{IsOfExport, StopsAt, UsageLives, brought_by}
+use Rattle.nfs_inodes.specs.Stops.{IsOfExport, StillStands, StopsAt, UsageLives, brought_by}
 use Rattle.nfs_inodes.specs.declared.found.Known.{Known}
 
 -- ---- shares
@@ -95,27 +95,41 @@ pub record LivedIn (m : State) (n export : ℕ) : Type 0 where
   pub lives : get m.objects n ≡ Some object
   pub same : object.export ≡ export
 
-module _ (old d : DraftValue) (none : old.writes ≡ []) (op : Kept → Kept) (turns : Turns old d op) (n : ℕ) where
-  pub counted-lives : ((s : Store) (k : Kept) → Possible old s k → WellFormed k.state → (o : Living) →
-      get (op k).state.objects n ≡ Some o → LivedIn k.state n o.export) → UsageLives d n
-  counted-lives lived i has s k fits stands sound formed =
+-- with no write it stands for what the store does
+pub stands-first : (d : DraftValue) → d.writes ≡ [] → StillStands d
+stands-first d none s k fits stands = (k, subst (λ ws. Represents (with_writes s ws) k) (sym none) stands)
+
+module _ (old d : DraftValue) (op : Kept → Kept) (turns : Turns old d op) where
+  -- a store that stands for something does so still
+  pub stands-on : StillStands old → StillStands d
+  stands-on still s k fits stands =
       let before : Fits old.view s = subst (λ v. Fits v s) turns.view fits in
-      let w : Possible old s k = record {
-        fits = before;
-        stands = subst (λ ws. Represents (with_writes s ws) k)
-            (sym none) stands;
-        sound = sound;
-      } in
-      let was = lived s k w formed (living_of_inode (bytes_at (op k).state n) i)
-      (lives-there d n (Some i) has s (op k) fits (turns.turns s k before w.stands)) in
-      subst (λ e. IsSome (s.at (addresses.Usage e (group_of n)))) was.same
-      (usage-lives s k n was.object stands sound was.lives)
+      let was = still s k before stands in
+      (op was.0, turns.turns s was.0 before was.1)
+
+  module _ (none : old.writes ≡ []) (n : ℕ) where
+    pub counted-lives : ((s : Store) (k : Kept) → Possible old s k → WellFormed k.state → (o : Living) →
+        get (op k).state.objects n ≡ Some o → LivedIn k.state n o.export) → UsageLives d n
+    counted-lives lives = record {
+      usage = λ i has s k fits stands sound formed.
+          let before : Fits old.view s = subst (λ v. Fits v s) turns.view fits in
+          let w : Possible old s k = record {
+            fits = before;
+            stands = subst (λ ws. Represents (with_writes s ws) k) (sym none) stands;
+            sound = sound;
+          } in
+          let was = lives s k w formed (living_of_inode (bytes_at (op k).state n) i)
+          (lives-there d n (Some i) has s (op k) fits (turns.turns s k before w.stands)) in
+          subst (λ e. IsSome (s.at (addresses.Usage e (group_of n)))) was.same
+          (usage-lives s k n was.object stands sound was.lives);
+      stands = stands-on (stands-first old none);
+    }
 
 -- with no write, what is known there lives there
 pub usage-lives-first : (d : DraftValue) (n : ℕ) → d.writes ≡ [] → UsageLives d n
 usage-lives-first d n none =
-    counted-lives d d none (λ k. k)
-    (record { ctx = refl; view = refl; modes = refl; messages = refl; turns = λ s k fits stands. stands }) n
+    counted-lives d d (λ k. k)
+    (record { ctx = refl; view = refl; modes = refl; messages = refl; turns = λ s k fits stands. stands }) none n
     (λ s k w formed o at. record { object = o; lives = at; same = refl })
 
 -- ---- who brings a handle names what the groups of its export use

@@ -129,4 +129,4 @@ lived-rehomed now number directory k n o at = by (get k.state.objects number) re
 pub usage-there : (old new : DraftValue) (op : Kept → Kept) → old.writes ≡ [] → Turns old new op → LivesAsBefore op →
     (n : ℕ) → UsageLives new n
 usage-there old new op none turns lived n =
-    counted-lives old new none op turns n (λ s k w formed o at. lived k n o at)
+    counted-lives old new op turns none n (λ s k w formed o at. lived k n o at)

@@ -106,14 +106,6 @@ pub record WritesRange (old new : DraftValue) (file offset : ℕ) (bytes : List 
       HasBlocks (with_writes s new.writes) file after
 
 -- ---- what goes
--- what a file has beside its inode stands in every store that the draft's view fits: its map pages, and the blocks that
--- those tell of which the draft knows
-pub record FileLives (d : DraftValue) (number : ℕ) : Type 0 where
-  pub maps : (map : FileMapValue) → HasMap d number map → (page : ℕ) → has map.pages page ≡ true →
-      IsThere d.view (addresses.Map number page)
-  pub blocks : (page : ℕ) (bits : Bits) → known_at d (addresses.Map number page) ≡ Some (Some (objects.Map bits)) →
-      (place : ℕ) → place < 512 → has bits place ≡ true → IsThere d.view (addresses.Block number (page * 512 + place))
-
 -- a file that is cut off at a place: of each block what is before it stays, and of each map page what has some
 pub record IsCutAt (old new : DraftValue) (number size : ℕ) (pages left : Bits) : Type 0 where
   pub lays : Lays number old new

@@ -1,10 +1,11 @@
 -- Of which kind the objects are that a draft shows.
-use Rattle.std.specs.Prelude.{◌≡◌, ℕ, Option, Some, option_map}
+use Rattle.std.specs.Prelude.{◌≡◌, ◌==◌, ℕ, false, Option, Some, option_map}
 use Rattle.nfs_wire.specs.declared.attributes.FileType.{FileType}
 use Rattle.nfs_machine.specs.Attributes.{type_of}
 use Rattle.nfs_objects.specs.FileMaps.{FileMapValue}
 use Rattle.nfs_objects.specs.Stands.{content_of}
-use Rattle.nfs_objects.specs.Values.{DraftValue}
+use Rattle.nfs_objects.specs.Values.{DraftValue, known_at}
+use Rattle.nfs_objects.specs.declared.address.Addr.TheVariants as addresses
 use Rattle.nfs_objects.specs.declared.directory.Directory.{Directory}
 use Rattle.nfs_objects.specs.declared.object.Content.TheVariants as contents
 use Rattle.nfs_objects.specs.declared.object.Inode.{Inode}
@@ -27,6 +28,11 @@ IsShown d x = kind_at d x.number ≡ Some x.attributes.kind
 -- what is shown of kinds is as before
 abbrev pub KeepsKinds : (old new : DraftValue) → Type 0
 KeepsKinds old new = (n : ℕ) → kind_at new n ≡ kind_at old n
+
+-- what is known of inodes at other numbers than this is as before
+abbrev pub KeepsOthers : (old new : DraftValue) → (number : ℕ) → Type 0
+KeepsOthers old new number = (n : ℕ) → (number == n) ≡ false →
+    known_at new (addresses.Inode n) ≡ known_at old (addresses.Inode n)
 
 -- the file with this map stands at a number
 pub record HasFile (d : DraftValue) (number : ℕ) (i : Inode) (map : FileMapValue) : Type 0 where

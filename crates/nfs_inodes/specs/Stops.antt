@@ -5,7 +5,9 @@ use Rattle.nfs_machine.specs.Handles.{handle_of}
 use Rattle.nfs_objects.specs.Asks.{Lacks, IsThere}
 use Rattle.nfs_objects.specs.Attempt.{StopsCall}
 use Rattle.nfs_objects.specs.Calls.{addresses_of, objects_at}
-use Rattle.nfs_objects.specs.Stands.{exports_of, inode_in}
+use Rattle.nfs_objects.specs.Fits.{Fits}
+use Rattle.nfs_objects.specs.Stands.{Kept, Represents, exports_of, inode_in}
+use Rattle.nfs_objects.specs.Store.{Store, with_writes}
 use Rattle.nfs_objects.specs.Sums.{group_of}
 use Rattle.nfs_objects.specs.Values.{DraftValue, ViewValue, known_at}
 use Rattle.nfs_objects.specs.declared.address.Addr.{Addr}
@@ -42,10 +44,16 @@ group_at number (Some i) = addresses.Usage i.export (group_of number) ∷ []
 abbrev pub counted_at : DraftValue → (number : ℕ) → List Addr
 counted_at d number = addresses_of d.view number ++ group_at number (inode_at d number)
 
--- what the group of a number uses stands there, if the draft knows an object at the number
-abbrev pub UsageLives : DraftValue → (number : ℕ) → Type 0
-UsageLives d number = (i : Inode) → HasInode d number (Some i) →
-    IsThere d.view (addresses.Usage i.export (group_of number))
+-- each store that the draft's view fits, and that stands for something, does so once the draft is written
+abbrev pub StillStands : DraftValue → Type 0
+StillStands d = (s : Store) (k : Kept) → Fits d.view s → Represents s k →
+    (new : Kept) × Represents (with_writes s d.writes) new
+
+-- What may be asked for where the object at a number is counted anew: what its group uses stands there, if the draft
+-- knows an object. So do the maps and blocks of its file, as the draft still stands for something.
+pub record UsageLives (d : DraftValue) (number : ℕ) : Type 0 where
+  pub usage : (i : Inode) → HasInode d number (Some i) → IsThere d.view (addresses.Usage i.export (group_of number))
+  pub stands : StillStands d
 
 -- ---- of a handle
 -- what a call that brings the handle may ask for

@@ -14,7 +14,7 @@ ghost use Rattle.nfs_objects.specs.Values.{known_at};
 ghost use Rattle.nfs_inodes.specs.Asked.{wanted_as};
 ghost use Rattle.nfs_inodes.specs.Kinds.{IsShown};
 ghost use Rattle.nfs_inodes.specs.Makes.{IsFree, link_lost, made_under, removed};
-ghost use Rattle.nfs_inodes.specs.Stops.{StopsAt, StopsMaking, counted_at};
+ghost use Rattle.nfs_inodes.specs.Stops.{StillStands, StopsAt, StopsMaking, counted_at};
 
 use crate::content::file::clear;
 use crate::content::naming::add_entry;
@@ -31,7 +31,8 @@ use nfs_objects::{Addr, Draft, Halt, Reserved, Usage};
 ///
 /// `Need` of what has to be held for it, and `Memory`. The draft is of no use then.
 pub fn lose_link(draft: &mut Draft<'_>, number: u64, links: u32) -> Result<(), Halt>
-    requires { MayChange draft.old (Addr.Inode number) }
+    requires alone { MayChange draft.old (Addr.Inode number) }
+    requires stands { StillStands draft.old }
     ensures { MatchResult result
         (λ _. Turns draft.old draft.new (link_lost (time_of draft.old.ctx.moment) number links))
         (StopsAt draft.old (counted_at draft.old number)) }
@@ -43,8 +44,10 @@ pub fn lose_link(draft: &mut Draft<'_>, number: u64, links: u32) -> Result<(), H
     }
 }
 
+/// What lives at a number goes, with all its blocks and maps.
 fn free(draft: &mut Draft<'_>, number: u64) -> Result<(), Halt>
-    requires { MayChange draft.old (Addr.Inode number) }
+    requires alone { MayChange draft.old (Addr.Inode number) }
+    requires stands { StillStands draft.old }
     ensures { MatchResult result (λ _. Turns draft.old draft.new (removed number))
         (StopsAt draft.old (counted_at draft.old number)) }
 {

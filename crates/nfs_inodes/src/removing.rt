@@ -7,7 +7,7 @@ ghost use Rattle.nfs_objects.specs.Knows.{Turns};
 ghost use Rattle.nfs_objects.specs.Modes.{changing};
 ghost use Rattle.nfs_inodes.specs.Kinds.{IsShown};
 ghost use Rattle.nfs_inodes.specs.Removes.{directory_lost, name_lost, subdirectory_lost};
-ghost use Rattle.nfs_inodes.specs.Stops.{StopsAt, counted_at};
+ghost use Rattle.nfs_inodes.specs.Stops.{StillStands, StopsAt, counted_at};
 
 use crate::content::naming::take_entry;
 use crate::found::{Known, inode};
@@ -46,7 +46,8 @@ pub fn take_name(
 
 /// A directory goes with its only name, which was in this one.
 fn lose_directory(draft: &mut Draft<'_>, directory: &Directory, number: u64) -> Result<(), Halt>
-    requires { draft.old.modes ≡ changing }
+    requires alone { draft.old.modes ≡ changing }
+    requires stands { StillStands draft.old }
     ensures { MatchResult result
         (λ _. Turns draft.old draft.new
         (directory_lost (time_of draft.old.ctx.moment) directory.now.known.number number))

@@ -2,8 +2,8 @@
 
 ghost use Rattle.std.specs.Prelude.{[], MatchResult};
 ghost use Rattle.nfs_objects.specs.Drafts.{MayChange};
-ghost use Rattle.nfs_inodes.specs.Blocks.{FileLives, HasPages, IsCutAt};
-ghost use Rattle.nfs_inodes.specs.Stops.{StopsAt};
+ghost use Rattle.nfs_inodes.specs.Blocks.{HasPages, IsCutAt};
+ghost use Rattle.nfs_inodes.specs.Stops.{StillStands, StopsAt};
 
 use crate::content::asking::Asking;
 use crate::content::blocks::{BLOCK, Mapped};
@@ -25,7 +25,7 @@ pub(crate) fn cut_off(
 ) -> Result<Bits, Halt>
     requires alone { MayChange draft.old (Addr.Inode number) }
     requires pages { HasPages draft.old number pages }
-    requires lives { FileLives draft.old number }
+    requires stands { StillStands draft.old }
     ensures { MatchResult result (IsCutAt draft.old draft.new number size pages) (StopsAt draft.old []) }
 {
     let maps = maps_behind(draft, number, pages, size)?;

@@ -10,11 +10,11 @@ ghost use Rattle.nfs_objects.specs.Modes.{changing};
 ghost use Rattle.nfs_objects.specs.Stands.{content_of};
 ghost use Rattle.nfs_objects.specs.Drafts.{MayChange};
 ghost use Rattle.nfs_objects.specs.declared.address.Addr.TheVariants as Addr;
-ghost use Rattle.nfs_inodes.specs.Blocks.{FileLives, IsCleared, read_from, written_from};
+ghost use Rattle.nfs_inodes.specs.Blocks.{IsCleared, read_from, written_from};
 ghost use Rattle.nfs_inodes.specs.Kinds.{IsShown};
 ghost use Rattle.nfs_inodes.specs.Known.{bytes_of, content_at};
 ghost use Rattle.nfs_inodes.specs.Makes.{bytes_changed};
-ghost use Rattle.nfs_inodes.specs.Stops.{StopsAt, counted_at};
+ghost use Rattle.nfs_inodes.specs.Stops.{StillStands, StopsAt, counted_at};
 
 use crate::content::asking::Asking;
 use crate::content::blocks::{Mapped, Range, ask_written, read_range, write_range};
@@ -180,7 +180,7 @@ pub fn resize(draft: &mut Draft<'_>, file: &File, size: u64) -> Result<(), Halt>
 /// `Need` of what has to be held for it, and `Memory`. The draft is of no use then.
 pub(crate) fn clear(draft: &mut Draft<'_>, number: u64) -> Result<(), Halt>
     requires alone { MayChange draft.old (Addr.Inode number) }
-    requires lives { FileLives draft.old number }
+    requires stands { StillStands draft.old }
     ensures { MatchResult result (λ _. IsCleared draft.old draft.new number)
         (StopsAt draft.old (addresses_of draft.old.view number)) }
 {

@@ -14,7 +14,7 @@ ghost use Rattle.nfs_objects.specs.Modes.{changing};
 ghost use Rattle.nfs_objects.specs.Stands.{content_of, map_in, parent_in};
 ghost use Rattle.nfs_objects.specs.Values.{known_at};
 ghost use Rattle.nfs_objects.specs.declared.address.Addr.{Addr as Address};
-ghost use Rattle.nfs_inodes.specs.Kinds.{IsShown, KeepsKinds};
+ghost use Rattle.nfs_inodes.specs.Kinds.{IsShown, KeepsKinds, KeepsOthers};
 ghost use Rattle.nfs_inodes.specs.Makes.{name_added, name_taken};
 ghost use Rattle.nfs_inodes.specs.Renames.{name_given, name_left, rehomed, staying};
 ghost use Rattle.nfs_inodes.specs.Stops.{StopsAt};
@@ -49,6 +49,7 @@ pub fn add_entry(
         (record { name = name.now; number = number; cookie = cookie })))
         (StopsAt draft.old (addresses_of draft.old.view directory.now.known.number)) }
     ensures known { OnOk result ((a : Address) → IsSome (known_at draft.old a) → IsSome (known_at draft.new a)) }
+    ensures others { OnOk result (KeepsOthers draft.old draft.new directory.now.known.number) }
     ensures kinds { OnOk result (KeepsKinds draft.old draft.new) }
 {
     let kept = directory_at(draft, directory)?;
