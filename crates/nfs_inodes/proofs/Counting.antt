@@ -52,6 +52,7 @@ keeps-inodes : (d : DraftValue) (export group : ℕ) (o : Option Object)
     → KeepsInodes d (with_written d (addresses.Usage export group) o)
 keeps-inodes d export group o = record {
   inodes = λ n. written-append d.writes _ (addresses.Usage export group) o (addresses.Inode n);
+  blocks = λ n i. written-append d.writes _ (addresses.Usage export group) o (addresses.Block n i);
   exports = written-append d.writes _ (addresses.Usage export group) o addresses.Exports;
 }
 

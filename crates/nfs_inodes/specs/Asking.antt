@@ -1,5 +1,5 @@
 -- Addresses that are asked for at once.
-use Rattle.std.specs.Prelude.{List, ◌++◌, ◌∷◌, [], Some, None}
+use Rattle.std.specs.Prelude.{◌≡◌, List, ◌++◌, ◌∷◌, [], Some, None, IsSome}
 use Rattle.std.specs.List.{AllByRecursion}
 use Rattle.nfs_objects.specs.Asks.{EachOnce, MayAsk}
 use Rattle.nfs_objects.specs.Modes.{held_mode}
@@ -18,3 +18,18 @@ with_wish d a asked = elim (known_at d a) [
 pub record IsAsking (d : DraftValue) (named : List Addr) (asked : List (Addr × Mode)) : Type 0 where
   pub once : EachOnce asked
   pub each : AllByRecursion (MayAsk d.modes named d.view) asked
+
+-- a wish for such an address, which the draft does not know, in the mode in which it is wanted
+pub record IsWish (d : DraftValue) (May : Addr → Type 0) (a : Addr × Mode) : Type 0 where
+  pub unknown : known_at d a.0 ≡ None
+  pub mode : a.1 ≡ held_mode d.modes d.view a.0
+  pub may : May a.0
+
+-- what is asked for has grown by wishes for addresses that may be asked for, each once; where it has not, the draft
+-- knows what must be known
+pub record AsksFor (d : DraftValue) (May Must : Addr → Type 0) (old new : List (Addr × Mode)) : Type 0 where
+  pub more : List (Addr × Mode)
+  pub grown : new ≡ old ++ more
+  pub once : EachOnce more
+  pub each : AllByRecursion (IsWish d May) more
+  pub known : more ≡ [] → (a : Addr) → Must a → IsSome (known_at d a)

@@ -31,9 +31,10 @@ IsCount d export number before after (Some u) = (is_same_usage before after ≡ 
     (was : Usage) × (option_map usage_of (known_at d (addresses.Usage export (group_of number))) ≡ Some was) ×
     (u ≡ moved before after was)
 
--- what is known of inodes and of the exports is as before
+-- what is known of inodes, of the blocks of files and of the exports is as before
 pub record KeepsInodes (old new : DraftValue) : Type 0 where
   pub inodes : (n : ℕ) → known_at new (addresses.Inode n) ≡ known_at old (addresses.Inode n)
+  pub blocks : (n i : ℕ) → known_at new (addresses.Block n i) ≡ known_at old (addresses.Block n i)
   pub exports : known_at new addresses.Exports ≡ known_at old addresses.Exports
 
 -- ---- what all groups of an export use

@@ -2,6 +2,7 @@ pub mod Asked
 pub mod Asking
 pub mod Blocks
 pub mod Counts
+pub mod Cuts
 pub mod Gathers
 pub mod Kinds
 pub mod Known

@@ -1,13 +1,15 @@
 //! What the objects of an export use, kept right as they change (RFC 1813, 3.3.18).
 
 ghost use Rattle.std.specs.Prelude.{◌≡◌, ◌∷◌, [], IfOk, IfSome, IsSome, MatchResult, OnErr, OnOk, true};
+ghost use Rattle.std.specs.Prelude.{if◌then◌else◌};
 ghost use Rattle.nfs_objects.specs.Calls.{usages_of};
 ghost use Rattle.nfs_objects.specs.Edits.{recounted};
 ghost use Rattle.nfs_objects.specs.Knows.{Knows, Turns};
 ghost use Rattle.nfs_objects.specs.Stands.{lives_in};
-ghost use Rattle.nfs_objects.specs.Sums.{export_usage, group_of, in_export};
+ghost use Rattle.nfs_objects.specs.Sums.{export_usage, group_of, in_export, is_same_usage};
 ghost use Rattle.nfs_objects.specs.Values.{known_at};
 ghost use Rattle.nfs_objects.specs.declared.usage.Usage.{Usage as Sums};
+ghost use Rattle.nfs_inodes.specs.Asking.{with_wish};
 ghost use Rattle.nfs_inodes.specs.Counts.{AreUnread, IsCount, IsShareOf, KeepsInodes, uncounted};
 ghost use Rattle.nfs_inodes.specs.Stops.{StopsAt, counted_at};
 
@@ -62,7 +64,10 @@ pub(crate) fn ask_counted(
     before: Share,
     after: Usage,
     asking: &mut Asking,
-) -> Result<(), AllocError> {
+) -> Result<(), AllocError>
+    ensures { OnOk result (asking.new.asked.items ≡ (if is_same_usage before.usage after then asking.old.asked.items
+        else with_wish draft.now (Addr.Usage before.export (group_of number)) asking.old.asked.items)) }
+{
     if before.usage == after {
         return Ok(());
     }

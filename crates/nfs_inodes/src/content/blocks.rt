@@ -1,15 +1,20 @@
 //! The blocks that files are kept in: those of a range, and what is read there and written.
 
-ghost use Rattle.std.specs.Prelude.{◌≡◌, ◌+◌, ◌-◌, ◌*◌, ◌/◌, ◌<◌, ◌≤◌, ◌^◌, [], IfSome, MatchResult, OnOk};
-ghost use Rattle.std.specs.Prelude.{drop, length, option_copied, take, unwrap_or};
+ghost use Rattle.std.specs.Prelude.{◌≡◌, ◌+◌, ◌-◌, ◌*◌, ◌/◌, ◌<◌, ◌≤◌, ◌^◌, ◌||◌, ◌&&◌, [], ◌∷◌, IfOk, IfSome};
+ghost use Rattle.std.specs.Prelude.{IsSome, MatchResult, OnOk, drop, length, nat_le, nat_lt, option_copied, take, true};
+ghost use Rattle.std.specs.Prelude.{unwrap_or, ℕ};
 ghost use Rattle.nfs_machine.specs.Data.{size_limit};
 ghost use Rattle.nfs_objects.specs.Asks.{Lacks};
+ghost use Rattle.nfs_objects.specs.Bits.{has};
 ghost use Rattle.nfs_objects.specs.Calls.{blocks_at, maps_at};
 ghost use Rattle.nfs_objects.specs.Drafts.{MayChange};
 ghost use Rattle.nfs_objects.specs.Knows.{Knows};
 ghost use Rattle.nfs_objects.specs.Stands.{bytes_at};
-ghost use Rattle.nfs_inodes.specs.Blocks.{AreWritten, AsksToWrite, HasMap, HasPages, KnowsMapped, KnowsRange, ShowsBlock};
-ghost use Rattle.nfs_inodes.specs.Blocks.{WritesRange, end_of, first_of};
+ghost use Rattle.nfs_objects.specs.Values.{known_at};
+ghost use Rattle.nfs_inodes.specs.Asking.{AsksFor};
+ghost use Rattle.nfs_inodes.specs.Blocks.{HasBlock, HasMap, HasPages, IsBlockIn, IsInRange, IsMapAfter, IsMapPut};
+ghost use Rattle.nfs_inodes.specs.Blocks.{KnowsMapped, KnowsRange, ShowsBlock, WritesBlock, WritesBlocks, WritesRange};
+ghost use Rattle.nfs_inodes.specs.Blocks.{end_of, first_of};
 ghost use Rattle.nfs_inodes.specs.Stops.{StopsAt};
 
 use crate::content::asking::Asking;
@@ -52,6 +57,20 @@ impl Range {
         ensures { result ≡ end_of self.offset self.count }
     {
         (self.offset + self.count as u64 - 1) / BLOCK + 1
+    }
+
+    /// The map page of the first block.
+    fn first_page(self) -> u64
+        ensures { result ≡ first_of self.offset / 512 }
+    {
+        self.first() / MAP_BLOCKS
+    }
+
+    /// The map page of the last one.
+    fn last_page(self) -> u64
+        ensures { result ≡ (end_of self.offset self.count - 1) / 512 }
+    {
+        (self.end() - 1) / MAP_BLOCKS
     }
 
     /// Where those that lie in this block, or behind it, begin there.
@@ -104,17 +123,27 @@ pub(crate) fn read_range(draft: &Draft<'_>, file: Mapped<'_>, range: Range) -> R
         found ≡ take range.count (drop range.offset (bytes_at k.state file.number))))
         (StopsAt draft.now (blocks_at file.number range.offset)) }
 {
-    let mut asking = Asking::new(draft.alloc());
-    for index in range.first()..range.end() {
-        if file.map.pages().has(index / MAP_BLOCKS) {
-            asking.add(draft, block_at(file.number, index))?;
-        }
-    }
-    asking.ask()?;
+    ask_range(draft, file, range)?;
     match whole_in_one(draft, file, range)? {
         Some(bytes) => Ok(bytes),
         None => gathered(draft, file, range),
     }
+}
+
+/// Asks for the blocks of a range, as far as its map pages are there.
+fn ask_range(draft: &Draft<'_>, file: Mapped<'_>, range: Range) -> Result<(), Halt>
+    ensures { MatchResult result
+        (λ _. KnowsMapped draft.now file.number file.map.now.pages range.offset range.count)
+        (StopsAt draft.now (blocks_at file.number range.offset)) }
+{
+    let pages = file.map.pages();
+    let mut asking = Asking::new(draft.alloc());
+    for index in range.first()..range.end() {
+        if pages.has(index / MAP_BLOCKS) {
+            asking.add(draft, block_at(file.number, index))?;
+        }
+    }
+    asking.ask()
 }
 
 /// The bytes of a range, shared with the block that has them all; None where no block does.
@@ -161,11 +190,15 @@ fn gathered(draft: &Draft<'_>, file: Mapped<'_>, range: Range) -> Result<Bytes, 
     Ok(Bytes::from_vec(found)?)
 }
 
-fn block_at(file: u64, index: u64) -> Addr {
+fn block_at(file: u64, index: u64) -> Addr
+    ensures { result ≡ Addr.Block file index }
+{
     Addr::Block { file, index }
 }
 
-fn map_at(file: u64, page: u64) -> Addr {
+fn map_at(file: u64, page: u64) -> Addr
+    ensures { result ≡ Addr.Map file page }
+{
     Addr::Map { file, page }
 }
 
@@ -177,14 +210,12 @@ pub(crate) fn ask_written(
     range: Range,
     asking: &mut Asking,
 ) -> Result<(), AllocError>
-    requires { HasMap draft.now file.number file.map.now }
-    ensures { OnOk result
-        (AsksToWrite draft.now file.number range.offset range.count asking.old.asked.items asking.new.asked.items) }
+    ensures { OnOk result (AsksFor draft.now (IsInRange file.number range.offset range.count)
+        (IsBlockIn file.number (first_of range.offset) (end_of range.offset range.count))
+        asking.old.asked.items asking.new.asked.items) }
 {
-    for index in range.first()..range.end() {
-        asking.add(draft, block_at(file.number, index))?;
-    }
-    for page in pages_of(range) {
+    ask_blocks(draft, file.number, range, asking)?;
+    for page in range.first_page()..range.last_page() + 1 {
         if gets_blocks(file.map, range, page) {
             asking.add(draft, map_at(file.number, page))?;
         }
@@ -192,14 +223,29 @@ pub(crate) fn ask_written(
     Ok(())
 }
 
-/// The map pages of a range.
-fn pages_of(range: Range) -> std::ops::Range<u64> {
-    range.first() / MAP_BLOCKS..(range.end() - 1) / MAP_BLOCKS + 1
+/// Asks for the blocks of a range.
+fn ask_blocks(
+    draft: &Draft<'_>,
+    file: u64,
+    range: Range,
+    asking: &mut Asking,
+) -> Result<(), AllocError>
+    ensures { OnOk result (AsksFor draft.now
+        (IsBlockIn file (first_of range.offset) (end_of range.offset range.count))
+        (IsBlockIn file (first_of range.offset) (end_of range.offset range.count))
+        asking.old.asked.items asking.new.asked.items) }
+{
+    for index in range.first()..range.end() {
+        asking.add(draft, block_at(file, index))?;
+    }
+    Ok(())
 }
 
 /// Whether a map page surely gets another block where this range is written: it is not there, or the range has a block
 /// of it behind the end of the file.
-fn gets_blocks(map: &FileMap, range: Range, page: u64) -> bool {
+fn gets_blocks(map: &FileMap, range: Range, page: u64) -> bool
+    requires { page * 512 < 2 ^ 63 }
+{
     let last = range.end().min((page + 1) * MAP_BLOCKS) - 1;
     !map.pages().has(page) || last * BLOCK >= map.size()
 }
@@ -223,79 +269,131 @@ pub(crate) fn write_range(
     requires room { range.offset + range.count ≤ size_limit }
     requires known { KnowsRange draft.old number range.offset range.count }
     ensures { MatchResult result
-        (WritesRange draft.old draft.new number range.offset «data».now pages)
+        (WritesRange draft.old draft.new number range.offset «data».now)
         (StopsAt draft.old (maps_at number range.offset)) }
 {
-    let maps = maps_after(draft, number, range)?;
-    let blocks = blocks_after(draft, number, range, data)?;
-    let mut index = range.first();
-    for block in blocks {
-        draft.put_block(number, index, block)?;
-        index += 1;
-    }
-    let mut pages = pages;
-    for (page, bits) in maps {
-        draft.put_map(number, page, bits)?;
-        pages = pages.with(page);
-    }
-    Ok(pages)
+    let first = range.first_page();
+    let last = range.last_page();
+    let front = map_after(draft, number, range, first)?;
+    let back = if last == first {
+        None
+    } else {
+        map_after(draft, number, range, last)?
+    };
+    write_blocks(draft, number, range, data)?;
+    let pages = put_map(draft, number, first, front, pages)?;
+    put_map(draft, number, last, back, pages)
 }
 
-/// The blocks of a range, in order, once the bytes were written over it.
-fn blocks_after(
-    draft: &Draft<'_>,
+/// Writes bytes over the blocks of a range.
+fn write_blocks(
+    draft: &mut Draft<'_>,
     number: u64,
     range: Range,
     data: &[u8],
-) -> Result<Vec<Bytes>, Halt>
+) -> Result<(), Halt>
+    requires alone { MayChange draft.old (Addr.Inode number) }
     requires whole { range.count ≡ length «data».now }
-    requires known { KnowsRange draft.now number range.offset range.count }
+    requires known { KnowsRange draft.old number range.offset range.count }
     ensures { MatchResult result
-        (λ blocks. (length blocks.items ≡ end_of range.offset range.count - first_of range.offset) ×
-        AreWritten draft.now number range.offset «data».now (first_of range.offset) blocks.items)
-        (StopsAt draft.now []) }
+        (λ _. WritesBlocks draft.old draft.new number range.offset «data».now (end_of range.offset range.count))
+        (StopsAt draft.old []) }
 {
-    let mut blocks = Vec::with_capacity(draft.alloc(), (range.end() - range.first()) as usize)?;
     for index in range.first()..range.end() {
-        let old = bytes_of(draft.block(number, index)?);
         let at = range.start_in(index);
-        let part = window(
-            data,
-            (index * BLOCK).saturating_sub(range.offset) as usize,
-            BLOCK_SIZE - at,
-        );
-        blocks.push(written(draft.alloc(), old, at, part)?)?;
+        let from = (index * BLOCK).saturating_sub(range.offset) as usize;
+        write_block(draft, number, index, at, window(data, from, BLOCK_SIZE - at))?;
     }
-    Ok(blocks)
+    Ok(())
 }
 
-/// Those map pages of a range, with what they tell then, that get other blocks where it is written.
-fn maps_after(draft: &Draft<'_>, number: u64, range: Range) -> Result<Vec<(u64, Bits)>, Halt> {
-    let mut maps = Vec::new(draft.alloc());
-    for page in pages_of(range) {
-        if let Some(bits) = map_after(draft, number, range, page)? {
-            maps.push((page, bits))?;
-        }
-    }
-    Ok(maps)
+/// Writes bytes in a block at this place.
+fn write_block(
+    draft: &mut Draft<'_>,
+    number: u64,
+    index: u64,
+    at: usize,
+    part: &[u8],
+) -> Result<(), Halt>
+    requires alone { MayChange draft.old (Addr.Inode number) }
+    requires within { at + length part.now ≤ 4096 }
+    requires known { IsSome (known_at draft.old (Addr.Block number index)) }
+    ensures { MatchResult result
+        (λ _. WritesBlock draft.old draft.new number index at part.now)
+        (StopsAt draft.old []) }
+{
+    let old = bytes_of(draft.block(number, index)?);
+    let block = written(draft.alloc(), old, at, part)?;
+    Ok(draft.put_block(number, index, block)?)
 }
 
 /// What a map page tells once this range is written; None where it stays.
-fn map_after(draft: &Draft<'_>, number: u64, range: Range, page: u64) -> Result<Option<Bits>, Halt> {
-    let first = range.first().max(page * MAP_BLOCKS);
-    let end = range.end().min((page + 1) * MAP_BLOCKS);
-    let mut is_same = true;
-    for index in first..end {
-        if draft.block(number, index)?.is_none() {
-            is_same = false;
-        }
-    }
-    if is_same {
+fn map_after(
+    draft: &Draft<'_>,
+    number: u64,
+    range: Range,
+    page: u64,
+) -> Result<Option<Bits>, Halt>
+    requires known { KnowsRange draft.now number range.offset range.count }
+    requires behind { first_of range.offset < page * 512 + 512 }
+    requires before { page * 512 < end_of range.offset range.count }
+    ensures { MatchResult result
+        (IsMapAfter draft.now number (first_of range.offset) (end_of range.offset range.count) page)
+        (StopsAt draft.now (Addr.Map number page ∷ [])) }
+{
+    let begin = page * MAP_BLOCKS;
+    let first = range.first().max(begin);
+    let end = range.end().min(begin + MAP_BLOCKS);
+    if are_there(draft, number, first, end)? {
         return Ok(None);
     }
-    let mut bits = draft.map(number, page)?;
+    let bits = draft.map(number, page)?;
+    Ok(Some(with_places(bits, first - begin, end - begin)))
+}
+
+/// Whether each of these blocks is there.
+fn are_there(draft: &Draft<'_>, number: u64, first: u64, end: u64) -> Result<bool, Halt>
+    requires { (i : ℕ) → first ≤ i → i < end → IsSome (known_at draft.now (Addr.Block number i)) }
+    ensures { MatchResult result
+        (λ there. there ≡ true → (i : ℕ) → first ≤ i → i < end → HasBlock draft.now number i)
+        (StopsAt draft.now []) }
+{
     for index in first..end {
-        bits = bits.with(index % MAP_BLOCKS);
+        if draft.block(number, index)?.is_none() {
+            return Ok(false);
+        }
     }
-    Ok(Some(bits))
+    Ok(true)
+}
+
+/// The set with these numbers.
+fn with_places(bits: Bits, first: u64, end: u64) -> Bits
+    requires { end ≤ 512 }
+    ensures { (n : ℕ) → has result n ≡ (has bits n || (nat_le first n && nat_lt n end)) }
+{
+    let mut bits = bits;
+    for place in first..end {
+        bits = bits.with(place);
+    }
+    bits
+}
+
+/// Puts what a map page tells from now on, if that is another. Which map pages are there then.
+fn put_map(
+    draft: &mut Draft<'_>,
+    number: u64,
+    page: u64,
+    bits: Option<Bits>,
+    pages: Bits,
+) -> Result<Bits, AllocError>
+    requires alone { MayChange draft.old (Addr.Inode number) }
+    requires page { page < 512 }
+    requires known { IfSome bits (λ _. IsSome (known_at draft.old (Addr.Map number page))) }
+    ensures { IfOk result (IsMapPut draft.old draft.new number page bits pages) }
+{
+    let Some(bits) = bits else {
+        return Ok(pages);
+    };
+    draft.put_map(number, page, bits)?;
+    Ok(pages.with(page))
 }

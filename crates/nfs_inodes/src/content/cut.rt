@@ -1,15 +1,20 @@
 //! The blocks that go where a file is cut off.
 
-ghost use Rattle.std.specs.Prelude.{[], MatchResult};
+ghost use Rattle.std.specs.Prelude.{◌≡◌, ◌/◌, ◌<◌, ◌≤◌, ◌&&◌, ℕ, [], IsSome, MatchResult, OnOk, nat_lt, true};
+ghost use Rattle.nfs_objects.specs.Bits.{has, no_bits};
 ghost use Rattle.nfs_objects.specs.Drafts.{MayChange};
-ghost use Rattle.nfs_inodes.specs.Blocks.{HasPages, IsCutAt};
+ghost use Rattle.nfs_objects.specs.Values.{known_at};
+ghost use Rattle.nfs_inodes.specs.Asking.{AsksFor};
+ghost use Rattle.nfs_inodes.specs.Blocks.{HasPages};
+ghost use Rattle.nfs_inodes.specs.Cuts.{CutsBlock, CutsBlocks, CutsNext, CutsPage, EndsAt, IsCutAt, IsTold, KnowsMaps};
+ghost use Rattle.nfs_inodes.specs.Cuts.{KnowsTold, ShowsMap, ShowsMaps, told_at};
 ghost use Rattle.nfs_inodes.specs.Stops.{StillStands, StopsAt};
 
 use crate::content::asking::Asking;
-use crate::content::blocks::{BLOCK, Mapped};
-use bytes::Bytes;
+use crate::content::blocks::BLOCK;
 use nfs_objects::block::cut;
 use nfs_objects::{Addr, Bits, Draft, Halt, MAP_BLOCKS};
+use std::alloc::AllocError;
 
 /// Frees what a file has behind a place, which is its end from then on. Which map pages are there then.
 ///
@@ -26,127 +31,231 @@ pub(crate) fn cut_off(
     requires alone { MayChange draft.old (Addr.Inode number) }
     requires pages { HasPages draft.old number pages }
     requires stands { StillStands draft.old }
-    ensures { MatchResult result (IsCutAt draft.old draft.new number size pages) (StopsAt draft.old []) }
+    ensures { MatchResult result (IsCutAt draft.old draft.new number size) (StopsAt draft.old []) }
 {
-    let maps = maps_behind(draft, number, pages, size)?;
-    ask_blocks(draft, number, &maps, size)?;
-    let last = last_block(draft, number, &maps, size)?;
-    if let Some(bytes) = last {
-        draft.put_block(number, size / BLOCK, bytes)?;
+    let first = size / BLOCK / MAP_BLOCKS;
+    let end = behind_last(pages);
+    let maps = read_maps(draft, number, pages, first, end)?;
+    ask_blocks(draft, number, &maps, first, end, size / BLOCK)?;
+    let mut left = pages.below(first);
+    for page in first..end {
+        if pages.has(page) {
+            left = cut_next(draft, number, page, maps[(page - first) as usize], size, left)?;
+        }
     }
-    free_blocks(draft, number, &maps, size)?;
-    lower_maps(draft, number, pages, &maps, size)
+    Ok(left)
 }
 
-/// The map pages from the one on that the place lies in, with what they tell.
-fn maps_behind(
+/// Cuts off the next page. Which map pages of those so far are there then.
+fn cut_next(
+    draft: &mut Draft<'_>,
+    number: u64,
+    page: u64,
+    bits: Bits,
+    size: u64,
+    left: Bits,
+) -> Result<Bits, Halt>
+    requires alone { MayChange draft.old (Addr.Inode number) }
+    requires small { page < 512 }
+    requires known { IsSome (known_at draft.old (Addr.Map number page)) }
+    requires told { KnowsTold draft.old number page bits (size / 4096) }
+    ensures cut { MatchResult result (CutsNext draft.old draft.new number page bits size left) (StopsAt draft.old []) }
+{
+    if cut_page(draft, number, page, bits, size)? {
+        Ok(left.with(page))
+    } else {
+        Ok(left)
+    }
+}
+
+/// The number behind the last map page that is there.
+fn behind_last(pages: Bits) -> u64
+    ensures small { result ≤ 512 }
+    ensures ends { EndsAt pages result }
+{
+    let mut end = MAP_BLOCKS;
+    while end > 0 && !pages.has(end - 1) {
+        end -= 1;
+    }
+    end
+}
+
+/// What the map pages from one on tell, up to another; of one that is not there, of no block.
+fn read_maps(
     draft: &Draft<'_>,
     number: u64,
     pages: Bits,
-    size: u64,
-) -> Result<Vec<(u64, Bits)>, Halt> {
-    let mut asking = Asking::new(draft.alloc());
-    for page in first_page(size)..MAP_BLOCKS {
-        if pages.has(page) {
-            asking.add(draft, Addr::Map { file: number, page })?;
-        }
-    }
-    asking.ask()?;
+    first: u64,
+    end: u64,
+) -> Result<Vec<Bits>, Halt>
+    requires pages { HasPages draft.now number pages }
+    requires stands { StillStands draft.now }
+    requires small { end ≤ 512 }
+    ensures shows { MatchResult result
+        (λ maps. ShowsMaps draft.now number first end maps.items)
+        (StopsAt draft.now []) }
+    ensures known { OnOk result (KnowsMaps draft.now number pages first end) }
+{
+    ask_maps(draft, number, pages, first, end)?;
     let mut maps = Vec::new(draft.alloc());
-    for page in first_page(size)..MAP_BLOCKS {
-        if pages.has(page) {
-            maps.push((page, draft.map(number, page)?))?;
-        }
+    for page in first..end {
+        maps.push(map_told(draft, number, pages, page)?)?;
     }
     Ok(maps)
 }
 
-/// The map page that a place lies in.
-fn first_page(size: u64) -> u64 {
-    size / BLOCK / MAP_BLOCKS
-}
-
-/// Asks for the blocks that these maps tell of, from the one on that the place lies in.
-fn ask_blocks(
-    draft: &Draft<'_>,
-    number: u64,
-    maps: &[(u64, Bits)],
-    size: u64,
-) -> Result<(), Halt> {
+/// Asks for the map pages that are there from one on, up to another.
+fn ask_maps(draft: &Draft<'_>, number: u64, pages: Bits, first: u64, end: u64) -> Result<(), Halt>
+    requires pages { HasPages draft.now number pages }
+    requires stands { StillStands draft.now }
+    ensures { MatchResult result
+        (λ _. KnowsMaps draft.now number pages first end)
+        (StopsAt draft.now []) }
+{
     let mut asking = Asking::new(draft.alloc());
-    for (page, bits) in maps {
-        for place in 0..MAP_BLOCKS {
-            let index = page * MAP_BLOCKS + place;
-            if bits.has(place) && index >= size / BLOCK {
-                let address = Addr::Block {
-                    file: number,
-                    index,
-                };
-                asking.add(draft, address)?;
-            }
+    for page in first..end {
+        if pages.has(page) {
+            asking.add(draft, Addr::Map { file: number, page })?;
         }
     }
     asking.ask()
 }
 
-/// What stays of the block that the place lies in, where that is there and has more.
-fn last_block(
-    draft: &Draft<'_>,
-    number: u64,
-    maps: &[(u64, Bits)],
-    size: u64,
-) -> Result<Option<Bytes>, Halt> {
-    let index = size / BLOCK;
-    let count = (size % BLOCK) as usize;
-    let is_there = match maps.first() {
-        Some((page, bits)) => *page == first_page(size) && bits.has(index % MAP_BLOCKS),
-        None => false,
-    };
-    if count == 0 || !is_there {
-        return Ok(None);
-    }
-    match draft.block(number, index)? {
-        Some(bytes) if bytes.len() > count => {
-            Ok(Some(cut(draft.alloc(), bytes.as_slice(), count)?))
-        }
-        _ => Ok(None),
+/// Which blocks a map page tells of; none where it is not there.
+fn map_told(draft: &Draft<'_>, number: u64, pages: Bits, page: u64) -> Result<Bits, Halt>
+    requires pages { HasPages draft.now number pages }
+    requires known { has pages page ≡ true → IsSome (known_at draft.now (Addr.Map number page)) }
+    ensures { MatchResult result (ShowsMap draft.now number page) (StopsAt draft.now []) }
+{
+    if pages.has(page) {
+        draft.map(number, page)
+    } else {
+        Ok(Bits::none())
     }
 }
 
-/// Frees the blocks that these maps tell of and that lie behind the place.
-fn free_blocks(
-    draft: &mut Draft<'_>,
+/// Asks for the blocks that these maps tell of, from this one on.
+fn ask_blocks(
+    draft: &Draft<'_>,
     number: u64,
-    maps: &[(u64, Bits)],
-    size: u64,
-) -> Result<(), Halt> {
-    for (page, bits) in maps {
-        for place in 0..MAP_BLOCKS {
-            let index = page * MAP_BLOCKS + place;
-            if bits.has(place) && index * BLOCK >= size {
-                draft.free_block(number, index)?;
-            }
+    maps: &[Bits],
+    first: u64,
+    end: u64,
+    from: u64,
+) -> Result<(), Halt>
+    requires maps { ShowsMaps draft.now number first end maps.now }
+    requires small { end ≤ 512 }
+    requires stands { StillStands draft.now }
+    ensures { MatchResult result
+        (λ _. (page : ℕ) → first ≤ page → page < end →
+        KnowsTold draft.now number page (told_at maps.now first page) from)
+        (StopsAt draft.now []) }
+{
+    let mut asking = Asking::new(draft.alloc());
+    for page in first..end {
+        ask_page(draft, number, page, maps[(page - first) as usize], from, &mut asking)?;
+    }
+    asking.ask()
+}
+
+/// Asks for the blocks that the map of a page tells of, from this one on.
+fn ask_page(
+    draft: &Draft<'_>,
+    number: u64,
+    page: u64,
+    bits: Bits,
+    from: u64,
+    asking: &mut Asking,
+) -> Result<(), AllocError>
+    requires { page < 512 }
+    ensures { OnOk result (AsksFor draft.now (IsTold number page bits from 512) (IsTold number page bits from 512)
+        asking.old.asked.items asking.new.asked.items) }
+{
+    for place in 0..MAP_BLOCKS {
+        let index = page * MAP_BLOCKS + place;
+        if bits.has(place) && index >= from {
+            let address = Addr::Block {
+                file: number,
+                index,
+            };
+            asking.add(draft, address)?;
         }
     }
     Ok(())
 }
 
-/// Takes the blocks behind the place out of these maps. Which map pages are there then.
-fn lower_maps(
+/// Cuts off the blocks of a page that its map tells of, and takes out of it those that go. Whether it is there then.
+fn cut_page(
     draft: &mut Draft<'_>,
     number: u64,
-    pages: Bits,
-    maps: &[(u64, Bits)],
+    page: u64,
+    bits: Bits,
     size: u64,
-) -> Result<Bits, Halt> {
-    let mut left = pages.below(first_page(size));
-    for (page, bits) in maps {
-        let blocks = size.div_ceil(BLOCK).saturating_sub(page * MAP_BLOCKS);
-        let bits = bits.below(blocks);
-        draft.put_map(number, *page, bits)?;
-        if !bits.is_none() {
-            left = left.with(*page);
+) -> Result<bool, Halt>
+    requires alone { MayChange draft.old (Addr.Inode number) }
+    requires small { page < 512 }
+    requires known { IsSome (known_at draft.old (Addr.Map number page)) }
+    requires told { KnowsTold draft.old number page bits (size / 4096) }
+    ensures { MatchResult result (CutsPage draft.old draft.new number page bits size) (StopsAt draft.old []) }
+{
+    cut_blocks(draft, number, page, bits, size)?;
+    let bits = first_bits(bits, size.div_ceil(BLOCK).saturating_sub(page * MAP_BLOCKS));
+    draft.put_map(number, page, bits)?;
+    Ok(!bits.is_none())
+}
+
+/// Cuts off the blocks of a page that its map tells of.
+fn cut_blocks(
+    draft: &mut Draft<'_>,
+    number: u64,
+    page: u64,
+    bits: Bits,
+    size: u64,
+) -> Result<(), Halt>
+    requires alone { MayChange draft.old (Addr.Inode number) }
+    requires small { page < 512 }
+    requires told { KnowsTold draft.old number page bits (size / 4096) }
+    ensures { MatchResult result
+        (λ _. CutsBlocks draft.old draft.new number page bits size 512)
+        (StopsAt draft.old []) }
+{
+    for place in 0..MAP_BLOCKS {
+        let index = page * MAP_BLOCKS + place;
+        if bits.has(place) && index >= size / BLOCK {
+            cut_block(draft, number, index, size.saturating_sub(index * BLOCK))?;
         }
     }
-    Ok(left)
+    Ok(())
+}
+
+/// Cuts off a block that is there, of which so many bytes stay at most.
+fn cut_block(draft: &mut Draft<'_>, number: u64, index: u64, left: u64) -> Result<(), Halt>
+    requires alone { MayChange draft.old (Addr.Inode number) }
+    requires known { IsSome (known_at draft.old (Addr.Block number index)) }
+    ensures { MatchResult result
+        (λ _. CutsBlock draft.old draft.new number index left)
+        (StopsAt draft.old []) }
+{
+    if left == 0 {
+        return Ok(draft.free_block(number, index)?);
+    }
+    let left = left as usize;
+    match draft.block(number, index)? {
+        Some(bytes) if bytes.len() > left => {
+            let front = cut(draft.alloc(), bytes.as_slice(), left)?;
+            Ok(draft.put_block(number, index, front)?)
+        }
+        _ => Ok(()),
+    }
+}
+
+/// The first so many of the blocks of a page.
+fn first_bits(bits: Bits, count: u64) -> Bits
+    ensures has { (n : ℕ) → has result n ≡ (has bits n && nat_lt n count) }
+    ensures none { count ≡ 0 → result ≡ no_bits }
+{
+    match count {
+        0 => Bits::none(),
+        _ => bits.below(count),
+    }
 }

@@ -10,7 +10,8 @@ ghost use Rattle.nfs_objects.specs.Modes.{changing};
 ghost use Rattle.nfs_objects.specs.Stands.{content_of};
 ghost use Rattle.nfs_objects.specs.Drafts.{MayChange};
 ghost use Rattle.nfs_objects.specs.declared.address.Addr.TheVariants as Addr;
-ghost use Rattle.nfs_inodes.specs.Blocks.{IsCleared, read_from, written_from};
+ghost use Rattle.nfs_inodes.specs.Blocks.{read_from, written_from};
+ghost use Rattle.nfs_inodes.specs.Cuts.{IsCleared};
 ghost use Rattle.nfs_inodes.specs.Kinds.{IsShown};
 ghost use Rattle.nfs_inodes.specs.Known.{bytes_of, content_at};
 ghost use Rattle.nfs_inodes.specs.Makes.{bytes_changed};
@@ -128,8 +129,8 @@ pub fn write(draft: &mut Draft<'_>, file: &File, offset: u64, bytes: &[u8]) -> R
         map: kept.map,
     };
     let mut asking = Asking::new(draft.alloc());
-    ask_counted(draft, number, share, after, &mut asking)?;
     ask_written(draft, mapped, range, &mut asking)?;
+    ask_counted(draft, number, share, after, &mut asking)?;
     asking.ask()?;
     let usage = counted(draft, number, share, after)?;
     let pages = kept.map.pages();
