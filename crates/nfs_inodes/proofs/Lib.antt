@@ -1,10 +1,11 @@
 pub mod Climbing
 pub mod Composing
 pub mod Counting
+pub mod Cutting
 pub mod Editing
 pub mod Ending
-pub mod Gaining
 pub mod Filing
+pub mod Gaining
 pub mod Gathering
 pub mod Halting
 pub mod Keeping
@@ -15,9 +16,12 @@ pub mod Losing
 pub mod Moving
 pub mod Naming
 pub mod Putting
+pub mod Reading
 pub mod Relinked
 pub mod Showing
 pub mod SoundBut
 pub mod Standing
 pub mod Taking
 pub mod Totals
+pub mod Wishing
+pub mod Written

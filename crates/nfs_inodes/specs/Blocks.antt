@@ -1,5 +1,5 @@
 -- What a draft shows of the blocks of a file, and what is written to them (RFC 1813, 3.3.6 and 3.3.7).
-use Rattle.std.specs.Prelude.{◌≡◌, ◌⊎◌, ℕ, ◌+◌, ◌-◌, ◌*◌, ◌/◌, ◌<◌, ◌≤◌, ◌==◌, ◌||◌, ◌&&◌, true, false, nat_le, nat_lt}
+use Rattle.std.specs.Prelude.{◌≡◌, ◌≢◌, ◌⊎◌, ℕ, ◌+◌, ◌-◌, ◌*◌, ◌/◌, ◌<◌, ◌≤◌, ◌==◌, ◌||◌, ◌&&◌, true, false, nat_le, nat_lt}
 use Rattle.std.specs.Prelude.{List, ◌++◌, Option, Some, None, IsSome, option_map, length, take, drop, min}
 use Rattle.nfs_machine.specs.Data.{written}
 use Rattle.nfs_objects.specs.Bits.{has}
@@ -123,6 +123,11 @@ IsMapAfter d file first end page (Some bits) = (was : Bits) ×
     (option_map map_of (known_at d (addresses.Map file page)) ≡ Some was) ×
     ((n : ℕ) → n < 512 → has bits n ≡ (has was n || (nat_le first (page * 512 + n) && nat_lt (page * 512 + n) end))) ×
     ((place : ℕ) × (has bits place ≡ true))
+
+-- the same of the last page of a range, where it is not the first
+pub record IsBackAfter (d : DraftValue) (file first end front back : ℕ) (after : Option Bits) : Type 0 where
+  pub other : front ≢ back → IsMapAfter d file first end back after
+  pub same : front ≡ back → after ≡ None
 
 -- it was put, if it is another, and that page is there then
 abbrev pub IsMapPut : (old new : DraftValue) (file page : ℕ) → Option Bits → (pages after : Bits) → Type 0

@@ -12,7 +12,8 @@ ghost use Rattle.nfs_objects.specs.Knows.{Knows};
 ghost use Rattle.nfs_objects.specs.Stands.{bytes_at};
 ghost use Rattle.nfs_objects.specs.Values.{known_at};
 ghost use Rattle.nfs_inodes.specs.Asking.{AsksFor};
-ghost use Rattle.nfs_inodes.specs.Blocks.{HasBlock, HasMap, HasPages, IsBlockIn, IsInRange, IsMapAfter, IsMapPut};
+ghost use Rattle.nfs_inodes.specs.Blocks.{HasBlock, HasMap, HasPages, IsBackAfter, IsBlockIn, IsInRange, IsMapAfter};
+ghost use Rattle.nfs_inodes.specs.Blocks.{IsMapPut};
 ghost use Rattle.nfs_inodes.specs.Blocks.{KnowsMapped, KnowsRange, ShowsBlock, WritesBlock, WritesBlocks, WritesRange};
 ghost use Rattle.nfs_inodes.specs.Blocks.{end_of, first_of};
 ghost use Rattle.nfs_inodes.specs.Stops.{StopsAt};
@@ -272,17 +273,11 @@ pub(crate) fn write_range(
         (WritesRange draft.old draft.new number range.offset «data».now)
         (StopsAt draft.old (maps_at number range.offset)) }
 {
-    let first = range.first_page();
-    let last = range.last_page();
-    let front = map_after(draft, number, range, first)?;
-    let back = if last == first {
-        None
-    } else {
-        map_after(draft, number, range, last)?
-    };
+    let front = map_after(draft, number, range, range.first_page())?;
+    let back = back_after(draft, number, range)?;
     write_blocks(draft, number, range, data)?;
-    let pages = put_map(draft, number, first, front, pages)?;
-    put_map(draft, number, last, back, pages)
+    let pages = put_map(draft, number, range.first_page(), front, pages)?;
+    Ok(put_map(draft, number, range.last_page(), back, pages)?)
 }
 
 /// Writes bytes over the blocks of a range.
@@ -349,6 +344,20 @@ fn map_after(
     }
     let bits = draft.map(number, page)?;
     Ok(Some(with_places(bits, first - begin, end - begin)))
+}
+
+/// What the last map page tells once this range is written, where it is not the first one; None where it stays.
+fn back_after(draft: &Draft<'_>, number: u64, range: Range) -> Result<Option<Bits>, Halt>
+    requires known { KnowsRange draft.now number range.offset range.count }
+    ensures { MatchResult result
+        (IsBackAfter draft.now number (first_of range.offset) (end_of range.offset range.count)
+        (first_of range.offset / 512) ((end_of range.offset range.count - 1) / 512))
+        (StopsAt draft.now (Addr.Map number ((end_of range.offset range.count - 1) / 512) ∷ [])) }
+{
+    if range.first_page() == range.last_page() {
+        return Ok(None);
+    }
+    map_after(draft, number, range, range.last_page())
 }
 
 /// Whether each of these blocks is there.

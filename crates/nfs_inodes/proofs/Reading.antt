@@ -1,0 +1,242 @@
+-- What a draft shows of the blocks and maps of a file, and what is read of them.
+use Rattle.std.proofs.Common.{◌≡◌, ◌≢◌, ◌+◌, ◌-◌, ◌*◌, ◌/◌, ◌%◌, ◌<◌, ◌≤◌, ℕ, true, false, Bool, min}
+use Rattle.std.proofs.Common.{List, [], ◌∷◌, ◌++◌, Option, Some, None, IsSome, Result, Ok, Err, inl, inr, refl, sym, ◌∙◌, ap, subst, arith}
+use Rattle.std.proofs.Common.{append-nil, cond, length, length-append, take, drop, replicate, option_map, unwrap_or}
+use Rattle.std.proofs.Math.Seq.{take-add}
+use Rattle.std.proofs.lemmas.List.{drop-drop, length-drop, length-take, take_all, take-append-drop}
+use Rattle.std.specs.Prelude.{MatchResult, IfSome}
+use Rattle.nfs_machine.specs.Data.{resized}
+use Rattle.nfs_objects.proofs.BitSets.{has-none}
+use Rattle.nfs_objects.proofs.Contents.{part-length}
+use Rattle.nfs_objects.proofs.FileParts.{drop-resized, read-one, resized-length, take-grown}
+use Rattle.nfs_objects.proofs.Seen.{known-stands}
+use Rattle.nfs_objects.specs.Asks.{IsThere, Lacks}
+use Rattle.nfs_objects.specs.Bits.{has, no_bits}
+use Rattle.nfs_objects.specs.FileMaps.{FileMapValue, IsContent, block_size, part_at}
+use Rattle.nfs_objects.specs.Fits.{Fits}
+use Rattle.nfs_objects.specs.Knows.{Knows, Possible}
+use Rattle.nfs_objects.specs.Stands.{HasBlocks, IsMapped, IsStored, Kept, Represents, block_of, bytes_at, map_in, map_of, pages_of}
+use Rattle.nfs_objects.specs.Stands.{stored_in}
+use Rattle.nfs_objects.specs.Store.{Store, with_writes, with_write}
+use Rattle.nfs_objects.specs.Values.{DraftValue, is_addr, known_at, shown_at, written_at}
+use Rattle.nfs_objects.specs.declared.address.Addr.{Addr}
+use Rattle.nfs_objects.specs.declared.address.Addr.TheVariants as addresses
+use Rattle.nfs_objects.specs.declared.bits.Bits.{Bits}
+use Rattle.nfs_objects.specs.declared.change.Halt.{Halt}
+use Rattle.nfs_objects.specs.declared.object.Inode.{Inode}
+use Rattle.nfs_objects.specs.declared.object.Object.{Object}
+use Rattle.nfs_objects.specs.declared.object.Object.TheVariants as objects
+use Rattle.nfs_inodes.proofs.Putting.{known-inode}
+use Rattle.nfs_inodes.proofs.Standing.{stands-there}
+use Rattle.nfs_inodes.specs.Blocks.{HasMap, HasPages, ShowsBlock}
+use Rattle.nfs_inodes.specs.Cuts.{ShowsMap}
+use Rattle.nfs_inodes.specs.Stops.{StillStands, StopsAt}
+
+-- ---- what stands where nothing was written
+over-some : (ws : List (Addr × Option Object)) (x : Option Object) (a : Addr) → written_at (Some x) ws a ≡ None → ⊥
+over-some [] x a e = cc
+over-some (w ∷ ws) x a e =
+    elim (is_addr w.0 a) as (λ b. written_at (cond b (Some w.1) (Some x)) ws a ≡ None → ⊥)
+    [ true ↦ over-some ws w.1 a | false ↦ over-some ws x a ] e
+
+unwritten : (ws : List (Addr × Option Object)) (s : Store) (known : Option (Option Object)) (a : Addr) →
+    written_at known ws a ≡ None → (with_writes s ws).at a ≡ s.at a
+unwritten [] s known a none = refl
+unwritten (w ∷ ws) s known a none =
+    elim (is_addr w.0 a) as (λ b. is_addr w.0 a ≡ b → written_at (cond b (Some w.1) known) ws a ≡ None →
+    (with_writes (with_write s w.0 w.1) ws).at a ≡ s.at a) [
+      | true ↦ λ is e. absurd (over-some ws w.1 a e)
+      | false ↦ λ is e. unwritten ws (with_write s w.0 w.1) known a e ∙ ap (λ b. cond b w.1 (s.at a)) is
+    ] refl none
+
+pub unknown-stays : (d : DraftValue) (s : Store) (a : Addr) → known_at d a ≡ None →
+    (with_writes s d.writes).at a ≡ s.at a
+unknown-stays d s a unknown = unwritten d.writes s (shown_at d.view.entries a) a unknown
+
+-- what stands in a store that the draft was written to stood there before, where the draft does not know it
+pub was-there : (d : DraftValue) (a : Addr) → StillStands d → known_at d a ≡ None →
+    ((s : Store) (k : Kept) → Fits d.view s → Represents (with_writes s d.writes) k →
+    IsSome ((with_writes s d.writes).at a)) → IsThere d.view a
+was-there d a still unknown there s k fits stands sound formed =
+    let new = still s k fits stands in
+    subst (λ o. IsSome o) (unknown-stays d s a unknown) (there s new.0 fits new.1)
+
+-- ---- maps and blocks
+pub has-pages : (d : DraftValue) (n : ℕ) (map : FileMapValue) → HasMap d n map → HasPages d n map.pages
+has-pages d n map has s fits =
+    ap pages_of (known-stands d s (addresses.Inode n) (Some (objects.Inode has.inode)) fits
+    (known-inode d n has.inode has.stands))
+    ∙ ap (λ f. elim f [ None ↦ no_bits | Some map ↦ map.pages ]) has.content
+
+some-map : (o : Option Object) → IsMapped true o → IsSome o
+some-map o is = subst (λ x. IsSome x) (sym is.1) refl
+
+some-block : (o : Option Object) → IsStored true o → IsSome o
+some-block o is = subst (λ x. IsSome x) (sym is.1) refl
+
+module _ (s : Store) (n : ℕ) (pages : Bits) (filed : HasBlocks s n pages) where
+  pub no-map : (page : ℕ) → has pages page ≡ false → s.at (addresses.Map n page) ≡ None
+  no-map page none = subst (λ b. IsMapped b (s.at (addresses.Map n page))) none (filed.maps page)
+
+  pub no-block : (i : ℕ) → has (map_of (s.at (addresses.Map n (i / 512)))) (i % 512) ≡ false →
+      s.at (addresses.Block n i) ≡ None
+  no-block i none = subst (λ b. IsStored b (s.at (addresses.Block n i))) none (filed.blocks i)
+
+  pub no-page : (i : ℕ) → has pages (i / 512) ≡ false → s.at (addresses.Block n i) ≡ None
+  no-page i none = no-block i (ap (λ o. has (map_of o) (i % 512)) (no-map (i / 512) none) ∙ has-none (i % 512))
+
+module _ (d : DraftValue) (n : ℕ) (pages : Bits) (shows : HasPages d n pages) (s : Store) (k : Kept) (fits : Fits d.view s)
+    (stands : Represents (with_writes s d.writes) k) where
+  pub has-blocks : HasBlocks (with_writes s d.writes) n pages
+  has-blocks = subst (HasBlocks (with_writes s d.writes) n) (shows s fits) (stands.files.blocks n)
+
+-- a map page that is there stands there, and a block that its map tells of
+pub page-stands : (d : DraftValue) (n : ℕ) (pages : Bits) (page : ℕ) → HasPages d n pages → has pages page ≡ true →
+    (s : Store) (k : Kept) → Fits d.view s → Represents (with_writes s d.writes) k →
+    IsSome ((with_writes s d.writes).at (addresses.Map n page))
+page-stands d n pages page shows there s k fits stands =
+    some-map _ (subst (λ b. IsMapped b ((with_writes s d.writes).at (addresses.Map n page))) there
+    ((has-blocks d n pages shows s k fits stands).maps page))
+
+pub told-stands : (d : DraftValue) (n page : ℕ) (bits : Bits) (place : ℕ) → place < 512 → ShowsMap d n page bits →
+    has bits place ≡ true → (s : Store) (k : Kept) → Fits d.view s → Represents (with_writes s d.writes) k →
+    IsSome ((with_writes s d.writes).at (addresses.Block n (page * 512 + place)))
+told-stands d n page bits place below shows told s k fits stands =
+    some-block (t.at (addresses.Block n i)) (subst (λ b. IsStored b (t.at (addresses.Block n i))) tells
+    ((stands.files.blocks n).blocks i))
+  where
+    t : Store
+    t = with_writes s d.writes
+
+    i : ℕ
+    i = page * 512 + place
+
+    row : i / 512 ≡ page
+    row = omega (arith, below)
+
+    column : i % 512 ≡ place
+    column = omega (arith, below)
+
+    tells : has (map_of (t.at (addresses.Map n (i / 512)))) (i % 512) ≡ true
+    tells = (λ j. has (map_of (t.at (addresses.Map n (row j)))) (column j))
+        ∙ ap (λ b. has b place) (shows s k fits stands) ∙ told
+
+-- ---- blocks that are shown
+pub shows-absent : (d : DraftValue) (n : ℕ) (pages : Bits) (i : ℕ) → HasPages d n pages → has pages (i / 512) ≡ false →
+    ShowsBlock d n i []
+shows-absent d n pages i shows none s k fits stands =
+    ap stored_in (no-page (with_writes s d.writes) n pages (has-blocks d n pages shows s k fits stands) i none)
+
+pub shows-known : (d : DraftValue) (n i : ℕ) (found : Option (List ℕ)) →
+    option_map block_of (known_at d (addresses.Block n i)) ≡ Some found → ShowsBlock d n i (unwrap_or found [])
+shows-known d n i found known = by (known_at d (addresses.Block n i)) refl known
+  where
+    by : (o : Option (Option Object)) → known_at d (addresses.Block n i) ≡ o → option_map block_of o ≡ Some found →
+        ShowsBlock d n i (unwrap_or found [])
+    by None is e = cc
+    by (Some o) is e = λ s k fits stands.
+        let same : block_of o ≡ found = cc in
+        ap stored_in (known-stands d s (addresses.Block n i) o fits is) ∙ ap (λ b. unwrap_or b []) same
+
+-- the bytes of a file are what its blocks tell
+pub content-there : (d : DraftValue) (n : ℕ) (map : FileMapValue) → HasMap d n map → (s : Store) (k : Kept) →
+    Fits d.view s → Represents (with_writes s d.writes) k →
+    IsContent map.size (λ b. stored_in ((with_writes s d.writes).at (addresses.Block n b))) (bytes_at k.state n)
+content-there d n map has s k fits stands =
+    stands.files.bytes n has.inode map (stands-there d n (Some has.inode) has.stands s k fits stands) has.content
+
+-- ---- what is read
+-- of one block: so many bytes from a place on, with zeros where it has fewer
+module _ (size : ℕ) (stored : ℕ → List ℕ) (bytes : List ℕ) (is : IsContent size stored bytes) (i start count place : ℕ)
+    (at : place ≡ i * block_size + start) (one : start + count ≤ block_size) (within : place + count ≤ size) where
+  pub read-part : resized (drop start (stored i)) count ≡ take count (drop place bytes)
+  read-part =
+      let whole = part-length bytes i in
+      let counted = is.counted in
+      let room : start + count ≤ length (part_at bytes i) = omega (arith, whole, counted, at, one, within) in
+      let long : length (part_at bytes i) ≡ start + (length (part_at bytes i) - start) = omega (arith, room) in
+      let rest : count ≤ length (part_at bytes i) - start = omega (arith, room) in
+      let wanted : start + count - start ≡ count = omega arith in
+      sym (take-grown count (length (part_at bytes i) - start) (drop start (stored i)) rest)
+      ∙ ap (take count) (sym (drop-resized start (length (part_at bytes i) - start) (stored i)))
+      ∙ ap (λ m. take count (drop start (resized (stored i) m))) (sym long)
+      ∙ ap (λ p. take count (drop start p)) (sym (is.filled i))
+      ∙ ap (λ m. take m (drop start (part_at bytes i))) (sym wanted)
+      ∙ read-one bytes place i start count at (part_at bytes i) refl room
+
+  pub read-whole : start + count ≤ length (stored i) → take count (drop start (stored i)) ≡ take count (drop place bytes)
+  read-whole enough =
+      let none : count - length (drop start (stored i)) ≡ 0 = omega (arith, length-drop start (stored i), enough) in
+      sym (ap (λ m. take count (drop start (stored i)) ++ replicate m 0) none ∙ append-nil (take count (drop start (stored i))))
+      ∙ read-part
+
+module _ (d : DraftValue) (n : ℕ) (map : FileMapValue) (has : HasMap d n map) (offset count : ℕ) (some : 0 < count)
+    (within : offset + count ≤ map.size) where
+  -- where the first block has them all
+  pub whole-found : (bytes found : List ℕ) → ShowsBlock d n (offset / block_size) bytes →
+      offset - offset / block_size * block_size + count ≤ length bytes →
+      found ≡ take count (drop (offset - offset / block_size * block_size) bytes) →
+      Knows d (λ k. found ≡ take count (drop offset (bytes_at k.state n)))
+  whole-found bytes found shows enough is s k w =
+      let i : ℕ = offset / block_size in
+      let start : ℕ = offset - i * block_size in
+      let content = content-there d n map has s k w.fits w.stands in
+      let block = shows s k w.fits w.stands in
+      let long : length (stored_in ((with_writes s d.writes).at (addresses.Block n i))) ≡ length bytes = ap length block in
+      let short = content.short i in
+      let part = part-length (bytes_at k.state n) i in
+      is ∙ ap (λ b. take count (drop start b)) (sym block)
+      ∙ read-whole map.size (λ b. stored_in ((with_writes s d.writes).at (addresses.Block n b))) (bytes_at k.state n) content
+      i start count offset (omega arith) (omega (arith, long, short, part, enough)) within (omega (arith, long, enough))
+
+  -- the bytes so far, of those before a block
+  pub record IsGathered (index : ℕ) (found : List ℕ) : Type 0 where
+    pub counted : length found ≡ min count (index * block_size - offset)
+    pub is : Knows d (λ k. found ≡ take (length found) (drop offset (bytes_at k.state n)))
+
+  pub gathered-none : IsGathered (offset / block_size) []
+  gathered-none = record { counted = omega arith; is = λ s k w. refl }
+
+  pub gathered-more : (index : ℕ) (found bytes more : List ℕ) → offset / block_size ≤ index →
+      index * block_size < offset + count → IsGathered index found → ShowsBlock d n index bytes →
+      more ≡ found ++ resized (drop (offset - index * block_size) bytes)
+      (min (block_size - (offset - index * block_size)) (count - length found)) → IsGathered (index + 1) more
+  gathered-more index found bytes more behind before so shows is = record {
+    counted = ap length is ∙ long ∙ next;
+    is = λ s k w.
+        let data = bytes_at k.state n in
+        let content = content-there d n map has s k w.fits w.stands in
+        is ∙ ap (λ b. found ++ resized (drop start b) c) (sym (shows s k w.fits w.stands))
+        ∙ (λ j. so.is s k w j ++ part data (λ b. stored_in ((with_writes s d.writes).at (addresses.Block n b))) content j)
+        ∙ sym (take-add (length found) c (drop offset data))
+        ∙ ap (λ m. take m (drop offset data)) (sym (ap length is ∙ long));
+  }
+    where
+      start : ℕ
+      start = offset - index * block_size
+
+      c : ℕ
+      c = min (block_size - start) (count - length found)
+
+      long : length (found ++ resized (drop start bytes) c) ≡ length found + c
+      long = length-append found (resized (drop start bytes) c)
+          ∙ ap (λ m. length found + m) (resized-length (drop start bytes) c)
+
+      next : length found + c ≡ min count ((index + 1) * block_size - offset)
+      next = let l = so.counted in omega (arith, l, behind, before)
+
+      part : (data : List ℕ) (stored : ℕ → List ℕ) → IsContent map.size stored data →
+          resized (drop start (stored index)) c ≡ take c (drop (length found) (drop offset data))
+      part data stored content =
+          let l = so.counted in
+          let at : offset + length found ≡ index * block_size + start = omega (arith, l, behind, before) in
+          read-part map.size stored data content index start c (offset + length found) at
+          (omega (arith, l, behind, before)) (omega (arith, l, within, behind, before))
+          ∙ ap (take c) (sym (drop-drop (length found) offset data))
+
+  pub gathered-all : (index : ℕ) (found : List ℕ) → offset + count ≤ index * block_size → IsGathered index found →
+      Knows d (λ k. found ≡ take count (drop offset (bytes_at k.state n)))
+  gathered-all index found behind so s k w =
+      let l = so.counted in
+      let whole : length found ≡ count = omega (arith, l, behind) in
+      so.is s k w ∙ ap (λ m. take m (drop offset (bytes_at k.state n))) whole
