@@ -2,10 +2,11 @@
 use Rattle.std.proofs.Common.{◌≡◌, ◌≢◌, ◌+◌, ◌-◌, ◌*◌, ◌/◌, ◌%◌, ◌<◌, ◌≤◌, ◌==◌, ◌&&◌, ◌||◌, ◌⊎◌, ℕ, true, false, Bool, min, not, nat_lt}
 use Rattle.std.proofs.Common.{List, [], ◌∷◌, ◌++◌, Option, Some, None, IsSome, inl, inr, refl, sym, ◌∙◌, ap, subst, arith}
 use Rattle.std.proofs.Common.{cond, length, take, drop, option_map, unwrap_or, slice_index_or}
-use Rattle.std.proofs.lemmas.Bool.{cases_lt, lt-ltb, le-ltb}
+use Rattle.std.proofs.lemmas.Bool.{cases_lt, le-ltb, lt-ltb, ltb-false, ltb-true}
 use Rattle.std.proofs.lemmas.List.{take_all}
 use Rattle.std.specs.Cmp.{unsigned_Decides}
 use Rattle.nfs_objects.proofs.BitSets.{has-none}
+use Rattle.nfs_objects.proofs.Contents.{content-resized, part-length}
 use Rattle.nfs_objects.proofs.Laying.{lays-block, lays-both, lays-map, lays-none}
 use Rattle.nfs_objects.proofs.Seen.{is_addr-refl, is_addr-same, known-stands}
 use Rattle.nfs_objects.specs.Asks.{IsThere}
@@ -23,11 +24,12 @@ use Rattle.nfs_objects.specs.declared.address.Addr.TheVariants as addresses
 use Rattle.nfs_objects.specs.declared.bits.Bits.{Bits}
 use Rattle.nfs_objects.specs.declared.object.Object.{Object}
 use Rattle.nfs_objects.specs.declared.object.Object.TheVariants as objects
-use Rattle.nfs_inodes.proofs.Reading.{has-blocks, no-map, page-stands, told-stands, was-there}
+use Rattle.nfs_inodes.proofs.Reading.{has-blocks, no-map, no-page, page-stands, told-stands, was-there}
 use Rattle.nfs_inodes.proofs.Wishing.{differs, not-same, other-block, other-map, same-number}
 use Rattle.nfs_inodes.proofs.Written.{leaves-as, leaves-both, leaves-none, leaves-one, stands-here}
 use Rattle.nfs_inodes.specs.Blocks.{HasPages, Leaves}
 use Rattle.nfs_inodes.specs.Cuts.{CutsBlock, CutsBlocks, CutsNext, CutsPage, EndsAt, IsBehind, IsCleared, IsCutAt, IsCutTo}
+use Rattle.nfs_inodes.specs.Cuts.{IsResized}
 use Rattle.nfs_inodes.specs.Cuts.{IsPageIn, IsTold, IsToldIn, KnowsMaps, ShowsMap, ShowsMaps, cut_to, told_at}
 use Rattle.nfs_inodes.specs.Stops.{StillStands}
 
@@ -385,3 +387,437 @@ page-cut old mid new n page bits left size count none so is tells gone put test 
       stays_is = ap not test;
       gone = λ zero. gone (is ∙ omega (arith, zero));
     })
+
+-- ---- all pages, one after another
+same-numbers : (page place : ℕ) → place < 512 → ((page * 512 + place) / 512 ≡ page) × ((page * 512 + place) % 512 ≡ place)
+same-numbers page place below = (omega (arith, below), omega (arith, below))
+
+cut-bytes : (left : ℕ) (bytes : List ℕ) → stored_in (cut_to left bytes) ≡ take left bytes
+cut-bytes left bytes = by (left == 0) refl
+  where
+    by : (b : Bool) → (left == 0) ≡ b → stored_in (cond b None (Some (objects.Block (take left bytes)))) ≡ take left bytes
+    by true zero = ap (λ l. take l bytes) (sym ((unsigned_Decides left 0).0 zero))
+    by false some = refl
+
+-- a block is there if it has something left
+cut-stands : (left : ℕ) (bytes : List ℕ) (stays : Bool) → (stays ≡ true → 0 < left) → (stays ≡ false → left ≡ 0) →
+    IsStored stays (cut_to left bytes)
+cut-stands left bytes true some none =
+    let more : (left == 0) ≡ false = not-same left 0 (λ e. (let s = some refl in absurd (omega (arith, s, e)))) in
+    (take left bytes, ap (λ b. cond b None (Some (objects.Block (take left bytes)))) more)
+cut-stands left bytes false some none =
+    ap (λ l. cut_to l bytes) (none refl)
+
+left-stands : (left : Bits) (stays : Bool) → stays ≡ not (same_bits left no_bits) → (o : Option Object) →
+    o ≡ stored_map left → IsMapped stays o
+left-stands left stays is o at = subst (λ b. IsMapped b o) (sym is) (subst (IsMapped (not (same_bits left no_bits))) (sym at)
+    (by (same_bits left no_bits)))
+  where
+    by : (b : Bool) → IsMapped (not b) (cond b None (Some (objects.Map left)))
+    by true = refl
+    by false = (left, refl)
+
+-- so the map tells of just the blocks that are left of the page, and where there is none it stands for none
+map-left : (left : Bits) (o : Option Object) → o ≡ stored_map left → (n : ℕ) → has (map_of o) n ≡ has left n
+map-left left o at n = ap (λ x. has (map_of x) n) at ∙ by (same_bits left no_bits) refl
+  where
+    by : (b : Bool) → same_bits left no_bits ≡ b → has (map_of (cond b None (Some (objects.Map left)))) n ≡ has left n
+    by true is = ap (λ x. has x n) (sym ((bits_decides left no_bits).0 is))
+    by false is = refl
+
+module _ (old : DraftValue) (n : ℕ) (pages : Bits) (size : ℕ) (shows : HasPages old n pages) where
+  abbrev from : ℕ
+  from = size / block_size
+
+  abbrev at-old : Store → Addr → Option Object
+  at-old s a = (with_writes s old.writes).at a
+
+  -- nothing is cut before the page that the place lies in
+  pub cut-start : (left : Bits) → ((p : ℕ) → has left p ≡ (has pages p && nat_lt p (from / 512))) →
+      IsCutTo old old n size (from / 512) left
+  cut-start left is = record {
+    lays = lays-none n old;
+    leaves = leaves-none old (IsBehind n (from / 512));
+    front = λ s i before. refl;
+    blocks = λ s k i fits stands behind before. absurd (omega (arith, behind, before));
+    stored = λ s k i fits stands before. (has-blocks old n pages shows s k fits stands).blocks i;
+    maps = λ s k p fits stands before.
+        subst (λ b. IsMapped b (at-old s (addresses.Map n p)))
+        (sym (is p ∙ ap (λ b. has pages p && b) (lt-ltb p (from / 512) before) ∙ and_true (has pages p)))
+        ((has-blocks old n pages shows s k fits stands).maps p);
+    later = λ p behind. is p ∙ ap (λ b. has pages p && b) (le-ltb p (from / 512) behind) ∙ and_false (has pages p);
+    gone = λ zero p. is p ∙ ap (λ b. has pages p && b) (le-ltb p (from / 512) (omega (arith, zero))) ∙ and_false (has pages p);
+  }
+    where
+      and_true : (b : Bool) → (b && true) ≡ b
+      and_true true = refl
+      and_true false = refl
+
+      and_false : (b : Bool) → (b && false) ≡ false
+      and_false true = refl
+      and_false false = refl
+
+  module _ (mid : DraftValue) (page : ℕ) (left : Bits) (so : IsCutTo old mid n size page left) where
+    abbrev at-mid : Store → Addr → Option Object
+    at-mid s a = (with_writes s mid.writes).at a
+
+    map-behind : (p : ℕ) → page ≤ p → IsBehind n page (addresses.Map n p)
+    map-behind p behind = record {
+      map = λ q before. other-map n q p (λ e. absurd (omega (arith, before, e, behind)));
+      block = λ i before. refl;
+    }
+
+    block-behind : (i : ℕ) → page * 512 ≤ i → IsBehind n page (addresses.Block n i)
+    block-behind i behind = record {
+      map = λ q before. refl;
+      block = λ j before. other-block n j i (λ e. absurd (omega (arith, before, e, behind)));
+    }
+
+    -- what is behind stands as it did
+    pub map-same : (s : Store) (p : ℕ) → page ≤ p → at-mid s (addresses.Map n p) ≡ at-old s (addresses.Map n p)
+    map-same s p behind = so.leaves.stands s (addresses.Map n p) (map-behind p behind)
+
+    pub block-same : (s : Store) (i : ℕ) → page * 512 ≤ i → at-mid s (addresses.Block n i) ≡ at-old s (addresses.Block n i)
+    block-same s i behind = so.leaves.stands s (addresses.Block n i) (block-behind i behind)
+
+    pub map-known : known_at mid (addresses.Map n page) ≡ known_at old (addresses.Map n page)
+    map-known = so.leaves.known (addresses.Map n page) (map-behind page (omega arith))
+
+    pub block-known : (i : ℕ) → page * 512 ≤ i → known_at mid (addresses.Block n i) ≡ known_at old (addresses.Block n i)
+    block-known i behind = so.leaves.known (addresses.Block n i) (block-behind i behind)
+
+    behind-less : (a : Addr) → IsBehind n (page + 1) a → IsBehind n page a
+    behind-less a is = record {
+      map = λ p before. is.map p (omega (arith, before));
+      block = λ i before. is.block i (omega (arith, before));
+    }
+
+    -- the next page, where it is not there
+    pub cut-skip : has pages page ≡ false → IsCutTo old mid n size (page + 1) left
+    cut-skip none = record {
+      lays = so.lays;
+      leaves = leaves-as old mid (IsBehind n (page + 1)) (IsBehind n page) so.leaves behind-less;
+      front = so.front;
+      blocks = λ s k i fits stands behind before. elim (cases_lt i (page * 512)) [
+        | inl less ↦ so.blocks s k i fits stands behind less
+        | inr here ↦
+            let absent = nothing s k i fits stands here before in
+            ap stored_in (block-same s i here) ∙ ap stored_in absent ∙ sym (empty (size - i * block_size))
+            ∙ ap (λ o. take (size - i * block_size) (stored_in o)) (sym absent)
+      ];
+      stored = λ s k i fits stands before. elim (cases_lt i (page * 512)) [
+        | inl less ↦ so.stored s k i fits stands less
+        | inr here ↦ subst (λ o. IsStored (has (map_of (at-mid s (addresses.Map n (i / 512)))) (i % 512)) o)
+            (sym (block-same s i here))
+            (subst (λ m. IsStored (has (map_of m) (i % 512)) (at-old s (addresses.Block n i)))
+            (sym (map-same s (i / 512) (omega (arith, here))))
+            ((has-blocks old n pages shows s k fits stands).blocks i))
+      ];
+      maps = λ s k p fits stands before. elim (cases_lt p page) [
+        | inl less ↦ so.maps s k p fits stands less
+        | inr here ↦
+            let same : page ≡ p = omega (arith, here, before) in
+            subst (λ q. IsMapped (has left q) (at-mid s (addresses.Map n q))) same
+            (subst (λ b. IsMapped b (at-mid s (addresses.Map n page))) (sym (so.later page (omega arith)))
+            (map-same s page (omega arith)
+            ∙ no-map (with_writes s old.writes) n pages (has-blocks old n pages shows s k fits stands) page none))
+      ];
+      later = λ p behind. so.later p (omega (arith, behind));
+      gone = so.gone;
+    }
+      where
+        empty : (m : ℕ) → take m [] ≡ []
+        empty m = take_all m [] (omega arith)
+
+        nothing : (s : Store) (k : Kept) (i : ℕ) → Fits old.view s → Represents (with_writes s old.writes) k →
+            page * 512 ≤ i → i < (page + 1) * 512 → at-old s (addresses.Block n i) ≡ None
+        nothing s k i fits stands here before =
+            let row : page ≡ i / 512 = omega (arith, here, before) in
+            no-page (with_writes s old.writes) n pages (has-blocks old n pages shows s k fits stands) i
+            (ap (has pages) (sym row) ∙ none)
+
+    -- and where it is
+    module _ (new : DraftValue) (bits after : Bits) (told : ShowsMap old n page bits)
+        (next : CutsNext mid new n page bits size left after) where
+      abbrev at-new : Store → Addr → Option Object
+      at-new s a = (with_writes s new.writes).at a
+
+      abbrev cut : CutsPage mid new n page bits size next.stays
+      cut = next.cut
+
+      -- what is no block of the page and not its map stays
+      map-away : (s : Store) (p : ℕ) → p ≢ page → at-new s (addresses.Map n p) ≡ at-mid s (addresses.Map n p)
+      map-away s p apart = cut.leaves.stands s (addresses.Map n p)
+          (λ x. map-told x, other-map n page p (λ e. apart (sym e)))
+        where
+          map-told : IsTold n page bits (size / block_size) 512 (addresses.Map n p) → ⊥
+          map-told x = (let e = x.is in cc)
+
+      block-away : (s : Store) (i : ℕ) → (IsTold n page bits from 512 (addresses.Block n i) → ⊥) →
+          at-new s (addresses.Block n i) ≡ at-mid s (addresses.Block n i)
+      block-away s i none = cut.leaves.stands s (addresses.Block n i) (none, refl)
+
+      -- a block of another page, of none that the map tells of, or before the end
+      not-page : (i : ℕ) → i < page * 512 → IsTold n page bits from 512 (addresses.Block n i) → ⊥
+      not-page i less x = (let e = x.is in let same : page * 512 + x.place ≡ i = block-number e in absurd (omega (arith, less, same)))
+        where
+          block-number : {a b : ℕ} → addresses.Block n a ≡ addresses.Block n b → a ≡ b
+          block-number e = cc
+
+      not-told : (place : ℕ) → (has bits place ≡ false) ⊎ (page * 512 + place < from) →
+          IsTold n page bits from 512 (addresses.Block n (page * 512 + place)) → ⊥
+      not-told place none x =
+          let e = x.is in
+          let numbers : page * 512 + x.place ≡ page * 512 + place = block-number e in
+          let same : x.place ≡ place = omega (arith, numbers) in
+          elim none [
+            | inl off ↦ (let no : true ≡ false = sym x.told ∙ ap (has bits) same ∙ off in cc)
+            | inr before ↦ (let b = x.behind in absurd (omega (arith, before, b, same)))
+          ]
+        where
+          block-number : {a b : ℕ} → addresses.Block n a ≡ addresses.Block n b → a ≡ b
+          block-number e = cc
+
+      -- of a block of the page: what stands there, and what has
+      pub record IsLeft (s : Store) (place : ℕ) : Type 0 where
+        pub bytes : stored_in (at-new s (addresses.Block n (page * 512 + place))) ≡
+            take (size - (page * 512 + place) * block_size) (stored_in (at-old s (addresses.Block n (page * 512 + place))))
+            ⊎ (page * 512 + place < from)
+        pub stands : IsStored (has cut.left place) (at-new s (addresses.Block n (page * 512 + place)))
+
+      module _ (s : Store) (k : Kept) (fits : Fits old.view s) (stands : Represents (with_writes s old.writes) k) where
+        filed : HasBlocks (with_writes s old.writes) n pages
+        filed = has-blocks old n pages shows s k fits stands
+
+        fits-mid : Fits mid.view s
+        fits-mid = subst (λ v. Fits v s) (sym so.lays.view) fits
+
+        block-was : (place : ℕ) → place < 512 → IsStored (has bits place) (at-old s (addresses.Block n (page * 512 + place)))
+        block-was place below =
+            let numbers = same-numbers page place below in
+            subst (λ b. IsStored b (at-old s (addresses.Block n (page * 512 + place))))
+            ((λ j. has (map_of (at-old s (addresses.Map n (numbers.0 j)))) (numbers.1 j))
+            ∙ ap (λ b. has b place) (told s k fits stands))
+            (filed.blocks (page * 512 + place))
+
+        is-left : (place : ℕ) → place < 512 → IsLeft s place
+        is-left place below = by (has bits place) refl (block-was place below)
+          where
+            i : ℕ
+            i = page * 512 + place
+
+            mid-was : at-mid s (addresses.Block n i) ≡ at-old s (addresses.Block n i)
+            mid-was = block-same s i (omega arith)
+
+            by : (b : Bool) → has bits place ≡ b → IsStored b (at-old s (addresses.Block n i)) → IsLeft s place
+            by false off none =
+                let absent : at-new s (addresses.Block n i) ≡ None =
+                block-away s i (not-told place (inl off)) ∙ mid-was ∙ none in record {
+                  bytes = inl (ap stored_in absent ∙ sym (take_all (size - i * block_size) [] (omega arith))
+                      ∙ ap (λ o. take (size - i * block_size) (stored_in o)) (sym none));
+                  stands = subst (λ b. IsStored b (at-new s (addresses.Block n i)))
+                      (sym (cut.tells place ∙ ap (λ b. b && nat_lt (i * block_size) size) off)) absent;
+                }
+            by true on some = elim (cases_lt i from) [
+              | inl before ↦
+                  let stays : at-new s (addresses.Block n i) ≡ Some (objects.Block some.0) =
+                  block-away s i (not-told place (inr before)) ∙ mid-was ∙ some.1 in record {
+                    bytes = inr before;
+                    stands = subst (λ b. IsStored b (at-new s (addresses.Block n i)))
+                        (sym (cut.tells place ∙ (λ j. on j && lt-ltb (i * block_size) size (inside before) j)))
+                        (some.0, stays);
+                  }
+              | inr behind ↦
+                  let is = cut.cut s place some.0 fits-mid below on behind (mid-was ∙ some.1) in record {
+                    bytes = inl (ap stored_in is ∙ cut-bytes (size - i * block_size) some.0
+                        ∙ ap (λ o. take (size - i * block_size) (stored_in o)) (sym some.1));
+                    stands = subst (λ b. IsStored b (at-new s (addresses.Block n i)))
+                        (sym (cut.tells place ∙ ap (λ b. b && nat_lt (i * block_size) size) on))
+                        (subst (IsStored (nat_lt (i * block_size) size)) (sym is)
+                        (cut-stands (size - i * block_size) some.0 (nat_lt (i * block_size) size)
+                        (λ e. (let l = ltb-true (i * block_size) size e in omega (arith, l)))
+                        (λ e. (let l = ltb-false (i * block_size) size e in omega (arith, l)))));
+                  }
+            ]
+              where
+                inside : i < from → i * block_size < size
+                inside before = omega (arith, before)
+
+      pub cut-step : IsCutTo old new n size (page + 1) after
+      cut-step = record {
+        lays = lays-both n old mid new so.lays cut.lays;
+        leaves = leaves-both old mid new (IsBehind n (page + 1)) (IsBehind n page)
+            (λ a. (IsTold n page bits from 512 a → ⊥) × (is_addr (addresses.Map n page) a ≡ false)) so.leaves cut.leaves
+            (λ a is. (behind-less a is, (λ x. away a is x, is.map page (omega arith))));
+        front = λ s i before. block-away s i (λ x. front-told i before x) ∙ so.front s i before;
+        blocks = λ s k i fits stands behind before. elim (cases_lt i (page * 512)) [
+          | inl less ↦ ap stored_in (block-away s i (not-page i less)) ∙ so.blocks s k i fits stands behind less
+          | inr here ↦
+              let place = i - page * 512 in
+              let whole : page * 512 + place ≡ i = omega (arith, here) in
+              subst (λ q. stored_in (at-new s (addresses.Block n q)) ≡
+              take (size - q * block_size) (stored_in (at-old s (addresses.Block n q)))) whole
+              (elim (is-left s k fits stands place (omega (arith, here, before))).bytes [
+                | inl same ↦ same
+                | inr less ↦ absurd (omega (arith, less, whole, behind))
+              ])
+        ];
+        stored = λ s k i fits stands before. elim (cases_lt i (page * 512)) [
+          | inl less ↦
+              subst (λ o. IsStored (has (map_of (at-new s (addresses.Map n (i / 512)))) (i % 512)) o)
+              (sym (block-away s i (not-page i less)))
+              (subst (λ m. IsStored (has (map_of m) (i % 512)) (at-mid s (addresses.Block n i)))
+              (sym (map-away s (i / 512) (λ e. absurd (omega (arith, less, e)))))
+              (so.stored s k i fits stands less))
+          | inr here ↦
+              let place = i - page * 512 in
+              let whole : page * 512 + place ≡ i = omega (arith, here) in
+              let row : i / 512 ≡ page = omega (arith, here, before) in
+              let column : i % 512 ≡ place = omega (arith, here, before) in
+              subst (λ b. IsStored b (at-new s (addresses.Block n i)))
+              (sym ((λ j. has (map_of (at-new s (addresses.Map n (row j)))) (column j))
+              ∙ map-left cut.left (at-new s (addresses.Map n page)) (cut.map s) place))
+              (subst (λ q. IsStored (has cut.left place) (at-new s (addresses.Block n q))) whole
+              (is-left s k fits stands place (omega (arith, here, before))).stands)
+        ];
+        maps = λ s k p fits stands before. elim (cases_lt p page) [
+          | inl less ↦
+              let apart : p ≢ page = λ e. absurd (omega (arith, less, e)) in
+              subst (λ o. IsMapped (has after p) o) (sym (map-away s p apart))
+              (subst (λ b. IsMapped b (at-mid s (addresses.Map n p))) (sym (kept p apart)) (so.maps s k p fits stands less))
+          | inr here ↦
+              let same : page ≡ p = omega (arith, here, before) in
+              subst (λ q. IsMapped (has after q) (at-new s (addresses.Map n q))) same
+              (subst (λ b. IsMapped b (at-new s (addresses.Map n page))) (sym at-page)
+              (left-stands cut.left next.stays cut.stays_is (at-new s (addresses.Map n page)) (cut.map s)))
+        ];
+        later = λ p behind. kept p (λ e. absurd (omega (arith, behind, e))) ∙ so.later p (omega (arith, behind));
+        gone = λ zero p. by zero p (p == page) refl;
+      }
+        where
+          kept : (p : ℕ) → p ≢ page → has after p ≡ has left p
+          kept p apart = next.pages p ∙ ap (λ b. has left p || (next.stays && b)) (not-same p page apart) ∙ off next.stays (has left p)
+            where
+              off : (a b : Bool) → (b || (a && false)) ≡ b
+              off true true = refl
+              off true false = refl
+              off false true = refl
+              off false false = refl
+
+          at-page : has after page ≡ next.stays
+          at-page = next.pages page
+              ∙ (λ j. so.later page (omega arith) j || (next.stays && same-number page j)) ∙ on next.stays
+            where
+              on : (a : Bool) → (false || (a && true)) ≡ a
+              on true = refl
+              on false = refl
+
+          by : size ≡ 0 → (p : ℕ) → (b : Bool) → (p == page) ≡ b → has after p ≡ false
+          by zero p true is =
+              ap (has after) ((unsigned_Decides p page).0 is) ∙ at-page ∙ cut.stays_is
+              ∙ ap (λ x. not (same_bits x no_bits)) (cut.gone zero) ∙ ap not ((bits_decides no_bits no_bits).1 refl)
+          by zero p false is = kept p (differs p page is) ∙ so.gone zero p
+
+          away : (a : Addr) → IsBehind n (page + 1) a → IsTold n page bits from 512 a → ⊥
+          away a is x =
+              let own = is_addr-refl (addresses.Block n (page * 512 + x.place)) in
+              let other = is.block (page * 512 + x.place) (let b = x.below in omega (arith, b)) in
+              let no : true ≡ false = sym own ∙ ap (is_addr (addresses.Block n (page * 512 + x.place))) x.is ∙ other in cc
+
+          front-told : (i : ℕ) → i < from → IsTold n page bits from 512 (addresses.Block n i) → ⊥
+          front-told i before x = (let e = x.is in let same : page * 512 + x.place ≡ i = block-number e in
+              let b = x.behind in absurd (omega (arith, before, same, b)))
+            where
+              block-number : {a b : ℕ} → addresses.Block n a ≡ addresses.Block n b → a ≡ b
+              block-number e = cc
+
+    -- behind the last page nothing stands
+    pub cut-end : from / 512 ≤ page → EndsAt pages page → IsCutAt old mid n size left
+    cut-end first ends = record {
+      lays = so.lays;
+      inodes = λ q. so.leaves.known (addresses.Inode q) (record { map = λ p before. refl; block = λ i before. refl });
+      front = so.front;
+      blocks = λ s k i fits stands behind. elim (cases_lt i (page * 512)) [
+        | inl less ↦ so.blocks s k i fits stands behind less
+        | inr here ↦
+            let absent = no-page (with_writes s old.writes) n pages (has-blocks old n pages shows s k fits stands) i
+            (none (i / 512) (omega (arith, here))) in
+            ap stored_in (block-same s i here) ∙ ap stored_in absent
+            ∙ sym (take_all (size - i * block_size) [] (omega arith))
+            ∙ ap (λ o. take (size - i * block_size) (stored_in o)) (sym absent)
+      ];
+      maps = λ s k fits stands. record {
+        maps = λ p. elim (cases_lt p page) [
+          | inl less ↦ so.maps s k p fits stands less
+          | inr here ↦ subst (λ b. IsMapped b (at-mid s (addresses.Map n p))) (sym (so.later p here))
+              (map-same s p here
+              ∙ no-map (with_writes s old.writes) n pages (has-blocks old n pages shows s k fits stands) p (none p here))
+        ];
+        blocks = λ i. elim (cases_lt i (page * 512)) [
+          | inl less ↦ so.stored s k i fits stands less
+          | inr here ↦ subst (λ o. IsStored (has (map_of (at-mid s (addresses.Map n (i / 512)))) (i % 512)) o)
+              (sym (block-same s i here))
+              (subst (λ m. IsStored (has (map_of m) (i % 512)) (at-old s (addresses.Block n i)))
+              (sym (map-same s (i / 512) (omega (arith, here))))
+              ((has-blocks old n pages shows s k fits stands).blocks i))
+        ];
+      };
+      gone = so.gone;
+    }
+      where
+        none : (p : ℕ) → page ≤ p → has pages p ≡ false
+        none p here = by (has pages p) refl
+          where
+            by : (b : Bool) → has pages p ≡ b → b ≡ false
+            by true there = (let e = ends p there in absurd (omega (arith, e, here)))
+            by false there = refl
+
+-- ---- all goes
+pub cleared-all : (old new : DraftValue) (n size : ℕ) (left : Bits) → size ≡ 0 → IsCutAt old new n size left →
+    IsCleared old new n
+cleared-all old new n size left zero cut = record {
+  lays = cut.lays;
+  inodes = cut.inodes;
+  maps = λ s k fits stands. record {
+    maps = λ p. subst (λ b. IsMapped b ((with_writes s new.writes).at (addresses.Map n p)))
+        (cut.gone zero p ∙ sym (has-none p)) ((cut.maps s k fits stands).maps p);
+    blocks = (cut.maps s k fits stands).blocks;
+  };
+}
+
+-- ---- another size
+module _ (old new : DraftValue) (n before size : ℕ) (left : Bits) where
+  pub smaller : IsCutAt old new n size left → IsResized old new n before size left
+  smaller cut = record {
+    lays = cut.lays;
+    inodes = cut.inodes;
+    content = λ s k bytes fits stands is.
+        content-resized before (λ b. stored_in ((with_writes s old.writes).at (addresses.Block n b))) bytes is size
+        (λ b. stored_in ((with_writes s new.writes).at (addresses.Block n b))) (λ i. elim (cases_lt i (size / block_size)) [
+          | inl less ↦
+              let short = is.short i in
+              let part = part-length bytes i in
+              let stored = stored_in ((with_writes s old.writes).at (addresses.Block n i)) in
+              ap stored_in (cut.front s i less)
+              ∙ sym (take_all (size - i * block_size) stored (omega (arith, short, part, less)))
+          | inr behind ↦ cut.blocks s k i fits stands behind
+        ]);
+    maps = cut.maps;
+  }
+
+-- no smaller one: nothing changes
+pub larger : (d : DraftValue) (n before size : ℕ) (pages : Bits) → before ≤ size → HasPages d n pages →
+    IsResized d d n before size pages
+larger d n before size pages within shows = record {
+  lays = lays-none n d;
+  inodes = λ q. refl;
+  content = λ s k bytes fits stands is.
+      content-resized before (λ b. stored_in ((with_writes s d.writes).at (addresses.Block n b))) bytes is size
+      (λ b. stored_in ((with_writes s d.writes).at (addresses.Block n b))) (λ i.
+      let short = is.short i in
+      let part = part-length bytes i in
+      let counted = is.counted in
+      let stored = stored_in ((with_writes s d.writes).at (addresses.Block n i)) in
+      sym (take_all (size - i * block_size) stored (omega (arith, short, part, counted, within))));
+  maps = λ s k fits stands. has-blocks d n pages shows s k fits stands;
+}

@@ -17,13 +17,16 @@ use Rattle.nfs_objects.specs.Edits.{counted_anew, freed, recounted, with_living}
 use Rattle.nfs_objects.specs.Sums.{in_export, one_using, shares_of}
 use Rattle.nfs_objects.specs.declared.usage.Usage.{Usage}
 use Rattle.nfs_objects.specs.FileMaps.{FileMapValue, IsContent}
+use Rattle.nfs_objects.specs.Drafts.{MayChange}
 use Rattle.nfs_objects.specs.Fits.{Fits}
 use Rattle.nfs_objects.specs.Knows.{Turns}
 use Rattle.nfs_objects.specs.Stands.{HasBlocks, IsFitting, Kept, Represents, bytes_at, inode_in, lives_in, living_of_inode}
 use Rattle.nfs_objects.specs.Stands.{map_in, parent_in, stored_in}
+use Rattle.nfs_objects.specs.Modes.{held_mode}
 use Rattle.nfs_objects.specs.Store.{Store, with_write, with_writes}
 use Rattle.nfs_objects.specs.Unfiled.{Lays, RepresentsBut}
 use Rattle.nfs_objects.specs.Values.{DraftValue, with_written}
+use Rattle.nfs_objects.specs.declared.address.Addr.{Addr}
 use Rattle.nfs_objects.specs.declared.address.Addr.TheVariants as addresses
 use Rattle.nfs_objects.specs.declared.object.Content.TheVariants as contents
 use Rattle.nfs_objects.specs.declared.object.Inode.{Inode}
@@ -83,6 +86,11 @@ module _ (d laid : DraftValue) (n : ℕ) (i : Inode) (has : HasInode d n (Some i
     where
       j : Inode
       j = record i { content = contents.Regular after; modified = touch i.changed now; changed = touch i.changed now }
+
+-- what may be changed before blocks and maps of a file are written may be changed then
+pub laid-change : (n : ℕ) (d laid : DraftValue) → Lays n d laid → (a : Addr) → MayChange d a → MayChange laid a
+laid-change n d laid lays a may =
+    (λ j. held_mode (lays.modes j) (lays.view j) a) ∙ may
 
 -- what lives at a number goes, once no block and no map of it is there
 pub gone-turns : (d laid : DraftValue) (n : ℕ) → Lays n d laid

@@ -4,7 +4,8 @@ use Rattle.std.proofs.Common.{List, [], ◌∷◌, ◌++◌, Option, Some, None,
 use Rattle.std.proofs.Common.{find, inl, inr, ◌==◌, refl, sym, ◌∙◌, ap, subst}
 use Rattle.std.proofs.lemmas.Bool.{lt-leb}
 use Rattle.std.specs.List.{AllByRecursion}
-use Rattle.std.specs.Prelude.{MatchResult, is_some}
+use Rattle.std.specs.Prelude.{IfSome, MatchResult, is_some}
+use Rattle.nfs_wire.specs.declared.attributes.FileType.{FileType}
 use Rattle.nfs_wire.specs.declared.attributes.Time.{Time}
 use Rattle.nfs_wire.specs.declared.status.NfsStatus.{NfsStatus}
 use Rattle.std.specs.Cmp.{unsigned_Decides}
@@ -22,8 +23,8 @@ use Rattle.nfs_objects.proofs.Exported.{inode-stands}
 use Rattle.nfs_objects.proofs.FileParts.{resized-length, written-length}
 use Rattle.nfs_objects.proofs.Knows.{among-behind, among-front, among-groups, covers-among, stops-wider}
 use Rattle.nfs_objects.proofs.Promised.{turns-both, turns-none}
-use Rattle.nfs_objects.proofs.Seen.{shown-stands, written-append}
-use Rattle.nfs_objects.proofs.Turns.{edit-turns, free-turns, new-turns}
+use Rattle.nfs_objects.proofs.Seen.{known-stands, shown-stands, writes-append, written-append}
+use Rattle.nfs_objects.proofs.Turns.{edit-turns, new-stands}
 use Rattle.nfs_objects.specs.Asks.{IsFirst}
 use Rattle.nfs_objects.specs.Calls.{IsAmong, addresses_of, usages_of}
 use Rattle.nfs_objects.specs.Drafts.{MayGive}
@@ -34,11 +35,11 @@ use Rattle.nfs_objects.specs.Fits.{Fits, vacant}
 use Rattle.nfs_objects.specs.Knows.{Knows, ShowsExport, Turns}
 use Rattle.nfs_objects.specs.Stands.{IsFitting, Kept, Represents, bytes_at, content_of, file_bytes, living_alone}
 use Rattle.nfs_objects.specs.Stands.{living_in, living_of_inode, map_in, pages_of, with_file}
-use Rattle.nfs_objects.specs.Stands.{exports_of, inode_in, parent_in}
+use Rattle.nfs_objects.specs.Stands.{exports_of, inode_in, lives_in, parent_in}
 use Rattle.nfs_objects.specs.Store.{Store, with_writes}
 use Rattle.nfs_objects.specs.Sums.{exchanged, exchanged_at, group_of, in_export, is_same_usage, moved, no_usage}
 use Rattle.nfs_objects.specs.Sums.{one_using, shares_of}
-use Rattle.nfs_objects.specs.Values.{DraftValue, Seen, ViewValue, is_addr, known_at, seen_at, with_written}
+use Rattle.nfs_objects.specs.Values.{DraftValue, Seen, ViewValue, is_addr, known_at, seen_at, shown_at, with_written, written_at}
 use Rattle.nfs_objects.specs.declared.address.Addr.{Addr}
 use Rattle.nfs_objects.specs.declared.address.Addr.TheVariants as addresses
 use Rattle.nfs_objects.specs.declared.change.Halt.{Halt}
@@ -58,6 +59,7 @@ use Rattle.nfs_objects.specs.Bits.{no_bits}
 use Rattle.nfs_objects.specs.FileMaps.{FileMapValue}
 use Rattle.nfs_inodes.proofs.Standing.{lives-there, shows-export, stands-there}
 use Rattle.nfs_inodes.specs.Counts.{IsShareOf, KeepsInodes, uncounted}
+use Rattle.nfs_inodes.specs.Kinds.{KeepsOthers, kind_at, kind_of}
 use Rattle.nfs_inodes.specs.Known.{HasInode}
 use Rattle.nfs_inodes.specs.Sets.{attributes_changed, with_settings}
 use Rattle.nfs_inodes.specs.declared.setting.Settings.{Settings}
@@ -288,12 +290,62 @@ first-free d r none first number generation s k w =
       never_given = stands.objects.spent r.number r.generation ∙ lt-leb r.generation (s.last r.number) is.1;
     }
 
+-- the pages of what is put, where it is new
+pub blank-pages : (content : Content) → IfSome (map_in content) (λ map. map.pages ≡ no_bits) →
+    elim (map_in content) [ None ↦ no_bits | Some map ↦ map.pages ] ≡ no_bits
+blank-pages content blank = by (map_in content) blank
+  where
+    by : (m : Option FileMapValue) → IfSome m (λ map. map.pages ≡ no_bits) →
+        elim m [ None ↦ no_bits | Some map ↦ map.pages ] ≡ no_bits
+    by None is = refl
+    by (Some map) is = is
+
+-- nothing stands at the first number that may be given, as the view shows
+pub first-vacant : (d : DraftValue) (r : Reserved) → d.writes ≡ [] → IsFirst d r → (s : Store) → Fits d.view s →
+    known_at d (addresses.Inode r.number) ≡ Some None
+first-vacant d r none first s fits =
+    let is = all_first (λ (q : Reserved). (seen_at d.view.entries (addresses.Inode q.number) ≡ Some (vacant q)) ×
+    (s.last q.number < q.generation)) d.view.reserved r fits.reserved first.first in
+    ap (λ ws. written_at (shown_at d.view.entries (addresses.Inode r.number)) ws (addresses.Inode r.number)) none
+    ∙ ap (option_map (λ (e : Seen). e.object)) is.0
+
+-- where a draft shows a kind something stands
+not-vacant : (d : DraftValue) (n : ℕ) (kind : FileType) → kind_at d n ≡ Some kind → known_at d (addresses.Inode n) ≡ Some None →
+    ⊥
+not-vacant d n kind shown vacant = by (known_at d addresses.Exports) refl
+  where
+    at : Option (Option Object) → Option (Option Object) → Option Inode
+    at e o = elim e [
+      | None ↦ None
+      | Some exports ↦ elim o [ None ↦ None | Some object ↦ inode_in (exports_of exports) object ]
+    ]
+
+    by : (e : Option (Option Object)) → known_at d addresses.Exports ≡ e → ⊥
+    by None is = (let no : None ≡ Some kind = sym (ap (λ x. option_map kind_of (at x (known_at d (addresses.Inode n)))) is) ∙ shown in cc)
+    by (Some exports) is = (let no : None ≡ Some kind =
+        sym ((λ j. option_map kind_of (at (is j) (vacant j)))) ∙ shown in cc)
+
+-- it stays so while another number is written, of which the draft shows a kind, and the usage of a group
+pub stays-vacant : (old mid late : DraftValue) (r : Reserved) (n : ℕ) (kind : FileType) → old.writes ≡ [] → IsFirst old r →
+    kind_at old n ≡ Some kind → KeepsOthers old mid n → KeepsInodes mid late → late.view ≡ old.view → (s : Store) →
+    Fits old.view s → (with_writes s late.writes).at (addresses.Inode r.number) ≡ None
+stays-vacant old mid late r n kind none first shown others keeps same s fits =
+    let vacant = first-vacant old r none first s fits in
+    known-stands late s (addresses.Inode r.number) None (subst (λ v. Fits v s) (sym same) fits)
+    (keeps.inodes r.number ∙ others r.number (by vacant (n == r.number) refl) ∙ vacant)
+  where
+    by : known_at old (addresses.Inode r.number) ≡ Some None → (b : Bool) → (n == r.number) ≡ b → b ≡ false
+    by vacant true is = absurd (not-vacant old n kind shown
+        (subst (λ q. known_at old (addresses.Inode q) ≡ Some None) (sym ((unsigned_Decides n r.number).0 is)) vacant))
+    by vacant false is = refl
+
 -- a new object with the number and generation that were reserved, once its directory has its name
 put-new-turns : (old mid new : DraftValue) (f : Kept → Kept) (r : Reserved) (i : Inode) (o : Living)
     (links parent : ℕ)
     → Turns old mid f → ((k : Kept) → (f k).state.exports ≡ k.state.exports) → ShowsExport old o.export
     → new ≡ with_written mid (addresses.Inode r.number) (Some (objects.Inode i))
-    → known_at mid (addresses.Inode r.number) ≡ Some None → pages_of (Some (objects.Inode i)) ≡ no_bits
+    → ((s : Store) → Fits old.view s → (with_writes s mid.writes).at (addresses.Inode r.number) ≡ None)
+    → pages_of (Some (objects.Inode i)) ≡ no_bits
     → living_alone i ≡ o → i.links ≡ links → parent_in i.content ≡ parent → IsFitting r.number i
     → Turns old new (λ k. with_new (f k) r.number o links parent)
 put-new-turns old mid new f r i o links parent turns stay live is vacant none lives linked under fits =
@@ -302,8 +354,18 @@ put-new-turns old mid new f r i o links parent turns stay live is vacant none li
     (subst (λ (l : Living). Turns old put (λ k. with_new (f k) r.number l links parent)) lives
     (subst (λ l. Turns old put (λ k. with_new (f k) r.number (living_alone i) l parent)) linked
     (subst (λ p. Turns old put (λ k. with_new (f k) r.number (living_alone i) i.links p)) under
-    (new-turns mid r.number old f turns stay i vacant none fits
-    (subst (ShowsExport old) (sym (ap (λ (l : Living). l.export) lives)) live)))))
+    (record {
+      ctx = turns.ctx;
+      view = turns.view;
+      modes = turns.modes;
+      messages = turns.messages;
+      turns = λ s k fit stands.
+          subst (λ (x : Store). Represents x (with_new (f k) r.number (living_alone i) i.links (parent_in i.content)))
+          (sym (writes-append mid.writes s (addresses.Inode r.number) (Some (objects.Inode i))))
+          (new-stands (with_writes s mid.writes) (f k) r.number i (turns.turns s k fit stands) (vacant s fit) none fits
+          (ap (λ es. lives_in es i.export) (stay k)
+          ∙ subst (ShowsExport old) (sym (ap (λ (l : Living). l.export) lives)) live s k fit stands));
+    }))))
 
 -- a change of what lives at a number leaves the exports
 pub exports-stay : (k : Kept) (n links : ℕ) (change : Living → Option Living) →
@@ -526,7 +588,8 @@ pub made-turns : (old mid late new : DraftValue) (f : Kept → Kept) (r : Reserv
     → ((k : Kept) → (f k).state.exports ≡ k.state.exports) → ShowsExport old o.export
     → Turns mid late (recounted r.number (in_export export no_usage) (in_export export after))
     → new ≡ with_written late (addresses.Inode r.number) (Some (objects.Inode i))
-    → known_at late (addresses.Inode r.number) ≡ Some None → pages_of (Some (objects.Inode i)) ≡ no_bits
+    → ((s : Store) → Fits old.view s → (with_writes s late.writes).at (addresses.Inode r.number) ≡ None)
+    → pages_of (Some (objects.Inode i)) ≡ no_bits
     → living_alone i ≡ o → i.links ≡ links → parent_in i.content ≡ parent → IsFitting r.number i
     → export ≡ o.export → after ≡ one_using (used_of o.content)
     → Turns old new (λ k. counted_anew r.number None (with_new (f k) r.number o links parent))

@@ -15,7 +15,7 @@ use Rattle.nfs_objects.specs.Bits.{has, no_bits}
 use Rattle.nfs_objects.specs.FileMaps.{FileMapValue, IsContent, block_size, part_at}
 use Rattle.nfs_objects.specs.Fits.{Fits}
 use Rattle.nfs_objects.specs.Knows.{Knows, Possible}
-use Rattle.nfs_objects.specs.Stands.{HasBlocks, IsMapped, IsStored, Kept, Represents, block_of, bytes_at, map_in, map_of, pages_of}
+use Rattle.nfs_objects.specs.Stands.{HasBlocks, IsMapped, IsStored, Kept, Represents, block_of, bytes_at, inode_of, map_in, map_of, pages_of}
 use Rattle.nfs_objects.specs.Stands.{stored_in}
 use Rattle.nfs_objects.specs.Store.{Store, with_writes, with_write}
 use Rattle.nfs_objects.specs.Values.{DraftValue, is_addr, known_at, shown_at, written_at}
@@ -67,6 +67,22 @@ has-pages d n map has s fits =
     ap pages_of (known-stands d s (addresses.Inode n) (Some (objects.Inode has.inode)) fits
     (known-inode d n has.inode has.stands))
     ∙ ap (λ f. elim f [ None ↦ no_bits | Some map ↦ map.pages ]) has.content
+
+abbrev pages-in : Option Inode → Bits
+pages-in i = elim (elim i [ None ↦ None | Some i ↦ map_in i.content ]) [ None ↦ no_bits | Some map ↦ map.pages ]
+
+-- of what is known there: of what is no file no page
+abbrev pub inode_pages : Option Inode → Bits
+inode_pages i = elim i [ None ↦ no_bits | Some i ↦ elim (map_in i.content) [ None ↦ no_bits | Some map ↦ map.pages ] ]
+
+pub known-pages : (d : DraftValue) (n : ℕ) (o : Option Object) (i : Option Inode) (pages : Bits) →
+    known_at d (addresses.Inode n) ≡ Some o → i ≡ inode_of o → pages ≡ inode_pages i → HasPages d n pages
+known-pages d n o i pages known is are s fits =
+    ap pages_of (known-stands d s (addresses.Inode n) o fits known) ∙ by (inode_of o) refl ∙ sym (are ∙ ap inode_pages is)
+  where
+    by : (j : Option Inode) → inode_of o ≡ j → pages_of o ≡ inode_pages (inode_of o)
+    by None e = ap pages-in e ∙ sym (ap inode_pages e)
+    by (Some j) e = ap pages-in e ∙ sym (ap inode_pages e)
 
 some-map : (o : Option Object) → IsMapped true o → IsSome o
 some-map o is = subst (λ x. IsSome x) (sym is.1) refl
@@ -170,6 +186,11 @@ module _ (size : ℕ) (stored : ℕ → List ℕ) (bytes : List ℕ) (is : IsCon
       sym (ap (λ m. take count (drop start (stored i)) ++ replicate m 0) none ∙ append-nil (take count (drop start (stored i))))
       ∙ read-part
 
+-- the bytes so far, of those before a block
+pub record IsGathered (d : DraftValue) (n offset count index : ℕ) (found : List ℕ) : Type 0 where
+  pub counted : length found ≡ min count (index * block_size - offset)
+  pub is : Knows d (λ k. found ≡ take (length found) (drop offset (bytes_at k.state n)))
+
 module _ (d : DraftValue) (n : ℕ) (map : FileMapValue) (has : HasMap d n map) (offset count : ℕ) (some : 0 < count)
     (within : offset + count ≤ map.size) where
   -- where the first block has them all
@@ -189,18 +210,13 @@ module _ (d : DraftValue) (n : ℕ) (map : FileMapValue) (has : HasMap d n map) 
       ∙ read-whole map.size (λ b. stored_in ((with_writes s d.writes).at (addresses.Block n b))) (bytes_at k.state n) content
       i start count offset (omega arith) (omega (arith, long, short, part, enough)) within (omega (arith, long, enough))
 
-  -- the bytes so far, of those before a block
-  pub record IsGathered (index : ℕ) (found : List ℕ) : Type 0 where
-    pub counted : length found ≡ min count (index * block_size - offset)
-    pub is : Knows d (λ k. found ≡ take (length found) (drop offset (bytes_at k.state n)))
-
-  pub gathered-none : IsGathered (offset / block_size) []
+  pub gathered-none : IsGathered d n offset count (offset / block_size) []
   gathered-none = record { counted = omega arith; is = λ s k w. refl }
 
   pub gathered-more : (index : ℕ) (found bytes more : List ℕ) → offset / block_size ≤ index →
-      index * block_size < offset + count → IsGathered index found → ShowsBlock d n index bytes →
+      index * block_size < offset + count → IsGathered d n offset count index found → ShowsBlock d n index bytes →
       more ≡ found ++ resized (drop (offset - index * block_size) bytes)
-      (min (block_size - (offset - index * block_size)) (count - length found)) → IsGathered (index + 1) more
+      (min (block_size - (offset - index * block_size)) (count - length found)) → IsGathered d n offset count (index + 1) more
   gathered-more index found bytes more behind before so shows is = record {
     counted = ap length is ∙ long ∙ next;
     is = λ s k w.
@@ -234,7 +250,7 @@ module _ (d : DraftValue) (n : ℕ) (map : FileMapValue) (has : HasMap d n map) 
           (omega (arith, l, behind, before)) (omega (arith, l, within, behind, before))
           ∙ ap (take c) (sym (drop-drop (length found) offset data))
 
-  pub gathered-all : (index : ℕ) (found : List ℕ) → offset + count ≤ index * block_size → IsGathered index found →
+  pub gathered-all : (index : ℕ) (found : List ℕ) → offset + count ≤ index * block_size → IsGathered d n offset count index found →
       Knows d (λ k. found ≡ take count (drop offset (bytes_at k.state n)))
   gathered-all index found behind so s k w =
       let l = so.counted in

@@ -4,12 +4,15 @@ use Rattle.std.proofs.Common.{List, [], ◌∷◌, ◌++◌, Option, Some, None,
 use Rattle.std.proofs.Common.{append-nil, append_assoc, cond, length}
 use Rattle.std.specs.Cmp.{unsigned_Decides}
 use Rattle.std.specs.List.{AllByRecursion}
+use Rattle.nfs_machine.proofs.Modes.{all-joined}
 use Rattle.nfs_objects.proofs.Seen.{all-append, all-map, unknown-unseen}
 use Rattle.nfs_objects.specs.Asks.{Asks, EachOnce, IsThere, MayAsk}
+use Rattle.nfs_objects.specs.Bits.{has}
 use Rattle.nfs_objects.specs.Calls.{IsAmong, blocks_at, blocks_from, maps_at}
 use Rattle.nfs_objects.specs.Values.{DraftValue, is_addr, known_at}
 use Rattle.nfs_objects.specs.declared.address.Addr.{Addr}
 use Rattle.nfs_objects.specs.declared.address.Addr.TheVariants as addresses
+use Rattle.nfs_objects.specs.declared.bits.Bits.{Bits}
 use Rattle.nfs_objects.specs.declared.modes.Mode.{Mode}
 use Rattle.nfs_objects.specs.Modes.{held_mode}
 use Rattle.nfs_objects.specs.declared.object.Object.{Object}
@@ -21,6 +24,24 @@ use Rattle.nfs_inodes.specs.Cuts.{IsPageIn, IsTold}
 none-of-more : {X : Type 0} (xs : List X) (x : X) → xs ++ x ∷ [] ≡ [] → ⊥
 none-of-more [] x e = cc
 none-of-more (y ∷ xs) x e = cc
+
+-- two lists of which no address is in both
+once-joined : (xs ys : List (Addr × Mode)) → EachOnce xs → EachOnce ys →
+    AllByRecursion (λ (x : Addr × Mode). AllByRecursion (λ (y : Addr × Mode). is_addr x.0 y.0 ≡ false) ys) xs →
+    EachOnce (xs ++ ys)
+once-joined [] ys once also apart = also
+once-joined (x ∷ xs) ys once also apart = (
+  all-joined (λ (y : Addr × Mode). is_addr x.0 y.0 ≡ false) xs ys once.0 apart.0,
+  once-joined xs ys once.1 also apart.1,
+)
+
+front-none : {X : Type 0} (xs ys : List X) → xs ++ ys ≡ [] → xs ≡ []
+front-none [] ys e = refl
+front-none (x ∷ xs) ys e = cc
+
+back-none : {X : Type 0} (xs ys : List X) → xs ++ ys ≡ [] → ys ≡ []
+back-none [] ys e = e
+back-none (x ∷ xs) ys e = cc
 
 module _ (d : DraftValue) where
   -- nothing is wanted
@@ -91,6 +112,29 @@ module _ (d : DraftValue) where
     pub asks-more : AsksFor d Will Shall old (with_wish d a mid)
     asks-more = as-wished (known_at d a) refl
 
+  -- first some, then others
+  pub asks-both : (May Must Will Shall : Addr → Type 0) (old mid new : List (Addr × Mode)) →
+      AsksFor d May Must old mid → AsksFor d Will Shall mid new →
+      ((b c : Addr) → May b → Will c → is_addr b c ≡ false) →
+      AsksFor d (λ b. May b ⊎ Will b) (λ b. Must b ⊎ Shall b) old new
+  asks-both May Must Will Shall old mid new first second apart = record {
+    more = first.more ++ second.more;
+    grown = second.grown ∙ ap (λ l. l ++ second.more) first.grown ∙ append_assoc old first.more second.more;
+    once = once-joined first.more second.more first.once second.once
+        (all-map (IsWish d May) (λ (x : Addr × Mode). AllByRecursion (λ (y : Addr × Mode). is_addr x.0 y.0 ≡ false) second.more)
+        (λ x wish. all-map (IsWish d Will) (λ (y : Addr × Mode). is_addr x.0 y.0 ≡ false)
+        (λ y other. apart x.0 y.0 wish.may other.may) second.more second.each) first.more first.each);
+    each = all-joined (IsWish d (λ b. May b ⊎ Will b)) first.more second.more
+        (all-map (IsWish d May) (IsWish d (λ b. May b ⊎ Will b)) (wish-as May (λ b. May b ⊎ Will b) (λ b may. inl may))
+        first.more first.each)
+        (all-map (IsWish d Will) (IsWish d (λ b. May b ⊎ Will b)) (wish-as Will (λ b. May b ⊎ Will b) (λ b may. inr may))
+        second.more second.each);
+    known = λ none a shall. elim shall [
+      | inl must ↦ first.known (front-none first.more second.more none) a must
+      | inr must ↦ second.known (back-none first.more second.more none) a must
+    ];
+  }
+
   -- ---- the end
   module _ (May Must : Addr → Type 0) (asked : List (Addr × Mode)) (asks : AsksFor d May Must [] asked) where
     pub asking-all : (named : List Addr) →
@@ -150,6 +194,10 @@ module _ (file first : ℕ) where
   }
   blocks-wider end within b (inr same) = record { index = end; behind = within; before = omega arith; is = same }
 
+  pub blocks-less : (end : ℕ) (b : Addr) → IsBlockIn file first end b → IsBlockIn file first (end + 1) b
+  blocks-less end b is =
+      record { index = is.index; behind = is.behind; before = omega (arith, is.before); is = is.is }
+
   pub blocks-last : (end : ℕ) (b : Addr) → IsBlockIn file first (end + 1) b →
       IsBlockIn file first end b ⊎ (addresses.Block file end ≡ b)
   blocks-last end b is = by (is.index == end) refl
@@ -164,6 +212,106 @@ module _ (file first : ℕ) where
             before = omega (arith, is.before, apart);
             is = is.is;
           })
+
+-- ---- those of a range whose map pages are there
+abbrev pub IsPaged : (file : ℕ) → Bits → (first end : ℕ) → Addr → Type 0
+IsPaged file pages first end a = (is : IsBlockIn file first end a) × (has pages (is.index / 512) ≡ true)
+
+module _ (d : DraftValue) (file : ℕ) (pages : Bits) (first : ℕ) (old mid : List (Addr × Mode)) where
+  pub range-none : (end : ℕ) → end ≤ first → AsksFor d (IsBlockIn file first end) (IsPaged file pages first end) old old
+  range-none end none = asks-none d (IsBlockIn file first end) (IsPaged file pages first end) old
+      (λ a must. no-blocks file first end none a must.0)
+
+  pub range-more : (end : ℕ) → first ≤ end → AsksFor d (IsBlockIn file first end) (IsPaged file pages first end) old mid →
+      AsksFor d (IsBlockIn file first (end + 1)) (IsPaged file pages first (end + 1)) old
+      (with_wish d (addresses.Block file end) mid)
+  range-more end within asks =
+      asks-as d (λ b. IsBlockIn file first end b ⊎ (addresses.Block file end ≡ b)) (IsBlockIn file first (end + 1))
+      (λ b. IsPaged file pages first end b ⊎ (addresses.Block file end ≡ b)) (IsPaged file pages first (end + 1)) old
+      (with_wish d (addresses.Block file end) mid) (blocks-wider file first end within)
+      (λ b must. by b must (must.0.index == end) refl)
+      (asks-more d (IsBlockIn file first end) (IsPaged file pages first end) (addresses.Block file end) old mid asks
+      (blocks-apart file first end))
+    where
+      by : (b : Addr) (must : IsPaged file pages first (end + 1) b) (t : Bool) → (must.0.index == end) ≡ t →
+          IsPaged file pages first end b ⊎ (addresses.Block file end ≡ b)
+      by b must true same = inr (ap (addresses.Block file) (sym ((unsigned_Decides must.0.index end).0 same)) ∙ must.0.is)
+      by b must false other =
+          let apart = differs must.0.index end other in
+          let is = must.0 in
+          inl (record { index = is.index; behind = is.behind; before = omega (arith, is.before, apart); is = is.is }, must.1)
+
+  pub range-skip : (end : ℕ) → has pages (end / 512) ≡ false →
+      AsksFor d (IsBlockIn file first end) (IsPaged file pages first end) old mid →
+      AsksFor d (IsBlockIn file first (end + 1)) (IsPaged file pages first (end + 1)) old mid
+  range-skip end none asks =
+      asks-as d (IsBlockIn file first end) (IsBlockIn file first (end + 1)) (IsPaged file pages first end)
+      (IsPaged file pages first (end + 1)) old mid (blocks-less file first end)
+      (λ b must. by b must (must.0.index == end) refl) asks
+    where
+      by : (b : Addr) (must : IsPaged file pages first (end + 1) b) (t : Bool) → (must.0.index == end) ≡ t →
+          IsPaged file pages first end b
+      by b must true same = absurd (let no : true ≡ false = sym must.1
+          ∙ ap (λ i. has pages (i / 512)) ((unsigned_Decides must.0.index end).0 same) ∙ none in cc)
+      by b must false other =
+          let apart = differs must.0.index end other in
+          let is = must.0 in
+          (record { index = is.index; behind = is.behind; before = omega (arith, is.before, apart); is = is.is }, must.1)
+
+-- ---- all of a range
+module _ (d : DraftValue) (file first : ℕ) (old mid : List (Addr × Mode)) where
+  pub each-none : (end : ℕ) → end ≤ first → AsksFor d (IsBlockIn file first end) (IsBlockIn file first end) old old
+  each-none end none = asks-none d (IsBlockIn file first end) (IsBlockIn file first end) old (no-blocks file first end none)
+
+  pub each-more : (end : ℕ) → first ≤ end → AsksFor d (IsBlockIn file first end) (IsBlockIn file first end) old mid →
+      AsksFor d (IsBlockIn file first (end + 1)) (IsBlockIn file first (end + 1)) old
+      (with_wish d (addresses.Block file end) mid)
+  each-more end within asks =
+      asks-as d (λ b. IsBlockIn file first end b ⊎ (addresses.Block file end ≡ b)) (IsBlockIn file first (end + 1))
+      (λ b. IsBlockIn file first end b ⊎ (addresses.Block file end ≡ b)) (IsBlockIn file first (end + 1)) old
+      (with_wish d (addresses.Block file end) mid) (blocks-wider file first end within) (blocks-last file first end)
+      (asks-more d (IsBlockIn file first end) (IsBlockIn file first end) (addresses.Block file end) old mid asks
+      (blocks-apart file first end))
+
+-- ---- and of map pages behind them
+module _ (d : DraftValue) (file : ℕ) (blocks : Addr → Type 0) (first : ℕ) (old mid : List (Addr × Mode))
+    (are : (b : Addr) → blocks b → (page : ℕ) → is_addr b (addresses.Map file page) ≡ false) where
+  abbrev pub IsWithMaps : (end : ℕ) → Addr → Type 0
+  IsWithMaps end a = blocks a ⊎ IsMapIn file first end a
+
+  map-apart : (end : ℕ) (b : Addr) → IsWithMaps end b → is_addr b (addresses.Map file end) ≡ false
+  map-apart end b (inl block) = are b block end
+  map-apart end b (inr is) = subst (λ c. is_addr c (addresses.Map file end) ≡ false) is.is
+      (other-map file is.page end (λ e. absurd (omega (arith, is.before, e))))
+
+  map-less : (end : ℕ) (b : Addr) → IsMapIn file first end b → IsMapIn file first (end + 1) b
+  map-less end b is = record { page = is.page; behind = is.behind; before = omega (arith, is.before); is = is.is }
+
+  map-wider : (end : ℕ) → first ≤ end → (b : Addr) → IsWithMaps end b ⊎ (addresses.Map file end ≡ b) →
+      IsWithMaps (end + 1) b
+  map-wider end within b (inl (inl block)) = inl block
+  map-wider end within b (inl (inr is)) = inr (map-less end b is)
+  map-wider end within b (inr same) = inr (record { page = end; behind = within; before = omega arith; is = same })
+
+  pub with-no-maps : (end : ℕ) → AsksFor d blocks blocks old mid → AsksFor d (IsWithMaps end) blocks old mid
+  with-no-maps end asks = asks-as d blocks (IsWithMaps end) blocks blocks old mid (λ b is. inl is) (λ b is. is) asks
+
+  pub with-map : (end : ℕ) → first ≤ end → AsksFor d (IsWithMaps end) blocks old mid →
+      AsksFor d (IsWithMaps (end + 1)) blocks old (with_wish d (addresses.Map file end) mid)
+  with-map end within asks =
+      asks-as d (λ b. IsWithMaps end b ⊎ (addresses.Map file end ≡ b)) (IsWithMaps (end + 1))
+      (λ b. blocks b ⊎ (addresses.Map file end ≡ b)) blocks old (with_wish d (addresses.Map file end) mid)
+      (map-wider end within) (λ b is. inl is)
+      (asks-more d (IsWithMaps end) blocks (addresses.Map file end) old mid asks (map-apart end))
+
+  pub without-map : (end : ℕ) → AsksFor d (IsWithMaps end) blocks old mid → AsksFor d (IsWithMaps (end + 1)) blocks old mid
+  without-map end asks = asks-as d (IsWithMaps end) (IsWithMaps (end + 1)) blocks blocks old mid
+      (λ b is. elim is [ inl block ↦ inl block | inr map ↦ inr (map-less end b map) ]) (λ b is. is) asks
+
+-- a block is no map
+pub block-no-map : (file first end : ℕ) (b : Addr) → IsBlockIn file first end b → (page : ℕ) →
+    is_addr b (addresses.Map file page) ≡ false
+block-no-map file first end b is page = subst (λ c. is_addr c (addresses.Map file page) ≡ false) is.is refl
 
 -- ---- those of a range are named
 pub among-blocks : (file first count i : ℕ) → first ≤ i → i < first + count →

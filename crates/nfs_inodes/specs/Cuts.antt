@@ -1,8 +1,9 @@
 -- Files that are cut off: what is shown of their map pages, and what goes (RFC 1813, 3.3.2).
 use Rattle.std.specs.Prelude.{◌≡◌, ℕ, ◌+◌, ◌-◌, ◌*◌, ◌/◌, ◌%◌, ◌<◌, ◌≤◌, ◌==◌, ◌&&◌, ◌||◌, Bool, true, false, not, nat_lt}
 use Rattle.std.specs.Prelude.{List, Option, Some, None, IsSome, length, take, slice_index_or, if◌then◌else◌}
+use Rattle.nfs_machine.specs.Data.{resized}
 use Rattle.nfs_objects.specs.Bits.{has, no_bits, same_bits}
-use Rattle.nfs_objects.specs.FileMaps.{block_size}
+use Rattle.nfs_objects.specs.FileMaps.{IsContent, block_size}
 use Rattle.nfs_objects.specs.Fits.{Fits}
 use Rattle.nfs_objects.specs.Stands.{HasBlocks, IsMapped, IsStored, Kept, Represents, map_of, stored_in, stored_map}
 use Rattle.nfs_objects.specs.Store.{Store, with_writes}
@@ -146,6 +147,16 @@ pub record IsCutAt (old new : DraftValue) (file size : ℕ) (left : Bits) : Type
   pub maps : (s : Store) (k : Kept) → Fits old.view s → Represents (with_writes s old.writes) k →
       HasBlocks (with_writes s new.writes) file left
   pub gone : size ≡ 0 → (p : ℕ) → has left p ≡ false
+
+-- a file that had a size has another: its blocks have its bytes, cut off or with zeros behind them
+pub record IsResized (old new : DraftValue) (file before size : ℕ) (left : Bits) : Type 0 where
+  pub lays : Lays file old new
+  pub inodes : (n : ℕ) → known_at new (addresses.Inode n) ≡ known_at old (addresses.Inode n)
+  pub content : (s : Store) (k : Kept) (bytes : List ℕ) → Fits old.view s → Represents (with_writes s old.writes) k →
+      IsContent before (λ b. stored_in ((with_writes s old.writes).at (addresses.Block file b))) bytes →
+      IsContent size (λ b. stored_in ((with_writes s new.writes).at (addresses.Block file b))) (resized bytes size)
+  pub maps : (s : Store) (k : Kept) → Fits old.view s → Represents (with_writes s old.writes) k →
+      HasBlocks (with_writes s new.writes) file left
 
 -- no block and no map of what lives at a number is there any more
 pub record IsCleared (old new : DraftValue) (number : ℕ) : Type 0 where

@@ -380,11 +380,11 @@ fn with_places(bits: Bits, first: u64, end: u64) -> Bits
     requires { end ≤ 512 }
     ensures { (n : ℕ) → has result n ≡ (has bits n || (nat_le first n && nat_lt n end)) }
 {
-    let mut bits = bits;
+    let mut all = bits;
     for place in first..end {
-        bits = bits.with(place);
+        all = all.with(place);
     }
-    bits
+    all
 }
 
 /// Puts what a map page tells from now on, if that is another. Which map pages are there then.

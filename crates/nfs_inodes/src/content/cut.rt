@@ -6,7 +6,7 @@ ghost use Rattle.nfs_objects.specs.Drafts.{MayChange};
 ghost use Rattle.nfs_objects.specs.Values.{known_at};
 ghost use Rattle.nfs_inodes.specs.Asking.{AsksFor};
 ghost use Rattle.nfs_inodes.specs.Blocks.{HasPages};
-ghost use Rattle.nfs_inodes.specs.Cuts.{CutsBlock, CutsBlocks, CutsNext, CutsPage, EndsAt, IsCutAt, IsTold, KnowsMaps};
+ghost use Rattle.nfs_inodes.specs.Cuts.{CutsBlock, CutsBlocks, CutsNext, CutsPage, EndsAt, IsCutAt, IsResized, IsTold, KnowsMaps};
 ghost use Rattle.nfs_inodes.specs.Cuts.{KnowsTold, ShowsMap, ShowsMaps, told_at};
 ghost use Rattle.nfs_inodes.specs.Stops.{StillStands, StopsAt};
 
@@ -15,6 +15,30 @@ use crate::content::blocks::BLOCK;
 use nfs_objects::block::cut;
 use nfs_objects::{Addr, Bits, Draft, Halt, MAP_BLOCKS};
 use std::alloc::AllocError;
+
+/// Cuts a file off that gets smaller. Which map pages are there then.
+///
+/// # Errors
+///
+/// As `cut_off`.
+pub(crate) fn cut_to(
+    draft: &mut Draft<'_>,
+    number: u64,
+    pages: Bits,
+    old_size: u64,
+    size: u64,
+) -> Result<Bits, Halt>
+    requires alone { MayChange draft.old (Addr.Inode number) }
+    requires pages { HasPages draft.old number pages }
+    requires stands { StillStands draft.old }
+    ensures { MatchResult result (IsResized draft.old draft.new number old_size size) (StopsAt draft.old []) }
+{
+    if size < old_size {
+        cut_off(draft, number, pages, size)
+    } else {
+        Ok(pages)
+    }
+}
 
 /// Frees what a file has behind a place, which is its end from then on. Which map pages are there then.
 ///

@@ -1,16 +1,17 @@
 //! The bytes of files and the texts of links (RFC 1813, 3.3.5 to 3.3.7).
 
-ghost use Rattle.std.specs.Prelude.{◌≡◌, ◌+◌, ◌<◌, ◌^◌, ℕ, [], IfOk, MatchResult, length};
+ghost use Rattle.std.specs.Prelude.{◌≡◌, ◌+◌, ◌<◌, ◌≤◌, ◌^◌, ℕ, [], IfOk, MatchResult, None, Some, length, option_copied};
 ghost use Rattle.nfs_machine.specs.Checks.{text_in};
 ghost use Rattle.nfs_machine.specs.Data.{read_at, resized, size_limit, transfer_limit, written};
 ghost use Rattle.nfs_machine.specs.Times.{time_of};
+ghost use Rattle.nfs_objects.specs.Bits.{no_bits};
 ghost use Rattle.nfs_objects.specs.Calls.{addresses_of};
 ghost use Rattle.nfs_objects.specs.Knows.{Knows, Turns};
 ghost use Rattle.nfs_objects.specs.Modes.{changing};
-ghost use Rattle.nfs_objects.specs.Stands.{content_of};
+ghost use Rattle.nfs_objects.specs.Stands.{content_of, map_in};
 ghost use Rattle.nfs_objects.specs.Drafts.{MayChange};
 ghost use Rattle.nfs_objects.specs.declared.address.Addr.TheVariants as Addr;
-ghost use Rattle.nfs_inodes.specs.Blocks.{read_from, written_from};
+ghost use Rattle.nfs_inodes.specs.Blocks.{HasPages, read_from, written_from};
 ghost use Rattle.nfs_inodes.specs.Cuts.{IsCleared};
 ghost use Rattle.nfs_inodes.specs.Kinds.{IsShown};
 ghost use Rattle.nfs_inodes.specs.Known.{bytes_of, content_at};
@@ -19,7 +20,7 @@ ghost use Rattle.nfs_inodes.specs.Stops.{StillStands, StopsAt, counted_at};
 
 use crate::content::asking::Asking;
 use crate::content::blocks::{Mapped, Range, ask_written, read_range, write_range};
-use crate::content::cut::cut_off;
+use crate::content::cut::{cut_off, cut_to};
 use crate::content::{file_at, with_content};
 use crate::data::TRANSFER_LIMIT;
 use crate::found::{Known, inode};
@@ -27,7 +28,8 @@ use crate::kinds::File;
 use crate::times::now;
 use crate::usage::{ask_counted, count, counted, share_of};
 use bytes::Bytes;
-use nfs_objects::{Content, Draft, FileMap, Halt, Usage};
+use nfs_objects::object::living;
+use nfs_objects::{Addr, Bits, Content, Draft, FileMap, Halt, Inode, Usage};
 use nfs_wire::{NfsStatus, ReadData};
 use std::alloc::AllocError;
 
@@ -164,17 +166,13 @@ pub fn resize(draft: &mut Draft<'_>, file: &File, size: u64) -> Result<(), Halt>
     let old_size = kept.map.size();
     let inode = kept.inode.clone()?;
     count(draft, share.export, number, usage)?;
-    let pages = if size < old_size {
-        cut_off(draft, number, pages, size)?
-    } else {
-        pages
-    };
+    let pages = cut_to(draft, number, pages, old_size, size)?;
     let content = Content::Regular(FileMap::new(size, pages)?);
     let new = with_content(&inode, now(draft.ctx()), content);
     Ok(draft.put(number, new)?)
 }
 
-/// Frees all blocks and maps of what lives at a number, which is to go; what is no file has none.
+/// Frees all blocks and maps of what stands at a number, which is to go; what is no file has none.
 ///
 /// # Errors
 ///
@@ -185,13 +183,29 @@ pub(crate) fn clear(draft: &mut Draft<'_>, number: u64) -> Result<(), Halt>
     ensures { MatchResult result (λ _. IsCleared draft.old draft.new number)
         (StopsAt draft.old (addresses_of draft.old.view number)) }
 {
-    let Some(inode) = inode(draft, number)? else {
-        return Ok(());
-    };
-    let Content::Regular(map) = &inode.content else {
-        return Ok(());
-    };
-    let pages = map.pages();
+    let pages = pages_at(draft, number)?;
     cut_off(draft, number, pages, 0)?;
     Ok(())
+}
+
+/// The map pages of what stands at a number; what is no file has none.
+fn pages_at(draft: &Draft<'_>, number: u64) -> Result<Bits, Halt>
+    ensures { MatchResult result (HasPages draft.now number)
+        (StopsAt draft.now (addresses_of draft.now.view number)) }
+{
+    Ok(pages_of(living(draft.find(Addr::Inode(number))?)))
+}
+
+/// The map pages of an inode, if there is one.
+fn pages_of(inode: Option<&Inode>) -> Bits
+    ensures { result ≡ elim (option_copied inode.entry)
+        [ None ↦ no_bits | Some i ↦ elim (map_in i.content) [ None ↦ no_bits | Some map ↦ map.pages ] ] }
+{
+    let Some(inode) = inode else {
+        return Bits::none();
+    };
+    match &inode.content {
+        Content::Regular(map) => map.pages(),
+        _ => Bits::none(),
+    }
 }

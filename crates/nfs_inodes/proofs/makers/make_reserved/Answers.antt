@@ -6,7 +6,7 @@ use Rattle.nfs_objects.proofs.Suiting.{change-each}
 use Rattle.nfs_objects.specs.Sums.{one_using}
 use Rattle.nfs_objects.specs.declared.address.Addr.TheVariants as addresses
 use Rattle.nfs_inodes.proofs.Putting.{counting-stops, exports-stay, first-free, knows-kept, knows-on, made-turns}
-use Rattle.nfs_inodes.proofs.Putting.{making-stops, may-give}
+use Rattle.nfs_inodes.proofs.Putting.{blank-pages, making-stops, may-give, stays-vacant}
 use Rattle.nfs_inodes.proofs.makers.make_reserved.Goals as goal
 
 pub returns-in_err-add_entry-clause-turns : goal.returns-in_err-add_entry-clause-turns
@@ -51,6 +51,11 @@ returns-clause-turns c = (
       (rw c.links_with-links.ensures at c.in_ok-add_entry.ensures.turns)
       (λ k. exports-stay k c.args.directory.now.known.number _ _) c.requires.exported
       (rw c.none.ensures at c.in_ok-recount.ensures.turns) c.in_ok-put.ensures.ok
+      (stays-vacant c.args.draft.now c.add_entry.new.draft c.recount.new.draft
+      (record { number = c.args.number; generation = c.args.generation }) c.args.directory.now.known.number _
+      c.requires.none c.requires.first c.requires.shown c.in_ok-add_entry.ensures.others c.in_ok-recount.ensures.keeps
+      (c.in_ok-recount.ensures.turns.view ∙ c.in_ok-add_entry.ensures.turns.view))
+      (blank-pages c.in_ok-object.object.content c.in_ok-object.ensures.blank)
       (rw c.ctx.ensures at c.in_ok-object.ensures.living) c.in_ok-object.ensures.links c.in_ok-object.ensures.parent
       c.in_ok-put.ensures.fits refl
       (c.of_one.ensures ∙ ap (λ s. one_using ((s + 4095) / block * block)) c.size.ensures.value

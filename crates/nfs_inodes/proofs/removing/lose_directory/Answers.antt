@@ -17,10 +17,10 @@ returns-in_err-lose_link c =
     (counted_at c.args.draft.now c.args.number) _ c.in_err-lose_link.ensures)
 
 pub lose_subdirectory-requires : goal.lose_subdirectory-requires
-lose_subdirectory-requires c = c.in_ok-lose_link.ensures.modes ∙ c.requires
+lose_subdirectory-requires c = c.in_ok-lose_link.ensures.modes ∙ c.requires.alone
 
-pub lose_link-requires : goal.lose_link-requires
-lose_link-requires c = change-each c.args.draft.now c.args.number c.requires
+pub lose_link-requires-clause-alone : goal.lose_link-requires-clause-alone
+lose_link-requires-clause-alone c = change-each c.args.draft.now c.args.number c.requires.alone
 
 pub returns : goal.returns
 returns c =

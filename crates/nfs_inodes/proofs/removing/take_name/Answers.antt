@@ -5,6 +5,7 @@ use Rattle.nfs_objects.specs.Calls.{addresses_of}
 use Rattle.nfs_objects.proofs.Suiting.{change-each}
 use Rattle.nfs_inodes.proofs.Composing.{covers-first, covers-second, first-stops, group-lives, lost-directory}
 use Rattle.nfs_inodes.proofs.Composing.{lost-other, turned-within}
+use Rattle.nfs_inodes.proofs.Counting.{stands-first, stands-on}
 use Rattle.nfs_inodes.proofs.Lived.{lived-taken, usage-there}
 use Rattle.nfs_inodes.specs.Makes.{link_lost, name_taken}
 use Rattle.nfs_inodes.specs.Removes.{directory_lost, name_lost}
@@ -17,8 +18,13 @@ returns-in_err-take_entry c =
     rw (p.1, p.2) (first-stops c.args.draft.now c.args.directory.now.known.number
     (addresses_of c.args.draft.now.view c.args.object.now.number) _ c.in_err-take_entry.ensures)
 
-pub lose_directory-requires : goal.lose_directory-requires
-lose_directory-requires c = c.in_ok-take_entry.ensures.modes ∙ c.requires.alone
+pub lose_directory-requires-clause-alone : goal.lose_directory-requires-clause-alone
+lose_directory-requires-clause-alone c = c.in_ok-take_entry.ensures.modes ∙ c.requires.alone
+
+pub lose_directory-requires-clause-stands : goal.lose_directory-requires-clause-stands
+lose_directory-requires-clause-stands c =
+    stands-on c.args.draft.now c.take_entry.new.draft _ c.in_ok-take_entry.ensures
+    (stands-first c.args.draft.now c.requires.none)
 
 pub returns-in-Directory : goal.returns-in-Directory
 returns-in-Directory c =
@@ -40,9 +46,14 @@ returns-in-Directory c =
     (covers-first d.view (addresses_of d.view place) (addresses_of d.view x.number)
     (group_at x.number (inode_at mid x.number)) counts) c.lose_directory.ensures
 
-pub lose_link-requires : goal.lose_link-requires
-lose_link-requires c =
+pub lose_link-requires-clause-alone : goal.lose_link-requires-clause-alone
+lose_link-requires-clause-alone c =
     change-each c.take_entry.new.draft c.args.object.now.number (c.in_ok-take_entry.ensures.modes ∙ c.requires.alone)
+
+pub lose_link-requires-clause-stands : goal.lose_link-requires-clause-stands
+lose_link-requires-clause-stands c =
+    stands-on c.args.draft.now c.take_entry.new.draft _ c.in_ok-take_entry.ensures
+    (stands-first c.args.draft.now c.requires.none)
 
 pub returns-in_default : goal.returns-in_default
 returns-in_default c =

@@ -1,7 +1,10 @@
-use Rattle.std.proofs.Common.{◌++◌, ◌∷◌, [], refl, ap, ◌∙◌}
+use Rattle.std.proofs.Common.{◌++◌, ◌∷◌, [], cond, refl, ap, ◌∙◌}
 use Rattle.nfs_machine.specs.Times.{time_of}
 use Rattle.nfs_objects.specs.Entries.{entry}
 use Rattle.nfs_objects.specs.declared.object.Inode.{Inode}
+use Rattle.nfs_objects.specs.Values.{DraftValue, known_at}
+use Rattle.nfs_objects.specs.declared.address.Addr.TheVariants as addresses
+use Rattle.nfs_inodes.proofs.Written.{known-written}
 use Rattle.nfs_inodes.proofs.Showing.{directory-kinds, with-content-and-links}
 use Rattle.nfs_inodes.proofs.Putting.{added-turns, entry-found, kept-turns, knows-on, no-entry}
 use Rattle.nfs_inodes.proofs.content.naming.add_entry.Goals as goal
@@ -44,3 +47,9 @@ returns-clause-kinds c =
     c.relinked-new.result c.in_ok-kept.kept.listed.now _ c.in_ok-kept.ensures
     (ap (λ (x : Inode). x.export) c.relinked-new.ensures)
     (ap (λ (x : Inode). x.content) c.relinked-new.ensures ∙ c.in_ok-content.ensures) c.in_ok-put.ensures.ok
+
+pub returns-clause-others : goal.returns-clause-others
+returns-clause-others c = λ n other.
+    ap (λ (d : DraftValue). known_at d (addresses.Inode n)) c.in_ok-put.ensures.ok
+    ∙ known-written c.args.draft.now (addresses.Inode c.args.directory.now.known.number) _ (addresses.Inode n)
+    ∙ ap (λ b. cond b _ (known_at c.args.draft.now (addresses.Inode n))) other

@@ -1,0 +1,8 @@
+use Rattle.nfs_inodes.specs.Asking.{AsksFor}
+use Rattle.nfs_inodes.specs.Blocks.{IsBlockIn, first_of}
+use Rattle.nfs_inodes.proofs.content.blocks.ask_blocks.Given as goal
+
+abbrev pub invariant-loop-index : goal.invariant-loop-index
+invariant-loop-index l =
+    AsksFor l.draft (IsBlockIn l.file (first_of l.range.offset) l.index) (IsBlockIn l.file (first_of l.range.offset) l.index)
+    l.fn.asking.asked.items l.asking.asked.items

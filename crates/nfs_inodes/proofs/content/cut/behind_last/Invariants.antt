@@ -1,0 +1,6 @@
+use Rattle.std.proofs.Common.{◌≡◌, ◌≤◌}
+use Rattle.nfs_inodes.specs.Cuts.{EndsAt}
+use Rattle.nfs_inodes.proofs.content.cut.behind_last.Given as goal
+
+abbrev pub invariant-loop : goal.invariant-loop
+invariant-loop l = (l.end ≤ 512) × EndsAt l.pages l.end
