@@ -1,13 +1,17 @@
 -- Files whose blocks and maps were written: their inode is put, or goes, and the store stands for the file with its new
 -- bytes, or without it.
-use Rattle.std.proofs.Common.{◌≡◌, true, ℕ, ◌+◌, ◌*◌, ◌/◌, length, List, [], ◌∷◌, ◌++◌, Option, Some, None, refl, sym, ◌∙◌, ap, subst}
+use Rattle.std.proofs.Common.{◌≡◌, ◌⊎◌, true, ℕ, ◌+◌, ◌-◌, ◌*◌, ◌/◌, ◌<◌, ◌≤◌, min, max, length, drop, List, [], ◌∷◌, ◌++◌, Option}
+use Rattle.std.proofs.Common.{Some, None, IsSome, inl, inr, refl, sym, ◌∙◌, ap, subst, arith}
+use Rattle.std.proofs.lemmas.Bool.{cases_lt}
+use Rattle.std.proofs.lemmas.List.{length-drop, length-take}
 use Rattle.std.specs.FinMap.{get}
 use Rattle.nfs_wire.specs.declared.attributes.Time.{Time}
 use Rattle.nfs_machine.specs.Attributes.{block}
+use Rattle.nfs_machine.specs.Data.{written}
 use Rattle.nfs_machine.specs.Shown.{with_object}
 use Rattle.nfs_machine.specs.State.{Living}
 use Rattle.nfs_machine.specs.Times.{touch}
-use Rattle.nfs_objects.proofs.Exported.{inode-lives}
+use Rattle.nfs_objects.proofs.Contents.{content-written, place, window}
 use Rattle.nfs_objects.proofs.Filed.{HasContent, stands-but}
 use Rattle.nfs_objects.proofs.Promised.{turns-both}
 use Rattle.nfs_objects.proofs.Seen.{known-stands, writes-append}
@@ -16,8 +20,8 @@ use Rattle.nfs_objects.specs.Bits.{no_bits}
 use Rattle.nfs_objects.specs.Edits.{counted_anew, freed, recounted, with_living}
 use Rattle.nfs_objects.specs.Sums.{in_export, one_using, shares_of}
 use Rattle.nfs_objects.specs.declared.usage.Usage.{Usage}
-use Rattle.nfs_objects.specs.FileMaps.{FileMapValue, IsContent}
-use Rattle.nfs_objects.specs.Drafts.{MayChange}
+use Rattle.nfs_objects.specs.FileMaps.{FileMapValue, IsContent, block_size}
+use Rattle.nfs_objects.specs.Drafts.{MayChange, MayGive}
 use Rattle.nfs_objects.specs.Fits.{Fits}
 use Rattle.nfs_objects.specs.Knows.{Turns}
 use Rattle.nfs_objects.specs.Stands.{HasBlocks, IsFitting, Kept, Represents, bytes_at, inode_in, lives_in, living_of_inode}
@@ -25,7 +29,8 @@ use Rattle.nfs_objects.specs.Stands.{map_in, parent_in, stored_in}
 use Rattle.nfs_objects.specs.Modes.{held_mode}
 use Rattle.nfs_objects.specs.Store.{Store, with_write, with_writes}
 use Rattle.nfs_objects.specs.Unfiled.{Lays, RepresentsBut}
-use Rattle.nfs_objects.specs.Values.{DraftValue, with_written}
+use Rattle.nfs_objects.specs.Values.{DraftValue, known_at, with_written}
+use Rattle.nfs_objects.specs.declared.bits.Bits.{Bits}
 use Rattle.nfs_objects.specs.declared.address.Addr.{Addr}
 use Rattle.nfs_objects.specs.declared.address.Addr.TheVariants as addresses
 use Rattle.nfs_objects.specs.declared.object.Content.TheVariants as contents
@@ -34,6 +39,9 @@ use Rattle.nfs_objects.specs.declared.object.Object.TheVariants as objects
 use Rattle.nfs_inodes.proofs.Keeping.{changed-is, put-there}
 use Rattle.nfs_inodes.proofs.Putting.{counted, has-kept, known-inode, same-shares, share-stands, turns-as, with-bytes}
 use Rattle.nfs_inodes.proofs.Standing.{links-there, lives-there, parent-there, shows-export}
+use Rattle.nfs_inodes.proofs.Reading.{content-there}
+use Rattle.nfs_inodes.specs.Blocks.{HasMap, WritesRange, end_of, first_of}
+use Rattle.nfs_inodes.specs.Kinds.{HasFile}
 use Rattle.nfs_inodes.specs.Known.{HasInode}
 use Rattle.nfs_inodes.specs.Counts.{IsShareOf, KeepsInodes}
 use Rattle.nfs_inodes.specs.Makes.{bytes_changed, changed_at, with_bytes}
@@ -151,3 +159,65 @@ module _ (d mid laid : DraftValue) (n : ℕ) (i : Inode) (map after : FileMapVal
       (sym (put-is ∙ ap (λ x. with_written laid (addresses.Inode n) (Some (objects.Inode x))) made))
       (file-turns mid laid n i (has-kept d mid n (Some i) keeps has) lays map after now change was blocks content
       (subst (IsFitting n) made fits))))
+
+-- ---- what makers of files know once the group is counted
+pub file-map : (d mid : DraftValue) (n : ℕ) (i : Inode) (map : FileMapValue) → HasFile d n i map → KeepsInodes d mid →
+    HasMap mid n map
+file-map d mid n i map has keeps = record {
+  inode = i;
+  stands = has-kept d mid n (Some i) keeps has.inode;
+  content = ap map_in has.content;
+}
+
+pub laid-generation : (d mid laid : DraftValue) (n : ℕ) (i : Inode) (generation : ℕ) → HasInode d n (Some i) →
+    KeepsInodes d mid → known_at laid (addresses.Inode n) ≡ known_at mid (addresses.Inode n) → generation ≡ i.generation →
+    MayGive laid n generation
+laid-generation d mid laid n i generation has keeps laid-is is =
+    inl (i, laid-is ∙ keeps.inodes n ∙ known-inode d n i has, sym is)
+
+pub laid-known : (d mid laid : DraftValue) (n : ℕ) (i : Inode) → HasInode d n (Some i) → KeepsInodes d mid →
+    known_at laid (addresses.Inode n) ≡ known_at mid (addresses.Inode n) → IsSome (known_at laid (addresses.Inode n))
+laid-known d mid laid n i has keeps laid-is =
+    subst (λ x. IsSome x) (sym (laid-is ∙ keeps.inodes n ∙ known-inode d n i has)) refl
+
+-- the inode that is put, made of a copy
+pub put-made : (i copy j : Inode) (now : Time) (made after : FileMapValue) →
+    j ≡ record copy
+    { content = contents.Regular made; modified = touch copy.changed now; changed = touch copy.changed now } →
+    copy ≡ i → made ≡ after →
+    j ≡ record i { content = contents.Regular after; modified = touch i.changed now; changed = touch i.changed now }
+put-made i copy j now made after is same new =
+    is ∙ (λ k. record (same k) {
+      content = contents.Regular (new k);
+      modified = touch (same k).changed now;
+      changed = touch (same k).changed now;
+    })
+
+-- ---- bytes that are written
+pub range-content : (mid laid : DraftValue) (n : ℕ) (map : FileMapValue) (offset size : ℕ) (more : List ℕ) (pages : Bits) →
+    HasMap mid n map → WritesRange mid laid n offset more pages → 0 < length more →
+    size ≡ max map.size (offset + length more) → (s : Store) (k : Kept) → Fits mid.view s →
+    Represents (with_writes s mid.writes) k →
+    IsContent size (λ b. stored_in ((with_writes s laid.writes).at (addresses.Block n b)))
+    (written (bytes_at k.state n) offset more)
+range-content mid laid n map offset size more pages has writes some is s k fits stands =
+    subst (λ z. IsContent z (λ b. stored_in ((with_writes s laid.writes).at (addresses.Block n b)))
+    (written (bytes_at k.state n) offset more)) (sym is)
+    (content-written map.size (λ b. stored_in ((with_writes s mid.writes).at (addresses.Block n b))) (bytes_at k.state n)
+    (content-there mid n map has s k fits stands) offset more
+    (λ b. stored_in ((with_writes s laid.writes).at (addresses.Block n b)))
+    (λ i none. ap stored_in (writes.others s i (outside i none)))
+    (λ i there. ap stored_in (writes.blocks s i fits (inside i there).0 (inside i there).1)))
+  where
+    long : (i : ℕ) → length (window offset more i) ≡ min (block_size - place offset i) (length more - (i * block_size - offset))
+    long i = length-take (block_size - place offset i) (drop (i * block_size - offset) more)
+        ∙ ap (min (block_size - place offset i)) (length-drop (i * block_size - offset) more)
+
+    outside : (i : ℕ) → length (window offset more i) ≡ 0 → (i < first_of offset) ⊎ (end_of offset (length more) ≤ i)
+    outside i none = elim (cases_lt i (first_of offset)) [
+      | inl less ↦ inl less
+      | inr from ↦ inr (let l = long i in omega (arith, l, none, from, some))
+    ]
+
+    inside : (i : ℕ) → 0 < length (window offset more i) → (first_of offset ≤ i) × (i < end_of offset (length more))
+    inside i there = (let l = long i in (omega (arith, l, there), omega (arith, l, there, some)))

@@ -24,4 +24,5 @@ pub mod Standing
 pub mod Taking
 pub mod Totals
 pub mod Wishing
+pub mod WriteAsks
 pub mod Written

@@ -85,8 +85,8 @@ known-inode d n i has = has.known ∙ ap Some (inode-stands has.exports has.obje
 abbrev read-so : (List ℕ → Option Living) → Result (List ℕ) NfsStatus → Option Living
 read-so f r = elim r [ Ok bytes ↦ f bytes | Err e ↦ None ]
 
-pub no-file : (c : Content) (f : List ℕ → Option Living) → ((bytes : List ℕ) → c ≡ contents.Regular bytes → ⊥) → read-so f (bytes_in (content_of c)) ≡ None
-no-file (contents.Regular bytes) f none = absurd (none bytes refl)
+pub no-file : (c : Content) (f : List ℕ → Option Living) → ((map : FileMapValue) → c ≡ contents.Regular map → ⊥) → read-so f (bytes_in (content_of c)) ≡ None
+no-file (contents.Regular map) f none = absurd (none map refl)
 no-file (contents.Directory directory) f none = refl
 no-file (contents.Link text) f none = refl
 no-file (contents.BlockDevice device) f none = refl

@@ -1,11 +1,16 @@
 -- What a draft shows of the blocks and maps of a file, and what is read of them.
 use Rattle.std.proofs.Common.{◌≡◌, ◌≢◌, ◌+◌, ◌-◌, ◌*◌, ◌/◌, ◌%◌, ◌<◌, ◌≤◌, ℕ, true, false, Bool, min}
 use Rattle.std.proofs.Common.{List, [], ◌∷◌, ◌++◌, Option, Some, None, IsSome, Result, Ok, Err, inl, inr, refl, sym, ◌∙◌, ap, subst, arith}
+use Rattle.std.proofs.lemmas.Bool.{cases_lt}
+use Rattle.std.specs.FinMap.{get}
+use Rattle.nfs_wire.specs.declared.replies.ReadData.{ReadData}
+use Rattle.std.proofs.Common.{Bor, is_none, nat_le, option_copied}
 use Rattle.std.proofs.Common.{append-nil, cond, length, length-append, take, drop, replicate, option_map, unwrap_or}
 use Rattle.std.proofs.Math.Seq.{take-add}
 use Rattle.std.proofs.lemmas.List.{drop-drop, length-drop, length-take, take_all, take-append-drop}
 use Rattle.std.specs.Prelude.{MatchResult, IfSome}
-use Rattle.nfs_machine.specs.Data.{resized}
+use Rattle.nfs_machine.specs.Data.{read_at, resized}
+use Rattle.nfs_machine.specs.State.{Living, Socket, State}
 use Rattle.nfs_objects.proofs.BitSets.{has-none}
 use Rattle.nfs_objects.proofs.Contents.{part-length}
 use Rattle.nfs_objects.proofs.FileParts.{drop-resized, read-one, resized-length, take-grown}
@@ -16,20 +21,23 @@ use Rattle.nfs_objects.specs.FileMaps.{FileMapValue, IsContent, block_size, part
 use Rattle.nfs_objects.specs.Fits.{Fits}
 use Rattle.nfs_objects.specs.Knows.{Knows, Possible}
 use Rattle.nfs_objects.specs.Stands.{HasBlocks, IsMapped, IsStored, Kept, Represents, block_of, bytes_at, inode_of, map_in, map_of, pages_of}
-use Rattle.nfs_objects.specs.Stands.{stored_in}
+use Rattle.nfs_objects.specs.Stands.{content_of, file_bytes, stored_in, with_file}
 use Rattle.nfs_objects.specs.Store.{Store, with_writes, with_write}
 use Rattle.nfs_objects.specs.Values.{DraftValue, is_addr, known_at, shown_at, written_at}
 use Rattle.nfs_objects.specs.declared.address.Addr.{Addr}
 use Rattle.nfs_objects.specs.declared.address.Addr.TheVariants as addresses
 use Rattle.nfs_objects.specs.declared.bits.Bits.{Bits}
 use Rattle.nfs_objects.specs.declared.change.Halt.{Halt}
+use Rattle.nfs_objects.specs.declared.object.Content.{Content}
+use Rattle.nfs_objects.specs.declared.object.Content.TheVariants as contents
 use Rattle.nfs_objects.specs.declared.object.Inode.{Inode}
 use Rattle.nfs_objects.specs.declared.object.Object.{Object}
 use Rattle.nfs_objects.specs.declared.object.Object.TheVariants as objects
 use Rattle.nfs_inodes.proofs.Putting.{known-inode}
-use Rattle.nfs_inodes.proofs.Standing.{stands-there}
-use Rattle.nfs_inodes.specs.Blocks.{HasMap, HasPages, ShowsBlock}
+use Rattle.nfs_inodes.proofs.Standing.{contains, stands-there}
+use Rattle.nfs_inodes.specs.Blocks.{HasBlock, HasMap, HasPages, ShowsBlock}
 use Rattle.nfs_inodes.specs.Cuts.{ShowsMap}
+use Rattle.nfs_inodes.specs.Known.{HasInode, bytes_of, content_at}
 use Rattle.nfs_inodes.specs.Stops.{StillStands, StopsAt}
 
 -- ---- what stands where nothing was written
@@ -61,6 +69,14 @@ was-there d a still unknown there s k fits stands sound formed =
     let new = still s k fits stands in
     subst (λ o. IsSome o) (unknown-stays d s a unknown) (there s new.0 fits new.1)
 
+-- what is known is not lacking
+pub never-lacking : (d : DraftValue) (a : Addr) (halt : Halt) → IsSome (known_at d a) → Lacks d a halt → ⊥
+never-lacking d a halt some lacks = by (known_at d a) lacks.unknown some
+  where
+    by : (o : Option (Option Object)) → o ≡ None → IsSome o → ⊥
+    by None none e = cc
+    by (Some x) none e = cc
+
 -- ---- maps and blocks
 pub has-pages : (d : DraftValue) (n : ℕ) (map : FileMapValue) → HasMap d n map → HasPages d n map.pages
 has-pages d n map has s fits =
@@ -68,21 +84,24 @@ has-pages d n map has s fits =
     (known-inode d n has.inode has.stands))
     ∙ ap (λ f. elim f [ None ↦ no_bits | Some map ↦ map.pages ]) has.content
 
-abbrev pages-in : Option Inode → Bits
-pages-in i = elim (elim i [ None ↦ None | Some i ↦ map_in i.content ]) [ None ↦ no_bits | Some map ↦ map.pages ]
-
 -- of what is known there: of what is no file no page
+abbrev pub map_pages : Option FileMapValue → Bits
+map_pages m = elim m [ None ↦ no_bits | Some map ↦ map.pages ]
+
 abbrev pub inode_pages : Option Inode → Bits
-inode_pages i = elim i [ None ↦ no_bits | Some i ↦ elim (map_in i.content) [ None ↦ no_bits | Some map ↦ map.pages ] ]
+inode_pages i = elim i [ None ↦ no_bits | Some i ↦ map_pages (map_in i.content) ]
 
 pub known-pages : (d : DraftValue) (n : ℕ) (o : Option Object) (i : Option Inode) (pages : Bits) →
     known_at d (addresses.Inode n) ≡ Some o → i ≡ inode_of o → pages ≡ inode_pages i → HasPages d n pages
 known-pages d n o i pages known is are s fits =
-    ap pages_of (known-stands d s (addresses.Inode n) o fits known) ∙ by (inode_of o) refl ∙ sym (are ∙ ap inode_pages is)
+    ap pages_of (known-stands d s (addresses.Inode n) o fits known) ∙ by (inode_of o) ∙ sym (are ∙ ap inode_pages is)
   where
-    by : (j : Option Inode) → inode_of o ≡ j → pages_of o ≡ inode_pages (inode_of o)
-    by None e = ap pages-in e ∙ sym (ap inode_pages e)
-    by (Some j) e = ap pages-in e ∙ sym (ap inode_pages e)
+    abbrev filed : Option Inode → Option FileMapValue
+    filed j = elim j [ None ↦ None | Some j ↦ map_in j.content ]
+
+    by : (j : Option Inode) → map_pages (filed j) ≡ inode_pages j
+    by None = refl
+    by (Some j) = refl
 
 some-map : (o : Option Object) → IsMapped true o → IsSome o
 some-map o is = subst (λ x. IsSome x) (sym is.1) refl
@@ -154,6 +173,37 @@ shows-known d n i found known = by (known_at d (addresses.Block n i)) refl known
         let same : block_of o ≡ found = cc in
         ap stored_in (known-stands d s (addresses.Block n i) o fits is) ∙ ap (λ b. unwrap_or b []) same
 
+is-block : (o : Option Object) (bytes : List ℕ) → block_of o ≡ Some bytes → o ≡ Some (objects.Block bytes)
+is-block None bytes e = cc
+is-block (Some (objects.Block own)) bytes e = ap (λ b. Some (objects.Block b)) (let same : own ≡ bytes = cc in same)
+is-block (Some (objects.Exports table)) bytes e = cc
+is-block (Some (objects.Inode i)) bytes e = cc
+is-block (Some (objects.Map bits)) bytes e = cc
+is-block (Some (objects.Mounts table)) bytes e = cc
+is-block (Some (objects.Usage u)) bytes e = cc
+
+-- a block that is known to be there
+pub block-there : (d : DraftValue) (n i : ℕ) (r : Option (Bor (List ℕ))) →
+    option_map block_of (known_at d (addresses.Block n i)) ≡ Some (option_copied r) → false ≡ is_none r → HasBlock d n i
+block-there d n i None known some = cc
+block-there d n i (Some bytes) known some = by (known_at d (addresses.Block n i)) refl known
+  where
+    by : (o : Option (Option Object)) → known_at d (addresses.Block n i) ≡ o → option_map block_of o ≡ Some (Some bytes.now) →
+        HasBlock d n i
+    by None is e = cc
+    by (Some o) is e =
+        let same : block_of o ≡ Some bytes.now = cc in
+        (bytes.now, is ∙ ap Some (is-block o bytes.now same))
+
+-- what was asked for is not lacking
+pub known-block : (d : DraftValue) (n i : ℕ) (r : Result (Option (Bor (List ℕ))) Halt) →
+    IsSome (known_at d (addresses.Block n i)) →
+    MatchResult r (λ block. option_map block_of (known_at d (addresses.Block n i)) ≡ Some (option_copied block))
+    (Lacks d (addresses.Block n i)) →
+    MatchResult r (λ block. ShowsBlock d n i (unwrap_or (option_copied block) [])) (StopsAt d [])
+known-block d n i (Ok block) some is = shows-known d n i (option_copied block) is
+known-block d n i (Err halt) some lacks = absurd (never-lacking d (addresses.Block n i) halt some lacks)
+
 -- the bytes of a file are what its blocks tell
 pub content-there : (d : DraftValue) (n : ℕ) (map : FileMapValue) → HasMap d n map → (s : Store) (k : Kept) →
     Fits d.view s → Represents (with_writes s d.writes) k →
@@ -220,12 +270,12 @@ module _ (d : DraftValue) (n : ℕ) (map : FileMapValue) (has : HasMap d n map) 
   gathered-more index found bytes more behind before so shows is = record {
     counted = ap length is ∙ long ∙ next;
     is = λ s k w.
-        let data = bytes_at k.state n in
+        let all = bytes_at k.state n in
         let content = content-there d n map has s k w.fits w.stands in
         is ∙ ap (λ b. found ++ resized (drop start b) c) (sym (shows s k w.fits w.stands))
-        ∙ (λ j. so.is s k w j ++ part data (λ b. stored_in ((with_writes s d.writes).at (addresses.Block n b))) content j)
-        ∙ sym (take-add (length found) c (drop offset data))
-        ∙ ap (λ m. take m (drop offset data)) (sym (ap length is ∙ long));
+        ∙ (λ j. so.is s k w j ++ part all (λ b. stored_in ((with_writes s d.writes).at (addresses.Block n b))) content j)
+        ∙ sym (take-add (length found) c (drop offset all))
+        ∙ ap (λ m. take m (drop offset all)) (sym (ap length is ∙ long));
   }
     where
       start : ℕ
@@ -241,14 +291,14 @@ module _ (d : DraftValue) (n : ℕ) (map : FileMapValue) (has : HasMap d n map) 
       next : length found + c ≡ min count ((index + 1) * block_size - offset)
       next = let l = so.counted in omega (arith, l, behind, before)
 
-      part : (data : List ℕ) (stored : ℕ → List ℕ) → IsContent map.size stored data →
-          resized (drop start (stored index)) c ≡ take c (drop (length found) (drop offset data))
-      part data stored content =
+      part : (all : List ℕ) (stored : ℕ → List ℕ) → IsContent map.size stored all →
+          resized (drop start (stored index)) c ≡ take c (drop (length found) (drop offset all))
+      part all stored content =
           let l = so.counted in
           let at : offset + length found ≡ index * block_size + start = omega (arith, l, behind, before) in
-          read-part map.size stored data content index start c (offset + length found) at
+          read-part map.size stored all content index start c (offset + length found) at
           (omega (arith, l, behind, before)) (omega (arith, l, within, behind, before))
-          ∙ ap (take c) (sym (drop-drop (length found) offset data))
+          ∙ ap (take c) (sym (drop-drop (length found) offset all))
 
   pub gathered-all : (index : ℕ) (found : List ℕ) → offset + count ≤ index * block_size → IsGathered d n offset count index found →
       Knows d (λ k. found ≡ take count (drop offset (bytes_at k.state n)))
@@ -256,3 +306,61 @@ module _ (d : DraftValue) (n : ℕ) (map : FileMapValue) (has : HasMap d n map) 
       let l = so.counted in
       let whole : length found ≡ count = omega (arith, l, behind) in
       so.is s k w ∙ ap (λ m. take m (drop offset (bytes_at k.state n))) whole
+
+-- ---- what READ answers
+-- at most so many of a list are at most so many as it has
+take-most : (m : ℕ) (xs : List ℕ) → take m xs ≡ take (min (length xs) m) xs
+take-most m xs = elim (cases_lt m (length xs)) [
+  | inl less ↦ (let least : min (length xs) m ≡ m = omega (arith, less) in ap (λ k. take k xs) (sym least))
+  | inr all ↦
+      let least : min (length xs) m ≡ length xs = omega (arith, all) in
+      take_all m xs all ∙ sym (take_all (length xs) xs (omega arith)) ∙ ap (λ k. take k xs) (sym least)
+]
+
+pub read-is : (bytes found : List ℕ) (size offset count some : ℕ) (eof : Bool) → length bytes ≡ size →
+    some ≡ min (size - offset) (min count 65536) → found ≡ take some (drop offset bytes) → eof ≡ nat_le size (offset + some) →
+    (let read : ReadData = record { count = some; eof = eof; «data» = found } in read ≡ read_at bytes offset count)
+read-is bytes found size offset count some eof counted is taken ends = λ i. record {
+  count = long i;
+  eof = (ends ∙ (λ j. nat_le (sym counted j) (offset + long j))) i;
+  «data» = same i;
+}
+  where
+    rest : length (drop offset bytes) ≡ size - offset
+    rest = length-drop offset bytes ∙ ap (λ n. n - offset) counted
+
+    same : found ≡ take (min count 65536) (drop offset bytes)
+    same = taken ∙ ap (λ k. take k (drop offset bytes)) (is ∙ ap (λ n. min n (min count 65536)) (sym rest))
+        ∙ sym (take-most (min count 65536) (drop offset bytes))
+
+    long : some ≡ length (take (min count 65536) (drop offset bytes))
+    long = sym (ap length (sym same ∙ taken) ∙ length-take some (drop offset bytes) ∙ short)
+      where
+        short : min some (length (drop offset bytes)) ≡ some
+        short = omega (arith, rest, is)
+
+-- of what is no file
+pub bytes-there : (m : State) (n : ℕ) → bytes_of (content_at m n) ≡ bytes_at m n
+bytes-there m n = by (get m.objects n)
+  where
+    by : (o : Option Living) → bytes_of (elim o [ None ↦ Socket | Some l ↦ l.content ]) ≡
+        elim o [ None ↦ [] | Some l ↦ file_bytes l.content ]
+    by None = refl
+    by (Some l) = refl
+
+pub no-bytes-none : (d : DraftValue) (n : ℕ) → HasInode d n None → Knows d (λ k. bytes_of (content_at k.state n) ≡ [])
+no-bytes-none d n has s k w = ap bytes_of (contains d n None has s k w.fits w.stands)
+
+pub no-bytes-other : (d : DraftValue) (n : ℕ) (i : Inode) → HasInode d n (Some i) →
+    ((map : FileMapValue) → i.content ≡ contents.Regular map → ⊥) → Knows d (λ k. bytes_of (content_at k.state n) ≡ [])
+no-bytes-other d n i has other s k w =
+    ap bytes_of (contains d n (Some i) has s k w.fits w.stands) ∙ by i.content refl
+  where
+    by : (c : Content) → i.content ≡ c → bytes_of (with_file (bytes_at k.state n) (content_of c)) ≡ []
+    by (contents.Regular map) is = absurd (other map is)
+    by (contents.Directory directory) is = refl
+    by (contents.Link text) is = refl
+    by (contents.BlockDevice device) is = refl
+    by (contents.CharacterDevice device) is = refl
+    by contents.Socket is = refl
+    by contents.Fifo is = refl

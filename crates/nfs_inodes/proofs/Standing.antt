@@ -118,7 +118,7 @@ some-lives d n i x has of s k w =
       record {
         lives = ap (get k.state.objects) of.number_is ∙ lives ∙ ap (λ o. Some o) (sym same);
         shows = of.attributes_are k.state
-            ∙ ap (λ a. record a { links = i.links }) (sym (attributes-with k.state n bytes i size))
+            ∙ ap (λ (a : Attributes). record a { links = i.links }) (sym (attributes-with k.state n bytes i size))
             ∙ ap (λ l. record (attributes_of k.state n filled) { links = l }) links
             ∙ ap (λ q. attributes_of k.state q filled) (sym of.number_is) ∙ ap (attributes_of k.state x.number) (sym same);
       },

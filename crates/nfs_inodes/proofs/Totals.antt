@@ -29,7 +29,7 @@ not-empty xs n len other none =
     let no : false ≡ true = other ∙ (unsigned_Decides n 0).1 zero in cc
 
 -- one more at the end, which is none of those before
-once-append : (asked : List (Addr × Mode)) (a : Addr × Mode) → EachOnce asked
+pub once-append : (asked : List (Addr × Mode)) (a : Addr × Mode) → EachOnce asked
     → AllByRecursion (λ (b : Addr × Mode). is_addr b.0 a.0 ≡ false) asked → EachOnce (asked ++ a ∷ [])
 once-append [] a once apart = (tt, tt)
 once-append (b ∷ asked) a once apart = (

@@ -2,6 +2,8 @@
 use Rattle.std.proofs.Common.{◌≡◌, ◌≢◌, ◌==◌, ◌&&◌, ◌+◌, ◌-◌, ◌*◌, ◌/◌, ◌%◌, ◌<◌, ◌≤◌, ◌⊎◌, ℕ, zero, suc, true, false, Bool}
 use Rattle.std.proofs.Common.{List, [], ◌∷◌, ◌++◌, Option, Some, None, IsSome, inl, inr, refl, sym, ◌∙◌, ap, subst, arith}
 use Rattle.std.proofs.Common.{append-nil, append_assoc, cond, length}
+use Rattle.std.proofs.Common.{Result, Ok, Err, IfErr, OnOk}
+use Rattle.std.specs.Prelude.{MatchResult}
 use Rattle.std.specs.Cmp.{unsigned_Decides}
 use Rattle.std.specs.List.{AllByRecursion}
 use Rattle.nfs_machine.proofs.Modes.{all-joined}
@@ -13,17 +15,37 @@ use Rattle.nfs_objects.specs.Values.{DraftValue, is_addr, known_at}
 use Rattle.nfs_objects.specs.declared.address.Addr.{Addr}
 use Rattle.nfs_objects.specs.declared.address.Addr.TheVariants as addresses
 use Rattle.nfs_objects.specs.declared.bits.Bits.{Bits}
+use Rattle.nfs_objects.specs.declared.change.Halt.{Halt}
 use Rattle.nfs_objects.specs.declared.modes.Mode.{Mode}
 use Rattle.nfs_objects.specs.Modes.{held_mode}
 use Rattle.nfs_objects.specs.declared.object.Object.{Object}
 use Rattle.nfs_inodes.proofs.Totals.{once-append}
 use Rattle.nfs_inodes.specs.Asking.{AsksFor, IsAsking, IsWish, with_wish}
 use Rattle.nfs_inodes.specs.Blocks.{IsBlockIn, IsMapIn, end_of, first_of}
-use Rattle.nfs_inodes.specs.Cuts.{IsPageIn, IsTold}
+use Rattle.nfs_inodes.specs.Stops.{StopsAt}
 
 none-of-more : {X : Type 0} (xs : List X) (x : X) → xs ++ x ∷ [] ≡ [] → ⊥
 none-of-more [] x e = cc
 none-of-more (y ∷ xs) x e = cc
+
+-- an address that the draft knows, and one that it does not
+pub wish-known : (d : DraftValue) (a : Addr) (asked : List (Addr × Mode)) → IsSome (known_at d a) → asked ≡ with_wish d a asked
+wish-known d a asked some = by (known_at d a) some
+  where
+    by : (o : Option (Option Object)) → IsSome o → asked ≡ elim o [
+      | Some object ↦ asked
+      | None ↦ asked ++ (a, held_mode d.modes d.view a) ∷ []
+    ]
+    by None e = cc
+    by (Some object) e = refl
+
+pub wish-unknown : (d : DraftValue) (a : Addr) (asked : List (Addr × Mode)) (wish : Addr × Mode) → known_at d a ≡ None →
+    wish ≡ (a, held_mode d.modes d.view a) → asked ++ wish ∷ [] ≡ with_wish d a asked
+wish-unknown d a asked wish none is =
+    ap (λ w. asked ++ w ∷ []) is ∙ ap (λ (o : Option (Option Object)). elim o [
+      | Some object ↦ asked
+      | None ↦ asked ++ (a, held_mode d.modes d.view a) ∷ []
+    ]) (sym none)
 
 -- two lists of which no address is in both
 once-joined : (xs ys : List (Addr × Mode)) → EachOnce xs → EachOnce ys →
@@ -318,14 +340,13 @@ pub among-blocks : (file first count i : ℕ) → first ≤ i → i < first + co
     IsAmong (blocks_from file first count) (addresses.Block file i)
 unfolding blocks_from
 among-blocks file first zero i behind before = absurd (omega (arith, behind, before))
-among-blocks file first (suc count) i behind before = by (first == i) refl
-  where
-    by : (t : Bool) → (first == i) ≡ t →
-        (addresses.Block file first ≡ addresses.Block file i) ⊎ IsAmong (blocks_from file (suc first) count) (addresses.Block file i)
-    by true same = inl (ap (addresses.Block file) ((unsigned_Decides first i).0 same))
-    by false other =
-        let apart = differs first i other in
-        inr (among-blocks file (suc first) count i (omega (arith, behind, apart)) (omega (arith, before)))
+among-blocks file first (suc count) i behind before =
+    elim (first == i) as (λ t. (first == i) ≡ t → (addresses.Block file first ≡ addresses.Block file i) ⊎
+    IsAmong (blocks_from file (suc first) count) (addresses.Block file i)) [
+      | true ↦ λ same. inl (ap (addresses.Block file) ((unsigned_Decides first i).0 same))
+      | false ↦ λ other. inr (among-blocks file (suc first) count i
+          (let apart = differs first i other in omega (arith, behind, apart)) (omega (arith, before)))
+    ] refl
 
 module _ (file offset count : ℕ) (some : 0 < count) (few : count ≤ 65536) where
   pub among-block : (a : Addr) → IsBlockIn file (first_of offset) (end_of offset count) a → IsAmong (blocks_at file offset) a
@@ -347,3 +368,11 @@ module _ (file offset count : ℕ) (some : 0 < count) (few : count ≤ 65536) wh
           let apart = differs first is.page other in
           let next : suc first ≡ is.page = (let b = is.behind in let c = is.before in omega (arith, b, c, apart, some, few)) in
           inr (inl (ap (addresses.Map file) next))
+
+-- ---- how what is asked for ends
+pub asked-result : (d : DraftValue) (named : List Addr) (asked : List (Addr × Mode)) (Known : Type 0)
+    (r : Result (Unit {0}) Halt) → OnOk r (asked ≡ []) →
+    ((e : DraftValue) (some : List Addr) → IsAsking e some asked → IfErr r (StopsAt e some)) → IsAsking d named asked →
+    (asked ≡ [] → Known) → MatchResult r (λ _. Known) (StopsAt d named)
+asked-result d named asked Known (Ok x) nothing stops asking known = known nothing
+asked-result d named asked Known (Err halt) nothing stops asking known = stops d named asking

@@ -1,5 +1,5 @@
 -- Blocks and maps of a file that are written: what stands then, and what stays.
-use Rattle.std.proofs.Common.{◌≡◌, ◌≢◌, ◌+◌, ◌-◌, ◌*◌, ◌/◌, ◌%◌, ◌<◌, ◌≤◌, ◌==◌, ◌&&◌, ◌||◌, ◌⊎◌, ℕ, true, false, Bool, min, nat_le, nat_lt}
+use Rattle.std.proofs.Common.{◌≡◌, ◌≢◌, ◌+◌, ◌-◌, ◌*◌, ◌/◌, ◌%◌, ◌<◌, ◌≤◌, ◌==◌, ◌&&◌, ◌||◌, ◌⊎◌, ℕ, true, false, Bool, max, min, nat_le, nat_lt}
 use Rattle.std.proofs.Common.{List, [], ◌∷◌, ◌++◌, Option, Some, None, IsSome, IfSome, Result, Ok, Err, inl, inr, refl, sym, ◌∙◌, ap, subst, arith}
 use Rattle.std.proofs.Common.{cond, length, take, drop, option_map, unwrap_or}
 use Rattle.std.proofs.lemmas.Bool.{cases_lt, le-leb, lt-leb, lt-ltb, le-ltb, ltb-true, ltb-false}
@@ -189,6 +189,52 @@ within-false first end i out = by (is_within first end i) refl
         let both = within-tells first end i is in
         elim out [ inl less ↦ absurd (omega (arith, less, both)) | inr past ↦ absurd (omega (arith, past, both)) ]
     by false is = refl
+
+-- places of a page, as numbers of blocks
+pub places-are : (first end begin n : ℕ) → n < 512 →
+    (nat_le (max first begin - begin) n && nat_lt n (min end (begin + 512) - begin)) ≡ is_within first end (begin + n)
+places-are first end begin n below = elim (cases_lt (begin + n) first) [
+  | inl less ↦
+      ap (λ b. b && nat_lt n (min end (begin + 512) - begin)) (lt-leb (max first begin - begin) n (omega (arith, less)))
+      ∙ sym (within-false first end (begin + n) (inl less))
+  | inr from ↦ elim (cases_lt (begin + n) end) [
+    | inl before ↦
+        (λ j. le-leb (max first begin - begin) n (omega (arith, from)) j
+        && lt-ltb n (min end (begin + 512) - begin) (omega (arith, before, below)) j)
+        ∙ sym (within-true first end (begin + n) from before)
+    | inr past ↦
+        (λ j. le-leb (max first begin - begin) n (omega (arith, from)) j
+        && le-ltb n (min end (begin + 512) - begin) (omega (arith, past)) j)
+        ∙ sym (within-false first end (begin + n) (inr past))
+  ]
+]
+
+-- what a page's map tells then, where one of its blocks is in the range
+pub page-tells : (d : DraftValue) (file first end page : ℕ) (was bits : Bits) →
+    option_map map_of (known_at d (addresses.Map file page)) ≡ Some was →
+    ((n : ℕ) → has bits n ≡ (has was n || (nat_le (max first (page * 512) - page * 512) n
+    && nat_lt n (min end (page * 512 + 512) - page * 512)))) →
+    first < page * 512 + 512 → page * 512 < end → first < end → IsMapAfter d file first end page (Some bits)
+page-tells d file first end page was bits known is behind before some = (
+  was,
+  known,
+  tells,
+  (place, tells place (omega (arith, behind))
+      ∙ ap (λ b. has was place || b) (within-true first end (page * 512 + place) (omega arith) (omega (arith, before, some)))
+      ∙ or-all (has was place)),
+)
+  where
+    place : ℕ
+    place = max first (page * 512) - page * 512
+
+    tells : (n : ℕ) → n < 512 → has bits n ≡ (has was n || is_within first end (page * 512 + n))
+    tells n below = is n ∙ ap (λ b. has was n || b) (places-are first end (page * 512) n below)
+
+-- the blocks of a page in a range are there
+pub page-there : (d : DraftValue) (file first end page : ℕ) →
+    ((i : ℕ) → max first (page * 512) ≤ i → i < min end (page * 512 + 512) → HasBlock d file i) →
+    IsMapAfter d file first end page None
+page-there d file first end page there i from before row = there i (omega (arith, from, row)) (omega (arith, before, row))
 
 module _ (s t : Store) (n first end : ℕ) (before after : Bits) (filed : HasBlocks s n before) (page : ℕ) where
   -- its map stays, since all of its blocks in the range were there

@@ -4,7 +4,6 @@ ghost use Rattle.std.specs.Prelude.{◌≡◌, ◌+◌, ◌-◌, ◌*◌, ◌/�
 ghost use Rattle.std.specs.Prelude.{IsSome, MatchResult, OnOk, drop, length, nat_le, nat_lt, option_copied, take, true};
 ghost use Rattle.std.specs.Prelude.{unwrap_or, ℕ};
 ghost use Rattle.nfs_machine.specs.Data.{size_limit};
-ghost use Rattle.nfs_objects.specs.Asks.{Lacks};
 ghost use Rattle.nfs_objects.specs.Bits.{has};
 ghost use Rattle.nfs_objects.specs.Calls.{blocks_at, maps_at};
 ghost use Rattle.nfs_objects.specs.Drafts.{MayChange};
@@ -89,10 +88,12 @@ fn stored<'d>(
     file: Mapped<'_>,
     index: u64,
 ) -> Result<Option<&'d Bytes>, Halt>
-    requires { HasMap draft.now file.number file.map.now }
+    requires mapped { HasMap draft.now file.number file.map.now }
+    requires known { has file.map.now.pages (index / 512) ≡ true →
+        IsSome (known_at draft.now (Addr.Block file.number index)) }
     ensures { MatchResult result
-        (λ block. ShowsBlock draft.now file.number index (unwrap_or (option_copied block) []))
-        (Lacks draft.now (Addr.Block file.number index)) }
+        (λ block. ShowsBlock draft.now file.entry.number index (unwrap_or (option_copied block) []))
+        (StopsAt draft.now []) }
 {
     if !file.map.pages().has(index / MAP_BLOCKS) {
         return Ok(None);
@@ -121,8 +122,8 @@ pub(crate) fn read_range(draft: &Draft<'_>, file: Mapped<'_>, range: Range) -> R
     requires within { range.offset + range.count ≤ file.map.now.size }
     ensures { MatchResult result
         (λ found. Knows draft.now (λ k.
-        found ≡ take range.count (drop range.offset (bytes_at k.state file.number))))
-        (StopsAt draft.now (blocks_at file.number range.offset)) }
+        found ≡ take range.count (drop range.offset (bytes_at k.state file.entry.number))))
+        (StopsAt draft.now (blocks_at file.entry.number range.offset)) }
 {
     ask_range(draft, file, range)?;
     match whole_in_one(draft, file, range)? {
@@ -134,8 +135,8 @@ pub(crate) fn read_range(draft: &Draft<'_>, file: Mapped<'_>, range: Range) -> R
 /// Asks for the blocks of a range, as far as its map pages are there.
 fn ask_range(draft: &Draft<'_>, file: Mapped<'_>, range: Range) -> Result<(), Halt>
     ensures { MatchResult result
-        (λ _. KnowsMapped draft.now file.number file.map.now.pages range.offset range.count)
-        (StopsAt draft.now (blocks_at file.number range.offset)) }
+        (λ _. KnowsMapped draft.now file.entry.number file.entry.map.now.pages range.offset range.count)
+        (StopsAt draft.now (blocks_at file.entry.number range.offset)) }
 {
     let pages = file.map.pages();
     let mut asking = Asking::new(draft.alloc());
@@ -158,7 +159,7 @@ fn whole_in_one(
     requires known { KnowsMapped draft.now file.number file.map.now.pages range.offset range.count }
     ensures { MatchResult result
         (λ found. IfSome found (λ found. Knows draft.now (λ k.
-        found ≡ take range.count (drop range.offset (bytes_at k.state file.number)))))
+        found ≡ take range.count (drop range.offset (bytes_at k.state file.entry.number)))))
         (StopsAt draft.now []) }
 {
     let Some(bytes) = stored(draft, file, range.first())? else {
@@ -178,7 +179,7 @@ fn gathered(draft: &Draft<'_>, file: Mapped<'_>, range: Range) -> Result<Bytes, 
     requires known { KnowsMapped draft.now file.number file.map.now.pages range.offset range.count }
     ensures { MatchResult result
         (λ found. Knows draft.now (λ k.
-        found ≡ take range.count (drop range.offset (bytes_at k.state file.number))))
+        found ≡ take range.count (drop range.offset (bytes_at k.state file.entry.number))))
         (StopsAt draft.now []) }
 {
     let mut found = Vec::with_capacity(draft.alloc(), range.count)?;
@@ -211,8 +212,8 @@ pub(crate) fn ask_written(
     range: Range,
     asking: &mut Asking,
 ) -> Result<(), AllocError>
-    ensures { OnOk result (AsksFor draft.now (IsInRange file.number range.offset range.count)
-        (IsBlockIn file.number (first_of range.offset) (end_of range.offset range.count))
+    ensures { OnOk result (AsksFor draft.now (IsInRange file.entry.number range.offset range.count)
+        (IsBlockIn file.entry.number (first_of range.offset) (end_of range.offset range.count))
         asking.old.asked.items asking.new.asked.items) }
 {
     ask_blocks(draft, file.number, range, asking)?;
@@ -377,7 +378,8 @@ fn are_there(draft: &Draft<'_>, number: u64, first: u64, end: u64) -> Result<boo
 
 /// The set with these numbers.
 fn with_places(bits: Bits, first: u64, end: u64) -> Bits
-    requires { end ≤ 512 }
+    requires order { first ≤ end }
+    requires small { end ≤ 512 }
     ensures { (n : ℕ) → has result n ≡ (has bits n || (nat_le first n && nat_lt n end)) }
 {
     let mut all = bits;

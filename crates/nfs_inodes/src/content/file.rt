@@ -5,13 +5,13 @@ ghost use Rattle.nfs_machine.specs.Checks.{text_in};
 ghost use Rattle.nfs_machine.specs.Data.{read_at, resized, size_limit, transfer_limit, written};
 ghost use Rattle.nfs_machine.specs.Times.{time_of};
 ghost use Rattle.nfs_objects.specs.Bits.{no_bits};
-ghost use Rattle.nfs_objects.specs.Calls.{addresses_of};
+ghost use Rattle.nfs_objects.specs.Calls.{addresses_of, blocks_at};
 ghost use Rattle.nfs_objects.specs.Knows.{Knows, Turns};
 ghost use Rattle.nfs_objects.specs.Modes.{changing};
-ghost use Rattle.nfs_objects.specs.Stands.{content_of, map_in};
+ghost use Rattle.nfs_objects.specs.Stands.{bytes_at, content_of, map_in};
 ghost use Rattle.nfs_objects.specs.Drafts.{MayChange};
 ghost use Rattle.nfs_objects.specs.declared.address.Addr.TheVariants as Addr;
-ghost use Rattle.nfs_inodes.specs.Blocks.{HasPages, read_from, written_from};
+ghost use Rattle.nfs_inodes.specs.Blocks.{HasMap, HasPages, read_from, written_from};
 ghost use Rattle.nfs_inodes.specs.Cuts.{IsCleared};
 ghost use Rattle.nfs_inodes.specs.Kinds.{IsShown};
 ghost use Rattle.nfs_inodes.specs.Known.{bytes_of, content_at};
@@ -52,15 +52,30 @@ pub fn read(draft: &Draft<'_>, file: &File, offset: u64, count: u32) -> Result<R
     let Content::Regular(map) = &inode.content else {
         return Ok(nothing_read());
     };
-    let offset = offset.min(map.size());
-    let count = (map.size() - offset).min(u64::from(count.min(TRANSFER_LIMIT))) as usize;
-    let data = match count {
-        0 => Bytes::new(),
-        _ => read_range(draft, Mapped { number, map }, Range { offset, count })?,
-    };
+    read_file(draft, Mapped { number, map }, offset, count)
+}
+
+/// The same of a file as it is kept.
+fn read_file(draft: &Draft<'_>, file: Mapped<'_>, offset: u64, count: u32) -> Result<ReadData, Halt>
+    requires { HasMap draft.now file.number file.map.now }
+    ensures { MatchResult result
+        (λ found. Knows draft.now (λ k. found ≡ read_at (bytes_at k.state file.entry.number) offset count))
+        (StopsAt draft.now (blocks_at file.entry.number offset)) }
+{
+    let size = file.map.size();
+    let most = u64::from(count.min(TRANSFER_LIMIT));
+    let count = size.saturating_sub(offset).min(most) as usize;
+    if count == 0 {
+        return Ok(ReadData {
+            count: 0,
+            eof: size <= offset,
+            data: Bytes::new(),
+        });
+    }
+    let data = read_range(draft, file, Range { offset, count })?;
     Ok(ReadData {
         count: count as u32,
-        eof: offset + count as u64 == map.size(),
+        eof: size <= offset + count as u64,
         data,
     })
 }

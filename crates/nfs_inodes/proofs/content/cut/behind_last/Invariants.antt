@@ -3,4 +3,4 @@ use Rattle.nfs_inodes.specs.Cuts.{EndsAt}
 use Rattle.nfs_inodes.proofs.content.cut.behind_last.Given as goal
 
 abbrev pub invariant-loop : goal.invariant-loop
-invariant-loop l = (l.end ≤ 512) × EndsAt l.pages l.end
+invariant-loop l = (l.end ≤ 512) × EndsAt l.fn.pages l.end

@@ -1,4 +1,4 @@
-use Rattle.std.proofs.Common.{◌≡◌, [], length, arith, sym, ◌∙◌, ap}
+use Rattle.std.proofs.Common.{◌≡◌, length, arith, sym, ◌∙◌, ap}
 use Rattle.std.proofs.lemmas.List.{nil_from_length}
 use Rattle.std.specs.Cmp.{unsigned_Decides}
 use Rattle.std.specs.Vec.{vec_len}
