@@ -1,9 +1,12 @@
 -- Files that are cut off: page by page the blocks behind the place go, and the maps tell of those that stay.
-use Rattle.std.proofs.Common.{◌≡◌, ◌≢◌, ◌+◌, ◌-◌, ◌*◌, ◌/◌, ◌%◌, ◌<◌, ◌≤◌, ◌==◌, ◌&&◌, ◌||◌, ◌⊎◌, ℕ, true, false, Bool, min, not, nat_lt}
+use Rattle.std.proofs.Common.{◌≡◌, ◌≢◌, ◌+◌, ◌-◌, ◌*◌, ◌/◌, ◌%◌, ◌<◌, ◌≤◌, ◌==◌, ◌&&◌, ◌||◌, ◌⊎◌, ℕ, true, false, Bool, max, min, not, nat_lt}
 use Rattle.std.proofs.Common.{List, [], ◌∷◌, ◌++◌, Option, Some, None, IsSome, inl, inr, refl, sym, ◌∙◌, ap, subst, arith}
 use Rattle.std.proofs.Common.{cond, length, take, drop, option_map, unwrap_or, slice_index_or}
 use Rattle.std.proofs.lemmas.Bool.{cases_lt, le-ltb, lt-ltb, ltb-false, ltb-true}
-use Rattle.std.proofs.lemmas.List.{take_all}
+use Rattle.std.proofs.Common.{get_or, length-append}
+use Rattle.std.proofs.lemmas.List.{get_or_append_left, get_or_push, take_all}
+use Rattle.nfs_objects.specs.Attempt.{StopsCall}
+use Rattle.nfs_objects.specs.declared.change.Halt.{Halt}
 use Rattle.std.specs.Cmp.{unsigned_Decides}
 use Rattle.nfs_objects.proofs.BitSets.{has-none}
 use Rattle.nfs_objects.proofs.Contents.{content-resized, part-length}
@@ -25,13 +28,15 @@ use Rattle.nfs_objects.specs.declared.bits.Bits.{Bits}
 use Rattle.nfs_objects.specs.declared.object.Object.{Object}
 use Rattle.nfs_objects.specs.declared.object.Object.TheVariants as objects
 use Rattle.nfs_inodes.proofs.Reading.{has-blocks, no-map, no-page, page-stands, told-stands, was-there}
-use Rattle.nfs_inodes.proofs.Wishing.{differs, not-same, other-block, other-map, same-number}
+use Rattle.nfs_inodes.proofs.Wishing.{asks-as, asks-both, asks-more, differs, not-same, other-block, other-map, same-number}
 use Rattle.nfs_inodes.proofs.Written.{leaves-as, leaves-both, leaves-none, leaves-one, stands-here}
+use Rattle.nfs_objects.specs.declared.modes.Mode.{Mode}
+use Rattle.nfs_inodes.specs.Asking.{AsksFor, with_wish}
 use Rattle.nfs_inodes.specs.Blocks.{HasPages, Leaves}
 use Rattle.nfs_inodes.specs.Cuts.{CutsBlock, CutsBlocks, CutsNext, CutsPage, EndsAt, IsBehind, IsCleared, IsCutAt, IsCutTo}
 use Rattle.nfs_inodes.specs.Cuts.{IsResized}
-use Rattle.nfs_inodes.specs.Cuts.{IsPageIn, IsTold, IsToldIn, KnowsMaps, ShowsMap, ShowsMaps, cut_to, told_at}
-use Rattle.nfs_inodes.specs.Stops.{StillStands}
+use Rattle.nfs_inodes.specs.Cuts.{IsPageIn, IsTold, IsToldIn, KnowsMaps, KnowsTold, ShowsMap, ShowsMaps, cut_to, told_at}
+use Rattle.nfs_inodes.specs.Stops.{StillStands, StopsAt}
 
 -- ---- which map pages may be asked for
 module _ (file : ℕ) (pages : Bits) (first : ℕ) where
@@ -92,6 +97,26 @@ module _ (file : ℕ) (pages : Bits) (first : ℕ) where
 
   pub pages-less : (end : ℕ) (b : Addr) → IsPageIn file pages first end b → IsPageIn file pages first (end + 1) b
   pages-less = wider
+
+-- one page more is asked for, or not
+module _ (d : DraftValue) (file : ℕ) (pages : Bits) (first : ℕ) (mid : List (Addr × Mode)) where
+  abbrev Pages : ℕ → Addr → Type 0
+  Pages = IsPageIn file pages first
+
+  pub pages-more : (end : ℕ) (new : List (Addr × Mode)) → first ≤ end → has pages end ≡ true →
+      new ≡ with_wish d (addresses.Map file end) mid → AsksFor d (Pages end) (Pages end) [] mid →
+      AsksFor d (Pages (end + 1)) (Pages (end + 1)) [] new
+  pages-more end new within there is asks =
+      asks-as d (λ b. Pages end b ⊎ (addresses.Map file end ≡ b)) (Pages (end + 1))
+      (λ b. Pages end b ⊎ (addresses.Map file end ≡ b)) (Pages (end + 1)) [] new
+      (pages-wider file pages first end within there) (pages-last file pages first end)
+      (asks-more d (Pages end) (Pages end) (addresses.Map file end) [] mid asks (pages-apart file pages first end) new is)
+
+  pub pages-skip : (end : ℕ) → has pages end ≡ false → AsksFor d (Pages end) (Pages end) [] mid →
+      AsksFor d (Pages (end + 1)) (Pages (end + 1)) [] mid
+  pages-skip end none asks =
+      asks-as d (Pages end) (Pages (end + 1)) (Pages end) (Pages (end + 1)) [] mid (pages-less file pages first end)
+      (pages-same file pages first end none) asks
 
 -- each of them stands in every store that the draft's view fits
 pub page-there : (d : DraftValue) (file : ℕ) (pages : Bits) (first end : ℕ) → HasPages d file pages → StillStands d →
@@ -165,6 +190,26 @@ module _ (file page : ℕ) (bits : Bits) (from : ℕ) where
             is = is.is;
           }
 
+-- one place more is asked for, or not
+module _ (d : DraftValue) (file page : ℕ) (bits : Bits) (from : ℕ) (old mid : List (Addr × Mode)) where
+  abbrev Told : ℕ → Addr → Type 0
+  Told = IsTold file page bits from
+
+  pub told-more : (places : ℕ) (new : List (Addr × Mode)) → has bits places ≡ true → from ≤ page * 512 + places →
+      new ≡ with_wish d (addresses.Block file (page * 512 + places)) mid → AsksFor d (Told places) (Told places) old mid →
+      AsksFor d (Told (places + 1)) (Told (places + 1)) old new
+  told-more places new told behind is asks =
+      let a : Addr = addresses.Block file (page * 512 + places) in
+      asks-as d (λ b. Told places b ⊎ (a ≡ b)) (Told (places + 1)) (λ b. Told places b ⊎ (a ≡ b)) (Told (places + 1)) old new
+      (told-wider file page bits from places told behind) (told-last file page bits from places)
+      (asks-more d (Told places) (Told places) a old mid asks (told-apart file page bits from places) new is)
+
+  pub told-skip : (places : ℕ) → (has bits places ≡ false) ⊎ (page * 512 + places < from) →
+      AsksFor d (Told places) (Told places) old mid → AsksFor d (Told (places + 1)) (Told (places + 1)) old mid
+  told-skip places none asks =
+      asks-as d (Told places) (Told (places + 1)) (Told places) (Told (places + 1)) old mid
+      (told-less file page bits from places) (told-same file page bits from places none) asks
+
 -- ---- of all pages
 module _ (file first : ℕ) (maps : List Bits) (from : ℕ) where
   pub none-told-in : (end : ℕ) → end ≤ first → (a : Addr) → IsToldIn file first maps from end a → ⊥
@@ -195,6 +240,27 @@ module _ (file first : ℕ) (maps : List Bits) (from : ℕ) where
       by false other =
           let apart = differs is.page end other in
           inl (record { page = is.page; behind = is.behind; before = omega (arith, is.before, apart); told = is.told })
+
+-- one page more
+pub in-more : (d : DraftValue) (file first : ℕ) (maps : List Bits) (from page : ℕ) (mid new : List (Addr × Mode)) →
+    first ≤ page → AsksFor d (IsToldIn file first maps from page) (IsToldIn file first maps from page) [] mid →
+    AsksFor d (IsTold file page (told_at maps first page) from 512) (IsTold file page (told_at maps first page) from 512) mid
+    new → AsksFor d (IsToldIn file first maps from (page + 1)) (IsToldIn file first maps from (page + 1)) [] new
+in-more d file first maps from page mid new within before asks =
+    asks-as d (λ b. In page b ⊎ Here b) (In (page + 1)) (λ b. In page b ⊎ Here b) (In (page + 1)) [] new
+    (in-wider file first maps from page within) (in-last file first maps from page)
+    (asks-both d (In page) (In page) Here Here [] mid new before asks (in-apart file first maps from page))
+  where
+    In : ℕ → Addr → Type 0
+    In = IsToldIn file first maps from
+
+    Here : Addr → Type 0
+    Here = IsTold file page (told_at maps first page) from 512
+
+pub in-less : (file first : ℕ) (maps : List Bits) (from page end : ℕ) → page ≤ max first end → (a : Addr) →
+    IsToldIn file first maps from page a → IsToldIn file first maps from end a
+in-less file first maps from page end within a is =
+    record { page = is.page; behind = is.behind; before = (let p = is.before in let q = is.behind in omega (arith, p, q, within)); told = is.told }
 
 -- each of them stands in every store that the draft's view fits
 pub told-there : (d : DraftValue) (file first end : ℕ) (maps : List Bits) (from : ℕ) → ShowsMaps d file first end maps →
@@ -821,3 +887,69 @@ larger d n before size pages within shows = record {
       sym (take_all (size - i * block_size) stored (omega (arith, short, part, counted, within))));
   maps = λ s k fits stands. has-blocks d n pages shows s k fits stands;
 }
+
+-- ---- how pages are read
+-- one map more
+pub maps-none : (d : DraftValue) (n first : ℕ) (maps : List Bits) → maps ≡ [] → ShowsMaps d n first first maps
+maps-none d n first maps none = record {
+  counted = ap length none ∙ omega arith;
+  each = λ page behind before. absurd (omega (arith, behind, before));
+}
+
+pub maps-next : (d : DraftValue) (n first page : ℕ) (maps new : List Bits) (bits : Bits) → first ≤ page →
+    ShowsMaps d n first page maps → ShowsMap d n page bits → new ≡ maps ++ bits ∷ [] → ShowsMaps d n first (page + 1) new
+maps-next d n first page maps new bits within so here is = record {
+  counted = ap length is ∙ length-append maps (bits ∷ []) ∙ (let c = so.counted in omega (arith, c, within));
+  each = λ p behind before. elim (p == page) as (λ b. (p == page) ≡ b → ShowsMap d n p (told_at new first p)) [
+    | true ↦ λ same.
+        let e = (unsigned_Decides p page).0 same in
+        let at : length maps ≡ p - first = (let c = so.counted in omega (arith, c, e)) in
+        subst (λ q. ShowsMap d n q (told_at new first p)) (sym e)
+        (subst (ShowsMap d n page) (sym (ap (λ l. get_or l (p - first) no_bits) is
+        ∙ get_or_push maps bits no_bits (p - first) at)) here)
+    | false ↦ λ other.
+        let apart = differs p page other in
+        let c = so.counted in
+        subst (ShowsMap d n p) (sym (ap (λ l. get_or l (p - first) no_bits) is
+        ∙ get_or_append_left maps (bits ∷ []) no_bits (p - first) (omega (arith, c, before, apart, behind))))
+        (so.each p behind (omega (arith, before, apart)))
+  ] refl;
+}
+
+pub maps-end : (d : DraftValue) (n first page end : ℕ) (maps : List Bits) → first ≤ page → end ≤ page → page ≤ max first end →
+    ShowsMaps d n first page maps → ShowsMaps d n first end maps
+maps-end d n first page end maps within past most so = record {
+  counted = so.counted ∙ omega (arith, within, past, most);
+  each = λ p behind before. so.each p behind (omega (arith, before, past));
+}
+
+-- all that is asked for of blocks
+pub in-end : (d : DraftValue) (file first : ℕ) (maps : List Bits) (from page end : ℕ) (asked : List (Addr × Mode)) →
+    page ≤ max first end → end ≤ page →
+    AsksFor d (IsToldIn file first maps from page) (IsToldIn file first maps from page) [] asked →
+    AsksFor d (IsToldIn file first maps from end) (IsToldIn file first maps from end) [] asked
+in-end d file first maps from page end asked most past asks =
+    asks-as d (IsToldIn file first maps from page) (IsToldIn file first maps from end) (IsToldIn file first maps from page)
+    (IsToldIn file first maps from end) [] asked (in-less file first maps from page end most)
+    (λ a is. record {
+      page = is.page;
+      behind = is.behind;
+      before = (let p = is.before in omega (arith, p, past));
+      told = is.told;
+    }) asks
+
+-- what halts a draft whose blocks and maps were written halts the one before
+pub laid-stops : (n : ℕ) (d mid : DraftValue) (named : List Addr) (halt : Halt) → Lays n d mid → StopsAt mid named halt →
+    StopsAt d named halt
+laid-stops n d mid named halt lays stops =
+    subst (λ view. StopsCall d.modes named 0 view halt) lays.view
+    (subst (λ modes. StopsCall modes named 0 mid.view halt) lays.modes stops)
+
+-- what is known of a page that was not reached
+pub told-known : (old mid : DraftValue) (n size page : ℕ) (left bits : Bits) → IsCutTo old mid n size page left →
+    KnowsTold old n page bits (size / block_size) → KnowsTold mid n page bits (size / block_size)
+told-known old mid n size page left bits so known a told =
+    subst (λ x. IsSome x) (sym (so.leaves.known a (subst (IsBehind n page) told.is (record {
+      map = λ p before. refl;
+      block = λ i before. other-block n i (page * 512 + told.place) (λ e. absurd (omega (arith, before, e)));
+    })))) (known a told)

@@ -96,10 +96,7 @@ pub known-pages : (d : DraftValue) (n : ℕ) (o : Option Object) (i : Option Ino
 known-pages d n o i pages known is are s fits =
     ap pages_of (known-stands d s (addresses.Inode n) o fits known) ∙ by (inode_of o) ∙ sym (are ∙ ap inode_pages is)
   where
-    abbrev filed : Option Inode → Option FileMapValue
-    filed j = elim j [ None ↦ None | Some j ↦ map_in j.content ]
-
-    by : (j : Option Inode) → map_pages (filed j) ≡ inode_pages j
+    by : (j : Option Inode) → map_pages (elim j [ None ↦ None | Some j ↦ map_in j.content ]) ≡ inode_pages j
     by None = refl
     by (Some j) = refl
 
@@ -203,6 +200,30 @@ pub known-block : (d : DraftValue) (n i : ℕ) (r : Result (Option (Bor (List �
     MatchResult r (λ block. ShowsBlock d n i (unwrap_or (option_copied block) [])) (StopsAt d [])
 known-block d n i (Ok block) some is = shows-known d n i (option_copied block) is
 known-block d n i (Err halt) some lacks = absurd (never-lacking d (addresses.Block n i) halt some lacks)
+
+-- and a map
+pub known-map : (d : DraftValue) (s : Store) (n page : ℕ) (was : Bits) → Fits d.view s →
+    option_map map_of (known_at d (addresses.Map n page)) ≡ Some was →
+    map_of ((with_writes s d.writes).at (addresses.Map n page)) ≡ was
+known-map d s n page was fits known = by (known_at d (addresses.Map n page)) refl known
+  where
+    by : (o : Option (Option Object)) → known_at d (addresses.Map n page) ≡ o → option_map map_of o ≡ Some was →
+        map_of ((with_writes s d.writes).at (addresses.Map n page)) ≡ was
+    by None is e = cc
+    by (Some o) is e =
+        let same : map_of o ≡ was = cc in ap map_of (known-stands d s (addresses.Map n page) o fits is) ∙ same
+
+pub known-told : (d : DraftValue) (n page : ℕ) (r : Result Bits Halt) → IsSome (known_at d (addresses.Map n page)) →
+    MatchResult r (λ bits. option_map map_of (known_at d (addresses.Map n page)) ≡ Some bits)
+    (Lacks d (addresses.Map n page)) → MatchResult r (ShowsMap d n page) (StopsAt d [])
+known-told d n page (Ok bits) some is = λ s k fits stands. known-map d s n page bits fits is
+known-told d n page (Err halt) some lacks = absurd (never-lacking d (addresses.Map n page) halt some lacks)
+
+-- a page that is not there tells of no block
+pub absent-told : (d : DraftValue) (n page : ℕ) (pages bits : Bits) → HasPages d n pages → has pages page ≡ false →
+    bits ≡ no_bits → ShowsMap d n page bits
+absent-told d n page pages bits shows none is s k fits stands =
+    ap map_of (no-map (with_writes s d.writes) n pages (has-blocks d n pages shows s k fits stands) page none) ∙ sym is
 
 -- the bytes of a file are what its blocks tell
 pub content-there : (d : DraftValue) (n : ℕ) (map : FileMapValue) → HasMap d n map → (s : Store) (k : Kept) →

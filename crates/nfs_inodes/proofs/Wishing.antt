@@ -95,7 +95,7 @@ module _ (d : DraftValue) where
 
   -- an address besides, which is none of those
   module _ (May Must : Addr → Type 0) (a : Addr) (old mid : List (Addr × Mode)) (asks : AsksFor d May Must old mid)
-      (apart : (b : Addr) → May b → is_addr b a ≡ false) where
+      (apart : (b : Addr) → May b → is_addr b a ≡ false) (new : List (Addr × Mode)) (is-new : new ≡ with_wish d a mid) where
     abbrev Will : Addr → Type 0
     Will b = May b ⊎ (a ≡ b)
 
@@ -131,8 +131,8 @@ module _ (d : DraftValue) where
         w : Addr × Mode
         w = (a, held_mode d.modes d.view a)
 
-    pub asks-more : AsksFor d Will Shall old (with_wish d a mid)
-    asks-more = as-wished (known_at d a) refl
+    pub asks-more : AsksFor d Will Shall old new
+    asks-more = subst (AsksFor d Will Shall old) (sym is-new) (as-wished (known_at d a) refl)
 
   -- first some, then others
   pub asks-both : (May Must Will Shall : Addr → Type 0) (old mid new : List (Addr × Mode)) →
@@ -244,16 +244,16 @@ module _ (d : DraftValue) (file : ℕ) (pages : Bits) (first : ℕ) (old mid : L
   range-none end none = asks-none d (IsBlockIn file first end) (IsPaged file pages first end) old
       (λ a must. no-blocks file first end none a must.0)
 
-  pub range-more : (end : ℕ) → first ≤ end → AsksFor d (IsBlockIn file first end) (IsPaged file pages first end) old mid →
-      AsksFor d (IsBlockIn file first (end + 1)) (IsPaged file pages first (end + 1)) old
-      (with_wish d (addresses.Block file end) mid)
-  range-more end within asks =
+  pub range-more : (end : ℕ) (a : Addr) (new : List (Addr × Mode)) → first ≤ end → a ≡ addresses.Block file end →
+      new ≡ with_wish d a mid → AsksFor d (IsBlockIn file first end) (IsPaged file pages first end) old mid →
+      AsksFor d (IsBlockIn file first (end + 1)) (IsPaged file pages first (end + 1)) old new
+  range-more end a new within at is asks =
       asks-as d (λ b. IsBlockIn file first end b ⊎ (addresses.Block file end ≡ b)) (IsBlockIn file first (end + 1))
       (λ b. IsPaged file pages first end b ⊎ (addresses.Block file end ≡ b)) (IsPaged file pages first (end + 1)) old
-      (with_wish d (addresses.Block file end) mid) (blocks-wider file first end within)
+      new (blocks-wider file first end within)
       (λ b must. by b must (must.0.index == end) refl)
       (asks-more d (IsBlockIn file first end) (IsPaged file pages first end) (addresses.Block file end) old mid asks
-      (blocks-apart file first end))
+      (blocks-apart file first end) new (is ∙ ap (λ b. with_wish d b mid) at))
     where
       by : (b : Addr) (must : IsPaged file pages first (end + 1) b) (t : Bool) → (must.0.index == end) ≡ t →
           IsPaged file pages first end b ⊎ (addresses.Block file end ≡ b)
@@ -285,15 +285,15 @@ module _ (d : DraftValue) (file first : ℕ) (old mid : List (Addr × Mode)) whe
   pub each-none : (end : ℕ) → end ≤ first → AsksFor d (IsBlockIn file first end) (IsBlockIn file first end) old old
   each-none end none = asks-none d (IsBlockIn file first end) (IsBlockIn file first end) old (no-blocks file first end none)
 
-  pub each-more : (end : ℕ) → first ≤ end → AsksFor d (IsBlockIn file first end) (IsBlockIn file first end) old mid →
-      AsksFor d (IsBlockIn file first (end + 1)) (IsBlockIn file first (end + 1)) old
-      (with_wish d (addresses.Block file end) mid)
-  each-more end within asks =
+  pub each-more : (end : ℕ) (a : Addr) (new : List (Addr × Mode)) → first ≤ end → a ≡ addresses.Block file end →
+      new ≡ with_wish d a mid → AsksFor d (IsBlockIn file first end) (IsBlockIn file first end) old mid →
+      AsksFor d (IsBlockIn file first (end + 1)) (IsBlockIn file first (end + 1)) old new
+  each-more end a new within at is asks =
       asks-as d (λ b. IsBlockIn file first end b ⊎ (addresses.Block file end ≡ b)) (IsBlockIn file first (end + 1))
       (λ b. IsBlockIn file first end b ⊎ (addresses.Block file end ≡ b)) (IsBlockIn file first (end + 1)) old
-      (with_wish d (addresses.Block file end) mid) (blocks-wider file first end within) (blocks-last file first end)
+      new (blocks-wider file first end within) (blocks-last file first end)
       (asks-more d (IsBlockIn file first end) (IsBlockIn file first end) (addresses.Block file end) old mid asks
-      (blocks-apart file first end))
+      (blocks-apart file first end) new (is ∙ ap (λ b. with_wish d b mid) at))
 
 -- ---- and of map pages behind them
 module _ (d : DraftValue) (file : ℕ) (blocks : Addr → Type 0) (first : ℕ) (old mid : List (Addr × Mode))
@@ -318,13 +318,13 @@ module _ (d : DraftValue) (file : ℕ) (blocks : Addr → Type 0) (first : ℕ) 
   pub with-no-maps : (end : ℕ) → AsksFor d blocks blocks old mid → AsksFor d (IsWithMaps end) blocks old mid
   with-no-maps end asks = asks-as d blocks (IsWithMaps end) blocks blocks old mid (λ b is. inl is) (λ b is. is) asks
 
-  pub with-map : (end : ℕ) → first ≤ end → AsksFor d (IsWithMaps end) blocks old mid →
-      AsksFor d (IsWithMaps (end + 1)) blocks old (with_wish d (addresses.Map file end) mid)
-  with-map end within asks =
+  pub with-map : (end : ℕ) (a : Addr) (new : List (Addr × Mode)) → first ≤ end → a ≡ addresses.Map file end →
+      new ≡ with_wish d a mid → AsksFor d (IsWithMaps end) blocks old mid → AsksFor d (IsWithMaps (end + 1)) blocks old new
+  with-map end a new within at is asks =
       asks-as d (λ b. IsWithMaps end b ⊎ (addresses.Map file end ≡ b)) (IsWithMaps (end + 1))
-      (λ b. blocks b ⊎ (addresses.Map file end ≡ b)) blocks old (with_wish d (addresses.Map file end) mid)
-      (map-wider end within) (λ b is. inl is)
-      (asks-more d (IsWithMaps end) blocks (addresses.Map file end) old mid asks (map-apart end))
+      (λ b. blocks b ⊎ (addresses.Map file end ≡ b)) blocks old new (map-wider end within) (λ b block. inl block)
+      (asks-more d (IsWithMaps end) blocks (addresses.Map file end) old mid asks (map-apart end) new
+      (is ∙ ap (λ b. with_wish d b mid) at))
 
   pub without-map : (end : ℕ) → AsksFor d (IsWithMaps end) blocks old mid → AsksFor d (IsWithMaps (end + 1)) blocks old mid
   without-map end asks = asks-as d (IsWithMaps end) (IsWithMaps (end + 1)) blocks blocks old mid

@@ -101,7 +101,8 @@ module _ (d : DraftValue) (n offset count export : ℕ) (some : 0 < count) (few 
       (IsBlockIn n (first_of offset) (end_of offset count)) []
       (with_wish d (addresses.Usage export (group_of n)) mid) (λ a may. may) (λ a must. inl must)
       (asks-more d (IsInRange n offset count) (IsBlockIn n (first_of offset) (end_of offset count))
-      (addresses.Usage export (group_of n)) [] mid asks no-usage)
+      (addresses.Usage export (group_of n)) [] mid asks no-usage
+      (with_wish d (addresses.Usage export (group_of n)) mid) refl)
 
   all-wished : AsksFor d May (IsBlockIn n (first_of offset) (end_of offset count)) [] asked
   all-wished = subst (AsksFor d May (IsBlockIn n (first_of offset) (end_of offset count)) []) (sym is) (wished same)

@@ -20,7 +20,7 @@ use Rattle.nfs_objects.specs.declared.address.Addr.TheVariants as addresses
 use Rattle.nfs_objects.specs.declared.bits.Bits.{Bits}
 use Rattle.nfs_objects.specs.declared.object.Object.{Object}
 use Rattle.nfs_objects.specs.declared.object.Object.TheVariants as objects
-use Rattle.nfs_inodes.proofs.Reading.{has-blocks}
+use Rattle.nfs_inodes.proofs.Reading.{has-blocks, known-map}
 use Rattle.nfs_inodes.proofs.Wishing.{differs, not-same, other-block, other-map, same-number}
 use Rattle.nfs_inodes.specs.Blocks.{HasBlock, HasPages, IsMapAfter, IsMapPut, IsNoBlockIn, Leaves, WritesBlock, WritesBlocks, WritesRange}
 use Rattle.nfs_inodes.specs.Blocks.{end_of, first_of, part_in, place_in}
@@ -332,18 +332,6 @@ module _ (x y : DraftValue) (n q : ℕ) (pages after : Bits) where
   pub put-none : IsMapPut x y n q None pages after → (s : Store) → ((with_writes s y.writes).at (addresses.Map n q) ≡
       (with_writes s x.writes).at (addresses.Map n q)) × (has after q ≡ has pages q)
   put-none put s = (ap (λ (d : DraftValue). (with_writes s d.writes).at (addresses.Map n q)) put.0, ap (λ b. has b q) put.1)
-
--- what is known of a map stands
-pub known-map : (d : DraftValue) (s : Store) (n page : ℕ) (was : Bits) → Fits d.view s →
-    option_map map_of (known_at d (addresses.Map n page)) ≡ Some was →
-    map_of ((with_writes s d.writes).at (addresses.Map n page)) ≡ was
-known-map d s n page was fits known = by (known_at d (addresses.Map n page)) refl known
-  where
-    by : (o : Option (Option Object)) → known_at d (addresses.Map n page) ≡ o → option_map map_of o ≡ Some was →
-        map_of ((with_writes s d.writes).at (addresses.Map n page)) ≡ was
-    by None is e = cc
-    by (Some o) is e =
-        let same : map_of o ≡ was = cc in ap map_of (known-stands d s (addresses.Map n page) o fits is) ∙ same
 
 -- ---- the whole range
 module _ (old mid late new : DraftValue) (n offset : ℕ) (bytes : List ℕ) (pages between after : Bits)

@@ -264,13 +264,14 @@ fn cut_block(draft: &mut Draft<'_>, number: u64, index: u64, left: u64) -> Resul
         return Ok(draft.free_block(number, index)?);
     }
     let left = left as usize;
-    match draft.block(number, index)? {
-        Some(bytes) if bytes.len() > left => {
-            let front = cut(draft.alloc(), bytes.as_slice(), left)?;
-            Ok(draft.put_block(number, index, front)?)
-        }
-        _ => Ok(()),
+    let Some(bytes) = draft.block(number, index)? else {
+        return Ok(());
+    };
+    if bytes.len() <= left {
+        return Ok(());
     }
+    let front = cut(draft.alloc(), bytes.as_slice(), left)?;
+    Ok(draft.put_block(number, index, front)?)
 }
 
 /// The first so many of the blocks of a page.

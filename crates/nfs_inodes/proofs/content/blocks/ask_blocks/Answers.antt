@@ -10,6 +10,7 @@ loop-index-init c =
 
 pub loop-index-preserved : goal.loop-index-preserved
 loop-index-preserved c =
-    rw (c.in_ok-add.ensures.ok, c.block_at.ensures) (each-more c.args.draft.now c.args.file (first_of c.args.range.offset)
-    c.args.asking.now.asked.items c.loop-index.asking.asked.items c.loop-index.index
-    (omega (arith, c.first-index.ensures, c.loop-index.auto.index)) c.loop-index.invariant)
+    each-more c.args.draft.now c.args.file (first_of c.args.range.offset)
+    c.args.asking.now.asked.items c.loop-index.asking.asked.items c.loop-index.index c.block_at.result
+    c.add.new.self.asked.items (omega (arith, c.first-index.ensures, c.loop-index.auto.index)) c.block_at.ensures
+    c.in_ok-add.ensures.ok c.loop-index.invariant

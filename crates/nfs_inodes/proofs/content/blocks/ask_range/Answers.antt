@@ -15,9 +15,10 @@ loop-index-init c =
 pub loop-index-preserved : goal.loop-index-preserved
 loop-index-preserved c = elim c.if-has.branch [
   | then-has+in_ok-add w ↦
-      rw (w.asking-is, w.in_ok-add.ensures.ok, w.block_at.ensures) (range-more c.args.draft.now c.args.file.number
+      rw w.asking-is (range-more c.args.draft.now c.args.file.number
       c.args.file.map.now.pages (first_of c.args.range.offset) [] c.loop-index.asking.asked.items c.loop-index.index
-      (omega (arith, c.first-index.ensures, c.loop-index.auto.index)) c.loop-index.invariant)
+      w.block_at.result w.add.new.self.asked.items (omega (arith, c.first-index.ensures, c.loop-index.auto.index))
+      w.block_at.ensures w.in_ok-add.ensures.ok c.loop-index.invariant)
   | else-has w ↦
       rw w.asking-is (range-skip c.args.draft.now c.args.file.number c.args.file.map.now.pages
       (first_of c.args.range.offset) [] c.loop-index.asking.asked.items c.loop-index.index

@@ -20,9 +20,11 @@ loop-page-preserved c =
     let n = c.args.file.number in
     elim c.if-gets_blocks.branch [
       | then-gets_blocks+in_ok-add w ↦
-          rw (w.asking-is, w.in_ok-add.ensures.ok, w.map_at.ensures) (with-map c.args.draft.now n (IsBlockIn n first end)
+          rw w.asking-is (with-map c.args.draft.now n (IsBlockIn n first end)
           (first / 512) c.args.asking.now.asked.items c.loop-page.asking.asked.items (block-no-map n first end)
-          c.loop-page.page (omega (arith, c.first_page-page.ensures, c.loop-page.auto.page)) c.loop-page.invariant)
+          c.loop-page.page w.map_at.result w.add.new.self.asked.items
+          (omega (arith, c.first_page-page.ensures, c.loop-page.auto.page)) w.map_at.ensures w.in_ok-add.ensures.ok
+          c.loop-page.invariant)
       | else-gets_blocks w ↦
           rw w.asking-is (without-map c.args.draft.now n (IsBlockIn n first end)
           (first / 512) c.args.asking.now.asked.items c.loop-page.asking.asked.items (block-no-map n first end)

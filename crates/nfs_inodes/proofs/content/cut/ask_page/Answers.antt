@@ -1,0 +1,19 @@
+use Rattle.std.proofs.Common.{sym, inl, inr}
+use Rattle.nfs_inodes.proofs.Cutting.{told-more, told-skip}
+use Rattle.nfs_inodes.proofs.content.cut.ask_page.Goals as goal
+use Rattle.nfs_inodes.proofs.content.cut.ask_page.Goals.{then-has+then-index-from+in_ok-add, else-has, else-has-via-then-has+else-index-from, else-has-via-else-has}
+
+pub loop-place-preserved : goal.loop-place-preserved
+loop-place-preserved c = elim c.if-has.branch [
+  | then-has+then-index-from+in_ok-add w ↦
+      rw w.asking-is (told-more c.args.draft.now c.args.number c.args.page c.args.bits c.args.from
+      c.args.asking.now.asked.items c.loop-place.asking.asked.items c.loop-place.place w.add.new.self.asked.items
+      (sym w.if-has.ensures) w.if-index-from.true w.in_ok-add.ensures.ok c.loop-place.invariant)
+  | else-has w ↦
+      rw w.asking-is (told-skip c.args.draft.now c.args.number c.args.page c.args.bits c.args.from
+      c.args.asking.now.asked.items c.loop-place.asking.asked.items c.loop-place.place
+      (elim w.else-has.branch [
+        | else-has-via-then-has+else-index-from v ↦ inr v.if-index-from.false
+        | else-has-via-else-has v ↦ inl (sym v.if-has.ensures)
+      ]) c.loop-place.invariant)
+]
