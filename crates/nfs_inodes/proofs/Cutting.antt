@@ -2,12 +2,14 @@
 use Rattle.std.proofs.Common.{◌≡◌, ◌≢◌, ◌+◌, ◌-◌, ◌*◌, ◌/◌, ◌%◌, ◌<◌, ◌≤◌, ◌==◌, ◌&&◌, ◌||◌, ◌⊎◌, ℕ, true, false, Bool, max, min, not, nat_lt}
 use Rattle.std.proofs.Common.{List, [], ◌∷◌, ◌++◌, Option, Some, None, IsSome, inl, inr, refl, sym, ◌∙◌, ap, subst, arith}
 use Rattle.std.proofs.Common.{cond, length, take, drop, option_map, unwrap_or, slice_index_or}
-use Rattle.std.proofs.lemmas.Bool.{cases_lt, le-ltb, lt-ltb, ltb-false, ltb-true}
-use Rattle.std.proofs.Common.{get_or, length-append}
+use Rattle.std.proofs.lemmas.Bool.{and_parts, cases_lt, le-ltb, lt-ltb, ltb-false, ltb-true}
+use Rattle.std.proofs.Common.{Result, Ok, Err, get_or, length-append}
+use Rattle.std.specs.Prelude.{MatchResult}
 use Rattle.std.proofs.lemmas.List.{get_or_append_left, get_or_push, take_all}
 use Rattle.nfs_objects.specs.Attempt.{StopsCall}
 use Rattle.nfs_objects.specs.declared.change.Halt.{Halt}
 use Rattle.std.specs.Cmp.{unsigned_Decides}
+use Rattle.std.specs.Int.{bit_at}
 use Rattle.nfs_objects.proofs.BitSets.{has-none}
 use Rattle.nfs_objects.proofs.Contents.{content-resized, part-length}
 use Rattle.nfs_objects.proofs.Laying.{lays-block, lays-both, lays-map, lays-none}
@@ -324,6 +326,13 @@ cut-same d n i left found some known few = record {
       ∙ sym (ap (λ b. cond b None (Some (objects.Block (take left was)))) some);
 }
 
+pub few-none : (left : ℕ) (bytes : List ℕ) → None ≡ Some bytes → length bytes ≤ left
+few-none left bytes is = cc
+
+pub few-some : (left : ℕ) (own : List ℕ) → length own ≤ left → (bytes : List ℕ) → Some own ≡ Some bytes →
+    length bytes ≤ left
+few-some left own few bytes is = subst (λ b. length b ≤ left) (let same : own ≡ bytes = cc in same) few
+
 -- ---- the blocks of a page, one after another
 module _ (old : DraftValue) (n page : ℕ) (bits : Bits) (size : ℕ) where
   abbrev from : ℕ
@@ -492,27 +501,24 @@ map-left left o at n = ap (λ x. has (map_of x) n) at ∙ by (same_bits left no_
     by false is = refl
 
 module _ (old : DraftValue) (n : ℕ) (pages : Bits) (size : ℕ) (shows : HasPages old n pages) where
-  abbrev from : ℕ
-  from = size / block_size
-
   abbrev at-old : Store → Addr → Option Object
   at-old s a = (with_writes s old.writes).at a
 
   -- nothing is cut before the page that the place lies in
-  pub cut-start : (left : Bits) → ((p : ℕ) → has left p ≡ (has pages p && nat_lt p (from / 512))) →
-      IsCutTo old old n size (from / 512) left
+  pub cut-start : (left : Bits) → ((p : ℕ) → has left p ≡ (has pages p && nat_lt p (size / block_size / 512))) →
+      IsCutTo old old n size (size / block_size / 512) left
   cut-start left is = record {
     lays = lays-none n old;
-    leaves = leaves-none old (IsBehind n (from / 512));
+    leaves = leaves-none old (IsBehind n (size / block_size / 512));
     front = λ s i before. refl;
     blocks = λ s k i fits stands behind before. absurd (omega (arith, behind, before));
     stored = λ s k i fits stands before. (has-blocks old n pages shows s k fits stands).blocks i;
     maps = λ s k p fits stands before.
         subst (λ b. IsMapped b (at-old s (addresses.Map n p)))
-        (sym (is p ∙ ap (λ b. has pages p && b) (lt-ltb p (from / 512) before) ∙ and_true (has pages p)))
+        (sym (is p ∙ ap (λ b. has pages p && b) (lt-ltb p (size / block_size / 512) before) ∙ and_true (has pages p)))
         ((has-blocks old n pages shows s k fits stands).maps p);
-    later = λ p behind. is p ∙ ap (λ b. has pages p && b) (le-ltb p (from / 512) behind) ∙ and_false (has pages p);
-    gone = λ zero p. is p ∙ ap (λ b. has pages p && b) (le-ltb p (from / 512) (omega (arith, zero))) ∙ and_false (has pages p);
+    later = λ p behind. is p ∙ ap (λ b. has pages p && b) (le-ltb p (size / block_size / 512) behind) ∙ and_false (has pages p);
+    gone = λ zero p. is p ∙ ap (λ b. has pages p && b) (le-ltb p (size / block_size / 512) (omega (arith, zero))) ∙ and_false (has pages p);
   }
     where
       and_true : (b : Bool) → (b && true) ≡ b
@@ -592,7 +598,7 @@ module _ (old : DraftValue) (n : ℕ) (pages : Bits) (size : ℕ) (shows : HasPa
       gone = so.gone;
     }
       where
-        empty : (m : ℕ) → take m [] ≡ []
+        empty : (m : ℕ) → take {A = ℕ} m [] ≡ []
         empty m = take_all m [] (omega arith)
 
         nothing : (s : Store) (k : Kept) (i : ℕ) → Fits old.view s → Represents (with_writes s old.writes) k →
@@ -619,19 +625,19 @@ module _ (old : DraftValue) (n : ℕ) (pages : Bits) (size : ℕ) (shows : HasPa
           map-told : IsTold n page bits (size / block_size) 512 (addresses.Map n p) → ⊥
           map-told x = (let e = x.is in cc)
 
-      block-away : (s : Store) (i : ℕ) → (IsTold n page bits from 512 (addresses.Block n i) → ⊥) →
+      block-away : (s : Store) (i : ℕ) → (IsTold n page bits (size / block_size) 512 (addresses.Block n i) → ⊥) →
           at-new s (addresses.Block n i) ≡ at-mid s (addresses.Block n i)
       block-away s i none = cut.leaves.stands s (addresses.Block n i) (none, refl)
 
       -- a block of another page, of none that the map tells of, or before the end
-      not-page : (i : ℕ) → i < page * 512 → IsTold n page bits from 512 (addresses.Block n i) → ⊥
+      not-page : (i : ℕ) → i < page * 512 → IsTold n page bits (size / block_size) 512 (addresses.Block n i) → ⊥
       not-page i less x = (let e = x.is in let same : page * 512 + x.place ≡ i = block-number e in absurd (omega (arith, less, same)))
         where
           block-number : {a b : ℕ} → addresses.Block n a ≡ addresses.Block n b → a ≡ b
           block-number e = cc
 
-      not-told : (place : ℕ) → (has bits place ≡ false) ⊎ (page * 512 + place < from) →
-          IsTold n page bits from 512 (addresses.Block n (page * 512 + place)) → ⊥
+      not-told : (place : ℕ) → (has bits place ≡ false) ⊎ (page * 512 + place < (size / block_size)) →
+          IsTold n page bits (size / block_size) 512 (addresses.Block n (page * 512 + place)) → ⊥
       not-told place none x =
           let e = x.is in
           let numbers : page * 512 + x.place ≡ page * 512 + place = block-number e in
@@ -648,7 +654,7 @@ module _ (old : DraftValue) (n : ℕ) (pages : Bits) (size : ℕ) (shows : HasPa
       pub record IsLeft (s : Store) (place : ℕ) : Type 0 where
         pub bytes : stored_in (at-new s (addresses.Block n (page * 512 + place))) ≡
             take (size - (page * 512 + place) * block_size) (stored_in (at-old s (addresses.Block n (page * 512 + place))))
-            ⊎ (page * 512 + place < from)
+            ⊎ (page * 512 + place < (size / block_size))
         pub stands : IsStored (has cut.left place) (at-new s (addresses.Block n (page * 512 + place)))
 
       module _ (s : Store) (k : Kept) (fits : Fits old.view s) (stands : Represents (with_writes s old.writes) k) where
@@ -684,7 +690,7 @@ module _ (old : DraftValue) (n : ℕ) (pages : Bits) (size : ℕ) (shows : HasPa
                   stands = subst (λ b. IsStored b (at-new s (addresses.Block n i)))
                       (sym (cut.tells place ∙ ap (λ b. b && nat_lt (i * block_size) size) off)) absent;
                 }
-            by true on some = elim (cases_lt i from) [
+            by true on some = elim (cases_lt i (size / block_size)) [
               | inl before ↦
                   let stays : at-new s (addresses.Block n i) ≡ Some (objects.Block some.0) =
                   block-away s i (not-told place (inr before)) ∙ mid-was ∙ some.1 in record {
@@ -706,14 +712,14 @@ module _ (old : DraftValue) (n : ℕ) (pages : Bits) (size : ℕ) (shows : HasPa
                   }
             ]
               where
-                inside : i < from → i * block_size < size
+                inside : i < (size / block_size) → i * block_size < size
                 inside before = omega (arith, before)
 
       pub cut-step : IsCutTo old new n size (page + 1) after
       cut-step = record {
         lays = lays-both n old mid new so.lays cut.lays;
         leaves = leaves-both old mid new (IsBehind n (page + 1)) (IsBehind n page)
-            (λ a. (IsTold n page bits from 512 a → ⊥) × (is_addr (addresses.Map n page) a ≡ false)) so.leaves cut.leaves
+            (λ a. (IsTold n page bits (size / block_size) 512 a → ⊥) × (is_addr (addresses.Map n page) a ≡ false)) so.leaves cut.leaves
             (λ a is. (behind-less a is, (λ x. away a is x, is.map page (omega arith))));
         front = λ s i before. block-away s i (λ x. front-told i before x) ∙ so.front s i before;
         blocks = λ s k i fits stands behind before. elim (cases_lt i (page * 512)) [
@@ -784,13 +790,13 @@ module _ (old : DraftValue) (n : ℕ) (pages : Bits) (size : ℕ) (shows : HasPa
               ∙ ap (λ x. not (same_bits x no_bits)) (cut.gone zero) ∙ ap not ((bits_decides no_bits no_bits).1 refl)
           by zero p false is = kept p (differs p page is) ∙ so.gone zero p
 
-          away : (a : Addr) → IsBehind n (page + 1) a → IsTold n page bits from 512 a → ⊥
+          away : (a : Addr) → IsBehind n (page + 1) a → IsTold n page bits (size / block_size) 512 a → ⊥
           away a is x =
               let own = is_addr-refl (addresses.Block n (page * 512 + x.place)) in
               let other = is.block (page * 512 + x.place) (let b = x.below in omega (arith, b)) in
               let no : true ≡ false = sym own ∙ ap (is_addr (addresses.Block n (page * 512 + x.place))) x.is ∙ other in cc
 
-          front-told : (i : ℕ) → i < from → IsTold n page bits from 512 (addresses.Block n i) → ⊥
+          front-told : (i : ℕ) → i < (size / block_size) → IsTold n page bits (size / block_size) 512 (addresses.Block n i) → ⊥
           front-told i before x = (let e = x.is in let same : page * 512 + x.place ≡ i = block-number e in
               let b = x.behind in absurd (omega (arith, before, same, b)))
             where
@@ -798,7 +804,7 @@ module _ (old : DraftValue) (n : ℕ) (pages : Bits) (size : ℕ) (shows : HasPa
               block-number e = cc
 
     -- behind the last page nothing stands
-    pub cut-end : from / 512 ≤ page → EndsAt pages page → IsCutAt old mid n size left
+    pub cut-end : size / block_size / 512 ≤ page → EndsAt pages page → IsCutAt old mid n size left
     cut-end first ends = record {
       lays = so.lays;
       inodes = λ q. so.leaves.known (addresses.Inode q) (record { map = λ p before. refl; block = λ i before. refl });
@@ -871,6 +877,11 @@ module _ (old new : DraftValue) (n before size : ℕ) (left : Bits) where
     maps = cut.maps;
   }
 
+pub smaller-result : (old new : DraftValue) (n before size : ℕ) (r : Result Bits Halt) →
+    MatchResult r (IsCutAt old new n size) (StopsAt old []) → MatchResult r (IsResized old new n before size) (StopsAt old [])
+smaller-result old new n before size (Ok left) cut = smaller old new n before size left cut
+smaller-result old new n before size (Err halt) stops = stops
+
 -- no smaller one: nothing changes
 pub larger : (d : DraftValue) (n before size : ℕ) (pages : Bits) → before ≤ size → HasPages d n pages →
     IsResized d d n before size pages
@@ -889,6 +900,29 @@ larger d n before size pages within shows = record {
 }
 
 -- ---- how pages are read
+abbrev blank : Bits
+blank = record { words = [] }
+
+-- the number behind the last one that is there
+pub has-below : (bits : Bits) (n : ℕ) → has bits n ≡ true → n < 512
+has-below bits n there = ltb-true n 512 ((and_parts (nat_lt n 512)
+    (bit_at (slice_index_or bits.words (n / 64) 0) (n % 64) == 1) there).0)
+
+pub behind-more : (pages : Bits) (page : ℕ) →
+    (page + 1 ≤ page + 1) × ((n : ℕ) → has pages n ≡ true → n < page + 1 → n < page + 1)
+behind-more pages page = (omega arith, λ n there below. below)
+
+pub behind-same : (pages : Bits) (page end : ℕ) → has pages page ≡ false → end ≤ page →
+    ((n : ℕ) → has pages n ≡ true → n < page → n < end) →
+    (end ≤ page + 1) × ((n : ℕ) → has pages n ≡ true → n < page + 1 → n < end)
+behind-same pages page end none within so = (
+  omega (arith, within),
+  λ n there below. elim (n == page) as (λ b. (n == page) ≡ b → n < end) [
+    | true ↦ λ same. absurd (let no : true ≡ false = sym there ∙ ap (has pages) ((unsigned_Decides n page).0 same) ∙ none in cc)
+    | false ↦ λ other. so n there (let apart = differs n page other in omega (arith, below, apart))
+  ] refl,
+)
+
 -- one map more
 pub maps-none : (d : DraftValue) (n first : ℕ) (maps : List Bits) → maps ≡ [] → ShowsMaps d n first first maps
 maps-none d n first maps none = record {
@@ -905,13 +939,13 @@ maps-next d n first page maps new bits within so here is = record {
         let e = (unsigned_Decides p page).0 same in
         let at : length maps ≡ p - first = (let c = so.counted in omega (arith, c, e)) in
         subst (λ q. ShowsMap d n q (told_at new first p)) (sym e)
-        (subst (ShowsMap d n page) (sym (ap (λ l. get_or l (p - first) no_bits) is
-        ∙ get_or_push maps bits no_bits (p - first) at)) here)
+        (subst (ShowsMap d n page) (sym (ap (λ l. get_or l (p - first) blank) is
+        ∙ get_or_push maps bits blank (p - first) at)) here)
     | false ↦ λ other.
         let apart = differs p page other in
         let c = so.counted in
-        subst (ShowsMap d n p) (sym (ap (λ l. get_or l (p - first) no_bits) is
-        ∙ get_or_append_left maps (bits ∷ []) no_bits (p - first) (omega (arith, c, before, apart, behind))))
+        subst (ShowsMap d n p) (sym (ap (λ l. get_or l (p - first) blank) is
+        ∙ get_or_append_left maps (bits ∷ []) blank (p - first) (omega (arith, c, before, apart, behind))))
         (so.each p behind (omega (arith, before, apart)))
   ] refl;
 }
@@ -924,13 +958,13 @@ maps-end d n first page end maps within past most so = record {
 }
 
 -- all that is asked for of blocks
-pub in-end : (d : DraftValue) (file first : ℕ) (maps : List Bits) (from page end : ℕ) (asked : List (Addr × Mode)) →
+pub in-end : (d : DraftValue) (file first : ℕ) (maps : List Bits) ((size / block_size) page end : ℕ) (asked : List (Addr × Mode)) →
     page ≤ max first end → end ≤ page →
-    AsksFor d (IsToldIn file first maps from page) (IsToldIn file first maps from page) [] asked →
-    AsksFor d (IsToldIn file first maps from end) (IsToldIn file first maps from end) [] asked
-in-end d file first maps from page end asked most past asks =
-    asks-as d (IsToldIn file first maps from page) (IsToldIn file first maps from end) (IsToldIn file first maps from page)
-    (IsToldIn file first maps from end) [] asked (in-less file first maps from page end most)
+    AsksFor d (IsToldIn file first maps (size / block_size) page) (IsToldIn file first maps (size / block_size) page) [] asked →
+    AsksFor d (IsToldIn file first maps (size / block_size) end) (IsToldIn file first maps (size / block_size) end) [] asked
+in-end d file first maps (size / block_size) page end asked most past asks =
+    asks-as d (IsToldIn file first maps (size / block_size) page) (IsToldIn file first maps (size / block_size) end) (IsToldIn file first maps (size / block_size) page)
+    (IsToldIn file first maps (size / block_size) end) [] asked (in-less file first maps (size / block_size) page end most)
     (λ a is. record {
       page = is.page;
       behind = is.behind;

@@ -4,7 +4,7 @@ use Rattle.std.proofs.Common.{List, [], ◌∷◌, ◌++◌, Option, Some, None,
 use Rattle.std.proofs.lemmas.Bool.{cases_lt}
 use Rattle.std.specs.FinMap.{get}
 use Rattle.nfs_wire.specs.declared.replies.ReadData.{ReadData}
-use Rattle.std.proofs.Common.{Bor, is_none, nat_le, option_copied}
+use Rattle.std.proofs.Common.{Bor, is_some, nat_le, option_copied}
 use Rattle.std.proofs.Common.{append-nil, cond, length, length-append, take, drop, replicate, option_map, unwrap_or}
 use Rattle.std.proofs.Math.Seq.{take-add}
 use Rattle.std.proofs.lemmas.List.{drop-drop, length-drop, length-take, take_all, take-append-drop}
@@ -181,7 +181,7 @@ is-block (Some (objects.Usage u)) bytes e = cc
 
 -- a block that is known to be there
 pub block-there : (d : DraftValue) (n i : ℕ) (r : Option (Bor (List ℕ))) →
-    option_map block_of (known_at d (addresses.Block n i)) ≡ Some (option_copied r) → false ≡ is_none r → HasBlock d n i
+    option_map block_of (known_at d (addresses.Block n i)) ≡ Some (option_copied r) → is_some r ≡ true → HasBlock d n i
 block-there d n i None known some = cc
 block-there d n i (Some bytes) known some = by (known_at d (addresses.Block n i)) refl known
   where

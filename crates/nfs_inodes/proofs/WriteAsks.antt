@@ -80,6 +80,17 @@ module _ (d : DraftValue) (n offset count : ℕ) (pages : Bits) (some : 0 < coun
       (record { index = i; behind = behind; before = before; is = refl }, there)
 
 -- ---- a write
+-- a map page of a range
+pub one-map : (d : DraftValue) (n offset count page : ℕ) → 0 < count → count ≤ 65536 → first_of offset / 512 ≤ page →
+    page < (end_of offset count - 1) / 512 + 1 → (halt : Halt) → StopsAt d (addresses.Map n page ∷ []) halt →
+    StopsAt d (maps_at n offset) halt
+one-map d n offset count page some few behind before halt stops =
+    stops-wider d.modes (addresses.Map n page ∷ []) (maps_at n offset) 0 d.view halt (
+      inl (among-map n offset count some few (addresses.Map n page)
+          (record { page = page; behind = behind; before = before; is = refl })),
+      tt,
+    ) stops
+
 module _ (d : DraftValue) (n offset count export : ℕ) (some : 0 < count) (few : count ≤ 65536) (same : Bool)
     (mid asked : List (Addr × Mode))
     (asks : AsksFor d (IsInRange n offset count) (IsBlockIn n (first_of offset) (end_of offset count)) [] mid)

@@ -22,7 +22,7 @@ use Rattle.nfs_objects.specs.declared.object.Object.{Object}
 use Rattle.nfs_objects.specs.declared.object.Object.TheVariants as objects
 use Rattle.nfs_inodes.proofs.Reading.{has-blocks, known-map}
 use Rattle.nfs_inodes.proofs.Wishing.{differs, not-same, other-block, other-map, same-number}
-use Rattle.nfs_inodes.specs.Blocks.{HasBlock, HasPages, IsMapAfter, IsMapPut, IsNoBlockIn, Leaves, WritesBlock, WritesBlocks, WritesRange}
+use Rattle.nfs_inodes.specs.Blocks.{HasBlock, HasPages, IsBackAfter, IsMapAfter, IsMapPut, IsNoBlockIn, Leaves, WritesBlock, WritesBlocks, WritesRange}
 use Rattle.nfs_inodes.specs.Blocks.{end_of, first_of, part_in, place_in}
 
 -- ---- one write
@@ -335,12 +335,13 @@ module _ (x y : DraftValue) (n q : ℕ) (pages after : Bits) where
 
 -- ---- the whole range
 module _ (old mid late new : DraftValue) (n offset : ℕ) (bytes : List ℕ) (pages between after : Bits)
-    (front back : Option Bits) (few : length bytes ≤ 65536) (some : 0 < length bytes) (shows : HasPages old n pages) where
+    (front back : Option Bits) (count : ℕ) (is-count : count ≡ length bytes) (few : count ≤ 65536) (some : 0 < count)
+    (shows : HasPages old n pages) where
   abbrev first : ℕ
   first = first_of offset
 
   abbrev end : ℕ
-  end = end_of offset (length bytes)
+  end = end_of offset count
 
   abbrev low : ℕ
   low = first / 512
@@ -481,10 +482,10 @@ module _ (old mid late new : DraftValue) (n offset : ℕ) (bytes : List ℕ) (pa
       others = λ s i out. stays s (addresses.Block n i) refl refl (λ j from before.
           other-block n j i (λ e. elim out [
             | inl less ↦ absurd (omega (arith, less, from, e))
-            | inr past ↦ absurd (omega (arith, past, before, e))
+            | inr past ↦ absurd (omega (arith, past, before, e, is-count))
           ]));
       blocks = λ s i fits from before.
-          puts s (addresses.Block n i) refl refl ∙ blocks.blocks s i fits from before;
+          puts s (addresses.Block n i) refl refl ∙ blocks.blocks s i fits from (omega (arith, before, is-count));
       maps = λ s k fits stands.
           let filed = has-blocks old n pages shows s k fits stands in
           filed-after (with_writes s old.writes) (with_writes s new.writes) n first end pages after filed

@@ -1,6 +1,6 @@
 -- Files that are cut off: what is shown of their map pages, and what goes (RFC 1813, 3.3.2).
 use Rattle.std.specs.Prelude.{◌≡◌, ℕ, ◌+◌, ◌-◌, ◌*◌, ◌/◌, ◌%◌, ◌<◌, ◌≤◌, ◌==◌, ◌&&◌, ◌||◌, Bool, true, false, not, nat_lt}
-use Rattle.std.specs.Prelude.{List, Option, Some, None, IsSome, length, take, slice_index_or, if◌then◌else◌}
+use Rattle.std.specs.Prelude.{List, [], Option, Some, None, IsSome, length, take, slice_index_or, if◌then◌else◌}
 use Rattle.nfs_machine.specs.Data.{resized}
 use Rattle.nfs_objects.specs.Bits.{has, no_bits, same_bits}
 use Rattle.nfs_objects.specs.FileMaps.{IsContent, block_size}
@@ -24,7 +24,7 @@ ShowsMap d file page bits = (s : Store) (k : Kept) → Fits d.view s → Represe
 
 -- what these tell, of pages from one on
 abbrev pub told_at : List Bits → (first page : ℕ) → Bits
-told_at maps first page = slice_index_or maps (page - first) no_bits
+told_at maps first page = let none : Bits = record { words = [] } in slice_index_or maps (page - first) none
 
 -- these are the maps of pages from one on, up to another
 pub record ShowsMaps (d : DraftValue) (file first end : ℕ) (maps : List Bits) : Type 0 where

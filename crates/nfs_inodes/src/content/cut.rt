@@ -97,9 +97,11 @@ fn behind_last(pages: Bits) -> u64
     ensures small { result ≤ 512 }
     ensures ends { EndsAt pages result }
 {
-    let mut end = MAP_BLOCKS;
-    while end > 0 && !pages.has(end - 1) {
-        end -= 1;
+    let mut end = 0;
+    for page in 0..MAP_BLOCKS {
+        if pages.has(page) {
+            end = page + 1;
+        }
     }
     end
 }

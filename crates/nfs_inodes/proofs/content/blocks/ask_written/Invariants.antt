@@ -1,5 +1,4 @@
 use Rattle.std.proofs.Common.{◌/◌}
-use Rattle.nfs_inodes.proofs.Wishing.{IsWithMaps, block-no-map}
 use Rattle.nfs_inodes.specs.Asking.{AsksFor}
 use Rattle.nfs_inodes.specs.Blocks.{IsBlockIn, IsMapIn, end_of, first_of}
 use Rattle.std.proofs.Common.{◌⊎◌}

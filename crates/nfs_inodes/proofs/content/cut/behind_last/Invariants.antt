@@ -1,6 +1,6 @@
-use Rattle.std.proofs.Common.{◌≡◌, ◌≤◌}
-use Rattle.nfs_inodes.specs.Cuts.{EndsAt}
+use Rattle.std.proofs.Common.{◌≡◌, ◌<◌, ◌≤◌, ℕ, true}
+use Rattle.nfs_objects.specs.Bits.{has}
 use Rattle.nfs_inodes.proofs.content.cut.behind_last.Given as goal
 
-abbrev pub invariant-loop-end : goal.invariant-loop-end
-invariant-loop-end l = (l.end ≤ 512) × EndsAt l.fn.pages l.end
+abbrev pub invariant-loop-page : goal.invariant-loop-page
+invariant-loop-page l = (l.end ≤ l.page) × ((n : ℕ) → has l.fn.pages n ≡ true → n < l.page → n < l.end)
