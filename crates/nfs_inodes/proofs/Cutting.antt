@@ -900,7 +900,7 @@ larger d n before size pages within shows = record {
 }
 
 -- ---- how pages are read
-abbrev blank : Bits
+abbrev pub blank : Bits
 blank = record { words = [] }
 
 -- the number behind the last one that is there
@@ -958,13 +958,13 @@ maps-end d n first page end maps within past most so = record {
 }
 
 -- all that is asked for of blocks
-pub in-end : (d : DraftValue) (file first : ℕ) (maps : List Bits) ((size / block_size) page end : ℕ) (asked : List (Addr × Mode)) →
+pub in-end : (d : DraftValue) (file first : ℕ) (maps : List Bits) (from page end : ℕ) (asked : List (Addr × Mode)) →
     page ≤ max first end → end ≤ page →
-    AsksFor d (IsToldIn file first maps (size / block_size) page) (IsToldIn file first maps (size / block_size) page) [] asked →
-    AsksFor d (IsToldIn file first maps (size / block_size) end) (IsToldIn file first maps (size / block_size) end) [] asked
-in-end d file first maps (size / block_size) page end asked most past asks =
-    asks-as d (IsToldIn file first maps (size / block_size) page) (IsToldIn file first maps (size / block_size) end) (IsToldIn file first maps (size / block_size) page)
-    (IsToldIn file first maps (size / block_size) end) [] asked (in-less file first maps (size / block_size) page end most)
+    AsksFor d (IsToldIn file first maps from page) (IsToldIn file first maps from page) [] asked →
+    AsksFor d (IsToldIn file first maps from end) (IsToldIn file first maps from end) [] asked
+in-end d file first maps from page end asked most past asks =
+    asks-as d (IsToldIn file first maps from page) (IsToldIn file first maps from end) (IsToldIn file first maps from page)
+    (IsToldIn file first maps from end) [] asked (in-less file first maps from page end most)
     (λ a is. record {
       page = is.page;
       behind = is.behind;

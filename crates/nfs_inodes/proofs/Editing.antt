@@ -1,5 +1,5 @@
 -- A maker that puts one inode in the place of another changes the object and its links so.
-use Rattle.std.proofs.Common.{◌≡◌, ℕ, Option, Some, None, refl, sym, ◌∙◌, ap, subst}
+use Rattle.std.proofs.Common.{◌≡◌, ℕ, List, Option, Some, None, refl, sym, ◌∙◌, ap, subst}
 use Rattle.std.specs.FinMap.{get}
 use Rattle.nfs_wire.specs.declared.attributes.Time.{Time}
 use Rattle.nfs_machine.specs.Shown.{touched}

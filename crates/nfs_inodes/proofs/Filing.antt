@@ -181,16 +181,16 @@ laid-known d mid laid n i has keeps laid-is =
     subst (λ x. IsSome x) (sym (laid-is ∙ keeps.inodes n ∙ known-inode d n i has)) refl
 
 -- the inode that is put, made of a copy
-pub put-made : (i copy j : Inode) (now : Time) (made after : FileMapValue) →
+pub put-made : (i copy j : Inode) (at now : Time) (made after : FileMapValue) →
     j ≡ record copy
-    { content = contents.Regular made; modified = touch copy.changed now; changed = touch copy.changed now } →
-    copy ≡ i → made ≡ after →
+    { content = contents.Regular made; modified = touch copy.changed at; changed = touch copy.changed at } →
+    at ≡ now → copy ≡ i → made ≡ after →
     j ≡ record i { content = contents.Regular after; modified = touch i.changed now; changed = touch i.changed now }
-put-made i copy j now made after is same new =
+put-made i copy j at now made after is when same new =
     is ∙ (λ k. record (same k) {
       content = contents.Regular (new k);
-      modified = touch (same k).changed now;
-      changed = touch (same k).changed now;
+      modified = touch (same k).changed (when k);
+      changed = touch (same k).changed (when k);
     })
 
 -- ---- bytes that are written

@@ -16,6 +16,12 @@ use Rattle.std.proofs.Common.{Result, Ok, Err}
 use Rattle.std.specs.Prelude.{MatchResult}
 use Rattle.nfs_inodes.proofs.Halting.{any-stops}
 use Rattle.nfs_inodes.proofs.Putting.{inode-known}
+use Rattle.nfs_wire.specs.declared.replies.ReadData.{ReadData}
+use Rattle.nfs_machine.specs.Data.{read_at}
+use Rattle.nfs_objects.specs.Knows.{Knows}
+use Rattle.nfs_objects.specs.Stands.{bytes_at}
+use Rattle.nfs_inodes.proofs.Reading.{bytes-there}
+use Rattle.nfs_inodes.specs.Known.{bytes_of, content_at}
 use Rattle.nfs_inodes.proofs.Wishing.{IsPaged, among-block, among-map, asking-all, asks-as, asks-more, known-all}
 use Rattle.nfs_inodes.specs.Asking.{AsksFor, IsAsking, with_wish}
 use Rattle.nfs_inodes.specs.Blocks.{IsBlockIn, IsInRange, KnowsMapped, KnowsRange, end_of, first_of, read_from, written_from}
@@ -61,6 +67,14 @@ read-object d n offset halt stops = front-stops d (addresses_of d.view n) (block
 pub read-blocks : (d : DraftValue) (n offset : ℕ) (halt : Halt) → StopsAt d (blocks_at n offset) halt →
     StopsAt d (read_from d.view n offset) halt
 read-blocks d n offset halt stops = back-stops d (addresses_of d.view n) (blocks_at n offset) halt stops
+
+pub read-result : (d : DraftValue) (n offset count : ℕ) (r : Result ReadData Halt) →
+    MatchResult r (λ found. Knows d (λ k. found ≡ read_at (bytes_at k.state n) offset count)) (StopsAt d (blocks_at n offset))
+    → MatchResult r (λ found. Knows d (λ k. found ≡ read_at (bytes_of (content_at k.state n)) offset count))
+    (StopsAt d (read_from d.view n offset))
+read-result d n offset count (Ok found) is = λ s k w.
+    is s k w ∙ ap (λ b. read_at b offset count) (sym (bytes-there k.state n))
+read-result d n offset count (Err halt) stops = read-blocks d n offset halt stops
 
 -- ---- a read
 module _ (d : DraftValue) (n offset count : ℕ) (pages : Bits) (some : 0 < count) (few : count ≤ 65536)

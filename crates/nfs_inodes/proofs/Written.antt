@@ -34,6 +34,13 @@ pub known-written : (d : DraftValue) (b : Addr) (o : Option Object) (a : Addr) �
     known_at (with_written d b o) a ≡ cond (is_addr b a) (Some o) (known_at d a)
 known-written d b o a = written-append d.writes _ b o a
 
+-- of another inode
+pub known-other : (d new : DraftValue) (n m : ℕ) (o : Option Object) → new ≡ with_written d (addresses.Inode n) o →
+    (n == m) ≡ false → known_at new (addresses.Inode m) ≡ known_at d (addresses.Inode m)
+known-other d new n m o is other =
+    ap (λ (x : DraftValue). known_at x (addresses.Inode m)) is ∙ known-written d (addresses.Inode n) o (addresses.Inode m)
+    ∙ ap (λ b. cond b (Some o) (known_at d (addresses.Inode m))) other
+
 pub stands-here : (d : DraftValue) (s : Store) (b : Addr) (o : Option Object) →
     (with_writes s (with_written d b o).writes).at b ≡ o
 stands-here d s b o = stands-written d s b o b ∙ ap (λ t. cond t o ((with_writes s d.writes).at b)) (is_addr-refl b)

@@ -10,7 +10,8 @@ loop-index-preserved c =
     let index = c.loop-index.index in
     let found = c.loop-index.found.items in
     let start = c.start_in-start.ensures in
-    let most = c.min-count.ensures ∙ (λ j. min (4096 - start j) (c.args.range.count - c.len.ensures j)) in
+    let long = c.len.ensures ∙ c.loop-index.found.ok.0 in
+    let most = c.min-count.ensures ∙ (λ j. min (4096 - start j) (c.args.range.count - long j)) in
     gathered-more c.args.draft.now c.args.file.number c.args.file.map.now c.requires.mapped offset c.args.range.count
     c.args.range.some c.requires.within index found (unwrap_or (option_copied c.in_ok-stored.field-0) [])
     c.add_part.new.found.items (omega (arith, c.first-index.ensures, c.loop-index.auto.index))

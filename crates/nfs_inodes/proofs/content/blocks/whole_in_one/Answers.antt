@@ -1,4 +1,4 @@
-use Rattle.std.proofs.Common.{◌≡◌, ◌-◌, ◌+◌, ◌*◌, [], take, drop, unwrap_or, arith, ap, subst, ◌∙◌}
+use Rattle.std.proofs.Common.{◌≡◌, ◌-◌, ◌/◌, ◌+◌, ◌*◌, [], take, drop, unwrap_or, arith, ap, subst, ◌∙◌}
 use Rattle.std.specs.Prelude.{option_copied}
 use Rattle.nfs_inodes.proofs.Reading.{whole-found}
 use Rattle.nfs_inodes.specs.Blocks.{ShowsBlock}

@@ -2,6 +2,7 @@ use Rattle.std.proofs.Common.{[], refl, ap, ◌∙◌}
 use Rattle.std.proofs.lemmas.Result.{err_from_is_err_and}
 use Rattle.nfs_machine.specs.Data.{resized}
 use Rattle.nfs_machine.specs.Times.{time_of}
+use Rattle.nfs_machine.specs.declared.context.Ctx.{Ctx}
 use Rattle.nfs_objects.proofs.Suiting.{change-each}
 use Rattle.nfs_objects.specs.declared.address.Addr.TheVariants as addresses
 use Rattle.nfs_objects.specs.declared.object.Inode.{Inode}
@@ -37,7 +38,7 @@ cut_to-requires-clause-alone c = change-each c.count.new.draft c.args.file.now.k
 
 pub cut_to-requires-clause-pages : goal.cut_to-requires-clause-pages
 cut_to-requires-clause-pages c =
-    rw c.pages.ensures (has-pages c.count.new.draft c.args.file.now.known.number c.in_ok-kept.kept.map.now
+    rw c.pages-pages.ensures (has-pages c.count.new.draft c.args.file.now.known.number c.in_ok-kept.kept.map.now
     (file-map c.args.draft.now c.count.new.draft c.args.file.now.known.number c.in_ok-kept.kept.inode.now
     c.in_ok-kept.kept.map.now c.in_ok-kept.ensures c.in_ok-count.ensures.keeps))
 
@@ -88,11 +89,13 @@ returns c =
     c.share_of-share.result c.of_one.result c.put.new.self c.with_content-new.result has.inode has.content
     c.in_ok-pages.ensures.lays c.in_ok-pages.ensures.maps
     (λ s k fits stands. c.in_ok-pages.ensures.content s k _ fits stands
-    (rw c.size.ensures.value (content-there mid n old
+    (rw c.size-old_size.ensures.value (content-there mid n old
     (file-map d mid n c.in_ok-kept.kept.inode.now old has c.in_ok-count.ensures.keeps) s k fits stands)))
-    (put-made c.in_ok-kept.kept.inode.now _ c.with_content-new.result (time_of d.ctx.moment) _ _
-    (rw (c.now.ensures, c.ctx.ensures) at c.with_content-new.ensures) c.in_ok-inode.ensures.cases
-    c.in_ok-new.ensures.value)
+    (put-made c.in_ok-kept.kept.inode.now c.in_ok-inode.inode c.with_content-new.result c.now.result (time_of d.ctx.moment) _ _
+    c.with_content-new.ensures (c.now.ensures ∙ ap (λ (x : Ctx). time_of x.moment) (c.ctx.ensures
+    ∙ c.in_ok-pages.ensures.lays.ctx
+    ∙ (c.in_ok-count.ensures.turns c.share_of-share.result.usage c.of_one.result c.in_ok-usage.ensures).ctx))
+    c.in_ok-inode.ensures.cases c.in_ok-new.ensures.value)
     c.share_of-share.ensures c.of_one.ensures
     (c.in_ok-count.ensures.turns c.share_of-share.result.usage c.of_one.result c.in_ok-usage.ensures)
     c.in_ok-count.ensures.keeps c.in_ok-put.ensures.ok c.in_ok-put.ensures.fits

@@ -1,7 +1,8 @@
-use Rattle.std.proofs.Common.{[], refl, sym, ap, ◌∙◌}
+use Rattle.std.proofs.Common.{◌+◌, length, max, ap, subst, ◌∙◌}
 use Rattle.std.proofs.lemmas.Result.{err_from_is_err_and}
 use Rattle.nfs_machine.specs.Data.{written}
 use Rattle.nfs_machine.specs.Times.{time_of}
+use Rattle.nfs_machine.specs.declared.context.Ctx.{Ctx}
 use Rattle.nfs_objects.proofs.Suiting.{change-each}
 use Rattle.nfs_objects.specs.Calls.{maps_at}
 use Rattle.nfs_objects.specs.declared.address.Addr.TheVariants as addresses
@@ -12,7 +13,10 @@ use Rattle.nfs_inodes.proofs.Halting.{stops-before}
 use Rattle.nfs_inodes.proofs.Putting.{object-stops, usage-stops}
 use Rattle.nfs_inodes.proofs.Reading.{has-pages}
 use Rattle.nfs_inodes.proofs.WriteAsks.{range-kept, write-asking, write-known, written-counts, written-maps}
-use Rattle.nfs_inodes.specs.Blocks.{written_from}
+use Rattle.nfs_objects.specs.Sums.{is_same_usage}
+use Rattle.nfs_inodes.specs.Asking.{AsksFor}
+use Rattle.nfs_inodes.specs.Blocks.{IsBlockIn, IsInRange, end_of, first_of, written_from}
+use Rattle.nfs_inodes.specs.declared.usage.Share.{Share}
 use Rattle.nfs_inodes.proofs.content.file.write.Goals as goal
 
 pub returns-in_err-kept : goal.returns-in_err-kept
@@ -36,7 +40,17 @@ pub returns-in_err-ask : goal.returns-in_err-ask
 returns-in_err-ask c =
     let p = err_from_is_err_and c.from_residual-in_err-ask.result c.from_residual-in_err-ask.ensures.1 in
     rw (p.1, p.2) (c.in_err-ask.ensures.stops c.args.draft.now
-    (written_from c.args.draft.now c.args.file.now.known.number c.args.offset) ?)
+    (written_from c.args.draft.now c.args.file.now.known.number c.args.offset)
+    (write-asking c.args.draft.now c.args.file.now.known.number c.args.offset (length c.args.bytes.now)
+    c.share_of-share.result.export c.requires.some c.requires.few
+    (is_same_usage c.share_of-share.result.usage c.of_one-after.result) c.ask_written.new.asking.asked.items
+    c.ask_counted.new.asking.asked.items
+    (subst (λ l. AsksFor c.args.draft.now
+    (IsInRange c.args.file.now.known.number c.args.offset (length c.args.bytes.now))
+    (IsBlockIn c.args.file.now.known.number (first_of c.args.offset) (end_of c.args.offset (length c.args.bytes.now))) l
+    c.ask_written.new.asking.asked.items) c.new-asking.ensures c.in_ok-ask_written.ensures)
+    c.in_ok-ask_counted.ensures c.in_ok-kept.kept.inode.now c.in_ok-kept.ensures.inode
+    (ap (λ (x : Share). x.export) c.share_of-share.ensures)))
 
 pub write_range-requires-clause-alone : goal.write_range-requires-clause-alone
 write_range-requires-clause-alone c = change-each c.count.new.draft c.args.file.now.known.number
@@ -45,13 +59,22 @@ write_range-requires-clause-alone c = change-each c.count.new.draft c.args.file.
 
 pub write_range-requires-clause-pages : goal.write_range-requires-clause-pages
 write_range-requires-clause-pages c =
-    rw c.pages.ensures (has-pages c.count.new.draft c.args.file.now.known.number c.in_ok-kept.kept.map.now
+    rw c.pages-pages.ensures (has-pages c.count.new.draft c.args.file.now.known.number c.in_ok-kept.kept.map.now
     (file-map c.args.draft.now c.count.new.draft c.args.file.now.known.number c.in_ok-kept.kept.inode.now
     c.in_ok-kept.kept.map.now c.in_ok-kept.ensures c.in_ok-count.ensures.keeps))
 
 pub write_range-requires-clause-known : goal.write_range-requires-clause-known
 write_range-requires-clause-known c = range-kept c.args.draft.now c.count.new.draft c.args.file.now.known.number
-    c.args.offset _ c.in_ok-count.ensures.keeps ?
+    c.args.offset (length c.args.bytes.now) c.in_ok-count.ensures.keeps
+    (write-known c.args.draft.now c.args.file.now.known.number c.args.offset (length c.args.bytes.now)
+    c.share_of-share.result.export c.requires.some c.requires.few
+    (is_same_usage c.share_of-share.result.usage c.of_one-after.result) c.ask_written.new.asking.asked.items
+    c.ask_counted.new.asking.asked.items
+    (subst (λ l. AsksFor c.args.draft.now
+    (IsInRange c.args.file.now.known.number c.args.offset (length c.args.bytes.now))
+    (IsBlockIn c.args.file.now.known.number (first_of c.args.offset) (end_of c.args.offset (length c.args.bytes.now))) l
+    c.ask_written.new.asking.asked.items) c.new-asking.ensures c.in_ok-ask_written.ensures)
+    c.in_ok-ask_counted.ensures c.in_ok-ask.ensures.nothing)
 
 pub returns-in_err-pages : goal.returns-in_err-pages
 returns-in_err-pages c =
@@ -96,10 +119,12 @@ returns c =
     c.in_ok-pages.ensures.lays c.in_ok-pages.ensures.maps
     (range-content mid c.write_range.new.draft n old c.args.offset c.max-size.result c.args.bytes.now c.in_ok-pages.pages
     (file-map d mid n c.in_ok-kept.kept.inode.now old has c.in_ok-count.ensures.keeps) c.in_ok-pages.ensures c.requires.some
-    (rw (c.max-size.ensures, c.size.ensures.value, c.len.ensures.value) refl))
-    (put-made c.in_ok-kept.kept.inode.now _ c.with_content-new.result (time_of d.ctx.moment) _ _
-    (rw (c.now.ensures, c.ctx.ensures) at c.with_content-new.ensures) c.in_ok-inode.ensures.cases
-    c.in_ok-new.ensures.value)
+    (c.max-size.ensures ∙ ap (λ s. max s (c.args.offset + length c.args.bytes.now)) c.size.ensures.value))
+    (put-made c.in_ok-kept.kept.inode.now c.in_ok-inode.inode c.with_content-new.result c.now.result (time_of d.ctx.moment) _ _
+    c.with_content-new.ensures (c.now.ensures ∙ ap (λ (x : Ctx). time_of x.moment) (c.ctx.ensures
+    ∙ c.in_ok-pages.ensures.lays.ctx
+    ∙ (c.in_ok-count.ensures.turns c.share_of-share.result.usage c.of_one-after.result c.in_ok-usage.ensures).ctx))
+    c.in_ok-inode.ensures.cases c.in_ok-new.ensures.value)
     c.share_of-share.ensures c.of_one-after.ensures
     (c.in_ok-count.ensures.turns c.share_of-share.result.usage c.of_one-after.result c.in_ok-usage.ensures)
     c.in_ok-count.ensures.keeps c.in_ok-put.ensures.ok c.in_ok-put.ensures.fits

@@ -1,10 +1,8 @@
-use Rattle.std.proofs.Common.{◌++◌, ◌∷◌, [], cond, refl, ap, ◌∙◌}
+use Rattle.std.proofs.Common.{◌++◌, ◌∷◌, [], refl, ap, ◌∙◌}
 use Rattle.nfs_machine.specs.Times.{time_of}
 use Rattle.nfs_objects.specs.Entries.{entry}
 use Rattle.nfs_objects.specs.declared.object.Inode.{Inode}
-use Rattle.nfs_objects.specs.Values.{DraftValue, known_at}
-use Rattle.nfs_objects.specs.declared.address.Addr.TheVariants as addresses
-use Rattle.nfs_inodes.proofs.Written.{known-written}
+use Rattle.nfs_inodes.proofs.Written.{known-other}
 use Rattle.nfs_inodes.proofs.Showing.{directory-kinds, with-content-and-links}
 use Rattle.nfs_inodes.proofs.Putting.{added-turns, entry-found, kept-turns, knows-on, no-entry}
 use Rattle.nfs_inodes.proofs.content.naming.add_entry.Goals as goal
@@ -50,6 +48,4 @@ returns-clause-kinds c =
 
 pub returns-clause-others : goal.returns-clause-others
 returns-clause-others c = λ n other.
-    ap (λ (d : DraftValue). known_at d (addresses.Inode n)) c.in_ok-put.ensures.ok
-    ∙ known-written c.args.draft.now (addresses.Inode c.args.directory.now.known.number) _ (addresses.Inode n)
-    ∙ ap (λ b. cond b _ (known_at c.args.draft.now (addresses.Inode n))) other
+    known-other c.args.draft.now c.put.new.self c.args.directory.now.known.number n _ c.in_ok-put.ensures.ok other
