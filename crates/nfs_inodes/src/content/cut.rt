@@ -83,7 +83,7 @@ fn cut_next(
     requires small { page < 512 }
     requires known { IsSome (known_at draft.old (Addr.Map number page)) }
     requires told { KnowsTold draft.old number page bits (size / 4096) }
-    ensures cut { MatchResult result (CutsNext draft.old draft.new number page bits size left) (StopsAt draft.old []) }
+    ensures { MatchResult result (CutsNext draft.old draft.new number page bits size left) (StopsAt draft.old []) }
 {
     if cut_page(draft, number, page, bits, size)? {
         Ok(left.with(page))
