@@ -135,6 +135,8 @@ module _ (depth : ℕ → ℕ) (low high : ℕ) (less : low ≤ high) where
   high-more : (a : Addr) → is_high depth low a ≡ true → is_high depth high a ≡ true
   high-more addresses.Exports t = cc
   high-more (addresses.Inode n) t = below-more (depth n) t
+  high-more (addresses.Map file page) t = cc
+  high-more (addresses.Block file index) t = cc
   high-more addresses.Mounts t = cc
   high-more (addresses.Usage export group) t = cc
 

@@ -1,7 +1,7 @@
 -- Files that are cut off: page by page the blocks behind the place go, and the maps tell of those that stay.
 use Rattle.std.proofs.Common.{◌≡◌, ◌≢◌, ◌+◌, ◌-◌, ◌*◌, ◌/◌, ◌%◌, ◌<◌, ◌≤◌, ◌==◌, ◌&&◌, ◌||◌, ◌⊎◌, ℕ, true, false, Bool, max, min, not, nat_lt}
 use Rattle.std.proofs.Common.{List, [], ◌∷◌, ◌++◌, Option, Some, None, IsSome, inl, inr, refl, sym, ◌∙◌, ap, subst, arith}
-use Rattle.std.proofs.Common.{cond, length, take, drop, option_map, unwrap_or, slice_index_or}
+use Rattle.std.proofs.Common.{cond, length, take, option_map, slice_index_or}
 use Rattle.std.proofs.lemmas.Bool.{and_parts, cases_lt, le-ltb, lt-ltb, ltb-false, ltb-true}
 use Rattle.std.proofs.Common.{Result, Ok, Err, get_or, length-append}
 use Rattle.std.specs.Prelude.{MatchResult}
@@ -34,7 +34,7 @@ use Rattle.nfs_inodes.proofs.Wishing.{asks-as, asks-both, asks-more, differs, no
 use Rattle.nfs_inodes.proofs.Written.{leaves-as, leaves-both, leaves-none, leaves-one, stands-here}
 use Rattle.nfs_objects.specs.declared.modes.Mode.{Mode}
 use Rattle.nfs_inodes.specs.Asking.{AsksFor, with_wish}
-use Rattle.nfs_inodes.specs.Blocks.{HasPages, Leaves}
+use Rattle.nfs_inodes.specs.Blocks.{HasPages}
 use Rattle.nfs_inodes.specs.Cuts.{CutsBlock, CutsBlocks, CutsNext, CutsPage, EndsAt, IsBehind, IsCleared, IsCutAt, IsCutTo}
 use Rattle.nfs_inodes.specs.Cuts.{IsResized}
 use Rattle.nfs_inodes.specs.Cuts.{IsPageIn, IsTold, IsToldIn, KnowsMaps, KnowsTold, ShowsMap, ShowsMaps, cut_to, told_at}

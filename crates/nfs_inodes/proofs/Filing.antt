@@ -1,6 +1,6 @@
 -- Files whose blocks and maps were written: their inode is put, or goes, and the store stands for the file with its new
 -- bytes, or without it.
-use Rattle.std.proofs.Common.{◌≡◌, ◌⊎◌, true, ℕ, ◌+◌, ◌-◌, ◌*◌, ◌/◌, ◌<◌, ◌≤◌, min, max, length, drop, List, [], ◌∷◌, ◌++◌, Option}
+use Rattle.std.proofs.Common.{◌≡◌, ◌⊎◌, true, ℕ, ◌+◌, ◌-◌, ◌*◌, ◌/◌, ◌<◌, ◌≤◌, min, max, length, drop, List}
 use Rattle.std.proofs.Common.{Some, None, IsSome, inl, inr, refl, sym, ◌∙◌, ap, subst, arith}
 use Rattle.std.proofs.lemmas.Bool.{cases_lt}
 use Rattle.std.proofs.lemmas.List.{length-drop, length-take}
@@ -24,7 +24,7 @@ use Rattle.nfs_objects.specs.FileMaps.{FileMapValue, IsContent, block_size}
 use Rattle.nfs_objects.specs.Drafts.{MayChange, MayGive}
 use Rattle.nfs_objects.specs.Fits.{Fits}
 use Rattle.nfs_objects.specs.Knows.{Turns}
-use Rattle.nfs_objects.specs.Stands.{HasBlocks, IsFitting, Kept, Represents, bytes_at, inode_in, lives_in, living_of_inode}
+use Rattle.nfs_objects.specs.Stands.{HasBlocks, IsFitting, Kept, Represents, bytes_at, lives_in, living_of_inode}
 use Rattle.nfs_objects.specs.Stands.{map_in, parent_in, stored_in}
 use Rattle.nfs_objects.specs.Modes.{held_mode}
 use Rattle.nfs_objects.specs.Store.{Store, with_write, with_writes}

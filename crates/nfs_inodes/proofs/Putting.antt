@@ -1,5 +1,5 @@
 -- What makers write is their change of what the store stands for.
-use Rattle.std.proofs.Common.{◌≡◌, ℕ, ◌+◌, ◌-◌, ◌*◌, ◌/◌, ◌<◌, ◌^◌, ◌&&◌, length, max, true, false, Bool, cond}
+use Rattle.std.proofs.Common.{◌≡◌, ℕ, ◌+◌, ◌-◌, ◌*◌, ◌/◌, ◌<◌, ◌^◌, ◌&&◌, true, false, Bool, cond}
 use Rattle.std.proofs.Common.{List, [], ◌∷◌, ◌++◌, Option, Some, None, IsSome, Result, Ok, Err, option_map, slice_get}
 use Rattle.std.proofs.Common.{find, inl, inr, ◌==◌, refl, sym, ◌∙◌, ap, subst}
 use Rattle.std.proofs.lemmas.Bool.{lt-leb}
@@ -12,7 +12,6 @@ use Rattle.std.specs.Cmp.{unsigned_Decides}
 use Rattle.std.specs.FinMap.{get}
 use Rattle.nfs_machine.specs.Attributes.{block, used_of}
 use Rattle.nfs_machine.specs.Bytes.{same_bytes}
-use Rattle.nfs_machine.specs.Data.{resized, written}
 use Rattle.nfs_machine.specs.Checks.{DirectoryEntries, bytes_in, entries_in}
 use Rattle.nfs_machine.specs.RemoveSteps.{without}
 use Rattle.nfs_machine.specs.Shown.{touched, with_content, with_object}
@@ -20,7 +19,6 @@ use Rattle.nfs_machine.specs.State.{Entry, Living}
 use Rattle.nfs_machine.specs.State as machine
 use Rattle.nfs_machine.specs.Times.{touch}
 use Rattle.nfs_objects.proofs.Exported.{inode-stands}
-use Rattle.nfs_objects.proofs.FileParts.{resized-length, written-length}
 use Rattle.nfs_objects.proofs.Knows.{among-behind, among-front, among-groups, covers-among, stops-wider}
 use Rattle.nfs_objects.proofs.Promised.{turns-both, turns-none}
 use Rattle.nfs_objects.proofs.Seen.{known-stands, shown-stands, writes-append, written-append}
@@ -53,7 +51,7 @@ use Rattle.nfs_objects.specs.declared.usage.Usage.{Usage}
 use Rattle.nfs_objects.specs.declared.view.Reserved.{Reserved}
 use Rattle.nfs_inodes.proofs.Counting.{no-share}
 use Rattle.nfs_inodes.proofs.Halting.{stops-before}
-use Rattle.nfs_inodes.proofs.Keeping.{changed-is, put-there}
+use Rattle.nfs_inodes.proofs.Keeping.{put-there}
 use Rattle.nfs_objects.proofs.Filed.{living-as, size-stands}
 use Rattle.nfs_objects.specs.Bits.{no_bits}
 use Rattle.nfs_objects.specs.FileMaps.{FileMapValue}
@@ -63,7 +61,7 @@ use Rattle.nfs_inodes.specs.Kinds.{KeepsOthers, kind_at, kind_of}
 use Rattle.nfs_inodes.specs.Known.{HasInode}
 use Rattle.nfs_inodes.specs.Sets.{attributes_changed, with_settings}
 use Rattle.nfs_inodes.specs.declared.setting.Settings.{Settings}
-use Rattle.nfs_inodes.specs.Makes.{IsFree, bytes_changed, changed_at, changed_with, name_added, name_taken, removed, with_bytes, with_name, without_name}
+use Rattle.nfs_inodes.specs.Makes.{IsFree, changed_at, changed_with, name_added, name_taken, removed, with_bytes, with_name, without_name}
 use Rattle.nfs_inodes.specs.Stops.{StopsAt, StopsMaking, counted_at, group_at, inode_at}
 use Rattle.nfs_inodes.specs.declared.usage.Share.{Share}
 

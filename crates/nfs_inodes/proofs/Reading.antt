@@ -1,5 +1,5 @@
 -- What a draft shows of the blocks and maps of a file, and what is read of them.
-use Rattle.std.proofs.Common.{◌≡◌, ◌≢◌, ◌+◌, ◌-◌, ◌*◌, ◌/◌, ◌%◌, ◌<◌, ◌≤◌, ℕ, true, false, Bool, min}
+use Rattle.std.proofs.Common.{◌≡◌, ◌+◌, ◌-◌, ◌*◌, ◌/◌, ◌%◌, ◌<◌, ◌≤◌, ℕ, true, false, Bool, min}
 use Rattle.std.proofs.Common.{List, [], ◌∷◌, ◌++◌, Option, Some, None, IsSome, Result, Ok, Err, inl, inr, refl, sym, ◌∙◌, ap, subst, arith}
 use Rattle.std.proofs.lemmas.Bool.{cases_lt}
 use Rattle.std.specs.FinMap.{get}
@@ -7,8 +7,8 @@ use Rattle.nfs_wire.specs.declared.replies.ReadData.{ReadData}
 use Rattle.std.proofs.Common.{Bor, is_some, nat_le, option_copied}
 use Rattle.std.proofs.Common.{append-nil, cond, length, length-append, take, drop, replicate, option_map, unwrap_or}
 use Rattle.std.proofs.Math.Seq.{take-add}
-use Rattle.std.proofs.lemmas.List.{drop-drop, length-drop, length-take, take_all, take-append-drop}
-use Rattle.std.specs.Prelude.{MatchResult, IfSome}
+use Rattle.std.proofs.lemmas.List.{drop-drop, length-drop, length-take, take_all}
+use Rattle.std.specs.Prelude.{MatchResult}
 use Rattle.nfs_machine.specs.Data.{read_at, resized}
 use Rattle.nfs_machine.specs.State.{Living, Socket, State}
 use Rattle.nfs_objects.proofs.BitSets.{has-none}
@@ -19,7 +19,7 @@ use Rattle.nfs_objects.specs.Asks.{IsThere, Lacks}
 use Rattle.nfs_objects.specs.Bits.{has, no_bits}
 use Rattle.nfs_objects.specs.FileMaps.{FileMapValue, IsContent, block_size, part_at}
 use Rattle.nfs_objects.specs.Fits.{Fits}
-use Rattle.nfs_objects.specs.Knows.{Knows, Possible}
+use Rattle.nfs_objects.specs.Knows.{Knows}
 use Rattle.nfs_objects.specs.Stands.{HasBlocks, IsMapped, IsStored, Kept, Represents, block_of, bytes_at, inode_of, map_in, map_of, pages_of}
 use Rattle.nfs_objects.specs.Stands.{content_of, file_bytes, stored_in, with_file}
 use Rattle.nfs_objects.specs.Store.{Store, with_writes, with_write}

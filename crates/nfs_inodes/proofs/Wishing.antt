@@ -1,14 +1,14 @@
 -- Addresses that are asked for at once: those that the draft does not know of such as are wanted, each once.
-use Rattle.std.proofs.Common.{◌≡◌, ◌≢◌, ◌==◌, ◌&&◌, ◌+◌, ◌-◌, ◌*◌, ◌/◌, ◌%◌, ◌<◌, ◌≤◌, ◌⊎◌, ℕ, zero, suc, true, false, Bool}
+use Rattle.std.proofs.Common.{◌≡◌, ◌≢◌, ◌==◌, ◌&&◌, ◌+◌, ◌-◌, ◌/◌, ◌<◌, ◌≤◌, ◌⊎◌, ℕ, zero, suc, true, false, Bool}
 use Rattle.std.proofs.Common.{List, [], ◌∷◌, ◌++◌, Option, Some, None, IsSome, inl, inr, refl, sym, ◌∙◌, ap, subst, arith}
-use Rattle.std.proofs.Common.{append-nil, append_assoc, cond, length}
+use Rattle.std.proofs.Common.{append-nil, append_assoc}
 use Rattle.std.proofs.Common.{Result, Ok, Err, IfErr, OnOk}
 use Rattle.std.specs.Prelude.{MatchResult}
 use Rattle.std.specs.Cmp.{unsigned_Decides}
 use Rattle.std.specs.List.{AllByRecursion}
 use Rattle.nfs_machine.proofs.Modes.{all-joined}
 use Rattle.nfs_objects.proofs.Seen.{all-append, all-map, unknown-unseen}
-use Rattle.nfs_objects.specs.Asks.{Asks, EachOnce, IsThere, MayAsk}
+use Rattle.nfs_objects.specs.Asks.{EachOnce, IsThere, MayAsk}
 use Rattle.nfs_objects.specs.Bits.{has}
 use Rattle.nfs_objects.specs.Calls.{IsAmong, blocks_at, blocks_from, maps_at}
 use Rattle.nfs_objects.specs.Values.{DraftValue, is_addr, known_at}

@@ -1,11 +1,11 @@
 -- What a write asks for, and how a reader or a writer of bytes halts.
-use Rattle.std.proofs.Common.{◌≡◌, ◌⊎◌, ℕ, ◌+◌, ◌-◌, ◌/◌, ◌<◌, ◌≤◌, true, false, Bool, cond, List, [], ◌∷◌, ◌++◌, Some, None, IsSome, inl, inr}
+use Rattle.std.proofs.Common.{◌≡◌, ◌⊎◌, ℕ, ◌+◌, ◌-◌, ◌/◌, ◌<◌, ◌≤◌, true, false, Bool, cond, List, [], ◌∷◌, ◌++◌, Some, IsSome, inl, inr}
 use Rattle.std.proofs.Common.{refl, sym, ◌∙◌, ap, subst}
 use Rattle.nfs_objects.proofs.Knows.{among-behind, among-front, covers-among, stops-wider}
 use Rattle.nfs_objects.specs.Bits.{has}
 use Rattle.nfs_objects.specs.Calls.{IsAmong, addresses_of, blocks_at, maps_at}
 use Rattle.nfs_objects.specs.Sums.{group_of}
-use Rattle.nfs_objects.specs.Values.{DraftValue, is_addr, known_at}
+use Rattle.nfs_objects.specs.Values.{DraftValue, is_addr}
 use Rattle.nfs_objects.specs.declared.address.Addr.{Addr}
 use Rattle.nfs_objects.specs.declared.address.Addr.TheVariants as addresses
 use Rattle.nfs_objects.specs.declared.bits.Bits.{Bits}
@@ -25,10 +25,9 @@ use Rattle.nfs_inodes.specs.Known.{bytes_of, content_at}
 use Rattle.nfs_inodes.proofs.Wishing.{IsPaged, among-block, among-map, asking-all, asks-as, asks-more, known-all}
 use Rattle.nfs_inodes.specs.Asking.{AsksFor, IsAsking, with_wish}
 use Rattle.nfs_inodes.specs.Blocks.{IsBlockIn, IsInRange, KnowsMapped, KnowsRange, end_of, first_of, read_from, written_from}
-use Rattle.nfs_inodes.specs.Counts.{IsShareOf, KeepsInodes}
+use Rattle.nfs_inodes.specs.Counts.{KeepsInodes}
 use Rattle.nfs_inodes.specs.Known.{HasInode}
 use Rattle.nfs_inodes.specs.Stops.{StopsAt, counted_at, group_at, inode_at}
-use Rattle.nfs_inodes.specs.declared.usage.Share.{Share}
 
 -- ---- one list of more
 pub front-stops : (d : DraftValue) (few more : List Addr) (halt : Halt) → StopsAt d few halt → StopsAt d (few ++ more) halt

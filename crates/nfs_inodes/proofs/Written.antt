@@ -1,8 +1,8 @@
 -- Blocks and maps of a file that are written: what stands then, and what stays.
 use Rattle.std.proofs.Common.{◌≡◌, ◌≢◌, ◌+◌, ◌-◌, ◌*◌, ◌/◌, ◌%◌, ◌<◌, ◌≤◌, ◌==◌, ◌&&◌, ◌||◌, ◌⊎◌, ℕ, true, false, Bool, max, min, nat_le, nat_lt}
-use Rattle.std.proofs.Common.{List, [], ◌∷◌, ◌++◌, Option, Some, None, IsSome, IfSome, Result, Ok, Err, inl, inr, refl, sym, ◌∙◌, ap, subst, arith}
-use Rattle.std.proofs.Common.{cond, length, take, drop, option_map, unwrap_or}
-use Rattle.std.proofs.lemmas.Bool.{cases_lt, le-leb, lt-leb, lt-ltb, le-ltb, ltb-true, ltb-false}
+use Rattle.std.proofs.Common.{List, [], Option, Some, None, inl, inr, refl, sym, ◌∙◌, ap, subst, arith}
+use Rattle.std.proofs.Common.{cond, length, option_map, unwrap_or}
+use Rattle.std.proofs.lemmas.Bool.{cases_lt, le-leb, lt-leb, lt-ltb, le-ltb}
 use Rattle.std.specs.Cmp.{unsigned_Decides}
 use Rattle.nfs_machine.specs.Data.{written}
 use Rattle.nfs_objects.proofs.BitSets.{has-none}
@@ -10,9 +10,9 @@ use Rattle.nfs_objects.proofs.Laying.{lays-block, lays-both, lays-map, lays-none
 use Rattle.nfs_objects.proofs.Seen.{is_addr-refl, known-stands, writes-append, written-append}
 use Rattle.nfs_objects.specs.Bits.{has, no_bits, same_bits}
 use Rattle.nfs_objects.specs.Fits.{Fits}
-use Rattle.nfs_objects.specs.Stands.{HasBlocks, IsMapped, IsStored, Kept, Represents, block_of, map_of, stored_in, stored_map}
+use Rattle.nfs_objects.specs.Stands.{HasBlocks, IsMapped, IsStored, block_of, map_of, stored_in, stored_map}
 use Rattle.nfs_objects.specs.SameLaws.{bits_decides}
-use Rattle.nfs_objects.specs.Store.{Store, with_writes, with_write}
+use Rattle.nfs_objects.specs.Store.{Store, with_writes}
 use Rattle.nfs_objects.specs.Unfiled.{Lays}
 use Rattle.nfs_objects.specs.Values.{DraftValue, is_addr, known_at, with_written}
 use Rattle.nfs_objects.specs.declared.address.Addr.{Addr}

@@ -1,4 +1,4 @@
-use Rattle.std.proofs.Common.{IsSome, sym, subst, ◌∙◌}
+use Rattle.std.proofs.Common.{IsSome, sym, subst}
 use Rattle.std.proofs.lemmas.Result.{err_from_is_err_and}
 use Rattle.nfs_objects.proofs.Promised.{turned-change}
 use Rattle.nfs_objects.proofs.Suiting.{change-counts}

@@ -1,4 +1,4 @@
-use Rattle.std.proofs.Common.{◌≡◌, ◌==◌, ◌<◌, ◌≤◌, ◌+◌, ℕ, Bool, true, false, arith, refl, sym, subst}
+use Rattle.std.proofs.Common.{◌≡◌, ◌==◌, true, false, arith, refl, sym, subst}
 use Rattle.std.specs.Cmp.{unsigned_Decides}
 use Rattle.nfs_inodes.proofs.Reading.{block-there}
 use Rattle.nfs_inodes.proofs.Wishing.{differs}

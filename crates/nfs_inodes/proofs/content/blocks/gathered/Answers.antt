@@ -1,4 +1,4 @@
-use Rattle.std.proofs.Common.{◌++◌, ◌-◌, ◌*◌, [], drop, min, unwrap_or, arith, ◌∙◌}
+use Rattle.std.proofs.Common.{◌++◌, ◌-◌, [], drop, min, unwrap_or, arith, ◌∙◌}
 use Rattle.std.specs.Prelude.{option_copied}
 use Rattle.nfs_machine.specs.Data.{resized}
 use Rattle.nfs_inodes.proofs.Reading.{gathered-more}

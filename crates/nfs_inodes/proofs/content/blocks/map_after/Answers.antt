@@ -1,4 +1,4 @@
-use Rattle.std.proofs.Common.{◌≡◌, ◌||◌, ◌&&◌, ◌+◌, ◌-◌, ◌*◌, ◌<◌, [], ◌∷◌, max, min, nat_le, nat_lt, arith, ap, ◌∙◌}
+use Rattle.std.proofs.Common.{◌||◌, ◌&&◌, ◌+◌, ◌-◌, ◌*◌, [], ◌∷◌, max, min, nat_le, nat_lt, arith, ap, ◌∙◌}
 use Rattle.std.proofs.lemmas.Result.{err_from_is_err_and}
 use Rattle.nfs_objects.specs.Bits.{has}
 use Rattle.nfs_objects.specs.declared.address.Addr.TheVariants as addresses

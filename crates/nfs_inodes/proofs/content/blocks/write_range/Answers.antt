@@ -1,4 +1,4 @@
-use Rattle.std.proofs.Common.{◌-◌, ◌/◌, ◌≡◌, arith, subst}
+use Rattle.std.proofs.Common.{◌-◌, ◌/◌, arith, subst}
 use Rattle.std.proofs.lemmas.Result.{err_from_is_err_and}
 use Rattle.nfs_objects.specs.Calls.{maps_at}
 use Rattle.nfs_inodes.proofs.Halting.{any-stops}

@@ -1,4 +1,4 @@
-use Rattle.std.proofs.Common.{◌≡◌, ◌≤◌, List, ℕ, Some, None, length, arith, subst, ap, sym, ◌∙◌}
+use Rattle.std.proofs.Common.{Some, None, arith, ap, ◌∙◌}
 use Rattle.std.specs.Prelude.{option_copied}
 use Rattle.nfs_inodes.proofs.Cutting.{cut-none, cut-same, cut-some, few-none, few-some}
 use Rattle.nfs_inodes.proofs.Wishing.{not-same}

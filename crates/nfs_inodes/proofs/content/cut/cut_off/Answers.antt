@@ -1,4 +1,4 @@
-use Rattle.std.proofs.Common.{◌≡◌, ◌-◌, ◌<◌, ◌/◌, length, sym, subst, arith}
+use Rattle.std.proofs.Common.{◌-◌, ◌<◌, ◌/◌, length, sym, subst, arith}
 use Rattle.std.proofs.lemmas.List.{get_or_read}
 use Rattle.nfs_inodes.proofs.Cutting.{blank, cut-end, cut-skip, cut-start, cut-step, told-known}
 use Rattle.nfs_inodes.specs.Cuts.{KnowsTold, ShowsMap, told_at}

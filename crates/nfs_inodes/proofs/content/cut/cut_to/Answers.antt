@@ -1,4 +1,4 @@
-use Rattle.std.proofs.Common.{Result, arith}
+use Rattle.std.proofs.Common.{arith}
 use Rattle.nfs_inodes.proofs.Cutting.{larger, smaller-result}
 use Rattle.nfs_inodes.proofs.content.cut.cut_to.Goals as goal
 
