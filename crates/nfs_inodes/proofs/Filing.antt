@@ -51,7 +51,7 @@ module _ (d laid : DraftValue) (n : ℕ) (i : Inode) (has : HasInode d n (Some i
   -- the draft with another inode of the file
   pub file-turns : (map after : FileMapValue) (now : Time) (change : List ℕ → List ℕ) →
       let j : Inode = record i
-          { content = contents.Regular after; modified = touch i.changed now; changed = touch i.changed now } in
+      { content = contents.Regular after; modified = touch i.changed now; changed = touch i.changed now } in
       i.content ≡ contents.Regular map
       → ((s : Store) (k : Kept) → Fits d.view s → Represents (with_writes s d.writes) k →
       HasBlocks (with_writes s laid.writes) n after.pages)

@@ -103,7 +103,7 @@ module _ (d : DraftValue) where
     Shall b = Must b ⊎ (a ≡ b)
 
     abbrev wished : Option (Option Object) → List (Addr × Mode)
-    wished o = elim o [ | Some object ↦ mid | None ↦ mid ++ (a, held_mode d.modes d.view a) ∷ [] ]
+    wished o = elim o [ Some object ↦ mid | None ↦ mid ++ (a, held_mode d.modes d.view a) ∷ [] ]
 
     as-wished : (o : Option (Option Object)) → known_at d a ≡ o → AsksFor d Will Shall old (wished o)
     as-wished (Some object) is = record {

@@ -226,9 +226,12 @@ page-tells d file first end page was bits known is behind before some = (
   was,
   known,
   tells,
-  (place, tells place (omega (arith, behind))
-      ∙ ap (λ b. has was place || b) (within-true first end (page * 512 + place) (omega arith) (omega (arith, before, some)))
-      ∙ or-all (has was place)),
+  (
+    place,
+    tells place (omega (arith, behind))
+        ∙ ap (λ b. has was place || b) (within-true first end (page * 512 + place) (omega arith) (omega (arith, before, some)))
+        ∙ or-all (has was place),
+  ),
 )
   where
     place : ℕ
@@ -502,8 +505,10 @@ module _ (old mid late new : DraftValue) (n offset : ℕ) (bytes : List ℕ) (pa
             | inl less ↦ absurd (omega (arith, less, from, e))
             | inr past ↦ absurd (omega (arith, past, before, e))
           ])))
-          (λ i from before. (written (stored_in (at-old s (addresses.Block n i))) (place_in offset i) (part_in offset bytes i),
-          puts s (addresses.Block n i) refl refl ∙ blocks.blocks s i fits from before));
+          (λ i from before. (
+            written (stored_in (at-old s (addresses.Block n i))) (place_in offset i) (part_in offset bytes i),
+            puts s (addresses.Block n i) refl refl ∙ blocks.blocks s i fits from before,
+          ));
     }
       where
         puts : (s : Store) (a : Addr) → is_addr (addresses.Map n low) a ≡ false → is_addr (addresses.Map n high) a ≡ false →

@@ -83,11 +83,7 @@ impl Range {
 }
 
 /// What a block of a file has; None where it is absent, as all blocks are whose map page is.
-fn stored<'d>(
-    draft: &'d Draft<'_>,
-    file: Mapped<'_>,
-    index: u64,
-) -> Result<Option<&'d Bytes>, Halt>
+fn stored<'d>(draft: &'d Draft<'_>, file: Mapped<'_>, index: u64) -> Result<Option<&'d Bytes>, Halt>
     requires mapped { HasMap draft.now file.number file.map.now }
     requires known { has file.map.now.pages (index / 512) ≡ true →
         IsSome (known_at draft.now (Addr.Block file.number index)) }
@@ -149,11 +145,7 @@ fn ask_range(draft: &Draft<'_>, file: Mapped<'_>, range: Range) -> Result<(), Ha
 }
 
 /// The bytes of a range, shared with the block that has them all; None where no block does.
-fn whole_in_one(
-    draft: &Draft<'_>,
-    file: Mapped<'_>,
-    range: Range,
-) -> Result<Option<Bytes>, Halt>
+fn whole_in_one(draft: &Draft<'_>, file: Mapped<'_>, range: Range) -> Result<Option<Bytes>, Halt>
     requires mapped { HasMap draft.now file.number file.map.now }
     requires within { range.offset + range.count ≤ file.map.now.size }
     requires known { KnowsMapped draft.now file.number file.map.now.pages range.offset range.count }
@@ -282,12 +274,7 @@ pub(crate) fn write_range(
 }
 
 /// Writes bytes over the blocks of a range.
-fn write_blocks(
-    draft: &mut Draft<'_>,
-    number: u64,
-    range: Range,
-    data: &[u8],
-) -> Result<(), Halt>
+fn write_blocks(draft: &mut Draft<'_>, number: u64, range: Range, data: &[u8]) -> Result<(), Halt>
     requires alone { MayChange draft.old (Addr.Inode number) }
     requires whole { range.count ≡ length «data».now }
     requires known { KnowsRange draft.old number range.offset range.count }
@@ -298,7 +285,13 @@ fn write_blocks(
     for index in range.first()..range.end() {
         let at = range.start_in(index);
         let from = (index * BLOCK).saturating_sub(range.offset) as usize;
-        write_block(draft, number, index, at, window(data, from, BLOCK_SIZE - at))?;
+        write_block(
+            draft,
+            number,
+            index,
+            at,
+            window(data, from, BLOCK_SIZE - at),
+        )?;
     }
     Ok(())
 }
@@ -324,12 +317,7 @@ fn write_block(
 }
 
 /// What a map page tells once this range is written; None where it stays.
-fn map_after(
-    draft: &Draft<'_>,
-    number: u64,
-    range: Range,
-    page: u64,
-) -> Result<Option<Bits>, Halt>
+fn map_after(draft: &Draft<'_>, number: u64, range: Range, page: u64) -> Result<Option<Bits>, Halt>
     requires known { KnowsRange draft.now number range.offset range.count }
     requires behind { first_of range.offset < page * 512 + 512 }
     requires before { page * 512 < end_of range.offset range.count }

@@ -64,7 +64,14 @@ pub(crate) fn cut_off(
     let mut left = pages.below(first);
     for page in first..end {
         if pages.has(page) {
-            left = cut_next(draft, number, page, maps[(page - first) as usize], size, left)?;
+            left = cut_next(
+                draft,
+                number,
+                page,
+                maps[(page - first) as usize],
+                size,
+                left,
+            )?;
         }
     }
     Ok(left)
@@ -179,7 +186,14 @@ fn ask_blocks(
 {
     let mut asking = Asking::new(draft.alloc());
     for page in first..end {
-        ask_page(draft, number, page, maps[(page - first) as usize], from, &mut asking)?;
+        ask_page(
+            draft,
+            number,
+            page,
+            maps[(page - first) as usize],
+            from,
+            &mut asking,
+        )?;
     }
     asking.ask()
 }

@@ -37,7 +37,13 @@ returns c =
     let end = end_of c.args.range.offset c.args.range.count in
     let n = c.args.file.number in
     let whole : c.loop-page.page ≡ (end - 1) / 512 + 1 =
-    omega (arith, c.first_page-page.ensures, c.last_page-page-end.ensures, c.loop-page-test.false, c.loop-page.auto.page-end,
-    c.args.range.some) in
+    omega (
+      arith,
+      c.first_page-page.ensures,
+      c.last_page-page-end.ensures,
+      c.loop-page-test.false,
+      c.loop-page.auto.page-end,
+      c.args.range.some,
+    ) in
     subst (λ e. AsksFor c.args.draft.now (λ a. IsBlockIn n first end a ⊎ IsMapIn n (first / 512) e a)
     (IsBlockIn n first end) c.args.asking.now.asked.items c.loop-page.asking.asked.items) whole c.loop-page.invariant
