@@ -1,6 +1,8 @@
 -- Files that are cut off: page by page the blocks behind the place go, and the maps tell of those that stay.
-use Rattle.std.proofs.Common.{◌≡◌, ◌≢◌, ◌+◌, ◌-◌, ◌*◌, ◌/◌, ◌%◌, ◌<◌, ◌≤◌, ◌==◌, ◌&&◌, ◌||◌, ◌⊎◌, ℕ, true, false, Bool, max, min, not, nat_lt}
-use Rattle.std.proofs.Common.{List, [], ◌∷◌, ◌++◌, Option, Some, None, IsSome, inl, inr, refl, sym, ◌∙◌, ap, subst, arith}
+use Rattle.std.proofs.Common.{◌≡◌, ◌≢◌, ◌+◌, ◌-◌, ◌*◌, ◌/◌, ◌%◌, ◌<◌, ◌≤◌, ◌==◌, ◌&&◌, ◌||◌, ◌⊎◌, ℕ, true, false}
+use Rattle.std.proofs.Common.{Bool, max, min, not, nat_lt}
+use Rattle.std.proofs.Common.{List, [], ◌∷◌, ◌++◌, Option, Some, None, IsSome, inl, inr, refl, sym, ◌∙◌, ap, subst}
+use Rattle.std.proofs.Common.{arith}
 use Rattle.std.proofs.Common.{cond, length, take, option_map, slice_index_or}
 use Rattle.std.proofs.lemmas.Bool.{and_parts, cases_lt, le-ltb, lt-ltb, ltb-false, ltb-true}
 use Rattle.std.proofs.Common.{Result, Ok, Err, get_or, length-append}
@@ -20,7 +22,8 @@ use Rattle.nfs_objects.specs.Calls.{IsAmong}
 use Rattle.nfs_objects.specs.FileMaps.{block_size}
 use Rattle.nfs_objects.specs.Fits.{Fits}
 use Rattle.nfs_objects.specs.SameLaws.{bits_decides}
-use Rattle.nfs_objects.specs.Stands.{HasBlocks, IsMapped, IsStored, Kept, Represents, block_of, map_of, stored_in, stored_map}
+use Rattle.nfs_objects.specs.Stands.{HasBlocks, IsMapped, IsStored, Kept, Represents, block_of, map_of, stored_in}
+use Rattle.nfs_objects.specs.Stands.{stored_map}
 use Rattle.nfs_objects.specs.Store.{Store, with_writes}
 use Rattle.nfs_objects.specs.Unfiled.{Lays}
 use Rattle.nfs_objects.specs.Values.{DraftValue, is_addr, known_at, with_written}
@@ -30,14 +33,17 @@ use Rattle.nfs_objects.specs.declared.bits.Bits.{Bits}
 use Rattle.nfs_objects.specs.declared.object.Object.{Object}
 use Rattle.nfs_objects.specs.declared.object.Object.TheVariants as objects
 use Rattle.nfs_inodes.proofs.Reading.{has-blocks, no-map, no-page, page-stands, told-stands, was-there}
-use Rattle.nfs_inodes.proofs.Wishing.{asks-as, asks-both, asks-more, differs, not-same, other-block, other-map, same-number}
+use Rattle.nfs_inodes.proofs.Wishing.{asks-as, asks-both, asks-more, differs, not-same, other-block, other-map}
+use Rattle.nfs_inodes.proofs.Wishing.{same-number}
 use Rattle.nfs_inodes.proofs.Written.{leaves-as, leaves-both, leaves-none, leaves-one, stands-here}
 use Rattle.nfs_objects.specs.declared.modes.Mode.{Mode}
 use Rattle.nfs_inodes.specs.Asking.{AsksFor, with_wish}
 use Rattle.nfs_inodes.specs.Blocks.{HasPages}
-use Rattle.nfs_inodes.specs.Cuts.{CutsBlock, CutsBlocks, CutsNext, CutsPage, EndsAt, IsBehind, IsCleared, IsCutAt, IsCutTo}
+use Rattle.nfs_inodes.specs.Cuts.{CutsBlock, CutsBlocks, CutsNext, CutsPage, EndsAt, IsBehind, IsCleared, IsCutAt}
+use Rattle.nfs_inodes.specs.Cuts.{IsCutTo}
 use Rattle.nfs_inodes.specs.Cuts.{IsResized}
-use Rattle.nfs_inodes.specs.Cuts.{IsPageIn, IsTold, IsToldIn, KnowsMaps, KnowsTold, ShowsMap, ShowsMaps, cut_to, told_at}
+use Rattle.nfs_inodes.specs.Cuts.{IsPageIn, IsTold, IsToldIn, KnowsMaps, KnowsTold, ShowsMap, ShowsMaps, cut_to}
+use Rattle.nfs_inodes.specs.Cuts.{told_at}
 use Rattle.nfs_inodes.specs.Stops.{StillStands, StopsAt}
 
 -- ---- which map pages may be asked for
@@ -112,7 +118,8 @@ module _ (d : DraftValue) (file : ℕ) (pages : Bits) (first : ℕ) (mid : List 
       asks-as d (λ b. Pages end b ⊎ (addresses.Map file end ≡ b)) (Pages (end + 1))
       (λ b. Pages end b ⊎ (addresses.Map file end ≡ b)) (Pages (end + 1)) [] new
       (pages-wider file pages first end within there) (pages-last file pages first end)
-      (asks-more d (Pages end) (Pages end) (addresses.Map file end) [] mid asks (pages-apart file pages first end) new is)
+      (asks-more d (Pages end) (Pages end) (addresses.Map file end) [] mid asks (pages-apart file pages first end) new
+      is)
 
   pub pages-skip : (end : ℕ) → has pages end ≡ false → AsksFor d (Pages end) (Pages end) [] mid →
       AsksFor d (Pages (end + 1)) (Pages (end + 1)) [] mid
@@ -143,7 +150,8 @@ module _ (file page : ℕ) (bits : Bits) (from : ℕ) where
       subst (λ c. is_addr c (addresses.Block file (page * 512 + places)) ≡ false) is.is
       (other-block file (page * 512 + is.place) (page * 512 + places) (λ e. absurd (omega (arith, is.below, e))))
 
-  pub told-less : (places : ℕ) (b : Addr) → IsTold file page bits from places b → IsTold file page bits from (places + 1) b
+  pub told-less : (places : ℕ) (b : Addr) → IsTold file page bits from places b → IsTold file page bits from
+      (places + 1) b
   told-less places b is =
       record { place = is.place; below = omega (arith, is.below); told = is.told; behind = is.behind; is = is.is }
 
@@ -161,7 +169,8 @@ module _ (file page : ℕ) (bits : Bits) (from : ℕ) where
       by : (t : Bool) → (is.place == places) ≡ t →
           IsTold file page bits from places b ⊎ (addresses.Block file (page * 512 + places) ≡ b)
       by true same =
-          inr (ap (λ p. addresses.Block file (page * 512 + p)) (sym ((unsigned_Decides is.place places).0 same)) ∙ is.is)
+          inr (ap (λ p. addresses.Block file (page * 512 + p)) (sym ((unsigned_Decides is.place places).0 same)) ∙
+          is.is)
       by false other =
           let apart = differs is.place places other in inl (record {
             place = is.place;
@@ -198,11 +207,13 @@ module _ (d : DraftValue) (file page : ℕ) (bits : Bits) (from : ℕ) (old mid 
   Told = IsTold file page bits from
 
   pub told-more : (places : ℕ) (new : List (Addr × Mode)) → has bits places ≡ true → from ≤ page * 512 + places →
-      new ≡ with_wish d (addresses.Block file (page * 512 + places)) mid → AsksFor d (Told places) (Told places) old mid →
+      new ≡ with_wish d (addresses.Block file (page * 512 + places)) mid → AsksFor d (Told places) (Told places) old
+      mid →
       AsksFor d (Told (places + 1)) (Told (places + 1)) old new
   told-more places new told behind is asks =
       let a : Addr = addresses.Block file (page * 512 + places) in
-      asks-as d (λ b. Told places b ⊎ (a ≡ b)) (Told (places + 1)) (λ b. Told places b ⊎ (a ≡ b)) (Told (places + 1)) old new
+      asks-as d (λ b. Told places b ⊎ (a ≡ b)) (Told (places + 1)) (λ b. Told places b ⊎ (a ≡ b)) (Told (places + 1))
+      old new
       (told-wider file page bits from places told behind) (told-last file page bits from places)
       (asks-more d (Told places) (Told places) a old mid asks (told-apart file page bits from places) new is)
 
@@ -220,7 +231,8 @@ module _ (file first : ℕ) (maps : List Bits) (from : ℕ) where
   pub in-apart : (end : ℕ) (b c : Addr) → IsToldIn file first maps from end b →
       IsTold file end (told_at maps first end) from 512 c → is_addr b c ≡ false
   in-apart end b c is other =
-      subst (λ x. is_addr x c ≡ false) is.told.is (subst (λ y. is_addr (addresses.Block file (is.page * 512 + is.told.place)) y ≡ false)
+      subst (λ x. is_addr x c ≡ false) is.told.is (subst (λ y. is_addr
+      (addresses.Block file (is.page * 512 + is.told.place)) y ≡ false)
       other.is (other-block file (is.page * 512 + is.told.place) (end * 512 + other.place)
       (λ e. (let p = is.before in let q = is.told.below in let r = other.below in absurd (omega (arith, p, q, r, e))))))
 
@@ -238,7 +250,8 @@ module _ (file first : ℕ) (maps : List Bits) (from : ℕ) where
       by : (t : Bool) → (is.page == end) ≡ t →
           IsToldIn file first maps from end b ⊎ IsTold file end (told_at maps first end) from 512 b
       by true same =
-          inr (subst (λ p. IsTold file p (told_at maps first p) from 512 b) ((unsigned_Decides is.page end).0 same) is.told)
+          inr (subst (λ p. IsTold file p (told_at maps first p) from 512 b) ((unsigned_Decides is.page end).0 same)
+          is.told)
       by false other =
           let apart = differs is.page end other in
           inl (record { page = is.page; behind = is.behind; before = omega (arith, is.before, apart); told = is.told })
@@ -246,7 +259,8 @@ module _ (file first : ℕ) (maps : List Bits) (from : ℕ) where
 -- one page more
 pub in-more : (d : DraftValue) (file first : ℕ) (maps : List Bits) (from page : ℕ) (mid new : List (Addr × Mode)) →
     first ≤ page → AsksFor d (IsToldIn file first maps from page) (IsToldIn file first maps from page) [] mid →
-    AsksFor d (IsTold file page (told_at maps first page) from 512) (IsTold file page (told_at maps first page) from 512) mid
+    AsksFor d (IsTold file page (told_at maps first page) from 512)
+    (IsTold file page (told_at maps first page) from 512) mid
     new → AsksFor d (IsToldIn file first maps from (page + 1)) (IsToldIn file first maps from (page + 1)) [] new
 in-more d file first maps from page mid new within before asks =
     asks-as d (λ b. In page b ⊎ Here b) (In (page + 1)) (λ b. In page b ⊎ Here b) (In (page + 1)) [] new
@@ -262,11 +276,18 @@ in-more d file first maps from page mid new within before asks =
 pub in-less : (file first : ℕ) (maps : List Bits) (from page end : ℕ) → page ≤ max first end → (a : Addr) →
     IsToldIn file first maps from page a → IsToldIn file first maps from end a
 in-less file first maps from page end within a is =
-    record { page = is.page; behind = is.behind; before = (let p = is.before in let q = is.behind in omega (arith, p, q, within)); told = is.told }
+    record {
+      page = is.page;
+      behind = is.behind;
+      before = (let p = is.before in let q = is.behind in omega
+          (arith, p, q, within));
+      told = is.told;
+    }
 
 -- each of them stands in every store that the draft's view fits
 pub told-there : (d : DraftValue) (file first end : ℕ) (maps : List Bits) (from : ℕ) → ShowsMaps d file first end maps →
-    StillStands d → (a : Addr) → IsToldIn file first maps from end a → known_at d a ≡ None → IsAmong [] a ⊎ IsThere d.view a
+    StillStands d → (a : Addr) → IsToldIn file first maps from end a → known_at d a ≡ None → IsAmong [] a ⊎ IsThere
+    d.view a
 told-there d file first end maps from shows still a is unknown =
     inr (was-there d a still unknown (λ s k fits stands. subst (λ b. IsSome ((with_writes s d.writes).at b)) is.told.is
     (told-stands d file is.page (told_at maps first is.page) is.told.place is.told.below
@@ -322,7 +343,8 @@ cut-same d n i left found some known few = record {
   lays = lays-none n d;
   leaves = leaves-none d (λ a. is_addr (addresses.Block n i) a ≡ false);
   cut = λ s was fits there. there
-      ∙ ap (λ b. Some (objects.Block b)) (sym (take_all left was (few was (found-block d s n i found was fits known there))))
+      ∙ ap (λ b. Some (objects.Block b)) (sym (take_all left was
+      (few was (found-block d s n i found was fits known there))))
       ∙ sym (ap (λ b. cond b None (Some (objects.Block (take left was)))) some);
 }
 
@@ -351,9 +373,11 @@ module _ (old : DraftValue) (n page : ℕ) (bits : Bits) (size : ℕ) where
         CutsBlocks old mid n page bits size (places + 1)
     cuts-skip none = record {
       lays = so.lays;
-      leaves = leaves-as old mid (λ a. IsTold n page bits from (places + 1) a → ⊥) (λ a. IsTold n page bits from places a → ⊥)
+      leaves = leaves-as old mid (λ a. IsTold n page bits from (places + 1) a → ⊥)
+          (λ a. IsTold n page bits from places a → ⊥)
           so.leaves (λ a none told. none (told-less n page bits from places a told));
-      cut = λ s place bytes fits below told behind there. by s place bytes fits below told behind there (place == places) refl;
+      cut = λ s place bytes fits below told behind there. by s place bytes fits below told behind there
+          (place == places) refl;
     }
       where
         by : (s : Store) (place : ℕ) (bytes : List ℕ) → Fits old.view s → place < places + 1 → has bits place ≡ true →
@@ -378,9 +402,11 @@ module _ (old : DraftValue) (n page : ℕ) (bits : Bits) (size : ℕ) where
     cuts-next new left told-here behind-here is next = record {
       lays = lays-both n old mid new so.lays next.lays;
       leaves = leaves-both old mid new (λ a. IsTold n page bits from (places + 1) a → ⊥)
-          (λ a. IsTold n page bits from places a → ⊥) (λ a. is_addr (addresses.Block n here) a ≡ false) so.leaves next.leaves
+          (λ a. IsTold n page bits from places a → ⊥) (λ a. is_addr (addresses.Block n here) a ≡ false) so.leaves
+          next.leaves
           (λ a none. (λ told. none (told-less n page bits from places a told), away a none));
-      cut = λ s place bytes fits below told behind there. by s place bytes fits below told behind there (place == places) refl;
+      cut = λ s place bytes fits below told behind there. by s place bytes fits below told behind there
+          (place == places) refl;
     }
       where
         here : ℕ
@@ -409,7 +435,8 @@ module _ (old : DraftValue) (n page : ℕ) (bits : Bits) (size : ℕ) where
             let e = (unsigned_Decides place places).0 same in
             let before : Fits mid.view s = subst (λ v. Fits v s) (sym so.lays.view) fits in
             let stood : (with_writes s mid.writes).at (addresses.Block n here) ≡ Some (objects.Block bytes) =
-            so.leaves.stands s (addresses.Block n here) (λ x. (let t = told-apart n page bits from places (addresses.Block n here) x in
+            so.leaves.stands s (addresses.Block n here) (λ x.
+            (let t = told-apart n page bits from places (addresses.Block n here) x in
             let own = is_addr-refl (addresses.Block n here) in let no : true ≡ false = sym own ∙ t in cc))
             ∙ ap (λ p. (with_writes s old.writes).at (addresses.Block n (page * 512 + p))) (sym e) ∙ there in
             ap (λ p. (with_writes s new.writes).at (addresses.Block n (page * 512 + p))) e
@@ -451,10 +478,12 @@ page-cut old mid new n page bits left size count none so is tells gone put test 
           (lays-map n mid page (stored_map left));
       leaves = leaves-both old mid (with_written mid (addresses.Map n page) (stored_map left))
           (λ a. (IsTold n page bits (size / block_size) 512 a → ⊥) × (is_addr (addresses.Map n page) a ≡ false))
-          (λ a. IsTold n page bits (size / block_size) 512 a → ⊥) (λ a. is_addr (addresses.Map n page) a ≡ false) so.leaves
+          (λ a. IsTold n page bits (size / block_size) 512 a → ⊥) (λ a. is_addr (addresses.Map n page) a ≡ false)
+          so.leaves
           (leaves-one mid (addresses.Map n page) (stored_map left)) (λ a both. both);
       cut = λ s place bytes fits below told behind there.
-          (leaves-one mid (addresses.Map n page) (stored_map left)).stands s (addresses.Block n (page * 512 + place)) refl
+          (leaves-one mid (addresses.Map n page) (stored_map left)).stands s (addresses.Block n (page * 512 + place))
+          refl
           ∙ so.cut s place bytes fits below told behind there;
       left = left;
       tells = λ p. tells p ∙ ap (λ c. has bits p && nat_lt p c) is ∙ ap (λ b. has bits p && b) (count-left size page p);
@@ -464,13 +493,15 @@ page-cut old mid new n page bits left size count none so is tells gone put test 
     })
 
 -- ---- all pages, one after another
-same-numbers : (page place : ℕ) → place < 512 → ((page * 512 + place) / 512 ≡ page) × ((page * 512 + place) % 512 ≡ place)
+same-numbers : (page place : ℕ) → place < 512 → ((page * 512 + place) / 512 ≡ page) ×
+    ((page * 512 + place) % 512 ≡ place)
 same-numbers page place below = (omega (arith, below), omega (arith, below))
 
 cut-bytes : (left : ℕ) (bytes : List ℕ) → stored_in (cut_to left bytes) ≡ take left bytes
 cut-bytes left bytes = by (left == 0) refl
   where
-    by : (b : Bool) → (left == 0) ≡ b → stored_in (cond b None (Some (objects.Block (take left bytes)))) ≡ take left bytes
+    by : (b : Bool) → (left == 0) ≡ b → stored_in (cond b None (Some (objects.Block (take left bytes)))) ≡ take left
+        bytes
     by true zero = ap (λ l. take l bytes) (sym ((unsigned_Decides left 0).0 zero))
     by false some = refl
 
@@ -485,7 +516,8 @@ cut-stands left bytes false some none =
 
 left-stands : (left : Bits) (stays : Bool) → stays ≡ not (same_bits left no_bits) → (o : Option Object) →
     o ≡ stored_map left → IsMapped stays o
-left-stands left stays is o at = subst (λ b. IsMapped b o) (sym is) (subst (IsMapped (not (same_bits left no_bits))) (sym at)
+left-stands left stays is o at = subst (λ b. IsMapped b o) (sym is)
+    (subst (IsMapped (not (same_bits left no_bits))) (sym at)
     (by (same_bits left no_bits)))
   where
     by : (b : Bool) → IsMapped (not b) (cond b None (Some (objects.Map left)))
@@ -517,8 +549,10 @@ module _ (old : DraftValue) (n : ℕ) (pages : Bits) (size : ℕ) (shows : HasPa
         subst (λ b. IsMapped b (at-old s (addresses.Map n p)))
         (sym (is p ∙ ap (λ b. has pages p && b) (lt-ltb p (size / block_size / 512) before) ∙ and_true (has pages p)))
         ((has-blocks old n pages shows s k fits stands).maps p);
-    later = λ p behind. is p ∙ ap (λ b. has pages p && b) (le-ltb p (size / block_size / 512) behind) ∙ and_false (has pages p);
-    gone = λ zero p. is p ∙ ap (λ b. has pages p && b) (le-ltb p (size / block_size / 512) (omega (arith, zero))) ∙ and_false (has pages p);
+    later = λ p behind. is p ∙ ap (λ b. has pages p && b) (le-ltb p (size / block_size / 512) behind) ∙ and_false
+        (has pages p);
+    gone = λ zero p. is p ∙ ap (λ b. has pages p && b) (le-ltb p (size / block_size / 512) (omega (arith, zero))) ∙
+        and_false (has pages p);
   }
     where
       and_true : (b : Bool) → (b && true) ≡ b
@@ -549,7 +583,8 @@ module _ (old : DraftValue) (n : ℕ) (pages : Bits) (size : ℕ) (shows : HasPa
     pub map-same : (s : Store) (p : ℕ) → page ≤ p → at-mid s (addresses.Map n p) ≡ at-old s (addresses.Map n p)
     map-same s p behind = so.leaves.stands s (addresses.Map n p) (map-behind p behind)
 
-    pub block-same : (s : Store) (i : ℕ) → page * 512 ≤ i → at-mid s (addresses.Block n i) ≡ at-old s (addresses.Block n i)
+    pub block-same : (s : Store) (i : ℕ) → page * 512 ≤ i → at-mid s (addresses.Block n i) ≡ at-old s
+        (addresses.Block n i)
     block-same s i behind = so.leaves.stands s (addresses.Block n i) (block-behind i behind)
 
     pub map-known : known_at mid (addresses.Map n page) ≡ known_at old (addresses.Map n page)
@@ -631,7 +666,8 @@ module _ (old : DraftValue) (n : ℕ) (pages : Bits) (size : ℕ) (shows : HasPa
 
       -- a block of another page, of none that the map tells of, or before the end
       not-page : (i : ℕ) → i < page * 512 → IsTold n page bits (size / block_size) 512 (addresses.Block n i) → ⊥
-      not-page i less x = (let e = x.is in let same : page * 512 + x.place ≡ i = block-number e in absurd (omega (arith, less, same)))
+      not-page i less x = (let e = x.is in let same : page * 512 + x.place ≡ i = block-number e in absurd
+          (omega (arith, less, same)))
         where
           block-number : {a b : ℕ} → addresses.Block n a ≡ addresses.Block n b → a ≡ b
           block-number e = cc
@@ -653,7 +689,8 @@ module _ (old : DraftValue) (n : ℕ) (pages : Bits) (size : ℕ) (shows : HasPa
       -- of a block of the page: what stands there, and what has
       pub record IsLeft (s : Store) (place : ℕ) : Type 0 where
         pub bytes : stored_in (at-new s (addresses.Block n (page * 512 + place))) ≡
-            take (size - (page * 512 + place) * block_size) (stored_in (at-old s (addresses.Block n (page * 512 + place))))
+            take (size - (page * 512 + place) * block_size) (stored_in
+            (at-old s (addresses.Block n (page * 512 + place))))
             ⊎ (page * 512 + place < (size / block_size))
         pub stands : IsStored (has cut.left place) (at-new s (addresses.Block n (page * 512 + place)))
 
@@ -664,7 +701,8 @@ module _ (old : DraftValue) (n : ℕ) (pages : Bits) (size : ℕ) (shows : HasPa
         fits-mid : Fits mid.view s
         fits-mid = subst (λ v. Fits v s) (sym so.lays.view) fits
 
-        block-was : (place : ℕ) → place < 512 → IsStored (has bits place) (at-old s (addresses.Block n (page * 512 + place)))
+        block-was : (place : ℕ) → place < 512 → IsStored (has bits place)
+            (at-old s (addresses.Block n (page * 512 + place)))
         block-was place below =
             let numbers = same-numbers page place below in
             subst (λ b. IsStored b (at-old s (addresses.Block n (page * 512 + place))))
@@ -719,7 +757,8 @@ module _ (old : DraftValue) (n : ℕ) (pages : Bits) (size : ℕ) (shows : HasPa
       cut-step = record {
         lays = lays-both n old mid new so.lays cut.lays;
         leaves = leaves-both old mid new (IsBehind n (page + 1)) (IsBehind n page)
-            (λ a. (IsTold n page bits (size / block_size) 512 a → ⊥) × (is_addr (addresses.Map n page) a ≡ false)) so.leaves cut.leaves
+            (λ a. (IsTold n page bits (size / block_size) 512 a → ⊥) × (is_addr (addresses.Map n page) a ≡ false))
+            so.leaves cut.leaves
             (λ a is. (behind-less a is, (λ x. away a is x, is.map page (omega arith))));
         front = λ s i before. block-away s i (λ x. front-told i before x) ∙ so.front s i before;
         blocks = λ s k i fits stands behind before. elim (cases_lt i (page * 512)) [
@@ -756,7 +795,8 @@ module _ (old : DraftValue) (n : ℕ) (pages : Bits) (size : ℕ) (shows : HasPa
           | inl less ↦
               let apart : p ≢ page = λ e. absurd (omega (arith, less, e)) in
               subst (λ o. IsMapped (has after p) o) (sym (map-away s p apart))
-              (subst (λ b. IsMapped b (at-mid s (addresses.Map n p))) (sym (kept p apart)) (so.maps s k p fits stands less))
+              (subst (λ b. IsMapped b (at-mid s (addresses.Map n p))) (sym (kept p apart))
+              (so.maps s k p fits stands less))
           | inr here ↦
               let same : page ≡ p = omega (arith, here, before) in
               subst (λ q. IsMapped (has after q) (at-new s (addresses.Map n q))) same
@@ -768,7 +808,8 @@ module _ (old : DraftValue) (n : ℕ) (pages : Bits) (size : ℕ) (shows : HasPa
       }
         where
           kept : (p : ℕ) → p ≢ page → has after p ≡ has left p
-          kept p apart = next.pages p ∙ ap (λ b. has left p || (next.stays && b)) (not-same p page apart) ∙ off next.stays (has left p)
+          kept p apart = next.pages p ∙ ap (λ b. has left p || (next.stays && b)) (not-same p page apart) ∙ off
+              next.stays (has left p)
             where
               off : (a b : Bool) → (b || (a && false)) ≡ b
               off true true = refl
@@ -794,9 +835,11 @@ module _ (old : DraftValue) (n : ℕ) (pages : Bits) (size : ℕ) (shows : HasPa
           away a is x =
               let own = is_addr-refl (addresses.Block n (page * 512 + x.place)) in
               let other = is.block (page * 512 + x.place) (let b = x.below in omega (arith, b)) in
-              let no : true ≡ false = sym own ∙ ap (is_addr (addresses.Block n (page * 512 + x.place))) x.is ∙ other in cc
+              let no : true ≡ false = sym own ∙ ap (is_addr (addresses.Block n (page * 512 + x.place))) x.is ∙ other
+              in cc
 
-          front-told : (i : ℕ) → i < (size / block_size) → IsTold n page bits (size / block_size) 512 (addresses.Block n i) → ⊥
+          front-told : (i : ℕ) → i < (size / block_size) → IsTold n page bits (size / block_size) 512
+              (addresses.Block n i) → ⊥
           front-told i before x = (let e = x.is in let same : page * 512 + x.place ≡ i = block-number e in
               let b = x.behind in absurd (omega (arith, before, same, b)))
             where
@@ -823,7 +866,8 @@ module _ (old : DraftValue) (n : ℕ) (pages : Bits) (size : ℕ) (shows : HasPa
           | inl less ↦ so.maps s k p fits stands less
           | inr here ↦ subst (λ b. IsMapped b (at-mid s (addresses.Map n p))) (sym (so.later p here))
               (map-same s p here
-              ∙ no-map (with_writes s old.writes) n pages (has-blocks old n pages shows s k fits stands) p (none p here))
+              ∙ no-map (with_writes s old.writes) n pages (has-blocks old n pages shows s k fits stands) p
+              (none p here))
         ];
         blocks = λ i. elim (cases_lt i (page * 512)) [
           | inl less ↦ so.stored s k i fits stands less
@@ -865,7 +909,8 @@ module _ (old new : DraftValue) (n before size : ℕ) (left : Bits) where
     inodes = cut.inodes;
     content = λ s k bytes fits stands is.
         content-resized before (λ b. stored_in ((with_writes s old.writes).at (addresses.Block n b))) bytes is size
-        (λ b. stored_in ((with_writes s new.writes).at (addresses.Block n b))) (λ i. elim (cases_lt i (size / block_size)) [
+        (λ b. stored_in ((with_writes s new.writes).at (addresses.Block n b)))
+        (λ i. elim (cases_lt i (size / block_size)) [
           | inl less ↦
               let short = is.short i in
               let part = part-length bytes i in
@@ -878,7 +923,8 @@ module _ (old new : DraftValue) (n before size : ℕ) (left : Bits) where
   }
 
 pub smaller-result : (old new : DraftValue) (n before size : ℕ) (r : Result Bits Halt) →
-    MatchResult r (IsCutAt old new n size) (StopsAt old []) → MatchResult r (IsResized old new n before size) (StopsAt old [])
+    MatchResult r (IsCutAt old new n size) (StopsAt old []) → MatchResult r (IsResized old new n before size)
+    (StopsAt old [])
 smaller-result old new n before size (Ok left) cut = smaller old new n before size left cut
 smaller-result old new n before size (Err halt) stops = stops
 
@@ -918,7 +964,8 @@ pub behind-same : (pages : Bits) (page end : ℕ) → has pages page ≡ false �
 behind-same pages page end none within so = (
   omega (arith, within),
   λ n there below. elim (n == page) as (λ b. (n == page) ≡ b → n < end) [
-    | true ↦ λ same. absurd (let no : true ≡ false = sym there ∙ ap (has pages) ((unsigned_Decides n page).0 same) ∙ none in cc)
+    | true ↦ λ same. absurd (let no : true ≡ false = sym there ∙ ap (has pages) ((unsigned_Decides n page).0 same) ∙
+        none in cc)
     | false ↦ λ other. so n there (let apart = differs n page other in omega (arith, below, apart))
   ] refl,
 )
@@ -931,7 +978,8 @@ maps-none d n first maps none = record {
 }
 
 pub maps-next : (d : DraftValue) (n first page : ℕ) (maps new : List Bits) (bits : Bits) → first ≤ page →
-    ShowsMaps d n first page maps → ShowsMap d n page bits → new ≡ maps ++ bits ∷ [] → ShowsMaps d n first (page + 1) new
+    ShowsMaps d n first page maps → ShowsMap d n page bits → new ≡ maps ++ bits ∷ [] → ShowsMaps d n first (page + 1)
+    new
 maps-next d n first page maps new bits within so here is = record {
   counted = ap length is ∙ length-append maps (bits ∷ []) ∙ (let c = so.counted in omega (arith, c, within));
   each = λ p behind before. elim (p == page) as (λ b. (p == page) ≡ b → ShowsMap d n p (told_at new first p)) [
@@ -950,7 +998,8 @@ maps-next d n first page maps new bits within so here is = record {
   ] refl;
 }
 
-pub maps-end : (d : DraftValue) (n first page end : ℕ) (maps : List Bits) → first ≤ page → end ≤ page → page ≤ max first end →
+pub maps-end : (d : DraftValue) (n first page end : ℕ) (maps : List Bits) → first ≤ page → end ≤ page → page ≤ max
+    first end →
     ShowsMaps d n first page maps → ShowsMaps d n first end maps
 maps-end d n first page end maps within past most so = record {
   counted = so.counted ∙ omega (arith, within, past, most);
@@ -963,7 +1012,8 @@ pub in-end : (d : DraftValue) (file first : ℕ) (maps : List Bits) (from page e
     AsksFor d (IsToldIn file first maps from page) (IsToldIn file first maps from page) [] asked →
     AsksFor d (IsToldIn file first maps from end) (IsToldIn file first maps from end) [] asked
 in-end d file first maps from page end asked most past asks =
-    asks-as d (IsToldIn file first maps from page) (IsToldIn file first maps from end) (IsToldIn file first maps from page)
+    asks-as d (IsToldIn file first maps from page) (IsToldIn file first maps from end)
+    (IsToldIn file first maps from page)
     (IsToldIn file first maps from end) [] asked (in-less file first maps from page end most)
     (λ a is. record {
       page = is.page;
@@ -973,7 +1023,8 @@ in-end d file first maps from page end asked most past asks =
     }) asks
 
 -- what halts a draft whose blocks and maps were written halts the one before
-pub laid-stops : (n : ℕ) (d mid : DraftValue) (named : List Addr) (halt : Halt) → Lays n d mid → StopsAt mid named halt →
+pub laid-stops : (n : ℕ) (d mid : DraftValue) (named : List Addr) (halt : Halt) → Lays n d mid → StopsAt mid named
+    halt →
     StopsAt d named halt
 laid-stops n d mid named halt lays stops =
     subst (λ view. StopsCall d.modes named 0 view halt) lays.view

@@ -74,7 +74,8 @@ module _ (d laid : DraftValue) (n : ℕ) (i : Inode) (has : HasInode d n (Some i
         ∙ known-stands d s (addresses.Inode n) (Some (objects.Inode i)) fits (known-inode d n i has) in
         let lives : lives_in k.state.exports i.export ≡ true = shows-export d n i has s k fits stands in
         let has-content : HasContent t n (change bytes) j =
-        λ m is. subst (λ (x : FileMapValue). IsContent x.size (λ b. stored_in (t.at (addresses.Block n b))) (change bytes))
+        λ m is. subst (λ (x : FileMapValue). IsContent x.size (λ b. stored_in (t.at (addresses.Block n b)))
+        (change bytes))
         (let e : after ≡ m = cc in e) (content s k fits stands) in
         let put = put-stands t k n j (change bytes) but (blocks s k fits stands) has-content
         (but.objects.given n i at) fitting lives in
@@ -138,12 +139,14 @@ module _ (d mid laid : DraftValue) (n : ℕ) (i : Inode) (map after : FileMapVal
       (bytes_changed now n change) (λ s k stand represents.
       let bytes : List ℕ = bytes_at k.state n in
       let file : Living = living_of_inode (change bytes) put in
-      let lives : get k.state.objects n ≡ Some (living_of_inode bytes i) = lives-there d n (Some i) has s k stand represents in
+      let lives : get k.state.objects n ≡ Some (living_of_inode bytes i) = lives-there d n (Some i) has s k stand
+      represents in
       let changed = with-bytes i map after bytes now change was in
       let length-is : length (change bytes) ≡ after.size =
       (content s (counted n share.export share.usage uses k) (subst (λ v. Fits v s) (sym counts.view) stand)
       (counts.turns s k stand represents)).counted in
-      changed-is (counted n share.export share.usage uses k) n (k.links n) (with_bytes now change) (living_of_inode bytes i)
+      changed-is (counted n share.export share.usage uses k) n (k.links n) (with_bytes now change)
+      (living_of_inode bytes i)
       file lives changed
       ∙ ap (λ u. record (with_living k n file (k.links n) (k.parents n)) { usage = u })
       (same-shares n k.usage (in_export share.export share.usage) (in_export share.export uses)
@@ -154,7 +157,8 @@ module _ (d mid laid : DraftValue) (n : ℕ) (i : Inode) (map after : FileMapVal
       ∙ ap (λ p. shares_of p e) (sym (put-there k.state n file))))
       ∙ ap (λ (q : Kept). counted_anew n (get k.state.objects n) q)
       (sym (changed-is k n (k.links n) (with_bytes now change) (living_of_inode bytes i) file lives changed)))
-      (turns-both d mid new (counted n share.export share.usage uses) (λ k. changed_at k n (with_bytes now change)) counts
+      (turns-both d mid new (counted n share.export share.usage uses) (λ k. changed_at k n (with_bytes now change))
+      counts
       (subst (λ (x : DraftValue). Turns mid x (λ k. changed_at k n (with_bytes now change)))
       (sym (put-is ∙ ap (λ x. with_written laid (addresses.Inode n) (Some (objects.Inode x))) made))
       (file-turns mid laid n i (has-kept d mid n (Some i) keeps has) lays map after now change was blocks content
@@ -170,7 +174,8 @@ file-map d mid n i map has keeps = record {
 }
 
 pub laid-generation : (d mid laid : DraftValue) (n : ℕ) (i : Inode) (generation : ℕ) → HasInode d n (Some i) →
-    KeepsInodes d mid → known_at laid (addresses.Inode n) ≡ known_at mid (addresses.Inode n) → generation ≡ i.generation →
+    KeepsInodes d mid → known_at laid (addresses.Inode n) ≡ known_at mid (addresses.Inode n) → generation ≡
+    i.generation →
     MayGive laid n generation
 laid-generation d mid laid n i generation has keeps laid-is is =
     inl (i, laid-is ∙ keeps.inodes n ∙ known-inode d n i has, sym is)
@@ -194,7 +199,8 @@ put-made i copy j at now made after is when same new =
     })
 
 -- ---- bytes that are written
-pub range-content : (mid laid : DraftValue) (n : ℕ) (map : FileMapValue) (offset size : ℕ) (more : List ℕ) (pages : Bits) →
+pub range-content : (mid laid : DraftValue) (n : ℕ) (map : FileMapValue) (offset size : ℕ) (more : List ℕ)
+    (pages : Bits) →
     HasMap mid n map → WritesRange mid laid n offset more pages → 0 < length more →
     size ≡ max map.size (offset + length more) → (s : Store) (k : Kept) → Fits mid.view s →
     Represents (with_writes s mid.writes) k →
@@ -203,13 +209,15 @@ pub range-content : (mid laid : DraftValue) (n : ℕ) (map : FileMapValue) (offs
 range-content mid laid n map offset size more pages has writes some is s k fits stands =
     subst (λ z. IsContent z (λ b. stored_in ((with_writes s laid.writes).at (addresses.Block n b)))
     (written (bytes_at k.state n) offset more)) (sym is)
-    (content-written map.size (λ b. stored_in ((with_writes s mid.writes).at (addresses.Block n b))) (bytes_at k.state n)
+    (content-written map.size (λ b. stored_in ((with_writes s mid.writes).at (addresses.Block n b)))
+    (bytes_at k.state n)
     (content-there mid n map has s k fits stands) offset more
     (λ b. stored_in ((with_writes s laid.writes).at (addresses.Block n b)))
     (λ i none. ap stored_in (writes.others s i (outside i none)))
     (λ i there. ap stored_in (writes.blocks s i fits (inside i there).0 (inside i there).1)))
   where
-    long : (i : ℕ) → length (window offset more i) ≡ min (block_size - place offset i) (length more - (i * block_size - offset))
+    long : (i : ℕ) → length (window offset more i) ≡ min (block_size - place offset i)
+        (length more - (i * block_size - offset))
     long i = length-take (block_size - place offset i) (drop (i * block_size - offset) more)
         ∙ ap (min (block_size - place offset i)) (length-drop (i * block_size - offset) more)
 

@@ -1,6 +1,7 @@
 -- What a draft shows of the blocks and maps of a file, and what is read of them.
 use Rattle.std.proofs.Common.{◌≡◌, ◌+◌, ◌-◌, ◌*◌, ◌/◌, ◌%◌, ◌<◌, ◌≤◌, ℕ, true, false, Bool, min}
-use Rattle.std.proofs.Common.{List, [], ◌∷◌, ◌++◌, Option, Some, None, IsSome, Result, Ok, Err, inl, inr, refl, sym, ◌∙◌, ap, subst, arith}
+use Rattle.std.proofs.Common.{List, [], ◌∷◌, ◌++◌, Option, Some, None, IsSome, Result, Ok, Err, inl, inr, refl, sym}
+use Rattle.std.proofs.Common.{◌∙◌, ap, subst, arith}
 use Rattle.std.proofs.lemmas.Bool.{cases_lt}
 use Rattle.std.specs.FinMap.{get}
 use Rattle.nfs_wire.specs.declared.replies.ReadData.{ReadData}
@@ -20,7 +21,8 @@ use Rattle.nfs_objects.specs.Bits.{has, no_bits}
 use Rattle.nfs_objects.specs.FileMaps.{FileMapValue, IsContent, block_size, part_at}
 use Rattle.nfs_objects.specs.Fits.{Fits}
 use Rattle.nfs_objects.specs.Knows.{Knows}
-use Rattle.nfs_objects.specs.Stands.{HasBlocks, IsMapped, IsStored, Kept, Represents, block_of, bytes_at, inode_of, map_in, map_of, pages_of}
+use Rattle.nfs_objects.specs.Stands.{HasBlocks, IsMapped, IsStored, Kept, Represents, block_of, bytes_at, inode_of}
+use Rattle.nfs_objects.specs.Stands.{map_in, map_of, pages_of}
 use Rattle.nfs_objects.specs.Stands.{content_of, file_bytes, stored_in, with_file}
 use Rattle.nfs_objects.specs.Store.{Store, with_writes, with_write}
 use Rattle.nfs_objects.specs.Values.{DraftValue, is_addr, known_at, shown_at, written_at}
@@ -117,7 +119,8 @@ module _ (s : Store) (n : ℕ) (pages : Bits) (filed : HasBlocks s n pages) wher
   pub no-page : (i : ℕ) → has pages (i / 512) ≡ false → s.at (addresses.Block n i) ≡ None
   no-page i none = no-block i (ap (λ o. has (map_of o) (i % 512)) (no-map (i / 512) none) ∙ has-none (i % 512))
 
-module _ (d : DraftValue) (n : ℕ) (pages : Bits) (shows : HasPages d n pages) (s : Store) (k : Kept) (fits : Fits d.view s)
+module _ (d : DraftValue) (n : ℕ) (pages : Bits) (shows : HasPages d n pages) (s : Store) (k : Kept)
+    (fits : Fits d.view s)
     (stands : Represents (with_writes s d.writes) k) where
   pub has-blocks : HasBlocks (with_writes s d.writes) n pages
   has-blocks = subst (HasBlocks (with_writes s d.writes) n) (shows s fits) (stands.files.blocks n)
@@ -185,7 +188,8 @@ pub block-there : (d : DraftValue) (n i : ℕ) (r : Option (Bor (List ℕ))) →
 block-there d n i None known some = cc
 block-there d n i (Some bytes) known some = by (known_at d (addresses.Block n i)) refl known
   where
-    by : (o : Option (Option Object)) → known_at d (addresses.Block n i) ≡ o → option_map block_of o ≡ Some (Some bytes.now) →
+    by : (o : Option (Option Object)) → known_at d (addresses.Block n i) ≡ o → option_map block_of o ≡ Some
+        (Some bytes.now) →
         HasBlock d n i
     by None is e = cc
     by (Some o) is e =
@@ -251,10 +255,12 @@ module _ (size : ℕ) (stored : ℕ → List ℕ) (bytes : List ℕ) (is : IsCon
       ∙ ap (λ m. take m (drop start (part_at bytes i))) (sym wanted)
       ∙ read-one bytes place i start count at (part_at bytes i) refl room
 
-  pub read-whole : start + count ≤ length (stored i) → take count (drop start (stored i)) ≡ take count (drop place bytes)
+  pub read-whole : start + count ≤ length (stored i) → take count (drop start (stored i)) ≡ take count
+      (drop place bytes)
   read-whole enough =
       let none : count - length (drop start (stored i)) ≡ 0 = omega (arith, length-drop start (stored i), enough) in
-      sym (ap (λ m. take count (drop start (stored i)) ++ replicate m 0) none ∙ append-nil (take count (drop start (stored i))))
+      sym (ap (λ m. take count (drop start (stored i)) ++ replicate m 0) none ∙ append-nil
+      (take count (drop start (stored i))))
       ∙ read-part
 
 -- the bytes so far, of those before a block
@@ -274,11 +280,13 @@ module _ (d : DraftValue) (n : ℕ) (map : FileMapValue) (has : HasMap d n map) 
       let start : ℕ = offset - i * block_size in
       let content = content-there d n map has s k w.fits w.stands in
       let block = shows s k w.fits w.stands in
-      let long : length (stored_in ((with_writes s d.writes).at (addresses.Block n i))) ≡ length bytes = ap length block in
+      let long : length (stored_in ((with_writes s d.writes).at (addresses.Block n i))) ≡ length bytes = ap length
+      block in
       let short = content.short i in
       let part = part-length (bytes_at k.state n) i in
       is ∙ ap (λ b. take count (drop start b)) (sym block)
-      ∙ read-whole map.size (λ b. stored_in ((with_writes s d.writes).at (addresses.Block n b))) (bytes_at k.state n) content
+      ∙ read-whole map.size (λ b. stored_in ((with_writes s d.writes).at (addresses.Block n b))) (bytes_at k.state n)
+      content
       i start count offset (omega arith) (omega (arith, long, short, part, enough)) within (omega (arith, long, enough))
 
   pub gathered-none : IsGathered d n offset count (offset / block_size) []
@@ -287,14 +295,16 @@ module _ (d : DraftValue) (n : ℕ) (map : FileMapValue) (has : HasMap d n map) 
   pub gathered-more : (index : ℕ) (found bytes more : List ℕ) → offset / block_size ≤ index →
       index * block_size < offset + count → IsGathered d n offset count index found → ShowsBlock d n index bytes →
       more ≡ found ++ resized (drop (offset - index * block_size) bytes)
-      (min (block_size - (offset - index * block_size)) (count - length found)) → IsGathered d n offset count (index + 1) more
+      (min (block_size - (offset - index * block_size)) (count - length found)) → IsGathered d n offset count
+      (index + 1) more
   gathered-more index found bytes more behind before so shows is = record {
     counted = ap length is ∙ long ∙ next;
     is = λ s k w.
         let all = bytes_at k.state n in
         let content = content-there d n map has s k w.fits w.stands in
         is ∙ ap (λ b. found ++ resized (drop start b) c) (sym (shows s k w.fits w.stands))
-        ∙ (λ j. so.is s k w j ++ part all (λ b. stored_in ((with_writes s d.writes).at (addresses.Block n b))) content j)
+        ∙ (λ j. so.is s k w j ++ part all (λ b. stored_in ((with_writes s d.writes).at (addresses.Block n b))) content
+        j)
         ∙ sym (take-add (length found) c (drop offset all))
         ∙ ap (λ m. take m (drop offset all)) (sym (ap length is ∙ long));
   }
@@ -321,7 +331,8 @@ module _ (d : DraftValue) (n : ℕ) (map : FileMapValue) (has : HasMap d n map) 
           (omega (arith, l, behind, before)) (omega (arith, l, within, behind, before))
           ∙ ap (take c) (sym (drop-drop (length found) offset all))
 
-  pub gathered-all : (index : ℕ) (found : List ℕ) → offset + count ≤ index * block_size → IsGathered d n offset count index found →
+  pub gathered-all : (index : ℕ) (found : List ℕ) → offset + count ≤ index * block_size → IsGathered d n offset count
+      index found →
       Knows d (λ k. found ≡ take count (drop offset (bytes_at k.state n)))
   gathered-all index found behind so s k w =
       let l = so.counted in
@@ -339,7 +350,8 @@ take-most m xs = elim (cases_lt m (length xs)) [
 ]
 
 pub read-is : (bytes found : List ℕ) (size offset count some : ℕ) (eof : Bool) → length bytes ≡ size →
-    some ≡ min (size - offset) (min count 65536) → found ≡ take some (drop offset bytes) → eof ≡ nat_le size (offset + some) →
+    some ≡ min (size - offset) (min count 65536) → found ≡ take some (drop offset bytes) → eof ≡ nat_le size
+    (offset + some) →
     (let read : ReadData = record { count = some; eof = eof; «data» = found } in read ≡ read_at bytes offset count)
 read-is bytes found size offset count some eof counted is taken ends = λ i. record {
   count = long i;

@@ -1,6 +1,7 @@
 -- Addresses that are asked for at once: those that the draft does not know of such as are wanted, each once.
 use Rattle.std.proofs.Common.{◌≡◌, ◌≢◌, ◌==◌, ◌&&◌, ◌+◌, ◌-◌, ◌/◌, ◌<◌, ◌≤◌, ◌⊎◌, ℕ, zero, suc, true, false, Bool}
-use Rattle.std.proofs.Common.{List, [], ◌∷◌, ◌++◌, Option, Some, None, IsSome, inl, inr, refl, sym, ◌∙◌, ap, subst, arith}
+use Rattle.std.proofs.Common.{List, [], ◌∷◌, ◌++◌, Option, Some, None, IsSome, inl, inr, refl, sym, ◌∙◌, ap, subst}
+use Rattle.std.proofs.Common.{arith}
 use Rattle.std.proofs.Common.{append-nil, append_assoc}
 use Rattle.std.proofs.Common.{Result, Ok, Err, IfErr, OnOk}
 use Rattle.std.specs.Prelude.{MatchResult}
@@ -29,7 +30,8 @@ none-of-more [] x e = cc
 none-of-more (y ∷ xs) x e = cc
 
 -- an address that the draft knows, and one that it does not
-pub wish-known : (d : DraftValue) (a : Addr) (asked : List (Addr × Mode)) → IsSome (known_at d a) → asked ≡ with_wish d a asked
+pub wish-known : (d : DraftValue) (a : Addr) (asked : List (Addr × Mode)) → IsSome (known_at d a) → asked ≡ with_wish
+    d a asked
 wish-known d a asked some = by (known_at d a) some
   where
     by : (o : Option (Option Object)) → IsSome o → asked ≡ elim o [
@@ -95,44 +97,45 @@ module _ (d : DraftValue) where
 
   -- an address besides, which is none of those
   module _ (May Must : Addr → Type 0) (a : Addr) (old mid : List (Addr × Mode)) (asks : AsksFor d May Must old mid)
-      (apart : (b : Addr) → May b → is_addr b a ≡ false) (new : List (Addr × Mode)) (is-new : new ≡ with_wish d a mid) where
-    abbrev Will : Addr → Type 0
-    Will b = May b ⊎ (a ≡ b)
+      (apart : (b : Addr) → May b → is_addr b a ≡ false) (new : List (Addr × Mode)) (is-new : new ≡ with_wish d a mid)
+    where
+      abbrev Will : Addr → Type 0
+      Will b = May b ⊎ (a ≡ b)
 
-    abbrev Shall : Addr → Type 0
-    Shall b = Must b ⊎ (a ≡ b)
+      abbrev Shall : Addr → Type 0
+      Shall b = Must b ⊎ (a ≡ b)
 
-    abbrev wished : Option (Option Object) → List (Addr × Mode)
-    wished o = elim o [ Some object ↦ mid | None ↦ mid ++ (a, held_mode d.modes d.view a) ∷ [] ]
+      abbrev wished : Option (Option Object) → List (Addr × Mode)
+      wished o = elim o [ Some object ↦ mid | None ↦ mid ++ (a, held_mode d.modes d.view a) ∷ [] ]
 
-    as-wished : (o : Option (Option Object)) → known_at d a ≡ o → AsksFor d Will Shall old (wished o)
-    as-wished (Some object) is = record {
-      more = asks.more;
-      grown = asks.grown;
-      once = asks.once;
-      each = all-map (IsWish d May) (IsWish d Will) (wish-as May Will (λ b may. inl may)) asks.more asks.each;
-      known = λ none b shall. elim shall [
-        | inl must ↦ asks.known none b must
-        | inr same ↦ subst (λ c. IsSome (known_at d c)) same (subst (λ o. IsSome o) (sym is) refl)
-      ];
-    }
-    as-wished None is = record {
-      more = asks.more ++ w ∷ [];
-      grown = ap (λ l. l ++ w ∷ []) asks.grown ∙ append_assoc old asks.more (w ∷ []);
-      once = once-append asks.more w asks.once
-          (all-map (IsWish d May) (λ (b : Addr × Mode). is_addr b.0 a ≡ false) (λ b wish. apart b.0 wish.may) asks.more
-          asks.each);
-      each = all-append (IsWish d Will) asks.more w
-          (all-map (IsWish d May) (IsWish d Will) (wish-as May Will (λ b may. inl may)) asks.more asks.each)
-          (record { unknown = is; mode = refl; may = inr refl });
-      known = λ none b shall. absurd (none-of-more asks.more w none);
-    }
-      where
-        w : Addr × Mode
-        w = (a, held_mode d.modes d.view a)
+      as-wished : (o : Option (Option Object)) → known_at d a ≡ o → AsksFor d Will Shall old (wished o)
+      as-wished (Some object) is = record {
+        more = asks.more;
+        grown = asks.grown;
+        once = asks.once;
+        each = all-map (IsWish d May) (IsWish d Will) (wish-as May Will (λ b may. inl may)) asks.more asks.each;
+        known = λ none b shall. elim shall [
+          | inl must ↦ asks.known none b must
+          | inr same ↦ subst (λ c. IsSome (known_at d c)) same (subst (λ o. IsSome o) (sym is) refl)
+        ];
+      }
+      as-wished None is = record {
+        more = asks.more ++ w ∷ [];
+        grown = ap (λ l. l ++ w ∷ []) asks.grown ∙ append_assoc old asks.more (w ∷ []);
+        once = once-append asks.more w asks.once
+            (all-map (IsWish d May) (λ (b : Addr × Mode). is_addr b.0 a ≡ false) (λ b wish. apart b.0 wish.may) asks.more
+            asks.each);
+        each = all-append (IsWish d Will) asks.more w
+            (all-map (IsWish d May) (IsWish d Will) (wish-as May Will (λ b may. inl may)) asks.more asks.each)
+            (record { unknown = is; mode = refl; may = inr refl });
+        known = λ none b shall. absurd (none-of-more asks.more w none);
+      }
+        where
+          w : Addr × Mode
+          w = (a, held_mode d.modes d.view a)
 
-    pub asks-more : AsksFor d Will Shall old new
-    asks-more = subst (AsksFor d Will Shall old) (sym is-new) (as-wished (known_at d a) refl)
+      pub asks-more : AsksFor d Will Shall old new
+      asks-more = subst (AsksFor d Will Shall old) (sym is-new) (as-wished (known_at d a) refl)
 
   -- first some, then others
   pub asks-both : (May Must Will Shall : Addr → Type 0) (old mid new : List (Addr × Mode)) →
@@ -143,13 +146,15 @@ module _ (d : DraftValue) where
     more = first.more ++ second.more;
     grown = second.grown ∙ ap (λ l. l ++ second.more) first.grown ∙ append_assoc old first.more second.more;
     once = once-joined first.more second.more first.once second.once
-        (all-map (IsWish d May) (λ (x : Addr × Mode). AllByRecursion (λ (y : Addr × Mode). is_addr x.0 y.0 ≡ false) second.more)
+        (all-map (IsWish d May) (λ (x : Addr × Mode). AllByRecursion (λ (y : Addr × Mode). is_addr x.0 y.0 ≡ false)
+        second.more)
         (λ x wish. all-map (IsWish d Will) (λ (y : Addr × Mode). is_addr x.0 y.0 ≡ false)
         (λ y other. apart x.0 y.0 wish.may other.may) second.more second.each) first.more first.each);
     each = all-joined (IsWish d (λ b. May b ⊎ Will b)) first.more second.more
         (all-map (IsWish d May) (IsWish d (λ b. May b ⊎ Will b)) (wish-as May (λ b. May b ⊎ Will b) (λ b may. inl may))
         first.more first.each)
-        (all-map (IsWish d Will) (IsWish d (λ b. May b ⊎ Will b)) (wish-as Will (λ b. May b ⊎ Will b) (λ b may. inr may))
+        (all-map (IsWish d Will) (IsWish d (λ b. May b ⊎ Will b))
+        (wish-as Will (λ b. May b ⊎ Will b) (λ b may. inr may))
         second.more second.each);
     known = λ none a shall. elim shall [
       | inl must ↦ first.known (front-none first.more second.more none) a must
@@ -206,7 +211,8 @@ module _ (file first : ℕ) where
       subst (λ c. is_addr c (addresses.Block file end) ≡ false) is.is
       (other-block file is.index end (λ e. absurd (omega (arith, is.before, e))))
 
-  pub blocks-wider : (end : ℕ) → first ≤ end → (b : Addr) → IsBlockIn file first end b ⊎ (addresses.Block file end ≡ b) →
+  pub blocks-wider : (end : ℕ) → first ≤ end → (b : Addr) → IsBlockIn file first end b ⊎
+      (addresses.Block file end ≡ b) →
       IsBlockIn file first (end + 1) b
   blocks-wider end within b (inl is) = record {
     index = is.index;
@@ -257,11 +263,15 @@ module _ (d : DraftValue) (file : ℕ) (pages : Bits) (first : ℕ) (old mid : L
     where
       by : (b : Addr) (must : IsPaged file pages first (end + 1) b) (t : Bool) → (must.0.index == end) ≡ t →
           IsPaged file pages first end b ⊎ (addresses.Block file end ≡ b)
-      by b must true same = inr (ap (addresses.Block file) (sym ((unsigned_Decides must.0.index end).0 same)) ∙ must.0.is)
+      by b must true same = inr (ap (addresses.Block file) (sym ((unsigned_Decides must.0.index end).0 same)) ∙
+          must.0.is)
       by b must false other =
           let apart = differs must.0.index end other in
           let is = must.0 in
-          inl (record { index = is.index; behind = is.behind; before = omega (arith, is.before, apart); is = is.is }, must.1)
+          inl (
+            record { index = is.index; behind = is.behind; before = omega (arith, is.before, apart); is = is.is },
+            must.1,
+          )
 
   pub range-skip : (end : ℕ) → has pages (end / 512) ≡ false →
       AsksFor d (IsBlockIn file first end) (IsPaged file pages first end) old mid →
@@ -277,13 +287,16 @@ module _ (d : DraftValue) (file : ℕ) (pages : Bits) (first : ℕ) (old mid : L
           ∙ ap (λ i. has pages (i / 512)) ((unsigned_Decides must.0.index end).0 same) ∙ none in cc)
       by b must false other =
           let apart = differs must.0.index end other in
-          let is = must.0 in
-          (record { index = is.index; behind = is.behind; before = omega (arith, is.before, apart); is = is.is }, must.1)
+          let is = must.0 in (
+            record { index = is.index; behind = is.behind; before = omega (arith, is.before, apart); is = is.is },
+            must.1,
+          )
 
 -- ---- all of a range
 module _ (d : DraftValue) (file first : ℕ) (old mid : List (Addr × Mode)) where
   pub each-none : (end : ℕ) → end ≤ first → AsksFor d (IsBlockIn file first end) (IsBlockIn file first end) old old
-  each-none end none = asks-none d (IsBlockIn file first end) (IsBlockIn file first end) old (no-blocks file first end none)
+  each-none end none = asks-none d (IsBlockIn file first end) (IsBlockIn file first end) old
+      (no-blocks file first end none)
 
   pub each-more : (end : ℕ) (a : Addr) (new : List (Addr × Mode)) → first ≤ end → a ≡ addresses.Block file end →
       new ≡ with_wish d a mid → AsksFor d (IsBlockIn file first end) (IsBlockIn file first end) old mid →
@@ -319,14 +332,16 @@ module _ (d : DraftValue) (file : ℕ) (blocks : Addr → Type 0) (first : ℕ) 
   with-no-maps end asks = asks-as d blocks (IsWithMaps end) blocks blocks old mid (λ b is. inl is) (λ b is. is) asks
 
   pub with-map : (end : ℕ) (a : Addr) (new : List (Addr × Mode)) → first ≤ end → a ≡ addresses.Map file end →
-      new ≡ with_wish d a mid → AsksFor d (IsWithMaps end) blocks old mid → AsksFor d (IsWithMaps (end + 1)) blocks old new
+      new ≡ with_wish d a mid → AsksFor d (IsWithMaps end) blocks old mid → AsksFor d (IsWithMaps (end + 1)) blocks
+      old new
   with-map end a new within at is asks =
       asks-as d (λ b. IsWithMaps end b ⊎ (addresses.Map file end ≡ b)) (IsWithMaps (end + 1))
       (λ b. blocks b ⊎ (addresses.Map file end ≡ b)) blocks old new (map-wider end within) (λ b block. inl block)
       (asks-more d (IsWithMaps end) blocks (addresses.Map file end) old mid asks (map-apart end) new
       (is ∙ ap (λ b. with_wish d b mid) at))
 
-  pub without-map : (end : ℕ) → AsksFor d (IsWithMaps end) blocks old mid → AsksFor d (IsWithMaps (end + 1)) blocks old mid
+  pub without-map : (end : ℕ) → AsksFor d (IsWithMaps end) blocks old mid → AsksFor d (IsWithMaps (end + 1)) blocks
+      old mid
   without-map end asks = asks-as d (IsWithMaps end) (IsWithMaps (end + 1)) blocks blocks old mid
       (λ b is. elim is [ inl block ↦ inl block | inr map ↦ inr (map-less end b map) ]) (λ b is. is) asks
 
@@ -349,7 +364,8 @@ among-blocks file first (suc count) i behind before =
     ] refl
 
 module _ (file offset count : ℕ) (some : 0 < count) (few : count ≤ 65536) where
-  pub among-block : (a : Addr) → IsBlockIn file (first_of offset) (end_of offset count) a → IsAmong (blocks_at file offset) a
+  pub among-block : (a : Addr) → IsBlockIn file (first_of offset) (end_of offset count) a → IsAmong
+      (blocks_at file offset) a
   among-block a is =
       subst (IsAmong (blocks_at file offset)) is.is
       (among-blocks file (offset / 4096) 17 is.index is.behind
@@ -366,7 +382,8 @@ module _ (file offset count : ℕ) (some : 0 < count) (few : count ≤ 65536) wh
       by true same = inl (ap (addresses.Map file) ((unsigned_Decides first is.page).0 same))
       by false other =
           let apart = differs first is.page other in
-          let next : suc first ≡ is.page = (let b = is.behind in let c = is.before in omega (arith, b, c, apart, some, few)) in
+          let next : suc first ≡ is.page = (let b = is.behind in let c = is.before in omega
+          (arith, b, c, apart, some, few)) in
           inr (inl (ap (addresses.Map file) next))
 
 -- ---- how what is asked for ends

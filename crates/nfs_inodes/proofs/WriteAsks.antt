@@ -1,5 +1,6 @@
 -- What a write asks for, and how a reader or a writer of bytes halts.
-use Rattle.std.proofs.Common.{◌≡◌, ◌⊎◌, ℕ, ◌+◌, ◌-◌, ◌/◌, ◌<◌, ◌≤◌, true, false, Bool, cond, List, [], ◌∷◌, ◌++◌, Some, IsSome, inl, inr}
+use Rattle.std.proofs.Common.{◌≡◌, ◌⊎◌, ℕ, ◌+◌, ◌-◌, ◌/◌, ◌<◌, ◌≤◌, true, false, Bool, cond, List, [], ◌∷◌, ◌++◌}
+use Rattle.std.proofs.Common.{Some, IsSome, inl, inr}
 use Rattle.std.proofs.Common.{refl, sym, ◌∙◌, ap, subst}
 use Rattle.nfs_objects.proofs.Knows.{among-behind, among-front, covers-among, stops-wider}
 use Rattle.nfs_objects.specs.Bits.{has}
@@ -24,18 +25,21 @@ use Rattle.nfs_inodes.proofs.Reading.{bytes-there}
 use Rattle.nfs_inodes.specs.Known.{bytes_of, content_at}
 use Rattle.nfs_inodes.proofs.Wishing.{IsPaged, among-block, among-map, asking-all, asks-as, asks-more, known-all}
 use Rattle.nfs_inodes.specs.Asking.{AsksFor, IsAsking, with_wish}
-use Rattle.nfs_inodes.specs.Blocks.{IsBlockIn, IsInRange, KnowsMapped, KnowsRange, end_of, first_of, read_from, written_from}
+use Rattle.nfs_inodes.specs.Blocks.{IsBlockIn, IsInRange, KnowsMapped, KnowsRange, end_of, first_of, read_from}
+use Rattle.nfs_inodes.specs.Blocks.{written_from}
 use Rattle.nfs_inodes.specs.Counts.{KeepsInodes}
 use Rattle.nfs_inodes.specs.Known.{HasInode}
 use Rattle.nfs_inodes.specs.Stops.{StopsAt, counted_at, group_at, inode_at}
 
 -- ---- one list of more
-pub front-stops : (d : DraftValue) (few more : List Addr) (halt : Halt) → StopsAt d few halt → StopsAt d (few ++ more) halt
+pub front-stops : (d : DraftValue) (few more : List Addr) (halt : Halt) → StopsAt d few halt → StopsAt d (few ++ more)
+    halt
 front-stops d few more halt stops =
     stops-wider d.modes few (few ++ more) 0 d.view halt
     (covers-among few (few ++ more) d.view (among-front few more)) stops
 
-pub back-stops : (d : DraftValue) (more few : List Addr) (halt : Halt) → StopsAt d few halt → StopsAt d (more ++ few) halt
+pub back-stops : (d : DraftValue) (more few : List Addr) (halt : Halt) → StopsAt d few halt → StopsAt d (more ++ few)
+    halt
 back-stops d more few halt stops =
     stops-wider d.modes few (more ++ few) 0 d.view halt
     (covers-among few (more ++ few) d.view (among-behind more few)) stops
@@ -68,7 +72,8 @@ pub read-blocks : (d : DraftValue) (n offset : ℕ) (halt : Halt) → StopsAt d 
 read-blocks d n offset halt stops = back-stops d (addresses_of d.view n) (blocks_at n offset) halt stops
 
 pub read-result : (d : DraftValue) (n offset count : ℕ) (r : Result ReadData Halt) →
-    MatchResult r (λ found. Knows d (λ k. found ≡ read_at (bytes_at k.state n) offset count)) (StopsAt d (blocks_at n offset))
+    MatchResult r (λ found. Knows d (λ k. found ≡ read_at (bytes_at k.state n) offset count))
+    (StopsAt d (blocks_at n offset))
     → MatchResult r (λ found. Knows d (λ k. found ≡ read_at (bytes_of (content_at k.state n)) offset count))
     (StopsAt d (read_from d.view n offset))
 read-result d n offset count (Ok found) is = λ s k w.
@@ -121,7 +126,8 @@ module _ (d : DraftValue) (n offset count export : ℕ) (some : 0 < count) (few 
       asks-as d (IsInRange n offset count) May (IsBlockIn n (first_of offset) (end_of offset count))
       (IsBlockIn n (first_of offset) (end_of offset count)) [] mid (λ a may. inl may) (λ a must. must) asks
   wished false =
-      asks-as d May May (λ b. IsBlockIn n (first_of offset) (end_of offset count) b ⊎ (addresses.Usage export (group_of n) ≡ b))
+      asks-as d May May (λ b. IsBlockIn n (first_of offset) (end_of offset count) b ⊎
+      (addresses.Usage export (group_of n) ≡ b))
       (IsBlockIn n (first_of offset) (end_of offset count)) []
       (with_wish d (addresses.Usage export (group_of n)) mid) (λ a may. may) (λ a must. inl must)
       (asks-more d (IsInRange n offset count) (IsBlockIn n (first_of offset) (end_of offset count))
@@ -131,14 +137,16 @@ module _ (d : DraftValue) (n offset count export : ℕ) (some : 0 < count) (few 
   all-wished : AsksFor d May (IsBlockIn n (first_of offset) (end_of offset count)) [] asked
   all-wished = subst (AsksFor d May (IsBlockIn n (first_of offset) (end_of offset count)) []) (sym is) (wished same)
 
-  pub write-asking : (i : Inode) → HasInode d n (Some i) → export ≡ i.export → IsAsking d (written_from d n offset) asked
+  pub write-asking : (i : Inode) → HasInode d n (Some i) → export ≡ i.export → IsAsking d (written_from d n offset)
+      asked
   write-asking i has exported =
       asking-all d May (IsBlockIn n (first_of offset) (end_of offset count)) asked all-wished (written_from d n offset)
       (λ a may unknown. inl (named a may))
     where
       counted : IsAmong (counted_at d n) (addresses.Usage export (group_of n))
       counted = among-behind (addresses_of d.view n) (group_at n (inode_at d n)) (addresses.Usage export (group_of n))
-          (subst (λ o. IsAmong (group_at n o) (addresses.Usage export (group_of n))) (sym (inode-known d n (Some i) has))
+          (subst (λ o. IsAmong (group_at n o) (addresses.Usage export (group_of n)))
+          (sym (inode-known d n (Some i) has))
           (inl (ap (λ e. addresses.Usage e (group_of n)) (sym exported))))
 
       named : (a : Addr) → May a → IsAmong (written_from d n offset) a

@@ -1,5 +1,6 @@
 -- Blocks and maps of a file that are written: what stands then, and what stays.
-use Rattle.std.proofs.Common.{◌≡◌, ◌≢◌, ◌+◌, ◌-◌, ◌*◌, ◌/◌, ◌%◌, ◌<◌, ◌≤◌, ◌==◌, ◌&&◌, ◌||◌, ◌⊎◌, ℕ, true, false, Bool, max, min, nat_le, nat_lt}
+use Rattle.std.proofs.Common.{◌≡◌, ◌≢◌, ◌+◌, ◌-◌, ◌*◌, ◌/◌, ◌%◌, ◌<◌, ◌≤◌, ◌==◌, ◌&&◌, ◌||◌, ◌⊎◌, ℕ, true, false}
+use Rattle.std.proofs.Common.{Bool, max, min, nat_le, nat_lt}
 use Rattle.std.proofs.Common.{List, [], Option, Some, None, inl, inr, refl, sym, ◌∙◌, ap, subst, arith}
 use Rattle.std.proofs.Common.{cond, length, option_map, unwrap_or}
 use Rattle.std.proofs.lemmas.Bool.{cases_lt, le-leb, lt-leb, lt-ltb, le-ltb}
@@ -22,7 +23,8 @@ use Rattle.nfs_objects.specs.declared.object.Object.{Object}
 use Rattle.nfs_objects.specs.declared.object.Object.TheVariants as objects
 use Rattle.nfs_inodes.proofs.Reading.{has-blocks, known-map}
 use Rattle.nfs_inodes.proofs.Wishing.{differs, not-same, other-block, other-map, same-number}
-use Rattle.nfs_inodes.specs.Blocks.{HasBlock, HasPages, IsBackAfter, IsMapAfter, IsMapPut, IsNoBlockIn, Leaves, WritesBlock, WritesBlocks, WritesRange}
+use Rattle.nfs_inodes.specs.Blocks.{HasBlock, HasPages, IsBackAfter, IsMapAfter, IsMapPut, IsNoBlockIn, Leaves}
+use Rattle.nfs_inodes.specs.Blocks.{WritesBlock, WritesBlocks, WritesRange}
 use Rattle.nfs_inodes.specs.Blocks.{end_of, first_of, part_in, place_in}
 
 -- ---- one write
@@ -38,7 +40,8 @@ known-written d b o a = written-append d.writes _ b o a
 pub known-other : (d new : DraftValue) (n m : ℕ) (o : Option Object) → new ≡ with_written d (addresses.Inode n) o →
     (n == m) ≡ false → known_at new (addresses.Inode m) ≡ known_at d (addresses.Inode m)
 known-other d new n m o is other =
-    ap (λ (x : DraftValue). known_at x (addresses.Inode m)) is ∙ known-written d (addresses.Inode n) o (addresses.Inode m)
+    ap (λ (x : DraftValue). known_at x (addresses.Inode m)) is ∙ known-written d (addresses.Inode n) o
+    (addresses.Inode m)
     ∙ ap (λ b. cond b (Some o) (known_at d (addresses.Inode m))) other
 
 pub stands-here : (d : DraftValue) (s : Store) (b : Addr) (o : Option Object) →
@@ -49,7 +52,8 @@ stands-here d s b o = stands-written d s b o b ∙ ap (λ t. cond t o ((with_wri
 pub leaves-none : (d : DraftValue) (Is : Addr → Type 0) → Leaves d d Is
 leaves-none d Is = record { known = λ a is. refl; stands = λ s a is. refl }
 
-pub leaves-one : (d : DraftValue) (b : Addr) (o : Option Object) → Leaves d (with_written d b o) (λ a. is_addr b a ≡ false)
+pub leaves-one : (d : DraftValue) (b : Addr) (o : Option Object) → Leaves d (with_written d b o)
+    (λ a. is_addr b a ≡ false)
 leaves-one d b o = record {
   known = λ a other. known-written d b o a ∙ ap (λ t. cond t (Some o) (known_at d a)) other;
   stands = λ s a other. stands-written d s b o a ∙ ap (λ t. cond t o ((with_writes s d.writes).at a)) other;
@@ -90,7 +94,8 @@ block-written d new n i at old part block found known was is put =
         let same : block_of o ≡ found = cc in
         ap stored_in (known-stands d s (addresses.Block n i) o fits is) ∙ ap (λ b. unwrap_or b []) same
 
-    stored : (s : Store) → Fits d.view s → stored_in ((with_writes s d.writes).at (addresses.Block n i)) ≡ unwrap_or found []
+    stored : (s : Store) → Fits d.view s → stored_in ((with_writes s d.writes).at (addresses.Block n i)) ≡ unwrap_or
+        found []
     stored s fits = by s fits (known_at d (addresses.Block n i)) refl known
 
 -- ---- blocks, one after another
@@ -145,7 +150,8 @@ module _ (old : DraftValue) (n offset : ℕ) (bytes : List ℕ) where
   pub blocks-known : (mid : DraftValue) (index i : ℕ) → WritesBlocks old mid n offset bytes index → index ≤ i →
       known_at mid (addresses.Block n i) ≡ known_at old (addresses.Block n i)
   blocks-known mid index i so behind =
-      so.leaves.known (addresses.Block n i) (λ j from before. other-block n j i (λ e. absurd (omega (arith, before, e, behind))))
+      so.leaves.known (addresses.Block n i) (λ j from before. other-block n j i
+      (λ e. absurd (omega (arith, before, e, behind))))
 
 -- ---- maps
 -- a map that tells of a block stands there
@@ -229,7 +235,8 @@ page-tells d file first end page was bits known is behind before some = (
   (
     place,
     tells place (omega (arith, behind))
-        ∙ ap (λ b. has was place || b) (within-true first end (page * 512 + place) (omega arith) (omega (arith, before, some)))
+        ∙ ap (λ b. has was place || b) (within-true first end (page * 512 + place) (omega arith)
+        (omega (arith, before, some)))
         ∙ or-all (has was place),
   ),
 )
@@ -244,7 +251,8 @@ page-tells d file first end page was bits known is behind before some = (
 pub page-there : (d : DraftValue) (file first end page : ℕ) →
     ((i : ℕ) → max first (page * 512) ≤ i → i < min end (page * 512 + 512) → HasBlock d file i) →
     IsMapAfter d file first end page None
-page-there d file first end page there i from before row = there i (omega (arith, from, row)) (omega (arith, before, row))
+page-there d file first end page there i from before row = there i (omega (arith, from, row))
+    (omega (arith, before, row))
 
 module _ (s t : Store) (n first end : ℕ) (before after : Bits) (filed : HasBlocks s n before) (page : ℕ) where
   -- its map stays, since all of its blocks in the range were there
@@ -320,7 +328,8 @@ module _ (x y : DraftValue) (n q : ℕ) (pages after : Bits) where
   put-lays None put = subst (λ (d : DraftValue). Lays n x d) (sym put.0) (lays-none n x)
   put-lays (Some bits) put = subst (λ (d : DraftValue). Lays n x d) (sym put.0) (lays-map n x q (stored_map bits))
 
-  pub put-leaves : (o : Option Bits) → IsMapPut x y n q o pages after → Leaves x y (λ a. is_addr (addresses.Map n q) a ≡ false)
+  pub put-leaves : (o : Option Bits) → IsMapPut x y n q o pages after → Leaves x y
+      (λ a. is_addr (addresses.Map n q) a ≡ false)
   put-leaves None put = subst (λ (d : DraftValue). Leaves x d (λ a. is_addr (addresses.Map n q) a ≡ false)) (sym put.0)
       (leaves-none x (λ a. is_addr (addresses.Map n q) a ≡ false))
   put-leaves (Some bits) put = subst (λ (d : DraftValue). Leaves x d (λ a. is_addr (addresses.Map n q) a ≡ false))
@@ -341,7 +350,11 @@ module _ (x y : DraftValue) (n q : ℕ) (pages after : Bits) where
   -- a page that is put nothing stays
   pub put-none : IsMapPut x y n q None pages after → (s : Store) → ((with_writes s y.writes).at (addresses.Map n q) ≡
       (with_writes s x.writes).at (addresses.Map n q)) × (has after q ≡ has pages q)
-  put-none put s = (ap (λ (d : DraftValue). (with_writes s d.writes).at (addresses.Map n q)) put.0, ap (λ b. has b q) put.1)
+  put-none put s = (
+    ap (λ (d : DraftValue). (with_writes s d.writes).at (addresses.Map n q)) put.0,
+    ap (λ b. has b q)
+        put.1,
+  )
 
 -- ---- the whole range
 module _ (old mid late new : DraftValue) (n offset : ℕ) (bytes : List ℕ) (pages between after : Bits)
@@ -415,8 +428,10 @@ module _ (old mid late new : DraftValue) (n offset : ℕ) (bytes : List ℕ) (pa
           page-stays (with_writes s old.writes) (with_writes s new.writes) n first end pages after filed low
           (same ∙ none.0 ∙ maps-stay s low) (kept ∙ none.1) (was-told low there)
       front-page (Some bits) is put same kept =
-          page-put (with_writes s old.writes) (with_writes s new.writes) n first end pages after filed low is.0 bits is.3.0
-          (same ∙ put-here mid late n low pages between bits put s) (kept ∙ put-there mid late n low pages between bits put)
+          page-put (with_writes s old.writes) (with_writes s new.writes) n first end pages after filed low is.0 bits
+          is.3.0
+          (same ∙ put-here mid late n low pages between bits put s)
+          (kept ∙ put-there mid late n low pages between bits put)
           (known-map old s n low is.0 fits is.1) is.3.1 is.2
 
       back-page : (o : Option Bits) → low ≢ high → IsMapAfter old n first end high o →
@@ -433,7 +448,8 @@ module _ (old mid late new : DraftValue) (n offset : ℕ) (bytes : List ℕ) (pa
           kept-back : low ≢ high → has between high ≡ has pages high
           kept-back apart = put-kept mid late n low pages between front first-put high (λ e. apart (sym e))
       back-page (Some bits) apart is put =
-          page-put (with_writes s old.writes) (with_writes s new.writes) n first end pages after filed high is.0 bits is.3.0
+          page-put (with_writes s old.writes) (with_writes s new.writes) n first end pages after filed high is.0 bits
+          is.3.0
           (put-here late new n high between after bits put s) (put-there late new n high between after bits put)
           (known-map old s n high is.0 fits is.1) is.3.1 is.2
 
@@ -454,14 +470,16 @@ module _ (old mid late new : DraftValue) (n offset : ℕ) (bytes : List ℕ) (pa
         back-is : low ≡ high → IsMapPut late new n high None between after
         back-is same = subst (λ o. IsMapPut late new n high o between after) (is-back.same same) second-put
 
-        front-stays : (at-new s (addresses.Map n low) ≡ at-late s (addresses.Map n low)) × (has after low ≡ has between low)
+        front-stays : (at-new s (addresses.Map n low) ≡ at-late s (addresses.Map n low)) ×
+            (has after low ≡ has between low)
         front-stays = by (low == high) refl
           where
             by : (b : Bool) → (low == high) ≡ b →
                 (at-new s (addresses.Map n low) ≡ at-late s (addresses.Map n low)) × (has after low ≡ has between low)
             by true is =
                 let same : low ≡ high = (unsigned_Decides low high).0 is in
-                subst (λ q. (at-new s (addresses.Map n q) ≡ at-late s (addresses.Map n q)) × (has after q ≡ has between q))
+                subst (λ q. (at-new s (addresses.Map n q) ≡ at-late s (addresses.Map n q)) ×
+                (has after q ≡ has between q))
                 (sym same) (put-none late new n high between after (back-is same) s)
             by false is =
                 let apart = differs low high is in (
@@ -487,7 +505,8 @@ module _ (old mid late new : DraftValue) (n offset : ℕ) (bytes : List ℕ) (pa
         WritesRange old new n offset bytes after
     range-written is-front is-back = record {
       lays = lays-both n old mid new blocks.lays (lays-both n mid late new
-          (put-lays mid late n low pages between front first-put) (put-lays late new n high between after back second-put));
+          (put-lays mid late n low pages between front first-put)
+          (put-lays late new n high between after back second-put));
       inodes = λ q. known (addresses.Inode q) refl refl (λ i from before. refl);
       others = λ s i out. stays s (addresses.Block n i) refl refl (λ j from before.
           other-block n j i (λ e. elim out [
@@ -511,13 +530,15 @@ module _ (old mid late new : DraftValue) (n offset : ℕ) (bytes : List ℕ) (pa
           ));
     }
       where
-        puts : (s : Store) (a : Addr) → is_addr (addresses.Map n low) a ≡ false → is_addr (addresses.Map n high) a ≡ false →
+        puts : (s : Store) (a : Addr) → is_addr (addresses.Map n low) a ≡ false → is_addr (addresses.Map n high) a ≡
+            false →
             at-new s a ≡ (with_writes s mid.writes).at a
         puts s a one two =
             (put-leaves late new n high between after back second-put).stands s a two
             ∙ (put-leaves mid late n low pages between front first-put).stands s a one
 
-        stays : (s : Store) (a : Addr) → is_addr (addresses.Map n low) a ≡ false → is_addr (addresses.Map n high) a ≡ false →
+        stays : (s : Store) (a : Addr) → is_addr (addresses.Map n low) a ≡ false → is_addr (addresses.Map n high) a ≡
+            false →
             IsNoBlockIn n first end a → at-new s a ≡ at-old s a
         stays s a one two none = puts s a one two ∙ blocks.leaves.stands s a none
 

@@ -1,6 +1,7 @@
 -- What a draft shows of the blocks of a file, and what is written to them (RFC 1813, 3.3.6 and 3.3.7).
-use Rattle.std.specs.Prelude.{◌≡◌, ◌≢◌, ◌⊎◌, ℕ, ◌+◌, ◌-◌, ◌*◌, ◌/◌, ◌<◌, ◌≤◌, ◌==◌, ◌||◌, ◌&&◌, true, false, nat_le, nat_lt}
-use Rattle.std.specs.Prelude.{List, ◌++◌, Option, Some, None, IsSome, option_map, length, take, drop, min}
+use Rattle.std.specs.Prelude.{◌≡◌, ◌≢◌, ◌⊎◌, ℕ, ◌+◌, ◌-◌, ◌*◌, ◌/◌, ◌<◌, ◌≤◌, ◌==◌, ◌||◌, ◌&&◌, true, false}
+use Rattle.std.specs.Prelude.{nat_le, nat_lt, List, ◌++◌, Option, Some, None, IsSome, option_map, length, take, drop}
+use Rattle.std.specs.Prelude.{min}
 use Rattle.nfs_machine.specs.Data.{written}
 use Rattle.nfs_objects.specs.Bits.{has}
 use Rattle.nfs_objects.specs.Calls.{addresses_of, blocks_at, maps_at}
@@ -114,7 +115,8 @@ pub record WritesBlocks (old new : DraftValue) (file offset : ℕ) (bytes : List
   pub leaves : Leaves old new (IsNoBlockIn file (first_of offset) end)
   pub blocks : (s : Store) (i : ℕ) → Fits old.view s → first_of offset ≤ i → i < end →
       (with_writes s new.writes).at (addresses.Block file i) ≡ Some (objects.Block (written
-      (stored_in ((with_writes s old.writes).at (addresses.Block file i))) (place_in offset i) (part_in offset bytes i)))
+      (stored_in ((with_writes s old.writes).at (addresses.Block file i)))
+      (place_in offset i) (part_in offset bytes i)))
 
 -- what a map page tells once the blocks from one on and before another are there; nothing where they were there
 abbrev pub IsMapAfter : DraftValue → (file first end page : ℕ) → Option Bits → Type 0
@@ -136,8 +138,8 @@ IsMapPut old new file page (Some bits) pages after =
     (new ≡ with_written old (addresses.Map file page) (stored_map bits)) ×
     ((p : ℕ) → has after p ≡ (has pages p || (p == page)))
 
--- bytes were written over a range of a file: its blocks have them, all others stay, and its map pages tell of all blocks
--- that are there
+-- bytes were written over a range of a file: its blocks have them, all others stay, and its map pages tell of all
+-- blocks that are there
 pub record WritesRange (old new : DraftValue) (file offset : ℕ) (bytes : List ℕ) (after : Bits) : Type 0 where
   pub lays : Lays file old new
   pub inodes : (n : ℕ) → known_at new (addresses.Inode n) ≡ known_at old (addresses.Inode n)
@@ -145,6 +147,7 @@ pub record WritesRange (old new : DraftValue) (file offset : ℕ) (bytes : List 
       (with_writes s new.writes).at (addresses.Block file i) ≡ (with_writes s old.writes).at (addresses.Block file i)
   pub blocks : (s : Store) (i : ℕ) → Fits old.view s → first_of offset ≤ i → i < end_of offset (length bytes) →
       (with_writes s new.writes).at (addresses.Block file i) ≡ Some (objects.Block (written
-      (stored_in ((with_writes s old.writes).at (addresses.Block file i))) (place_in offset i) (part_in offset bytes i)))
+      (stored_in ((with_writes s old.writes).at (addresses.Block file i)))
+      (place_in offset i) (part_in offset bytes i)))
   pub maps : (s : Store) (k : Kept) → Fits old.view s → Represents (with_writes s old.writes) k →
       HasBlocks (with_writes s new.writes) file after

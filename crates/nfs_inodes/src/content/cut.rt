@@ -6,8 +6,8 @@ ghost use Rattle.nfs_objects.specs.Drafts.{MayChange};
 ghost use Rattle.nfs_objects.specs.Values.{known_at};
 ghost use Rattle.nfs_inodes.specs.Asking.{AsksFor};
 ghost use Rattle.nfs_inodes.specs.Blocks.{HasPages};
-ghost use Rattle.nfs_inodes.specs.Cuts.{CutsBlock, CutsBlocks, CutsNext, CutsPage, EndsAt, IsCutAt, IsResized, IsTold, KnowsMaps};
-ghost use Rattle.nfs_inodes.specs.Cuts.{KnowsTold, ShowsMap, ShowsMaps, told_at};
+ghost use Rattle.nfs_inodes.specs.Cuts.{CutsBlock, CutsBlocks, CutsNext, CutsPage, EndsAt, IsCutAt, IsResized, IsTold};
+ghost use Rattle.nfs_inodes.specs.Cuts.{KnowsMaps, KnowsTold, ShowsMap, ShowsMaps, told_at};
 ghost use Rattle.nfs_inodes.specs.Stops.{StillStands, StopsAt};
 
 use crate::content::asking::Asking;
@@ -44,8 +44,8 @@ pub(crate) fn cut_to(
 ///
 /// # Errors
 ///
-/// `Need` of what has to be held for it, all map pages at once and then all blocks; and `Memory`. The draft is of no use
-/// then.
+/// `Need` of what has to be held for it, all map pages at once and then all blocks; and `Memory`. The draft is of no
+/// use then.
 pub(crate) fn cut_off(
     draft: &mut Draft<'_>,
     number: u64,

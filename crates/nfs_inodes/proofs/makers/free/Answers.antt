@@ -18,7 +18,8 @@ clear-requires-clause-alone c =
 
 pub clear-requires-clause-stands : goal.clear-requires-clause-stands
 clear-requires-clause-stands c =
-    stands-on c.args.draft.now c.uncount.new.draft (uncounted c.args.number) c.in_ok-uncount.ensures.turns c.requires.stands
+    stands-on c.args.draft.now c.uncount.new.draft (uncounted c.args.number) c.in_ok-uncount.ensures.turns
+    c.requires.stands
 
 pub returns-in_err-clear : goal.returns-in_err-clear
 returns-in_err-clear c =
@@ -29,7 +30,8 @@ returns-in_err-clear c =
 
 pub free-requires-clause-alone : goal.free-requires-clause-alone
 free-requires-clause-alone c =
-    laid-change c.args.number c.uncount.new.draft c.clear.new.draft c.in_ok-clear.ensures.lays (addresses.Inode c.args.number)
+    laid-change c.args.number c.uncount.new.draft c.clear.new.draft c.in_ok-clear.ensures.lays
+    (addresses.Inode c.args.number)
     (turned-change c.args.draft.now c.uncount.new.draft (uncounted c.args.number) c.in_ok-uncount.ensures.turns
     (addresses.Inode c.args.number) c.requires.alone)
 

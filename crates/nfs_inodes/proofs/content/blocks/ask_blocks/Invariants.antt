@@ -4,5 +4,6 @@ use Rattle.nfs_inodes.proofs.content.blocks.ask_blocks.Given as goal
 
 abbrev pub invariant-loop-index : goal.invariant-loop-index
 invariant-loop-index l =
-    AsksFor l.fn.draft (IsBlockIn l.fn.file (first_of l.fn.range.offset) l.index) (IsBlockIn l.fn.file (first_of l.fn.range.offset) l.index)
+    AsksFor l.fn.draft (IsBlockIn l.fn.file (first_of l.fn.range.offset) l.index)
+    (IsBlockIn l.fn.file (first_of l.fn.range.offset) l.index)
     l.fn.asking.asked.items l.asking.asked.items

@@ -35,12 +35,20 @@ returns c =
     let some = c.args.range.some in
     let few = c.args.range.few in
     let whole : c.loop-index.index ≡ end_of offset count =
-    omega (arith, c.first-index.ensures, c.end-index-end.ensures, c.loop-index-test.false, c.loop-index.auto.index-end, some) in
+    omega (
+      arith,
+      c.first-index.ensures,
+      c.end-index-end.ensures,
+      c.loop-index-test.false,
+      c.loop-index.auto.index-end,
+      some,
+    ) in
     let asks : AsksFor d (IsBlockIn n (first_of offset) (end_of offset count))
     (IsPaged n pages (first_of offset) (end_of offset count)) [] c.loop-index.asking.asked.items =
     subst (λ e. AsksFor d (IsBlockIn n (first_of offset) e) (IsPaged n pages (first_of offset) e) []
     c.loop-index.asking.asked.items) whole c.loop-index.invariant in
-    asked-result d (blocks_at n offset) c.loop-index.asking.asked.items (KnowsMapped d n pages offset count) c.ask.result
+    asked-result d (blocks_at n offset) c.loop-index.asking.asked.items (KnowsMapped d n pages offset count)
+    c.ask.result
     c.ask.ensures.nothing c.ask.ensures.stops
     (read-asking d n offset count pages some few c.loop-index.asking.asked.items asks)
     (read-known d n offset count pages some few c.loop-index.asking.asked.items asks)

@@ -23,8 +23,10 @@ returns-in_err-back c =
 
 pub returns-in_err-write_blocks : goal.returns-in_err-write_blocks
 returns-in_err-write_blocks c =
-    let p = err_from_is_err_and c.from_residual-in_err-write_blocks.result c.from_residual-in_err-write_blocks.ensures.1 in
-    rw (p.1, p.2) (any-stops c.args.draft.now (maps_at c.args.number c.args.range.offset) _ c.in_err-write_blocks.ensures)
+    let p = err_from_is_err_and c.from_residual-in_err-write_blocks.result
+    c.from_residual-in_err-write_blocks.ensures.1 in
+    rw (p.1, p.2) (any-stops c.args.draft.now (maps_at c.args.number c.args.range.offset) _
+    c.in_err-write_blocks.ensures)
 
 pub returns : goal.returns
 returns c =
@@ -32,7 +34,8 @@ returns c =
     let n = c.args.number in
     let offset = c.args.range.offset in
     let count = c.args.range.count in
-    range-written d c.write_blocks.new.draft c.put_map.new.draft c.put_map-2.new.draft n offset c.args.«data».now c.args.pages
+    range-written d c.write_blocks.new.draft c.put_map.new.draft c.put_map-2.new.draft n offset c.args.«data».now
+    c.args.pages
     c.in_ok-pages.pages c.in_ok-put_map.field-0 c.in_ok-front.front c.in_ok-back.back count c.requires.whole
     c.args.range.few c.args.range.some c.requires.pages c.in_ok-write_blocks.ensures
     (subst (λ p. IsMapPut c.write_blocks.new.draft c.put_map.new.draft n p c.in_ok-front.front c.args.pages

@@ -31,4 +31,11 @@ returns c =
     (λ none p behind before there.
     known-all d (IsPageIn n pages first page) (IsPageIn n pages first page) c.loop-page.asking.asked.items
     c.loop-page.invariant none (addresses.Map n p)
-    (record { page = p; behind = behind; before = omega (arith, before, c.loop-page-test.false); there = there; is = refl }))
+    (record {
+      page = p;
+      behind = behind;
+      before = omega (arith, before, c.loop-page-test.false);
+      there = there;
+      is =
+          refl;
+    }))

@@ -5,5 +5,6 @@ use Rattle.nfs_inodes.proofs.content.cut.ask_maps.Given as goal
 
 abbrev pub invariant-loop-page : goal.invariant-loop-page
 invariant-loop-page l =
-    AsksFor l.fn.draft (IsPageIn l.fn.number l.fn.pages l.fn.first l.page) (IsPageIn l.fn.number l.fn.pages l.fn.first l.page) []
+    AsksFor l.fn.draft (IsPageIn l.fn.number l.fn.pages l.fn.first l.page)
+    (IsPageIn l.fn.number l.fn.pages l.fn.first l.page) []
     l.asking.asked.items

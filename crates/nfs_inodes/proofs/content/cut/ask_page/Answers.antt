@@ -1,7 +1,8 @@
 use Rattle.std.proofs.Common.{sym, inl, inr}
 use Rattle.nfs_inodes.proofs.Cutting.{told-more, told-skip}
 use Rattle.nfs_inodes.proofs.content.cut.ask_page.Goals as goal
-use Rattle.nfs_inodes.proofs.content.cut.ask_page.Goals.{then-has+then-index-from+in_ok-add, else-has, else-has-via-then-has+else-index-from, else-has-via-else-has}
+use Rattle.nfs_inodes.proofs.content.cut.ask_page.Goals.{then-has+then-index-from+in_ok-add, else-has}
+use Rattle.nfs_inodes.proofs.content.cut.ask_page.Goals.{else-has-via-then-has+else-index-from, else-has-via-else-has}
 
 pub loop-place-preserved : goal.loop-place-preserved
 loop-place-preserved c = elim c.if-has.branch [

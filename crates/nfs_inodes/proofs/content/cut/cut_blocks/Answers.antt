@@ -1,7 +1,9 @@
 use Rattle.std.proofs.Common.{inl, inr, sym}
 use Rattle.nfs_inodes.proofs.Cutting.{cuts-next, cuts-skip}
 use Rattle.nfs_inodes.proofs.content.cut.cut_blocks.Goals as goal
-use Rattle.nfs_inodes.proofs.content.cut.cut_blocks.Goals.{then-has+then-index-size+in_ok-cut_block, else-has, else-has-via-then-has+else-index-size, else-has-via-else-has}
+use Rattle.nfs_inodes.proofs.content.cut.cut_blocks.Goals.{then-has+then-index-size+in_ok-cut_block, else-has}
+use Rattle.nfs_inodes.proofs.content.cut.cut_blocks.Goals.{else-has-via-then-has+else-index-size}
+use Rattle.nfs_inodes.proofs.content.cut.cut_blocks.Goals.{else-has-via-else-has}
 
 pub loop-place-preserved : goal.loop-place-preserved
 loop-place-preserved c = elim c.if-has.branch [

@@ -7,7 +7,8 @@ use Rattle.nfs_inodes.proofs.content.cut.cut_off.Goals.{then-has+in_ok-left, els
 
 pub loop-page-init : goal.loop-page-init
 loop-page-init c =
-    cut-start c.args.draft.now c.args.number c.args.pages c.args.size c.requires.pages c.below-left.result c.below-left.ensures
+    cut-start c.args.draft.now c.args.number c.args.pages c.args.size c.requires.pages c.below-left.result
+    c.below-left.ensures
 
 pub cut_next-requires-clause-told : goal.cut_next-requires-clause-told
 cut_next-requires-clause-told c =
@@ -18,7 +19,8 @@ cut_next-requires-clause-told c =
     let within : page - first < length maps = omega (arith, counted, c.loop-page.auto.page, c.loop-page-test.true) in
     let at = get_or_read maps (page - first) c.index.result.now within c.index.ensures blank in
     subst (λ bits. KnowsTold c.loop-page.draft c.args.number page bits (c.args.size / 4096)) (sym at)
-    (told-known c.args.draft.now c.loop-page.draft c.args.number c.args.size page c.loop-page.left (told_at maps first page)
+    (told-known c.args.draft.now c.loop-page.draft c.args.number c.args.size page c.loop-page.left
+    (told_at maps first page)
     c.loop-page.invariant
     (subst (λ l. KnowsTold c.args.draft.now c.args.number page (told_at l first page) (c.args.size / 4096))
     c.deref.ensures.value (c.in_ok-ask_blocks.ensures page c.loop-page.auto.page c.loop-page-test.true)))

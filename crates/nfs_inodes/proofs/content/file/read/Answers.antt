@@ -10,7 +10,8 @@ use Rattle.nfs_inodes.proofs.content.file.read.Goals as goal
 pub returns-in_err-inode : goal.returns-in_err-inode
 returns-in_err-inode c =
     let p = err_from_is_err_and c.from_residual.result c.from_residual.ensures.1 in
-    rw (p.1, p.2) (read-object c.args.draft.now c.args.file.now.known.number c.args.offset _ c.in_err-inode.ensures.inode)
+    rw (p.1, p.2) (read-object c.args.draft.now c.args.file.now.known.number c.args.offset _
+    c.in_err-inode.ensures.inode)
 
 pub returns-in_default : goal.returns-in_default
 returns-in_default c = λ s k w.
@@ -29,4 +30,5 @@ returns-in_default-content c = λ s k w.
 
 pub returns : goal.returns
 returns c =
-    read-result c.args.draft.now c.args.file.now.known.number c.args.offset c.args.count c.read_file.result c.read_file.ensures
+    read-result c.args.draft.now c.args.file.now.known.number c.args.offset c.args.count c.read_file.result
+    c.read_file.ensures

@@ -91,7 +91,8 @@ returns c =
     (λ s k fits stands. c.in_ok-pages.ensures.content s k _ fits stands
     (rw c.size-old_size.ensures.value (content-there mid n old
     (file-map d mid n c.in_ok-kept.kept.inode.now old has c.in_ok-count.ensures.keeps) s k fits stands)))
-    (put-made c.in_ok-kept.kept.inode.now c.in_ok-inode.inode c.with_content-new.result c.now.result (time_of d.ctx.moment) _ _
+    (put-made c.in_ok-kept.kept.inode.now c.in_ok-inode.inode c.with_content-new.result c.now.result
+    (time_of d.ctx.moment) _ _
     c.with_content-new.ensures (c.now.ensures ∙ ap (λ (x : Ctx). time_of x.moment) (c.ctx.ensures
     ∙ c.in_ok-pages.ensures.lays.ctx
     ∙ (c.in_ok-count.ensures.turns c.share_of-share.result.usage c.of_one.result c.in_ok-usage.ensures).ctx))

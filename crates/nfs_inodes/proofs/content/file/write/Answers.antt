@@ -8,7 +8,8 @@ use Rattle.nfs_objects.specs.Calls.{maps_at}
 use Rattle.nfs_objects.specs.declared.address.Addr.TheVariants as addresses
 use Rattle.nfs_objects.specs.declared.object.Inode.{Inode}
 use Rattle.nfs_inodes.proofs.Counting.{count-known}
-use Rattle.nfs_inodes.proofs.Filing.{file-map, laid-change, laid-generation, laid-known, put-made, range-content, written-turns}
+use Rattle.nfs_inodes.proofs.Filing.{file-map, laid-change, laid-generation, laid-known, put-made, range-content}
+use Rattle.nfs_inodes.proofs.Filing.{written-turns}
 use Rattle.nfs_inodes.proofs.Halting.{stops-before}
 use Rattle.nfs_inodes.proofs.Putting.{object-stops, usage-stops}
 use Rattle.nfs_inodes.proofs.Reading.{has-pages}
@@ -117,10 +118,13 @@ returns c =
     (λ x. written x c.args.offset c.args.bytes.now)
     c.share_of-share.result c.of_one-after.result c.put.new.self c.with_content-new.result has.inode has.content
     c.in_ok-pages.ensures.lays c.in_ok-pages.ensures.maps
-    (range-content mid c.write_range.new.draft n old c.args.offset c.max-size.result c.args.bytes.now c.in_ok-pages.pages
-    (file-map d mid n c.in_ok-kept.kept.inode.now old has c.in_ok-count.ensures.keeps) c.in_ok-pages.ensures c.requires.some
+    (range-content mid c.write_range.new.draft n old c.args.offset c.max-size.result c.args.bytes.now
+    c.in_ok-pages.pages
+    (file-map d mid n c.in_ok-kept.kept.inode.now old has c.in_ok-count.ensures.keeps) c.in_ok-pages.ensures
+    c.requires.some
     (c.max-size.ensures ∙ ap (λ s. max s (c.args.offset + length c.args.bytes.now)) c.size.ensures.value))
-    (put-made c.in_ok-kept.kept.inode.now c.in_ok-inode.inode c.with_content-new.result c.now.result (time_of d.ctx.moment) _ _
+    (put-made c.in_ok-kept.kept.inode.now c.in_ok-inode.inode c.with_content-new.result c.now.result
+    (time_of d.ctx.moment) _ _
     c.with_content-new.ensures (c.now.ensures ∙ ap (λ (x : Ctx). time_of x.moment) (c.ctx.ensures
     ∙ c.in_ok-pages.ensures.lays.ctx
     ∙ (c.in_ok-count.ensures.turns c.share_of-share.result.usage c.of_one-after.result c.in_ok-usage.ensures).ctx))

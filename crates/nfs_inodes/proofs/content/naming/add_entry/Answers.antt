@@ -37,7 +37,8 @@ returns-clause-turns c =
     c.in_ok-put.ensures.ok c.in_ok-put.ensures.fits
 
 pub returns-clause-known : goal.returns-clause-known
-returns-clause-known c = knows-on c.args.draft.now c.args.directory.now.known.number c.put.new.self _ c.in_ok-put.ensures.ok
+returns-clause-known c = knows-on c.args.draft.now c.args.directory.now.known.number c.put.new.self _
+    c.in_ok-put.ensures.ok
 
 pub returns-clause-kinds : goal.returns-clause-kinds
 returns-clause-kinds c =
