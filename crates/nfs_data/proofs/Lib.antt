@@ -3,6 +3,7 @@ pub mod Asking
 pub mod Changing
 pub mod Committing
 pub mod Granting
+pub mod Placing
 pub mod Reading
 pub mod Setting
 pub mod Spaces

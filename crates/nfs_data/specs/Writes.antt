@@ -1,10 +1,10 @@
 -- What a WRITE comes to (RFC 1813, 3.3.7).
-use Rattle.std.specs.Prelude.{◌≡◌, ◌+◌, ◌≤◌, ◌<◌, ◌^◌, ◌==◌, ℕ, List, Some, None}
+use Rattle.std.specs.Prelude.{◌≡◌, ◌+◌, ◌≤◌, ◌<◌, ◌==◌, ℕ, List, Some, None}
 use Rattle.std.specs.Prelude.{Result, Ok, length, take, if◌then◌else◌}
 use Rattle.nfs_wire.specs.declared.calls.WriteArguments.{WriteArguments}
 use Rattle.nfs_wire.specs.declared.replies.Written.{Written}
 use Rattle.nfs_wire.specs.declared.status.NfsStatus.{NfsStatus}
-use Rattle.nfs_machine.specs.Data.{written}
+use Rattle.nfs_machine.specs.Data.{size_limit, written}
 use Rattle.nfs_machine.specs.DataSteps.{WriteEnd, verifier_of, write_count, write_end}
 use Rattle.nfs_machine.specs.Shown.{with_content}
 use Rattle.nfs_machine.specs.State.{Content, Regular, State}
@@ -34,7 +34,7 @@ write_found ctx a x content = bytes_found content (λ bytes. Ok (record {
       else Some (with_content (shell x content) (time_of ctx.moment) (Regular (bytes_after a bytes)));
 }))
 
--- the bytes are there, and where there are any they end below 2^64
+-- the bytes are there, and where there are any they end within the largest file
 pub record HasRoom (a : WriteArguments) : Type 0 where
   pub there : write_count a ≤ length a.«data»
-  pub below : 0 < write_count a → a.offset + write_count a < 2 ^ 64
+  pub below : 0 < write_count a → a.offset + write_count a ≤ size_limit

@@ -7,9 +7,9 @@ ghost use Rattle.nfs_machine.specs.State.{Content};
 ghost use Rattle.nfs_machine.specs.declared.calls.Call.TheVariants as calls;
 ghost use Rattle.nfs_objects.specs.Attempt.{EndsCall, EndsFirst};
 ghost use Rattle.nfs_objects.specs.Begins.{Begins};
-ghost use Rattle.nfs_objects.specs.Calls.{addresses_of};
 ghost use Rattle.nfs_objects.specs.Knows.{Knows};
 ghost use Rattle.nfs_objects.specs.declared.address.Addr.TheVariants as addresses;
+ghost use Rattle.nfs_inodes.specs.Blocks.{read_from};
 ghost use Rattle.nfs_inodes.specs.Known.{IsKnown, object_at, shell};
 ghost use Rattle.nfs_inodes.specs.Stops.{StopsAt};
 ghost use Rattle.nfs_data.specs.Reads.{read_found};
@@ -43,7 +43,7 @@ fn read_of(
     ensures { MatchResult result
         (λ found. Knows draft.now (λ k.
         read_object draft.now.ctx (object_at k.state known.now) arguments.now ≡ found))
-        (StopsAt draft.now (addresses_of draft.now.view known.now.number)) }
+        (StopsAt draft.now (read_from draft.now.view known.now.number arguments.now.offset)) }
 {
     match readable(draft.ctx(), known) {
         Ok(file) => Ok(Ok(read(draft, &file, arguments.offset, arguments.count)?)),

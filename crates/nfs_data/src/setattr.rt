@@ -1,6 +1,6 @@
 //! SETATTR: new attributes of an object (RFC 1813, 3.3.2).
 
-ghost use Rattle.std.specs.Prelude.{◌≡◌, ◌%◌, ◌==◌, ◌||◌, ◌&&◌, true, not, IfOk, IfSome};
+ghost use Rattle.std.specs.Prelude.{◌≡◌, ◌%◌, ◌==◌, ◌||◌, ◌&&◌, [], true, not, IfOk, IfSome};
 ghost use Rattle.std.specs.Prelude.{MatchResult, if◌then◌else◌, is_none, is_some, option_map, unwrap_or};
 ghost use Rattle.nfs_machine.specs.AttributeSteps.{set_object};
 ghost use Rattle.nfs_machine.specs.Attributes.{type_of};
@@ -91,6 +91,7 @@ fn set(
 
 /// Gives a file its new size, if there is one.
 fn resize_to(draft: &mut Draft<'_>, number: u64, size: Option<NewSize>) -> Result<(), Halt>
+    requires none { draft.old.writes ≡ [] }
     requires alone { draft.old.modes ≡ changing }
     requires file { IfSome size (λ new. new.file.known.number ≡ number) }
     requires shown { IfSome size (λ new. IsShown draft.old new.file.known) }

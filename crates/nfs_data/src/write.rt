@@ -11,7 +11,7 @@ ghost use Rattle.nfs_objects.specs.Begins.{Begins};
 ghost use Rattle.nfs_objects.specs.Calls.{named_by};
 ghost use Rattle.nfs_objects.specs.Knows.{Does, Knows};
 ghost use Rattle.nfs_inodes.specs.Kinds.{IsShown};
-ghost use Rattle.nfs_inodes.specs.Known.{Names, shell};
+ghost use Rattle.nfs_inodes.specs.Known.{HasNumber, Names, shell};
 ghost use Rattle.nfs_inodes.specs.Stops.{StopsAt};
 ghost use Rattle.nfs_data.specs.Writes.{HasRoom, IsWriteEnd, answer_to, write_found};
 
@@ -48,6 +48,7 @@ fn store(
 ) -> Result<Result<Written, NfsStatus>, Halt>
     requires begins { Begins (calls.Nfs (NfsCall.Write arguments.now)) draft.old }
     requires names { Knows draft.old (λ k. Names draft.old.ctx arguments.now.file k known.now) }
+    requires number { HasNumber arguments.now.file known.now.number }
     requires shown { IsShown draft.old known.now }
     ensures { MatchResult result
         (Does draft.old draft.new (IsWriteEnd draft.old.ctx arguments.now))

@@ -24,6 +24,7 @@ pub mod Listed
 pub mod Loosed
 pub mod Making
 pub mod Opened
+pub mod Opener
 pub mod Openings
 pub mod Parted
 pub mod Placed

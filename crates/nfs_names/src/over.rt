@@ -78,6 +78,7 @@ fn size_allowed(ctx: &Ctx, file: &Known, size: u64) -> Result<(), NfsStatus>
 
 /// Cuts the file off, or fills it up, where a size is given.
 fn give_size(draft: &mut Draft<'_>, file: &File, size: Option<u64>) -> Result<(), Halt>
+    requires none { draft.old.writes ≡ [] }
     requires alone { draft.old.modes ≡ changing }
     requires shown { IsShown draft.old file.now.known }
     ensures { MatchResult result

@@ -15,6 +15,7 @@ use Rattle.nfs_machine.specs.declared.context.Ctx.{Ctx}
 use Rattle.nfs_machine.specs.declared.handle.Handle.{Handle}
 use Rattle.nfs_wire.specs.declared.calls.Place.{Place}
 use Rattle.nfs_wire.specs.declared.calls.RenameArguments.{RenameArguments}
+use Rattle.nfs_objects.proofs.Knows.{names-objects}
 use Rattle.nfs_objects.proofs.Suiting.{grows-suitably, starts-suitably}
 use Rattle.nfs_objects.specs.Asks.{Asks, EachOnce, MayAsk}
 use Rattle.nfs_objects.specs.Attempt.{AsksFirst, Attempts}
@@ -181,7 +182,7 @@ may_ask_first (calls.Nfs call) a is =
           record {
             unseen = refl;
             mode = sym (ap (λ b. cond b Shared modes.inodes) (nothing_read modes.renames first.0.fileid));
-            bounded = inl (inr first.2);
+            bounded = inl (names-objects (calls.Nfs call) nothing (Inode first.0.fileid) first.2);
           },
           tt,
         ),

@@ -2,7 +2,9 @@ use Rattle.std.proofs.Common.{Ok, Err, refl}
 use Rattle.std.proofs.lemmas.Result.{err_from_is_err_and}
 use Rattle.nfs_wire.specs.declared.calls.NfsCall.TheVariants as nfs
 use Rattle.nfs_machine.specs.declared.calls.Call.TheVariants as calls
-use Rattle.nfs_inodes.proofs.Ending.{lives-as, means-as, naming, reading}
+use Rattle.nfs_inodes.proofs.Ending.{asking, lives-as, means-as, naming, number-as}
+use Rattle.nfs_inodes.specs.Blocks.{read_from}
+use Rattle.nfs_data.proofs.Placing.{read-covers}
 use Rattle.nfs_data.proofs.Telling.{read-tells, refused-promised, told-promised}
 use Rattle.nfs_data.proofs.read.attempt.Goals as goal
 use Rattle.nfs_data.proofs.read.attempt.Goals.{in-Ok+in_ok-read_of-in-Ok, in-Err}
@@ -22,9 +24,13 @@ pub returns-in_err-read_of-in-Ok-clause-ends : goal.returns-in_err-read_of-in-Ok
 returns-in_err-read_of-in-Ok-clause-ends c =
     let p = err_from_is_err_and c.from_residual-in_err-read_of-in-Ok.result
     c.from_residual-in_err-read_of-in-Ok.ensures.1 in
+    let a = c.args.arguments.now in
     rw (p.1, p.2)
-    (reading c.args.draft (calls.Nfs (nfs.Read c.args.arguments.now)) _ c.requires c.in-Ok.known
-    (lives-as c.args.draft.view _ c.in-Ok.known c.in-Ok.is c.in_ok-known.ensures.lives)
+    (asking c.args.draft (calls.Nfs (nfs.Read a)) _ c.requires
+    (read_from c.args.draft.view c.in-Ok.known.number a.offset)
+    (read-covers c.args.draft.view a c.in-Ok.known.number
+    (number-as a.file _ _ c.in-Ok.known c.as_slice.ensures c.in-Ok.is c.in_ok-known.ensures.number)
+    (lives-as c.args.draft.view _ c.in-Ok.known c.in-Ok.is c.in_ok-known.ensures.lives))
     c.in_err-read_of-in-Ok.ensures)
 
 pub returns-clause-ends : goal.returns-clause-ends

@@ -5,7 +5,7 @@ use Rattle.nfs_machine.specs.declared.calls.Call.TheVariants as calls
 use Rattle.nfs_objects.specs.Promise.{Given, Held}
 use Rattle.nfs_objects.specs.Values.{DraftValue}
 use Rattle.nfs_inodes.proofs.Halting.{stops-before}
-use Rattle.nfs_inodes.proofs.Ending.{lives-as, means-as, naming, reading}
+use Rattle.nfs_inodes.proofs.Ending.{lives-as, means-as, naming, number-as, reading}
 use Rattle.nfs_inodes.proofs.Showing.{shown-so}
 use Rattle.nfs_data.proofs.Changing.{changed-promised, refused-promised, write-changes}
 use Rattle.nfs_objects.specs.Calls.{addresses_of}
@@ -22,6 +22,10 @@ returns-in_err-known-clause-ends c =
 pub store-requires-clause-names : goal.store-requires-clause-names
 store-requires-clause-names c = means-as c.args.draft c.args.arguments.now.file _ _ (Ok c.in-Ok.known)
     c.as_slice.ensures c.in-Ok.is c.in_ok-known.ensures.means
+
+pub store-requires-clause-number : goal.store-requires-clause-number
+store-requires-clause-number c =
+    number-as c.args.arguments.now.file _ _ c.in-Ok.known c.as_slice.ensures c.in-Ok.is c.in_ok-known.ensures.number
 
 pub returns-in_err-wcc-in-Ok-clause-ends : goal.returns-in_err-wcc-in-Ok-clause-ends
 returns-in_err-wcc-in-Ok-clause-ends c =

@@ -9,6 +9,7 @@ use Rattle.nfs_machine.specs.Data.{written}
 use Rattle.nfs_machine.specs.DataSteps.{write_count}
 use Rattle.nfs_machine.specs.Times.{time_of}
 use Rattle.nfs_machine.specs.declared.calls.Call.TheVariants as calls
+use Rattle.nfs_objects.proofs.Knows.{stops-wider}
 use Rattle.nfs_objects.specs.Asks.{IsThere}
 use Rattle.nfs_objects.specs.Calls.{named_by}
 use Rattle.nfs_objects.specs.Knows.{Turns}
@@ -16,13 +17,15 @@ use Rattle.nfs_objects.specs.Values.{DraftValue}
 use Rattle.nfs_objects.specs.declared.address.Addr.TheVariants as addresses
 use Rattle.nfs_inodes.proofs.Counting.{usage-lives-first}
 use Rattle.nfs_inodes.proofs.Standing.{known-lives}
+use Rattle.nfs_inodes.specs.Blocks.{written_from}
 use Rattle.nfs_inodes.specs.Kinds.{IsShown}
+use Rattle.nfs_inodes.specs.Known.{HasNumber}
 use Rattle.nfs_inodes.specs.Makes.{bytes_changed}
 use Rattle.nfs_inodes.specs.declared.found.Known.{Known}
+use Rattle.nfs_data.proofs.Placing.{write-covers}
 use Rattle.nfs_data.proofs.Writing.{Checks, nothing-does, refused-does, written-does}
 use Rattle.nfs_data.specs.Writes.{bytes_after}
-use Rattle.nfs_inodes.proofs.Halting.{any-stops, exports-stop-at}
-use Rattle.nfs_inodes.proofs.Composing.{counted-stops}
+use Rattle.nfs_inodes.proofs.Halting.{exports-stop-at}
 use Rattle.nfs_data.proofs.write.store.Goals as goal
 use Rattle.nfs_data.proofs.write.store.Goals.{then-answer-gt0+in_ok-write, else-answer-gt0}
 
@@ -45,12 +48,16 @@ returns-in_err-exports c =
 pub returns-in_err-write : goal.returns-in_err-write
 returns-in_err-write c =
     let p = err_from_is_err_and c.from_residual-in_err-write.result c.from_residual-in_err-write.ensures.1 in
-    rw (p.1, p.2) (any-stops c.args.draft.now
-    (named_by (calls.Nfs (nfs.Write c.args.arguments.now)) c.args.draft.now.view) _
-    (counted-stops c.args.draft.now c.in-Ok.file.known.number _
-    (subst (λ (y : Known). IsThere c.args.draft.now.view (addresses.Inode y.number)) (sym c.in-Ok.ensures.known)
-    (known-lives c.args.draft.now c.args.known.now c.requires.begins.none (λ s k w. (c.requires.names s k w).known)))
-    (usage-lives-first c.args.draft.now c.in-Ok.file.known.number c.requires.begins.none) c.in_err-write.ensures))
+    let d = c.args.draft.now in
+    let a = c.args.arguments.now in
+    let number = c.in-Ok.file.known.number in
+    rw (p.1, p.2) (stops-wider d.modes (written_from d number a.offset)
+    (named_by (calls.Nfs (nfs.Write a)) d.view) 0 d.view _
+    (write-covers d a number
+    (subst (λ (y : Known). HasNumber a.file y.number) (sym c.in-Ok.ensures.known) c.requires.number)
+    (subst (λ (y : Known). IsThere d.view (addresses.Inode y.number)) (sym c.in-Ok.ensures.known)
+    (known-lives d c.args.known.now c.requires.begins.none (λ s k w. (c.requires.names s k w).known)))
+    (usage-lives-first d number c.requires.begins.none)) c.in_err-write.ensures)
 
 pub returns-in-Err : goal.returns-in-Err
 returns-in-Err c =

@@ -2,8 +2,11 @@ use Rattle.nfs_objects.proofs.Promised.{turns-none}
 use Rattle.nfs_names.proofs.Renaming.{always-counting}
 use Rattle.nfs_names.proofs.rename.lose_replaced.Goals as goal
 
-pub lose_link-requires : goal.lose_link-requires
-lose_link-requires c = rw c.in-Some.is at c.requires.alone
+pub lose_link-requires-clause-alone : goal.lose_link-requires-clause-alone
+lose_link-requires-clause-alone c = rw c.in-Some.is at c.requires.alone
+
+pub lose_link-requires-clause-stands : goal.lose_link-requires-clause-stands
+lose_link-requires-clause-stands c = (rw c.in-Some.is at c.requires.counts).stands
 
 pub returns-in-Some : goal.returns-in-Some
 returns-in-Some c =
