@@ -1,14 +1,13 @@
 -- An address that nobody holds is taken, filled, and let go.
 use Rattle.std.proofs.Common.{◌≡◌, ◌==◌, ℕ, Bool, true, false, cond, Option, Some, None, IsSome}
-use Rattle.std.proofs.Common.{Result, Ok, refl, sym, ◌∙◌, ap, subst}
+use Rattle.std.proofs.Common.{refl, sym, ◌∙◌, ap, subst}
 use Rattle.std.specs.Cmp.{unsigned_Decides}
 use Rattle.nfs_objects.proofs.Seen.{is_addr-refl, is_addr-same}
 use Rattle.nfs_objects.specs.Values.{is_addr}
 use Rattle.nfs_objects.specs.declared.address.Addr.{Addr}
 use Rattle.nfs_objects.specs.declared.modes.Mode.{Mode}
 use Rattle.nfs_objects.specs.declared.object.Object.{Object}
-use Rattle.nfs_engine.specs.Shards.{Fills, IsHad, IsHeld, Retakes, ShardValue, hold_at}
-use Rattle.nfs_engine.specs.declared.shard.Had.{Had}
+use Rattle.nfs_engine.specs.Shards.{Fills, IsHeld, Retakes, ShardValue, hold_at}
 
 -- who took an address holds it
 pub taken-held : (old new : ShardValue) (a : Addr) (id : ℕ) (m : Mode) → Retakes old new a id (Some m) → IsHeld new a
