@@ -6,7 +6,7 @@ use Rattle.nfs_wire.specs.declared.calls.WriteArguments.{WriteArguments}
 use Rattle.nfs_machine.specs.Handles.{handle_of}
 use Rattle.nfs_machine.specs.declared.calls.Call.TheVariants as calls
 use Rattle.nfs_machine.specs.declared.handle.Handle.{Handle}
-use Rattle.nfs_objects.proofs.Knows.{Covers, covers-among, covers-both, names-data}
+use Rattle.nfs_objects.proofs.Knows.{Covers, among-behind, among-front, covers-among, covers-both, names-data}
 use Rattle.nfs_objects.specs.Asks.{IsThere}
 use Rattle.nfs_objects.specs.Calls.{IsAmong, addresses_of, blocks_at, in_file, maps_at, named_by}
 use Rattle.nfs_objects.specs.Values.{DraftValue, ViewValue}
@@ -43,9 +43,13 @@ pub write-covers : (d : DraftValue) (a : WriteArguments) (number : ℕ) → HasN
     Covers (named_by (calls.Nfs (nfs.Write a)) d.view) d.view (written_from d number a.offset)
 write-covers d a number has lives counts =
     let named = named_by (calls.Nfs (nfs.Write a)) d.view in
-    let placed = λ (file : ℕ). blocks_at file a.offset ++ maps_at file a.offset in
-    covers-both named d.view (counted_at d number) (placed number)
+    let blocks = blocks_at number a.offset in
+    let maps = maps_at number a.offset in
+    let names = λ (x : Addr) (among : IsAmong (blocks ++ maps) x). names-data (nfs.Write a) d.view x
+    (in-file a.file number (λ file. blocks_at file a.offset ++ maps_at file a.offset) x has among) in
+    covers-both named d.view (counted_at d number ++ blocks) maps
+    (covers-both named d.view (counted_at d number) blocks
     (covers-both named d.view (addresses_of d.view number) (group_at number (inode_at d number)) (inr lives, tt)
     (group-lives d number d.view named refl counts))
-    (covers-among (placed number) named d.view (λ x among. names-data (nfs.Write a) d.view x
-    (in-file a.file number placed x has among)))
+    (covers-among blocks named d.view (λ x among. names x (among-front blocks maps x among))))
+    (covers-among maps named d.view (λ x among. names x (among-behind blocks maps x among)))
