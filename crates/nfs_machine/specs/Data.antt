@@ -8,7 +8,7 @@ abbrev pub transfer_limit : ℕ
 transfer_limit = 65536
 
 abbrev pub size_limit : ℕ
-size_limit = 1048576
+size_limit = 1073741824
 
 -- a file of this size: cut off, or filled up with zeros
 abbrev pub resized : List ℕ → ℕ → List ℕ
