@@ -85,7 +85,7 @@ pub record WorkedMakes : Type 0 where
       }
   pub link_mode : (made_by (wanted_of (octal 7 7 7) (Link (codes "a")) no_attributes)).mode ≡ octal 7 7 7
   -- a size is for regular files alone
-  pub no_size : given_attributes (called_as 9) (wanted_of (octal 7 5 5) (Directory [] 2) (sized 1048577)).attributes
+  pub no_size : given_attributes (called_as 9) (wanted_of (octal 7 5 5) (Directory [] 2) (sized 1073741825)).attributes
       ≡ Ok tt
 
 abbrev pub first_entry : Entry

@@ -71,9 +71,9 @@ pub record WorkedSetting : Type 0 where
       (setting (record no_attributes { modified = ToClient (time 0 1000000000) }) (Some (time 1000 0))) ≡
       Err status.NotSynchronized
   pub bad_time : set_by 5
-      (record (sized 1048577) { modified = ToClient (time 0 1000000000) }) known ≡ Err status.Invalid
-  pub directory : set_by 5 (sized 1048577) (opening_root 1 (time 1000 0)) ≡ Err status.Invalid
-  pub too_big : set_by 5 (record (sized 1048577) { mode = Some (octal 6 0 0) }) known ≡ Err status.FileTooBig
+      (record (sized 1073741825) { modified = ToClient (time 0 1000000000) }) known ≡ Err status.Invalid
+  pub directory : set_by 5 (sized 1073741825) (opening_root 1 (time 1000 0)) ≡ Err status.Invalid
+  pub too_big : set_by 5 (record (sized 1073741825) { mode = Some (octal 6 0 0) }) known ≡ Err status.FileTooBig
   pub mode : set_by 5 (record (sized 2) { mode = Some (octal 6 0 0) }) known ≡ Err status.Permission
   pub client_time : set_by 5 (record no_attributes { accessed = ToClient (time 5 6) }) known ≡ Err status.Permission
   pub given_away : set_by 9 (record no_attributes { uid = Some 8 }) known ≡ Err status.Permission
