@@ -2,7 +2,7 @@
 use Rattle.std.proofs.Common.{◌≡◌, ◌≢◌, ◌+◌, ◌-◌, ◌*◌, ◌/◌, ◌%◌, ◌<◌, ◌≤◌, ◌==◌, ◌&&◌, ◌||◌, ◌⊎◌, ℕ, true, false}
 use Rattle.std.proofs.Common.{Bool, max, min, nat_le, nat_lt}
 use Rattle.std.proofs.Common.{List, [], Option, Some, None, inl, inr, refl, sym, ◌∙◌, ap, subst, arith}
-use Rattle.std.proofs.Common.{cond, length, option_map, unwrap_or}
+use Rattle.std.proofs.Common.{IfSome, IsSome, cond, is_some, length, option_map, unwrap_or}
 use Rattle.std.proofs.lemmas.Bool.{cases_lt, le-leb, lt-leb, lt-ltb, le-ltb}
 use Rattle.std.specs.Cmp.{unsigned_Decides}
 use Rattle.nfs_machine.specs.Data.{written}
@@ -547,3 +547,21 @@ module _ (old mid late new : DraftValue) (n offset : ℕ) (bytes : List ℕ) (pa
         known a one two none =
             (put-leaves late new n high between after back second-put).known a two
             ∙ (put-leaves mid late n low pages between front first-put).known a one ∙ blocks.leaves.known a none
+
+-- ---- a map page that is put is known
+told-known : (o : Option (Option Object)) (was : Bits) → option_map map_of o ≡ Some was → IsSome o
+told-known None was is = ap is_some is
+told-known (Some o) was is = refl
+
+-- the last one too, where blocks were written and the first one was put before
+pub back-known : (old mid late : DraftValue) (n first end low high : ℕ) (front : Option Bits) (pages between : Bits) →
+    ((p : ℕ) → known_at mid (addresses.Map n p) ≡ known_at old (addresses.Map n p)) →
+    IsMapPut mid late n low front pages between → (back : Option Bits) →
+    IsBackAfter old n first end low high back → IfSome back (λ _. IsSome (known_at late (addresses.Map n high)))
+back-known old mid late n first end low high front pages between stay put None is = tt
+back-known old mid late n first end low high front pages between stay put (Some bits) is =
+    let apart : low ≢ high = λ same. (let no : Some bits ≡ None = is.same same in cc) in
+    subst (λ o. IsSome o)
+    (sym ((put-leaves mid late n low pages between front put).known (addresses.Map n high)
+    (other-map n low high apart) ∙ stay high))
+    (told-known (known_at old (addresses.Map n high)) (is.other apart).0 (is.other apart).1)

@@ -1,9 +1,11 @@
-use Rattle.std.proofs.Common.{◌-◌, ◌/◌, arith, subst}
+use Rattle.std.proofs.Common.{◌-◌, ◌/◌, IfSome, IsSome, arith, refl, subst, sym}
 use Rattle.std.proofs.lemmas.Result.{err_from_is_err_and}
 use Rattle.nfs_objects.specs.Calls.{maps_at}
+use Rattle.nfs_objects.specs.Values.{known_at}
+use Rattle.nfs_objects.specs.declared.address.Addr.TheVariants as addresses
 use Rattle.nfs_inodes.proofs.Halting.{any-stops}
 use Rattle.nfs_inodes.proofs.WriteAsks.{one-map}
-use Rattle.nfs_inodes.proofs.Written.{range-written}
+use Rattle.nfs_inodes.proofs.Written.{back-known, range-written}
 use Rattle.nfs_inodes.specs.Blocks.{IsMapAfter, IsMapPut, end_of, first_of}
 use Rattle.nfs_inodes.proofs.content.blocks.write_range.Goals as goal
 
@@ -27,6 +29,21 @@ returns-in_err-write_blocks c =
     c.from_residual-in_err-write_blocks.ensures.1 in
     rw (p.1, p.2) (any-stops c.args.draft.now (maps_at c.args.number c.args.range.offset) _
     c.in_err-write_blocks.ensures)
+
+pub put_map-requires-2-clause-known : goal.put_map-requires-2-clause-known
+put_map-requires-2-clause-known c =
+    let d = c.args.draft.now in
+    let n = c.args.number in
+    let first = first_of c.args.range.offset in
+    let end = end_of c.args.range.offset c.args.range.count in
+    subst (λ p. IfSome c.in_ok-back.back (λ _. IsSome (known_at c.put_map.new.draft (addresses.Map n p))))
+    (sym c.last_page.ensures)
+    (back-known d c.write_blocks.new.draft c.put_map.new.draft n first end (first / 512) ((end - 1) / 512)
+    c.in_ok-front.front c.args.pages c.in_ok-pages.pages
+    (λ p. c.in_ok-write_blocks.ensures.leaves.known (addresses.Map n p) (λ i from before. refl))
+    (subst (λ p. IsMapPut c.write_blocks.new.draft c.put_map.new.draft n p c.in_ok-front.front c.args.pages
+    c.in_ok-pages.pages) c.first_page-2.ensures c.in_ok-pages.ensures)
+    c.in_ok-back.back c.in_ok-back.ensures)
 
 pub returns : goal.returns
 returns c =
