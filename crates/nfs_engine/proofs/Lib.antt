@@ -35,6 +35,7 @@ pub mod Settled
 pub mod Sixteen
 pub mod Sizes
 pub mod Slots
+pub mod Standing
 pub mod Stepped
 pub mod Steps
 pub mod Turned

@@ -24,5 +24,6 @@ pub mod Repeats
 pub mod Running
 pub mod Settling
 pub mod Shards
+pub mod Standing
 pub mod Tables
 pub mod Taking

@@ -1,5 +1,5 @@
 -- What is kept at each address, and the store that it is.
-use Rattle.std.specs.Prelude.{◌≡◌, ◌<◌, ℕ, List, Option, Some, None, option_map, unwrap_or}
+use Rattle.std.specs.Prelude.{◌≡◌, ◌<◌, ℕ, List, Option, Some, None, map, option_map, unwrap_or}
 use Rattle.std.specs.Arc.{arc_value}
 use Rattle.nfs_objects.specs.declared.address.Addr.{Addr}
 use Rattle.nfs_objects.specs.declared.address.Addr.TheVariants.{Inode}
@@ -22,10 +22,14 @@ kept_value k = record { object = option_map arc_value k.object; last = k.last }
 abbrev pub empty_kept : KeptValue
 empty_kept = record { object = None; last = 0 }
 
--- what is kept at each address, and how many more addresses take no memory
+abbrev pub kept_slots : List (Addr × Kept) → List (Addr × KeptValue)
+kept_slots slots = map (λ e. (e.0, kept_value e.1)) slots
+
+-- what is kept at each address, how many more addresses take no memory, and at how many something stands
 pub record ObjectsValue : Type 0 where
   pub slots : List (Addr × KeptValue)
   pub room : ℕ
+  pub standing : ℕ
 
 -- at an address that is not there nothing is kept
 abbrev pub kept_at : List (Addr × KeptValue) → Addr → KeptValue

@@ -12,6 +12,7 @@ ghost use Rattle.nfs_engine.specs.Commits.{IsReceipt, Leaves};
 ghost use Rattle.nfs_engine.specs.Opening.{IsStartError, Opens, no_store};
 ghost use Rattle.nfs_engine.specs.Repeats.{Keeps, NoneIsKept, origin_of};
 ghost use Rattle.nfs_engine.specs.Running.{living_count, running_at};
+ghost use Rattle.nfs_engine.specs.Standing.{HasObjects};
 ghost use Rattle.nfs_objects.specs.Store.{with_writes};
 ghost use Rattle.nfs_objects.specs.Values.{write_value};
 ghost use Rattle.nfs_machine.specs.Changing.{is_changing};
@@ -111,6 +112,13 @@ impl Book {
             era_records: config.era_records,
         };
         Ok((book, writes))
+    }
+
+    /// At how many addresses something stands.
+    pub fn objects(&self) -> u64
+        ensures { HasObjects (store_in self.now) result }
+    {
+        self.journal.objects().count()
     }
 
     /// Admits a record that came in. Its call is in progress; or it is a repeat of a call that changes something, and

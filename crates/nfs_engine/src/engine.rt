@@ -6,7 +6,7 @@ ghost use Rattle.std.specs.Bool.{Decides};
 ghost use Rattle.std.specs.List.{AllByRecursion};
 ghost use Rattle.nfs_objects.specs.Values.{seen_at, write_value};
 ghost use Rattle.nfs_engine.specs.Book.{Admits, Commits, GivesUp, LeadsBook, MayCommit, Rebases, Steps, TakesEra};
-ghost use Rattle.nfs_engine.specs.Book.{TakesMessage, is_full};
+ghost use Rattle.nfs_engine.specs.Book.{TakesMessage, is_full, store_in};
 ghost use Rattle.nfs_engine.specs.Calls.{again_of, txn_of};
 ghost use Rattle.nfs_engine.specs.Commits.{IsReceipt};
 ghost use Rattle.nfs_engine.specs.Engine.{AdmitsLiving, ArePlaces, CountsLocked, CountsReserved, Frees, IsAcquired};
@@ -17,6 +17,7 @@ ghost use Rattle.nfs_engine.specs.Opening.{IsStartError, Opens};
 ghost use Rattle.nfs_engine.specs.Repeats.{Keeps, origin_of};
 ghost use Rattle.nfs_engine.specs.Running.{living_count};
 ghost use Rattle.nfs_engine.specs.Settling.{IsSettled};
+ghost use Rattle.nfs_engine.specs.Standing.{HasObjects};
 ghost use Rattle.nfs_machine.specs.RpcReplies.{success_message};
 
 use crate::admission::{Admission, Refused};
@@ -80,6 +81,13 @@ impl Engine {
         ensures { IsTied self.now }
     {
         let _ = &self.book;
+    }
+
+    /// At how many addresses of the store something stands.
+    pub fn objects(&self) -> u64
+        ensures { HasObjects (store_in self.now.book) result }
+    {
+        self.book.objects()
     }
 
     /// The book and the shards, each to stand under a lock of its own.

@@ -1,6 +1,6 @@
 //! The objects of the present store, by address: first room for what is written, then writes, which cannot fail.
 
-ghost use Rattle.std.specs.Prelude.{◌≡◌, ◌+◌, ◌<◌, ◌≤◌, [], length, map, option_map, IfOk, IfSome};
+ghost use Rattle.std.specs.Prelude.{◌≡◌, ◌+◌, ◌<◌, ◌≤◌, [], length, map, max, option_map, IfOk, IfSome};
 ghost use Rattle.std.specs.Prelude.{OnOk};
 ghost use Rattle.std.specs.Prelude.{option_copied, slice_get};
 ghost use Rattle.std.specs.Arc.{arc_value};
@@ -10,7 +10,9 @@ ghost use Rattle.nfs_objects.specs.Fits.{Fits};
 ghost use Rattle.nfs_objects.specs.Store.{with_write, with_writes};
 ghost use Rattle.nfs_objects.specs.Values.{write_value};
 ghost use Rattle.nfs_engine.specs.Opening.{no_store};
-ghost use Rattle.nfs_engine.specs.Tables.{Stands, Unspent, generation_in, kept_at, store_of};
+ghost use Rattle.indexmap.specs.IndexMap.{spare};
+ghost use Rattle.nfs_engine.specs.Standing.{HasObjects, count_after};
+ghost use Rattle.nfs_engine.specs.Tables.{Stands, Unspent, generation_in, kept_at, kept_slots, store_of};
 
 use indexmap::IndexMap;
 use nfs_objects::{Addr, Object, Reserved, View, Write, share};
@@ -32,16 +34,20 @@ pub(crate) struct Kept {
 #[derive(Drop)]
 pub(crate) struct Objects {
     slots: IndexMap<Addr, Kept>,
+    /// At how many addresses something stands.
+    standing: u64,
 }
 
 impl Model for Objects {
-    ghost use Rattle.std.specs.Prelude.{map};
     ghost use Rattle.indexmap.specs.IndexMap.{spare};
-    ghost use Rattle.nfs_engine.specs.Tables.{ObjectsValue, kept_value};
+    ghost use Rattle.nfs_engine.specs.Standing.{HasObjects};
+    ghost use Rattle.nfs_engine.specs.Tables.{ObjectsValue, kept_slots, store_of};
 
     ghost Value = { ObjectsValue };
 
-    ghost view = { λ t. record { slots = map (λ e. (e.0, kept_value e.1)) t.slots.entries; room = spare t.slots } };
+    ghost view = { λ t. record { slots = kept_slots t.slots.entries; room = spare t.slots; standing = t.standing } };
+
+    ghost invariant = { λ t. HasObjects (store_of (kept_slots t.slots.entries)) t.standing };
 }
 
 impl Objects {
@@ -51,7 +57,15 @@ impl Objects {
     {
         Objects {
             slots: IndexMap::new(alloc),
+            standing: 0,
         }
+    }
+
+    /// At how many addresses something stands.
+    pub(crate) fn count(&self) -> u64
+        ensures { HasObjects (store_of self.now.slots) result }
+    {
+        self.standing
     }
 
     /// What these writes make of no object. They share their objects with it.
@@ -152,22 +166,55 @@ impl Objects {
             ≡ with_write (store_of self.old.slots) address (option_map arc_value object) }
         ensures room { self.old.room ≤ self.new.room + 1 }
     {
+        let standing = count_after(
+            self.standing,
+            self.find(address).is_some(),
+            object.is_some(),
+        );
         let last = self.last(address).max(generation(&object));
-        if object.is_none() && last == 0 {
-            self.take_out(address);
-            return;
-        }
-        self.slots.insert(address, Kept { object, last }).unwrap();
+        keep(&mut self.slots, address, Kept { object, last });
+        // The number of slots brings the bound of the count.
+        let _slots = self.slots.len();
+        self.standing = standing;
     }
+}
 
-    /// Takes away what stands at an address, whose number was never given, and the address with it.
-    fn take_out(&mut self, address: Addr)
-        requires { (kept_at self.old.slots address).last ≡ 0 }
-        ensures store { store_of self.new.slots ≡ with_write (store_of self.old.slots) address None }
-        ensures room { self.old.room ≤ self.new.room }
-    {
-        self.slots.swap_remove(&address);
+/// How many addresses there are at which something stands, once something stands at one or not, where something stood
+/// there or not.
+fn count_after(count: u64, stood: bool, stands: bool) -> u64
+    ensures { result ≡ count_after count stood stands }
+{
+    match (stood, stands) {
+        (true, false) => count.saturating_sub(1),
+        (false, true) => count.saturating_add(1),
+        (true, true) | (false, false) => count,
     }
+}
+
+/// Keeps this at an address; nothing where nothing stands, and no generation was given.
+fn keep(slots: &mut IndexMap<Addr, Kept>, address: Addr, kept: Kept)
+    requires room { 0 < spare slots.old }
+    requires last { kept.last ≡ max (kept_at (kept_slots slots.old.entries) address).last
+        (generation_in (option_map arc_value kept.object)) }
+    ensures store { store_of (kept_slots slots.new.entries)
+        ≡ with_write (store_of (kept_slots slots.old.entries)) address (option_map arc_value kept.object) }
+    ensures room { spare slots.old ≤ spare slots.new + 1 }
+{
+    if kept.object.is_none() && kept.last == 0 {
+        take_out(slots, address);
+        return;
+    }
+    slots.insert(address, kept).unwrap();
+}
+
+/// Takes away what stands at an address, whose number was never given, and the address with it.
+fn take_out(slots: &mut IndexMap<Addr, Kept>, address: Addr)
+    requires { (kept_at (kept_slots slots.old.entries) address).last ≡ 0 }
+    ensures store { store_of (kept_slots slots.new.entries)
+        ≡ with_write (store_of (kept_slots slots.old.entries)) address None }
+    ensures room { spare slots.old ≤ spare slots.new }
+{
+    slots.swap_remove(&address);
 }
 
 /// Whether both are the same object, or none.

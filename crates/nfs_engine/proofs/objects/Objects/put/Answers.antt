@@ -1,21 +1,25 @@
-use Rattle.std.proofs.Common.{◌≡◌, ◌∙◌, ap, max, option_map, sym}
+use Rattle.std.proofs.Common.{◌∙◌, ap, arith, option_map, sym}
+use Rattle.std.proofs.lemmas.List.{length-map}
 use Rattle.std.specs.Arc.{arc_value}
-use Rattle.nfs_objects.proofs.Looked.{so-ok}
-use Rattle.nfs_objects.specs.Store.{with_write}
-use Rattle.nfs_engine.proofs.Written.{put_store}
-use Rattle.nfs_engine.specs.Tables.{KeptValue, ObjectsValue, generation_in, kept_at, store_of}
+use Rattle.nfs_engine.proofs.Standing.{found-some, given-some, put-count}
+use Rattle.nfs_engine.specs.Standing.{count_after}
+use Rattle.nfs_objects.specs.declared.address.Addr.{Addr}
+use Rattle.nfs_engine.specs.Tables.{KeptValue, ObjectsValue, kept_slots, kept_value, store_of}
 use Rattle.nfs_engine.proofs.objects.Objects.put.Goals as goal
 
-pub returns-clause-store : goal.returns-clause-store
-returns-clause-store c =
+pub invariant_of-self : goal.invariant_of-self
+invariant_of-self c =
     let object = option_map arc_value c.args.object in
-    let last : c.max-last.result ≡ max (kept_at c.args.self.now.slots c.args.address).last (generation_in object) =
-    c.max-last.ensures ∙ (λ i. max (c.last.ensures i) (c.generation.ensures i)) in
-    put_store c.self.inside.slots c.insert.new.self c.args.address _ object
-    (so-ok c.unwrap.ensures c.insert.ensures.updates)
-    (λ i. let k : KeptValue = record {
-      object = object;
-      last = (last ∙ ap (λ (t : ObjectsValue). max (kept_at t.slots c.args.address).last (generation_in object))
-          (sym c.self.view_is)) i;
-    } in k)
-    ∙ ap (λ (t : ObjectsValue). with_write (store_of t.slots) c.args.address object) c.self.view_is
+    let stood = found-some arc_value c.find.result ((store_of (kept_slots c.self.inside.slots.entries)).at
+    c.args.address) c.is_some.result c.is_some.ensures
+    (c.find.ensures ∙ ap (λ (t : ObjectsValue). (store_of t.slots).at c.args.address) (sym c.self.view_is)) in
+    let stands = given-some arc_value c.args.object c.is_some-2.result c.is_some-2.ensures in
+    put-count (kept_slots c.self.inside.slots.entries) (kept_slots c.keep.new.slots.entries) c.args.address object
+    c.self.inside.standing c.count_after-standing.result c.self.invariant c.keep.ensures.store
+    (omega (
+      arith,
+      length-map {B = Addr × KeptValue} c.keep.new.slots.entries (λ e. (e.0, kept_value e.1)),
+      c.len-slots.ensures.len,
+      c.len-slots.ensures.small,
+    ))
+    (c.count_after-standing.ensures ∙ (λ i. count_after c.self.inside.standing (stood i) (stands i)))
