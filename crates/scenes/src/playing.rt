@@ -76,6 +76,7 @@ impl<'a> WorldScene<'a> {
             living: 0,
             locked: 0,
             records: None,
+            objects: None,
         };
         steps.push(Step {
             line,
@@ -286,9 +287,10 @@ impl<'a> WorldScene<'a> {
             living,
             locked,
             records,
+            objects,
         } = counts;
-        let records = records.unwrap_or(0);
-        println!(rt; "  is      {living} calls, {locked} addresses, {records} records")?;
+        let (records, objects) = (records.unwrap_or(0), objects.unwrap_or(0));
+        println!(rt; "  is      {living} calls, {locked} addresses, {records} records, {objects} objects")?;
         Ok(())
     }
 
@@ -363,13 +365,17 @@ fn other_counts(world: &World, wanted: Counts) -> Option<Counts> {
     let (living, locked) = (engine.living(), engine.locked());
     let (records, _) = engine.era_size();
     let is_told = is_at_rest(engine) == (living == 0 && locked == 0);
+    let objects = engine.objects();
     let has_records = wanted.records.is_none_or(|wanted| wanted == records);
-    if is_told && has_records && living == wanted.living && locked == wanted.locked {
+    let has_objects = wanted.objects.is_none_or(|wanted| wanted == objects);
+    let has_all = has_records && has_objects;
+    if is_told && has_all && living == wanted.living && locked == wanted.locked {
         return None;
     }
     Some(Counts {
         living,
         locked,
         records: Some(records),
+        objects: Some(objects),
     })
 }

@@ -21,12 +21,14 @@ pub enum Move<'a> {
     Settle,
 }
 
-/// How many calls are in progress, how many addresses are held, and how many records the era has, if that is told.
+/// How many calls are in progress, and how many addresses are held; if that is told, how many records the era has, and
+/// at how many addresses something stands.
 #[derive(Clone, Copy)]
 pub struct Counts {
     pub living: usize,
     pub locked: usize,
     pub records: Option<u64>,
+    pub objects: Option<u64>,
 }
 
 /// A move, and the line that gave it.

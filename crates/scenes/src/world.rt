@@ -152,19 +152,17 @@ impl<'a> WorldScene<'a> {
         Ok(())
     }
 
-    /// So many calls are in progress then, so many addresses are held, and the era has so many records, if that is
-    /// told.
+    /// So many calls are in progress then, and so many addresses are held; if that is told, the era has so many records,
+    /// and something stands at so many addresses.
     fn counts(&mut self, line: u64, living: usize, rest: &[u8]) -> Result<(), Fault> {
         let (locked, rest) = number(rest)?;
-        let records = if rest.is_empty() {
-            None
-        } else {
-            Some(number(rest)?.0 as u64)
-        };
+        let (records, rest) = number_told(rest)?;
+        let (objects, _rest) = number_told(rest)?;
         let counts = Counts {
             living,
             locked,
             records,
+            objects,
         };
         self.add(line, Move::Counts(counts))
     }
@@ -246,6 +244,15 @@ fn number(words: &[u8]) -> Result<(usize, &[u8]), Fault> {
         Some(([a, b, c, d], rest)) => { Ok((u32::from_be_bytes([*a, *b, *c, *d]) as usize, rest)) }
         _ => Err(Fault::Line("a number is missing")),
     }
+}
+
+/// The number with which words begin, if there are any, and the words behind it.
+fn number_told(words: &[u8]) -> Result<(Option<u64>, &[u8]), Fault> {
+    if words.is_empty() {
+        return Ok((None, words));
+    }
+    let (number, rest) = number(words)?;
+    Ok((Some(number as u64), rest))
 }
 
 /// The low 32 bits of a number.
