@@ -290,7 +290,9 @@ impl<'a> WorldScene<'a> {
             objects,
         } = counts;
         let (records, objects) = (records.unwrap_or(0), objects.unwrap_or(0));
-        println!(rt; "  is      {living} calls, {locked} addresses, {records} records, {objects} objects")?;
+        println!(rt;
+            "  is      {living} calls, {locked} addresses, {records} records, {objects} objects"
+        )?;
         Ok(())
     }
 

@@ -152,8 +152,8 @@ impl<'a> WorldScene<'a> {
         Ok(())
     }
 
-    /// So many calls are in progress then, and so many addresses are held; if that is told, the era has so many records,
-    /// and something stands at so many addresses.
+    /// So many calls are in progress then, and so many addresses are held. If that is told, the era has so many
+    /// records, and something stands at so many addresses.
     fn counts(&mut self, line: u64, living: usize, rest: &[u8]) -> Result<(), Fault> {
         let (locked, rest) = number(rest)?;
         let (records, rest) = number_told(rest)?;
