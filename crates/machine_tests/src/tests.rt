@@ -24,8 +24,8 @@ use bytes::Bytes;
 use nfs_inodes::Known;
 use nfs_machine::{Ctx, ExportText, Exports, Limits, Moment};
 use nfs_objects::{
-    Addr, Bits, CHANGING, Content, Directory, Entries, ExportTable, FileMap, Halt, Inode,
-    MOUNTING, Mode, Object, READING, Reserved, Usage, View,
+    Addr, Bits, CHANGING, Content, Directory, Entries, ExportTable, FileMap, Halt, Inode, MOUNTING,
+    Mode, Object, READING, Reserved, Usage, View,
 };
 use nfs_rpc::{Gids, Ids};
 use nfs_wire::{Attributes, DeviceNumber, FileType, SetAttributes, SetTime, Time};
@@ -293,10 +293,7 @@ const NEW_GROUP: Addr = Addr::Usage {
 const MAP: Addr = Addr::Map { file: 9, page: 0 };
 
 /// The first block of file 9.
-const BLOCK: Addr = Addr::Block {
-    file: 9,
-    index: 0,
-};
+const BLOCK: Addr = Addr::Block { file: 9, index: 0 };
 
 /// Adds an inode as number 9, the exports, and what is shown beside to a view that has read nothing.
 fn fill(view: &mut View, alloc: Global, inode: Inode, beside: Beside) -> Result<(), AllocError>

@@ -98,7 +98,8 @@ fn file(draft: &Draft<'_>) -> Result<Option<File>, Halt>
 }
 
 fn resized(draft: &mut Draft<'_>, size: u64) -> Result<bool, Halt>
-    requires { draft.old.modes ≡ changing }
+    requires none { draft.old.writes ≡ [] }
+    requires alone { draft.old.modes ≡ changing }
 {
     let Some(file) = file(draft)? else {
         return Ok(false);
