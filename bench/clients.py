@@ -1,7 +1,7 @@
 #!/usr/bin/env python3
 """Tries the server with clients that others wrote: Debian's libnfs-utils (apt-get install libnfs-utils).
 
-It starts nfsd on a port of the system's choice, copies a file of 1 MiB there and back with nfs-cp, makes 1,000 files,
+It starts nfsd on a port of the system's choice, copies a file of 100 MB there and back with nfs-cp, makes 1,000 files,
 which nfs-ls must list, and reads one with nfs-cat.
 
 usage: bench/clients.py [PROGRAM]
@@ -28,11 +28,11 @@ def run(*words):
 def copies(folder, port):
     """A file goes there and back."""
     sent, received = folder / "sent", folder / "received"
-    sent.write_bytes(os.urandom(1 << 20))
+    sent.write_bytes(os.urandom(100_000_000))
     run("nfs-cp", sent, url("large", port))
     run("nfs-cp", url("large", port), received)
     assert received.read_bytes() == sent.read_bytes(), "the bytes come back"
-    print("nfs-cp: 1 MiB came back as it was")
+    print("nfs-cp: 100 MB came back as they were")
 
 
 def lists(folder, port):
