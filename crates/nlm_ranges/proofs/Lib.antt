@@ -1,8 +1,10 @@
-pub mod Pointwise
-pub mod Tables
-pub mod Sharing
-pub mod Pieces
 pub mod Asked
-pub mod Widening
+pub mod Granted
 pub mod Listed
 pub mod Parted
+pub mod Pieces
+pub mod Pointwise
+pub mod Requested
+pub mod Sharing
+pub mod Tables
+pub mod Widening

@@ -1,4 +1,7 @@
 pub mod Cutting
+pub mod Files
+pub mod Granting
 pub mod Held
+pub mod Requests
 pub mod Same
 pub mod SameLaws

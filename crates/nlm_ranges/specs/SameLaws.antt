@@ -1,17 +1,20 @@
 -- The tests of `Same` tell values apart: they pass where the two are one, and nowhere else.
-use Rattle.std.specs.Prelude.{◌≡◌, Bool, true, false, ◌==◌, ◌&&◌, List}
+use Rattle.std.specs.Prelude.{◌≡◌, ℕ, Bool, true, false, ◌==◌, ◌&&◌, List}
 use Rattle.std.specs.Bool.{Decides, beq}
-use Rattle.std.specs.Cmp.{first_so, second_so, unsigned_Decides}
+use Rattle.std.specs.Cmp.{first_so, second_so, signed_Decides, unsigned_Decides}
 use Rattle.std.specs.Cmp.Lexicographic.{bytes_decides, pointwise, pointwise_decides}
+use Rattle.std.specs.Ordering.{int_eq}
 use Rattle.std.proofs.Common.{refl, subst, sym}
+use Rattle.side_wire.specs.declared.message.NlmLock.{NlmLock}
 use Rattle.side_wire.specs.declared.nlm.ShareAccess.{ShareAccess}
 use Rattle.side_wire.specs.declared.nlm.ShareAccess.TheVariants as access
 use Rattle.side_wire.specs.declared.nlm.ShareMode.{ShareMode}
 use Rattle.side_wire.specs.declared.nlm.ShareMode.TheVariants as mode
 use Rattle.nfs_machine.specs.Bytes.{same_bytes}
-use Rattle.nfs_machine.specs.State.{Lock, Share}
+use Rattle.nfs_machine.specs.State.{Lock, Request, Share}
 use Rattle.nfs_machine.proofs.Modes.{one-owner, owner-itself}
-use Rattle.nlm_ranges.specs.Same.{same_access, same_lock, same_mode, same_share}
+use Rattle.nlm_ranges.specs.Files.{FileValue}
+use Rattle.nlm_ranges.specs.Same.{equal_locks, equal_requests, same_access, same_file, same_lock, same_mode, same_share}
 
 -- a test decides that values are one, if it passes where they are and only there
 from_self : {X : Type 0} (test : X → X → Bool) → ((a b : X) → test a b ≡ true → a ≡ b) →
@@ -102,3 +105,75 @@ share_decides = from_self same_share share_same (λ a. both _ _ (mode_own a.mode
 
 pub shares_decide : (a b : List Share) → Decides (pointwise same_share a b) (a ≡ b)
 shares_decide = pointwise_decides share_decides
+
+-- ---- requests
+bytes_own : (bs : List ℕ) → same_bytes bs bs ≡ true
+bytes_own bs = (bytes_decides bs bs).1 refl
+
+nat_own : (n : ℕ) → (n == n) ≡ true
+nat_own n = (unsigned_Decides n n).1 refl
+
+locks_same : (a b : NlmLock) → equal_locks a b ≡ true → a ≡ b
+locks_same a b e =
+    let places = second_so (int_eq a.process b.process) _ e in
+    let lengths = second_so (a.offset == b.offset) _ places in
+    let texts = second_so (a.length == b.length) _ lengths in
+    let rest = second_so (same_bytes a.caller_name b.caller_name) _ texts in
+    λ i. record {
+      caller_name = (bytes_decides a.caller_name b.caller_name).0
+          (first_so (same_bytes a.caller_name b.caller_name) _ texts) i;
+      file = (bytes_decides a.file b.file).0 (first_so (same_bytes a.file b.file) _ rest) i;
+      owner = (bytes_decides a.owner b.owner).0 (second_so (same_bytes a.file b.file) _ rest) i;
+      process = (signed_Decides a.process b.process).0 (first_so (int_eq a.process b.process) _ e) i;
+      offset = (unsigned_Decides a.offset b.offset).0 (first_so (a.offset == b.offset) _ places) i;
+      length = (unsigned_Decides a.length b.length).0 (first_so (a.length == b.length) _ lengths) i;
+    }
+
+locks_own : (a : NlmLock) → equal_locks a a ≡ true
+locks_own a = both _ _ ((signed_Decides a.process a.process).1 refl) (both _ _ (nat_own a.offset)
+    (both _ _ (nat_own a.length) (both _ _ (bytes_own a.caller_name)
+    (both _ _ (bytes_own a.file) (bytes_own a.owner)))))
+
+request_same : (a b : Request) → equal_requests a b ≡ true → a ≡ b
+request_same a b e =
+    let flags = second_so (a.number == b.number) _ e in
+    let more = second_so (beq a.exclusive b.exclusive) _ flags in
+    let texts = second_so (beq a.by_message b.by_message) _ more in
+    λ i. record {
+      number = (unsigned_Decides a.number b.number).0 (first_so (a.number == b.number) _ e) i;
+      host = (bytes_decides a.host b.host).0 (first_so (same_bytes a.host b.host) _ texts) i;
+      exclusive = bool_same a.exclusive b.exclusive (first_so (beq a.exclusive b.exclusive) _ flags) i;
+      asked = locks_same a.asked b.asked (second_so (same_bytes a.host b.host) _ texts) i;
+      by_message = bool_same a.by_message b.by_message (first_so (beq a.by_message b.by_message) _ more) i;
+    }
+
+pub requests_equal : (a b : Request) → Decides (equal_requests a b) (a ≡ b)
+requests_equal = from_self equal_requests request_same (λ a. both _ _ (nat_own a.number)
+    (both _ _ (bool_own a.exclusive) (both _ _ (bool_own a.by_message)
+    (both _ _ (bytes_own a.host) (locks_own a.asked)))))
+
+pub lists_equal : (a b : List Request) → Decides (pointwise equal_requests a b) (a ≡ b)
+lists_equal = pointwise_decides requests_equal
+
+-- ---- files
+file_same : (a b : FileValue) → same_file a b ≡ true → a ≡ b
+file_same a b e =
+    let rest = second_so (pointwise same_lock a.held.locks b.held.locks) _ e in
+    let requests = second_so (pointwise same_share a.held.shares b.held.shares) _ rest in
+    λ i. record {
+      held = record {
+        locks = (locks_decide a.held.locks b.held.locks).0
+            (first_so (pointwise same_lock a.held.locks b.held.locks) _ e) i;
+        shares = (shares_decide a.held.shares b.held.shares).0
+            (first_so (pointwise same_share a.held.shares b.held.shares) _ rest) i;
+        waiting = (lists_equal a.held.waiting b.held.waiting).0
+            (first_so (pointwise equal_requests a.held.waiting b.held.waiting) _ requests) i;
+      };
+      pending = (lists_equal a.pending b.pending).0
+          (second_so (pointwise equal_requests a.held.waiting b.held.waiting) _ requests) i;
+    }
+
+pub file_decides : (a b : FileValue) → Decides (same_file a b) (a ≡ b)
+file_decides = from_self same_file file_same (λ a. both _ _ ((locks_decide a.held.locks a.held.locks).1 refl)
+    (both _ _ ((shares_decide a.held.shares a.held.shares).1 refl)
+    (both _ _ ((lists_equal a.held.waiting a.held.waiting).1 refl) ((lists_equal a.pending a.pending).1 refl))))

@@ -1,6 +1,6 @@
-//! The locks and share reservations that owners hold of one file (RFC 1813, appendix II), as values: a change makes
-//! another value, which shares with the old one what stays, and where memory for it is refused the old one is all that
-//! there is.
+//! What one file has of locks and share reservations (RFC 1813, appendix II), of requests that wait for a lock and of
+//! grants that are not answered, as values: a change makes another value, which shares with the old one what stays, and
+//! where memory for it is refused the old one is all that there is.
 //!
 //! Locks stand in pieces of at most `PIECE_LIMIT`, exclusive ones apart from shared ones, by their first offsets.
 //! Neighbours of one owner and mode are one lock, and two neighbouring pieces have more than `PIECE_LIMIT` locks, so n
@@ -9,8 +9,12 @@
 //! alone; what is in a shared lock's way is looked up among the exclusive ones alone. A change copies the list of
 //! pieces, a count and two numbers for each, and of the locks those of the pieces in which one changes, and sometimes
 //! of a neighbour, as counts of their owners.
+//!
+//! Requests stand in order of arrival. What waits is tried behind each change of the locks (`OneFile::set`, `clear`,
+//! `settle`), from the earliest on and again after each grant.
 #![tactic(auto)]
 
+mod file;
 mod held;
 mod iter;
 mod list;
@@ -18,11 +22,17 @@ mod locks;
 mod owner;
 mod piece;
 mod range;
+mod request;
+mod requests;
+mod settling;
 mod shares;
 
+pub use file::{OneFile, Settled};
 pub use held::HeldLock;
 pub use iter::Locks;
 pub use locks::LockTable;
 pub use owner::LockOwner;
 pub use range::LockRange;
+pub use request::LockRequest;
+pub use requests::{Going, RequestList};
 pub use shares::{HeldShare, ShareTable};

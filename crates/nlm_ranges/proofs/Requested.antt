@@ -1,0 +1,73 @@
+-- Requests one after the other, as they are kept.
+use Rattle.std.proofs.Common.{◌≡◌, ℕ, ◌+◌, ◌<◌, false, not, ◌||◌, Bool, List, [], ◌∷◌, ◌++◌, Some, refl, sym, ◌∙◌, ap}
+use Rattle.std.proofs.Common.{subst, drop, get_or, length, map, slice_get, take}
+use Rattle.std.proofs.lemmas.List.{drop-map, length-map, map_more, take-map}
+use Rattle.std.proofs.lemmas.List.Elements.{filter-append}
+use Rattle.std.proofs.lemmas.List.Folds.{list_any-append}
+use Rattle.std.proofs.lemmas.Option.{slice_get-map, slice_get_read}
+use Rattle.std.specs.List.{AllByRecursion, AllZip, list_any}
+use Rattle.std.specs.Option.{option_map, unwrap_or}
+use Rattle.nfs_machine.specs.FileLists.{all_but}
+use Rattle.nfs_machine.specs.OneFile.{IsHeldUp}
+use Rattle.nfs_machine.specs.State.{Lock, Request}
+use Rattle.nfs_machine.proofs.Modes.{all-joined}
+use Rattle.nlm_ranges.specs.Requests.{IsFirstFree}
+
+-- a test of what is kept
+pub any-kept : {X : Type 0} (f : X → Request) (p : Request → Bool) (xs : List X) →
+    list_any (λ x. p (f x)) xs ≡ list_any p (map f xs)
+any-kept f p [] = refl
+any-kept f p (x ∷ xs) = ap (λ b. p (f x) || b) (any-kept f p xs)
+
+-- copies of what is kept
+pub copies-mapped : {X : Type 0} (f : X → Request) (xs ys : List X) → AllZip (λ x y. f y ≡ f x) xs ys →
+    map f ys ≡ map f xs
+copies-mapped f [] [] all = refl
+copies-mapped f [] (y ∷ ys) all = absurd all
+copies-mapped f (x ∷ xs) [] all = absurd all
+copies-mapped f (x ∷ xs) (y ∷ ys) all = λ i. all.0 i ∷ copies-mapped f xs ys all.1 i
+
+-- all but one of what is kept
+pub one-left-out : {X : Type 0} (f : X → Request) (xs none first all : List X) (place : ℕ) → none ≡ [] →
+    map f first ≡ map f none ++ map f (take place xs) →
+    map f all ≡ map f first ++ map f (drop (place + 1) xs) →
+    map f all ≡ take place (map f xs) ++ drop (place + 1) (map f xs)
+one-left-out f xs none first all place empty one two =
+    two ∙ (λ i. (one ∙ ap (λ rs. map f rs ++ map f (take place xs)) empty ∙ sym (take-map f place xs)) i
+    ++ sym (drop-map f (place + 1) xs) i)
+
+-- ---- one more request that is seen, as it is kept
+module _ {X : Type 0} (f : X → Request) (xs : List X) (i : ℕ) (x : X) (inside : i < length xs)
+    (at : x ≡ get_or xs i x) where
+  pub next-mapped : map f (take (i + 1) xs) ≡ map f (take i xs) ++ f x ∷ []
+  next-mapped = map_more f xs i x inside ∙ ap (λ y. map f (take i xs) ++ f y ∷ []) (sym at)
+
+  pub held-up-more : (locks : List Lock) → AllByRecursion (IsHeldUp locks) (map f (take i xs)) → IsHeldUp locks (f x) →
+      AllByRecursion (IsHeldUp locks) (map f (take (i + 1) xs))
+  held-up-more locks all own =
+      subst (AllByRecursion (IsHeldUp locks)) (sym next-mapped)
+      (all-joined (IsHeldUp locks) (map f (take i xs)) (f x ∷ []) all (own, tt))
+
+  pub none-more : (p : Request → Bool) → list_any p (map f (take i xs)) ≡ false → p (f x) ≡ false →
+      list_any p (map f (take (i + 1) xs)) ≡ false
+  none-more p before here =
+      ap (list_any p) next-mapped ∙ list_any-append p (map f (take i xs)) (f x ∷ [])
+      ∙ (λ k. before k || (here k || false))
+
+  pub others-more : (p : Request → Bool) (kept : List Request) → kept ≡ all_but p (map f (take i xs)) →
+      kept ++ all_but p (f x ∷ []) ≡ all_but p (map f (take (i + 1) xs))
+  others-more p kept is =
+      ap (λ rs. rs ++ all_but p (f x ∷ [])) is
+      ∙ sym (filter-append (λ r. not (p r)) (map f (take i xs)) (f x ∷ []))
+      ∙ ap (all_but p) (sym next-mapped)
+
+  pub at-mapped : slice_get (map f xs) i ≡ Some (f x)
+  at-mapped = slice_get-map f xs i ∙ ap (option_map f) (slice_get_read xs (length xs) i x refl inside at)
+
+  pub first-free : (locks : List Lock) → AllByRecursion (IsHeldUp locks) (map f (take i xs)) →
+      (IsHeldUp locks (f x) → ⊥) → IsFirstFree locks (map f xs) i
+  first-free locks all free = record {
+    within = subst (λ n. i < n) (sym (length-map xs f)) inside;
+    held_up = subst (AllByRecursion (IsHeldUp locks)) (sym (take-map f i xs)) all;
+    free = λ r there held. free (subst (IsHeldUp locks) (ap (λ o. unwrap_or o r) (sym there ∙ at-mapped)) held);
+  }

@@ -1,0 +1,294 @@
+//! Requests in order of arrival.
+
+ghost use Rattle.std.specs.Prelude.{◌≡◌, ◌==◌, ◌<◌, ◌+◌, ◌++◌, ◌∷◌, [], drop, length, map, take};
+ghost use Rattle.std.specs.Prelude.{Contains, IfNone, IfOk, IfSome, OnOk, Some, false, slice_get, true};
+ghost use Rattle.std.specs.Arc.{arc_value};
+ghost use Rattle.std.specs.List.{AllByRecursion, list_any};
+ghost use Rattle.nfs_machine.specs.FileLists.{all_but};
+ghost use Rattle.nfs_machine.specs.OneFile.{IsHeldUp};
+ghost use Rattle.nlm_ranges.specs.Requests.{IsFirstFree, goes};
+
+use crate::locks::LockTable;
+use crate::request::LockRequest;
+use side_wire::message::NlmLock;
+use std::alloc::{AllocError, Global};
+use std::marker::Model;
+use std::sync::Arc;
+
+/// The requests of a list that go.
+#[derive(Clone, Copy)]
+pub enum Going<'a> {
+    /// Those for a lock, asked for in the same terms (RFC 1813, 6.2: NLMPROC4_CANCEL).
+    For { exclusive: bool, lock: &'a NlmLock },
+    /// Those of a caller (NLMPROC4_FREE_ALL).
+    Of(&'a [u8]),
+    /// That under a number (NLMPROC4_GRANTED_RES).
+    Under(u64),
+}
+
+impl<'a> Going<'a> {
+    /// Whether the request is one of them.
+    fn has(self, request: &LockRequest) -> bool
+        ensures { result ≡ goes self.entry request.now }
+    {
+        match self {
+            Going::For { exclusive, lock } => request.is_for(exclusive, lock),
+            Going::Of(caller_name) => request.is_of_caller(caller_name),
+            Going::Under(number) => request.number() == number,
+        }
+    }
+}
+
+/// Requests in order of arrival. A list is never changed: a change makes another one, which shares the requests.
+#[derive(Drop)]
+pub struct RequestList {
+    requests: Vec<Arc<LockRequest>>,
+}
+
+impl Model for RequestList {
+    ghost use Rattle.std.specs.Prelude.{List, map};
+    ghost use Rattle.std.specs.Arc.{arc_value};
+    ghost use Rattle.nfs_machine.specs.State.{Request};
+
+    ghost Value = { List Request };
+
+    ghost view = { λ l. map arc_value l.requests.items };
+}
+
+impl PartialEq for RequestList {
+    ghost use Rattle.std.specs.Bool.{Decides};
+    ghost use Rattle.std.specs.Cmp.{decided, partial_equiv_from_equiv};
+    ghost use Rattle.std.specs.Cmp.Lexicographic.{pointwise};
+    ghost use Rattle.nlm_ranges.specs.Same.{equal_requests};
+    ghost use Rattle.nlm_ranges.specs.SameLaws.{lists_equal};
+
+    ghost eq = { pointwise equal_requests };
+
+    ghost laws = { partial_equiv_from_equiv (decided (pointwise equal_requests) lists_equal) };
+
+    fn eq(&self, other: &RequestList) -> bool
+        ensures test { result ≡ pointwise equal_requests self.now other.now }
+        ensures same { Decides result (self.now ≡ other.now) }
+    {
+        self.requests == other.requests
+    }
+}
+
+impl Eq for RequestList {
+    ghost use Rattle.std.specs.Cmp.{decided};
+    ghost use Rattle.std.specs.Cmp.Lexicographic.{pointwise};
+    ghost use Rattle.nlm_ranges.specs.Same.{equal_requests};
+    ghost use Rattle.nlm_ranges.specs.SameLaws.{lists_equal};
+
+    ghost laws = { decided (pointwise equal_requests) lists_equal };
+}
+
+impl Clone for RequestList {
+    ghost is_clone = { λ list copy. copy ≡ list };
+
+    fn clone(&self) -> Result<RequestList, AllocError> {
+        Ok(RequestList {
+            requests: self.requests.clone()?,
+        })
+    }
+}
+
+impl RequestList {
+    /// No request.
+    pub fn new(alloc: Global) -> RequestList
+        ensures { result ≡ [] }
+    {
+        RequestList {
+            requests: Vec::new(alloc),
+        }
+    }
+
+    /// Whether there is no request.
+    pub fn is_empty(&self) -> bool
+        ensures { result ≡ (length self.now == 0) }
+    {
+        self.requests.is_empty()
+    }
+
+    /// The requests, the earliest first.
+    pub fn as_slice(&self) -> &[Arc<LockRequest>]
+        ensures { map arc_value result.now ≡ self.now }
+    {
+        &self.requests
+    }
+
+    /// Whether one of these is among them.
+    pub fn has(&self, going: Going<'_>) -> bool
+        ensures { result ≡ list_any (goes going.entry) self.now }
+    {
+        self.requests.iter().any(|request| going.has(request))
+    }
+
+    /// The first of these.
+    pub fn first(&self, going: Going<'_>) -> Option<&Arc<LockRequest>>
+        ensures none { IfNone result (list_any (goes going.entry) self.now ≡ false) }
+        ensures some { IfSome result (λ request.
+            Contains self.now (arc_value request.now) × (goes going.entry (arc_value request.now) ≡ true)) }
+    {
+        first(&self.requests, going)
+    }
+
+    /// The list with one more, last.
+    ///
+    /// # Errors
+    ///
+    /// `AllocError` where the memory for the list was refused.
+    pub fn with(&self, alloc: Global, request: Arc<LockRequest>) -> Result<RequestList, AllocError>
+        ensures { IfOk result (λ list. list ≡ self.now ++ arc_value request ∷ []) }
+    {
+        let mut requests = Vec::with_capacity(alloc, self.requests.len() + 1)?;
+        push_requests(&mut requests, &self.requests)?;
+        requests.push(request)?;
+        Ok(RequestList { requests })
+    }
+
+    /// The list with these behind its own.
+    ///
+    /// # Errors
+    ///
+    /// `AllocError` where the memory for the list was refused.
+    pub(crate) fn with_all(
+        &self,
+        alloc: Global,
+        others: &[Arc<LockRequest>],
+    ) -> Result<RequestList, AllocError>
+        ensures { IfOk result (λ list. list ≡ self.now ++ map arc_value others.now) }
+    {
+        let mut requests = Vec::new(alloc);
+        push_requests(&mut requests, &self.requests)?;
+        push_requests(&mut requests, others)?;
+        Ok(RequestList { requests })
+    }
+
+    /// The list without these.
+    ///
+    /// # Errors
+    ///
+    /// `AllocError` where the memory for the list was refused.
+    pub fn without(&self, alloc: Global, going: Going<'_>) -> Result<RequestList, AllocError>
+        ensures { IfOk result (λ list. list ≡ all_but (goes going.entry) self.now) }
+    {
+        let requests = others(alloc, &self.requests, going)?;
+        Ok(RequestList { requests })
+    }
+
+    /// The place of the earliest that conflicts with nothing that is held; None where each does.
+    pub(crate) fn first_free(&self, locks: &LockTable) -> Option<usize>
+        ensures none { IfNone result (AllByRecursion (IsHeldUp locks.now) self.now) }
+        ensures some { IfSome result (IsFirstFree locks.now self.now) }
+    {
+        first_free(&self.requests, locks)
+    }
+
+    /// The request at a place.
+    pub(crate) fn at(&self, place: usize) -> &Arc<LockRequest>
+        requires { place < length self.now }
+        ensures { slice_get self.now place ≡ Some (arc_value result.now) }
+    {
+        &self.requests[place]
+    }
+
+    /// The list without the request at a place.
+    ///
+    /// # Errors
+    ///
+    /// `AllocError` where the memory for the list was refused.
+    pub(crate) fn without_at(&self, alloc: Global, place: usize) -> Result<RequestList, AllocError>
+        requires { place < length self.now }
+        ensures { IfOk result (λ list. list ≡ take place self.now ++ drop (place + 1) self.now) }
+    {
+        let requests = all_but_one(alloc, &self.requests, place)?;
+        Ok(RequestList { requests })
+    }
+}
+
+/// The first of these among the requests.
+fn first<'a>(requests: &'a [Arc<LockRequest>], going: Going<'_>) -> Option<&'a Arc<LockRequest>>
+    ensures none { IfNone result (list_any (goes going.entry) (map arc_value requests.now) ≡ false) }
+    ensures some { IfSome result (λ request.
+        Contains (map arc_value requests.now) (arc_value request.now) ×
+        (goes going.entry (arc_value request.now) ≡ true)) }
+{
+    for request in requests {
+        if going.has(request) {
+            return Some(request);
+        }
+    }
+    None
+}
+
+/// The requests without these.
+fn others(
+    alloc: Global,
+    requests: &[Arc<LockRequest>],
+    going: Going<'_>,
+) -> Result<Vec<Arc<LockRequest>>, AllocError>
+    ensures { IfOk result (λ others.
+        map arc_value others.items ≡ all_but (goes going.entry) (map arc_value requests.now)) }
+{
+    let mut others = Vec::new(alloc);
+    for request in requests {
+        if !going.has(request) {
+            others.push(Arc::try_clone(request)?)?;
+        }
+    }
+    Ok(others)
+}
+
+/// The requests without the one at a place.
+fn all_but_one(
+    alloc: Global,
+    requests: &[Arc<LockRequest>],
+    place: usize,
+) -> Result<Vec<Arc<LockRequest>>, AllocError>
+    requires { place < length requests.now }
+    ensures { IfOk result (λ others. map arc_value others.items
+        ≡ take place (map arc_value requests.now) ++ drop (place + 1) (map arc_value requests.now)) }
+{
+    let mut others = Vec::new(alloc);
+    push_requests(&mut others, &requests[..place])?;
+    push_requests(&mut others, &requests[place + 1..])?;
+    Ok(others)
+}
+
+/// The place of the earliest request that conflicts with nothing that is held; None where each does.
+fn first_free(requests: &[Arc<LockRequest>], locks: &LockTable) -> Option<usize>
+    ensures none { IfNone result (AllByRecursion (IsHeldUp locks.now) (map arc_value requests.now)) }
+    ensures some { IfSome result (IsFirstFree locks.now (map arc_value requests.now)) }
+{
+    for (place, request) in requests.iter().enumerate() {
+        if is_free(locks, request) {
+            return Some(place);
+        }
+    }
+    None
+}
+
+/// Whether a request conflicts with nothing that is held.
+fn is_free(locks: &LockTable, request: &LockRequest) -> bool
+    ensures free { result ≡ true → IsHeldUp locks.now request.now → ⊥ }
+    ensures held_up { result ≡ false → IsHeldUp locks.now request.now }
+{
+    locks
+        .test(&request.range(), request.is_exclusive())
+        .is_none()
+}
+
+/// Adds these requests.
+fn push_requests(
+    requests: &mut Vec<Arc<LockRequest>>,
+    others: &[Arc<LockRequest>],
+) -> Result<(), AllocError>
+    ensures { OnOk result
+        (map arc_value requests.new.items ≡ map arc_value requests.old.items ++ map arc_value others.now) }
+{
+    for other in others {
+        requests.push(Arc::try_clone(other)?)?;
+    }
+    Ok(())
+}
