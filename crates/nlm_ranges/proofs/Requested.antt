@@ -1,16 +1,13 @@
 -- Requests one after the other, as they are kept.
-use Rattle.std.proofs.Common.{◌≡◌, ℕ, ◌+◌, ◌<◌, false, not, ◌||◌, Bool, List, [], ◌∷◌, ◌++◌, Some, refl, sym, ◌∙◌, ap}
-use Rattle.std.proofs.Common.{subst, drop, get_or, length, map, slice_get, take}
-use Rattle.std.proofs.lemmas.List.{drop-map, length-map, map_more, take-map}
-use Rattle.std.proofs.lemmas.List.Elements.{filter-append}
-use Rattle.std.proofs.lemmas.List.Folds.{list_any-append}
+use Rattle.std.proofs.Common.{◌≡◌, ℕ, ◌+◌, ◌<◌, true, false, ◌||◌, Bool, cond, find, None, List, [], ◌∷◌, ◌++◌}
+use Rattle.std.proofs.Common.{Some, refl, sym, ◌∙◌, ap, subst, drop, get_or, length, map, slice_get, take}
+use Rattle.std.proofs.lemmas.List.{drop-map, length-map, map-append, map_more, take-append-drop, take-map}
+use Rattle.std.proofs.lemmas.List.Folds.{find-append}
 use Rattle.std.proofs.lemmas.Option.{slice_get-map, slice_get_read}
 use Rattle.std.specs.List.{AllByRecursion, AllZip, list_any}
-use Rattle.std.specs.Option.{option_map, unwrap_or}
-use Rattle.nfs_machine.specs.FileLists.{all_but}
+use Rattle.std.specs.Option.{option_map, option_or, unwrap_or}
 use Rattle.nfs_machine.specs.OneFile.{IsHeldUp}
 use Rattle.nfs_machine.specs.State.{Lock, Request}
-use Rattle.nfs_machine.proofs.Modes.{all-joined}
 use Rattle.nlm_ranges.specs.Requests.{IsFirstFree}
 
 -- a test of what is kept
@@ -36,30 +33,31 @@ one-left-out f xs none first all place empty one two =
     two ∙ (λ i. (one ∙ ap (λ rs. map f rs ++ map f (take place xs)) empty ∙ sym (take-map f place xs)) i
     ++ sym (drop-map f (place + 1) xs) i)
 
+-- none is found where none passes
+pub none-found : (p : Request → Bool) (rs : List Request) → list_any p rs ≡ false → find p rs ≡ None
+none-found p [] e = refl
+none-found p (r ∷ rs) e =
+    elim (p r) as (λ b. (b || list_any p rs) ≡ false → cond b (Some r) (find p rs) ≡ None) [
+      | true ↦ λ t. cc
+      | false ↦ λ t. none-found p rs t
+    ] e
+
 -- ---- one more request that is seen, as it is kept
 module _ {X : Type 0} (f : X → Request) (xs : List X) (i : ℕ) (x : X) (inside : i < length xs)
     (at : x ≡ get_or xs i x) where
   pub next-mapped : map f (take (i + 1) xs) ≡ map f (take i xs) ++ f x ∷ []
   next-mapped = map_more f xs i x inside ∙ ap (λ y. map f (take i xs) ++ f y ∷ []) (sym at)
 
-  pub held-up-more : (locks : List Lock) → AllByRecursion (IsHeldUp locks) (map f (take i xs)) → IsHeldUp locks (f x) →
-      AllByRecursion (IsHeldUp locks) (map f (take (i + 1) xs))
-  held-up-more locks all own =
-      subst (AllByRecursion (IsHeldUp locks)) (sym next-mapped)
-      (all-joined (IsHeldUp locks) (map f (take i xs)) (f x ∷ []) all (own, tt))
-
-  pub none-more : (p : Request → Bool) → list_any p (map f (take i xs)) ≡ false → p (f x) ≡ false →
-      list_any p (map f (take (i + 1) xs)) ≡ false
-  none-more p before here =
-      ap (list_any p) next-mapped ∙ list_any-append p (map f (take i xs)) (f x ∷ [])
-      ∙ (λ k. before k || (here k || false))
-
-  pub others-more : (p : Request → Bool) (kept : List Request) → kept ≡ all_but p (map f (take i xs)) →
-      kept ++ all_but p (f x ∷ []) ≡ all_but p (map f (take (i + 1) xs))
-  others-more p kept is =
-      ap (λ rs. rs ++ all_but p (f x ∷ [])) is
-      ∙ sym (filter-append (λ r. not (p r)) (map f (take i xs)) (f x ∷ []))
-      ∙ ap (all_but p) (sym next-mapped)
+  pub earliest-here : (p : Request → Bool) → list_any p (map f (take i xs)) ≡ false → p (f x) ≡ true →
+      find p (map f xs) ≡ Some (f x)
+  earliest-here p before here =
+      let behind = map f (drop (i + 1) xs) in
+      ap (λ ys. find p (map f ys)) (sym (take-append-drop (i + 1) xs))
+      ∙ ap (find p) (map-append f (take (i + 1) xs) (drop (i + 1) xs))
+      ∙ find-append p (map f (take (i + 1) xs)) behind
+      ∙ ap (λ o. option_or o (find p behind))
+      (ap (find p) next-mapped ∙ find-append p (map f (take i xs)) (f x ∷ [])
+      ∙ (λ k. option_or (none-found p (map f (take i xs)) before k) (cond (here k) (Some (f x)) None)))
 
   pub at-mapped : slice_get (map f xs) i ≡ Some (f x)
   at-mapped = slice_get-map f xs i ∙ ap (option_map f) (slice_get_read xs (length xs) i x refl inside at)

@@ -1,5 +1,5 @@
--- What becomes of a file where its locks change: which requests are granted, and what is left where a caller has nothing
--- more (RFC 1813, appendix II, 6.2).
+-- What becomes of a file where its locks change: which requests are granted, and what is left where a caller has
+-- nothing more (RFC 1813, appendix II, 6.2).
 use Rattle.std.specs.Prelude.{◌≡◌, ℕ, List, [], ◌∷◌, ◌++◌, map}
 use Rattle.std.specs.Arc.{arc_value}
 use Rattle.nfs_machine.specs.Locks.{HasModes, Mode, modes_without}

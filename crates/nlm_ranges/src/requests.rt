@@ -1,7 +1,7 @@
 //! Requests in order of arrival.
 
-ghost use Rattle.std.specs.Prelude.{◌≡◌, ◌==◌, ◌<◌, ◌+◌, ◌++◌, ◌∷◌, [], drop, length, map, take};
-ghost use Rattle.std.specs.Prelude.{Contains, IfNone, IfOk, IfSome, OnOk, Some, false, slice_get, true};
+ghost use Rattle.std.specs.Prelude.{◌≡◌, ◌==◌, ◌<◌, ◌+◌, ◌++◌, ◌∷◌, [], drop, find, length, map, take};
+ghost use Rattle.std.specs.Prelude.{IfNone, IfOk, IfSome, OnOk, Some, false, slice_get, true};
 ghost use Rattle.std.specs.Arc.{arc_value};
 ghost use Rattle.std.specs.List.{AllByRecursion, list_any};
 ghost use Rattle.nfs_machine.specs.FileLists.{all_but};
@@ -15,7 +15,7 @@ use std::alloc::{AllocError, Global};
 use std::marker::Model;
 use std::sync::Arc;
 
-/// The requests of a list that go.
+/// Which requests of a list are meant.
 #[derive(Clone, Copy)]
 pub enum Going<'a> {
     /// Those for a lock, asked for in the same terms (RFC 1813, 6.2: NLMPROC4_CANCEL).
@@ -124,13 +124,13 @@ impl RequestList {
         self.requests.iter().any(|request| going.has(request))
     }
 
-    /// The first of these.
-    pub fn first(&self, going: Going<'_>) -> Option<&Arc<LockRequest>>
+    /// The earliest of these.
+    pub fn find(&self, going: Going<'_>) -> Option<&Arc<LockRequest>>
         ensures none { IfNone result (list_any (goes going.entry) self.now ≡ false) }
         ensures some { IfSome result (λ request.
-            Contains self.now (arc_value request.now) × (goes going.entry (arc_value request.now) ≡ true)) }
+            find (goes going.entry) self.now ≡ Some (arc_value request.now)) }
     {
-        first(&self.requests, going)
+        earliest(&self.requests, going)
     }
 
     /// The list with one more, last.
@@ -207,12 +207,11 @@ impl RequestList {
     }
 }
 
-/// The first of these among the requests.
-fn first<'a>(requests: &'a [Arc<LockRequest>], going: Going<'_>) -> Option<&'a Arc<LockRequest>>
+/// The earliest of these among the requests.
+fn earliest<'a>(requests: &'a [Arc<LockRequest>], going: Going<'_>) -> Option<&'a Arc<LockRequest>>
     ensures none { IfNone result (list_any (goes going.entry) (map arc_value requests.now) ≡ false) }
     ensures some { IfSome result (λ request.
-        Contains (map arc_value requests.now) (arc_value request.now) ×
-        (goes going.entry (arc_value request.now) ≡ true)) }
+        find (goes going.entry) (map arc_value requests.now) ≡ Some (arc_value request.now)) }
 {
     for request in requests {
         if going.has(request) {

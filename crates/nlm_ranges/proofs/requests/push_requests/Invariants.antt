@@ -5,4 +5,5 @@ use Rattle.nlm_ranges.proofs.requests.push_requests.Given as goal
 
 abbrev pub invariant-loop-other : goal.invariant-loop-other
 invariant-loop-other l =
-    map arc_value l.requests.items ≡ map arc_value l.initial.requests.items ++ map arc_value (take l.other-index l.others)
+    map arc_value l.requests.items
+    ≡ map arc_value l.initial.requests.items ++ map arc_value (take l.other-index l.others)

@@ -14,8 +14,10 @@ returns c =
       grants = granted-one (arc_value old.locks) (arc_value c.in_ok-self.field-0) old.waiting c.in_ok-self-2.field-0
           c.args.place request c.requires (c.at.ensures ∙ ap Some (sym c.in_ok-request.ensures))
           (modes-asked c.deref.result.now (arc_value old.locks) c.in_ok-locks.locks (arc_value c.in_ok-self.field-0)
-          c.range.result c.is_exclusive.result request c.deref.ensures (c.range.ensures ∙ ap requested c.deref-2.ensures)
-          (c.is_exclusive.ensures ∙ ap (λ r. r.exclusive) c.deref-3.ensures) c.in_ok-self.ensures.ok c.in_ok-locks.ensures)
+          c.range.result c.is_exclusive.result request c.deref.ensures
+          (c.range.ensures ∙ ap requested c.deref-2.ensures)
+          (c.is_exclusive.ensures ∙ ap (λ r. r.exclusive) c.deref-3.ensures) c.in_ok-self.ensures.ok
+          c.in_ok-locks.ensures)
           c.in_ok-self-2.ensures;
       granted = ap (map arc_value) c.in_ok-push.ensures.items ∙ map-append arc_value old.granted.items _;
     }

@@ -2,7 +2,7 @@
 use Rattle.std.proofs.Common.{◌≡◌, false, map, take}
 use Rattle.std.specs.Arc.{arc_value}
 use Rattle.std.specs.List.{list_any}
-use Rattle.nlm_ranges.proofs.requests.first.Given as goal
+use Rattle.nlm_ranges.proofs.requests.earliest.Given as goal
 use Rattle.nlm_ranges.specs.Requests.{goes}
 
 abbrev pub invariant-loop-request : goal.invariant-loop-request
