@@ -1,5 +1,5 @@
 -- Whatever what is left comes to, all comes to that behind what was granted so far. One request less waits each time.
-use Rattle.std.proofs.Common.{◌≡◌, ◌++◌, ℕ, List, length, map}
+use Rattle.std.proofs.Common.{◌++◌, List, length, map}
 use Rattle.std.specs.Arc.{arc_value}
 use Rattle.nfs_machine.specs.OneFile.{FileLocks, Settles}
 use Rattle.nfs_machine.specs.State.{Request}

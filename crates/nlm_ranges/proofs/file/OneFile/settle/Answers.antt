@@ -1,4 +1,4 @@
-use Rattle.std.proofs.Common.{◌==◌, ◌++◌, List, ap, length, map, refl, sym, true, ◌∙◌}
+use Rattle.std.proofs.Common.{◌==◌, ◌++◌, List, ap, length, map, refl, sym, ◌∙◌}
 use Rattle.std.specs.Arc.{arc_value}
 use Rattle.nfs_machine.specs.State.{Request}
 use Rattle.nlm_ranges.proofs.Granted.{none-pending, settles-file, settles-nothing}
