@@ -1,17 +1,21 @@
-//! Locks and shares of one file, by the callers c1 (A), c2 (B) and c3 (C). The values are worked out by hand from
-//! RFC 1813, appendix II.
+//! What one file has of locks, shares and requests, by the callers c1 (A), c2 (B), c3 (C) and c4 (D). The values are
+//! worked out by hand from RFC 1813, appendix II.
 //!
 //! A script is a list of steps, which one function follows; what owns memory is lent to the functions that have the
 //! `?`s, and dropped by a call of `drop`.
 
+mod files;
 mod locks;
 mod shares;
 
 use bytes::Bytes;
-use nlm_ranges::{HeldLock, LockRange, LockTable, ShareTable};
+use nlm_ranges::{
+    Going, HeldLock, LockRange, LockRequest, LockTable, OneFile, Settled, ShareTable,
+};
 use side_wire::message::NlmLock;
 use side_wire::nlm::{NlmShare, ShareAccess, ShareMode};
 use std::alloc::{AllocError, Global};
+use std::sync::Arc;
 
 /// Who calls.
 #[derive(Clone, Copy)]
@@ -19,6 +23,7 @@ enum Who {
     A,
     B,
     C,
+    D,
 }
 
 fn caller_name(who: Who) -> Bytes {
@@ -26,6 +31,7 @@ fn caller_name(who: Who) -> Bytes {
         Who::A => Bytes::from_static(b"c1"),
         Who::B => Bytes::from_static(b"c2"),
         Who::C => Bytes::from_static(b"c3"),
+        Who::D => Bytes::from_static(b"c4"),
     }
 }
 
@@ -34,6 +40,7 @@ fn owner(who: Who) -> Bytes {
         Who::A => Bytes::from_static(b"\x01"),
         Who::B => Bytes::from_static(b"\x02"),
         Who::C => Bytes::from_static(b"\x03"),
+        Who::D => Bytes::from_static(b"\x04"),
     }
 }
 
@@ -42,6 +49,7 @@ fn process(who: Who) -> i32 {
         Who::A => 1,
         Who::B => 2,
         Who::C => 3,
+        Who::D => 4,
     }
 }
 

@@ -2,7 +2,7 @@
 
 use super::*;
 
-fn share(who: Who, mode: ShareMode, access: ShareAccess) -> NlmShare {
+pub(super) fn share(who: Who, mode: ShareMode, access: ShareAccess) -> NlmShare {
     NlmShare {
         caller_name: caller_name(who),
         file: Bytes::from_static(b"file"),
