@@ -37,7 +37,12 @@ check "grow" 'truncate -s 100 c && [ "$(stat -c %s c)" = 100 ]'
 check "fifo" 'mkfifo p && [ -p p ]'
 check "remove" 'rm c && [ ! -e c ] && [ -e d/e/b ]'
 check "rmdir of what holds names" '! rmdir d 2> /dev/null'
-check "900 KiB" 'dd if=/dev/urandom of=/tmp/big bs=1024 count=900 2> /dev/null; cp /tmp/big big; cmp /tmp/big big'
+check "40 MiB" 'dd if=/dev/urandom of=/tmp/big bs=1048576 count=40 2> /dev/null; cp /tmp/big big; cmp /tmp/big big'
+check "both ends of 1 GiB" 'printf a > ends; printf z | dd of=ends bs=1 seek=1073741823 conv=notrunc 2> /dev/null;
+    [ "$(stat -c %s ends)" = 1073741824 ] && [ "$(dd if=ends bs=1 skip=1073741822 2> /dev/null | tr "\0" -)" = -z ]'
+check "no byte behind them" '! printf z | dd of=ends bs=1 seek=1073741824 conv=notrunc 2> /dev/null'
+check "a cut in between" 'truncate -s 536870912 ends && truncate -s 1073741824 ends && [ "$(head -c 1 ends)" = a ] &&
+    [ "$(dd if=ends bs=1 skip=1073741823 2> /dev/null | tr "\0" -)" = - ]'
 check "200 files" 'mkdir many; for i in $(seq 200); do echo $i > many/$i; done; [ "$(ls many | wc -l)" = 200 ]'
 check "each of them" 'for i in $(seq 200); do [ "$(cat many/$i)" = $i ] || break; done; [ $i = 200 ]'
 check "tar" 'tar cf /tmp/tar many && mkdir out && tar xf /tmp/tar -C out && diff -r many out/many'
