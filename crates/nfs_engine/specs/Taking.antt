@@ -1,10 +1,11 @@
 -- What a call does in one shard.
 use Rattle.std.specs.Prelude.{◌≡◌, ◌≢◌, ℕ, ◌-◌, ◌^◌, ◌==◌, ◌&&◌, List, None, Some}
-use Rattle.std.specs.Prelude.{Result}
+use Rattle.std.specs.Prelude.{Bool, IsSome, Result, true, false, ◌⊎◌}
 use Rattle.std.specs.Prelude.{Ok, Err, if◌then◌else◌, is_some}
 use Rattle.nfs_objects.specs.Rooms.{with_seen, with_number}
 use Rattle.nfs_objects.specs.Values.{Seen, ViewValue, held_at, seen_at}
 use Rattle.nfs_objects.specs.declared.address.Addr.{Addr}
+use Rattle.nfs_objects.specs.declared.address.Addr.TheVariants.{Inode}
 use Rattle.nfs_objects.specs.declared.modes.Mode.{Mode}
 use Rattle.nfs_objects.specs.declared.view.Reserved.{Reserved}
 use Rattle.nfs_engine.specs.Holders.{CanHold, Excludes}
@@ -52,6 +53,27 @@ abbrev pub IsGained : ShardView → ShardView → (id : ℕ) → Result Unit Res
 IsGained old new id (Ok done) = Gains old new id
 IsGained old new id (Err Memory) = Stays old new × (old.shard.next_generation ≢ 2 ^ 64 - 1)
 IsGained old new id (Err Spent) = Stays old new × (old.shard.next_generation ≡ 2 ^ 64 - 1)
+
+-- The shard gave a number and took it back: its generation is spent, and the call is as it was.
+pub record GivesBack (old new : ShardView) (id : ℕ) : Type 0 where
+  pub reserved : Reserved
+  pub between : ShardValue
+  pub given : Reserves old.shard between id reserved
+  pub back : Retakes between new.shard (Inode reserved.number) id None
+  pub view : new.view ≡ old.view
+
+-- the call had read the number that the shard gave
+pub record PassesOver (old new : ShardView) (id : ℕ) : Type 0 where
+  pub given_back : GivesBack old new id
+  pub read : IsSome (seen_at old.view.entries (Inode given_back.reserved.number))
+
+-- gained; or passed over; or there is no memory in the shard, or in the view, and then it has its number back; or the
+-- counter is at its end
+abbrev pub IsTested : ShardView → ShardView → (id : ℕ) → Result Bool ReserveError → Type 0
+IsTested old new id (Ok true) = Gains old new id
+IsTested old new id (Ok false) = PassesOver old new id
+IsTested old new id (Err Memory) = IsGained old new id (Err Memory) ⊎ GivesBack old new id
+IsTested old new id (Err Spent) = IsGained old new id (Err Spent)
 
 -- A holder lets go all that it has read and that stands in the shard of this index. Nothing else changed.
 pub record LetsGo (old new : ShardValue) (which id : ℕ) (entries : List Seen) : Type 0 where

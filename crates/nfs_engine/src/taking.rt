@@ -3,7 +3,7 @@
 ghost use Rattle.std.specs.Prelude.{◌≡◌, ◌<◌, None};
 ghost use Rattle.nfs_objects.specs.Values.{seen_at};
 ghost use Rattle.nfs_engine.specs.Apart.{GetsNumber};
-ghost use Rattle.nfs_engine.specs.Taking.{HoldsIn, IsGained, IsGot, LetsGo};
+ghost use Rattle.nfs_engine.specs.Taking.{HoldsIn, IsGained, IsGot, IsTested, LetsGo};
 
 use crate::calls::Txn;
 use crate::shard::{Had, ReserveError, Shard, shard_index};
@@ -89,9 +89,12 @@ impl Txn {
     ///
     /// # Errors
     ///
-    /// `Spent` where the shard's last generation was given, else `Memory`. The call is as it was.
+    /// `Spent` where the shard's last generation was given, else `Memory`. The call is as it was, and a number that was
+    /// given before the memory was refused is given back.
     pub fn reserve_tested(&mut self, shard: &mut Shard) -> Result<bool, ReserveError>
-        ensures { GetsNumber self.old self.new result }
+        ensures gets { GetsNumber self.old self.new result }
+        ensures tested { IsTested (record { shard = shard.old; view = self.old.view })
+            (record { shard = shard.new; view = self.new.view }) self.old.id result }
     {
         let reserved = shard.reserve(self.id)?;
         let address = Addr::Inode(reserved.number);
