@@ -1,6 +1,8 @@
 pub mod Asked
+pub mod Bucketed
 pub mod Granted
 pub mod Listed
+pub mod Once
 pub mod Parted
 pub mod Pieces
 pub mod Pointwise

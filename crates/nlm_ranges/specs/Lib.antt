@@ -1,3 +1,4 @@
+pub mod Buckets
 pub mod Cutting
 pub mod Files
 pub mod Granting

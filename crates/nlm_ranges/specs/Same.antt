@@ -1,4 +1,4 @@
--- When two locks, shares, requests or files are the same: tests by parts, as `==` makes them.
+-- When two locks, shares, requests, files or buckets are the same: tests by parts, as `==` makes them.
 use Rattle.std.specs.Prelude.{Bool, true, false, ◌==◌, ◌&&◌}
 use Rattle.std.specs.Bool.{beq}
 use Rattle.std.specs.Cmp.Lexicographic.{pointwise}
@@ -11,6 +11,7 @@ use Rattle.side_wire.specs.declared.nlm.ShareMode.TheVariants as mode
 use Rattle.nfs_machine.specs.Bytes.{same_bytes}
 use Rattle.nfs_machine.specs.Locks.{same_owner, same_sharer}
 use Rattle.nfs_machine.specs.State.{Lock, Request, Share}
+use Rattle.nlm_ranges.specs.Buckets.{BucketValue, LockedValue}
 use Rattle.nlm_ranges.specs.Files.{FileValue}
 
 abbrev pub same_lock : Lock → Lock → Bool
@@ -49,3 +50,9 @@ abbrev pub same_file : FileValue → FileValue → Bool
 same_file a b =
     pointwise same_lock a.held.locks b.held.locks && (pointwise same_share a.held.shares b.held.shares &&
     (pointwise equal_requests a.held.waiting b.held.waiting && pointwise equal_requests a.pending b.pending))
+
+abbrev pub same_locked : LockedValue → LockedValue → Bool
+same_locked a b = a.number == b.number && (a.export == b.export && same_file a.file b.file)
+
+abbrev pub same_bucket : BucketValue → BucketValue → Bool
+same_bucket a b = a.given == b.given && pointwise same_locked a.files b.files

@@ -13,8 +13,10 @@ use Rattle.side_wire.specs.declared.nlm.ShareMode.TheVariants as mode
 use Rattle.nfs_machine.specs.Bytes.{same_bytes}
 use Rattle.nfs_machine.specs.State.{Lock, Request, Share}
 use Rattle.nfs_machine.proofs.Modes.{one-owner, owner-itself}
+use Rattle.nlm_ranges.specs.Buckets.{BucketValue, LockedValue}
 use Rattle.nlm_ranges.specs.Files.{FileValue}
-use Rattle.nlm_ranges.specs.Same.{equal_locks, equal_requests, same_access, same_file, same_lock, same_mode, same_share}
+use Rattle.nlm_ranges.specs.Same.{equal_locks, equal_requests, same_access, same_bucket}
+use Rattle.nlm_ranges.specs.Same.{same_file, same_lock, same_locked, same_mode, same_share}
 
 -- a test decides that values are one, if it passes where they are and only there
 from_self : {X : Type 0} (test : X → X → Bool) → ((a b : X) → test a b ≡ true → a ≡ b) →
@@ -177,3 +179,30 @@ pub file_decides : (a b : FileValue) → Decides (same_file a b) (a ≡ b)
 file_decides = from_self same_file file_same (λ a. both _ _ ((locks_decide a.held.locks a.held.locks).1 refl)
     (both _ _ ((shares_decide a.held.shares a.held.shares).1 refl)
     (both _ _ ((lists_equal a.held.waiting a.held.waiting).1 refl) ((lists_equal a.pending a.pending).1 refl))))
+
+-- ---- buckets
+locked_same : (a b : LockedValue) → same_locked a b ≡ true → a ≡ b
+locked_same a b e =
+    let rest = second_so (a.number == b.number) _ e in
+    λ i. record {
+      number = (unsigned_Decides a.number b.number).0 (first_so (a.number == b.number) _ e) i;
+      export = (unsigned_Decides a.export b.export).0 (first_so (a.export == b.export) _ rest) i;
+      file = (file_decides a.file b.file).0 (second_so (a.export == b.export) _ rest) i;
+    }
+
+pub locked_decides : (a b : LockedValue) → Decides (same_locked a b) (a ≡ b)
+locked_decides = from_self same_locked locked_same
+    (λ a. both _ _ (nat_own a.number) (both _ _ (nat_own a.export) ((file_decides a.file a.file).1 refl)))
+
+all_locked_decide : (a b : List LockedValue) → Decides (pointwise same_locked a b) (a ≡ b)
+all_locked_decide = pointwise_decides locked_decides
+
+bucket_same : (a b : BucketValue) → same_bucket a b ≡ true → a ≡ b
+bucket_same a b e = λ i. record {
+  given = (unsigned_Decides a.given b.given).0 (first_so (a.given == b.given) _ e) i;
+  files = (all_locked_decide a.files b.files).0 (second_so (a.given == b.given) _ e) i;
+}
+
+pub bucket_decides : (a b : BucketValue) → Decides (same_bucket a b) (a ≡ b)
+bucket_decides = from_self same_bucket bucket_same
+    (λ a. both _ _ (nat_own a.given) ((all_locked_decide a.files a.files).1 refl))

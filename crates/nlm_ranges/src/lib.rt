@@ -12,12 +12,16 @@
 //!
 //! Requests stand in order of arrival. What waits is tried behind each change of the locks (`OneFile::set`, `clear`,
 //! `settle`), from the earliest on and again after each grant.
+//!
+//! Files with the same number modulo 64 share a `LockBucket`.
 #![tactic(auto)]
 
+mod bucket;
 mod file;
 mod held;
 mod iter;
 mod list;
+mod locked;
 mod locks;
 mod owner;
 mod piece;
@@ -27,9 +31,11 @@ mod requests;
 mod settling;
 mod shares;
 
+pub use bucket::{LOCK_BUCKETS, LockBucket, bucket_index};
 pub use file::{OneFile, Settled};
 pub use held::HeldLock;
 pub use iter::Locks;
+pub use locked::LockedFile;
 pub use locks::LockTable;
 pub use owner::LockOwner;
 pub use range::LockRange;

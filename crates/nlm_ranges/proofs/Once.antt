@@ -1,0 +1,39 @@
+-- Lists in which none stands twice.
+use Rattle.std.proofs.Common.{◌≡◌, Bool, true, false, cond, List, [], ◌∷◌, ◌++◌, filter, refl}
+use Rattle.std.specs.List.{AllByRecursion, IsDistinct}
+use Rattle.nfs_machine.proofs.Modes.{all-joined, all-left}
+
+-- what is left of a list passes the test
+pub passes-left : {X : Type 0} (p : X → Bool) (xs : List X) → AllByRecursion (λ x. p x ≡ true) (filter p xs)
+passes-left p [] = tt
+passes-left p (x ∷ xs) =
+    elim (p x) as (λ b. p x ≡ b → AllByRecursion (λ y. p y ≡ true) (cond b (x ∷ filter p xs) (filter p xs))) [
+      | true ↦ λ e. (e, passes-left p xs)
+      | false ↦ λ e. passes-left p xs
+    ] refl
+
+module _ {X : Type 0} (same : X → X → Bool) where
+  pub none-once : IsDistinct same []
+  unfolding IsDistinct
+  none-once = tt
+
+  pub left-once : (p : X → Bool) (xs : List X) → IsDistinct same xs → IsDistinct same (filter p xs)
+  unfolding IsDistinct
+  left-once p [] once = tt
+  left-once p (x ∷ xs) once =
+      elim (p x) as (λ b. IsDistinct same (cond b (x ∷ filter p xs) (filter p xs))) [
+        | true ↦ (
+          all-left (λ y. same x y ≡ false) (λ y. same x y ≡ false) p xs (λ y e h. h) once.0,
+          left-once p xs once.1,
+        )
+        | false ↦ left-once p xs once.1
+      ]
+
+  pub more-once : (xs : List X) (y : X) → AllByRecursion (λ x. same x y ≡ false) xs → IsDistinct same xs →
+      IsDistinct same (xs ++ y ∷ [])
+  unfolding IsDistinct
+  more-once [] y others once = (tt, tt)
+  more-once (x ∷ xs) y others once = (
+    all-joined (λ z. same x z ≡ false) xs (y ∷ []) once.0 (others.0, tt),
+    more-once xs y others.1 once.1,
+  )
