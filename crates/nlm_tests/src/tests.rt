@@ -4,13 +4,15 @@
 //! A script is a list of steps, which one function follows; what owns memory is lent to the functions that have the
 //! `?`s, and dropped by a call of `drop`.
 
+mod buckets;
 mod files;
 mod locks;
 mod shares;
 
 use bytes::Bytes;
 use nlm_ranges::{
-    Going, HeldLock, LockRange, LockRequest, LockTable, OneFile, Settled, ShareTable,
+    Going, HeldLock, LockBucket, LockRange, LockRequest, LockTable, LockedFile, OneFile, Settled,
+    ShareTable, bucket_index,
 };
 use side_wire::message::NlmLock;
 use side_wire::nlm::{NlmShare, ShareAccess, ShareMode};
