@@ -110,8 +110,8 @@ data_of (nfs.Write a) = in_file a.file (λ file. blocks_at file a.offset ++ maps
 data_of call = []
 
 -- The addresses that a call names, whether anything stands there or not, once it has read so much: the exports, the
--- objects of its handles with what their exports use, where its data lies, and those that are its program's alone. What it named it names
--- still as it reads more.
+-- objects of its handles with what their exports use, where its data lies, and those that are its program's alone.
+-- What it named it names still as it reads more.
 abbrev pub named_by : Call → ViewValue → List Addr
 named_by (calls.Nfs call) view = addresses.Exports ∷ objects_at view (nfs_handles call) ++ data_of call
 named_by (calls.Mount call) view = addresses.Exports ∷ addresses.Mounts ∷ []

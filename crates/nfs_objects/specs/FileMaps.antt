@@ -1,4 +1,5 @@
--- How the bytes of a file are kept: of each 4,096 a block, which may be absent, and may have fewer; what it lacks is zeros.
+-- How the bytes of a file are kept: of each 4,096 a block, which may be absent, and may have fewer; what it lacks is
+-- zeros.
 use Rattle.std.specs.Prelude.{◌≡◌, ℕ, ◌*◌, ◌≤◌, List, length, take, drop}
 use Rattle.nfs_machine.specs.Data.{resized}
 use Rattle.nfs_objects.specs.declared.bits.Bits.{Bits}

@@ -64,8 +64,8 @@ only_reads None view n = false
 only_reads (Some a) view n = is_apart view a.from n && is_apart view a.to n
 
 -- ---- modes
--- the mode in which an address is wanted: a call never changes the exports, and holds the maps and blocks of a file as it
--- holds its inode
+-- the mode in which an address is wanted: a call never changes the exports, and holds the maps and blocks of a file
+-- as it holds its inode
 abbrev pub held_mode : ModesValue → ViewValue → Addr → Mode
 held_mode modes view addresses.Exports = Shared
 held_mode modes view (addresses.Inode n) = if only_reads modes.renames view n then Shared else modes.inodes

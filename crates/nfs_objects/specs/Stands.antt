@@ -23,8 +23,8 @@ use Rattle.nfs_objects.specs.Sums.{stored_usage}
 use Rattle.nfs_objects.specs.declared.usage.Usage.{Usage}
 use Rattle.side_wire.specs.declared.mount.lists.MountBody.{MountBody}
 
--- What an inode tells by itself of the machine's content: of a file its size, as so many zeros, since its bytes stand in
--- blocks. The machine does not keep the parent of a directory, which follows from the names.
+-- What an inode tells by itself of the machine's content: of a file its size, as so many zeros, since its bytes stand
+-- in blocks. The machine does not keep the parent of a directory, which follows from the names.
 abbrev pub content_of : Content → machine.Content
 content_of (contents.Regular map) = machine.Regular (replicate map.size 0)
 content_of (contents.Directory directory) = machine.Directory directory.entries directory.last_cookie
@@ -181,8 +181,8 @@ pub record StandTables (s : Store) (m : State) : Type 0 where
   pub last_export : m.last_export ≡ (export_table_of (s.at addresses.Exports)).last
   pub mounts : m.mounts ≡ mounts_of (s.at addresses.Mounts)
 
--- What is at each number lives if its export does, with its links and its parent; the bytes of files are a part of their
--- own. Spent are the generations of each number up to the last, that of what stands there among them.
+-- What is at each number lives if its export does, with its links and its parent; the bytes of files are a part of
+-- their own. Spent are the generations of each number up to the last, that of what stands there among them.
 pub record StandObjects (s : Store) (k : Kept) : Type 0 where
   pub objects : (n : ℕ) → get k.state.objects n ≡ stands_alive s k.state.exports (bytes_at k.state n) n
   pub links : (n : ℕ) → k.links n ≡ links_kept (inode_there s k.state.exports n)

@@ -30,8 +30,8 @@ pub record ViewValue : Type 0 where
   pub entries : List Seen
   pub reserved : List Reserved
 
--- how a call holds what it reads: inodes with the maps and blocks of files and what groups of inodes use, the mounts, and
--- which names it moves, if any
+-- how a call holds what it reads: inodes with the maps and blocks of files and what groups of inodes use, the mounts,
+-- and which names it moves, if any
 pub record ModesValue : Type 0 where
   pub inodes : Mode
   pub mounts : Mode
