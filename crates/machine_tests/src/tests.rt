@@ -24,8 +24,8 @@ use bytes::Bytes;
 use nfs_inodes::Known;
 use nfs_machine::{Ctx, ExportText, Exports, Limits, Moment};
 use nfs_objects::{
-    Addr, Bits, CHANGING, Content, Directory, Entries, ExportTable, FileMap, Halt, Inode, MOUNTING,
-    Mode, Object, READING, Reserved, Usage, View,
+    Addr, Bits, CHANGING, Content, Counts, Directory, Entries, EntryMap, ExportTable, FileMap,
+    Halt, Inode, Leaf, MOUNTING, Mode, Object, PageList, READING, Reserved, Usage, View,
 };
 use nfs_rpc::{Gids, Ids};
 use nfs_wire::{Attributes, DeviceNumber, FileType, SetAttributes, SetTime, Time};
@@ -91,13 +91,33 @@ fn hello(links: u32) -> Result<Inode, AllocError> {
     Ok(hello)
 }
 
-/// A directory below directory 1 with these names.
-fn directory(entries: Entries, last_cookie: u64) -> Directory {
-    Directory {
+/// A directory below directory 1 with no name.
+fn bare(alloc: Global) -> Result<Directory, AllocError> {
+    Directory::empty(alloc, 1)
+}
+
+/// The same with `a`, whose cookie is 3.
+fn with_a(alloc: Global, last_cookie: u64) -> Result<Directory, AllocError> {
+    let pages = PageList::new(alloc)?.with_page(alloc, 0)?;
+    let counts = Counts::none(alloc)?.with_one_more(alloc, 33)?;
+    Ok(Directory {
         parent: 1,
         last_cookie,
-        entries,
-    }
+        entries: EntryMap { pages, counts },
+    })
+}
+
+/// `a`, which leads to 7, with the cookie 3.
+fn part_of_a(alloc: Global) -> Result<Object, AllocError> {
+    let leaf = Leaf {
+        number: 7,
+        cookie: 3,
+    };
+    let (none, name) = (Entries::new(alloc), Bytes::from_static(b"a"));
+    let entries = none.with_entry(&name, leaf);
+    drop(none);
+    drop(name);
+    Ok(Object::Part(entries?))
 }
 
 /// What is known of object 9, of this kind, of user 5 and group 6.
@@ -267,7 +287,12 @@ enum Beside {
     BlockOf(&'static [u8], Usage),
     /// What the group of inode 9 uses.
     Group(Usage),
-    /// A number to give, whose group is empty.
+    /// The part of directory 9 that has its name `a`.
+    Named,
+    /// The page of directory 9 for the cookies from 0 on and the parts for `a` and `b`, where nothing stands.
+    Room,
+    /// A number to give, whose group is empty; and the page of directory 9 for the cookies from 0 on and the part for
+    /// `x`, where nothing stands.
     Number,
 }
 
@@ -294,6 +319,21 @@ const MAP: Addr = Addr::Map { file: 9, page: 0 };
 
 /// The first block of file 9.
 const BLOCK: Addr = Addr::Block { file: 9, index: 0 };
+
+/// The page of directory 9 for the cookies from 0 on.
+const PAGE: Addr = Addr::Page {
+    directory: 9,
+    page: 0,
+};
+
+/// The first part of a bucket of directory 9.
+const fn part(bucket: u8) -> Addr {
+    Addr::Part {
+        directory: 9,
+        bucket,
+        part: 0,
+    }
+}
 
 /// Adds an inode as number 9, the exports, and what is shown beside to a view that has read nothing.
 fn fill(view: &mut View, alloc: Global, inode: Inode, beside: Beside) -> Result<(), AllocError>
@@ -329,10 +369,18 @@ fn fill(view: &mut View, alloc: Global, inode: Inode, beside: Beside) -> Result<
             add(view, alloc, GROUP, Mode::Exclusive, Object::Usage(usage))?;
             Ok(())
         }
+        // The bytes of names are ASCII: 97, 98 and 120, modulo 64.
+        Beside::Named => add(view, alloc, part(33), Mode::Exclusive, part_of_a(alloc)?),
+        Beside::Room => {
+            view.add(PAGE, Mode::Exclusive, None)?;
+            view.add(part(33), Mode::Exclusive, None)?;
+            view.add(part(34), Mode::Exclusive, None)
+        }
         Beside::Number => {
             view.add_reserved(NEW)?;
             view.add(NEW_GROUP, Mode::Exclusive, None)?;
-            Ok(())
+            view.add(PAGE, Mode::Exclusive, None)?;
+            view.add(part(56), Mode::Exclusive, None)
         }
     }
 }

@@ -5,7 +5,7 @@ use Rattle.std.specs.Cmp.{unsigned_Decides}
 use Rattle.nfs_objects.proofs.Seen.{is_addr-same}
 use Rattle.nfs_objects.specs.Values.{Seen, is_addr, seen_at}
 use Rattle.nfs_objects.specs.declared.address.Addr.{Addr}
-use Rattle.nfs_objects.specs.declared.address.Addr.TheVariants.{Exports, Inode, Map, Block, Mounts, Usage}
+use Rattle.nfs_objects.specs.declared.address.Addr.TheVariants.{Exports, Inode, Map, Block, Page, Part, Mounts, Usage}
 use Rattle.nfs_objects.specs.declared.modes.Mode.{Mode}
 use Rattle.nfs_engine.proofs.Going.{seen_here, seen_last}
 use Rattle.nfs_engine.proofs.Lifted.{any_default, each_shard}
@@ -21,6 +21,8 @@ below_sixteen Exports = omega arith
 below_sixteen (Inode n) = omega arith
 below_sixteen (Map n page) = omega arith
 below_sixteen (Block n i) = omega arith
+below_sixteen (Page n page) = omega arith
+below_sixteen (Part n bucket part) = omega arith
 below_sixteen Mounts = omega arith
 below_sixteen (Usage e g) = omega arith
 

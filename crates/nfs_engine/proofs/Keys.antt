@@ -5,7 +5,7 @@ use Rattle.std.proofs.Common.{arith}
 use Rattle.std.specs.Prelude.{nat_le}
 use Rattle.std.proofs.lemmas.Bool.Decides.{nat_tests}
 use Rattle.nfs_objects.specs.declared.address.Addr.{Addr}
-use Rattle.nfs_objects.specs.declared.address.Addr.TheVariants.{Exports, Inode, Map, Block, Mounts, Usage}
+use Rattle.nfs_objects.specs.declared.address.Addr.TheVariants.{Exports, Inode, Map, Block, Page, Part, Mounts, Usage}
 use Rattle.nfs_engine.specs.Shards.{key_in, number_at}
 pub use Rattle.nfs_objects.proofs.Seen.{is_addr-same}
 
@@ -49,5 +49,7 @@ address_there index Exports key is = cc
 address_there index (Inode n) key is = ap (λ k. Inode k) (number_there index n key is)
 address_there index (Map n page) key is = cc
 address_there index (Block n i) key is = cc
+address_there index (Page n page) key is = cc
+address_there index (Part n bucket part) key is = cc
 address_there index Mounts key is = cc
 address_there index (Usage e g) key is = cc

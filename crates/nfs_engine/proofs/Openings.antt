@@ -23,23 +23,25 @@ use Rattle.nfs_machine.specs.ExportFaults.{AreFaultless}
 use Rattle.nfs_machine.specs.Exports.{ExportValue, LivingExport, opening_exports}
 use Rattle.nfs_machine.specs.Opening.{opening, opening_root, opening_roots}
 use Rattle.nfs_machine.specs.Run.{Record, Run}
-use Rattle.nfs_machine.specs.State.{Living}
+use Rattle.nfs_machine.specs.State.{Entry, Living}
 use Rattle.nfs_machine.specs.Times.{time_of}
 use Rattle.nfs_machine.specs.WellFormed.{IsParent}
 use Rattle.nfs_machine.specs.declared.moment.Moment.{Moment}
 use Rattle.nfs_objects.proofs.BitSets.{has-none}
+use Rattle.nfs_objects.proofs.Entering.{no-entries}
 use Rattle.nfs_objects.proofs.Exported.{inode-as, inode-stands}
 use Rattle.nfs_objects.proofs.Summed.{both-sums, counted-by, used-by}
 use Rattle.nfs_objects.proofs.Tallies.{insert-total, none-total, total}
 use Rattle.nfs_objects.specs.Stands.{IsFitting, Kept, export_table_of, exports_of, inode_in, inode_of, links_kept}
 use Rattle.nfs_objects.specs.Bits.{has, no_bits}
 use Rattle.nfs_objects.specs.FileMaps.{FileMapValue}
-use Rattle.nfs_objects.specs.Stands.{IsMapped, IsStored, StandFiles, bytes_at, file_of, living_of_inode, map_in, map_of}
+use Rattle.nfs_objects.specs.Stands.{Beside, HoldsEntries, IsMapped, IsStored, StandDirectories, StandFiles, bytes_at}
+use Rattle.nfs_objects.specs.Stands.{directory_entries, entry_map_of, file_of, living_in, living_of_inode, map_in, map_of}
 use Rattle.nfs_objects.specs.Stands.{mounts_of, parent_kept}
 use Rattle.nfs_objects.specs.Store.{Store, with_write, with_writes}
 use Rattle.nfs_objects.specs.Sums.{group_of, no_usage, one_using, stored_usage, usage_in}
 use Rattle.nfs_objects.specs.declared.address.Addr.{Addr}
-use Rattle.nfs_objects.specs.declared.address.Addr.TheVariants.{Exports, Inode, Map, Block, Mounts, Usage as UsageOf}
+use Rattle.nfs_objects.specs.declared.address.Addr.TheVariants.{Exports, Inode, Map, Block, Page, Part, Mounts, Usage as UsageOf}
 use Rattle.nfs_objects.specs.ExportTables.{ExportTableValue}
 use Rattle.nfs_objects.specs.Values.{write_value}
 use Rattle.nfs_objects.specs.declared.change.Write.{Write}
@@ -86,6 +88,15 @@ module _ (base : Store) (time : Time) where
   blocks_at : (n k i : ℕ) → (roots n).at (Block k i) ≡ base.at (Block k i)
   blocks_at zero k i = ap (λ (s : Store). s.at (Block k i)) none_yet
   blocks_at (suc n) k i = ap (λ (s : Store). s.at (Block k i)) (one_more n) ∙ blocks_at n k i
+
+  pages_at : (n k page : ℕ) → (roots n).at (Page k page) ≡ base.at (Page k page)
+  pages_at zero k page = ap (λ (s : Store). s.at (Page k page)) none_yet
+  pages_at (suc n) k page = ap (λ (s : Store). s.at (Page k page)) (one_more n) ∙ pages_at n k page
+
+  parts_at : (n k bucket part : ℕ) → (roots n).at (Part k bucket part) ≡ base.at (Part k bucket part)
+  parts_at zero k bucket part = ap (λ (s : Store). s.at (Part k bucket part)) none_yet
+  parts_at (suc n) k bucket part =
+      ap (λ (s : Store). s.at (Part k bucket part)) (one_more n) ∙ parts_at n k bucket part
 
   inode_more : (n k : ℕ) → (roots (suc n)).at (Inode k)
       ≡ cond (suc n == k) (Some (objects.Inode (root_of (suc n) time))) ((roots n).at (Inode k))
@@ -291,26 +302,43 @@ module _ (es : List ExportValue) (moment : Moment) where
       ]
 
   -- what lives where this stands, if every export does
-  abbrev living_of : List ℕ → Option Object → Option Living
-  living_of bytes o = option_map (living_of_inode bytes) (inode_of o)
+  abbrev living_of : Beside → Option Object → Option Living
+  living_of beside o = option_map (living_of_inode beside) (inode_of o)
 
-  lives : (bytes : List ℕ) (n : ℕ) → get (opening_roots 1 es time) n ≡ living_of bytes (store.at (Inode n))
+  -- with no entry beside it
+  abbrev bare : List ℕ → Beside
+  bare bytes = record { bytes = bytes; entries = [] }
+
+  beyond : (k : ℕ) → (k < 1) ⊎ (length es < k) → (k < 1) ⊎ (1 + length es ≤ k)
+  beyond k (inl low) = inl low
+  beyond k (inr high) = inr (omega (arith, high))
+
+  lives : (bytes : List ℕ) (n : ℕ) → get (opening_roots 1 es time) n ≡ living_of (bare bytes) (store.at (Inode n))
   lives bytes n =
       elim (within_or n) [
-        | inl h ↦ root_found time es 1 n h.0 (omega (arith, h.1)) ∙ sym (ap (living_of bytes) (found n h.0 h.1).0)
-        | inr out ↦ root_none time es 1 n (beyond n out) ∙ sym (ap (living_of bytes) (nothing (length es) n out).0)
+        | inl h ↦
+            root_found time es 1 n h.0 (omega (arith, h.1)) ∙ sym (ap (living_of (bare bytes)) (found n h.0 h.1).0)
+        | inr out ↦
+            root_none time es 1 n (beyond n out) ∙ sym (ap (living_of (bare bytes)) (nothing (length es) n out).0)
       ]
-    where
-      beyond : (k : ℕ) → (k < 1) ⊎ (length es < k) → (k < 1) ⊎ (1 + length es ≤ k)
-      beyond k (inl low) = inl low
-      beyond k (inr high) = inr (omega (arith, high))
+
+  -- no directory has an entry
+  abbrev entries_of : Option Living → List Entry
+  entries_of o = elim o [ None ↦ [] | Some x ↦ directory_entries x.content ]
+
+  bare_at : (n : ℕ) → entries_of (get (opening_roots 1 es time) n) ≡ []
+  bare_at n =
+      elim (within_or n) [
+        | inl h ↦ ap entries_of (root_found time es 1 n h.0 (omega (arith, h.1)))
+        | inr out ↦ ap entries_of (root_none time es 1 n (beyond n out))
+      ]
 
   -- and the export of each root does
   exported : AreFaultless es → (n : ℕ) →
       inode_of (store.at (Inode n)) ≡ inode_in (opening_exports es) (store.at (Inode n))
   exported faultless n = sym (inode-as (opening_exports es) (store.at (Inode n))
-      (λ i is. (opening_formed es moment faultless).exported n (living_of_inode [] i)
-      (lives [] n ∙ ap (option_map (living_of_inode [])) is)))
+      (λ i is. (opening_formed es moment faultless).exported n (living_of_inode (bare []) i)
+      (lives [] n ∙ ap (option_map (living_of_inode (bare []))) is)))
 
   -- no file is there
   no_file : (n : ℕ) → file_of (store.at (Inode n)) ≡ None
@@ -388,6 +416,25 @@ module _ (es : List ExportValue) (moment : Moment) where
           let none : map_in i.content ≡ None = ap file_of (sym at) ∙ no_file n in
           let both : Some map ≡ None = sym is ∙ none in cc
 
+  -- each root has no page and no part, and nothing else has any
+  directories : StandDirectories store kept
+  directories n = record { entries = []; holds = holds; lives = λ there. sym (bare_at n) }
+    where
+      nothing_there : HoldsEntries store n None []
+      nothing_there = (
+        λ page. pages_at base time (length es) n page,
+        λ bucket part. parts_at base time (length es) n bucket part,
+      )
+
+      holds : HoldsEntries store n (entry_map_of (store.at (Inode n))) []
+      holds =
+          elim (within_or n) [
+            | inl h ↦ subst (λ (o : Option Object). HoldsEntries store n (entry_map_of o) []) (sym (found n h.0 h.1).0)
+                (no-entries store n nothing_there)
+            | inr out ↦ subst (λ (o : Option Object). HoldsEntries store n (entry_map_of o) [])
+                (sym (nothing (length es) n out).0) nothing_there
+          ]
+
   abbrev LivesAt : ℕ → Living → Type 0
   LivesAt n o = get (opening_roots 1 es time) n ≡ Some o
 
@@ -431,7 +478,9 @@ module _ (es : List ExportValue) (moment : Moment) where
       };
       objects = record {
         objects = λ n. lives (bytes_at (opening es moment) n) n
-            ∙ ap (option_map (living_of_inode (bytes_at (opening es moment) n))) (exported faultless n);
+            ∙ ap (option_map (living_of_inode (bare (bytes_at (opening es moment) n)))) (exported faultless n)
+            ∙ ap (λ xs. living_in (opening_exports es)
+            (record { bytes = bytes_at (opening es moment) n; entries = xs }) (store.at (Inode n))) (sym (bare_at n));
         links = λ n. ap links_kept (exported faultless n);
         parents = λ n. ap parent_kept (exported faultless n);
         given = given;
@@ -439,6 +488,7 @@ module _ (es : List ExportValue) (moment : Moment) where
         spent = λ n g. ap (nat_le g) (lasts n);
       };
       files = files;
+      directories = directories;
       usages = record { usage = λ e g live. usages_at base time (λ e g. refl) (length es) e g };
       locks = record {
         no_locks = refl;

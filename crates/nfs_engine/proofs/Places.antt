@@ -7,7 +7,7 @@ use Rattle.std.proofs.lemmas.Bool.Decides.{nat_tests}
 use Rattle.std.specs.Option.{option_and_then, option_or}
 use Rattle.slab.specs.Slab.{Slab, Updates, get}
 use Rattle.nfs_objects.specs.declared.address.Addr.{Addr}
-use Rattle.nfs_objects.specs.declared.address.Addr.TheVariants.{Exports, Inode, Map, Block, Mounts, Usage}
+use Rattle.nfs_objects.specs.declared.address.Addr.TheVariants.{Exports, Inode, Map, Block, Page, Part, Mounts, Usage}
 use Rattle.nfs_objects.specs.Values.{is_addr}
 use Rattle.nfs_engine.specs.Found.{Changes, found}
 use Rattle.nfs_engine.specs.Numbers.{IsApart}
@@ -95,6 +95,8 @@ module _ (index next : ℕ) (small : index < 16) (m n : Slab Slot) (es : List (A
           ∙ sym (ap (option_and_then (at_key m.slots)) at))
   numbered_changed (Map m page) = refl
   numbered_changed (Block m i) = refl
+  numbered_changed (Page m page) = refl
+  numbered_changed (Part m bucket part) = refl
   numbered_changed Mounts = refl
   numbered_changed (Usage e g) = refl
 

@@ -66,12 +66,16 @@ give_elsewhere last (addresses.Inode k) (Some (objects.Inode i)) n other =
 give_elsewhere last (addresses.Inode k) (Some (objects.Exports t)) n other = refl
 give_elsewhere last (addresses.Inode k) (Some (objects.Map b)) n other = refl
 give_elsewhere last (addresses.Inode k) (Some (objects.Block b)) n other = refl
+give_elsewhere last (addresses.Inode k) (Some (objects.Page p)) n other = refl
+give_elsewhere last (addresses.Inode k) (Some (objects.Part p)) n other = refl
 give_elsewhere last (addresses.Inode k) (Some (objects.Mounts t)) n other = refl
 give_elsewhere last (addresses.Inode k) (Some (objects.Usage t)) n other = refl
 give_elsewhere last (addresses.Inode k) None n other = refl
 give_elsewhere last addresses.Exports o n other = refl
 give_elsewhere last (addresses.Map m page) o n other = refl
 give_elsewhere last (addresses.Block m i) o n other = refl
+give_elsewhere last (addresses.Page m page) o n other = refl
+give_elsewhere last (addresses.Part m bucket part) o n other = refl
 give_elsewhere last addresses.Mounts o n other = refl
 give_elsewhere last (addresses.Usage e g) o n other = refl
 
@@ -139,12 +143,16 @@ module _ (view : ViewValue) (s : Store) (next : ℕ → ℕ) (fits : AllByRecurs
   given_below last (addresses.Inode k) (Some (objects.Exports t)) less is n = less n
   given_below last (addresses.Inode k) (Some (objects.Map b)) less is n = less n
   given_below last (addresses.Inode k) (Some (objects.Block b)) less is n = less n
+  given_below last (addresses.Inode k) (Some (objects.Page p)) less is n = less n
+  given_below last (addresses.Inode k) (Some (objects.Part p)) less is n = less n
   given_below last (addresses.Inode k) (Some (objects.Mounts t)) less is n = less n
   given_below last (addresses.Inode k) (Some (objects.Usage t)) less is n = less n
   given_below last (addresses.Inode k) None less is n = less n
   given_below last addresses.Exports o less is n = less n
   given_below last (addresses.Map m page) o less is n = less n
   given_below last (addresses.Block m i) o less is n = less n
+  given_below last (addresses.Page m page) o less is n = less n
+  given_below last (addresses.Part m bucket part) o less is n = less n
   given_below last addresses.Mounts o less is n = less n
   given_below last (addresses.Usage e g) o less is n = less n
 

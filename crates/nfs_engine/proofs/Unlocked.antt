@@ -7,7 +7,7 @@ use Rattle.std.proofs.lemmas.List.{take_more}
 use Rattle.std.proofs.lemmas.List.Sums.{sum_by-cons}
 use Rattle.nfs_objects.specs.Values.{is_addr}
 use Rattle.nfs_objects.specs.declared.address.Addr.{Addr}
-use Rattle.nfs_objects.specs.declared.address.Addr.TheVariants.{Exports, Inode, Map, Block, Mounts, Usage}
+use Rattle.nfs_objects.specs.declared.address.Addr.TheVariants.{Exports, Inode, Map, Block, Page, Part, Mounts, Usage}
 use Rattle.nfs_engine.specs.Engine.{CountsLocked, LockedSum, held_among, no_shard, shard_among}
 use Rattle.nfs_engine.specs.Found.{found}
 use Rattle.nfs_engine.specs.Holders.{hold_in, hold_of}
@@ -66,6 +66,8 @@ nowhere (Inode n) j = elim ((n % 16 == 0) && nat_le 16 n) as (λ t.
     (cond t (Some (n / 16 - 1)) None)) None) empty_slot).holders j ≡ None) [ true ↦ refl | false ↦ refl ]
 nowhere (Map n page) j = refl
 nowhere (Block n i) j = refl
+nowhere (Page n page) j = refl
+nowhere (Part n bucket part) j = refl
 nowhere Mounts j = refl
 nowhere (Usage e g) j = refl
 

@@ -6,7 +6,7 @@ use Rattle.std.specs.Cmp.{unsigned_Decides}
 use Rattle.std.specs.Map.{lookup}
 use Rattle.indexmap.specs.IndexMap.{IndexMap, UpdatesBy}
 use Rattle.nfs_objects.specs.declared.address.Addr.{Addr}
-use Rattle.nfs_objects.specs.declared.address.Addr.TheVariants.{Exports, Inode, Map, Block, Mounts, Usage}
+use Rattle.nfs_objects.specs.declared.address.Addr.TheVariants.{Exports, Inode, Map, Block, Page, Part, Mounts, Usage}
 use Rattle.nfs_objects.specs.declared.object.Object.{Object}
 use Rattle.nfs_objects.specs.declared.object.Object.TheVariants as objects
 use Rattle.nfs_objects.specs.Store.{Store, give, with_write, with_writes}
@@ -46,12 +46,16 @@ filled_last last (Inode k) (Some (objects.Inode i)) n = given_there (λ j. last 
 filled_last last (Inode k) (Some (objects.Mounts t)) n = given_nothing (λ j. last (Inode j)) k n
 filled_last last (Inode k) (Some (objects.Map b)) n = given_nothing (λ j. last (Inode j)) k n
 filled_last last (Inode k) (Some (objects.Block b)) n = given_nothing (λ j. last (Inode j)) k n
+filled_last last (Inode k) (Some (objects.Page p)) n = given_nothing (λ j. last (Inode j)) k n
+filled_last last (Inode k) (Some (objects.Part p)) n = given_nothing (λ j. last (Inode j)) k n
 filled_last last (Inode k) (Some (objects.Exports t)) n = given_nothing (λ j. last (Inode j)) k n
 filled_last last (Inode k) (Some (objects.Usage u)) n = given_nothing (λ j. last (Inode j)) k n
 filled_last last (Inode k) None n = given_nothing (λ j. last (Inode j)) k n
 filled_last last Exports o n = refl
 filled_last last (Map m page) o n = refl
 filled_last last (Block m i) o n = refl
+filled_last last (Page m page) o n = refl
+filled_last last (Part m bucket part) o n = refl
 filled_last last Mounts o n = refl
 filled_last last (Usage e g) o n = refl
 

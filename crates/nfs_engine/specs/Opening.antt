@@ -7,6 +7,7 @@ use Rattle.nfs_machine.specs.Attributes.{block}
 use Rattle.nfs_machine.specs.Exports.{ExportValue, opening_exports}
 use Rattle.nfs_machine.specs.Opening.{opening}
 use Rattle.nfs_machine.specs.State.{octal}
+use Rattle.nfs_objects.specs.Directories.{bare_directory}
 use Rattle.nfs_objects.specs.Store.{Store}
 use Rattle.nfs_objects.specs.Sums.{group_of, no_usage, one_using}
 use Rattle.nfs_objects.specs.declared.address.Addr.{Addr}
@@ -27,7 +28,7 @@ root_of number time =
     record {
       export = number;
       generation = 1;
-      content = contents.Directory (record { parent = number; last_cookie = 2; entries = [] });
+      content = contents.Directory (bare_directory number);
       mode = octal 7 7 7;
       uid = 0;
       gid = 0;

@@ -7,7 +7,7 @@ use Rattle.std.specs.Prelude.{if◌then◌else◌, ◌==◌, ◌&&◌, nat_le}
 use Rattle.std.specs.Arc.{arc_value}
 use Rattle.std.specs.Option.{option_and_then, option_or}
 use Rattle.nfs_objects.specs.declared.address.Addr.{Addr}
-use Rattle.nfs_objects.specs.declared.address.Addr.TheVariants.{Exports, Inode, Map, Block, Mounts, Usage}
+use Rattle.nfs_objects.specs.declared.address.Addr.TheVariants.{Exports, Inode, Map, Block, Page, Part, Mounts, Usage}
 use Rattle.nfs_objects.specs.declared.modes.Mode.{Mode}
 use Rattle.nfs_objects.specs.declared.modes.Mode.TheVariants.{Exclusive}
 use Rattle.nfs_objects.specs.declared.object.Object.{Object}
@@ -27,6 +27,8 @@ shard_of Exports = 0
 shard_of (Inode n) = n % 16
 shard_of (Map n page) = n % 16
 shard_of (Block n i) = n % 16
+shard_of (Page n page) = n % 16
+shard_of (Part n bucket part) = n % 16
 shard_of Mounts = 0
 shard_of (Usage e g) = g % 16
 

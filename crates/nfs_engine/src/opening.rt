@@ -9,7 +9,7 @@ ghost use Rattle.nfs_engine.specs.Opening.{IsLimit, opening_writes, root_of, roo
 use nfs_machine::{Exports, Limits, Moment};
 use nfs_objects::usage::group_of;
 use nfs_objects::{
-    Addr, Content, DIRECTORY_SIZE, Directory, Entries, ExportTable, Inode, Object, Usage, Write,
+    Addr, Content, DIRECTORY_SIZE, Directory, ExportTable, Inode, Object, Usage, Write,
 };
 use nfs_wire::Time;
 use std::alloc::{AllocError, Global};
@@ -122,11 +122,7 @@ fn root(alloc: Global, export: u32, time: Time) -> Result<Inode, AllocError>
     Ok(Inode {
         export,
         generation: 1,
-        content: Content::Directory(Directory {
-            parent: u64::from(export),
-            last_cookie: 2,
-            entries: Entries::new(alloc)?,
-        }),
+        content: Content::Directory(Directory::empty(alloc, u64::from(export))?),
         mode: 0o777,
         uid: 0,
         gid: 0,

@@ -29,9 +29,9 @@ pub const SHARDS: usize = 16;
 /// The generation that a shard gives first. Those of the roots, 1, lie below it.
 const FIRST_GENERATION: u64 = 2;
 
-/// The shard in which an address stands: an inode in that of its number modulo 16, and so the maps and blocks of a
-/// file; what a group of objects uses in that of the group modulo 16, the tables of exports and of mounts in the
-/// first one.
+/// The shard in which an address stands: an inode in that of its number modulo 16, and so the maps and blocks of a file
+/// and the pages and parts of a directory; what a group of objects uses in that of the group modulo 16, the tables of
+/// exports and of mounts in the first one.
 pub fn shard_index(address: Addr) -> usize
     ensures which { result ≡ shard_of address }
     ensures within { result < SHARDS }
@@ -40,6 +40,12 @@ pub fn shard_index(address: Addr) -> usize
         Addr::Exports | Addr::Mounts => 0,
         Addr::Inode(number) => (number % 16) as usize,
         Addr::Map { file, page: _ } | Addr::Block { file, index: _ } => (file % 16) as usize,
+        Addr::Page { directory, page: _ } => (directory % 16) as usize,
+        Addr::Part {
+            directory,
+            bucket: _,
+            part: _,
+        } => (directory % 16) as usize,
         Addr::Usage { export: _, group } => usize::from(group % 16),
     }
 }

@@ -2,7 +2,7 @@
 use Rattle.std.proofs.Common.{◌≡◌, ◌==◌, ℕ, ◌+◌, ◌≤◌, ◌<◌, nat_lt, true, false, Bool, cond}
 use Rattle.std.proofs.Common.{List, [], ◌∷◌, length, Option, Some, None, IsSome, option_map, inl, inr, refl, sym}
 use Rattle.std.proofs.Common.{◌∙◌, ap, subst, arith}
-use Rattle.std.specs.Prelude.{◌↔◌}
+use Rattle.std.specs.Prelude.{◌↔◌, IfSome, MatchOption}
 use Rattle.std.proofs.lemmas.Bool.{le-ltb, lt-ltb, ltb-true}
 use Rattle.std.proofs.lemmas.List.Sums.{sum_by-cons}
 use Rattle.std.specs.Cmp.{unsigned_Decides}
@@ -19,16 +19,22 @@ use Rattle.nfs_machine.specs.RenameSteps.{IsWithin, below}
 use Rattle.nfs_machine.specs.State.{Entry, Living, State}
 use Rattle.nfs_machine.specs.WellFormed.{IsParent, Leads, WellFormed, is_root}
 use Rattle.nfs_objects.proofs.Exported.{object-stands}
-use Rattle.nfs_objects.proofs.Seen.{is_addr-same}
+use Rattle.nfs_objects.proofs.Seen.{is_addr-same, unknown-unseen}
 use Rattle.nfs_objects.specs.Asks.{IsThere}
 use Rattle.nfs_objects.specs.Knows.{Knows, Possible}
-use Rattle.nfs_objects.specs.Stands.{Kept, Represents}
+use Rattle.nfs_objects.specs.Modes.{held_mode}
+use Rattle.nfs_objects.specs.Stands.{Kept, Represents, beside_at, content_of, filled, living_of_inode, parent_in}
 use Rattle.nfs_objects.specs.Store.{Store, with_writes}
 use Rattle.nfs_objects.specs.Values.{DraftValue, Seen, is_addr, known_at, seen_at, shown_at, written_at}
 use Rattle.nfs_objects.specs.declared.address.Addr.{Addr}
 use Rattle.nfs_objects.specs.declared.address.Addr.TheVariants as addresses
-use Rattle.nfs_inodes.proofs.Standing.{directory-kind, kind-is, known-lives}
-use Rattle.nfs_inodes.specs.Known.{IsKnown, content_at}
+use Rattle.nfs_objects.specs.declared.directory.Directory.{Directory as Header}
+use Rattle.nfs_objects.specs.declared.modes.Mode.{Mode}
+use Rattle.nfs_objects.specs.declared.object.Content.TheVariants as contents
+use Rattle.nfs_objects.specs.declared.object.Inode.{Inode}
+use Rattle.nfs_inodes.proofs.Standing.{directory-kind, kind-is, known-lives, lives-there, parent-there}
+use Rattle.nfs_inodes.specs.Gathers.{MayWish}
+use Rattle.nfs_inodes.specs.Known.{HasInode, IsKnown, content_at}
 use Rattle.nfs_inodes.specs.declared.kinds.Directory.{Directory}
 
 -- ---- one directory up
@@ -120,6 +126,33 @@ living-directory : (x : Option Living) → is_living_directory x ≡ true →
 living-directory None e = cc
 living-directory (Some o) e = (o, refl, e)
 
+-- the parent of a directory that a draft shows stands in each store that its view fits
+parent-stands : (d : DraftValue) (n : ℕ) (i : Inode) (h : Header) → d.writes ≡ [] → HasInode d n (Some i) →
+    i.content ≡ contents.Directory h → IsThere d.view (addresses.Inode h.parent)
+parent-stands d n i h none has is s k fits stands sound formed =
+    let written = subst (λ ws. Represents (with_writes s ws) k) (sym none) stands in
+    let beside = beside_at k.state n in
+    let o = living_of_inode beside i in
+    let lives : get k.state.objects n ≡ Some o = lives-there d n (Some i) has s k fits written in
+    let kind : is_directory o.content ≡ true = ap (λ c. is_directory (filled beside (content_of c))) is in
+    let parent = sound.parents n o lives kind in
+    let same : k.parents n ≡ h.parent = parent-there d n (Some i) has s k fits written ∙ ap parent_in is in
+    object-stands s k h.parent parent.directory stands (ap (get k.state.objects) (sym same) ∙ parent.lives)
+
+-- so it may be asked for
+pub parent-wished : (d : DraftValue) (n : ℕ) (i : Inode) (h : Header) → d.writes ≡ [] → HasInode d n (Some i) →
+    i.content ≡ contents.Directory h → (wish : Option (Addr × Mode)) →
+    MatchOption wish (IsSome (known_at d (addresses.Inode h.parent)))
+    (λ w. (known_at d (addresses.Inode h.parent) ≡ None) ×
+    (w ≡ (addresses.Inode h.parent, held_mode d.modes d.view (addresses.Inode h.parent)))) →
+    IfSome wish (MayWish d)
+parent-wished d n i h none has is None lacked = tt
+parent-wished d n i h none has is (Some w) lacked = subst (MayWish d) (sym lacked.1) (record {
+  unseen = unknown-unseen d (addresses.Inode h.parent) lacked.0;
+  mode = refl;
+  lives = parent-stands d n i h none has is;
+})
+
 -- ---- how many of the addresses that were read stand so high
 abbrev is_high : (ℕ → ℕ) → ℕ → Addr → Bool
 is_high depth limit (addresses.Inode n) = nat_lt (depth n) limit
@@ -137,6 +170,8 @@ module _ (depth : ℕ → ℕ) (low high : ℕ) (less : low ≤ high) where
   high-more (addresses.Inode n) t = below-more (depth n) t
   high-more (addresses.Map file page) t = cc
   high-more (addresses.Block file index) t = cc
+  high-more (addresses.Page directory page) t = cc
+  high-more (addresses.Part directory bucket part) t = cc
   high-more addresses.Mounts t = cc
   high-more (addresses.Usage export group) t = cc
 

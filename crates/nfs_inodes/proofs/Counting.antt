@@ -21,7 +21,7 @@ use Rattle.nfs_objects.specs.Edits.{counted_anew, recounted}
 use Rattle.nfs_objects.specs.Fits.{Fits}
 use Rattle.nfs_objects.specs.Knows.{Possible, Turns}
 use Rattle.nfs_objects.specs.Sound.{Sound}
-use Rattle.nfs_objects.specs.Stands.{Kept, Represents, bytes_at, living_of_inode}
+use Rattle.nfs_objects.specs.Stands.{Kept, Represents, beside_at, living_of_inode}
 use Rattle.nfs_objects.specs.Store.{Store, with_writes}
 use Rattle.nfs_objects.specs.Sums.{group_of, in_export, no_usage, shares_of, stored_usage, usage_of}
 use Rattle.nfs_objects.specs.Values.{DraftValue, ViewValue, known_at, with_written}
@@ -119,7 +119,7 @@ module _ (old d : DraftValue) (op : Kept → Kept) (turns : Turns old d op) wher
             stands = subst (λ ws. Represents (with_writes s ws) k) (sym none) stands;
             sound = sound;
           } in
-          let was = lives s k w formed (living_of_inode (bytes_at (op k).state n) i)
+          let was = lives s k w formed (living_of_inode (beside_at (op k).state n) i)
           (lives-there d n (Some i) has s (op k) fits (turns.turns s k before w.stands)) in
           subst (λ e. IsSome (s.at (addresses.Usage e (group_of n)))) was.same
           (usage-lives s k n was.object stands sound was.lives);

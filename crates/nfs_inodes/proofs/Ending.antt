@@ -1,8 +1,9 @@
 -- How a procedure halts that asked what a handle names.
-use Rattle.std.proofs.Common.{◌≡◌, ℕ, List, [], ◌∷◌, Result, Ok, Err, IfOk, inl, inr, sym, subst}
+use Rattle.std.proofs.Common.{◌≡◌, ℕ, List, [], ◌∷◌, ◌++◌, Result, Ok, Err, IfOk, inl, inr, sym, subst}
 use Rattle.nfs_wire.specs.declared.status.NfsStatus.{NfsStatus}
 use Rattle.nfs_machine.specs.declared.calls.Call.{Call}
-use Rattle.nfs_objects.proofs.Knows.{Covers, among-alone, among-next, covers-among, names-exports, names-objects}
+use Rattle.nfs_objects.proofs.Knows.{Covers, among-alone, among-next, covers-among, covers-both, names-exports}
+use Rattle.nfs_objects.proofs.Knows.{names-objects}
 use Rattle.nfs_objects.proofs.Knows.{stops-wider, stops-within}
 use Rattle.nfs_objects.specs.Asks.{IsThere}
 use Rattle.nfs_objects.specs.Attempt.{EndsCall, StopsCall}
@@ -52,11 +53,14 @@ module _ (d : DraftValue) (call : Call) (halt : Halt) (begins : Begins call d) w
     naming-any : StopsAt d (brought_by d.view bytes) halt → EndsCall call d.ctx d.view (Err halt)
     naming-any stops = asking (brought_by d.view bytes) brings stops
 
-    making-any : new_numbers call d.view ≡ 1 → StopsMaking d (brought_by d.view bytes) halt →
+    making-any : (added : List Addr) → ((a : Addr) → IsAmong added a → IsAmong (named_by call d.view) a) →
+        new_numbers call d.view ≡ 1 → StopsMaking d (brought_by d.view bytes ++ added) halt →
         EndsCall call d.ctx d.view (Err halt)
-    making-any one stops =
+    making-any added adds one stops =
         halting (subst (λ n. StopsCall d.modes (named_by call d.view) n d.view halt) (sym one)
-        (stops-within d.modes (brought_by d.view bytes) (named_by call d.view) 1 d.view halt brings stops))
+        (stops-within d.modes (brought_by d.view bytes ++ added) (named_by call d.view) 1 d.view halt
+        (covers-both (named_by call d.view) d.view (brought_by d.view bytes) added brings
+        (covers-among added (named_by call d.view) d.view adds)) stops))
 
   first-names : (handle : List ℕ) (others : List (List ℕ)) → handles_of call ≡ handle ∷ others → (a : Addr) →
       IsAmong (objects_at d.view (handle ∷ [])) a → IsAmong (objects_at d.view (handles_of call)) a
@@ -73,9 +77,10 @@ module _ (d : DraftValue) (call : Call) (halt : Halt) (begins : Begins call d) w
       StopsAt d (brought_by d.view bytes) halt → EndsCall call d.ctx d.view (Err halt)
   naming handle bytes same are = naming-any handle bytes same (first-names handle [] are)
 
-  -- which makes an object there
-  pub making : (handle bytes : List ℕ) → bytes ≡ handle → handles_of call ≡ handle ∷ [] →
-      new_numbers call d.view ≡ 1 → StopsMaking d (brought_by d.view bytes) halt → EndsCall call d.ctx d.view (Err halt)
+  -- which makes an object there, under a name that it adds
+  pub making : (handle bytes : List ℕ) → bytes ≡ handle → handles_of call ≡ handle ∷ [] → (added : List Addr) →
+      ((a : Addr) → IsAmong added a → IsAmong (named_by call d.view) a) → new_numbers call d.view ≡ 1 →
+      StopsMaking d (brought_by d.view bytes ++ added) halt → EndsCall call d.ctx d.view (Err halt)
   making handle bytes same are = making-any handle bytes same (first-names handle [] are)
 
   -- of two

@@ -1,6 +1,6 @@
 -- Files whose blocks and maps were written: their inode is put, or goes, and the store stands for the file with its new
 -- bytes, or without it.
-use Rattle.std.proofs.Common.{◌≡◌, ◌⊎◌, true, ℕ, ◌+◌, ◌-◌, ◌*◌, ◌/◌, ◌<◌, ◌≤◌, min, max, length, drop, List}
+use Rattle.std.proofs.Common.{◌≡◌, ◌⊎◌, true, ℕ, ◌+◌, ◌-◌, ◌*◌, ◌/◌, ◌<◌, ◌≤◌, min, max, length, drop, List, []}
 use Rattle.std.proofs.Common.{Some, None, IsSome, inl, inr, refl, sym, ◌∙◌, ap, subst, arith}
 use Rattle.std.proofs.lemmas.Bool.{cases_lt}
 use Rattle.std.proofs.lemmas.List.{length-drop, length-take}
@@ -9,7 +9,7 @@ use Rattle.nfs_wire.specs.declared.attributes.Time.{Time}
 use Rattle.nfs_machine.specs.Attributes.{block}
 use Rattle.nfs_machine.specs.Data.{written}
 use Rattle.nfs_machine.specs.Shown.{with_object}
-use Rattle.nfs_machine.specs.State.{Living}
+use Rattle.nfs_machine.specs.State.{Entry, Living}
 use Rattle.nfs_machine.specs.Times.{touch}
 use Rattle.nfs_objects.proofs.Contents.{content-written, place, window}
 use Rattle.nfs_objects.proofs.Filed.{HasContent, stands-but}
@@ -24,11 +24,12 @@ use Rattle.nfs_objects.specs.FileMaps.{FileMapValue, IsContent, block_size}
 use Rattle.nfs_objects.specs.Drafts.{MayChange, MayGive}
 use Rattle.nfs_objects.specs.Fits.{Fits}
 use Rattle.nfs_objects.specs.Knows.{Turns}
-use Rattle.nfs_objects.specs.Stands.{HasBlocks, IsFitting, Kept, Represents, bytes_at, lives_in, living_of_inode}
+use Rattle.nfs_objects.specs.Stands.{Beside, HasBlocks, HoldsEntries, IsFitting, Kept, Represents, StandDirectories, beside_at}
+use Rattle.nfs_objects.specs.Stands.{bytes_at, entry_map_in, entry_map_of, lives_in, living_of_inode}
 use Rattle.nfs_objects.specs.Stands.{map_in, parent_in, stored_in}
 use Rattle.nfs_objects.specs.Modes.{held_mode}
 use Rattle.nfs_objects.specs.Store.{Store, with_write, with_writes}
-use Rattle.nfs_objects.specs.Unfiled.{Lays, RepresentsBut}
+use Rattle.nfs_objects.specs.Unfiled.{Enters, KeepsEntries, Lays, RepresentsBut}
 use Rattle.nfs_objects.specs.Values.{DraftValue, known_at, with_written}
 use Rattle.nfs_objects.specs.declared.bits.Bits.{Bits}
 use Rattle.nfs_objects.specs.declared.address.Addr.{Addr}
@@ -46,6 +47,16 @@ use Rattle.nfs_inodes.specs.Known.{HasInode}
 use Rattle.nfs_inodes.specs.Counts.{IsShareOf, KeepsInodes}
 use Rattle.nfs_inodes.specs.Makes.{bytes_changed, changed_at, with_bytes}
 use Rattle.nfs_inodes.specs.declared.usage.Share.{Share}
+
+-- where a file stands, no page and no part does, also once its blocks and maps were written
+file-bare : (s t : Store) (k : Kept) (n : ℕ) (i : Inode) (map : FileMapValue) → KeepsEntries s t →
+    s.at (addresses.Inode n) ≡ Some (objects.Inode i) → i.content ≡ contents.Regular map → StandDirectories s k →
+    (entries : List Entry) → HoldsEntries t n None entries
+file-bare s t k n i map keeps at is stand entries =
+    let none : HoldsEntries s n None (stand n).entries =
+    subst (λ c. HoldsEntries s n (entry_map_in c) (stand n).entries) is
+    (subst (λ o. HoldsEntries s n (entry_map_of o) (stand n).entries) at (stand n).holds) in
+    (λ page. keeps.pages n page ∙ none.0 page, λ bucket part. keeps.parts n bucket part ∙ none.1 bucket part)
 
 module _ (d laid : DraftValue) (n : ℕ) (i : Inode) (has : HasInode d n (Some i)) (lays : Lays n d laid) where
   -- the draft with another inode of the file
@@ -67,27 +78,29 @@ module _ (d laid : DraftValue) (n : ℕ) (i : Inode) (has : HasInode d n (Some i
     modes = lays.modes;
     messages = lays.messages;
     turns = λ s k fits stands.
-        let bytes : List ℕ = bytes_at k.state n in
+        let beside : Beside = beside_at k.state n in
+        let changed : Beside = record beside { bytes = change beside.bytes } in
         let t : Store = with_writes s laid.writes in
         let but : RepresentsBut n t k = lays.lays s k (stands-but n (with_writes s d.writes) k stands) in
-        let at : t.at (addresses.Inode n) ≡ Some (objects.Inode i) = lays.inodes s n
-        ∙ known-stands d s (addresses.Inode n) (Some (objects.Inode i)) fits (known-inode d n i has) in
+        let stood : (with_writes s d.writes).at (addresses.Inode n) ≡ Some (objects.Inode i) =
+        known-stands d s (addresses.Inode n) (Some (objects.Inode i)) fits (known-inode d n i has) in
+        let at : t.at (addresses.Inode n) ≡ Some (objects.Inode i) = lays.inodes s n ∙ stood in
         let lives : lives_in k.state.exports i.export ≡ true = shows-export d n i has s k fits stands in
-        let has-content : HasContent t n (change bytes) j =
-        λ m is. subst (λ (x : FileMapValue). IsContent x.size (λ b. stored_in (t.at (addresses.Block n b)))
-        (change bytes))
+        let has-content : HasContent t n changed.bytes j =
+        λ m is. subst (λ (x : FileMapValue). IsContent x.size (λ b. stored_in (t.at (addresses.Block n b))) changed.bytes)
         (let e : after ≡ m = cc in e) (content s k fits stands) in
-        let put = put-stands t k n j (change bytes) but (blocks s k fits stands) has-content
+        let put = put-stands t k n j changed but (blocks s k fits stands) has-content
+        (file-bare (with_writes s d.writes) t k n i map (lays.entries s) stood was stands.directories changed.entries)
         (but.objects.given n i at) fitting lives in
         let links : k.links n ≡ i.links = links-there d n (Some i) has s k fits stands in
         let parent : k.parents n ≡ parent_in j.content =
         parent-there d n (Some i) has s k fits stands ∙ ap parent_in was in
         let same : changed_at k n (with_bytes now change) ≡
-        with_living k n (living_of_inode (change bytes) j) j.links (parent_in j.content) =
-        changed-is k n (k.links n) (with_bytes now change) (living_of_inode bytes i) (living_of_inode (change bytes) j)
-        (lives-there d n (Some i) has s k fits stands) (with-bytes i map after bytes now change was)
-        ∙ ap (λ l. with_living k n (living_of_inode (change bytes) j) l (k.parents n)) links
-        ∙ ap (λ p. with_living k n (living_of_inode (change bytes) j) i.links p) parent in
+        with_living k n (living_of_inode changed j) j.links (parent_in j.content) =
+        changed-is k n (k.links n) (with_bytes now change) (living_of_inode beside i) (living_of_inode changed j)
+        (lives-there d n (Some i) has s k fits stands) (with-bytes i map after beside now change was)
+        ∙ ap (λ l. with_living k n (living_of_inode changed j) l (k.parents n)) links
+        ∙ ap (λ p. with_living k n (living_of_inode changed j) i.links p) parent in
         subst (λ (x : Store). Represents x (changed_at k n (with_bytes now change)))
         (sym (writes-append laid.writes s (addresses.Inode n) (Some (objects.Inode j))))
         (subst (Represents (with_write t (addresses.Inode n) (Some (objects.Inode j)))) (sym same) put);
@@ -101,20 +114,21 @@ pub laid-change : (n : ℕ) (d laid : DraftValue) → Lays n d laid → (a : Add
 laid-change n d laid lays a may =
     (λ j. held_mode (lays.modes j) (lays.view j) a) ∙ may
 
--- what lives at a number goes, once no block and no map of it is there
-pub gone-turns : (d laid : DraftValue) (n : ℕ) → Lays n d laid
+-- what lives at a number goes, once no block and no map of it is there, and then no page and no part
+pub gone-turns : (d cut laid : DraftValue) (n : ℕ) → Lays n d cut → Enters n cut laid
     → ((s : Store) (k : Kept) → Fits d.view s → Represents (with_writes s d.writes) k →
-    HasBlocks (with_writes s laid.writes) n no_bits)
+    HasBlocks (with_writes s laid.writes) n no_bits × HoldsEntries (with_writes s laid.writes) n None [])
     → Turns d (with_written laid (addresses.Inode n) None) (λ k. freed k n)
-gone-turns d laid n lays blocks = record {
-  ctx = lays.ctx;
-  view = lays.view;
-  modes = lays.modes;
-  messages = lays.messages;
+gone-turns d cut laid n lays enters bare = record {
+  ctx = enters.ctx ∙ lays.ctx;
+  view = enters.view ∙ lays.view;
+  modes = enters.modes ∙ lays.modes;
+  messages = enters.messages ∙ lays.messages;
   turns = λ s k fits stands.
+      let none = bare s k fits stands in
       subst (λ (x : Store). Represents x (freed k n)) (sym (writes-append laid.writes s (addresses.Inode n) None))
       (free-stands (with_writes s laid.writes) k n
-      (lays.lays s k (stands-but n (with_writes s d.writes) k stands)) (blocks s k fits stands));
+      (enters.lays s k (lays.lays s k (stands-but n (with_writes s d.writes) k stands))) none.0 none.1);
 }
 
 -- ---- once the group of a file is counted anew
@@ -137,16 +151,15 @@ module _ (d mid laid : DraftValue) (n : ℕ) (i : Inode) (map after : FileMapVal
   written-turns share uses new j has was lays blocks content made shares used counts keeps put-is fits =
       turns-as d new (λ k. changed_at (counted n share.export share.usage uses k) n (with_bytes now change))
       (bytes_changed now n change) (λ s k stand represents.
-      let bytes : List ℕ = bytes_at k.state n in
-      let file : Living = living_of_inode (change bytes) put in
-      let lives : get k.state.objects n ≡ Some (living_of_inode bytes i) = lives-there d n (Some i) has s k stand
+      let beside : Beside = beside_at k.state n in
+      let file : Living = living_of_inode (record beside { bytes = change beside.bytes }) put in
+      let lives : get k.state.objects n ≡ Some (living_of_inode beside i) = lives-there d n (Some i) has s k stand
       represents in
-      let changed = with-bytes i map after bytes now change was in
-      let length-is : length (change bytes) ≡ after.size =
+      let changed = with-bytes i map after beside now change was in
+      let length-is : length (change beside.bytes) ≡ after.size =
       (content s (counted n share.export share.usage uses k) (subst (λ v. Fits v s) (sym counts.view) stand)
       (counts.turns s k stand represents)).counted in
-      changed-is (counted n share.export share.usage uses k) n (k.links n) (with_bytes now change)
-      (living_of_inode bytes i)
+      changed-is (counted n share.export share.usage uses k) n (k.links n) (with_bytes now change) (living_of_inode beside i)
       file lives changed
       ∙ ap (λ u. record (with_living k n file (k.links n) (k.parents n)) { usage = u })
       (same-shares n k.usage (in_export share.export share.usage) (in_export share.export uses)
@@ -156,9 +169,8 @@ module _ (d mid laid : DraftValue) (n : ℕ) (i : Inode) (map after : FileMapVal
       ∙ ap (λ z. in_export i.export (one_using ((z + 4095) / block * block)) e) (sym length-is)
       ∙ ap (λ p. shares_of p e) (sym (put-there k.state n file))))
       ∙ ap (λ (q : Kept). counted_anew n (get k.state.objects n) q)
-      (sym (changed-is k n (k.links n) (with_bytes now change) (living_of_inode bytes i) file lives changed)))
-      (turns-both d mid new (counted n share.export share.usage uses) (λ k. changed_at k n (with_bytes now change))
-      counts
+      (sym (changed-is k n (k.links n) (with_bytes now change) (living_of_inode beside i) file lives changed)))
+      (turns-both d mid new (counted n share.export share.usage uses) (λ k. changed_at k n (with_bytes now change)) counts
       (subst (λ (x : DraftValue). Turns mid x (λ k. changed_at k n (with_bytes now change)))
       (sym (put-is ∙ ap (λ x. with_written laid (addresses.Inode n) (Some (objects.Inode x))) made))
       (file-turns mid laid n i (has-kept d mid n (Some i) keeps has) lays map after now change was blocks content

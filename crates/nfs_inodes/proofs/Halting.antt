@@ -1,7 +1,7 @@
 -- How readers halt, as their callers see it.
 use Rattle.std.proofs.Common.{◌≡◌, ℕ, List, [], ◌∷◌, Option, Some, None, Result, Err, IsSome, inl, inr, option_map, refl, sym, ◌∙◌, ap, subst}
 use Rattle.std.proofs.Common.{Ok, ◌⊎◌, ◌++◌}
-use Rattle.std.specs.Prelude.{IfErr}
+use Rattle.std.specs.Prelude.{IfErr, MatchResult}
 use Rattle.nfs_machine.specs.Handles.{handle_of}
 use Rattle.nfs_machine.specs.declared.handle.Handle.{Handle}
 use Rattle.nfs_objects.proofs.Exported.{table-lives}
@@ -95,7 +95,7 @@ module _ (A : Type 0) (d : DraftValue) (bytes : List ℕ) where
           let wanted-is : first_wanted_with d.view (bytes ∷ []) ≡ Some (addresses.Inode h.fileid) = wants (Some h) is
           ∙ lacking-unseen d (addresses.Inode h.fileid) halt lacks in cc
 
-never-both : (o : Option (Option Object)) → o ≡ None → IsSome o → ⊥
+pub never-both : (o : Option (Option Object)) → o ≡ None → IsSome o → ⊥
 never-both None none some = cc
 never-both (Some x) none some = cc
 
@@ -141,6 +141,13 @@ object-stops d bytes h halt is stops =
     (λ a among. inr (among-first d.view bytes [] h is a among))) stops
 
 -- ---- what may be asked for whatever the call names
+-- what is known, or stands in each store
+pub there-stops : {A : Type 0} (d : DraftValue) (a : Addr) (P : A → Type 0) (r : Result A Halt) →
+    IsSome (known_at d a) ⊎ IsThere d.view a → MatchResult r P (Lacks d a) → MatchResult r P (StopsAt d [])
+there-stops d a P (Ok x) there is = is
+there-stops d a P (Err halt) (inl known) lacks = absurd (never-both (known_at d a) lacks.unknown known)
+there-stops d a P (Err halt) (inr there) lacks = lacks-stops d [] 0 a halt lacks (inr there)
+
 -- an object that lives may be read by each call
 pub lives-stops : (d : DraftValue) (n : ℕ) (halt : Halt) → IsThere d.view (addresses.Inode n) →
     StopsAt d (addresses_of d.view n) halt → StopsAt d [] halt

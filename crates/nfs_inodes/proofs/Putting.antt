@@ -1,7 +1,7 @@
 -- What makers write is their change of what the store stands for.
 use Rattle.std.proofs.Common.{◌≡◌, ℕ, ◌+◌, ◌-◌, ◌*◌, ◌/◌, ◌<◌, ◌^◌, ◌&&◌, true, false, Bool, cond}
 use Rattle.std.proofs.Common.{List, [], ◌∷◌, ◌++◌, Option, Some, None, IsSome, Result, Ok, Err, option_map, slice_get}
-use Rattle.std.proofs.Common.{find, inl, inr, ◌==◌, refl, sym, ◌∙◌, ap, subst}
+use Rattle.std.proofs.Common.{inl, inr, ◌==◌, refl, sym, ◌∙◌, ap, subst}
 use Rattle.std.proofs.lemmas.Bool.{lt-leb}
 use Rattle.std.specs.List.{AllByRecursion}
 use Rattle.std.specs.Prelude.{IfSome, MatchResult, is_some}
@@ -11,12 +11,9 @@ use Rattle.nfs_wire.specs.declared.status.NfsStatus.{NfsStatus}
 use Rattle.std.specs.Cmp.{unsigned_Decides}
 use Rattle.std.specs.FinMap.{get}
 use Rattle.nfs_machine.specs.Attributes.{block, used_of}
-use Rattle.nfs_machine.specs.Bytes.{same_bytes}
 use Rattle.nfs_machine.specs.Checks.{DirectoryEntries, bytes_in, entries_in}
-use Rattle.nfs_machine.specs.RemoveSteps.{without}
-use Rattle.nfs_machine.specs.Shown.{touched, with_content, with_object}
+use Rattle.nfs_machine.specs.Shown.{touched, with_object}
 use Rattle.nfs_machine.specs.State.{Entry, Living}
-use Rattle.nfs_machine.specs.State as machine
 use Rattle.nfs_machine.specs.Times.{touch}
 use Rattle.nfs_objects.proofs.Exported.{inode-stands}
 use Rattle.nfs_objects.proofs.Knows.{among-behind, among-front, among-groups, covers-among, stops-wider}
@@ -25,14 +22,15 @@ use Rattle.nfs_objects.proofs.Seen.{known-stands, shown-stands, writes-append, w
 use Rattle.nfs_objects.proofs.Turns.{edit-turns, new-stands}
 use Rattle.nfs_objects.specs.Asks.{IsFirst}
 use Rattle.nfs_objects.specs.Calls.{IsAmong, addresses_of, usages_of}
+use Rattle.nfs_objects.specs.Directories.{no_entries}
 use Rattle.nfs_objects.specs.Drafts.{MayGive}
 use Rattle.nfs_objects.proofs.Tallies.{get-removed}
 use Rattle.nfs_objects.specs.Edits.{counted_anew, edited, freed, recounted, with_living, with_new}
 use Rattle.nfs_objects.specs.Entries.{leaf_of}
 use Rattle.nfs_objects.specs.Fits.{Fits, vacant}
 use Rattle.nfs_objects.specs.Knows.{Knows, ShowsExport, Turns}
-use Rattle.nfs_objects.specs.Stands.{IsFitting, Kept, Represents, bytes_at, content_of, file_bytes, living_alone}
-use Rattle.nfs_objects.specs.Stands.{living_in, living_of_inode, map_in, pages_of, with_file}
+use Rattle.nfs_objects.specs.Stands.{Beside, IsFitting, Kept, Represents, beside_at, content_of, entry_map_in, filled}
+use Rattle.nfs_objects.specs.Stands.{living_alone, living_in, living_of_inode, map_in, pages_of}
 use Rattle.nfs_objects.specs.Stands.{exports_of, inode_in, lives_in, parent_in}
 use Rattle.nfs_objects.specs.Store.{Store, with_writes}
 use Rattle.nfs_objects.specs.Sums.{exchanged, exchanged_at, group_of, in_export, is_same_usage, moved, no_usage}
@@ -52,7 +50,7 @@ use Rattle.nfs_objects.specs.declared.view.Reserved.{Reserved}
 use Rattle.nfs_inodes.proofs.Counting.{no-share}
 use Rattle.nfs_inodes.proofs.Halting.{stops-before}
 use Rattle.nfs_inodes.proofs.Keeping.{put-there}
-use Rattle.nfs_objects.proofs.Filed.{living-as, size-stands}
+use Rattle.nfs_objects.proofs.Filed.{beside_of, living-as, size-stands}
 use Rattle.nfs_objects.specs.Bits.{no_bits}
 use Rattle.nfs_objects.specs.FileMaps.{FileMapValue}
 use Rattle.nfs_inodes.proofs.Standing.{lives-there, shows-export, stands-there}
@@ -61,7 +59,7 @@ use Rattle.nfs_inodes.specs.Kinds.{KeepsOthers, kind_at, kind_of}
 use Rattle.nfs_inodes.specs.Known.{HasInode}
 use Rattle.nfs_inodes.specs.Sets.{attributes_changed, with_settings}
 use Rattle.nfs_inodes.specs.declared.setting.Settings.{Settings}
-use Rattle.nfs_inodes.specs.Makes.{IsFree, changed_at, changed_with, name_added, name_taken, removed, with_bytes, with_name, without_name}
+use Rattle.nfs_inodes.specs.Makes.{IsFree, changed_at, changed_with, removed, with_bytes}
 use Rattle.nfs_inodes.specs.Stops.{StopsAt, StopsMaking, counted_at, group_at, inode_at}
 use Rattle.nfs_inodes.specs.declared.usage.Share.{Share}
 
@@ -122,12 +120,13 @@ no-entry None e = refl
 no-entry (Some x) e = cc
 
 -- the file of an inode, with other bytes
-pub with-bytes : (i : Inode) (map after : FileMapValue) (bytes : List ℕ) (now : Time) (change : List ℕ → List ℕ)
+pub with-bytes : (i : Inode) (map after : FileMapValue) (beside : Beside) (now : Time) (change : List ℕ → List ℕ)
     → i.content ≡ contents.Regular map
-    → with_bytes now change (living_of_inode bytes i) ≡ Some (living_of_inode (change bytes) (record i
+    → with_bytes now change (living_of_inode beside i) ≡
+    Some (living_of_inode (record beside { bytes = change beside.bytes }) (record i
     { content = contents.Regular after; modified = touch i.changed now; changed = touch i.changed now }))
-with-bytes i map after bytes now change was =
-    ap (λ c. with_bytes now change (record (living_alone i) { content = with_file bytes (content_of c) })) was
+with-bytes i map after beside now change was =
+    ap (λ c. with_bytes now change (record (living_alone i) { content = filled beside (content_of c) })) was
 
 module _ (d : DraftValue) (n : ℕ) where
   abbrev put : Inode → DraftValue
@@ -148,31 +147,31 @@ module _ (d : DraftValue) (n : ℕ) where
     none-turns-with has = turns-as d d (λ k. k) op (λ s k fits stands. sym (ap (over k) (lives-there d n None has s k fits stands))) (turns-none d)
 
     pub same-turns-with : (i : Inode) → HasInode d n (Some i)
-        → ((bytes : List ℕ) → change (living_of_inode bytes i) ≡ None) → Turns d d op
+        → ((beside : Beside) → change (living_of_inode beside i) ≡ None) → Turns d d op
     same-turns-with i has is =
         turns-as d d (λ k. k) op (λ s k fits stands. sym (ap (over k) (lives-there d n (Some i) has s k fits stands)
-        ∙ ap (into k) (is (bytes_at k.state n)))) (turns-none d)
+        ∙ ap (into k) (is (beside_at k.state n)))) (turns-none d)
 
     pub put-turns-with : (i j : Inode) → HasInode d n (Some i)
-        → ((bytes : List ℕ) → change (living_of_inode bytes i) ≡ Some (living_of_inode bytes j))
-        → map_in j.content ≡ map_in i.content → j.links ≡ links i.links → parent_in j.content ≡ parent_in i.content
+        → ((beside : Beside) → change (living_of_inode beside i) ≡ Some (living_of_inode beside j))
+        → map_in j.content ≡ map_in i.content → entry_map_in j.content ≡ entry_map_in i.content → j.links ≡ links i.links → parent_in j.content ≡ parent_in i.content
         → j.generation ≡ i.generation → j.export ≡ i.export → IsFitting n j → Turns d (put j) op
-    put-turns-with i j has is kept linked under generation exported fits =
+    put-turns-with i j has is kept listed linked under generation exported fits =
         turns-as d (put j) (λ k. edited k n made links) op
-        (λ s k fit stands. (let bytes = bytes_at k.state n in
+        (λ s k fit stands. (let beside = beside_at k.state n in
         let lives = lives-there d n (Some i) has s k fit stands in
         ap (λ (o : Option Living). elim o [ None ↦ k | Some o ↦ with_living k n (made o) (links (k.links n)) (k.parents n) ]) lives
-        ∙ ap (λ (o : Living). with_living k n o (links (k.links n)) (k.parents n)) (sym (made-is bytes))
-        ∙ sym (ap (over k) lives ∙ ap (into k) (is bytes))))
+        ∙ ap (λ (o : Living). with_living k n o (links (k.links n)) (k.parents n)) (sym (made-is beside))
+        ∙ sym (ap (over k) lives ∙ ap (into k) (is beside))))
         (edit-turns d n i j made links (known-inode d n i has) (shows-export d n i has) exported
-        made-is kept linked under generation fits)
+        made-is kept listed linked under generation fits)
       where
-        -- the other inode, with the bytes that a file had
+        -- the other inode, with the bytes that a file had, and the entries of a directory
         made : Living → Living
-        made o = living_of_inode (file_bytes o.content) j
+        made o = living_of_inode (beside_of o.content) j
 
-        made-is : (bytes : List ℕ) → living_of_inode bytes j ≡ made (living_of_inode bytes i)
-        made-is bytes = sym (living-as bytes i j kept)
+        made-is : (beside : Beside) → living_of_inode beside j ≡ made (living_of_inode beside i)
+        made-is beside = sym (living-as beside i j kept listed)
 
   -- the same where the count stays
   module _ (change : Living → Option Living) where
@@ -180,12 +179,12 @@ module _ (d : DraftValue) (n : ℕ) where
     none-turns = none-turns-with change (λ l. l)
 
     pub same-turns : (i : Inode) → HasInode d n (Some i)
-        → ((bytes : List ℕ) → change (living_of_inode bytes i) ≡ None) → Turns d d (λ k. changed_at k n change)
+        → ((beside : Beside) → change (living_of_inode beside i) ≡ None) → Turns d d (λ k. changed_at k n change)
     same-turns = same-turns-with change (λ l. l)
 
     pub put-turns : (i j : Inode) → HasInode d n (Some i)
-        → ((bytes : List ℕ) → change (living_of_inode bytes i) ≡ Some (living_of_inode bytes j))
-        → map_in j.content ≡ map_in i.content → j.links ≡ i.links → parent_in j.content ≡ parent_in i.content
+        → ((beside : Beside) → change (living_of_inode beside i) ≡ Some (living_of_inode beside j))
+        → map_in j.content ≡ map_in i.content → entry_map_in j.content ≡ entry_map_in i.content → j.links ≡ i.links → parent_in j.content ≡ parent_in i.content
         → j.generation ≡ i.generation → j.export ≡ i.export → IsFitting n j
         → Turns d (put j) (λ k. changed_at k n change)
     put-turns = put-turns-with change (λ l. l)
@@ -197,7 +196,7 @@ module _ (d : DraftValue) (n : ℕ) where
   set-turns new i j set has made put-is fits =
       let j1 : Inode = record i { mode = set.mode; uid = set.uid; gid = set.gid; accessed = set.accessed; modified = set.modified; changed = set.changed; verifier = None } in
       subst (λ (x : DraftValue). Turns d x (attributes_changed n set)) (sym (put-is ∙ ap put made))
-      (put-turns (λ o. Some (with_settings set o)) i j1 has (λ bytes. refl) refl refl refl refl refl
+      (put-turns (λ o. Some (with_settings set o)) i j1 has (λ beside. refl) refl refl refl refl refl refl
       (subst (IsFitting n) made fits))
 
   -- ---- an object with one link less
@@ -214,51 +213,8 @@ module _ (d : DraftValue) (n : ℕ) where
   unlinked-turns new i j now has made put-is fits =
       subst (λ (x : DraftValue). Turns d x (λ k. edited k n (λ o. touched o now) (λ l. l - 1))) (sym (put-is ∙ ap put made))
       (edit-turns d n i (record i { links = i.links - 1; changed = touch i.changed now }) (λ o. touched o now)
-      (λ l. l - 1) (known-inode d n i has) (shows-export d n i has) refl (λ bytes. refl) refl refl refl refl
+      (λ l. l - 1) (known-inode d n i has) (shows-export d n i has) refl (λ beside. refl) refl refl refl refl refl
       (subst (IsFitting n) made fits))
-
-  -- ---- the names of a directory
-  pub taken-turns : (new : DraftValue) (i j : Inode) (old narrower : Directory) (now : Time) (name : List ℕ) → HasInode d n (Some i) → i.content ≡ contents.Directory old
-      → narrower ≡ record old { entries = without old.entries name }
-      → j ≡ record i { content = contents.Directory narrower; modified = touch i.changed now; changed = touch i.changed now } → new ≡ put j
-      → IsFitting n j → Turns d new (name_taken now n name)
-  taken-turns new i j old narrower now name has was is made put-is fits =
-      let made-as : Directory → Inode = λ x. record i { content = contents.Directory x; modified = touch i.changed now; changed = touch i.changed now } in
-      let less : Directory = record old { entries = without old.entries name } in
-      subst (λ (x : DraftValue). Turns d x (name_taken now n name)) (sym (put-is ∙ ap put (made ∙ ap made-as is)))
-      (put-turns (without_name now name) i (made-as less) has
-      (λ bytes. ap (λ c. without_name now name (record (living_alone i) { content = with_file bytes (content_of c) })) was)
-      (sym (ap map_in was)) refl (sym (ap parent_in was)) refl refl
-      (subst (IsFitting n) (made ∙ ap made-as is) fits))
-
-  module _ (i : Inode) (old : Directory) (now : Time) (name : List ℕ) (number cookie links : ℕ) (has : HasInode d n (Some i)) (was : i.content ≡ contents.Directory old) where
-    abbrev new-entry : Entry
-    new-entry = record { name = name; number = number; cookie = cookie }
-
-    abbrev over-entry : List ℕ → Option Entry → Option Living
-    over-entry bytes f = elim f [ None ↦ Some (with_content (living_of_inode bytes i) now (machine.Directory (old.entries ++ new-entry ∷ []) cookie)) | Some there ↦ None ]
-
-    added-change : (bytes : List ℕ) (f : Option Entry) → find (λ (e : Entry). same_bytes e.name name) old.entries ≡ f →
-        with_name now new-entry (living_of_inode bytes i) ≡ over-entry bytes f
-    added-change bytes f is =
-        ap (λ c. with_name now new-entry (record (living_alone i) { content = with_file bytes (content_of c) })) was
-        ∙ ap (over-entry bytes) is
-
-    pub kept-turns : (e : Entry) → find (λ (e : Entry). same_bytes e.name name) old.entries ≡ Some e → Turns d d (name_added now n links new-entry)
-    kept-turns e there = same-turns-with (with_name now new-entry) (λ l. links) i has
-        (λ bytes. added-change bytes (Some e) there)
-
-    pub added-turns : (new : DraftValue) (j : Inode) (wider : Directory) → find (λ (e : Entry). same_bytes e.name name) old.entries ≡ None
-        → wider ≡ record old { last_cookie = cookie; entries = old.entries ++ new-entry ∷ [] }
-        → j ≡ record i { content = contents.Directory wider; modified = touch i.changed now; changed = touch i.changed now; links = links } → new ≡ put j
-        → IsFitting n j → Turns d new (name_added now n links new-entry)
-    added-turns new j wider absent is made put-is fits =
-        let made-as : Directory → Inode = λ x. record i { content = contents.Directory x; modified = touch i.changed now; changed = touch i.changed now; links = links } in
-        let more : Directory = record old { last_cookie = cookie; entries = old.entries ++ new-entry ∷ [] } in
-        subst (λ (x : DraftValue). Turns d x (name_added now n links new-entry)) (sym (put-is ∙ ap put (made ∙ ap made-as is)))
-        (put-turns-with (with_name now new-entry) (λ l. links) i (made-as more) has
-        (λ bytes. added-change bytes None absent) (sym (ap map_in was)) refl (sym (ap parent_in was)) refl refl
-        (subst (IsFitting n) (made ∙ ap made-as is) fits))
 
   -- what was known stays known
   pub knows-on : (new : DraftValue) (o : Option Object) → new ≡ with_written d (addresses.Inode n) o → (a : Addr) → IsSome (known_at d a) → IsSome (known_at new a)
@@ -284,7 +240,7 @@ first-free d r none first number generation s k w =
     record {
       number_fits = number;
       generation_fits = generation;
-      free = stands.objects.objects r.number ∙ ap (living_in k.state.exports (bytes_at k.state r.number)) at;
+      free = stands.objects.objects r.number ∙ ap (living_in k.state.exports (beside_at k.state r.number)) at;
       never_given = stands.objects.spent r.number r.generation ∙ lt-leb r.generation (s.last r.number) is.1;
     }
 
@@ -343,10 +299,10 @@ put-new-turns : (old mid new : DraftValue) (f : Kept → Kept) (r : Reserved) (i
     → Turns old mid f → ((k : Kept) → (f k).state.exports ≡ k.state.exports) → ShowsExport old o.export
     → new ≡ with_written mid (addresses.Inode r.number) (Some (objects.Inode i))
     → ((s : Store) → Fits old.view s → (with_writes s mid.writes).at (addresses.Inode r.number) ≡ None)
-    → pages_of (Some (objects.Inode i)) ≡ no_bits
+    → pages_of (Some (objects.Inode i)) ≡ no_bits → IfSome (entry_map_in i.content) (λ m. m ≡ no_entries)
     → living_alone i ≡ o → i.links ≡ links → parent_in i.content ≡ parent → IsFitting r.number i
     → Turns old new (λ k. with_new (f k) r.number o links parent)
-put-new-turns old mid new f r i o links parent turns stay live is vacant none lives linked under fits =
+put-new-turns old mid new f r i o links parent turns stay live is vacant none bare lives linked under fits =
     let put : DraftValue = with_written mid (addresses.Inode r.number) (Some (objects.Inode i)) in
     subst (λ (x : DraftValue). Turns old x (λ k. with_new (f k) r.number o links parent)) (sym is)
     (subst (λ (l : Living). Turns old put (λ k. with_new (f k) r.number l links parent)) lives
@@ -360,7 +316,7 @@ put-new-turns old mid new f r i o links parent turns stay live is vacant none li
       turns = λ s k fit stands.
           subst (λ (x : Store). Represents x (with_new (f k) r.number (living_alone i) i.links (parent_in i.content)))
           (sym (writes-append mid.writes s (addresses.Inode r.number) (Some (objects.Inode i))))
-          (new-stands (with_writes s mid.writes) (f k) r.number i (turns.turns s k fit stands) (vacant s fit) none fits
+          (new-stands (with_writes s mid.writes) (f k) r.number i (turns.turns s k fit stands) (vacant s fit) none bare fits
           (ap (λ es. lives_in es i.export) (stay k)
           ∙ subst (ShowsExport old) (sym (ap (λ (l : Living). l.export) lives)) live s k fit stands));
     }))))
@@ -413,21 +369,19 @@ object-stops d n halt stops =
     (covers-among (addresses_of d.view n) (counted_at d n) d.view
     (among-front (addresses_of d.view n) (group_at n (inode_at d n)))) stops
 
-pub making-stops : (d : DraftValue) (n export : ℕ) (halt : Halt) → StopsAt d (addresses_of d.view n) halt
-    → StopsMaking d (addresses_of d.view n ++ usages_of export 64) halt
-making-stops d n export halt stops =
-    stops-wider d.modes (addresses_of d.view n) (addresses_of d.view n ++ usages_of export 64) 1 d.view halt
-    (covers-among (addresses_of d.view n) (addresses_of d.view n ++ usages_of export 64) d.view
-    (among-front (addresses_of d.view n) (usages_of export 64))) stops
+pub making-stops : (d : DraftValue) (few : List Addr) (export : ℕ) (halt : Halt) → StopsAt d few halt
+    → StopsMaking d (few ++ usages_of export 64) halt
+making-stops d few export halt stops =
+    stops-wider d.modes few (few ++ usages_of export 64) 1 d.view halt
+    (covers-among few (few ++ usages_of export 64) d.view (among-front few (usages_of export 64))) stops
 
-pub counting-stops : (old mid : DraftValue) (op : Kept → Kept) (n export number : ℕ) (halt : Halt)
+pub counting-stops : (old mid : DraftValue) (op : Kept → Kept) (few : List Addr) (export number : ℕ) (halt : Halt)
     → Turns old mid op
     → StopsAt mid (addresses.Usage export (group_of number) ∷ []) halt
-    → StopsMaking old (addresses_of old.view n ++ usages_of export 64) halt
-counting-stops old mid op n export number halt turns stops =
-    stops-wider old.modes (addresses.Usage export (group_of number) ∷ [])
-    (addresses_of old.view n ++ usages_of export 64) 1 old.view halt (
-      inl (among-behind (addresses_of old.view n) (usages_of export 64) (addresses.Usage export (group_of number))
+    → StopsMaking old (few ++ usages_of export 64) halt
+counting-stops old mid op few export number halt turns stops =
+    stops-wider old.modes (addresses.Usage export (group_of number) ∷ []) (few ++ usages_of export 64) 1 old.view halt (
+      inl (among-behind few (usages_of export 64) (addresses.Usage export (group_of number))
           (among-groups export number)),
       tt,
     ) (stops-before old mid op (λ view. addresses.Usage export (group_of number) ∷ []) halt turns stops)
@@ -495,11 +449,11 @@ module _ (d : DraftValue) (n : ℕ) (change : Living → Option Living) where
   none-counted has = same-counts d n (λ k. changed_at k n change) (none-turns d n change has)
       (λ s k stand represents. ap (over d n change (λ l. l) k) (lives-there d n None has s k stand represents))
 
-  pub same-counted : (i : Inode) → HasInode d n (Some i) → ((bytes : List ℕ) → change (living_of_inode bytes i) ≡ None)
+  pub same-counted : (i : Inode) → HasInode d n (Some i) → ((beside : Beside) → change (living_of_inode beside i) ≡ None)
       → Turns d d (λ k. counted_anew n (get k.state.objects n) (changed_at k n change))
   same-counted i has is = same-counts d n (λ k. changed_at k n change) (same-turns d n change i has is)
       (λ s k stand represents. ap (over d n change (λ l. l) k) (lives-there d n (Some i) has s k stand represents)
-      ∙ ap (into d n change (λ l. l) k) (is (bytes_at k.state n)))
+      ∙ ap (into d n change (λ l. l) k) (is (beside_at k.state n)))
 
 -- the share that an inode tells is that of what lives there
 pub share-stands : (d : DraftValue) (n : ℕ) (i : Inode) (share : Share) → HasInode d n (Some i) → IsShareOf i share
@@ -587,12 +541,12 @@ pub made-turns : (old mid late new : DraftValue) (f : Kept → Kept) (r : Reserv
     → Turns mid late (recounted r.number (in_export export no_usage) (in_export export after))
     → new ≡ with_written late (addresses.Inode r.number) (Some (objects.Inode i))
     → ((s : Store) → Fits old.view s → (with_writes s late.writes).at (addresses.Inode r.number) ≡ None)
-    → pages_of (Some (objects.Inode i)) ≡ no_bits
+    → pages_of (Some (objects.Inode i)) ≡ no_bits → IfSome (entry_map_in i.content) (λ m. m ≡ no_entries)
     → living_alone i ≡ o → i.links ≡ links → parent_in i.content ≡ parent → IsFitting r.number i
     → export ≡ o.export → after ≡ one_using (used_of o.content)
     → Turns old new (λ k. counted_anew r.number None (with_new (f k) r.number o links parent))
-made-turns old mid late new f r i o links parent export after turns stay live counts is vacant none lives linked under fits
-    exported uses =
+made-turns old mid late new f r i o links parent export after turns stay live counts is vacant none bare lives linked
+    under fits exported uses =
     turns-as old new (λ k. with_new (counted r.number export no_usage after (f k)) r.number o links parent)
     (λ k. counted_anew r.number None (with_new (f k) r.number o links parent))
     (λ s k stand represents.
@@ -603,8 +557,8 @@ made-turns old mid late new f r i o links parent export after turns stay live co
     (λ e. ap (λ x. in_export x after e) exported ∙ ap (λ u. in_export o.export u e) uses
     ∙ ap (λ p. shares_of p e) (sym (put-there (f k).state r.number o)))))
     (put-new-turns old late new (λ k. counted r.number export no_usage after (f k)) r i o links parent
-    (turns-both old mid late f (counted r.number export no_usage after) turns counts) stay live is vacant none lives linked
-    under fits)
+    (turns-both old mid late f (counted r.number export no_usage after) turns counts) stay live is vacant none bare lives
+    linked under fits)
 
 -- the number may be given, as it might before
 pub may-give : (old new : DraftValue) (r : Reserved) (generation : ℕ) → new.view ≡ old.view → IsFirst old r → generation ≡ r.generation → MayGive new r.number generation

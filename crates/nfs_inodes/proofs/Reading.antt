@@ -23,7 +23,7 @@ use Rattle.nfs_objects.specs.Fits.{Fits}
 use Rattle.nfs_objects.specs.Knows.{Knows}
 use Rattle.nfs_objects.specs.Stands.{HasBlocks, IsMapped, IsStored, Kept, Represents, block_of, bytes_at, inode_of}
 use Rattle.nfs_objects.specs.Stands.{map_in, map_of, pages_of}
-use Rattle.nfs_objects.specs.Stands.{content_of, file_bytes, stored_in, with_file}
+use Rattle.nfs_objects.specs.Stands.{beside_at, content_of, file_bytes, filled, stored_in}
 use Rattle.nfs_objects.specs.Store.{Store, with_writes, with_write}
 use Rattle.nfs_objects.specs.Values.{DraftValue, is_addr, known_at, shown_at, written_at}
 use Rattle.nfs_objects.specs.declared.address.Addr.{Addr}
@@ -179,6 +179,8 @@ is-block (Some (objects.Block own)) bytes e = ap (λ b. Some (objects.Block b)) 
 is-block (Some (objects.Exports table)) bytes e = cc
 is-block (Some (objects.Inode i)) bytes e = cc
 is-block (Some (objects.Map bits)) bytes e = cc
+is-block (Some (objects.Page page)) bytes e = cc
+is-block (Some (objects.Part part)) bytes e = cc
 is-block (Some (objects.Mounts table)) bytes e = cc
 is-block (Some (objects.Usage u)) bytes e = cc
 
@@ -389,7 +391,7 @@ pub no-bytes-other : (d : DraftValue) (n : ℕ) (i : Inode) → HasInode d n (So
 no-bytes-other d n i has other s k w =
     ap bytes_of (contains d n (Some i) has s k w.fits w.stands) ∙ by i.content refl
   where
-    by : (c : Content) → i.content ≡ c → bytes_of (with_file (bytes_at k.state n) (content_of c)) ≡ []
+    by : (c : Content) → i.content ≡ c → bytes_of (filled (beside_at k.state n) (content_of c)) ≡ []
     by (contents.Regular map) is = absurd (other map is)
     by (contents.Directory directory) is = refl
     by (contents.Link text) is = refl

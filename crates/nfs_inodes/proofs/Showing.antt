@@ -3,17 +3,14 @@ use Rattle.std.proofs.Common.{◌≡◌, ◌==◌, ℕ, true, false, Bool, cond,
 use Rattle.std.proofs.Common.{subst}
 use Rattle.std.specs.Cmp.{unsigned_Decides}
 use Rattle.nfs_wire.specs.declared.attributes.FileType.{FileType}
-use Rattle.nfs_wire.specs.declared.attributes.Time.{Time}
 use Rattle.nfs_wire.specs.declared.status.NfsStatus.{NfsStatus}
 use Rattle.nfs_machine.specs.Attributes.{type_of}
-use Rattle.nfs_machine.specs.Times.{touch}
 use Rattle.nfs_objects.proofs.Exported.{inode-stands}
 use Rattle.nfs_objects.proofs.Seen.{written-append}
 use Rattle.nfs_objects.specs.Stands.{content_of, exports_of, inode_in, lives_in}
 use Rattle.nfs_objects.specs.Values.{DraftValue, known_at, with_written}
 use Rattle.nfs_objects.specs.declared.address.Addr.TheVariants as addresses
 use Rattle.nfs_objects.specs.declared.directory.Directory.{Directory}
-use Rattle.nfs_objects.specs.declared.object.Content.{Content}
 use Rattle.nfs_objects.specs.declared.object.Content.TheVariants as contents
 use Rattle.nfs_objects.specs.declared.object.Inode.{Inode}
 use Rattle.nfs_objects.specs.declared.object.Object.{Object}
@@ -75,21 +72,6 @@ module _ (d : DraftValue) (n : ℕ) (i j : Inode) (has : HasInode d n (Some i)) 
           ∙ sym was-kind ∙ ap (kind_at d) ((unsigned_Decides n q).0 is)
 
 -- ---- what is written
-pub with-its-content : (i j : Inode) (content is : Content) (now : Time) →
-    j ≡ record i { content = content; modified = touch i.changed now; changed = touch i.changed now } → content ≡ is →
-    j ≡ record i { content = is; modified = touch i.changed now; changed = touch i.changed now }
-with-its-content i j content is now made same =
-    made ∙ ap (λ c. record i { content = c; modified = touch i.changed now; changed = touch i.changed now }) same
-
-pub with-content-and-links : (i j : Inode) (content is : Content) (now : Time) (links : ℕ) →
-    j ≡ record i
-    { content = content; links = links; modified = touch i.changed now; changed = touch i.changed now } →
-    content ≡ is →
-    j ≡ record i { content = is; links = links; modified = touch i.changed now; changed = touch i.changed now }
-with-content-and-links i j content is now links made same =
-    made ∙ ap (λ c. record i
-    { content = c; links = links; modified = touch i.changed now; changed = touch i.changed now }) same
-
 -- a directory with other entries is one still
 pub directory-kinds : (d new : DraftValue) (n : ℕ) (i j : Inode) (old other : Directory) → HasDirectory d n i old →
     j.export ≡ i.export → j.content ≡ contents.Directory other →

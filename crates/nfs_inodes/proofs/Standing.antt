@@ -8,18 +8,21 @@ use Rattle.nfs_machine.specs.Attributes.{attributes_of, block, device_of, is_dir
 use Rattle.nfs_machine.specs.Checks.{bytes_in, entries_in}
 use Rattle.nfs_machine.specs.Exports.{LivingExport}
 use Rattle.nfs_machine.specs.Shown.{attributes_at, weak}
-use Rattle.nfs_machine.specs.State.{Content, Regular, Directory, Link, BlockDevice, CharacterDevice, Socket, Fifo, Living, State}
+use Rattle.nfs_machine.specs.State.{Content, Regular, Directory, Link, BlockDevice, CharacterDevice, Socket, Fifo, Living, State, Entry}
 use Rattle.nfs_objects.proofs.Exported.{inode-stands, object-stands}
-use Rattle.nfs_objects.proofs.Filed.{size-stands}
+use Rattle.nfs_objects.proofs.Filed.{HasListing, size-stands}
 use Rattle.nfs_objects.proofs.Seen.{known-stands}
+use Rattle.nfs_objects.proofs.Turns.{listing-same}
 use Rattle.nfs_objects.specs.Asks.{IsThere}
 use Rattle.nfs_objects.specs.Fits.{Fits}
 use Rattle.nfs_objects.specs.Knows.{Knows, Possible, Shows, ShowsExport}
 use Rattle.nfs_objects.specs.Stands.{Kept, Represents, content_of, exports_of, inode_in, links_kept, lives_in}
-use Rattle.nfs_objects.specs.Stands.{bytes_at, living_alone, living_of_inode, parent_kept, with_file}
+use Rattle.nfs_objects.specs.Stands.{Beside, beside_at, filled, living_alone, living_of_inode, parent_kept}
+use Rattle.nfs_objects.specs.Stands.{HasEntries, HoldsEntries, entries_at, entry_map_in}
 use Rattle.nfs_objects.specs.Store.{Store, with_writes}
 use Rattle.nfs_objects.specs.Values.{DraftValue}
 use Rattle.nfs_objects.specs.declared.address.Addr.TheVariants as addresses
+use Rattle.nfs_objects.specs.declared.entry_map.EntryMap.{EntryMap}
 use Rattle.nfs_objects.specs.declared.object.Inode.{Inode}
 use Rattle.nfs_inodes.specs.Known.{HasExports, HasInode, IsKnown, IsKnownOf, IsObject, bytes_of, content_at}
 use Rattle.nfs_inodes.specs.Known.{listed, object_at, shell, weak_of}
@@ -33,27 +36,29 @@ content_in (Some i) = content_of i.content
 abbrev content_living : Option Living → Content
 content_living o = elim o [ None ↦ Socket | Some l ↦ l.content ]
 
--- what does not depend on the bytes of a file
+-- what does not depend on the bytes of a file, nor on the entries of a directory
 pub whatever : {A : Type 0} (F : Content → A) → ((bytes more : List ℕ) → F (Regular bytes) ≡ F (Regular more)) →
-    (bytes : List ℕ) (c : Content) → F (with_file bytes c) ≡ F c
-whatever F same bytes (Regular more) = same bytes more
-whatever F same bytes (Directory entries last) = refl
-whatever F same bytes (Link text) = refl
-whatever F same bytes (BlockDevice device) = refl
-whatever F same bytes (CharacterDevice device) = refl
-whatever F same bytes Socket = refl
-whatever F same bytes Fifo = refl
+    ((entries more : List Entry) (last : ℕ) → F (Directory entries last) ≡ F (Directory more last)) →
+    (beside : Beside) (c : Content) → F (filled beside c) ≡ F c
+whatever F bytes entries beside (Regular more) = bytes beside.bytes more
+whatever F bytes entries beside (Directory more last) = entries beside.entries more last
+whatever F bytes entries beside (Link text) = refl
+whatever F bytes entries beside (BlockDevice device) = refl
+whatever F bytes entries beside (CharacterDevice device) = refl
+whatever F bytes entries beside Socket = refl
+whatever F bytes entries beside Fifo = refl
 
--- with bytes that are as many as it tells, an inode shows the same attributes
-attributes-with : (m : State) (n : ℕ) (bytes : List ℕ) (i : Inode) →
-    size_of (with_file bytes (content_of i.content)) ≡ size_of (content_of i.content) →
-    attributes_of m n (living_of_inode bytes i) ≡ attributes_of m n (living_alone i)
-attributes-with m n bytes i size = λ j. record (attributes_of m n (living_alone i)) {
-  kind = whatever type_of (λ b more. refl) bytes (content_of i.content) j;
-  links = whatever (links_of m n) (λ b more. refl) bytes (content_of i.content) j;
+-- with bytes that are as many as it tells, an inode shows the same attributes, but for the links
+attributes-with : (m : State) (n links : ℕ) (beside : Beside) (i : Inode) →
+    size_of (filled beside (content_of i.content)) ≡ size_of (content_of i.content) →
+    record (attributes_of m n (living_of_inode beside i)) { links = links }
+    ≡ record (attributes_of m n (living_alone i)) { links = links }
+attributes-with m n links beside i size = λ j. record (attributes_of m n (living_alone i)) {
+  kind = whatever type_of (λ b more. refl) (λ e more last. refl) beside (content_of i.content) j;
+  links = links;
   size = size j;
   used = (size j + 4095) / block * block;
-  device = whatever device_of (λ b more. refl) bytes (content_of i.content) j;
+  device = whatever device_of (λ b more. refl) (λ e more last. refl) beside (content_of i.content) j;
 }
 
 -- the exports that are known live
@@ -81,21 +86,22 @@ module _ (d : DraftValue) (n : ℕ) (i : Option Inode) (has : HasInode d n i) (s
       (exports-there d has.exports has.living s k fits stands)
       ∙ ap (inode_in has.exports) (known-stands d s (addresses.Inode n) has.object fits has.known) ∙ sym has.is
 
-  pub lives-there : get k.state.objects n ≡ option_map (living_of_inode (bytes_at k.state n)) i
-  lives-there = stands.objects.objects n ∙ ap (option_map (living_of_inode (bytes_at k.state n))) stands-there
+  pub lives-there : get k.state.objects n ≡ option_map (living_of_inode (beside_at k.state n)) i
+  lives-there = stands.objects.objects n ∙ ap (option_map (living_of_inode (beside_at k.state n))) stands-there
 
-  pub contains : content_at k.state n ≡ with_file (bytes_at k.state n) (content_in i)
+  pub contains : content_at k.state n ≡ filled (beside_at k.state n) (content_in i)
   contains = ap content_living lives-there ∙ by i
     where
-      by : (j : Option Inode) → content_living (option_map (living_of_inode (bytes_at k.state n)) j) ≡
-          with_file (bytes_at k.state n) (content_in j)
+      by : (j : Option Inode) → content_living (option_map (living_of_inode (beside_at k.state n)) j) ≡
+          filled (beside_at k.state n) (content_in j)
       by None = refl
       by (Some j) = refl
 
-  -- of what does not depend on the bytes of a file the inode tells by itself
+  -- of what does not depend on the bytes of a file and the entries of a directory the inode tells by itself
   pub contains-as : {A : Type 0} (F : Content → A) → ((bytes more : List ℕ) → F (Regular bytes) ≡ F (Regular more)) →
+      ((entries more : List Entry) (last : ℕ) → F (Directory entries last) ≡ F (Directory more last)) →
       F (content_at k.state n) ≡ F (content_in i)
-  contains-as F same = ap F contains ∙ whatever F same (bytes_at k.state n) (content_in i)
+  contains-as F bytes entries = ap F contains ∙ whatever F bytes entries (beside_at k.state n) (content_in i)
 
   pub links-there : k.links n ≡ links_kept i
   links-there = stands.objects.links n ∙ ap links_kept stands-there
@@ -103,24 +109,40 @@ module _ (d : DraftValue) (n : ℕ) (i : Option Inode) (has : HasInode d n i) (s
   pub parent-there : k.parents n ≡ parent_kept i
   parent-there = stands.objects.parents n ∙ ap parent_kept stands-there
 
+-- the pages and parts at a number are those of the entries that live there
+pub listed-there : (d : DraftValue) (n : ℕ) (i : Inode) → HasInode d n (Some i) → (s : Store) (k : Kept) →
+    Fits d.view s → Represents (with_writes s d.writes) k → HasListing (with_writes s d.writes) n (entries_at k.state n) i
+listed-there d n i has s k fits stands =
+    listing-same (with_writes s d.writes) k n i i stands
+    (known-stands d s (addresses.Inode n) has.object fits has.known
+    ∙ (inode-stands has.exports has.object i (sym has.is)).stands)
+    (stands-there d n (Some i) has s k fits stands) refl
+
+pub entries-there : (d : DraftValue) (n : ℕ) (i : Inode) (m : EntryMap) → HasInode d n (Some i) →
+    entry_map_in i.content ≡ Some m → (s : Store) (k : Kept) → Fits d.view s → Represents (with_writes s d.writes) k →
+    HasEntries (with_writes s d.writes) n m (entries_at k.state n)
+entries-there d n i m has is s k fits stands =
+    subst (λ x. HoldsEntries (with_writes s d.writes) n x (entries_at k.state n)) is
+    (listed-there d n i has s k fits stands)
+
 pub some-lives : (d : DraftValue) (n : ℕ) (i : Inode) (x : Known) → HasInode d n (Some i) → IsKnownOf n i x → Knows d (λ k. IsObject k.state n (Some x))
 some-lives d n i x has of s k w =
-    let bytes = bytes_at k.state n in
-    let filled = living_of_inode bytes i in
-    let lives : get k.state.objects n ≡ Some filled = lives-there d n (Some i) has s k w.fits w.stands in
-    let content : content_at k.state x.number ≡ filled.content = ap (content_at k.state) of.number_is ∙ ap content_living lives in
-    let same : object_at k.state x ≡ filled =
-    ap (shell x) content ∙ ap (λ (o : Living). record o { content = filled.content }) of.shell_is in
+    let beside = beside_at k.state n in
+    let living = living_of_inode beside i in
+    let lives : get k.state.objects n ≡ Some living = lives-there d n (Some i) has s k w.fits w.stands in
+    let content : content_at k.state x.number ≡ living.content = ap (content_at k.state) of.number_is ∙ ap content_living lives in
+    let same : object_at k.state x ≡ living =
+    ap (shell x) content ∙ ap (λ (o : Living). record o { content = living.content }) of.shell_is in
     let size = size-stands (with_writes s d.writes) k n i w.stands (stands-there d n (Some i) has s k w.fits w.stands) in
-    let links : i.links ≡ links_of k.state n filled.content =
-    sym (links-there d n (Some i) has s k w.fits w.stands) ∙ w.sound.links n filled lives in (
+    let links : i.links ≡ links_of k.state n living.content =
+    sym (links-there d n (Some i) has s k w.fits w.stands) ∙ w.sound.links n living lives in (
       of.number_is,
       record {
         lives = ap (get k.state.objects) of.number_is ∙ lives ∙ ap (λ o. Some o) (sym same);
         shows = of.attributes_are k.state
-            ∙ ap (λ (a : Attributes). record a { links = i.links }) (sym (attributes-with k.state n bytes i size))
-            ∙ ap (λ l. record (attributes_of k.state n filled) { links = l }) links
-            ∙ ap (λ q. attributes_of k.state q filled) (sym of.number_is) ∙ ap (attributes_of k.state x.number) (sym same);
+            ∙ sym (attributes-with k.state n i.links beside i size)
+            ∙ ap (λ l. record (attributes_of k.state n living) { links = l }) links
+            ∙ ap (λ q. attributes_of k.state q living) (sym of.number_is) ∙ ap (attributes_of k.state x.number) (sym same);
       },
     )
 

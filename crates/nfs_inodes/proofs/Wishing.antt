@@ -95,6 +95,21 @@ module _ (d : DraftValue) where
     known = λ none a shall. asks.known none a (fewer a shall);
   }
 
+  -- the same where that it is not known tells why each may be asked for
+  pub asks-bounded : (May Will Must : Addr → Type 0) (old new : List (Addr × Mode)) →
+      ((a : Addr) → known_at d a ≡ None → May a → Will a) → AsksFor d May Must old new → AsksFor d Will Must old new
+  asks-bounded May Will Must old new bounded asks = record {
+    more = asks.more;
+    grown = asks.grown;
+    once = asks.once;
+    each = all-map (IsWish d May) (IsWish d Will) (λ w wish. record {
+      unknown = wish.unknown;
+      mode = wish.mode;
+      may = bounded w.0 wish.unknown wish.may;
+    }) asks.more asks.each;
+    known = asks.known;
+  }
+
   -- an address besides, which is none of those
   module _ (May Must : Addr → Type 0) (a : Addr) (old mid : List (Addr × Mode)) (asks : AsksFor d May Must old mid)
       (apart : (b : Addr) → May b → is_addr b a ≡ false) (new : List (Addr × Mode)) (is-new : new ≡ with_wish d a mid)

@@ -3,6 +3,7 @@ pub mod Asking
 pub mod Blocks
 pub mod Counts
 pub mod Cuts
+pub mod Entered
 pub mod Gathers
 pub mod Kinds
 pub mod Known

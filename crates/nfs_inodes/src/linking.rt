@@ -1,10 +1,11 @@
 //! Names that objects get beside those that they have (RFC 1813, 3.3.15).
 
-ghost use Rattle.std.specs.Prelude.{◌≡◌, ◌++◌, MatchResult};
+ghost use Rattle.std.specs.Prelude.{◌≡◌, ◌++◌, [], MatchResult};
 ghost use Rattle.nfs_machine.specs.Times.{time_of};
 ghost use Rattle.nfs_objects.specs.Calls.{addresses_of};
 ghost use Rattle.nfs_objects.specs.Knows.{Turns};
 ghost use Rattle.nfs_objects.specs.Modes.{changing};
+ghost use Rattle.nfs_inodes.specs.Entered.{grown_at};
 ghost use Rattle.nfs_inodes.specs.Kinds.{IsShown};
 ghost use Rattle.nfs_inodes.specs.Links.{link_gained, linked_so};
 ghost use Rattle.nfs_inodes.specs.Stops.{StopsAt};
@@ -29,12 +30,13 @@ pub fn add_link(
     number: u64,
     links: u32,
 ) -> Result<(), Halt>
+    requires none { draft.old.writes ≡ [] }
     requires alone { draft.old.modes ≡ changing }
     requires shown { IsShown draft.old directory.now.known }
     ensures { MatchResult result
         (λ _. Turns draft.old draft.new (link_gained (time_of draft.old.ctx.moment) directory.now.known.number
         directory.now.known.attributes.links (record { name = name.now; number = number; cookie = cookie }) links))
-        (StopsAt draft.old (addresses_of draft.old.view directory.now.known.number
+        (StopsAt draft.old (grown_at draft.old directory.now.known.number name.now cookie
         ++ addresses_of draft.old.view number)) }
 {
     let kept = directory.known.attributes.links;

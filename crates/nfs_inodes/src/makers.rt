@@ -12,17 +12,20 @@ ghost use Rattle.nfs_objects.specs.Knows.{Knows, ShowsExport, Turns};
 ghost use Rattle.nfs_objects.specs.Modes.{changing};
 ghost use Rattle.nfs_objects.specs.Values.{known_at};
 ghost use Rattle.nfs_inodes.specs.Asked.{wanted_as};
+ghost use Rattle.nfs_inodes.specs.Entered.{grown_at};
 ghost use Rattle.nfs_inodes.specs.Kinds.{IsShown};
 ghost use Rattle.nfs_inodes.specs.Makes.{IsFree, link_lost, made_under, removed};
 ghost use Rattle.nfs_inodes.specs.Stops.{StillStands, StopsAt, StopsMaking, counted_at};
 
+use crate::content::asking::Asking;
+use crate::content::clearing::clear_entries;
 use crate::content::file::clear;
-use crate::content::naming::add_entry;
+use crate::content::naming::{add_entry, ask_entry};
 use crate::found::inode;
 use crate::kinds::Directory;
 use crate::making::{Wanted, links_with, new_inode};
 use crate::times::{now, touch};
-use crate::usage::{Share, recount, uncount};
+use crate::usage::{Share, ask_counted, recount, uncount};
 use nfs_objects::{Addr, Draft, Halt, Reserved, Usage};
 
 /// Takes one of an object's links away, which are so many: it goes with its last, and else its ctime changes.
@@ -44,7 +47,7 @@ pub fn lose_link(draft: &mut Draft<'_>, number: u64, links: u32) -> Result<(), H
     }
 }
 
-/// What lives at a number goes, with all its blocks and maps.
+/// What stands at a number goes, with all that stands beside it.
 fn free(draft: &mut Draft<'_>, number: u64) -> Result<(), Halt>
     requires alone { MayChange draft.old (Addr.Inode number) }
     requires stands { StillStands draft.old }
@@ -53,6 +56,7 @@ fn free(draft: &mut Draft<'_>, number: u64) -> Result<(), Halt>
 {
     uncount(draft, number)?;
     clear(draft, number)?;
+    clear_entries(draft, number)?;
     Ok(draft.free(number)?)
 }
 
@@ -94,7 +98,7 @@ pub fn make_object(
         (made_under (time_of draft.old.ctx.moment) directory.now.known.number directory.now.known.attributes.links
         cookie name.now r
         (new_object draft.old.ctx directory.now.known.export r.generation (wanted_as wanted.now))))
-        (StopsMaking draft.old (addresses_of draft.old.view directory.now.known.number
+        (StopsMaking draft.old (grown_at draft.old directory.now.known.number name.now cookie
         ++ usages_of directory.now.known.export 64)) }
     ensures known { IfOk result (λ r. IsSome (known_at draft.new (Addr.Inode r.number))) }
 {
@@ -124,17 +128,22 @@ fn make_reserved(
         Turns draft.old draft.new (made_under (time_of draft.old.ctx.moment) directory.now.known.number
         directory.now.known.attributes.links cookie name.now (record { number = number; generation = generation })
         (new_object draft.old.ctx directory.now.known.export generation (wanted_as wanted.now))))
-        (StopsMaking draft.old (addresses_of draft.old.view directory.now.known.number
+        (StopsMaking draft.old (grown_at draft.old directory.now.known.number name.now cookie
         ++ usages_of directory.now.known.export 64)) }
     ensures known { OnOk result (IsSome (known_at draft.new (Addr.Inode number))) }
 {
     let object = new_inode(draft.alloc(), draft.ctx(), directory, wanted, generation)?;
     let links = links_with(directory.known.attributes.links, &wanted.content);
-    add_entry(draft, directory, name, number, cookie, links)?;
     let nothing = Share {
         export: directory.known.export,
         usage: Usage::none(),
     };
-    recount(draft, number, nothing, Usage::of_one(object.content.size()))?;
+    let usage = Usage::of_one(object.content.size());
+    let mut asking = Asking::new(draft.alloc());
+    ask_entry(draft, directory, name, cookie, &mut asking)?;
+    ask_counted(draft, number, nothing, usage, &mut asking)?;
+    asking.ask()?;
+    add_entry(draft, directory, name, number, cookie, links)?;
+    recount(draft, number, nothing, usage)?;
     Ok(draft.put(number, object)?)
 }

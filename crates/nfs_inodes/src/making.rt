@@ -8,7 +8,8 @@ ghost use Rattle.nfs_machine.specs.Making.{given_attributes, kind_checked, new_o
 ghost use Rattle.nfs_machine.specs.Permission.{is_member};
 ghost use Rattle.nfs_machine.specs.State.{Link};
 ghost use Rattle.nfs_machine.specs.declared.context.Ctx.{Ctx as Context};
-ghost use Rattle.nfs_objects.specs.Stands.{living_alone, map_in, parent_in};
+ghost use Rattle.nfs_objects.specs.Directories.{no_entries};
+ghost use Rattle.nfs_objects.specs.Stands.{entry_map_in, living_alone, map_in, parent_in};
 ghost use Rattle.nfs_inodes.specs.Asked.{content_asked, mode_asked, wanted_as};
 ghost use Rattle.nfs_inodes.specs.Makes.{first_links, first_parent, links_with};
 
@@ -159,6 +160,7 @@ pub(crate) fn new_inode(
     ensures living { IfOk result (λ inode.
         living_alone inode ≡ new_object ctx.now directory.now.known.export generation (wanted_as wanted.now)) }
     ensures blank { IfOk result (λ inode. IfSome (map_in inode.content) (λ map. map.pages ≡ no_bits)) }
+    ensures bare { IfOk result (λ inode. IfSome (entry_map_in inode.content) (λ map. map ≡ no_entries)) }
     ensures links { IfOk result (λ inode. inode.links ≡ first_links (content_asked wanted.now.content)) }
     ensures parent { IfOk result (λ inode.
         parent_in inode.content ≡ first_parent directory.now.known.number (content_asked wanted.now.content)) }

@@ -1,18 +1,21 @@
 //! Names that are taken away, and the links that go with them (RFC 1813, 3.3.12 and 3.3.13).
 
-ghost use Rattle.std.specs.Prelude.{◌≡◌, ◌++◌, [], MatchResult};
+ghost use Rattle.std.specs.Prelude.{◌≡◌, ◌++◌, [], IfErr, MatchResult};
 ghost use Rattle.nfs_machine.specs.Times.{time_of};
-ghost use Rattle.nfs_objects.specs.Calls.{addresses_of};
+ghost use Rattle.nfs_objects.specs.Calls.{IsAmong, addresses_of};
 ghost use Rattle.nfs_objects.specs.Knows.{Turns};
 ghost use Rattle.nfs_objects.specs.Modes.{changing};
+ghost use Rattle.nfs_inodes.specs.Asking.{AsksFor};
 ghost use Rattle.nfs_inodes.specs.Kinds.{IsShown};
 ghost use Rattle.nfs_inodes.specs.Removes.{directory_lost, name_lost, subdirectory_lost};
-ghost use Rattle.nfs_inodes.specs.Stops.{StillStands, StopsAt, counted_at};
+ghost use Rattle.nfs_inodes.specs.Stops.{StillStands, StopsAt, counted_at, group_at, inode_at};
 
-use crate::content::naming::take_entry;
+use crate::content::asking::Asking;
+use crate::content::naming::{ask_loss, take_entry};
 use crate::found::{Known, inode};
 use crate::kinds::Directory;
 use crate::makers::lose_link;
+use crate::usage::ask_uncounted;
 use nfs_objects::{Addr, Draft, Halt};
 use nfs_wire::FileType;
 
@@ -37,10 +40,47 @@ pub fn take_name(
         (StopsAt draft.old (addresses_of draft.old.view directory.now.known.number
         ++ addresses_of draft.old.view object.now.number)) }
 {
+    ask_lost(draft, directory, name, object)?;
     take_entry(draft, directory, name)?;
     match object.attributes.kind {
         FileType::Directory => lose_directory(draft, directory, object.number),
         _ => lose_link(draft, object.number, object.attributes.links),
+    }
+}
+
+/// Asks at once for what has to be held to take the name away, and where the object goes with it, to count it no more.
+fn ask_lost(
+    draft: &Draft<'_>,
+    directory: &Directory,
+    name: &[u8],
+    object: &Known,
+) -> Result<(), Halt>
+    requires none { draft.now.writes ≡ [] }
+    requires shown { IsShown draft.now directory.now.known }
+    ensures { IfErr result (StopsAt draft.now (addresses_of draft.now.view directory.now.known.number
+        ++ counted_at draft.now object.now.number)) }
+{
+    let mut asking = Asking::new(draft.alloc());
+    ask_loss(draft, directory, name, &mut asking)?;
+    ask_gone(draft, object, &mut asking)?;
+    asking.ask()
+}
+
+/// Asks for what has to be held to count the object no more, where it goes with a name.
+fn ask_gone(draft: &Draft<'_>, object: &Known, asking: &mut Asking) -> Result<(), Halt>
+    ensures { MatchResult result
+        (λ _. AsksFor draft.now (IsAmong (group_at object.now.number (inode_at draft.now object.now.number))) (λ a. ⊥)
+        asking.old.asked.items asking.new.asked.items)
+        (StopsAt draft.now (addresses_of draft.now.view object.now.number)) }
+{
+    let is_last = match object.attributes.kind {
+        FileType::Directory => true,
+        _ => object.attributes.links <= 1,
+    };
+    if is_last {
+        ask_uncounted(draft, object.number, asking)
+    } else {
+        Ok(())
     }
 }
 

@@ -1,15 +1,17 @@
 //! The tree of directories: each but a root is named in its parent.
 
-ghost use Rattle.std.specs.Prelude.{◌≡◌, ◌≤◌, ◌↔◌, [], true, length, MatchResult};
+ghost use Rattle.std.specs.Prelude.{◌≡◌, ◌≤◌, ◌↔◌, [], true, length, IfSome, MatchResult};
 ghost use Rattle.nfs_machine.specs.RenameSteps.{IsWithin};
 ghost use Rattle.nfs_machine.specs.WellFormed.{WellFormed};
 ghost use Rattle.nfs_objects.specs.Knows.{Knows};
+ghost use Rattle.nfs_inodes.specs.Gathers.{MayWish};
 ghost use Rattle.nfs_inodes.specs.Known.{IsKnown};
 ghost use Rattle.nfs_inodes.specs.Stops.{StopsAt};
 
 use crate::content::entries::parent;
+use crate::found::inode;
 use crate::kinds::Directory;
-use nfs_objects::{Draft, Halt};
+use nfs_objects::{Addr, Draft, Halt, Mode};
 
 /// Whether a directory is the one at the upper number, or below it. It reads each directory on the way up to the root,
 /// where no more addresses than these were read so far.
@@ -44,4 +46,16 @@ pub fn is_within(
         number = above;
     }
     Ok(false)
+}
+
+/// What a walk up from a directory reads next: the one that it is named in, where the draft knows the directory and not
+/// that. Something stands there in every store that the view fits.
+pub fn above(draft: &Draft<'_>, number: u64) -> Option<(Addr, Mode)>
+    requires { draft.now.writes ≡ [] }
+    ensures { IfSome result (MayWish draft.now) }
+{
+    let Ok(Some(inode)) = inode(draft, number) else {
+        return None;
+    };
+    draft.lacked(Addr::Inode(inode.directory()?.parent))
 }

@@ -2,16 +2,16 @@
 
 ghost use Rattle.std.specs.Prelude.{◌≡◌, ◌∷◌, [], IfOk, IfSome, IsSome, MatchResult, OnErr, OnOk, true};
 ghost use Rattle.std.specs.Prelude.{if◌then◌else◌};
-ghost use Rattle.nfs_objects.specs.Calls.{usages_of};
+ghost use Rattle.nfs_objects.specs.Calls.{IsAmong, addresses_of, usages_of};
 ghost use Rattle.nfs_objects.specs.Edits.{recounted};
 ghost use Rattle.nfs_objects.specs.Knows.{Knows, Turns};
 ghost use Rattle.nfs_objects.specs.Stands.{lives_in};
 ghost use Rattle.nfs_objects.specs.Sums.{export_usage, group_of, in_export, is_same_usage};
 ghost use Rattle.nfs_objects.specs.Values.{known_at};
 ghost use Rattle.nfs_objects.specs.declared.usage.Usage.{Usage as Sums};
-ghost use Rattle.nfs_inodes.specs.Asking.{with_wish};
+ghost use Rattle.nfs_inodes.specs.Asking.{AsksFor, with_wish};
 ghost use Rattle.nfs_inodes.specs.Counts.{AreUnread, IsCount, IsShareOf, KeepsInodes, uncounted};
-ghost use Rattle.nfs_inodes.specs.Stops.{StopsAt, counted_at};
+ghost use Rattle.nfs_inodes.specs.Stops.{StopsAt, counted_at, group_at, inode_at};
 
 use crate::content::asking::Asking;
 use crate::found::inode;
@@ -76,6 +76,19 @@ pub(crate) fn ask_counted(
         group: group_of(number),
     };
     asking.add(draft, address)
+}
+
+/// Asks for what the group of a number uses, where its object is to be counted no more.
+pub(crate) fn ask_uncounted(draft: &Draft<'_>, number: u64, asking: &mut Asking) -> Result<(), Halt>
+    ensures { MatchResult result
+        (λ _. AsksFor draft.now (IsAmong (group_at number (inode_at draft.now number))) (λ a. ⊥)
+        asking.old.asked.items asking.new.asked.items)
+        (StopsAt draft.now (addresses_of draft.now.view number)) }
+{
+    match inode(draft, number)? {
+        Some(inode) => Ok(ask_counted(draft, number, share_of(inode), Usage::none(), asking)?),
+        None => Ok(()),
+    }
 }
 
 /// Puts what the group of a number uses from now on, if it is another.

@@ -1,5 +1,6 @@
 pub mod Alone
 pub mod Creating
+pub mod Growing
 pub mod Linked
 pub mod Listed
 pub mod Looked

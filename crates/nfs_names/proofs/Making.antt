@@ -32,11 +32,12 @@ use Rattle.nfs_machine.specs.WellFormed.{WellFormed}
 use Rattle.nfs_machine.specs.declared.calls.Call.TheVariants as calls
 use Rattle.nfs_machine.specs.declared.calls.Reply.TheVariants as answers
 use Rattle.nfs_machine.specs.declared.context.Ctx.{Ctx}
-use Rattle.nfs_objects.proofs.Knows.{covers-among, covers-both, failed, passed, stops-wider, stops-within}
+use Rattle.nfs_objects.proofs.Knows.{among-behind, among-front, covers-among, covers-both, failed, passed, stops-wider}
+use Rattle.nfs_objects.proofs.Knows.{stops-within}
 use Rattle.nfs_objects.proofs.Promised.{answer-ending, does-as, possible-after, promised, turns-none}
 use Rattle.nfs_objects.proofs.Summed.{AllFit, turned-fit}
 use Rattle.nfs_objects.specs.Asks.{IsThere}
-use Rattle.nfs_objects.specs.Calls.{addresses_of, usages_of}
+use Rattle.nfs_objects.specs.Calls.{added_at, addresses_of, next_places, usages_of}
 use Rattle.nfs_objects.specs.Begins.{Begins}
 use Rattle.nfs_objects.specs.Knows.{Does, Knows, Possible, Turns, ending}
 use Rattle.nfs_objects.specs.Promise.{Given, Held, IsPromised}
@@ -53,14 +54,15 @@ use Rattle.nfs_inodes.proofs.Halting.{lives-stops, stops-before}
 use Rattle.nfs_inodes.proofs.Keeping.{choice-of, fresh-of, made-is, made-sound, room-of}
 use Rattle.nfs_inodes.proofs.Standing.{directory-listed, kind-is}
 use Rattle.nfs_inodes.specs.Asked.{content_asked, wanted_as}
-use Rattle.nfs_inodes.specs.Known.{IsKnown, IsObject, Means, Names, content_at, entries_found, last_cookie_of, listed}
-use Rattle.nfs_inodes.specs.Known.{new_cookie, object_at, shell, weak_of}
+use Rattle.nfs_inodes.specs.Known.{HasNumber, IsKnown, IsObject, Means, Names, content_at, entries_found, last_cookie_of}
+use Rattle.nfs_inodes.specs.Known.{listed, new_cookie, object_at, shell, weak_of}
 use Rattle.nfs_inodes.specs.Makes.{IsFree, made_under}
 use Rattle.nfs_inodes.specs.Stops.{IsOfExport, StopsAt, StopsMaking, brought_by}
 use Rattle.nfs_inodes.specs.declared.found.Known.{Known}
 use Rattle.nfs_inodes.specs.declared.making.NewContent.{NewContent}
 use Rattle.nfs_inodes.specs.declared.making.NewContent.TheVariants as contents
 use Rattle.nfs_inodes.specs.declared.making.Wanted as rust
+use Rattle.nfs_names.proofs.Growing.{next-added}
 use Rattle.nfs_names.proofs.Looked.{lives-at}
 use Rattle.nfs_names.specs.Checking.{ComesTo}
 use Rattle.nfs_names.specs.Making.{IsMakeEnd, IsNewEnd, IsThereEnd, MakeEnd, MakesReply, ThereEnd}
@@ -151,18 +153,18 @@ module _ (d : DraftValue) (place : Place) (asked : Result Wanted NfsStatus) (the
     abbrev DoesOr : (Halt → Type 0) → (State → MakeEnd → Type 0) → Type 0
     DoesOr Stop IsEnd = MatchResult r (Does d new IsEnd) Stop
 
-    abbrev Made_in : Type 0
-    Made_in = MatchResult r (Does d new (IsMakeEnd d.ctx place asked there))
-        (StopsMaking d (brought_by d.view place.directory))
+    abbrev brought : List Addr
+    brought = brought_by d.view place.directory ++ added_at d.view place
 
-    ends-so : (Stop : Halt → Type 0) →
-        ((halt : Halt) → Stop halt → StopsMaking d (brought_by d.view place.directory) halt) →
+    abbrev Made_in : Type 0
+    Made_in = MatchResult r (Does d new (IsMakeEnd d.ctx place asked there)) (StopsMaking d brought)
+
+    ends-so : (Stop : Halt → Type 0) → ((halt : Halt) → Stop halt → StopsMaking d brought halt) →
         (IsEnd : State → MakeEnd → Type 0) → ((s : Store) (k : Kept) → Possible d s k →
         (end : MakeEnd) → IsEnd k.state end → IsMakeEnd d.ctx place asked there k.state end) →
         DoesOr Stop IsEnd → Made_in
     ends-so Stop stops IsEnd means = elim r as (λ q. MatchResult q (Does d new IsEnd) Stop →
-        MatchResult q (Does d new (IsMakeEnd d.ctx place asked there))
-        (StopsMaking d (brought_by d.view place.directory))) [
+        MatchResult q (Does d new (IsMakeEnd d.ctx place asked there)) (StopsMaking d brought)) [
           | Ok result ↦ does-as d new IsEnd (IsMakeEnd d.ctx place asked there) result means
           | Err halt ↦ stops halt
         ]
@@ -170,21 +172,37 @@ module _ (d : DraftValue) (place : Place) (asked : Result Wanted NfsStatus) (the
     pub there-ends : (number : ℕ) → LeadsTo (Some number)
         → DoesOr (StopsAt d []) (IsThereEnd there number) → Made_in
     there-ends number to = ends-so (StopsAt d [])
-        (λ halt stops. stops-wider d.modes [] (brought_by d.view place.directory) 1 d.view halt tt stops)
+        (λ halt stops. stops-wider d.modes [] brought 1 d.view halt tt stops)
         (IsThereEnd there number)
         (λ s k w end is. inl (λ choice. leads (Some number) to s k w choice ∙ is))
 
-    pub new-ends : IsOfExport place.directory x.export → LeadsTo None →
-        DoesOr (StopsMaking d (usages_of x.export 64)) (IsNewEnd d.ctx wanted x place.name) → Made_in
-    new-ends usage to = ends-so (StopsMaking d (usages_of x.export 64))
+    pub new-ends : IsOfExport place.directory x.export → HasNumber place.directory x.number → LeadsTo None →
+        DoesOr (StopsMaking d (usages_of x.export 64 ++ next_places d.view x.number place.name))
+        (IsNewEnd d.ctx wanted x place.name) → Made_in
+    new-ends usage number to = ends-so (StopsMaking d (usages_of x.export 64 ++ next_places d.view x.number place.name))
         (λ halt stops.
-        stops-within d.modes (usages_of x.export 64) (brought_by d.view place.directory) 1 d.view halt
-        (covers-among (usages_of x.export 64) (brought_by d.view place.directory) d.view
-        (among-brought d.view place.directory x.export usage)) stops) (IsNewEnd d.ctx wanted x place.name)
+        stops-within d.modes (usages_of x.export 64 ++ next_places d.view x.number place.name) brought 1 d.view halt
+        (covers-both brought d.view (usages_of x.export 64) (next_places d.view x.number place.name)
+        (covers-among (usages_of x.export 64) brought d.view
+        (λ a among. among-front (brought_by d.view place.directory) (added_at d.view place) a
+        (among-brought d.view place.directory x.export usage a among)))
+        (covers-among (next_places d.view x.number place.name) brought d.view
+        (λ a among. among-behind (brought_by d.view place.directory) (added_at d.view place) a
+        (next-added d.view place x.number number a among)))) stops) (IsNewEnd d.ctx wanted x place.name)
         (λ s k w end is. elim is [
           | inl all ↦ inl (λ choice. leads None to s k w choice ∙ all choice)
           | inr chosen ↦ inr (chosen.0, chosen.1, leads None to s k w chosen.0 ∙ chosen.2)
         ])
+
+-- ---- of a new object, the same of another directory and name that are these
+abbrev pub MakesNew : (d new : DraftValue) → Result (Result Made NfsStatus) Halt → Wanted → Known → List ℕ → Type 0
+MakesNew d new r wanted x name = MatchResult r (Does d new (IsNewEnd d.ctx wanted x name))
+    (StopsMaking d (usages_of x.export 64 ++ next_places d.view x.number name))
+
+pub new-as : (d new : DraftValue) (r : Result (Result Made NfsStatus) Halt) (wanted : Wanted) (x y : Known)
+    (name other : List ℕ) → x ≡ y → name ≡ other → MakesNew d new r wanted x name → MakesNew d new r wanted y other
+new-as d new r wanted x y name other same named makes =
+    subst (λ n. MakesNew d new r wanted y n) named (subst (λ (z : Known). MakesNew d new r wanted z name) same makes)
 
 -- ---- what is told of a number
 abbrev pub told_of : State → Ctx → ℕ → Option Living → Made
@@ -375,13 +393,12 @@ pub lives-making : (d : DraftValue) (n : ℕ) (asked : List Addr) (halt : Halt) 
 lives-making d n asked halt lives stops =
     stops-wider d.modes (addresses_of d.view n) asked 1 d.view halt (inr lives, tt) stops
 
--- and write it
-pub writes-making : (d : DraftValue) (n : ℕ) (asked : List Addr) (halt : Halt) → IsThere d.view (addresses.Inode n) →
-    StopsMaking d (addresses_of d.view n ++ asked) halt → StopsMaking d asked halt
-writes-making d n asked halt lives stops =
-    stops-within d.modes (addresses_of d.view n ++ asked) asked 1 d.view halt
-    (covers-both asked d.view (addresses_of d.view n) asked (inr lives, tt)
-    (covers-among asked asked d.view (λ a among. among))) stops
+-- and what some may ask for may be asked for by who names them first
+pub front-making : (d : DraftValue) (few more : List Addr) (halt : Halt) → StopsAt d few halt →
+    StopsMaking d (few ++ more) halt
+front-making d few more halt stops =
+    stops-wider d.modes few (few ++ more) 1 d.view halt
+    (covers-among few (few ++ more) d.view (λ a among. among-front few more a among)) stops
 
 -- what it knows it may read after a change
 pub knows-making : (old new : DraftValue) (op : Kept → Kept) (asked : List Addr) (halt : Halt) → Turns old new op →
@@ -389,13 +406,12 @@ pub knows-making : (old new : DraftValue) (op : Kept → Kept) (asked : List Add
 knows-making old new op asked halt turns stops =
     stops-wider old.modes [] asked 1 old.view halt tt (stops-before old new op (λ view. []) halt turns stops)
 
--- it stops the call that brought the handle
-pub bringing-stops : (old new : DraftValue) (op : Kept → Kept) (handle : List ℕ) (n : ℕ) (halt : Halt) →
+-- an object that lives may be read after it
+pub bringing-stops : (old new : DraftValue) (op : Kept → Kept) (asked : List Addr) (n : ℕ) (halt : Halt) →
     Turns old new op → IsThere old.view (addresses.Inode n) → StopsAt new (addresses_of new.view n) halt →
-    StopsMaking old (brought_by old.view handle) halt
-bringing-stops old new op handle n halt turns lives stops =
-    lives-making old n (brought_by old.view handle) halt lives
-    (stops-before old new op (λ view. addresses_of view n) halt turns stops)
+    StopsMaking old asked halt
+bringing-stops old new op asked n halt turns lives stops =
+    lives-making old n asked halt lives (stops-before old new op (λ view. addresses_of view n) halt turns stops)
 
 -- ---- the reply
 module _ (place : Place) (asked : Result Wanted NfsStatus) (there : ThereEnd) where

@@ -1,17 +1,22 @@
 -- The page that fits, entry by entry; and what is listed is a step of the machine.
-use Rattle.std.proofs.Common.{◌≡◌, ℕ, ◌+◌, ◌≤◌, Bool, true, false, List, [], ◌∷◌, ◌++◌, map, Option, Some, None}
+use Rattle.std.proofs.Common.{◌≡◌, ℕ, suc, ◌+◌, ◌*◌, ◌/◌, ◌≤◌, ◌==◌, ◌&&◌, Bool, true, false, List, [], ◌∷◌, ◌++◌, map, min, nat_le}
+use Rattle.std.proofs.Common.{Option, Some, None, append-nil, append_assoc, length, length-append}
 use Rattle.std.proofs.Common.{Result, Ok, Err, IfOk, arith, refl, sym, ◌∙◌, ap, subst}
+use Rattle.std.proofs.Math.Nat.{mul-suc}
+use Rattle.std.proofs.lemmas.Bool.{lt-leb}
 use Rattle.std.proofs.lemmas.List.Sums.{sum_by-cons, sum_by_push}
 use Rattle.std.specs.List.{AllByRecursion, sum_by}
 use Rattle.nfs_wire.specs.declared.attributes.Attributes.{Attributes}
 use Rattle.nfs_wire.specs.declared.replies.NfsReply.{NfsReply}
 use Rattle.nfs_wire.specs.declared.status.NfsStatus.{NfsStatus}
 use Rattle.nfs_wire.specs.declared.status.NfsStatus.TheVariants as status
-use Rattle.nfs_machine.proofs.Pages.{Shrinks, fits-shrinks, full-shrinks, page-first, page-stops}
+use Rattle.nfs_machine.proofs.Facts.{some-entry}
+use Rattle.nfs_machine.proofs.Pages.{Shrinks, fits-shrinks, full-shrinks, longest, page-first, page-stops}
 use Rattle.nfs_machine.specs.Attributes.{entries_of}
 use Rattle.nfs_machine.specs.Checks.{◌>>=◌, DirectoryEntries}
 use Rattle.nfs_machine.specs.PageSteps.{PageStep}
-use Rattle.nfs_machine.specs.Pages.{DirectoryPage, Pages, all_entries, behind, entry_size}
+use Rattle.nfs_machine.specs.Pages.{DirectoryPage, IsPage, Pages, all_entries, behind, entry_size, fits, fits_full}
+use Rattle.nfs_machine.specs.Pages.{full_entry_size}
 use Rattle.nfs_machine.specs.Resolve.{Named}
 use Rattle.nfs_machine.specs.State.{Entry, State}
 use Rattle.nfs_machine.specs.WellFormed.{WellFormed}
@@ -25,7 +30,7 @@ use Rattle.nfs_objects.specs.declared.address.Addr.TheVariants as addresses
 use Rattle.nfs_inodes.proofs.Standing.{kind-is}
 use Rattle.nfs_inodes.specs.Gathers.{EachLives}
 use Rattle.nfs_inodes.specs.Known.{IsKnown, Means, content_at, entries_found}
-use Rattle.nfs_inodes.specs.Listing.{listed_entry}
+use Rattle.nfs_inodes.specs.Listing.{IsFrontOf, listed_entry}
 use Rattle.nfs_inodes.specs.declared.content.listing.Listed.{Listed}
 use Rattle.nfs_inodes.specs.declared.found.Known.{Known}
 use Rattle.nfs_inodes.specs.declared.kinds.Directory.{Directory}
@@ -86,6 +91,104 @@ pub stops-here : (fit : List Entry → Bool) → Shrinks fit → (front : List E
 stops-here fit shrinks [] x rest here next = page-first fit shrinks x rest next
 stops-here fit shrinks (f ∷ front) x rest here next = page-stops fit shrinks f front x rest here next
 
+-- ---- so many entries never fit
+module _ (size : Entry → ℕ) where
+  least-of : (least : ℕ) → ((e : Entry) → least ≤ size e) → (es : List Entry) → least * length es ≤ sum_by size es
+  least-of least each [] = omega arith
+  least-of least each (e ∷ es) =
+      let one = each e in
+      let rest = least-of least each es in
+      let all = sum_by-cons size e es in
+      let more = mul-suc least (length es) in
+      omega (arith, one, rest, all, more)
+
+least-names : (es : List Entry) → 24 * length es ≤ sum_by entry_size es
+least-names es = least-of entry_size 24 (λ e. omega arith) es
+
+least-full : (es : List Entry) → 152 * length es ≤ sum_by full_entry_size es
+least-full es = least-of full_entry_size 152 (λ e. omega arith) es
+
+pub many-names : (count n : ℕ) (es : List Entry) → n ≡ min count 65536 / 24 + 1 → n ≤ length es →
+    fits count es ≡ false
+many-names count n es is many =
+    let sum = least-names es in
+    lt-leb (104 + sum_by entry_size es) (min count 65536) (omega (arith, sum, is, many))
+
+pub many-full : (directory_count most n : ℕ) (es : List Entry) → n ≡ min most 65536 / 152 + 1 → n ≤ length es →
+    fits_full directory_count most es ≡ false
+many-full directory_count most n es is many =
+    let sum = least-full es in
+    ap (λ b. b && nat_le (sum_by entry_size es) directory_count)
+    (lt-leb (104 + sum_by full_entry_size es) (min most 65536) (omega (arith, sum, is, many)))
+
+-- ---- the page of the first entries, which do not all fit, is that of all
+module _ (fit : List Entry → Bool) (shrinks : Shrinks fit) where
+  -- an entry that is left behind the longest page does not fit behind it
+  next-stops : (front done : List Entry) (y : Entry) (left : List Entry) → front ≡ done ++ y ∷ left →
+      ((other more : List Entry) → IsPage fit front other more → length other ≤ length done) →
+      fit (done ++ y ∷ []) ≡ false
+  next-stops front done y left is longest-one = by (fit (done ++ y ∷ [])) refl
+    where
+      some : (xs : List Entry) → xs ++ y ∷ [] ≡ [] → ⊥
+      some [] e = cc
+      some (x ∷ xs) e = cc
+
+      by : (b : Bool) → fit (done ++ y ∷ []) ≡ b → b ≡ false
+      by false other = refl
+      by true fits-more =
+          let longer = longest-one (done ++ y ∷ []) left
+          (is ∙ sym (append_assoc done (y ∷ []) left), fits-more, λ none. absurd (some done none)) in
+          let one = length-append done (y ∷ []) in
+          absurd (omega (arith, longer, one))
+
+  page-behind : (front rest done left : List Entry) (eof : Bool) → fit front ≡ false →
+      IsPage fit front done left →
+      ((other more : List Entry) → IsPage fit front other more → length other ≤ length done) →
+      eof ≡ (length left == 0) → Pages fit (front ++ rest) (Ok (record { entries = done; eof = eof }))
+  page-behind front rest done [] eof over is longest-one ends =
+      (let same : front ≡ done = is.0 ∙ append-nil done in
+      let no : true ≡ false = sym is.1 ∙ ap fit (sym same) ∙ over in cc)
+  page-behind front rest done (y ∷ left) eof over is longest-one ends = (
+    y ∷ left ++ rest,
+    (
+      ap (λ es. es ++ rest) is.0 ∙ append_assoc done (y ∷ left) rest,
+      is.1,
+      λ none. (let no : y ∷ left ≡ [] = is.2 none in cc),
+    ),
+    λ other more page. longest fit shrinks done (y ∷ left ++ rest) other more
+        (sym (ap (λ es. es ++ rest) is.0 ∙ append_assoc done (y ∷ left) rest) ∙ page.0)
+        (λ x xs same. (let head : y ≡ x = cc in
+        ap (λ z. fit (done ++ z ∷ [])) (sym head) ∙ next-stops front done y left is.0 longest-one)) page.1,
+    ends ∙ some-entry y left ∙ sym (some-entry y (left ++ rest)),
+  )
+
+  none-behind : (front rest : List Entry) (e : NfsStatus) → fit front ≡ false → Pages fit front (Err e) →
+      Pages fit (front ++ rest) (Err e)
+  none-behind [] rest e over none = (
+    λ other more is. (let yes = shrinks [] other is.1 in let no : true ≡ false = sym yes ∙ over in cc),
+    none.1,
+  )
+  none-behind (x ∷ front) rest e over none = (λ other more is. by other more is, none.1)
+    where
+      by : (other more : List Entry) → IsPage fit (x ∷ front ++ rest) other more → ⊥
+      by [] more is = (let gone = is.2 refl in let begins = is.0 in absurd cc)
+      by (o ∷ other) more is =
+          let head : x ≡ o = (let begins = is.0 in cc) in
+          let one : fit (x ∷ []) ≡ true = ap (λ z. fit (z ∷ [])) head ∙ shrinks (o ∷ []) other is.1 in
+          none.0 (x ∷ []) front (refl, one, λ none. cc)
+
+  pub page-of_front : (enough : ℕ) → ((es : List Entry) → enough ≤ length es → fit es ≡ false) →
+      (front : List Entry) (is_all : Bool) (entries : List Entry) → IsFrontOf front is_all enough entries →
+      (page : Result DirectoryPage NfsStatus) → Pages fit front page → Pages fit entries page
+  page-of_front enough never front true entries is page pages =
+      subst (λ es. Pages fit es page) (sym (is.whole ∙ ap (λ r. front ++ r) (is.all refl) ∙ append-nil front)) pages
+  page-of_front enough never front false entries is (Ok page) pages =
+      subst (λ es. Pages fit es (Ok page)) (sym is.whole)
+      (page-behind front is.rest page.entries pages.0 page.eof (never front (is.many refl)) pages.1 pages.2 pages.3)
+  page-of_front enough never front false entries is (Err e) pages =
+      subst (λ es. Pages fit es (Err e)) (sym is.whole)
+      (none-behind front is.rest e (never front (is.many refl)) pages)
+
 -- the page that is cut
 pub cut-listed : (entries : List Listed) → (entries ≡ [] → ⊥) →
     Ok (record { entries = map listed_entry entries; eof = false }) ≡ page_cut (map listed_entry entries)
@@ -122,13 +225,17 @@ module _ (d : DraftValue) (x : Known) (asked : PageAsked) (known : Knows d (λ k
       subst (λ left. IsPageOf asked.budget left (Err e)) (sym (left-is (Err e) comes s k w)) refl
 
   pub page-listed : (directory : Directory) → ComesTo (list_checked d.ctx asked) x (Ok directory) →
-      (left : List Entry) → Knows d (λ k. WellFormed k.state →
-      behind asked.cookie (all_entries x.number (k.parents x.number) (entries_of (content_at k.state x.number)))
-      ≡ left) → (page : Result DirectoryPage NfsStatus) → Pages (fit_of asked.budget) left page →
+      (left : List Entry) (is_all : Bool) (enough : ℕ) →
+      ((es : List Entry) → enough ≤ length es → fit_of asked.budget es ≡ false) →
+      Knows d (λ k. WellFormed k.state → IsFrontOf left is_all enough
+      (behind asked.cookie (all_entries x.number (k.parents x.number) (entries_of (content_at k.state x.number))))) →
+      (page : Result DirectoryPage NfsStatus) → Pages (fit_of asked.budget) left page →
       KnowsPage d x asked page
-  page-listed directory comes left is page pages s k w formed =
-      subst (λ l. IsPageOf asked.budget l page)
-      (sym (left-is (Ok directory) comes s k w ∙ ap (λ es. Ok es) (is s k w formed))) pages
+  page-listed directory comes left is_all enough never is page pages s k w formed =
+      subst (λ l. IsPageOf asked.budget l page) (sym (left-is (Ok directory) comes s k w))
+      (page-of_front (fit_of asked.budget) (budget-shrinks asked.budget) enough never left is_all
+      (behind asked.cookie (all_entries x.number (k.parents x.number) (entries_of (content_at k.state x.number))))
+      (is s k w formed) page pages)
 
   -- ---- the step
   module _ {A : Type 0} (show : State → DirectoryPage → A) (handle : List ℕ)

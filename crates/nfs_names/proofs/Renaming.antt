@@ -41,11 +41,11 @@ use Rattle.nfs_machine.specs.WellFormed.{WellFormed, is_root}
 use Rattle.nfs_machine.specs.declared.calls.Call.TheVariants as calls
 use Rattle.nfs_machine.specs.declared.calls.Reply.TheVariants as answers
 use Rattle.nfs_machine.specs.declared.context.Ctx.{Ctx}
-use Rattle.nfs_objects.proofs.Knows.{failed, passed}
+use Rattle.nfs_objects.proofs.Knows.{covers-among, failed, passed, stops-wider}
 use Rattle.nfs_objects.proofs.Promised.{answer-ending, promised-does, promised-unchanged, turns-both, turns-none}
 use Rattle.nfs_objects.specs.Asks.{IsThere}
 use Rattle.nfs_objects.specs.Attempt.{HaltsFirst}
-use Rattle.nfs_objects.specs.Calls.{addresses_of}
+use Rattle.nfs_objects.specs.Calls.{IsAmong, addresses_of}
 use Rattle.nfs_objects.specs.Begins.{Begins}
 use Rattle.nfs_objects.specs.Knows.{Does, Knows, Possible, Turns, ending}
 use Rattle.nfs_objects.specs.Promise.{Given, Held, IsPromised}
@@ -67,6 +67,7 @@ use Rattle.nfs_inodes.specs.Makes.{link_lost}
 use Rattle.nfs_inodes.specs.Renames.{name_given, name_left, rehomed}
 use Rattle.nfs_inodes.proofs.Composing.{counted-stops}
 use Rattle.nfs_inodes.proofs.Halting.{any-stops, lives-stops, stops-before}
+use Rattle.nfs_inodes.specs.Entered.{grown_at}
 use Rattle.nfs_inodes.specs.Stops.{StopsAt, UsageLives, counted_at}
 use Rattle.nfs_inodes.specs.declared.found.Known.{Known}
 use Rattle.nfs_inodes.specs.declared.kinds.Directory as kinds
@@ -726,18 +727,18 @@ turned-both a b c f g first second =
     turns-both a b c f (g (time_of a.ctx.moment)) first
     (subst (λ (x : Ctx). Turns b c (g (time_of x.moment))) first.ctx second)
 
+-- which is the last
 pub turned-after : (a b c : DraftValue) (f : Kept → Kept) (g : Time → Kept → Kept)
-    (r : Result (Unit {0}) Halt) →
-    Turns a b f → MatchResult r (λ _. Turns b c (g (time_of b.ctx.moment))) (StopsAt b []) →
-    MatchResult r (λ _. Turns a c (λ k. g (time_of a.ctx.moment) (f k))) (StopsAt a [])
-turned-after a b c f g (Ok x) first second = turned-both a b c f g first second
-turned-after a b c f g (Err halt) first stops = stops-later a b f halt first stops
+    (r : Result (Unit {0}) Halt) (Stops After : Halt → Type 0) → ((halt : Halt) → Stops halt → After halt) →
+    Turns a b f → MatchResult r (λ _. Turns b c (g (time_of b.ctx.moment))) Stops →
+    MatchResult r (λ _. Turns a c (λ k. g (time_of a.ctx.moment) (f k))) After
+turned-after a b c f g (Ok x) Stops After before first second = turned-both a b c f g first second
+turned-after a b c f g (Err halt) Stops After before first stops = before halt stops
 
-pub always : {A : Type 0} (d : DraftValue) (n : ℕ) (P : A → Type 0) (r : Result A Halt) →
-    IsThere d.view (addresses.Inode n) → MatchResult r P (StopsAt d (addresses_of d.view n)) →
-    MatchResult r P (StopsAt d [])
-always d n P (Ok x) lives is = is
-always d n P (Err halt) lives stops = lives-stops d n halt lives stops
+-- what may be asked for whatever is named may be asked for by who names some
+pub later-named : (old new : DraftValue) (op : Kept → Kept) (named : List Addr) (halt : Halt) → Turns old new op →
+    StopsAt new [] halt → StopsAt old named halt
+later-named old new op named halt turns stops = any-stops old named halt (stops-later old new op halt turns stops)
 
 pub always-counting : {A : Type 0} (d : DraftValue) (n : ℕ) (P : A → Type 0) (r : Result A Halt) →
     IsThere d.view (addresses.Inode n) → UsageLives d n → MatchResult r P (StopsAt d (counted_at d n)) →
@@ -777,28 +778,46 @@ module _ (d new : DraftValue) (a : RenameArguments) (r : Renaming) (cookie : ℕ
     moved now one k = given now (cond one (Some a.from.name) None)
         (cond one k (name_left now r.from.known.number a.from.name (links_left r) k))
 
-    abbrev Moves : Bool → Type 0
-    Moves one = MatchResult result (λ _. Turns d new (moved (time_of d.ctx.moment) one)) (StopsAt d [])
+    -- a name is given so, with so many links of its directory
+    abbrev Gives : DraftValue → (left : Option (List ℕ)) → (name : List ℕ) → (links : ℕ) → Type 0
+    Gives old left name links = MatchResult result
+        (λ _. Turns old new (name_given (time_of old.ctx.moment) r.to.known.number left
+        (record { name = name; number = r.moved.number; cookie = cookie }) links))
+        (StopsAt old (grown_at old r.to.known.number name cookie))
 
-    -- one directory changes once
-    pub moves-one : is_one_directory r ≡ true → IsThere d.view (addresses.Inode r.to.known.number) →
-        MatchResult result (λ _. Turns d new (given (time_of d.ctx.moment) (Some a.from.name)))
-        (StopsAt d (addresses_of d.view r.to.known.number)) →
-        MatchResult result (λ _. Turns d new (entry_moved (time_of d.ctx.moment) a r cookie)) (StopsAt d [])
-    moves-one one lives is = subst Moves (sym one) (always d r.to.known.number
-        (λ _. Turns d new (given (time_of d.ctx.moment) (Some a.from.name))) result lives is)
+    gives-as : (old : DraftValue) (left : Option (List ℕ)) (name : List ℕ) (links : ℕ) → name ≡ a.to.name →
+        links ≡ links_given r → Gives old left name links → Gives old left a.to.name (links_given r)
+    gives-as old left name links same count gives =
+        subst (λ n. Gives old left n (links_given r)) same (subst (λ l. Gives old left name l) count gives)
 
-    pub moves-two : (mid : DraftValue) → is_one_directory r ≡ false →
-        IsThere d.view (addresses.Inode r.to.known.number) →
-        Turns d mid (name_left (time_of d.ctx.moment) r.from.known.number a.from.name (links_left r)) →
-        MatchResult result (λ _. Turns mid new (given (time_of mid.ctx.moment) None))
-        (StopsAt mid (addresses_of mid.view r.to.known.number)) →
-        MatchResult result (λ _. Turns d new (entry_moved (time_of d.ctx.moment) a r cookie)) (StopsAt d [])
-    moves-two mid two lives left is =
-        let leaves : Kept → Kept = name_left (time_of d.ctx.moment) r.from.known.number a.from.name (links_left r) in
-        subst Moves (sym two) (turned-after d mid new leaves (λ now. given now None) result left
-        (always mid r.to.known.number (λ _. Turns mid new (given (time_of mid.ctx.moment) None)) result
-        (lives-on d mid leaves (addresses.Inode r.to.known.number) left lives) is))
+    module _ (named : List Addr) where
+      abbrev Moves : Bool → Type 0
+      Moves one = MatchResult result (λ _. Turns d new (moved (time_of d.ctx.moment) one)) (StopsAt d named)
+
+      abbrev Moved : Type 0
+      Moved = MatchResult result (λ _. Turns d new (entry_moved (time_of d.ctx.moment) a r cookie)) (StopsAt d named)
+
+      -- one directory changes once
+      pub moves-one : (old_name name : List ℕ) (links : ℕ) → old_name ≡ a.from.name → name ≡ a.to.name →
+          links ≡ links_given r → is_one_directory r ≡ true →
+          ((halt : Halt) → StopsAt d (grown_at d r.to.known.number a.to.name cookie) halt → StopsAt d named halt) →
+          Gives d (Some old_name) name links → Moved
+      moves-one old_name name links left same count one before is = subst Moves (sym one)
+          (turned-after d d new (λ k. k) (λ now. given now (Some a.from.name)) result
+          (StopsAt d (grown_at d r.to.known.number a.to.name cookie)) (StopsAt d named) before (turns-none d)
+          (subst (λ n. Gives d (Some n) a.to.name (links_given r)) left
+          (gives-as d (Some old_name) name links same count is)))
+
+      pub moves-two : (mid : DraftValue) (name : List ℕ) (links : ℕ) → name ≡ a.to.name → links ≡ links_given r →
+          is_one_directory r ≡ false →
+          ((halt : Halt) → StopsAt mid (grown_at mid r.to.known.number a.to.name cookie) halt → StopsAt d named halt) →
+          Turns d mid (name_left (time_of d.ctx.moment) r.from.known.number a.from.name (links_left r)) →
+          Gives mid None name links → Moved
+      moves-two mid name links same count two before left is =
+          let leaves : Kept → Kept = name_left (time_of d.ctx.moment) r.from.known.number a.from.name (links_left r) in
+          subst Moves (sym two) (turned-after d mid new leaves (λ now. given now None) result
+          (StopsAt mid (grown_at mid r.to.known.number a.to.name cookie)) (StopsAt d named) before left
+          (gives-as mid None name links same count is))
 
 -- ---- the reply
 after-named : (first second : Resolved) (x : Named) → object_of first ≡ Ok x → after_first first second ≡ second
@@ -910,7 +929,9 @@ first-known modes other view (Some a) x r first = absurd first
 
 -- ---- how it halts
 pub stops-named : {A : Type 0} (d new : DraftValue) (IsEnd : State → Result (A × State) NfsStatus → Type 0)
-    (named : List Addr) (r : Result (Result A NfsStatus) Halt)
-    → MatchResult r (Does d new IsEnd) (StopsAt d []) → MatchResult r (Does d new IsEnd) (StopsAt d named)
-stops-named d new IsEnd named (Ok x) does = does
-stops-named d new IsEnd named (Err halt) stops = any-stops d named halt stops
+    (few named : List Addr) (r : Result (Result A NfsStatus) Halt) →
+    ((a : Addr) → IsAmong few a → IsAmong named a)
+    → MatchResult r (Does d new IsEnd) (StopsAt d few) → MatchResult r (Does d new IsEnd) (StopsAt d named)
+stops-named d new IsEnd few named (Ok x) names does = does
+stops-named d new IsEnd few named (Err halt) names stops =
+    stops-wider d.modes few named 0 d.view halt (covers-among few named d.view names) stops

@@ -12,6 +12,7 @@ ghost use Rattle.nfs_objects.specs.Modes.{Suits, modes_of};
 ghost use Rattle.nfs_names.specs.Calls.{is_name_call};
 
 mod checking;
+pub mod climbing;
 mod create;
 mod link;
 mod lookup;

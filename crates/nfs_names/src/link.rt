@@ -4,10 +4,11 @@ ghost use Rattle.std.specs.Prelude.{◌≡◌, ◌∷◌, [], IfOk, MatchResult}
 ghost use Rattle.nfs_machine.specs.declared.calls.Call.TheVariants as calls;
 ghost use Rattle.nfs_objects.specs.Attempt.{EndsCall, EndsFirst};
 ghost use Rattle.nfs_objects.specs.Begins.{Begins};
+ghost use Rattle.nfs_objects.specs.Calls.{added_at};
 ghost use Rattle.nfs_objects.specs.Knows.{Does, Knows};
 ghost use Rattle.nfs_objects.specs.Modes.{changing};
 ghost use Rattle.nfs_inodes.specs.Kinds.{IsShown};
-ghost use Rattle.nfs_inodes.specs.Known.{Names};
+ghost use Rattle.nfs_inodes.specs.Known.{HasNumber, Names};
 ghost use Rattle.nfs_inodes.specs.Stops.{StopsAt};
 ghost use Rattle.nfs_names.specs.Links.{IsLinkEnd, LinkComesTo};
 
@@ -64,9 +65,10 @@ fn link(
     requires file { Knows draft.old (λ k. Names draft.old.ctx arguments.now.file k file.now) }
     requires directory { Knows draft.old (λ k. Names draft.old.ctx arguments.now.place.directory k known.now) }
     requires shown { IsShown draft.old known.now }
+    requires target { HasNumber arguments.now.place.directory known.now.number }
     ensures { MatchResult result
         (Does draft.old draft.new (IsLinkEnd draft.old.ctx arguments.now))
-        (StopsAt draft.old (Addr.Exports ∷ [])) }
+        (StopsAt draft.old (Addr.Exports ∷ added_at draft.old.view arguments.now.place)) }
 {
     let name = arguments.place.name.as_slice();
     let directory = match linkable(draft.ctx(), exports(draft)?, file, known, name) {

@@ -1,18 +1,18 @@
 //! How a call makes a new object under a name (RFC 1813, 3.3.8 to 3.3.11): CREATE, MKDIR, SYMLINK and MKNOD.
 
-ghost use Rattle.std.specs.Prelude.{◌≡◌, ◌∷◌, [], IfErr, IfOk, IsSome, MatchResult, None, Ok, option_map};
+ghost use Rattle.std.specs.Prelude.{◌≡◌, ◌∷◌, ◌++◌, [], IfErr, IfOk, IsSome, MatchResult, None, Ok, option_map};
 ghost use Rattle.nfs_machine.specs.Attributes.{entries_of};
 ghost use Rattle.nfs_machine.specs.Checks.{entry_of};
 ghost use Rattle.nfs_objects.specs.Asks.{IsThere};
 ghost use Rattle.nfs_objects.specs.Attempt.{HaltsFirst, first_wanted_with};
-ghost use Rattle.nfs_objects.specs.Calls.{addresses_of, usages_of};
+ghost use Rattle.nfs_objects.specs.Calls.{added_at, addresses_of, next_places, usages_of};
 ghost use Rattle.nfs_objects.specs.Knows.{Does, Knows, ShowsExport};
 ghost use Rattle.nfs_objects.specs.Modes.{changing};
 ghost use Rattle.nfs_objects.specs.Values.{known_at};
 ghost use Rattle.nfs_objects.specs.declared.address.Addr.TheVariants as addresses;
 ghost use Rattle.nfs_inodes.specs.Asked.{asked_as, wanted_as};
 ghost use Rattle.nfs_inodes.specs.Kinds.{IsShown};
-ghost use Rattle.nfs_inodes.specs.Known.{IsKnown, Names, content_at};
+ghost use Rattle.nfs_inodes.specs.Known.{HasNumber, IsKnown, Names, content_at};
 ghost use Rattle.nfs_inodes.specs.Stops.{IsOfExport, StopsAt, StopsMaking, brought_by};
 ghost use Rattle.nfs_names.specs.Checking.{ComesTo};
 ghost use Rattle.nfs_names.specs.Making.{IsMakeEnd, IsNewEnd, IsThereEnd, MakesReply, add_checked, made_at};
@@ -52,7 +52,7 @@ pub(crate) fn make(
     requires alone { draft.old.modes ≡ changing }
     ensures answers { MatchResult result
         (MakesReply draft.old draft.new place.now (asked_as asked.entry) (there_as there.entry draft.old.ctx))
-        (StopsMaking draft.old (brought_by draft.old.view place.now.directory)) }
+        (StopsMaking draft.old (brought_by draft.old.view place.now.directory ++ added_at draft.old.view place.now)) }
     ensures first { HaltsFirst draft.old.modes draft.old.view
         (first_wanted_with draft.old.view (place.now.directory ∷ [])) result }
 {
@@ -83,10 +83,11 @@ fn make_in(
     requires exported { ShowsExport draft.old known.now.export }
     requires shown { IsShown draft.old known.now }
     requires usage { IsOfExport place.now.directory known.now.export }
+    requires number { HasNumber place.now.directory known.now.number }
     ensures { MatchResult result
         (Does draft.old draft.new (IsMakeEnd draft.old.ctx place.now (asked_as asked.entry)
         (there_as there.entry draft.old.ctx)))
-        (StopsMaking draft.old (brought_by draft.old.view place.now.directory)) }
+        (StopsMaking draft.old (brought_by draft.old.view place.now.directory ++ added_at draft.old.view place.now)) }
 {
     let name = place.name.as_slice();
     let accepted = match addable(draft.ctx(), exports(draft)?, known, name, asked) {
@@ -162,7 +163,8 @@ fn make_new(
         (entry_of (entries_of (content_at k.state directory.now.known.number)) name.now) ≡ None) }
     ensures { MatchResult result
         (Does draft.old draft.new (IsNewEnd draft.old.ctx (wanted_as wanted.now) directory.now.known name.now))
-        (StopsMaking draft.old (usages_of directory.now.known.export 64)) }
+        (StopsMaking draft.old (usages_of directory.now.known.export 64
+        ++ next_places draft.old.view directory.now.known.number name.now)) }
 {
     if let Err(status) = judged(draft.ctx(), directory, wanted) {
         return Ok(Err(status));

@@ -1,6 +1,7 @@
 //! Pages of directories, for READDIR and READDIRPLUS (RFC 1813, 3.3.16 and 3.3.17).
 
-ghost use Rattle.std.specs.Prelude.{◌≡◌, ◌+◌, ◌<◌, ◌≤◌, ◌^◌, [], map, true, IfOk, MatchResult};
+ghost use Rattle.std.specs.Prelude.{◌≡◌, ◌+◌, ◌<◌, ◌≤◌, ◌^◌, [], List, false, length, map, true, IfOk, MatchResult};
+ghost use Rattle.nfs_machine.specs.State.{Entry};
 ghost use Rattle.nfs_machine.specs.Pages.{Pages, entry_size};
 ghost use Rattle.nfs_objects.specs.Knows.{Knows};
 ghost use Rattle.nfs_inodes.specs.Gathers.{EachLives};
@@ -26,6 +27,9 @@ const EMPTY_PAGE: u64 = 104;
 
 /// The bytes that READDIRPLUS adds to an entry: its attributes (88) and its handle (40).
 const ATTRIBUTES_AND_HANDLE: u64 = 128;
+
+/// The bytes of an entry's number (8), the length of its name (4), its cookie (8) and what it follows (4).
+const LEAST_ENTRY: usize = 24;
 
 /// How many bytes of a result its caller takes. A result is counted without its status.
 #[derive(Clone, Copy)]
@@ -77,8 +81,9 @@ pub(crate) fn page_in<'d>(
         Ok(directory) => directory,
         Err(status) => return Ok(Err(status)),
     };
-    let left = entries_left(draft, &directory, asked.cookie)?;
-    Ok(longest_page(draft.alloc(), left, asked.budget)?)
+    // Where others are left behind these, they do not all fit.
+    let left = entries_left(draft, &directory, asked.cookie, asked.budget.too_many())?;
+    Ok(longest_page(draft.alloc(), left.entries, asked.budget)?)
 }
 
 /// The checks of READDIR and READDIRPLUS: where they pass, the rest decides.
@@ -139,6 +144,19 @@ fn cut(entries: Vec<Listed<'_>>) -> Result<Front<'_>, NfsStatus>
 }
 
 impl Budget {
+    /// So many entries never fit.
+    fn too_many(&self) -> usize
+        ensures { (entries : List Entry) → result ≤ length entries → fit_of self.now entries ≡ false }
+    {
+        match *self {
+            Budget::Names(count) => count.min(TRANSFER_LIMIT) as usize / LEAST_ENTRY + 1,
+            Budget::Full(_, most) => {
+                most.min(TRANSFER_LIMIT) as usize / (LEAST_ENTRY + ATTRIBUTES_AND_HANDLE as usize)
+                    + 1
+            }
+        }
+    }
+
     /// Whether a result of these sizes fits.
     fn allows(&self, sizes: &Sizes) -> bool
         ensures { result ≡ sizes_fit self.now sizes.now }

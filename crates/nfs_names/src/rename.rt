@@ -11,11 +11,12 @@ ghost use Rattle.nfs_machine.specs.declared.calls.Call.TheVariants as calls;
 ghost use Rattle.nfs_objects.specs.Asks.{IsThere};
 ghost use Rattle.nfs_objects.specs.Attempt.{EndsCall, EndsFirst};
 ghost use Rattle.nfs_objects.specs.Begins.{Begins};
-ghost use Rattle.nfs_objects.specs.Calls.{named_by};
+ghost use Rattle.nfs_objects.specs.Calls.{added_at, named_by};
 ghost use Rattle.nfs_objects.specs.Drafts.{MayChange};
 ghost use Rattle.nfs_objects.specs.Knows.{Does, Knows, Turns};
 ghost use Rattle.nfs_objects.specs.Modes.{led_at};
 ghost use Rattle.nfs_objects.specs.declared.address.Addr.TheVariants as addresses;
+ghost use Rattle.nfs_inodes.specs.Entered.{IsNextCookie};
 ghost use Rattle.nfs_inodes.specs.Kinds.{IsShown};
 ghost use Rattle.nfs_inodes.specs.Known.{HasNumber, IsKnown, Names, content_at};
 ghost use Rattle.nfs_inodes.specs.Removes.{is_directory_type};
@@ -199,9 +200,10 @@ fn rename_found(
     requires alone { MayRename draft.old renaming.now }
     requires shown { BothShown draft.old renaming.now.from.known renaming.now.to.known }
     requires finds { Knows draft.old (λ k. IsRenaming k draft.old.ctx arguments.now renaming.now) }
+    requires target { HasNumber arguments.now.to.directory renaming.now.to.known.number }
     ensures { MatchResult result
         (Does draft.old draft.new (IsRenameEnd draft.old.ctx arguments.now))
-        (StopsAt draft.old []) }
+        (StopsAt draft.old (added_at draft.old.view arguments.now.to)) }
 {
     if is_one_object(renaming) {
         return Ok(Ok(()));
@@ -303,10 +305,12 @@ fn move_name(
     requires alone { MayRename draft.old renaming.now }
     requires shown { BothShown draft.old renaming.now.from.known renaming.now.to.known }
     requires finds { Knows draft.old (λ k. IsRenaming k draft.old.ctx arguments.now renaming.now) }
+    requires target { HasNumber arguments.now.to.directory renaming.now.to.known.number }
+    requires next { IsNextCookie draft.old renaming.now.to.known.number cookie }
     ensures { MatchResult result
         (λ _. Turns draft.old draft.new
         (renamed (time_of draft.old.ctx.moment) arguments.now renaming.now cookie))
-        (StopsAt draft.old []) }
+        (StopsAt draft.old (added_at draft.old.view arguments.now.to)) }
 {
     move_entry(draft, renaming, arguments, cookie)?;
     rehome(draft, renaming.moved.number, renaming.to.known.number)?;
@@ -320,14 +324,17 @@ fn move_entry(
     arguments: &RenameArguments,
     cookie: u64,
 ) -> Result<(), Halt>
+    requires none { draft.old.writes ≡ [] }
     requires alone { MayRename draft.old renaming.now }
     requires shown { BothShown draft.old renaming.now.from.known renaming.now.to.known }
     requires from { IsThere draft.old.view (addresses.Inode renaming.now.from.known.number) }
     requires to { IsThere draft.old.view (addresses.Inode renaming.now.to.known.number) }
+    requires target { HasNumber arguments.now.to.directory renaming.now.to.known.number }
+    requires next { IsNextCookie draft.old renaming.now.to.known.number cookie }
     ensures { MatchResult result
         (λ _. Turns draft.old draft.new
         (entry_moved (time_of draft.old.ctx.moment) arguments.now renaming.now cookie))
-        (StopsAt draft.old []) }
+        (StopsAt draft.old (added_at draft.old.view arguments.now.to)) }
 {
     let old_name = arguments.from.name.as_slice();
     let new_name = arguments.to.name.as_slice();

@@ -2,13 +2,14 @@
 use Rattle.std.proofs.Common.{◌≡◌, ℕ, zero, suc, ◌+◌, ◌*◌, ◌/◌, ◌<◌, ◌≤◌, true, false, Bool, cond}
 use Rattle.std.proofs.Common.{◌||◌, List, []}
 use Rattle.std.proofs.Common.{◌∷◌, ◌++◌, length, map, Option, Some, None, IsSome, is_some, inl, inr}
-use Rattle.std.proofs.Common.{length-append, refl, sym, ◌∙◌, ap, subst, arith}
+use Rattle.std.proofs.Common.{length-append, option_map, refl, sym, ◌∙◌, ap, subst, arith}
 use Rattle.std.proofs.lemmas.List.{append-nil, append_assoc, length-map, map-append}
 use Rattle.std.proofs.lemmas.List.Sums.{count_by-le-length, sum_by-append, sum_by-cons, sum_by_push}
 use Rattle.std.specs.List.{AllByRecursion, count_by}
 use Rattle.std.specs.Option.{is_none}
 use Rattle.nfs_wire.specs.declared.calls.NfsCall.{NfsCall}
 use Rattle.nfs_wire.specs.declared.calls.NfsCall.TheVariants as nfs
+use Rattle.nfs_wire.specs.declared.calls.Place.{Place}
 use Rattle.side_wire.specs.declared.nlm.NlmCall.{NlmCall}
 use Rattle.side_wire.specs.declared.nlm.NlmCall.TheVariants as nlm
 use Rattle.nfs_machine.specs.Handles.{handle_of}
@@ -18,22 +19,24 @@ use Rattle.nfs_machine.specs.declared.calls.Call.TheVariants as calls
 use Rattle.nfs_machine.specs.declared.context.Ctx.{Ctx}
 use Rattle.nfs_machine.specs.declared.handle.Handle.{Handle}
 use Rattle.nfs_machine.proofs.Modes.{all-joined}
-use Rattle.nfs_objects.proofs.Seen.{all-map, is_addr-refl}
+use Rattle.nfs_objects.proofs.Seen.{all-map, is_addr-refl, seen-before, some-shown}
 use Rattle.nfs_objects.specs.Asks.{EachOnce, MayAsk}
 use Rattle.nfs_objects.specs.Attempt.{Attempts}
 use Rattle.nfs_objects.specs.Bound.{AsksFew, Given, Gives, Grows, NamesFew, NamesStay, Read, Round, WasAsked}
 use Rattle.nfs_objects.specs.Bound.{asked_count}
 use Rattle.nfs_objects.specs.Bound.{empty_count, held, view_after, with_round}
-use Rattle.nfs_objects.specs.Calls.{IsAmong, addresses_of, made_by, named_by, new_numbers, nfs_handles, nlm_handles}
-use Rattle.nfs_objects.specs.Calls.{blocks_at, blocks_from, data_of, in_file, maps_at, objects_at, usages_of}
+use Rattle.nfs_objects.specs.Calls.{IsAmong, added_by, addresses_of, blocks_at, blocks_from, data_of, in_file, made_by}
+use Rattle.nfs_objects.specs.Calls.{maps_at, named_by, new_numbers, nfs_handles, nlm_handles, objects_at, places_for}
+use Rattle.nfs_objects.specs.Calls.{usages_of}
 use Rattle.nfs_objects.specs.Fits.{Fits, vacant}
 use Rattle.nfs_objects.specs.Modes.{modes_of}
 use Rattle.nfs_objects.specs.Sound.{Sound}
-use Rattle.nfs_objects.specs.Stands.{Kept, Represents}
+use Rattle.nfs_objects.specs.Stands.{Kept, Represents, header_of}
 use Rattle.nfs_objects.specs.Store.{Store}
-use Rattle.nfs_objects.specs.Values.{Seen, ViewValue, is_addr, seen_at}
+use Rattle.nfs_objects.specs.Values.{Seen, ViewValue, is_addr, seen_at, shown_at}
 use Rattle.nfs_objects.specs.declared.address.Addr.{Addr}
 use Rattle.nfs_objects.specs.declared.address.Addr.TheVariants as addresses
+use Rattle.nfs_objects.specs.declared.directory.Directory.{Directory}
 use Rattle.nfs_objects.specs.declared.change.Outcome.{Outcome}
 use Rattle.nfs_objects.specs.declared.change.Outcome.TheVariants.{Need, Fresh, Done}
 use Rattle.nfs_objects.specs.declared.modes.Mode.{Mode}
@@ -291,8 +294,91 @@ fits-before s v (Given numbers) have fits =
     (all-front (MayBeGiven s (v.entries ++ map vacant numbers)) v.reserved numbers fits.reserved)
 
 -- ---- what a call names stays
+-- what is shown is shown still with more entries
+shown-before : (es more : List Seen) (a : Addr) (o : Option Object) → shown_at es a ≡ Some o →
+    shown_at (es ++ more) a ≡ Some o
+shown-before es more a o shown =
+    let s = some-shown es a o shown in
+    ap (option_map (λ (e : Seen). e.object)) (seen-before es more a s.0 s.1) ∙ ap Some s.2
+
+-- where a name more goes in the directory that stands somewhere
+abbrev places_of : (number : ℕ) → List ℕ → Option (Option Object) → List Addr
+places_of n name o = elim (elim o as (λ (x : Option (Option Object)). Option Directory) [
+  | None ↦ None
+  | Some object ↦ header_of object
+]) [ None ↦ [] | Some h ↦ places_for h.entries n name (suc h.last_cookie) ]
+
+next-stay : (es more : List Seen) (n : ℕ) (name : List ℕ) (a : Addr) →
+    IsAmong (places_of n name (shown_at es (addresses.Inode n))) a →
+    IsAmong (places_of n name (shown_at (es ++ more) (addresses.Inode n))) a
+next-stay es more n name a = by (shown_at es (addresses.Inode n)) refl
+  where
+    by : (o : Option (Option Object)) → shown_at es (addresses.Inode n) ≡ o →
+        IsAmong (places_of n name (shown_at es (addresses.Inode n))) a →
+        IsAmong (places_of n name (shown_at (es ++ more) (addresses.Inode n))) a
+    by None is among = absurd (subst (λ x. IsAmong (places_of n name x) a) is among)
+    by (Some o) is among =
+        subst (λ x. IsAmong (places_of n name x) a) (sym (shown-before es more (addresses.Inode n) o is))
+        (subst (λ x. IsAmong (places_of n name x) a) is among)
+
+abbrev added_of : List Seen → Place → Option Handle → List Addr
+added_of es place h =
+    elim h [ None ↦ [] | Some x ↦ places_of x.fileid place.name (shown_at es (addresses.Inode x.fileid)) ]
+
+place-stay : (es more : List Seen) (place : Place) (a : Addr) → IsAmong (added_of es place (handle_of place.directory)) a →
+    IsAmong (added_of (es ++ more) place (handle_of place.directory)) a
+place-stay es more place a =
+    elim (handle_of place.directory) as (λ h. IsAmong (added_of es place h) a → IsAmong (added_of (es ++ more) place h) a)
+    [ None ↦ λ among. among | Some h ↦ next-stay es more h.fileid place.name a ]
+
+added-stay : (view : ViewValue) (more : List Seen) (numbers : List Reserved) (call : NfsCall) (a : Addr) →
+    IsAmong (added_by view call) a → IsAmong (added_by (record { entries = view.entries ++ more; reserved = numbers }) call) a
+added-stay view more numbers (nfs.Create x) a = place-stay view.entries more x.place a
+added-stay view more numbers (nfs.Mkdir x) a = place-stay view.entries more x.place a
+added-stay view more numbers (nfs.Symlink x) a = place-stay view.entries more x.place a
+added-stay view more numbers (nfs.Mknod x) a = place-stay view.entries more x.place a
+added-stay view more numbers (nfs.Rename x) a = place-stay view.entries more x.to a
+added-stay view more numbers (nfs.Link x) a = place-stay view.entries more x.place a
+added-stay view more numbers nfs.Null a = λ among. among
+added-stay view more numbers (nfs.Getattr x) a = λ among. among
+added-stay view more numbers (nfs.Setattr x) a = λ among. among
+added-stay view more numbers (nfs.Lookup x) a = λ among. among
+added-stay view more numbers (nfs.Access x) a = λ among. among
+added-stay view more numbers (nfs.Readlink x) a = λ among. among
+added-stay view more numbers (nfs.Read x) a = λ among. among
+added-stay view more numbers (nfs.Write x) a = λ among. among
+added-stay view more numbers (nfs.Remove x) a = λ among. among
+added-stay view more numbers (nfs.Rmdir x) a = λ among. among
+added-stay view more numbers (nfs.Readdir x) a = λ among. among
+added-stay view more numbers (nfs.Readdirplus x) a = λ among. among
+added-stay view more numbers (nfs.Fsstat x) a = λ among. among
+added-stay view more numbers (nfs.Fsinfo x) a = λ among. among
+added-stay view more numbers (nfs.Pathconf x) a = λ among. among
+added-stay view more numbers (nfs.Commit x) a = λ among. among
+
+-- what is among the last ones of a list is so where these have more
+among-more : (xs ys zs : List Addr) (a : Addr) → (IsAmong ys a → IsAmong zs a) → IsAmong (xs ++ ys) a →
+    IsAmong (xs ++ zs) a
+among-more [] ys zs a f among = f among
+among-more (x ∷ xs) ys zs a f (inl same) = inl same
+among-more (x ∷ xs) ys zs a f (inr rest) = inr (among-more xs ys zs a f rest)
+
+named-stay : (view : ViewValue) (more : List Seen) (numbers : List Reserved) (call : NfsCall) (a : Addr) →
+    IsAmong (named_by (calls.Nfs call) view) a →
+    IsAmong (named_by (calls.Nfs call) (record { entries = view.entries ++ more; reserved = numbers })) a
+named-stay view more numbers call a =
+    among-more (addresses.Exports ∷ objects_at view (nfs_handles call)) (data_of call ++ added_by view call)
+    (data_of call ++ added_by later call) a
+    (among-more (data_of call) (added_by view call) (added_by later call) a (added-stay view more numbers call a))
+  where
+    later : ViewValue
+    later = record { entries = view.entries ++ more; reserved = numbers }
+
 pub names-stay : NamesStay
-names-stay (calls.Nfs call) view round = record { named = λ a among. among; numbers = omega arith }
+names-stay (calls.Nfs call) view (Read entries) =
+    record { named = named-stay view entries view.reserved call; numbers = omega arith }
+names-stay (calls.Nfs call) view (Given numbers) =
+    record { named = named-stay view (map vacant numbers) (view.reserved ++ numbers) call; numbers = omega arith }
 names-stay (calls.Mount call) view round = record { named = λ a among. among; numbers = omega arith }
 names-stay (calls.Nlm call) view round = record { named = λ a among. among; numbers = omega arith }
 
@@ -467,6 +553,43 @@ data-few (nfs.Commit a) = omega arith
 data-few (nfs.Rename a) = omega arith
 data-few (nfs.Link a) = omega arith
 
+-- of a name that comes two at most
+added-of-few : (es : List Seen) (place : Place) (h : Option Handle) → length (added_of es place h) ≤ 2
+added-of-few es place None = omega arith
+added-of-few es place (Some h) = by (shown_at es (addresses.Inode h.fileid))
+  where
+    by : (o : Option (Option Object)) → length (places_of h.fileid place.name o) ≤ 2
+    by None = omega arith
+    by (Some object) =
+        elim (header_of object) as (λ (d : Option Directory). length (elim d as (λ (x : Option Directory). List Addr) [
+          | None ↦ []
+          | Some x ↦ places_for x.entries h.fileid place.name (suc x.last_cookie)
+        ]) ≤ 2) [ None ↦ omega arith | Some d ↦ omega arith ]
+
+added-few : (view : ViewValue) (call : NfsCall) → length (added_by view call) ≤ 2
+added-few view (nfs.Create a) = added-of-few view.entries a.place (handle_of a.place.directory)
+added-few view (nfs.Mkdir a) = added-of-few view.entries a.place (handle_of a.place.directory)
+added-few view (nfs.Symlink a) = added-of-few view.entries a.place (handle_of a.place.directory)
+added-few view (nfs.Mknod a) = added-of-few view.entries a.place (handle_of a.place.directory)
+added-few view (nfs.Rename a) = added-of-few view.entries a.to (handle_of a.to.directory)
+added-few view (nfs.Link a) = added-of-few view.entries a.place (handle_of a.place.directory)
+added-few view nfs.Null = omega arith
+added-few view (nfs.Getattr a) = omega arith
+added-few view (nfs.Setattr a) = omega arith
+added-few view (nfs.Lookup a) = omega arith
+added-few view (nfs.Access a) = omega arith
+added-few view (nfs.Readlink a) = omega arith
+added-few view (nfs.Read a) = omega arith
+added-few view (nfs.Write a) = omega arith
+added-few view (nfs.Remove a) = omega arith
+added-few view (nfs.Rmdir a) = omega arith
+added-few view (nfs.Readdir a) = omega arith
+added-few view (nfs.Readdirplus a) = omega arith
+added-few view (nfs.Fsstat a) = omega arith
+added-few view (nfs.Fsinfo a) = omega arith
+added-few view (nfs.Pathconf a) = omega arith
+added-few view (nfs.Commit a) = omega arith
+
 nfs-handles-few : (call : NfsCall) → length (nfs_handles call) ≤ 2
 nfs-handles-few nfs.Null = omega arith
 nfs-handles-few (nfs.Getattr a) = omega arith
@@ -545,7 +668,9 @@ names-few (calls.Nfs call) view =
       nfs-handles-few call,
       made-few call,
       data-few call,
-      length-append (objects_at view (nfs_handles call)) (data_of call),
+      added-few view call,
+      length-append (objects_at view (nfs_handles call)) (data_of call ++ added_by view call),
+      length-append (data_of call) (added_by view call),
     )
 names-few (calls.Mount call) view = omega arith
 names-few (calls.Nlm call) view = omega (arith, objects-few view (nlm_handles call), nlm-handles-few call)

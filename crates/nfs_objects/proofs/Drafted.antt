@@ -105,12 +105,16 @@ module _ (d : DraftValue) (is : IsDraft d.modes d.view d.writes) where
   given-with (addresses.Inode n) (Some (objects.Exports table)) may = tt
   given-with (addresses.Inode n) (Some (objects.Map bits)) may = tt
   given-with (addresses.Inode n) (Some (objects.Block bytes)) may = tt
+  given-with (addresses.Inode n) (Some (objects.Page page)) may = tt
+  given-with (addresses.Inode n) (Some (objects.Part part)) may = tt
   given-with (addresses.Inode n) (Some (objects.Mounts table)) may = tt
   given-with (addresses.Inode n) (Some (objects.Usage u)) may = tt
   given-with (addresses.Inode n) None may = tt
   given-with addresses.Exports o may = tt
   given-with (addresses.Map n page) o may = tt
   given-with (addresses.Block n i) o may = tt
+  given-with (addresses.Page n page) o may = tt
+  given-with (addresses.Part n bucket part) o may = tt
   given-with addresses.Mounts o may = tt
   given-with (addresses.Usage e g) o may = tt
 

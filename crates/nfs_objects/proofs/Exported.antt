@@ -5,7 +5,7 @@ use Rattle.std.specs.FinMap.{get}
 use Rattle.nfs_machine.specs.Exports.{LivingExport}
 use Rattle.nfs_machine.specs.State.{Living}
 use Rattle.nfs_objects.specs.Asks.{IsThere}
-use Rattle.nfs_objects.specs.Stands.{Kept, Represents, bytes_at, inode_in, inode_of, lives_in, living_in}
+use Rattle.nfs_objects.specs.Stands.{Beside, Kept, Represents, beside_at, inode_in, inode_of, lives_in, living_in}
 use Rattle.nfs_objects.specs.Stands.{living_of_inode}
 use Rattle.nfs_objects.specs.Store.{Store}
 use Rattle.nfs_objects.specs.Values.{ViewValue}
@@ -29,6 +29,8 @@ module _ (exports : List LivingExport) where
   inode-stands (Some (objects.Exports table)) i is = cc
   inode-stands (Some (objects.Map bits)) i is = cc
   inode-stands (Some (objects.Block bytes)) i is = cc
+  inode-stands (Some (objects.Page page)) i is = cc
+  inode-stands (Some (objects.Part part)) i is = cc
   inode-stands (Some (objects.Mounts table)) i is = cc
   inode-stands (Some (objects.Usage u)) i is = cc
   inode-stands (Some (objects.Inode j)) i is =
@@ -44,20 +46,20 @@ module _ (exports : List LivingExport) where
       ] refl is
 
   -- and what lives there
-  pub record LivesThere (bytes : List ℕ) (o : Option Object) (x : Living) : Type 0 where
+  pub record LivesThere (beside : Beside) (o : Option Object) (x : Living) : Type 0 where
     pub inode : Inode
     pub there : StandsThere o inode
-    pub is : living_of_inode bytes inode ≡ x
+    pub is : living_of_inode beside inode ≡ x
 
-  pub living-stands : (bytes : List ℕ) (o : Option Object) (x : Living) → living_in exports bytes o ≡ Some x →
-      LivesThere bytes o x
-  living-stands bytes o x is = by (inode_in exports o) refl is
+  pub living-stands : (beside : Beside) (o : Option Object) (x : Living) → living_in exports beside o ≡ Some x →
+      LivesThere beside o x
+  living-stands beside o x is = by (inode_in exports o) refl is
     where
-      by : (i : Option Inode) → inode_in exports o ≡ i → option_map (living_of_inode bytes) i ≡ Some x →
-          LivesThere bytes o x
+      by : (i : Option Inode) → inode_in exports o ≡ i → option_map (living_of_inode beside) i ≡ Some x →
+          LivesThere beside o x
       by None there lives = cc
       by (Some i) there lives =
-          let same : living_of_inode bytes i ≡ x = cc in
+          let same : living_of_inode beside i ≡ x = cc in
           record { inode = i; there = inode-stands o i there; is = same }
 
   -- where no inode is of an export that does not live
@@ -75,14 +77,14 @@ module _ (exports : List LivingExport) where
 pub exported-there : (s : Store) (k : Kept) (n : ℕ) (o : Living) → Represents s k →
     get k.state.objects n ≡ Some o → lives_in k.state.exports o.export ≡ true
 exported-there s k n o stands at =
-    let found = living-stands k.state.exports (bytes_at k.state n) (s.at (addresses.Inode n)) o (sym (stands.objects.objects n) ∙ at) in
+    let found = living-stands k.state.exports (beside_at k.state n) (s.at (addresses.Inode n)) o (sym (stands.objects.objects n) ∙ at) in
     subst (λ (x : Living). lives_in k.state.exports x.export ≡ true) found.is found.there.lives
 
 -- something stands where an object lives
 pub object-stands : (s : Store) (k : Kept) (n : ℕ) (o : Living) → Represents s k →
     get k.state.objects n ≡ Some o → IsSome (s.at (addresses.Inode n))
 object-stands s k n o stands at =
-    let found = living-stands k.state.exports (bytes_at k.state n) (s.at (addresses.Inode n)) o (sym (stands.objects.objects n) ∙ at) in
+    let found = living-stands k.state.exports (beside_at k.state n) (s.at (addresses.Inode n)) o (sym (stands.objects.objects n) ∙ at) in
     subst (λ (x : Option Object). IsSome x) (sym found.there.stands) refl
 
 -- each store has a table of exports

@@ -8,29 +8,35 @@ use Rattle.std.specs.FinMap.{FinMap, get}
 use Rattle.std.specs.Ordering.{nat_cmp}
 use Rattle.nfs_machine.specs.Attributes.{size_of}
 use Rattle.nfs_machine.specs.Exports.{LivingExport}
-use Rattle.nfs_machine.specs.State.{Living, Regular}
+use Rattle.nfs_machine.specs.State.{Directory, Entry, Living, Regular}
+use Rattle.nfs_machine.specs.State as machine
+use Rattle.nfs_objects.proofs.Entering.{directories-but}
 use Rattle.nfs_objects.specs.Bits.{has, no_bits}
 use Rattle.nfs_objects.specs.FileMaps.{FileMapValue, IsContent}
 use Rattle.nfs_objects.specs.Stands.{HasBlocks, IsMapped, IsStored, Kept, Represents, StandFiles, StandObjects, bytes_at, file_bytes}
 use Rattle.nfs_objects.specs.Stands.{content_of, inode_in, inode_there, lives_in, living_alone, living_of_inode, map_in, map_of, pages_of}
-use Rattle.nfs_objects.specs.Stands.{stored_in, with_file}
+use Rattle.nfs_objects.specs.Stands.{Beside, HoldsEntries, beside_at, directory_entries, entry_map_in, filled, stored_in}
 use Rattle.nfs_objects.specs.Store.{Store, put_at}
 use Rattle.nfs_objects.specs.Unfiled.{RepresentsBut, StandFilesBut}
 use Rattle.nfs_objects.specs.declared.address.Addr.TheVariants as addresses
+use Rattle.nfs_objects.specs.declared.entry_map.EntryMap.{EntryMap}
 use Rattle.nfs_objects.specs.declared.object.Content.{Content}
 use Rattle.nfs_objects.specs.declared.object.Content.TheVariants as contents
 use Rattle.nfs_objects.specs.declared.object.Inode.{Inode}
 use Rattle.nfs_objects.specs.declared.object.Object.{Object}
 use Rattle.nfs_objects.specs.declared.object.Object.TheVariants as objects
 
--- ---- what an inode is with other bytes
--- its own bytes are those that it is given, where it is a file, and else it has none
-pub living-own : (bytes : List ℕ) (i : Inode) →
-    living_of_inode (file_bytes (with_file bytes (content_of i.content))) i ≡ living_of_inode bytes i
-living-own bytes i = λ j. record (living_of_inode bytes i) { content = own i.content j }
+-- ---- what an inode is with other bytes or entries beside it
+-- what stands beside an object with this content
+abbrev pub beside_of : machine.Content → Beside
+beside_of content = record { bytes = file_bytes content; entries = directory_entries content }
+
+-- its own bytes or entries are those that it is given, where it is a file or a directory, and else it has none
+pub living-own : (beside : Beside) (i : Inode) →
+    living_of_inode (beside_of (filled beside (content_of i.content))) i ≡ living_of_inode beside i
+living-own beside i = λ j. record (living_of_inode beside i) { content = own i.content j }
   where
-    own : (c : Content) → with_file (file_bytes (with_file bytes (content_of c))) (content_of c) ≡
-        with_file bytes (content_of c)
+    own : (c : Content) → filled (beside_of (filled beside (content_of c))) (content_of c) ≡ filled beside (content_of c)
     own (contents.Regular map) = refl
     own (contents.Directory directory) = refl
     own (contents.Link text) = refl
@@ -39,11 +45,11 @@ living-own bytes i = λ j. record (living_of_inode bytes i) { content = own i.co
     own contents.Socket = refl
     own contents.Fifo = refl
 
--- by itself it has its own zeros
-pub alone-is : (i : Inode) → living_of_inode (file_bytes (content_of i.content)) i ≡ living_alone i
+-- by itself it has its own zeros, or no entry
+pub alone-is : (i : Inode) → living_of_inode (beside_of (content_of i.content)) i ≡ living_alone i
 alone-is i = λ j. record (living_alone i) { content = own i.content j }
   where
-    own : (c : Content) → with_file (file_bytes (content_of c)) (content_of c) ≡ content_of c
+    own : (c : Content) → filled (beside_of (content_of c)) (content_of c) ≡ content_of c
     own (contents.Regular map) = refl
     own (contents.Directory directory) = refl
     own (contents.Link text) = refl
@@ -52,52 +58,71 @@ alone-is i = λ j. record (living_alone i) { content = own i.content j }
     own contents.Socket = refl
     own contents.Fifo = refl
 
-pub bytes-own : (bytes : List ℕ) (c : Content) (map : FileMapValue) → map_in c ≡ Some map →
-    file_bytes (with_file bytes (content_of c)) ≡ bytes
-bytes-own bytes (contents.Regular own) map is = refl
-bytes-own bytes (contents.Directory directory) map is = cc
-bytes-own bytes (contents.Link text) map is = cc
-bytes-own bytes (contents.BlockDevice device) map is = cc
-bytes-own bytes (contents.CharacterDevice device) map is = cc
-bytes-own bytes contents.Socket map is = cc
-bytes-own bytes contents.Fifo map is = cc
+pub bytes-own : (beside : Beside) (c : Content) (map : FileMapValue) → map_in c ≡ Some map →
+    file_bytes (filled beside (content_of c)) ≡ beside.bytes
+bytes-own beside (contents.Regular own) map is = refl
+bytes-own beside (contents.Directory directory) map is = cc
+bytes-own beside (contents.Link text) map is = cc
+bytes-own beside (contents.BlockDevice device) map is = cc
+bytes-own beside (contents.CharacterDevice device) map is = cc
+bytes-own beside contents.Socket map is = cc
+bytes-own beside contents.Fifo map is = cc
 
--- and so has another inode with the same map, by what the first one is with these bytes
-pub living-as : (bytes : List ℕ) (i j : Inode) → map_in j.content ≡ map_in i.content →
-    living_of_inode (file_bytes (with_file bytes (content_of i.content))) j ≡ living_of_inode bytes j
-living-as bytes i j same = λ p. record (living_alone j) { content = as-own i.content j.content same p }
+pub entries-own : (beside : Beside) (c : Content) (m : EntryMap) → entry_map_in c ≡ Some m →
+    directory_entries (filled beside (content_of c)) ≡ beside.entries
+entries-own beside (contents.Regular map) m is = cc
+entries-own beside (contents.Directory directory) m is = refl
+entries-own beside (contents.Link text) m is = cc
+entries-own beside (contents.BlockDevice device) m is = cc
+entries-own beside (contents.CharacterDevice device) m is = cc
+entries-own beside contents.Socket m is = cc
+entries-own beside contents.Fifo m is = cc
+
+-- and so has another inode with the same maps, by what the first one is with these beside it
+pub living-as : (beside : Beside) (i j : Inode) → map_in j.content ≡ map_in i.content →
+    entry_map_in j.content ≡ entry_map_in i.content →
+    living_of_inode (beside_of (filled beside (content_of i.content))) j ≡ living_of_inode beside j
+living-as beside i j same listed = λ p. record (living_alone j) { content = as-own i.content j.content same listed p }
   where
-    as-own : (c e : Content) → map_in e ≡ map_in c →
-        with_file (file_bytes (with_file bytes (content_of c))) (content_of e) ≡ with_file bytes (content_of e)
-    as-own c (contents.Regular map) is = ap (λ b. Regular b) (bytes-own bytes c map (sym is))
-    as-own c (contents.Directory directory) is = refl
-    as-own c (contents.Link text) is = refl
-    as-own c (contents.BlockDevice device) is = refl
-    as-own c (contents.CharacterDevice device) is = refl
-    as-own c contents.Socket is = refl
-    as-own c contents.Fifo is = refl
+    as-own : (c e : Content) → map_in e ≡ map_in c → entry_map_in e ≡ entry_map_in c →
+        filled (beside_of (filled beside (content_of c))) (content_of e) ≡ filled beside (content_of e)
+    as-own c (contents.Regular map) is listed = ap (λ b. Regular b) (bytes-own beside c map (sym is))
+    as-own c (contents.Directory directory) is listed =
+        ap (λ es. Directory es directory.last_cookie) (entries-own beside c directory.entries (sym listed))
+    as-own c (contents.Link text) is listed = refl
+    as-own c (contents.BlockDevice device) is listed = refl
+    as-own c (contents.CharacterDevice device) is listed = refl
+    as-own c contents.Socket is listed = refl
+    as-own c contents.Fifo is listed = refl
 
 -- with bytes that are as many as it tells, an inode's content has the size that it tells
-pub size-with : (bytes : List ℕ) (c : Content) → ((map : FileMapValue) → map_in c ≡ Some map → length bytes ≡ map.size)
-    → size_of (with_file bytes (content_of c)) ≡ size_of (content_of c)
-size-with bytes (contents.Regular map) counted = counted map refl ∙ sym (length-replicate {A = ℕ} map.size 0)
-size-with bytes (contents.Directory directory) counted = refl
-size-with bytes (contents.Link text) counted = refl
-size-with bytes (contents.BlockDevice device) counted = refl
-size-with bytes (contents.CharacterDevice device) counted = refl
-size-with bytes contents.Socket counted = refl
-size-with bytes contents.Fifo counted = refl
+pub size-with : (beside : Beside) (c : Content) →
+    ((map : FileMapValue) → map_in c ≡ Some map → length beside.bytes ≡ map.size)
+    → size_of (filled beside (content_of c)) ≡ size_of (content_of c)
+size-with beside (contents.Regular map) counted = counted map refl ∙ sym (length-replicate {A = ℕ} map.size 0)
+size-with beside (contents.Directory directory) counted = refl
+size-with beside (contents.Link text) counted = refl
+size-with beside (contents.BlockDevice device) counted = refl
+size-with beside (contents.CharacterDevice device) counted = refl
+size-with beside contents.Socket counted = refl
+size-with beside contents.Fifo counted = refl
 
 -- so it is with the bytes of what stands there
 pub size-stands : (s : Store) (k : Kept) (n : ℕ) (i : Inode) → Represents s k → inode_there s k.state.exports n ≡ Some i
-    → size_of (with_file (bytes_at k.state n) (content_of i.content)) ≡ size_of (content_of i.content)
+    → size_of (filled (beside_at k.state n) (content_of i.content)) ≡ size_of (content_of i.content)
 size-stands s k n i stands there =
-    size-with (bytes_at k.state n) i.content (λ map is. (stands.files.bytes n i map there is).counted)
+    size-with (beside_at k.state n) i.content (λ map is. (stands.files.bytes n i map there is).counted)
 
 -- ---- files that stay
--- the bytes of what lives somewhere, if anything does
+-- the bytes of what lives somewhere, if anything does, and its entries
 abbrev pub living_bytes : Option Living → List ℕ
 living_bytes o = elim o [ None ↦ [] | Some o ↦ file_bytes o.content ]
+
+abbrev pub living_entries : Option Living → List Entry
+living_entries o = elim o [ None ↦ [] | Some o ↦ directory_entries o.content ]
+
+abbrev pub living_beside : Option Living → Beside
+living_beside o = record { bytes = living_bytes o; entries = living_entries o }
 
 -- what a store has of files, and what the state has
 abbrev files_in : Store → Kept → (ℕ → Option Object) × (ℕ → ℕ → Option Object) × (ℕ → ℕ → Option Object) ×
@@ -133,6 +158,7 @@ stands-but number s k stands = record {
   tables = stands.tables;
   objects = stands.objects;
   files = files-but number s k stands.files;
+  directories = directories-but number s k stands.directories;
   usages = stands.usages;
   locks = stands.locks;
 }
@@ -142,6 +168,10 @@ stands-but number s k stands = record {
 abbrev pub HasContent : Store → (n : ℕ) → (bytes : List ℕ) → Inode → Type 0
 HasContent s n bytes i = (map : FileMapValue) → map_in i.content ≡ Some map →
     IsContent map.size (λ b. stored_in (s.at (addresses.Block n b))) bytes
+
+-- the pages and parts at a number are those of these entries, where it is a directory's, and else there are none
+abbrev pub HasListing : Store → (n : ℕ) → List Entry → Inode → Type 0
+HasListing s n entries i = HoldsEntries s n (entry_map_in i.content) entries
 
 -- what was said of the file at a number holds of each number that is the same
 here-or-there : (P : ℕ → Type 0) (number : ℕ) → P number → ((n : ℕ) → (number == n) ≡ false → P n) → (n : ℕ) → P n

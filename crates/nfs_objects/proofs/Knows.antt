@@ -15,7 +15,8 @@ use Rattle.nfs_objects.proofs.Seen.{all-map, unknown-unseen}
 use Rattle.nfs_objects.specs.Asks.{Asks, WantsNumber, Lacks, IsThere, MayAsk}
 use Rattle.nfs_objects.specs.Attempt.{StopsCall}
 use Rattle.nfs_wire.specs.declared.calls.NfsCall.{NfsCall}
-use Rattle.nfs_objects.specs.Calls.{IsAmong, data_of, nfs_handles, addresses_of, handles_of, named_by, objects_at, usages_of}
+use Rattle.nfs_objects.specs.Calls.{IsAmong, added_by, addresses_of, data_of, handles_of, named_by, nfs_handles, objects_at}
+use Rattle.nfs_objects.specs.Calls.{usages_of}
 use Rattle.nfs_objects.specs.Knows.{Turns}
 use Rattle.nfs_objects.specs.Modes.{held_mode}
 use Rattle.nfs_objects.specs.Stands.{Kept}
@@ -214,13 +215,22 @@ names-exports (calls.Nlm call) view = inl refl
 pub names-objects : (call : Call) (view : ViewValue) (a : Addr) → IsAmong (objects_at view (handles_of call)) a →
     IsAmong (named_by call view) a
 names-objects (calls.Nfs call) view a among =
-    inr (among-front (objects_at view (nfs_handles call)) (data_of call) a among)
+    inr (among-front (objects_at view (nfs_handles call)) (data_of call ++ added_by view call) a among)
 names-objects (calls.Mount call) view a among = absurd among
 names-objects (calls.Nlm call) view a among = inr among
 
 pub names-data : (call : NfsCall) (view : ViewValue) (a : Addr) → IsAmong (data_of call) a →
     IsAmong (named_by (calls.Nfs call) view) a
-names-data call view a among = inr (among-behind (objects_at view (nfs_handles call)) (data_of call) a among)
+names-data call view a among =
+    inr (among-behind (objects_at view (nfs_handles call)) (data_of call ++ added_by view call) a
+    (among-front (data_of call) (added_by view call) a among))
+
+-- and where a name goes that it may add
+pub names-added : (call : NfsCall) (view : ViewValue) (a : Addr) → IsAmong (added_by view call) a →
+    IsAmong (named_by (calls.Nfs call) view) a
+names-added call view a among =
+    inr (among-behind (objects_at view (nfs_handles call)) (data_of call ++ added_by view call) a
+    (among-behind (data_of call) (added_by view call) a among))
 
 -- ---- chains of checks: a check that passed, and one that failed
 module _ {A B E : Type 0} where

@@ -6,71 +6,64 @@ use Rattle.std.proofs.lemmas.Bool.{le-ltb, leb-false, lt-ltb}
 use Rattle.std.specs.List.{AllWithin}
 use Rattle.std.specs.List.Sorted.{IsNonDecreasingBy}
 use Rattle.nfs_machine.specs.Pages.{behind}
+use Rattle.nfs_machine.specs.State.{Entry}
 use Rattle.nfs_machine.specs.WellFormed.{CookiesRise}
-use Rattle.nfs_objects.specs.Entries.{entries_of_pairs, entry}
-use Rattle.nfs_objects.specs.declared.directory.Leaf.{Leaf}
 
--- a name with what it leads to
-abbrev pub Pair : Type 0
-Pair = List ℕ × Leaf
-
-abbrev pub cookie_of : Pair → ℕ
-cookie_of p = p.1.cookie
+abbrev pub cookie_of : Entry → ℕ
+cookie_of e = e.cookie
 
 -- ---- cookies that rise do not fall
-above : (pairs : List Pair) (below last j : ℕ) (d : Pair) → CookiesRise below (entries_of_pairs pairs) last →
-    j < length pairs → below < cookie_of (get_or pairs j d)
+above : (entries : List Entry) (below last j : ℕ) (d : Entry) → CookiesRise below entries last →
+    j < length entries → below < cookie_of (get_or entries j d)
 above [] below last j d rise within = absurd (omega arith)
-above (p ∷ pairs) below last zero d rise within = rise.0
-above (p ∷ pairs) below last (suc j) d rise within =
+above (e ∷ entries) below last zero d rise within = rise.0
+above (e ∷ entries) below last (suc j) d rise within =
     let first = rise.0 in
-    let rest = above pairs (cookie_of p) last j d rise.1 (omega (arith, within)) in
+    let rest = above entries (cookie_of e) last j d rise.1 (omega (arith, within)) in
     omega (arith, first, rest)
 
-pub rise-up : (pairs : List Pair) (below last : ℕ) → CookiesRise below (entries_of_pairs pairs) last →
-    IsNonDecreasingBy cookie_of pairs
+pub rise-up : (entries : List Entry) (below last : ℕ) → CookiesRise below entries last →
+    IsNonDecreasingBy cookie_of entries
 rise-up [] below last rise i j d le within = absurd (omega arith)
-rise-up (p ∷ pairs) below last rise zero zero d le within = omega arith
-rise-up (p ∷ pairs) below last rise zero (suc j) d le within =
-    let rest = above pairs (cookie_of p) last j d rise.1 (omega (arith, within)) in
+rise-up (e ∷ entries) below last rise zero zero d le within = omega arith
+rise-up (e ∷ entries) below last rise zero (suc j) d le within =
+    let rest = above entries (cookie_of e) last j d rise.1 (omega (arith, within)) in
     omega (arith, rest)
-rise-up (p ∷ pairs) below last rise (suc i) zero d le within = absurd (omega (arith, le))
-rise-up (p ∷ pairs) below last rise (suc i) (suc j) d le within =
-    rise-up pairs (cookie_of p) last rise.1 i j d (omega (arith, le)) (omega (arith, within))
+rise-up (e ∷ entries) below last rise (suc i) zero d le within = absurd (omega (arith, le))
+rise-up (e ∷ entries) below last rise (suc i) (suc j) d le within =
+    rise-up entries (cookie_of e) last rise.1 i j d (omega (arith, le)) (omega (arith, within))
 
 -- ---- what stands behind the place
 module _ (cookie : ℕ) where
-  abbrev NotBehind : Pair → Type 0
-  NotBehind p = leb (cookie_of p) cookie ≡ true
+  abbrev NotBehind : Entry → Type 0
+  NotBehind e = leb (cookie_of e) cookie ≡ true
 
-  abbrev Behind : Pair → Type 0
-  Behind p = leb (cookie_of p) cookie ≡ false
+  abbrev Behind : Entry → Type 0
+  Behind e = leb (cookie_of e) cookie ≡ false
 
-  next : (P : Pair → Type 0) (p : Pair) (pairs : List Pair) (low first high : ℕ) →
-      ((k : ℕ) → low ≤ k → first ≤ suc k) → AllWithin P (p ∷ pairs) first (suc high) →
-      AllWithin P pairs low high
-  next P p pairs low first high lower all k d from below = all (suc k) d (lower k from) (omega (arith, below))
+  next : (P : Entry → Type 0) (e : Entry) (entries : List Entry) (low first high : ℕ) →
+      ((k : ℕ) → low ≤ k → first ≤ suc k) → AllWithin P (e ∷ entries) first (suc high) →
+      AllWithin P entries low high
+  next P e entries low first high lower all k d from below = all (suc k) d (lower k from) (omega (arith, below))
 
   -- the first entry is left, or it is not
-  left : (p : Pair) (pairs : List Pair) (b : Bool) → ltb cookie (cookie_of p) ≡ b →
-      behind cookie (entries_of_pairs (p ∷ pairs)) ≡ cond b
-      (entry p.0 p.1 ∷ behind cookie (entries_of_pairs pairs)) (behind cookie (entries_of_pairs pairs))
-  left p pairs b is = ap (λ t. cond t (entry p.0 p.1 ∷ behind cookie (entries_of_pairs pairs))
-      (behind cookie (entries_of_pairs pairs))) is
+  left : (e : Entry) (entries : List Entry) (b : Bool) → ltb cookie (cookie_of e) ≡ b →
+      behind cookie (e ∷ entries) ≡ cond b (e ∷ behind cookie entries) (behind cookie entries)
+  left e entries b is = ap (λ t. cond t (e ∷ behind cookie entries) (behind cookie entries)) is
 
-  pub drop-behind : (pairs : List Pair) (i : ℕ) → i ≤ length pairs → AllWithin NotBehind pairs 0 i →
-      AllWithin Behind pairs i (length pairs) →
-      drop i (entries_of_pairs pairs) ≡ behind cookie (entries_of_pairs pairs)
+  pub drop-behind : (entries : List Entry) (i : ℕ) → i ≤ length entries → AllWithin NotBehind entries 0 i →
+      AllWithin Behind entries i (length entries) →
+      drop i entries ≡ behind cookie entries
   drop-behind [] zero within before after = refl
   drop-behind [] (suc i) within before after = refl
-  drop-behind (p ∷ pairs) zero within before after =
-      let over = leb-false (cookie_of p) cookie (after 0 p (omega arith) (omega arith)) in
-      ap (λ es. entry p.0 p.1 ∷ es)
-      (drop-behind pairs zero (omega arith) (λ k d low high. absurd (omega (arith, high)))
-      (next Behind p pairs 0 0 (length pairs) (λ k from. omega arith) after))
-      ∙ sym (left p pairs true (lt-ltb cookie (cookie_of p) over))
-  drop-behind (p ∷ pairs) (suc i) within before after =
-      let under = leb-true (cookie_of p) cookie (before 0 p (omega arith) (omega arith)) in
-      drop-behind pairs i (omega (arith, within)) (next NotBehind p pairs 0 0 i (λ k from. omega arith) before)
-      (next Behind p pairs i (suc i) (length pairs) (λ k from. omega (arith, from)) after)
-      ∙ sym (left p pairs false (le-ltb cookie (cookie_of p) under))
+  drop-behind (e ∷ entries) zero within before after =
+      let over = leb-false (cookie_of e) cookie (after 0 e (omega arith) (omega arith)) in
+      ap (λ es. e ∷ es)
+      (drop-behind entries zero (omega arith) (λ k d low high. absurd (omega (arith, high)))
+      (next Behind e entries 0 0 (length entries) (λ k from. omega arith) after))
+      ∙ sym (left e entries true (lt-ltb cookie (cookie_of e) over))
+  drop-behind (e ∷ entries) (suc i) within before after =
+      let under = leb-true (cookie_of e) cookie (before 0 e (omega arith) (omega arith)) in
+      drop-behind entries i (omega (arith, within)) (next NotBehind e entries 0 0 i (λ k from. omega arith) before)
+      (next Behind e entries i (suc i) (length entries) (λ k from. omega (arith, from)) after)
+      ∙ sym (left e entries false (le-ltb cookie (cookie_of e) under))

@@ -7,7 +7,7 @@ use Rattle.std.proofs.lemmas.Bool.Decides.{nat_tests}
 use Rattle.std.specs.Cmp.{unsigned_Decides}
 use Rattle.std.specs.List.{AllByRecursion}
 use Rattle.nfs_objects.specs.declared.address.Addr.{Addr}
-use Rattle.nfs_objects.specs.declared.address.Addr.TheVariants.{Exports, Inode, Map, Block, Mounts, Usage}
+use Rattle.nfs_objects.specs.declared.address.Addr.TheVariants.{Exports, Inode, Map, Block, Page, Part, Mounts, Usage}
 use Rattle.nfs_objects.specs.declared.object.Inode as stored
 use Rattle.nfs_objects.specs.declared.object.Object.{Object}
 use Rattle.nfs_objects.specs.declared.object.Object.TheVariants as objects
@@ -23,12 +23,16 @@ is_addr-same Exports Exports e = refl
 is_addr-same Exports (Inode m) e = cc
 is_addr-same Exports (Map m q) e = cc
 is_addr-same Exports (Block m j) e = cc
+is_addr-same Exports (Page m q) e = cc
+is_addr-same Exports (Part m c q) e = cc
 is_addr-same Exports Mounts e = cc
 is_addr-same Exports (Usage f h) e = cc
 is_addr-same (Inode n) Exports e = cc
 is_addr-same (Inode n) (Inode m) e = ap (λ k. Inode k) (let same : n ≡ m = grind (arith, nat_tests) in same)
 is_addr-same (Inode n) (Map m q) e = cc
 is_addr-same (Inode n) (Block m j) e = cc
+is_addr-same (Inode n) (Page m q) e = cc
+is_addr-same (Inode n) (Part m c q) e = cc
 is_addr-same (Inode n) Mounts e = cc
 is_addr-same (Inode n) (Usage f h) e = cc
 is_addr-same (Map n p) Exports e = cc
@@ -37,6 +41,8 @@ is_addr-same (Map n p) (Map m q) e =
     let both = and_parts (n == m) (p == q) e in
     ap (λ k. Map k p) ((unsigned_Decides n m).0 both.0) ∙ ap (Map m) ((unsigned_Decides p q).0 both.1)
 is_addr-same (Map n p) (Block m j) e = cc
+is_addr-same (Map n p) (Page m q) e = cc
+is_addr-same (Map n p) (Part m c q) e = cc
 is_addr-same (Map n p) Mounts e = cc
 is_addr-same (Map n p) (Usage f h) e = cc
 is_addr-same (Block n i) Exports e = cc
@@ -45,18 +51,46 @@ is_addr-same (Block n i) (Map m q) e = cc
 is_addr-same (Block n i) (Block m j) e =
     let both = and_parts (n == m) (i == j) e in
     ap (λ k. Block k i) ((unsigned_Decides n m).0 both.0) ∙ ap (Block m) ((unsigned_Decides i j).0 both.1)
+is_addr-same (Block n i) (Page m q) e = cc
+is_addr-same (Block n i) (Part m c q) e = cc
 is_addr-same (Block n i) Mounts e = cc
 is_addr-same (Block n i) (Usage f h) e = cc
+is_addr-same (Page n p) Exports e = cc
+is_addr-same (Page n p) (Inode m) e = cc
+is_addr-same (Page n p) (Map m q) e = cc
+is_addr-same (Page n p) (Block m j) e = cc
+is_addr-same (Page n p) (Page m q) e =
+    let both = and_parts (n == m) (p == q) e in
+    ap (λ k. Page k p) ((unsigned_Decides n m).0 both.0) ∙ ap (Page m) ((unsigned_Decides p q).0 both.1)
+is_addr-same (Page n p) (Part m c q) e = cc
+is_addr-same (Page n p) Mounts e = cc
+is_addr-same (Page n p) (Usage f h) e = cc
+is_addr-same (Part n b p) Exports e = cc
+is_addr-same (Part n b p) (Inode m) e = cc
+is_addr-same (Part n b p) (Map m q) e = cc
+is_addr-same (Part n b p) (Block m j) e = cc
+is_addr-same (Part n b p) (Page m q) e = cc
+is_addr-same (Part n b p) (Part m c q) e =
+    let both = and_parts (n == m) ((b == c) && (p == q)) e in
+    let inner = and_parts (b == c) (p == q) both.1 in
+    ap (λ k. Part k b p) ((unsigned_Decides n m).0 both.0) ∙ ap (λ k. Part m k p) ((unsigned_Decides b c).0 inner.0)
+    ∙ ap (Part m c) ((unsigned_Decides p q).0 inner.1)
+is_addr-same (Part n b p) Mounts e = cc
+is_addr-same (Part n b p) (Usage f h) e = cc
 is_addr-same Mounts Exports e = cc
 is_addr-same Mounts (Inode m) e = cc
 is_addr-same Mounts (Map m q) e = cc
 is_addr-same Mounts (Block m j) e = cc
+is_addr-same Mounts (Page m q) e = cc
+is_addr-same Mounts (Part m c q) e = cc
 is_addr-same Mounts Mounts e = refl
 is_addr-same Mounts (Usage f h) e = cc
 is_addr-same (Usage e g) Exports is = cc
 is_addr-same (Usage e g) (Inode m) is = cc
 is_addr-same (Usage e g) (Map m q) is = cc
 is_addr-same (Usage e g) (Block m j) is = cc
+is_addr-same (Usage e g) (Page m q) is = cc
+is_addr-same (Usage e g) (Part m c q) is = cc
 is_addr-same (Usage e g) Mounts is = cc
 is_addr-same (Usage e g) (Usage f h) is =
     let both = and_parts (e == f) (g == h) is in
@@ -67,6 +101,9 @@ is_addr-refl Exports = refl
 is_addr-refl (Inode n) = (unsigned_Decides n n).1 refl
 is_addr-refl (Map n p) = ap (λ b. b && (p == p)) ((unsigned_Decides n n).1 refl) ∙ (unsigned_Decides p p).1 refl
 is_addr-refl (Block n i) = ap (λ b. b && (i == i)) ((unsigned_Decides n n).1 refl) ∙ (unsigned_Decides i i).1 refl
+is_addr-refl (Page n p) = ap (λ b. b && (p == p)) ((unsigned_Decides n n).1 refl) ∙ (unsigned_Decides p p).1 refl
+is_addr-refl (Part n b p) = ap (λ t. t && ((b == b) && (p == p))) ((unsigned_Decides n n).1 refl)
+    ∙ ap (λ t. t && (p == p)) ((unsigned_Decides b b).1 refl) ∙ (unsigned_Decides p p).1 refl
 is_addr-refl Mounts = refl
 is_addr-refl (Usage e g) = ap (λ b. b && (g == g)) ((unsigned_Decides e e).1 refl) ∙ (unsigned_Decides g g).1 refl
 
@@ -237,5 +274,7 @@ is_inode (Some (objects.Exports table)) o e = cc
 is_inode (Some (objects.Inode j)) o e = let same : o ≡ j = cc in ap (λ x. Some (objects.Inode x)) (sym same)
 is_inode (Some (objects.Map bits)) o e = cc
 is_inode (Some (objects.Block bytes)) o e = cc
+is_inode (Some (objects.Page page)) o e = cc
+is_inode (Some (objects.Part part)) o e = cc
 is_inode (Some (objects.Mounts table)) o e = cc
 is_inode (Some (objects.Usage u)) o e = cc

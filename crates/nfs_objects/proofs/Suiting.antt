@@ -1,6 +1,6 @@
 -- What a call holds it wants in no stronger mode later: what it only reads once its view shows what it changes, it only
 -- reads from then on.
-use Rattle.std.specs.Prelude.{◌≡◌, ◌++◌, ◌==◌, ◌||◌, ◌&&◌, not, ℕ, Bool, true, false, List, []}
+use Rattle.std.specs.Prelude.{◌≡◌, ◌++◌, ◌==◌, ◌&&◌, not, ℕ, Bool, true, false, List, []}
 use Rattle.std.specs.Prelude.{◌∷◌, Option, Some, None}
 use Rattle.std.specs.Prelude.{IfSome, IsSome, map, option_map, refl}
 use Rattle.std.specs.List.{AllByRecursion}
@@ -22,8 +22,8 @@ use Rattle.nfs_objects.specs.Drafts.{MayChange}
 use Rattle.nfs_objects.specs.Fits.{vacant}
 use Rattle.nfs_objects.specs.ModeLaws.{GrowsSuitably, IsShared, LiesAt, RenamesHoldTheirs, RenamesShareOthers}
 use Rattle.nfs_objects.specs.ModeLaws.{ShowsPlace, StartsSuitably}
-use Rattle.nfs_objects.specs.Modes.{Suits, changing, covers, is_apart, is_number, led_at, led_in, held_mode, modes_of}
-use Rattle.nfs_objects.specs.Modes.{only_reads}
+use Rattle.nfs_objects.specs.Modes.{Suits, changing, covers, held_mode, is_apart, is_elsewhere, is_number, led_at}
+use Rattle.nfs_objects.specs.Modes.{modes_of, number_at, number_in, only_reads, part_address}
 use Rattle.nfs_objects.specs.Values.{DraftValue, ModesValue, Seen, ViewValue, seen_at, shown_at}
 use Rattle.nfs_objects.specs.declared.address.Addr.{Addr}
 use Rattle.nfs_objects.specs.declared.address.Addr.TheVariants as addresses
@@ -49,20 +49,29 @@ covers-shared Exclusive = refl
 
 -- ---- a place
 -- what is_apart says of what stands at the directory's number
-abbrev beside_of : Place → (number fileid : ℕ) → Option (Option Object) → Bool
-beside_of place n fileid o = elim o [
+abbrev beside_of : ViewValue → Place → (number fileid : ℕ) → Option (Option Object) → Bool
+beside_of view place n fileid o = elim o [
   | None ↦ false
-  | Some object ↦ not (fileid == n || is_number (led_in object place.name) n)
+  | Some object ↦ not (fileid == n) && is_elsewhere view (part_address fileid object place.name) place.name n
 ]
 
 abbrev at-handle : ViewValue → Place → ℕ → Option Handle → Bool
 at-handle view place n o = elim o [
   | None ↦ false
-  | Some h ↦ beside_of place n h.fileid (shown_at view.entries (addresses.Inode h.fileid))
+  | Some h ↦ beside_of view place n h.fileid (shown_at view.entries (addresses.Inode h.fileid))
 ]
 
-abbrev led_of : Option (Option Object) → List ℕ → Option ℕ
-led_of o name = elim o [ None ↦ None | Some object ↦ led_in object name ]
+abbrev led_of : ViewValue → (fileid : ℕ) → Option (Option Object) → List ℕ → Option ℕ
+led_of view fileid o name = elim o [
+  | None ↦ None
+  | Some object ↦ number_at view (part_address fileid object name) name
+]
+
+abbrev number_of : Option (Option Object) → List ℕ → Option ℕ
+number_of o name = elim o [ None ↦ None | Some object ↦ number_in object name ]
+
+abbrev elsewhere_of : Option (Option Object) → List ℕ → ℕ → Bool
+elsewhere_of o name n = elim o [ None ↦ false | Some object ↦ not (is_number (number_in object name) n) ]
 
 -- ---- a view with more entries
 module _ (view : ViewValue) (more : List Seen) (reserved : List Reserved) where
@@ -75,6 +84,19 @@ module _ (view : ViewValue) (more : List Seen) (reserved : List Reserved) where
       let s = some-shown view.entries a o shown in
       ap (option_map (λ (e : Seen). e.object)) (seen-before view.entries more a s.0 s.1) ∙ ap Some s.2
 
+  elsewhere-wider : (part : Option Addr) (name : List ℕ) (n : ℕ) → is_elsewhere view part name n ≡ true →
+      is_elsewhere wider part name n ≡ true
+  elsewhere-wider None name n e = refl
+  elsewhere-wider (Some a) name n e = by (shown_at view.entries a) refl
+    where
+      by : (o : Option (Option Object)) → shown_at view.entries a ≡ o →
+          elsewhere_of (shown_at wider.entries a) name n ≡ true
+      by None is =
+          let no : elsewhere_of None name n ≡ true = subst (λ x. elsewhere_of x name n ≡ true) is e in cc
+      by (Some object) is =
+          subst (λ x. elsewhere_of x name n ≡ true) (sym (shown-wider a object is))
+          (subst (λ x. elsewhere_of x name n ≡ true) is e)
+
   -- what lies apart from a place does so still
   apart-wider : (place : Place) (n : ℕ) → is_apart view place n ≡ true → is_apart wider place n ≡ true
   apart-wider place n =
@@ -84,16 +106,25 @@ module _ (view : ViewValue) (more : List Seen) (reserved : List Reserved) where
         | Some h ↦ λ e. shown h (shown_at view.entries (addresses.Inode h.fileid)) refl e
       ]
     where
+      both : (h : Handle) (object : Option Object) → beside_of view place n h.fileid (Some object) ≡ true →
+          beside_of wider place n h.fileid (Some object) ≡ true
+      both h object e =
+          let part : Option Addr = part_address h.fileid object place.name in
+          let parts = and_parts (not (h.fileid == n)) (is_elsewhere view part place.name n) e in
+          ap (λ b. b && is_elsewhere wider part place.name n) parts.0
+          ∙ elsewhere-wider part place.name n parts.1
+
       shown : (h : Handle) (o : Option (Option Object)) → shown_at view.entries (addresses.Inode h.fileid) ≡ o →
-          beside_of place n h.fileid (shown_at view.entries (addresses.Inode h.fileid)) ≡ true →
-          beside_of place n h.fileid (shown_at wider.entries (addresses.Inode h.fileid)) ≡ true
+          beside_of view place n h.fileid (shown_at view.entries (addresses.Inode h.fileid)) ≡ true →
+          beside_of wider place n h.fileid (shown_at wider.entries (addresses.Inode h.fileid)) ≡ true
       shown h None is e =
-          let no : beside_of place n h.fileid None ≡ true =
-          subst (λ x. beside_of place n h.fileid x ≡ true) is e in
+          let no : beside_of view place n h.fileid None ≡ true =
+          subst (λ x. beside_of view place n h.fileid x ≡ true) is e in
           cc
       shown h (Some object) is e =
-          subst (λ x. beside_of place n h.fileid x ≡ true) (sym (shown-wider (addresses.Inode h.fileid) object is))
-          (subst (λ x. beside_of place n h.fileid x ≡ true) is e)
+          subst (λ x. beside_of wider place n h.fileid x ≡ true)
+          (sym (shown-wider (addresses.Inode h.fileid) object is))
+          (both h object (subst (λ x. beside_of view place n h.fileid x ≡ true) is e))
 
   reads-wider : (renames : Option RenameArguments) (n : ℕ) → only_reads renames view n ≡ true →
       only_reads renames wider n ≡ true
@@ -121,6 +152,8 @@ module _ (view : ViewValue) (more : List Seen) (reserved : List Reserved) where
   covers-wider modes (addresses.Inode n) = inode-wider modes n
   covers-wider modes (addresses.Map n page) = inode-wider modes n
   covers-wider modes (addresses.Block n i) = inode-wider modes n
+  covers-wider modes (addresses.Page n page) = inode-wider modes n
+  covers-wider modes (addresses.Part n bucket part) = inode-wider modes n
   covers-wider modes addresses.Mounts = covers-self modes.mounts
   covers-wider modes (addresses.Usage e g) = covers-self modes.inodes
 
@@ -173,27 +206,35 @@ module _ (view : ViewValue) (place : Place) (h : Handle) (names : handle_of plac
   place-itself n same =
       subst (λ (o : Option Handle). at-handle view place n o ≡ false) (sym names)
       (elim (shown_at view.entries (addresses.Inode h.fileid)) as
-      (λ (o : Option (Option Object)). beside_of place n h.fileid o ≡ false) [
+      (λ (o : Option (Option Object)). beside_of view place n h.fileid o ≡ false) [
         | None ↦ refl
         | Some object ↦
-            ap (λ b. not (b || is_number (led_in object place.name) n)) ((unsigned_Decides h.fileid n).1 same)
+            ap (λ b. not b && is_elsewhere view (part_address h.fileid object place.name) place.name n)
+            ((unsigned_Decides h.fileid n).1 same)
       ])
+
+  elsewhere-led : (n : ℕ) (part : Option Addr) → number_at view part place.name ≡ Some n →
+      is_elsewhere view part place.name n ≡ false
+  elsewhere-led n None led = cc
+  elsewhere-led n (Some a) led =
+      elim (shown_at view.entries a) as
+      (λ o. number_of o place.name ≡ Some n → elsewhere_of o place.name n ≡ false) [
+        | None ↦ λ e. refl
+        | Some object ↦ λ e.
+            ap (λ (o : Option ℕ). not (is_number o n)) e ∙ ap not ((unsigned_Decides n n).1 refl)
+      ] led
 
   pub place-named : (n : ℕ) → led_at view h.fileid place.name ≡ Some n → is_apart view place n ≡ false
   place-named n led =
       subst (λ (o : Option Handle). at-handle view place n o ≡ false) (sym names)
       (elim (shown_at view.entries (addresses.Inode h.fileid)) as
-      (λ (o : Option (Option Object)). led_of o place.name ≡ Some n → beside_of place n h.fileid o ≡ false) [
+      (λ (o : Option (Option Object)). led_of view h.fileid o place.name ≡ Some n →
+      beside_of view place n h.fileid o ≡ false) [
         | None ↦ λ e. refl
         | Some object ↦ λ e.
-            ap (λ (o : Option ℕ). not (h.fileid == n || is_number o n)) e
-            ∙ ap (λ b. not (h.fileid == n || b)) ((unsigned_Decides n n).1 refl)
-            ∙ ap not (or-true (h.fileid == n))
+            ap (λ b. not (h.fileid == n) && b) (elsewhere-led n (part_address h.fileid object place.name) e)
+            ∙ and-false (not (h.fileid == n))
       ] led)
-    where
-      or-true : (b : Bool) → b || true ≡ true
-      or-true true = refl
-      or-true false = refl
 
 -- ---- what is given
 -- what is held in the mode that was asked for
@@ -270,21 +311,35 @@ unseen-apart : (view : ViewValue) (place : Place) (n : ℕ) → ShowsPlace view 
     seen_at view.entries (addresses.Inode n) ≡ None → is_apart view place n ≡ true
 unseen-apart view place n shows none =
     subst (λ (o : Option Handle). at-handle view place n o ≡ true) (sym shows.names)
-    (by (seen_at view.entries (addresses.Inode shows.handle.fileid)) shows.directory shows.object)
+    (by (seen_at view.entries (addresses.Inode shows.handle.fileid)) shows.directory shows.part shows.object)
   where
-    led : (o : Option ℕ) → IfSome o (λ m. IsSome (seen_at view.entries (addresses.Inode m))) →
-        is_number o n ≡ false
+    Seen_at : ℕ → Type 0
+    Seen_at m = IsSome (seen_at view.entries (addresses.Inode m))
+
+    led : (o : Option ℕ) → IfSome o Seen_at → is_number o n ≡ false
     led None seen = refl
     led (Some m) seen = not-seen view.entries m n seen none
 
+    elsewhere : (part : Option Addr) → IfSome part (λ a. IsSome (seen_at view.entries a)) →
+        IfSome (number_at view part place.name) Seen_at → is_elsewhere view part place.name n ≡ true
+    elsewhere None seen object = refl
+    elsewhere (Some a) seen object =
+        elim (seen_at view.entries a) as (λ s. IsSome s → IfSome (number_of (object-shown s) place.name) Seen_at →
+        elsewhere_of (object-shown s) place.name n ≡ true) [
+          | None ↦ λ some o. cc
+          | Some e ↦ λ some o. ap not (led (number_in e.object place.name) o)
+        ] seen object
+
     by : (s : Option Seen) → IsSome s →
-        IfSome (led_of (object-shown s) place.name) (λ m. IsSome (seen_at view.entries (addresses.Inode m))) →
-        beside_of place n shows.handle.fileid (object-shown s) ≡ true
-    by None some object = cc
-    by (Some e) some object =
-        ap (λ b. not (b || is_number (led_in e.object place.name) n))
+        IfSome (object-shown s) (λ object. IfSome (part_address shows.handle.fileid object place.name)
+        (λ a. IsSome (seen_at view.entries a))) →
+        IfSome (led_of view shows.handle.fileid (object-shown s) place.name) Seen_at →
+        beside_of view place n shows.handle.fileid (object-shown s) ≡ true
+    by None some part object = cc
+    by (Some e) some part object =
+        ap (λ b. not b && is_elsewhere view (part_address shows.handle.fileid e.object place.name) place.name n)
         (not-seen view.entries shows.handle.fileid n shows.directory none)
-        ∙ ap not (led (led_in e.object place.name) object)
+        ∙ elsewhere (part_address shows.handle.fileid e.object place.name) part object
 
 pub renames-share : RenamesShareOthers
 renames-share a ctx view asked attempts from to =
@@ -301,5 +356,7 @@ renames-share a ctx view asked attempts from to =
     shared (addresses.Exports, mode) may = tt
     shared (addresses.Map n page, mode) may = tt
     shared (addresses.Block n i, mode) may = tt
+    shared (addresses.Page n page, mode) may = tt
+    shared (addresses.Part n bucket part, mode) may = tt
     shared (addresses.Mounts, mode) may = tt
     shared (addresses.Usage e g, mode) may = tt

@@ -15,7 +15,7 @@ use Rattle.nfs_objects.proofs.Tallies.{part, same-without, split-total, total, t
 use Rattle.nfs_objects.specs.Edits.{counted_anew}
 use Rattle.nfs_objects.specs.Knows.{Possible, Turns}
 use Rattle.nfs_objects.specs.Sound.{Sound}
-use Rattle.nfs_objects.specs.Stands.{Kept, Represents, bytes_at, inode_in, inode_there}
+use Rattle.nfs_objects.specs.Stands.{Kept, Represents, beside_at, inode_in, inode_there}
 use Rattle.nfs_objects.specs.Store.{Store}
 use Rattle.nfs_objects.specs.Sums.{exchanged, group_of, is_counted, is_none, is_same_usage, moved, no_usage}
 use Rattle.nfs_objects.specs.Sums.{one_using, shares_of, stored_usage, usage_in}
@@ -32,7 +32,7 @@ AllFit m = (n : ℕ) (o : Living) → get m.objects n ≡ Some o → (n < 2 ^ 64
 
 pub all-fit : (s : Store) (k : Kept) → Represents s k → AllFit k.state
 all-fit s k stands n o at =
-    let found = living-stands k.state.exports (bytes_at k.state n) (s.at (addresses.Inode n)) o
+    let found = living-stands k.state.exports (beside_at k.state n) (s.at (addresses.Inode n)) o
     (sym (stands.objects.objects n) ∙ at) in
     let there : inode_there s k.state.exports n ≡ Some found.inode =
     ap (inode_in k.state.exports) found.there.stands ∙ inode-lives k.state.exports found.inode found.there.lives in

@@ -2,6 +2,7 @@
 use Rattle.std.proofs.Common.{◌≡◌, ◌==◌, ℕ, ◌<◌, ◌≤◌, ◌/◌, ◌%◌, Bool, true, false, cond, option_map, [], replicate}
 use Rattle.std.proofs.Common.{◌||◌, ◌&&◌, max}
 use Rattle.std.proofs.Common.{nat_le, List, Option, Some, None, IsSome, inl, inr, refl, sym, ◌∙◌, ap, subst, arith}
+use Rattle.std.specs.Prelude.{IfSome}
 use Rattle.std.proofs.Math.Bool.{or-false}
 use Rattle.std.proofs.Math.Nat.{le-max_left, le-max_right}
 use Rattle.std.proofs.lemmas.Bool.{and_parts, le-leb, lt-leb}
@@ -20,9 +21,14 @@ use Rattle.nfs_objects.proofs.Exported.{inode-lives}
 use Rattle.nfs_objects.proofs.Seen.{known-stands, writes-append}
 use Rattle.nfs_objects.proofs.BitSets.{has-none}
 use Rattle.nfs_objects.proofs.Contents.{content-new}
-use Rattle.nfs_objects.proofs.Filed.{HasContent, alone-is, bytes-own, living_bytes, files-put, files-stay, living-own, stands-but}
+use Rattle.nfs_objects.proofs.Entering.{directories-put, directories-stay, no-entries}
+use Rattle.nfs_objects.proofs.Filed.{HasContent, HasListing, alone-is, beside_of, bytes-own, files-put, files-stay}
+use Rattle.nfs_objects.proofs.Filed.{living-own, living_beside, living_bytes, living_entries, stands-but}
 use Rattle.nfs_objects.specs.Bits.{has, no_bits}
+use Rattle.nfs_objects.specs.Directories.{no_entries}
 use Rattle.nfs_objects.specs.FileMaps.{FileMapValue, IsContent}
+use Rattle.nfs_objects.specs.Stands.{Beside, HasEntries, HoldsEntries, StandDirectories, StandEntries, beside_at}
+use Rattle.nfs_objects.specs.Stands.{directory_entries, entries_at, entry_map_in, entry_map_of, filled}
 use Rattle.nfs_objects.specs.Unfiled.{RepresentsBut}
 use Rattle.nfs_objects.specs.declared.object.Content.{Content}
 use Rattle.nfs_objects.specs.declared.object.Content.TheVariants as contents
@@ -47,25 +53,25 @@ use Rattle.nfs_objects.specs.declared.usage.Usage.{Usage}
 
 -- what stands where an inode was put
 lives-put : (exports : List LivingExport) (at : Addr → Option Object) (living : FinMap nat_cmp Living) (number : ℕ)
-    (i : Inode) (bytes : List ℕ) → lives_in exports i.export ≡ true
-    → ((n : ℕ) → get living n ≡ living_in exports (living_bytes (get living n)) (at (addresses.Inode n)))
-    → (n : ℕ) → get (insert living number (living_of_inode bytes i)) n ≡ living_in exports
-    (living_bytes (get (insert living number (living_of_inode bytes i)) n))
+    (i : Inode) (beside : Beside) → lives_in exports i.export ≡ true
+    → ((n : ℕ) → get living n ≡ living_in exports (living_beside (get living n)) (at (addresses.Inode n)))
+    → (n : ℕ) → get (insert living number (living_of_inode beside i)) n ≡ living_in exports
+    (living_beside (get (insert living number (living_of_inode beside i)) n))
     (put_at at (addresses.Inode number) (Some (objects.Inode i)) (addresses.Inode n))
-lives-put exports at living number i bytes lives stands n =
-    subst (λ g. g ≡ living_in exports (living_bytes g)
+lives-put exports at living number i beside lives stands n =
+    subst (λ g. g ≡ living_in exports (living_beside g)
     (put_at at (addresses.Inode number) (Some (objects.Inode i)) (addresses.Inode n)))
     (sym (get-inserted living number new n
     ∙ ap (λ b. cond b (Some new) (get living n)) (nat_eq_equiv.symm n number)))
     (elim (number == n) as (λ b. cond b (Some new) (get living n) ≡ living_in exports
-    (living_bytes (cond b (Some new) (get living n))) (cond b (Some (objects.Inode i)) (at (addresses.Inode n)))) [
-      | true ↦ ap Some (sym (living-own bytes i))
-          ∙ sym (ap (option_map (living_of_inode (file_bytes new.content))) (inode-lives exports i lives))
+    (living_beside (cond b (Some new) (get living n))) (cond b (Some (objects.Inode i)) (at (addresses.Inode n)))) [
+      | true ↦ ap Some (sym (living-own beside i))
+          ∙ sym (ap (option_map (living_of_inode (beside_of new.content))) (inode-lives exports i lives))
       | false ↦ stands n
     ])
   where
     new : Living
-    new = living_of_inode bytes i
+    new = living_of_inode beside i
 
 -- the bytes of other files stay, and those of the file at a number are these
 bytes-there : (living : FinMap nat_cmp Living) (number : ℕ) (o : Living) (n : ℕ) → (number == n) ≡ false →
@@ -78,6 +84,19 @@ bytes-here : (living : FinMap nat_cmp Living) (number : ℕ) (o : Living) →
     living_bytes (get (insert living number o) number) ≡ file_bytes o.content
 bytes-here living number o =
     ap living_bytes (get-inserted living number o number
+    ∙ ap (λ b. cond b (Some o) (get living number)) ((unsigned_Decides number number).1 refl))
+
+-- and so do the entries of other directories, and those of the directory at a number are these
+entries-there : (living : FinMap nat_cmp Living) (number : ℕ) (o : Living) (n : ℕ) → (number == n) ≡ false →
+    living_entries (get (insert living number o) n) ≡ living_entries (get living n)
+entries-there living number o n other =
+    ap living_entries (get-inserted living number o n
+    ∙ ap (λ b. cond b (Some o) (get living n)) (nat_eq_equiv.symm n number ∙ other))
+
+entries-here : (living : FinMap nat_cmp Living) (number : ℕ) (o : Living) →
+    living_entries (get (insert living number o) number) ≡ directory_entries o.content
+entries-here living number o =
+    ap living_entries (get-inserted living number o number
     ∙ ap (λ b. cond b (Some o) (get living number)) ((unsigned_Decides number number).1 refl))
 
 -- a function of what stands at each number, after a write at one
@@ -168,7 +187,7 @@ objects_in s k = (
 objects-stay : (s t : Store) (k l : Kept) → objects_in t l ≡ objects_in s k → StandObjects s k → StandObjects t l
 objects-stay s t k l same stand = record {
   objects = λ n.
-      ap (λ x. get x.3 n) same ∙ stand.objects n ∙ ap (λ x. living_in x.2 (living_bytes (get x.3 n)) (x.0 n)) (sym same);
+      ap (λ x. get x.3 n) same ∙ stand.objects n ∙ ap (λ x. living_in x.2 (living_beside (get x.3 n)) (x.0 n)) (sym same);
   links = λ n.
       ap (λ x. x.4 n) same ∙ stand.links n ∙ ap (λ x. links_kept (inode_in x.2 (x.0 n))) (sym same);
   parents = λ n.
@@ -190,37 +209,62 @@ locks-stay m n locks shares waiting granted spent stand = record {
 }
 
 -- the files of the store where an inode was put
-put-files : (s : Store) (k : Kept) (n : ℕ) (i : Inode) (bytes : List ℕ) (last : ℕ → ℕ) → RepresentsBut n s k
-    → HasBlocks s n (pages_of (Some (objects.Inode i))) → HasContent s n bytes i → lives_in k.state.exports i.export ≡ true
+put-files : (s : Store) (k : Kept) (n : ℕ) (i : Inode) (beside : Beside) (last : ℕ → ℕ) → RepresentsBut n s k
+    → HasBlocks s n (pages_of (Some (objects.Inode i))) → HasContent s n beside.bytes i → lives_in k.state.exports i.export ≡ true
     → (l : Kept) → l.state.exports ≡ k.state.exports
-    → l.state.objects ≡ insert k.state.objects n (living_of_inode bytes i)
+    → l.state.objects ≡ insert k.state.objects n (living_of_inode beside i)
     → StandFiles (record { at = put_at s.at (addresses.Inode n) (Some (objects.Inode i)); last = last }) l
-put-files s k n i bytes last stands filed content lives l exports living =
+put-files s k n i beside last stands filed content lives l exports living =
     files-put s k n (Some (objects.Inode i)) last stands.files filed l exports
     (λ q other. ap (λ m. living_bytes (get m q)) living ∙ bytes-there k.state.objects n new q other)
     (λ j there map is.
     let same : i ≡ j = one (sym (inode-lives l.state.exports i (ap (λ es. lives_in es i.export) exports ∙ lives)) ∙ there) in
     let was : map_in i.content ≡ Some map = ap (λ (x : Inode). map_in x.content) same ∙ is in
     subst (IsContent map.size (λ b. stored_in (s.at (addresses.Block n b))))
-    (sym (ap (λ m. living_bytes (get m n)) living ∙ bytes-here k.state.objects n new ∙ bytes-own bytes i.content map was))
+    (sym (ap (λ m. living_bytes (get m n)) living ∙ bytes-here k.state.objects n new ∙ bytes-own beside i.content map was))
     (content map was))
   where
     new : Living
-    new = living_of_inode bytes i
+    new = living_of_inode beside i
 
     one : {a b : Inode} → Some a ≡ Some b → a ≡ b
     one e = cc
 
--- an inode is put, where the blocks and maps of its file are as it says, and have these bytes
-pub put-stands : (s : Store) (k : Kept) (n : ℕ) (i : Inode) (bytes : List ℕ) → RepresentsBut n s k
-    → HasBlocks s n (pages_of (Some (objects.Inode i))) → HasContent s n bytes i → i.generation ≤ s.last n
+-- the directories of the store where an inode was put
+put-directories : (s : Store) (k : Kept) (n : ℕ) (i : Inode) (beside : Beside) (last : ℕ → ℕ) → RepresentsBut n s k
+    → HasListing s n beside.entries i → (l : Kept) → l.state.exports ≡ k.state.exports
+    → l.state.objects ≡ insert k.state.objects n (living_of_inode beside i)
+    → StandDirectories (record { at = put_at s.at (addresses.Inode n) (Some (objects.Inode i)); last = last }) l
+put-directories s k n i beside last stands listing l exports living =
+    directories-put s k n (Some (objects.Inode i)) last stands.directories (directory_entries new.content)
+    (held i.content listing) l exports
+    (λ q other. ap (λ m. living_entries (get m q)) living ∙ entries-there k.state.objects n new q other)
+    (λ there. sym (ap (λ m. living_entries (get m n)) living ∙ entries-here k.state.objects n new))
+  where
+    new : Living
+    new = living_of_inode beside i
+
+    held : (c : Content) → HoldsEntries s n (entry_map_in c) beside.entries →
+        HoldsEntries s n (entry_map_in c) (directory_entries (filled beside (content_of c)))
+    held (contents.Regular map) holds = holds
+    held (contents.Directory directory) holds = holds
+    held (contents.Link text) holds = holds
+    held (contents.BlockDevice device) holds = holds
+    held (contents.CharacterDevice device) holds = holds
+    held contents.Socket holds = holds
+    held contents.Fifo holds = holds
+
+-- an inode is put, where what stands beside it is as it says, and is this
+pub put-stands : (s : Store) (k : Kept) (n : ℕ) (i : Inode) (beside : Beside) → RepresentsBut n s k
+    → HasBlocks s n (pages_of (Some (objects.Inode i))) → HasContent s n beside.bytes i
+    → HasListing s n beside.entries i → i.generation ≤ s.last n
     → IsFitting n i → lives_in k.state.exports i.export ≡ true
     → Represents (with_write s (addresses.Inode n) (Some (objects.Inode i)))
-    (with_living k n (living_of_inode bytes i) i.links (parent_in i.content))
-put-stands s k n i bytes stands filed content within fits lives = record {
+    (with_living k n (living_of_inode beside i) i.links (parent_in i.content))
+put-stands s k n i beside stands filed content listing within fits lives = record {
   tables = tables-stay s _ k.state _ refl stands.tables;
   objects = record {
-    objects = lives-put k.state.exports s.at k.state.objects n i bytes lives stands.objects.objects;
+    objects = lives-put k.state.exports s.at k.state.objects n i beside lives stands.objects.objects;
     links = links-put k s n i lives stands;
     parents = parents-put k s n i lives stands;
     given = given-put s n i (give s.last (addresses.Inode n) (Some (objects.Inode i))) stands.objects.given
@@ -230,8 +274,10 @@ put-stands s k n i bytes stands filed content within fits lives = record {
     spent = λ q g.
         stands.objects.spent q g ∙ ap (λ l. nat_le g l) (sym (last-kept s.last n i.generation q within));
   };
-  files = put-files s k n i bytes (give s.last (addresses.Inode n) (Some (objects.Inode i))) stands filed content lives
-      (with_living k n (living_of_inode bytes i) i.links (parent_in i.content)) refl refl;
+  files = put-files s k n i beside (give s.last (addresses.Inode n) (Some (objects.Inode i))) stands filed content lives
+      (with_living k n (living_of_inode beside i) i.links (parent_in i.content)) refl refl;
+  directories = put-directories s k n i beside (give s.last (addresses.Inode n) (Some (objects.Inode i))) stands listing
+      (with_living k n (living_of_inode beside i) i.links (parent_in i.content)) refl refl;
   usages = record { usage = stands.usages.usage };
   locks = locks-stay k.state _ refl refl refl refl refl stands.locks;
 }
@@ -245,15 +291,15 @@ none-removed : {X : Type 0} (n : ℕ) (lists : FinMap nat_cmp (List X)) → list
 none-removed {X = X} n lists none = ap (λ (m : FinMap nat_cmp (List X)). remove m n) none ∙ no-list n
 
 pub free-stands : (s : Store) (k : Kept) (n : ℕ) → RepresentsBut n s k → HasBlocks s n no_bits →
-    Represents (with_write s (addresses.Inode n) None) (freed k n)
-free-stands s k n stands filed = record {
+    HoldsEntries s n None [] → Represents (with_write s (addresses.Inode n) None) (freed k n)
+free-stands s k n stands filed emptied = record {
   tables = tables-stay s _ k.state _ refl stands.tables;
   objects = record {
     objects = λ q. subst
-        (λ g. g ≡ living_in k.state.exports (living_bytes g) (cond (n == q) None (s.at (addresses.Inode q))))
+        (λ g. g ≡ living_in k.state.exports (living_beside g) (cond (n == q) None (s.at (addresses.Inode q))))
         (sym (get-removed k.state.objects n q))
         (elim (n == q) as (λ b. cond b None (get k.state.objects q) ≡ living_in k.state.exports
-        (living_bytes (cond b None (get k.state.objects q))) (cond b None (s.at (addresses.Inode q))))
+        (living_beside (cond b None (get k.state.objects q))) (cond b None (s.at (addresses.Inode q))))
         [ true ↦ refl | false ↦ stands.objects.objects q ]);
     links = kept-put (λ o. links_kept (inode_in k.state.exports o)) s.at k.links n None 0 refl stands.objects.links;
     parents =
@@ -267,6 +313,10 @@ free-stands s k n stands filed = record {
   files = files-put s k n None s.last stands.files filed (freed k n) refl
       (λ q other. ap living_bytes (get-removed k.state.objects n q ∙ ap (λ b. cond b None (get k.state.objects q)) other))
       (λ i there. cc);
+  directories = directories-put s k n None s.last stands.directories [] emptied (freed k n) refl
+      (λ q other. ap living_entries (get-removed k.state.objects n q
+      ∙ ap (λ b. cond b None (get k.state.objects q)) other))
+      (λ there. cc);
   usages = record { usage = stands.usages.usage };
   locks = record {
     no_locks = none-removed n k.state.locks stands.locks.no_locks;
@@ -324,16 +374,43 @@ new-content s n i none map is = by i.content is
     by contents.Socket is = cc
     by contents.Fifo is = cc
 
+-- no page and no part stands where no inode does
+nothing-listed : (s : Store) (k : Kept) (n : ℕ) → Represents s k → s.at (addresses.Inode n) ≡ None →
+    HoldsEntries s n None []
+nothing-listed s k n stands vacant = by (stands.directories n)
+  where
+    by : StandEntries s k n → HoldsEntries s n None []
+    by stand =
+        let none : HoldsEntries s n None stand.entries =
+        subst (λ o. HoldsEntries s n (entry_map_of o) stand.entries) vacant stand.holds in
+        none
+
+-- the entries of a new directory: none
+new-listing : (s : Store) (n : ℕ) (i : Inode) → HoldsEntries s n None [] →
+    IfSome (entry_map_in i.content) (λ m. m ≡ no_entries) →
+    HasListing s n (directory_entries (content_of i.content)) i
+new-listing s n i none bare = by i.content bare
+  where
+    by : (c : Content) → IfSome (entry_map_in c) (λ m. m ≡ no_entries) →
+        HoldsEntries s n (entry_map_in c) (directory_entries (content_of c))
+    by (contents.Regular map) bare = none
+    by (contents.Directory directory) bare = subst (λ m. HasEntries s n m []) (sym bare) (no-entries s n none)
+    by (contents.Link text) bare = none
+    by (contents.BlockDevice device) bare = none
+    by (contents.CharacterDevice device) bare = none
+    by contents.Socket bare = none
+    by contents.Fifo bare = none
+
 pub new-stands : (s : Store) (k : Kept) (n : ℕ) (i : Inode) → Represents s k → s.at (addresses.Inode n) ≡ None
-    → pages_of (Some (objects.Inode i)) ≡ no_bits → IsFitting n i → lives_in k.state.exports i.export ≡ true
+    → pages_of (Some (objects.Inode i)) ≡ no_bits → IfSome (entry_map_in i.content) (λ m. m ≡ no_entries) → IsFitting n i → lives_in k.state.exports i.export ≡ true
     → Represents (with_write s (addresses.Inode n) (Some (objects.Inode i)))
     (with_new k n (living_alone i) i.links (parent_in i.content))
-new-stands s k n i stands vacant none fits lives = subst (λ (o : Living).
+new-stands s k n i stands vacant none bare fits lives = subst (λ (o : Living).
     Represents (with_write s (addresses.Inode n) (Some (objects.Inode i))) (with_new k n o i.links (parent_in i.content)))
     (alone-is i) (record {
       tables = tables-stay s _ k.state _ refl stands.tables;
       objects = record {
-        objects = lives-put k.state.exports s.at k.state.objects n i zeros lives stands.objects.objects;
+        objects = lives-put k.state.exports s.at k.state.objects n i new lives stands.objects.objects;
         links = links-put k s n i lives but;
         parents = parents-put k s n i lives but;
         given = given-put s n i (give s.last (addresses.Inode n) (Some (objects.Inode i))) stands.objects.given
@@ -350,15 +427,18 @@ new-stands s k n i stands vacant none fits lives = subst (λ (o : Living).
               | false ↦ or-false (nat_le g (s.last q))
             ];
       };
-      files = put-files s k n i zeros (give s.last (addresses.Inode n) (Some (objects.Inode i))) but filed
+      files = put-files s k n i new (give s.last (addresses.Inode n) (Some (objects.Inode i))) but filed
           (new-content s n i (nothing-stored s k n stands vacant)) lives
-          (with_new k n (living_of_inode zeros i) i.links (parent_in i.content)) refl refl;
+          (with_new k n (living_of_inode new i) i.links (parent_in i.content)) refl refl;
+      directories = put-directories s k n i new (give s.last (addresses.Inode n) (Some (objects.Inode i))) but
+          (new-listing s n i (nothing-listed s k n stands vacant) bare)
+          (with_new k n (living_of_inode new i) i.links (parent_in i.content)) refl refl;
       usages = record { usage = stands.usages.usage };
       locks = locks-stay k.state _ refl refl refl refl refl stands.locks;
     })
   where
-    zeros : List ℕ
-    zeros = file_bytes (content_of i.content)
+    new : Beside
+    new = beside_of (content_of i.content)
 
     but : RepresentsBut n s k
     but = stands-but n s k stands
@@ -386,6 +466,8 @@ mounts-stand s k table stands = record {
   };
   objects = objects-stay s _ k _ refl stands.objects;
   files = files-stay s _ k _ refl stands.files;
+  directories = directories-stay s _ k _ (λ n page. refl) (λ n bucket part. refl) (λ n. refl) refl (λ n. refl)
+      stands.directories;
   usages = record { usage = stands.usages.usage };
   locks = locks-stay k.state _ refl refl refl refl refl stands.locks;
 }
@@ -444,6 +526,8 @@ module _ (s : Store) (k : Kept) (e n : ℕ) (before after written : Usage)
     tables = tables-stay s _ k.state _ refl stands.tables;
     objects = objects-stay s _ k _ refl stands.objects;
     files = files-stay s _ k _ refl stands.files;
+    directories = directories-stay s _ k _ (λ n page. refl) (λ n bucket part. refl) (λ n. refl) refl (λ n. refl)
+        stands.directories;
     usages = record { usage = usage-put };
     locks = stands.locks;
   }
@@ -535,6 +619,18 @@ filed-same s k n i j stands at same = record {
   blocks = (stands.files.blocks n).blocks;
 }
 
+-- and where it has the same map of its entries, so is the directory there
+pub listing-same : (s : Store) (k : Kept) (n : ℕ) (i j : Inode) → Represents s k
+    → s.at (addresses.Inode n) ≡ Some (objects.Inode i) → inode_there s k.state.exports n ≡ Some i
+    → entry_map_in j.content ≡ entry_map_in i.content → HasListing s n (entries_at k.state n) j
+listing-same s k n i j stands at there same = by (stands.directories n)
+  where
+    by : StandEntries s k n → HasListing s n (entries_at k.state n) j
+    by stand =
+        let own : stand.entries ≡ entries_at k.state n = stand.lives (subst (λ i. IsSome i) (sym there) refl) in
+        subst (HoldsEntries s n (entry_map_in j.content)) own (subst (λ m. HoldsEntries s n m stand.entries) (sym same)
+        (subst (λ o. HoldsEntries s n (entry_map_of o) stand.entries) at stand.holds))
+
 pub content-same : (s : Store) (k : Kept) (n : ℕ) (i j : Inode) → Represents s k
     → inode_there s k.state.exports n ≡ Some i → map_in j.content ≡ map_in i.content
     → HasContent s n (bytes_at k.state n) j
@@ -554,61 +650,70 @@ module _ (d : DraftValue) (n : ℕ) where
   pub edit-turns : (i j : Inode) (object : Living → Living) (links : ℕ → ℕ) →
       known_at d (addresses.Inode n) ≡ Some (Some (objects.Inode i)) → ShowsExport d i.export
       → j.export ≡ i.export
-      → ((bytes : List ℕ) → living_of_inode bytes j ≡ object (living_of_inode bytes i))
-      → map_in j.content ≡ map_in i.content → j.links ≡ links i.links →
+      → ((beside : Beside) → living_of_inode beside j ≡ object (living_of_inode beside i))
+      → map_in j.content ≡ map_in i.content → entry_map_in j.content ≡ entry_map_in i.content → j.links ≡ links i.links →
       parent_in j.content ≡ parent_in i.content → j.generation ≡ i.generation → IsFitting n j
       → Turns d (next (Some (objects.Inode j))) (λ k. edited k n object links)
-  edit-turns i j object links known live exported is kept linked under generation fitting =
+  edit-turns i j object links known live exported is kept listed linked under generation fitting =
       turns-next (Some (objects.Inode j)) (λ k. edited k n object links) (λ s k fits stands.
       let at : (with_writes s d.writes).at (addresses.Inode n) ≡ Some (objects.Inode i) =
       known-stands d s (addresses.Inode n) (Some (objects.Inode i)) fits known in
       let there : inode_in k.state.exports ((with_writes s d.writes).at (addresses.Inode n)) ≡ Some i =
       ap (inode_in k.state.exports) at ∙ inode-lives k.state.exports i (live s k fits stands) in
-      let bytes = bytes_at k.state n in
-      let lives : get k.state.objects n ≡ Some (living_of_inode bytes i) =
-      stands.objects.objects n ∙ ap (option_map (living_of_inode bytes)) there in
+      let beside = beside_at k.state n in
+      let lives : get k.state.objects n ≡ Some (living_of_inode beside i) =
+      stands.objects.objects n ∙ ap (option_map (living_of_inode beside)) there in
       let counted : k.links n ≡ i.links = stands.objects.links n ∙ ap links_kept there in
       let below : k.parents n ≡ parent_in i.content = stands.objects.parents n ∙ ap parent_kept there in
-      let put = put-stands (with_writes s d.writes) k n j bytes (stands-but n (with_writes s d.writes) k stands)
+      let put = put-stands (with_writes s d.writes) k n j beside (stands-but n (with_writes s d.writes) k stands)
       (filed-same (with_writes s d.writes) k n i j stands at kept)
       (content-same (with_writes s d.writes) k n i j stands there kept)
+      (listing-same (with_writes s d.writes) k n i j stands at there listed)
       (subst (λ g. g ≤ (with_writes s d.writes).last n) (sym generation) (stands.objects.given n i at)) fitting
       (ap (lives_in k.state.exports) exported ∙ live s k fits stands) in
-      let same : edited k n object links ≡ with_living k n (living_of_inode bytes j) j.links (parent_in j.content) =
+      let same : edited k n object links ≡ with_living k n (living_of_inode beside j) j.links (parent_in j.content) =
       ap
       (λ (o : Option Living). elim o [
         | None ↦ k
         | Some o ↦ with_living k n (object o) (links (k.links n))
             (k.parents n)
       ]) lives
-      ∙ ap (λ (o : Living). with_living k n o (links (k.links n)) (k.parents n)) (sym (is bytes))
-      ∙ ap (λ l. with_living k n (living_of_inode bytes j) l (k.parents n)) (ap links counted ∙ sym linked)
-      ∙ ap (λ p. with_living k n (living_of_inode bytes j) j.links p) (below ∙ sym under) in
+      ∙ ap (λ (o : Living). with_living k n o (links (k.links n)) (k.parents n)) (sym (is beside))
+      ∙ ap (λ l. with_living k n (living_of_inode beside j) l (k.parents n)) (ap links counted ∙ sym linked)
+      ∙ ap (λ p. with_living k n (living_of_inode beside j) j.links p) (below ∙ sym under) in
       subst
       (λ (x : Kept). Represents (with_write (with_writes s d.writes) (addresses.Inode n) (Some (objects.Inode j)))
       x) (sym same) put)
 
-  -- what is no file goes
+  -- what is no file and no directory goes
   pub free-turns : (i : Option Object) → known_at d (addresses.Inode n) ≡ Some i → file_of i ≡ None →
-      Turns d (next None) (λ k. freed k n)
-  free-turns i known other = turns-next None (λ k. freed k n) (λ s k fits stands.
+      entry_map_of i ≡ None → Turns d (next None) (λ k. freed k n)
+  free-turns i known other unlisted = turns-next None (λ k. freed k n) (λ s k fits stands.
       let at : (with_writes s d.writes).at (addresses.Inode n) ≡ i = known-stands d s (addresses.Inode n) i fits known in
       free-stands (with_writes s d.writes) k n (stands-but n (with_writes s d.writes) k stands) (record {
         maps = λ page. subst (λ b. IsMapped (has b page) ((with_writes s d.writes).at (addresses.Map n page)))
             (ap pages_of at ∙ no-pages i other) ((stands.files.blocks n).maps page);
         blocks = (stands.files.blocks n).blocks;
-      }))
+      }) (emptied (with_writes s d.writes) k (ap entry_map_of at ∙ unlisted) (stands.directories n)))
     where
+      emptied : (t : Store) (k : Kept) → entry_map_of (t.at (addresses.Inode n)) ≡ None → StandEntries t k n →
+          HoldsEntries t n None []
+      emptied t k none stand =
+          let holds : HoldsEntries t n None stand.entries =
+          subst (λ m. HoldsEntries t n m stand.entries) none stand.holds in
+          holds
+
       no-pages : (o : Option Object) → file_of o ≡ None → pages_of o ≡ no_bits
       no-pages o is = ap (λ f. elim f [ None ↦ no_bits | Some map ↦ map.pages ]) is
 
   -- a new inode, once the draft was changed so; the exports stayed, and its own lived before
   pub new-turns : (old : DraftValue) (f : Kept → Kept) → Turns old d f → ((k : Kept) →
       (f k).state.exports ≡ k.state.exports) → (i : Inode) → known_at d (addresses.Inode n) ≡ Some None
-      → pages_of (Some (objects.Inode i)) ≡ no_bits → IsFitting n i → ShowsExport old i.export
+      → pages_of (Some (objects.Inode i)) ≡ no_bits → IfSome (entry_map_in i.content) (λ m. m ≡ no_entries)
+      → IsFitting n i → ShowsExport old i.export
       → Turns old (next (Some (objects.Inode i)))
       (λ k. with_new (f k) n (living_alone i) i.links (parent_in i.content))
-  new-turns old f turns stay i vacant none fitting live = record {
+  new-turns old f turns stay i vacant none bare fitting live = record {
     ctx = turns.ctx;
     view = turns.view;
     modes = turns.modes;
@@ -617,6 +722,6 @@ module _ (d : DraftValue) (n : ℕ) where
         subst (λ (x : Store). Represents x (with_new (f k) n (living_alone i) i.links (parent_in i.content)))
         (sym (writes-append d.writes s (addresses.Inode n) (Some (objects.Inode i))))
         (new-stands (with_writes s d.writes) (f k) n i (turns.turns s k fits stands)
-        (known-stands d s (addresses.Inode n) None (subst (λ v. Fits v s) (sym turns.view) fits) vacant) none fitting
+        (known-stands d s (addresses.Inode n) None (subst (λ v. Fits v s) (sym turns.view) fits) vacant) none bare fitting
         (ap (λ es. lives_in es i.export) (stay k) ∙ live s k fits stands));
   }

@@ -1,8 +1,9 @@
 -- What calls name.
 use Rattle.std.specs.Prelude.{◌≡◌, ℕ, zero, suc, Bool, true, false, List, [], ◌∷◌, ◌++◌, Some, None}
-use Rattle.std.specs.Prelude.{◌⊎◌, ◌/◌}
+use Rattle.std.specs.Prelude.{◌⊎◌, ◌/◌, Option}
 use Rattle.nfs_wire.specs.declared.calls.NfsCall.{NfsCall}
 use Rattle.nfs_wire.specs.declared.calls.NfsCall.TheVariants as nfs
+use Rattle.nfs_wire.specs.declared.calls.Place.{Place}
 use Rattle.side_wire.specs.declared.mount.MountCall.TheVariants as mount
 use Rattle.side_wire.specs.declared.nlm.NlmCall.{NlmCall}
 use Rattle.side_wire.specs.declared.nlm.NlmCall.TheVariants as nlm
@@ -11,7 +12,11 @@ use Rattle.nfs_machine.specs.declared.calls.Call.{Call}
 use Rattle.nfs_machine.specs.declared.calls.Call.TheVariants as calls
 use Rattle.nfs_objects.specs.declared.address.Addr.{Addr}
 use Rattle.nfs_objects.specs.declared.address.Addr.TheVariants as addresses
-use Rattle.nfs_objects.specs.Values.{ViewValue}
+use Rattle.nfs_objects.specs.declared.directory.Directory.{Directory}
+use Rattle.nfs_objects.specs.declared.entry_map.EntryMap.{EntryMap}
+use Rattle.nfs_objects.specs.Directories.{bucket_of, width_in}
+use Rattle.nfs_objects.specs.Stands.{header_of}
+use Rattle.nfs_objects.specs.Values.{ViewValue, shown_at}
 
 -- the handles of a call of NFS, in the order in which they are judged (RFC 1813, 3.3)
 abbrev pub nfs_handles : NfsCall → List (List ℕ)
@@ -99,7 +104,7 @@ abbrev pub maps_at : (file offset : ℕ) → List Addr
 maps_at file offset =
     addresses.Map file (offset / 4096 / 512) ∷ addresses.Map file (suc (offset / 4096 / 512)) ∷ []
 
--- these of the file that a handle names
+-- these of the file or the directory that a handle names
 abbrev pub in_file : (handle : List ℕ) → (ℕ → List Addr) → List Addr
 in_file handle places = elim (handle_of handle) [ None ↦ [] | Some h ↦ places h.fileid ]
 
@@ -109,11 +114,47 @@ data_of (nfs.Read a) = in_file a.file (λ file. blocks_at file a.offset)
 data_of (nfs.Write a) = in_file a.file (λ file. blocks_at file a.offset ++ maps_at file a.offset)
 data_of call = []
 
+-- ---- names that come
+-- where an entry more of a directory with this map goes, beside what the map tells of: its page, and the part that its
+-- bucket may get
+abbrev pub places_for : EntryMap → (directory : ℕ) → List ℕ → (cookie : ℕ) → List Addr
+places_for m directory name cookie = addresses.Page directory (cookie / 64) ∷
+    addresses.Part directory (bucket_of name) (width_in m.counts (bucket_of name)) ∷ []
+
+-- the directory at a number, but for its entries, as a view shows it
+abbrev pub header_shown : ViewValue → (number : ℕ) → Option Directory
+header_shown view number = elim (shown_at view.entries (addresses.Inode number)) [
+  | None ↦ None
+  | Some object ↦ header_of object
+]
+
+-- where a name more of the directory at a number goes, as a view shows it: with the next cookie
+abbrev pub next_places : ViewValue → (directory : ℕ) → List ℕ → List Addr
+next_places view directory name = elim (header_shown view directory) [
+  | None ↦ []
+  | Some h ↦ places_for h.entries directory name (suc h.last_cookie)
+]
+
+-- the same of the name that a call brings
+abbrev pub added_at : ViewValue → Place → List Addr
+added_at view place = in_file place.directory (λ directory. next_places view directory place.name)
+
+-- the addresses to which the name goes that a call of NFS may add
+abbrev pub added_by : ViewValue → NfsCall → List Addr
+added_by view (nfs.Create a) = added_at view a.place
+added_by view (nfs.Mkdir a) = added_at view a.place
+added_by view (nfs.Symlink a) = added_at view a.place
+added_by view (nfs.Mknod a) = added_at view a.place
+added_by view (nfs.Rename a) = added_at view a.to
+added_by view (nfs.Link a) = added_at view a.place
+added_by view call = []
+
 -- The addresses that a call names, whether anything stands there or not, once it has read so much: the exports, the
--- objects of its handles with what their exports use, where its data lies, and those that are its program's alone.
--- What it named it names still as it reads more.
+-- objects of its handles with what their exports use, where its data lies, where a name goes that it may add, and those
+-- that are its program's alone. What it named it names still as it reads more.
 abbrev pub named_by : Call → ViewValue → List Addr
-named_by (calls.Nfs call) view = addresses.Exports ∷ objects_at view (nfs_handles call) ++ data_of call
+named_by (calls.Nfs call) view = addresses.Exports ∷ objects_at view (nfs_handles call) ++
+    (data_of call ++ added_by view call)
 named_by (calls.Mount call) view = addresses.Exports ∷ addresses.Mounts ∷ []
 named_by (calls.Nlm call) view = addresses.Exports ∷ objects_at view (nlm_handles call)
 

@@ -5,6 +5,7 @@ pub mod Bits
 pub mod Bound
 pub mod Calls
 pub mod Derived
+pub mod Directories
 pub mod Drafts
 pub mod Edits
 pub mod Entries
@@ -17,6 +18,7 @@ pub mod ModeLaws
 pub mod Modes
 pub mod MountTables
 pub mod Only
+pub mod PageRuns
 pub mod Promise
 pub mod Rooms
 pub mod Same

@@ -13,8 +13,8 @@ use Rattle.nfs_machine.specs.declared.context.Ctx.{Ctx}
 use Rattle.nfs_machine.specs.declared.handle.Handle.{Handle}
 use Rattle.nfs_objects.specs.Attempt.{Attempts}
 use Rattle.nfs_objects.specs.Bound.{Gives, Round, view_after, with_round}
-use Rattle.nfs_objects.specs.Modes.{Suits, led_at, held_mode, modes_of}
-use Rattle.nfs_objects.specs.Values.{ViewValue, seen_at}
+use Rattle.nfs_objects.specs.Modes.{Suits, led_at, held_mode, modes_of, part_address}
+use Rattle.nfs_objects.specs.Values.{ViewValue, seen_at, shown_at}
 use Rattle.nfs_objects.specs.declared.address.Addr.{Addr}
 use Rattle.nfs_objects.specs.declared.address.Addr.TheVariants as addresses
 use Rattle.nfs_objects.specs.declared.change.Outcome.{Outcome}
@@ -46,11 +46,13 @@ RenamesHoldTheirs = (a : RenameArguments) (view : ViewValue) (n : ℕ) →
     LiesAt view a.from n ⊎ LiesAt view a.to n →
     held_mode (modes_of (calls.Nfs (nfs.Rename a))) view (addresses.Inode n) ≡ Exclusive
 
--- the view has the directory of a name, and what the name leads to there
+-- the view has the directory of a name, the part that the name is in, and what the name leads to there
 pub record ShowsPlace (view : ViewValue) (place : Place) : Type 0 where
   pub handle : Handle
   pub names : handle_of place.directory ≡ Some handle
   pub directory : IsSome (seen_at view.entries (addresses.Inode handle.fileid))
+  pub part : IfSome (shown_at view.entries (addresses.Inode handle.fileid)) (λ object.
+      IfSome (part_address handle.fileid object place.name) (λ a. IsSome (seen_at view.entries a)))
   pub object : IfSome (led_at view handle.fileid place.name) (λ n.
       IsSome (seen_at view.entries (addresses.Inode n)))
 

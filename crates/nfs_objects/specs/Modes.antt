@@ -7,14 +7,13 @@ use Rattle.nfs_wire.specs.declared.calls.NfsCall.{NfsCall}
 use Rattle.nfs_wire.specs.declared.calls.NfsCall.TheVariants as nfs
 use Rattle.nfs_wire.specs.declared.calls.Place.{Place}
 use Rattle.nfs_wire.specs.declared.calls.RenameArguments.{RenameArguments}
-use Rattle.nfs_machine.specs.Attributes.{entries_of}
 use Rattle.nfs_machine.specs.Changing.{is_changing_mount, is_changing_nfs}
 use Rattle.nfs_machine.specs.Checks.{entry_of}
 use Rattle.nfs_machine.specs.Handles.{handle_of}
-use Rattle.nfs_machine.specs.State as machine
 use Rattle.nfs_machine.specs.declared.calls.Call.{Call}
 use Rattle.nfs_machine.specs.declared.calls.Call.TheVariants as calls
-use Rattle.nfs_objects.specs.Stands.{content_of, inode_of}
+use Rattle.nfs_objects.specs.Directories.{part_place}
+use Rattle.nfs_objects.specs.Stands.{entry_map_of, part_of}
 use Rattle.nfs_objects.specs.Values.{ModesValue, Seen, ViewValue, shown_at}
 use Rattle.nfs_objects.specs.declared.address.Addr.{Addr}
 use Rattle.nfs_objects.specs.declared.address.Addr.TheVariants as addresses
@@ -29,48 +28,66 @@ covers Shared Shared = true
 covers Shared Exclusive = false
 
 -- ---- what RENAME only reads
--- the number that a name leads to among what an object contains
-abbrev pub number_under : machine.Content → List ℕ → Option ℕ
-number_under content name = option_map (λ e. e.number) (entry_of (entries_of content) name)
+-- the address of the part that a name is in, in the directory that stands at a number, if its bucket has parts
+abbrev pub part_address : (directory : ℕ) → Option Object → List ℕ → Option Addr
+part_address n object name = elim (entry_map_of object) [ None ↦ None | Some m ↦ part_place m n name ]
 
--- the same of what stands somewhere
-abbrev pub led_in : Option Object → List ℕ → Option ℕ
-led_in object name = elim (inode_of object) [ None ↦ None | Some i ↦ number_under (content_of i.content) name ]
+-- the number that a name leads to in the part that stands somewhere
+abbrev pub number_in : Option Object → List ℕ → Option ℕ
+number_in object name = elim (part_of object) [
+  | None ↦ None
+  | Some part ↦ option_map (λ e. e.number) (entry_of part name)
+]
 
--- the same of what stands at a number, as the view shows it
+-- the same in the part at an address, as the view shows it
+abbrev pub number_at : ViewValue → Option Addr → List ℕ → Option ℕ
+number_at view None name = None
+number_at view (Some a) name = elim (shown_at view.entries a) [ None ↦ None | Some object ↦ number_in object name ]
+
+-- the number that a name leads to in the directory at a number, as the view shows it
 abbrev pub led_at : ViewValue → (directory : ℕ) → List ℕ → Option ℕ
 led_at view directory name = elim (shown_at view.entries (addresses.Inode directory)) [
   | None ↦ None
-  | Some object ↦ led_in object name
+  | Some object ↦ number_at view (part_address directory object name) name
 ]
 
 abbrev pub is_number : Option ℕ → ℕ → Bool
 is_number led n = option_map_or (λ m. m == n) led false
 
--- the view has the directory of a name, and neither it nor what the name leads to there is at this number
+-- as the view shows, a name that is in this part, if in any, leads to another number than this, or to none
+abbrev pub is_elsewhere : ViewValue → Option Addr → List ℕ → (number : ℕ) → Bool
+is_elsewhere view None name n = true
+is_elsewhere view (Some a) name n = elim (shown_at view.entries a) [
+  | None ↦ false
+  | Some object ↦ not (is_number (number_in object name) n)
+]
+
+-- the view shows what a name leads to, and neither that nor the directory of the name is at this number
 abbrev pub is_apart : ViewValue → Place → (number : ℕ) → Bool
 is_apart view place n = elim (handle_of place.directory) [
   | None ↦ false
   | Some h ↦ elim (shown_at view.entries (addresses.Inode h.fileid)) [
     | None ↦ false
-    | Some object ↦ not (h.fileid == n || is_number (led_in object place.name) n)
+    | Some object ↦ not (h.fileid == n) && is_elsewhere view (part_address h.fileid object place.name) place.name n
   ]
 ]
 
--- RENAME changes both directories and what its names lead to there; once the view has the two, it reads all others only
+-- RENAME changes both directories and what its names lead to there; once the view shows these, it reads all others only
 -- to see which directories lie above its target
 abbrev pub only_reads : Option RenameArguments → ViewValue → (number : ℕ) → Bool
 only_reads None view n = false
 only_reads (Some a) view n = is_apart view a.from n && is_apart view a.to n
 
 -- ---- modes
--- the mode in which an address is wanted: a call never changes the exports, and holds the maps and blocks of a file
--- as it holds its inode
+-- the mode in which an address is wanted: a call never changes the exports, and holds the maps and blocks of a file and
+-- the pages and parts of a directory as it holds the inode
 abbrev pub held_mode : ModesValue → ViewValue → Addr → Mode
 held_mode modes view addresses.Exports = Shared
 held_mode modes view (addresses.Inode n) = if only_reads modes.renames view n then Shared else modes.inodes
 held_mode modes view (addresses.Map n page) = if only_reads modes.renames view n then Shared else modes.inodes
 held_mode modes view (addresses.Block n i) = if only_reads modes.renames view n then Shared else modes.inodes
+held_mode modes view (addresses.Page n page) = if only_reads modes.renames view n then Shared else modes.inodes
+held_mode modes view (addresses.Part n b part) = if only_reads modes.renames view n then Shared else modes.inodes
 held_mode modes view addresses.Mounts = modes.mounts
 held_mode modes view (addresses.Usage e g) = modes.inodes
 

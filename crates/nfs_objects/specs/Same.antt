@@ -17,6 +17,8 @@ use Rattle.nfs_objects.specs.FileMaps.{FileMapValue}
 use Rattle.nfs_objects.specs.Sums.{is_same_usage}
 use Rattle.nfs_objects.specs.Values.{Seen, ViewValue, is_addr}
 use Rattle.nfs_objects.specs.declared.directory.Directory.{Directory}
+use Rattle.nfs_objects.specs.declared.entry_map.EntryMap.{EntryMap}
+use Rattle.nfs_objects.specs.declared.page_list.PageRun.{PageRun}
 use Rattle.nfs_objects.specs.declared.modes.Mode.{Mode}
 use Rattle.nfs_objects.specs.declared.modes.Mode.TheVariants.{Shared, Exclusive}
 use Rattle.nfs_objects.specs.declared.object.Content.{Content}
@@ -40,9 +42,15 @@ same_verifier a b = same_bytes a.bytes b.bytes
 abbrev pub same_entry : Entry → Entry → Bool
 same_entry a b = same_bytes a.name b.name && (a.number == b.number && a.cookie == b.cookie)
 
+abbrev pub same_run : PageRun → PageRun → Bool
+same_run a b = a.first == b.first && a.last == b.last
+
+abbrev pub same_entry_map : EntryMap → EntryMap → Bool
+same_entry_map a b = same_bytes a.counts b.counts && pointwise same_run a.pages b.pages
+
 abbrev pub same_directory : Directory → Directory → Bool
 same_directory a b =
-    a.parent == b.parent && (a.last_cookie == b.last_cookie && pointwise same_entry a.entries b.entries)
+    a.parent == b.parent && (a.last_cookie == b.last_cookie && same_entry_map a.entries b.entries)
 
 abbrev pub same_file_map : FileMapValue → FileMapValue → Bool
 same_file_map a b = a.size == b.size && same_bits a.pages b.pages
@@ -88,6 +96,8 @@ same_object (objects.Exports a) (objects.Exports b) = same_exports a b
 same_object (objects.Inode a) (objects.Inode b) = same_inode a b
 same_object (objects.Map a) (objects.Map b) = same_bits a b
 same_object (objects.Block a) (objects.Block b) = same_bytes a b
+same_object (objects.Page a) (objects.Page b) = pointwise same_entry a b
+same_object (objects.Part a) (objects.Part b) = pointwise same_entry a b
 same_object (objects.Mounts a) (objects.Mounts b) = pointwise same_mount a b
 same_object (objects.Usage a) (objects.Usage b) = is_same_usage a b
 same_object a b = false

@@ -18,8 +18,8 @@ use Rattle.nfs_objects.specs.Bits.{same_bits}
 use Rattle.nfs_objects.specs.ExportTables.{ExportTableValue}
 use Rattle.nfs_objects.specs.FileMaps.{FileMapValue}
 use Rattle.nfs_objects.specs.Same.{same_file_map}
-use Rattle.nfs_objects.specs.Same.{same_content, same_device, same_directory, same_entry, same_export, same_exports}
-use Rattle.nfs_objects.specs.Same.{same_inode, same_living, same_mode, same_mount, same_number, same_object}
+use Rattle.nfs_objects.specs.Same.{same_content, same_device, same_directory, same_entry, same_entry_map, same_export, same_exports}
+use Rattle.nfs_objects.specs.Same.{same_inode, same_living, same_mode, same_mount, same_number, same_object, same_run}
 use Rattle.nfs_objects.specs.Same.{held_value, same_held, same_ownership, same_pair, same_seen, same_time, same_times}
 use Rattle.nfs_objects.specs.Same.{same_verifier, same_view}
 use Rattle.nfs_objects.specs.Sums.{is_same_usage}
@@ -28,6 +28,7 @@ use Rattle.nfs_objects.specs.declared.address.Addr.{Addr}
 use Rattle.nfs_objects.specs.declared.address.Addr.TheVariants as addresses
 use Rattle.nfs_objects.specs.declared.bits.Bits.{Bits}
 use Rattle.nfs_objects.specs.declared.directory.Directory.{Directory}
+use Rattle.nfs_objects.specs.declared.entry_map.EntryMap.{EntryMap}
 use Rattle.nfs_objects.specs.declared.modes.Mode.{Mode}
 use Rattle.nfs_objects.specs.declared.modes.Mode.TheVariants.{Shared, Exclusive}
 use Rattle.nfs_objects.specs.declared.object.Content.{Content}
@@ -35,6 +36,7 @@ use Rattle.nfs_objects.specs.declared.object.Content.TheVariants as contents
 use Rattle.nfs_objects.specs.declared.object.Inode.{Inode}
 use Rattle.nfs_objects.specs.declared.object.Object.{Object}
 use Rattle.nfs_objects.specs.declared.object.Object.TheVariants as objects
+use Rattle.nfs_objects.specs.declared.page_list.PageRun.{PageRun}
 use Rattle.nfs_objects.specs.declared.usage.Usage.{Usage}
 use Rattle.nfs_objects.specs.declared.view.Entry.{Entry as ViewEntry}
 use Rattle.nfs_objects.specs.declared.view.Reserved.{Reserved}
@@ -105,6 +107,27 @@ entry_decides = from_self same_entry entry_same
 pub entries_decide : (a b : List Entry) → Decides (pointwise same_entry a b) (a ≡ b)
 entries_decide = pointwise_decides entry_decides
 
+run_same : (a b : PageRun) → same_run a b ≡ true → a ≡ b
+run_same a b e = λ i. record {
+  first = (unsigned_Decides a.first b.first).0 (first_so (a.first == b.first) _ e) i;
+  last = (unsigned_Decides a.last b.last).0 (second_so (a.first == b.first) _ e) i;
+}
+
+run_decides : (a b : PageRun) → Decides (same_run a b) (a ≡ b)
+run_decides = from_self same_run run_same (λ a. both _ _ (nat_own a.first) (nat_own a.last))
+
+pub runs_decide : (a b : List PageRun) → Decides (pointwise same_run a b) (a ≡ b)
+runs_decide = pointwise_decides run_decides
+
+entry_map_same : (a b : EntryMap) → same_entry_map a b ≡ true → a ≡ b
+entry_map_same a b e = λ i. record {
+  pages = (runs_decide a.pages b.pages).0 (second_so (same_bytes a.counts b.counts) _ e) i;
+  counts = (bytes_decides a.counts b.counts).0 (first_so (same_bytes a.counts b.counts) _ e) i;
+}
+
+pub entry_map_decides : (a b : EntryMap) → Decides (same_entry_map a b) (a ≡ b)
+entry_map_decides = from_self same_entry_map entry_map_same (λ a. both _ _ (bytes_own a.counts) ((runs_decide a.pages a.pages).1 refl))
+
 directory_same : (a b : Directory) → same_directory a b ≡ true → a ≡ b
 directory_same a b e =
     let rest = second_so (a.parent == b.parent) _ e in
@@ -112,12 +135,12 @@ directory_same a b e =
       parent = (unsigned_Decides a.parent b.parent).0 (first_so (a.parent == b.parent) _ e) i;
       last_cookie = (unsigned_Decides a.last_cookie b.last_cookie).0 (first_so (a.last_cookie == b.last_cookie) _ rest)
           i;
-      entries = (entries_decide a.entries b.entries).0 (second_so (a.last_cookie == b.last_cookie) _ rest) i;
+      entries = (entry_map_decides a.entries b.entries).0 (second_so (a.last_cookie == b.last_cookie) _ rest) i;
     }
 
 pub directory_decides : (a b : Directory) → Decides (same_directory a b) (a ≡ b)
 directory_decides = from_self same_directory directory_same
-    (λ a. both _ _ (nat_own a.parent) (both _ _ (nat_own a.last_cookie) ((entries_decide a.entries a.entries).1 refl)))
+    (λ a. both _ _ (nat_own a.parent) (both _ _ (nat_own a.last_cookie) ((entry_map_decides a.entries a.entries).1 refl)))
 
 -- ---- contents and inodes
 pub bits_decides : (a b : Bits) → Decides (same_bits a b) (a ≡ b)
@@ -286,6 +309,8 @@ object_same (objects.Exports a) (objects.Exports b) e = ap objects.Exports ((exp
 object_same (objects.Inode a) (objects.Inode b) e = ap objects.Inode ((inode_decides a b).0 e)
 object_same (objects.Map a) (objects.Map b) e = ap objects.Map ((bits_decides a b).0 e)
 object_same (objects.Block a) (objects.Block b) e = ap objects.Block ((bytes_decides a b).0 e)
+object_same (objects.Page a) (objects.Page b) e = ap objects.Page ((entries_decide a b).0 e)
+object_same (objects.Part a) (objects.Part b) e = ap objects.Part ((entries_decide a b).0 e)
 object_same (objects.Mounts a) (objects.Mounts b) e = ap objects.Mounts ((mounts_decide a b).0 e)
 object_same (objects.Usage a) (objects.Usage b) e = ap objects.Usage ((usage_decides a b).0 e)
 object_same a b e = cc
@@ -295,6 +320,8 @@ object_own (objects.Exports a) = (exports_decide a a).1 refl
 object_own (objects.Inode a) = (inode_decides a a).1 refl
 object_own (objects.Map a) = (bits_decides a a).1 refl
 object_own (objects.Block a) = bytes_own a
+object_own (objects.Page a) = (entries_decide a a).1 refl
+object_own (objects.Part a) = (entries_decide a a).1 refl
 object_own (objects.Mounts a) = (mounts_decide a a).1 refl
 object_own (objects.Usage a) = (usage_decides a a).1 refl
 
@@ -309,6 +336,11 @@ address_same (addresses.Map n p) (addresses.Map m q) e = λ i. addresses.Map
     ((unsigned_Decides n m).0 (first_so (n == m) _ e) i) ((unsigned_Decides p q).0 (second_so (n == m) _ e) i)
 address_same (addresses.Block n p) (addresses.Block m q) e = λ i. addresses.Block
     ((unsigned_Decides n m).0 (first_so (n == m) _ e) i) ((unsigned_Decides p q).0 (second_so (n == m) _ e) i)
+address_same (addresses.Page n p) (addresses.Page m q) e = λ i. addresses.Page
+    ((unsigned_Decides n m).0 (first_so (n == m) _ e) i) ((unsigned_Decides p q).0 (second_so (n == m) _ e) i)
+address_same (addresses.Part n b p) (addresses.Part m c q) e =
+    let rest = second_so (n == m) _ e in λ i. addresses.Part ((unsigned_Decides n m).0 (first_so (n == m) _ e) i)
+    ((unsigned_Decides b c).0 (first_so (b == c) _ rest) i) ((unsigned_Decides p q).0 (second_so (b == c) _ rest) i)
 address_same addresses.Mounts addresses.Mounts e = refl
 address_same (addresses.Usage e g) (addresses.Usage f h) p = λ i. addresses.Usage
     ((unsigned_Decides e f).0 (first_so (e == f) _ p) i) ((unsigned_Decides g h).0 (second_so (e == f) _ p) i)
@@ -319,6 +351,8 @@ address_own addresses.Exports = refl
 address_own (addresses.Inode n) = nat_own n
 address_own (addresses.Map n p) = both _ _ (nat_own n) (nat_own p)
 address_own (addresses.Block n i) = both _ _ (nat_own n) (nat_own i)
+address_own (addresses.Page n p) = both _ _ (nat_own n) (nat_own p)
+address_own (addresses.Part n b p) = both _ _ (nat_own n) (both _ _ (nat_own b) (nat_own p))
 address_own addresses.Mounts = refl
 address_own (addresses.Usage e g) = both _ _ (nat_own e) (nat_own g)
 

@@ -1,21 +1,28 @@
 -- The state that a store stands for.
-use Rattle.std.specs.Prelude.{◌≡◌, ◌<◌, ◌≤◌, ◌^◌, ℕ, Bool, false, true, List, []}
+use Rattle.std.specs.Prelude.{◌≡◌, ◌<◌, ◌≤◌, ◌^◌, ℕ, Bool, false, true, List, [], length}
 use Rattle.std.specs.Prelude.{Option, Some, None, IsSome, is_some, option_map, unwrap_or}
-use Rattle.std.specs.Prelude.{nat_le, if◌then◌else◌, replicate, ◌/◌, ◌%◌}
+use Rattle.std.specs.Prelude.{nat_le, nat_lt, if◌then◌else◌, replicate, ◌/◌, ◌%◌, ◌==◌}
 use Rattle.std.specs.FinMap.{empty, get}
+use Rattle.std.specs.List.{count_by}
 use Rattle.nfs_wire.specs.declared.calls.Verifier.{Verifier}
 use Rattle.nfs_machine.specs.Attributes.{size_of}
+use Rattle.nfs_machine.specs.Checks.{entry_of}
 use Rattle.nfs_machine.specs.Exports.{LivingExport, export_at}
 use Rattle.nfs_machine.specs.State.{Living, State}
 use Rattle.nfs_machine.specs.State as machine
+use Rattle.nfs_machine.specs.WellFormed.{NamesOnce}
 use Rattle.nfs_objects.specs.declared.address.Addr.TheVariants as addresses
 use Rattle.nfs_objects.specs.declared.bits.Bits.{Bits}
+use Rattle.nfs_objects.specs.declared.directory.Directory.{Directory}
+use Rattle.nfs_objects.specs.declared.entry_map.EntryMap.{EntryMap}
 use Rattle.nfs_objects.specs.declared.object.Content.{Content}
 use Rattle.nfs_objects.specs.declared.object.Content.TheVariants as contents
 use Rattle.nfs_objects.specs.declared.object.Inode.{Inode}
 use Rattle.nfs_objects.specs.declared.object.Object.{Object}
 use Rattle.nfs_objects.specs.declared.object.Object.TheVariants as stored
 use Rattle.nfs_objects.specs.Bits.{has, no_bits, same_bits}
+use Rattle.nfs_objects.specs.Directories.{IsCount, bucket_of, count_in, has_some, in_page, led_in_part, width_in}
+use Rattle.nfs_objects.specs.PageRuns.{lists}
 use Rattle.nfs_objects.specs.ExportTables.{ExportTableValue}
 use Rattle.nfs_objects.specs.FileMaps.{FileMapValue, IsContent}
 use Rattle.nfs_objects.specs.Store.{Store}
@@ -24,10 +31,11 @@ use Rattle.nfs_objects.specs.declared.usage.Usage.{Usage}
 use Rattle.side_wire.specs.declared.mount.lists.MountBody.{MountBody}
 
 -- What an inode tells by itself of the machine's content: of a file its size, as so many zeros, since its bytes stand
--- in blocks. The machine does not keep the parent of a directory, which follows from the names.
+-- in blocks; of a directory the greatest cookie that it used and no entry, since its entries stand in pages and parts.
+-- The machine does not keep the parent of a directory, which follows from the names.
 abbrev pub content_of : Content → machine.Content
 content_of (contents.Regular map) = machine.Regular (replicate map.size 0)
-content_of (contents.Directory directory) = machine.Directory directory.entries directory.last_cookie
+content_of (contents.Directory header) = machine.Directory [] header.last_cookie
 content_of (contents.Link text) = machine.Link text
 content_of (contents.BlockDevice device) = machine.BlockDevice device
 content_of (contents.CharacterDevice device) = machine.CharacterDevice device
@@ -42,12 +50,27 @@ verifier_bytes verifier = option_map (λ (v : Verifier). v.bytes) verifier
 abbrev pub file_bytes : machine.Content → List ℕ
 file_bytes content = elim content [ machine.Regular bytes ↦ bytes | other ↦ [] ]
 
--- the content, where a file has these bytes
-abbrev pub with_file : List ℕ → machine.Content → machine.Content
-with_file bytes (machine.Regular zeros) = machine.Regular bytes
-with_file bytes content = content
+-- the entries of a directory; of what is none, no entry
+abbrev pub directory_entries : machine.Content → List machine.Entry
+directory_entries content = elim content [ machine.Directory entries last ↦ entries | other ↦ [] ]
 
--- what an inode tells by itself of the living object that it is: of a file no bytes but zeros, as a new one has them
+-- what stands beside an inode: the bytes of a file, and the entries of a directory
+pub record Beside : Type 0 where
+  pub bytes : List ℕ
+  pub entries : List machine.Entry
+
+-- nothing does
+abbrev pub nothing_beside : Beside
+nothing_beside = record { bytes = []; entries = [] }
+
+-- the content, where a file has these bytes and a directory these entries
+abbrev pub filled : Beside → machine.Content → machine.Content
+filled beside (machine.Regular zeros) = machine.Regular beside.bytes
+filled beside (machine.Directory none last) = machine.Directory beside.entries last
+filled beside content = content
+
+-- what an inode tells by itself of the living object that it is: of a file no bytes but zeros and of a directory no
+-- entry, as a new one has them
 abbrev pub living_alone : Inode → Living
 living_alone i = record {
   export = i.export;
@@ -62,9 +85,9 @@ living_alone i = record {
   verifier = verifier_bytes i.verifier;
 }
 
--- the living object that it is, where a file has these bytes
-abbrev pub living_of_inode : List ℕ → Inode → Living
-living_of_inode bytes i = record (living_alone i) { content = with_file bytes (content_of i.content) }
+-- the living object that it is, where this stands beside it
+abbrev pub living_of_inode : Beside → Inode → Living
+living_of_inode beside i = record (living_alone i) { content = filled beside (content_of i.content) }
 
 -- the inode that stands there
 abbrev pub inode_of : Option Object → Option Inode
@@ -79,9 +102,9 @@ lives_in exports number = is_some (export_at exports number)
 abbrev pub inode_in : List LivingExport → Option Object → Option Inode
 inode_in exports o = elim (inode_of o) [ None ↦ None | Some i ↦ if lives_in exports i.export then Some i else None ]
 
--- what lives where this stands, where a file has these bytes
-abbrev pub living_in : List LivingExport → (bytes : List ℕ) → Option Object → Option Living
-living_in exports bytes o = option_map (living_of_inode bytes) (inode_in exports o)
+-- what lives where this stands, with this beside it
+abbrev pub living_in : List LivingExport → Beside → Option Object → Option Living
+living_in exports beside o = option_map (living_of_inode beside) (inode_in exports o)
 
 -- ---- files
 -- how many bytes a file has, and which of its map pages are there
@@ -119,6 +142,45 @@ stored_in o = unwrap_or (block_of o) []
 abbrev pub bytes_at : State → ℕ → List ℕ
 bytes_at m n = elim (get m.objects n) [ None ↦ [] | Some o ↦ file_bytes o.content ]
 
+-- ---- directories
+-- where the entries of a directory stand
+abbrev pub entry_map_in : Content → Option EntryMap
+entry_map_in (contents.Directory directory) = Some directory.entries
+entry_map_in content = None
+
+-- the same of the directory that stands there
+abbrev pub entry_map_of : Option Object → Option EntryMap
+entry_map_of o = elim (inode_of o) [ None ↦ None | Some i ↦ entry_map_in i.content ]
+
+-- the directory that stands there, but for its entries
+abbrev pub header_in : Content → Option Directory
+header_in (contents.Directory directory) = Some directory
+header_in content = None
+
+abbrev pub header_of : Option Object → Option Directory
+header_of o = elim (inode_of o) [ None ↦ None | Some i ↦ header_in i.content ]
+
+-- the page of a directory that stands there, and the part of one
+abbrev pub page_of : Option Object → Option (List machine.Entry)
+page_of (Some (stored.Page page)) = Some page
+page_of o = None
+
+abbrev pub part_of : Option Object → Option (List machine.Entry)
+part_of (Some (stored.Part part)) = Some part
+part_of o = None
+
+-- what stands for a page: nothing for one with no entry
+abbrev pub stored_page : List machine.Entry → Option Object
+stored_page page = if has_some page then Some (stored.Page page) else None
+
+-- the entries of the directory at a number
+abbrev pub entries_at : State → ℕ → List machine.Entry
+entries_at m n = elim (get m.objects n) [ None ↦ [] | Some o ↦ directory_entries o.content ]
+
+-- what stands beside the inode at a number
+abbrev pub beside_at : State → ℕ → Beside
+beside_at m n = record { bytes = bytes_at m n; entries = entries_at m n }
+
 -- the table of mounts that stands there
 abbrev pub table_of : Option Object → Option (List MountBody)
 table_of (Some (stored.Mounts table)) = Some table
@@ -154,7 +216,7 @@ links_kept None = 0
 links_kept (Some i) = i.links
 
 abbrev pub parent_in : Content → ℕ
-parent_in (contents.Directory directory) = directory.parent
+parent_in (contents.Directory header) = header.parent
 parent_in content = 0
 
 abbrev pub parent_kept : Option Inode → ℕ
@@ -170,9 +232,9 @@ IsFitting number i = (number < 2 ^ 64) × (size_of (content_of i.content) < 2 ^ 
 abbrev pub inode_there : Store → List LivingExport → (number : ℕ) → Option Inode
 inode_there s exports n = inode_in exports (s.at (addresses.Inode n))
 
--- what lives at a number, where a file has these bytes
-abbrev pub stands_alive : Store → List LivingExport → (bytes : List ℕ) → (number : ℕ) → Option Living
-stands_alive s exports bytes n = living_in exports bytes (s.at (addresses.Inode n))
+-- what lives at a number, with this beside it
+abbrev pub stands_alive : Store → List LivingExport → Beside → (number : ℕ) → Option Living
+stands_alive s exports beside n = living_in exports beside (s.at (addresses.Inode n))
 
 -- the store has a table of exports, and that of mounts
 pub record StandTables (s : Store) (m : State) : Type 0 where
@@ -181,10 +243,11 @@ pub record StandTables (s : Store) (m : State) : Type 0 where
   pub last_export : m.last_export ≡ (export_table_of (s.at addresses.Exports)).last
   pub mounts : m.mounts ≡ mounts_of (s.at addresses.Mounts)
 
--- What is at each number lives if its export does, with its links and its parent; the bytes of files are a part of
--- their own. Spent are the generations of each number up to the last, that of what stands there among them.
+-- What is at each number lives if its export does, with its links and its parent; the bytes of files and the entries of
+-- directories are parts of their own. Spent are the generations of each number up to the last, that of what stands
+-- there among them.
 pub record StandObjects (s : Store) (k : Kept) : Type 0 where
-  pub objects : (n : ℕ) → get k.state.objects n ≡ stands_alive s k.state.exports (bytes_at k.state n) n
+  pub objects : (n : ℕ) → get k.state.objects n ≡ stands_alive s k.state.exports (beside_at k.state n) n
   pub links : (n : ℕ) → k.links n ≡ links_kept (inode_there s k.state.exports n)
   pub parents : (n : ℕ) → k.parents n ≡ parent_kept (inode_there s k.state.exports n)
   pub given : (n : ℕ) (i : Inode) → s.at (addresses.Inode n) ≡ Some (stored.Inode i) → i.generation ≤ s.last n
@@ -215,6 +278,41 @@ pub record StandFiles (s : Store) (k : Kept) : Type 0 where
       map_in i.content ≡ Some map →
       IsContent map.size (λ b. stored_in (s.at (addresses.Block n b))) (bytes_at k.state n)
 
+-- a part of a directory's names stands there, in which each leads to this entry; or nothing
+abbrev pub IsPart : (there : Bool) → (leads : List ℕ → Option machine.Entry) → Option Object → Type 0
+IsPart true leads o = (part : List machine.Entry) × (o ≡ Some (stored.Part part)) ×
+    ((name : List ℕ) → entry_of part name ≡ leads name)
+IsPart false leads o = o ≡ None
+
+-- At a number stand just the pages and the parts of these entries, as a map tells of them: each page has the entries
+-- with its cookies, and in each part the names that are in it lead where they do among the entries. A page with no
+-- entry is not there, and a bucket with no name has no part.
+pub record HasEntries (s : Store) (n : ℕ) (m : EntryMap) (entries : List machine.Entry) : Type 0 where
+  pub once : NamesOnce entries
+  pub buckets : length m.counts ≡ 64
+  pub listed : (page : ℕ) → lists m.pages page ≡ has_some (in_page page entries)
+  pub pages : (page : ℕ) → s.at (addresses.Page n page) ≡ stored_page (in_page page entries)
+  pub counted : (bucket : ℕ) → IsCount (count_in m.counts bucket)
+      (count_by (λ (e : machine.Entry). bucket_of e.name == bucket) entries)
+  pub parts : (bucket part : ℕ) → IsPart (nat_lt part (width_in m.counts bucket))
+      (led_in_part (width_in m.counts bucket) bucket part entries) (s.at (addresses.Part n bucket part))
+
+-- the same of a directory, if one stands there; of what is none, nothing
+abbrev pub HoldsEntries : Store → (number : ℕ) → Option EntryMap → List machine.Entry → Type 0
+HoldsEntries s n (Some m) entries = HasEntries s n m entries
+HoldsEntries s n None entries = ((page : ℕ) → s.at (addresses.Page n page) ≡ None) ×
+    ((bucket part : ℕ) → s.at (addresses.Part n bucket part) ≡ None)
+
+-- At a number stand just the pages and parts of some entries of the directory that stands there, if any does. Those of
+-- a directory that lives are the machine's.
+pub record StandEntries (s : Store) (k : Kept) (n : ℕ) : Type 0 where
+  pub entries : List machine.Entry
+  pub holds : HoldsEntries s n (entry_map_of (s.at (addresses.Inode n))) entries
+  pub lives : IsSome (inode_there s k.state.exports n) → entries ≡ entries_at k.state n
+
+abbrev pub StandDirectories : Store → Kept → Type 0
+StandDirectories s k = (n : ℕ) → StandEntries s k n
+
 -- of each living export each group's usage stands for it, but for that of no object
 pub record StandUsages (s : Store) (k : Kept) : Type 0 where
   pub usage : (e g : ℕ) → lives_in k.state.exports e ≡ true →
@@ -233,5 +331,6 @@ pub record Represents (s : Store) (k : Kept) : Type 0 where
   pub tables : StandTables s k.state
   pub objects : StandObjects s k
   pub files : StandFiles s k
+  pub directories : StandDirectories s k
   pub usages : StandUsages s k
   pub locks : StandLocks k.state

@@ -10,7 +10,7 @@ use Rattle.nfs_machine.specs.declared.context.Ctx.{Ctx}
 use Rattle.nfs_machine.specs.declared.calls.Call.{Call}
 use Rattle.nfs_machine.specs.declared.calls.Reply.{Reply}
 use Rattle.nfs_objects.specs.declared.address.Addr.{Addr}
-use Rattle.nfs_objects.specs.declared.address.Addr.TheVariants.{Exports, Inode, Map, Block, Mounts, Usage}
+use Rattle.nfs_objects.specs.declared.address.Addr.TheVariants.{Exports, Inode, Map, Block, Page, Part, Mounts, Usage}
 use Rattle.nfs_objects.specs.declared.change.Change.{Change}
 use Rattle.nfs_objects.specs.declared.change.Write.{Write}
 use Rattle.nfs_objects.specs.declared.modes.Mode.{Mode}
@@ -30,8 +30,8 @@ pub record ViewValue : Type 0 where
   pub entries : List Seen
   pub reserved : List Reserved
 
--- how a call holds what it reads: inodes with the maps and blocks of files and what groups of inodes use, the mounts,
--- and which names it moves, if any
+-- how a call holds what it reads: inodes with the maps and blocks of files, the pages and parts of directories and what
+-- groups of inodes use; the mounts; and which names it moves, if any
 pub record ModesValue : Type 0 where
   pub inodes : Mode
   pub mounts : Mode
@@ -92,6 +92,8 @@ is_addr Exports Exports = true
 is_addr (Inode n) (Inode m) = n == m
 is_addr (Map n p) (Map m q) = (n == m) && (p == q)
 is_addr (Block n i) (Block m j) = (n == m) && (i == j)
+is_addr (Page n p) (Page m q) = (n == m) && (p == q)
+is_addr (Part n b p) (Part m c q) = (n == m) && ((b == c) && (p == q))
 is_addr Mounts Mounts = true
 is_addr (Usage e g) (Usage f h) = (e == f) && (g == h)
 is_addr a b = false

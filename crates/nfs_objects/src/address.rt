@@ -24,6 +24,22 @@ pub enum Addr {
         /// From 0.
         index: u64,
     },
+    /// A page of a directory: its entries with `PAGE_COOKIES` cookies that follow each other.
+    Page {
+        /// The number of the directory.
+        directory: u64,
+        /// From 0.
+        page: u64,
+    },
+    /// A part of the names of a directory.
+    Part {
+        /// The number of the directory.
+        directory: u64,
+        /// Below `BUCKETS`.
+        bucket: u8,
+        /// Of its bucket, from 0.
+        part: u32,
+    },
     /// The table of mounts.
     Mounts,
     /// What a group of objects uses.

@@ -1,24 +1,23 @@
 //! Directories: names, what they lead to, and their cookies.
 
-ghost use Rattle.std.specs.Prelude.{◌≡◌, [], ◌∷◌, ◌++◌, ◌==◌, length, IfOk, None, find, not};
-ghost use Rattle.std.specs.Prelude.{option_map, slice_get};
-ghost use Rattle.std.specs.Prelude.{ℕ, ◌<◌, ◌≤◌, ◌^◌, drop};
+ghost use Rattle.std.specs.Prelude.{◌≡◌, [], ◌∷◌, ◌++◌, ◌==◌, ◌<◌, length, IfOk, None, filter, find, not};
+ghost use Rattle.std.specs.Prelude.{option_map};
 ghost use Rattle.std.proofs.Common.{ap, nat_eq, rules};
 ghost use Rattle.std.specs.Cmp.Lexicographic.{bytes_decides, nat_list_eq_equiv, pointwise};
 ghost use Rattle.std.specs.Cmp.Rules.{hashing};
 ghost use Rattle.std.specs.Hash as fed;
 ghost use Rattle.nfs_machine.specs.Bytes.{same_bytes};
-ghost use Rattle.nfs_machine.specs.Pages.{behind};
 ghost use Rattle.nfs_machine.specs.RemoveSteps.{without};
-ghost use Rattle.nfs_machine.specs.WellFormed.{CookiesRise};
-ghost use Rattle.nfs_objects.specs.Entries.{entry, leaf_of, shown_entry};
+ghost use Rattle.nfs_objects.specs.Directories.{AreApart, part_among};
+ghost use Rattle.nfs_objects.specs.Entries.{entry, leaf_of};
 
+use crate::entry_map::EntryMap;
+use crate::hashing::part_among;
 use bytes::Bytes;
 use indexmap::{Equivalent, IndexMap};
 use std::alloc::{AllocError, Global};
 use std::hash::{Hash, Hasher};
 use std::marker::Model;
-use std::sync::Arc;
 
 /// What a name leads to, with the cookie that pages go by (RFC 1813, 3.3.16).
 #[derive(Clone, Copy, Debug, PartialEq, Eq)]
@@ -57,57 +56,38 @@ impl<'a> Equivalent<Bytes> for Name<'a> {
     }
 }
 
-/// The names of a directory in order of adding, so in rising order of cookie. A clause sees them as a list. They are
-/// never changed: clones share them, and one name more or less makes others.
+/// Names of a directory, each once, with what they lead to. A clause sees them as a list. They are never changed: one
+/// name more or less makes others.
 #[derive(Drop)]
 pub struct Entries {
-    map: Arc<IndexMap<Bytes, Leaf>>,
+    map: IndexMap<Bytes, Leaf>,
 }
 
 impl Model for Entries {
-    ghost use Rattle.std.specs.Prelude.{List, map};
-    ghost use Rattle.std.specs.Arc.{arc_value};
+    ghost use Rattle.std.specs.Prelude.{List};
     ghost use Rattle.nfs_machine.specs.State.{Entry};
     ghost use Rattle.nfs_objects.specs.Entries.{entries_of_pairs};
 
     ghost Value = { List Entry };
 
-    ghost view = { λ e. entries_of_pairs (arc_value e.map).entries };
+    ghost view = { λ e. entries_of_pairs e.map.entries };
 }
 
 impl Entries {
-    ghost use Rattle.nfs_objects.specs.Entries.{entries_of_pairs};
-
     /// No name.
-    ///
-    /// # Errors
-    ///
-    /// There is no memory for their owner.
-    pub fn new(alloc: Global) -> Result<Entries, AllocError>
-        ensures { IfOk result (λ entries. entries ≡ []) }
+    pub fn new(alloc: Global) -> Entries
+        ensures { result ≡ [] }
     {
-        Entries::of(alloc, IndexMap::new(alloc))
-    }
-
-    fn of(alloc: Global, map: IndexMap<Bytes, Leaf>) -> Result<Entries, AllocError>
-        ensures { IfOk result (λ entries. entries ≡ entries_of_pairs map.entries) }
-    {
-        Ok(Entries {
-            map: Arc::new(alloc, map)?,
-        })
-    }
-
-    fn map(&self) -> &IndexMap<Bytes, Leaf>
-        ensures { entries_of_pairs result.now.entries ≡ self.now }
-    {
-        &self.map
+        Entries {
+            map: IndexMap::new(alloc),
+        }
     }
 
     /// How many names there are.
     pub fn len(&self) -> usize
         ensures { result ≡ length self.now }
     {
-        self.map().len()
+        self.map.len()
     }
 
     /// Whether there are no names.
@@ -121,41 +101,21 @@ impl Entries {
     pub fn find(&self, name: &[u8]) -> Option<Leaf>
         ensures { result ≡ option_map leaf_of (find (λ e. same_bytes e.name name.now) self.now) }
     {
-        self.map().get(Name { bytes: name }).copied()
+        self.map.get(Name { bytes: name }).copied()
     }
 
-    /// The entry at this place, from 0.
-    pub fn get_index(&self, index: usize) -> Option<(&Bytes, &Leaf)>
-        ensures { option_map shown_entry result ≡ slice_get self.now index }
-    {
-        self.map().get_index(index)
-    }
-
-    /// The place of the first entry behind a cookie, where cookies rise; without such an entry, how many names there
-    /// are. It is found by a binary search.
-    pub fn place_behind(&self, cookie: u64) -> usize
-        ensures within { result ≤ length self.now }
-        ensures small { length self.now < 2 ^ 63 }
-        ensures behind { (below last : ℕ) → CookiesRise below self.now last →
-            drop result self.now ≡ behind cookie self.now }
-    {
-        self.map()
-            .as_slice()
-            .partition_point(|_name, leaf| leaf.cookie <= cookie)
-    }
-
-    /// The same with this entry last. The entries themselves stay as they are.
+    /// The same with this entry last, where the name is not there. The entries themselves stay as they are.
     ///
     /// # Errors
     ///
     /// There is no memory for the copy.
-    pub fn with_entry(&self, alloc: Global, name: &Bytes, leaf: Leaf) -> Result<Entries, AllocError>
-        requires { find (λ e. same_bytes e.name name.now) self.now ≡ None }
-        ensures { IfOk result (λ entries. entries ≡ self.now ++ entry name.now leaf ∷ []) }
+    pub fn with_entry(&self, name: &Bytes, leaf: Leaf) -> Result<Entries, AllocError>
+        ensures { IfOk result (λ entries.
+            find (λ e. same_bytes e.name name.now) self.now ≡ None → entries ≡ self.now ++ entry name.now leaf ∷ []) }
     {
-        let mut map = self.map().clone()?;
+        let mut map = self.map.clone()?;
         map.insert(name.clone()?, leaf)?;
-        Entries::of(alloc, map)
+        Ok(Entries { map })
     }
 
     /// The same without this name. The entries themselves stay as they are.
@@ -163,26 +123,50 @@ impl Entries {
     /// # Errors
     ///
     /// There is no memory for the copy.
-    pub fn without_name(&self, alloc: Global, name: &[u8]) -> Result<Entries, AllocError>
+    pub fn without_name(&self, name: &[u8]) -> Result<Entries, AllocError>
         ensures { IfOk result (λ entries. entries ≡ without self.now name.now) }
     {
-        let mut map = self.map().clone()?;
+        let mut map = self.map.clone()?;
         map.retain(
             |key: &Bytes, leaf: &mut Leaf| -> bool
                 ensures { (result ≡ not (same_bytes key.now name.entry.now)) × (leaf.new ≡ leaf.old) }
             { key.as_slice() != name },
         );
-        Entries::of(alloc, map)
+        Ok(Entries { map })
     }
-}
 
-impl Clone for Entries {
-    ghost is_clone = { λ entries copy. copy ≡ entries };
+    /// Those of them whose names are in this part of a bucket of so many. The entries themselves stay as they are.
+    ///
+    /// # Errors
+    ///
+    /// There is no memory for the copy.
+    pub fn in_part(&self, width: u32, part: u32) -> Result<Entries, AllocError>
+        ensures { IfOk result (λ entries.
+            entries ≡ filter (λ e. part_among width e.name == part) self.now) }
+    {
+        let mut map = self.map.clone()?;
+        map.retain(
+            |key: &Bytes, leaf: &mut Leaf| -> bool
+                ensures { (result ≡ (part_among width key.now == part)) × (leaf.new ≡ leaf.old) }
+            { part_among(width, key.as_slice()) == part },
+        );
+        Ok(Entries { map })
+    }
 
-    fn clone(&self) -> Result<Entries, AllocError> {
-        Ok(Entries {
-            map: Arc::try_clone(&self.map)?,
-        })
+    /// These and others, none of whose names is among these.
+    ///
+    /// # Errors
+    ///
+    /// There is no memory for the copy.
+    pub fn joined(&self, others: &Entries) -> Result<Entries, AllocError>
+        ensures { IfOk result (λ entries. AreApart self.now others.now → entries ≡ self.now ++ others.now) }
+    {
+        let mut map = self.map.clone()?;
+        for place in 0..others.map.len() {
+            let (name, leaf) = others.map.get_index(place).unwrap();
+            map.insert(name.clone()?, *leaf)?;
+        }
+        Ok(Entries { map })
     }
 }
 
@@ -200,7 +184,7 @@ impl PartialEq for Entries {
         ensures test { result ≡ pointwise same_entry self.now other.now }
         ensures same { Decides result (self.now ≡ other.now) }
     {
-        self.map().as_slice() == other.map().as_slice()
+        self.map.as_slice() == other.map.as_slice()
     }
 }
 
@@ -212,14 +196,36 @@ impl Eq for Entries {
     ghost laws = { decided (pointwise same_entry) entries_decide };
 }
 
-/// A directory (RFC 1813, 2.5: NF3DIR).
+/// A directory (RFC 1813, 2.5: NF3DIR), but for its entries, which stand in pages and parts of their own.
 #[derive(Drop)]
 pub struct Directory {
     /// The number of the directory that it is named in; of a root, its own.
     pub parent: u64,
     /// The greatest cookie that it ever used; `.` and `..` have 1 and 2.
     pub last_cookie: u64,
-    pub entries: Entries,
+    pub entries: EntryMap,
+}
+
+/// The cookie of `..`, the greatest that a new directory has used (RFC 1813, 3.3.16).
+const ABOVE_COOKIE: u64 = 2;
+
+impl Directory {
+    ghost use Rattle.nfs_objects.specs.Directories.{bare_directory};
+
+    /// A directory with no entry, which is named in this one.
+    ///
+    /// # Errors
+    ///
+    /// There is no memory for it.
+    pub fn empty(alloc: Global, parent: u64) -> Result<Directory, AllocError>
+        ensures { IfOk result (λ directory. directory ≡ bare_directory parent) }
+    {
+        Ok(Directory {
+            parent,
+            last_cookie: ABOVE_COOKIE,
+            entries: EntryMap::none(alloc)?,
+        })
+    }
 }
 
 impl Clone for Directory {

@@ -8,7 +8,8 @@ ghost use Rattle.nfs_objects.specs.Knows.{Knows};
 ghost use Rattle.nfs_objects.specs.Modes.{Suits, held_mode};
 ghost use Rattle.nfs_objects.specs.Drafts.{MayChange, MayGive, MayWrite};
 ghost use Rattle.nfs_objects.specs.Promise.{Given, Held};
-ghost use Rattle.nfs_objects.specs.Stands.{IsFitting, block_of, map_of, mounts_in, stored_map};
+ghost use Rattle.nfs_objects.specs.Stands.{IsFitting, block_of, map_of, mounts_in, page_of, part_of, stored_map};
+ghost use Rattle.nfs_objects.specs.Stands.{stored_page};
 ghost use Rattle.nfs_objects.specs.Sums.{stored_usage, usage_of};
 ghost use Rattle.nfs_objects.specs.Values.{change_value, known_at, modes_value, new_draft, pointed, with_written};
 ghost use Rattle.nfs_objects.specs.Values.{written_at};
@@ -16,9 +17,12 @@ ghost use Rattle.nfs_objects.specs.Values.{written_at};
 use crate::address::{Addr, is_same};
 use crate::bits::Bits;
 use crate::change::{Change, Halt, Write};
+use crate::directory::Entries;
+use crate::entry_map::NamePlace;
+use crate::entry_page::EntryPage;
 use crate::modes::{Mode, Modes};
 use crate::mounts::MountTable;
-use crate::object::{Inode, Object, block_known, map_known, mount_table};
+use crate::object::{Inode, Object, block_known, map_known, mount_table, page_known, part_known};
 use crate::usage::{Usage, usage_known};
 use crate::view::{Reserved, View};
 use bytes::Bytes;
@@ -262,6 +266,103 @@ impl<'a> Draft<'a> {
         ensures err { OnErr result (self.new ≡ self.old) }
     {
         self.write(Addr::Block { file, index }, None)
+    }
+
+    /// A page of a directory's entries; None where there is none.
+    ///
+    /// # Errors
+    ///
+    /// `Need` of its address where it was not read, and `Memory`.
+    pub fn page(&self, directory: u64, page: u64) -> Result<Option<&EntryPage>, Halt>
+        ensures { MatchResult result
+            (λ entries. option_map page_of (known_at self.now (Addr.Page directory page))
+            ≡ Some (option_copied entries))
+            (Lacks self.now (Addr.Page directory page)) }
+    {
+        Ok(page_known(self.find(Addr::Page { directory, page })?))
+    }
+
+    /// A part of a directory's names; None where there is none.
+    ///
+    /// # Errors
+    ///
+    /// `Need` of its address where it was not read, and `Memory`.
+    pub fn part(&self, directory: u64, place: NamePlace) -> Result<Option<&Entries>, Halt>
+        ensures { MatchResult result
+            (λ entries. option_map part_of (known_at self.now (Addr.Part directory place.bucket place.part))
+            ≡ Some (option_copied entries))
+            (Lacks self.now (Addr.Part directory place.bucket place.part)) }
+    {
+        let address = Addr::Part {
+            directory,
+            bucket: place.bucket,
+            part: place.part,
+        };
+        Ok(part_known(self.find(address)?))
+    }
+
+    /// Puts a page of a directory's entries in the place of what was read; where it has none, nothing stands there.
+    ///
+    /// # Errors
+    ///
+    /// `AllocError` where the memory was refused. It changes nothing.
+    pub fn put_page(
+        &mut self,
+        directory: u64,
+        page: u64,
+        entries: EntryPage,
+    ) -> Result<(), AllocError>
+        requires alone { MayChange self.old (Addr.Page directory page) }
+        requires known { IsSome (known_at self.old (Addr.Page directory page)) }
+        ensures ok { OnOk result (self.new ≡ with_written self.old (Addr.Page directory page) (stored_page entries)) }
+        ensures err { OnErr result (self.new ≡ self.old) }
+    {
+        let address = Addr::Page { directory, page };
+        if entries.is_empty() {
+            return self.write(address, None);
+        }
+        let object = Arc::new(self.alloc, Object::Page(entries))?;
+        self.write(address, Some(object))
+    }
+
+    /// Puts a part of a directory's names in the place of what was read.
+    ///
+    /// # Errors
+    ///
+    /// `AllocError` where the memory was refused. It changes nothing.
+    pub fn put_part(
+        &mut self,
+        directory: u64,
+        place: NamePlace,
+        entries: Entries,
+    ) -> Result<(), AllocError>
+        requires alone { MayChange self.old (Addr.Part directory place.bucket place.part) }
+        requires known { IsSome (known_at self.old (Addr.Part directory place.bucket place.part)) }
+        ensures ok { OnOk result (self.new ≡ with_written self.old (Addr.Part directory place.bucket place.part)
+            (Some (Object.Part entries))) }
+        ensures err { OnErr result (self.new ≡ self.old) }
+    {
+        let address = Addr::Part {
+            directory,
+            bucket: place.bucket,
+            part: place.part,
+        };
+        let object = Arc::new(self.alloc, Object::Part(entries))?;
+        self.write(address, Some(object))
+    }
+
+    /// Frees an address that was read.
+    ///
+    /// # Errors
+    ///
+    /// `AllocError` where the memory was refused. It changes nothing.
+    pub fn free_at(&mut self, address: Addr) -> Result<(), AllocError>
+        requires alone { MayChange self.old address }
+        requires known { IsSome (known_at self.old address) }
+        ensures ok { OnOk result (self.new ≡ with_written self.old address None) }
+        ensures err { OnErr result (self.new ≡ self.old) }
+    {
+        self.write(address, None)
     }
 
     /// Puts a table of mounts in the place of the one that was read.

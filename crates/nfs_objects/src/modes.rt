@@ -3,12 +3,12 @@
 ghost use Rattle.std.specs.Prelude.{◌≡◌, Some, option_copied, option_map};
 ghost use Rattle.std.specs.Arc.{arc_value};
 ghost use Rattle.nfs_machine.specs.Changing.{is_changing_mount, is_changing_nfs};
-ghost use Rattle.nfs_objects.specs.Modes.{covers, is_apart, is_number, led_in, held_mode, mode_for, modes_of};
-ghost use Rattle.nfs_objects.specs.Modes.{only_reads, renames_of};
+ghost use Rattle.nfs_objects.specs.Modes.{covers, held_mode, is_apart, is_elsewhere, mode_for, modes_of, number_in};
+ghost use Rattle.nfs_objects.specs.Modes.{only_reads, part_address, renames_of};
 ghost use Rattle.nfs_objects.specs.Values.{modes_value};
 
 use crate::address::Addr;
-use crate::object::{Object, living};
+use crate::object::{Object, header_known, part_known};
 use crate::view::View;
 use nfs_machine::{Call, Handle};
 use nfs_wire::{NfsCall, Place, RenameArguments};
@@ -28,7 +28,8 @@ pub enum Mode {
 /// shared.
 #[derive(Clone, Copy)]
 pub struct Modes<'a> {
-    /// Of inodes, of the maps and blocks of files, and of what groups of inodes use.
+    /// Of inodes, of the maps and blocks of files and the pages and parts of directories, and of what groups of inodes
+    /// use.
     pub inodes: Mode,
     pub mounts: Mode,
     /// The names that RENAME moves: other inodes than theirs it only reads.
@@ -78,6 +79,12 @@ impl<'a> Modes<'a> {
             Addr::Map { file, page: _ } | Addr::Block { file, index: _ } => {
                 self.inode_mode(view, file)
             }
+            Addr::Page { directory, page: _ } => self.inode_mode(view, directory),
+            Addr::Part {
+                directory,
+                bucket: _,
+                part: _,
+            } => self.inode_mode(view, directory),
             Addr::Mounts => self.mounts,
             Addr::Usage { .. } => self.inodes,
         }
@@ -119,7 +126,7 @@ fn only_reads(view: &View, arguments: &RenameArguments, number: u64) -> bool
     is_apart(view, &arguments.from, number) && is_apart(view, &arguments.to, number)
 }
 
-/// Whether a view has the directory of a name, and neither it nor what the name leads to there is at a number.
+/// Whether a view shows what a name leads to, and neither that nor the name's directory is at a number.
 fn is_apart(view: &View, place: &Place, number: u64) -> bool
     ensures { result ≡ is_apart view.now place.now number }
 {
@@ -129,17 +136,46 @@ fn is_apart(view: &View, place: &Place, number: u64) -> bool
     let Some(object) = view.find(Addr::Inode(handle.fileid)) else {
         return false;
     };
-    !(handle.fileid == number || is_led(object, place.name.as_slice(), number))
+    handle.fileid != number
+        && is_elsewhere(
+            view,
+            part_address(handle.fileid, object, place.name.as_slice()),
+            place.name.as_slice(),
+            number,
+        )
 }
 
-/// Whether a name leads to a number in the directory that stands somewhere.
-fn is_led(object: &Option<Arc<Object>>, name: &[u8], number: u64) -> bool
-    ensures { result ≡ is_number (led_in (option_map arc_value object.now) name.now) number }
+/// The part in which a name stands in the directory that stands somewhere, if it is there.
+fn part_address(directory: u64, object: &Option<Arc<Object>>, name: &[u8]) -> Option<Addr>
+    ensures { result ≡ part_address directory (option_map arc_value object.now) name.now }
 {
-    match living(object) {
-        Some(inode) => inode.content.number_under(name) == Some(number),
+    let place = header_known(object)?.entries.place_of(name)?;
+    Some(Addr::Part {
+        directory,
+        bucket: place.bucket,
+        part: place.part,
+    })
+}
+
+/// Whether a name, which stands in this part if it is there, leads to another number than this one, or to none, as a
+/// view shows.
+fn is_elsewhere(view: &View, part: Option<Addr>, name: &[u8], number: u64) -> bool
+    ensures { result ≡ is_elsewhere view.now part name.now number }
+{
+    let Some(address) = part else {
+        return true;
+    };
+    match view.find(address) {
+        Some(object) => number_in(object, name) != Some(number),
         None => false,
     }
+}
+
+/// The number that a name leads to in the part that stands where this is known.
+fn number_in(known: &Option<Arc<Object>>, name: &[u8]) -> Option<u64>
+    ensures { result ≡ number_in (option_map arc_value known.now) name.now }
+{
+    Some(part_known(known)?.find(name)?.number)
 }
 
 /// The names that a call moves.

@@ -3,10 +3,12 @@
 ghost use Rattle.std.specs.Prelude.{◌≡◌, false, MatchOption, option_map, option_copied};
 ghost use Rattle.std.specs.Arc.{arc_value};
 ghost use Rattle.nfs_machine.specs.Attributes.{is_directory};
-ghost use Rattle.nfs_objects.specs.Stands.{block_of, content_of, exports_of, inode_of, map_of, table_of};
+ghost use Rattle.nfs_objects.specs.Stands.{block_of, content_of, exports_of, header_of, inode_of, map_of, page_of};
+ghost use Rattle.nfs_objects.specs.Stands.{part_of, table_of};
 
 use crate::bits::Bits;
-use crate::directory::Directory;
+use crate::directory::{Directory, Entries};
+use crate::entry_page::EntryPage;
 use crate::exports::{ExportTable, LivingExport};
 use crate::file_map::FileMap;
 use crate::mounts::MountTable;
@@ -21,6 +23,7 @@ use std::sync::Arc;
 pub enum Content {
     /// A file, whose bytes stand in blocks of their own.
     Regular(FileMap),
+    /// A directory, whose entries stand in pages and parts of their own.
     Directory(Directory),
     /// The text of a symbolic link.
     Link(Bytes),
@@ -66,20 +69,6 @@ impl Content {
             Content::CharacterDevice(_) => 0,
             Content::Socket => 0,
             Content::Fifo => 0,
-        }
-    }
-}
-
-impl Content {
-    ghost use Rattle.nfs_objects.specs.Modes.{number_under};
-
-    /// The number that a name leads to in it; None where there is no such entry.
-    pub fn number_under(&self, name: &[u8]) -> Option<u64>
-        ensures { result ≡ number_under (content_of self.now) name.now }
-    {
-        match self {
-            Content::Directory(directory) => Some(directory.entries.find(name)?.number),
-            _ => None,
         }
     }
 }
@@ -217,6 +206,10 @@ pub enum Object {
     Map(Bits),
     /// The bytes of a block of a file, at most `BLOCK_SIZE`.
     Block(Bytes),
+    /// A page of the entries of a directory.
+    Page(EntryPage),
+    /// A part of the names of a directory.
+    Part(Entries),
     Mounts(MountTable),
     /// What a group of objects uses.
     Usage(Usage),
@@ -241,6 +234,8 @@ impl PartialEq for Object {
             (Object::Inode(a), Object::Inode(b)) => a == b,
             (Object::Map(a), Object::Map(b)) => a == b,
             (Object::Block(a), Object::Block(b)) => a == b,
+            (Object::Page(a), Object::Page(b)) => a == b,
+            (Object::Part(a), Object::Part(b)) => a == b,
             (Object::Mounts(a), Object::Mounts(b)) => a == b,
             (Object::Usage(a), Object::Usage(b)) => a == b,
             _ => false,
@@ -302,6 +297,33 @@ pub fn block_known(known: &Option<Arc<Object>>) -> Option<&Bytes>
 {
     match known.as_deref() {
         Some(Object::Block(bytes)) => Some(bytes),
+        _ => None,
+    }
+}
+
+/// The directory whose inode stands where this is known; None where none does.
+pub fn header_known(known: &Option<Arc<Object>>) -> Option<&Directory>
+    ensures { option_copied result ≡ header_of (option_map arc_value known.now) }
+{
+    living(known)?.directory()
+}
+
+/// The page of a directory that stands where this is known; None where nothing does, or what is no page.
+pub fn page_known(known: &Option<Arc<Object>>) -> Option<&EntryPage>
+    ensures { option_copied result ≡ page_of (option_map arc_value known.now) }
+{
+    match known.as_deref() {
+        Some(Object::Page(page)) => Some(page),
+        _ => None,
+    }
+}
+
+/// The part of a directory's names that stands where this is known; None where nothing does, or what is no part.
+pub fn part_known(known: &Option<Arc<Object>>) -> Option<&Entries>
+    ensures { option_copied result ≡ part_of (option_map arc_value known.now) }
+{
+    match known.as_deref() {
+        Some(Object::Part(entries)) => Some(entries),
         _ => None,
     }
 }

@@ -26,7 +26,7 @@ use Rattle.nfs_schedule.proofs.Grown.{grown_none}
 use Rattle.nfs_schedule.specs.Courses.{CoursesAreFew}
 use Rattle.nfs_schedule.specs.Grown.{HasGrown, IsAsking, IsGrown, IsNumbering, ReadsFew}
 use Rattle.nfs_schedule.specs.Order.{executed_by}
-use Rattle.nfs_schedule.specs.declared.course.Course.TheVariants.{Begun, Foreseen, Due, Asked, Numbers}
+use Rattle.nfs_schedule.specs.declared.course.Course.TheVariants.{Begun, Foreseen, Due, Asked, Above, Numbers}
 use Rattle.nfs_schedule.specs.declared.worker.Worker.{Worker}
 use Rattle.nfs_schedule.specs.declared.worker.Worker.TheVariants.{Idle, Trying, Wanting, Wishing, Ready, Blocked}
 use Rattle.nfs_schedule.specs.declared.worker.Worker.TheVariants.{Failing}
@@ -130,4 +130,5 @@ courses-few (Foreseen address mode) t a =
 courses-few Due t g = few_grown t g
 courses-few (Asked wanted) t a =
     λ s k fits stands sound formed. few_asking t (into_iter_items wanted) s k a fits stands sound formed
+courses-few (Above number) t g = few_grown t g
 courses-few (Numbers left) t n = λ s k fits stands sound formed. few_numbering t left s k n fits stands sound formed

@@ -80,19 +80,24 @@ grown_part t left a = record {
   view_is = a.view_is;
 }
 
--- an attempt asks
-pub asking_all : (t : TxnValue) (wanted : List (Addr × Mode)) → HasGrown t → AsksFor t wanted → IsAsking t wanted
-asking_all t wanted g asks = record {
+-- what an attempt may ask for
+pub asking_alone : (t : TxnValue) (asked : Vec (Addr × Mode) Global) (wanted : List (Addr × Mode)) → HasGrown t →
+    Attempts t.call t.ctx t.view (Need asked) → asked.items ≡ wanted → IsAsking t wanted
+asking_alone t asked wanted g attempts whole = record {
   before = g.rounds;
   grows = g.grows;
-  asked = asks.asked;
-  attempts = subst (λ (v : ViewValue). Attempts t.call t.ctx v (Need asks.asked)) g.view_is asks.attempts;
+  asked = asked;
+  attempts = subst (λ (v : ViewValue). Attempts t.call t.ctx v (Need asked)) g.view_is attempts;
   given = [];
-  whole = asks.whole;
+  whole = whole;
   view_is =
       g.view_is
       ∙ ap (λ es. record (view_after g.rounds) { entries = es }) (sym (append-nil (view_after g.rounds).entries));
 }
+
+-- an attempt asks
+pub asking_all : (t : TxnValue) (wanted : List (Addr × Mode)) → HasGrown t → AsksFor t wanted → IsAsking t wanted
+asking_all t wanted g asks = asking_alone t asks.asked wanted g asks.attempts asks.whole
 
 -- the first address of what is left is given
 module _ (t u : TxnValue) (a : Addr × Mode) (left : List (Addr × Mode)) (o : Option Object)

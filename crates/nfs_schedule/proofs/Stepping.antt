@@ -13,6 +13,7 @@ use Rattle.nfs_machine.specs.declared.calls.Call.{Call}
 use Rattle.nfs_machine.specs.declared.calls.Call.TheVariants as calls
 use Rattle.nfs_machine.specs.declared.context.Ctx.{Ctx}
 use Rattle.nfs_machine.specs.declared.handle.Handle.{Handle}
+use Rattle.nfs_wire.specs.declared.calls.NfsCall.{NfsCall}
 use Rattle.nfs_wire.specs.declared.calls.Place.{Place}
 use Rattle.nfs_wire.specs.declared.calls.RenameArguments.{RenameArguments}
 use Rattle.nfs_objects.proofs.Knows.{names-objects}
@@ -36,15 +37,16 @@ use Rattle.nfs_objects.specs.declared.view.Reserved.{Reserved}
 use Rattle.nfs_engine.specs.Calls.{TxnValue}
 use Rattle.nfs_schedule.proofs.Asked.{once_more}
 use Rattle.nfs_schedule.proofs.Few.{courses-few}
-use Rattle.nfs_schedule.proofs.Grown.{asking_all, asking_less, grown_none, grown_numbers, grown_part, numbering_all}
-use Rattle.nfs_schedule.proofs.Grown.{numbering_less}
-use Rattle.nfs_schedule.specs.Courses.{HasReadFew, IsAfterNumber, IsAt, IsFirstOf, IsNextStep, NumbersNext, TakesNext}
+use Rattle.nfs_schedule.proofs.Grown.{asking_all, asking_alone, asking_less, grown_none, grown_numbers, grown_part}
+use Rattle.nfs_schedule.proofs.Grown.{numbering_all, numbering_less}
+use Rattle.nfs_schedule.specs.Courses.{HasReadFew, IsAfterNumber, IsAt, IsBehind, IsFirstOf, IsNextStep, NumbersNext}
+use Rattle.nfs_schedule.specs.Courses.{TakesNext}
 use Rattle.nfs_schedule.specs.Executions.{HasNumber, HasTaken}
 use Rattle.nfs_schedule.specs.Foreseen.{foreseen, object_in}
 use Rattle.nfs_schedule.specs.Grown.{HasGrown, IsAsking, IsNumbering}
 use Rattle.nfs_schedule.specs.Workers.{IsSuited}
 use Rattle.nfs_schedule.specs.declared.course.Course.{Course}
-use Rattle.nfs_schedule.specs.declared.course.Course.TheVariants.{Begun, Foreseen, Due, Asked, Numbers}
+use Rattle.nfs_schedule.specs.declared.course.Course.TheVariants.{Begun, Foreseen, Due, Asked, Above, Numbers}
 use Rattle.nfs_schedule.specs.declared.course.NextStep.{NextStep}
 use Rattle.nfs_schedule.specs.declared.course.NextStep.TheVariants.{Acquire, Reserve}
 
@@ -107,15 +109,25 @@ takes_next t a left after asking leads = record {
       leads u (asking_less t u a left o refl asking);
 }
 
+-- behind the last address that is left the call may go up
+behind_at : (t : TxnValue) (left : List (Addr × Mode)) (after : Course) → IsBehind left after → IsAsking t left →
+    IsAt after t
+behind_at t left (Asked rest) is asking = subst (λ (l : List (Addr × Mode)). IsAsking t l) (sym is) asking
+behind_at t left (Above number) is asking = grown_part t left asking
+behind_at t left Begun is asking = absurd is
+behind_at t left (Foreseen address mode) is asking = absurd is
+behind_at t left Due is asking = absurd is
+behind_at t left (Numbers count) is asking = absurd is
+
 -- the first of these is next
 first_next : (t : TxnValue) (wanted : List (Addr × Mode)) (next : NextStep) → IsFirstOf wanted (Some next) →
     IsAsking t wanted → IsNextStep t next
 first_next t [] next first asking = absurd (let no : Some next ≡ None = first in cc)
 first_next t (a ∷ left) next first asking =
-    let same : next ≡ Acquire a.0 a.1 (Asked first.0) = cc in
+    let step : Some next ≡ Some (Acquire a.0 a.1 first.0) = first.2 in
+    let same : next ≡ Acquire a.0 a.1 first.0 = cc in
     subst (λ (n : NextStep). IsNextStep t n) (sym same)
-    (takes_next t a left (Asked first.0) asking (λ u less. subst (λ (l : List (Addr × Mode)). IsAsking u l) (sym first.1)
-    less))
+    (takes_next t a left first.0 asking (λ u less. behind_at u left first.0 first.1 less))
 
 -- ---- numbers
 number_next : (t : TxnValue) (left : ℕ) (after : Course) → IsNumbering t left → IsAfterNumber left after →
@@ -133,6 +145,7 @@ number_next t left Due n is = record {
 number_next t left Begun n is = absurd is
 number_next t left (Foreseen address mode) n is = absurd is
 number_next t left (Asked wanted) n is = absurd is
+number_next t left (Above number) n is = absurd is
 
 -- ---- what is foreseen
 abbrev nothing : ViewValue
@@ -230,15 +243,18 @@ module _ (t : TxnValue) (course : Course) (at : IsAt course t) where
   asked_next wanted next is first =
       first_next t (into_iter_items wanted) next first (subst (λ (x : Course). IsAt x t) is at)
 
+  pub above_grown : (number : ℕ) → course ≡ Above number → HasGrown t
+  above_grown number is = subst (λ (x : Course). IsAt x t) is at
+
   pub numbers_next : (left : ℕ) (after : Course) → course ≡ Numbers left → IsAfterNumber left after →
       NumbersNext t after
   numbers_next left after is less = number_next t left after (subst (λ (x : Course). IsAt x t) is at) less
 
 -- the first of these, and what is behind it
-pub first_is : (wanted : List (Addr × Mode)) (a : Addr × Mode) (rest : IntoIter (Addr × Mode) Global) →
-    wanted ≡ a ∷ into_iter_items rest → IsFirstOf wanted (Some (Acquire a.0 a.1 (Asked rest)))
-first_is wanted a rest is =
-    subst (λ (l : List (Addr × Mode)). IsFirstOf l (Some (Acquire a.0 a.1 (Asked rest)))) (sym is) (rest, refl, refl)
+pub first_is : (wanted : List (Addr × Mode)) (a : Addr × Mode) (rest : List (Addr × Mode)) (after : Course) →
+    wanted ≡ a ∷ rest → IsBehind rest after → IsFirstOf wanted (Some (Acquire a.0 a.1 after))
+first_is wanted a rest after is behind =
+    subst (λ (l : List (Addr × Mode)). IsFirstOf l (Some (Acquire a.0 a.1 after))) (sym is) (after, behind, refl)
 
 -- ---- an attempt
 module _ (t : TxnValue) (outcome : Outcome) (g : HasGrown t) (attempts : Attempts t.call t.ctx t.view outcome) where
@@ -258,6 +274,42 @@ module _ (t : TxnValue) (outcome : Outcome) (g : HasGrown t) (attempts : Attempt
   fresh_next count after is less =
       number_next t count after
       (numbering_all t count g (subst (λ (o : Outcome). Attempts t.call t.ctx t.view o) is attempts)) less
+
+-- ---- on the way up
+-- an address as a vector
+abbrev alone : Global → (a : Addr × Mode) → Vec (Addr × Mode) Global
+alone alloc a = record {
+  ptr = null_ptr;
+  len = 1;
+  cap = 1;
+  alloc = alloc;
+  items = a ∷ [];
+  ok = (refl, omega arith);
+  small = omega arith;
+}
+
+-- the call is one of NFS, on the view that it has
+module _ (t : TxnValue) (called : Call) (call : NfsCall) (view : ViewValue) (g : HasGrown t) (is : called ≡ t.call)
+    (names : called ≡ calls.Nfs call) (seen : view ≡ t.view) where
+  pub climb_suited : Suits (modes_of (calls.Nfs call)) view
+  climb_suited =
+      subst (λ (v : ViewValue). Suits (modes_of (calls.Nfs call)) v) (sym seen)
+      (subst (λ (c : Call). Suits (modes_of c) t.view) (sym is ∙ names) (grown_suited t g))
+
+  -- an address that an attempt may ask for is next
+  pub climb_next : (alloc : Global) (a : Addr × Mode) (above : ℕ) →
+      MayAsk (modes_of (calls.Nfs call)) (named_by (calls.Nfs call) view) view a → TakesNext t a (Above above)
+  climb_next alloc a above may =
+      let here =
+      subst (λ (c : Call). MayAsk (modes_of c) (named_by c t.view) t.view a) (sym names ∙ is)
+      (subst (λ (v : ViewValue). MayAsk (modes_of (calls.Nfs call)) (named_by (calls.Nfs call) v) v a) seen may) in
+      let asks : Asks (modes_of t.call) (named_by t.call t.view) t.view (a ∷ []) = record {
+        some = λ none. cc;
+        once = (tt, tt);
+        each = (here, tt);
+      } in
+      takes_next t a [] (Above above) (asking_alone t (alone alloc a) (a ∷ []) g asks refl)
+      (λ u less. grown_part u [] less)
 
 -- ---- a step that was made
 pub taken_on : (t u : TxnValue) (a : Addr × Mode) (o : Option Object) (after : Course) → TakesNext t a after →

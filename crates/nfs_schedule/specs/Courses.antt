@@ -1,8 +1,6 @@
 -- The course of a call: where it is between two of its steps, and which step comes next.
 use Rattle.std.specs.Prelude.{◌≡◌, ℕ, ◌+◌, ◌<◌, ◌≤◌, List, [], ◌∷◌, length, Option, Some, None}
 use Rattle.std.specs.Vec.Iter.{into_iter_items}
-use Rattle.std.specs.declared.alloc.Global.{Global}
-use Rattle.std.specs.declared.vec.IntoIter.{IntoIter}
 use Rattle.nfs_machine.specs.WellFormed.{WellFormed}
 use Rattle.nfs_objects.specs.Asks.{EachOnce}
 use Rattle.nfs_objects.specs.Bound.{empty_count, held, view_after}
@@ -21,7 +19,7 @@ use Rattle.nfs_objects.specs.declared.view.Reserved.{Reserved}
 use Rattle.nfs_engine.specs.Calls.{TxnValue}
 use Rattle.nfs_schedule.specs.Grown.{HasGrown, IsAsking, IsNumbering}
 use Rattle.nfs_schedule.specs.declared.course.Course.{Course}
-use Rattle.nfs_schedule.specs.declared.course.Course.TheVariants.{Begun, Foreseen, Due, Asked, Numbers}
+use Rattle.nfs_schedule.specs.declared.course.Course.TheVariants.{Begun, Foreseen, Due, Asked, Above, Numbers}
 use Rattle.nfs_schedule.specs.declared.course.NextStep.{NextStep}
 use Rattle.nfs_schedule.specs.declared.course.NextStep.TheVariants.{Acquire, Reserve, Commit, Fail}
 
@@ -31,6 +29,7 @@ IsAt Begun t = t.view ≡ view_after []
 IsAt (Foreseen address mode) t = IsAsking t ((address, mode) ∷ [])
 IsAt Due t = HasGrown t
 IsAt (Asked wanted) t = IsAsking t (into_iter_items wanted)
+IsAt (Above number) t = HasGrown t
 IsAt (Numbers left) t = IsNumbering t left
 
 -- ---- the next step
@@ -55,11 +54,15 @@ IsNextStep t (Reserve after) = NumbersNext t after
 IsNextStep t (Commit change) = HasGrown t × IsPromised (done_value t.call t.ctx t.view (change_value change))
 IsNextStep t Fail = HasGrown t
 
--- the step to the first of these, where there is one
+-- the step to the first of these, where there is one; behind the last the call may go up ahead of its next attempt
+abbrev pub IsBehind : List (Addr × Mode) → Course → Type 0
+IsBehind others (Asked rest) = into_iter_items rest ≡ others
+IsBehind others (Above number) = others ≡ []
+IsBehind others course = ⊥
+
 abbrev pub IsFirstOf : List (Addr × Mode) → Option NextStep → Type 0
 IsFirstOf [] next = next ≡ None
-IsFirstOf (a ∷ others) next = (rest : IntoIter (Addr × Mode) Global) × (into_iter_items rest ≡ others) ×
-    (next ≡ Some (Acquire a.0 a.1 (Asked rest)))
+IsFirstOf (a ∷ others) next = (after : Course) × IsBehind others after × (next ≡ Some (Acquire a.0 a.1 after))
 
 -- where a call is that wanted so many numbers and got one
 abbrev pub IsAfterNumber : (left : ℕ) → Course → Type 0

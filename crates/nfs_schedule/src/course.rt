@@ -1,17 +1,19 @@
 //! The course of a call: which step comes next, until it is done or there is no memory. It touches no engine: whoever
 //! has the call makes the step that is named, each in its own way.
 
-ghost use Rattle.std.specs.Prelude.{◌≡◌, [], IfOk};
+ghost use Rattle.std.specs.Prelude.{◌≡◌, [], IfOk, IfSome};
 ghost use Rattle.std.specs.Vec.Iter.{into_iter_items};
 ghost use Rattle.nfs_objects.specs.Attempt.{AsksFirst, Attempts};
 ghost use Rattle.nfs_objects.specs.Bound.{view_after};
-ghost use Rattle.nfs_schedule.specs.Courses.{IsAfterNumber, IsAt, IsFirstOf, IsNextStep};
+ghost use Rattle.nfs_schedule.specs.Courses.{IsAfterNumber, IsAt, IsBehind, IsFirstOf, IsNextStep};
 ghost use Rattle.nfs_schedule.specs.Grown.{HasGrown};
 ghost use Rattle.nfs_schedule.specs.Workers.{IsSuited};
 
 use crate::attempts::attempt;
 use crate::foreseen::foreseen;
 use nfs_engine::Txn;
+use nfs_machine::Call;
+use nfs_names::climbing::{climbs, next_above};
 use nfs_objects::{Addr, Change, Mode, Outcome};
 use std::alloc::{AllocError, Global};
 use std::vec::IntoIter;
@@ -27,6 +29,8 @@ pub enum Course {
     Due,
     /// It wants these addresses of those that its attempt asked for, the first one first.
     Asked(IntoIter<(Addr, Mode)>),
+    /// It took the directory at this number, and goes on with those above it, ahead of its next attempt.
+    Above(u64),
     /// It wants so many new numbers.
     Numbers(u32),
 }
@@ -54,7 +58,11 @@ pub fn next_step(alloc: Global, txn: &Txn, course: Course) -> NextStep
         Course::Begun => begin(alloc, txn),
         Course::Foreseen(address, mode) => NextStep::Acquire(address, mode, Course::Due),
         Course::Due => consider(alloc, txn),
-        Course::Asked(wanted) => match first_of(wanted) {
+        Course::Asked(wanted) => match first_of(txn, wanted) {
+            Some(next) => next,
+            None => consider(alloc, txn),
+        },
+        Course::Above(number) => match climb(alloc, txn, number) {
             Some(next) => next,
             None => consider(alloc, txn),
         },
@@ -82,7 +90,7 @@ fn consider(alloc: Global, txn: &Txn) -> NextStep
     ensures { IsNextStep txn.now result }
 {
     match attempt_on(alloc, txn) {
-        Ok(Outcome::Need(asked)) => match first_of(asked.into_iter()) {
+        Ok(Outcome::Need(asked)) => match first_of(txn, asked.into_iter()) {
             Some(next) => next,
             None => unreachable!(),
         },
@@ -108,14 +116,48 @@ pub(crate) fn attempt_on(alloc: Global, txn: &Txn) -> Result<Outcome, AllocError
 }
 
 /// The step to the first of these addresses, and the others behind it. None where there is no address.
-fn first_of(wanted: IntoIter<(Addr, Mode)>) -> Option<NextStep>
+fn first_of(txn: &Txn, wanted: IntoIter<(Addr, Mode)>) -> Option<NextStep>
     ensures { IsFirstOf (into_iter_items wanted) result }
 {
     let mut wanted = wanted;
     let Some((address, mode)) = wanted.next() else {
         return None;
     };
-    Some(NextStep::Acquire(address, mode, Course::Asked(wanted)))
+    let after = behind(txn.call(), address, mode, wanted);
+    Some(NextStep::Acquire(address, mode, after))
+}
+
+/// Where a call is that takes this now, and wants the others behind it. Behind the last one, a directory from which it
+/// goes up, those above that are taken next.
+fn behind(call: &Call, address: Addr, mode: Mode, others: IntoIter<(Addr, Mode)>) -> Course
+    ensures { IsBehind (into_iter_items others) result }
+{
+    match climbs_from(call, address, mode) {
+        Some(number) if others.len() == 0 => Course::Above(number),
+        _ => Course::Asked(others),
+    }
+}
+
+/// The number of the directory from which a call goes up, where it takes this now.
+fn climbs_from(call: &Call, address: Addr, mode: Mode) -> Option<u64> {
+    match call {
+        Call::Nfs(call) => climbs(call, address, mode),
+        _ => None,
+    }
+}
+
+/// The step of a call that took the directory at this number to the one above it. None where it has that, or wants it
+/// not.
+fn climb(alloc: Global, txn: &Txn, number: u64) -> Option<NextStep>
+    requires { HasGrown txn.now }
+    ensures { IfSome result (IsNextStep txn.now) }
+{
+    let Call::Nfs(call) = txn.call() else {
+        return None;
+    };
+    let (address, mode) = next_above(alloc, call, txn.ctx(), txn.view(), number)?;
+    let above = climbs(call, address, mode)?;
+    Some(NextStep::Acquire(address, mode, Course::Above(above)))
 }
 
 /// Where a call is that wanted so many new numbers and got one.

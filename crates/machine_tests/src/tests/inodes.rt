@@ -9,7 +9,7 @@ use nfs_inodes::{
     named, new_cookie, object, permitted, plain_name_checked, regular, shown, verifier, wcc,
 };
 use nfs_machine::Handle;
-use nfs_objects::{Draft, Leaf};
+use nfs_objects::Draft;
 use nfs_wire::{NfsStatus, Verifier, WeakAttributes};
 
 /// What a draft that reads tells of object 9.
@@ -277,16 +277,8 @@ fn kinds_and_names_are_checked(rt: HostRuntime) {
 pub(super) fn place(alloc: Global, last_cookie: u64) -> Result<View, AllocError>
     ensures { IfOk result (Suits reading) }
 {
-    let a = Leaf {
-        number: 7,
-        cookie: 3,
-    };
-    let (none, name) = (Entries::new(alloc)?, Bytes::from_static(b"a"));
-    let entries = none.with_entry(alloc, &name, a);
-    drop(none);
-    drop(name);
-    let content = Content::Directory(directory(entries?, last_cookie));
-    viewed(alloc, inode(content, 0o777), Beside::Nothing)
+    let content = Content::Directory(with_a(alloc, last_cookie)?);
+    viewed(alloc, inode(content, 0o777), Beside::Named)
 }
 
 /// What names lead to in directory 9, and which entries they have.

@@ -81,7 +81,7 @@ fn start_inode(alloc: Global, start: Start) -> Result<Inode, AllocError> {
     match start {
         Start::Hello(links) => hello(links),
         Start::Place => {
-            let content = Content::Directory(directory(Entries::new(alloc)?, 2));
+            let content = Content::Directory(bare(alloc)?);
             Ok(inode(content, 0o777))
         }
     }
@@ -206,11 +206,9 @@ fn has_links(draft: &Draft<'_>, links: u32, modified: Time, changed: Time) -> Re
 
 /// What the name leads to in directory 9.
 fn led(draft: &Draft<'_>, name: &[u8]) -> Option<u64> {
-    let content = &living(draft.find(Addr::Inode(9)).ok()?)?.content;
-    match content {
-        Content::Directory(directory) => Some(directory.entries.find(name)?.number),
-        _ => None,
-    }
+    let directory = living(draft.find(Addr::Inode(9)).ok()?)?.directory()?;
+    let part = draft.part(9, directory.entries.place_of(name)?).ok()?;
+    Some(part?.find(name)?.number)
 }
 
 /// The cookie of the next entry of directory 9.
@@ -408,6 +406,7 @@ const PLACE: Case = Case {
 const NAMES: [Case; 2] = [
     Case {
         name: "names come and go",
+        beside: Beside::Room,
         change: Change::ComeAndGo,
         finds: &[
             Find::Leads(b"a", Some(7)),

@@ -2,7 +2,7 @@
 
 use super::*;
 use nfs_objects::object::{export_list, living, mount_table};
-use nfs_objects::{Leaf, MountTable, share};
+use nfs_objects::{MountTable, share};
 use nfs_wire::Verifier;
 
 /// The user of the inode that stands there, how many exports, and whether the table of mounts is empty.
@@ -66,12 +66,13 @@ fn is_text(content: Content, want: &[u8]) -> bool {
     is_text
 }
 
-/// Whether a directory below directory 1 has two names, and used the cookie 4 last.
-fn has_two(directory: Directory) -> bool {
-    let count = directory.entries.len();
-    let has_two = (directory.parent, directory.last_cookie, count) == (1, 4, 2);
+/// Whether a directory below directory 1 has one name, of cookie 3, and used the cookie 4 last.
+fn has_a(directory: Directory) -> bool {
+    let listed = directory.entries.pages.has(0) && directory.entries.pages.next_behind(0).is_none();
+    let counted = directory.entries.counts.count(33) == 1;
+    let has_a = listed && counted && (directory.parent, directory.last_cookie) == (1, 4);
     drop(directory);
-    has_two
+    has_a
 }
 
 /// What a name leads to, with its cookie.
@@ -98,48 +99,40 @@ const B: Named = Named {
 };
 
 /// The entries with one more, unless the name is there.
-fn wider(alloc: Global, entries: &Entries, named: Named) -> Result<Entries, AllocError> {
+fn wider(entries: &Entries, named: Named) -> Result<Entries, AllocError> {
     if entries.find(named.name).is_some() {
         return Err(AllocError);
     }
     let name = Bytes::from_static(named.name);
-    let wider = entries.with_entry(alloc, &name, named.leaf);
+    let wider = entries.with_entry(&name, named.leaf);
     drop(name);
     wider
 }
 
 /// The same of entries that are dropped.
-fn with_named(alloc: Global, entries: Entries, named: Named) -> Result<Entries, AllocError> {
-    let wider = wider(alloc, &entries, named);
+fn with_named(entries: Entries, named: Named) -> Result<Entries, AllocError> {
+    let wider = wider(&entries, named);
     drop(entries);
     wider
 }
 
 /// `a` leads to 7 and `b` to 8, with the cookies 3 and 4.
 fn two(alloc: Global) -> Result<Entries, AllocError> {
-    with_named(alloc, with_named(alloc, Entries::new(alloc)?, A)?, B)
+    with_named(with_named(Entries::new(alloc), A)?, B)
 }
 
 /// The same without `a`.
 fn without_a(alloc: Global) -> Result<Entries, AllocError> {
     let two = two(alloc)?;
-    let left = two.without_name(alloc, A.name);
+    let left = two.without_name(A.name);
     drop(two);
     left
 }
 
-/// Whether the entry at this place is so.
-fn is_at(entries: &Entries, index: usize, want: &Named) -> bool {
-    match entries.get_index(index) {
-        Some((name, leaf)) => name.as_slice() == want.name && *leaf == want.leaf,
-        None => false,
-    }
-}
-
-/// Whether these are the entries in order of adding, and each is found by its name.
+/// Whether these are all names, and each is found.
 fn stand_so(entries: &Entries, list: &[Named]) -> bool {
-    for (index, named) in list.iter().enumerate() {
-        if !is_at(entries, index, named) || entries.find(named.name) != Some(named.leaf) {
+    for named in list {
+        if entries.find(named.name) != Some(named.leaf) {
             return false;
         }
     }
@@ -159,20 +152,19 @@ fn are_copied(alloc: Global) -> Result<bool, AllocError> {
     Ok(
         is_text(copied(text)?, b"../data")
             && is_marked(copied(marked())?)
-            && has_two(copied(directory(two(alloc)?, 4))?),
+            && has_a(copied(with_a(alloc, 4)?)?),
     )
 }
 
 #[test]
 fn a_copy_is_the_same(rt: HostRuntime) -> Result<(), AllocError> {
     assert!(rt; are_copied(rt.alloc())?);
-    assert!(rt; are(copied(two(rt.alloc())?)?, &[A, B], b"ab"));
     Ok(())
 }
 
 /// What follows a name that goes keeps its cookie.
 #[test]
-fn entries_stand_in_order_of_adding(rt: HostRuntime) -> Result<(), AllocError> {
+fn names_come_and_go(rt: HostRuntime) -> Result<(), AllocError> {
     assert!(rt; are(two(rt.alloc())?, &[A, B], b"ab"));
     assert!(rt; are(without_a(rt.alloc())?, &[B], b"a"));
     Ok(())
@@ -181,7 +173,7 @@ fn entries_stand_in_order_of_adding(rt: HostRuntime) -> Result<(), AllocError> {
 /// Whether an inode has no names, where it is a directory.
 fn is_empty(inode: Inode) -> Option<bool> {
     let is_empty = match inode.directory() {
-        Some(directory) => Some(directory.entries.is_empty()),
+        Some(directory) => Some(directory.entries.is_none()),
         None => None,
     };
     drop(inode);
@@ -192,7 +184,7 @@ fn is_empty(inode: Inode) -> Option<bool> {
 #[test]
 fn an_object_is_of_one_kind(rt: HostRuntime) -> Result<(), AllocError> {
     assert!(rt; kinds_are_told(rt.alloc())?);
-    let place = directory(Entries::new(rt.alloc())?, 2);
+    let place = bare(rt.alloc())?;
     assert!(rt; is_empty(inode(Content::Directory(place), 0o700)) == Some(true));
     assert!(rt; is_empty(fifo(0o700)).is_none());
     Ok(())

@@ -10,21 +10,23 @@ ghost use Rattle.nfs_objects.specs.Asks.{IsThere};
 ghost use Rattle.nfs_objects.specs.Calls.{addresses_of};
 ghost use Rattle.nfs_objects.specs.Knows.{Knows};
 ghost use Rattle.nfs_objects.specs.Modes.{led_at};
-ghost use Rattle.nfs_objects.specs.Stands.{content_of, parent_in};
+ghost use Rattle.nfs_objects.specs.Stands.{content_of, entry_map_in, parent_in};
+ghost use Rattle.nfs_inodes.specs.Entered.{IsLastCookie, IsNextCookie, TellsBare};
 ghost use Rattle.nfs_inodes.specs.Known.{IsKnown, content_at, last_cookie_of, new_cookie};
 ghost use Rattle.nfs_inodes.specs.Stops.{ReadsInode, StopsAt};
 
+use crate::content::taking::leaf_of;
 use crate::found::inode;
 use crate::kinds::Directory;
 use crate::names::{is_above, is_self};
 use nfs_objects::{Addr, Content, Draft, Halt};
 
 /// The number that a name's entry leads to in a directory; None where there is no such entry. Something lives there in
-/// every store that the view fits.
+/// every store that the view fits. Beside the directory's header it reads the part of the name, if there is one.
 ///
 /// # Errors
 ///
-/// `Need` of the exports or the directory's address, and `Memory`.
+/// `Need` of the exports, the directory's address or its part, and `Memory`.
 pub fn entry(draft: &Draft<'_>, directory: &Directory, name: &[u8]) -> Result<Option<u64>, Halt>
     requires none { draft.now.writes ≡ [] }
     requires known { Knows draft.now (λ k. IsKnown k.state directory.now.known) }
@@ -36,8 +38,15 @@ pub fn entry(draft: &Draft<'_>, directory: &Directory, name: &[u8]) -> Result<Op
     ensures led { IfOk result (λ number. IfSome number (λ n.
         led_at draft.now.view directory.now.known.number name.now ≡ Some n)) }
 {
-    match inode(draft, directory.known.number)? {
-        Some(inode) => Ok(inode.content.number_under(name)),
+    let number = directory.known.number;
+    let Some(inode) = inode(draft, number)? else {
+        return Ok(None);
+    };
+    let Content::Directory(header) = &inode.content else {
+        return Ok(None);
+    };
+    match leaf_of(draft, number, &header.entries, name)? {
+        Some(leaf) => Ok(Some(leaf.number)),
         None => Ok(None),
     }
 }
@@ -69,7 +78,7 @@ fn parent_of(content: &Content) -> u64
 ///
 /// # Errors
 ///
-/// `Need` of the exports or the directory's address, and `Memory`.
+/// `Need` of the exports, the directory's address or its part, and `Memory`.
 pub fn leads_to(draft: &Draft<'_>, directory: &Directory, name: &[u8]) -> Result<Option<u64>, Halt>
     requires none { draft.now.writes ≡ [] }
     requires known { Knows draft.now (λ k. IsKnown k.state directory.now.known) }
@@ -107,10 +116,10 @@ pub fn is_empty(draft: &Draft<'_>, directory: &Directory) -> Result<bool, Halt>
 }
 
 fn is_empty_in(content: &Content) -> bool
-    ensures { result ≡ (length (entries_of (content_of content.now)) == 0) }
+    ensures { TellsBare (entry_map_in content.now) result }
 {
     match content {
-        Content::Directory(directory) => directory.entries.is_empty(),
+        Content::Directory(directory) => directory.entries.is_none(),
         _ => true,
     }
 }
@@ -122,19 +131,21 @@ fn is_empty_in(content: &Content) -> bool
 ///
 /// `Need` of the exports or the directory's address, and `Memory`.
 pub fn new_cookie(draft: &Draft<'_>, directory: &Directory) -> Result<Option<u64>, Halt>
-    ensures { MatchResult result
+    ensures cookie { MatchResult result
         (λ cookie. Knows draft.now (λ k.
         new_cookie (last_cookie_of (content_at k.state directory.now.known.number)) ≡ cookie))
         (StopsAt draft.now (addresses_of draft.now.view directory.now.known.number)) }
+    ensures next { IfOk result (λ cookie. IfSome cookie (IsNextCookie draft.now directory.now.known.number)) }
 {
     Ok(last_cookie(draft, directory)?.checked_add(1))
 }
 
 /// The greatest cookie that a directory ever used.
 fn last_cookie(draft: &Draft<'_>, directory: &Directory) -> Result<u64, Halt>
-    ensures { MatchResult result
+    ensures cookie { MatchResult result
         (λ last. Knows draft.now (λ k. last_cookie_of (content_at k.state directory.now.known.number) ≡ last))
         (StopsAt draft.now (addresses_of draft.now.view directory.now.known.number)) }
+    ensures shown { IfOk result (IsLastCookie draft.now directory.now.known.number) }
 {
     match inode(draft, directory.known.number)? {
         Some(inode) => Ok(last_cookie_in(&inode.content)),

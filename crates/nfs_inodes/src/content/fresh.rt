@@ -2,17 +2,15 @@
 
 ghost use Rattle.std.specs.Prelude.{◌≡◌, IfOk, IfSome};
 ghost use Rattle.nfs_objects.specs.Bits.{no_bits};
-ghost use Rattle.nfs_objects.specs.Stands.{content_of, map_in, parent_in};
+ghost use Rattle.nfs_objects.specs.Directories.{no_entries};
+ghost use Rattle.nfs_objects.specs.Stands.{content_of, entry_map_in, map_in, parent_in};
 ghost use Rattle.nfs_inodes.specs.Asked.{content_asked};
 ghost use Rattle.nfs_inodes.specs.Makes.{first_parent};
 
 use crate::making::NewContent;
 use bytes::Bytes;
-use nfs_objects::{Bits, Content, Entries, FileMap};
+use nfs_objects::{Bits, Content, FileMap};
 use std::alloc::{AllocError, Global};
-
-/// The cookie of `..`, the greatest that a new directory has used (RFC 1813, 3.3.16).
-const ABOVE_COOKIE: u64 = 2;
 
 /// The content of a new object in a directory with this number.
 ///
@@ -26,15 +24,14 @@ pub(crate) fn new_content(
 ) -> Result<Content, AllocError>
     ensures content { IfOk result (λ made. content_of made ≡ content_asked content.now) }
     ensures parent { IfOk result (λ made. parent_in made ≡ first_parent parent (content_asked content.now)) }
+    ensures bare { IfOk result (λ made. IfSome (entry_map_in made) (λ map. map ≡ no_entries)) }
     ensures blank { IfOk result (λ made. IfSome (map_in made) (λ map. map.pages ≡ no_bits)) }
 {
     Ok(match content {
         NewContent::Regular(size) => Content::Regular(FileMap::new(*size, Bits::none())?),
-        NewContent::Directory => Content::Directory(nfs_objects::Directory {
-            parent,
-            last_cookie: ABOVE_COOKIE,
-            entries: Entries::new(alloc)?,
-        }),
+        NewContent::Directory => {
+            Content::Directory(nfs_objects::Directory::empty(alloc, parent)?)
+        }
         NewContent::Link(text) => Content::Link(Bytes::copy_from_slice(alloc, text)?),
         NewContent::BlockDevice(device) => Content::BlockDevice(*device),
         NewContent::CharacterDevice(device) => Content::CharacterDevice(*device),

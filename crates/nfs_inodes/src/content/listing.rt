@@ -1,25 +1,32 @@
 //! The entries of a directory in order of cookie (RFC 1813, 3.3.16).
 
-ghost use Rattle.std.specs.Prelude.{◌≡◌, ℕ, ◌+◌, ◌<◌, ◌^◌, [], drop, length, IfOk, IfSome};
-ghost use Rattle.std.specs.Prelude.{MatchResult};
-ghost use Rattle.std.specs.Prelude.{option_map, slice_get};
+ghost use Rattle.std.specs.Prelude.{◌≡◌, ℕ, ◌<◌, ◌^◌, ◌++◌, [], length, map, IfOk, MatchResult, OnOk};
+ghost use Rattle.std.specs.Prelude.{◌⊎◌, IfErr, IsSome, Some, option_copied, true};
 ghost use Rattle.nfs_machine.specs.Attributes.{entries_of};
 ghost use Rattle.nfs_machine.specs.Pages.{all_entries, behind};
 ghost use Rattle.nfs_machine.specs.WellFormed.{CookiesRise, WellFormed};
+ghost use Rattle.nfs_objects.specs.Asks.{IsThere};
 ghost use Rattle.nfs_objects.specs.Calls.{addresses_of};
+ghost use Rattle.nfs_objects.specs.PageRuns.{lists};
 ghost use Rattle.nfs_objects.specs.Knows.{Knows};
-ghost use Rattle.nfs_objects.specs.Stands.{content_of, parent_in};
+ghost use Rattle.nfs_objects.specs.Values.{known_at};
+ghost use Rattle.nfs_objects.specs.declared.address.Addr.TheVariants as Addr;
+ghost use Rattle.nfs_inodes.specs.Entered.{DirectoryLives, ShowsPage};
 ghost use Rattle.nfs_inodes.specs.Gathers.{EachLives};
 ghost use Rattle.nfs_inodes.specs.Known.{IsKnown, content_at};
-ghost use Rattle.nfs_inodes.specs.Listing.{listed_entry, name_of, listed_names};
+ghost use Rattle.nfs_inodes.specs.Listing.{IsFrontOf, dots_behind, listed_entry, name_of};
 ghost use Rattle.nfs_inodes.specs.Stops.{StopsAt};
 
+use crate::content::asking::Asking;
 use crate::found::inode;
 use crate::kinds::Directory;
 use bytes::Bytes;
-use nfs_objects::{Addr, Content, Draft, Entries, Halt};
-use std::alloc::AllocError;
+use nfs_objects::{
+    Addr, Content, Draft, EntryMap, EntryPage, Halt, NamedLeaf, PAGE_COOKIES, PageList,
+};
+use std::alloc::{AllocError, Global};
 use std::marker::Model;
+use std::vec::IntoIter;
 
 /// The name of an entry.
 #[derive(Clone, Copy)]
@@ -70,28 +77,22 @@ impl<'d> Listed<'d> {
     }
 }
 
-/// The entries of a directory that are left behind a cookie, `.` and `..` among them, each of which is read as it
-/// comes. A clause sees those that are left as a list.
+/// Entries of a directory that follow each other, which are gone through one by one. A clause sees those that are left
+/// as a list.
 #[derive(Drop)]
 pub struct EntriesLeft<'d> {
-    number: u64,
-    parent: u64,
-    names: Option<&'d Entries>,
-    /// How many entries stand in front.
-    passed: usize,
+    entries: IntoIter<Listed<'d>>,
 }
 
 impl<'d> Model for EntriesLeft<'d> {
-    ghost use Rattle.std.specs.Prelude.{List, drop, length, ◌<◌, ◌^◌};
-    ghost use Rattle.nfs_machine.specs.Pages.{all_entries};
+    ghost use Rattle.std.specs.Prelude.{List, map};
+    ghost use Rattle.std.specs.Vec.Iter.{into_iter_items};
     ghost use Rattle.nfs_machine.specs.State.{Entry};
-    ghost use Rattle.nfs_inodes.specs.Listing.{listed_names};
+    ghost use Rattle.nfs_inodes.specs.Listing.{listed_entry};
 
     ghost Value = { List Entry };
 
-    ghost view = { λ e. drop e.passed (all_entries e.number e.parent (listed_names e.names)) };
-
-    ghost invariant = { λ e. length (listed_names e.names) < 2 ^ 63 };
+    ghost view = { λ e. map listed_entry (into_iter_items e.entries) };
 }
 
 impl<'d> Iterator for EntriesLeft<'d> {
@@ -105,122 +106,196 @@ impl<'d> Iterator for EntriesLeft<'d> {
     ghost remaining = { item_count (λ left. left) };
 
     fn next(&mut self) -> Option<Listed<'d>> {
-        match entry_at(self.number, self.parent, self.names, self.passed) {
-            Some(entry) => {
-                self.passed += 1;
-                Some(entry)
-            }
-            None => None,
-        }
+        self.entries.next()
     }
 }
 
-/// The entry at this place among `.`, `..` and the names that were added.
-fn entry_at<'d>(
-    number: u64,
-    parent: u64,
-    names: Option<&'d Entries>,
-    place: usize,
-) -> Option<Listed<'d>>
-    requires { length (listed_names names) < 2 ^ 63 }
-    ensures entry { option_map listed_entry result
-        ≡ slice_get (all_entries number parent (listed_names names.entry)) place }
-    ensures small { IfSome result (λ _. place + 1 < 2 ^ 64) }
-{
-    match place {
-        0 => Some(Listed {
-            name: EntryName::Own,
-            number,
-            cookie: 1,
-        }),
-        1 => Some(Listed {
-            name: EntryName::Above,
-            number: parent,
-            cookie: 2,
-        }),
-        _ => name_at(names, place - 2),
-    }
+/// The first entries of a directory behind a cookie.
+#[derive(Drop)]
+pub struct Left<'d> {
+    pub entries: EntriesLeft<'d>,
+    /// Whether no others are left.
+    pub is_all: bool,
 }
 
-/// The entry at this place among the names that were added.
-fn name_at<'d>(names: Option<&'d Entries>, place: usize) -> Option<Listed<'d>>
-    ensures { option_map listed_entry result ≡ slice_get (listed_names names.entry) place }
-{
-    let (name, leaf) = names?.get_index(place)?;
-    Some(Listed {
-        name: EntryName::Added(name),
-        number: leaf.number,
-        cookie: leaf.cookie,
-    })
-}
-
-/// The entries of a directory that are left behind a cookie. Something lives at the number of each in every store that
-/// the view fits.
+/// The entries of a directory that are left behind a cookie, `.` and `..` among them: all of them, or at least so many.
+/// Something lives at the number of each in every store that the view fits. The directory's pages are read at once as
+/// far as so many entries need them, if all have as many as they may.
 ///
 /// # Errors
 ///
-/// `Need` of the exports or the directory's address, and `Memory`.
+/// `Need` of the exports, the directory's address or those pages, and `Memory`.
 pub fn entries_left<'d>(
     draft: &'d Draft<'_>,
     directory: &Directory,
     cookie: u64,
-) -> Result<EntriesLeft<'d>, Halt>
+    enough: usize,
+) -> Result<Left<'d>, Halt>
     requires none { draft.now.writes ≡ [] }
     requires known { Knows draft.now (λ k. IsKnown k.state directory.now.known) }
     ensures left { MatchResult result
         (λ left. Knows draft.now (λ k. WellFormed k.state →
-        behind cookie (all_entries directory.now.known.number (k.parents directory.now.known.number)
-        (entries_of (content_at k.state directory.now.known.number))) ≡ left))
+        IsFrontOf left.entries left.is_all enough
+        (behind cookie (all_entries directory.now.known.number (k.parents directory.now.known.number)
+        (entries_of (content_at k.state directory.now.known.number))))))
         (StopsAt draft.now (addresses_of draft.now.view directory.now.known.number)) }
-    ensures lives { IfOk result (EachLives draft.now.view) }
+    ensures lives { IfOk result (λ left. EachLives draft.now.view left.entries) }
 {
     let number = directory.known.number;
-    match inode(draft, number)? {
-        Some(inode) => Ok(left_in(number, &inode.content, cookie)),
-        None => Ok(left_of(number, 0, None, cookie)),
-    }
-}
-
-fn left_in<'d>(number: u64, content: &'d Content, cookie: u64) -> EntriesLeft<'d>
-    ensures { (last : ℕ) → CookiesRise 2 (entries_of (content_of content.now)) last →
-        behind cookie (all_entries number (parent_in content.now) (entries_of (content_of content.now))) ≡ result }
-{
-    match content {
-        Content::Directory(directory) => {
-            left_of(number, directory.parent, Some(&directory.entries), cookie)
-        }
-        _ => left_of(number, 0, None, cookie),
-    }
-}
-
-/// What is left of `.`, `..` and these names.
-fn left_of<'d>(number: u64, parent: u64, names: Option<&'d Entries>, cookie: u64) -> EntriesLeft<'d>
-    ensures { (last : ℕ) → CookiesRise 2 (listed_names names.entry) last →
-        behind cookie (all_entries number parent (listed_names names.entry)) ≡ result }
-{
-    let names_passed = place_behind(names, cookie);
-    let passed = match cookie {
-        0 => 0,
-        1 => 1,
-        _ => 2 + names_passed,
+    let mut left = Vec::new(draft.alloc());
+    let Some(inode) = inode(draft, number)? else {
+        return Ok(all(left));
     };
-    EntriesLeft {
-        number,
-        parent,
-        names,
-        passed,
+    let Content::Directory(header) = &inode.content else {
+        return Ok(all(left));
+    };
+    add_dots(&mut left, number, header.parent, cookie)?;
+    let pages = &header.entries.pages;
+    let mut next = pages.next_from(cookie / PAGE_COOKIES);
+    'pages: while let Some(page) = next {
+        if left.len() >= enough {
+            return Ok(Left {
+                entries: EntriesLeft {
+                    entries: left.into_iter(),
+                },
+                is_all: false,
+            });
+        }
+        if let Some(entries) = page_at(draft, number, &header.entries, page, enough - left.len())? {
+            add_behind(&mut left, entries, cookie)?;
+        }
+        next = pages.next_behind(page);
+    }
+    Ok(all(left))
+}
+
+/// These are all.
+fn all<'d>(entries: Vec<Listed<'d>>) -> Left<'d>
+    ensures entries { result.entries ≡ map listed_entry entries.entry.items }
+    ensures all { result.is_all ≡ true }
+{
+    Left {
+        entries: EntriesLeft {
+            entries: entries.into_iter(),
+        },
+        is_all: true,
     }
 }
 
-/// The place of the first name behind a cookie.
-fn place_behind(names: Option<&Entries>, cookie: u64) -> usize
-    ensures within { result < 2 ^ 63 }
-    ensures small { length (listed_names names.entry) < 2 ^ 63 }
-    ensures behind { (below last : ℕ) → CookiesRise below (listed_names names.entry) last →
-        drop result (listed_names names.entry) ≡ behind cookie (listed_names names.entry) }
+/// Adds `.` and `..`, as far as they are behind a cookie.
+fn add_dots(
+    left: &mut Vec<Listed<'_>>,
+    number: u64,
+    parent: u64,
+    cookie: u64,
+) -> Result<(), AllocError>
+    ensures { OnOk result (map listed_entry left.new.items
+        ≡ map listed_entry left.old.items ++ dots_behind number parent cookie) }
 {
-    match names {
-        Some(names) => names.place_behind(cookie),
-        None => 0,
+    if cookie < 1 {
+        left.push(Listed {
+            name: EntryName::Own,
+            number,
+            cookie: 1,
+        })?;
+    }
+    if cookie < 2 {
+        left.push(Listed {
+            name: EntryName::Above,
+            number: parent,
+            cookie: 2,
+        })?;
+    }
+    Ok(())
+}
+
+/// This page of a directory, which its map tells of.
+///
+/// # Errors
+///
+/// `Need` of it and of those behind it, as far as so many entries may stand in them; and `Memory`.
+fn page_at<'d>(
+    draft: &'d Draft<'_>,
+    number: u64,
+    map: &EntryMap,
+    page: u64,
+    missing: usize,
+) -> Result<Option<&'d EntryPage>, Halt>
+    requires lives { DirectoryLives draft.now number map.now }
+    requires listed { lists map.now.pages page ≡ true }
+    ensures { MatchResult result (λ entries. ShowsPage draft.now number page (option_copied entries))
+        (StopsAt draft.now []) }
+{
+    let address = Addr::Page {
+        directory: number,
+        page,
+    };
+    if draft.lacked(address).is_some() {
+        ask_pages(
+            draft,
+            number,
+            &map.pages,
+            page,
+            missing / PAGE_COOKIES as usize + 1,
+        )?;
+    }
+    draft.page(number, page)
+}
+
+/// Asks for so many pages of a directory, from this one on.
+fn ask_pages(
+    draft: &Draft<'_>,
+    number: u64,
+    pages: &PageList,
+    page: u64,
+    count: usize,
+) -> Result<(), Halt>
+    requires { (p : ℕ) → lists pages.now p ≡ true →
+        IsSome (known_at draft.now (Addr.Page number p)) ⊎ IsThere draft.now.view (Addr.Page number p) }
+    ensures { IfErr result (StopsAt draft.now []) }
+{
+    let mut asking = Asking::new(draft.alloc());
+    let mut next = pages.next_from(page);
+    for _asked in 0..count {
+        let Some(page) = next else {
+            return asking.ask();
+        };
+        asking.add(
+            draft,
+            Addr::Page {
+                directory: number,
+                page,
+            },
+        )?;
+        next = pages.next_behind(page);
+    }
+    asking.ask()
+}
+
+/// Adds the entries of a page that are behind a cookie.
+fn add_behind<'d>(
+    left: &mut Vec<Listed<'d>>,
+    page: &'d EntryPage,
+    cookie: u64,
+) -> Result<(), AllocError>
+    ensures { OnOk result ((below last : ℕ) → CookiesRise below page.now last →
+        map listed_entry left.new.items ≡ map listed_entry left.old.items ++ behind cookie page.now) }
+{
+    let first = page.place_behind(cookie);
+    for place in first..page.len() {
+        if let Some(named) = page.get(place) {
+            left.push(to_listed(named))?;
+        }
+    }
+    Ok(())
+}
+
+fn to_listed<'d>(named: &'d NamedLeaf) -> Listed<'d>
+    ensures { listed_entry result ≡ named.entry.now }
+{
+    Listed {
+        name: EntryName::Added(&named.name),
+        number: named.leaf.number,
+        cookie: named.leaf.cookie,
     }
 }

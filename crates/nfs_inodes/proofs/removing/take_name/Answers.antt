@@ -1,20 +1,37 @@
-use Rattle.std.proofs.Common.{◌∙◌, ◌++◌}
+use Rattle.std.proofs.Common.{refl, ◌∙◌, ◌++◌}
 use Rattle.std.proofs.lemmas.Result.{err_from_is_err_and}
 use Rattle.nfs_machine.specs.Times.{time_of}
 use Rattle.nfs_objects.specs.Calls.{addresses_of}
+use Rattle.nfs_objects.proofs.Knows.{stops-wider}
 use Rattle.nfs_objects.proofs.Suiting.{change-each}
 use Rattle.nfs_inodes.proofs.Composing.{covers-first, covers-second, first-stops, group-lives, lost-directory}
 use Rattle.nfs_inodes.proofs.Composing.{lost-other, turned-within}
-use Rattle.nfs_inodes.proofs.Counting.{stands-first, stands-on}
+use Rattle.nfs_inodes.proofs.Counting.{stands-first, stands-on, usage-lives-first}
 use Rattle.nfs_inodes.proofs.Lived.{lived-taken, usage-there}
 use Rattle.nfs_inodes.specs.Makes.{link_lost, name_taken}
 use Rattle.nfs_inodes.specs.Removes.{directory_lost, name_lost}
-use Rattle.nfs_inodes.specs.Stops.{group_at, inode_at}
+use Rattle.nfs_inodes.specs.Stops.{counted_at, group_at, inode_at}
 use Rattle.nfs_inodes.proofs.removing.take_name.Goals as goal
+
+pub returns-in_err-ask_lost : goal.returns-in_err-ask_lost
+returns-in_err-ask_lost c =
+    let p = err_from_is_err_and c.from_residual.result c.from_residual.ensures.1 in
+    let d = c.args.draft.now in
+    let place = c.args.directory.now.known.number in
+    let x = c.args.object.now.number in
+    rw (p.1, p.2) (stops-wider d.modes (addresses_of d.view place ++ counted_at d x)
+    (addresses_of d.view place ++ addresses_of d.view x) 0 d.view _
+    (covers-first d.view (addresses_of d.view place) (addresses_of d.view x) (group_at x (inode_at d x))
+    (group-lives d x d.view (addresses_of d.view place ++ addresses_of d.view x) refl
+    (usage-lives-first d x c.requires.none))) c.in_err-ask_lost.ensures)
+
+pub take_entry-requires-clause-stands : goal.take_entry-requires-clause-stands
+take_entry-requires-clause-stands c = stands-first c.args.draft.now c.requires.none
 
 pub returns-in_err-take_entry : goal.returns-in_err-take_entry
 returns-in_err-take_entry c =
-    let p = err_from_is_err_and c.from_residual.result c.from_residual.ensures.1 in
+    let p = err_from_is_err_and c.from_residual-in_err-take_entry.result
+    c.from_residual-in_err-take_entry.ensures.1 in
     rw (p.1, p.2) (first-stops c.args.draft.now c.args.directory.now.known.number
     (addresses_of c.args.draft.now.view c.args.object.now.number) _ c.in_err-take_entry.ensures)
 

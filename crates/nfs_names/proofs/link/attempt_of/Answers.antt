@@ -1,9 +1,11 @@
-use Rattle.std.proofs.Common.{Err, Ok, refl}
+use Rattle.std.proofs.Common.{◌∷◌, Err, Ok, inl, refl}
 use Rattle.std.proofs.lemmas.Result.{err_from_is_err_and}
 use Rattle.nfs_wire.specs.declared.calls.NfsCall.TheVariants as nfs
 use Rattle.nfs_machine.specs.declared.calls.Call.TheVariants as calls
-use Rattle.nfs_objects.specs.Calls.{addresses_of}
-use Rattle.nfs_inodes.proofs.Ending.{lives-as, means-as, naming-second, reading, reading-exports}
+use Rattle.nfs_objects.proofs.Knows.{covers-among, names-added, names-exports}
+use Rattle.nfs_objects.specs.Calls.{added_at, addresses_of, named_by}
+use Rattle.nfs_objects.specs.declared.address.Addr.TheVariants as addresses
+use Rattle.nfs_inodes.proofs.Ending.{asking, lives-as, means-as, naming-second, number-as, reading}
 use Rattle.nfs_inodes.proofs.Halting.{stops-before}
 use Rattle.nfs_inodes.proofs.Showing.{shown-so}
 use Rattle.nfs_inodes.proofs.Standing.{known-lives}
@@ -28,8 +30,13 @@ returns-in_err-result-in-Ok c =
     let call = calls.Nfs (nfs.Link c.args.arguments.now) in
     let p = err_from_is_err_and c.from_residual-in_err-result-in-Ok.result
     c.from_residual-in_err-result-in-Ok.ensures.1 in
+    let view = c.args.draft.view in
     rw (p.1, p.2)
-    (reading-exports c.args.draft call _ c.requires.begins c.in_err-result-in-Ok.ensures)
+    (asking c.args.draft call _ c.requires.begins (addresses.Exports ∷ added_at view c.args.arguments.now.place) (
+      inl (names-exports call view),
+      covers-among (added_at view c.args.arguments.now.place) (named_by call view) view
+          (names-added (nfs.Link c.args.arguments.now) view),
+    ) c.in_err-result-in-Ok.ensures)
 
 pub returns-in_err-attributes-in-Ok : goal.returns-in_err-attributes-in-Ok
 returns-in_err-attributes-in-Ok c =
@@ -77,3 +84,8 @@ returns-in-Err c =
 pub link-requires-clause-shown : goal.link-requires-clause-shown
 link-requires-clause-shown c =
     shown-so c.args.draft _ c.in-Ok.directory c.in-Ok.is c.in_ok-directory.ensures.shown
+
+pub link-requires-clause-target : goal.link-requires-clause-target
+link-requires-clause-target c =
+    number-as c.args.arguments.now.place.directory _ _ c.in-Ok.directory c.as_slice.ensures c.in-Ok.is
+    c.in_ok-directory.ensures.number

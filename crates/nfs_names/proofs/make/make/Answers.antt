@@ -1,19 +1,20 @@
-use Rattle.std.proofs.Common.{Ok, Err}
+use Rattle.std.proofs.Common.{◌++◌, Ok, Err}
 use Rattle.std.proofs.lemmas.Result.{err_from_is_err_and}
 use Rattle.nfs_inodes.proofs.Counting.{brings-as}
-use Rattle.nfs_inodes.proofs.Ending.{exported-as, lives-as, means-as}
+use Rattle.nfs_inodes.proofs.Ending.{exported-as, lives-as, means-as, number-as}
 use Rattle.nfs_inodes.proofs.Showing.{shown-so}
 use Rattle.nfs_inodes.specs.Asked.{asked_as}
-use Rattle.nfs_names.proofs.Making.{bringing-stops, made-replies, refused-replies}
+use Rattle.nfs_names.proofs.Making.{bringing-stops, front-making, made-replies, refused-replies}
 use Rattle.nfs_names.specs.Making.{there_as}
-use Rattle.nfs_inodes.proofs.Halting.{makes-stops}
+use Rattle.nfs_objects.specs.Calls.{added_at}
 use Rattle.nfs_inodes.specs.Stops.{brought_by}
 use Rattle.nfs_names.proofs.make.make.Goals as goal
 
 pub returns-in_err-known-clause-answers : goal.returns-in_err-known-clause-answers
 returns-in_err-known-clause-answers c =
     let p = err_from_is_err_and c.from_residual.result c.from_residual.ensures.1 in
-    rw (p.1, p.2) (makes-stops c.args.draft.now (brought_by c.args.draft.now.view c.args.place.now.directory) _
+    rw (p.1, p.2) (front-making c.args.draft.now (brought_by c.args.draft.now.view c.args.place.now.directory)
+    (added_at c.args.draft.now.view c.args.place.now) _
     (rw c.as_slice.ensures at c.in_err-known.ensures.stops))
 
 pub make_in-requires-clause-names : goal.make_in-requires-clause-names
@@ -41,7 +42,8 @@ returns-in_err-directory-in-Ok-clause-answers c =
     c.from_residual-in_err-directory-in-Ok.ensures.1 in
     let does = c.in_ok-result-in-Ok.ensures in
     rw (p.1, p.2)
-    (bringing-stops c.args.draft.now c.make_in.new.draft does.op c.args.place.now.directory
+    (bringing-stops c.args.draft.now c.make_in.new.draft does.op
+    (brought_by c.args.draft.now.view c.args.place.now.directory ++ added_at c.args.draft.now.view c.args.place.now)
     c.in-Ok.known.number _ does.turns
     (lives-as c.args.draft.now.view _ c.in-Ok.known c.in-Ok.is c.in_ok-known.ensures.lives)
     c.in_err-directory-in-Ok.ensures)
@@ -65,3 +67,7 @@ returns-in-Err-clause-answers c =
 pub make_in-requires-clause-shown : goal.make_in-requires-clause-shown
 make_in-requires-clause-shown c =
     shown-so c.args.draft.now _ c.in-Ok.known c.in-Ok.is c.in_ok-known.ensures.shown
+
+pub make_in-requires-clause-number : goal.make_in-requires-clause-number
+make_in-requires-clause-number c =
+    number-as c.args.place.now.directory _ _ c.in-Ok.known c.as_slice.ensures c.in-Ok.is c.in_ok-known.ensures.number

@@ -20,10 +20,11 @@ returns-in_err-left-clause-page c =
 pub returns-clause-page : goal.returns-clause-page
 returns-clause-page c =
     page-listed c.args.draft.now c.args.known.now c.args.asked.now c.requires.known c.in-Ok.directory
-    (rw (c.ctx.ensures, c.in-Ok.is) at c.listable.ensures.checks) c.in_ok-left.left
+    (rw (c.ctx.ensures, c.in-Ok.is) at c.listable.ensures.checks) c.in_ok-left.left.entries
+    c.in_ok-left.left.is_all c.too_many.result c.too_many.ensures
     (rw c.in-Ok.ensures.known at c.in_ok-left.ensures.left) _ c.in_ok-longest_page.ensures
 
 pub returns-clause-lives : goal.returns-clause-lives
 returns-clause-lives c =
-    front-lives c.args.draft.now.view (fit_of c.args.asked.now.budget) c.in_ok-left.left _ c.in_ok-left.ensures.lives
+    front-lives c.args.draft.now.view (fit_of c.args.asked.now.budget) c.in_ok-left.left.entries _ c.in_ok-left.ensures.lives
     c.in_ok-longest_page.ensures

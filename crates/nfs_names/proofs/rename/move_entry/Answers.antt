@@ -1,23 +1,34 @@
-use Rattle.std.proofs.Common.{sym, ◌∙◌}
+use Rattle.std.proofs.Common.{refl, sym, ◌∙◌}
 use Rattle.std.proofs.lemmas.Result.{err_from_is_err_and}
-use Rattle.nfs_objects.proofs.Promised.{turned-change}
+use Rattle.nfs_machine.proofs.Changes.{flipped}
+use Rattle.nfs_objects.proofs.Promised.{turned-change, turns-none}
+use Rattle.nfs_objects.specs.Calls.{added_at}
 use Rattle.nfs_objects.specs.declared.address.Addr.TheVariants as addresses
+use Rattle.nfs_inodes.proofs.Counting.{stands-first, stands-on}
+use Rattle.nfs_inodes.proofs.Halting.{any-stops, lives-stops}
+use Rattle.nfs_names.proofs.Growing.{giving-stops}
 use Rattle.nfs_names.proofs.Renaming.{moves-one, moves-two}
-use Rattle.nfs_inodes.proofs.Halting.{lives-stops}
 use Rattle.nfs_names.proofs.rename.move_entry.Goals as goal
 
 pub returns-then-is_one_directory : goal.returns-then-is_one_directory
 returns-then-is_one_directory c =
-    moves-one c.args.draft.now c.give_name.new.draft c.args.arguments.now c.args.renaming.now c.args.cookie
-    c.give_name.result (sym c.if-is_one_directory.ensures) c.requires.to
-    (rw (c.as_slice-old_name.ensures, c.as_slice-new_name.ensures, c.links_given-links.ensures)
-    at c.give_name.ensures)
+    let d = c.args.draft.now in
+    let a = c.args.arguments.now in
+    let to = c.args.renaming.now.to.known in
+    moves-one d c.give_name.new.draft a c.args.renaming.now c.args.cookie c.give_name.result (added_at d.view a.to)
+    _ _ _ c.as_slice-old_name.ensures c.as_slice-new_name.ensures c.links_given-links.ensures
+    (sym c.if-is_one_directory.ensures)
+    (λ halt stops. giving-stops d d (λ k. k) a.to to.number to.attributes.kind c.args.cookie halt (turns-none d)
+    c.requires.none c.requires.shown.1 refl c.requires.target c.requires.next c.requires.to stops)
+    c.give_name.ensures
 
 pub returns-in_err-leave : goal.returns-in_err-leave
 returns-in_err-leave c =
     let p = err_from_is_err_and c.from_residual.result c.from_residual.ensures.1 in
     rw (p.1, p.2)
-    (lives-stops c.args.draft.now c.args.renaming.now.from.known.number _ c.requires.from c.in_err-leave.ensures.turns)
+    (any-stops c.args.draft.now (added_at c.args.draft.now.view c.args.arguments.now.to) _
+    (lives-stops c.args.draft.now c.args.renaming.now.from.known.number _ c.requires.from
+    c.in_err-leave.ensures.turns))
 
 pub give_name-requires-2-clause-alone : goal.give_name-requires-2-clause-alone
 give_name-requires-2-clause-alone c =
@@ -26,10 +37,30 @@ give_name-requires-2-clause-alone c =
 
 pub returns : goal.returns
 returns c =
-    moves-two c.args.draft.now c.give_name-2.new.draft c.args.arguments.now c.args.renaming.now c.args.cookie
-    c.give_name-2.result c.leave.new.draft (sym c.if-is_one_directory.ensures) c.requires.to
+    let d = c.args.draft.now in
+    let a = c.args.arguments.now in
+    let to = c.args.renaming.now.to.known in
+    let from = c.args.renaming.now.from.known in
+    moves-two d c.give_name-2.new.draft a c.args.renaming.now c.args.cookie c.give_name-2.result
+    (added_at d.view a.to) c.leave.new.draft _ _ c.as_slice-new_name.ensures c.links_given-links.ensures
+    (sym c.if-is_one_directory.ensures)
+    (λ halt stops. giving-stops d c.leave.new.draft _ a.to to.number to.attributes.kind c.args.cookie halt
+    c.in_ok-leave.ensures.turns c.requires.none c.requires.shown.1
+    (c.in_ok-leave.ensures.others to.number (flipped to.number from.number (sym c.if-is_one_directory.ensures)))
+    c.requires.target c.requires.next c.requires.to stops)
     (rw (c.as_slice-old_name.ensures, c.links_left.ensures) at c.in_ok-leave.ensures.turns)
-    (rw (c.as_slice-new_name.ensures, c.links_given-links.ensures) at c.give_name-2.ensures)
+    c.give_name-2.ensures
+
+pub give_name-requires-clause-stands : goal.give_name-requires-clause-stands
+give_name-requires-clause-stands c = stands-first c.args.draft.now c.requires.none
+
+pub leave-requires-clause-stands : goal.leave-requires-clause-stands
+leave-requires-clause-stands c = stands-first c.args.draft.now c.requires.none
+
+pub give_name-requires-2-clause-stands : goal.give_name-requires-2-clause-stands
+give_name-requires-2-clause-stands c =
+    stands-on c.args.draft.now c.leave.new.draft _ c.in_ok-leave.ensures.turns
+    (stands-first c.args.draft.now c.requires.none)
 
 pub give_name-requires-clause-shown : goal.give_name-requires-clause-shown
 give_name-requires-clause-shown c = c.requires.shown.1

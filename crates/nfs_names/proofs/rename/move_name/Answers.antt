@@ -1,11 +1,14 @@
+use Rattle.std.proofs.Common.{[]}
 use Rattle.std.proofs.lemmas.Result.{err_from_is_err_and}
 use Rattle.nfs_machine.specs.Times.{time_of}
 use Rattle.nfs_objects.proofs.Promised.{turned-change, turns-both}
+use Rattle.nfs_objects.specs.Calls.{added_at}
 use Rattle.nfs_objects.specs.declared.address.Addr.TheVariants as addresses
 use Rattle.nfs_inodes.proofs.Standing.{known-lives}
 use Rattle.nfs_inodes.specs.Renames.{rehomed}
+use Rattle.nfs_inodes.specs.Stops.{StopsAt}
 use Rattle.nfs_names.proofs.Renaming.{lives-on, moved-lived, over-counts}
-use Rattle.nfs_names.proofs.Renaming.{over-lives, stops-later, turned-after, turned-both}
+use Rattle.nfs_names.proofs.Renaming.{later-named, over-lives, turned-after, turned-both}
 use Rattle.nfs_names.proofs.Alone.{replaced-changes}
 use Rattle.nfs_names.specs.Renames.{entry_moved, replaced_lost}
 use Rattle.nfs_inodes.proofs.Halting.{lives-stops}
@@ -30,7 +33,8 @@ pub returns-in_err-rehome : goal.returns-in_err-rehome
 returns-in_err-rehome c =
     let p = err_from_is_err_and c.from_residual-in_err-rehome.result c.from_residual-in_err-rehome.ensures.1 in
     let moved = c.args.renaming.now.moved in
-    rw (p.1, p.2) (stops-later c.args.draft.now c.move_entry.new.draft _ _ c.in_ok-move_entry.ensures
+    rw (p.1, p.2) (later-named c.args.draft.now c.move_entry.new.draft _
+    (added_at c.args.draft.now.view c.args.arguments.now.to) _ c.in_ok-move_entry.ensures
     (lives-stops c.move_entry.new.draft moved.number _
     (lives-on c.args.draft.now c.move_entry.new.draft _ (addresses.Inode moved.number) c.in_ok-move_entry.ensures
     (known-lives c.args.draft.now moved c.requires.none (λ s k w. (c.requires.finds s k w).moved.1)))
@@ -67,7 +71,12 @@ returns c =
     let r = c.args.renaming.now in
     turned-after c.args.draft.now c.rehome.new.draft c.lose_replaced.new.draft
     (λ k. rehomed now r.moved.number r.to.known.number (entry_moved now c.args.arguments.now r c.args.cookie k))
-    (λ t. replaced_lost t r) c.lose_replaced.result
+    (λ t. replaced_lost t r) c.lose_replaced.result (StopsAt c.rehome.new.draft [])
+    (StopsAt c.args.draft.now (added_at c.args.draft.now.view c.args.arguments.now.to))
+    (λ halt stops. later-named c.args.draft.now c.rehome.new.draft _
+    (added_at c.args.draft.now.view c.args.arguments.now.to) halt
+    (turns-both c.args.draft.now c.move_entry.new.draft c.rehome.new.draft _ _ c.in_ok-move_entry.ensures
+    c.in_ok-rehome.ensures) stops)
     (turned-both c.args.draft.now c.move_entry.new.draft c.rehome.new.draft
     (entry_moved now c.args.arguments.now r c.args.cookie) (λ t. rehomed t r.moved.number r.to.known.number)
     c.in_ok-move_entry.ensures c.in_ok-rehome.ensures) c.lose_replaced.ensures

@@ -3,12 +3,14 @@ use Rattle.std.proofs.lemmas.Result.{err_from_is_err_and}
 use Rattle.nfs_wire.specs.declared.calls.NfsCall.TheVariants as nfs
 use Rattle.nfs_wire.specs.declared.status.NfsStatus.TheVariants as status
 use Rattle.nfs_machine.specs.declared.calls.Call.TheVariants as calls
-use Rattle.nfs_objects.specs.Calls.{named_by}
+use Rattle.nfs_objects.proofs.Knows.{names-added}
+use Rattle.nfs_objects.specs.Calls.{added_at, named_by}
 use Rattle.nfs_names.proofs.Alone.{led-as, renaming-changes}
 use Rattle.nfs_names.proofs.Renaming.{check-refused, is-renaming, no-source, settled-does, stops-named}
 use Rattle.nfs_names.specs.Renames.{IsRenameEnd}
 use Rattle.nfs_inodes.proofs.Halting.{exports-stop-at, any-stops}
 use Rattle.nfs_inodes.specs.Kinds.{IsShown}
+use Rattle.nfs_inodes.specs.Known.{HasNumber}
 use Rattle.nfs_inodes.specs.declared.found.Known.{Known}
 use Rattle.nfs_names.proofs.rename.rename.Goals as goal
 
@@ -67,8 +69,9 @@ rename_found-requires-clause-finds c =
 pub returns : goal.returns
 returns c =
     stops-named c.args.draft.now c.rename_found.new.draft (IsRenameEnd c.args.draft.now.ctx c.args.arguments.now)
+    (added_at c.args.draft.now.view c.args.arguments.now.to)
     (named_by (calls.Nfs (nfs.Rename c.args.arguments.now)) c.args.draft.now.view) c.rename_found.result
-    c.rename_found.ensures
+    (names-added (nfs.Rename c.args.arguments.now) c.args.draft.now.view) c.rename_found.ensures
 
 pub rename_found-requires-clause-alone : goal.rename_found-requires-clause-alone
 rename_found-requires-clause-alone c =
@@ -85,3 +88,8 @@ rename_found-requires-clause-shown c = (
   subst (λ (z : Known). IsShown c.args.draft.now z) (sym c.in-Ok.ensures.from) c.requires.shown.0,
   subst (λ (z : Known). IsShown c.args.draft.now z) (sym c.in-Ok.ensures.to) c.requires.shown.1,
 )
+
+pub rename_found-requires-clause-target : goal.rename_found-requires-clause-target
+rename_found-requires-clause-target c =
+    subst (λ (z : Known). HasNumber c.args.arguments.now.to.directory z.number) (sym c.in-Ok.ensures.to)
+    c.requires.target

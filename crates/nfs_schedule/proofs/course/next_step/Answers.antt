@@ -1,8 +1,14 @@
-use Rattle.nfs_schedule.proofs.Stepping.{asked_grown, asked_next, foreseen_last, numbers_next}
+use Rattle.nfs_schedule.proofs.Stepping.{above_grown, asked_grown, asked_next, foreseen_last, numbers_next}
 use Rattle.nfs_schedule.proofs.course.next_step.Goals as goal
 
 pub consider-requires-in-None : goal.consider-requires-in-None
 consider-requires-in-None c = asked_grown _ _ c.requires _ c.in-Asked.is
+
+pub climb-requires : goal.climb-requires
+climb-requires c = above_grown _ _ c.requires _ c.in-Above.is
+
+pub consider-requires-in-None-climb : goal.consider-requires-in-None-climb
+consider-requires-in-None-climb c = above_grown _ _ c.requires _ c.in-Above.is
 
 pub returns-in-Foreseen : goal.returns-in-Foreseen
 returns-in-Foreseen c = foreseen_last _ _ c.requires _ _ c.in-Foreseen.is

@@ -6,6 +6,6 @@ pub returns-in_default : goal.returns-in_default
 returns-in_default c = record {
   content = refl;
   map = refl;
-  parent = other-parent c.args.content c.args.parent
-      c.in_default.not-Directory;
+  entries = refl;
+  parent = other-parent c.args.content c.args.parent c.in_default.not-Directory;
 }

@@ -17,4 +17,4 @@ returns c =
     c.in-Some.inode.now _ _ _
     (subst (λ o. HasInode c.args.draft.now c.args.number (option_copied o)) c.in-Some.is c.in_ok-inode.ensures.inode)
     c.in_ok-new.ensures.cases (rw (c.now.ensures, c.ctx.ensures) at c.touch-new.ensures) c.below.ensures.content
-    c.below.ensures.map c.below.ensures.parent c.in_ok-put.ensures.ok c.in_ok-put.ensures.fits
+    c.below.ensures.map c.below.ensures.entries c.below.ensures.parent c.in_ok-put.ensures.ok c.in_ok-put.ensures.fits

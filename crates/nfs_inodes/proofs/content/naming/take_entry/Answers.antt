@@ -1,18 +1,71 @@
-use Rattle.std.proofs.Common.{refl}
-use Rattle.nfs_machine.specs.RemoveSteps.{without}
+use Rattle.std.proofs.Common.{ap, sym, subst, ◌∙◌}
+use Rattle.std.proofs.lemmas.Result.{err_from_is_err_and}
 use Rattle.nfs_machine.specs.Times.{time_of}
-use Rattle.nfs_inodes.proofs.Showing.{with-its-content}
-use Rattle.nfs_inodes.proofs.Putting.{taken-turns}
+use Rattle.nfs_machine.specs.declared.context.Ctx.{Ctx}
+use Rattle.nfs_objects.proofs.Suiting.{change-each}
+use Rattle.nfs_objects.specs.Calls.{addresses_of}
+use Rattle.nfs_objects.specs.declared.address.Addr.TheVariants as addresses
+use Rattle.nfs_objects.specs.declared.directory.Directory.{Directory}
+use Rattle.nfs_objects.specs.declared.object.Inode.{Inode}
+use Rattle.nfs_inodes.proofs.EntryAsks.{header-lives}
+use Rattle.nfs_inodes.proofs.Halting.{any-stops}
+use Rattle.nfs_inodes.proofs.Onward.{may-change-on}
+use Rattle.nfs_inodes.proofs.Relinked.{keeps-generation, relisted-copy, taken-turns}
+use Rattle.nfs_inodes.proofs.StillKnown.{inode-known-on, knows-inode}
+use Rattle.nfs_inodes.specs.Entered.{DirectoryLives}
 use Rattle.nfs_inodes.proofs.content.naming.take_entry.Goals as goal
+
+pub without_entry-requires-clause-alone : goal.without_entry-requires-clause-alone
+without_entry-requires-clause-alone c =
+    change-each c.args.draft.now c.args.directory.now.known.number c.requires.alone
+
+pub without_entry-requires-clause-lives : goal.without_entry-requires-clause-lives
+without_entry-requires-clause-lives c =
+    let kept = c.in_ok-kept.kept in
+    subst (λ (h : Directory). DirectoryLives c.args.draft.now c.args.directory.now.known.number h.entries)
+    (sym c.in_ok-header.ensures.cases)
+    (header-lives c.args.draft.now c.args.directory.now.known.number kept.inode.now kept.header.now
+    c.in_ok-kept.ensures c.requires.stands)
+
+pub returns-in_err-narrower : goal.returns-in_err-narrower
+returns-in_err-narrower c =
+    let p = err_from_is_err_and c.from_residual-in_err-narrower.result c.from_residual-in_err-narrower.ensures.1 in
+    rw (p.1, p.2) (any-stops c.args.draft.now
+    (addresses_of c.args.draft.now.view c.args.directory.now.known.number) _ c.in_err-narrower.ensures.lists)
+
+pub put-requires-clause-alone : goal.put-requires-clause-alone
+put-requires-clause-alone c =
+    may-change-on c.args.directory.now.known.number c.args.draft.now c.without_entry.new.draft
+    c.in_ok-narrower.ensures.lists.enters (addresses.Inode c.args.directory.now.known.number)
+    (change-each c.args.draft.now c.args.directory.now.known.number c.requires.alone)
+
+pub put-requires-clause-known : goal.put-requires-clause-known
+put-requires-clause-known c =
+    inode-known-on c.args.draft.now c.without_entry.new.draft c.args.directory.now.known.number
+    c.in_ok-kept.kept.inode.now c.in_ok-narrower.ensures.knows c.in_ok-kept.ensures.inode
+
+pub put-requires-clause-given : goal.put-requires-clause-given
+put-requires-clause-given c =
+    keeps-generation c.without_entry.new.draft c.args.directory.now.known.number c.in_ok-kept.kept.inode.now
+    c.with_content-new.result (knows-inode c.args.draft.now c.without_entry.new.draft
+    c.args.directory.now.known.number _ c.in_ok-narrower.ensures.knows c.in_ok-kept.ensures.inode)
+    (ap (λ (x : Inode). x.generation) c.with_content-new.ensures
+    ∙ ap (λ (x : Inode). x.generation) c.in_ok-inode.ensures.cases)
 
 pub returns : goal.returns
 returns c =
+    let d = c.args.draft.now in
+    let n = c.args.directory.now.known.number in
     let kept = c.in_ok-kept.kept in
-    let old = kept.listed.now in
-    let now = time_of c.args.draft.now.ctx.moment in
-    taken-turns c.args.draft.now c.args.directory.now.known.number c.put.new.self kept.inode.now
-    c.with_content-new.result old (record old { entries = without old.entries c.args.name.now }) now c.args.name.now
-    c.in_ok-kept.ensures.inode c.in_ok-kept.ensures.content refl
-    (with-its-content kept.inode.now c.with_content-new.result _ _ now
-    (rw (c.now.ensures, c.ctx.ensures) at c.with_content-new.ensures) c.in_ok-content.ensures)
-    c.in_ok-put.ensures.ok c.in_ok-put.ensures.fits
+    let now = time_of d.ctx.moment in
+    taken-turns d c.without_entry.new.draft c.put.new.self n kept.inode.now c.with_content-new.result kept.header.now
+    c.in_ok-kept.ensures now c.in_ok-inode.inode.links c.in_ok-narrower.narrower c.in_ok-put.ensures.ok
+    c.in_ok-put.ensures.fits c.args.name.now
+    (relisted-copy kept.inode.now c.in_ok-inode.inode c.with_content-new.result kept.header.now c.in_ok-header.header
+    c.directory_of-content.result c.now.result now c.in_ok-inode.inode.links kept.header.now.last_cookie
+    c.in_ok-narrower.narrower c.in_ok-inode.ensures.cases c.in_ok-header.ensures.cases
+    (c.now.ensures ∙ ap (λ (x : Ctx). time_of x.moment) (c.ctx.ensures ∙ c.in_ok-narrower.ensures.lists.enters.ctx))
+    (rw (ap (λ (h : Directory). h.last_cookie) c.in_ok-header.ensures.cases) at c.directory_of-content.ensures)
+    c.with_content-new.ensures)
+    (ap (λ (x : Inode). x.links) c.in_ok-inode.ensures.cases)
+    (rw c.in_ok-header.ensures.cases at c.in_ok-narrower.ensures.lists)

@@ -10,3 +10,9 @@ returns-in-Inode-Inode-clause-same c = told_so object_decides _ _ _ (search rule
 
 pub returns-in-Mounts-Mounts-clause-same : goal.returns-in-Mounts-Mounts-clause-same
 returns-in-Mounts-Mounts-clause-same c = told_so object_decides _ _ _ (search rules)
+
+pub returns-in-Page-Page-clause-same : goal.returns-in-Page-Page-clause-same
+returns-in-Page-Page-clause-same c = told_so object_decides _ _ _ (search rules)
+
+pub returns-in-Part-Part-clause-same : goal.returns-in-Part-Part-clause-same
+returns-in-Part-Part-clause-same c = told_so object_decides _ _ _ (search rules)

@@ -1,0 +1,11 @@
+use Rattle.std.proofs.Common.{subst}
+use Rattle.std.specs.Prelude.{option_copied}
+use Rattle.nfs_inodes.proofs.Climbing.{parent-wished}
+use Rattle.nfs_inodes.specs.Known.{HasInode}
+use Rattle.nfs_inodes.proofs.tree.above.Goals as goal
+
+pub returns : goal.returns
+returns c =
+    parent-wished c.args.draft.now c.args.number c.in-Ok-Some.inode.now c.in_ok-directory.field-0.now c.requires
+    (subst (λ o. HasInode c.args.draft.now c.args.number (option_copied o)) c.in-Ok-Some.field-0-is
+    c.in-Ok-Some.ensures.inode) c.in_ok-directory.ensures c.lacked.result c.lacked.ensures

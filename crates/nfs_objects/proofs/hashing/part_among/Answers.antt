@@ -1,0 +1,7 @@
+use Rattle.std.proofs.Common.{sym}
+use Rattle.nfs_objects.proofs.Hashed.{part-first}
+use Rattle.nfs_objects.proofs.hashing.part_among.Goals as goal
+use Rattle.nfs_objects.specs.Directories.{digest}
+
+pub returns-then-width-lt2-clause-which : goal.returns-then-width-lt2-clause-which
+returns-then-width-lt2-clause-which c = sym (part-first c.args.width (digest c.args.name.now) c.if-width-lt2.true)
