@@ -326,14 +326,26 @@ const PAGE: Addr = Addr::Page {
     page: 0,
 };
 
-/// The first part of a bucket of directory 9.
-const fn part(bucket: u8) -> Addr {
-    Addr::Part {
-        directory: 9,
-        bucket,
-        part: 0,
-    }
-}
+/// The part of directory 9 for the name `a`: the bytes of names are ASCII, 97, 98 and 120, modulo 64.
+const PART_OF_A: Addr = Addr::Part {
+    directory: 9,
+    bucket: 33,
+    part: 0,
+};
+
+/// That for the name `b`.
+const PART_OF_B: Addr = Addr::Part {
+    directory: 9,
+    bucket: 34,
+    part: 0,
+};
+
+/// That for the name `x`.
+const PART_OF_X: Addr = Addr::Part {
+    directory: 9,
+    bucket: 56,
+    part: 0,
+};
 
 /// Adds an inode as number 9, the exports, and what is shown beside to a view that has read nothing.
 fn fill(view: &mut View, alloc: Global, inode: Inode, beside: Beside) -> Result<(), AllocError>
@@ -369,18 +381,17 @@ fn fill(view: &mut View, alloc: Global, inode: Inode, beside: Beside) -> Result<
             add(view, alloc, GROUP, Mode::Exclusive, Object::Usage(usage))?;
             Ok(())
         }
-        // The bytes of names are ASCII: 97, 98 and 120, modulo 64.
-        Beside::Named => add(view, alloc, part(33), Mode::Exclusive, part_of_a(alloc)?),
+        Beside::Named => add(view, alloc, PART_OF_A, Mode::Exclusive, part_of_a(alloc)?),
         Beside::Room => {
             view.add(PAGE, Mode::Exclusive, None)?;
-            view.add(part(33), Mode::Exclusive, None)?;
-            view.add(part(34), Mode::Exclusive, None)
+            view.add(PART_OF_A, Mode::Exclusive, None)?;
+            view.add(PART_OF_B, Mode::Exclusive, None)
         }
         Beside::Number => {
             view.add_reserved(NEW)?;
             view.add(NEW_GROUP, Mode::Exclusive, None)?;
             view.add(PAGE, Mode::Exclusive, None)?;
-            view.add(part(56), Mode::Exclusive, None)
+            view.add(PART_OF_X, Mode::Exclusive, None)
         }
     }
 }

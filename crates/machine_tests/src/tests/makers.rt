@@ -135,7 +135,8 @@ fn place(draft: &Draft<'_>) -> Result<Option<nfs_inodes::Directory>, Halt>
 
 /// Adds `a`, which leads to 7, and `b`, which leads to 8, to directory 9, and takes `b` out.
 fn come_and_go(draft: &mut Draft<'_>) -> Result<bool, Halt>
-    requires { draft.old.modes ≡ changing }
+    requires none { draft.old.writes ≡ [] }
+    requires alone { draft.old.modes ≡ changing }
 {
     let Some(place) = place(draft)? else {
         return Ok(false);
