@@ -8,3 +8,4 @@ pub mod Spelling
 pub mod Entries
 pub mod ProgramLaws
 pub mod Sharing
+pub mod InPieces

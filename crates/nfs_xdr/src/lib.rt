@@ -21,6 +21,7 @@ use thiserror::Error;
 mod arguments;
 mod items;
 mod laws;
+mod pieces;
 mod reading;
 mod shared;
 mod writing;
@@ -30,6 +31,7 @@ pub use laws::{
     reading_finds_spelling, refusal_means_unspelled, spelled_has_spelling, spelling_is_read,
     spelling_is_unique, writing_appends, writing_spells,
 };
+pub use pieces::Pieces;
 pub use reading::Reader;
 pub use shared::{Part, SharedReader};
 pub use writing::Writer;

@@ -7,7 +7,7 @@ ghost use Rattle.nfs_xdr.specs.Writing.{Writes, with_padded};
 ghost use Rattle.nfs_xdr.specs.Types.{Word, Int, Hyper, Flag, Fixed, Opaque, padding};
 ghost use Rattle.std.specs.Int.{w32, to_be_bytes};
 
-use crate::{XdrError, items};
+use crate::{Pieces, XdrError, items};
 use byteorder::{BigEndian, ByteOrder};
 use std::alloc::Global;
 use std::marker::Model;
@@ -148,6 +148,19 @@ impl Writer {
         append_padded(&mut self.bytes, bytes);
         Ok(())
     }
+
+    /// The same of bytes in pieces, which are copied here alone.
+    #[tactic(auto, unfolding(crate::specs::Writing::appended, crate::specs::Writing::with_word))]
+    pub fn opaque_pieces(&mut self, pieces: &Pieces) -> Result<(), XdrError>
+        requires { length pieces.now < 2 ^ 32 }
+        ensures { Writes (Opaque (length pieces.now)) pieces.now self.old self.new result }
+    {
+        let room = items::WORD + (pieces.len() + items::padding(pieces.len()));
+        self.bytes.reserve(room)?;
+        append(&mut self.bytes, &word(pieces.len() as u32));
+        append_padded_pieces(&mut self.bytes, pieces);
+        Ok(())
+    }
 }
 
 /// A number as a word.
@@ -160,7 +173,7 @@ fn word(number: u32) -> [u8; items::WORD]
 }
 
 /// Appends bytes for which there is room.
-fn append(buffer: &mut Vec<u8>, bytes: &[u8])
+pub(crate) fn append(buffer: &mut Vec<u8>, bytes: &[u8])
     requires { vec_len buffer.old + length bytes.now ≤ vec_capacity buffer.old }
     ensures items { buffer.new.items ≡ buffer.old.items ++ bytes.now }
     ensures len { vec_len buffer.new ≡ vec_len buffer.old + length bytes.now }
@@ -179,4 +192,14 @@ fn append_padded(buffer: &mut Vec<u8>, bytes: &[u8])
 {
     append(buffer, bytes);
     append(buffer, &[0; items::WORD][..items::padding(bytes.len())]);
+}
+
+/// The same of bytes in pieces.
+#[tactic(auto, unfolding(crate::specs::Writing::with_padded))]
+fn append_padded_pieces(buffer: &mut Vec<u8>, pieces: &Pieces)
+    requires { vec_len buffer.old + (length pieces.now + padding (length pieces.now)) ≤ vec_capacity buffer.old }
+    ensures { buffer.new.items ≡ with_padded pieces.now buffer.old.items }
+{
+    pieces.append_to(buffer);
+    append(buffer, &[0; items::WORD][..items::padding(pieces.len())]);
 }
