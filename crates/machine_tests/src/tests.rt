@@ -28,7 +28,7 @@ use nfs_objects::{
     Halt, Inode, Leaf, MOUNTING, Mode, Object, PageList, READING, Reserved, Usage, View,
 };
 use nfs_rpc::{Gids, Ids};
-use nfs_wire::{Attributes, DeviceNumber, FileType, SetAttributes, SetTime, Time};
+use nfs_wire::{Attributes, DeviceNumber, FileType, Pieces, SetAttributes, SetTime, Time};
 use std::alloc::{AllocError, Global};
 use std::sync::Arc;
 
@@ -36,6 +36,16 @@ const TIME: Time = Time {
     seconds: 1000,
     nanoseconds: 0,
 };
+
+/// Whether those in the pieces are these bytes.
+fn are(alloc: Global, found: &Pieces, bytes: &'static [u8]) -> Result<bool, AllocError> {
+    let mut want = Pieces::new(alloc);
+    let pushed = want.push(Bytes::from_static(bytes));
+    let are = *found == want;
+    drop(want);
+    pushed?;
+    Ok(are)
+}
 
 /// No attribute is given to a new object.
 const NOTHING: SetAttributes = SetAttributes {

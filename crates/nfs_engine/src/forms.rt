@@ -1,6 +1,6 @@
 //! Whether the parts of a reply are within their bounds.
 
-ghost use Rattle.std.specs.Prelude.{◌≡◌, true};
+ghost use Rattle.std.specs.Prelude.{◌≡◌, ◌<◌, ◌^◌, true};
 ghost use Rattle.std.specs.Bool.{Decides};
 ghost use Rattle.std.specs.List.{All};
 ghost use Rattle.nfs_wire.specs.Replies.{FitsWord, HasEntryForm, HasFullEntryForm, HasLookupForm, HasMadeForm};
@@ -56,7 +56,7 @@ fn read_is_formed(reply: &ReadReply) -> bool
     ensures { Decides result (HasReadForm reply.now) }
 {
     match &reply.result {
-        Ok(read) => fits_word(&read.data),
+        Ok(read) => is_word(read.data.len()),
         Err(_) => true,
     }
 }
@@ -134,5 +134,11 @@ fn is_handle(handle: &Bytes) -> bool
 fn fits_word(text: &Bytes) -> bool
     ensures { Decides result (FitsWord text.now) }
 {
-    text.len() as u64 <= u64::from(u32::MAX)
+    is_word(text.len())
+}
+
+fn is_word(number: usize) -> bool
+    ensures { Decides result (number < 2 ^ 32) }
+{
+    number as u64 <= u64::from(u32::MAX)
 }

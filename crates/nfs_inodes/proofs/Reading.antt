@@ -6,7 +6,7 @@ use Rattle.std.proofs.lemmas.Bool.{cases_lt}
 use Rattle.std.specs.FinMap.{get}
 use Rattle.nfs_wire.specs.declared.replies.ReadData.{ReadData}
 use Rattle.std.proofs.Common.{Bor, is_some, nat_le, option_copied}
-use Rattle.std.proofs.Common.{append-nil, cond, length, length-append, take, drop, replicate, option_map, unwrap_or}
+use Rattle.std.proofs.Common.{cond, length, length-append, take, drop, option_map, unwrap_or}
 use Rattle.std.proofs.Math.Seq.{take-add}
 use Rattle.std.proofs.lemmas.List.{drop-drop, length-drop, length-take, take_all}
 use Rattle.std.specs.Prelude.{MatchResult}
@@ -257,14 +257,6 @@ module _ (size : ℕ) (stored : ℕ → List ℕ) (bytes : List ℕ) (is : IsCon
       ∙ ap (λ m. take m (drop start (part_at bytes i))) (sym wanted)
       ∙ read-one bytes place i start count at (part_at bytes i) refl room
 
-  pub read-whole : start + count ≤ length (stored i) → take count (drop start (stored i)) ≡ take count
-      (drop place bytes)
-  read-whole enough =
-      let none : count - length (drop start (stored i)) ≡ 0 = omega (arith, length-drop start (stored i), enough) in
-      sym (ap (λ m. take count (drop start (stored i)) ++ replicate m 0) none ∙ append-nil
-      (take count (drop start (stored i))))
-      ∙ read-part
-
 -- the bytes so far, of those before a block
 pub record IsGathered (d : DraftValue) (n offset count index : ℕ) (found : List ℕ) : Type 0 where
   pub counted : length found ≡ min count (index * block_size - offset)
@@ -272,25 +264,6 @@ pub record IsGathered (d : DraftValue) (n offset count index : ℕ) (found : Lis
 
 module _ (d : DraftValue) (n : ℕ) (map : FileMapValue) (has : HasMap d n map) (offset count : ℕ) (some : 0 < count)
     (within : offset + count ≤ map.size) where
-  -- where the first block has them all
-  pub whole-found : (bytes found : List ℕ) → ShowsBlock d n (offset / block_size) bytes →
-      offset - offset / block_size * block_size + count ≤ length bytes →
-      found ≡ take count (drop (offset - offset / block_size * block_size) bytes) →
-      Knows d (λ k. found ≡ take count (drop offset (bytes_at k.state n)))
-  whole-found bytes found shows enough is s k w =
-      let i : ℕ = offset / block_size in
-      let start : ℕ = offset - i * block_size in
-      let content = content-there d n map has s k w.fits w.stands in
-      let block = shows s k w.fits w.stands in
-      let long : length (stored_in ((with_writes s d.writes).at (addresses.Block n i))) ≡ length bytes = ap length
-      block in
-      let short = content.short i in
-      let part = part-length (bytes_at k.state n) i in
-      is ∙ ap (λ b. take count (drop start b)) (sym block)
-      ∙ read-whole map.size (λ b. stored_in ((with_writes s d.writes).at (addresses.Block n b))) (bytes_at k.state n)
-      content
-      i start count offset (omega arith) (omega (arith, long, short, part, enough)) within (omega (arith, long, enough))
-
   pub gathered-none : IsGathered d n offset count (offset / block_size) []
   gathered-none = record { counted = omega arith; is = λ s k w. refl }
 

@@ -1,10 +1,12 @@
 //! The bytes of a block of a file. Those that it has not, up to `BLOCK_SIZE`, are zeros.
 
-ghost use Rattle.std.specs.Prelude.{◌≡◌, ◌++◌, ◌+◌, ◌<◌, ◌≤◌, ◌^◌, IfOk, OnOk, drop, length, take};
+ghost use Rattle.std.specs.Prelude.{◌≡◌, ◌++◌, ◌+◌, ◌<◌, ◌≤◌, ◌^◌, [], IfOk, OnOk, drop, length, option_copied, take};
+ghost use Rattle.std.specs.Prelude.{unwrap_or};
 ghost use Rattle.nfs_machine.specs.Data.{resized, written};
 
 use crate::bits::BITS;
 use bytes::Bytes;
+use nfs_wire::Pieces;
 use std::alloc::{AllocError, Global};
 
 /// How many bytes a block has at most, and the place in a file of each block but the first is a multiple of it.
@@ -40,23 +42,44 @@ pub fn cut(alloc: Global, old: &[u8], count: usize) -> Result<Bytes, AllocError>
     Bytes::copy_from_slice(alloc, window(old, 0, count))
 }
 
-/// Adds so many of a block's bytes from this place on; zeros where it has fewer.
+/// Adds so many of a block's bytes from this place on, shared with it; zeros where it has fewer, or is absent.
 ///
 /// # Errors
 ///
 /// `AllocError` where the memory for them was refused.
 pub fn add_part(
-    found: &mut Vec<u8>,
-    block: &[u8],
+    found: &mut Pieces,
+    block: Option<&Bytes>,
     start: usize,
     count: usize,
 ) -> Result<(), AllocError>
-    requires { length found.old.items + count < 2 ^ 64 }
-    ensures { OnOk result (found.new.items ≡ found.old.items ++ resized (drop start block.now) count) }
+    requires { length found.old + count < 2 ^ 64 }
+    ensures { OnOk result
+        (found.new ≡ found.old ++ resized (drop start (unwrap_or (option_copied block.entry) [])) count) }
 {
-    let end = found.len() + count;
-    found.extend_from_slice(window(block, start, count))?;
-    found.resize(end, 0)
+    let shared = match block {
+        Some(block) => share_part(found, block, start, count)?,
+        None => 0,
+    };
+    found.push_zeros(count - shared)
+}
+
+/// Adds at most so many of a block's bytes from this place on, shared with it. How many they are.
+fn share_part(
+    found: &mut Pieces,
+    block: &Bytes,
+    start: usize,
+    count: usize,
+) -> Result<usize, AllocError>
+    requires { length found.old + count < 2 ^ 64 }
+    ensures found { OnOk result (found.new ≡ found.old ++ take count (drop start block.now)) }
+    ensures count { IfOk result (λ shared. shared ≡ length (take count (drop start block.now))) }
+{
+    let shared = window(block.as_slice(), start, count).len();
+    if shared > 0 {
+        found.push(block.slice(start..start + shared)?)?;
+    }
+    Ok(shared)
 }
 
 /// At most so many bytes from a place on.

@@ -28,7 +28,7 @@ pub use calls::{
     Verifier, WriteArguments, one_call_is_spelled, read_args,
 };
 pub use entries::{FullEntry, FullNames, Names, PageEntry};
-pub use nfs_xdr::ArgumentsError;
+pub use nfs_xdr::{ArgumentsError, Pieces};
 pub use replies::{
     AccessReply, CommitReply, FileSystem, Found, FsinfoReply, FsstatReply, LinkedReply,
     LookupReply, Made, MadeReply, NfsReply, Page, PagePlus, PathLimits, PathconfReply, ReadData,

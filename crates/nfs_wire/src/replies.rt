@@ -16,7 +16,7 @@ use crate::calls::{Stability, Verifier};
 use crate::entries::{FullNames, Names};
 use crate::status::NfsStatus;
 use bytes::Bytes;
-use nfs_xdr::{Writer, XdrError};
+use nfs_xdr::{Pieces, Writer, XdrError};
 
 /// The result of SETATTR (RFC 1813, 3.3.2).
 #[derive(Clone, Copy, PartialEq, Eq)]
@@ -65,7 +65,7 @@ pub struct ReadData {
     pub count: u32,
     /// Whether the file ends behind the data.
     pub eof: bool,
-    pub data: Bytes,
+    pub data: Pieces,
 }
 
 /// The result of READ (RFC 1813, 3.3.6).

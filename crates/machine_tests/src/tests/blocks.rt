@@ -41,13 +41,23 @@ fn is_cut(alloc: Global) -> Result<bool, AllocError> {
     Ok(are_three && all?.as_slice() == b"hello".as_slice())
 }
 
-/// Whether what a block lacks is read as zeros.
-fn is_filled(alloc: Global) -> Result<bool, AllocError> {
-    let mut found = Vec::new(alloc);
-    let added = add_part(&mut found, b"hello", 3, 4);
-    let is_so = added.is_ok() && found.as_slice() == b"lo\0\0".as_slice();
+/// Whether 4 bytes of a block from place 3 on are these.
+fn is_part(alloc: Global, block: Option<&Bytes>, want: &'static [u8]) -> Result<bool, AllocError> {
+    let mut found = Pieces::new(alloc);
+    let added = add_part(&mut found, block, 3, 4);
+    let is_so = are(alloc, &found, want);
     drop(found);
-    Ok(is_so)
+    added?;
+    is_so
+}
+
+/// Whether what a block lacks is read as zeros, and so all where there is none.
+fn is_filled(alloc: Global) -> Result<bool, AllocError> {
+    let hello = Bytes::from_static(b"hello");
+    let of_some = is_part(alloc, Some(&hello), b"lo\0\0");
+    drop(hello);
+    let of_none = is_part(alloc, None, b"\0\0\0\0");
+    Ok(of_some? && of_none?)
 }
 
 /// Whether 0, 63, 64 and 511 are in a set that they were added to, and no others beside them.

@@ -183,14 +183,15 @@ fn changed(draft: &mut Draft<'_>, change: Change) -> Result<bool, Halt>
 }
 
 /// Whether file 9 has these bytes from this place on, of which at most so many are read.
-fn ends(draft: &Draft<'_>, start: u64, count: u32, bytes: &[u8]) -> Result<bool, Halt> {
+fn ends(draft: &Draft<'_>, start: u64, count: u32, bytes: &'static [u8]) -> Result<bool, Halt> {
     let Some(file) = file(draft)? else {
         return Ok(false);
     };
     let found = read(draft, &file, start, count)?;
-    let ends = found.eof && found.data.as_slice() == bytes;
+    let eof = found.eof;
+    let is_so = are(draft.alloc(), &found.data, bytes);
     drop(found);
-    Ok(ends)
+    Ok(eof && is_so?)
 }
 
 /// Whether object 9 has so many links, and was modified and changed at these times.

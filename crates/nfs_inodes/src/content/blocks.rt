@@ -21,6 +21,7 @@ use crate::content::asking::Asking;
 use bytes::Bytes;
 use nfs_objects::block::{add_part, window, written};
 use nfs_objects::{Addr, BLOCK_SIZE, Bits, Draft, FileMap, Halt, MAP_BLOCKS};
+use nfs_wire::Pieces;
 use std::alloc::AllocError;
 
 /// How many bytes a block has at most.
@@ -107,13 +108,12 @@ fn bytes_of(block: Option<&Bytes>) -> &[u8]
     }
 }
 
-/// The bytes of this range of a file, which ends with the file or before. Those that one block has are shared with it,
-/// and else they are copied once.
+/// The bytes of this range of a file, which ends with the file or before, shared with its blocks.
 ///
 /// # Errors
 ///
 /// `Need` of all blocks of the range that were not read, and `Memory`.
-pub(crate) fn read_range(draft: &Draft<'_>, file: Mapped<'_>, range: Range) -> Result<Bytes, Halt>
+pub(crate) fn read_range(draft: &Draft<'_>, file: Mapped<'_>, range: Range) -> Result<Pieces, Halt>
     requires mapped { HasMap draft.now file.number file.map.now }
     requires within { range.offset + range.count ≤ file.map.now.size }
     ensures { MatchResult result
@@ -122,10 +122,7 @@ pub(crate) fn read_range(draft: &Draft<'_>, file: Mapped<'_>, range: Range) -> R
         (StopsAt draft.now (blocks_at file.entry.number range.offset)) }
 {
     ask_range(draft, file, range)?;
-    match whole_in_one(draft, file, range)? {
-        Some(bytes) => Ok(bytes),
-        None => gathered(draft, file, range),
-    }
+    gathered(draft, file, range)
 }
 
 /// Asks for the blocks of a range, as far as its map pages are there.
@@ -144,28 +141,8 @@ fn ask_range(draft: &Draft<'_>, file: Mapped<'_>, range: Range) -> Result<(), Ha
     asking.ask()
 }
 
-/// The bytes of a range, shared with the block that has them all; None where no block does.
-fn whole_in_one(draft: &Draft<'_>, file: Mapped<'_>, range: Range) -> Result<Option<Bytes>, Halt>
-    requires mapped { HasMap draft.now file.number file.map.now }
-    requires within { range.offset + range.count ≤ file.map.now.size }
-    requires known { KnowsMapped draft.now file.number file.map.now.pages range.offset range.count }
-    ensures { MatchResult result
-        (λ found. IfSome found (λ found. Knows draft.now (λ k.
-        found ≡ take range.count (drop range.offset (bytes_at k.state file.entry.number)))))
-        (StopsAt draft.now []) }
-{
-    let Some(bytes) = stored(draft, file, range.first())? else {
-        return Ok(None);
-    };
-    let start = range.start_in(range.first());
-    if start + range.count > bytes.len() {
-        return Ok(None);
-    }
-    Ok(Some(bytes.slice(start..start + range.count)?))
-}
-
-/// The bytes of a range, copied.
-fn gathered(draft: &Draft<'_>, file: Mapped<'_>, range: Range) -> Result<Bytes, Halt>
+/// The bytes of a range, shared with the blocks.
+fn gathered(draft: &Draft<'_>, file: Mapped<'_>, range: Range) -> Result<Pieces, Halt>
     requires mapped { HasMap draft.now file.number file.map.now }
     requires within { range.offset + range.count ≤ file.map.now.size }
     requires known { KnowsMapped draft.now file.number file.map.now.pages range.offset range.count }
@@ -174,14 +151,14 @@ fn gathered(draft: &Draft<'_>, file: Mapped<'_>, range: Range) -> Result<Bytes, 
         found ≡ take range.count (drop range.offset (bytes_at k.state file.entry.number))))
         (StopsAt draft.now []) }
 {
-    let mut found = Vec::with_capacity(draft.alloc(), range.count)?;
+    let mut found = Pieces::with_capacity(draft.alloc(), range.count / BLOCK_SIZE + 2)?;
     for index in range.first()..range.end() {
-        let block = bytes_of(stored(draft, file, index)?);
+        let block = stored(draft, file, index)?;
         let start = range.start_in(index);
         let count = (BLOCK_SIZE - start).min(range.count - found.len());
         add_part(&mut found, block, start, count)?;
     }
-    Ok(Bytes::from_vec(found)?)
+    Ok(found)
 }
 
 fn block_at(file: u64, index: u64) -> Addr

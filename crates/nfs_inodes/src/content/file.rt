@@ -31,11 +31,11 @@ use crate::usage::{ask_counted, count, counted, share_of};
 use bytes::Bytes;
 use nfs_objects::object::living;
 use nfs_objects::{Addr, Bits, Content, Draft, FileMap, Halt, Inode, Usage};
-use nfs_wire::{NfsStatus, ReadData};
-use std::alloc::AllocError;
+use nfs_wire::{NfsStatus, Pieces, ReadData};
+use std::alloc::{AllocError, Global};
 
 /// What is read of a file at the offset, at most `count` bytes and at most those of one transfer, and whether the file
-/// ends with it. The data is shared with the file where it lies in one of its blocks, and else copied.
+/// ends with it. The data is shared with the file's blocks.
 ///
 /// # Errors
 ///
@@ -48,10 +48,10 @@ pub fn read(draft: &Draft<'_>, file: &File, offset: u64, count: u32) -> Result<R
 {
     let number = file.known.number;
     let Some(inode) = inode(draft, number)? else {
-        return Ok(nothing_read());
+        return Ok(nothing_read(draft.alloc()));
     };
     let Content::Regular(map) = &inode.content else {
-        return Ok(nothing_read());
+        return Ok(nothing_read(draft.alloc()));
     };
     read_file(draft, Mapped { number, map }, offset, count)
 }
@@ -70,7 +70,7 @@ fn read_file(draft: &Draft<'_>, file: Mapped<'_>, offset: u64, count: u32) -> Re
         return Ok(ReadData {
             count: 0,
             eof: size <= offset,
-            data: Bytes::new(),
+            data: Pieces::new(draft.alloc()),
         });
     }
     let data = read_range(draft, file, Range { offset, count })?;
@@ -82,13 +82,13 @@ fn read_file(draft: &Draft<'_>, file: Mapped<'_>, offset: u64, count: u32) -> Re
 }
 
 /// What is read of no bytes.
-fn nothing_read() -> ReadData
+fn nothing_read(alloc: Global) -> ReadData
     ensures { (offset count : ℕ) → result ≡ read_at [] offset count }
 {
     ReadData {
         count: 0,
         eof: true,
-        data: Bytes::new(),
+        data: Pieces::new(alloc),
     }
 }
 

@@ -100,7 +100,7 @@ pub(super) fn write_read(writer: &mut Writer, reply: &ReadReply) -> Result<(), X
             write_optional_attributes(writer, reply.attributes)?;
             writer.u32(read.count)?;
             writer.bool(read.eof)?;
-            writer.opaque(read.data.as_slice())
+            writer.opaque_pieces(&read.data)
         }
         Err(status) => {
             write_status(writer, *status)?;

@@ -11,7 +11,7 @@ use bytes::Bytes;
 use nfs_wire::{
     AccessReply, Attributes, CommitReply, DeviceNumber, FileSystem, FileType, Found, FsinfoReply,
     FsstatReply, FullEntry, FullNames, LinkedReply, LookupReply, Made, MadeReply, Names, NfsReply,
-    NfsStatus, Page, PageEntry, PagePlus, PathLimits, PathconfReply, ReadData, ReadReply,
+    NfsStatus, Page, PageEntry, PagePlus, PathLimits, PathconfReply, Pieces, ReadData, ReadReply,
     ReaddirReply, ReaddirplusReply, ReadlinkReply, RemovedReply, RenamedReply, SetattrReply, Space,
     Stability, Time, Verifier, Wcc, WeakAttributes, WriteReply, Written, write_result,
 };
@@ -130,17 +130,21 @@ fn readlink(text: Result<(), NfsStatus>) -> ReadlinkReply
     }
 }
 
-fn read() -> ReadReply
-    ensures { HasReadForm result }
+/// Of "hello" in two pieces.
+fn read(alloc: Global) -> Result<ReadReply, AllocError>
+    ensures { IfOk result HasReadForm }
 {
-    ReadReply {
+    let mut data = Pieces::new(alloc);
+    data.push(Bytes::from_static(b"hel"))?;
+    data.push(Bytes::from_static(b"lo"))?;
+    Ok(ReadReply {
         attributes: Some(SHOWN),
         result: Ok(ReadData {
             count: 5,
             eof: true,
-            data: Bytes::from_static(b"hello"),
+            data,
         }),
-    }
+    })
 }
 
 fn made(makes: Makes) -> MadeReply
@@ -188,7 +192,7 @@ fn is_told(alloc: Global, writing: &Writing) -> Result<bool, Fail> {
                 NfsReply::Readlink(readlink(result)),
             )
         }
-        Told::Read => is_written(alloc, front, middle, back, NfsReply::Read(read())),
+        Told::Read => is_written(alloc, front, middle, back, NfsReply::Read(read(alloc)?)),
         Told::NotRead(status) => {
             let reply = ReadReply {
                 attributes: None,
