@@ -181,7 +181,7 @@ module _ (d new : DraftValue) (n : ℕ) (before after : List PageRun) (e : Entry
 
 -- ---- a part divides
 module _ (d mid new : DraftValue) (n bucket width wide : ℕ) (whole : List Entry) (some : 0 < width)
-    (small : width ≤ 2 ^ 27) (is-wide : wide ≡ suc width)
+    (small : width ≤ 2 ^ 29) (is-wide : wide ≡ suc width)
     (tells : option_map part_of (known_at d (addresses.Part n bucket (source_of width))) ≡ Some (Some whole))
     (stays : mid ≡ with_written d (addresses.Part n bucket (source_of width))
     (Some (objects.Part (filter (λ (e : Entry). part_among wide e.name == source_of width) whole))))
@@ -213,7 +213,7 @@ module _ (d mid new : DraftValue) (n bucket width wide : ℕ) (whole : List Entr
   }
 
 -- nothing stands where a part should, so that no directory has so many
-pub none-divides : (d : DraftValue) (n bucket width : ℕ) → 0 < width → width ≤ 2 ^ 27 →
+pub none-divides : (d : DraftValue) (n bucket width : ℕ) → 0 < width → width ≤ 2 ^ 29 →
     option_map part_of (known_at d (addresses.Part n bucket (source_of width))) ≡ Some None → Divides d d n bucket width
 none-divides d n bucket width some small tells = record {
   keeps = keeps-none d n bucket;
@@ -232,12 +232,12 @@ none-divides d n bucket width some small tells = record {
 
 -- ---- its part
 -- with one name more a bucket has as many parts, or one more
-pub width-more : (count : ℕ) → width_of count ≤ 2 ^ 27 →
+pub width-more : (count : ℕ) → width_of count ≤ 2 ^ 29 →
     (width_of (counted_up count) ≡ width_of count) ⊎ (width_of (counted_up count) ≡ suc (width_of count))
 width-more count small =
     cond_both (nat_lt count many) (count + 1) many
     (λ c. (width_of c ≡ width_of count) ⊎ (width_of c ≡ suc (width_of count)))
-    (λ less. by ((count + 1 + 31) / 32 == (count + 31) / 32) refl)
+    (λ less. by ((count + 1 + 7) / 8 == (count + 7) / 8) refl)
     (λ more. inl (omega (arith, small, ltb-false more)))
   where
     ltb-false : nat_lt count many ≡ false → many ≤ count
@@ -246,10 +246,10 @@ width-more count small =
       | inr most ↦ most
     ]
 
-    by : (b : Bool) → ((count + 1 + 31) / 32 == (count + 31) / 32) ≡ b →
+    by : (b : Bool) → ((count + 1 + 7) / 8 == (count + 7) / 8) ≡ b →
         (width_of (count + 1) ≡ width_of count) ⊎ (width_of (count + 1) ≡ suc (width_of count))
-    by true same = inl (eqb-true ((count + 1 + 31) / 32) ((count + 31) / 32) same)
-    by false other = inr (let apart = differs ((count + 1 + 31) / 32) ((count + 31) / 32) other in omega (arith, apart))
+    by true same = inl (eqb-true ((count + 1 + 7) / 8) ((count + 7) / 8) same)
+    by false other = inr (let apart = differs ((count + 1 + 7) / 8) ((count + 7) / 8) other in omega (arith, apart))
 
 pub width-some : (count : ℕ) → 0 < width_of (counted_up count)
 width-some count =
@@ -264,7 +264,7 @@ MayDivide d mid n bucket before after = (Divides d mid n bucket before × (befor
 pub record Comes (d mid new : DraftValue) (n : ℕ) (counts wider : List ℕ) (e : Entry) (part : ℕ)
     (was : Option (List Entry)) (names : List Entry) (bucket : ℕ) : Type 0 where
   pub counted : wider ≡ with_count counts bucket (counted_up (count_in counts bucket))
-  pub small : width_in counts bucket ≤ 2 ^ 27
+  pub small : width_in counts bucket ≤ 2 ^ 29
   pub divides : MayDivide d mid n bucket (width_in counts bucket) (width_of (counted_up (count_in counts bucket)))
   pub place : part ≡ part_among (width_of (counted_up (count_in counts bucket))) e.name
   pub within : part < width_of (counted_up (count_in counts bucket))

@@ -221,7 +221,7 @@ part-told d s n bucket part width es found fits below known has =
     }
 
 -- ---- two parts are joined
-module _ (d : DraftValue) (n bucket width : ℕ) (some : 0 < width) (small : width ≤ 2 ^ 27) where
+module _ (d : DraftValue) (n bucket width : ℕ) (some : 0 < width) (small : width ≤ 2 ^ 29) where
   abbrev source : ℕ
   source = source_of width
 

@@ -53,9 +53,9 @@ counted_up count = if nat_lt count many then count + 1 else many
 abbrev pub counted_down : ℕ → ℕ
 counted_down count = if count == many then many else count - 1
 
--- how many parts a bucket of so many names has: one for each 32
+-- how many parts a bucket of so many names has: one for each 8
 abbrev pub width_of : (count : ℕ) → ℕ
-width_of count = (count + 31) / 32
+width_of count = (count + 7) / 8
 
 abbrev pub width_in : List ℕ → (bucket : ℕ) → ℕ
 width_in counts bucket = width_of (count_in counts bucket)

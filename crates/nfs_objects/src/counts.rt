@@ -66,7 +66,7 @@ impl Counts {
     /// How many parts a bucket has.
     pub fn width(&self, bucket: u8) -> u32
         ensures which { result ≡ width_in self.now bucket }
-        ensures small { result ≤ 2 ^ 27 }
+        ensures small { result ≤ 2 ^ 29 }
     {
         width_of(self.count(bucket))
     }
@@ -74,7 +74,7 @@ impl Counts {
     /// How many parts a bucket has with one name more.
     pub fn width_with_one_more(&self, bucket: u8) -> u32
         ensures which { result ≡ width_of (counted_up (count_in self.now bucket)) }
-        ensures small { result ≤ 2 ^ 27 }
+        ensures small { result ≤ 2 ^ 29 }
     {
         width_of(counted_up(self.count(bucket)))
     }
@@ -82,7 +82,7 @@ impl Counts {
     /// How many parts a bucket has with one name less.
     pub fn width_with_one_less(&self, bucket: u8) -> u32
         ensures which { result ≡ width_of (counted_down (count_in self.now bucket)) }
-        ensures small { result ≤ 2 ^ 27 }
+        ensures small { result ≤ 2 ^ 29 }
     {
         width_of(counted_down(self.count(bucket)))
     }

@@ -12,7 +12,7 @@ use std::hash::{DefaultHasher, Hasher};
 pub const BUCKETS: u8 = 64;
 
 /// How many names of a bucket there are for each of its parts.
-const PART_NAMES: u32 = 32;
+const PART_NAMES: u32 = 8;
 
 /// The bucket of a name: the sum of its bytes, modulo `BUCKETS`.
 pub fn bucket_of(name: &[u8]) -> u8
@@ -29,7 +29,7 @@ pub fn bucket_of(name: &[u8]) -> u8
 /// How many parts a bucket of so many names has; an empty one has none.
 pub fn width_of(names: u32) -> u32
     ensures which { result ≡ width_of names }
-    ensures small { result ≤ 2 ^ 27 }
+    ensures small { result ≤ 2 ^ 29 }
 {
     names.div_ceil(PART_NAMES)
 }

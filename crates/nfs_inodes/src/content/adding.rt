@@ -178,7 +178,7 @@ fn with_name(
 fn divide(draft: &mut Draft<'_>, number: u64, bucket: u8, width: u32) -> Result<(), Halt>
     requires alone { MayChange draft.old (Addr.Inode number) }
     requires some { 0 < width }
-    requires small { width ≤ 2 ^ 27 }
+    requires small { width ≤ 2 ^ 29 }
     requires lives { PartsLive draft.old number bucket width }
     ensures { MatchResult result (λ _. Divides draft.old draft.new number bucket width)
         (StopsAt draft.old (lacked_of draft.old (Addr.Part number bucket width ∷ []))) }

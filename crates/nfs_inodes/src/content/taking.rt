@@ -203,7 +203,7 @@ fn take_from_part(
 fn join(draft: &mut Draft<'_>, number: u64, bucket: u8, width: u32) -> Result<(), Halt>
     requires alone { MayChange draft.old (Addr.Inode number) }
     requires some { 0 < width }
-    requires small { width ≤ 2 ^ 27 }
+    requires small { width ≤ 2 ^ 29 }
     requires live { PartsLive draft.old number bucket (suc width) }
     ensures { MatchResult result (λ _. Joins draft.old draft.new number bucket width) (StopsAt draft.old []) }
 {
