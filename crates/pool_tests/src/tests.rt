@@ -9,5 +9,7 @@ mod callers;
 mod calls;
 mod ends;
 mod gates;
+mod listings;
+mod pages;
 mod pools;
 mod rows;

@@ -63,6 +63,8 @@ pub(super) struct Caller<'a, L: Ledger, R> {
     pub(super) seat: &'a mut Seat<L>,
     /// The file that its calls are on: the root until it has one.
     pub(super) file: Handle,
+    /// The directory in which its names stand: the root until it has another.
+    pub(super) directory: Handle,
 }
 
 impl<'a, L: Ledger, R: Runs> Caller<'a, L, R> {
@@ -72,6 +74,7 @@ impl<'a, L: Ledger, R: Runs> Caller<'a, L, R> {
             pool,
             seat,
             file: ROOT,
+            directory: ROOT,
         }
     }
 
@@ -100,7 +103,7 @@ impl<'a, L: Ledger, R: Runs> Caller<'a, L, R> {
 
     /// The record of a call comes in.
     pub(super) fn arrival(&self, xid: u32, ask: Ask) -> Result<Arrival, AllocError> {
-        let record = ask.record(self.rt.alloc(), xid, &self.file)?;
+        let record = ask.record(self.rt.alloc(), xid, &self.file, &self.directory)?;
         let Some(host) = Host::new(Bytes::from_static(b"10.0.0.1")) else {
             return Err(AllocError);
         };
@@ -136,9 +139,14 @@ impl<'a, L: Ledger, R: Runs> Caller<'a, L, R> {
         Some(self.seat.receipts().last()?.number)
     }
 
-    /// A word of the last receipt's reply, at this place in bytes.
+    /// The last receipt's reply.
+    pub(super) fn answer(&self) -> Option<&[u8]> {
+        Some(&self.seat.receipts().last()?.answer)
+    }
+
+    /// A word of it, at this place in bytes.
     pub(super) fn word(&self, place: usize) -> Option<u32> {
-        word_at(&self.seat.receipts().last()?.answer, place)
+        word_at(self.answer()?, place)
     }
 
     /// The handle at this place of the last receipt's reply.

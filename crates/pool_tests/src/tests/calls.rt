@@ -12,7 +12,14 @@ pub(super) const ROOT: Handle = [0x4e464433, 1, 0, 7, 0, 1, 0, 1];
 /// AUTH_SYS of user 0 and group 0 (RFC 5531, appendix A), and a verifier.
 const USER_0: [u32; 9] = [1, 20, 0, 0, 0, 0, 0, 0, 0];
 
-/// A call of one who has a file. A name has four bytes, and stands in the root.
+/// Where a listing goes on, and what tells that it may.
+#[derive(Clone, Copy)]
+pub(super) struct Cursor {
+    pub(super) cookie: u64,
+    pub(super) verifier: u64,
+}
+
+/// A call of one who has a file and a directory. A name has four bytes, and stands in the directory.
 #[derive(Clone, Copy)]
 pub(super) enum Ask {
     /// GETATTR of the file.
@@ -35,20 +42,31 @@ pub(super) enum Ask {
     Remove(u32),
     /// LINK of the file under a name.
     Link(u32),
+    /// MKDIR of a name.
+    Mkdir(u32),
+    /// RMDIR of a name.
+    Rmdir(u32),
+    /// RENAME of a name to another.
+    Rename(u32, u32),
+    /// READDIR from there on, of 8,192 bytes.
+    Readdir(Cursor),
+    /// READDIRPLUS from there on, of 32,768 bytes, and 8,192 of numbers, names and cookies.
+    Readdirplus(Cursor),
 }
 
 impl Ask {
-    /// Its record, under this transaction id, by one who has this file.
+    /// Its record, under this transaction id, by one who has this file and this directory.
     pub(super) fn record(
         &self,
         alloc: Global,
         xid: u32,
         file: &Handle,
+        directory: &Handle,
     ) -> Result<Bytes, AllocError> {
         let mut bytes = Vec::new(alloc);
         add(&mut bytes, &[xid, 0, 2, 100003, 3, self.procedure()])?;
         add(&mut bytes, &USER_0)?;
-        self.add_arguments(&mut bytes, file)?;
+        self.add_arguments(&mut bytes, file, directory)?;
         Ok(Bytes::from_vec(bytes)?)
     }
 
@@ -62,27 +80,59 @@ impl Ask {
             Ask::Create(_) | Ask::CreateOnce(..) => 8,
             Ask::Remove(_) => 12,
             Ask::Link(_) => 15,
+            Ask::Mkdir(_) => 9,
+            Ask::Rmdir(_) => 13,
+            Ask::Rename(..) => 14,
+            Ask::Readdir(_) => 16,
+            Ask::Readdirplus(_) => 17,
         }
     }
 
-    fn add_arguments(&self, bytes: &mut Vec<u8>, file: &Handle) -> Result<(), AllocError> {
+    fn add_arguments(
+        &self,
+        bytes: &mut Vec<u8>,
+        file: &Handle,
+        directory: &Handle,
+    ) -> Result<(), AllocError> {
         match self {
             Ask::Getattr => add_on(bytes, 32, file, &[]),
             Ask::GetattrCut => add_on(bytes, 31, file, &[]),
             Ask::SetMode(mode) => add_on(bytes, 32, file, &[1, *mode, 0, 0, 0, 0, 0, 0]),
             Ask::Read => add_on(bytes, 32, file, &[0, 0, 4]),
             Ask::Write(word) => add_on(bytes, 32, file, &[0, 0, 4, 2, 4, *word]),
-            Ask::Create(name) => add_on(bytes, 32, &ROOT, &[4, *name, 1, 0, 0, 0, 0, 0, 0]),
+            Ask::Create(name) => add_on(bytes, 32, directory, &[4, *name, 1, 0, 0, 0, 0, 0, 0]),
             Ask::CreateOnce(name, verifier) => {
-                add_on(bytes, 32, &ROOT, &[4, *name, 2, 0, *verifier])
+                add_on(bytes, 32, directory, &[4, *name, 2, 0, *verifier])
             }
-            Ask::Lookup(name) | Ask::Remove(name) => add_on(bytes, 32, &ROOT, &[4, *name]),
+            Ask::Lookup(name) | Ask::Remove(name) | Ask::Rmdir(name) => {
+                add_on(bytes, 32, directory, &[4, *name])
+            }
             Ask::Link(name) => {
                 add_on(bytes, 32, file, &[])?;
-                add_on(bytes, 32, &ROOT, &[4, *name])
+                add_on(bytes, 32, directory, &[4, *name])
             }
+            Ask::Mkdir(name) => add_on(bytes, 32, directory, &[4, *name, 0, 0, 0, 0, 0, 0]),
+            Ask::Rename(from, to) => {
+                add_on(bytes, 32, directory, &[4, *from])?;
+                add_on(bytes, 32, directory, &[4, *to])
+            }
+            Ask::Readdir(cursor) => add_from(bytes, directory, *cursor, &[8192]),
+            Ask::Readdirplus(cursor) => add_from(bytes, directory, *cursor, &[8192, 32_768]),
         }
     }
+}
+
+/// Adds a directory, where its listing goes on, and these bounds.
+fn add_from(
+    bytes: &mut Vec<u8>,
+    directory: &Handle,
+    cursor: Cursor,
+    bounds: &[u32],
+) -> Result<(), AllocError> {
+    add_on(bytes, 32, directory, &[])?;
+    bytes.extend_from_slice(&cursor.cookie.to_be_bytes())?;
+    bytes.extend_from_slice(&cursor.verifier.to_be_bytes())?;
+    add(bytes, bounds)
 }
 
 /// Adds a handle of so many bytes, and these words.

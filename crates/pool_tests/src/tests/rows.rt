@@ -11,7 +11,7 @@ pub(super) const X: u32 = 0x78787878;
 
 const Y: u32 = 0x79797979;
 
-const NOENT: Told = Told::Executed(Some(2));
+pub(super) const NOENT: Told = Told::Executed(Some(2));
 
 const EXIST: Told = Told::Executed(Some(17));
 
@@ -20,7 +20,7 @@ const STALE: Told = Told::Executed(Some(70));
 const BADHANDLE: Told = Told::Executed(Some(10001));
 
 /// Where the handle of what a LOOKUP found is in its reply, in bytes from the mark of its fragment on.
-const FOUND: usize = 36;
+pub(super) const FOUND: usize = 36;
 
 /// Where the links of a file are in the reply to GETATTR.
 const LINKS: usize = 40;
