@@ -10,6 +10,7 @@ use Rattle.nfs_objects.specs.PageRuns.{IsNextPage, lists}
 use Rattle.nfs_objects.specs.Values.{is_addr}
 use Rattle.nfs_objects.specs.declared.address.Addr.{Addr}
 use Rattle.nfs_objects.specs.declared.address.Addr.TheVariants.{Exports, Inode, Map, Block, Page, Part, Mounts, Usage}
+use Rattle.nfs_objects.specs.declared.address.Addr.TheVariants.{Locks}
 use Rattle.nfs_objects.specs.declared.entry_map.EntryMap.{EntryMap}
 use Rattle.nfs_objects.specs.declared.page_list.PageRun.{PageRun}
 
@@ -97,6 +98,7 @@ module _ (pages : List PageRun) (directory : ℕ) where
   none-before next is (Part n bucket part) = refl
   none-before next is Mounts = refl
   none-before next is (Usage e g) = refl
+  none-before next is (Locks c) = refl
 
   -- behind the last page all lie before
   pub all-before : (a : Addr) → is_page_before pages directory None a ≡ is_page_of pages directory a
@@ -111,6 +113,7 @@ module _ (pages : List PageRun) (directory : ℕ) where
   all-before (Part n bucket part) = refl
   all-before Mounts = refl
   all-before (Usage e g) = refl
+  all-before (Locks c) = refl
 
   -- a page, and the next one behind it: before that lies the page besides
   module _ (page : ℕ) (next : Option ℕ) (here : lists pages page ≡ true) (is : IsNextPage pages (suc page) next) where
@@ -160,6 +163,7 @@ module _ (pages : List PageRun) (directory : ℕ) where
     page-more (Part n bucket part) = refl
     page-more Mounts = refl
     page-more (Usage e g) = refl
+    page-more (Locks c) = refl
 
 -- ---- parts
 module _ (directory bucket : ℕ) where
@@ -173,6 +177,7 @@ module _ (directory bucket : ℕ) where
       ∙ ap (λ t. (directory == n) && t) (none-listed (bucket == b)) ∙ none-listed (directory == n)
   no-part Mounts = refl
   no-part (Usage e g) = refl
+  no-part (Locks c) = refl
 
   upto-next : (part q : ℕ) → nat_lt q (part + 1) ≡ (nat_lt q part || (part == q))
   upto-next part q = by (cases_order q part)
@@ -206,6 +211,7 @@ module _ (directory bucket : ℕ) where
       ]
   part-more part Mounts = refl
   part-more part (Usage e g) = refl
+  part-more part (Locks c) = refl
 
 -- ---- all of them
 -- of a page, or of a part of a bucket below one
@@ -227,6 +233,7 @@ module _ (m : EntryMap) (directory : ℕ) where
       ∙ none-listed (directory == n)
   pages-first Mounts = refl
   pages-first (Usage e g) = refl
+  pages-first (Locks c) = refl
 
   bucket-part : (bucket n b part : ℕ) →
       ((directory == n) && (nat_lt b (bucket + 1) && nat_lt part (width_in m.counts b)))
@@ -273,6 +280,7 @@ module _ (m : EntryMap) (directory : ℕ) where
   bucket-more bucket (Part n b part) = bucket-part bucket n b part
   bucket-more bucket Mounts = refl
   bucket-more bucket (Usage e g) = refl
+  bucket-more bucket (Locks c) = refl
 
   -- below the number of buckets lie all of them
   pub buckets-all : length m.counts ≡ 64 → (bucket : ℕ) → 64 ≤ bucket → (a : Addr) →
@@ -294,3 +302,4 @@ module _ (m : EntryMap) (directory : ℕ) where
           ∙ sym (ap (λ c. nat_lt part (width_of c)) none ∙ le-ltb part 0 (omega arith))
   buckets-all count bucket all Mounts = refl
   buckets-all count bucket all (Usage e g) = refl
+  buckets-all count bucket all (Locks c) = refl

@@ -1,10 +1,11 @@
 -- A call asks for few addresses where nothing stands: each of them is one that it names, and is asked for once.
 use Rattle.std.proofs.Common.{◌≡◌, ℕ, zero, suc, ◌+◌, ◌*◌, ◌/◌, ◌<◌, ◌≤◌, true, false, Bool, cond}
-use Rattle.std.proofs.Common.{◌||◌, List, []}
+use Rattle.std.proofs.Common.{◌||◌, ◌==◌, List, []}
 use Rattle.std.proofs.Common.{◌∷◌, ◌++◌, length, map, Option, Some, None, IsSome, is_some, inl, inr}
 use Rattle.std.proofs.Common.{length-append, option_map, refl, sym, ◌∙◌, ap, subst, arith}
 use Rattle.std.proofs.lemmas.List.{append-nil, append_assoc, length-map, map-append}
 use Rattle.std.proofs.lemmas.List.Sums.{count_by-le-length, sum_by-append, sum_by-cons, sum_by_push}
+use Rattle.std.specs.Int.{from_be_bytes, w64}
 use Rattle.std.specs.List.{AllByRecursion, count_by}
 use Rattle.std.specs.Option.{is_none}
 use Rattle.nfs_wire.specs.declared.calls.NfsCall.{NfsCall}
@@ -19,6 +20,7 @@ use Rattle.nfs_machine.specs.declared.calls.Call.TheVariants as calls
 use Rattle.nfs_machine.specs.declared.context.Ctx.{Ctx}
 use Rattle.nfs_machine.specs.declared.handle.Handle.{Handle}
 use Rattle.nfs_machine.proofs.Modes.{all-joined}
+use Rattle.nfs_objects.proofs.Knows.{among-behind, among-either, among-front}
 use Rattle.nfs_objects.proofs.Seen.{all-map, is_addr-refl, seen-before, some-shown}
 use Rattle.nfs_objects.specs.Asks.{EachOnce, MayAsk}
 use Rattle.nfs_objects.specs.Attempt.{Attempts}
@@ -27,9 +29,9 @@ use Rattle.nfs_objects.specs.Bound.{asked_count}
 use Rattle.nfs_objects.specs.Bound.{empty_count, held, view_after, with_round}
 use Rattle.nfs_objects.specs.Calls.{IsAmong, added_by, addresses_of, blocks_at, blocks_from, data_of, in_file, made_by}
 use Rattle.nfs_objects.specs.Calls.{maps_at, named_by, new_numbers, nfs_handles, nlm_handles, objects_at, places_for}
-use Rattle.nfs_objects.specs.Calls.{usages_of}
+use Rattle.nfs_objects.specs.Calls.{buckets_below, locks_at, locks_lost, locks_named, locks_of, locks_under, usages_of}
 use Rattle.nfs_objects.specs.Fits.{Fits, vacant}
-use Rattle.nfs_objects.specs.Modes.{modes_of}
+use Rattle.nfs_objects.specs.Modes.{led_at, modes_of, number_at, number_in, part_address}
 use Rattle.nfs_objects.specs.Sound.{Sound}
 use Rattle.nfs_objects.specs.Stands.{Kept, Represents, header_of}
 use Rattle.nfs_objects.specs.Store.{Store}
@@ -356,6 +358,99 @@ added-stay view more numbers (nfs.Fsinfo x) a = λ among. among
 added-stay view more numbers (nfs.Pathconf x) a = λ among. among
 added-stay view more numbers (nfs.Commit x) a = λ among. among
 
+-- what a name leads to is shown still
+abbrev found_in : List ℕ → Option (Option Object) → Option ℕ
+found_in name o =
+    elim o as (λ (x : Option (Option Object)). Option ℕ) [ None ↦ None | Some object ↦ number_in object name ]
+
+abbrev led_of : ViewValue → (number : ℕ) → List ℕ → Option (Option Object) → Option ℕ
+led_of view n name o = elim o as (λ (x : Option (Option Object)). Option ℕ) [
+  | None ↦ None
+  | Some object ↦ number_at view (part_address n object name) name
+]
+
+number-stay : (view : ViewValue) (more : List Seen) (numbers : List Reserved) (p : Option Addr) (name : List ℕ)
+    (number : ℕ) → number_at view p name ≡ Some number →
+    number_at (record { entries = view.entries ++ more; reserved = numbers }) p name ≡ Some number
+number-stay view more numbers None name number led = cc
+number-stay view more numbers (Some a) name number led = by (shown_at view.entries a) refl
+  where
+    by : (o : Option (Option Object)) → shown_at view.entries a ≡ o →
+        number_at (record { entries = view.entries ++ more; reserved = numbers }) (Some a) name ≡ Some number
+    by None is = let none : None ≡ Some number = subst (λ x. found_in name x ≡ Some number) is led in cc
+    by (Some o) is =
+        subst (λ x. found_in name x ≡ Some number) (sym (shown-before view.entries more a o is))
+        (subst (λ x. found_in name x ≡ Some number) is led)
+
+led-stay : (view : ViewValue) (more : List Seen) (numbers : List Reserved) (n : ℕ) (name : List ℕ) (number : ℕ) →
+    led_at view n name ≡ Some number →
+    led_at (record { entries = view.entries ++ more; reserved = numbers }) n name ≡ Some number
+led-stay view more numbers n name number led = by (shown_at view.entries (addresses.Inode n)) refl
+  where
+    later : ViewValue
+    later = record { entries = view.entries ++ more; reserved = numbers }
+
+    by : (o : Option (Option Object)) → shown_at view.entries (addresses.Inode n) ≡ o →
+        led_at (record { entries = view.entries ++ more; reserved = numbers }) n name ≡ Some number
+    by None is = let none : None ≡ Some number = subst (λ x. led_of view n name x ≡ Some number) is led in cc
+    by (Some o) is =
+        subst (λ x. led_of later n name x ≡ Some number) (sym (shown-before view.entries more (addresses.Inode n) o is))
+        (number-stay view more numbers (part_address n o name) name number
+        (subst (λ x. led_of view n name x ≡ Some number) is led))
+
+abbrev locks_led : Option ℕ → List Addr
+locks_led led = elim led as (λ (x : Option ℕ). List Addr) [ None ↦ [] | Some number ↦ locks_at number ]
+
+abbrev under_of : ViewValue → Place → Option Handle → List Addr
+under_of view place h =
+    elim h as (λ (x : Option Handle). List Addr) [ None ↦ [] | Some x ↦ locks_led (led_at view x.fileid place.name) ]
+
+bucket-stay : (view : ViewValue) (more : List Seen) (numbers : List Reserved) (n : ℕ) (name : List ℕ) (a : Addr) →
+    IsAmong (locks_led (led_at view n name)) a →
+    IsAmong (locks_led (led_at (record { entries = view.entries ++ more; reserved = numbers }) n name)) a
+bucket-stay view more numbers n name a among = by (led_at view n name) refl
+  where
+    by : (led : Option ℕ) → led_at view n name ≡ led →
+        IsAmong (locks_led (led_at (record { entries = view.entries ++ more; reserved = numbers }) n name)) a
+    by None is = absurd (subst (λ x. IsAmong (locks_led x) a) is among)
+    by (Some number) is =
+        subst (λ x. IsAmong (locks_led x) a) (sym (led-stay view more numbers n name number is))
+        (subst (λ x. IsAmong (locks_led x) a) is among)
+
+under-stay : (view : ViewValue) (more : List Seen) (numbers : List Reserved) (place : Place) (a : Addr) →
+    IsAmong (locks_under view place) a →
+    IsAmong (locks_under (record { entries = view.entries ++ more; reserved = numbers }) place) a
+under-stay view more numbers place a =
+    elim (handle_of place.directory) as (λ h. IsAmong (under_of view place h) a →
+    IsAmong (under_of (record { entries = view.entries ++ more; reserved = numbers }) place h) a)
+    [ None ↦ λ among. among | Some h ↦ bucket-stay view more numbers h.fileid place.name a ]
+
+lost-stay : (view : ViewValue) (more : List Seen) (numbers : List Reserved) (call : NfsCall) (a : Addr) →
+    IsAmong (locks_lost view call) a →
+    IsAmong (locks_lost (record { entries = view.entries ++ more; reserved = numbers }) call) a
+lost-stay view more numbers nfs.Null a = λ among. among
+lost-stay view more numbers (nfs.Getattr x) a = λ among. among
+lost-stay view more numbers (nfs.Setattr x) a = λ among. among
+lost-stay view more numbers (nfs.Lookup x) a = λ among. among
+lost-stay view more numbers (nfs.Access x) a = λ among. among
+lost-stay view more numbers (nfs.Readlink x) a = λ among. among
+lost-stay view more numbers (nfs.Read x) a = λ among. among
+lost-stay view more numbers (nfs.Write x) a = λ among. among
+lost-stay view more numbers (nfs.Create x) a = λ among. among
+lost-stay view more numbers (nfs.Mkdir x) a = λ among. among
+lost-stay view more numbers (nfs.Symlink x) a = λ among. among
+lost-stay view more numbers (nfs.Mknod x) a = λ among. among
+lost-stay view more numbers (nfs.Remove x) a = under-stay view more numbers x a
+lost-stay view more numbers (nfs.Rmdir x) a = under-stay view more numbers x a
+lost-stay view more numbers (nfs.Rename x) a = under-stay view more numbers x.to a
+lost-stay view more numbers (nfs.Link x) a = λ among. among
+lost-stay view more numbers (nfs.Readdir x) a = λ among. among
+lost-stay view more numbers (nfs.Readdirplus x) a = λ among. among
+lost-stay view more numbers (nfs.Fsstat x) a = λ among. among
+lost-stay view more numbers (nfs.Fsinfo x) a = λ among. among
+lost-stay view more numbers (nfs.Pathconf x) a = λ among. among
+lost-stay view more numbers (nfs.Commit x) a = λ among. among
+
 -- what is among the last ones of a list is so where these have more
 among-more : (xs ys zs : List Addr) (a : Addr) → (IsAmong ys a → IsAmong zs a) → IsAmong (xs ++ ys) a →
     IsAmong (xs ++ zs) a
@@ -363,13 +458,23 @@ among-more [] ys zs a f among = f among
 among-more (x ∷ xs) ys zs a f (inl same) = inl same
 among-more (x ∷ xs) ys zs a f (inr rest) = inr (among-more xs ys zs a f rest)
 
+-- and among two lists where both have more
+among-both : (xs ys vs ws : List Addr) (a : Addr) → (IsAmong xs a → IsAmong vs a) → (IsAmong ys a → IsAmong ws a) →
+    IsAmong (xs ++ ys) a → IsAmong (vs ++ ws) a
+among-both xs ys vs ws a f g among =
+    elim (among-either xs ys a among) [ inl x ↦ among-front vs ws a (f x) | inr y ↦ among-behind vs ws a (g y) ]
+
 named-stay : (view : ViewValue) (more : List Seen) (numbers : List Reserved) (call : NfsCall) (a : Addr) →
     IsAmong (named_by (calls.Nfs call) view) a →
     IsAmong (named_by (calls.Nfs call) (record { entries = view.entries ++ more; reserved = numbers })) a
 named-stay view more numbers call a =
-    among-more (addresses.Exports ∷ objects_at view (nfs_handles call)) (data_of call ++ added_by view call)
-    (data_of call ++ added_by later call) a
-    (among-more (data_of call) (added_by view call) (added_by later call) a (added-stay view more numbers call a))
+    among-more (addresses.Exports ∷ objects_at view (nfs_handles call))
+    (data_of call ++ (added_by view call ++ locks_lost view call))
+    (data_of call ++ (added_by later call ++ locks_lost later call)) a
+    (among-more (data_of call) (added_by view call ++ locks_lost view call)
+    (added_by later call ++ locks_lost later call) a
+    (among-both (added_by view call) (locks_lost view call) (added_by later call) (locks_lost later call) a
+    (added-stay view more numbers call a) (lost-stay view more numbers call a)))
   where
     later : ViewValue
     later = record { entries = view.entries ++ more; reserved = numbers }
@@ -590,6 +695,39 @@ added-few view (nfs.Fsinfo a) = omega arith
 added-few view (nfs.Pathconf a) = omega arith
 added-few view (nfs.Commit a) = omega arith
 
+-- of a name that goes one at most
+under-few : (view : ViewValue) (place : Place) → length (locks_under view place) ≤ 1
+under-few view place =
+    elim (handle_of place.directory) as (λ h. length (under_of view place h) ≤ 1) [
+      | None ↦ omega arith
+      | Some h ↦ elim (led_at view h.fileid place.name) as (λ led. length (locks_led led) ≤ 1)
+          [ None ↦ omega arith | Some number ↦ omega arith ]
+    ]
+
+lost-few : (view : ViewValue) (call : NfsCall) → length (locks_lost view call) ≤ 1
+lost-few view nfs.Null = omega arith
+lost-few view (nfs.Getattr a) = omega arith
+lost-few view (nfs.Setattr a) = omega arith
+lost-few view (nfs.Lookup a) = omega arith
+lost-few view (nfs.Access a) = omega arith
+lost-few view (nfs.Readlink a) = omega arith
+lost-few view (nfs.Read a) = omega arith
+lost-few view (nfs.Write a) = omega arith
+lost-few view (nfs.Create a) = omega arith
+lost-few view (nfs.Mkdir a) = omega arith
+lost-few view (nfs.Symlink a) = omega arith
+lost-few view (nfs.Mknod a) = omega arith
+lost-few view (nfs.Remove a) = under-few view a
+lost-few view (nfs.Rmdir a) = under-few view a
+lost-few view (nfs.Rename a) = under-few view a.to
+lost-few view (nfs.Link a) = omega arith
+lost-few view (nfs.Readdir a) = omega arith
+lost-few view (nfs.Readdirplus a) = omega arith
+lost-few view (nfs.Fsstat a) = omega arith
+lost-few view (nfs.Fsinfo a) = omega arith
+lost-few view (nfs.Pathconf a) = omega arith
+lost-few view (nfs.Commit a) = omega arith
+
 nfs-handles-few : (call : NfsCall) → length (nfs_handles call) ≤ 2
 nfs-handles-few nfs.Null = omega arith
 nfs-handles-few (nfs.Getattr a) = omega arith
@@ -636,6 +774,42 @@ nlm-handles-few (nlm.Unshare a) = omega arith
 nlm-handles-few (nlm.NmLock a) = omega arith
 nlm-handles-few (nlm.FreeAll a) = omega arith
 
+buckets-few : (count : ℕ) → length (buckets_below count) ≡ count
+unfolding buckets_below
+buckets-few zero = refl
+buckets-few (suc count) = ap suc (buckets-few count)
+
+-- of the file of one handle one at most
+file-few : (handle : List ℕ) → length (locks_of (handle ∷ [])) ≤ 64
+file-few handle =
+    elim (handle_of handle) as (λ (h : Option Handle).
+    length (elim h as (λ (o : Option Handle). List Addr) [ None ↦ [] | Some x ↦ locks_at x.fileid ] ++ []) ≤ 64)
+    [ None ↦ omega arith | Some h ↦ omega arith ]
+
+locks-few : (call : NlmCall) → length (locks_named call) ≤ 64
+locks-few nlm.Null = omega arith
+locks-few (nlm.Test a) = file-few a.lock.file
+locks-few (nlm.Lock a) = file-few a.lock.file
+locks-few (nlm.Cancel a) = file-few a.lock.file
+locks-few (nlm.Unlock a) = file-few a.lock.file
+locks-few (nlm.Granted a) = omega arith
+locks-few (nlm.TestMsg a) = file-few a.lock.file
+locks-few (nlm.LockMsg a) = file-few a.lock.file
+locks-few (nlm.CancelMsg a) = file-few a.lock.file
+locks-few (nlm.UnlockMsg a) = file-few a.lock.file
+locks-few (nlm.GrantedMsg a) = omega arith
+locks-few (nlm.TestRes a) = omega arith
+locks-few (nlm.LockRes a) = omega arith
+locks-few (nlm.CancelRes a) = omega arith
+locks-few (nlm.UnlockRes a) = omega arith
+locks-few (nlm.GrantedRes r) =
+    elim (length r.cookie == 8) as (λ (b : Bool). length (cond {A = List Addr} b (locks_at (from_be_bytes w64 r.cookie)) []) ≤ 64)
+    [ true ↦ omega arith | false ↦ omega arith ]
+locks-few (nlm.Share a) = file-few a.share.file
+locks-few (nlm.Unshare a) = file-few a.share.file
+locks-few (nlm.NmLock a) = file-few a.lock.file
+locks-few (nlm.FreeAll a) = (let few = buckets-few 64 in omega (arith, few))
+
 made-few : (call : NfsCall) → made_by call ≤ 1
 made-few (nfs.Create a) = omega arith
 made-few (nfs.Mkdir a) = omega arith
@@ -669,8 +843,16 @@ names-few (calls.Nfs call) view =
       made-few call,
       data-few call,
       added-few view call,
-      length-append (objects_at view (nfs_handles call)) (data_of call ++ added_by view call),
-      length-append (data_of call) (added_by view call),
+      lost-few view call,
+      length-append (objects_at view (nfs_handles call)) (data_of call ++ (added_by view call ++ locks_lost view call)),
+      length-append (data_of call) (added_by view call ++ locks_lost view call),
+      length-append (added_by view call) (locks_lost view call),
     )
 names-few (calls.Mount call) view = omega arith
-names-few (calls.Nlm call) view = omega (arith, objects-few view (nlm_handles call), nlm-handles-few call)
+names-few (calls.Nlm call) view = omega (
+  arith,
+  objects-few view (nlm_handles call),
+  nlm-handles-few call,
+  locks-few call,
+  length-append (objects_at view (nlm_handles call)) (locks_named call),
+)

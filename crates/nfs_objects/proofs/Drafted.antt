@@ -109,6 +109,7 @@ module _ (d : DraftValue) (is : IsDraft d.modes d.view d.writes) where
   given-with (addresses.Inode n) (Some (objects.Part part)) may = tt
   given-with (addresses.Inode n) (Some (objects.Mounts table)) may = tt
   given-with (addresses.Inode n) (Some (objects.Usage u)) may = tt
+  given-with (addresses.Inode n) (Some (objects.Locks bucket)) may = tt
   given-with (addresses.Inode n) None may = tt
   given-with addresses.Exports o may = tt
   given-with (addresses.Map n page) o may = tt
@@ -117,6 +118,7 @@ module _ (d : DraftValue) (is : IsDraft d.modes d.view d.writes) where
   given-with (addresses.Part n bucket part) o may = tt
   given-with addresses.Mounts o may = tt
   given-with (addresses.Usage e g) o may = tt
+  given-with (addresses.Locks b) o may = tt
 
   pub drafted : (a : Addr) (o : Option Object) → held_mode d.modes d.view a ≡ Exclusive → IsSome (known_at d a) →
       MayWrite d a o

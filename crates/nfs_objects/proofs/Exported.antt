@@ -33,6 +33,7 @@ module _ (exports : List LivingExport) where
   inode-stands (Some (objects.Part part)) i is = cc
   inode-stands (Some (objects.Mounts table)) i is = cc
   inode-stands (Some (objects.Usage u)) i is = cc
+  inode-stands (Some (objects.Locks bucket)) i is = cc
   inode-stands (Some (objects.Inode j)) i is =
       elim (lives_in exports j.export) as (λ b. lives_in exports j.export ≡ b → cond b (Some j) None ≡ Some i →
       StandsThere (Some (objects.Inode j)) i) [

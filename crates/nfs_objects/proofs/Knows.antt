@@ -15,7 +15,9 @@ use Rattle.nfs_objects.proofs.Seen.{all-map, unknown-unseen}
 use Rattle.nfs_objects.specs.Asks.{Asks, WantsNumber, Lacks, IsThere, MayAsk}
 use Rattle.nfs_objects.specs.Attempt.{StopsCall}
 use Rattle.nfs_wire.specs.declared.calls.NfsCall.{NfsCall}
+use Rattle.side_wire.specs.declared.nlm.NlmCall.{NlmCall}
 use Rattle.nfs_objects.specs.Calls.{IsAmong, added_by, addresses_of, data_of, handles_of, named_by, nfs_handles, objects_at}
+use Rattle.nfs_objects.specs.Calls.{locks_lost, locks_named, nlm_handles}
 use Rattle.nfs_objects.specs.Calls.{usages_of}
 use Rattle.nfs_objects.specs.Knows.{Turns}
 use Rattle.nfs_objects.specs.Modes.{held_mode}
@@ -128,7 +130,7 @@ among-front [] more a among = absurd among
 among-front (b ∷ front) more a (inl same) = inl same
 among-front (b ∷ front) more a (inr among) = inr (among-front front more a among)
 
-among-either : (front more : List Addr) (a : Addr) → IsAmong (front ++ more) a →
+pub among-either : (front more : List Addr) (a : Addr) → IsAmong (front ++ more) a →
     IsAmong front a ⊎ IsAmong more a
 among-either [] more a among = inr among
 among-either (b ∷ front) more a (inl same) = inl (inl same)
@@ -215,22 +217,39 @@ names-exports (calls.Nlm call) view = inl refl
 pub names-objects : (call : Call) (view : ViewValue) (a : Addr) → IsAmong (objects_at view (handles_of call)) a →
     IsAmong (named_by call view) a
 names-objects (calls.Nfs call) view a among =
-    inr (among-front (objects_at view (nfs_handles call)) (data_of call ++ added_by view call) a among)
+    inr (among-front (objects_at view (nfs_handles call)) (data_of call ++ (added_by view call ++ locks_lost view call)) a
+    among)
 names-objects (calls.Mount call) view a among = absurd among
-names-objects (calls.Nlm call) view a among = inr among
+names-objects (calls.Nlm call) view a among =
+    inr (among-front (objects_at view (nlm_handles call)) (locks_named call) a among)
 
 pub names-data : (call : NfsCall) (view : ViewValue) (a : Addr) → IsAmong (data_of call) a →
     IsAmong (named_by (calls.Nfs call) view) a
 names-data call view a among =
-    inr (among-behind (objects_at view (nfs_handles call)) (data_of call ++ added_by view call) a
-    (among-front (data_of call) (added_by view call) a among))
+    inr (among-behind (objects_at view (nfs_handles call)) (data_of call ++ (added_by view call ++ locks_lost view call)) a
+    (among-front (data_of call) (added_by view call ++ locks_lost view call) a among))
 
 -- and where a name goes that it may add
 pub names-added : (call : NfsCall) (view : ViewValue) (a : Addr) → IsAmong (added_by view call) a →
     IsAmong (named_by (calls.Nfs call) view) a
 names-added call view a among =
-    inr (among-behind (objects_at view (nfs_handles call)) (data_of call ++ added_by view call) a
-    (among-behind (data_of call) (added_by view call) a among))
+    inr (among-behind (objects_at view (nfs_handles call)) (data_of call ++ (added_by view call ++ locks_lost view call)) a
+    (among-behind (data_of call) (added_by view call ++ locks_lost view call) a
+    (among-front (added_by view call) (locks_lost view call) a among)))
+
+-- and the locks of what may lose its last name
+pub names-lost : (call : NfsCall) (view : ViewValue) (a : Addr) → IsAmong (locks_lost view call) a →
+    IsAmong (named_by (calls.Nfs call) view) a
+names-lost call view a among =
+    inr (among-behind (objects_at view (nfs_handles call)) (data_of call ++ (added_by view call ++ locks_lost view call)) a
+    (among-behind (data_of call) (added_by view call ++ locks_lost view call) a
+    (among-behind (added_by view call) (locks_lost view call) a among)))
+
+-- the locks that a call of NLM names
+pub names-locks : (call : NlmCall) (view : ViewValue) (a : Addr) → IsAmong (locks_named call) a →
+    IsAmong (named_by (calls.Nlm call) view) a
+names-locks call view a among =
+    inr (among-behind (objects_at view (nlm_handles call)) (locks_named call) a among)
 
 -- ---- chains of checks: a check that passed, and one that failed
 module _ {A B E : Type 0} where

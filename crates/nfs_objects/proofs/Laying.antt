@@ -2,6 +2,7 @@
 -- for.
 use Rattle.std.proofs.Common.{◌≡◌, ◌==◌, ◌&&◌, ℕ, false, cond, List, Option, refl, sym, ◌∙◌, ap, subst, ◌/◌, ◌%◌}
 use Rattle.nfs_objects.proofs.Entering.{block-but, map-but, page-but, part-but}
+use Rattle.nfs_objects.proofs.Locked.{files-same, locks-stay}
 use Rattle.nfs_objects.proofs.Seen.{writes-append}
 use Rattle.nfs_objects.specs.Bits.{has}
 use Rattle.nfs_objects.specs.FileMaps.{FileMapValue, IsContent}
@@ -45,7 +46,7 @@ module _ (number : ℕ) (s : Store) (k : Kept) (but : RepresentsBut number s k) 
     };
     directories = map-but number s k but.directories page o;
     usages = record { usage = but.usages.usage };
-    locks = but.locks;
+    locks = locks-stay s _ k.state k.state refl (files-same s) but.locks;
   }
 
   pub block-laid : (index : ℕ) (o : Option Object) →
@@ -78,7 +79,7 @@ module _ (number : ℕ) (s : Store) (k : Kept) (but : RepresentsBut number s k) 
     };
     directories = block-but number s k but.directories index o;
     usages = record { usage = but.usages.usage };
-    locks = but.locks;
+    locks = locks-stay s _ k.state k.state refl (files-same s) but.locks;
   }
     where
       same : (n : ℕ) → (number == n) ≡ false → (b : ℕ) →
@@ -109,7 +110,7 @@ module _ (number : ℕ) (s : Store) (k : Kept) (but : RepresentsBut number s k) 
     };
     directories = page-but number s k but.directories page o;
     usages = record { usage = but.usages.usage };
-    locks = but.locks;
+    locks = locks-stay s _ k.state k.state refl (files-same s) but.locks;
   }
 
   pub part-laid : (bucket part : ℕ) (o : Option Object) →
@@ -136,7 +137,7 @@ module _ (number : ℕ) (s : Store) (k : Kept) (but : RepresentsBut number s k) 
     };
     directories = part-but number s k but.directories bucket part o;
     usages = record { usage = but.usages.usage };
-    locks = but.locks;
+    locks = locks-stay s _ k.state k.state refl (files-same s) but.locks;
   }
 
 -- ---- drafts
@@ -149,6 +150,7 @@ lays-none number d = record {
   lays = λ s k but. but;
   inodes = λ s n. refl;
   entries = λ s. record { pages = λ n page. refl; parts = λ n bucket part. refl };
+  locks = λ s b. refl;
 }
 
 pub lays-both : (number : ℕ) (d mid new : DraftValue) → Lays number d mid → Lays number mid new → Lays number d new
@@ -163,6 +165,7 @@ lays-both number d mid new first second = record {
     pages = λ n page. (second.entries s).pages n page ∙ (first.entries s).pages n page;
     parts = λ n bucket part. (second.entries s).parts n bucket part ∙ (first.entries s).parts n bucket part;
   };
+  locks = λ s b. second.locks s b ∙ first.locks s b;
 }
 
 pub lays-map : (number : ℕ) (d : DraftValue) (page : ℕ) (o : Option Object) →
@@ -179,6 +182,7 @@ lays-map number d page o = record {
     pages = λ n q. ap (λ (x : Store). x.at (addresses.Page n q)) (writes-append d.writes s (addresses.Map number page) o);
     parts = λ n c q. ap (λ (x : Store). x.at (addresses.Part n c q)) (writes-append d.writes s (addresses.Map number page) o);
   };
+  locks = λ s b. ap (λ (x : Store). x.at (addresses.Locks b)) (writes-append d.writes s (addresses.Map number page) o);
 }
 
 pub lays-block : (number : ℕ) (d : DraftValue) (index : ℕ) (o : Option Object) →
@@ -196,6 +200,7 @@ lays-block number d index o = record {
     pages = λ n q. ap (λ (x : Store). x.at (addresses.Page n q)) (writes-append d.writes s (addresses.Block number index) o);
     parts = λ n c q. ap (λ (x : Store). x.at (addresses.Part n c q)) (writes-append d.writes s (addresses.Block number index) o);
   };
+  locks = λ s b. ap (λ (x : Store). x.at (addresses.Locks b)) (writes-append d.writes s (addresses.Block number index) o);
 }
 
 -- the same of pages and parts
@@ -208,6 +213,7 @@ enters-none number d = record {
   lays = λ s k but. but;
   inodes = λ s n. refl;
   blocks = λ s. record { maps = λ n page. refl; blocks = λ n index. refl };
+  locks = λ s b. refl;
 }
 
 pub enters-both : (number : ℕ) (d mid new : DraftValue) → Enters number d mid → Enters number mid new →
@@ -223,6 +229,7 @@ enters-both number d mid new first second = record {
     maps = λ n page. (second.blocks s).maps n page ∙ (first.blocks s).maps n page;
     blocks = λ n index. (second.blocks s).blocks n index ∙ (first.blocks s).blocks n index;
   };
+  locks = λ s b. second.locks s b ∙ first.locks s b;
 }
 
 pub enters-page : (number : ℕ) (d : DraftValue) (page : ℕ) (o : Option Object) →
@@ -240,6 +247,7 @@ enters-page number d page o = record {
     maps = λ n q. ap (λ (x : Store). x.at (addresses.Map n q)) (writes-append d.writes s (addresses.Page number page) o);
     blocks = λ n q. ap (λ (x : Store). x.at (addresses.Block n q)) (writes-append d.writes s (addresses.Page number page) o);
   };
+  locks = λ s b. ap (λ (x : Store). x.at (addresses.Locks b)) (writes-append d.writes s (addresses.Page number page) o);
 }
 
 pub enters-part : (number : ℕ) (d : DraftValue) (bucket part : ℕ) (o : Option Object) →
@@ -260,4 +268,5 @@ enters-part number d bucket part o = record {
     blocks = λ n q.
         ap (λ (x : Store). x.at (addresses.Block n q)) (writes-append d.writes s (addresses.Part number bucket part) o);
   };
+  locks = λ s b. ap (λ (x : Store). x.at (addresses.Locks b)) (writes-append d.writes s (addresses.Part number bucket part) o);
 }

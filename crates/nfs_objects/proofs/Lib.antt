@@ -14,6 +14,7 @@ pub mod Hashed
 pub mod Knows
 pub mod Laying
 pub mod Listed
+pub mod Locked
 pub mod Looked
 pub mod MountTables
 pub mod NamePlaces

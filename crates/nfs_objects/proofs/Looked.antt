@@ -11,6 +11,7 @@ use Rattle.indexmap.specs.IndexMap.{IndexMap, insert_entry}
 use Rattle.nfs_objects.specs.contracts.address.AddrPartialEq.TheImpl.{eq-value}
 use Rattle.nfs_objects.specs.declared.address.Addr.{Addr}
 use Rattle.nfs_objects.specs.declared.address.Addr.TheVariants.{Exports, Inode, Map, Block, Page, Part, Mounts, Usage}
+use Rattle.nfs_objects.specs.declared.address.Addr.TheVariants.{Locks}
 use Rattle.nfs_objects.specs.declared.view.Entry.{Entry}
 use Rattle.nfs_objects.specs.Values.{Seen, is_addr, seen_at, seen_of, shown_at}
 
@@ -27,6 +28,7 @@ tests Exports (Page m q) = refl
 tests Exports (Part m c q) = refl
 tests Exports Mounts = refl
 tests Exports (Usage f h) = refl
+tests Exports (Locks c) = refl
 tests (Inode n) Exports = refl
 tests (Inode n) (Inode m) = nat_eq_equiv.symm n m
 tests (Inode n) (Map m q) = refl
@@ -35,6 +37,7 @@ tests (Inode n) (Page m q) = refl
 tests (Inode n) (Part m c q) = refl
 tests (Inode n) Mounts = refl
 tests (Inode n) (Usage f h) = refl
+tests (Inode n) (Locks c) = refl
 tests (Map n p) Exports = refl
 tests (Map n p) (Inode m) = refl
 tests (Map n p) (Map m q) =
@@ -44,6 +47,7 @@ tests (Map n p) (Page m q) = refl
 tests (Map n p) (Part m c q) = refl
 tests (Map n p) Mounts = refl
 tests (Map n p) (Usage f h) = refl
+tests (Map n p) (Locks c) = refl
 tests (Block n i) Exports = refl
 tests (Block n i) (Inode m) = refl
 tests (Block n i) (Map m q) = refl
@@ -53,6 +57,7 @@ tests (Block n i) (Page m q) = refl
 tests (Block n i) (Part m c q) = refl
 tests (Block n i) Mounts = refl
 tests (Block n i) (Usage f h) = refl
+tests (Block n i) (Locks c) = refl
 tests (Page n p) Exports = refl
 tests (Page n p) (Inode m) = refl
 tests (Page n p) (Map m q) = refl
@@ -62,6 +67,7 @@ tests (Page n p) (Page m q) =
 tests (Page n p) (Part m c q) = refl
 tests (Page n p) Mounts = refl
 tests (Page n p) (Usage f h) = refl
+tests (Page n p) (Locks c) = refl
 tests (Part n b p) Exports = refl
 tests (Part n b p) (Inode m) = refl
 tests (Part n b p) (Map m q) = refl
@@ -73,6 +79,7 @@ tests (Part n b p) (Part m c q) =
     ∙ ap (λ t. nat_eq m n && (nat_eq c b && t)) (nat_eq_equiv.symm p q)
 tests (Part n b p) Mounts = refl
 tests (Part n b p) (Usage f h) = refl
+tests (Part n b p) (Locks c) = refl
 tests Mounts Exports = refl
 tests Mounts (Inode m) = refl
 tests Mounts (Map m q) = refl
@@ -81,6 +88,7 @@ tests Mounts (Page m q) = refl
 tests Mounts (Part m c q) = refl
 tests Mounts Mounts = refl
 tests Mounts (Usage f h) = refl
+tests Mounts (Locks c) = refl
 tests (Usage e g) Exports = refl
 tests (Usage e g) (Inode m) = refl
 tests (Usage e g) (Map m q) = refl
@@ -90,6 +98,16 @@ tests (Usage e g) (Part m c q) = refl
 tests (Usage e g) Mounts = refl
 tests (Usage e g) (Usage f h) =
     ap (λ b. b && nat_eq g h) (nat_eq_equiv.symm e f) ∙ ap (λ b. nat_eq f e && b) (nat_eq_equiv.symm g h)
+tests (Usage e g) (Locks c) = refl
+tests (Locks b) Exports = refl
+tests (Locks b) (Inode m) = refl
+tests (Locks b) (Map m q) = refl
+tests (Locks b) (Block m j) = refl
+tests (Locks b) (Page m q) = refl
+tests (Locks b) (Part m c q) = refl
+tests (Locks b) Mounts = refl
+tests (Locks b) (Usage f h) = refl
+tests (Locks b) (Locks c) = nat_eq_equiv.symm b c
 
 pub tested : (a b : Addr) → same_address a b ≡ is_addr a b
 tested Exports Exports = refl
@@ -100,6 +118,7 @@ tested Exports (Page m q) = refl
 tested Exports (Part m c q) = refl
 tested Exports Mounts = refl
 tested Exports (Usage f h) = refl
+tested Exports (Locks c) = refl
 tested (Inode n) Exports = refl
 tested (Inode n) (Inode m) = refl
 tested (Inode n) (Map m q) = refl
@@ -108,6 +127,7 @@ tested (Inode n) (Page m q) = refl
 tested (Inode n) (Part m c q) = refl
 tested (Inode n) Mounts = refl
 tested (Inode n) (Usage f h) = refl
+tested (Inode n) (Locks c) = refl
 tested (Map n p) Exports = refl
 tested (Map n p) (Inode m) = refl
 tested (Map n p) (Map m q) = refl
@@ -116,6 +136,7 @@ tested (Map n p) (Page m q) = refl
 tested (Map n p) (Part m c q) = refl
 tested (Map n p) Mounts = refl
 tested (Map n p) (Usage f h) = refl
+tested (Map n p) (Locks c) = refl
 tested (Block n i) Exports = refl
 tested (Block n i) (Inode m) = refl
 tested (Block n i) (Map m q) = refl
@@ -124,6 +145,7 @@ tested (Block n i) (Page m q) = refl
 tested (Block n i) (Part m c q) = refl
 tested (Block n i) Mounts = refl
 tested (Block n i) (Usage f h) = refl
+tested (Block n i) (Locks c) = refl
 tested (Page n p) Exports = refl
 tested (Page n p) (Inode m) = refl
 tested (Page n p) (Map m q) = refl
@@ -132,6 +154,7 @@ tested (Page n p) (Page m q) = refl
 tested (Page n p) (Part m c q) = refl
 tested (Page n p) Mounts = refl
 tested (Page n p) (Usage f h) = refl
+tested (Page n p) (Locks c) = refl
 tested (Part n b p) Exports = refl
 tested (Part n b p) (Inode m) = refl
 tested (Part n b p) (Map m q) = refl
@@ -140,6 +163,7 @@ tested (Part n b p) (Page m q) = refl
 tested (Part n b p) (Part m c q) = refl
 tested (Part n b p) Mounts = refl
 tested (Part n b p) (Usage f h) = refl
+tested (Part n b p) (Locks c) = refl
 tested Mounts Exports = refl
 tested Mounts (Inode m) = refl
 tested Mounts (Map m q) = refl
@@ -148,6 +172,7 @@ tested Mounts (Page m q) = refl
 tested Mounts (Part m c q) = refl
 tested Mounts Mounts = refl
 tested Mounts (Usage f h) = refl
+tested Mounts (Locks c) = refl
 tested (Usage e g) Exports = refl
 tested (Usage e g) (Inode m) = refl
 tested (Usage e g) (Map m q) = refl
@@ -156,6 +181,16 @@ tested (Usage e g) (Page m q) = refl
 tested (Usage e g) (Part m c q) = refl
 tested (Usage e g) Mounts = refl
 tested (Usage e g) (Usage f h) = refl
+tested (Usage e g) (Locks c) = refl
+tested (Locks b) Exports = refl
+tested (Locks b) (Inode m) = refl
+tested (Locks b) (Map m q) = refl
+tested (Locks b) (Block m j) = refl
+tested (Locks b) (Page m q) = refl
+tested (Locks b) (Part m c q) = refl
+tested (Locks b) Mounts = refl
+tested (Locks b) (Usage f h) = refl
+tested (Locks b) (Locks c) = refl
 
 -- what holds of a good end holds where it was one
 pub so-ok : {T E P : Type 0} {r : Result T E} {x : T} → r ≡ Ok x → OnOk r P → P

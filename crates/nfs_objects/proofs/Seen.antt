@@ -8,6 +8,7 @@ use Rattle.std.specs.Cmp.{unsigned_Decides}
 use Rattle.std.specs.List.{AllByRecursion}
 use Rattle.nfs_objects.specs.declared.address.Addr.{Addr}
 use Rattle.nfs_objects.specs.declared.address.Addr.TheVariants.{Exports, Inode, Map, Block, Page, Part, Mounts, Usage}
+use Rattle.nfs_objects.specs.declared.address.Addr.TheVariants.{Locks}
 use Rattle.nfs_objects.specs.declared.object.Inode as stored
 use Rattle.nfs_objects.specs.declared.object.Object.{Object}
 use Rattle.nfs_objects.specs.declared.object.Object.TheVariants as objects
@@ -27,6 +28,7 @@ is_addr-same Exports (Page m q) e = cc
 is_addr-same Exports (Part m c q) e = cc
 is_addr-same Exports Mounts e = cc
 is_addr-same Exports (Usage f h) e = cc
+is_addr-same Exports (Locks c) e = cc
 is_addr-same (Inode n) Exports e = cc
 is_addr-same (Inode n) (Inode m) e = ap (λ k. Inode k) (let same : n ≡ m = grind (arith, nat_tests) in same)
 is_addr-same (Inode n) (Map m q) e = cc
@@ -35,6 +37,7 @@ is_addr-same (Inode n) (Page m q) e = cc
 is_addr-same (Inode n) (Part m c q) e = cc
 is_addr-same (Inode n) Mounts e = cc
 is_addr-same (Inode n) (Usage f h) e = cc
+is_addr-same (Inode n) (Locks c) e = cc
 is_addr-same (Map n p) Exports e = cc
 is_addr-same (Map n p) (Inode m) e = cc
 is_addr-same (Map n p) (Map m q) e =
@@ -45,6 +48,7 @@ is_addr-same (Map n p) (Page m q) e = cc
 is_addr-same (Map n p) (Part m c q) e = cc
 is_addr-same (Map n p) Mounts e = cc
 is_addr-same (Map n p) (Usage f h) e = cc
+is_addr-same (Map n p) (Locks c) e = cc
 is_addr-same (Block n i) Exports e = cc
 is_addr-same (Block n i) (Inode m) e = cc
 is_addr-same (Block n i) (Map m q) e = cc
@@ -55,6 +59,7 @@ is_addr-same (Block n i) (Page m q) e = cc
 is_addr-same (Block n i) (Part m c q) e = cc
 is_addr-same (Block n i) Mounts e = cc
 is_addr-same (Block n i) (Usage f h) e = cc
+is_addr-same (Block n i) (Locks c) e = cc
 is_addr-same (Page n p) Exports e = cc
 is_addr-same (Page n p) (Inode m) e = cc
 is_addr-same (Page n p) (Map m q) e = cc
@@ -65,6 +70,7 @@ is_addr-same (Page n p) (Page m q) e =
 is_addr-same (Page n p) (Part m c q) e = cc
 is_addr-same (Page n p) Mounts e = cc
 is_addr-same (Page n p) (Usage f h) e = cc
+is_addr-same (Page n p) (Locks c) e = cc
 is_addr-same (Part n b p) Exports e = cc
 is_addr-same (Part n b p) (Inode m) e = cc
 is_addr-same (Part n b p) (Map m q) e = cc
@@ -77,6 +83,7 @@ is_addr-same (Part n b p) (Part m c q) e =
     ∙ ap (Part m c) ((unsigned_Decides p q).0 inner.1)
 is_addr-same (Part n b p) Mounts e = cc
 is_addr-same (Part n b p) (Usage f h) e = cc
+is_addr-same (Part n b p) (Locks c) e = cc
 is_addr-same Mounts Exports e = cc
 is_addr-same Mounts (Inode m) e = cc
 is_addr-same Mounts (Map m q) e = cc
@@ -85,6 +92,7 @@ is_addr-same Mounts (Page m q) e = cc
 is_addr-same Mounts (Part m c q) e = cc
 is_addr-same Mounts Mounts e = refl
 is_addr-same Mounts (Usage f h) e = cc
+is_addr-same Mounts (Locks c) e = cc
 is_addr-same (Usage e g) Exports is = cc
 is_addr-same (Usage e g) (Inode m) is = cc
 is_addr-same (Usage e g) (Map m q) is = cc
@@ -95,6 +103,16 @@ is_addr-same (Usage e g) Mounts is = cc
 is_addr-same (Usage e g) (Usage f h) is =
     let both = and_parts (e == f) (g == h) is in
     ap (λ k. Usage k g) ((unsigned_Decides e f).0 both.0) ∙ ap (Usage f) ((unsigned_Decides g h).0 both.1)
+is_addr-same (Usage e g) (Locks c) is = cc
+is_addr-same (Locks b) Exports e = cc
+is_addr-same (Locks b) (Inode m) e = cc
+is_addr-same (Locks b) (Map m q) e = cc
+is_addr-same (Locks b) (Block m j) e = cc
+is_addr-same (Locks b) (Page m q) e = cc
+is_addr-same (Locks b) (Part m c q) e = cc
+is_addr-same (Locks b) Mounts e = cc
+is_addr-same (Locks b) (Usage f h) e = cc
+is_addr-same (Locks b) (Locks c) e = ap Locks ((unsigned_Decides b c).0 e)
 
 pub is_addr-refl : (a : Addr) → is_addr a a ≡ true
 is_addr-refl Exports = refl
@@ -106,6 +124,7 @@ is_addr-refl (Part n b p) = ap (λ t. t && ((b == b) && (p == p))) ((unsigned_De
     ∙ ap (λ t. t && (p == p)) ((unsigned_Decides b b).1 refl) ∙ (unsigned_Decides p p).1 refl
 is_addr-refl Mounts = refl
 is_addr-refl (Usage e g) = ap (λ b. b && (g == g)) ((unsigned_Decides e e).1 refl) ∙ (unsigned_Decides g g).1 refl
+is_addr-refl (Locks b) = (unsigned_Decides b b).1 refl
 
 -- a fact of each, and of one more
 pub all-append : {X : Type 0} (P : X → Type 0) (xs : List X) (x : X) → AllByRecursion P xs → P x →
@@ -278,3 +297,4 @@ is_inode (Some (objects.Page page)) o e = cc
 is_inode (Some (objects.Part part)) o e = cc
 is_inode (Some (objects.Mounts table)) o e = cc
 is_inode (Some (objects.Usage u)) o e = cc
+is_inode (Some (objects.Locks bucket)) o e = cc

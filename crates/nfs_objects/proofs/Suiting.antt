@@ -156,6 +156,7 @@ module _ (view : ViewValue) (more : List Seen) (reserved : List Reserved) where
   covers-wider modes (addresses.Part n bucket part) = inode-wider modes n
   covers-wider modes addresses.Mounts = covers-self modes.mounts
   covers-wider modes (addresses.Usage e g) = covers-self modes.inodes
+  covers-wider modes (addresses.Locks b) = covers-self modes.locks
 
   -- the view suits the modes with more entries that are held as it wanted them
   pub suits-wider : (modes : ModesValue) → Suits modes view →
@@ -187,7 +188,7 @@ and-false false = refl
 
 -- RENAME may change the directory of each name, and what the name leads to there
 module _ (d : DraftValue) (a : RenameArguments)
-    (modes : d.modes ≡ record { inodes = Exclusive; mounts = Shared; renames = Some a }) where
+    (modes : d.modes ≡ record { inodes = Exclusive; mounts = Shared; locks = Exclusive; renames = Some a }) where
   at-place : (n : ℕ) → only_reads (Some a) d.view n ≡ false → MayChange d (addresses.Inode n)
   at-place n not_read =
       subst (λ m. held_mode m d.view (addresses.Inode n) ≡ Exclusive) (sym modes)
@@ -360,3 +361,4 @@ renames-share a ctx view asked attempts from to =
     shared (addresses.Part n bucket part, mode) may = tt
     shared (addresses.Mounts, mode) may = tt
     shared (addresses.Usage e g, mode) may = tt
+    shared (addresses.Locks b, mode) may = tt

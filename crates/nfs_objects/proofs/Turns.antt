@@ -12,11 +12,10 @@ use Rattle.std.specs.FinMap.{FinMap, empty, get, insert, remove}
 use Rattle.std.specs.Ordering.{nat_cmp}
 use Rattle.side_wire.specs.declared.mount.lists.MountBody.{MountBody}
 use Rattle.nfs_machine.proofs.Changes.{differs-remove}
-use Rattle.nfs_machine.proofs.FileMaps.{grants-none, no-list}
 use Rattle.nfs_machine.proofs.Sums.{get-inserted}
 use Rattle.nfs_machine.specs.Exports.{LivingExport}
-use Rattle.nfs_machine.specs.FileLists.{grants_but}
-use Rattle.nfs_machine.specs.State.{Living, PendingGrant, State}
+use Rattle.nfs_machine.specs.State.{Living, Lock, PendingGrant, Request, Share, State}
+use Rattle.nlm_ranges.specs.Buckets.{bucket_count, file_in}
 use Rattle.nfs_objects.proofs.Exported.{inode-lives}
 use Rattle.nfs_objects.proofs.Seen.{known-stands, writes-append}
 use Rattle.nfs_objects.proofs.BitSets.{has-none}
@@ -24,6 +23,7 @@ use Rattle.nfs_objects.proofs.Contents.{content-new}
 use Rattle.nfs_objects.proofs.Entering.{directories-put, directories-stay, no-entries}
 use Rattle.nfs_objects.proofs.Filed.{HasContent, HasListing, alone-is, beside_of, bytes-own, files-put, files-stay}
 use Rattle.nfs_objects.proofs.Filed.{living-own, living_beside, living_bytes, living_entries, stands-but}
+use Rattle.nfs_objects.proofs.Locked.{KeepsFile, files-same, keeps-put, keeps-same, locks-gone, locks-stay, none-listed}
 use Rattle.nfs_objects.specs.Bits.{has, no_bits}
 use Rattle.nfs_objects.specs.Directories.{no_entries}
 use Rattle.nfs_objects.specs.FileMaps.{FileMapValue, IsContent}
@@ -34,11 +34,12 @@ use Rattle.nfs_objects.specs.declared.object.Content.{Content}
 use Rattle.nfs_objects.specs.declared.object.Content.TheVariants as contents
 use Rattle.nfs_objects.specs.Edits.{edited, freed, recounted, set_at, with_living, with_mounts, with_new}
 use Rattle.nfs_objects.specs.Fits.{Fits}
-use Rattle.nfs_objects.specs.Knows.{ShowsExport, Turns}
+use Rattle.nfs_objects.specs.Knows.{ShowsExport, Turns, TurnsWhere}
 use Rattle.nfs_objects.specs.Stands.{IsFitting, Kept, Represents, inode_in, inode_there, links_kept, lives_in}
 use Rattle.nfs_objects.specs.Stands.{HasBlocks, IsMapped, IsStored, StandFiles, bytes_at, file_bytes, content_of, file_of, living_in}
 use Rattle.nfs_objects.specs.Stands.{map_in, map_of, living_alone, pages_of, stored_in}
-use Rattle.nfs_objects.specs.Stands.{StandLocks, StandObjects, StandTables, export_table_of, exports_of, living_of_inode}
+use Rattle.nfs_objects.specs.Stands.{StandLocks, StandObjects, StandTables, bucket_there, export_table_of, exports_of}
+use Rattle.nfs_objects.specs.Stands.{living_of_inode}
 use Rattle.nfs_objects.specs.Stands.{mounts_of, parent_in, parent_kept}
 use Rattle.nfs_objects.specs.Store.{Store, give, put_at, with_write, with_writes}
 use Rattle.nfs_objects.specs.Sums.{exchanged, exchanged_at, group_of, in_export, is_none, is_same_usage}
@@ -198,16 +199,6 @@ objects-stay s t k l same stand = record {
   spent = λ n g. ap (λ x. x.6 n g) same ∙ stand.spent n g ∙ ap (λ x. nat_le g (x.1 n)) (sym same);
 }
 
-locks-stay : (m n : State) → n.locks ≡ m.locks → n.shares ≡ m.shares → n.waiting ≡ m.waiting →
-    n.granted ≡ m.granted → n.spent_grants ≡ m.spent_grants → StandLocks m → StandLocks n
-locks-stay m n locks shares waiting granted spent stand = record {
-  no_locks = locks ∙ stand.no_locks;
-  no_shares = shares ∙ stand.no_shares;
-  no_waiting = waiting ∙ stand.no_waiting;
-  no_granted = granted ∙ stand.no_granted;
-  no_spent_grants = λ q. ap (λ f. f q) spent ∙ stand.no_spent_grants q;
-}
-
 -- the files of the store where an inode was put
 put-files : (s : Store) (k : Kept) (n : ℕ) (i : Inode) (beside : Beside) (last : ℕ → ℕ) → RepresentsBut n s k
     → HasBlocks s n (pages_of (Some (objects.Inode i))) → HasContent s n beside.bytes i → lives_in k.state.exports i.export ≡ true
@@ -258,10 +249,10 @@ put-directories s k n i beside last stands listing l exports living =
 pub put-stands : (s : Store) (k : Kept) (n : ℕ) (i : Inode) (beside : Beside) → RepresentsBut n s k
     → HasBlocks s n (pages_of (Some (objects.Inode i))) → HasContent s n beside.bytes i
     → HasListing s n beside.entries i → i.generation ≤ s.last n
-    → IsFitting n i → lives_in k.state.exports i.export ≡ true
+    → IsFitting n i → lives_in k.state.exports i.export ≡ true → KeepsFile s n i
     → Represents (with_write s (addresses.Inode n) (Some (objects.Inode i)))
     (with_living k n (living_of_inode beside i) i.links (parent_in i.content))
-put-stands s k n i beside stands filed content listing within fits lives = record {
+put-stands s k n i beside stands filed content listing within fits lives keeps = record {
   tables = tables-stay s _ k.state _ refl stands.tables;
   objects = record {
     objects = lives-put k.state.exports s.at k.state.objects n i beside lives stands.objects.objects;
@@ -279,7 +270,8 @@ put-stands s k n i beside stands filed content listing within fits lives = recor
   directories = put-directories s k n i beside (give s.last (addresses.Inode n) (Some (objects.Inode i))) stands listing
       (with_living k n (living_of_inode beside i) i.links (parent_in i.content)) refl refl;
   usages = record { usage = stands.usages.usage };
-  locks = locks-stay k.state _ refl refl refl refl refl stands.locks;
+  locks = locks-stay s _ k.state _ refl (keeps-put s n i (give s.last (addresses.Inode n) (Some (objects.Inode i))) keeps)
+      stands.locks;
 }
 
 get-removed : (living : FinMap nat_cmp Living) (number n : ℕ) →
@@ -287,12 +279,10 @@ get-removed : (living : FinMap nat_cmp Living) (number n : ℕ) →
 get-removed living number n = differs-remove living number n ∙ ap (λ b. cond b None (get living n))
     (nat_eq_equiv.symm n number)
 
-none-removed : {X : Type 0} (n : ℕ) (lists : FinMap nat_cmp (List X)) → lists ≡ empty → remove lists n ≡ empty
-none-removed {X = X} n lists none = ap (λ (m : FinMap nat_cmp (List X)). remove m n) none ∙ no-list n
-
 pub free-stands : (s : Store) (k : Kept) (n : ℕ) → RepresentsBut n s k → HasBlocks s n no_bits →
-    HoldsEntries s n None [] → Represents (with_write s (addresses.Inode n) None) (freed k n)
-free-stands s k n stands filed emptied = record {
+    HoldsEntries s n None [] → file_in (bucket_there s (n % bucket_count)) n ≡ None →
+    Represents (with_write s (addresses.Inode n) None) (freed k n)
+free-stands s k n stands filed emptied unlocked = record {
   tables = tables-stay s _ k.state _ refl stands.tables;
   objects = record {
     objects = λ q. subst
@@ -318,14 +308,8 @@ free-stands s k n stands filed emptied = record {
       ∙ ap (λ b. cond b None (get k.state.objects q)) other))
       (λ there. cc);
   usages = record { usage = stands.usages.usage };
-  locks = record {
-    no_locks = none-removed n k.state.locks stands.locks.no_locks;
-    no_shares = none-removed n k.state.shares stands.locks.no_shares;
-    no_waiting = none-removed n k.state.waiting stands.locks.no_waiting;
-    no_granted = ap (grants_but (λ (g : PendingGrant). g.file == n)) stands.locks.no_granted
-        ∙ grants-none (λ (g : PendingGrant). g.file == n);
-    no_spent_grants = stands.locks.no_spent_grants;
-  };
+  locks = locks-gone s _ k.state _ n unlocked stands.locks refl (λ q i other at.
+      ap (λ b. cond b None (s.at (addresses.Inode q))) (nat_eq_equiv.symm n q ∙ other) ∙ at);
 }
 
 -- at most the greater of two is at most one of them
@@ -434,7 +418,8 @@ new-stands s k n i stands vacant none bare fits lives = subst (λ (o : Living).
           (new-listing s n i (nothing-listed s k n stands vacant) bare)
           (with_new k n (living_of_inode new i) i.links (parent_in i.content)) refl refl;
       usages = record { usage = stands.usages.usage };
-      locks = locks-stay k.state _ refl refl refl refl refl stands.locks;
+      locks = locks-stay s _ k.state _ refl
+          (keeps-put s n i (give s.last (addresses.Inode n) (Some (objects.Inode i))) none-was) stands.locks;
     })
   where
     new : Beside
@@ -442,6 +427,9 @@ new-stands s k n i stands vacant none bare fits lives = subst (λ (o : Living).
 
     but : RepresentsBut n s k
     but = stands-but n s k stands
+
+    none-was : KeepsFile s n i
+    none-was was at regular = let no : None ≡ Some (objects.Inode was) = sym vacant ∙ at in cc
 
     filed : HasBlocks s n (pages_of (Some (objects.Inode i)))
     filed = record {
@@ -469,8 +457,50 @@ mounts-stand s k table stands = record {
   directories = directories-stay s _ k _ (λ n page. refl) (λ n bucket part. refl) (λ n. refl) refl (λ n. refl)
       stands.directories;
   usages = record { usage = stands.usages.usage };
-  locks = locks-stay k.state _ refl refl refl refl refl stands.locks;
+  locks = locks-stay s _ k.state _ refl (files-same s) stands.locks;
 }
+
+-- these are the locks, shares, requests and grants, and which numbers of grants are spent
+abbrev pub locks_with : State → FinMap nat_cmp (List Lock) → FinMap nat_cmp (List Share) → FinMap nat_cmp (List Request) →
+    FinMap nat_cmp PendingGrant → (ℕ → Bool) → State
+locks_with m locks shares waiting granted spent = record m {
+  locks = locks;
+  shares = shares;
+  waiting = waiting;
+  granted = granted;
+  spent_grants = spent;
+}
+
+-- what files have of locks in a bucket is put, and all else stays
+module _ (s : Store) (k : Kept) (locks : FinMap nat_cmp (List Lock)) (shares : FinMap nat_cmp (List Share))
+    (waiting : FinMap nat_cmp (List Request)) (granted : FinMap nat_cmp PendingGrant) (spent : ℕ → Bool)
+    (stands : Represents s k) where
+  abbrev locked : Kept
+  locked = record k { state = locks_with k.state locks shares waiting granted spent }
+
+  pub locks-put : (index : ℕ) (o : Option Object) → StandLocks (with_write s (addresses.Locks index) o) locked.state →
+      Represents (with_write s (addresses.Locks index) o) locked
+  locks-put index o stand = record {
+    tables = tables-stay s _ k.state _ refl stands.tables;
+    objects = objects-stay s _ k _ refl stands.objects;
+    files = files-stay s _ k _ refl stands.files;
+    directories = directories-stay s _ k _ (λ n page. refl) (λ n bucket part. refl) (λ n. refl) refl (λ n. refl)
+        stands.directories;
+    usages = record { usage = stands.usages.usage };
+    locks = stand;
+  }
+
+  -- the store is as it was
+  pub locks-kept : StandLocks s locked.state → Represents s locked
+  locks-kept stand = record {
+    tables = tables-stay s s k.state _ refl stands.tables;
+    objects = objects-stay s s k _ refl stands.objects;
+    files = files-stay s s k _ refl stands.files;
+    directories = directories-stay s s k _ (λ n page. refl) (λ n bucket part. refl) (λ n. refl) refl (λ n. refl)
+        stands.directories;
+    usages = record { usage = stands.usages.usage };
+    locks = stand;
+  }
 
 -- what stands for a usage is that usage
 usage-stored : (u : Usage) → usage_of (stored_usage u) ≡ u
@@ -529,11 +559,11 @@ module _ (s : Store) (k : Kept) (e n : ℕ) (before after written : Usage)
     directories = directories-stay s _ k _ (λ n page. refl) (λ n bucket part. refl) (λ n. refl) refl (λ n. refl)
         stands.directories;
     usages = record { usage = usage-put };
-    locks = stands.locks;
+    locks = locks-stay s _ k.state _ refl (files-same s) stands.locks;
   }
 
 module _ (d : DraftValue) where
-  turns-written : (a : Addr) (o : Option Object) (op : Kept → Kept)
+  pub turns-written : (a : Addr) (o : Option Object) (op : Kept → Kept)
       → ((s : Store) (k : Kept) → Fits d.view s → Represents (with_writes s d.writes) k →
       Represents (with_write (with_writes s d.writes) a o) (op k))
       → Turns d (with_written d a o) op
@@ -544,6 +574,20 @@ module _ (d : DraftValue) where
     messages = refl;
     turns = λ s k fits stands. subst (λ (x : Store). Represents x (op k)) (sym (writes-append d.writes s a o))
         (f s k fits stands);
+  }
+
+  -- the same where this is so of what the store stands for
+  pub turns-where-written : (IsSo : Kept → Type 0) (a : Addr) (o : Option Object) (op : Kept → Kept)
+      → ((s : Store) (k : Kept) → Fits d.view s → Represents (with_writes s d.writes) k → IsSo k →
+      Represents (with_write (with_writes s d.writes) a o) (op k))
+      → TurnsWhere IsSo d (with_written d a o) op
+  turns-where-written IsSo a o op f = record {
+    ctx = refl;
+    view = refl;
+    modes = refl;
+    messages = refl;
+    turns = λ s k fits stands so. subst (λ (x : Store). Represents x (op k)) (sym (writes-append d.writes s a o))
+        (f s k fits stands so);
   }
 
   -- the draft with a table of mounts
@@ -670,7 +714,8 @@ module _ (d : DraftValue) (n : ℕ) where
       (content-same (with_writes s d.writes) k n i j stands there kept)
       (listing-same (with_writes s d.writes) k n i j stands at there listed)
       (subst (λ g. g ≤ (with_writes s d.writes).last n) (sym generation) (stands.objects.given n i at)) fitting
-      (ap (lives_in k.state.exports) exported ∙ live s k fits stands) in
+      (ap (lives_in k.state.exports) exported ∙ live s k fits stands)
+      (keeps-same (with_writes s d.writes) n i j at exported (λ some. subst (λ o. IsSome o) (sym kept) some)) in
       let same : edited k n object links ≡ with_living k n (living_of_inode beside j) j.links (parent_in j.content) =
       ap
       (λ (o : Option Living). elim o [
@@ -694,7 +739,8 @@ module _ (d : DraftValue) (n : ℕ) where
         maps = λ page. subst (λ b. IsMapped (has b page) ((with_writes s d.writes).at (addresses.Map n page)))
             (ap pages_of at ∙ no-pages i other) ((stands.files.blocks n).maps page);
         blocks = (stands.files.blocks n).blocks;
-      }) (emptied (with_writes s d.writes) k (ap entry_map_of at ∙ unlisted) (stands.directories n)))
+      }) (emptied (with_writes s d.writes) k (ap entry_map_of at ∙ unlisted) (stands.directories n))
+      (none-listed (with_writes s d.writes) k.state n i stands.locks at other))
     where
       emptied : (t : Store) (k : Kept) → entry_map_of (t.at (addresses.Inode n)) ≡ None → StandEntries t k n →
           HoldsEntries t n None []

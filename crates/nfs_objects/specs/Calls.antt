@@ -1,6 +1,7 @@
 -- What calls name.
 use Rattle.std.specs.Prelude.{◌≡◌, ℕ, zero, suc, Bool, true, false, List, [], ◌∷◌, ◌++◌, Some, None}
-use Rattle.std.specs.Prelude.{◌⊎◌, ◌/◌, Option}
+use Rattle.std.specs.Prelude.{◌⊎◌, ◌/◌, ◌%◌, ◌==◌, Option, if◌then◌else◌, length}
+use Rattle.std.specs.Int.{w64, from_be_bytes}
 use Rattle.nfs_wire.specs.declared.calls.NfsCall.{NfsCall}
 use Rattle.nfs_wire.specs.declared.calls.NfsCall.TheVariants as nfs
 use Rattle.nfs_wire.specs.declared.calls.Place.{Place}
@@ -14,7 +15,9 @@ use Rattle.nfs_objects.specs.declared.address.Addr.{Addr}
 use Rattle.nfs_objects.specs.declared.address.Addr.TheVariants as addresses
 use Rattle.nfs_objects.specs.declared.directory.Directory.{Directory}
 use Rattle.nfs_objects.specs.declared.entry_map.EntryMap.{EntryMap}
+use Rattle.nlm_ranges.specs.Buckets.{bucket_count}
 use Rattle.nfs_objects.specs.Directories.{bucket_of, width_in}
+use Rattle.nfs_objects.specs.Modes.{led_at}
 use Rattle.nfs_objects.specs.Stands.{header_of}
 use Rattle.nfs_objects.specs.Values.{ViewValue, shown_at}
 
@@ -149,14 +152,47 @@ added_by view (nfs.Rename a) = added_at view a.to
 added_by view (nfs.Link a) = added_at view a.place
 added_by view call = []
 
+-- ---- locks
+-- the address of the bucket of what the file at a number has of locks, and of the grant with a number
+abbrev pub locks_at : (number : ℕ) → List Addr
+locks_at number = addresses.Locks (number % bucket_count) ∷ []
+
+-- that of what a name leads to, once the view shows it
+abbrev pub locks_under : ViewValue → Place → List Addr
+locks_under view place = in_file place.directory
+    (λ directory. elim (led_at view directory place.name) [ None ↦ [] | Some number ↦ locks_at number ])
+
+-- of what may lose its last name
+abbrev pub locks_lost : ViewValue → NfsCall → List Addr
+locks_lost view (nfs.Remove place) = locks_under view place
+locks_lost view (nfs.Rmdir place) = locks_under view place
+locks_lost view (nfs.Rename a) = locks_under view a.to
+locks_lost view call = []
+
+-- those of so many buckets
+unfoldable pub buckets_below : (count : ℕ) → List Addr
+buckets_below zero = []
+buckets_below (suc index) = addresses.Locks index ∷ buckets_below index
+
+-- of the files that handles name
+abbrev pub locks_of : List (List ℕ) → List Addr
+locks_of [] = []
+locks_of (handle ∷ handles) = in_file handle locks_at ++ locks_of handles
+
+-- of the files that a call of NLM names, of the grant that it answers, by the 8 bytes of its cookie, or of all files
+abbrev pub locks_named : NlmCall → List Addr
+locks_named (nlm.GrantedRes r) = if length r.cookie == 8 then locks_at (from_be_bytes w64 r.cookie) else []
+locks_named (nlm.FreeAll a) = buckets_below bucket_count
+locks_named call = locks_of (nlm_handles call)
+
 -- The addresses that a call names, whether anything stands there or not, once it has read so much: the exports, the
--- objects of its handles with what their exports use, where its data lies, where a name goes that it may add, and those
--- that are its program's alone. What it named it names still as it reads more.
+-- objects of its handles with what their exports use, where its data lies, where a name goes that it may add, the locks
+-- that it may change, and those that are its program's alone. What it named it names still as it reads more.
 abbrev pub named_by : Call → ViewValue → List Addr
 named_by (calls.Nfs call) view = addresses.Exports ∷ objects_at view (nfs_handles call) ++
-    (data_of call ++ added_by view call)
+    (data_of call ++ (added_by view call ++ locks_lost view call))
 named_by (calls.Mount call) view = addresses.Exports ∷ addresses.Mounts ∷ []
-named_by (calls.Nlm call) view = addresses.Exports ∷ objects_at view (nlm_handles call)
+named_by (calls.Nlm call) view = addresses.Exports ∷ objects_at view (nlm_handles call) ++ locks_named call
 
 -- the address is one of these
 abbrev pub IsAmong : List Addr → Addr → Type 0

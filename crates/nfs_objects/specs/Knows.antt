@@ -37,6 +37,15 @@ pub record Turns (old new : DraftValue) (op : Kept → Kept) : Type 0 where
   pub turns : (s : Store) (k : Kept) → Fits old.view s → Represents (with_writes s old.writes) k →
       Represents (with_writes s new.writes) (op k)
 
+-- the same where this is so of what the store stands for
+pub record TurnsWhere (IsSo : Kept → Type 0) (old new : DraftValue) (op : Kept → Kept) : Type 0 where
+  pub ctx : new.ctx ≡ old.ctx
+  pub view : new.view ≡ old.view
+  pub modes : new.modes ≡ old.modes
+  pub messages : new.messages ≡ old.messages
+  pub turns : (s : Store) (k : Kept) → Fits old.view s → Represents (with_writes s old.writes) k → IsSo k →
+      Represents (with_writes s new.writes) (op k)
+
 -- the end of this result, where this is the state after it
 abbrev pub ending : {A : Type 0} → Result A NfsStatus → State → Result (A × State) NfsStatus
 ending (Ok x) after = Ok (x, after)

@@ -7,6 +7,8 @@ use Rattle.nfs_wire.specs.declared.calls.NfsCall.{NfsCall}
 use Rattle.nfs_wire.specs.declared.calls.NfsCall.TheVariants as nfs
 use Rattle.nfs_wire.specs.declared.calls.Place.{Place}
 use Rattle.nfs_wire.specs.declared.calls.RenameArguments.{RenameArguments}
+use Rattle.side_wire.specs.declared.nlm.NlmCall.{NlmCall}
+use Rattle.side_wire.specs.declared.nlm.NlmCall.TheVariants as nlm
 use Rattle.nfs_machine.specs.Changing.{is_changing_mount, is_changing_nfs}
 use Rattle.nfs_machine.specs.Checks.{entry_of}
 use Rattle.nfs_machine.specs.Handles.{handle_of}
@@ -90,6 +92,7 @@ held_mode modes view (addresses.Page n page) = if only_reads modes.renames view 
 held_mode modes view (addresses.Part n b part) = if only_reads modes.renames view n then Shared else modes.inodes
 held_mode modes view addresses.Mounts = modes.mounts
 held_mode modes view (addresses.Usage e g) = modes.inodes
+held_mode modes view (addresses.Locks b) = modes.locks
 
 -- alone, where it may be changed
 abbrev pub mode_for : (changes : Bool) → Mode
@@ -101,22 +104,46 @@ abbrev pub renames_of : NfsCall → Option RenameArguments
 renames_of (nfs.Rename a) = Some a
 renames_of call = None
 
--- A call of NFS may change objects. MNT reads directories and changes the mounts, as UMNT and UMNTALL do. NLM reads the
--- file.
+-- calls of NLM that may change what files have of locks, shares, requests and grants; what TEST_MSG changes is messages
+abbrev pub changes_locks : NlmCall → Bool
+changes_locks (nlm.Lock a) = true
+changes_locks (nlm.Cancel a) = true
+changes_locks (nlm.Unlock a) = true
+changes_locks (nlm.LockMsg a) = true
+changes_locks (nlm.CancelMsg a) = true
+changes_locks (nlm.UnlockMsg a) = true
+changes_locks (nlm.GrantedRes r) = true
+changes_locks (nlm.Share a) = true
+changes_locks (nlm.Unshare a) = true
+changes_locks (nlm.NmLock a) = true
+changes_locks (nlm.FreeAll a) = true
+changes_locks call = false
+
+-- A call of NFS may change objects, and with the last name of a file go its locks. MNT reads directories and changes
+-- the mounts, as UMNT and UMNTALL do. NLM reads the file.
 abbrev pub modes_of : Call → ModesValue
-modes_of (calls.Nfs call) = record
-    { inodes = mode_for (is_changing_nfs call); mounts = Shared; renames = renames_of call }
+modes_of (calls.Nfs call) = record {
+  inodes = mode_for (is_changing_nfs call);
+  mounts = Shared;
+  locks = mode_for (is_changing_nfs call);
+  renames = renames_of call;
+}
 modes_of (calls.Mount call) = record
-    { inodes = Shared; mounts = mode_for (is_changing_mount call); renames = None }
-modes_of (calls.Nlm call) = record { inodes = Shared; mounts = Shared; renames = None }
+    { inodes = Shared; mounts = mode_for (is_changing_mount call); locks = Shared; renames = None }
+modes_of (calls.Nlm call) = record
+    { inodes = Shared; mounts = Shared; locks = mode_for (changes_locks call); renames = None }
 
 -- those of calls that change nothing
 abbrev pub reading : ModesValue
-reading = record { inodes = Shared; mounts = Shared; renames = None }
+reading = record { inodes = Shared; mounts = Shared; locks = Shared; renames = None }
 
 -- those of calls that may change each object that they read
 abbrev pub changing : ModesValue
-changing = record { inodes = Exclusive; mounts = Shared; renames = None }
+changing = record { inodes = Exclusive; mounts = Shared; locks = Exclusive; renames = None }
+
+-- those of calls that read files and change what they have of locks
+abbrev pub locking : ModesValue
+locking = record { inodes = Shared; mounts = Shared; locks = Exclusive; renames = None }
 
 -- all that the view has is held as it is wanted, or alone
 abbrev pub Suits : ModesValue → ViewValue → Type 0

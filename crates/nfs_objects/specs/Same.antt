@@ -11,6 +11,7 @@ use Rattle.side_wire.specs.declared.mount.lists.MountBody.{MountBody}
 use Rattle.nfs_machine.specs.Bytes.{same_bytes}
 use Rattle.nfs_machine.specs.Exports.{ExportValue, LivingExport}
 use Rattle.nfs_machine.specs.State.{Entry}
+use Rattle.nlm_ranges.specs.Same.{same_bucket}
 use Rattle.nfs_objects.specs.Bits.{same_bits}
 use Rattle.nfs_objects.specs.ExportTables.{ExportTableValue}
 use Rattle.nfs_objects.specs.FileMaps.{FileMapValue}
@@ -100,6 +101,7 @@ same_object (objects.Page a) (objects.Page b) = pointwise same_entry a b
 same_object (objects.Part a) (objects.Part b) = pointwise same_entry a b
 same_object (objects.Mounts a) (objects.Mounts b) = pointwise same_mount a b
 same_object (objects.Usage a) (objects.Usage b) = is_same_usage a b
+same_object (objects.Locks a) (objects.Locks b) = same_bucket a b
 same_object a b = false
 
 -- ---- views

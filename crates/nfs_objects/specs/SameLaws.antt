@@ -14,6 +14,7 @@ use Rattle.side_wire.specs.declared.mount.lists.MountBody.{MountBody}
 use Rattle.nfs_machine.specs.Bytes.{same_bytes}
 use Rattle.nfs_machine.specs.Exports.{ExportValue, LivingExport}
 use Rattle.nfs_machine.specs.State.{Entry}
+use Rattle.nlm_ranges.specs.SameLaws.{bucket_decides}
 use Rattle.nfs_objects.specs.Bits.{same_bits}
 use Rattle.nfs_objects.specs.ExportTables.{ExportTableValue}
 use Rattle.nfs_objects.specs.FileMaps.{FileMapValue}
@@ -313,6 +314,7 @@ object_same (objects.Page a) (objects.Page b) e = ap objects.Page ((entries_deci
 object_same (objects.Part a) (objects.Part b) e = ap objects.Part ((entries_decide a b).0 e)
 object_same (objects.Mounts a) (objects.Mounts b) e = ap objects.Mounts ((mounts_decide a b).0 e)
 object_same (objects.Usage a) (objects.Usage b) e = ap objects.Usage ((usage_decides a b).0 e)
+object_same (objects.Locks a) (objects.Locks b) e = ap objects.Locks ((bucket_decides a b).0 e)
 object_same a b e = cc
 
 object_own : (a : Object) → same_object a a ≡ true
@@ -324,6 +326,7 @@ object_own (objects.Page a) = (entries_decide a a).1 refl
 object_own (objects.Part a) = (entries_decide a a).1 refl
 object_own (objects.Mounts a) = (mounts_decide a a).1 refl
 object_own (objects.Usage a) = (usage_decides a a).1 refl
+object_own (objects.Locks a) = (bucket_decides a a).1 refl
 
 pub object_decides : (a b : Object) → Decides (same_object a b) (a ≡ b)
 object_decides = from_self same_object object_same object_own
@@ -344,6 +347,7 @@ address_same (addresses.Part n b p) (addresses.Part m c q) e =
 address_same addresses.Mounts addresses.Mounts e = refl
 address_same (addresses.Usage e g) (addresses.Usage f h) p = λ i. addresses.Usage
     ((unsigned_Decides e f).0 (first_so (e == f) _ p) i) ((unsigned_Decides g h).0 (second_so (e == f) _ p) i)
+address_same (addresses.Locks b) (addresses.Locks c) e = ap addresses.Locks ((unsigned_Decides b c).0 e)
 address_same a b e = cc
 
 address_own : (a : Addr) → is_addr a a ≡ true
@@ -355,6 +359,7 @@ address_own (addresses.Page n p) = both _ _ (nat_own n) (nat_own p)
 address_own (addresses.Part n b p) = both _ _ (nat_own n) (both _ _ (nat_own b) (nat_own p))
 address_own addresses.Mounts = refl
 address_own (addresses.Usage e g) = both _ _ (nat_own e) (nat_own g)
+address_own (addresses.Locks b) = nat_own b
 
 pub address_decides : (a b : Addr) → Decides (is_addr a b) (a ≡ b)
 address_decides = from_self is_addr address_same address_own

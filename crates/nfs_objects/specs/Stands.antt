@@ -1,16 +1,19 @@
 -- The state that a store stands for.
-use Rattle.std.specs.Prelude.{◌≡◌, ◌<◌, ◌≤◌, ◌^◌, ℕ, Bool, false, true, List, [], length}
+use Rattle.std.specs.Prelude.{◌≡◌, ◌<◌, ◌≤◌, ◌^◌, ◌↔◌, ℕ, Bool, false, true, Contains, List, [], length}
 use Rattle.std.specs.Prelude.{Option, Some, None, IsSome, is_some, option_map, unwrap_or}
 use Rattle.std.specs.Prelude.{nat_le, nat_lt, if◌then◌else◌, replicate, ◌/◌, ◌%◌, ◌==◌}
-use Rattle.std.specs.FinMap.{empty, get}
-use Rattle.std.specs.List.{count_by}
+use Rattle.std.specs.FinMap.{get}
+use Rattle.std.specs.List.{AllByRecursion, count_by}
 use Rattle.nfs_wire.specs.declared.calls.Verifier.{Verifier}
 use Rattle.nfs_machine.specs.Attributes.{size_of}
 use Rattle.nfs_machine.specs.Checks.{entry_of}
 use Rattle.nfs_machine.specs.Exports.{LivingExport, export_at}
-use Rattle.nfs_machine.specs.State.{Living, State}
+use Rattle.nfs_machine.specs.Grants.{at_file}
+use Rattle.nfs_machine.specs.State.{Living, Request, State}
 use Rattle.nfs_machine.specs.State as machine
 use Rattle.nfs_machine.specs.WellFormed.{NamesOnce}
+use Rattle.nlm_ranges.specs.Buckets.{BucketValue, LockedValue, bucket_count, file_in, has_none, no_bucket}
+use Rattle.nlm_ranges.specs.Files.{FileValue, no_file}
 use Rattle.nfs_objects.specs.declared.address.Addr.TheVariants as addresses
 use Rattle.nfs_objects.specs.declared.bits.Bits.{Bits}
 use Rattle.nfs_objects.specs.declared.directory.Directory.{Directory}
@@ -318,13 +321,58 @@ pub record StandUsages (s : Store) (k : Kept) : Type 0 where
   pub usage : (e g : ℕ) → lives_in k.state.exports e ≡ true →
       s.at (addresses.Usage e g) ≡ stored_usage (k.usage e g)
 
--- there are no locks and shares, and nothing waits
-pub record StandLocks (m : State) : Type 0 where
-  pub no_locks : m.locks ≡ empty
-  pub no_shares : m.shares ≡ empty
-  pub no_waiting : m.waiting ≡ empty
-  pub no_granted : m.granted ≡ empty
-  pub no_spent_grants : (n : ℕ) → m.spent_grants n ≡ false
+-- ---- locks, shares, requests and grants
+-- the bucket that stands there
+abbrev pub lock_bucket_of : Option Object → Option BucketValue
+lock_bucket_of (Some (stored.Locks bucket)) = Some bucket
+lock_bucket_of o = None
+
+-- an absent bucket has nothing
+abbrev pub bucket_in : Option BucketValue → BucketValue
+bucket_in bucket = unwrap_or bucket no_bucket
+
+abbrev pub bucket_at : Option Object → BucketValue
+bucket_at o = bucket_in (lock_bucket_of o)
+
+-- what stands for a bucket: nothing for one that has nothing
+abbrev pub stored_bucket : BucketValue → Option Object
+stored_bucket bucket = if has_none bucket then None else Some (stored.Locks bucket)
+
+-- the bucket in the store with this index
+abbrev pub bucket_there : Store → (index : ℕ) → BucketValue
+bucket_there s index = bucket_at (s.at (addresses.Locks index))
+
+-- what a file has, if its export lives: what belongs to no living export stands for nothing
+abbrev pub exported_file : List LivingExport → Option LockedValue → FileValue
+exported_file exports None = no_file
+exported_file exports (Some f) = if lives_in exports f.export then f.file else no_file
+
+-- what the file at a number has of locks, shares, requests and grants
+abbrev pub file_there : Store → List LivingExport → (number : ℕ) → FileValue
+file_there s exports n = exported_file exports (file_in (bucket_there s (n % bucket_count)) n)
+
+-- the grant with this number is of this request for this file, and is not answered yet
+abbrev pub IsPendingIn : State → (number file : ℕ) → Request → Type 0
+IsPendingIn m number file request = get m.granted number ≡ Some (record { file = file; request = request })
+
+-- a file of a bucket has its index modulo 64; a regular file stands at its number, and is of its export
+pub record IsPlaced (s : Store) (index : ℕ) (f : LockedValue) : Type 0 where
+  pub bucket : f.number % bucket_count ≡ index
+  pub inode : Inode
+  pub stands : s.at (addresses.Inode f.number) ≡ Some (stored.Inode inode)
+  pub regular : IsSome (map_in inode.content)
+  pub export : inode.export ≡ f.export
+
+-- What each file has stands in the bucket of its number. The numbers of grants that are spent are those of each bucket,
+-- up to the last that it gave.
+pub record StandLocks (s : Store) (m : State) : Type 0 where
+  pub held : (n : ℕ) → at_file m n ≡ (file_there s m.exports n).held
+  pub pending : (number file : ℕ) (r : Request) → IsPendingIn m number file r ↔
+      (Contains (file_there s m.exports file).pending r × (r.number ≡ number))
+  pub spent : (number : ℕ) → m.spent_grants number ≡
+      nat_lt (number / bucket_count) (bucket_there s (number % bucket_count)).given
+  pub stored : (index : ℕ) → s.at (addresses.Locks index) ≡ stored_bucket (bucket_there s index)
+  pub placed : (index : ℕ) → AllByRecursion (IsPlaced s index) (bucket_there s index).files
 
 -- the store stands for this
 pub record Represents (s : Store) (k : Kept) : Type 0 where
@@ -333,4 +381,4 @@ pub record Represents (s : Store) (k : Kept) : Type 0 where
   pub files : StandFiles s k
   pub directories : StandDirectories s k
   pub usages : StandUsages s k
-  pub locks : StandLocks k.state
+  pub locks : StandLocks s k.state

@@ -31,7 +31,7 @@ pub record RepresentsBut (number : ℕ) (s : Store) (k : Kept) : Type 0 where
   pub files : StandFilesBut number s k
   pub directories : StandDirectoriesBut number s k
   pub usages : StandUsages s k
-  pub locks : StandLocks k.state
+  pub locks : StandLocks s k.state
 
 -- pages and parts stand where they stood
 pub record KeepsEntries (old new : Store) : Type 0 where
@@ -42,6 +42,10 @@ pub record KeepsEntries (old new : Store) : Type 0 where
 pub record KeepsBlocks (old new : Store) : Type 0 where
   pub maps : (n page : ℕ) → new.at (addresses.Map n page) ≡ old.at (addresses.Map n page)
   pub blocks : (n index : ℕ) → new.at (addresses.Block n index) ≡ old.at (addresses.Block n index)
+
+-- what files have of locks stands where it stood
+abbrev pub KeepsLocks : (old new : Store) → Type 0
+KeepsLocks old new = (bucket : ℕ) → new.at (addresses.Locks bucket) ≡ old.at (addresses.Locks bucket)
 
 -- one draft came of the other by writes to blocks and maps of the file at this number
 pub record Lays (number : ℕ) (old new : DraftValue) : Type 0 where
@@ -54,6 +58,7 @@ pub record Lays (number : ℕ) (old new : DraftValue) : Type 0 where
   pub inodes : (s : Store) (n : ℕ) →
       (with_writes s new.writes).at (addresses.Inode n) ≡ (with_writes s old.writes).at (addresses.Inode n)
   pub entries : (s : Store) → KeepsEntries (with_writes s old.writes) (with_writes s new.writes)
+  pub locks : (s : Store) → KeepsLocks (with_writes s old.writes) (with_writes s new.writes)
 
 -- and by writes to pages and parts of the directory at this number
 pub record Enters (number : ℕ) (old new : DraftValue) : Type 0 where
@@ -66,6 +71,7 @@ pub record Enters (number : ℕ) (old new : DraftValue) : Type 0 where
   pub inodes : (s : Store) (n : ℕ) →
       (with_writes s new.writes).at (addresses.Inode n) ≡ (with_writes s old.writes).at (addresses.Inode n)
   pub blocks : (s : Store) → KeepsBlocks (with_writes s old.writes) (with_writes s new.writes)
+  pub locks : (s : Store) → KeepsLocks (with_writes s old.writes) (with_writes s new.writes)
 
 -- What a write to the pages and parts of the directory at a number did: these entries stand there now by one map, where
 -- others stood by another one and were as is asked.

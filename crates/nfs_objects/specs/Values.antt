@@ -11,6 +11,7 @@ use Rattle.nfs_machine.specs.declared.calls.Call.{Call}
 use Rattle.nfs_machine.specs.declared.calls.Reply.{Reply}
 use Rattle.nfs_objects.specs.declared.address.Addr.{Addr}
 use Rattle.nfs_objects.specs.declared.address.Addr.TheVariants.{Exports, Inode, Map, Block, Page, Part, Mounts, Usage}
+use Rattle.nfs_objects.specs.declared.address.Addr.TheVariants.{Locks}
 use Rattle.nfs_objects.specs.declared.change.Change.{Change}
 use Rattle.nfs_objects.specs.declared.change.Write.{Write}
 use Rattle.nfs_objects.specs.declared.modes.Mode.{Mode}
@@ -31,10 +32,11 @@ pub record ViewValue : Type 0 where
   pub reserved : List Reserved
 
 -- how a call holds what it reads: inodes with the maps and blocks of files, the pages and parts of directories and what
--- groups of inodes use; the mounts; and which names it moves, if any
+-- groups of inodes use; the mounts; what files have of locks; and which names it moves, if any
 pub record ModesValue : Type 0 where
   pub inodes : Mode
   pub mounts : Mode
+  pub locks : Mode
   pub renames : Option RenameArguments
 
 -- what a call stands on, how it holds what it reads, and what it would write and put
@@ -76,7 +78,7 @@ done_value call ctx view change = record { call = call; ctx = ctx; view = view; 
 
 abbrev pub modes_value : Modes → ModesValue
 modes_value modes = record
-    { inodes = modes.inodes; mounts = modes.mounts; renames = option_copied modes.renames }
+    { inodes = modes.inodes; mounts = modes.mounts; locks = modes.locks; renames = option_copied modes.renames }
 
 -- a draft with no write
 abbrev pub new_draft : Ctx → ViewValue → ModesValue → DraftValue
@@ -96,6 +98,7 @@ is_addr (Page n p) (Page m q) = (n == m) && (p == q)
 is_addr (Part n b p) (Part m c q) = (n == m) && ((b == c) && (p == q))
 is_addr Mounts Mounts = true
 is_addr (Usage e g) (Usage f h) = (e == f) && (g == h)
+is_addr (Locks b) (Locks c) = b == c
 is_addr a b = false
 
 -- what is known of an address, in whatever mode it is held

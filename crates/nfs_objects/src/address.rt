@@ -49,6 +49,8 @@ pub enum Addr {
         /// Below `GROUPS`.
         group: u8,
     },
+    /// What the files whose number has this remainder modulo `LOCK_BUCKETS` have of locks, shares, requests and grants.
+    Locks(u8),
 }
 
 /// Whether two addresses are one.

@@ -3,6 +3,7 @@
 ghost use Rattle.std.specs.Prelude.{◌≡◌, ◌∷◌, ◌++◌, [], IsSome, MatchResult, OnErr, OnOk, option_map};
 ghost use Rattle.std.specs.Prelude.{MatchOption, option_copied};
 ghost use Rattle.std.specs.Arc.{arc_value};
+ghost use Rattle.nlm_ranges.specs.Buckets.{IsBucket};
 ghost use Rattle.nfs_objects.specs.Asks.{IsFirst, WantsNumber, IsNeed, Lacks};
 ghost use Rattle.nfs_objects.specs.Knows.{Knows};
 ghost use Rattle.nfs_objects.specs.Modes.{Suits, held_mode};
@@ -10,6 +11,7 @@ ghost use Rattle.nfs_objects.specs.Drafts.{MayChange, MayGive, MayWrite};
 ghost use Rattle.nfs_objects.specs.Promise.{Given, Held};
 ghost use Rattle.nfs_objects.specs.Stands.{IsFitting, block_of, map_of, mounts_in, page_of, part_of, stored_map};
 ghost use Rattle.nfs_objects.specs.Stands.{stored_page};
+ghost use Rattle.nfs_objects.specs.Stands.{bucket_at, bucket_in, stored_bucket};
 ghost use Rattle.nfs_objects.specs.Sums.{stored_usage, usage_of};
 ghost use Rattle.nfs_objects.specs.Values.{change_value, known_at, modes_value, new_draft, pointed, with_written};
 ghost use Rattle.nfs_objects.specs.Values.{written_at};
@@ -22,11 +24,14 @@ use crate::entry_map::NamePlace;
 use crate::entry_page::EntryPage;
 use crate::modes::{Mode, Modes};
 use crate::mounts::MountTable;
-use crate::object::{Inode, Object, block_known, map_known, mount_table, page_known, part_known};
+use crate::object::{
+    Inode, Object, block_known, bucket_known, map_known, mount_table, page_known, part_known,
+};
 use crate::usage::{Usage, usage_known};
 use crate::view::{Reserved, View};
 use bytes::Bytes;
 use nfs_machine::{Ctx, Reply};
+use nlm_ranges::LockBucket;
 use side_wire::Message;
 use std::alloc::{AllocError, Global};
 use std::marker::Model;
@@ -410,6 +415,43 @@ impl<'a> Draft<'a> {
             return self.write(address, None);
         }
         let object = Arc::new(self.alloc, Object::Usage(usage))?;
+        self.write(address, Some(object))
+    }
+
+    /// What the files of a bucket have of locks, if any has anything.
+    ///
+    /// # Errors
+    ///
+    /// `Need` of its address where it was not read, and `Memory`.
+    pub fn locks(&self, bucket: u8) -> Result<Option<&LockBucket>, Halt>
+        ensures { MatchResult result
+            (λ locks. option_map bucket_at (known_at self.now (Addr.Locks bucket))
+            ≡ Some (bucket_in (option_copied locks)))
+            (Lacks self.now (Addr.Locks bucket)) }
+    {
+        Ok(bucket_known(self.find(Addr::Locks(bucket))?))
+    }
+
+    /// Puts what the files of a bucket have of locks in the place of what was read; where that is nothing, nothing
+    /// stands there.
+    ///
+    /// # Errors
+    ///
+    /// `AllocError` where the memory was refused. It changes nothing.
+    pub fn put_locks(&mut self, bucket: u8, locks: LockBucket) -> Result<(), AllocError>
+        requires alone { self.old.modes.locks ≡ Mode.Exclusive }
+        requires known { IsSome (known_at self.old (Addr.Locks bucket)) }
+        ensures ok { OnOk result (self.new ≡ with_written self.old (Addr.Locks bucket) (stored_bucket locks)) }
+        ensures bucket { OnOk result (IsBucket locks) }
+        ensures err { OnErr result (self.new ≡ self.old) }
+    {
+        // The files bring what is true of every bucket.
+        let _files = locks.files();
+        let address = Addr::Locks(bucket);
+        if locks.is_empty() {
+            return self.write(address, None);
+        }
+        let object = Arc::new(self.alloc, Object::Locks(locks))?;
         self.write(address, Some(object))
     }
 

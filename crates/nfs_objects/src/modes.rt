@@ -3,7 +3,8 @@
 ghost use Rattle.std.specs.Prelude.{◌≡◌, Some, option_copied, option_map};
 ghost use Rattle.std.specs.Arc.{arc_value};
 ghost use Rattle.nfs_machine.specs.Changing.{is_changing_mount, is_changing_nfs};
-ghost use Rattle.nfs_objects.specs.Modes.{covers, held_mode, is_apart, is_elsewhere, mode_for, modes_of, number_in};
+ghost use Rattle.nfs_objects.specs.Modes.{changes_locks, covers, held_mode, is_apart, is_elsewhere, mode_for};
+ghost use Rattle.nfs_objects.specs.Modes.{modes_of, number_in};
 ghost use Rattle.nfs_objects.specs.Modes.{only_reads, part_address, renames_of};
 ghost use Rattle.nfs_objects.specs.Values.{modes_value};
 
@@ -12,7 +13,7 @@ use crate::object::{Object, header_known, part_known};
 use crate::view::View;
 use nfs_machine::{Call, Handle};
 use nfs_wire::{NfsCall, Place, RenameArguments};
-use side_wire::MountCall;
+use side_wire::{MountCall, NlmCall};
 use std::sync::Arc;
 
 /// How a call holds an address until it ends.
@@ -32,6 +33,8 @@ pub struct Modes<'a> {
     /// use.
     pub inodes: Mode,
     pub mounts: Mode,
+    /// Of what files have of locks, shares, requests and grants.
+    pub locks: Mode,
     /// The names that RENAME moves: other inodes than theirs it only reads.
     pub renames: Option<&'a RenameArguments>,
 }
@@ -40,13 +43,15 @@ pub struct Modes<'a> {
 pub const READING: Modes<'static> = Modes {
     inodes: Mode::Shared,
     mounts: Mode::Shared,
+    locks: Mode::Shared,
     renames: None,
 };
 
-/// The modes of a call that may change each object that it reads.
+/// The modes of a call that may change each object that it reads. What files have of locks goes with them.
 pub const CHANGING: Modes<'static> = Modes {
     inodes: Mode::Exclusive,
     mounts: Mode::Shared,
+    locks: Mode::Exclusive,
     renames: None,
 };
 
@@ -54,6 +59,15 @@ pub const CHANGING: Modes<'static> = Modes {
 pub const MOUNTING: Modes<'static> = Modes {
     inodes: Mode::Shared,
     mounts: Mode::Exclusive,
+    locks: Mode::Shared,
+    renames: None,
+};
+
+/// The modes of a call that reads files and changes what they have of locks.
+pub const LOCKING: Modes<'static> = Modes {
+    inodes: Mode::Shared,
+    mounts: Mode::Shared,
+    locks: Mode::Exclusive,
     renames: None,
 };
 
@@ -61,7 +75,7 @@ impl<'a> Modes<'a> {
     /// The modes of RENAME, which reads the directories above its target and does not change them.
     pub fn renaming(arguments: &'a RenameArguments) -> Modes<'a>
         ensures { modes_value result ≡ record
-            { inodes = Mode.Exclusive; mounts = Mode.Shared; renames = Some arguments.now } }
+            { inodes = Mode.Exclusive; mounts = Mode.Shared; locks = Mode.Exclusive; renames = Some arguments.now } }
     {
         Modes {
             renames: Some(arguments),
@@ -87,6 +101,7 @@ impl<'a> Modes<'a> {
             } => self.inode_mode(view, directory),
             Addr::Mounts => self.mounts,
             Addr::Usage { .. } => self.inodes,
+            Addr::Locks(_) => self.locks,
         }
     }
 
@@ -107,6 +122,7 @@ impl<'a> Modes<'a> {
         match call {
             Call::Nfs(call) => Modes {
                 inodes: nfs_mode(call),
+                locks: nfs_mode(call),
                 renames: renames(call),
                 ..READING
             },
@@ -114,7 +130,10 @@ impl<'a> Modes<'a> {
                 mounts: mount_mode(call),
                 ..READING
             },
-            Call::Nlm(_) => READING,
+            Call::Nlm(call) => Modes {
+                locks: nlm_mode(call),
+                ..READING
+            },
         }
     }
 }
@@ -214,6 +233,26 @@ fn mount_mode(call: &MountCall) -> Mode
     match call {
         MountCall::Mnt(_) | MountCall::Unmount(_) | MountCall::UnmountAll => Mode::Exclusive,
         MountCall::Null | MountCall::Dump | MountCall::Export => Mode::Shared,
+    }
+}
+
+/// In which mode a call of NLM holds what files have of locks.
+fn nlm_mode(call: &NlmCall) -> Mode
+    ensures { result ≡ mode_for (changes_locks call.now) }
+{
+    match call {
+        NlmCall::Lock(_) => Mode::Exclusive,
+        NlmCall::Cancel(_) => Mode::Exclusive,
+        NlmCall::Unlock(_) => Mode::Exclusive,
+        NlmCall::LockMsg(_) => Mode::Exclusive,
+        NlmCall::CancelMsg(_) => Mode::Exclusive,
+        NlmCall::UnlockMsg(_) => Mode::Exclusive,
+        NlmCall::GrantedRes(_) => Mode::Exclusive,
+        NlmCall::Share(_) => Mode::Exclusive,
+        NlmCall::Unshare(_) => Mode::Exclusive,
+        NlmCall::NmLock(_) => Mode::Exclusive,
+        NlmCall::FreeAll(_) => Mode::Exclusive,
+        _ => Mode::Shared,
     }
 }
 

@@ -3,7 +3,8 @@
 ghost use Rattle.std.specs.Prelude.{◌≡◌, false, MatchOption, option_map, option_copied};
 ghost use Rattle.std.specs.Arc.{arc_value};
 ghost use Rattle.nfs_machine.specs.Attributes.{is_directory};
-ghost use Rattle.nfs_objects.specs.Stands.{block_of, content_of, exports_of, header_of, inode_of, map_of, page_of};
+ghost use Rattle.nfs_objects.specs.Stands.{block_of, content_of, exports_of, header_of, inode_of, lock_bucket_of};
+ghost use Rattle.nfs_objects.specs.Stands.{map_of, page_of};
 ghost use Rattle.nfs_objects.specs.Stands.{part_of, table_of};
 
 use crate::bits::Bits;
@@ -15,6 +16,7 @@ use crate::mounts::MountTable;
 use crate::usage::Usage;
 use bytes::Bytes;
 use nfs_wire::{DeviceNumber, Time, Verifier};
+use nlm_ranges::LockBucket;
 use std::alloc::AllocError;
 use std::sync::Arc;
 
@@ -213,6 +215,8 @@ pub enum Object {
     Mounts(MountTable),
     /// What a group of objects uses.
     Usage(Usage),
+    /// What files have of locks, shares, requests and grants.
+    Locks(LockBucket),
 }
 
 impl PartialEq for Object {
@@ -238,6 +242,7 @@ impl PartialEq for Object {
             (Object::Part(a), Object::Part(b)) => a == b,
             (Object::Mounts(a), Object::Mounts(b)) => a == b,
             (Object::Usage(a), Object::Usage(b)) => a == b,
+            (Object::Locks(a), Object::Locks(b)) => a == b,
             _ => false,
         }
     }
@@ -324,6 +329,16 @@ pub fn part_known(known: &Option<Arc<Object>>) -> Option<&Entries>
 {
     match known.as_deref() {
         Some(Object::Part(entries)) => Some(entries),
+        _ => None,
+    }
+}
+
+/// The bucket of locks that stands where this is known; None where nothing does, or what is no bucket.
+pub fn bucket_known(known: &Option<Arc<Object>>) -> Option<&LockBucket>
+    ensures { option_copied result ≡ lock_bucket_of (option_map arc_value known.now) }
+{
+    match known.as_deref() {
+        Some(Object::Locks(bucket)) => Some(bucket),
         _ => None,
     }
 }

@@ -16,3 +16,6 @@ returns-in-Page-Page-clause-same c = told_so object_decides _ _ _ (search rules)
 
 pub returns-in-Part-Part-clause-same : goal.returns-in-Part-Part-clause-same
 returns-in-Part-Part-clause-same c = told_so object_decides _ _ _ (search rules)
+
+pub returns-in-Locks-Locks-clause-same : goal.returns-in-Locks-Locks-clause-same
+returns-in-Locks-Locks-clause-same c = told_so object_decides _ _ _ (search rules)
