@@ -53,6 +53,7 @@ beside-stands s n m entries has (addresses.Map file page) told = cc
 beside-stands s n m entries has (addresses.Block file index) told = cc
 beside-stands s n m entries has addresses.Mounts told = cc
 beside-stands s n m entries has (addresses.Usage export group) told = cc
+beside-stands s n m entries has (addresses.Locks index) told = cc
 
 -- ---- of a draft
 pub directory-lives : (d : DraftValue) (n : ℕ) (i : Inode) (m : EntryMap) → HasInode d n (Some i) →

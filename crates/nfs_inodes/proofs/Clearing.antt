@@ -156,6 +156,7 @@ may-free d n (addresses.Map file page) own may = cc
 may-free d n (addresses.Block file index) own may = cc
 may-free d n addresses.Mounts own may = cc
 may-free d n (addresses.Usage export group) own may = cc
+may-free d n (addresses.Locks index) own may = cc
 
 -- what is written at an address
 freed-at : (d : DraftValue) (s : Store) (b a : Addr) →
@@ -199,6 +200,7 @@ frees-own d new n a own freed = subst (λ x. Frees d x n (a ∷ [])) (sym freed)
     by (addresses.Block file index) is = cc
     by addresses.Mounts is = cc
     by (addresses.Usage export group) is = cc
+    by (addresses.Locks index) is = cc
 
 -- an address of anything else
 pub frees-other : (d : DraftValue) (n : ℕ) (a : Addr) → is_entries_of n a ≡ false → Frees d d n (a ∷ [])
@@ -222,6 +224,7 @@ frees-other d n a other = record {
     no-page (addresses.Block file index) is page = refl
     no-page addresses.Mounts is page = refl
     no-page (addresses.Usage export group) is page = refl
+    no-page (addresses.Locks index) is page = refl
 
     no-part : (b : Addr) → is_entries_of n b ≡ false → (bucket part : ℕ) →
         is_addr b (addresses.Part n bucket part) ≡ false
@@ -233,3 +236,4 @@ frees-other d n a other = record {
     no-part (addresses.Block file index) is bucket part = refl
     no-part addresses.Mounts is bucket part = refl
     no-part (addresses.Usage export group) is bucket part = refl
+    no-part (addresses.Locks index) is bucket part = refl

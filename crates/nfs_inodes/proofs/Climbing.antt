@@ -174,6 +174,7 @@ module _ (depth : ℕ → ℕ) (low high : ℕ) (less : low ≤ high) where
   high-more (addresses.Part directory bucket part) t = cc
   high-more addresses.Mounts t = cc
   high-more (addresses.Usage export group) t = cc
+  high-more (addresses.Locks bucket) t = cc
 
   one-more : (a : Addr) → cond {A = ℕ} (is_high depth low a) 1 0 ≤ cond (is_high depth high a) 1 0
   one-more a = elim (is_high depth low a) as (λ b. is_high depth low a ≡ b →

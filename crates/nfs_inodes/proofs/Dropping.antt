@@ -393,6 +393,7 @@ tells-less m pages counts bucket fewer is n (addresses.Map file page) told = cc
 tells-less m pages counts bucket fewer is n (addresses.Block file index) told = cc
 tells-less m pages counts bucket fewer is n addresses.Mounts told = cc
 tells-less m pages counts bucket fewer is n (addresses.Usage export group) told = cc
+tells-less m pages counts bucket fewer is n (addresses.Locks index) told = cc
 
 -- ---- a name of a part
 module _ (d : DraftValue) (n : ℕ) (before after : List ℕ) (name : List ℕ) (part : ℕ)

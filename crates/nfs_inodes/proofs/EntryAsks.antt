@@ -39,6 +39,7 @@ beside-entries m n (addresses.Map file page) told = cc
 beside-entries m n (addresses.Block file index) told = cc
 beside-entries m n addresses.Mounts told = cc
 beside-entries m n (addresses.Usage export group) told = cc
+beside-entries m n (addresses.Locks index) told = cc
 
 -- and so is where a name goes
 places-entries : (m : EntryMap) (n : ℕ) (name : List ℕ) (cookie : ℕ) (a : Addr) → IsAmong (places_for m n name cookie) a →

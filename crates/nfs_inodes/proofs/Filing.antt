@@ -1,7 +1,7 @@
 -- Files whose blocks and maps were written: their inode is put, or goes, and the store stands for the file with its new
 -- bytes, or without it.
 use Rattle.std.proofs.Common.{◌≡◌, ◌⊎◌, true, ℕ, ◌+◌, ◌-◌, ◌*◌, ◌/◌, ◌<◌, ◌≤◌, min, max, length, drop, List, []}
-use Rattle.std.proofs.Common.{Some, None, IsSome, inl, inr, refl, sym, ◌∙◌, ap, subst, arith}
+use Rattle.std.proofs.Common.{Some, None, IsSome, inl, inr, refl, sym, ◌∙◌, ap, subst, arith, ◌%◌}
 use Rattle.std.proofs.lemmas.Bool.{cases_lt}
 use Rattle.std.proofs.lemmas.List.{length-drop, length-take}
 use Rattle.std.specs.FinMap.{get}
@@ -47,6 +47,10 @@ use Rattle.nfs_inodes.specs.Known.{HasInode}
 use Rattle.nfs_inodes.specs.Counts.{IsShareOf, KeepsInodes}
 use Rattle.nfs_inodes.specs.Makes.{bytes_changed, changed_at, with_bytes}
 use Rattle.nfs_inodes.specs.declared.usage.Share.{Share}
+use Rattle.nlm_ranges.specs.Buckets.{bucket_count, file_in}
+use Rattle.nfs_objects.proofs.Locked.{keeps-same}
+use Rattle.nfs_objects.specs.Stands.{bucket_at}
+use Rattle.nfs_inodes.specs.Locks.{HasNone}
 
 -- where a file stands, no page and no part does, also once its blocks and maps were written
 file-bare : (s t : Store) (k : Kept) (n : ℕ) (i : Inode) (map : FileMapValue) → KeepsEntries s t →
@@ -91,7 +95,7 @@ module _ (d laid : DraftValue) (n : ℕ) (i : Inode) (has : HasInode d n (Some i
         (let e : after ≡ m = cc in e) (content s k fits stands) in
         let put = put-stands t k n j changed but (blocks s k fits stands) has-content
         (file-bare (with_writes s d.writes) t k n i map (lays.entries s) stood was stands.directories changed.entries)
-        (but.objects.given n i at) fitting lives in
+        (but.objects.given n i at) fitting lives (keeps-same t n i j at refl (λ some. refl)) in
         let links : k.links n ≡ i.links = links-there d n (Some i) has s k fits stands in
         let parent : k.parents n ≡ parent_in j.content =
         parent-there d n (Some i) has s k fits stands ∙ ap parent_in was in
@@ -118,8 +122,8 @@ laid-change n d laid lays a may =
 pub gone-turns : (d cut laid : DraftValue) (n : ℕ) → Lays n d cut → Enters n cut laid
     → ((s : Store) (k : Kept) → Fits d.view s → Represents (with_writes s d.writes) k →
     HasBlocks (with_writes s laid.writes) n no_bits × HoldsEntries (with_writes s laid.writes) n None [])
-    → Turns d (with_written laid (addresses.Inode n) None) (λ k. freed k n)
-gone-turns d cut laid n lays enters bare = record {
+    → HasNone d n → Turns d (with_written laid (addresses.Inode n) None) (λ k. freed k n)
+gone-turns d cut laid n lays enters bare unlocked = record {
   ctx = enters.ctx ∙ lays.ctx;
   view = enters.view ∙ lays.view;
   modes = enters.modes ∙ lays.modes;
@@ -128,7 +132,9 @@ gone-turns d cut laid n lays enters bare = record {
       let none = bare s k fits stands in
       subst (λ (x : Store). Represents x (freed k n)) (sym (writes-append laid.writes s (addresses.Inode n) None))
       (free-stands (with_writes s laid.writes) k n
-      (enters.lays s k (lays.lays s k (stands-but n (with_writes s d.writes) k stands))) none.0 none.1);
+      (enters.lays s k (lays.lays s k (stands-but n (with_writes s d.writes) k stands))) none.0 none.1
+      (ap (λ o. file_in (bucket_at o) n) (enters.locks s (n % bucket_count) ∙ lays.locks s (n % bucket_count))
+      ∙ unlocked s k fits stands));
 }
 
 -- ---- once the group of a file is counted anew

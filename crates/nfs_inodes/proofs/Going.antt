@@ -1,7 +1,9 @@
 -- What stands at a number goes: its blocks and maps, its pages and parts, and then its inode.
-use Rattle.std.proofs.Common.{ℕ, ◌/◌, ◌%◌, List, [], None, IsSome, refl, sym, subst}
+use Rattle.std.proofs.Common.{ℕ, ◌/◌, ◌%◌, ◌++◌, List, [], None, IsSome, refl, sym, subst}
 use Rattle.nfs_objects.proofs.Entering.{stand-frame}
+use Rattle.nfs_objects.proofs.Knows.{among-front, covers-among, stops-wider}
 use Rattle.nfs_objects.specs.Attempt.{StopsCall}
+use Rattle.nfs_objects.specs.Calls.{locks_at}
 use Rattle.nfs_objects.specs.Bits.{has, no_bits}
 use Rattle.nfs_objects.specs.Fits.{Fits}
 use Rattle.nfs_objects.specs.Stands.{HasBlocks, HoldsEntries, IsMapped, IsStored, Kept, Represents, StandEntries, map_of}
@@ -13,7 +15,7 @@ use Rattle.nfs_objects.specs.declared.address.Addr.TheVariants as addresses
 use Rattle.nfs_objects.specs.declared.change.Halt.{Halt}
 use Rattle.nfs_inodes.specs.Cuts.{IsCleared}
 use Rattle.nfs_inodes.specs.Entered.{EntriesStand, IsEmptied}
-use Rattle.nfs_inodes.specs.Stops.{StillStands, StopsAt}
+use Rattle.nfs_inodes.specs.Stops.{StillStands, StopsAt, counted_at}
 
 -- what is asked for once blocks and maps of a file were written might have been asked for before
 pub laid-stops : (n : ℕ) (d laid : DraftValue) → Lays n d laid → (asked : ViewValue → List Addr) (halt : Halt) →
@@ -21,6 +23,14 @@ pub laid-stops : (n : ℕ) (d laid : DraftValue) → Lays n d laid → (asked : 
 laid-stops n d laid lays asked halt stops =
     subst (λ v. StopsCall d.modes (asked v) 0 v halt) lays.view
     (subst (λ m. StopsCall m (asked laid.view) 0 laid.view halt) lays.modes stops)
+
+-- what may be asked for where an object is counted anew may be where its locks are taken besides
+pub locked-stops : (d : DraftValue) (n : ℕ) (halt : Halt) → StopsAt d (counted_at d n) halt →
+    StopsAt d (counted_at d n ++ locks_at n) halt
+locked-stops d n halt stops =
+    stops-wider d.modes (counted_at d n) (counted_at d n ++ locks_at n) 0 d.view halt
+    (covers-among (counted_at d n) (counted_at d n ++ locks_at n) d.view
+    (λ a among. among-front (counted_at d n) (locks_at n) a among)) stops
 
 -- no block and no map stands where pages and parts were written, and none did before
 blocks-frame : (s t : Store) (n : ℕ) → KeepsBlocks s t → HasBlocks s n no_bits → HasBlocks t n no_bits

@@ -1,5 +1,6 @@
 pub mod Adding
 pub mod Beside
+pub mod Bucketing
 pub mod Clearing
 pub mod Climbing
 pub mod Composing
@@ -12,16 +13,19 @@ pub mod Ending
 pub mod Entered
 pub mod EntryAsks
 pub mod Filing
+pub mod Forgetting
 pub mod Fronts
 pub mod Gaining
 pub mod Gathering
 pub mod Going
+pub mod Gone
 pub mod Halting
 pub mod Keeping
 pub mod Leading
 pub mod Leaves
 pub mod LeftOver
 pub mod Lived
+pub mod Locking
 pub mod Losing
 pub mod Moving
 pub mod Naming
@@ -29,6 +33,7 @@ pub mod Onward
 pub mod PageAsks
 pub mod Paging
 pub mod Parts
+pub mod Placing
 pub mod Putting
 pub mod Reading
 pub mod Relinked

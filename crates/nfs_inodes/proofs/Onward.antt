@@ -134,6 +134,7 @@ is-part (Some (objects.Part names)) part is =
     let same : names ≡ part = (let e : Some names ≡ Some part = is in cc) in ap (λ x. Some (objects.Part x)) same
 is-part (Some (objects.Mounts table)) part is = cc
 is-part (Some (objects.Usage usage)) part is = cc
+is-part (Some (objects.Locks locks)) part is = cc
 
 -- ---- halts
 -- what is named, known or there stops nothing else

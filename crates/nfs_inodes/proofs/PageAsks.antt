@@ -47,6 +47,7 @@ module _ (d : DraftValue) (n : ℕ) (pages : List PageRun) where
   apart page (addresses.Part q bucket part) may = refl
   apart page addresses.Mounts may = refl
   apart page (addresses.Usage export group) may = refl
+  apart page (addresses.Locks index) may = refl
 
   -- one page more, and the next one behind it
   module _ (page : ℕ) (next : Option ℕ) (here : lists pages page ≡ true) (follows : IsNextPage pages (suc page) next)
@@ -92,6 +93,7 @@ module _ (d : DraftValue) (n : ℕ) (pages : List PageRun) where
       bounded (addresses.Part q bucket part) may unknown = cc
       bounded addresses.Mounts may unknown = cc
       bounded (addresses.Usage export group) may unknown = cc
+      bounded (addresses.Locks index) may unknown = cc
 
 -- a page that a directory's map lists is told by it
 pub page-lives : (d : DraftValue) (n : ℕ) (m : EntryMap) → DirectoryLives d n m → (p : ℕ) → lists m.pages p ≡ true →

@@ -183,6 +183,7 @@ is-block (Some (objects.Page page)) bytes e = cc
 is-block (Some (objects.Part part)) bytes e = cc
 is-block (Some (objects.Mounts table)) bytes e = cc
 is-block (Some (objects.Usage u)) bytes e = cc
+is-block (Some (objects.Locks locks)) bytes e = cc
 
 -- a block that is known to be there
 pub block-there : (d : DraftValue) (n i : ℕ) (r : Option (Bor (List ℕ))) →

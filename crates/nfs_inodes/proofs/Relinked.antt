@@ -49,6 +49,7 @@ use Rattle.nfs_inodes.specs.Known.{HasInode}
 use Rattle.nfs_inodes.specs.Makes.{changed_with, name_added, name_taken, with_name, without_name}
 use Rattle.nfs_inodes.specs.Renames.{name_given, name_left, rehomed, staying, with_name_given}
 use Rattle.nfs_inodes.specs.Stops.{StopsAt}
+use Rattle.nfs_objects.proofs.Locked.{keeps-same}
 
 -- an inode with the generation of the one that is there may be put in its place
 pub keeps-generation : (d : DraftValue) (n : ℕ) (i j : Inode) → HasInode d n (Some i) →
@@ -263,7 +264,8 @@ module _ (d : DraftValue) (n : ℕ) where
           (content-same (with_writes s d.writes) k n i j stands there kept)
           (listing-same (with_writes s d.writes) k n i j stands at there listed)
           (subst (λ g. g ≤ (with_writes s d.writes).last n) (sym generation) (stands.objects.given n i at)) fit
-          (ap (lives_in k.state.exports) exported ∙ shows-export d n i has s k fits stands) in
+          (ap (lives_in k.state.exports) exported ∙ shows-export d n i has s k fits stands)
+          (keeps-same (with_writes s d.writes) n i j at exported (λ some. subst (λ o. IsSome o) (sym kept) some)) in
           let same : rehomed now n directory k ≡ with_living k n (living_of_inode beside j) j.links (parent_in j.content) =
           ap (homes k) lives
           ∙ ap (λ l. with_living k n (touched (living_of_inode beside i) now) l

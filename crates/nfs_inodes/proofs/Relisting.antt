@@ -1,6 +1,6 @@
 -- Directories whose pages and parts were written: their inode is put, and the store stands for the directory with the
 -- entries that it has then.
-use Rattle.std.proofs.Common.{◌≡◌, ℕ, ◌≤◌, ◌/◌, ◌%◌, List, Option, Some, None, refl, sym, ◌∙◌, ap, subst}
+use Rattle.std.proofs.Common.{◌≡◌, ℕ, ◌≤◌, ◌/◌, ◌%◌, List, Option, Some, None, IsSome, refl, sym, ◌∙◌, ap, subst}
 use Rattle.nfs_machine.specs.State.{Entry, Living}
 use Rattle.nfs_objects.proofs.Filed.{HasContent, HasListing, stands-but}
 use Rattle.nfs_objects.proofs.Seen.{known-stands, writes-append}
@@ -26,6 +26,7 @@ use Rattle.nfs_inodes.proofs.Keeping.{changed-is}
 use Rattle.nfs_inodes.proofs.Standing.{entries-there, links-there, lives-there, parent-there, shows-export}
 use Rattle.nfs_inodes.specs.Makes.{changed_with}
 use Rattle.nfs_inodes.specs.Known.{HasInode}
+use Rattle.nfs_objects.proofs.Locked.{keeps-same}
 
 -- what has a map of entries has no map of blocks
 pub no-map : (c : Content) (m : EntryMap) → entry_map_in c ≡ Some m → map_in c ≡ None
@@ -93,7 +94,9 @@ module _ (d laid : DraftValue) (n : ℕ) (i j : Inode) (before after : EntryMap)
         (listed-blank (with_writes s d.writes) t n i j before after (relists.enters.blocks s) stood was is
         (stands.files.blocks n)) content listing
         (subst (λ g. g ≤ t.last n) (sym generation) (but.objects.given n i at)) fitting
-        (ap (lives_in k.state.exports) exported ∙ shows-export d n i found s k fits stands) in
+        (ap (lives_in k.state.exports) exported ∙ shows-export d n i found s k fits stands)
+        (keeps-same t n i j at exported
+        (λ some. (let no = subst (λ o. IsSome o) (no-map i.content before was) some in absurd cc))) in
         subst (λ (x : Store). Represents x (op k))
         (sym (writes-append laid.writes s (addresses.Inode n) (Some (objects.Inode j))))
         (subst (Represents (with_write t (addresses.Inode n) (Some (objects.Inode j)))) (sym (same s k fits stands)) put);

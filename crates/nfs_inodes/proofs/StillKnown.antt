@@ -58,6 +58,7 @@ keeps-written d b o entries = record {
     apart (addresses.Block m index) is n = cc
     apart addresses.Mounts is n = cc
     apart (addresses.Usage export group) is n = cc
+    apart (addresses.Locks index) is n = cc
 
 -- ---- so
 -- what stands at a number is known still

@@ -9,6 +9,7 @@ pub mod Kinds
 pub mod Known
 pub mod Links
 pub mod Listing
+pub mod Locks
 pub mod Makes
 pub mod Removes
 pub mod Renames

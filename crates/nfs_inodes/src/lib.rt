@@ -14,6 +14,7 @@ pub mod found;
 pub mod gather;
 pub mod kinds;
 pub mod linking;
+pub mod locks;
 pub mod makers;
 pub mod making;
 pub mod names;
@@ -26,6 +27,7 @@ mod usage;
 
 pub use asked::{directory_wanted, file_wanted, link_wanted, special_wanted};
 pub use checks::{changeable, directory, is_writable, no_directory, permitted, regular};
+pub use content::asking::Asking;
 pub use content::entries::{entry, is_empty, leads_to, new_cookie};
 pub use content::file::{read, resize, text, write};
 pub use content::listing::{EntriesLeft, EntryName, Left, Listed, entries_left};
@@ -38,6 +40,7 @@ pub use found::{
 pub use gather::read_objects;
 pub use kinds::{Directory, File};
 pub use linking::add_link;
+pub use locks::{lives, locks_of, next_number, set_locks, spend_number};
 pub use makers::{lose_link, make_object};
 pub use making::{
     LINK_LIMIT, MAX_TEXT, MODE_LIMIT, NewContent, Wanted, given_attributes, kind_checked,

@@ -5,7 +5,7 @@ ghost use Rattle.nfs_machine.specs.Making.{new_object};
 ghost use Rattle.nfs_machine.specs.Shown.{touched};
 ghost use Rattle.nfs_machine.specs.Times.{time_of};
 ghost use Rattle.nfs_objects.specs.Asks.{IsFirst};
-ghost use Rattle.nfs_objects.specs.Calls.{addresses_of, usages_of};
+ghost use Rattle.nfs_objects.specs.Calls.{addresses_of, locks_at, usages_of};
 ghost use Rattle.nfs_objects.specs.Drafts.{MayChange};
 ghost use Rattle.nfs_objects.specs.Edits.{edited};
 ghost use Rattle.nfs_objects.specs.Knows.{Knows, ShowsExport, Turns};
@@ -23,10 +23,11 @@ use crate::content::file::clear;
 use crate::content::naming::{add_entry, ask_entry};
 use crate::found::inode;
 use crate::kinds::Directory;
+use crate::locks::forget_locks;
 use crate::making::{Wanted, links_with, new_inode};
 use crate::times::{now, touch};
 use crate::usage::{Share, ask_counted, recount, uncount};
-use nfs_objects::{Addr, Draft, Halt, Reserved, Usage};
+use nfs_objects::{Addr, Draft, Halt, Mode, Reserved, Usage};
 
 /// Takes one of an object's links away, which are so many: it goes with its last, and else its ctime changes.
 ///
@@ -35,10 +36,11 @@ use nfs_objects::{Addr, Draft, Halt, Reserved, Usage};
 /// `Need` of what has to be held for it, and `Memory`. The draft is of no use then.
 pub fn lose_link(draft: &mut Draft<'_>, number: u64, links: u32) -> Result<(), Halt>
     requires alone { MayChange draft.old (Addr.Inode number) }
+    requires locks { draft.old.modes.locks ≡ Mode.Exclusive }
     requires stands { StillStands draft.old }
     ensures { MatchResult result
         (λ _. Turns draft.old draft.new (link_lost (time_of draft.old.ctx.moment) number links))
-        (StopsAt draft.old (counted_at draft.old number)) }
+        (StopsAt draft.old (counted_at draft.old number ++ locks_at number)) }
 {
     if links <= 1 {
         free(draft, number)
@@ -47,14 +49,16 @@ pub fn lose_link(draft: &mut Draft<'_>, number: u64, links: u32) -> Result<(), H
     }
 }
 
-/// What stands at a number goes, with all that stands beside it.
+/// What stands at a number goes, with all that stands beside it, and with what it has of locks.
 fn free(draft: &mut Draft<'_>, number: u64) -> Result<(), Halt>
     requires alone { MayChange draft.old (Addr.Inode number) }
+    requires locks { draft.old.modes.locks ≡ Mode.Exclusive }
     requires stands { StillStands draft.old }
     ensures { MatchResult result (λ _. Turns draft.old draft.new (removed number))
-        (StopsAt draft.old (counted_at draft.old number)) }
+        (StopsAt draft.old (counted_at draft.old number ++ locks_at number)) }
 {
     uncount(draft, number)?;
+    forget_locks(draft, number)?;
     clear(draft, number)?;
     clear_entries(draft, number)?;
     Ok(draft.free(number)?)

@@ -2,7 +2,7 @@
 
 ghost use Rattle.std.specs.Prelude.{◌≡◌, ◌++◌, [], IfErr, MatchResult};
 ghost use Rattle.nfs_machine.specs.Times.{time_of};
-ghost use Rattle.nfs_objects.specs.Calls.{IsAmong, addresses_of};
+ghost use Rattle.nfs_objects.specs.Calls.{IsAmong, addresses_of, locks_at};
 ghost use Rattle.nfs_objects.specs.Knows.{Turns};
 ghost use Rattle.nfs_objects.specs.Modes.{changing};
 ghost use Rattle.nfs_inodes.specs.Asking.{AsksFor};
@@ -14,6 +14,7 @@ use crate::content::asking::Asking;
 use crate::content::naming::{ask_loss, take_entry};
 use crate::found::{Known, inode};
 use crate::kinds::Directory;
+use crate::locks::ask_locks;
 use crate::makers::lose_link;
 use crate::usage::ask_uncounted;
 use nfs_objects::{Addr, Draft, Halt};
@@ -38,7 +39,7 @@ pub fn take_name(
         (λ _. Turns draft.old draft.new
         (name_lost (time_of draft.old.ctx.moment) directory.now.known.number name.now object.now))
         (StopsAt draft.old (addresses_of draft.old.view directory.now.known.number
-        ++ addresses_of draft.old.view object.now.number)) }
+        ++ addresses_of draft.old.view object.now.number ++ locks_at object.now.number)) }
 {
     ask_lost(draft, directory, name, object)?;
     take_entry(draft, directory, name)?;
@@ -48,7 +49,8 @@ pub fn take_name(
     }
 }
 
-/// Asks at once for what has to be held to take the name away, and where the object goes with it, to count it no more.
+/// Asks at once for what has to be held to take the name away, and where the object goes with it, to count it no more
+/// and to take its locks.
 fn ask_lost(
     draft: &Draft<'_>,
     directory: &Directory,
@@ -58,7 +60,7 @@ fn ask_lost(
     requires none { draft.now.writes ≡ [] }
     requires shown { IsShown draft.now directory.now.known }
     ensures { IfErr result (StopsAt draft.now (addresses_of draft.now.view directory.now.known.number
-        ++ counted_at draft.now object.now.number)) }
+        ++ counted_at draft.now object.now.number ++ locks_at object.now.number)) }
 {
     let mut asking = Asking::new(draft.alloc());
     ask_loss(draft, directory, name, &mut asking)?;
@@ -66,11 +68,11 @@ fn ask_lost(
     asking.ask()
 }
 
-/// Asks for what has to be held to count the object no more, where it goes with a name.
+/// Asks for what has to be held to count the object no more and to take its locks, where it goes with a name.
 fn ask_gone(draft: &Draft<'_>, object: &Known, asking: &mut Asking) -> Result<(), Halt>
     ensures { MatchResult result
-        (λ _. AsksFor draft.now (IsAmong (group_at object.now.number (inode_at draft.now object.now.number))) (λ a. ⊥)
-        asking.old.asked.items asking.new.asked.items)
+        (λ _. AsksFor draft.now (IsAmong (group_at object.now.number (inode_at draft.now object.now.number)
+        ++ locks_at object.now.number)) (λ a. ⊥) asking.old.asked.items asking.new.asked.items)
         (StopsAt draft.now (addresses_of draft.now.view object.now.number)) }
 {
     let is_last = match object.attributes.kind {
@@ -78,9 +80,23 @@ fn ask_gone(draft: &Draft<'_>, object: &Known, asking: &mut Asking) -> Result<()
         _ => object.attributes.links <= 1,
     };
     if is_last {
-        ask_uncounted(draft, object.number, asking)
+        ask_freed(draft, object, asking)
     } else {
         Ok(())
+    }
+}
+
+/// The same where it goes; only a file has locks.
+fn ask_freed(draft: &Draft<'_>, object: &Known, asking: &mut Asking) -> Result<(), Halt>
+    ensures { MatchResult result
+        (λ _. AsksFor draft.now (IsAmong (group_at object.now.number (inode_at draft.now object.now.number)
+        ++ locks_at object.now.number)) (λ a. ⊥) asking.old.asked.items asking.new.asked.items)
+        (StopsAt draft.now (addresses_of draft.now.view object.now.number)) }
+{
+    ask_uncounted(draft, object.number, asking)?;
+    match object.attributes.kind {
+        FileType::Regular => Ok(ask_locks(draft, object.number, asking)?),
+        _ => Ok(()),
     }
 }
 
@@ -92,7 +108,7 @@ fn lose_directory(draft: &mut Draft<'_>, directory: &Directory, number: u64) -> 
         (λ _. Turns draft.old draft.new
         (directory_lost (time_of draft.old.ctx.moment) directory.now.known.number number))
         (StopsAt draft.old (addresses_of draft.old.view directory.now.known.number
-        ++ counted_at draft.old number)) }
+        ++ counted_at draft.old number ++ locks_at number)) }
 {
     lose_link(draft, number, 1)?;
     lose_subdirectory(draft, directory)

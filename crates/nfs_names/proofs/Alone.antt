@@ -14,7 +14,7 @@ use Rattle.nfs_objects.specs.Drafts.{MayChange}
 use Rattle.nfs_objects.specs.Knows.{Turns}
 use Rattle.nfs_objects.specs.Modes.{is_apart, led_at, modes_of}
 use Rattle.nfs_objects.specs.Stands.{Kept}
-use Rattle.nfs_objects.specs.Values.{DraftValue, ViewValue}
+use Rattle.nfs_objects.specs.Values.{DraftValue, ModesValue, ViewValue}
 use Rattle.nfs_objects.specs.declared.address.Addr.TheVariants as addresses
 use Rattle.nfs_objects.specs.declared.change.Halt.{Halt}
 use Rattle.nfs_inodes.specs.Known.{HasNumber}
@@ -32,7 +32,7 @@ led-number view directory name n (Ok None) led same = tt
 led-number view directory name n (Err halt) led same = tt
 
 -- ---- a place's directory, and what the name leads to there, are not apart from it
-some-handle : (o : Option Handle) (n : ℕ) → option_map (λ (h : Handle). h.fileid) o ≡ Some n →
+pub some-handle : (o : Option Handle) (n : ℕ) → option_map (λ (h : Handle). h.fileid) o ≡ Some n →
     (h : Handle) × (o ≡ Some h) × (h.fileid ≡ n)
 some-handle None n e = cc
 some-handle (Some h) n e = (h, refl, (let same : h.fileid ≡ n = cc in same))
@@ -72,6 +72,7 @@ module _ (d : DraftValue) (a : RenameArguments) (modes : d.modes ≡ modes_of (c
         (change-to d a modes y.number (directory-within d.view a.to y.number target));
     moved = change-from d a modes moved.number (named-within d.view a.from x.number source moved.number led);
     replaced = by replaced under;
+    locks = ap (λ (m : ModesValue). m.locks) modes;
   }
     where
       by : (o : Option Known) → IfSome o (λ o. led_at d.view y.number a.to.name ≡ Some o.number) →

@@ -9,3 +9,4 @@ pub mod Making
 pub mod Paged
 pub mod Removed
 pub mod Renaming
+pub mod Unlocked

@@ -740,12 +740,6 @@ pub later-named : (old new : DraftValue) (op : Kept → Kept) (named : List Addr
     StopsAt new [] halt → StopsAt old named halt
 later-named old new op named halt turns stops = any-stops old named halt (stops-later old new op halt turns stops)
 
-pub always-counting : {A : Type 0} (d : DraftValue) (n : ℕ) (P : A → Type 0) (r : Result A Halt) →
-    IsThere d.view (addresses.Inode n) → UsageLives d n → MatchResult r P (StopsAt d (counted_at d n)) →
-    MatchResult r P (StopsAt d [])
-always-counting d n P (Ok x) lives counts is = is
-always-counting d n P (Err halt) lives counts stops = counted-stops d n halt lives counts stops
-
 -- what had the new name lived before in the same export, so what its group uses stands there
 pub moved-lived : (now : Time) (a : RenameArguments) (r : Renaming) (cookie : ℕ) →
     LivesAsBefore (λ k. rehomed now r.moved.number r.to.known.number (entry_moved now a r cookie k))

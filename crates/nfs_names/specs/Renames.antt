@@ -1,6 +1,6 @@
 -- What RENAME comes to (RFC 1813, 3.3.14).
 use Rattle.std.specs.Prelude.{◌≡◌, ◌==◌, ◌&&◌, ◌+◌, ◌-◌, ◌^◌, ℕ, Bool, false, not}
-use Rattle.std.specs.Prelude.{List, Option}
+use Rattle.std.specs.Prelude.{List, [], Option}
 use Rattle.std.specs.Prelude.{Some, None, IfSome, min, option_map, Result, Ok, Err, if◌then◌else◌}
 use Rattle.nfs_wire.specs.declared.attributes.Time.{Time}
 use Rattle.nfs_wire.specs.declared.calls.RenameArguments.{RenameArguments}
@@ -15,10 +15,13 @@ use Rattle.nfs_machine.specs.RemoveSteps.{object_under}
 use Rattle.nfs_machine.specs.RenameSteps.{TellsWithin, rename_end}
 use Rattle.nfs_machine.specs.State.{Content, Living, State}
 use Rattle.nfs_machine.specs.declared.context.Ctx.{Ctx}
+use Rattle.nfs_objects.specs.Calls.{locks_at}
 use Rattle.nfs_objects.specs.Drafts.{MayChange}
 use Rattle.nfs_objects.specs.Stands.{Kept}
 use Rattle.nfs_objects.specs.Values.{DraftValue}
+use Rattle.nfs_objects.specs.declared.address.Addr.{Addr}
 use Rattle.nfs_objects.specs.declared.address.Addr.TheVariants as addresses
+use Rattle.nfs_objects.specs.declared.modes.Mode.TheVariants.{Exclusive}
 use Rattle.nfs_inodes.specs.Kinds.{IsShown}
 use Rattle.nfs_inodes.specs.Known.{IsKnown, Names, content_at, listed, shell, target}
 use Rattle.nfs_inodes.specs.Makes.{link_lost}
@@ -87,6 +90,11 @@ pub record MayRename (d : DraftValue) (r : Renaming) : Type 0 where
   pub to : MayChange d (addresses.Inode r.to.known.number)
   pub moved : MayChange d (addresses.Inode r.moved.number)
   pub replaced : IfSome r.replaced (λ o. MayChange d (addresses.Inode o.number))
+  pub locks : d.modes.locks ≡ Exclusive
+
+-- where the locks are of what the new name is taken from
+abbrev pub locks_replaced : Renaming → List Addr
+locks_replaced r = elim r.replaced [ None ↦ [] | Some o ↦ locks_at o.number ]
 
 -- the draft shows both directories
 abbrev pub BothShown : DraftValue → (from to : Known) → Type 0

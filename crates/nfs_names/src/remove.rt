@@ -1,14 +1,14 @@
 //! REMOVE and RMDIR: a name is taken away (RFC 1813, 3.3.12 and 3.3.13).
 
-ghost use Rattle.std.specs.Prelude.{◌≡◌, ◌∷◌, [], MatchResult};
+ghost use Rattle.std.specs.Prelude.{◌≡◌, ◌∷◌, [], IfOk, MatchResult, Some};
 ghost use Rattle.nfs_machine.specs.RemoveSteps.{empty_directory};
 ghost use Rattle.nfs_objects.specs.Attempt.{EndsCall, EndsFirst};
 ghost use Rattle.nfs_objects.specs.Begins.{Begins};
-ghost use Rattle.nfs_objects.specs.Calls.{addresses_of};
+ghost use Rattle.nfs_objects.specs.Calls.{addresses_of, locks_under};
 ghost use Rattle.nfs_objects.specs.Knows.{Does, Knows};
-ghost use Rattle.nfs_objects.specs.Modes.{changing};
+ghost use Rattle.nfs_objects.specs.Modes.{changing, led_at};
 ghost use Rattle.nfs_inodes.specs.Kinds.{IsShown};
-ghost use Rattle.nfs_inodes.specs.Known.{IsKnown, Names, content_at};
+ghost use Rattle.nfs_inodes.specs.Known.{HasNumber, IsKnown, Names, content_at};
 ghost use Rattle.nfs_inodes.specs.Stops.{StopsAt};
 ghost use Rattle.nfs_names.specs.Removes.{IsTakable, IsTakenEnd, above, call_of, judged, reply_of};
 
@@ -56,10 +56,11 @@ fn take(
     requires none { draft.old.writes ≡ [] }
     requires alone { draft.old.modes ≡ changing }
     requires names { Knows draft.old (λ k. Names draft.old.ctx place.now.directory k known.now) }
+    requires number { HasNumber place.now.directory known.now.number }
     requires shown { IsShown draft.old known.now }
     ensures { MatchResult result
         (Does draft.old draft.new (IsTakenEnd taking draft.old.ctx place.now))
-        (StopsAt draft.old (Addr.Exports ∷ [])) }
+        (StopsAt draft.old (Addr.Exports ∷ locks_under draft.old.view place.now)) }
 {
     let name = place.name.as_slice();
     let own = NfsStatus::Invalid;
@@ -101,9 +102,11 @@ fn takable(
 ) -> Result<Result<Known, NfsStatus>, Halt>
     requires none { draft.now.writes ≡ [] }
     requires known { Knows draft.now (λ k. IsKnown k.state directory.now.known) }
-    ensures { MatchResult result
+    ensures found { MatchResult result
         (λ found. Knows draft.now (λ k. IsTakable taking k.state directory.now.known.number name.now found))
         (StopsAt draft.now []) }
+    ensures led { IfOk result (λ found. IfOk found (λ x.
+        led_at draft.now.view directory.now.known.number name.now ≡ Some x.number)) }
 {
     let Some(number) = entry(draft, directory, name)? else {
         return Ok(Err(NfsStatus::NoEntry));

@@ -23,7 +23,7 @@ ghost use Rattle.nfs_inodes.specs.Removes.{is_directory_type};
 ghost use Rattle.nfs_inodes.specs.Stops.{StopsAt, UsageLives};
 ghost use Rattle.nfs_names.specs.Renames.{BothShown, ComesToBoth, IsRenameEnd, IsRenaming, IsUnder, MayRename};
 ghost use Rattle.nfs_names.specs.Renames.{brings_directory};
-ghost use Rattle.nfs_names.specs.Renames.{entry_moved, is_one_directory, links_given, links_left};
+ghost use Rattle.nfs_names.specs.Renames.{entry_moved, is_one_directory, links_given, links_left, locks_replaced};
 ghost use Rattle.nfs_names.specs.Renames.{names_counted, rename_checked, renamed, replaced_lost, replaces_directory};
 
 use nfs_inodes::{
@@ -32,7 +32,7 @@ use nfs_inodes::{
     plain_name_checked, rehome, wcc,
 };
 use nfs_machine::{Ctx, Reply};
-use nfs_objects::{Change, Draft, Halt, LivingExport};
+use nfs_objects::{Change, Draft, Halt, LivingExport, Mode};
 use nfs_wire::{FileType, NfsCall, NfsReply, NfsStatus, RenameArguments, RenamedReply, Wcc};
 
 /// The directories of the two names.
@@ -203,7 +203,7 @@ fn rename_found(
     requires target { HasNumber arguments.now.to.directory renaming.now.to.known.number }
     ensures { MatchResult result
         (Does draft.old draft.new (IsRenameEnd draft.old.ctx arguments.now))
-        (StopsAt draft.old (added_at draft.old.view arguments.now.to)) }
+        (StopsAt draft.old (added_at draft.old.view arguments.now.to ++ locks_replaced renaming.now)) }
 {
     if is_one_object(renaming) {
         return Ok(Ok(()));
@@ -310,7 +310,7 @@ fn move_name(
     ensures { MatchResult result
         (λ _. Turns draft.old draft.new
         (renamed (time_of draft.old.ctx.moment) arguments.now renaming.now cookie))
-        (StopsAt draft.old (added_at draft.old.view arguments.now.to)) }
+        (StopsAt draft.old (added_at draft.old.view arguments.now.to ++ locks_replaced renaming.now)) }
 {
     move_entry(draft, renaming, arguments, cookie)?;
     rehome(draft, renaming.moved.number, renaming.to.known.number)?;
@@ -358,11 +358,12 @@ fn move_entry(
 /// Takes the new name from what had it.
 fn lose_replaced(draft: &mut Draft<'_>, renaming: &Renaming) -> Result<(), Halt>
     requires alone { IfSome renaming.now.replaced (λ o. MayChange draft.old (addresses.Inode o.number)) }
+    requires locks { draft.old.modes.locks ≡ Mode.Exclusive }
     requires lives { IfSome renaming.now.replaced (λ o. IsThere draft.old.view (addresses.Inode o.number)) }
     requires counts { IfSome renaming.now.replaced (λ o. UsageLives draft.old o.number) }
     ensures { MatchResult result
         (λ _. Turns draft.old draft.new (replaced_lost (time_of draft.old.ctx.moment) renaming.now))
-        (StopsAt draft.old []) }
+        (StopsAt draft.old (locks_replaced renaming.now)) }
 {
     match &renaming.replaced {
         Some(replaced) => lose_link(draft, replaced.number, names_counted(replaced)),

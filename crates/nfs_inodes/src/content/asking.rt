@@ -14,13 +14,13 @@ use std::alloc::{AllocError, Global};
 
 /// What is asked for so far, each address once.
 #[derive(Drop)]
-pub(crate) struct Asking {
+pub struct Asking {
     asked: Vec<(Addr, Mode)>,
 }
 
 impl Asking {
     /// Nothing.
-    pub(crate) fn new(alloc: Global) -> Asking
+    pub fn new(alloc: Global) -> Asking
         ensures { result.asked.items ≡ [] }
     {
         Asking {
@@ -33,7 +33,7 @@ impl Asking {
     /// # Errors
     ///
     /// `AllocError` where the memory was refused. It changes nothing.
-    pub(crate) fn add(&mut self, draft: &Draft<'_>, address: Addr) -> Result<(), AllocError>
+    pub fn add(&mut self, draft: &Draft<'_>, address: Addr) -> Result<(), AllocError>
         ensures ok { OnOk result (self.new.asked.items ≡ with_wish draft.now address self.old.asked.items) }
         ensures err { OnErr result (self.new.asked.items ≡ self.old.asked.items) }
     {
@@ -48,7 +48,7 @@ impl Asking {
     /// # Errors
     ///
     /// `Need` of all that was asked for.
-    pub(crate) fn ask(self) -> Result<(), Halt>
+    pub fn ask(self) -> Result<(), Halt>
         ensures nothing { OnOk result (self.asked.items ≡ []) }
         ensures stops { (d : DraftValue) (named : List Address) → IsAsking d named self.asked.items →
             IfErr result (StopsAt d named) }

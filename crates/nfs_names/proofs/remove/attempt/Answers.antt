@@ -1,11 +1,14 @@
-use Rattle.std.proofs.Common.{Ok, Err}
+use Rattle.std.proofs.Common.{Ok, Err, ◌∷◌}
 use Rattle.std.proofs.lemmas.Result.{err_from_is_err_and}
-use Rattle.nfs_objects.specs.Calls.{addresses_of}
-use Rattle.nfs_inodes.proofs.Ending.{lives-as, means-as, naming, reading, reading-exports}
+use Rattle.nfs_objects.proofs.Knows.{covers-among}
+use Rattle.nfs_objects.specs.Calls.{addresses_of, locks_under, named_by}
+use Rattle.nfs_objects.specs.declared.address.Addr.TheVariants as addresses
+use Rattle.nfs_inodes.proofs.Ending.{asking, lives-as, means-as, naming, number-as, reading}
 use Rattle.nfs_inodes.proofs.Halting.{stops-before}
 use Rattle.nfs_inodes.proofs.Showing.{shown-so}
 use Rattle.nfs_names.proofs.Removed.{alone, first-halted, first-read, names-directory, refused-promised}
 use Rattle.nfs_names.proofs.Removed.{taken-promised}
+use Rattle.nfs_names.proofs.Unlocked.{taking-names}
 use Rattle.nfs_names.specs.Removes.{call_of}
 use Rattle.nfs_names.proofs.remove.attempt.Goals as goal
 
@@ -32,13 +35,21 @@ take-requires-clause-names c =
     means-as c.args.draft c.args.place.now.directory _ _ (Ok c.in-Ok.directory) c.as_slice.ensures
     c.in-Ok.is c.in_ok-directory.ensures.means
 
+pub take-requires-clause-number : goal.take-requires-clause-number
+take-requires-clause-number c =
+    number-as c.args.place.now.directory _ _ c.in-Ok.directory c.as_slice.ensures c.in-Ok.is
+    c.in_ok-directory.ensures.number
+
 pub returns-in_err-result-in-Ok-clause-ends : goal.returns-in_err-result-in-Ok-clause-ends
 returns-in_err-result-in-Ok-clause-ends c =
     let p = err_from_is_err_and c.from_residual-in_err-result-in-Ok.result
     c.from_residual-in_err-result-in-Ok.ensures.1 in
     rw (p.1, p.2)
-    (reading-exports c.args.draft (call_of c.args.taking c.args.place.now) _ c.requires
-    c.in_err-result-in-Ok.ensures)
+    (asking c.args.draft (call_of c.args.taking c.args.place.now) _ c.requires
+    (addresses.Exports ∷ locks_under c.args.draft.view c.args.place.now)
+    (covers-among (addresses.Exports ∷ locks_under c.args.draft.view c.args.place.now)
+    (named_by (call_of c.args.taking c.args.place.now) c.args.draft.view) c.args.draft.view
+    (taking-names c.args.taking c.args.place.now c.args.draft.view)) c.in_err-result-in-Ok.ensures)
 
 pub returns-in_err-shown-in-Ok-clause-ends : goal.returns-in_err-shown-in-Ok-clause-ends
 returns-in_err-shown-in-Ok-clause-ends c =

@@ -1,12 +1,12 @@
-use Rattle.std.proofs.Common.{Err, Some, refl, subst, sym}
+use Rattle.std.proofs.Common.{Err, None, Some, [], ◌++◌, refl, subst, sym}
 use Rattle.std.proofs.lemmas.Result.{err_from_is_err_and}
 use Rattle.nfs_wire.specs.declared.calls.NfsCall.TheVariants as nfs
 use Rattle.nfs_wire.specs.declared.status.NfsStatus.TheVariants as status
 use Rattle.nfs_machine.specs.declared.calls.Call.TheVariants as calls
-use Rattle.nfs_objects.proofs.Knows.{names-added}
-use Rattle.nfs_objects.specs.Calls.{added_at, named_by}
+use Rattle.nfs_objects.specs.Calls.{added_at, locks_at, named_by}
 use Rattle.nfs_names.proofs.Alone.{led-as, renaming-changes}
 use Rattle.nfs_names.proofs.Renaming.{check-refused, is-renaming, no-source, settled-does, stops-named}
+use Rattle.nfs_names.proofs.Unlocked.{rename-names}
 use Rattle.nfs_names.specs.Renames.{IsRenameEnd}
 use Rattle.nfs_inodes.proofs.Halting.{exports-stop-at, any-stops}
 use Rattle.nfs_inodes.specs.Kinds.{IsShown}
@@ -69,9 +69,14 @@ rename_found-requires-clause-finds c =
 pub returns : goal.returns
 returns c =
     stops-named c.args.draft.now c.rename_found.new.draft (IsRenameEnd c.args.draft.now.ctx c.args.arguments.now)
-    (added_at c.args.draft.now.view c.args.arguments.now.to)
+    (added_at c.args.draft.now.view c.args.arguments.now.to
+    ++ elim c.in_ok-replaced.replaced [ None ↦ [] | Some x ↦ locks_at x.number ])
     (named_by (calls.Nfs (nfs.Rename c.args.arguments.now)) c.args.draft.now.view) c.rename_found.result
-    (names-added (nfs.Rename c.args.arguments.now) c.args.draft.now.view) c.rename_found.ensures
+    (rename-names c.args.draft.now.view c.args.arguments.now c.args.to.now.number c.requires.target
+    c.in_ok-replaced.replaced
+    (led-as c.args.draft.now.view c.in-Ok.places.to.known c.args.to.now _ c.args.arguments.now.to.name _
+    c.in_ok-replaced.replaced c.in-Ok.ensures.to c.as_slice-2.ensures refl c.in_ok-replaced.ensures.led))
+    c.rename_found.ensures
 
 pub rename_found-requires-clause-alone : goal.rename_found-requires-clause-alone
 rename_found-requires-clause-alone c =

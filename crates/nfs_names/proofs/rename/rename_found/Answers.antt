@@ -1,4 +1,4 @@
-use Rattle.std.proofs.Common.{Ok, Err, sym}
+use Rattle.std.proofs.Common.{Ok, Err, sym, ◌++◌}
 use Rattle.std.proofs.lemmas.Result.{err_from_is_err_and}
 use Rattle.nfs_wire.specs.declared.status.NfsStatus.TheVariants as status
 use Rattle.nfs_inodes.proofs.Standing.{known-lives}
@@ -6,6 +6,7 @@ use Rattle.nfs_names.proofs.Renaming.{ends-exists, ends-invalid, ends-links, end
 use Rattle.nfs_names.proofs.Renaming.{settled-does}
 use Rattle.nfs_objects.specs.Calls.{added_at}
 use Rattle.nfs_inodes.proofs.Halting.{any-stops, lives-stops}
+use Rattle.nfs_names.specs.Renames.{locks_replaced}
 use Rattle.nfs_names.proofs.rename.rename_found.Goals as goal
 
 pub returns-then-is_one_object : goal.returns-then-is_one_object
@@ -52,7 +53,8 @@ returns-then-not-has_room c =
 pub returns-in_err-cookie : goal.returns-in_err-cookie
 returns-in_err-cookie c =
     let p = err_from_is_err_and c.from_residual-in_err-cookie.result c.from_residual-in_err-cookie.ensures.1 in
-    rw (p.1, p.2) (any-stops c.args.draft.now (added_at c.args.draft.now.view c.args.arguments.now.to) _
+    rw (p.1, p.2) (any-stops c.args.draft.now
+    (added_at c.args.draft.now.view c.args.arguments.now.to ++ locks_replaced c.args.renaming.now) _
     (lives-stops c.args.draft.now c.args.renaming.now.to.known.number _ (known-lives c.args.draft.now
     c.args.renaming.now.to.known c.requires.none (λ s k w. (c.requires.finds s k w).to.known))
     c.in_err-cookie.ensures.cookie))
@@ -60,14 +62,16 @@ returns-in_err-cookie c =
 pub returns-in_err-is_replaceable : goal.returns-in_err-is_replaceable
 returns-in_err-is_replaceable c =
     let p = err_from_is_err_and c.from_residual.result c.from_residual.ensures.1 in
-    rw (p.1, p.2) (any-stops c.args.draft.now (added_at c.args.draft.now.view c.args.arguments.now.to) _
+    rw (p.1, p.2) (any-stops c.args.draft.now
+    (added_at c.args.draft.now.view c.args.arguments.now.to ++ locks_replaced c.args.renaming.now) _
     c.in_err-is_replaceable.ensures)
 
 pub returns-in_err-goes_into_itself : goal.returns-in_err-goes_into_itself
 returns-in_err-goes_into_itself c =
     let p = err_from_is_err_and c.from_residual-in_err-goes_into_itself.result
     c.from_residual-in_err-goes_into_itself.ensures.1 in
-    rw (p.1, p.2) (any-stops c.args.draft.now (added_at c.args.draft.now.view c.args.arguments.now.to) _
+    rw (p.1, p.2) (any-stops c.args.draft.now
+    (added_at c.args.draft.now.view c.args.arguments.now.to ++ locks_replaced c.args.renaming.now) _
     c.in_err-goes_into_itself.ensures)
 
 pub move_name-requires-clause-next : goal.move_name-requires-clause-next

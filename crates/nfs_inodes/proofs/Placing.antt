@@ -1,0 +1,221 @@
+-- Where something may be put among locks, once something was.
+use Rattle.std.proofs.Common.{◌≡◌, ◌≢◌, ◌==◌, ◌%◌, ◌+◌, ◌<◌, ◌∷◌, ℕ, Bool, true, false, cond, List, Option, Some, None}
+use Rattle.std.proofs.Common.{inl, inr, option_map}
+use Rattle.std.proofs.Common.{refl, sym, ◌∙◌, ap, subst}
+use Rattle.std.specs.Cmp.{unsigned_Decides}
+use Rattle.std.specs.Prelude.{MatchOption}
+use Rattle.nfs_machine.specs.Exports.{LivingExport}
+use Rattle.nlm_ranges.specs.Buckets.{BucketValue, IsBucket, IsInserted, LockedValue, bucket_count, file_in, given_most}
+use Rattle.nlm_ranges.specs.Buckets.{number_given, without_file}
+use Rattle.nlm_ranges.specs.Files.{FileValue, has_nothing}
+use Rattle.nfs_objects.proofs.Knows.{covers-among, stops-wider}
+use Rattle.nfs_objects.proofs.Seen.{written-append}
+use Rattle.nfs_objects.specs.Asks.{Lacks}
+use Rattle.nfs_objects.specs.Calls.{locks_at}
+use Rattle.nfs_objects.specs.Knows.{Knows, Turns, TurnsWhere}
+use Rattle.nfs_objects.specs.Stands.{bucket_at, exported_file, stored_bucket}
+use Rattle.nfs_objects.specs.Values.{DraftValue, known_at, with_written}
+use Rattle.nfs_objects.specs.declared.address.Addr.TheVariants as addresses
+use Rattle.nfs_objects.specs.declared.change.Halt.{Halt}
+use Rattle.nfs_objects.specs.declared.object.Object.{Object}
+use Rattle.nfs_inodes.proofs.Bucketing.{forget-turns, locks-known, next-number, none-left, set-turns, shown-kept}
+use Rattle.nfs_inodes.proofs.Bucketing.{shows-next, spend-turns, unlisted-none, without-inserted}
+use Rattle.nfs_inodes.proofs.Halting.{lacking-stops}
+use Rattle.nfs_inodes.proofs.Locking.{bucket-stored}
+use Rattle.nfs_inodes.proofs.Wishing.{not-same, same-number}
+use Rattle.nfs_inodes.specs.Counts.{KeepsInodes}
+use Rattle.nfs_inodes.specs.Locks.{AreOwnNumbers, HasLocks, HasNone, IsNextNumber, IsPlaceable, KeepsPlaces, NoNumberIsLeft}
+use Rattle.nfs_inodes.specs.Locks.{ShowsLocked, ShowsNext, locks_freed, locks_set, number_spent}
+use Rattle.nfs_inodes.specs.Stops.{StopsAt}
+
+-- a bucket that is put leaves what is known of all else
+pub locks-keep : (d : DraftValue) (index : ℕ) (o : Option Object) →
+    KeepsInodes d (with_written d (addresses.Locks index) o)
+locks-keep d index o = record {
+  inodes = λ n. written-append d.writes _ (addresses.Locks index) o (addresses.Inode n);
+  blocks = λ n i. written-append d.writes _ (addresses.Locks index) o (addresses.Block n i);
+  exports = written-append d.writes _ (addresses.Locks index) o addresses.Exports;
+}
+
+put-known : (d : DraftValue) (index : ℕ) (o : Option Object) (q : ℕ) →
+    known_at (with_written d (addresses.Locks index) o) (addresses.Locks q)
+    ≡ cond (index == q) (Some o) (known_at d (addresses.Locks q))
+put-known d index o q = written-append d.writes _ (addresses.Locks index) o (addresses.Locks q)
+
+module _ (d : DraftValue) (file : LockedValue) (old bucket : BucketValue) (may : IsPlaceable d file)
+    (known : option_map bucket_at (known_at d (addresses.Locks (file.number % bucket_count))) ≡ Some old)
+    (inserted : IsInserted old file bucket) where
+  abbrev index : ℕ
+  index = file.number % bucket_count
+
+  abbrev new : DraftValue
+  new = with_written d (addresses.Locks index) (stored_bucket bucket)
+
+  abbrev known_if : Bool → ℕ → Option (Option Object)
+  known_if t q = cond t (Some (stored_bucket bucket)) (known_at d (addresses.Locks q))
+
+  found-in : (number : ℕ) (t : Bool) → (file.number == number) ≡ t →
+      file_in (bucket_at (stored_bucket bucket)) number
+      ≡ cond t (cond (has_nothing file.file) None (Some file)) (file_in old number)
+  found-in number t is =
+      ap (λ b. file_in b number) (bucket-stored bucket) ∙ inserted.files number
+      ∙ ap (λ t. cond t (cond (has_nothing file.file) None (Some file)) (file_in old number)) is
+
+  -- another file that has something has it still
+  locked-still : (g : LockedValue) → g.number ≢ file.number → ShowsLocked d g.number g.export →
+      ShowsLocked new g.number g.export
+  locked-still g apart shown = by (index == (g.number % bucket_count)) refl
+    where
+      by : (t : Bool) → (index == (g.number % bucket_count)) ≡ t → ShowsLocked new g.number g.export
+      by false other = record {
+        exports = shown.exports;
+        shown = (locks-keep d index (stored_bucket bucket)).exports ∙ shown.shown;
+        lives = shown.lives;
+        object = shown.object;
+        known = put-known d index (stored_bucket bucket) (g.number % bucket_count)
+            ∙ ap (λ t. known_if t (g.number % bucket_count)) other ∙ shown.known;
+        old = shown.old;
+        stands = shown.stands;
+        exported = shown.exported;
+      }
+      by true same =
+          let one : index ≡ g.number % bucket_count = (unsigned_Decides index (g.number % bucket_count)).0 same in
+          let both : Some (bucket_at shown.object) ≡ Some old = ap (option_map bucket_at) (sym shown.known)
+          ∙ ap (λ i. option_map bucket_at (known_at d (addresses.Locks i))) (sym one) ∙ known in
+          let its : bucket_at shown.object ≡ old = cc in record {
+            exports = shown.exports;
+            shown = (locks-keep d index (stored_bucket bucket)).exports ∙ shown.shown;
+            lives = shown.lives;
+            object = stored_bucket bucket;
+            known = put-known d index (stored_bucket bucket) (g.number % bucket_count)
+                ∙ ap (λ t. known_if t (g.number % bucket_count)) same;
+            old = shown.old;
+            stands = found-in g.number false (not-same file.number g.number (λ e. apart (sym e)))
+                ∙ ap (λ b. file_in b g.number) (sym its) ∙ shown.stands;
+            exported = shown.exported;
+          }
+
+  -- so has this one, if it has anything
+  own-still : has_nothing file.file ≡ false → ShowsLocked d file.number file.export →
+      ShowsLocked new file.number file.export
+  own-still some shown = record {
+    exports = shown.exports;
+    shown = (locks-keep d index (stored_bucket bucket)).exports ∙ shown.shown;
+    lives = shown.lives;
+    object = stored_bucket bucket;
+    known = put-known d index (stored_bucket bucket) index ∙ ap (λ t. known_if t index) (same-number index);
+    old = file;
+    stands = found-in file.number true (same-number file.number) ∙ ap (λ t. cond t None (Some file)) some;
+    exported = refl;
+  }
+
+  pub set-keeps : KeepsPlaces d new file
+  set-keeps = record {
+    others = λ g apart at. elim at [
+      | inl shown ↦ inl (shown-kept d new g.number g.export (locks-keep d index (stored_bucket bucket)) shown)
+      | inr locked ↦ inr (locked-still g apart locked)
+    ];
+    own = λ f some. elim may [
+      | inl shown ↦ inl (shown-kept d new file.number file.export (locks-keep d index (stored_bucket bucket)) shown)
+      | inr locked ↦ inr (own-still some locked)
+    ];
+  }
+
+-- ---- a bucket that is put under its index
+module _ (d new : DraftValue) (n index : ℕ) (is-index : index ≡ n % bucket_count) (old : BucketValue)
+    (known : option_map bucket_at (known_at d (addresses.Locks index)) ≡ Some old) where
+  at-index : option_map bucket_at (known_at d (addresses.Locks (n % bucket_count))) ≡ Some old
+  at-index = subst (λ i. option_map bucket_at (known_at d (addresses.Locks i)) ≡ Some old) is-index known
+
+  abbrev Written : BucketValue → Type 0
+  Written bucket = new ≡ with_written d (addresses.Locks index) (stored_bucket bucket)
+
+  written-there : (bucket : BucketValue) → Written bucket →
+      with_written d (addresses.Locks (n % bucket_count)) (stored_bucket bucket) ≡ new
+  written-there bucket is = sym
+      (is ∙ ap (λ i. with_written d (addresses.Locks i) (stored_bucket bucket)) is-index)
+
+  pub put-turns : (export : ℕ) (f : FileValue) (bucket : BucketValue) →
+      IsPlaceable d (record { number = n; export = export; file = f }) →
+      IsInserted old (record { number = n; export = export; file = f }) bucket → IsBucket bucket → Written bucket →
+      TurnsWhere (λ k. AreOwnNumbers k.state n f.pending) d new (locks_set n f)
+  put-turns export f bucket may inserted whole is =
+      subst (λ x. TurnsWhere (λ k. AreOwnNumbers k.state n f.pending) d x (locks_set n f)) (written-there bucket is)
+      (set-turns d (record { number = n; export = export; file = f }) old bucket may at-index inserted whole)
+
+  pub put-keeps : (export : ℕ) (f : FileValue) (bucket : BucketValue) →
+      IsPlaceable d (record { number = n; export = export; file = f }) →
+      IsInserted old (record { number = n; export = export; file = f }) bucket → Written bucket →
+      KeepsPlaces d new (record { number = n; export = export; file = f })
+  put-keeps export f bucket may inserted is =
+      subst (λ x. KeepsPlaces d x (record { number = n; export = export; file = f })) (written-there bucket is)
+      (set-keeps d (record { number = n; export = export; file = f }) old bucket may at-index inserted)
+
+  pub number-turns : (number : ℕ) (bucket : BucketValue) → ShowsNext d n number →
+      bucket ≡ record old { given = old.given + 1 } → Written bucket → Turns d new (number_spent number)
+  number-turns number bucket next more is =
+      subst (λ x. Turns d x (number_spent number))
+      (ap (λ b. with_written d (addresses.Locks (n % bucket_count)) (stored_bucket b)) (sym more)
+      ∙ written-there bucket is) (spend-turns d n number old next at-index)
+
+  -- a number is left where the draft shows the next one
+  pub next-left : (number : ℕ) → ShowsNext d n number → old.given < given_most
+  next-left number next =
+      let both : Some (bucket_at next.object) ≡ Some old = ap (option_map bucket_at) (sym next.known) ∙ at-index in
+      let its : bucket_at next.object ≡ old = cc in
+      subst (λ (b : BucketValue). b.given < given_most) its next.left
+
+  pub forgets : (bucket : BucketValue) → bucket ≡ without_file n old → IsBucket bucket → Written bucket →
+      Turns d new (locks_freed n)
+  forgets bucket less whole is =
+      subst (λ x. Turns d x (locks_freed n)) (written-there bucket is) (forget-turns d n old bucket at-index less whole)
+
+  -- and then it has nothing
+  pub none-then : (bucket : BucketValue) → bucket ≡ without_file n old → Written bucket → HasNone new n
+  none-then bucket less is =
+      subst (λ x. HasNone x n) (written-there bucket is)
+      (unlisted-none (with_written d (addresses.Locks (n % bucket_count)) (stored_bucket bucket)) n bucket
+      (ap (option_map bucket_at) (put-known d (n % bucket_count) (stored_bucket bucket) (n % bucket_count)
+      ∙ ap (λ t. cond t (Some (stored_bucket bucket)) (known_at d (addresses.Locks (n % bucket_count))))
+      (same-number (n % bucket_count))) ∙ ap Some (bucket-stored bucket))
+      (ap (λ b. file_in b n) less ∙ (without-inserted old n).files n
+      ∙ ap (λ t. cond t None (file_in old n)) (same-number n)))
+
+  -- a file that the bucket does not have has nothing already
+  pub none-there : file_in old n ≡ None → HasNone d n
+  none-there none = unlisted-none d n old at-index none
+
+  -- what a bucket tells of its next number
+  pub number-known : (o : Option ℕ) → MatchOption o (old.given ≡ given_most)
+      (λ number. (number ≡ number_given index old.given) × (old.given < given_most)) →
+      MatchOption o (Knows d (λ k. NoNumberIsLeft k.state n))
+      (λ number. ShowsNext d n number × Knows d (λ k. IsNextNumber k.state n number))
+  number-known None all = none-left d n old all at-index
+  number-known (Some number) gives =
+      let is : number ≡ number_given (n % bucket_count) old.given =
+      gives.0 ∙ ap (λ i. number_given i old.given) is-index in
+      (shows-next d n number old is gives.1 at-index, next-number d n number old is gives.1 at-index)
+
+  -- and of a file that was looked for in it
+  pub file-known : (list : List LivingExport) → Knows d (λ k. k.state.exports ≡ list) → (found : Option LockedValue) →
+      file_in old n ≡ found → (f : FileValue) → exported_file list found ≡ f → Knows d (λ k. HasLocks k.state n f)
+  file-known list exports found is f has s k possible =
+      subst (HasLocks k.state n) (ap (exported_file list) is ∙ has) (locks-known d n list old exports at-index s k possible)
+
+-- what halts where a bucket is lacked
+pub locks-stop : (d : DraftValue) (n index : ℕ) (halt : Halt) → index ≡ n % bucket_count →
+    Lacks d (addresses.Locks index) halt → StopsAt d (locks_at n) halt
+locks-stop d n index halt is lacks =
+    lacking-stops d (addresses.Locks (n % bucket_count)) halt (subst (λ i. Lacks d (addresses.Locks i) halt) is lacks)
+
+-- what is looked for among the exports besides
+pub locks-stop-behind : (d : DraftValue) (n index : ℕ) (halt : Halt) → index ≡ n % bucket_count →
+    Lacks d (addresses.Locks index) halt → StopsAt d (addresses.Exports ∷ locks_at n) halt
+locks-stop-behind d n index halt is lacks =
+    stops-wider d.modes (locks_at n) (addresses.Exports ∷ locks_at n) 0 d.view halt
+    (covers-among (locks_at n) (addresses.Exports ∷ locks_at n) d.view (λ a among. inr among))
+    (locks-stop d n index halt is lacks)
+
+-- nothing is known anew
+pub nothing-changed : (d : DraftValue) → KeepsInodes d d
+nothing-changed d = record { inodes = λ n. refl; blocks = λ n i. refl; exports = refl }

@@ -1,0 +1,118 @@
+-- What files have of locks, shares, requests and grants, as a draft knows it, and what makers do to it (RFC 1813,
+-- appendix II).
+use Rattle.std.specs.Prelude.{◌≡◌, ◌<◌, ◌%◌, ◌||◌, ◌⊎◌, ◌==◌, ◌↔◌, ◌≢◌, ℕ, true, false, Contains, List, Option, Some, None}
+use Rattle.std.specs.Borrow.{Bor}
+use Rattle.std.specs.FinMap.{remove}
+use Rattle.nfs_wire.specs.declared.attributes.FileType.TheVariants as types
+use Rattle.nfs_machine.specs.FileLists.{grants_but, with_list}
+use Rattle.nfs_machine.specs.Grants.{at_file, with_grants}
+use Rattle.nfs_machine.specs.LockSteps.{NoneLeft, is_grant_number}
+use Rattle.nfs_machine.specs.State.{PendingGrant, Request, State}
+use Rattle.nlm_ranges.specs.Files.{FileValue, has_nothing, no_file}
+use Rattle.nlm_ranges.specs.Buckets.{LockedValue, bucket_count, file_in, given_most, number_given}
+use Rattle.nfs_objects.specs.Fits.{Fits}
+use Rattle.nfs_objects.specs.Stands.{IsPendingIn, Kept, Represents, bucket_at, bucket_there, exports_of, lives_in}
+use Rattle.nfs_objects.specs.Store.{Store, with_writes}
+use Rattle.nfs_objects.specs.Values.{DraftValue, known_at}
+use Rattle.nfs_objects.specs.declared.address.Addr.TheVariants as addresses
+use Rattle.nfs_objects.specs.declared.object.Inode.{Inode}
+use Rattle.nfs_objects.specs.declared.object.Object.{Object}
+use Rattle.nfs_inodes.specs.Kinds.{kind_of}
+use Rattle.nfs_inodes.specs.Stops.{inode_at}
+
+-- ---- what is known
+-- what is behind a loan of a file; where there is none, it has nothing
+abbrev pub file_known : Option (Bor FileValue) → FileValue
+file_known None = no_file
+file_known (Some file) = file.now
+
+-- the file at a number has this, and no other grants are waited for
+pub record HasLocks (m : State) (number : ℕ) (file : FileValue) : Type 0 where
+  pub held : at_file m number ≡ file.held
+  pub pending : (grant : ℕ) (r : Request) → IsPendingIn m grant number r ↔
+      (Contains file.pending r × (r.number ≡ grant))
+
+-- every number for a grant on a file was given
+abbrev pub NoNumberIsLeft : State → (file : ℕ) → Type 0
+NoNumberIsLeft = NoneLeft
+
+-- this one may be given next: it is the file's, and was never given
+pub record IsNextNumber (m : State) (file number : ℕ) : Type 0 where
+  pub suits : is_grant_number file number ≡ true
+  pub unspent : m.spent_grants number ≡ false
+
+-- the file at a number has nothing in any store that the draft may be written to
+abbrev pub HasNone : DraftValue → (number : ℕ) → Type 0
+HasNone d number = (s : Store) (k : Kept) → Fits d.view s → Represents (with_writes s d.writes) k →
+    file_in (bucket_there (with_writes s d.writes) (number % bucket_count)) number ≡ None
+
+-- the draft shows that this is the next number of a file's bucket
+pub record ShowsNext (d : DraftValue) (file number : ℕ) : Type 0 where
+  pub object : Option Object
+  pub known : known_at d (addresses.Locks (file % bucket_count)) ≡ Some object
+  pub next : number ≡ number_given (file % bucket_count) (bucket_at object).given
+  pub left : (bucket_at object).given < given_most
+
+-- The numbers of a file's grants tell them apart: no two of these requests have the same, and no grant of another file
+-- has one of theirs.
+pub record AreOwnNumbers (m : State) (file : ℕ) (pending : List Request) : Type 0 where
+  pub once : (r q : Request) → Contains pending r → Contains pending q → r.number ≡ q.number → r ≡ q
+  pub own : (r : Request) → Contains pending r → (other : ℕ) (q : Request) → IsPendingIn m r.number other q →
+      other ≡ file
+
+-- ---- where something may be put
+-- the draft shows that a regular file of this export lives at a number
+pub record ShowsFile (d : DraftValue) (number export : ℕ) : Type 0 where
+  pub inode : Inode
+  pub stands : inode_at d number ≡ Some inode
+  pub regular : kind_of inode ≡ types.Regular
+  pub exported : inode.export ≡ export
+
+-- the draft shows that the file has something already, and that its export lives
+pub record ShowsLocked (d : DraftValue) (number export : ℕ) : Type 0 where
+  pub exports : Option Object
+  pub shown : known_at d addresses.Exports ≡ Some exports
+  pub lives : lives_in (exports_of exports) export ≡ true
+  pub object : Option Object
+  pub known : known_at d (addresses.Locks (number % bucket_count)) ≡ Some object
+  pub old : LockedValue
+  pub stands : file_in (bucket_at object) number ≡ Some old
+  pub exported : old.export ≡ export
+
+abbrev pub IsPlaceable : DraftValue → LockedValue → Type 0
+IsPlaceable d file = ShowsFile d file.number file.export ⊎ ShowsLocked d file.number file.export
+
+-- what may be put may be put still, once this was: any other file, and this one, if it has anything
+pub record KeepsPlaces (old new : DraftValue) (file : LockedValue) : Type 0 where
+  pub others : (g : LockedValue) → g.number ≢ file.number → IsPlaceable old g → IsPlaceable new g
+  pub own : (f : FileValue) → has_nothing file.file ≡ false → IsPlaceable new (record file { file = f })
+
+-- ---- changes
+-- the file at a number has this
+abbrev pub with_file : State → (number : ℕ) → FileValue → State
+with_file m number file = record m {
+  locks = with_list m.locks number file.held.locks;
+  shares = with_list m.shares number file.held.shares;
+  waiting = with_list m.waiting number file.held.waiting;
+  granted = with_grants (grants_but (λ (g : PendingGrant). g.file == number) m.granted) number file.pending;
+}
+
+abbrev pub locks_set : (number : ℕ) → FileValue → Kept → Kept
+locks_set number file k = record k { state = with_file k.state number file }
+
+-- it has nothing
+abbrev pub without_locks : State → (number : ℕ) → State
+without_locks m number = record m {
+  locks = remove m.locks number;
+  shares = remove m.shares number;
+  waiting = remove m.waiting number;
+  granted = grants_but (λ (g : PendingGrant). g.file == number) m.granted;
+}
+
+abbrev pub locks_freed : (number : ℕ) → Kept → Kept
+locks_freed number k = record k { state = without_locks k.state number }
+
+-- the number of a grant is never given again
+abbrev pub number_spent : (number : ℕ) → Kept → Kept
+number_spent number k = record k
+    { state = record k.state { spent_grants = λ n. (n == number) || k.state.spent_grants n } }

@@ -1,0 +1,187 @@
+//! What files have of locks, shares, requests and grants: read, put, and gone with a file's last name (RFC 1813,
+//! appendix II).
+
+ghost use Rattle.std.specs.Prelude.{◌≡◌, ◌∷◌, ◌++◌, MatchOption, MatchResult, None, OnErr, OnOk, is_some};
+ghost use Rattle.std.specs.Prelude.{option_copied};
+ghost use Rattle.nfs_machine.specs.Exports.{export_at};
+ghost use Rattle.nfs_objects.specs.Calls.{IsAmong, addresses_of, locks_at};
+ghost use Rattle.nfs_objects.specs.Knows.{Knows, Turns, TurnsWhere};
+ghost use Rattle.nfs_objects.specs.Stands.{map_in};
+ghost use Rattle.nfs_objects.specs.declared.address.Addr.TheVariants as addresses;
+ghost use Rattle.nfs_inodes.specs.Asking.{AsksFor};
+ghost use Rattle.nfs_inodes.specs.Counts.{KeepsInodes};
+ghost use Rattle.nfs_inodes.specs.Locks.{AreOwnNumbers, HasLocks, HasNone, IsNextNumber, IsPlaceable, KeepsPlaces};
+ghost use Rattle.nfs_inodes.specs.Locks.{NoNumberIsLeft, ShowsNext, file_known, locks_freed, locks_set, number_spent};
+ghost use Rattle.nfs_inodes.specs.Stops.{StopsAt};
+
+use crate::content::asking::Asking;
+use crate::found::{export_at, exports};
+use nfs_objects::object::living;
+use nfs_objects::{Addr, Content, Draft, Halt, Inode, LivingExport, Mode};
+use nlm_ranges::{LockBucket, LockedFile, OneFile, bucket_index};
+use std::alloc::AllocError;
+
+/// Whether the export with this number lives.
+pub fn lives(exports: &[LivingExport], number: u32) -> bool
+    ensures { result ≡ is_some (export_at exports.now number) }
+{
+    export_at(exports, number).is_some()
+}
+
+/// What the file at a number has; None where it has nothing. What belongs to no export that lives stands for nothing.
+///
+/// # Errors
+///
+/// `Need` of the exports or of what holds it, and `Memory`.
+pub fn locks_of<'d>(draft: &'d Draft<'_>, number: u64) -> Result<Option<&'d OneFile>, Halt>
+    ensures { MatchResult result
+        (λ file. Knows draft.now (λ k. HasLocks k.state number (file_known file)))
+        (StopsAt draft.now (addresses.Exports ∷ locks_at number)) }
+{
+    let exports = exports(draft)?;
+    let Some(bucket) = draft.locks(bucket_index(number))? else {
+        return Ok(None);
+    };
+    let Some(file) = bucket.find(number) else {
+        return Ok(None);
+    };
+    if lives(exports, file.export()) {
+        Ok(Some(file.file()))
+    } else {
+        Ok(None)
+    }
+}
+
+/// Puts what a file has in the place of what it had.
+///
+/// # Errors
+///
+/// `Need` of what has to be held for it, and `Memory`. The draft is of no use then.
+pub fn set_locks(draft: &mut Draft<'_>, file: LockedFile) -> Result<(), Halt>
+    requires alone { draft.old.modes.locks ≡ Mode.Exclusive }
+    requires placed { IsPlaceable draft.old file }
+    ensures turns { MatchResult result
+        (λ _. TurnsWhere (λ k. AreOwnNumbers k.state file.number file.file.pending) draft.old draft.new
+        (locks_set file.number file.file))
+        (StopsAt draft.old (locks_at file.number)) }
+    ensures keeps { OnOk result (KeepsPlaces draft.old draft.new file) }
+{
+    let index = bucket_index(file.number());
+    let alloc = draft.alloc();
+    let bucket = match draft.locks(index)? {
+        Some(old) => old.with_file(alloc, file)?,
+        None => LockBucket::new(alloc).with_file(alloc, file)?,
+    };
+    Ok(draft.put_locks(index, bucket)?)
+}
+
+/// The number of the next grant on a file; None where all were given.
+///
+/// # Errors
+///
+/// `Need` of what holds it, and `Memory`.
+pub fn next_number(draft: &Draft<'_>, file: u64) -> Result<Option<u64>, Halt>
+    ensures { MatchResult result
+        (λ number. MatchOption number (Knows draft.now (λ k. NoNumberIsLeft k.state file))
+        (λ number. ShowsNext draft.now file number × Knows draft.now (λ k. IsNextNumber k.state file number)))
+        (StopsAt draft.now (locks_at file)) }
+{
+    let index = bucket_index(file);
+    match draft.locks(index)? {
+        Some(bucket) => Ok(bucket.next_number(index)),
+        None => Ok(LockBucket::new(draft.alloc()).next_number(index)),
+    }
+}
+
+/// Gives the number of the next grant on a file, which is never given again.
+///
+/// # Errors
+///
+/// `Need` of what has to be held for it, and `Memory`. The draft is of no use then.
+pub fn spend_number(draft: &mut Draft<'_>, file: u64, number: u64) -> Result<(), Halt>
+    requires alone { draft.old.modes.locks ≡ Mode.Exclusive }
+    requires next { ShowsNext draft.old file number }
+    ensures turns { MatchResult result
+        (λ _. Turns draft.old draft.new (number_spent number))
+        (StopsAt draft.old (locks_at file)) }
+    ensures keeps { OnOk result (KeepsInodes draft.old draft.new) }
+{
+    let index = bucket_index(file);
+    let alloc = draft.alloc();
+    let bucket = match draft.locks(index)? {
+        Some(old) => old.with_number(alloc)?,
+        None => LockBucket::new(alloc).with_number(alloc)?,
+    };
+    Ok(draft.put_locks(index, bucket)?)
+}
+
+/// Asks besides for what holds the locks of the file at a number.
+///
+/// # Errors
+///
+/// `AllocError` where the memory was refused. It changes nothing.
+pub(crate) fn ask_locks(
+    draft: &Draft<'_>,
+    number: u64,
+    asking: &mut Asking,
+) -> Result<(), AllocError>
+    ensures ok { OnOk result (AsksFor draft.now (IsAmong (locks_at number)) (IsAmong (locks_at number))
+        asking.old.asked.items asking.new.asked.items) }
+    ensures err { OnErr result (asking.new.asked.items ≡ asking.old.asked.items) }
+{
+    asking.add(draft, Addr::Locks(bucket_index(number)))
+}
+
+/// Takes away what the file at a number has, which is to go; what is no file has nothing.
+///
+/// # Errors
+///
+/// `Need` of what has to be held for it, and `Memory`. The draft is of no use then.
+pub(crate) fn forget_locks(draft: &mut Draft<'_>, number: u64) -> Result<(), Halt>
+    requires { draft.old.modes.locks ≡ Mode.Exclusive }
+    ensures turns { MatchResult result
+        (λ _. Turns draft.old draft.new (locks_freed number))
+        (StopsAt draft.old (addresses_of draft.old.view number ++ locks_at number)) }
+    ensures none { OnOk result (HasNone draft.new number) }
+    ensures keeps { OnOk result (KeepsInodes draft.old draft.new) }
+{
+    if is_file(living(draft.find(Addr::Inode(number))?)) {
+        forget(draft, number)
+    } else {
+        Ok(())
+    }
+}
+
+/// Whether an inode is that of a file, if there is one.
+fn is_file(inode: Option<&Inode>) -> bool
+    ensures { result ≡ is_some (elim (option_copied inode.entry) [ None ↦ None | Some i ↦ map_in i.content ]) }
+{
+    let Some(inode) = inode else {
+        return false;
+    };
+    match inode.content {
+        Content::Regular(_) => true,
+        _ => false,
+    }
+}
+
+/// The same of a file.
+fn forget(draft: &mut Draft<'_>, number: u64) -> Result<(), Halt>
+    requires { draft.old.modes.locks ≡ Mode.Exclusive }
+    ensures turns { MatchResult result
+        (λ _. Turns draft.old draft.new (locks_freed number))
+        (StopsAt draft.old (locks_at number)) }
+    ensures none { OnOk result (HasNone draft.new number) }
+    ensures keeps { OnOk result (KeepsInodes draft.old draft.new) }
+{
+    let index = bucket_index(number);
+    let alloc = draft.alloc();
+    let Some(old) = draft.locks(index)? else {
+        return Ok(());
+    };
+    let Some(_file) = old.find(number) else {
+        return Ok(());
+    };
+    let rest = old.without_file(alloc, number)?;
+    Ok(draft.put_locks(index, rest)?)
+}
