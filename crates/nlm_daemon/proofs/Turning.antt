@@ -1,0 +1,72 @@
+-- One change of what files have of locks after another.
+use Rattle.std.proofs.Common.{◌≡◌, ◌++◌, ℕ, List, [], sym, ◌∙◌, subst, append-nil}
+use Rattle.side_wire.specs.declared.message.Message.{Message}
+use Rattle.nlm_ranges.specs.Files.{FileValue}
+use Rattle.nfs_objects.specs.Fits.{Fits}
+use Rattle.nfs_objects.specs.Knows.{Turns, TurnsWhere}
+use Rattle.nfs_objects.specs.Sound.{Sound}
+use Rattle.nfs_objects.specs.Stands.{Kept}
+use Rattle.nfs_objects.specs.Values.{DraftValue}
+use Rattle.nfs_inodes.specs.Locks.{locks_set, number_spent}
+use Rattle.nlm_daemon.specs.Comes.{TurnsSending}
+
+-- behind a change, another where this is so of what the store stands for then
+pub where-after : (old mid new : DraftValue) (f g : Kept → Kept) (IsSo : Kept → Type 0) → Turns old mid f →
+    TurnsWhere IsSo mid new g → TurnsWhere (λ k. IsSo (f k)) old new (λ k. g (f k))
+where-after old mid new f g IsSo first second = record {
+  ctx = second.ctx ∙ first.ctx;
+  view = second.view ∙ first.view;
+  modes = second.modes ∙ first.modes;
+  messages = second.messages ∙ first.messages;
+  turns = λ s k fits stands so. second.turns s (f k) (subst (λ v. Fits v s) (sym first.view) fits)
+      (first.turns s k fits stands) so;
+}
+
+-- two that are where something is so
+pub where-both : (old mid new : DraftValue) (f g : Kept → Kept) (First Second : Kept → Type 0) →
+    TurnsWhere First old mid f → TurnsWhere Second mid new g →
+    TurnsWhere (λ k. First k × Second (f k)) old new (λ k. g (f k))
+where-both old mid new f g First Second first second = record {
+  ctx = second.ctx ∙ first.ctx;
+  view = second.view ∙ first.view;
+  modes = second.modes ∙ first.modes;
+  messages = second.messages ∙ first.messages;
+  turns = λ s k fits stands so. second.turns s (f k) (subst (λ v. Fits v s) (sym first.view) fits)
+      (first.turns s k fits stands so.0) so.1;
+}
+
+-- where more is so
+pub where-more : (old new : DraftValue) (op : Kept → Kept) (IsSo More : Kept → Type 0) →
+    ((k : Kept) → More k → IsSo k) → TurnsWhere IsSo old new op → TurnsWhere More old new op
+where-more old new op IsSo More so turns = record {
+  ctx = turns.ctx;
+  view = turns.view;
+  modes = turns.modes;
+  messages = turns.messages;
+  turns = λ s k fits stands more. turns.turns s k fits stands (so k more);
+}
+
+-- with no message
+pub sends-nothing : (old new : DraftValue) (op : Kept → Kept) (IsSo : Kept → Type 0) → TurnsWhere IsSo old new op →
+    TurnsSending IsSo old new [] op
+sends-nothing old new op IsSo turns = record {
+  turns = subst (λ (d : DraftValue). TurnsWhere IsSo old d op) (λ i. record new { messages = turns.messages i }) turns;
+  sent = turns.messages ∙ sym (append-nil old.messages);
+}
+
+-- ---- what is kept stays sound, since nothing of it tells of locks
+pub set-sound : (n : ℕ) (f : FileValue) (k : Kept) → Sound k → Sound (locks_set n f k)
+set-sound n f k sound = record {
+  links = sound.links;
+  parents = λ q o at is. let p = sound.parents q o at is in
+      record { directory = p.directory; lives = p.lives; named_in = p.named_in };
+  usage = sound.usage;
+}
+
+pub spent-sound : (number : ℕ) (k : Kept) → Sound k → Sound (number_spent number k)
+spent-sound number k sound = record {
+  links = sound.links;
+  parents = λ q o at is. let p = sound.parents q o at is in
+      record { directory = p.directory; lives = p.lives; named_in = p.named_in };
+  usage = sound.usage;
+}

@@ -1,0 +1,47 @@
+-- What the checks of a call find, as the machine has it (RFC 1813, appendix II, 6.1.4 and 6.3).
+use Rattle.std.specs.Prelude.{◌≡◌, ◌||◌, ℕ, Bool, List, Result, Ok, Err, is_ok, not}
+use Rattle.side_wire.specs.declared.message.NlmLock.{NlmLock}
+use Rattle.nfs_machine.specs.Checks.{◌>>=◌, bytes_in, holding, is_writable}
+use Rattle.nfs_machine.specs.Exports.{LivingExport}
+use Rattle.nfs_machine.specs.LockSteps as machine
+use Rattle.nfs_machine.specs.Locks.{range_of}
+use Rattle.nfs_machine.specs.State.{Living}
+use Rattle.nfs_objects.specs.Values.{DraftValue}
+use Rattle.nfs_inodes.specs.Locks.{ShowsFile}
+use Rattle.nfs_inodes.specs.declared.kinds.File.{File}
+use Rattle.nlm_daemon.specs.declared.checking.LockFault.{LockFault}
+use Rattle.nlm_daemon.specs.declared.checking.LockFault.TheVariants as faults
+use Rattle.nlm_daemon.specs.declared.checking.Place.{Place}
+
+abbrev pub fault_value : LockFault → machine.LockFault
+fault_value faults.StaleHandle = machine.StaleHandle
+fault_value faults.NotRegular = machine.NotRegular
+fault_value faults.RangeTooBig = machine.RangeTooBig
+fault_value faults.ReadOnly = machine.ReadOnly
+
+-- how what a handle names is judged: it is a regular file, the range fits, and the export is not read only, where the
+-- call asks to write
+abbrev pub judged : List LivingExport → Living → (number : ℕ) → (fits writes : Bool) → Result ℕ machine.LockFault
+judged exports object number fits writes =
+    holding (is_ok (bytes_in object.content)) machine.NotRegular >>= λ _.
+    holding fits machine.RangeTooBig >>= λ _.
+    holding (not writes || is_writable exports object) machine.ReadOnly >>= λ _.
+    Ok number
+
+-- the number of the file, or the fault
+abbrev pub file_found : Result File LockFault → Result ℕ machine.LockFault
+file_found (Ok file) = Ok file.known.number
+file_found (Err fault) = Err (fault_value fault)
+
+abbrev pub place_found : Result Place LockFault → Result ℕ machine.LockFault
+place_found (Ok place) = Ok place.file.known.number
+place_found (Err fault) = Err (fault_value fault)
+
+-- the draft shows the file
+abbrev pub IsFileShown : DraftValue → File → Type 0
+IsFileShown d file = ShowsFile d file.known.number file.known.export
+
+-- and the range is the call's
+pub record IsPlaceOf (d : DraftValue) (lock : NlmLock) (place : Place) : Type 0 where
+  pub shown : IsFileShown d place.file
+  pub range : place.range ≡ range_of lock

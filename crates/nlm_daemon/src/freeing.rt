@@ -1,0 +1,129 @@
+//! FREE_ALL: a caller has nothing more of any file (RFC 1813, appendix II, 6.2: procedure 23).
+
+ghost use Rattle.std.specs.Prelude.{◌≡◌, ◌<◌, ℕ, ◌∷◌, ◌++◌, [], List, IfErr, IfOk, IsSome, MatchResult, OnOk};
+ghost use Rattle.std.specs.List.{AllByRecursion};
+ghost use Rattle.nfs_machine.specs.LockSteps.{Frees};
+ghost use Rattle.nfs_machine.specs.WellFormed.{WellFormed};
+ghost use Rattle.nfs_machine.specs.declared.calls.Call.TheVariants as calls;
+ghost use Rattle.nfs_objects.specs.Attempt.{EndsCall, EndsFirst, HaltsFirst, unless_seen};
+ghost use Rattle.nfs_objects.specs.Begins.{Begins};
+ghost use Rattle.nfs_objects.specs.Calls.{buckets_below};
+ghost use Rattle.nfs_objects.specs.Knows.{Knows};
+ghost use Rattle.nlm_ranges.specs.Buckets.{LockedValue, bucket_count};
+ghost use Rattle.nfs_objects.specs.Values.{known_at};
+ghost use Rattle.nfs_inodes.specs.Locks.{IsPlaceable};
+ghost use Rattle.nfs_inodes.specs.Stops.{StopsAt};
+ghost use Rattle.nlm_daemon.specs.Comes.{ComesTo};
+ghost use Rattle.nlm_daemon.specs.Freeing.{AreFreed, AreFreedOf};
+
+use crate::granting::put_settled;
+use nfs_inodes::{Asking, exports, lives, set_locks};
+use nfs_machine::Reply;
+use nfs_objects::{Addr, Change, Draft, Halt, LivingExport, Mode};
+use nlm_ranges::{LOCK_BUCKETS, LockedFile};
+use side_wire::{FreeAllArguments, NlmCall, NlmReply};
+use std::alloc::{AllocError, Global};
+
+/// Tries FREE_ALL.
+///
+/// # Errors
+///
+/// `Need` of the exports, of all buckets at once, and `Memory`.
+pub(crate) fn attempt(mut draft: Draft<'_>, arguments: &FreeAllArguments) -> Result<Change, Halt>
+    requires { Begins (calls.Nlm (NlmCall.FreeAll arguments.now)) draft }
+    ensures ends { EndsCall (calls.Nlm (NlmCall.FreeAll arguments.now)) draft.entry.ctx draft.entry.view result }
+    ensures first { EndsFirst (calls.Nlm (NlmCall.FreeAll arguments.now)) draft.entry.view result }
+{
+    free_all(&mut draft, arguments.name.as_slice())?;
+    Ok(draft.answer(Reply::Nlm(NlmReply::FreeAll)))
+}
+
+/// Frees all that a caller has, of all files; then what waits for these is tried, file by file in order of their
+/// numbers.
+///
+/// # Errors
+///
+/// `Need` of the exports, of all buckets at once, and `Memory`. The draft is of no use then.
+fn free_all(draft: &mut Draft<'_>, caller_name: &[u8]) -> Result<(), Halt>
+    requires none { draft.old.writes ≡ [] }
+    requires alone { draft.old.modes.locks ≡ Mode.Exclusive }
+    ensures frees { MatchResult result
+        (ComesTo draft.old draft.new (λ m _. Frees m caller_name.now))
+        (StopsAt draft.old (Addr.Exports ∷ buckets_below bucket_count)) }
+    ensures first { HaltsFirst draft.old.modes draft.old.view (unless_seen draft.old.view Addr.Exports) result }
+{
+    exports(draft)?;
+    ask_buckets(draft)?;
+    let freed = all_freed(draft, caller_name)?;
+    for file in &freed {
+        set_locks(draft, file.clone()?)?;
+    }
+    for file in &freed {
+        let settled = file.file().settle(draft.alloc())?;
+        if !settled.granted.is_empty() {
+            put_settled(draft, file.number(), file.export(), settled)?;
+        }
+    }
+    Ok(())
+}
+
+/// Asks for all buckets that the draft lacks, at once.
+fn ask_buckets(draft: &Draft<'_>) -> Result<(), Halt>
+    ensures { MatchResult result
+        (λ _. (index : ℕ) → index < bucket_count → IsSome (known_at draft.now (Addr.Locks index)))
+        (StopsAt draft.now (buckets_below bucket_count)) }
+{
+    let mut asking = Asking::new(draft.alloc());
+    for index in 0..LOCK_BUCKETS {
+        asking.add(draft, Addr::Locks(index))?;
+    }
+    asking.ask()
+}
+
+/// The files of which a caller has anything, without that, by their numbers.
+fn all_freed(draft: &Draft<'_>, caller_name: &[u8]) -> Result<Vec<LockedFile>, Halt>
+    ensures freed { IfOk result (λ freed. Knows draft.now (λ k. WellFormed k.state →
+        AreFreed k.state caller_name.now freed.items)) }
+    ensures placed { IfOk result (λ freed. AllByRecursion (IsPlaceable draft.now) freed.items) }
+    ensures stops { IfErr result (StopsAt draft.now (Addr.Exports ∷ buckets_below bucket_count)) }
+{
+    let exports = exports(draft)?;
+    let mut freed = Vec::new(draft.alloc());
+    for index in 0..LOCK_BUCKETS {
+        if let Some(bucket) = draft.locks(index)? {
+            add_freed(
+                draft.alloc(),
+                exports,
+                bucket.files(),
+                caller_name,
+                &mut freed,
+            )?;
+        }
+    }
+    freed.sort_unstable_by_key(|file| file.number());
+    Ok(freed)
+}
+
+/// Adds the files of a bucket of which a caller has anything, without that. Files whose export does not live are passed
+/// over.
+fn add_freed(
+    alloc: Global,
+    exports: &[LivingExport],
+    files: &[LockedFile],
+    caller_name: &[u8],
+    freed: &mut Vec<LockedFile>,
+) -> Result<(), AllocError>
+    ensures { OnOk result ((more : List LockedValue) × (freed.new.items ≡ freed.old.items ++ more) ×
+        AreFreedOf exports.now caller_name.now files.now more) }
+{
+    for file in files {
+        if !lives(exports, file.export()) {
+            continue;
+        }
+        let locks = file.file().free(alloc, caller_name)?;
+        if locks != *file.file() {
+            freed.push(LockedFile::new(alloc, file.number(), file.export(), locks)?)?;
+        }
+    }
+    Ok(())
+}
