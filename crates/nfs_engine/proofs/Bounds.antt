@@ -11,7 +11,7 @@ use Rattle.side_wire.specs.declared.message.Message.{Message}
 use Rattle.side_wire.specs.declared.mount.MountCall.{MountCall}
 use Rattle.side_wire.specs.declared.mount.MountCall.TheVariants as mount
 use Rattle.side_wire.specs.declared.mount.MountReply.{MountReply}
-use Rattle.nfs_machine.proofs.Bounds.{mounts_stay_fit}
+use Rattle.nfs_machine.proofs.Bounds.{locks_stay_fit, mounts_stay_fit, opening_fits}
 use Rattle.nfs_machine.proofs.Kept.{steps_keep_exports}
 use Rattle.nfs_machine.proofs.MountSizes.{mount_replies_bounded}
 use Rattle.nfs_machine.proofs.SideReplies.{mount_replies_form}
@@ -109,7 +109,7 @@ pub opening-within : (es : List ExportValue) (moment : Moment) → AreFaultless 
     IsWithinBounds (opening es moment)
 opening-within es moment faultless =
     let all = numbered-bound 1 es (faultless-bound es faultless) in
-    record { mounts = tt; exports = all.0; hosts = all.1 }
+    record { mounts = tt; locks = (opening_fits es moment).1; exports = all.0; hosts = all.1 }
 
 -- ---- steps
 pub step-within : (old : State) (ctx : Ctx) (call : Call) (reply : Reply) (messages : List Message) (new : State) →
@@ -118,6 +118,7 @@ step-within old ctx call reply messages new step asked within =
     let keeps = steps_keep_exports old ctx call reply messages new step in
     record {
       mounts = mounts_stay_fit old ctx call reply messages new step asked within.mounts;
+      locks = locks_stay_fit old ctx call reply messages new step asked within.locks;
       exports = subst ExportsFit (sym keeps.exports) within.exports;
       hosts = subst FewHosts (sym keeps.exports) within.hosts;
     }

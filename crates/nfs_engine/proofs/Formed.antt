@@ -1,18 +1,22 @@
--- The reply of a step, and a refusal, has its form.
-use Rattle.std.proofs.Common.{◌≡◌, List, Option, Some, None, IfSome, refl, sym, subst, arith}
-use Rattle.nfs_xdr.specs.Writing.{appended}
+-- The reply of a step, and a refusal, has its form, and so do its messages.
+use Rattle.std.proofs.Common.{◌≡◌, List, [], ◌∷◌, Option, Some, None, IfSome, refl, sym, subst, arith}
 use Rattle.side_wire.specs.declared.message.Message.{Message}
 use Rattle.side_wire.specs.declared.mount.MountCall.TheVariants as mount
 use Rattle.side_wire.specs.declared.mount.MountStatus.TheVariants as mount_status
 use Rattle.side_wire.specs.declared.nlm.NlmCall.{NlmCall}
 use Rattle.side_wire.specs.declared.nlm.NlmCall.TheVariants as nlm
 use Rattle.side_wire.specs.declared.nlm.NlmReply.{NlmReply}
+use Rattle.side_wire.specs.Nlm.{HasNlmForm}
 use Rattle.nfs_wire.specs.declared.calls.NfsCall.{NfsCall}
 use Rattle.nfs_wire.specs.declared.replies.NfsReply.{NfsReply}
+use Rattle.nfs_machine.proofs.Bounds.{spelled_calls_fit}
+use Rattle.nfs_machine.proofs.Posted.{nlm_messages_form}
 use Rattle.nfs_machine.proofs.Short.{replies_short, refusals_short}
+use Rattle.nfs_machine.proofs.SideReplies.{nlm_replies_form}
 use Rattle.nfs_machine.specs.Laws.{IsShort}
-use Rattle.nfs_machine.specs.NlmSteps.{NlmStep}
-use Rattle.nfs_machine.specs.Refusal.{nfs_refusal, refusal_of}
+use Rattle.nfs_machine.specs.Refusal.{nfs_refusal, nlm_refusal, refusal_of}
+use Rattle.nfs_machine.specs.Run.{FromHost, Received, Setting, context_of}
+use Rattle.nfs_machine.specs.SideLaws.{AskedFits, CallFits}
 use Rattle.nfs_machine.specs.State.{State}
 use Rattle.nfs_machine.specs.Step.{Step}
 use Rattle.nfs_machine.specs.WellFormed.{WellFormed}
@@ -23,36 +27,108 @@ use Rattle.nfs_machine.specs.declared.calls.Reply.{Reply}
 use Rattle.nfs_machine.specs.declared.calls.Reply.TheVariants as replies
 use Rattle.nfs_machine.specs.declared.context.Ctx.{Ctx}
 use Rattle.nfs_engine.proofs.Bounds.{mount-form}
+use Rattle.nfs_engine.proofs.NlmSizes.{nlm-size}
+use Rattle.nfs_engine.proofs.Quiet.{mount-quiet, nfs-quiet}
 use Rattle.nfs_engine.proofs.Sizes.{mount_refused_size}
+use Rattle.nfs_engine.specs.Asked.{IsAsked}
 use Rattle.nfs_engine.specs.Bounds.{IsWithinBounds}
-use Rattle.nfs_engine.specs.Built.{IsBuilt}
 use Rattle.nfs_engine.specs.Forms.{HasForm, RefusalHasForm}
+use Rattle.nfs_engine.specs.Posting.{HaveForms}
+use Rattle.nfs_engine.specs.declared.asking.Asked.{Asked}
 
-nlm_form : (old : State) (ctx : Ctx) (call : NlmCall) (reply : NlmReply) (messages : List Message) (new : State) → IsBuilt (calls.Nlm call) → NlmStep old ctx call reply messages new → HasForm (replies.Nlm reply)
-unfolding NlmStep appended
-nlm_form old ctx nlm.Null reply messages new built step = subst (λ (r : NlmReply). HasForm (replies.Nlm r)) (sym step.reply_is) (tt, omega arith)
-nlm_form old ctx call reply messages new built step = cc
+-- what a call names is within its bounds, where that is NLM's
+abbrev pub IsWithin : Call → Type 0
+IsWithin (calls.Nlm call) = CallFits call
+IsWithin call = Unit {0}
 
-pub step_form : (old : State) (ctx : Ctx) (call : Call) (reply : Reply) (messages : List Message) (new : State) → IsBuilt call → IsWithinBounds old → WellFormed old → Step old ctx call reply messages new → HasForm reply
-step_form old ctx (calls.Nfs call) (replies.Nfs reply) messages new built within formed step = replies_short old ctx call reply messages new formed step
-step_form old ctx (calls.Nfs call) (replies.Mount reply) messages new built within formed step = absurd step
-step_form old ctx (calls.Nfs call) (replies.Nlm reply) messages new built within formed step = absurd step
-step_form old ctx (calls.Mount call) (replies.Nfs reply) messages new built within formed step = absurd step
-step_form old ctx (calls.Mount call) (replies.Mount reply) messages new built within formed step = mount-form old ctx call reply messages new within formed step
-step_form old ctx (calls.Mount call) (replies.Nlm reply) messages new built within formed step = absurd step
-step_form old ctx (calls.Nlm call) (replies.Nfs reply) messages new built within formed step = absurd step
-step_form old ctx (calls.Nlm call) (replies.Mount reply) messages new built within formed step = absurd step
-step_form old ctx (calls.Nlm call) (replies.Nlm reply) messages new built within formed step = nlm_form old ctx call reply messages new built step
+pub within-asked : (ctx : Ctx) (call : Call) → AskedFits ctx call → IsWithin call
+within-asked ctx (calls.Nfs call) fits = tt
+within-asked ctx (calls.Mount call) fits = tt
+within-asked ctx (calls.Nlm call) fits = fits
+
+pub step_form : (old : State) (ctx : Ctx) (call : Call) (reply : Reply) (messages : List Message) (new : State) →
+    IsWithin call → IsWithinBounds old → WellFormed old → Step old ctx call reply messages new → HasForm reply
+step_form old ctx (calls.Nfs call) (replies.Nfs reply) messages new fits within formed step =
+    replies_short old ctx call reply messages new formed step
+step_form old ctx (calls.Nfs call) (replies.Mount reply) messages new fits within formed step = absurd step
+step_form old ctx (calls.Nfs call) (replies.Nlm reply) messages new fits within formed step = absurd step
+step_form old ctx (calls.Mount call) (replies.Nfs reply) messages new fits within formed step = absurd step
+step_form old ctx (calls.Mount call) (replies.Mount reply) messages new fits within formed step =
+    mount-form old ctx call reply messages new within formed step
+step_form old ctx (calls.Mount call) (replies.Nlm reply) messages new fits within formed step = absurd step
+step_form old ctx (calls.Nlm call) (replies.Nfs reply) messages new fits within formed step = absurd step
+step_form old ctx (calls.Nlm call) (replies.Mount reply) messages new fits within formed step = absurd step
+step_form old ctx (calls.Nlm call) (replies.Nlm reply) messages new fits within formed step =
+    let form : HasNlmForm reply =
+    nlm_replies_form old ctx call reply messages new (λ file. (within.locks file).0) fits step in
+    (form, nlm-size reply form)
+
+-- the messages that a step puts can be spelled
+pub step_messages : (old : State) (ctx : Ctx) (call : Call) (reply : Reply) (messages : List Message) (new : State) →
+    IsWithin call → IsWithinBounds old → Step old ctx call reply messages new → HaveForms messages
+step_messages old ctx (calls.Nfs call) (replies.Nfs reply) messages new fits within step =
+    subst HaveForms (sym (nfs-quiet old ctx call reply messages new step)) tt
+step_messages old ctx (calls.Nfs call) (replies.Mount reply) messages new fits within step = absurd step
+step_messages old ctx (calls.Nfs call) (replies.Nlm reply) messages new fits within step = absurd step
+step_messages old ctx (calls.Mount call) (replies.Nfs reply) messages new fits within step = absurd step
+step_messages old ctx (calls.Mount call) (replies.Mount reply) messages new fits within step =
+    subst HaveForms (sym (mount-quiet old ctx call reply messages new step)) tt
+step_messages old ctx (calls.Mount call) (replies.Nlm reply) messages new fits within step = absurd step
+step_messages old ctx (calls.Nlm call) (replies.Nfs reply) messages new fits within step = absurd step
+step_messages old ctx (calls.Nlm call) (replies.Mount reply) messages new fits within step = absurd step
+step_messages old ctx (calls.Nlm call) (replies.Nlm reply) messages new fits within step =
+    (nlm_messages_form old ctx call reply messages new within.locks fits step).0
 
 by_status : (call : NfsCall) (r : Option NfsReply) → nfs_refusal call ≡ r → RefusalHasForm (elim r [ None ↦ refusals.SystemError | Some reply ↦ refusals.Reply (replies.Nfs reply) ])
 by_status call None is = tt
 by_status call (Some reply) is = subst (λ (r : Option NfsReply). IfSome r IsShort) is (refusals_short call)
 
+-- of a call of NLM by its cookie
+by_cookie : (call : NlmCall) → CallFits call →
+    RefusalHasForm (elim (nlm_refusal call) [ None ↦ refusals.SystemError | Some r ↦ refusals.Reply (replies.Nlm r) ])
+by_cookie (nlm.Test a) fits = ((fits.0, tt), nlm-size _ (fits.0, tt))
+by_cookie (nlm.Lock a) fits = (fits.0, nlm-size _ fits.0)
+by_cookie (nlm.Cancel a) fits = (fits.0, nlm-size _ fits.0)
+by_cookie (nlm.Unlock a) fits = (fits.0, nlm-size _ fits.0)
+by_cookie (nlm.Granted a) fits = (fits.0, nlm-size _ fits.0)
+by_cookie (nlm.NmLock a) fits = (fits.0, nlm-size _ fits.0)
+by_cookie (nlm.Share a) fits = (fits, nlm-size _ fits)
+by_cookie (nlm.Unshare a) fits = (fits, nlm-size _ fits)
+by_cookie nlm.Null fits = tt
+by_cookie (nlm.TestMsg a) fits = tt
+by_cookie (nlm.LockMsg a) fits = tt
+by_cookie (nlm.CancelMsg a) fits = tt
+by_cookie (nlm.UnlockMsg a) fits = tt
+by_cookie (nlm.GrantedMsg a) fits = tt
+by_cookie (nlm.TestRes r) fits = tt
+by_cookie (nlm.LockRes r) fits = tt
+by_cookie (nlm.CancelRes r) fits = tt
+by_cookie (nlm.UnlockRes r) fits = tt
+by_cookie (nlm.GrantedRes r) fits = tt
+by_cookie (nlm.FreeAll a) fits = tt
+
 -- a refusal has its form
-pub refusal_form : (call : Call) → IsBuilt call → RefusalHasForm (refusal_of call)
+pub refusal_form : (call : Call) → IsWithin call → RefusalHasForm (refusal_of call)
 unfolding refusal_of
-refusal_form (calls.Nfs call) built = by_status call (nfs_refusal call) refl
-refusal_form (calls.Mount (mount.Mnt path)) built = (tt, omega (arith, mount_refused_size mount_status.ServerFault))
-refusal_form (calls.Mount call) built = tt
-refusal_form (calls.Nlm nlm.Null) built = tt
-refusal_form (calls.Nlm call) built = cc
+refusal_form (calls.Nfs call) fits = by_status call (nfs_refusal call) refl
+refusal_form (calls.Mount (mount.Mnt path)) fits = (tt, omega (arith, mount_refused_size mount_status.ServerFault))
+refusal_form (calls.Mount call) fits = tt
+refusal_form (calls.Nlm call) fits = by_cookie call fits
+
+-- what a record asks is within its bounds, whoever sent it
+asked-within : (bytes : List ℕ) (asked : Asked) → IsAsked bytes asked → IsWithin asked.call
+asked-within bytes asked is = within-asked ctx asked.call (spelled_calls_fit setting (FromHost received) ctx asked.call
+    (omega arith) (record { header = is.header; read = is.read; is_call = is.is_call; made_under = refl }))
+  where
+    setting : Setting
+    setting = record { start = 0; limits = record { total_bytes = 0 } }
+
+    received : Received
+    received = record { host = 49 ∷ []; bytes = bytes; moment = record { seconds = 0; nanoseconds = 0; in_range = omega arith } }
+
+    ctx : Ctx
+    ctx = context_of setting received.host is.header.ids received.moment
+
+-- so its refusal has its form
+pub asked-refusal : (bytes : List ℕ) (asked : Asked) → IsAsked bytes asked → RefusalHasForm (refusal_of asked.call)
+asked-refusal bytes asked is = refusal_form asked.call (asked-within bytes asked is)

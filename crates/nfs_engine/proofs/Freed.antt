@@ -12,6 +12,7 @@ use Rattle.nfs_engine.proofs.Lifted.{any_default, each_shard}
 use Rattle.nfs_engine.proofs.Reheld.{Reholds, hold_so, lifted, only_in, retakes_holds}
 use Rattle.nfs_engine.specs.Engine.{Frees, freed, held_among, shard_among}
 use Rattle.nfs_engine.specs.Shards.{Retakes, ShardValue, shard_of}
+use Rattle.nfs_objects.specs.declared.address.Addr.TheVariants.{Locks}
 
 abbrev pub is_of : List Bool → ℕ → Bool
 is_of which k = get_or which k false
@@ -25,6 +26,7 @@ below_sixteen (Page n page) = omega arith
 below_sixteen (Part n bucket part) = omega arith
 below_sixteen Mounts = omega arith
 below_sixteen (Usage e g) = omega arith
+below_sixteen (Locks b) = omega arith
 
 -- how an address is held, where it goes and where it does not
 abbrev gone : Bool → Option Mode → Option Mode

@@ -8,6 +8,7 @@ use Rattle.nfs_objects.specs.declared.address.Addr.{Addr}
 use Rattle.nfs_objects.specs.declared.address.Addr.TheVariants.{Exports, Inode, Map, Block, Page, Part, Mounts, Usage}
 use Rattle.nfs_engine.specs.Shards.{key_in, number_at}
 pub use Rattle.nfs_objects.proofs.Seen.{is_addr-same}
+use Rattle.nfs_objects.specs.declared.address.Addr.TheVariants.{Locks}
 
 -- of which shard it is
 pub rest : (index key : ℕ) → index < 16 → number_at index key % 16 ≡ index
@@ -53,3 +54,4 @@ address_there index (Page n page) key is = cc
 address_there index (Part n bucket part) key is = cc
 address_there index Mounts key is = cc
 address_there index (Usage e g) key is = cc
+address_there index (Locks b) key is = cc

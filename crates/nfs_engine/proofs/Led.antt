@@ -17,13 +17,14 @@ use Rattle.nfs_objects.specs.declared.address.Addr.{Addr}
 use Rattle.nfs_replies.specs.Replies.{RepliesValue}
 use Rattle.nfs_engine.proofs.Bounds.{step-within}
 use Rattle.nfs_engine.proofs.Built.{asked-built}
-use Rattle.nfs_engine.proofs.Formed.{step_form}
+use Rattle.nfs_engine.proofs.Formed.{IsWithin, step_form, step_messages, within-asked}
 use Rattle.nfs_engine.specs.Book.{BookValue, Commits, IsRun, LeadsBook, LeadsFrom, MayCommit, Rebases, StandsFor}
 use Rattle.nfs_engine.specs.Book.{Steps, book_value, store_in}
 use Rattle.nfs_engine.specs.Built.{IsBuilt}
 use Rattle.nfs_engine.specs.Calls.{FinishedValue, IsCalled, IsUnder}
 use Rattle.nfs_engine.specs.Commits.{SameJournal, Writes, counted_bytes, record_of}
 use Rattle.nfs_engine.specs.Forms.{HasForm}
+use Rattle.nfs_engine.specs.Posting.{HaveForms}
 use Rattle.nfs_engine.specs.Journal.{JournalValue, OutboxValue, RecordsValue}
 use Rattle.nfs_engine.specs.Repeats.{Keeps}
 use Rattle.nfs_engine.specs.Running.{CallsValue, origin_at, without_call}
@@ -114,12 +115,24 @@ module _ (old : BookValue) (f : FinishedValue) (called : IsCalled f.received f.x
   step_of : (m : State) (s : StandsFor (store_in old) m) → IsStep f.done (store_in old) (kept_of (store_in old) m s)
   step_of m s = promised.kept (store_in old) (kept_of (store_in old) m s) may.fits s.represents s.sound s.formed
 
+  fits_of : IsWithin f.done.call
+  fits_of = within-asked f.done.ctx f.done.call
+      (called_fits f.received f.xid f.done.call f.done.ctx called old.setting may.under)
+
   pub reply_form : IsRun old → HasForm f.done.change.reply
   reply_form r =
       let l = r.leads in
       let s = step_of l.state l.stands in
       step_form l.state f.done.ctx f.done.call f.done.change.reply f.done.change.messages s.new.state
-      (called_built f.received f.xid f.done.call f.done.ctx called) l.stands.within l.stands.formed s.step
+      fits_of l.stands.within l.stands.formed s.step
+
+  -- and each of its messages can be spelled
+  pub messages_form : IsRun old → HaveForms f.done.change.messages
+  messages_form r =
+      let l = r.leads in
+      let s = step_of l.state l.stands in
+      step_messages l.state f.done.ctx f.done.call f.done.change.reply f.done.change.messages s.new.state
+      fits_of l.stands.within s.step
 
   module _ (new : BookValue) (commits : Commits old new f) where
     stands_on : (m : State) (s : StandsFor (store_in old) m) → StandsFor (store_in new) (step_of m s).new.state

@@ -23,12 +23,14 @@ pub mod Lifted
 pub mod Listed
 pub mod Loosed
 pub mod Making
+pub mod NlmSizes
 pub mod Opened
 pub mod Opener
 pub mod Openings
 pub mod Parted
 pub mod Placed
 pub mod Places
+pub mod Quiet
 pub mod Reheld
 pub mod Reserving
 pub mod Settled

@@ -42,6 +42,7 @@ use Rattle.nfs_objects.specs.Store.{Store, with_write, with_writes}
 use Rattle.nfs_objects.specs.Sums.{group_of, no_usage, one_using, stored_usage, usage_in}
 use Rattle.nfs_objects.specs.declared.address.Addr.{Addr}
 use Rattle.nfs_objects.specs.declared.address.Addr.TheVariants.{Exports, Inode, Map, Block, Page, Part, Mounts, Usage as UsageOf}
+use Rattle.nfs_objects.specs.declared.address.Addr.TheVariants.{Locks}
 use Rattle.nfs_objects.specs.ExportTables.{ExportTableValue}
 use Rattle.nfs_objects.specs.Values.{write_value}
 use Rattle.nfs_objects.specs.declared.change.Write.{Write}
@@ -49,6 +50,7 @@ use Rattle.nfs_objects.specs.declared.object.Inode.{Inode as Stored}
 use Rattle.nfs_objects.specs.declared.object.Object.{Object}
 use Rattle.nfs_objects.specs.declared.object.Object.TheVariants as objects
 use Rattle.nfs_objects.specs.declared.usage.Usage.{Usage}
+use Rattle.nfs_objects.proofs.Locked.{none-locked}
 use Rattle.nfs_engine.proofs.Bounds.{opening-within}
 use Rattle.nfs_engine.specs.Book.{BookValue, LeadsFrom, StandsFor, store_in}
 use Rattle.nfs_engine.specs.Tables.{ObjectsValue, store_of}
@@ -80,6 +82,10 @@ module _ (base : Store) (time : Time) where
   mounts_at : (n : ℕ) → (roots n).at Mounts ≡ base.at Mounts
   mounts_at zero = ap (λ (s : Store). s.at Mounts) none_yet
   mounts_at (suc n) = ap (λ (s : Store). s.at Mounts) (one_more n) ∙ mounts_at n
+
+  locks_at : (n b : ℕ) → (roots n).at (Locks b) ≡ base.at (Locks b)
+  locks_at zero b = ap (λ (s : Store). s.at (Locks b)) none_yet
+  locks_at (suc n) b = ap (λ (s : Store). s.at (Locks b)) (one_more n) ∙ locks_at n b
 
   maps_at : (n k page : ℕ) → (roots n).at (Map k page) ≡ base.at (Map k page)
   maps_at zero k page = ap (λ (s : Store). s.at (Map k page)) none_yet
@@ -490,13 +496,7 @@ module _ (es : List ExportValue) (moment : Moment) where
       files = files;
       directories = directories;
       usages = record { usage = λ e g live. usages_at base time (λ e g. refl) (length es) e g };
-      locks = record {
-        no_locks = refl;
-        no_shares = refl;
-        no_waiting = refl;
-        no_granted = refl;
-        no_spent_grants = λ n. refl;
-      };
+      locks = none-locked store (opening es moment) (locks_at base time (length es)) refl refl refl refl (λ n. refl);
     };
     sound = record { links = links; parents = parents; usage = usage };
     formed = opening_formed es moment faultless;

@@ -15,6 +15,7 @@ use Rattle.nfs_engine.specs.Shards.{ShardValue, SlotValue, key_in, number_at, nu
 use Rattle.nfs_engine.specs.Shards.{slot_of, slot_value, slots_seen}
 use Rattle.nfs_engine.specs.declared.slot.Slot.{Slot}
 use Rattle.nfs_engine.proofs.Keys.{is_addr-same, key_there, number_there}
+use Rattle.nfs_objects.specs.declared.address.Addr.TheVariants.{Locks}
 
 -- the slot of one address is this now, and nothing else changed
 pub record Becomes (old new : ShardValue) (a : Addr) (o : Option SlotValue) : Type 0 where
@@ -99,6 +100,7 @@ module _ (index next : ℕ) (small : index < 16) (m n : Slab Slot) (es : List (A
   numbered_changed (Part m bucket part) = refl
   numbered_changed Mounts = refl
   numbered_changed (Usage e g) = refl
+  numbered_changed (Locks b) = refl
 
   -- a slot of the slab changed, of an address that has none in the map
   pub number_becomes : found (slots_seen es) (Inode (number_at index key)) ≡ None → IsApart old → Becomes old new

@@ -70,6 +70,7 @@ give_elsewhere last (addresses.Inode k) (Some (objects.Page p)) n other = refl
 give_elsewhere last (addresses.Inode k) (Some (objects.Part p)) n other = refl
 give_elsewhere last (addresses.Inode k) (Some (objects.Mounts t)) n other = refl
 give_elsewhere last (addresses.Inode k) (Some (objects.Usage t)) n other = refl
+give_elsewhere last (addresses.Inode k) (Some (objects.Locks b)) n other = refl
 give_elsewhere last (addresses.Inode k) None n other = refl
 give_elsewhere last addresses.Exports o n other = refl
 give_elsewhere last (addresses.Map m page) o n other = refl
@@ -78,6 +79,7 @@ give_elsewhere last (addresses.Page m page) o n other = refl
 give_elsewhere last (addresses.Part m bucket part) o n other = refl
 give_elsewhere last addresses.Mounts o n other = refl
 give_elsewhere last (addresses.Usage e g) o n other = refl
+give_elsewhere last (addresses.Locks b) o n other = refl
 
 module _ (shards : List ShardValue) (id j : ℕ) (apart : j ≢ id) where
   -- what one holds alone, another does not hold in any mode
@@ -147,6 +149,7 @@ module _ (view : ViewValue) (s : Store) (next : ℕ → ℕ) (fits : AllByRecurs
   given_below last (addresses.Inode k) (Some (objects.Part p)) less is n = less n
   given_below last (addresses.Inode k) (Some (objects.Mounts t)) less is n = less n
   given_below last (addresses.Inode k) (Some (objects.Usage t)) less is n = less n
+  given_below last (addresses.Inode k) (Some (objects.Locks b)) less is n = less n
   given_below last (addresses.Inode k) None less is n = less n
   given_below last addresses.Exports o less is n = less n
   given_below last (addresses.Map m page) o less is n = less n
@@ -155,6 +158,7 @@ module _ (view : ViewValue) (s : Store) (next : ℕ → ℕ) (fits : AllByRecurs
   given_below last (addresses.Part m bucket part) o less is n = less n
   given_below last addresses.Mounts o less is n = less n
   given_below last (addresses.Usage e g) o less is n = less n
+  given_below last (addresses.Locks b) o less is n = less n
 
   pub all_below : (ws : List (Addr × Option Object)) (t : Store) → ((n : ℕ) → t.last n < next (n % 16)) →
       Given view ws →

@@ -13,6 +13,7 @@ use Rattle.nfs_engine.specs.Found.{found}
 use Rattle.nfs_engine.specs.Holders.{hold_in, hold_of}
 use Rattle.nfs_engine.specs.Locked.{IsLocked, is_anybody, is_held}
 use Rattle.nfs_engine.specs.Shards.{ShardValue, SlotValue, empty_slot, hold_at, shard_of}
+use Rattle.nfs_objects.specs.declared.address.Addr.TheVariants.{Locks}
 
 -- ---- the count of one more shard
 pub one_more : (shards : List ShardValue) (total n : ℕ) (s : ShardValue) → LockedSum shards total → IsLocked s n →
@@ -70,6 +71,7 @@ nowhere (Page n page) j = refl
 nowhere (Part n bucket part) j = refl
 nowhere Mounts j = refl
 nowhere (Usage e g) j = refl
+nowhere (Locks b) j = refl
 
 shards_free : (shards : List ShardValue) → LockedSum shards 0 → (k : ℕ) (a : Addr) (j : ℕ) →
     hold_at (shard_among shards k) a j ≡ None

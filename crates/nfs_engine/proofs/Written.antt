@@ -15,6 +15,7 @@ use Rattle.nfs_engine.proofs.Found.{found-changed, found-lookup, same_address, s
 use Rattle.nfs_engine.specs.Found.{Changes, found}
 use Rattle.nfs_engine.specs.Tables.{KeptValue, ObjectsValue, empty_kept, generation_in, kept_at, kept_value, store_of}
 use Rattle.nfs_engine.specs.declared.objects.Kept.{Kept}
+use Rattle.nfs_objects.specs.declared.address.Addr.TheVariants.{Locks}
 
 -- what is kept, as the map has it
 pub kept-lookup : (a : Addr) (es : List (Addr × Kept)) →
@@ -50,6 +51,7 @@ filled_last last (Inode k) (Some (objects.Page p)) n = given_nothing (λ j. last
 filled_last last (Inode k) (Some (objects.Part p)) n = given_nothing (λ j. last (Inode j)) k n
 filled_last last (Inode k) (Some (objects.Exports t)) n = given_nothing (λ j. last (Inode j)) k n
 filled_last last (Inode k) (Some (objects.Usage u)) n = given_nothing (λ j. last (Inode j)) k n
+filled_last last (Inode k) (Some (objects.Locks b)) n = given_nothing (λ j. last (Inode j)) k n
 filled_last last (Inode k) None n = given_nothing (λ j. last (Inode j)) k n
 filled_last last Exports o n = refl
 filled_last last (Map m page) o n = refl
@@ -58,6 +60,7 @@ filled_last last (Page m page) o n = refl
 filled_last last (Part m bucket part) o n = refl
 filled_last last Mounts o n = refl
 filled_last last (Usage e g) o n = refl
+filled_last last (Locks b) o n = refl
 
 -- what is kept of an object that is put there
 abbrev pub filled : KeptValue → Option Object → KeptValue

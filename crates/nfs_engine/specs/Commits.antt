@@ -1,5 +1,5 @@
 -- Commits: what is made before one, and what one writes.
-use Rattle.std.specs.Prelude.{◌≡◌, ◌+◌, ◌-◌, ◌*◌, ◌^◌, ◌<◌, ◌≤◌, ℕ, false, min, []}
+use Rattle.std.specs.Prelude.{◌≡◌, ◌+◌, ◌-◌, ◌^◌, ◌<◌, ◌≤◌, ℕ, false, min, []}
 use Rattle.std.specs.Prelude.{◌∷◌, ◌++◌, length, map, replicate, Option}
 use Rattle.nfs_machine.specs.RpcReplies.{success_message}
 use Rattle.nfs_machine.specs.Run.{FromHost, Record}
@@ -8,6 +8,7 @@ use Rattle.nfs_objects.specs.Values.{write_value}
 use Rattle.nfs_engine.specs.Arrivals.{shared_value}
 use Rattle.nfs_engine.specs.Calls.{FinishedValue}
 use Rattle.nfs_engine.specs.Journal.{JournalValue, TakesPosted}
+use Rattle.nfs_engine.specs.Posting.{HaveForms, posted_bytes}
 use Rattle.nfs_engine.specs.Releases.{ReleaseValue}
 use Rattle.nfs_engine.specs.Tables.{store_of}
 use Rattle.nfs_engine.specs.declared.journal.Committed.{Committed}
@@ -22,12 +23,11 @@ abbrev pub record_of : FinishedValue → Record
 record_of f = record
     { arrival = FromHost f.received; reply = f.done.change.reply; messages = f.done.change.messages }
 
--- what a record is counted as: the bytes that came in, those of the answer, and 4,096 for each message, which is as
--- much as one may have
+-- what a record is counted as: the bytes that came in, those of the answer, and those of its messages
 abbrev pub counted_bytes : FinishedValue → ℕ
 counted_bytes f =
     length f.received.bytes + length (success_message f.xid f.done.change.reply) +
-    4096 * length f.done.change.messages
+    posted_bytes f.done.change.messages
 
 -- the record and its messages have numbers up to 2^64 - 1, the record this one
 pub record HasNumbers (j : JournalValue) (f : FinishedValue) (number : ℕ) : Type 0 where
@@ -52,6 +52,7 @@ pub record HasRoom (j : JournalValue) (writes messages : ℕ) : Type 0 where
 pub record IsReady (j : JournalValue) (f : FinishedValue) (numbered : Numbered) : Type 0 where
   pub numbers : HasNumbers j f numbered.number
   pub answer : numbered.answer ≡ success_message f.xid f.done.change.reply
+  pub forms : HaveForms f.done.change.messages
   pub room : HasRoom j (length f.done.change.writes) (length f.done.change.messages)
 
 -- the writes are made, one record more, and its messages are to be sent

@@ -1,8 +1,9 @@
 -- What the present store is, what led to it, and which messages are to be sent.
-use Rattle.std.specs.Prelude.{◌≡◌, ℕ, ◌+◌, List, [], ◌∷◌, Option, Some, None}
+use Rattle.std.specs.Prelude.{◌≡◌, ℕ, ◌+◌, ◌<◌, ◌^◌, List, [], ◌∷◌, length, Option, Some, None}
 use Rattle.side_wire.specs.declared.message.Message.{Message}
 use Rattle.nfs_machine.specs.Run.{Record}
 use Rattle.nfs_objects.specs.declared.address.Addr.{Addr}
+use Rattle.nfs_engine.specs.Posting.{HaveForms}
 use Rattle.nfs_engine.specs.Tables.{KeptValue, ObjectsValue}
 use Rattle.nfs_engine.specs.declared.outbox.Posted.{Posted}
 
@@ -19,6 +20,11 @@ pub record OutboxValue : Type 0 where
   pub waiting : List Message
   pub taken : ℕ
   pub room : ℕ
+
+-- the messages have numbers up to 2^64 - 1, and each can be spelled
+pub record IsOutbox (waiting : List Message) (taken : ℕ) : Type 0 where
+  pub numbers : taken + length waiting < 2 ^ 64
+  pub forms : HaveForms waiting
 
 -- the present objects, the records of the era, the messages that are to be sent, and the objects as the era began
 pub record JournalValue : Type 0 where

@@ -19,6 +19,7 @@ pub mod Locked
 pub mod Made
 pub mod Numbers
 pub mod Opening
+pub mod Posting
 pub mod Releases
 pub mod Repeats
 pub mod Running

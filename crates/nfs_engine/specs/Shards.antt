@@ -20,6 +20,7 @@ use Rattle.nfs_engine.specs.declared.shard.Had.TheVariants.{Yes, Taken}
 use Rattle.nfs_engine.specs.declared.shard.ReserveError.{ReserveError}
 use Rattle.nfs_engine.specs.declared.shard.ReserveError.TheVariants.{Memory, Spent}
 use Rattle.nfs_engine.specs.declared.slot.Slot.{Slot}
+use Rattle.nfs_objects.specs.declared.address.Addr.TheVariants.{Locks}
 
 -- the shard in which an address stands
 abbrev pub shard_of : Addr → ℕ
@@ -31,6 +32,7 @@ shard_of (Page n page) = n % 16
 shard_of (Part n bucket part) = n % 16
 shard_of Mounts = 0
 shard_of (Usage e g) = g % 16
+shard_of (Locks b) = b % 16
 
 -- what stands at an address, and who holds it
 pub record SlotValue : Type 0 where

@@ -4,15 +4,16 @@ ghost use Rattle.std.specs.Prelude.{◌≡◌, ◌≢◌, ◌++◌, IfOk, IfSome
 ghost use Rattle.nfs_engine.specs.Forms.{HasForm, RefusalHasForm};
 ghost use Rattle.nfs_engine.specs.Answers.{answer_of, fault_answer};
 ghost use Rattle.nfs_wire.specs.Replies.{HasNfsForm};
+ghost use Rattle.side_wire.specs.Nlm.{HasNlmForm};
 ghost use Rattle.nfs_machine.specs.declared.calls.Reply.TheVariants as replies;
 ghost use Rattle.nfs_machine.specs.RpcReplies.{failure_message, refusal_message, results_of, success_message};
 
-use crate::forms::is_formed;
+use crate::forms::{is_formed, nlm_is_formed};
 use nfs_machine::{Refusal, Reply};
 use nfs_rpc::{Answer, Early, Fault, finish_record, start_record, write_reply};
 use nfs_wire::NfsReply;
 use nfs_xdr::{Writer, XdrError};
-use side_wire::{mount, nlm};
+use side_wire::{NlmReply, mount, nlm};
 use std::alloc::{AllocError, Global};
 
 /// Room for most answers.
@@ -24,7 +25,7 @@ const NOTHING: usize = 24;
 /// Room for a reply with a status and attributes (RFC 1813, 2.6).
 const ATTRIBUTES: usize = NOTHING + 4 + 84;
 
-/// The most bytes of a reply of NFS that are spelled before its call is committed.
+/// The most bytes of a reply that are spelled before its call is committed.
 const MAX_LENGTH: usize = 1 << 30;
 
 /// The bytes of the reply to a call that was executed: its results.
@@ -49,8 +50,8 @@ fn write_success(alloc: Global, xid: u32, reply: &Reply) -> Result<Vec<u8>, XdrE
     Ok(finish_record(writer))
 }
 
-/// The bytes of the reply to a call, where its form is seen in the reply alone: one of NFS whose parts are within their
-/// bounds. None for any other.
+/// The bytes of the reply to a call, where its form is seen in the reply alone: one of NFS or NLM whose parts are
+/// within their bounds. None for any other.
 ///
 /// # Errors
 ///
@@ -66,8 +67,28 @@ pub(crate) fn spell(alloc: Global, xid: u32, reply: &Reply) -> Result<Option<Vec
             spell_nfs(alloc, xid, nfs).map_err(|_| AllocError)
         }
         Reply::Mount(_) => Ok(None),
-        Reply::Nlm(_) => Ok(None),
+        Reply::Nlm(nlm) => {
+            if !nlm_is_formed(nlm) {
+                return Ok(None);
+            }
+            spell_nlm(alloc, xid, nlm).map_err(|_| AllocError)
+        }
     }
+}
+
+/// The bytes of a reply of NLM.
+fn spell_nlm(alloc: Global, xid: u32, reply: &NlmReply) -> Result<Option<Vec<u8>>, XdrError>
+    requires { HasNlmForm reply.now }
+    ensures { IfOk result
+        (λ answer. IfSome answer (λ bytes. bytes.items ≡ success_message xid (replies.Nlm reply.now))) }
+{
+    let mut writer = start_record(alloc, CAPACITY)?;
+    write_reply(&mut writer, xid, Answer::Success)?;
+    nlm::write_result(&mut writer, reply)?;
+    if writer.len() > MAX_LENGTH {
+        return Ok(None);
+    }
+    Ok(Some(finish_record(writer)))
 }
 
 /// The bytes of a reply of NFS; None where one fragment does not hold them (RFC 5531, section 11).

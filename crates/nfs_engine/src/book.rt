@@ -351,7 +351,7 @@ impl Book {
     }
 
     /// How many records the era has, and what they are counted as: for each the bytes that came in, those of its
-    /// answer, and 4,096 for each message.
+    /// answer, and those of its messages.
     pub fn era_size(&self) -> (u64, u64)
         ensures { result ≡ (length self.now.records, self.now.bytes) }
     {

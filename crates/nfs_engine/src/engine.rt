@@ -6,7 +6,7 @@ ghost use Rattle.std.specs.Bool.{Decides};
 ghost use Rattle.std.specs.List.{AllByRecursion};
 ghost use Rattle.nfs_objects.specs.Values.{seen_at, write_value};
 ghost use Rattle.nfs_engine.specs.Book.{Admits, Commits, GivesUp, LeadsBook, MayCommit, Rebases, Steps, TakesEra};
-ghost use Rattle.nfs_engine.specs.Book.{TakesMessage, is_full, store_in};
+ghost use Rattle.nfs_engine.specs.Book.{IsRun, TakesMessage, is_full, store_in};
 ghost use Rattle.nfs_engine.specs.Calls.{again_of, txn_of};
 ghost use Rattle.nfs_engine.specs.Commits.{IsReceipt};
 ghost use Rattle.nfs_engine.specs.Engine.{AdmitsLiving, ArePlaces, CountsLocked, CountsReserved, Frees, IsAcquired};
@@ -81,6 +81,13 @@ impl Engine {
         ensures { IsTied self.now }
     {
         let _ = &self.book;
+    }
+
+    /// The records of the era are a run of the machine to a state that the store stands for.
+    pub fn run(&self)
+        ensures { IsRun self.now.book }
+    {
+        self.book.run();
     }
 
     /// At how many addresses of the store something stands.
@@ -298,7 +305,7 @@ impl Engine {
     }
 
     /// How many records the era has, and what they are counted as: for each the bytes that came in, those of its
-    /// answer, and 4,096 for each message.
+    /// answer, and those of its messages.
     pub fn era_size(&self) -> (u64, u64)
         ensures { result ≡ (length self.now.book.records, self.now.book.bytes) }
     {

@@ -6,15 +6,20 @@ ghost use Rattle.std.specs.List.{All};
 ghost use Rattle.nfs_wire.specs.Replies.{FitsWord, HasEntryForm, HasFullEntryForm, HasLookupForm, HasMadeForm};
 ghost use Rattle.nfs_wire.specs.Replies.{HasNfsForm, HasReadForm, HasReaddirForm, HasReaddirplusForm};
 ghost use Rattle.nfs_wire.specs.Replies.{HasReadlinkForm, IsHandle};
+ghost use Rattle.side_wire.specs.Nlm.{HasNlmForm, HasTestStatusForm, IsNetobj};
 
 use bytes::Bytes;
 use nfs_wire::{
     FullEntry, LookupReply, MadeReply, NfsReply, PageEntry, ReadReply, ReaddirReply,
     ReaddirplusReply, ReadlinkReply,
 };
+use side_wire::{NlmReply, TestStatus};
 
 /// The most bytes of a handle, NFS3_FHSIZE (RFC 1813, 2.4).
 const MAX_HANDLE: usize = 64;
+
+/// The most bytes of a cookie or an owner of NLM, MAXNETOBJ_SZ (RFC 1813, 6.1.4).
+const MAX_NETOBJ: usize = 1024;
 
 /// Whether the handles and the texts of a reply of NFS are within their bounds.
 pub(crate) fn is_formed(reply: &NfsReply) -> bool
@@ -123,6 +128,38 @@ fn entry_is_formed(full: &FullEntry) -> bool
         Some(object) => is_handle(object),
         None => true,
     }
+}
+
+/// Whether the cookie and the owner that a reply of NLM shows are within their bounds.
+pub(crate) fn nlm_is_formed(reply: &NlmReply) -> bool
+    ensures { Decides result (HasNlmForm reply.now) }
+{
+    match reply {
+        NlmReply::Test(tested) => is_netobj(&tested.cookie) && holder_is_formed(&tested.status),
+        NlmReply::Lock(answer)
+        | NlmReply::Cancel(answer)
+        | NlmReply::Unlock(answer)
+        | NlmReply::Granted(answer)
+        | NlmReply::Share(answer)
+        | NlmReply::Unshare(answer)
+        | NlmReply::NmLock(answer) => is_netobj(&answer.cookie),
+        _ => true,
+    }
+}
+
+fn holder_is_formed(status: &TestStatus) -> bool
+    ensures { Decides result (HasTestStatusForm status.now) }
+{
+    match status {
+        TestStatus::Denied(holder) => is_netobj(&holder.owner),
+        _ => true,
+    }
+}
+
+fn is_netobj(bytes: &Bytes) -> bool
+    ensures { Decides result (IsNetobj bytes.now) }
+{
+    bytes.len() <= MAX_NETOBJ
 }
 
 fn is_handle(handle: &Bytes) -> bool

@@ -1,10 +1,11 @@
 //! The present store with the records that led to it, and commits of calls: first room, which may want memory, then
 //! what cannot fail.
 
-ghost use Rattle.std.specs.Prelude.{◌≡◌, ◌+◌, ◌-◌, ◌*◌, ◌^◌, [], min, IfSome, OnOk};
+ghost use Rattle.std.specs.Prelude.{◌≡◌, ◌+◌, ◌-◌, ◌^◌, [], min, IfSome, OnOk};
 ghost use Rattle.nfs_engine.specs.Commits.{HasRoom, IsCommitted, IsReady, SameJournal};
 ghost use Rattle.nfs_engine.specs.Commits.{TakesEra, TakesMessage, Writes};
 ghost use Rattle.nfs_engine.specs.Forms.{HasForm};
+ghost use Rattle.nfs_engine.specs.Posting.{HaveForms};
 
 use crate::arrival::Executed;
 use crate::calls::Finished;
@@ -21,9 +22,6 @@ use std::alloc::{AllocError, Global};
 use std::marker::Model;
 use std::snapshot::Snapshot;
 use std::sync::Arc;
-
-/// What a message is counted as, in bytes: as much as one may have.
-const MESSAGE_BYTES: u64 = 4096;
 
 /// What the caller of an executed call is told.
 #[derive(Drop)]
@@ -119,7 +117,8 @@ impl Journal {
     /// The number of the call's record, and the bytes of its answer, with room for what it writes and posts. None where
     /// there is no memory for it, or no number is left for the record or one of its messages; nothing is changed.
     pub(crate) fn make_room_for(&mut self, alloc: Global, finished: &Finished) -> Option<Numbered>
-        requires { HasForm finished.now.done.change.reply }
+        requires reply { HasForm finished.now.done.change.reply }
+        requires messages { HaveForms finished.now.done.change.messages }
         ensures same { SameJournal self.old self.new }
         ensures ready { IfSome result (IsReady self.new finished.now) }
     {
@@ -163,10 +162,11 @@ impl Journal {
             answer: spelled,
             writes,
             messages,
+            posted,
             executed,
         } = ready;
         drop(spelled);
-        let bytes = counted(request.received.message.len(), answer.len(), messages.len());
+        let bytes = counted(request.received.message.len(), answer.len(), posted);
         self.objects.install(writes);
         self.outbox.post(messages);
         self.records.push(record, bytes);
@@ -203,11 +203,11 @@ impl Journal {
     }
 }
 
-/// What a record is counted as, of so many bytes that came in, of the answer and messages.
-fn counted(message: usize, answer: usize, messages: usize) -> u64
-    ensures { result ≡ min (message + answer + 4096 * messages) (2 ^ 64 - 1) }
+/// What a record is counted as, of so many bytes that came in, of the answer and of its messages.
+fn counted(message: usize, answer: usize, posted: u64) -> u64
+    ensures { result ≡ min (message + answer + posted) (2 ^ 64 - 1) }
 {
     (message as u64)
         .saturating_add(answer as u64)
-        .saturating_add((messages as u64).saturating_mul(MESSAGE_BYTES))
+        .saturating_add(posted)
 }

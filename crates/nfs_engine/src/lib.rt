@@ -26,6 +26,7 @@ pub mod journal;
 pub mod kept;
 pub mod laws;
 pub mod leaving;
+mod lengths;
 mod objects;
 pub mod opening;
 pub mod outbox;

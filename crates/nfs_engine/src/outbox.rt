@@ -2,19 +2,22 @@
 
 ghost use Rattle.std.specs.Prelude.{◌≡◌, ◌+◌, ◌<◌, ◌≤◌, ◌^◌, [], ◌++◌, length, IfOk, OnOk};
 ghost use Rattle.std.specs.Bool.{Decides};
+ghost use Rattle.side_wire.specs.Messages.{HasCallbackForm};
 ghost use Rattle.nfs_engine.specs.Journal.{TakesPosted};
+ghost use Rattle.nfs_engine.specs.Posting.{HaveForms};
 
 use side_wire::Message;
 use std::alloc::{AllocError, Global};
 use std::collections::VecDeque;
 use std::marker::Model;
 
-/// A message that was taken, with its number.
+/// A message that was taken, with its number. It can be spelled.
 #[derive(Drop)]
 pub struct Posted {
     /// From 1.
     pub number: u64,
     pub message: Message,
+    pub ghost form: { HasCallbackForm message.call },
 }
 
 /// The messages of what was executed that were not yet taken, the oldest first. They are numbered from 1.
@@ -25,9 +28,9 @@ pub(crate) struct Outbox {
 }
 
 impl Model for Outbox {
-    ghost use Rattle.std.specs.Prelude.{◌+◌, ◌-◌, ◌<◌, ◌^◌, length};
+    ghost use Rattle.std.specs.Prelude.{◌-◌};
     ghost use Rattle.std.specs.VecDeque.{deque_capacity, deque_len};
-    ghost use Rattle.nfs_engine.specs.Journal.{OutboxValue};
+    ghost use Rattle.nfs_engine.specs.Journal.{IsOutbox, OutboxValue};
 
     ghost Value = { OutboxValue };
 
@@ -37,7 +40,7 @@ impl Model for Outbox {
       room = deque_capacity o.waiting - deque_len o.waiting;
     } };
 
-    ghost invariant = { λ o. o.taken + length o.waiting.items < 2 ^ 64 };
+    ghost invariant = { λ o. IsOutbox o.waiting.items o.taken };
 }
 
 impl Outbox {
@@ -72,6 +75,7 @@ impl Outbox {
     pub(crate) fn post(&mut self, messages: Vec<Message>)
         requires room { length messages.items ≤ self.old.room }
         requires numbers { self.old.taken + length self.old.waiting + length messages.items < 2 ^ 64 }
+        requires forms { HaveForms messages.items }
         ensures { self.new ≡ record self.old {
           waiting = self.old.waiting ++ messages.items;
           room = self.new.room;

@@ -8,6 +8,7 @@ ghost use Rattle.nfs_machine.specs.RpcReplies.{success_message};
 
 use crate::answers;
 use crate::arrival::Executed;
+use crate::lengths::messages_size;
 use crate::objects::copy_writes;
 use crate::outbox::copy_messages;
 use bytes::Bytes;
@@ -25,6 +26,8 @@ pub(crate) struct Ready {
     pub writes: Vec<Write>,
     /// For the outbox, once more.
     pub messages: Vec<Message>,
+    /// In how many bytes the messages are sent.
+    pub posted: u64,
     /// One more owner of what is recorded.
     pub executed: Arc<Executed>,
 }
@@ -57,6 +60,7 @@ impl Ready {
             answer: spell(alloc, xid, recorded)?,
             writes: copy_writes(alloc, writes)?,
             messages: copy_messages(alloc, &recorded.messages)?,
+            posted: messages_size(&recorded.messages),
             executed: Arc::try_clone(recorded)?,
         })
     }

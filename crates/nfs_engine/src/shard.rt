@@ -47,6 +47,7 @@ pub fn shard_index(address: Addr) -> usize
             part: _,
         } => (directory % 16) as usize,
         Addr::Usage { export: _, group } => usize::from(group % 16),
+        Addr::Locks(bucket) => usize::from(bucket % 16),
     }
 }
 

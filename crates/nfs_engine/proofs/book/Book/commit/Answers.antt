@@ -4,7 +4,7 @@ use Rattle.nfs_machine.specs.Run.{Setting}
 use Rattle.nfs_machine.specs.RpcReplies.{success_message}
 use Rattle.nfs_replies.specs.declared.origins.Origin.{Origin}
 use Rattle.nfs_engine.proofs.Booked.{answered, placed_origin, unkept_at}
-use Rattle.nfs_engine.proofs.Led.{committed_leads, committed_steps, journal_commits, led_run, reply_form}
+use Rattle.nfs_engine.proofs.Led.{committed_leads, committed_steps, journal_commits, led_run, messages_form, reply_form}
 use Rattle.nfs_engine.specs.Book.{BookValue, Commits, IsBook, MayCommit, book_value}
 use Rattle.nfs_engine.specs.Calls.{FinishedValue}
 use Rattle.nfs_engine.specs.Repeats.{Keeps, kept_for, origin_of}
@@ -12,8 +12,13 @@ use Rattle.nfs_engine.specs.Running.{CallsValue, IsInProgress, origin_at, withou
 use Rattle.nfs_engine.proofs.book.Book.commit.Goals as goal
 use Rattle.nfs_engine.proofs.book.Book.commit.Goals.{After-commit}
 
-pub make_room_for-requires : goal.make_room_for-requires
-make_room_for-requires c =
+pub make_room_for-requires-clause-messages : goal.make_room_for-requires-clause-messages
+make_room_for-requires-clause-messages c =
+    messages_form _ c.args.finished c.is_finished.ensures.called c.is_finished.ensures.promised c.requires
+    (subst IsBook c.self.view_is c.self.invariant).run
+
+pub make_room_for-requires-clause-reply : goal.make_room_for-requires-clause-reply
+make_room_for-requires-clause-reply c =
     reply_form _ c.args.finished c.is_finished.ensures.called c.is_finished.ensures.promised c.requires
     (subst IsBook c.self.view_is c.self.invariant).run
 
