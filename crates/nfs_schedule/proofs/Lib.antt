@@ -10,7 +10,6 @@ pub mod Few
 pub mod Grown
 pub mod Kept
 pub mod Ledgers
-pub mod Nothing
 pub mod Ordered
 pub mod Others
 pub mod Reading

@@ -1,9 +1,13 @@
 -- What is true of a world at every moment.
 use Rattle.std.specs.Prelude.{◌≡◌, ℕ, Option, Some, None, IsSome, slice_get}
+use Rattle.nfs_machine.specs.Grants.{AllHeldUp}
+use Rattle.nfs_machine.specs.LocksFormed.{NoConflict}
+use Rattle.nfs_machine.specs.State.{State}
 use Rattle.nfs_objects.specs.Fits.{Fits}
+use Rattle.nfs_objects.specs.Store.{Store}
 use Rattle.nfs_objects.specs.declared.address.Addr.{Addr}
 use Rattle.nfs_objects.specs.declared.modes.Mode.TheVariants.{Exclusive}
-use Rattle.nfs_engine.specs.Book.{store_in}
+use Rattle.nfs_engine.specs.Book.{StandsFor, store_in}
 use Rattle.nfs_engine.specs.Calls.{TxnValue, txn_of}
 use Rattle.nfs_engine.specs.Engine.{IsTied, held_among, mode_in}
 use Rattle.nfs_schedule.specs.Asking.{IsRead, wanted_by}
@@ -28,11 +32,21 @@ pub record IsReading (w : WorldValue) (t : TxnValue) : Type 0 where
   pub fits : Fits t.view (store_in w.engine.book)
   pub holds : (a : Addr) → held_among w.engine.shards a t.id ≡ mode_in t.view.entries a
 
--- The shards together are the store; who holds an address alone is the only one that holds it; whoever holds one is a
--- worker's call; what each worker's call has read stands; few addresses of that hold nothing; and what it has read and
--- wants next is each address once, the exports first, and then what its first handle names.
+-- the store stands for a state in which no two owners have what conflicts, by locks or by shares, and each request that
+-- waits conflicts with what is held of its file
+pub record KeepsApart (s : Store) : Type 0 where
+  pub state : State
+  pub stands : StandsFor s state
+  pub apart : NoConflict state
+  pub held_up : AllHeldUp state
+
+-- The shards together are the store, which keeps the owners of locks apart; who holds an address alone is the only one
+-- that holds it; whoever holds one is a worker's call; what each worker's call has read stands; few addresses of that
+-- hold nothing; and what it has read and wants next is each address once, the exports first, and then what its first
+-- handle names.
 pub record IsOrderly (w : WorldValue) : Type 0 where
   pub tied : IsTied w.engine
+  pub locks : KeepsApart (store_in w.engine.book)
   pub alone : (a : Addr) (i j : ℕ) → held_among w.engine.shards a i ≡ Some Exclusive →
       IsSome (held_among w.engine.shards a j) → j ≡ i
   pub held : (a : Addr) (id : ℕ) → IsSome (held_among w.engine.shards a id) → IsSomeones worker_id w.workers id

@@ -4,7 +4,7 @@ ghost use Rattle.std.specs.Prelude.{◌≡◌, IfSome};
 ghost use Rattle.nfs_engine.specs.Arrivals.{received_value};
 ghost use Rattle.nfs_engine.specs.Answers.{answer_bytes};
 ghost use Rattle.nfs_engine.specs.Asked.{IsAsked};
-ghost use Rattle.nfs_engine.specs.Built.{IsBuilt};
+ghost use Rattle.nfs_engine.specs.Forms.{RefusalHasForm};
 ghost use Rattle.nfs_machine.specs.Refusal.{refusal_of};
 ghost use Rattle.nfs_machine.specs.RpcReplies.{refusal_message};
 ghost use Rattle.nfs_engine.specs.declared.arrival.Reading.TheVariants as readings;
@@ -100,7 +100,7 @@ pub(crate) fn refuse_arrival(alloc: Global, arrival: Arrival) -> Answer
 
 /// The bytes of a call's refusal; None where there is no memory for them.
 pub fn refusal(alloc: Global, asked: &Asked) -> Option<Vec<u8>>
-    requires { IsBuilt asked.now.call }
+    requires { RefusalHasForm (refusal_of asked.now.call) }
     ensures { IfSome result
         (λ bytes. bytes.items ≡ refusal_message asked.now.xid (refusal_of asked.now.call)) }
 {

@@ -5,7 +5,6 @@ ghost use Rattle.nfs_objects.specs.Attempt.{AsksFirst, Attempts};
 ghost use Rattle.nfs_objects.specs.Modes.{Suits, modes_of};
 ghost use Rattle.nfs_engine.specs.Built.{IsBuilt};
 
-use crate::nlm;
 use nfs_machine::{Call, Ctx};
 use nfs_objects::{Outcome, View};
 use nfs_wire::NfsCall;
@@ -25,7 +24,7 @@ pub fn attempt(alloc: Global, call: &Call, ctx: &Ctx, view: &View) -> Result<Out
     match call {
         Call::Nfs(call) => attempt_nfs(alloc, call, ctx, view),
         Call::Mount(call) => nfs_mount::attempt(alloc, call, ctx, view),
-        Call::Nlm(call) => Ok(nlm::attempt(alloc, call)),
+        Call::Nlm(call) => nlm_daemon::attempt(alloc, call, ctx, view),
     }
 }
 

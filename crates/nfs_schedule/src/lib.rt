@@ -12,7 +12,6 @@ pub mod driving;
 pub mod executing;
 mod foreseen;
 pub mod laws;
-mod nlm;
 pub mod resting;
 mod stop;
 pub mod worker;

@@ -108,12 +108,14 @@ impl World {
         &self.engine
     }
 
-    /// What is true at every moment: the shards together are the store, no two calls hold what conflicts, whoever holds
-    /// an address is a worker's call, and what each such call has read still stands.
+    /// What is true at every moment: the shards together are the store, in which no two owners have locks or shares
+    /// that conflict; no two calls hold what conflicts, whoever holds an address is a worker's call, and what each such
+    /// call has read still stands.
     pub fn order(&self)
         ensures { IsOrderly self.now }
     {
         self.engine.tie();
+        self.engine.run();
     }
 
     /// How many records came in that were not yet admitted.

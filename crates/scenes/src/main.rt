@@ -10,6 +10,7 @@ mod messages;
 mod numbers;
 mod play;
 mod playing;
+mod posts;
 mod scene;
 mod server;
 mod spelling;

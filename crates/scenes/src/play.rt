@@ -133,9 +133,13 @@ fn stream_line<R: Print>(
             Ok(())
         }
         "again" => scene.repeat(line),
+        "unsent" => scene.unsent(rt, line),
         _ => {
             let bytes = bytes(scene.alloc, groups, rest)?;
-            let taken = scene.take(line, verb, &bytes);
+            let taken = match verb {
+                "sent" => scene.sent(rt, line, &bytes),
+                _ => scene.take(line, verb, &bytes),
+            };
             drop(bytes);
             taken
         }

@@ -5,6 +5,7 @@ ghost use Rattle.nfs_schedule.specs.Events.{HasWorker};
 
 use crate::fault::Fault;
 use crate::messages::words_in;
+use crate::posts::given_post;
 use crate::server::{host_named, new_world};
 use crate::steps::{Counts, Difference, Kind, Move, Step, Wanted};
 use crate::world::{HOST, WorldScene};
@@ -90,8 +91,9 @@ impl<'a> WorldScene<'a> {
         let mut world = new_world(self.alloc, self.options)?;
         let mut answers = Vec::new(self.alloc);
         let made = self.make_all(&mut world, &mut answers, steps);
+        let posts = self.posts_given(&world);
         drop(world.end());
-        let told = self.told(rt, made, &answers);
+        let told = self.told(rt, made, &answers, posts);
         drop(answers);
         told
     }
@@ -102,10 +104,16 @@ impl<'a> WorldScene<'a> {
         rt: &R,
         made: Result<Option<Difference>, Fault>,
         answers: &[Answer],
+        posts: Result<Vec<Vec<u8>>, Fault>,
     ) -> Result<bool, Fault> {
-        let Some(difference) = made?.or(self.difference(answers)) else {
+        let posts = posts?;
+        let first = made?.or(self.difference(answers));
+        let Some(difference) = first.or(self.posts_difference(&posts)) else {
             return Ok(true);
         };
+        if let Difference::Post(place) = difference {
+            return self.tell_post(rt, place, &posts);
+        }
         if self.is_refused_early(difference, answers) {
             return Err(Fault::Memory);
         }
@@ -210,6 +218,48 @@ impl<'a> WorldScene<'a> {
         is_refused
     }
 
+    /// The messages that were taken in a world.
+    fn posts_given(&self, world: &World) -> Result<Vec<Vec<u8>>, Fault> {
+        let mut posts = Vec::new(self.alloc);
+        for posted in world.taken() {
+            posts.push(given_post(self.alloc, posted)?)?;
+        }
+        Ok(posts)
+    }
+
+    /// The first message that is other than it has to be.
+    fn posts_difference(&self, posts: &[Vec<u8>]) -> Option<Difference> {
+        for (place, post) in posts.iter().enumerate() {
+            match self.posts.get(place) {
+                Some(wanted) if wanted.bytes == *post => {}
+                _ => return Some(Difference::Post(place)),
+            }
+        }
+        if posts.len() < self.posts.len() {
+            return Some(Difference::Post(posts.len()));
+        }
+        None
+    }
+
+    /// Tells which message is other than it has to be.
+    fn tell_post<R: Print>(&self, rt: &R, place: usize, posts: &[Vec<u8>]) -> Result<bool, Fault> {
+        let title = self.title;
+        match self.posts.get(place) {
+            Some(wanted) => {
+                let line = wanted.line;
+                println!(rt; "line {line}: {title}")?;
+                let words = words_in(self.alloc, &wanted.bytes)?;
+                println!(rt; "  must be {words}")?;
+            }
+            None => println!(rt; "{title}: there are more messages")?,
+        }
+        if let Some(post) = posts.get(place) {
+            let words = words_in(self.alloc, post)?;
+            println!(rt; "  is      {words}")?;
+        }
+        Ok(false)
+    }
+
     /// The first answer that is other than it has to be, where it goes to none of the ends.
     fn difference(&self, answers: &[Answer]) -> Option<Difference> {
         let last = self.difference_at(answers, self.end)?;
@@ -279,6 +329,7 @@ impl<'a> WorldScene<'a> {
                 println!(rt; "{title}: there is more")?;
                 self.tell_given(rt, answers.get(answer))
             }
+            Difference::Post(_) => Ok(()),
         }
     }
 

@@ -2,6 +2,7 @@
 
 use crate::fault::Fault;
 use crate::messages::{USER_0, call_message, record, success_message, words_in};
+use crate::posts::wanted_post;
 use crate::server::{OPTIONS, Server};
 use crate::stream::{Difference, Stream, part};
 use nfs_server::{Served, StreamFault};
@@ -67,6 +68,34 @@ impl<'a> Scene<'a> {
     /// What was sent last is sent again, and has the same answer again.
     pub fn repeat(&mut self, line: u64) -> Result<(), Fault> {
         Ok(self.stream.repeat(self.alloc, line)?)
+    }
+
+    /// The oldest message of the server's own that waits is this one.
+    pub fn sent<R: Print>(&mut self, rt: &R, line: u64, words: &[u8]) -> Result<(), Fault> {
+        let wanted = wanted_post(self.alloc, words)?;
+        self.posted(rt, line, &wanted)
+    }
+
+    /// No message of the server's own waits.
+    pub fn unsent<R: Print>(&mut self, rt: &R, line: u64) -> Result<(), Fault> {
+        self.posted(rt, line, &[])
+    }
+
+    /// The oldest message that waits has these bytes.
+    fn posted<R: Print>(&mut self, rt: &R, line: u64, wanted: &[u8]) -> Result<(), Fault> {
+        self.play(rt)?;
+        let given = self.server.message(self.alloc)?;
+        if given.as_slice() == wanted {
+            return Ok(());
+        }
+        self.is_kept = false;
+        let title = self.title;
+        println!(rt; "line {line}: {title}")?;
+        let wanted = words_in(self.alloc, wanted)?;
+        println!(rt; "  must be {wanted}")?;
+        let given = words_in(self.alloc, &given)?;
+        println!(rt; "  is      {given}")?;
+        Ok(())
     }
 
     /// What a line does that gives these bytes.

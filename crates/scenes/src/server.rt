@@ -4,6 +4,7 @@ ghost use Rattle.std.specs.Prelude.{IfOk};
 ghost use Rattle.nfs_schedule.specs.Worlds.{IsAtRest};
 
 use crate::fault::Fault;
+use crate::posts::given_post;
 use bytes::Bytes;
 use nfs_engine::{Config, Engine};
 use nfs_machine::{Limits, Moment};
@@ -47,8 +48,10 @@ impl Server {
             bytes,
             era_records,
             capacity,
+            callbacks,
             transport,
         } = options;
+        drop(callbacks);
         drop(transport);
         let seconds = clock.unwrap_or(0);
         let config = Config {
@@ -78,6 +81,18 @@ impl Server {
     /// The next calls come at this second.
     pub fn set_clock(&mut self, seconds: u32) {
         self.clock = FixedClock { seconds };
+    }
+
+    /// The oldest message that waits, if any does: its number, the host that it goes to, and its call.
+    pub fn message(&mut self, alloc: Global) -> Result<Vec<u8>, Fault> {
+        match self.engine.take_message() {
+            Some(posted) => {
+                let bytes = given_post(alloc, &posted);
+                drop(posted);
+                bytes
+            }
+            None => Ok(Vec::new(alloc)),
+        }
     }
 
     /// What the server writes for this input, and how serving it ends.

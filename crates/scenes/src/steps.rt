@@ -97,6 +97,13 @@ pub struct Wanted<'a> {
     pub bytes: Vec<u8>,
 }
 
+/// A message that is wanted, and the line that gave it.
+#[derive(Drop)]
+pub struct Post {
+    pub line: u64,
+    pub bytes: Vec<u8>,
+}
+
 /// Where a world goes another way than its scene.
 #[derive(Clone, Copy)]
 pub enum Difference {
@@ -106,4 +113,6 @@ pub enum Difference {
     Answer { wanted: usize, answer: usize },
     /// It has more answers, from this one on.
     More(usize),
+    /// Of the messages that were taken this one, from 0, is not the one that is wanted.
+    Post(usize),
 }

@@ -2,8 +2,9 @@
 
 use crate::fault::Fault;
 use crate::messages::{USER_0, call_message, joined, record, success_message};
+use crate::posts::wanted_post;
 use crate::server::OPTIONS;
-use crate::steps::{Counts, Kind, Move, Step, Wanted};
+use crate::steps::{Counts, Kind, Move, Post, Step, Wanted};
 use std::alloc::{AllocError, Global};
 
 /// The host that calls where a scene says nothing.
@@ -25,6 +26,8 @@ pub struct WorldScene<'a> {
     pub records: Vec<Vec<u8>>,
     pub steps: Vec<Step<'a>>,
     pub wanted: Vec<Wanted<'a>>,
+    /// The messages that are taken, in order.
+    pub posts: Vec<Post>,
     /// The last of several ends that it may have, from 1; 0 where it has one.
     pub end: u64,
     /// How many of its steps are its opening.
@@ -47,6 +50,7 @@ impl<'a> WorldScene<'a> {
             records: Vec::new(alloc),
             steps: Vec::new(alloc),
             wanted: Vec::new(alloc),
+            posts: Vec::new(alloc),
             end: 0,
             opening: 0,
             is_stopped: false,
@@ -75,6 +79,7 @@ impl<'a> WorldScene<'a> {
             "arrive" => self.arrive(line, bytes),
             "ask" => self.ask(line, bytes),
             "executed" => self.executed(line, bytes),
+            "taken" => self.taken(line, bytes),
             "early" => self.early(line, bytes),
             "message" => self.add(line, Move::TakeMessage),
             "era" => self.add(line, Move::NewEra),
@@ -178,6 +183,13 @@ impl<'a> WorldScene<'a> {
         let (number, results) = number(rest)?;
         let message = success_message(self.alloc, results)?;
         self.answered(line, record, Kind::Executed(number as u64), &message)
+    }
+
+    /// The next message that is taken is this one.
+    fn taken(&mut self, line: u64, words: &[u8]) -> Result<(), Fault> {
+        let bytes = wanted_post(self.alloc, words)?;
+        self.posts.push(Post { line, bytes })?;
+        Ok(())
     }
 
     /// A record has a fault, and this reply.
