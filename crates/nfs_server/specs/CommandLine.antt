@@ -1,6 +1,6 @@
 -- The command line: which words are taken, and what they ask for.
 use Rattle.std.specs.Prelude.{◌≡◌, ◌<◌, ◌≤◌, ◌^◌, ◌⊎◌, ◌==◌, ℕ, Bool, true, false}
-use Rattle.std.specs.Prelude.{List, [], map, drop, Option, Some, None, IsSome, option_map, unwrap_or, slice_get}
+use Rattle.std.specs.Prelude.{List, [], map, drop, length, Option, Some, None, IsSome, option_map, unwrap_or, slice_get}
 use Rattle.std.specs.Prelude.{codes, pos}
 use Rattle.std.specs.List.{slice_split}
 use Rattle.std.specs.Option.{SomeIff}
@@ -27,7 +27,8 @@ use Rattle.nfs_server.specs.declared.limits.Limit.{Limit}
 use Rattle.nfs_server.specs.declared.limits.Limit.TheVariants.{Era, Cache, Workers, Connections}
 use Rattle.nfs_server.specs.declared.limits.Limits.{Limits}
 use Rattle.nfs_server.specs.declared.exit.Exit.{Exit}
-use Rattle.nfs_server.specs.declared.exit.Exit.TheVariants.{CommandLine, NoTransport, Exports, Memory}
+use Rattle.nfs_server.specs.Callbacks.{host_in, hosts_of}
+use Rattle.nfs_server.specs.declared.exit.Exit.TheVariants.{CommandLine, NoTransport, Exports, Callback, Memory}
 use Rattle.nfs_server.specs.declared.options.Network.{Network as NetworkOptions}
 use Rattle.nfs_server.specs.declared.options.Options.{Options}
 use Rattle.nfs_server.specs.declared.options.Transport.{Transport}
@@ -51,14 +52,16 @@ number_rule name parser = record (option_rule name) { parser = Some parser }
 abbrev pub with_version : App → App
 with_version app = record app { top = record app.top { has_version = true } }
 
--- a program with the options that say on what is served
+-- a program with the options that say on what is served, and where hosts are called back; `--callback` may be given
+-- more than once
 abbrev pub with_transport : App → App
 with_transport app =
     let tcp = option_rule (codes "tcp") in
     let udp = option_rule (codes "udp") in
     let stdio = flag_rule (codes "stdio") in
     let host = option_rule (codes "host") in
-    with_rule (with_rule (with_rule (with_rule app tcp) udp) stdio) host
+    let callback = record (option_rule (codes "callback")) { action = Some Append } in
+    with_rule (with_rule (with_rule (with_rule (with_rule app tcp) udp) stdio) host) callback
 
 -- a program with the options that say what is served; `--export` may be given more than once
 abbrev pub with_files : App → App
@@ -113,6 +116,9 @@ host_of rows = unwrap_or (first_of (codes "host") rows) (codes "127.0.0.1")
 
 abbrev pub exports_of : List Row → List Text
 exports_of rows = unwrap_or (all_of (codes "export") rows) []
+
+abbrev pub callbacks_of : List Row → List Text
+callbacks_of rows = unwrap_or (all_of (codes "callback") rows) []
 
 -- ---- what the words come to
 
@@ -185,6 +191,7 @@ pub record ReadsOptions (rows : List Row) (options : Options) : Type 0 where
   pub exports : (list : List ExportText)
       × (map parts_of list ≡ map export_parts (exports_of rows)) × (export_fault list ≡ None)
       × (options.exports ≡ map export_of list)
+  pub callbacks : hosts_of options.callbacks ≡ map host_in (callbacks_of rows)
 
 -- the exports of the rows are at fault
 abbrev pub AreRefused : List Row → ExportError → Type 0
@@ -195,6 +202,7 @@ AreRefused rows e =
 -- why rows that are taken give no options
 abbrev pub IsRefusal : List Row → Exit → Type 0
 IsRefusal rows (Exports e) = AreRefused rows e
+IsRefusal rows (Callback number) = (1 ≤ number) × (number ≤ length (callbacks_of rows))
 IsRefusal rows Memory = Unit {0}
 IsRefusal rows _ = ⊥
 
@@ -267,13 +275,16 @@ IsTransportRefusal rows _ = ⊥
 abbrev pub RefusesValue : List Row → Exit → Type 0
 RefusesValue rows exit = IsHostRefusal rows exit ⊎ IsLimitRefusal rows exit ⊎ IsTransportRefusal rows exit
 
--- why the words are refused: the first that is at fault of the command line, the transport and the exports
+-- why the words are refused: the first that is at fault of the command line, the transport, the exports and the
+-- callbacks
 abbrev pub Refuses : List Text → Exit → Type 0
 Refuses words (CommandLine e) =
     IsAmong (kind_of e) (fault_of nfsd words)
     ⊎ ((fault_of nfsd words ≡ []) × RefusesValue (matches_of nfsd words) (CommandLine e))
 Refuses words NoTransport = IsTaken words × IsTransportRefusal (matches_of nfsd words) NoTransport
 Refuses words (Exports e) = IsTaken words × AreRefused (matches_of nfsd words) e
+    × (AsksStdio (matches_of nfsd words) true ⊎ NamesAddress (matches_of nfsd words))
+Refuses words (Callback number) = IsTaken words × IsRefusal (matches_of nfsd words) (Callback number)
     × (AsksStdio (matches_of nfsd words) true ⊎ NamesAddress (matches_of nfsd words))
 Refuses words Memory = Unit {0}
 Refuses words _ = ⊥

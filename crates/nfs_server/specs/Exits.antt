@@ -6,8 +6,10 @@ use Rattle.clap.specs.declared.error.kind.ErrorKind.{ErrorKind}
 use Rattle.clap.specs.declared.error.kind.ErrorKind.TheVariants as kind
 use Rattle.nfs_machine.specs.declared.exports.ExportError.{ExportError}
 use Rattle.nfs_machine.specs.declared.exports.ExportError.TheVariants as export
+use Rattle.nfs_server.specs.declared.callbacks.CallbackError.{CallbackError}
+use Rattle.nfs_server.specs.declared.callbacks.CallbackError.TheVariants as callback
 use Rattle.nfs_server.specs.declared.exit.Exit.{Exit}
-use Rattle.nfs_server.specs.declared.exit.Exit.TheVariants.{CommandLine, NoTransport, Exports, Memory, StandardStream}
+use Rattle.nfs_server.specs.declared.exit.Exit.TheVariants.{CommandLine, NoTransport, Exports, Callback, Memory, StandardStream}
 use Rattle.nfs_streams.specs.declared.serving.StreamFault.{StreamFault}
 use Rattle.nfs_streams.specs.declared.serving.StreamFault.TheVariants as stream
 
@@ -28,6 +30,11 @@ exit_of_command e = exit_of_kind (kind_of e) e
 abbrev pub exit_of_exports : ExportError → Exit
 exit_of_exports export.Memory = Memory
 exit_of_exports e = Exports e
+
+-- callbacks that are refused
+abbrev pub exit_of_callbacks : CallbackError → Exit
+exit_of_callbacks callback.Memory = Memory
+exit_of_callbacks (callback.BadForm number) = Callback number
 
 -- to ask for help or for the version is no mistake
 abbrev pub command_status : ErrorKind → ℕ

@@ -15,6 +15,7 @@ ghost use Rattle.nfs_server.specs.CommandLine.{with_files, with_limits, with_tra
 ghost use Rattle.nfs_server.specs.CommandLine.{flag_rule, number_rule, option_rule};
 ghost use Rattle.nfs_engine.specs.Hosts.{IsHost};
 
+use crate::callbacks::Callbacks;
 use crate::exit::Exit;
 use crate::limits::{Limit, Limits};
 use crate::options::{Network, Options, Transport};
@@ -61,6 +62,9 @@ const TCP_HELP: &str =
 
 const UDP_HELP: &str =
     "Take datagrams at this address; port 0: the system's choice [default: none]";
+
+const CALLBACK_HELP: &str =
+    "Call the peer HOST back at this address when a lock that it waited for is its own; once or more";
 
 const FILES: &str = "Files";
 
@@ -136,12 +140,16 @@ fn command<'a>(alloc: Global) -> Result<Command<'a>, AllocError>
 fn with_transport<'a>(alloc: Global, command: Command<'a>) -> Result<Command<'a>, AllocError>
     ensures { IfOk result (λ more. app_of more ≡ with_transport (app_of command.entry)) }
 {
+    let callback = option(alloc, "callback", "HOST=ADDR:PORT", CALLBACK_HELP).action(
+        ArgAction::Append,
+    );
     command
         .next_help_heading(TRANSPORT)
         .arg(option(alloc, "tcp", "ADDR:PORT", TCP_HELP))?
         .arg(option(alloc, "udp", "ADDR:PORT", UDP_HELP))?
         .arg(flag(alloc, "stdio", STDIO_HELP))?
-        .arg(option(alloc, "host", "TEXT", HOST_HELP))
+        .arg(option(alloc, "host", "TEXT", HOST_HELP))?
+        .arg(callback)
 }
 
 // The command with the options that say what is served.
@@ -413,14 +421,17 @@ fn read_options(
         (IsRefusal (rows_of (found_of matches.now))) }
 {
     let list = export_texts(alloc, matches.get_strs("export").unwrap_or(&[]))?;
+    let exports = Exports::new(alloc, list)?;
+    let callbacks = Callbacks::new(alloc, matches.get_strs("callback").unwrap_or(&[]))?;
     Ok(Options {
-        exports: Exports::new(alloc, list)?,
+        exports,
         start: matches.get_one("start"),
         clock: matches.get_one("clock"),
         host,
         bytes: matches.get_one("bytes").unwrap_or(DEFAULT_BYTES),
         era_records: limits.era_records,
         capacity: limits.capacity,
+        callbacks,
         transport,
     })
 }

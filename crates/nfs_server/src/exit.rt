@@ -2,6 +2,7 @@
 
 ghost use Rattle.std.specs.Prelude.{◌≡◌};
 
+use crate::callbacks::CallbackError;
 use clap::error::ErrorKind;
 use nfs_machine::ExportError;
 use nfs_streams::StreamFault;
@@ -21,6 +22,9 @@ pub enum Exit {
     /// The exports are refused.
     #[error("nfsd: {0}")]
     Exports(ExportError),
+    /// A callback is refused: its number, from 1.
+    #[error("nfsd: callback {0}: bad form")]
+    Callback(u64),
     /// An address can't be listened on: its text.
     #[error("nfsd: cannot listen on {0}")]
     CannotListen(String),
@@ -56,7 +60,11 @@ impl Exit {
                 _ => 2,
             },
             Exit::NoTransport => 2,
-            Exit::Exports(_) | Exit::CannotListen(_) | Exit::Memory | Exit::StandardStream => 1,
+            Exit::Exports(_)
+            | Exit::Callback(_)
+            | Exit::CannotListen(_)
+            | Exit::Memory
+            | Exit::StandardStream => 1,
         }
     }
 
@@ -108,6 +116,20 @@ impl From<ExportError> for Exit {
         match error {
             ExportError::Memory => Exit::Memory,
             fault => Exit::Exports(fault),
+        }
+    }
+}
+
+impl From<CallbackError> for Exit {
+    ghost use Rattle.std.specs.Prelude.{◌≡◌};
+    ghost use Rattle.nfs_server.specs.Exits.{exit_of_callbacks};
+
+    ghost from_gives = { λ error exit. exit ≡ exit_of_callbacks error };
+
+    fn from(error: CallbackError) -> Exit {
+        match error {
+            CallbackError::BadForm(number) => Exit::Callback(number),
+            CallbackError::Memory => Exit::Memory,
         }
     }
 }

@@ -5,6 +5,7 @@
 //! for how a stream is served.
 #![tactic(auto)]
 
+pub mod callbacks;
 pub mod clock;
 pub mod command_line;
 pub mod exit;
@@ -16,6 +17,7 @@ pub mod started;
 pub mod stdio;
 pub mod warnings;
 
+pub use callbacks::{CallbackAddress, CallbackError, Callbacks};
 pub use clock::{FixedClock, MachineClock, ServerClock, start_number};
 pub use command_line::{arguments, configure};
 pub use exit::Exit;

@@ -4,24 +4,29 @@
 //! answers leave together. Workers answer datagrams. `docs/ARCHITECTURE.md` tells of the threads.
 
 mod attendance;
+mod bell;
 mod clerk;
 mod jobs;
 mod line;
 mod listening;
 mod places;
 mod reading;
+mod sending;
 
 ghost use Rattle.std.specs.Prelude.{◌≡◌, ◌≤◌, []};
 ghost use Rattle.nfs_engine.specs.Opening.{IsLimit};
 ghost use Rattle.nfs_server.specs.CommandLine.{AreWithin};
 
+use crate::callbacks::Callbacks;
 use crate::clock::{ServerClock, start_number};
 use crate::exit::Exit;
 use crate::network::attendance::Attendance;
+use crate::network::bell::Bell;
 use crate::network::jobs::{JOBS, Job};
 pub use crate::network::listening::Sockets;
 use crate::network::listening::{Service, let_in, take_datagrams};
 use crate::network::places::{Keeper, Places, hand_out};
+use crate::network::sending::Sender;
 use crate::options::{Network, Options, Transport};
 use crate::started::open;
 use crossbeam_channel::{Receiver, bounded};
@@ -70,11 +75,18 @@ pub fn serve_network<
 /// # Errors
 ///
 /// `Memory` where there is none to begin; `NoTransport` where the options name no address.
-pub fn serve_sockets<R: AllocGlobal + Threads + Wait + Clock + Copy + Drop + Send + Sync + 'static>(
-    rt: R,
-    options: Options,
-    sockets: Sockets,
-) -> Result<(), Exit>
+pub fn serve_sockets<
+    R: AllocGlobal
+        + Net<Listener = TcpListener, Stream = TcpStream>
+        + Threads
+        + Wait
+        + Clock
+        + Copy
+        + Drop
+        + Send
+        + Sync
+        + 'static,
+>(rt: R, options: Options, sockets: Sockets) -> Result<(), Exit>
     requires { AreWithin options }
 {
     let Options {
@@ -85,6 +97,7 @@ pub fn serve_sockets<R: AllocGlobal + Threads + Wait + Clock + Copy + Drop + Sen
         bytes,
         era_records,
         capacity,
+        callbacks,
         transport,
     } = options;
     drop(host);
@@ -100,16 +113,28 @@ pub fn serve_sockets<R: AllocGlobal + Threads + Wait + Clock + Copy + Drop + Sen
         limits: Limits { total_bytes: bytes },
         era_records,
     };
-    serve_from(rt, config, &network, sockets, clock)
+    serve_from(rt, config, &network, sockets, clock, callbacks)
 }
 
 /// Serves from the opening state that is configured so.
-fn serve_from<R: AllocGlobal + Threads + Wait + Clock + Copy + Drop + Send + Sync + 'static>(
+fn serve_from<
+    R: AllocGlobal
+        + Net<Listener = TcpListener, Stream = TcpStream>
+        + Threads
+        + Wait
+        + Clock
+        + Copy
+        + Drop
+        + Send
+        + Sync
+        + 'static,
+>(
     rt: R,
     config: Config,
     network: &Network,
     sockets: Sockets,
     clock: Option<u32>,
+    callbacks: Callbacks,
 ) -> Result<(), Exit>
     requires capacity { IsLimit config.capacity }
     requires era { IsLimit config.era_records }
@@ -128,13 +153,22 @@ fn serve_from<R: AllocGlobal + Threads + Wait + Clock + Copy + Drop + Send + Syn
         sockets,
         network,
         clock,
+        callbacks,
     )
 }
 
 /// Serves with a pool of so many seats.
 fn serve_pool<
     L: Ledger + Send + Sync + 'static,
-    R: Threads + Wait + Clock + Copy + Drop + Send + Sync + 'static,
+    R: Net<Listener = TcpListener, Stream = TcpStream>
+        + Threads
+        + Wait
+        + Clock
+        + Copy
+        + Drop
+        + Send
+        + Sync
+        + 'static,
 >(
     rt: R,
     alloc: Global,
@@ -144,6 +178,7 @@ fn serve_pool<
     sockets: Sockets,
     network: &Network,
     clock: Option<u32>,
+    callbacks: Callbacks,
 ) -> Result<(), Exit>
     requires name { blank.name ≡ L.name }
     requires parts { blank.parts ≡ L.parts }
@@ -155,12 +190,17 @@ fn serve_pool<
     };
     let places = open_places(rt, alloc, pool, seats, count)?;
     let (jobs, queue) = bounded(alloc, JOBS)?;
+    let Ok(bell) = Arc::new(alloc, Bell::new()) else {
+        return Err(Exit::Memory);
+    };
     let service = Service {
         places,
         jobs,
+        bell,
         clock,
     };
     start_workers(rt, alloc, &service, queue, network.workers)?;
+    start_sender(rt, alloc, &service, callbacks)?;
     attend(rt, alloc, sockets, network, service)
 }
 
@@ -205,6 +245,28 @@ fn start_workers<
         let jobs = queue.clone()?;
         thread::spawn(&rt, move || clerk.work(&rt, alloc, &jobs))?;
     }
+    Ok(())
+}
+
+/// Starts the thread that sends messages.
+fn start_sender<
+    L: Ledger + Send + Sync + 'static,
+    R: Net<Listener = TcpListener, Stream = TcpStream>
+        + Threads
+        + Wait
+        + Clock
+        + Copy
+        + Drop
+        + Send
+        + Sync
+        + 'static,
+>(rt: R, alloc: Global, service: &Service<L>, callbacks: Callbacks) -> Result<(), AllocError> {
+    let mut sender = Sender {
+        clerk: service.clerk(rt)?,
+        callbacks,
+        bell: Arc::try_clone(&service.bell)?,
+    };
+    thread::spawn(&rt, move || sender.work(&rt, alloc))?;
     Ok(())
 }
 

@@ -1,5 +1,6 @@
 //! What the program is asked to serve.
 
+use crate::callbacks::Callbacks;
 use nfs_engine::Host;
 use nfs_machine::Exports;
 
@@ -20,6 +21,8 @@ pub struct Options {
     pub era_records: u64,
     /// How many replies are kept of each host, from 1 to 65,536.
     pub capacity: u64,
+    /// Where hosts are called back. On standard streams nobody is.
+    pub callbacks: Callbacks,
     /// On what it is served.
     pub transport: Transport,
 }

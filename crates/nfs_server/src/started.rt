@@ -56,8 +56,10 @@ pub fn serve_options<C: Moments, R: Source, W: Sink>(
         bytes,
         era_records,
         capacity,
+        callbacks,
         transport,
     } = options;
+    drop(callbacks);
     drop(transport);
     let limits = Limits { total_bytes: bytes };
     let moment = clock.moment();

@@ -5,6 +5,7 @@ ghost use Rattle.nfs_engine.specs.Arrivals.{received_value};
 ghost use Rattle.nfs_engine.specs.Asked.{IsAsked};
 
 use crate::clock::ServerClock;
+use crate::network::bell::Bell;
 use crate::network::line::Line;
 use crate::network::places::{Place, Places};
 use nfs_engine::{Arrival, Asked, Faulted, Host, Reading, Receipt, Received};
@@ -48,6 +49,8 @@ pub(crate) type Answered = Result<Answer, Closed>;
 #[derive(Drop)]
 pub(crate) struct Clerk<L: Ledger, C> {
     pub(crate) places: Places<L>,
+    /// Rung when messages wait to be sent.
+    pub(crate) bell: Arc<Bell>,
     pub(crate) clock: ServerClock<C>,
 }
 
@@ -110,7 +113,13 @@ impl<L: Ledger, C: Clock> Clerk<L, C> {
         let moment = self.clock.moment();
         match host.share() {
             Ok(host) => match Arrival::read(alloc, host, record, moment) {
-                Ok(arrival) => self.execute(rt, alloc, place, arrival),
+                Ok(arrival) => {
+                    let (place, answered) = self.execute(rt, alloc, place, arrival);
+                    if has_posted(&answered) {
+                        self.bell.ring(rt);
+                    }
+                    (place, answered)
+                }
                 Err(_) => (place, Err(Closed::Memory)),
             },
             Err(_) => (place, Err(Closed::Memory)),
@@ -148,6 +157,14 @@ impl<L: Ledger, C: Clock> Clerk<L, C> {
             arrival = back;
         }
         unreachable!()
+    }
+}
+
+/// Whether a call was executed that put a message.
+fn has_posted(answered: &Answered) -> bool {
+    match answered {
+        Ok(Answer::Executed(receipt)) => !receipt.executed.messages.is_empty(),
+        _ => false,
     }
 }
 

@@ -3,6 +3,7 @@
 use crate::clock::ServerClock;
 use crate::exit::Exit;
 use crate::network::attendance::Attendance;
+use crate::network::bell::Bell;
 use crate::network::clerk::Clerk;
 use crate::network::jobs::Job;
 use crate::network::line::Line;
@@ -138,6 +139,8 @@ fn host_at(alloc: Global, address: IpAddr) -> Result<Host, AllocError> {
 pub(crate) struct Service<L: Ledger> {
     pub(crate) places: Places<L>,
     pub(crate) jobs: Sender<Job>,
+    /// Rung when messages wait to be sent.
+    pub(crate) bell: Arc<Bell>,
     /// The second at which every moment is, if any.
     pub(crate) clock: Option<u32>,
 }
@@ -148,6 +151,7 @@ impl<L: Ledger> Service<L> {
         Ok(Service {
             places: self.places.share()?,
             jobs: self.jobs.clone()?,
+            bell: Arc::try_clone(&self.bell)?,
             clock: self.clock,
         })
     }
@@ -156,6 +160,7 @@ impl<L: Ledger> Service<L> {
     pub(crate) fn clerk<C: Drop>(&self, clock: C) -> Result<Clerk<L, C>, AllocError> {
         Ok(Clerk {
             places: self.places.share()?,
+            bell: Arc::try_clone(&self.bell)?,
             clock: ServerClock::new(clock, self.clock),
         })
     }
