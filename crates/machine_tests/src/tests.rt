@@ -13,6 +13,7 @@ mod blocks;
 mod drafts;
 mod exports;
 mod inodes;
+mod locks;
 mod machine;
 mod makers;
 mod mounts;
@@ -293,7 +294,7 @@ enum Beside {
     Nothing,
     /// The bytes of file 9: its first block alone.
     Block(&'static [u8]),
-    /// The same, and what the group of inode 9 uses.
+    /// The same, what the group of inode 9 uses, and that no file of its bucket has locks.
     BlockOf(&'static [u8], Usage),
     /// What the group of inode 9 uses.
     Group(Usage),
@@ -329,6 +330,9 @@ const MAP: Addr = Addr::Map { file: 9, page: 0 };
 
 /// The first block of file 9.
 const BLOCK: Addr = Addr::Block { file: 9, index: 0 };
+
+/// What files have of locks, file 9 among them.
+const LOCKS: Addr = Addr::Locks(9);
 
 /// The page of directory 9 for the cookies from 0 on.
 const PAGE: Addr = Addr::Page {
@@ -385,7 +389,9 @@ fn fill(view: &mut View, alloc: Global, inode: Inode, beside: Beside) -> Result<
             add(view, alloc, MAP, Mode::Exclusive, map)?;
             let block = Object::Block(Bytes::from_static(bytes));
             add(view, alloc, BLOCK, Mode::Exclusive, block)?;
-            add(view, alloc, GROUP, Mode::Exclusive, Object::Usage(usage))
+            add(view, alloc, GROUP, Mode::Exclusive, Object::Usage(usage))?;
+            view.add(LOCKS, Mode::Exclusive, None)?;
+            Ok(())
         }
         Beside::Group(usage) => {
             add(view, alloc, GROUP, Mode::Exclusive, Object::Usage(usage))?;

@@ -6,6 +6,7 @@ ghost use Rattle.std.specs.Prelude.{IfOk};
 ghost use Rattle.nfs_server.specs.CommandLine.{AreWithin};
 
 mod answers;
+mod callbacks;
 mod clients;
 mod eras;
 mod sockets;

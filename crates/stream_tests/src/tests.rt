@@ -6,6 +6,7 @@
 ghost use Rattle.std.specs.Prelude.{IfOk};
 ghost use Rattle.nfs_schedule.specs.Worlds.{IsAtRest};
 
+mod callbacks;
 mod clocks;
 mod command_lines;
 mod connections;
@@ -21,7 +22,8 @@ use nfs_engine::{Config, Engine};
 use nfs_machine::{ExportText, Exports, Limits, Moment};
 use nfs_rpc::stream::Counted;
 use nfs_server::{
-    FixedClock, Host, Options, Served, StreamFault, Transport, serve_options, serve_stream,
+    Callbacks, FixedClock, Host, Options, Served, StreamFault, Transport, serve_options,
+    serve_stream,
 };
 use std::alloc::{AllocError, Global};
 use std::io::{Read, Write};

@@ -1,5 +1,6 @@
 //! What clients do.
 
+use crate::tests::callbacks::is_given_back;
 use std::alloc::{AllocError, Global};
 use std::io;
 use std::io::{Read, Write};
@@ -20,7 +21,7 @@ pub(super) const ANY: u32 = 0x616e7921;
 pub(super) type Exchange = (&'static [u32], &'static [u32]);
 
 /// What a client does.
-#[derive(Clone, Copy)]
+#[derive(Drop)]
 pub(super) enum Visit {
     /// These exchanges over a connection.
     Connection(&'static [Exchange]),
@@ -36,6 +37,8 @@ pub(super) enum Visit {
     Closed(Exchange, &'static [u32]),
     /// The same, where the client ends what it sends behind these words.
     Ended(Exchange, &'static [u32]),
+    /// A lock that another client waits for is given back; that one is called back here, and denies it.
+    Called(TcpListener),
 }
 
 impl Visit {
@@ -56,13 +59,14 @@ impl Visit {
             Visit::Refused(exchange) => open_beside(rt, tcp, exchange, &[], false),
             Visit::Closed(exchange, words) => open_beside(rt, tcp, exchange, words, false),
             Visit::Ended(exchange, words) => open_beside(rt, tcp, exchange, words, true),
+            Visit::Called(listener) => is_given_back(rt, tcp, &listener),
         };
         well.unwrap_or(false)
     }
 }
 
 /// Words as bytes.
-fn spelled(alloc: Global, words: &[u32]) -> Result<Vec<u8>, AllocError> {
+pub fn spelled(alloc: Global, words: &[u32]) -> Result<Vec<u8>, AllocError> {
     let mut bytes = Vec::new(alloc);
     for word in words {
         bytes.extend_from_slice(&word.to_be_bytes())?;
@@ -71,7 +75,7 @@ fn spelled(alloc: Global, words: &[u32]) -> Result<Vec<u8>, AllocError> {
 }
 
 /// A connection, which waits for no answer for ever.
-fn connect<R: AllocGlobal + Net<Listener = TcpListener, Stream = TcpStream>>(
+pub fn connect<R: AllocGlobal + Net<Listener = TcpListener, Stream = TcpStream>>(
     rt: &R,
     address: SocketAddr,
 ) -> io::Result<TcpStream> {
@@ -81,7 +85,7 @@ fn connect<R: AllocGlobal + Net<Listener = TcpListener, Stream = TcpStream>>(
 }
 
 /// Sends words over a connection.
-fn send(alloc: Global, stream: &TcpStream, words: &[u32]) -> io::Result<()> {
+pub fn send(alloc: Global, stream: &TcpStream, words: &[u32]) -> io::Result<()> {
     let mut stream = stream;
     let bytes = spelled(alloc, words)?;
     stream.write_all(&bytes)
@@ -164,7 +168,7 @@ fn exchange_datagrams<R: AllocGlobal + Net<Listener = TcpListener, Stream = TcpS
 }
 
 /// What comes next over a connection, at most 512 bytes of it.
-fn next(alloc: Global, stream: &TcpStream) -> io::Result<Vec<u8>> {
+pub fn next(alloc: Global, stream: &TcpStream) -> io::Result<Vec<u8>> {
     let mut stream = stream;
     let mut bytes = [0u8; MOST];
     let count = stream.read(&mut bytes)?;

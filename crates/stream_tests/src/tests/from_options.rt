@@ -1,8 +1,8 @@
 //! The program from its options to its end.
 
 use super::{
-    Abort, AllocError, Counted, Fail, FixedClock, GETATTR, GETATTR_REPLY, Global, MNT, MNT_REPLY,
-    Options, Transport, exports, host, serve_options, spelled,
+    Abort, AllocError, Callbacks, Counted, Fail, FixedClock, GETATTR, GETATTR_REPLY, Global, MNT,
+    MNT_REPLY, Options, Transport, exports, host, serve_options, spelled,
 };
 
 /// What is written for this input where the options name this start number, and 7 is taken where they name none; and
@@ -20,6 +20,9 @@ fn started(
         bytes: 1 << 40,
         era_records: 65_536,
         capacity: 1024,
+        callbacks: Callbacks {
+            list: Vec::new(alloc),
+        },
         transport: Transport::Stdio,
     };
     let mut clock = FixedClock { seconds: 1000 };

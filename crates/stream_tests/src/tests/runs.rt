@@ -1,7 +1,7 @@
 //! The program over a runtime that is no machine's: what it makes of the machine's time, and where it says what.
 
 use super::{Abort, Fail, Global, MNT, Options, Transport, exports, host, spelled};
-use nfs_server::{Exit, configure, serve_stdio};
+use nfs_server::{Callbacks, Exit, configure, serve_stdio};
 use std::alloc::Allocator;
 use std::cell::Cell;
 use std::fmt::Display;
@@ -79,6 +79,9 @@ fn start_at(alloc: Global, now: Duration) -> Result<u64, Fail> {
         bytes: 1 << 40,
         era_records: 65_536,
         capacity: 1024,
+        callbacks: Callbacks {
+            list: Vec::new(alloc),
+        },
         transport: Transport::Stdio,
     };
     match serve_stdio(&(&run, alloc), options) {

@@ -1,0 +1,66 @@
+#!/usr/bin/env python3
+"""Tries locks over TCP: two clients lock, contend for, wait for and free the ranges of a file, and are called back.
+
+It starts nfsd on a port of the system's choice, with a host of its own that is called back, which answers the first
+grant with GRANTED, so that the lock is held, and the second with DENIED, so that the lock is given back.
+
+usage: bench/locks.py [PROGRAM]
+"""
+import struct
+import time
+
+import locking
+import network
+import nfsd
+from locking import IS_BLOCKED, IS_DENIED, IS_GRANTED, status
+
+
+def contends(one, other, handle):
+    """Two clients want one range."""
+    assert status(one.ask(locking.locking(1, handle, 1, 0, 100))) == IS_GRANTED
+    assert status(other.ask(locking.locking(2, handle, 2, 50, 100))) == IS_DENIED
+    assert status(other.ask(locking.testing(3, handle, 2, 50, 100))) == IS_DENIED
+    assert status(other.ask(locking.locking(4, handle, 2, 100, 100))) == IS_GRANTED
+    assert status(one.ask(locking.unlocking(5, handle, 1, 50, 50))) == IS_GRANTED
+    assert status(other.ask(locking.locking(6, handle, 2, 50, 50))) == IS_GRANTED
+    assert status(one.ask(locking.testing(7, handle, 1, 99, 1))) == IS_DENIED
+    other.ask(locking.freeing(8, 2))
+    assert status(one.ask(locking.testing(9, handle, 1, 50, 0))) == IS_GRANTED
+    print("two clients: a range has one owner")
+
+
+def waits(one, other, handle, host, number, answered):
+    """A client waits for a range, gets it, and its host says whether it still wants it."""
+    assert status(one.ask(locking.locking(10 * number, handle, 1, 0, 100))) == IS_GRANTED
+    waiting = locking.locking(10 * number + 1, handle, 2, 0, 100, block=True)
+    assert status(other.ask(waiting)) == IS_BLOCKED
+    assert status(other.ask(waiting)) == IS_BLOCKED, "a repeat has the same reply"
+    assert status(one.ask(locking.unlocking(10 * number + 2, handle, 1, 0, 100))) == IS_GRANTED
+    message = host.next()
+    assert struct.unpack_from(">6I", message) == (number, 0, 2, locking.NLM, 4, locking.GRANTED)
+    assert message[52:] == struct.pack(">I", 1) + locking.lock(handle, 2, 0, 100)
+    for attempt in range(200):
+        held = status(one.ask(locking.testing(1000 * number + attempt, handle, 1, 0, 100))) == IS_DENIED
+        if held == (answered == IS_GRANTED) and (not held or attempt > 20):
+            break
+        time.sleep(0.01)
+    assert held == (answered == IS_GRANTED), "the lock is held just where the host wants it"
+    print(f"grant {number}: the lock is", "held" if held else "free")
+    other.ask(locking.freeing(10 * number + 3, 2))
+
+
+def main():
+    words = nfsd.parser(__doc__)
+    words.add_argument("program", metavar="PROGRAM", nargs="?", default=nfsd.PROGRAM, help="the program (this one)")
+    host = locking.Host(IS_GRANTED, IS_DENIED)
+    callback = f"127.0.0.1=127.0.0.1:{host.port}"
+    with network.Server(words.parse_args().program, "--callback", callback) as server:
+        one, other = network.Connection(server.port), network.Connection(server.port)
+        handle = one.make(b"file")
+        contends(one, other, handle)
+        waits(one, other, handle, host, 1, IS_GRANTED)
+        waits(one, other, handle, host, 2, IS_DENIED)
+
+
+if __name__ == "__main__":
+    main()
