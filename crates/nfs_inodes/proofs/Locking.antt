@@ -31,21 +31,21 @@ use Rattle.nfs_objects.specs.declared.object.Object.TheVariants as stored
 use Rattle.nfs_inodes.specs.Locks.{AreOwnNumbers, with_file}
 
 -- ---- lists
-cons-cases : {X : Type 0} (y : X) (ys : List X) (x : X) → Contains (y ∷ ys) x → (y ≡ x) ⊎ Contains ys x
+pub cons-cases : {X : Type 0} (y : X) (ys : List X) (x : X) → Contains (y ∷ ys) x → (y ≡ x) ⊎ Contains ys x
 cons-cases y ys x (zero, within, at) = inl at
 cons-cases y ys x (suc k, within, at) = inr (k, omega (arith, within), at)
 
-later : {X : Type 0} (y : X) (ys : List X) (x : X) → Contains ys x → Contains (y ∷ ys) x
+pub later : {X : Type 0} (y : X) (ys : List X) (x : X) → Contains ys x → Contains (y ∷ ys) x
 later y ys x (k, within, at) = (suc k, omega (arith, within), at)
 
 -- ---- grants that are put
 -- the grant with a number is of one of these requests, or of none of them, as it was
-abbrev IsOf : FinMap nat_cmp PendingGrant → (file : ℕ) → List Request → (number : ℕ) → PendingGrant → Type 0
+abbrev pub IsOf : FinMap nat_cmp PendingGrant → (file : ℕ) → List Request → (number : ℕ) → PendingGrant → Type 0
 IsOf base file rs number g =
     ((r : Request) × Contains rs r × (r.number ≡ number) × (g ≡ record { file = file; request = r }))
     ⊎ (get base number ≡ Some g)
 
-granted-of : (base : FinMap nat_cmp PendingGrant) (file : ℕ) (rs : List Request) (number : ℕ) (g : PendingGrant) →
+pub granted-of : (base : FinMap nat_cmp PendingGrant) (file : ℕ) (rs : List Request) (number : ℕ) (g : PendingGrant) →
     get (with_grants base file rs) number ≡ Some g → IsOf base file rs number g
 granted-of base file [] number g at = inr at
 granted-of base file (r ∷ rs) number g at =
@@ -66,7 +66,7 @@ granted-of base file (r ∷ rs) number g at =
     ]
 
 -- what stands under a number stands still, or another in its place
-stands-still : (base : FinMap nat_cmp PendingGrant) (file : ℕ) (rs : List Request) (number : ℕ) →
+pub stands-still : (base : FinMap nat_cmp PendingGrant) (file : ℕ) (rs : List Request) (number : ℕ) →
     (get base number ≡ None → ⊥) → get (with_grants base file rs) number ≡ None → ⊥
 stands-still base file [] number some none = some none
 stands-still base file (r ∷ rs) number some none =
@@ -77,7 +77,7 @@ stands-still base file (r ∷ rs) number some none =
       | false ↦ λ e. some e
     ] (sym (get-inserted base r.number (record { file = file; request = r }) number) ∙ gone)) none
 
-one-stands : (base : FinMap nat_cmp PendingGrant) (file : ℕ) (rs : List Request) (r : Request) → Contains rs r →
+pub one-stands : (base : FinMap nat_cmp PendingGrant) (file : ℕ) (rs : List Request) (r : Request) → Contains rs r →
     get (with_grants base file rs) r.number ≡ None → ⊥
 one-stands base file [] r (k, within, at) none = absurd (omega (arith, within))
 one-stands base file (q ∷ rs) r there none = elim (cons-cases q rs r there) [
@@ -123,10 +123,10 @@ nothing-is f is =
     }
 
 -- each file of a list in which each stands once is found by its number
-abbrev IsFound : List LockedValue → LockedValue → Type 0
+abbrev pub IsFound : List LockedValue → LockedValue → Type 0
 IsFound fs f = find (λ (g : LockedValue). g.number == f.number) fs ≡ Some f
 
-once-found : (fs : List LockedValue) → IsDistinct same_number fs → AllByRecursion (IsFound fs) fs
+pub once-found : (fs : List LockedValue) → IsDistinct same_number fs → AllByRecursion (IsFound fs) fs
 unfolding IsDistinct
 once-found [] once = tt
 once-found (f ∷ fs) once = (
