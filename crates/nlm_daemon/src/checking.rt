@@ -74,7 +74,7 @@ pub(crate) struct Place<'a> {
 /// # Errors
 ///
 /// `Need` of the exports, or of what the handle names; and `Memory`.
-pub(crate) fn place<'a>(
+pub(crate) fn place_of<'a>(
     draft: &Draft<'_>,
     lock: &'a NlmLock,
     writes: bool,
@@ -126,7 +126,7 @@ fn judged_place<'a>(
 /// # Errors
 ///
 /// `Need` of the exports, or of what the handle names; and `Memory`.
-pub(crate) fn file(
+pub(crate) fn file_of(
     draft: &Draft<'_>,
     handle: &Bytes,
     writes: bool,

@@ -16,7 +16,7 @@ ghost use Rattle.nlm_daemon.specs.Checks.{IsPlaceOf};
 ghost use Rattle.nlm_daemon.specs.Comes.{ComesTo, lock_places};
 
 use crate::answering::{Procedure, answer};
-use crate::checking::{Place, place};
+use crate::checking::{Place, place_of};
 use crate::granting::put_settled;
 use nfs_inodes::{File, locks_of, next_number, set_locks, spend_number};
 use nfs_objects::{Addr, Change, Draft, Halt, Mode};
@@ -56,7 +56,7 @@ fn lock(
     ensures first { HaltsFirst draft.old.modes draft.old.view
         (first_wanted_with draft.old.view (arguments.now.lock.file ∷ [])) result }
 {
-    let place = match place(draft, &arguments.lock, arguments.exclusive)? {
+    let place = match place_of(draft, &arguments.lock, arguments.exclusive)? {
         Ok(place) => place,
         Err(fault) => return Ok(fault.status()),
     };

@@ -10,7 +10,7 @@ ghost use Rattle.nfs_inodes.specs.Stops.{StopsAt};
 ghost use Rattle.nlm_daemon.specs.Comes.{ComesTo, lock_places};
 
 use crate::answering::{Procedure, answer};
-use crate::checking::file;
+use crate::checking::file_of;
 use crate::locking::{all_locks_of, put};
 use nfs_inodes::locks_of;
 use nfs_objects::{Change, Draft, Halt, Mode};
@@ -41,7 +41,7 @@ fn shared(draft: &mut Draft<'_>, arguments: &ShareArguments) -> Result<NlmStatus
         (first_wanted_with draft.old.view (arguments.now.share.file ∷ [])) result }
 {
     let share = &arguments.share;
-    let file = match file(draft, &share.file, is_writing(share.access))? {
+    let file = match file_of(draft, &share.file, is_writing(share.access))? {
         Ok(file) => file,
         Err(fault) => return Ok(fault.status()),
     };
@@ -86,7 +86,7 @@ fn unshared(draft: &mut Draft<'_>, arguments: &ShareArguments) -> Result<NlmStat
         (first_wanted_with draft.old.view (arguments.now.share.file ∷ [])) result }
 {
     let share = &arguments.share;
-    let file = match file(draft, &share.file, false)? {
+    let file = match file_of(draft, &share.file, false)? {
         Ok(file) => file,
         Err(fault) => return Ok(fault.status()),
     };

@@ -10,7 +10,7 @@ ghost use Rattle.nlm_daemon.specs.Comes.{KnowsEnd, lock_places};
 ghost use Rattle.nlm_daemon.specs.Holders.{holder_of};
 
 use crate::answering::post;
-use crate::checking::place;
+use crate::checking::place_of;
 use bytes::Bytes;
 use nfs_inodes::locks_of;
 use nfs_machine::Reply;
@@ -65,7 +65,7 @@ fn tested(draft: &Draft<'_>, arguments: &TestArguments) -> Result<TestStatus, Ha
     ensures first { HaltsFirst draft.now.modes draft.now.view
         (first_wanted_with draft.now.view (arguments.now.lock.file ∷ [])) result }
 {
-    let place = match place(draft, &arguments.lock, false)? {
+    let place = match place_of(draft, &arguments.lock, false)? {
         Ok(place) => place,
         Err(fault) => return Ok(fault.test_status()),
     };

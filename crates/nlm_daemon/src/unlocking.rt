@@ -9,7 +9,7 @@ ghost use Rattle.nlm_daemon.specs.Answering.{canceling_call, is_canceling, is_un
 ghost use Rattle.nlm_daemon.specs.Comes.{ComesTo, lock_places};
 
 use crate::answering::{Procedure, answer};
-use crate::checking::place;
+use crate::checking::place_of;
 use crate::granting::put_settled;
 use crate::locking::put;
 use nfs_inodes::locks_of;
@@ -45,7 +45,7 @@ fn canceled(draft: &mut Draft<'_>, arguments: &CancelArguments) -> Result<NlmSta
     ensures first { HaltsFirst draft.old.modes draft.old.view
         (first_wanted_with draft.old.view (arguments.now.lock.file ∷ [])) result }
 {
-    let place = match place(draft, &arguments.lock, false)? {
+    let place = match place_of(draft, &arguments.lock, false)? {
         Ok(place) => place,
         Err(fault) => return Ok(fault.status()),
     };
@@ -90,7 +90,7 @@ fn unlocked(draft: &mut Draft<'_>, arguments: &UnlockArguments) -> Result<NlmSta
     ensures first { HaltsFirst draft.old.modes draft.old.view
         (first_wanted_with draft.old.view (arguments.now.lock.file ∷ [])) result }
 {
-    let place = match place(draft, &arguments.lock, false)? {
+    let place = match place_of(draft, &arguments.lock, false)? {
         Ok(place) => place,
         Err(fault) => return Ok(fault.status()),
     };
