@@ -210,12 +210,12 @@ module _ (d : DraftValue) (s : Store) (k : Kept) (fits : Fits d.view s) (stands 
   may-stand file (inl shown) =
       shown-stands file.number file.export shown.inode shown.stands shown.regular shown.exported file.file
   may-stand file (inr locked) =
-      let there : bucket_there (with_writes s d.writes) (file.number % bucket_count) ≡ bucket_at locked.object =
-      ap bucket_at (known-stands d s (addresses.Locks (file.number % bucket_count)) locked.object fits locked.known) in
-      let found = found-has (IsPlaced (with_writes s d.writes) (file.number % bucket_count))
+      let there : bucket_there (with_writes s d.writes) locked.index ≡ bucket_at locked.object =
+      ap bucket_at (known-stands d s (addresses.Locks locked.index) locked.object fits locked.known) in
+      let found = found-has (IsPlaced (with_writes s d.writes) locked.index)
       (λ (f : LockedValue). f.number == file.number) (bucket_at locked.object).files locked.old locked.stands
-      (subst (λ (b : BucketValue). AllByRecursion (IsPlaced (with_writes s d.writes) (file.number % bucket_count)) b.files)
-      there (stands.locks.placed (file.number % bucket_count))) in
+      (subst (λ (b : BucketValue). AllByRecursion (IsPlaced (with_writes s d.writes) locked.index) b.files)
+      there (stands.locks.placed locked.index)) in
       let same : locked.old.number ≡ file.number = (unsigned_Decides locked.old.number file.number).0 found.1 in record {
         lives = ap (λ es. lives_in es file.export) (exports-are locked.exports locked.shown) ∙ locked.lives;
         placed = record {

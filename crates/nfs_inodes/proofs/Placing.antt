@@ -64,31 +64,33 @@ module _ (d : DraftValue) (file : LockedValue) (old bucket : BucketValue) (may :
   -- another file that has something has it still
   locked-still : (g : LockedValue) → g.number ≢ file.number → ShowsLocked d g.number g.export →
       ShowsLocked new g.number g.export
-  locked-still g apart shown = by (index == (g.number % bucket_count)) refl
+  locked-still g apart shown = by (index == shown.index) refl
     where
-      by : (t : Bool) → (index == (g.number % bucket_count)) ≡ t → ShowsLocked new g.number g.export
+      by : (t : Bool) → (index == shown.index) ≡ t → ShowsLocked new g.number g.export
       by false other = record {
         exports = shown.exports;
         shown = (locks-keep d index (stored_bucket bucket)).exports ∙ shown.shown;
         lives = shown.lives;
+        index = shown.index;
         object = shown.object;
-        known = put-known d index (stored_bucket bucket) (g.number % bucket_count)
-            ∙ ap (λ t. known_if t (g.number % bucket_count)) other ∙ shown.known;
+        known = put-known d index (stored_bucket bucket) shown.index
+            ∙ ap (λ t. known_if t shown.index) other ∙ shown.known;
         old = shown.old;
         stands = shown.stands;
         exported = shown.exported;
       }
       by true same =
-          let one : index ≡ g.number % bucket_count = (unsigned_Decides index (g.number % bucket_count)).0 same in
+          let one : index ≡ shown.index = (unsigned_Decides index shown.index).0 same in
           let both : Some (bucket_at shown.object) ≡ Some old = ap (option_map bucket_at) (sym shown.known)
           ∙ ap (λ i. option_map bucket_at (known_at d (addresses.Locks i))) (sym one) ∙ known in
           let its : bucket_at shown.object ≡ old = cc in record {
             exports = shown.exports;
             shown = (locks-keep d index (stored_bucket bucket)).exports ∙ shown.shown;
             lives = shown.lives;
+            index = shown.index;
             object = stored_bucket bucket;
-            known = put-known d index (stored_bucket bucket) (g.number % bucket_count)
-                ∙ ap (λ t. known_if t (g.number % bucket_count)) same;
+            known = put-known d index (stored_bucket bucket) shown.index
+                ∙ ap (λ t. known_if t shown.index) same;
             old = shown.old;
             stands = found-in g.number false (not-same file.number g.number (λ e. apart (sym e)))
                 ∙ ap (λ b. file_in b g.number) (sym its) ∙ shown.stands;
@@ -102,6 +104,7 @@ module _ (d : DraftValue) (file : LockedValue) (old bucket : BucketValue) (may :
     exports = shown.exports;
     shown = (locks-keep d index (stored_bucket bucket)).exports ∙ shown.shown;
     lives = shown.lives;
+    index = index;
     object = stored_bucket bucket;
     known = put-known d index (stored_bucket bucket) index ∙ ap (λ t. known_if t index) (same-number index);
     old = file;

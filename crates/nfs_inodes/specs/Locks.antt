@@ -68,13 +68,14 @@ pub record ShowsFile (d : DraftValue) (number export : ℕ) : Type 0 where
   pub regular : kind_of inode ≡ types.Regular
   pub exported : inode.export ≡ export
 
--- the draft shows that the file has something already, and that its export lives
+-- the draft shows that the file has something already, in a bucket, and that its export lives
 pub record ShowsLocked (d : DraftValue) (number export : ℕ) : Type 0 where
   pub exports : Option Object
   pub shown : known_at d addresses.Exports ≡ Some exports
   pub lives : lives_in (exports_of exports) export ≡ true
+  pub index : ℕ
   pub object : Option Object
-  pub known : known_at d (addresses.Locks (number % bucket_count)) ≡ Some object
+  pub known : known_at d (addresses.Locks index) ≡ Some object
   pub old : LockedValue
   pub stands : file_in (bucket_at object) number ≡ Some old
   pub exported : old.export ≡ export
