@@ -1,30 +1,29 @@
 -- What a draft knows of what files have of locks, and what becomes of it where a bucket is put.
-use Rattle.std.proofs.Common.{◌≡◌, ◌==◌, ◌+◌, ◌*◌, ◌/◌, ◌%◌, ◌<◌, ◌≤◌, ◌^◌, ◌⊎◌, ℕ, Bool, true, false, cond, List, []}
-use Rattle.std.proofs.Common.{◌∷◌, ◌++◌, ◌&&◌, ◌||◌, Option, Some, None, IsSome, find, filter, inl, inr, option_map, not}
+use Rattle.std.proofs.Common.{◌≡◌, ◌==◌, ◌+◌, ◌*◌, ◌/◌, ◌%◌, ◌<◌, ◌^◌, ℕ, true, List, []}
+use Rattle.std.proofs.Common.{◌&&◌, ◌||◌, Option, Some, None, IsSome, filter, option_map, is_ok, not}
 use Rattle.std.proofs.Common.{refl, sym, ◌∙◌, ap, subst, arith, append-nil}
 use Rattle.std.proofs.lemmas.Bool.{and_parts, lt-ltb, le-ltb}
 use Rattle.std.proofs.lemmas.Bool.Decides.{nat_tests}
 use Rattle.std.specs.Cmp.{unsigned_Decides}
-use Rattle.std.specs.List.{AllByRecursion, Contains}
+use Rattle.std.specs.List.{Contains}
 use Rattle.std.specs.Prelude.{◌↔◌, nat_lt}
-use Rattle.nfs_wire.specs.declared.attributes.FileType.TheVariants as types
-use Rattle.nfs_machine.specs.Attributes.{type_of}
+use Rattle.nfs_machine.specs.Checks.{bytes_in}
 use Rattle.nfs_machine.specs.Exports.{LivingExport}
-use Rattle.nfs_machine.specs.Grants.{at_file}
-use Rattle.nfs_machine.specs.LockSteps.{NoneLeft, is_grant_number}
-use Rattle.nfs_machine.specs.State.{Request, State}
+use Rattle.nfs_machine.specs.LockSteps.{is_grant_number}
+use Rattle.nfs_machine.specs.State.{Living, Request, State}
 use Rattle.nlm_ranges.proofs.Bucketed.{others, put-inserted}
 use Rattle.nlm_ranges.specs.Buckets.{BucketValue, IsBucket, IsInserted, LockedValue, bucket_count, file_in, given_most}
 use Rattle.nlm_ranges.specs.Buckets.{number_given, without_file}
-use Rattle.nlm_ranges.specs.Files.{FileValue, has_nothing, no_file}
-use Rattle.nfs_objects.proofs.Exported.{inode-stands}
-use Rattle.nfs_objects.proofs.Locked.{found-has, locks-gone, none-listed}
+use Rattle.nlm_ranges.specs.Files.{FileValue, no_file}
+use Rattle.nfs_objects.proofs.Exported.{living-stands}
+use Rattle.nfs_objects.proofs.Locked.{locks-gone, none-listed}
 use Rattle.nfs_objects.proofs.Seen.{known-stands}
 use Rattle.nfs_objects.proofs.Turns.{locks-kept, locks-put, turns-where-written, turns-written}
 use Rattle.nfs_objects.specs.Fits.{Fits}
-use Rattle.nfs_objects.specs.Knows.{Knows, Shows, Turns, TurnsWhere}
-use Rattle.nfs_objects.specs.Stands.{IsPendingIn, IsPlaced, Kept, Represents, StandLocks, bucket_at, bucket_there}
-use Rattle.nfs_objects.specs.Stands.{content_of, exported_file, exports_of, file_of, file_there, inode_in, lives_in, map_in, stored_bucket}
+use Rattle.nfs_objects.specs.Knows.{Knows, Turns, TurnsWhere}
+use Rattle.nfs_objects.specs.Stands.{Beside, IsPendingIn, IsPlaced, Kept, Represents, beside_at, bucket_at}
+use Rattle.nfs_objects.specs.Stands.{bucket_there, filled}
+use Rattle.nfs_objects.specs.Stands.{content_of, exported_file, file_of, file_there, lives_in, map_in, stored_bucket}
 use Rattle.nfs_objects.specs.Store.{Store, with_write, with_writes}
 use Rattle.nfs_objects.specs.Values.{DraftValue, known_at, with_written}
 use Rattle.nfs_objects.specs.declared.address.Addr.TheVariants as addresses
@@ -34,13 +33,9 @@ use Rattle.nfs_objects.specs.declared.object.Inode.{Inode}
 use Rattle.nfs_objects.specs.declared.object.Object.{Object}
 use Rattle.nfs_objects.specs.declared.object.Object.TheVariants as objects
 use Rattle.nfs_inodes.proofs.Locking.{set-stands, spend-stands}
-use Rattle.nfs_inodes.specs.Counts.{KeepsInodes}
-use Rattle.nfs_inodes.specs.Kinds.{IsInExport, IsShown, kind_of}
-use Rattle.nfs_inodes.specs.Locks.{AreOwnNumbers, HasLocks, HasNone, IsNextNumber, IsPlaceable, NoNumberIsLeft}
-use Rattle.nfs_inodes.specs.Locks.{ShowsFile, ShowsLocked, ShowsNext, locks_freed, locks_set, number_spent, with_file}
+use Rattle.nfs_inodes.specs.Locks.{HasLocks, HasNone, IsFileAt, IsNextNumber, MayHave, NoNumberIsLeft}
+use Rattle.nfs_inodes.specs.Locks.{ShowsNext, locks_freed, locks_set, number_spent, with_file}
 use Rattle.nfs_inodes.specs.Locks.{without_locks}
-use Rattle.nfs_inodes.specs.Stops.{inode_at}
-use Rattle.nfs_inodes.specs.declared.found.Known.{Known}
 
 -- ---- what is known
 module _ (d : DraftValue) where
@@ -131,120 +126,58 @@ module _ (d : DraftValue) where
           }
 
 -- ---- a file that is put
--- a regular file has a map
-regular-mapped : (c : Content) → type_of (content_of c) ≡ types.Regular → IsSome (map_in c)
-regular-mapped (contents.Regular map) e = refl
-regular-mapped (contents.Directory directory) e = cc
-regular-mapped (contents.Link text) e = cc
-regular-mapped (contents.BlockDevice device) e = cc
-regular-mapped (contents.CharacterDevice device) e = cc
-regular-mapped contents.Socket e = cc
-regular-mapped contents.Fifo e = cc
+-- what contains bytes has a map
+regular-mapped : (beside : Beside) (c : Content) → is_ok (bytes_in (filled beside (content_of c))) ≡ true →
+    IsSome (map_in c)
+regular-mapped beside (contents.Regular map) e = refl
+regular-mapped beside (contents.Directory directory) e = cc
+regular-mapped beside (contents.Link text) e = cc
+regular-mapped beside (contents.BlockDevice device) e = cc
+regular-mapped beside (contents.CharacterDevice device) e = cc
+regular-mapped beside contents.Socket e = cc
+regular-mapped beside contents.Fifo e = cc
 
--- the inode that is known, where this is known of the exports and of its number
-abbrev Inside : Option (Option Object) → Option (Option Object) → Option Inode
-Inside e o = elim e as (λ (x : Option (Option Object)). Option Inode) [
-  | None ↦ None
-  | Some exports ↦ elim o as (λ (x : Option (Option Object)). Option Inode)
-      [ None ↦ None | Some object ↦ inode_in (exports_of exports) object ]
-]
-
--- what is shown of a file
-pub file-shown : (d : DraftValue) (x : Known) → IsShown d x → IsInExport d x → x.attributes.kind ≡ types.Regular →
-    ShowsFile d x.number x.export
-file-shown d x shown inside regular = by (inode_at d x.number) refl shown inside
-  where
-    by : (o : Option Inode) → inode_at d x.number ≡ o → option_map kind_of o ≡ Some x.attributes.kind →
-        option_map (λ (i : Inode). i.export) o ≡ Some x.export → ShowsFile d x.number x.export
-    by None is kind export = cc
-    by (Some i) is kind export =
-        let same : kind_of i ≡ x.attributes.kind = cc in record {
-          inode = i;
-          stands = is;
-          regular = same ∙ regular;
-          exported = (let its : i.export ≡ x.export = cc in its);
-        }
-
-pub shown-kept : (d new : DraftValue) (n export : ℕ) → KeepsInodes d new → ShowsFile d n export → ShowsFile new n export
-shown-kept d new n export keeps shown = record {
-  inode = shown.inode;
-  stands = ap (λ e. Inside e (known_at new (addresses.Inode n))) keeps.exports
-      ∙ ap (Inside (known_at d addresses.Exports)) (keeps.inodes n) ∙ shown.stands;
-  regular = shown.regular;
-  exported = shown.exported;
-}
-
-module _ (d : DraftValue) (s : Store) (k : Kept) (fits : Fits d.view s) (stands : Represents (with_writes s d.writes) k) where
-  exports-are : (o : Option Object) → known_at d addresses.Exports ≡ Some o → k.state.exports ≡ exports_of o
-  exports-are o known = stands.tables.exports ∙ ap exports_of (known-stands d s addresses.Exports o fits known)
-
+module _ (s : Store) (k : Kept) (stands : Represents s k) where
   -- what may be put somewhere: its export lives, and it is placed
   record MayStand (file : LockedValue) : Type 0 where
     pub lives : lives_in k.state.exports file.export ≡ true
-    pub placed : IsPlaced (with_writes s d.writes) (file.number % bucket_count) file
+    pub placed : IsPlaced s (file.number % bucket_count) file
 
-  shown-stands : (number export : ℕ) (i : Inode) → inode_at d number ≡ Some i → kind_of i ≡ types.Regular →
-      i.export ≡ export → (has : FileValue) → MayStand (record { number = number; export = export; file = has })
-  shown-stands number export i at regular exported has =
-      by (known_at d addresses.Exports) refl (known_at d (addresses.Inode number)) refl at
-    where
-      by : (e : Option (Option Object)) → known_at d addresses.Exports ≡ e → (o : Option (Option Object)) →
-          known_at d (addresses.Inode number) ≡ o → Inside e o ≡ Some i →
-          MayStand (record { number = number; export = export; file = has })
-      by None e-is o o-is there = cc
-      by (Some e) e-is None o-is there = cc
-      by (Some e) e-is (Some o) o-is there =
-          let found = inode-stands (exports_of e) o i there in record {
-            lives = ap (λ es. lives_in es export) (exports-are e e-is)
-                ∙ subst (λ x. lives_in (exports_of e) x ≡ true) exported found.lives;
-            placed = record {
-              bucket = refl;
-              inode = i;
-              stands = known-stands d s (addresses.Inode number) o fits o-is ∙ found.stands;
-              regular = regular-mapped i.content regular;
-              export = exported;
-            };
-          }
-
-  may-stand : (file : LockedValue) → IsPlaceable d file → MayStand file
-  may-stand file (inl shown) =
-      shown-stands file.number file.export shown.inode shown.stands shown.regular shown.exported file.file
-  may-stand file (inr locked) =
-      let there : bucket_there (with_writes s d.writes) locked.index ≡ bucket_at locked.object =
-      ap bucket_at (known-stands d s (addresses.Locks locked.index) locked.object fits locked.known) in
-      let found = found-has (IsPlaced (with_writes s d.writes) locked.index)
-      (λ (f : LockedValue). f.number == file.number) (bucket_at locked.object).files locked.old locked.stands
-      (subst (λ (b : BucketValue). AllByRecursion (IsPlaced (with_writes s d.writes) locked.index) b.files)
-      there (stands.locks.placed locked.index)) in
-      let same : locked.old.number ≡ file.number = (unsigned_Decides locked.old.number file.number).0 found.1 in record {
-        lives = ap (λ es. lives_in es file.export) (exports-are locked.exports locked.shown) ∙ locked.lives;
+  may-stand : (file : LockedValue) → IsFileAt k.state file.number file.export → MayStand file
+  may-stand file at =
+      let beside : Beside = beside_at k.state file.number in
+      let found = living-stands k.state.exports beside (s.at (addresses.Inode file.number)) at.object
+      (sym (stands.objects.objects file.number) ∙ at.lives) in
+      let exported : found.inode.export ≡ file.export = ap (λ (o : Living). o.export) found.is ∙ at.exported in record {
+        lives = subst (λ e. lives_in k.state.exports e ≡ true) exported found.there.lives;
         placed = record {
           bucket = refl;
-          inode = found.0.inode;
-          stands = ap (λ n. (with_writes s d.writes).at (addresses.Inode n)) (sym same) ∙ found.0.stands;
-          regular = found.0.regular;
-          export = found.0.export ∙ locked.exported;
+          inode = found.inode;
+          stands = found.there.stands;
+          regular = regular-mapped beside found.inode.content
+              (subst (λ (o : Living). is_ok (bytes_in o.content) ≡ true) (sym found.is) at.regular);
+          export = exported;
         };
       }
 
-pub set-turns : (d : DraftValue) (file : LockedValue) (old bucket : BucketValue) → IsPlaceable d file →
+pub set-turns : (d : DraftValue) (file : LockedValue) (old bucket : BucketValue) →
     option_map bucket_at (known_at d (addresses.Locks (file.number % bucket_count))) ≡ Some old →
     IsInserted old file bucket → IsBucket bucket →
-    TurnsWhere (λ k. AreOwnNumbers k.state file.number file.file.pending) d
+    TurnsWhere (λ k. MayHave k.state file) d
     (with_written d (addresses.Locks (file.number % bucket_count)) (stored_bucket bucket))
     (locks_set file.number file.file)
-set-turns d file old bucket may known inserted is =
-    turns-where-written d (λ k. AreOwnNumbers k.state file.number file.file.pending)
+set-turns d file old bucket known inserted is =
+    turns-where-written d (λ k. MayHave k.state file)
     (addresses.Locks (file.number % bucket_count)) (stored_bucket bucket) (locks_set file.number file.file)
-    (λ s k fits stands own.
+    (λ s k fits stands may.
     let t : Store = with_writes s d.writes in
-    let stand = may-stand d s k fits stands file may in
+    let stand = may-stand t k stands file may.lives in
     let here : IsInserted (bucket_there t (file.number % bucket_count)) file bucket =
     subst (λ b. IsInserted b file bucket) (sym (bucket-stands d (file.number % bucket_count) old known s fits)) inserted in
     let m : State = with_file k.state file.number file.file in
     locks-put t k m.locks m.shares m.waiting m.granted m.spent_grants stands (file.number % bucket_count)
     (stored_bucket bucket)
-    (set-stands t k.state file bucket stands.locks here (λ some. stand.lives) is (λ some. stand.placed) own))
+    (set-stands t k.state file bucket stands.locks here (λ some. stand.lives) is (λ some. stand.placed) may.own))
 
 -- ---- a number that is given
 pub spend-turns : (d : DraftValue) (file number : ℕ) (old : BucketValue) → ShowsNext d file number →

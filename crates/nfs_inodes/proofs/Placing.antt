@@ -1,13 +1,12 @@
 -- Where something may be put among locks, once something was.
-use Rattle.std.proofs.Common.{◌≡◌, ◌≢◌, ◌==◌, ◌%◌, ◌+◌, ◌<◌, ◌∷◌, ℕ, Bool, true, false, cond, List, Option, Some, None}
-use Rattle.std.proofs.Common.{inl, inr, option_map}
+use Rattle.std.proofs.Common.{◌≡◌, ◌==◌, ◌%◌, ◌+◌, ◌<◌, ◌∷◌, ℕ, cond, List, Option, Some, None}
+use Rattle.std.proofs.Common.{inr, option_map}
 use Rattle.std.proofs.Common.{refl, sym, ◌∙◌, ap, subst}
-use Rattle.std.specs.Cmp.{unsigned_Decides}
 use Rattle.std.specs.Prelude.{MatchOption}
 use Rattle.nfs_machine.specs.Exports.{LivingExport}
 use Rattle.nlm_ranges.specs.Buckets.{BucketValue, IsBucket, IsInserted, LockedValue, bucket_count, file_in, given_most}
 use Rattle.nlm_ranges.specs.Buckets.{number_given, without_file}
-use Rattle.nlm_ranges.specs.Files.{FileValue, has_nothing}
+use Rattle.nlm_ranges.specs.Files.{FileValue}
 use Rattle.nfs_objects.proofs.Knows.{covers-among, stops-wider}
 use Rattle.nfs_objects.proofs.Seen.{written-append}
 use Rattle.nfs_objects.specs.Asks.{Lacks}
@@ -18,14 +17,14 @@ use Rattle.nfs_objects.specs.Values.{DraftValue, known_at, with_written}
 use Rattle.nfs_objects.specs.declared.address.Addr.TheVariants as addresses
 use Rattle.nfs_objects.specs.declared.change.Halt.{Halt}
 use Rattle.nfs_objects.specs.declared.object.Object.{Object}
-use Rattle.nfs_inodes.proofs.Bucketing.{forget-turns, locks-known, next-number, none-left, set-turns, shown-kept}
+use Rattle.nfs_inodes.proofs.Bucketing.{forget-turns, locks-known, next-number, none-left, set-turns}
 use Rattle.nfs_inodes.proofs.Bucketing.{shows-next, spend-turns, unlisted-none, without-inserted}
 use Rattle.nfs_inodes.proofs.Halting.{lacking-stops}
 use Rattle.nfs_inodes.proofs.Locking.{bucket-stored}
-use Rattle.nfs_inodes.proofs.Wishing.{not-same, same-number}
+use Rattle.nfs_inodes.proofs.Wishing.{same-number}
 use Rattle.nfs_inodes.specs.Counts.{KeepsInodes}
-use Rattle.nfs_inodes.specs.Locks.{AreOwnNumbers, HasLocks, HasNone, IsNextNumber, IsPlaceable, KeepsPlaces, NoNumberIsLeft}
-use Rattle.nfs_inodes.specs.Locks.{ShowsLocked, ShowsNext, locks_freed, locks_set, number_spent}
+use Rattle.nfs_inodes.specs.Locks.{HasLocks, HasNone, IsNextNumber, MayHave, NoNumberIsLeft}
+use Rattle.nfs_inodes.specs.Locks.{ShowsNext, locks_freed, locks_set, number_spent}
 use Rattle.nfs_inodes.specs.Stops.{StopsAt}
 
 -- a bucket that is put leaves what is known of all else
@@ -42,88 +41,6 @@ put-known : (d : DraftValue) (index : ℕ) (o : Option Object) (q : ℕ) →
     ≡ cond (index == q) (Some o) (known_at d (addresses.Locks q))
 put-known d index o q = written-append d.writes _ (addresses.Locks index) o (addresses.Locks q)
 
-module _ (d : DraftValue) (file : LockedValue) (old bucket : BucketValue) (may : IsPlaceable d file)
-    (known : option_map bucket_at (known_at d (addresses.Locks (file.number % bucket_count))) ≡ Some old)
-    (inserted : IsInserted old file bucket) where
-  abbrev index : ℕ
-  index = file.number % bucket_count
-
-  abbrev new : DraftValue
-  new = with_written d (addresses.Locks index) (stored_bucket bucket)
-
-  abbrev known_if : Bool → ℕ → Option (Option Object)
-  known_if t q = cond t (Some (stored_bucket bucket)) (known_at d (addresses.Locks q))
-
-  found-in : (number : ℕ) (t : Bool) → (file.number == number) ≡ t →
-      file_in (bucket_at (stored_bucket bucket)) number
-      ≡ cond t (cond (has_nothing file.file) None (Some file)) (file_in old number)
-  found-in number t is =
-      ap (λ b. file_in b number) (bucket-stored bucket) ∙ inserted.files number
-      ∙ ap (λ t. cond t (cond (has_nothing file.file) None (Some file)) (file_in old number)) is
-
-  -- another file that has something has it still
-  locked-still : (g : LockedValue) → g.number ≢ file.number → ShowsLocked d g.number g.export →
-      ShowsLocked new g.number g.export
-  locked-still g apart shown = by (index == shown.index) refl
-    where
-      by : (t : Bool) → (index == shown.index) ≡ t → ShowsLocked new g.number g.export
-      by false other = record {
-        exports = shown.exports;
-        shown = (locks-keep d index (stored_bucket bucket)).exports ∙ shown.shown;
-        lives = shown.lives;
-        index = shown.index;
-        object = shown.object;
-        known = put-known d index (stored_bucket bucket) shown.index
-            ∙ ap (λ t. known_if t shown.index) other ∙ shown.known;
-        old = shown.old;
-        stands = shown.stands;
-        exported = shown.exported;
-      }
-      by true same =
-          let one : index ≡ shown.index = (unsigned_Decides index shown.index).0 same in
-          let both : Some (bucket_at shown.object) ≡ Some old = ap (option_map bucket_at) (sym shown.known)
-          ∙ ap (λ i. option_map bucket_at (known_at d (addresses.Locks i))) (sym one) ∙ known in
-          let its : bucket_at shown.object ≡ old = cc in record {
-            exports = shown.exports;
-            shown = (locks-keep d index (stored_bucket bucket)).exports ∙ shown.shown;
-            lives = shown.lives;
-            index = shown.index;
-            object = stored_bucket bucket;
-            known = put-known d index (stored_bucket bucket) shown.index
-                ∙ ap (λ t. known_if t shown.index) same;
-            old = shown.old;
-            stands = found-in g.number false (not-same file.number g.number (λ e. apart (sym e)))
-                ∙ ap (λ b. file_in b g.number) (sym its) ∙ shown.stands;
-            exported = shown.exported;
-          }
-
-  -- so has this one, if it has anything
-  own-still : has_nothing file.file ≡ false → ShowsLocked d file.number file.export →
-      ShowsLocked new file.number file.export
-  own-still some shown = record {
-    exports = shown.exports;
-    shown = (locks-keep d index (stored_bucket bucket)).exports ∙ shown.shown;
-    lives = shown.lives;
-    index = index;
-    object = stored_bucket bucket;
-    known = put-known d index (stored_bucket bucket) index ∙ ap (λ t. known_if t index) (same-number index);
-    old = file;
-    stands = found-in file.number true (same-number file.number) ∙ ap (λ t. cond t None (Some file)) some;
-    exported = refl;
-  }
-
-  pub set-keeps : KeepsPlaces d new file
-  set-keeps = record {
-    others = λ g apart at. elim at [
-      | inl shown ↦ inl (shown-kept d new g.number g.export (locks-keep d index (stored_bucket bucket)) shown)
-      | inr locked ↦ inr (locked-still g apart locked)
-    ];
-    own = λ f some. elim may [
-      | inl shown ↦ inl (shown-kept d new file.number file.export (locks-keep d index (stored_bucket bucket)) shown)
-      | inr locked ↦ inr (own-still some locked)
-    ];
-  }
-
 -- ---- a bucket that is put under its index
 module _ (d new : DraftValue) (n index : ℕ) (is-index : index ≡ n % bucket_count) (old : BucketValue)
     (known : option_map bucket_at (known_at d (addresses.Locks index)) ≡ Some old) where
@@ -139,20 +56,12 @@ module _ (d new : DraftValue) (n index : ℕ) (is-index : index ≡ n % bucket_c
       (is ∙ ap (λ i. with_written d (addresses.Locks i) (stored_bucket bucket)) is-index)
 
   pub put-turns : (export : ℕ) (f : FileValue) (bucket : BucketValue) →
-      IsPlaceable d (record { number = n; export = export; file = f }) →
       IsInserted old (record { number = n; export = export; file = f }) bucket → IsBucket bucket → Written bucket →
-      TurnsWhere (λ k. AreOwnNumbers k.state n f.pending) d new (locks_set n f)
-  put-turns export f bucket may inserted whole is =
-      subst (λ x. TurnsWhere (λ k. AreOwnNumbers k.state n f.pending) d x (locks_set n f)) (written-there bucket is)
-      (set-turns d (record { number = n; export = export; file = f }) old bucket may at-index inserted whole)
-
-  pub put-keeps : (export : ℕ) (f : FileValue) (bucket : BucketValue) →
-      IsPlaceable d (record { number = n; export = export; file = f }) →
-      IsInserted old (record { number = n; export = export; file = f }) bucket → Written bucket →
-      KeepsPlaces d new (record { number = n; export = export; file = f })
-  put-keeps export f bucket may inserted is =
-      subst (λ x. KeepsPlaces d x (record { number = n; export = export; file = f })) (written-there bucket is)
-      (set-keeps d (record { number = n; export = export; file = f }) old bucket may at-index inserted)
+      TurnsWhere (λ k. MayHave k.state (record { number = n; export = export; file = f })) d new (locks_set n f)
+  put-turns export f bucket inserted whole is =
+      subst (λ x. TurnsWhere (λ k. MayHave k.state (record { number = n; export = export; file = f })) d x (locks_set n f))
+      (written-there bucket is)
+      (set-turns d (record { number = n; export = export; file = f }) old bucket at-index inserted whole)
 
   pub number-turns : (number : ℕ) (bucket : BucketValue) → ShowsNext d n number →
       bucket ≡ record old { given = old.given + 1 } → Written bucket → Turns d new (number_spent number)

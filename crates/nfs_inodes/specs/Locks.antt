@@ -1,24 +1,21 @@
 -- What files have of locks, shares, requests and grants, as a draft knows it, and what makers do to it (RFC 1813,
 -- appendix II).
-use Rattle.std.specs.Prelude.{◌≡◌, ◌<◌, ◌%◌, ◌||◌, ◌⊎◌, ◌==◌, ◌↔◌, ◌≢◌, ℕ, true, false, Contains, List, Option, Some, None}
+use Rattle.std.specs.Prelude.{◌≡◌, ◌<◌, ◌%◌, ◌||◌, ◌==◌, ◌↔◌, ℕ, true, false, Contains, List, Option, Some, None, is_ok}
 use Rattle.std.specs.Borrow.{Bor}
-use Rattle.std.specs.FinMap.{remove}
-use Rattle.nfs_wire.specs.declared.attributes.FileType.TheVariants as types
+use Rattle.std.specs.FinMap.{get, remove}
+use Rattle.nfs_machine.specs.Checks.{bytes_in}
 use Rattle.nfs_machine.specs.FileLists.{grants_but, with_list}
 use Rattle.nfs_machine.specs.Grants.{at_file, with_grants}
 use Rattle.nfs_machine.specs.LockSteps.{NoneLeft, is_grant_number}
-use Rattle.nfs_machine.specs.State.{PendingGrant, Request, State}
-use Rattle.nlm_ranges.specs.Files.{FileValue, has_nothing, no_file}
+use Rattle.nfs_machine.specs.State.{Living, PendingGrant, Request, State}
+use Rattle.nlm_ranges.specs.Files.{FileValue, no_file}
 use Rattle.nlm_ranges.specs.Buckets.{LockedValue, bucket_count, file_in, given_most, number_given}
 use Rattle.nfs_objects.specs.Fits.{Fits}
-use Rattle.nfs_objects.specs.Stands.{IsPendingIn, Kept, Represents, bucket_at, bucket_there, exports_of, lives_in}
+use Rattle.nfs_objects.specs.Stands.{IsPendingIn, Kept, Represents, bucket_at, bucket_there}
 use Rattle.nfs_objects.specs.Store.{Store, with_writes}
 use Rattle.nfs_objects.specs.Values.{DraftValue, known_at}
 use Rattle.nfs_objects.specs.declared.address.Addr.TheVariants as addresses
-use Rattle.nfs_objects.specs.declared.object.Inode.{Inode}
 use Rattle.nfs_objects.specs.declared.object.Object.{Object}
-use Rattle.nfs_inodes.specs.Kinds.{kind_of}
-use Rattle.nfs_inodes.specs.Stops.{inode_at}
 
 -- ---- what is known
 -- what is behind a loan of a file; where there is none, it has nothing
@@ -60,33 +57,18 @@ pub record AreOwnNumbers (m : State) (file : ℕ) (pending : List Request) : Typ
   pub own : (r : Request) → Contains pending r → (other : ℕ) (q : Request) → IsPendingIn m r.number other q →
       other ≡ file
 
--- ---- where something may be put
--- the draft shows that a regular file of this export lives at a number
-pub record ShowsFile (d : DraftValue) (number export : ℕ) : Type 0 where
-  pub inode : Inode
-  pub stands : inode_at d number ≡ Some inode
-  pub regular : kind_of inode ≡ types.Regular
-  pub exported : inode.export ≡ export
+-- ---- what may be put
+-- a regular file of this export lives at a number
+pub record IsFileAt (m : State) (number export : ℕ) : Type 0 where
+  pub object : Living
+  pub lives : get m.objects number ≡ Some object
+  pub regular : is_ok (bytes_in object.content) ≡ true
+  pub exported : object.export ≡ export
 
--- the draft shows that the file has something already, in a bucket, and that its export lives
-pub record ShowsLocked (d : DraftValue) (number export : ℕ) : Type 0 where
-  pub exports : Option Object
-  pub shown : known_at d addresses.Exports ≡ Some exports
-  pub lives : lives_in (exports_of exports) export ≡ true
-  pub index : ℕ
-  pub object : Option Object
-  pub known : known_at d (addresses.Locks index) ≡ Some object
-  pub old : LockedValue
-  pub stands : file_in (bucket_at object) number ≡ Some old
-  pub exported : old.export ≡ export
-
-abbrev pub IsPlaceable : DraftValue → LockedValue → Type 0
-IsPlaceable d file = ShowsFile d file.number file.export ⊎ ShowsLocked d file.number file.export
-
--- what may be put may be put still, once this was: any other file, and this one, if it has anything
-pub record KeepsPlaces (old new : DraftValue) (file : LockedValue) : Type 0 where
-  pub others : (g : LockedValue) → g.number ≢ file.number → IsPlaceable old g → IsPlaceable new g
-  pub own : (f : FileValue) → has_nothing file.file ≡ false → IsPlaceable new (record file { file = f })
+-- a file may have this: it lives, and the numbers of its grants are its own
+pub record MayHave (m : State) (file : LockedValue) : Type 0 where
+  pub lives : IsFileAt m file.number file.export
+  pub own : AreOwnNumbers m file.number file.file.pending
 
 -- ---- changes
 -- the file at a number has this

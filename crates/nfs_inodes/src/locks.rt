@@ -10,7 +10,7 @@ ghost use Rattle.nfs_objects.specs.Stands.{map_in};
 ghost use Rattle.nfs_objects.specs.declared.address.Addr.TheVariants as addresses;
 ghost use Rattle.nfs_inodes.specs.Asking.{AsksFor};
 ghost use Rattle.nfs_inodes.specs.Counts.{KeepsInodes};
-ghost use Rattle.nfs_inodes.specs.Locks.{AreOwnNumbers, HasLocks, HasNone, IsNextNumber, IsPlaceable, KeepsPlaces};
+ghost use Rattle.nfs_inodes.specs.Locks.{HasLocks, HasNone, IsNextNumber, MayHave};
 ghost use Rattle.nfs_inodes.specs.Locks.{NoNumberIsLeft, ShowsNext, file_known, locks_freed, locks_set, number_spent};
 ghost use Rattle.nfs_inodes.specs.Stops.{StopsAt};
 
@@ -58,13 +58,10 @@ pub fn locks_of<'d>(draft: &'d Draft<'_>, number: u64) -> Result<Option<&'d OneF
 ///
 /// `Need` of what has to be held for it, and `Memory`. The draft is of no use then.
 pub fn set_locks(draft: &mut Draft<'_>, file: LockedFile) -> Result<(), Halt>
-    requires alone { draft.old.modes.locks ≡ Mode.Exclusive }
-    requires placed { IsPlaceable draft.old file }
-    ensures turns { MatchResult result
-        (λ _. TurnsWhere (λ k. AreOwnNumbers k.state file.number file.file.pending) draft.old draft.new
-        (locks_set file.number file.file))
+    requires { draft.old.modes.locks ≡ Mode.Exclusive }
+    ensures { MatchResult result
+        (λ _. TurnsWhere (λ k. MayHave k.state file) draft.old draft.new (locks_set file.number file.file))
         (StopsAt draft.old (locks_at file.number)) }
-    ensures keeps { OnOk result (KeepsPlaces draft.old draft.new file) }
 {
     let index = bucket_index(file.number());
     let alloc = draft.alloc();

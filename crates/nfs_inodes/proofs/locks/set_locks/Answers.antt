@@ -3,7 +3,7 @@ use Rattle.std.specs.Prelude.{option_copied}
 use Rattle.std.proofs.lemmas.Result.{err_from_is_err_and}
 use Rattle.nlm_ranges.specs.Buckets.{IsInserted, bucket_count}
 use Rattle.nfs_objects.specs.Stands.{bucket_in}
-use Rattle.nfs_inodes.proofs.Placing.{locks-stop, put-keeps, put-turns}
+use Rattle.nfs_inodes.proofs.Placing.{locks-stop, put-turns}
 use Rattle.nfs_inodes.proofs.locks.set_locks.Goals as goal
 use Rattle.nfs_inodes.proofs.locks.set_locks.Goals.{In_ok-put_locks, in-Some+in_ok-bucket-in-Some, in-None+in_ok-bucket-in-None}
 
@@ -20,23 +20,16 @@ inserted c = elim c.match-branch-2.branch [
       (subst (IsInserted w.new.result c.args.file) (sym w.bucket-is) w.in_ok-bucket-in-None.ensures))
 ]
 
-pub returns-in_err-old-clause-turns : goal.returns-in_err-old-clause-turns
-returns-in_err-old-clause-turns c =
+pub returns-in_err-old : goal.returns-in_err-old
+returns-in_err-old c =
     let p = err_from_is_err_and c.from_residual.result c.from_residual.ensures.1 in
     rw (p.1, p.2) (locks-stop c.args.draft.now c.args.file.number c.bucket_index-index.result _
     (c.bucket_index-index.ensures.index ∙ ap (λ n. n % bucket_count) c.number.ensures) c.in_err-old.ensures)
 
-pub returns-clause-turns : goal.returns-clause-turns
-returns-clause-turns c =
+pub returns : goal.returns
+returns c =
     put-turns c.args.draft.now c.put_locks.new.self c.args.file.number c.bucket_index-index.result
     (c.bucket_index-index.ensures.index ∙ ap (λ n. n % bucket_count) c.number.ensures)
     (bucket_in (option_copied c.in_ok-old.field-0)) c.in_ok-old.ensures c.args.file.export c.args.file.file
-    c.match-branch-2.bucket c.requires.placed (inserted c) c.in_ok-put_locks.ensures.bucket
+    c.match-branch-2.bucket (inserted c) c.in_ok-put_locks.ensures.bucket
     c.in_ok-put_locks.ensures.ok
-
-pub returns-clause-keeps : goal.returns-clause-keeps
-returns-clause-keeps c =
-    put-keeps c.args.draft.now c.put_locks.new.self c.args.file.number c.bucket_index-index.result
-    (c.bucket_index-index.ensures.index ∙ ap (λ n. n % bucket_count) c.number.ensures)
-    (bucket_in (option_copied c.in_ok-old.field-0)) c.in_ok-old.ensures c.args.file.export c.args.file.file
-    c.match-branch-2.bucket c.requires.placed (inserted c) c.in_ok-put_locks.ensures.ok
