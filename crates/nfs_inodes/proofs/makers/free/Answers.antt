@@ -6,6 +6,7 @@ use Rattle.nfs_objects.proofs.Suiting.{change-counts}
 use Rattle.nfs_objects.specs.Calls.{addresses_of, locks_at}
 use Rattle.nfs_objects.specs.Knows.{Turns}
 use Rattle.nfs_objects.specs.Stands.{Kept}
+use Rattle.nfs_objects.specs.Values.{DraftValue}
 use Rattle.nfs_objects.specs.declared.address.Addr.TheVariants as addresses
 use Rattle.nfs_inodes.specs.Counts.{uncounted}
 use Rattle.nfs_inodes.specs.Locks.{locks_freed}
@@ -18,16 +19,14 @@ use Rattle.nfs_inodes.proofs.Halting.{stops-before}
 use Rattle.nfs_inodes.proofs.Onward.{may-change-on}
 use Rattle.nfs_inodes.proofs.Putting.{knows-kept, object-stops}
 use Rattle.nfs_inodes.proofs.makers.free.Goals as goal
-use Rattle.nfs_inodes.proofs.makers.free.Goals.{After-forget_locks}
 
 -- what the draft came to behind its locks
 abbrev forgot : ℕ → Kept → Kept
 forgot number k = locks_freed number (uncounted number k)
 
-turned : (c : After-forget_locks) → Turns c.args.draft.now c.forget_locks.new.draft (forgot c.args.number)
-turned c =
-    turns-both c.args.draft.now c.uncount.new.draft c.forget_locks.new.draft (uncounted c.args.number)
-    (locks_freed c.args.number) c.in_ok-uncount.ensures.turns c.in_ok-forget_locks.ensures.turns
+turned : (n : ℕ) (d mid after : DraftValue) → Turns d mid (uncounted n) → Turns mid after (locks_freed n) →
+    Turns d after (forgot n)
+turned n d mid after counts forgets = turns-both d mid after (uncounted n) (locks_freed n) counts forgets
 
 pub uncount-requires : goal.uncount-requires
 uncount-requires c = change-counts c.args.draft.now c.args.number c.requires.alone
@@ -59,31 +58,37 @@ returns-in_err-forget_locks c =
 
 pub clear-requires-clause-alone : goal.clear-requires-clause-alone
 clear-requires-clause-alone c =
-    turned-change c.args.draft.now c.forget_locks.new.draft (forgot c.args.number) (turned c)
+    turned-change c.args.draft.now c.forget_locks.new.draft (forgot c.args.number)
+    (turned c.args.number _ _ _ c.in_ok-uncount.ensures.turns c.in_ok-forget_locks.ensures.turns)
     (addresses.Inode c.args.number) c.requires.alone
 
 pub clear-requires-clause-stands : goal.clear-requires-clause-stands
 clear-requires-clause-stands c =
-    stands-on c.args.draft.now c.forget_locks.new.draft (forgot c.args.number) (turned c) c.requires.stands
+    stands-on c.args.draft.now c.forget_locks.new.draft (forgot c.args.number)
+    (turned c.args.number _ _ _ c.in_ok-uncount.ensures.turns c.in_ok-forget_locks.ensures.turns) c.requires.stands
 
 pub returns-in_err-clear : goal.returns-in_err-clear
 returns-in_err-clear c =
     let p = err_from_is_err_and c.from_residual-in_err-clear.result c.from_residual-in_err-clear.ensures.1 in
     rw (p.1, p.2) (locked-stops c.args.draft.now c.args.number _ (object-stops c.args.draft.now c.args.number _
     (stops-before c.args.draft.now c.forget_locks.new.draft (forgot c.args.number)
-    (λ v. addresses_of v c.args.number) _ (turned c) c.in_err-clear.ensures)))
+    (λ v. addresses_of v c.args.number) _
+    (turned c.args.number _ _ _ c.in_ok-uncount.ensures.turns c.in_ok-forget_locks.ensures.turns)
+    c.in_err-clear.ensures)))
 
 pub clear_entries-requires-clause-alone : goal.clear_entries-requires-clause-alone
 clear_entries-requires-clause-alone c =
     laid-change c.args.number c.forget_locks.new.draft c.clear.new.draft c.in_ok-clear.ensures.lays
     (addresses.Inode c.args.number)
-    (turned-change c.args.draft.now c.forget_locks.new.draft (forgot c.args.number) (turned c)
+    (turned-change c.args.draft.now c.forget_locks.new.draft (forgot c.args.number)
+    (turned c.args.number _ _ _ c.in_ok-uncount.ensures.turns c.in_ok-forget_locks.ensures.turns)
     (addresses.Inode c.args.number) c.requires.alone)
 
 pub clear_entries-requires-clause-stands : goal.clear_entries-requires-clause-stands
 clear_entries-requires-clause-stands c =
     entries-stand c.forget_locks.new.draft c.clear.new.draft c.args.number c.in_ok-clear.ensures
-    (stands-on c.args.draft.now c.forget_locks.new.draft (forgot c.args.number) (turned c) c.requires.stands)
+    (stands-on c.args.draft.now c.forget_locks.new.draft (forgot c.args.number)
+    (turned c.args.number _ _ _ c.in_ok-uncount.ensures.turns c.in_ok-forget_locks.ensures.turns) c.requires.stands)
 
 pub returns-in_err-clear_entries : goal.returns-in_err-clear_entries
 returns-in_err-clear_entries c =
@@ -91,7 +96,8 @@ returns-in_err-clear_entries c =
     c.from_residual-in_err-clear_entries.ensures.1 in
     rw (p.1, p.2) (locked-stops c.args.draft.now c.args.number _ (object-stops c.args.draft.now c.args.number _
     (stops-before c.args.draft.now c.forget_locks.new.draft (forgot c.args.number)
-    (λ v. addresses_of v c.args.number) _ (turned c)
+    (λ v. addresses_of v c.args.number) _
+    (turned c.args.number _ _ _ c.in_ok-uncount.ensures.turns c.in_ok-forget_locks.ensures.turns)
     (laid-stops c.args.number c.forget_locks.new.draft c.clear.new.draft c.in_ok-clear.ensures.lays
     (λ v. addresses_of v c.args.number) _ c.in_err-clear_entries.ensures))))
 
@@ -101,7 +107,8 @@ free-requires-clause-alone c =
     (addresses.Inode c.args.number)
     (laid-change c.args.number c.forget_locks.new.draft c.clear.new.draft c.in_ok-clear.ensures.lays
     (addresses.Inode c.args.number)
-    (turned-change c.args.draft.now c.forget_locks.new.draft (forgot c.args.number) (turned c)
+    (turned-change c.args.draft.now c.forget_locks.new.draft (forgot c.args.number)
+    (turned c.args.number _ _ _ c.in_ok-uncount.ensures.turns c.in_ok-forget_locks.ensures.turns)
     (addresses.Inode c.args.number) c.requires.alone))
 
 pub free-requires-clause-known : goal.free-requires-clause-known

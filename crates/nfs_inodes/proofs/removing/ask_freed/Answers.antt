@@ -1,4 +1,3 @@
-use Rattle.std.proofs.lemmas.Result.{err_from_is_err_and}
 use Rattle.nfs_inodes.proofs.Gone.{uncounted-freed, unlocked-freed}
 use Rattle.nfs_inodes.proofs.removing.ask_freed.Goals as goal
 
