@@ -5,7 +5,6 @@ use Rattle.std.specs.Cmp.{unsigned_Decides}
 use Rattle.nfs_wire.specs.declared.attributes.FileType.{FileType}
 use Rattle.nfs_wire.specs.declared.status.NfsStatus.{NfsStatus}
 use Rattle.nfs_machine.specs.Attributes.{type_of}
-use Rattle.nfs_machine.specs.State.{Living}
 use Rattle.nfs_objects.proofs.Exported.{inode-stands}
 use Rattle.nfs_objects.proofs.Seen.{written-append}
 use Rattle.nfs_objects.specs.Stands.{content_of, exports_of, inode_in, lives_in}
@@ -17,7 +16,7 @@ use Rattle.nfs_objects.specs.declared.object.Inode.{Inode}
 use Rattle.nfs_objects.specs.declared.object.Object.{Object}
 use Rattle.nfs_objects.specs.declared.object.Object.TheVariants as objects
 use Rattle.nfs_inodes.proofs.Putting.{inode-known}
-use Rattle.nfs_inodes.specs.Kinds.{HasDirectory, IsInExport, IsShown, KeepsKinds, export_shown, kind_at, kind_of}
+use Rattle.nfs_inodes.specs.Kinds.{HasDirectory, IsShown, KeepsKinds, kind_at, kind_of}
 use Rattle.nfs_inodes.specs.Known.{HasInode, IsKnownOf}
 use Rattle.nfs_inodes.specs.declared.found.Known.{Known}
 
@@ -27,13 +26,6 @@ pub known-shown : (d : DraftValue) (n : ℕ) (i : Inode) (x : Known) → HasInod
 known-shown d n i x has of =
     subst (λ q. kind_at d q ≡ Some x.attributes.kind) (sym of.number_is)
     (ap (option_map kind_of) (inode-known d n (Some i) has) ∙ ap Some (sym of.kind_is))
-
-pub known-inside : (d : DraftValue) (n : ℕ) (i : Inode) (x : Known) → HasInode d n (Some i) → IsKnownOf n i x →
-    IsInExport d x
-known-inside d n i x has of =
-    subst (λ q. export_shown d q ≡ Some x.export) (sym of.number_is)
-    (ap (option_map (λ (j : Inode). j.export)) (inode-known d n (Some i) has)
-    ∙ ap Some (sym (ap (λ (o : Living). o.export) of.shell_is)))
 
 -- ---- an inode in the place of another
 module _ (d : DraftValue) (n : ℕ) (i j : Inode) (has : HasInode d n (Some i)) (exported : j.export ≡ i.export)

@@ -25,14 +25,6 @@ kind_at d number = option_map kind_of (inode_at d number)
 abbrev pub IsShown : DraftValue → Known → Type 0
 IsShown d x = kind_at d x.number ≡ Some x.attributes.kind
 
--- the export of what a draft shows at a number, if anything lives there
-abbrev pub export_shown : DraftValue → (number : ℕ) → Option ℕ
-export_shown d number = option_map (λ i. i.export) (inode_at d number)
-
--- the draft shows at its number that it lives, and is of its export
-abbrev pub IsInExport : DraftValue → Known → Type 0
-IsInExport d x = export_shown d x.number ≡ Some x.export
-
 -- what is shown of kinds is as before
 abbrev pub KeepsKinds : (old new : DraftValue) → Type 0
 KeepsKinds old new = (n : ℕ) → kind_at new n ≡ kind_at old n

@@ -15,7 +15,7 @@ ghost use Rattle.nfs_objects.specs.Knows.{Knows, ShowsExport};
 ghost use Rattle.nfs_objects.specs.Only.{AsksNothing};
 ghost use Rattle.nfs_objects.specs.Stands.{inode_in};
 ghost use Rattle.nfs_objects.specs.Values.{known_at};
-ghost use Rattle.nfs_inodes.specs.Kinds.{IsInExport, IsShown};
+ghost use Rattle.nfs_inodes.specs.Kinds.{IsShown};
 ghost use Rattle.nfs_inodes.specs.Known.{HasExports, HasInode, HasNumber, IsKnownOf, IsObject, Means};
 ghost use Rattle.nfs_inodes.specs.Known.{is_handle_of, shell, weak_of};
 ghost use Rattle.nfs_inodes.specs.Stops.{IsOfExport, ReadsAt, ReadsInode, StopsAt, brought_by};
@@ -76,7 +76,6 @@ pub fn object(draft: &Draft<'_>, number: u64) -> Result<Option<Known>, Halt>
     ensures number { IfOk result (λ x. IfSome x (λ x. x.number ≡ number)) }
     ensures exported { IfOk result (λ x. IfSome x (λ x. ShowsExport draft.now x.export)) }
     ensures shown { IfOk result (λ x. IfSome x (IsShown draft.now)) }
-    ensures inside { IfOk result (λ x. IfSome x (IsInExport draft.now)) }
     ensures reads { ReadsInode draft.now number result }
 {
     match inode(draft, number)? {
@@ -170,7 +169,6 @@ pub fn named(draft: &Draft<'_>, handle: &[u8]) -> Result<Result<Known, NfsStatus
     ensures number { IfOk result (λ found. IfOk found (λ x. HasNumber handle.now x.number)) }
     ensures exported { IfOk result (λ found. IfOk found (λ x. ShowsExport draft.now x.export)) }
     ensures shown { IfOk result (λ found. IfOk found (IsShown draft.now)) }
-    ensures inside { IfOk result (λ found. IfOk found (IsInExport draft.now)) }
     ensures usage { IfOk result (λ found. IfOk found (λ x. IsOfExport handle.now x.export)) }
     ensures stops { IfErr result (StopsAt draft.now (brought_by draft.now.view handle.now)) }
     ensures first { HaltsFirst draft.now.modes draft.now.view (first_wanted_with draft.now.view (handle.now ∷ []))

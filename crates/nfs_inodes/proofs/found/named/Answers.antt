@@ -9,7 +9,7 @@ use Rattle.nfs_inodes.proofs.Standing.{known-lives}
 use Rattle.nfs_objects.specs.Knows.{ShowsExport}
 use Rattle.nfs_objects.specs.Values.{known_at}
 use Rattle.nfs_objects.specs.declared.address.Addr.TheVariants as addresses
-use Rattle.nfs_inodes.specs.Kinds.{IsInExport, IsShown}
+use Rattle.nfs_inodes.specs.Kinds.{IsShown}
 use Rattle.nfs_inodes.specs.Known.{IsObject}
 use Rattle.nfs_inodes.specs.declared.found.Known.{Known}
 use Rattle.nfs_inodes.proofs.found.named.Goals as goal
@@ -113,7 +113,3 @@ returns-then-is_target-clause-exported c =
 pub returns-then-is_target-clause-shown : goal.returns-then-is_target-clause-shown
 returns-then-is_target-clause-shown c =
     subst (λ o. IfSome o (λ (x : Known). IsShown c.args.draft.now x)) c.in-Some-2.is c.in_ok-known.ensures.shown
-
-pub returns-then-is_target-clause-inside : goal.returns-then-is_target-clause-inside
-returns-then-is_target-clause-inside c =
-    subst (λ o. IfSome o (λ (x : Known). IsInExport c.args.draft.now x)) c.in-Some-2.is c.in_ok-known.ensures.inside

@@ -1,6 +1,6 @@
 use Rattle.std.proofs.Common.{subst}
 use Rattle.std.specs.Prelude.{option_copied}
-use Rattle.nfs_inodes.proofs.Showing.{known-inside, known-shown}
+use Rattle.nfs_inodes.proofs.Showing.{known-shown}
 use Rattle.nfs_inodes.proofs.Standing.{none-lives, shows-known, some-lives}
 use Rattle.nfs_inodes.specs.Known.{HasInode}
 use Rattle.nfs_inodes.proofs.found.object.Goals as goal
@@ -23,11 +23,5 @@ returns-in-Some-clause-exported c =
 pub returns-in-Some-clause-shown : goal.returns-in-Some-clause-shown
 returns-in-Some-clause-shown c =
     known-shown c.args.draft.now c.args.number c.in-Some.inode.now c.known_of.result
-    (subst (λ o. HasInode c.args.draft.now c.args.number (option_copied o)) c.in-Some.is
-    c.in_ok-inode.ensures.inode) c.known_of.ensures
-
-pub returns-in-Some-clause-inside : goal.returns-in-Some-clause-inside
-returns-in-Some-clause-inside c =
-    known-inside c.args.draft.now c.args.number c.in-Some.inode.now c.known_of.result
     (subst (λ o. HasInode c.args.draft.now c.args.number (option_copied o)) c.in-Some.is
     c.in_ok-inode.ensures.inode) c.known_of.ensures
