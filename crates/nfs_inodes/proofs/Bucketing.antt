@@ -1,6 +1,6 @@
 -- What a draft knows of what files have of locks, and what becomes of it where a bucket is put.
 use Rattle.std.proofs.Common.{◌≡◌, ◌==◌, ◌+◌, ◌*◌, ◌/◌, ◌%◌, ◌<◌, ◌^◌, ℕ, true, List, []}
-use Rattle.std.proofs.Common.{◌&&◌, ◌||◌, Option, Some, None, IsSome, filter, option_map, is_ok, not}
+use Rattle.std.proofs.Common.{◌&&◌, ◌||◌, Option, Some, None, IsSome, filter, option_map, is_ok}
 use Rattle.std.proofs.Common.{refl, sym, ◌∙◌, ap, subst, arith, append-nil}
 use Rattle.std.proofs.lemmas.Bool.{and_parts, lt-ltb, le-ltb}
 use Rattle.std.proofs.lemmas.Bool.Decides.{nat_tests}

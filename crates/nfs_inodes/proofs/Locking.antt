@@ -1,6 +1,6 @@
 -- What a store stands for where a bucket is put: a file has other locks, or a number is given.
-use Rattle.std.proofs.Common.{◌≡◌, ◌==◌, ◌+◌, ◌*◌, ◌/◌, ◌%◌, ◌<◌, ◌≤◌, ◌&&◌, ◌||◌, ◌⊎◌, ℕ, Bool, true, false, cond, not}
-use Rattle.std.proofs.Common.{List, [], ◌∷◌, Option, Some, None, find, get_or, inl, inr, length, suc, zero}
+use Rattle.std.proofs.Common.{◌≡◌, ◌==◌, ◌+◌, ◌*◌, ◌/◌, ◌%◌, ◌<◌, ◌≤◌, ◌&&◌, ◌||◌, ◌⊎◌, ℕ, true, false, cond, not}
+use Rattle.std.proofs.Common.{List, [], ◌∷◌, Option, Some, None, find, inl, inr, length, suc, zero}
 use Rattle.std.proofs.Common.{refl, sym, ◌∙◌, ap, subst, arith}
 use Rattle.std.proofs.lemmas.Bool.{and_parts}
 use Rattle.std.proofs.lemmas.Bool.Decides.{nat_tests}
@@ -11,8 +11,7 @@ use Rattle.std.specs.List.{AllByRecursion, Contains, IsDistinct}
 use Rattle.std.specs.Option.{option_map_or}
 use Rattle.std.specs.Ordering.{nat_cmp}
 use Rattle.std.specs.Prelude.{◌↔◌, nat_lt}
-use Rattle.nfs_machine.specs.Exports.{LivingExport}
-use Rattle.nfs_machine.specs.FileLists.{grants_but, of_file, with_list}
+use Rattle.nfs_machine.specs.FileLists.{grants_but, of_file}
 use Rattle.nfs_machine.specs.Grants.{at_file, with_grants}
 use Rattle.nfs_machine.specs.State.{PendingGrant, Request, State}
 use Rattle.nfs_machine.proofs.FileMaps.{get-grants_but, grants-left, of-with}
@@ -26,7 +25,6 @@ use Rattle.nfs_objects.specs.Stands.{IsPendingIn, IsPlaced, StandLocks, bucket_a
 use Rattle.nfs_objects.specs.Stands.{file_there, lives_in, stored_bucket}
 use Rattle.nfs_objects.specs.Store.{Store, with_write}
 use Rattle.nfs_objects.specs.declared.address.Addr.TheVariants as addresses
-use Rattle.nfs_objects.specs.declared.object.Object.{Object}
 use Rattle.nfs_objects.specs.declared.object.Object.TheVariants as stored
 use Rattle.nfs_inodes.specs.Locks.{AreOwnNumbers, with_file}
 
