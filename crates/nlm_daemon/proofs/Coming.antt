@@ -14,7 +14,7 @@ use Rattle.nfs_objects.specs.Sound.{Sound}
 use Rattle.nfs_objects.specs.Stands.{Kept, Represents}
 use Rattle.nfs_objects.specs.Store.{Store, with_writes}
 use Rattle.nfs_objects.specs.Values.{ChangeValue, DraftValue, done_value}
-use Rattle.nlm_daemon.specs.Comes.{ComesTo, KnowsEnd}
+use Rattle.nlm_daemon.specs.Comes.{ComesTo, KnowsEnd, TurnsSending}
 
 -- where nothing was written yet, the store stands for what it stands for once the draft is written
 possible-before : (d : DraftValue) → d.writes ≡ [] → (s : Store) (k : Kept) → Fits d.view s → Represents s k → Sound k →
@@ -26,7 +26,7 @@ possible-before d none s k fits stands sound = record {
 }
 
 -- a call that changes nothing comes to what is known of it
-pub comes-unchanged : {Status : Type 0} (d : DraftValue)
+abbrev pub comes-unchanged : {Status : Type 0} (d : DraftValue)
     (IsEnd : State → Status → List Message → State → Type 0) (status : Status) → KnowsEnd d IsEnd status →
     d.messages ≡ d.messages ++ [] → ComesTo d d IsEnd status
 comes-unchanged d IsEnd status ends quiet = record {
@@ -44,6 +44,44 @@ comes-unchanged d IsEnd status ends quiet = record {
   };
   sound = λ s k w formed. w.sound;
   ends = ends;
+}
+
+-- a change comes to what it is an end of, in each state that is possible
+pub sent-comes : {Status : Type 0} (old new : DraftValue) (IsEnd : State → Status → List Message → State → Type 0)
+    (status : Status) (IsSo : Kept → Type 0) (messages : List Message) (op : Kept → Kept) →
+    TurnsSending IsSo old new messages op → ((k : Kept) → Sound k → Sound (op k)) →
+    ((s : Store) (k : Kept) → Possible old s k → WellFormed k.state →
+    IsSo k × IsEnd k.state status messages (op k).state) → ComesTo old new IsEnd status
+sent-comes old new IsEnd status IsSo messages op sending sound comes = record {
+  messages = messages;
+  op = op;
+  turns = record {
+    turns = record {
+      ctx = sending.turns.ctx;
+      view = sending.turns.view;
+      modes = sending.turns.modes;
+      messages = sending.turns.messages;
+      turns = λ s k fits stands so.
+          sending.turns.turns s k fits stands
+          (comes s k (record { fits = fits; stands = stands; sound = so.0 }) so.1).0;
+    };
+    sent = sending.sent;
+  };
+  sound = λ s k w formed. sound k w.sound;
+  ends = λ s k w formed. (comes s k w formed).1;
+}
+
+-- an end of one kind that is one of another
+pub comes-as : {Status : Type 0} (old new : DraftValue) (P Q : State → Status → List Message → State → Type 0)
+    (status : Status) → ((s : Store) (k : Kept) → Possible old s k → WellFormed k.state → (messages : List Message)
+    (after : State) → P k.state status messages after → Q k.state status messages after) →
+    ComesTo old new P status → ComesTo old new Q status
+comes-as old new P Q status means comes = record {
+  messages = comes.messages;
+  op = comes.op;
+  turns = comes.turns;
+  sound = comes.sound;
+  ends = λ s k w formed. means s k w formed comes.messages (comes.op k).state (comes.ends s k w formed);
 }
 
 module _ {Status : Type 0} (old d : DraftValue) (IsEnd : State → Status → List Message → State → Type 0)

@@ -1,3 +1,17 @@
+pub mod Asked
+pub mod Attempted
+pub mod Calling
 pub mod Coming
+pub mod Emptying
+pub mod Ends
+pub mod Finding
+pub mod Freed
+pub mod Gathered
+pub mod Judging
+pub mod Laid
+pub mod Owning
+pub mod Placed
+pub mod Sending
 pub mod Stepping
+pub mod Told
 pub mod Turning

@@ -3,12 +3,15 @@ use Rattle.std.proofs.Common.{◌≡◌, true, false, List, [], ◌∷◌, ◌++
 use Rattle.side_wire.specs.declared.message.Message.{Message}
 use Rattle.side_wire.specs.declared.nlm.CancelArguments.{CancelArguments}
 use Rattle.side_wire.specs.declared.nlm.LockArguments.{LockArguments}
+use Rattle.side_wire.specs.declared.nlm.NlmCall.TheVariants as nlm
 use Rattle.side_wire.specs.declared.nlm.NlmStatus.{NlmStatus}
+use Rattle.side_wire.specs.declared.nlm.ShareArguments.{ShareArguments}
 use Rattle.side_wire.specs.declared.nlm.UnlockArguments.{UnlockArguments}
-use Rattle.nfs_machine.specs.LockSteps.{CancelEnds, LockEnds, UnlockEnds}
+use Rattle.nfs_machine.specs.LockSteps.{CancelEnds, LockEnds, ShareEnds, UnlockEnds, UnshareEnds}
 use Rattle.nfs_machine.specs.NlmSteps.{NlmStep}
 use Rattle.nfs_machine.specs.State.{State}
 use Rattle.nfs_machine.specs.Step.{Step}
+use Rattle.nfs_machine.specs.declared.calls.Call.TheVariants as calls
 use Rattle.nfs_machine.specs.declared.calls.Reply.TheVariants as answers
 use Rattle.nfs_machine.specs.declared.context.Ctx.{Ctx}
 use Rattle.nlm_daemon.specs.Answering.{canceling_call, is_canceling, is_locking, is_message, is_unlocking, locking_call}
@@ -67,3 +70,16 @@ module _ (old : State) (ctx : Ctx) (s : NlmStatus) (messages : List Message) (ne
   step-unlocks procedures.GrantedMsg a is ends = cc
   step-unlocks procedures.Share a is ends = cc
   step-unlocks procedures.Unshare a is ends = cc
+
+  module _ (a : ShareArguments) where
+    pub step-shares : ShareEnds old ctx a s messages new →
+        Step old ctx (calls.Nlm (nlm.Share a)) (answers.Nlm (reply_of procedures.Share a.cookie s))
+        (messages ++ posted_by procedures.Share ctx.host a.cookie s) new
+    unfolding NlmStep
+    step-shares ends = (s, subst (λ ms. ShareEnds old ctx a s ms new) (sym (append-nil messages)) ends, refl)
+
+    pub step-unshares : UnshareEnds old ctx a s messages new →
+        Step old ctx (calls.Nlm (nlm.Unshare a)) (answers.Nlm (reply_of procedures.Unshare a.cookie s))
+        (messages ++ posted_by procedures.Unshare ctx.host a.cookie s) new
+    unfolding NlmStep
+    step-unshares ends = (s, subst (λ ms. UnshareEnds old ctx a s ms new) (sym (append-nil messages)) ends, refl)

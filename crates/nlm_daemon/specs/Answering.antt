@@ -1,5 +1,6 @@
 -- How the result of a call goes to its caller (RFC 1813, appendix II, 6.2): in the reply, or a MSG call's in a message.
-use Rattle.std.specs.Prelude.{◌≡◌, ℕ, Bool, true, false, List, [], ◌∷◌, ◌++◌}
+use Rattle.std.specs.Prelude.{◌≡◌, ℕ, Bool, true, false, List, [], ◌∷◌, ◌++◌, Option, Some, None}
+use Rattle.side_wire.specs.declared.message.Callback.{Callback}
 use Rattle.side_wire.specs.declared.message.Callback.TheVariants as callbacks
 use Rattle.side_wire.specs.declared.message.Message.{Message}
 use Rattle.side_wire.specs.declared.nlm.CancelArguments.{CancelArguments}
@@ -14,6 +15,7 @@ use Rattle.nfs_machine.specs.NlmSteps.{result_with}
 use Rattle.nfs_machine.specs.declared.calls.Call.{Call}
 use Rattle.nfs_machine.specs.declared.calls.Call.TheVariants as calls
 use Rattle.nfs_machine.specs.declared.calls.Reply.TheVariants as answers
+use Rattle.nfs_objects.specs.Promise.{Given, Held}
 use Rattle.nfs_objects.specs.Values.{ChangeValue, DraftValue}
 use Rattle.nlm_daemon.specs.declared.answering.Procedure.{Procedure}
 use Rattle.nlm_daemon.specs.declared.answering.Procedure.TheVariants as procedures
@@ -39,30 +41,36 @@ reply_of procedures.GrantedMsg cookie s = replies.GrantedMsg
 reply_of procedures.Share cookie s = replies.Share (result_with cookie s)
 reply_of procedures.Unshare cookie s = replies.Unshare (result_with cookie s)
 
--- and the message that goes to the caller's host then
-abbrev pub posted_by : Procedure → (host cookie : List ℕ) → NlmStatus → List Message
-posted_by procedures.LockMsg host cookie s = record
-    { host = host; call = callbacks.LockRes (result_with cookie s) } ∷ []
-posted_by procedures.CancelMsg host cookie s = record
-    { host = host; call = callbacks.CancelRes (result_with cookie s) } ∷ []
-posted_by procedures.UnlockMsg host cookie s = record
-    { host = host; call = callbacks.UnlockRes (result_with cookie s) } ∷ []
-posted_by procedures.GrantedMsg host cookie s = record
-    { host = host; call = callbacks.GrantedRes (result_with cookie s) } ∷ []
-posted_by procedure host cookie s = []
+-- and the call that takes a MSG call's result to the caller's host then
+abbrev pub callback_of : Procedure → (cookie : List ℕ) → NlmStatus → Option Callback
+callback_of procedures.LockMsg cookie s = Some (callbacks.LockRes (result_with cookie s))
+callback_of procedures.CancelMsg cookie s = Some (callbacks.CancelRes (result_with cookie s))
+callback_of procedures.UnlockMsg cookie s = Some (callbacks.UnlockRes (result_with cookie s))
+callback_of procedures.GrantedMsg cookie s = Some (callbacks.GrantedRes (result_with cookie s))
+callback_of procedure cookie s = None
 
--- the call ends with the draft's writes and messages, and behind these its own
+abbrev pub posted_by : Procedure → (host cookie : List ℕ) → NlmStatus → List Message
+posted_by procedure host cookie s = elim (callback_of procedure cookie s) [
+  | None ↦ []
+  | Some call ↦ record { host = host; call = call } ∷ []
+]
+
+-- the call ends with the draft's writes and messages, and behind these its own; it writes what it may
 pub record IsAnswered (d : DraftValue) (procedure : Procedure) (cookie : List ℕ) (s : NlmStatus)
     (change : ChangeValue) : Type 0 where
   pub writes : change.writes ≡ d.writes
   pub messages : change.messages ≡ d.messages ++ posted_by procedure d.ctx.host cookie s
   pub reply : change.reply ≡ answers.Nlm (reply_of procedure cookie s)
+  pub held : Held d.view d.writes
+  pub given : Given d.view d.writes
 
 -- the call changes nothing and puts no message, and has this reply
-pub record IsPassed (d : DraftValue) (reply : NlmReply) (change : ChangeValue) : Type 0 where
+pub record IsPassed (d : DraftValue) (answer : NlmReply) (change : ChangeValue) : Type 0 where
   pub writes : change.writes ≡ d.writes
   pub messages : change.messages ≡ d.messages
-  pub reply : change.reply ≡ answers.Nlm reply
+  pub reply : change.reply ≡ answers.Nlm answer
+  pub held : Held d.view d.writes
+  pub given : Given d.view d.writes
 
 -- ---- calls of which nothing is asked but the exports
 -- NULL, and what is answered to calls that this server never makes: they are passed over, and that takes no memory

@@ -10,7 +10,7 @@ use Rattle.nfs_objects.specs.Calls.{locks_at}
 use Rattle.nlm_ranges.specs.Buckets.{LockedValue}
 use Rattle.nfs_objects.specs.Stands.{lives_in}
 use Rattle.nfs_objects.specs.declared.address.Addr.{Addr}
-use Rattle.nfs_inodes.specs.Locks.{HasLocks}
+use Rattle.nfs_inodes.specs.Locks.{HasLocks, IsFileAt}
 use Rattle.nlm_daemon.specs.declared.granting.Pending.{Pending}
 
 -- the grant that a host answers with this cookie, if one was made for it
@@ -26,10 +26,11 @@ grant_places cookie = if length cookie == 8 then locks_at (from_be_bytes w64 coo
 abbrev pub grant_of : Pending → PendingGrant
 grant_of pending = record { file = pending.file.number; request = arc_value pending.request }
 
--- the grant is not answered yet, and its file has this
+-- the grant is not answered yet, and its file has this, and lives
 pub record IsPendingNow (m : State) (pending : Pending) : Type 0 where
   pub stands : get m.granted (arc_value pending.request).number ≡ Some (grant_of pending)
   pub file : HasLocks m pending.file.number pending.file.file
+  pub lives : IsFileAt m pending.file.number pending.file.export
 
 abbrev pub FindsGrant : State → (host cookie : List ℕ) → Option Pending → Type 0
 FindsGrant m host cookie None = grant_answered m host cookie ≡ None

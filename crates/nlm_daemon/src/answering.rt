@@ -3,7 +3,7 @@
 ghost use Rattle.std.specs.Prelude.{◌≡◌, ◌++◌, ◌∷◌, [], IfOk, MatchResult, OnOk};
 ghost use Rattle.nfs_machine.specs.NlmSteps.{result_with};
 ghost use Rattle.nfs_objects.specs.Values.{change_value};
-ghost use Rattle.nlm_daemon.specs.Answering.{IsAnswered, is_message, posted_by, reply_of};
+ghost use Rattle.nlm_daemon.specs.Answering.{IsAnswered, callback_of, is_message, posted_by, reply_of};
 
 use bytes::Bytes;
 use nfs_machine::Reply;
@@ -42,45 +42,73 @@ pub(crate) fn answer(
         (λ change. IsAnswered draft.entry procedure cookie.now status (change_value change))
         (λ halt. halt ≡ Halt.Memory) }
 {
-    let alloc = draft.alloc();
-    let reply = match procedure {
-        Procedure::Lock => NlmReply::Lock(shared_result(cookie, status)?),
-        Procedure::NmLock => NlmReply::NmLock(shared_result(cookie, status)?),
-        Procedure::Cancel => NlmReply::Cancel(shared_result(cookie, status)?),
-        Procedure::Unlock => NlmReply::Unlock(shared_result(cookie, status)?),
-        Procedure::Granted => NlmReply::Granted(shared_result(cookie, status)?),
-        Procedure::Share => NlmReply::Share(shared_result(cookie, status)?),
-        Procedure::Unshare => NlmReply::Unshare(shared_result(cookie, status)?),
-        Procedure::LockMsg => {
-            post(
-                &mut draft,
-                Callback::LockRes(own_result(alloc, cookie, status)?),
-            )?;
-            NlmReply::LockMsg
-        }
-        Procedure::CancelMsg => {
-            post(
-                &mut draft,
-                Callback::CancelRes(own_result(alloc, cookie, status)?),
-            )?;
-            NlmReply::CancelMsg
-        }
-        Procedure::UnlockMsg => {
-            post(
-                &mut draft,
-                Callback::UnlockRes(own_result(alloc, cookie, status)?),
-            )?;
-            NlmReply::UnlockMsg
-        }
-        Procedure::GrantedMsg => {
-            post(
-                &mut draft,
-                Callback::GrantedRes(own_result(alloc, cookie, status)?),
-            )?;
-            NlmReply::GrantedMsg
-        }
-    };
+    send_result(&mut draft, procedure, cookie, status)?;
+    let reply = reply(procedure, cookie, status)?;
     Ok(draft.answer(Reply::Nlm(reply)))
+}
+
+/// What a call is answered that comes to this status. The cookie is the caller's own, which is shared.
+fn reply(procedure: Procedure, cookie: &Bytes, status: NlmStatus) -> Result<NlmReply, AllocError>
+    ensures { IfOk result (λ reply. reply ≡ reply_of procedure cookie.now status) }
+{
+    match procedure {
+        Procedure::Lock => Ok(NlmReply::Lock(shared_result(cookie, status)?)),
+        Procedure::NmLock => Ok(NlmReply::NmLock(shared_result(cookie, status)?)),
+        Procedure::LockMsg => Ok(NlmReply::LockMsg),
+        Procedure::Cancel => Ok(NlmReply::Cancel(shared_result(cookie, status)?)),
+        Procedure::CancelMsg => Ok(NlmReply::CancelMsg),
+        Procedure::Unlock => Ok(NlmReply::Unlock(shared_result(cookie, status)?)),
+        Procedure::UnlockMsg => Ok(NlmReply::UnlockMsg),
+        Procedure::Granted => Ok(NlmReply::Granted(shared_result(cookie, status)?)),
+        Procedure::GrantedMsg => Ok(NlmReply::GrantedMsg),
+        Procedure::Share => Ok(NlmReply::Share(shared_result(cookie, status)?)),
+        Procedure::Unshare => Ok(NlmReply::Unshare(shared_result(cookie, status)?)),
+    }
+}
+
+/// Puts the result of a MSG call to its caller's host.
+///
+/// # Errors
+///
+/// `AllocError` where the memory was refused. It changes nothing.
+fn send_result(
+    draft: &mut Draft<'_>,
+    procedure: Procedure,
+    cookie: &Bytes,
+    status: NlmStatus,
+) -> Result<(), AllocError>
+    ensures { OnOk result (draft.new ≡ record draft.old
+        { messages = draft.old.messages ++ posted_by procedure draft.old.ctx.host cookie.now status }) }
+{
+    let Some(call) = callback(draft.alloc(), procedure, cookie, status)? else {
+        return Ok(());
+    };
+    post(draft, call)?;
+    Ok(())
+}
+
+/// The call that takes the result of a MSG call to its caller's host.
+fn callback(
+    alloc: Global,
+    procedure: Procedure,
+    cookie: &Bytes,
+    status: NlmStatus,
+) -> Result<Option<Callback>, AllocError>
+    ensures { IfOk result (λ call. call ≡ callback_of procedure cookie.now status) }
+{
+    match procedure {
+        Procedure::LockMsg => Ok(Some(Callback::LockRes(own_result(alloc, cookie, status)?))),
+        Procedure::CancelMsg => Ok(Some(Callback::CancelRes(own_result(alloc, cookie, status)?))),
+        Procedure::UnlockMsg => Ok(Some(Callback::UnlockRes(own_result(alloc, cookie, status)?))),
+        Procedure::GrantedMsg => Ok(Some(Callback::GrantedRes(own_result(alloc, cookie, status)?))),
+        Procedure::Lock
+        | Procedure::NmLock
+        | Procedure::Cancel
+        | Procedure::Unlock
+        | Procedure::Granted
+        | Procedure::Share
+        | Procedure::Unshare => Ok(None),
+    }
 }
 
 impl Procedure {

@@ -8,9 +8,9 @@ ghost use Rattle.nfs_machine.specs.Locks.{fits_offsets, range_of};
 ghost use Rattle.nfs_machine.specs.State.{Content};
 ghost use Rattle.nfs_objects.specs.Attempt.{HaltsFirst, first_wanted_with};
 ghost use Rattle.nfs_objects.specs.Knows.{Knows};
-ghost use Rattle.nfs_inodes.specs.Known.{shell};
+ghost use Rattle.nfs_inodes.specs.Known.{HasNumber, shell};
 ghost use Rattle.nfs_inodes.specs.Stops.{StopsAt, brought_by};
-ghost use Rattle.nlm_daemon.specs.Checks.{IsFileShown, IsPlaceOf, file_found, judged, place_found};
+ghost use Rattle.nlm_daemon.specs.Checks.{IsLiving, IsPlaceOf, file_found, judged, may_write, place_found};
 
 use bytes::Bytes;
 use nfs_inodes::{File, Known, exports, is_writable, named, regular};
@@ -103,6 +103,7 @@ fn judged_place<'a>(
     writes: bool,
 ) -> Result<Place<'a>, LockFault>
     ensures place { IfOk result (λ place. (place.file.known ≡ known.now) × (place.range ≡ range_of lock.now)) }
+    ensures fits { IfOk result (λ place. fits_offsets lock.now ≡ true) }
     ensures regular { IfOk result (λ place. known.now.attributes.kind ≡ FileType.Regular) }
     ensures checks { (content : Content) → type_of content ≡ known.now.attributes.kind →
         judged exports.now (shell known.now content) known.now.number (fits_offsets lock.now) writes
@@ -114,7 +115,7 @@ fn judged_place<'a>(
     let Some(range) = LockRange::of(lock) else {
         return Err(LockFault::RangeTooBig);
     };
-    if writes && !is_writable(exports, known) {
+    if !may_write(exports, known, writes) {
         return Err(LockFault::ReadOnly);
     }
     Ok(Place { file, range })
@@ -136,7 +137,8 @@ pub(crate) fn file_of(
         (λ found. Knows draft.now (λ k.
         file_checked k.state draft.now.ctx handle.now true writes ≡ file_found found))
         (StopsAt draft.now (brought_by draft.now.view handle.now)) }
-    ensures shown { IfOk result (λ found. IfOk found (IsFileShown draft.now)) }
+    ensures lives { IfOk result (λ found. IfOk found (IsLiving draft.now)) }
+    ensures number { IfOk result (λ found. IfOk found (λ file. HasNumber handle.now file.known.number)) }
     ensures first { HaltsFirst draft.now.modes draft.now.view
         (first_wanted_with draft.now.view (handle.now ∷ [])) result }
 {
@@ -157,8 +159,15 @@ fn judged_file(exports: &[LivingExport], known: &Known, writes: bool) -> Result<
     let Ok(file) = regular(known) else {
         return Err(LockFault::NotRegular);
     };
-    if writes && !is_writable(exports, known) {
+    if !may_write(exports, known, writes) {
         return Err(LockFault::ReadOnly);
     }
     Ok(file)
+}
+
+/// Whether the object's export lets the call go on: it is not read only, or the call does not ask to write.
+fn may_write(exports: &[LivingExport], known: &Known, writes: bool) -> bool
+    ensures { result ≡ may_write exports.now known.now writes }
+{
+    !writes || is_writable(exports, known)
 }

@@ -1,7 +1,6 @@
 //! FREE_ALL: a caller has nothing more of any file (RFC 1813, appendix II, 6.2: procedure 23).
 
 ghost use Rattle.std.specs.Prelude.{◌≡◌, ◌<◌, ℕ, ◌∷◌, ◌++◌, [], List, IfErr, IfOk, IsSome, MatchResult, OnOk};
-ghost use Rattle.std.specs.List.{AllByRecursion};
 ghost use Rattle.nfs_machine.specs.LockSteps.{Frees};
 ghost use Rattle.nfs_machine.specs.WellFormed.{WellFormed};
 ghost use Rattle.nfs_machine.specs.declared.calls.Call.TheVariants as calls;
@@ -11,10 +10,9 @@ ghost use Rattle.nfs_objects.specs.Calls.{buckets_below};
 ghost use Rattle.nfs_objects.specs.Knows.{Knows};
 ghost use Rattle.nlm_ranges.specs.Buckets.{LockedValue, bucket_count};
 ghost use Rattle.nfs_objects.specs.Values.{known_at};
-ghost use Rattle.nfs_inodes.specs.Locks.{IsPlaceable};
 ghost use Rattle.nfs_inodes.specs.Stops.{StopsAt};
 ghost use Rattle.nlm_daemon.specs.Comes.{ComesTo};
-ghost use Rattle.nlm_daemon.specs.Freeing.{AreFreed, AreFreedOf};
+ghost use Rattle.nlm_daemon.specs.Freeing.{AreFreed, AreFreedOf, IsFreedOne};
 
 use crate::granting::put_settled;
 use nfs_inodes::{Asking, exports, lives, set_locks};
@@ -84,7 +82,6 @@ fn ask_buckets(draft: &Draft<'_>) -> Result<(), Halt>
 fn all_freed(draft: &Draft<'_>, caller_name: &[u8]) -> Result<Vec<LockedFile>, Halt>
     ensures freed { IfOk result (λ freed. Knows draft.now (λ k. WellFormed k.state →
         AreFreed k.state caller_name.now freed.items)) }
-    ensures placed { IfOk result (λ freed. AllByRecursion (IsPlaceable draft.now) freed.items) }
     ensures stops { IfErr result (StopsAt draft.now (Addr.Exports ∷ buckets_below bucket_count)) }
 {
     let exports = exports(draft)?;
@@ -117,13 +114,29 @@ fn add_freed(
         AreFreedOf exports.now caller_name.now files.now more) }
 {
     for file in files {
-        if !lives(exports, file.export()) {
-            continue;
-        }
-        let locks = file.file().free(alloc, caller_name)?;
-        if locks != *file.file() {
-            freed.push(LockedFile::new(alloc, file.number(), file.export(), locks)?)?;
+        if let Some(left) = freed_of(alloc, exports, file, caller_name)? {
+            freed.push(left)?;
         }
     }
     Ok(())
+}
+
+/// A file without what a caller has of it; None where it lives not, or the caller has nothing of it.
+fn freed_of(
+    alloc: Global,
+    exports: &[LivingExport],
+    file: &LockedFile,
+    caller_name: &[u8],
+) -> Result<Option<LockedFile>, AllocError>
+    ensures { IfOk result (IsFreedOne exports.now caller_name.now file.now) }
+{
+    if !lives(exports, file.export()) {
+        return Ok(None);
+    }
+    let locks = file.file().free(alloc, caller_name)?;
+    if locks == *file.file() {
+        return Ok(None);
+    }
+    let left = LockedFile::new(alloc, file.number(), file.export(), locks)?;
+    Ok(Some(left))
 }

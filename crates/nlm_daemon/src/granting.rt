@@ -1,9 +1,9 @@
 //! Grants: the messages that tell of them, and what hosts answer (RFC 1813, appendix II, 6.2: procedures 5, 10 and 15).
 
-ghost use Rattle.std.specs.Prelude.{◌≡◌, ◌∷◌, [], IfOk, IfSome, MatchOption, MatchResult, None, OnOk, Some, length, map};
+ghost use Rattle.std.specs.Prelude.{◌≡◌, ◌∷◌, [], IfOk, MatchOption, MatchResult, None, OnOk, Some, length, map};
 ghost use Rattle.std.specs.Arc.{arc_value};
 ghost use Rattle.std.specs.Int.{from_be_bytes, w64};
-ghost use Rattle.nfs_machine.specs.Grants.{grant_message};
+ghost use Rattle.nfs_machine.specs.Grants.{grant_cookie, grant_message};
 ghost use Rattle.nfs_machine.specs.LockSteps.{GrantEnds};
 ghost use Rattle.nfs_machine.specs.WellFormed.{WellFormed};
 ghost use Rattle.nlm_ranges.specs.Granting.{granted_in};
@@ -14,7 +14,7 @@ ghost use Rattle.nfs_objects.specs.Calls.{locks_at};
 ghost use Rattle.nfs_objects.specs.Knows.{Knows};
 ghost use Rattle.nfs_objects.specs.Only.{AsksNothing};
 ghost use Rattle.nfs_objects.specs.Values.{change_value};
-ghost use Rattle.nfs_inodes.specs.Locks.{AreOwnNumbers, IsPlaceable, KeepsPlaces, locks_set};
+ghost use Rattle.nfs_inodes.specs.Locks.{MayHave, locks_set};
 ghost use Rattle.nfs_inodes.specs.Stops.{StopsAt};
 ghost use Rattle.nlm_daemon.specs.Answering.{IsAnswered};
 ghost use Rattle.nlm_daemon.specs.Comes.{ComesTo, Sends, TurnsSending};
@@ -63,9 +63,10 @@ pub(crate) fn attempt_res(mut draft: Draft<'_>, answer: &NlmResult) -> Result<Ch
     ensures first { EndsFirst (calls.Nlm (NlmCall.GrantedRes answer.now)) draft.entry.view result }
 {
     exports(&draft)?;
-    if let Some(pending) = answered(&draft, &answer.cookie)? {
-        end_grant(&mut draft, &pending, answer.status)?;
-    }
+    let Some(pending) = answered(&draft, &answer.cookie)? else {
+        return Ok(draft.answer(Reply::Nlm(NlmReply::GrantedRes)));
+    };
+    end_grant(&mut draft, &pending, answer.status)?;
     Ok(draft.answer(Reply::Nlm(NlmReply::GrantedRes)))
 }
 
@@ -78,11 +79,10 @@ pub(crate) struct Pending {
 
 /// The grant that the caller's host answers with this cookie; None where no grant of that cookie was made for it.
 fn answered(draft: &Draft<'_>, cookie: &Bytes) -> Result<Option<Pending>, Halt>
-    ensures found { MatchResult result
+    ensures { MatchResult result
         (λ found. Knows draft.now (λ k. WellFormed k.state →
         FindsGrant k.state draft.now.ctx.host cookie.now found))
         (StopsAt draft.now (Addr.Exports ∷ grant_places cookie.now)) }
-    ensures placed { IfOk result (λ found. IfSome found (λ pending. IsPlaceable draft.now pending.file)) }
 {
     let Some(number) = number_in(cookie) else {
         return Ok(None);
@@ -104,7 +104,8 @@ fn answered(draft: &Draft<'_>, cookie: &Bytes) -> Result<Option<Pending>, Halt>
 /// The number of the grant whose cookie this is, which has 8 bytes.
 fn number_in(cookie: &Bytes) -> Option<u64>
     ensures { MatchOption result (length cookie.now ≡ 8 → ⊥)
-        (λ number. (length cookie.now ≡ 8) × (number ≡ from_be_bytes w64 cookie.now)) }
+        (λ number. (length cookie.now ≡ 8) × (number ≡ from_be_bytes w64 cookie.now) ×
+        (grant_cookie number ≡ cookie.now)) }
 {
     match cookie.as_slice() {
         [a, b, c, d, e, f, g, h] => Some(u64::from_be_bytes([*a, *b, *c, *d, *e, *f, *g, *h])),
@@ -121,17 +122,31 @@ fn pending_in(
     ensures { IfOk result (FindsPending exports.now files.now number) }
 {
     for file in files {
-        if !lives(exports, file.export()) {
-            continue;
-        }
-        if let Some(request) = file.file().pending().find(Going::Under(number)) {
-            return Ok(Some(Pending {
-                file: file.clone()?,
-                request: Arc::try_clone(request)?,
-            }));
+        if let Some(pending) = pending_of(exports, file, number)? {
+            return Ok(Some(pending));
         }
     }
     Ok(None)
+}
+
+/// The grant with this number of one file, if its export lives.
+fn pending_of(
+    exports: &[LivingExport],
+    file: &LockedFile,
+    number: u64,
+) -> Result<Option<Pending>, AllocError>
+    ensures { IfOk result (FindsPending exports.now (file.now ∷ []) number) }
+{
+    if !lives(exports, file.export()) {
+        return Ok(None);
+    }
+    let Some(request) = file.file().pending().find(Going::Under(number)) else {
+        return Ok(None);
+    };
+    Ok(Some(Pending {
+        file: file.clone()?,
+        request: Arc::try_clone(request)?,
+    }))
 }
 
 /// Ends a grant that is answered: a status other than GRANTED gives its lock back.
@@ -141,7 +156,6 @@ fn pending_in(
 /// `Need` of what has to be held for it, and `Memory`. The draft is of no use then.
 fn end_grant(draft: &mut Draft<'_>, pending: &Pending, status: NlmStatus) -> Result<(), Halt>
     requires alone { draft.old.modes.locks ≡ Mode.Exclusive }
-    requires placed { IsPlaceable draft.old pending.now.file }
     requires knows { Knows draft.old (λ k. WellFormed k.state → IsPendingNow k.state pending.now) }
     ensures { MatchResult result
         (ComesTo draft.old draft.new (λ m _. GrantEnds m (arc_value pending.now.request).number
@@ -155,10 +169,14 @@ fn end_grant(draft: &mut Draft<'_>, pending: &Pending, status: NlmStatus) -> Res
         .file()
         .without_pending(alloc, pending.request.number())?;
     match status {
-        NlmStatus::Granted => put(draft, number, export, left),
+        NlmStatus::Granted => {
+            put(draft, number, export, left)?;
+            Ok(())
+        }
         _ => {
             let settled = left.clear(alloc, &pending.request.range())?;
-            put_settled(draft, number, export, settled)
+            put_settled(draft, number, export, settled)?;
+            Ok(())
         }
     }
 }
@@ -174,14 +192,11 @@ pub(crate) fn put_settled(
     export: u32,
     settled: Settled,
 ) -> Result<(), Halt>
-    requires alone { draft.old.modes.locks ≡ Mode.Exclusive }
-    requires placed { IsPlaceable draft.old (record { number = number; export = export; file = settled.file }) }
-    ensures turns { MatchResult result
-        (λ _. TurnsSending (λ k. AreOwnNumbers k.state number settled.file.pending) draft.old draft.new
-        (map grant_message (granted_in settled)) (locks_set number settled.file))
+    requires { draft.old.modes.locks ≡ Mode.Exclusive }
+    ensures { MatchResult result
+        (λ _. TurnsSending (λ k. MayHave k.state (record { number = number; export = export; file = settled.file }))
+        draft.old draft.new (map grant_message (granted_in settled)) (locks_set number settled.file))
         (StopsAt draft.old (locks_at number)) }
-    ensures keeps { OnOk result
-        (KeepsPlaces draft.old draft.new (record { number = number; export = export; file = settled.file })) }
 {
     let Settled { file, granted } = settled;
     put(draft, number, export, file)?;

@@ -1,6 +1,6 @@
 //! LOCK, NM_LOCK and LOCK_MSG (RFC 1813, appendix II, 6.2: procedures 2, 22 and 7).
 
-ghost use Rattle.std.specs.Prelude.{◌≡◌, ◌∷◌, [], MatchResult, OnOk, true};
+ghost use Rattle.std.specs.Prelude.{◌≡◌, ◌∷◌, [], MatchResult, true};
 ghost use Rattle.std.specs.List.{list_any};
 ghost use Rattle.nfs_machine.specs.FileLists.{of_file};
 ghost use Rattle.nfs_machine.specs.LockSteps.{HeldUp, LockEnds, is_request};
@@ -9,7 +9,7 @@ ghost use Rattle.nfs_objects.specs.Attempt.{EndsCall, EndsFirst, HaltsFirst, fir
 ghost use Rattle.nfs_objects.specs.Begins.{Begins};
 ghost use Rattle.nfs_objects.specs.Calls.{locks_at};
 ghost use Rattle.nfs_objects.specs.Knows.{Knows, TurnsWhere};
-ghost use Rattle.nfs_inodes.specs.Locks.{AreOwnNumbers, HasLocks, IsPlaceable, KeepsPlaces, locks_set};
+ghost use Rattle.nfs_inodes.specs.Locks.{HasLocks, MayHave, locks_set};
 ghost use Rattle.nfs_inodes.specs.Stops.{StopsAt};
 ghost use Rattle.nlm_daemon.specs.Answering.{is_locking, locking_call};
 ghost use Rattle.nlm_daemon.specs.Checks.{IsPlaceOf};
@@ -61,8 +61,9 @@ fn lock(
         Err(fault) => return Ok(fault.status()),
     };
     let locks = all_locks_of(draft, &place.file)?;
-    if locks.test(&place.range, arguments.exclusive).is_some() {
-        return held_up(draft, &place, &locks, arguments, by_message);
+    if let Some(_held) = locks.test(&place.range, arguments.exclusive) {
+        let status = held_up(draft, &place, &locks, arguments, by_message)?;
+        return Ok(status);
     }
     let settled = locks.set(draft.alloc(), &place.range, arguments.exclusive)?;
     put_settled(
@@ -111,9 +112,9 @@ fn held_up(
         &arguments.lock,
         by_message,
     )?;
-    let locks = locks.with_waiting(alloc, request)?;
+    let longer = locks.with_waiting(alloc, request)?;
     spend_number(draft, file.number, number)?;
-    put(draft, file.number, file.export, locks)?;
+    put(draft, file.number, file.export, longer)?;
     Ok(NlmStatus::Blocked)
 }
 
@@ -127,10 +128,11 @@ pub(crate) fn all_locks_of(draft: &Draft<'_>, file: &File) -> Result<OneFile, Ha
         (λ locks. Knows draft.now (λ k. HasLocks k.state file.now.known.number locks))
         (StopsAt draft.now (Addr.Exports ∷ locks_at file.now.known.number)) }
 {
-    match locks_of(draft, file.known.number)? {
-        Some(locks) => Ok(locks.clone()?),
-        None => Ok(OneFile::new(draft.alloc())?),
-    }
+    let Some(locks) = locks_of(draft, file.known.number)? else {
+        let none = OneFile::new(draft.alloc())?;
+        return Ok(none);
+    };
+    Ok(locks.clone()?)
 }
 
 /// Puts what a file has.
@@ -144,15 +146,13 @@ pub(crate) fn put(
     export: u32,
     locks: OneFile,
 ) -> Result<(), Halt>
-    requires alone { draft.old.modes.locks ≡ Mode.Exclusive }
-    requires placed { IsPlaceable draft.old (record { number = number; export = export; file = locks }) }
-    ensures turns { MatchResult result
-        (λ _. TurnsWhere (λ k. AreOwnNumbers k.state number locks.pending) draft.old draft.new
-        (locks_set number locks))
+    requires { draft.old.modes.locks ≡ Mode.Exclusive }
+    ensures { MatchResult result
+        (λ _. TurnsWhere (λ k. MayHave k.state (record { number = number; export = export; file = locks }))
+        draft.old draft.new (locks_set number locks))
         (StopsAt draft.old (locks_at number)) }
-    ensures keeps { OnOk result
-        (KeepsPlaces draft.old draft.new (record { number = number; export = export; file = locks })) }
 {
     let file = LockedFile::new(draft.alloc(), number, export, locks)?;
-    set_locks(draft, file)
+    set_locks(draft, file)?;
+    Ok(())
 }

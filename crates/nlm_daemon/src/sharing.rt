@@ -49,8 +49,8 @@ fn shared(draft: &mut Draft<'_>, arguments: &ShareArguments) -> Result<NlmStatus
     if locks.is_denied(share) {
         return Ok(NlmStatus::Denied);
     }
-    let locks = locks.share(draft.alloc(), share)?;
-    put(draft, file.known.number, file.known.export, locks)?;
+    let more = locks.share(draft.alloc(), share)?;
+    put(draft, file.known.number, file.known.export, more)?;
     Ok(NlmStatus::Granted)
 }
 
@@ -90,10 +90,10 @@ fn unshared(draft: &mut Draft<'_>, arguments: &ShareArguments) -> Result<NlmStat
         Ok(file) => file,
         Err(fault) => return Ok(fault.status()),
     };
-    let locks = match locks_of(draft, file.known.number)? {
-        Some(locks) => locks.unshare(draft.alloc(), share)?,
-        None => return Ok(NlmStatus::Granted),
+    let Some(locks) = locks_of(draft, file.known.number)? else {
+        return Ok(NlmStatus::Granted);
     };
-    put(draft, file.known.number, file.known.export, locks)?;
+    let less = locks.unshare(draft.alloc(), share)?;
+    put(draft, file.known.number, file.known.export, less)?;
     Ok(NlmStatus::Granted)
 }

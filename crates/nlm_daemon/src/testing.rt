@@ -72,10 +72,10 @@ fn tested(draft: &Draft<'_>, arguments: &TestArguments) -> Result<TestStatus, Ha
     let Some(locks) = locks_of(draft, place.file.known.number)? else {
         return Ok(TestStatus::Granted);
     };
-    match locks.test(&place.range, arguments.exclusive) {
-        Some(held) => Ok(TestStatus::Denied(holder(held)?)),
-        None => Ok(TestStatus::Granted),
-    }
+    let Some(held) = locks.test(&place.range, arguments.exclusive) else {
+        return Ok(TestStatus::Granted);
+    };
+    Ok(TestStatus::Denied(holder(held)?))
 }
 
 /// Who holds a lock, as it is shown to others.

@@ -51,12 +51,13 @@ fn canceled(draft: &mut Draft<'_>, arguments: &CancelArguments) -> Result<NlmSta
     };
     let file = &place.file.known;
     let (exclusive, lock) = (arguments.exclusive, &arguments.lock);
-    let left = match locks_of(draft, file.number)? {
-        Some(locks) if locks.is_waiting(exclusive, lock) => {
-            locks.without_waiting(draft.alloc(), exclusive, lock)?
-        }
-        _ => return Ok(NlmStatus::Denied),
+    let Some(locks) = locks_of(draft, file.number)? else {
+        return Ok(NlmStatus::Denied);
     };
+    if !locks.is_waiting(exclusive, lock) {
+        return Ok(NlmStatus::Denied);
+    }
+    let left = locks.without_waiting(draft.alloc(), exclusive, lock)?;
     put(draft, file.number, file.export, left)?;
     Ok(NlmStatus::Granted)
 }
@@ -95,10 +96,10 @@ fn unlocked(draft: &mut Draft<'_>, arguments: &UnlockArguments) -> Result<NlmSta
         Err(fault) => return Ok(fault.status()),
     };
     let file = &place.file.known;
-    let settled = match locks_of(draft, file.number)? {
-        Some(locks) => locks.clear(draft.alloc(), &place.range)?,
-        None => return Ok(NlmStatus::Granted),
+    let Some(locks) = locks_of(draft, file.number)? else {
+        return Ok(NlmStatus::Granted);
     };
+    let settled = locks.clear(draft.alloc(), &place.range)?;
     put_settled(draft, file.number, file.export, settled)?;
     Ok(NlmStatus::Granted)
 }

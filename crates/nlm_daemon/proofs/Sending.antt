@@ -1,0 +1,101 @@
+-- Messages behind what is put, and changes that send.
+use Rattle.std.proofs.Common.{◌≡◌, ◌<◌, ◌≤◌, ◌+◌, ℕ, ◌∷◌, ◌++◌, List, [], get_or, length, map, take, append-nil, append_assoc, refl, sym, ◌∙◌, ap, arith, subst}
+use Rattle.std.proofs.lemmas.List.{map-append, take_all, take_more}
+use Rattle.std.specs.Arc.{arc_value}
+use Rattle.std.specs.declared.sync.Arc.{Arc}
+use Rattle.side_wire.specs.declared.message.Message.{Message}
+use Rattle.nfs_machine.specs.Grants.{grant_message}
+use Rattle.nfs_machine.specs.State.{Request}
+use Rattle.nfs_machine.specs.WellFormed.{WellFormed}
+use Rattle.nfs_objects.specs.Fits.{Fits}
+use Rattle.nfs_objects.specs.Knows.{Possible, TurnsWhere}
+use Rattle.nfs_objects.specs.Sound.{Sound}
+use Rattle.nfs_objects.specs.Stands.{Kept}
+use Rattle.nfs_objects.specs.Store.{Store}
+use Rattle.nfs_objects.specs.Values.{DraftValue}
+use Rattle.nlm_daemon.specs.Comes.{Sends, TurnsSending}
+
+-- ---- messages
+pub sends-none : (d : DraftValue) → Sends d d []
+sends-none d = record { rest = λ i. record d { messages = sym (append-nil d.messages) i } }
+
+pub sends-more : (old mid new : DraftValue) (messages : List Message) (m : Message) → Sends old mid messages →
+    new ≡ record mid { messages = mid.messages ++ m ∷ [] } → Sends old new (messages ++ m ∷ [])
+sends-more old mid new messages m sends is = record {
+  rest = is
+      ∙ (λ i. record (sends.rest i) { messages = (sends.rest i).messages ++ m ∷ [] })
+      ∙ (λ i. record old { messages = append_assoc old.messages messages (m ∷ []) i });
+}
+
+-- a message for one request more
+pub sends-next : {Z : Type 0} (old mid new : DraftValue) (granted : List (Arc Request Z)) (i : ℕ)
+    (request : Arc Request Z) (message : Message) → i < length granted → request ≡ get_or granted i request →
+    Sends old mid (map grant_message (map arc_value (take i granted))) → message ≡ grant_message (arc_value request) →
+    new ≡ record mid { messages = mid.messages ++ message ∷ [] } →
+    Sends old new (map grant_message (map arc_value (take (i + 1) granted)))
+sends-next old mid new granted i request message within is sends made sent =
+    subst (Sends old new)
+    (ap (λ m. map grant_message (map arc_value (take i granted)) ++ m ∷ []) (made ∙ ap (λ r. grant_message (arc_value r)) is)
+    ∙ sym (ap (map grant_message) (ap (map arc_value) (take_more granted i request within)
+    ∙ map-append arc_value (take i granted) (get_or granted i request ∷ []))
+    ∙ map-append grant_message (map arc_value (take i granted)) (arc_value (get_or granted i request) ∷ [])))
+    (sends-more old mid new (map grant_message (map arc_value (take i granted))) message sends sent)
+
+pub all-sent : {Z : Type 0} (old new : DraftValue) (granted : List (Arc Request Z)) (i : ℕ) →
+    Sends old new (map grant_message (map arc_value (take i granted))) → length granted ≤ i →
+    Sends old new (map grant_message (map arc_value granted))
+all-sent old new granted i sends done =
+    subst (λ l. Sends old new (map grant_message (map arc_value l))) (take_all i granted done) sends
+
+-- ---- a change, and messages behind it
+put-is : (old mid new : DraftValue) (messages : List Message) → mid.messages ≡ old.messages →
+    Sends mid new messages → mid ≡ record new { messages = old.messages }
+put-is old mid new messages same sends =
+    (λ i. record mid { messages = same i }) ∙ (λ i. record (sym sends.rest i) { messages = old.messages })
+
+pub put-sends : (IsSo : Kept → Type 0) (old mid new : DraftValue) (messages : List Message) (op : Kept → Kept) →
+    TurnsWhere IsSo old mid op → Sends mid new messages → TurnsSending IsSo old new messages op
+put-sends IsSo old mid new messages op turns sends = record {
+  turns = subst (λ (d : DraftValue). TurnsWhere IsSo old d op) (put-is old mid new messages turns.messages sends) turns;
+  sent = ap (λ (d : DraftValue). d.messages) sends.rest ∙ ap (λ l. l ++ messages) turns.messages;
+}
+
+-- ---- changes of sound and well-formed states
+abbrev pub IsFormed : Kept → Type 0
+IsFormed k = Sound k × WellFormed k.state
+
+-- where each such state is so
+pub sends-where : (old new : DraftValue) (op : Kept → Kept) (IsSo : Kept → Type 0) (messages : List Message) →
+    ((s : Store) (k : Kept) → Possible old s k → WellFormed k.state → IsSo k) →
+    TurnsSending IsSo old new messages op → TurnsSending IsFormed old new messages op
+sends-where old new op IsSo messages so sending = record {
+  turns = record {
+    ctx = sending.turns.ctx;
+    view = sending.turns.view;
+    modes = sending.turns.modes;
+    messages = sending.turns.messages;
+    turns = λ s k fits stands formed.
+        sending.turns.turns s k fits stands
+        (so s k (record { fits = fits; stands = stands; sound = formed.0 }) formed.1);
+  };
+  sent = sending.sent;
+}
+
+-- one behind another, where what the first leaves is so
+pub sends-both : (old mid new : DraftValue) (f g : Kept → Kept) (IsSo : Kept → Type 0) (messages more : List Message) →
+    ((s : Store) (k : Kept) → Possible old s k → WellFormed k.state → IsSo (f k)) →
+    TurnsSending IsFormed old mid messages f → TurnsSending IsSo mid new more g →
+    TurnsSending IsFormed old new (messages ++ more) (λ k. g (f k))
+sends-both old mid new f g IsSo messages more so first second = record {
+  turns = record {
+    ctx = second.turns.ctx ∙ first.turns.ctx;
+    view = second.turns.view ∙ first.turns.view;
+    modes = second.turns.modes ∙ first.turns.modes;
+    messages = refl;
+    turns = λ s k fits stands formed.
+        second.turns.turns s (f k) (subst (λ v. Fits v s) (sym first.turns.view) fits)
+        (first.turns.turns s k fits stands formed)
+        (so s k (record { fits = fits; stands = stands; sound = formed.0 }) formed.1);
+  };
+  sent = second.sent ∙ ap (λ l. l ++ more) first.sent ∙ append_assoc old.messages messages more;
+}

@@ -1,0 +1,62 @@
+use Rattle.std.proofs.Common.{Err, Ok, true}
+use Rattle.std.proofs.lemmas.Result.{err_from_is_err_and}
+use Rattle.nfs_inodes.proofs.Ending.{means-as, number-as}
+use Rattle.nfs_inodes.proofs.Halting.{exports-stop}
+use Rattle.nlm_daemon.proofs.Judging.{checked-judged, checked-nothing, file-number, file-of, first-halts, first-past}
+use Rattle.nlm_daemon.specs.Checks.{file_found}
+use Rattle.nlm_daemon.proofs.checking.file_of.Goals as goal
+
+pub returns-in_err-known-clause-checked : goal.returns-in_err-known-clause-checked
+returns-in_err-known-clause-checked c =
+    let p = err_from_is_err_and c.from_residual.result c.from_residual.ensures.1 in
+    rw (p.1, p.2, ← c.as_slice.ensures) c.in_err-known.ensures.stops
+
+pub returns-in_err-known-clause-first : goal.returns-in_err-known-clause-first
+returns-in_err-known-clause-first c =
+    let p = err_from_is_err_and c.from_residual.result c.from_residual.ensures.1 in
+    rw (p.1, p.2, ← c.as_slice.ensures) (first-halts c.args.draft.now.modes c.args.draft.now.view _ _
+    c.in_err-known.ensures.first)
+
+pub returns-in-Err-clause-checked : goal.returns-in-Err-clause-checked
+returns-in-Err-clause-checked c =
+    checked-nothing c.args.draft.now c.args.handle.now true c.args.writes _
+    (means-as c.args.draft.now c.args.handle.now _ _ (Err _) c.as_slice.ensures c.in-Err.is
+    c.in_ok-known.ensures.means)
+
+pub returns-in-Err-clause-first : goal.returns-in-Err-clause-first
+returns-in-Err-clause-first c =
+    rw (← c.as_slice.ensures) (first-past c.args.draft.now.modes c.args.draft.now.view _ _ c.in_ok-known.ensures.first _)
+
+pub returns-in_err-exports-clause-checked : goal.returns-in_err-exports-clause-checked
+returns-in_err-exports-clause-checked c =
+    let p = err_from_is_err_and c.from_residual-in_err-exports.result c.from_residual-in_err-exports.ensures.1 in
+    rw (p.1, p.2) (exports-stop c.args.draft.now c.args.handle.now _ c.in_err-exports.ensures.exports)
+
+pub returns-in_err-exports-clause-first : goal.returns-in_err-exports-clause-first
+returns-in_err-exports-clause-first c =
+    rw (← c.as_slice.ensures) (first-past c.args.draft.now.modes c.args.draft.now.view _ _ c.in_ok-known.ensures.first _)
+
+pub returns-clause-checked : goal.returns-clause-checked
+returns-clause-checked c =
+    checked-judged c.args.draft.now c.args.handle.now true c.args.writes c.in-Ok.known
+    c.in_ok-exports.exports.now
+    (means-as c.args.draft.now c.args.handle.now _ _ (Ok c.in-Ok.known) c.as_slice.ensures c.in-Ok.is
+    c.in_ok-known.ensures.means) c.in_ok-exports.ensures.exports (file_found c.judged_file.result)
+    c.judged_file.ensures.checks
+
+pub returns-clause-lives : goal.returns-clause-lives
+returns-clause-lives c =
+    file-of c.args.draft.now c.args.handle.now c.in-Ok.known
+    (means-as c.args.draft.now c.args.handle.now _ _ (Ok c.in-Ok.known) c.as_slice.ensures c.in-Ok.is
+    c.in_ok-known.ensures.means)
+    c.judged_file.result c.judged_file.ensures.file c.judged_file.ensures.regular
+
+pub returns-clause-number : goal.returns-clause-number
+returns-clause-number c =
+    file-number c.args.handle.now c.in-Ok.known c.judged_file.result
+    (number-as c.args.handle.now _ _ c.in-Ok.known c.as_slice.ensures c.in-Ok.is c.in_ok-known.ensures.number)
+    c.judged_file.ensures.file
+
+pub returns-clause-first : goal.returns-clause-first
+returns-clause-first c =
+    rw (← c.as_slice.ensures) (first-past c.args.draft.now.modes c.args.draft.now.view _ _ c.in_ok-known.ensures.first _)

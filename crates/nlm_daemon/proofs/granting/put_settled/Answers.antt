@@ -1,0 +1,16 @@
+use Rattle.std.proofs.lemmas.Result.{err_from_is_err_and}
+use Rattle.nfs_inodes.specs.Locks.{locks_set}
+use Rattle.nlm_daemon.proofs.Ends.{May}
+use Rattle.nlm_daemon.proofs.Sending.{put-sends}
+use Rattle.nlm_daemon.proofs.granting.put_settled.Goals as goal
+
+pub returns-in_err-put : goal.returns-in_err-put
+returns-in_err-put c =
+    let p = err_from_is_err_and c.from_residual.result c.from_residual.ensures.1 in
+    rw (p.1, p.2) c.in_err-put.ensures
+
+pub returns : goal.returns
+returns c =
+    put-sends (May c.args.number c.args.export c.args.settled.file) c.args.draft.now c.put.new.draft
+    c.send_grants.new.draft _ (locks_set c.args.number c.args.settled.file) c.in_ok-put.ensures
+    c.in_ok-send_grants.ensures

@@ -1,0 +1,47 @@
+use Rattle.std.proofs.Common.{◌∷◌, []}
+use Rattle.std.proofs.lemmas.Result.{err_from_is_err_and}
+use Rattle.nfs_objects.specs.Attempt.{first_wanted_with}
+use Rattle.nlm_daemon.proofs.Attempted.{locks-promised}
+use Rattle.nlm_daemon.proofs.Calling.{begins-alone, ends-first, ends-memory, ends-stopped, locking-of}
+use Rattle.nlm_daemon.proofs.Judging.{first-halts, first-past}
+use Rattle.nlm_daemon.specs.Answering.{IsAnswered, locking_call}
+use Rattle.nlm_daemon.specs.Comes.{lock_places}
+use Rattle.nlm_daemon.proofs.locking.attempt.Goals as goal
+
+pub lock-requires-clause-none : goal.lock-requires-clause-none
+lock-requires-clause-none c = c.requires.begins.none
+
+pub lock-requires-clause-alone : goal.lock-requires-clause-alone
+lock-requires-clause-alone c = begins-alone (locking_call c.args.procedure c.args.arguments.now) c.args.draft c.requires.begins (locking-of c.args.procedure c.args.arguments.now).alone
+
+pub returns-in_err-status-clause-ends : goal.returns-in_err-status-clause-ends
+returns-in_err-status-clause-ends c =
+    let p = err_from_is_err_and c.from_residual.result c.from_residual.ensures.1 in
+    rw (p.1, p.2)
+    (ends-stopped (locking_call c.args.procedure c.args.arguments.now) c.args.draft c.requires.begins
+    (lock_places c.args.draft.view c.args.arguments.now.lock.file) ((locking-of c.args.procedure c.args.arguments.now).named c.args.draft.view) _
+    c.in_err-status.ensures.ends)
+
+pub returns-in_err-status-clause-first : goal.returns-in_err-status-clause-first
+returns-in_err-status-clause-first c =
+    let p = err_from_is_err_and c.from_residual.result c.from_residual.ensures.1 in
+    rw (p.1, p.2)
+    (ends-first (locking_call c.args.procedure c.args.arguments.now) c.args.draft c.requires.begins
+    (first_wanted_with c.args.draft.view (c.args.arguments.now.lock.file ∷ []))
+    ((locking-of c.args.procedure c.args.arguments.now).first c.args.draft.view) _
+    (first-halts c.args.draft.modes c.args.draft.view _ _ c.in_err-status.ensures.first))
+
+pub returns-clause-ends : goal.returns-clause-ends
+returns-clause-ends c =
+    ends-memory (locking_call c.args.procedure c.args.arguments.now) c.args.draft c.args.draft.ctx c.answer.result
+    (IsAnswered c.lock.new.draft c.args.procedure c.args.arguments.now.cookie c.in_ok-status.status) c.answer.ensures
+    (λ change answered. locks-promised c.args.draft c.lock.new.draft c.in_ok-status.status change
+    c.args.procedure c.args.arguments.now c.requires.locks c.requires.begins
+    (rw c.is_message.ensures at c.in_ok-status.ensures.ends) answered)
+
+pub returns-clause-first : goal.returns-clause-first
+returns-clause-first c =
+    ends-first (locking_call c.args.procedure c.args.arguments.now) c.args.draft c.requires.begins
+    (first_wanted_with c.args.draft.view (c.args.arguments.now.lock.file ∷ []))
+    ((locking-of c.args.procedure c.args.arguments.now).first c.args.draft.view) _
+    (first-past c.args.draft.modes c.args.draft.view _ _ c.in_ok-status.ensures.first _)
