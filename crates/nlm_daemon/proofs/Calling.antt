@@ -1,18 +1,19 @@
 -- What calls of NLM name and want first, and how they halt.
 use Rattle.std.proofs.Common.{◌≡◌, List, [], ◌∷◌, ◌++◌, Option, Some, None, Result, Ok, Err, inl, inr, option_map, refl, sym, ap, subst}
-use Rattle.std.proofs.Common.{◌∙◌, ℕ, ◌%◌}
+use Rattle.std.proofs.Common.{◌∙◌, ℕ, true}
 use Rattle.std.specs.Prelude.{MatchResult}
 use Rattle.side_wire.specs.declared.nlm.CancelArguments.{CancelArguments}
 use Rattle.side_wire.specs.declared.nlm.LockArguments.{LockArguments}
+use Rattle.side_wire.specs.declared.nlm.NlmCall.{NlmCall}
 use Rattle.side_wire.specs.declared.nlm.NlmCall.TheVariants as nlm
 use Rattle.side_wire.specs.declared.nlm.ShareArguments.{ShareArguments}
+use Rattle.side_wire.specs.declared.nlm.TestArguments.{TestArguments}
 use Rattle.side_wire.specs.declared.nlm.UnlockArguments.{UnlockArguments}
 use Rattle.nfs_machine.specs.Handles.{handle_of}
 use Rattle.nfs_machine.specs.declared.calls.Call.{Call}
 use Rattle.nfs_machine.specs.declared.calls.Call.TheVariants as calls
 use Rattle.nfs_machine.specs.declared.context.Ctx.{Ctx}
 use Rattle.nfs_machine.specs.declared.handle.Handle.{Handle}
-use Rattle.nlm_ranges.specs.Buckets.{bucket_count}
 use Rattle.nfs_objects.proofs.Knows.{among-behind, among-front, covers-among, stops-wider}
 use Rattle.nfs_objects.specs.Asks.{Lacks}
 use Rattle.nfs_objects.specs.Attempt.{EndsCall, EndsFirst, HaltsFirst, first_wanted, first_wanted_with, unless_seen}
@@ -32,7 +33,7 @@ use Rattle.nfs_inodes.proofs.Ending.{asking}
 use Rattle.nfs_inodes.proofs.Halting.{lacking-unseen}
 use Rattle.nfs_inodes.specs.Known.{HasNumber}
 use Rattle.nfs_inodes.specs.Stops.{StopsAt, brought_by}
-use Rattle.nlm_daemon.specs.Answering.{canceling_call, is_canceling, is_locking, is_unlocking, locking_call, unlocking_call}
+use Rattle.nlm_daemon.specs.Answering.{canceling_call, granting_call, is_passed, locking_call, unlocking_call}
 use Rattle.nlm_daemon.specs.Comes.{lock_places}
 use Rattle.nlm_daemon.specs.declared.answering.Procedure.{Procedure}
 use Rattle.nlm_daemon.specs.declared.answering.Procedure.TheVariants as procedures
@@ -88,6 +89,54 @@ sharing-of a = record { first = λ view. refl; named = λ view. refl; alone = re
 pub unsharing-of : (a : ShareArguments) → IsOfFile (calls.Nlm (nlm.Unshare a)) a.share.file
 unsharing-of a = record { first = λ view. refl; named = λ view. refl; alone = refl }
 
+-- ---- calls that bring no handle, and name the exports alone
+pub record IsAlone (call : Call) : Type 0 where
+  pub first : (view : ViewValue) → first_wanted call view ≡ first_wanted_with view []
+  pub named : (view : ViewValue) → named_by call view ≡ addresses.Exports ∷ []
+
+pub granting-of : (procedure : Procedure) (a : TestArguments) → IsAlone (granting_call procedure a)
+granting-of procedures.GrantedMsg a = record { first = λ view. refl; named = λ view. refl }
+granting-of procedures.Granted a = record { first = λ view. refl; named = λ view. refl }
+granting-of procedures.Lock a = record { first = λ view. refl; named = λ view. refl }
+granting-of procedures.NmLock a = record { first = λ view. refl; named = λ view. refl }
+granting-of procedures.LockMsg a = record { first = λ view. refl; named = λ view. refl }
+granting-of procedures.Cancel a = record { first = λ view. refl; named = λ view. refl }
+granting-of procedures.CancelMsg a = record { first = λ view. refl; named = λ view. refl }
+granting-of procedures.Unlock a = record { first = λ view. refl; named = λ view. refl }
+granting-of procedures.UnlockMsg a = record { first = λ view. refl; named = λ view. refl }
+granting-of procedures.Share a = record { first = λ view. refl; named = λ view. refl }
+granting-of procedures.Unshare a = record { first = λ view. refl; named = λ view. refl }
+
+pub passing-of : (call : NlmCall) → is_passed call ≡ true → IsAlone (calls.Nlm call)
+passing-of (nlm.TestRes r) is = record { first = λ view. refl; named = λ view. refl }
+passing-of (nlm.LockRes r) is = record { first = λ view. refl; named = λ view. refl }
+passing-of (nlm.CancelRes r) is = record { first = λ view. refl; named = λ view. refl }
+passing-of (nlm.UnlockRes r) is = record { first = λ view. refl; named = λ view. refl }
+passing-of nlm.Null is = absurd cc
+passing-of (nlm.Test a) is = absurd cc
+passing-of (nlm.Lock a) is = absurd cc
+passing-of (nlm.Cancel a) is = absurd cc
+passing-of (nlm.Unlock a) is = absurd cc
+passing-of (nlm.Granted a) is = absurd cc
+passing-of (nlm.TestMsg a) is = absurd cc
+passing-of (nlm.LockMsg a) is = absurd cc
+passing-of (nlm.CancelMsg a) is = absurd cc
+passing-of (nlm.UnlockMsg a) is = absurd cc
+passing-of (nlm.GrantedMsg a) is = absurd cc
+passing-of (nlm.GrantedRes r) is = absurd cc
+passing-of (nlm.Share a) is = absurd cc
+passing-of (nlm.Unshare a) is = absurd cc
+passing-of (nlm.NmLock a) is = absurd cc
+passing-of (nlm.FreeAll a) is = absurd cc
+
+-- with no handle the exports are wanted, and nothing else
+pub wanted-alone : (view : ViewValue) → first_wanted_with view [] ≡ unless_seen view addresses.Exports
+wanted-alone view = by (unless_seen view addresses.Exports)
+  where
+    by : (o : Option Addr) → elim o [ Some a ↦ Some a | None ↦ None ] ≡ o
+    by (Some a) = refl
+    by None = refl
+
 -- what the view has seen the draft does not lack
 pub exports-known : (d : DraftValue) → d.writes ≡ [] → unless_seen d.view addresses.Exports ≡ None → (halt : Halt) →
     Lacks d addresses.Exports halt → ⊥
@@ -136,6 +185,22 @@ module _ (call : Call) (d : DraftValue) (begins : Begins call d) where
       asking d call halt begins places
       (covers-among places (named_by call d.view) d.view
       (λ a among. subst (λ l. IsAmong l a) (sym named) among)) stops
+
+  -- where it brings no handle
+  module _ (alone : IsAlone call) where
+    pub alone-ends : (halt : Halt) → StopsAt d (addresses.Exports ∷ []) halt → EndsCall call d.ctx d.view (Err halt)
+    alone-ends halt stops = ends-stopped (addresses.Exports ∷ []) (alone.named d.view) halt stops
+
+    alone-wanted : first_wanted call d.view ≡ unless_seen d.view addresses.Exports
+    alone-wanted = alone.first d.view ∙ wanted-alone d.view
+
+    pub alone-first : (r : Result Change Halt) → HaltsFirst d.modes d.view (unless_seen d.view addresses.Exports) r →
+        EndsFirst call d.view r
+    alone-first r first = ends-first (unless_seen d.view addresses.Exports) alone-wanted r first
+
+    -- where the view has the exports, they are not asked for
+    pub alone-never : first_wanted call d.view ≡ None → (halt : Halt) → Lacks d addresses.Exports halt → ⊥
+    alone-never none halt lacks = exports-known d begins.none (sym alone-wanted ∙ none) halt lacks
 
   -- it holds locks alone
   pub begins-alone : (modes_of call).locks ≡ Exclusive → d.modes.locks ≡ Exclusive

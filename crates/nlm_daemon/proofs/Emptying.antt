@@ -1,5 +1,7 @@
 -- FREE_ALL as a draft does it: all files are freed, and then what waits for each is tried.
-use Rattle.std.proofs.Common.{◌≡◌, ◌≤◌, ◌+◌, ℕ, List, [], ◌∷◌, ◌++◌, refl, sym, ◌∙◌, ap, append_assoc, arith, subst}
+use Rattle.std.proofs.Common.{◌≡◌, ◌≤◌, ◌<◌, ◌+◌, ℕ, List, [], ◌∷◌, ◌++◌, refl, sym, ◌∙◌, ap, append_assoc, arith, subst}
+use Rattle.std.proofs.Common.{drop, get_or, inl, inr, length, take}
+use Rattle.std.proofs.lemmas.List.{at_drop_more, drop_all, take-append-drop, take_all, take_more}
 use Rattle.std.proofs.lemmas.List.Elements.{Contains-append_left, Contains-append_right}
 use Rattle.std.specs.FinMap.{FinMap, get}
 use Rattle.std.specs.List.{Contains}
@@ -25,7 +27,7 @@ use Rattle.nlm_daemon.proofs.Owning.{grants_told}
 use Rattle.nlm_daemon.proofs.Sending.{IsFormed, sends-both}
 use Rattle.nlm_daemon.proofs.Turning.{sends-nothing, set-sound}
 use Rattle.nlm_daemon.specs.Comes.{ComesTo, TurnsSending}
-use Rattle.nlm_daemon.specs.Freeing.{AreFreed, AreRising}
+use Rattle.nlm_daemon.specs.Freeing.{AreFreed, AreRising, SettlesOne}
 
 -- ---- lists
 rising-front : (below : ℕ) (xs ys : List LockedValue) → AreRising below (xs ++ ys) → AreRising below xs
@@ -188,3 +190,43 @@ module _ (old : DraftValue) (name : List ℕ) (freed : List LockedValue)
         tried-frees k.state (firm-of k.state formed.locks) name freed (are s k w formed) formed.locks.held_up t.messages
         (t.op k).state (t.tried s k w formed);
   }
+
+  -- ---- by their places in the list
+  module _ (i : ℕ) (f : LockedValue) (within : i < length freed) (is-file : f ≡ get_or freed i f) where
+    rest-is : drop i freed ≡ f ∷ drop (i + 1) freed
+    rest-is = at_drop_more (λ l. l) freed i f within ∙ ap (λ x. x ∷ drop (i + 1) freed) (sym is-file)
+
+    split-at : freed ≡ take i freed ++ f ∷ drop (i + 1) freed
+    split-at = sym (take-append-drop i freed) ∙ ap (λ l. take i freed ++ l) rest-is
+
+    done-is : take i freed ++ f ∷ [] ≡ take (i + 1) freed
+    done-is = ap (λ x. take i freed ++ x ∷ []) is-file ∙ sym (take_more freed i f within)
+
+    pub set-step : (d new : DraftValue) → TurnsWhere IsFormed old d (all_set (take i freed)) →
+        TurnsWhere (λ k. MayHave k.state f) d new (locks_set f.number f.file) →
+        TurnsWhere IsFormed old new (all_set (take (i + 1) freed))
+    set-step d new first second =
+        subst (λ l. TurnsWhere IsFormed old new (all_set l)) done-is
+        (set-next (take i freed) f (drop (i + 1) freed) split-at d new first second)
+
+    pub try-step : (d new : DraftValue) → Tries old freed d (take i freed) (drop i freed) → SettlesOne d new f →
+        Tries old freed new (take (i + 1) freed) (drop (i + 1) freed)
+    try-step d new tried one =
+        let t : Tries old freed d (take i freed) (f ∷ drop (i + 1) freed) =
+        subst (Tries old freed d (take i freed)) rest-is tried in
+        subst (λ l. Tries old freed new l (drop (i + 1) freed)) done-is (elim one.puts [
+          | inl nothing ↦ subst (λ x. Tries old freed x (take i freed ++ f ∷ []) (drop (i + 1) freed)) (sym nothing.1)
+              (tries-same (take i freed) f (drop (i + 1) freed) split-at d t one.settled one.is nothing.0)
+          | inr sending ↦ tries-next (take i freed) f (drop (i + 1) freed) split-at d t one.settled one.is new sending
+        ])
+
+  pub set-whole : (i : ℕ) (d : DraftValue) → length freed ≤ i → TurnsWhere IsFormed old d (all_set (take i freed)) →
+      Tries old freed d [] freed
+  set-whole i d whole set =
+      tries-first d (subst (λ l. TurnsWhere IsFormed old d (all_set l)) (take_all i freed whole) set)
+
+  pub frees-whole : (i : ℕ) (d : DraftValue) (status : Unit {0}) → length freed ≤ i →
+      Tries old freed d (take i freed) (drop i freed) → ComesTo old d (λ m s. Frees m name) status
+  frees-whole i d status whole tried =
+      frees-comes d status (subst (λ l. Tries old freed d l []) (take_all i freed whole)
+      (subst (Tries old freed d (take i freed)) (drop_all i freed whole) tried))

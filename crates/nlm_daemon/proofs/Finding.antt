@@ -28,7 +28,7 @@ use Rattle.nlm_daemon.specs.Granted.{FindsPending, HasGrant, IsPendingNow, grant
 use Rattle.nlm_daemon.specs.declared.granting.Pending.{Pending}
 
 -- ---- lists
-nothing-in : {X : Type 0} (x : X) → Contains [] x → ⊥
+pub nothing-in : {X : Type 0} (x : X) → Contains [] x → ⊥
 nothing-in x (k, within, at) = omega (arith, within)
 
 pub all-has : {X : Type 0} (P : X → Type 0) (xs : List X) (x : X) → AllByRecursion P xs → Contains xs x → P x

@@ -1,8 +1,9 @@
 -- The files that are freed, bucket by bucket, and by rising numbers in the end.
 use Rattle.std.proofs.Common.{◌≡◌, ◌==◌, ◌⊎◌, ◌%◌, ◌≤◌, ◌<◌, ◌+◌, ℕ, zero, suc, Bool, true, false, cond, List, [], ◌∷◌, ◌++◌}
 use Rattle.std.proofs.Common.{Option, Some, None, get_or, inl, inr, length, take, refl, sym, ◌∙◌, ap, append-nil, append_assoc}
-use Rattle.std.proofs.Common.{subst, arith}
-use Rattle.std.proofs.lemmas.List.{take_more}
+use Rattle.std.proofs.Common.{subst, arith, map, option_map}
+use Rattle.std.proofs.lemmas.List.{nil_from_length, take_all, take_more}
+use Rattle.std.specs.Arc.{arc_value}
 use Rattle.std.proofs.lemmas.List.Elements.{Contains-append_cases, Contains-append_left, Contains-append_right}
 use Rattle.std.proofs.lemmas.List.Sorted.{Contains-permutation, IsPermutation-sym}
 use Rattle.std.proofs.lemmas.Map.Keys.{IsDistinct-IsPermutation}
@@ -19,21 +20,22 @@ use Rattle.nfs_machine.proofs.Firm.{none-listed}
 use Rattle.nfs_machine.proofs.Modes.{all-joined}
 use Rattle.nlm_ranges.specs.Buckets.{BucketValue, IsBucket, LockedValue, bucket_count, file_in, same_number}
 use Rattle.nlm_ranges.specs.Files.{FileValue, no_file}
-use Rattle.nlm_ranges.specs.Granting.{IsFreed}
-use Rattle.nfs_objects.specs.Stands.{StandLocks, bucket_there, exported_file, file_there, lives_in}
+use Rattle.nlm_ranges.specs.Granting.{IsFreed, granted_in}
+use Rattle.nlm_ranges.specs.declared.file.Settled.{Settled}
+use Rattle.nfs_objects.specs.Stands.{StandLocks, bucket_at, bucket_there, exported_file, file_there, lives_in}
 use Rattle.nfs_objects.specs.Store.{Store}
+use Rattle.nfs_objects.specs.Values.{DraftValue, known_at}
+use Rattle.nfs_objects.specs.declared.address.Addr.TheVariants as addresses
 use Rattle.nfs_inodes.proofs.Locking.{cons-cases, later}
 use Rattle.nfs_inodes.specs.Locks.{HasLocks, IsFileAt}
-use Rattle.nlm_daemon.proofs.Finding.{all-has, file-index, found-in, found-of}
-use Rattle.nlm_daemon.specs.Freeing.{AreFreed, AreFreedOf, AreRising, IsFreedFile, IsFreedOne}
+use Rattle.nlm_daemon.proofs.Finding.{all-has, file-index, found-in, found-of, nothing-in}
+use Rattle.nlm_daemon.specs.Freeing.{AddsBucket, AddsFreed, AddsOne, AreFreed, AreFreedOf, AreRising, IsFreedFile}
+use Rattle.nlm_daemon.specs.Freeing.{IsFreedOne}
 
 -- ---- lists in which each stands once
 all-of : {X : Type 0} (P : X → Type 0) (xs : List X) → ((x : X) → Contains xs x → P x) → AllByRecursion P xs
 all-of P [] each = tt
 all-of P (x ∷ xs) each = (each x (zero, omega arith, refl), all-of P xs (λ y has. each y (later x xs y has)))
-
-nothing-in : {X : Type 0} (x : X) → Contains [] x → ⊥
-nothing-in x (k, within, at) = omega (arith, within)
 
 module _ {X : Type 0} (same : X → X → Bool) where
   distinct-append : (xs ys : List X) → IsDistinct same xs → IsDistinct same ys →
@@ -131,37 +133,36 @@ module _ (exports : List LivingExport) (name : List ℕ) where
       ];
     }
 
-  -- what was added for the files so far
-  pub record Adds (files old new : List LockedValue) : Type 0 where
-    pub more : List LockedValue
-    pub is : new ≡ old ++ more
-    pub are : AreFreedOf exports name files more
-
+  -- one file more, of those of the bucket so far
   module _ (files : List LockedValue) (i : ℕ) (file : LockedValue) (within : i < length files)
-      (is-file : file ≡ get_or files i file) (old : List LockedValue) where
+      (is-file : file ≡ get_or files i file) (old mid new : List LockedValue)
+      (adds : AddsFreed exports name (take i files) old mid) (one : AddsOne exports name file mid new) where
     one-more : take i files ++ file ∷ [] ≡ take (i + 1) files
     one-more = ap (λ f. take i files ++ f ∷ []) is-file ∙ sym (take_more files i file within)
 
-    pub adds-none : (new : List LockedValue) → Adds (take i files) old new → IsFreedOne exports name file None →
-        Adds (take (i + 1) files) old new
-    adds-none new adds one = record {
-      more = adds.more;
-      is = adds.is;
-      are = subst (λ l. AreFreedOf exports name l adds.more) one-more
-          (freed-kept (take i files) adds.more file adds.are one);
+    abbrev listed : Option LockedValue → List LockedValue
+    listed o = elim o [ None ↦ [] | Some f ↦ f ∷ [] ]
+
+    longer-freed : (o : Option LockedValue) → IsFreedOne exports name file o →
+        AreFreedOf exports name (take i files ++ file ∷ []) (adds.more ++ listed o)
+    longer-freed None is = subst (AreFreedOf exports name (take i files ++ file ∷ [])) (sym (append-nil adds.more))
+        (freed-kept (take i files) adds.more file adds.freed is)
+    longer-freed (Some f) is = freed-more (take i files) adds.more file adds.freed f is
+
+    pub adds-next : AddsFreed exports name (take (i + 1) files) old new
+    adds-next = record {
+      more = adds.more ++ listed one.left;
+      grown = one.grown ∙ ap (λ l. l ++ listed one.left) adds.grown ∙ append_assoc old adds.more (listed one.left);
+      freed = subst (λ l. AreFreedOf exports name l (adds.more ++ listed one.left)) one-more
+          (longer-freed one.left one.freed);
     }
 
-    pub adds-one : (mid new : List LockedValue) (f : LockedValue) → Adds (take i files) old mid →
-        IsFreedOne exports name file (Some f) → new ≡ mid ++ f ∷ [] → Adds (take (i + 1) files) old new
-    adds-one mid new f adds one is = record {
-      more = adds.more ++ f ∷ [];
-      is = is ∙ ap (λ l. l ++ f ∷ []) adds.is ∙ append_assoc old adds.more (f ∷ []);
-      are = subst (λ l. AreFreedOf exports name l (adds.more ++ f ∷ [])) one-more
-          (freed-more (take i files) adds.more file adds.are f one);
-    }
+  pub adds-first : (old : List LockedValue) → AddsFreed exports name [] old old
+  adds-first old = record { more = []; grown = sym (append-nil old); freed = freed-none }
 
-  pub adds-first : (old : List LockedValue) → Adds [] old old
-  adds-first old = record { more = []; is = sym (append-nil old); are = freed-none }
+  pub adds-whole : (files : List LockedValue) (i : ℕ) (old new : List LockedValue) → length files ≤ i →
+      AddsFreed exports name (take i files) old new → AddsFreed exports name files old new
+  adds-whole files i old new whole adds = subst (λ l. AddsFreed exports name l old new) (take_all i files whole) adds
 
 -- ---- bucket by bucket
 -- what has nothing has nothing less
@@ -316,3 +317,25 @@ module _ (s : Store) (m : State) (stand : StandLocks s m) (name : List ℕ) wher
         others = λ n none. all.others n (omega arith)
             (λ f has. none f (Contains-permutation freed sorted f moved has));
       }
+
+  -- a bucket more
+  pub below-step : (d : DraftValue) (exports : List LivingExport) (index : ℕ) (old new : List LockedValue) →
+      m.exports ≡ exports → ((b : BucketValue) →
+      option_map bucket_at (known_at d (addresses.Locks index)) ≡ Some b → bucket_there s index ≡ b) →
+      ((f : LockedValue) → Contains (bucket_there s index).files f → lives_in m.exports f.export ≡ true →
+      IsFileAt m f.number f.export) → AddsBucket d exports name index old new → AreFreedBelow s m name index old →
+      AreFreedBelow s m name (index + 1) new
+  below-step d exports index old new lists known files adds before =
+      let there = known adds.bucket adds.known in
+      subst (AreFreedBelow s m name (index + 1)) (sym adds.adds.grown)
+      (below-next index adds.bucket there adds.is_bucket
+      (subst (λ (b : BucketValue). (f : LockedValue) → Contains b.files f → lives_in m.exports f.export ≡ true →
+      IsFileAt m f.number f.export) there files) old adds.adds.more
+      (subst (λ es. AreFreedOf es name adds.bucket.files adds.adds.more) (sym lists) adds.adds.freed) before)
+
+-- where nothing is granted
+pub none-granted : (settled : Settled) (n : ℕ) → n ≡ length settled.granted.items → true ≡ (n == 0) →
+    granted_in settled ≡ []
+none-granted settled n len none =
+    let zero : n ≡ 0 = (unsigned_Decides n 0).0 (sym none) in
+    ap (map arc_value) (nil_from_length settled.granted.items (omega (arith, zero, len)))

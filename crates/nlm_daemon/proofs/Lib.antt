@@ -1,6 +1,7 @@
 pub mod Asked
 pub mod Attempted
 pub mod Calling
+pub mod Collected
 pub mod Coming
 pub mod Emptying
 pub mod Ends
@@ -11,7 +12,9 @@ pub mod Judging
 pub mod Laid
 pub mod Owning
 pub mod Placed
+pub mod Replied
 pub mod Sending
 pub mod Stepping
 pub mod Told
 pub mod Turning
+pub mod Wanting

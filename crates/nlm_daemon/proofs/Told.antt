@@ -1,8 +1,9 @@
 -- The answers of calls that change nothing, and of those that have one reply, are steps.
-use Rattle.std.proofs.Common.{◌≡◌, ℕ, List, [], ◌∷◌, ◌++◌, append-nil, refl, sym, ◌∙◌, ap, subst}
+use Rattle.std.proofs.Common.{◌≡◌, ℕ, true, List, [], ◌∷◌, ◌++◌, append-nil, refl, sym, ◌∙◌, ap, subst}
 use Rattle.side_wire.specs.declared.message.Callback.TheVariants as callbacks
 use Rattle.side_wire.specs.declared.message.Message.{Message}
 use Rattle.side_wire.specs.declared.nlm.FreeAllArguments.{FreeAllArguments}
+use Rattle.side_wire.specs.declared.nlm.NlmCall.{NlmCall}
 use Rattle.side_wire.specs.declared.nlm.NlmCall.TheVariants as nlm
 use Rattle.side_wire.specs.declared.nlm.NlmReply.{NlmReply}
 use Rattle.side_wire.specs.declared.nlm.NlmReply.TheVariants as replies
@@ -30,7 +31,8 @@ use Rattle.nfs_objects.specs.Stands.{Kept}
 use Rattle.nfs_objects.specs.Store.{Store}
 use Rattle.nfs_objects.specs.Values.{ChangeValue, DraftValue, done_value}
 use Rattle.nlm_daemon.proofs.Coming.{comes-unchanged, promised-comes}
-use Rattle.nlm_daemon.specs.Answering.{IsAnswered, IsPassed, posted_by, reply_of}
+use Rattle.nlm_daemon.specs.Answering.{IsAnswered, granting_call, is_granting, is_passed, posted_by, reply_of}
+use Rattle.nlm_daemon.specs.Answering.{reply_passed}
 use Rattle.nlm_daemon.specs.Comes.{ComesTo, KnowsEnd}
 use Rattle.nlm_daemon.specs.declared.answering.Procedure.{Procedure}
 use Rattle.nlm_daemon.specs.declared.answering.Procedure.TheVariants as procedures
@@ -54,6 +56,21 @@ module _ (m : State) (ctx : Ctx) where
     unfolding NlmStep
     step-granted-message =
         (statuses.Denied, [], record { reply_is = refl; no_message = refl; state_is = refl }, refl, refl)
+
+    pub step-denied : (procedure : Procedure) → is_granting procedure ≡ true → Step m ctx (granting_call procedure a)
+        (answers.Nlm (reply_of procedure a.cookie statuses.Denied))
+        (posted_by procedure ctx.host a.cookie statuses.Denied) m
+    step-denied procedures.Granted is = step-granted
+    step-denied procedures.GrantedMsg is = step-granted-message
+    step-denied procedures.Lock is = cc
+    step-denied procedures.NmLock is = cc
+    step-denied procedures.LockMsg is = cc
+    step-denied procedures.Cancel is = cc
+    step-denied procedures.CancelMsg is = cc
+    step-denied procedures.Unlock is = cc
+    step-denied procedures.UnlockMsg is = cc
+    step-denied procedures.Share is = cc
+    step-denied procedures.Unshare is = cc
 
     pub step-test : (s : TestStatus) → TestEnds m ctx a s [] m → Step m ctx (calls.Nlm (nlm.Test a))
         (answers.Nlm (replies.Test (record { cookie = a.cookie; status = s }))) [] m
@@ -96,6 +113,30 @@ module _ (m : State) (ctx : Ctx) where
   step-frees a messages new frees =
       (refl, subst (λ ms. Frees m a.name ms new) (sym (append-nil messages)) frees)
 
+  -- what is passed over
+  pub step-passed : (call : NlmCall) → is_passed call ≡ true →
+      Step m ctx (calls.Nlm call) (answers.Nlm (reply_passed call)) [] m
+  step-passed (nlm.TestRes r) is = step-test-res r
+  step-passed (nlm.LockRes r) is = step-lock-res r
+  step-passed (nlm.CancelRes r) is = step-cancel-res r
+  step-passed (nlm.UnlockRes r) is = step-unlock-res r
+  step-passed nlm.Null is = cc
+  step-passed (nlm.Test a) is = cc
+  step-passed (nlm.Lock a) is = cc
+  step-passed (nlm.Cancel a) is = cc
+  step-passed (nlm.Unlock a) is = cc
+  step-passed (nlm.Granted a) is = cc
+  step-passed (nlm.TestMsg a) is = cc
+  step-passed (nlm.LockMsg a) is = cc
+  step-passed (nlm.CancelMsg a) is = cc
+  step-passed (nlm.UnlockMsg a) is = cc
+  step-passed (nlm.GrantedMsg a) is = cc
+  step-passed (nlm.GrantedRes r) is = cc
+  step-passed (nlm.Share a) is = cc
+  step-passed (nlm.Unshare a) is = cc
+  step-passed (nlm.NmLock a) is = cc
+  step-passed (nlm.FreeAll a) is = cc
+
 -- ---- ends
 -- a call's end, with its message behind those that it put
 pub is-answered : (d mid : DraftValue) (procedure : Procedure) (cookie : List ℕ) (s : NlmStatus) (change : ChangeValue)
@@ -111,26 +152,15 @@ is-answered d mid procedure cookie s change reply sent replied is held given = r
   given = subst (λ (x : DraftValue). Given x.view x.writes) sent given;
 }
 
-pub is-passed : (d : DraftValue) (answer : NlmReply) (change : ChangeValue) →
-    change ≡ record { writes = d.writes; messages = d.messages; reply = answers.Nlm answer } →
-    Held d.view d.writes → Given d.view d.writes → IsPassed d answer change
-is-passed d answer change is held given = record {
-  writes = ap (λ (c : ChangeValue). c.writes) is;
-  messages = ap (λ (c : ChangeValue). c.messages) is;
-  reply = ap (λ (c : ChangeValue). c.reply) is;
-  held = held;
-  given = given;
-}
-
 -- ---- promises
 module _ (d : DraftValue) (call : Call) (begins : Begins call d) where
-  pub passed-promised : (reply : NlmReply) (change : ChangeValue) → IsPassed d reply change →
-      ((m : State) → Step m d.ctx call (answers.Nlm reply) [] m) → IsPromised (done_value call d.ctx d.view change)
-  passed-promised reply change passed steps = subst
-      (λ (c : ChangeValue). IsPromised (done_value call d.ctx d.view c))
-      (λ i. record { writes = sym passed.writes i; messages = sym passed.messages i; reply = sym passed.reply i })
-      (promised-unchanged d begins.none begins.quiet call (answers.Nlm reply) passed.held passed.given
-      (λ s k w formed. steps k.state))
+  pub passed-promised : (reply : NlmReply) (change : ChangeValue) →
+      change ≡ record { writes = d.writes; messages = d.messages; reply = answers.Nlm reply } → Held d.view d.writes →
+      Given d.view d.writes → ((m : State) → Step m d.ctx call (answers.Nlm reply) [] m) →
+      IsPromised (done_value call d.ctx d.view change)
+  passed-promised reply change is held given steps = subst
+      (λ (c : ChangeValue). IsPromised (done_value call d.ctx d.view c)) (sym is)
+      (promised-unchanged d begins.none begins.quiet call (answers.Nlm reply) held given (λ s k w formed. steps k.state))
 
   -- this server waits for no lock
   pub denied-promised : (procedure : Procedure) (cookie : List ℕ) (change : ChangeValue) →
@@ -156,3 +186,19 @@ module _ (d : DraftValue) (call : Call) (begins : Begins call d) where
       promised-comes d d IsEnd status begins.none begins.quiet
       (comes-unchanged d IsEnd status knows (sym (append-nil d.messages))) call reply own change writes messages
       replied held given (λ s k w formed ends. steps k.state ends)
+
+  -- the same where it is told in a message
+  pub posted-promised : {Status : Type 0} (IsEnd : State → Status → List Message → State → Type 0) (status : Status) →
+      KnowsEnd d IsEnd status → (message : Message) (mid : DraftValue) →
+      mid ≡ record d { messages = d.messages ++ message ∷ [] } → (reply : Reply) (change : ChangeValue) →
+      change ≡ record { writes = mid.writes; messages = mid.messages; reply = reply } →
+      Held mid.view mid.writes → Given mid.view mid.writes →
+      ((m : State) → IsEnd m status [] m → Step m d.ctx call reply (message ∷ []) m) →
+      IsPromised (done_value call d.ctx d.view change)
+  posted-promised IsEnd status knows message mid sent reply change is held given steps =
+      told-promised IsEnd status knows reply (message ∷ []) change
+      (ap (λ (c : ChangeValue). c.writes) is ∙ ap (λ (x : DraftValue). x.writes) sent)
+      (ap (λ (c : ChangeValue). c.messages) is ∙ ap (λ (x : DraftValue). x.messages) sent)
+      (ap (λ (c : ChangeValue). c.reply) is)
+      (subst (λ (x : DraftValue). Held x.view x.writes) sent held)
+      (subst (λ (x : DraftValue). Given x.view x.writes) sent given) steps

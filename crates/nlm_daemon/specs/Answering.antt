@@ -10,6 +10,7 @@ use Rattle.side_wire.specs.declared.nlm.NlmCall.TheVariants as nlm
 use Rattle.side_wire.specs.declared.nlm.NlmReply.{NlmReply}
 use Rattle.side_wire.specs.declared.nlm.NlmReply.TheVariants as replies
 use Rattle.side_wire.specs.declared.nlm.NlmStatus.{NlmStatus}
+use Rattle.side_wire.specs.declared.nlm.TestArguments.{TestArguments}
 use Rattle.side_wire.specs.declared.nlm.UnlockArguments.{UnlockArguments}
 use Rattle.nfs_machine.specs.NlmSteps.{result_with}
 use Rattle.nfs_machine.specs.declared.calls.Call.{Call}
@@ -64,14 +65,6 @@ pub record IsAnswered (d : DraftValue) (procedure : Procedure) (cookie : List �
   pub held : Held d.view d.writes
   pub given : Given d.view d.writes
 
--- the call changes nothing and puts no message, and has this reply
-pub record IsPassed (d : DraftValue) (answer : NlmReply) (change : ChangeValue) : Type 0 where
-  pub writes : change.writes ≡ d.writes
-  pub messages : change.messages ≡ d.messages
-  pub reply : change.reply ≡ answers.Nlm answer
-  pub held : Held d.view d.writes
-  pub given : Given d.view d.writes
-
 -- ---- calls of which nothing is asked but the exports
 -- NULL, and what is answered to calls that this server never makes: they are passed over, and that takes no memory
 abbrev pub answers_at_once : NlmCall → Bool
@@ -81,6 +74,21 @@ answers_at_once (nlm.LockRes r) = true
 answers_at_once (nlm.CancelRes r) = true
 answers_at_once (nlm.UnlockRes r) = true
 answers_at_once call = false
+
+-- all of these but NULL are passed over with such a reply
+abbrev pub is_passed : NlmCall → Bool
+is_passed (nlm.TestRes r) = true
+is_passed (nlm.LockRes r) = true
+is_passed (nlm.CancelRes r) = true
+is_passed (nlm.UnlockRes r) = true
+is_passed call = false
+
+abbrev pub reply_passed : NlmCall → NlmReply
+reply_passed (nlm.TestRes r) = replies.TestRes
+reply_passed (nlm.LockRes r) = replies.LockRes
+reply_passed (nlm.CancelRes r) = replies.CancelRes
+reply_passed (nlm.UnlockRes r) = replies.UnlockRes
+reply_passed call = replies.Null
 
 -- these, and GRANTED called at this server
 abbrev pub reads_exports : NlmCall → Bool
@@ -105,6 +113,11 @@ is_unlocking procedures.Unlock = true
 is_unlocking procedures.UnlockMsg = true
 is_unlocking procedure = false
 
+abbrev pub is_granting : Procedure → Bool
+is_granting procedures.Granted = true
+is_granting procedures.GrantedMsg = true
+is_granting procedure = false
+
 abbrev pub locking_call : Procedure → LockArguments → Call
 locking_call procedures.NmLock a = calls.Nlm (nlm.NmLock a)
 locking_call procedures.LockMsg a = calls.Nlm (nlm.LockMsg a)
@@ -117,3 +130,7 @@ canceling_call procedure a = calls.Nlm (nlm.Cancel a)
 abbrev pub unlocking_call : Procedure → UnlockArguments → Call
 unlocking_call procedures.UnlockMsg a = calls.Nlm (nlm.UnlockMsg a)
 unlocking_call procedure a = calls.Nlm (nlm.Unlock a)
+
+abbrev pub granting_call : Procedure → TestArguments → Call
+granting_call procedures.GrantedMsg a = calls.Nlm (nlm.GrantedMsg a)
+granting_call procedure a = calls.Nlm (nlm.Granted a)

@@ -1,13 +1,18 @@
 -- What is freed where a caller has nothing more (RFC 1813, appendix II, 6.2: procedure 23).
-use Rattle.std.specs.Prelude.{◌≡◌, ◌≤◌, ◌+◌, ℕ, Contains, List, [], ◌∷◌, Option, Some, None, true}
+use Rattle.std.specs.Prelude.{◌≡◌, ◌≤◌, ◌+◌, ℕ, Contains, List, [], ◌∷◌, ◌++◌, Option, Some, None, option_map, map, true, ◌⊎◌}
 use Rattle.std.specs.List.{IsDistinct}
 use Rattle.nfs_machine.specs.Exports.{LivingExport}
+use Rattle.nfs_machine.specs.Grants.{grant_message}
 use Rattle.nfs_machine.specs.State.{State}
 use Rattle.nlm_ranges.specs.Files.{FileValue}
-use Rattle.nlm_ranges.specs.Granting.{IsFreed}
-use Rattle.nlm_ranges.specs.Buckets.{LockedValue, same_number}
-use Rattle.nfs_objects.specs.Stands.{lives_in}
-use Rattle.nfs_inodes.specs.Locks.{HasLocks, IsFileAt}
+use Rattle.nlm_ranges.specs.Granting.{IsFreed, IsSettled, granted_in}
+use Rattle.nlm_ranges.specs.declared.file.Settled.{Settled}
+use Rattle.nlm_ranges.specs.Buckets.{BucketValue, IsBucket, LockedValue, same_number}
+use Rattle.nfs_objects.specs.Stands.{bucket_at, lives_in}
+use Rattle.nfs_objects.specs.Values.{DraftValue, known_at}
+use Rattle.nfs_objects.specs.declared.address.Addr.TheVariants as addresses
+use Rattle.nfs_inodes.specs.Locks.{HasLocks, IsFileAt, MayHave, locks_set}
+use Rattle.nlm_daemon.specs.Comes.{TurnsSending}
 
 -- the files stand by rising numbers, from above the first
 abbrev pub AreRising : ℕ → List LockedValue → Type 0
@@ -37,6 +42,28 @@ pub record AreFreedOf (exports : List LivingExport) (caller_name : List ℕ) (fi
   pub rest : (old : LockedValue) → Contains files old → lives_in exports old.export ≡ true →
       ((new : LockedValue) → Contains freed new → new.number ≡ old.number → ⊥) → IsFreed old.file caller_name old.file
 
+-- of one file more
+pub record AddsOne (exports : List LivingExport) (caller_name : List ℕ) (file : LockedValue) (old new : List LockedValue) :
+    Type 0 where
+  pub left : Option LockedValue
+  pub freed : IsFreedOne exports caller_name file left
+  pub grown : new ≡ old ++ elim left [ None ↦ [] | Some f ↦ f ∷ [] ]
+
+-- of all these
+pub record AddsFreed (exports : List LivingExport) (caller_name : List ℕ) (files old new : List LockedValue) :
+    Type 0 where
+  pub more : List LockedValue
+  pub grown : new ≡ old ++ more
+  pub freed : AreFreedOf exports caller_name files more
+
+-- of those that the bucket with this index lists, as the draft knows it
+pub record AddsBucket (d : DraftValue) (exports : List LivingExport) (caller_name : List ℕ) (index : ℕ)
+    (old new : List LockedValue) : Type 0 where
+  pub bucket : BucketValue
+  pub known : option_map bucket_at (known_at d (addresses.Locks index)) ≡ Some bucket
+  pub is_bucket : IsBucket bucket
+  pub adds : AddsFreed exports caller_name bucket.files old new
+
 -- These files are freed, by rising numbers, and of all others the caller has nothing.
 pub record AreFreed (m : State) (caller_name : List ℕ) (freed : List LockedValue) : Type 0 where
   pub rising : AreRising 0 freed
@@ -47,3 +74,11 @@ pub record AreFreed (m : State) (caller_name : List ℕ) (freed : List LockedVal
   pub lives : (new : LockedValue) → Contains freed new → IsFileAt m new.number new.export
   pub others : (number : ℕ) → ((new : LockedValue) → Contains freed new → new.number ≡ number → ⊥) →
       IsFreed (had number) caller_name (had number)
+
+-- what waits for a file was tried: where nothing is granted, nothing is put
+pub record SettlesOne (old new : DraftValue) (f : LockedValue) : Type 0 where
+  pub settled : Settled
+  pub is : IsSettled f.file settled
+  pub puts : ((granted_in settled ≡ []) × (new ≡ old)) ⊎ TurnsSending
+      (λ k. MayHave k.state (record { number = f.number; export = f.export; file = settled.file })) old new
+      (map grant_message (granted_in settled)) (locks_set f.number settled.file)

@@ -1,18 +1,18 @@
 //! FREE_ALL: a caller has nothing more of any file (RFC 1813, appendix II, 6.2: procedure 23).
 
-ghost use Rattle.std.specs.Prelude.{◌≡◌, ◌<◌, ℕ, ◌∷◌, ◌++◌, [], List, IfErr, IfOk, IsSome, MatchResult, OnOk};
+ghost use Rattle.std.specs.Prelude.{◌≡◌, ◌<◌, ℕ, ◌∷◌, [], IfErr, IfOk, IsSome, MatchResult, OnOk};
 ghost use Rattle.nfs_machine.specs.LockSteps.{Frees};
 ghost use Rattle.nfs_machine.specs.WellFormed.{WellFormed};
 ghost use Rattle.nfs_machine.specs.declared.calls.Call.TheVariants as calls;
 ghost use Rattle.nfs_objects.specs.Attempt.{EndsCall, EndsFirst, HaltsFirst, unless_seen};
 ghost use Rattle.nfs_objects.specs.Begins.{Begins};
-ghost use Rattle.nfs_objects.specs.Calls.{buckets_below};
+ghost use Rattle.nfs_objects.specs.Calls.{buckets_below, locks_at};
 ghost use Rattle.nfs_objects.specs.Knows.{Knows};
-ghost use Rattle.nlm_ranges.specs.Buckets.{LockedValue, bucket_count};
+ghost use Rattle.nlm_ranges.specs.Buckets.{bucket_count};
 ghost use Rattle.nfs_objects.specs.Values.{known_at};
 ghost use Rattle.nfs_inodes.specs.Stops.{StopsAt};
 ghost use Rattle.nlm_daemon.specs.Comes.{ComesTo};
-ghost use Rattle.nlm_daemon.specs.Freeing.{AreFreed, AreFreedOf, IsFreedOne};
+ghost use Rattle.nlm_daemon.specs.Freeing.{AddsBucket, AddsFreed, AddsOne, AreFreed, IsFreedOne, SettlesOne};
 
 use crate::granting::put_settled;
 use nfs_inodes::{Asking, exports, lives, set_locks};
@@ -57,11 +57,23 @@ fn free_all(draft: &mut Draft<'_>, caller_name: &[u8]) -> Result<(), Halt>
         set_locks(draft, file.clone()?)?;
     }
     for file in &freed {
-        let settled = file.file().settle(draft.alloc())?;
-        if !settled.granted.is_empty() {
-            put_settled(draft, file.number(), file.export(), settled)?;
-        }
+        settle_file(draft, file)?;
     }
+    Ok(())
+}
+
+/// Tries what waits for a file; where nothing is granted, nothing is put.
+fn settle_file(draft: &mut Draft<'_>, file: &LockedFile) -> Result<(), Halt>
+    requires { draft.old.modes.locks ≡ Mode.Exclusive }
+    ensures { MatchResult result
+        (λ _. SettlesOne draft.old draft.new file.now)
+        (StopsAt draft.old (locks_at file.now.number)) }
+{
+    let settled = file.file().settle(draft.alloc())?;
+    if settled.granted.is_empty() {
+        return Ok(());
+    }
+    put_settled(draft, file.number(), file.export(), settled)?;
     Ok(())
 }
 
@@ -87,21 +99,33 @@ fn all_freed(draft: &Draft<'_>, caller_name: &[u8]) -> Result<Vec<LockedFile>, H
     let exports = exports(draft)?;
     let mut freed = Vec::new(draft.alloc());
     for index in 0..LOCK_BUCKETS {
-        if let Some(bucket) = draft.locks(index)? {
-            add_freed(
-                draft.alloc(),
-                exports,
-                bucket.files(),
-                caller_name,
-                &mut freed,
-            )?;
-        }
+        add_bucket(draft, exports, index, caller_name, &mut freed)?;
     }
     freed.sort_unstable_by_key(|file| file.number());
     Ok(freed)
 }
 
-/// Adds the files of a bucket of which a caller has anything, without that. Files whose export does not live are passed
+/// Adds the files of a bucket of which a caller has anything, without that.
+fn add_bucket(
+    draft: &Draft<'_>,
+    exports: &[LivingExport],
+    index: u8,
+    caller_name: &[u8],
+    freed: &mut Vec<LockedFile>,
+) -> Result<(), Halt>
+    requires { index < bucket_count }
+    ensures { MatchResult result
+        (λ _. AddsBucket draft.now exports.now caller_name.now index freed.old.items freed.new.items)
+        (StopsAt draft.now (Addr.Exports ∷ buckets_below bucket_count)) }
+{
+    let Some(bucket) = draft.locks(index)? else {
+        return Ok(());
+    };
+    add_freed(draft.alloc(), exports, bucket.files(), caller_name, freed)?;
+    Ok(())
+}
+
+/// Adds those of these files of which a caller has anything, without that. Files whose export does not live are passed
 /// over.
 fn add_freed(
     alloc: Global,
@@ -110,14 +134,28 @@ fn add_freed(
     caller_name: &[u8],
     freed: &mut Vec<LockedFile>,
 ) -> Result<(), AllocError>
-    ensures { OnOk result ((more : List LockedValue) × (freed.new.items ≡ freed.old.items ++ more) ×
-        AreFreedOf exports.now caller_name.now files.now more) }
+    ensures { OnOk result (AddsFreed exports.now caller_name.now files.now freed.old.items freed.new.items) }
 {
     for file in files {
-        if let Some(left) = freed_of(alloc, exports, file, caller_name)? {
-            freed.push(left)?;
-        }
+        add_file(alloc, exports, file, caller_name, freed)?;
     }
+    Ok(())
+}
+
+/// Adds one of them.
+fn add_file(
+    alloc: Global,
+    exports: &[LivingExport],
+    file: &LockedFile,
+    caller_name: &[u8],
+    freed: &mut Vec<LockedFile>,
+) -> Result<(), AllocError>
+    ensures { OnOk result (AddsOne exports.now caller_name.now file.now freed.old.items freed.new.items) }
+{
+    let Some(left) = freed_of(alloc, exports, file, caller_name)? else {
+        return Ok(());
+    };
+    freed.push(left)?;
     Ok(())
 }
 

@@ -1,6 +1,6 @@
 //! Grants: the messages that tell of them, and what hosts answer (RFC 1813, appendix II, 6.2: procedures 5, 10 and 15).
 
-ghost use Rattle.std.specs.Prelude.{◌≡◌, ◌∷◌, [], IfOk, MatchOption, MatchResult, None, OnOk, Some, length, map};
+ghost use Rattle.std.specs.Prelude.{◌≡◌, ◌∷◌, [], IfOk, MatchOption, MatchResult, OnOk, Some, length, map, true};
 ghost use Rattle.std.specs.Arc.{arc_value};
 ghost use Rattle.std.specs.Int.{from_be_bytes, w64};
 ghost use Rattle.nfs_machine.specs.Grants.{grant_cookie, grant_message};
@@ -8,15 +8,14 @@ ghost use Rattle.nfs_machine.specs.LockSteps.{GrantEnds};
 ghost use Rattle.nfs_machine.specs.WellFormed.{WellFormed};
 ghost use Rattle.nlm_ranges.specs.Granting.{granted_in};
 ghost use Rattle.nfs_machine.specs.declared.calls.Call.TheVariants as calls;
-ghost use Rattle.nfs_objects.specs.Attempt.{EndsCall, EndsFirst, HaltsFirst, unless_seen};
+ghost use Rattle.nfs_objects.specs.Attempt.{EndsCall, EndsFirst};
 ghost use Rattle.nfs_objects.specs.Begins.{Begins};
 ghost use Rattle.nfs_objects.specs.Calls.{locks_at};
 ghost use Rattle.nfs_objects.specs.Knows.{Knows};
-ghost use Rattle.nfs_objects.specs.Only.{AsksNothing};
-ghost use Rattle.nfs_objects.specs.Values.{change_value};
+ghost use Rattle.nfs_objects.specs.Only.{EndsFirstOnly};
 ghost use Rattle.nfs_inodes.specs.Locks.{MayHave, locks_set};
 ghost use Rattle.nfs_inodes.specs.Stops.{StopsAt};
-ghost use Rattle.nlm_daemon.specs.Answering.{IsAnswered};
+ghost use Rattle.nlm_daemon.specs.Answering.{granting_call, is_granting};
 ghost use Rattle.nlm_daemon.specs.Comes.{ComesTo, Sends, TurnsSending};
 ghost use Rattle.nlm_daemon.specs.Granted.{FindsGrant, FindsPending, IsPendingNow, grant_of, grant_places};
 
@@ -39,17 +38,16 @@ use std::sync::Arc;
 pub(crate) fn attempt(
     draft: Draft<'_>,
     procedure: Procedure,
-    cookie: &Bytes,
+    arguments: &TestArguments,
 ) -> Result<Change, Halt>
-    requires { draft.writes ≡ [] }
-    ensures ends { MatchResult result
-        (λ change. IsAnswered draft.entry procedure cookie.now NlmStatus.Denied (change_value change))
-        (StopsAt draft.entry (Addr.Exports ∷ [])) }
-    ensures first { HaltsFirst draft.entry.modes draft.entry.view (unless_seen draft.entry.view Addr.Exports) result }
-    ensures only { unless_seen draft.entry.view Addr.Exports ≡ None → AsksNothing result }
+    requires grants { is_granting procedure ≡ true }
+    requires begins { Begins (granting_call procedure arguments.now) draft }
+    ensures ends { EndsCall (granting_call procedure arguments.now) draft.entry.ctx draft.entry.view result }
+    ensures first { EndsFirst (granting_call procedure arguments.now) draft.entry.view result }
+    ensures only { EndsFirstOnly (granting_call procedure arguments.now) draft.entry.view result }
 {
     exports(&draft)?;
-    answer(draft, procedure, cookie, NlmStatus::Denied)
+    answer(draft, procedure, &arguments.cookie, NlmStatus::Denied)
 }
 
 /// Tries GRANTED_RES: what a host answers to GRANTED.

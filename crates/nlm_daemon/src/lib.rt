@@ -28,7 +28,7 @@ mod unlocking;
 use crate::answering::Procedure;
 use nfs_machine::{Call, Ctx};
 use nfs_objects::{Change, Draft, Halt, LOCKING, Outcome, READING, View, outcome};
-use side_wire::{NlmCall, NlmReply};
+use side_wire::NlmCall;
 use std::alloc::{AllocError, Global};
 
 /// Tries a call on a view, which holds what it has as the call wants.
@@ -54,17 +54,30 @@ fn ended<'a>(alloc: Global, call: &'a NlmCall, ctx: &'a Ctx, view: &'a View) -> 
     ensures only { reads_exports call.now ≡ true → EndsFirstOnly (Call.Nlm call.now) view.now result }
     ensures at_once { answers_at_once call.now ≡ true → EndsAtOnce (Call.Nlm call.now) view.now result }
 {
+    if changes_locks(call) {
+        changed(Draft::new(alloc, ctx, view, LOCKING), call)
+    } else {
+        read(Draft::new(alloc, ctx, view, READING), call)
+    }
+}
+
+/// Whether a call may change what files have of locks.
+fn changes_locks(call: &NlmCall) -> bool
+    ensures { result ≡ changes_locks call.now }
+{
     match call {
-        NlmCall::Test(_)
-        | NlmCall::TestMsg(_)
-        | NlmCall::Granted(_)
-        | NlmCall::GrantedMsg(_)
-        | NlmCall::Null
-        | NlmCall::TestRes(_)
-        | NlmCall::LockRes(_)
-        | NlmCall::CancelRes(_)
-        | NlmCall::UnlockRes(_) => read(Draft::new(alloc, ctx, view, READING), call),
-        _ => changed(Draft::new(alloc, ctx, view, LOCKING), call),
+        NlmCall::Lock(_) => true,
+        NlmCall::Cancel(_) => true,
+        NlmCall::Unlock(_) => true,
+        NlmCall::LockMsg(_) => true,
+        NlmCall::CancelMsg(_) => true,
+        NlmCall::UnlockMsg(_) => true,
+        NlmCall::GrantedRes(_) => true,
+        NlmCall::Share(_) => true,
+        NlmCall::Unshare(_) => true,
+        NlmCall::NmLock(_) => true,
+        NlmCall::FreeAll(_) => true,
+        _ => false,
     }
 }
 
@@ -81,16 +94,14 @@ fn read(draft: Draft<'_>, call: &NlmCall) -> Result<Change, Halt>
         NlmCall::Null => passing::null(draft),
         NlmCall::Test(arguments) => testing::attempt(draft, arguments),
         NlmCall::TestMsg(arguments) => testing::attempt_by_message(draft, arguments),
-        NlmCall::Granted(arguments) => {
-            granting::attempt(draft, Procedure::Granted, &arguments.cookie)
-        }
+        NlmCall::Granted(arguments) => granting::attempt(draft, Procedure::Granted, arguments),
         NlmCall::GrantedMsg(arguments) => {
-            granting::attempt(draft, Procedure::GrantedMsg, &arguments.cookie)
+            granting::attempt(draft, Procedure::GrantedMsg, arguments)
         }
-        NlmCall::TestRes(_) => passing::pass(draft, NlmReply::TestRes),
-        NlmCall::LockRes(_) => passing::pass(draft, NlmReply::LockRes),
-        NlmCall::CancelRes(_) => passing::pass(draft, NlmReply::CancelRes),
-        NlmCall::UnlockRes(_) => passing::pass(draft, NlmReply::UnlockRes),
+        NlmCall::TestRes(_) => passing::pass(draft, call),
+        NlmCall::LockRes(_) => passing::pass(draft, call),
+        NlmCall::CancelRes(_) => passing::pass(draft, call),
+        NlmCall::UnlockRes(_) => passing::pass(draft, call),
         _ => unreachable!(),
     }
 }

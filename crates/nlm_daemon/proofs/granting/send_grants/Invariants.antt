@@ -7,4 +7,4 @@ use Rattle.nlm_daemon.proofs.granting.send_grants.Given as goal
 
 abbrev pub invariant-loop-request : goal.invariant-loop-request
 invariant-loop-request l =
-    Sends l.initial.draft l.draft (map grant_message (map arc_value (take l.request-index l.granted)))
+    Sends l.fn.draft l.draft (map grant_message (map arc_value (take l.request-index l.granted)))

@@ -1,27 +1,38 @@
 use Rattle.std.proofs.lemmas.Result.{err_from_is_err_and}
+use Rattle.side_wire.specs.declared.nlm.NlmCall.{NlmCall}
+use Rattle.nfs_machine.specs.declared.calls.Call.TheVariants as calls
+use Rattle.nlm_daemon.proofs.Calling.{alone-ends, alone-first, alone-never, passing-of}
 use Rattle.nlm_daemon.proofs.Judging.{first-halts, first-past}
-use Rattle.nlm_daemon.proofs.Calling.{exports-known}
-use Rattle.nlm_daemon.proofs.Told.{is-passed}
+use Rattle.nlm_daemon.proofs.Told.{passed-promised, step-passed}
+use Rattle.nlm_daemon.specs.Answering.{reply_passed}
 use Rattle.nlm_daemon.proofs.passing.pass.Goals as goal
 
-pub returns-in_err-exports-clause-passes : goal.returns-in_err-exports-clause-passes
-returns-in_err-exports-clause-passes c =
+pub returns-in_err-exports-clause-ends : goal.returns-in_err-exports-clause-ends
+returns-in_err-exports-clause-ends c =
     let p = err_from_is_err_and c.from_residual.result c.from_residual.ensures.1 in
-    rw (p.1, p.2) c.in_err-exports.ensures.exports
+    rw (p.1, p.2)
+    (alone-ends (calls.Nlm c.args.call.now) c.args.draft c.requires.begins (passing-of c.args.call.now c.requires.passes) _
+    c.in_err-exports.ensures.exports)
 
 pub returns-in_err-exports-clause-first : goal.returns-in_err-exports-clause-first
 returns-in_err-exports-clause-first c =
     let p = err_from_is_err_and c.from_residual.result c.from_residual.ensures.1 in
-    rw (p.1, p.2) (first-halts c.args.draft.modes c.args.draft.view _ _ (c.in_err-exports.ensures.first c.requires))
+    rw (p.1, p.2)
+    (alone-first (calls.Nlm c.args.call.now) c.args.draft c.requires.begins (passing-of c.args.call.now c.requires.passes)
+    _ (first-halts c.args.draft.modes c.args.draft.view _ _ (c.in_err-exports.ensures.first c.requires.begins.none)))
 
 pub returns-in_err-exports-clause-at_once : goal.returns-in_err-exports-clause-at_once
 returns-in_err-exports-clause-at_once c = λ seen.
-    absurd (exports-known c.args.draft c.requires seen _ c.in_err-exports.ensures.reads)
+    absurd (alone-never (calls.Nlm c.args.call.now) c.args.draft c.requires.begins
+    (passing-of c.args.call.now c.requires.passes) seen _ c.in_err-exports.ensures.reads)
 
-pub returns-clause-passes : goal.returns-clause-passes
-returns-clause-passes c =
-    is-passed c.args.draft c.args.reply _ c.answer.ensures.value c.answer.ensures.held c.answer.ensures.given
+pub returns-clause-ends : goal.returns-clause-ends
+returns-clause-ends c =
+    passed-promised c.args.draft (calls.Nlm c.args.call.now) c.requires.begins (reply_passed c.args.call.now) _
+    (rw c.reply_to.ensures at c.answer.ensures.value) c.answer.ensures.held c.answer.ensures.given
+    (λ m. step-passed m c.args.draft.ctx c.args.call.now c.requires.passes)
 
 pub returns-clause-first : goal.returns-clause-first
 returns-clause-first c =
-    first-past c.args.draft.modes c.args.draft.view _ _ (c.in_ok-exports.ensures.first c.requires) _
+    alone-first (calls.Nlm c.args.call.now) c.args.draft c.requires.begins (passing-of c.args.call.now c.requires.passes)
+    _ (first-past c.args.draft.modes c.args.draft.view _ _ (c.in_ok-exports.ensures.first c.requires.begins.none) _)

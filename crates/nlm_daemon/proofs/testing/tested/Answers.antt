@@ -54,14 +54,14 @@ returns-in_default-test-clause-ends c =
     rw c.in-Ok.is at c.in_ok-place.ensures.place in
     test-free c.args.draft.now c.args.arguments.now c.in-Ok.place.file.known.number
     (rw c.in-Ok.is at c.in_ok-place.ensures.checked) c.in-Some.locks.now
-    (rw c.in-Some.is at c.in_ok-locks.ensures) (rw place.range at c.in_default-test.ensures)
+    (rw c.in-Some.is at c.in_ok-locks.ensures) (rw place.range at c.in_default-test.ensures.free)
 
 pub returns-in_default-test-clause-first : goal.returns-in_default-test-clause-first
 returns-in_default-test-clause-first c =
     first-past c.args.draft.now.modes c.args.draft.now.view _ _ c.in_ok-place.ensures.first _
 
 pub holder-requires : goal.holder-requires
-holder-requires c = way-rises _ _ _ _ c.in-Some-test.ensures
+holder-requires c = way-rises _ _ _ _ c.in-Some-test.ensures.held
 
 pub returns-in_err-holder-clause-first : goal.returns-in_err-holder-clause-first
 returns-in_err-holder-clause-first c =
@@ -75,7 +75,7 @@ returns-clause-ends c =
     (test-held c.args.draft.now c.args.arguments.now c.in-Ok.place.file.known.number
     (rw c.in-Ok.is at c.in_ok-place.ensures.checked) c.in-Some.locks.now
     (rw c.in-Some.is at c.in_ok-locks.ensures) c.in-Some-test.held.now
-    (rw place.range at c.in-Some-test.ensures))
+    (rw place.range at c.in-Some-test.ensures.held))
 
 pub returns-clause-first : goal.returns-clause-first
 returns-clause-first c =
