@@ -1,5 +1,6 @@
 pub mod Asked
 pub mod Attempted
+pub mod Begun
 pub mod Calling
 pub mod Collected
 pub mod Coming

@@ -87,11 +87,12 @@ module _ (old new : DraftValue) (pending : Pending)
       { pending = all_but (λ (r : Request). r.number == request.number) pending.file.file.pending }
 
   -- it is pending no more
-  pub grant-kept : (u : Unit {0}) (locks : FileValue) → locks ≡ fewer →
-      TurnsWhere (May file export locks) old new (locks_set file locks) →
-      ComesTo old new (EndsGrant statuses.Granted) u
-  grant-kept u locks is turns =
-      sent-comes old new (EndsGrant statuses.Granted) u (May file export fewer) [] (locks_set file fewer)
+  pub grant-kept : (u : Unit {0}) (status : NlmStatus) → status ≡ statuses.Granted → (locks : FileValue) →
+      locks ≡ fewer → TurnsWhere (May file export locks) old new (locks_set file locks) →
+      ComesTo old new (EndsGrant status) u
+  grant-kept u status granted locks is turns =
+      subst (λ s. ComesTo old new (EndsGrant s) u) (sym granted)
+      (sent-comes old new (EndsGrant statuses.Granted) u (May file export fewer) [] (locks_set file fewer)
       (sends-nothing old new (locks_set file fewer) (May file export fewer)
       (subst (λ x. TurnsWhere (May file export x) old new (locks_set file x)) is turns))
       (set-sound file fewer) (λ s k w formed.
@@ -104,7 +105,7 @@ module _ (old new : DraftValue) (pending : Pending)
           own = left-own k.state there laid firm file pending.file.file pends.file request.number request pends.stands;
         },
         (refl, left-is k.state there laid firm file pending.file.file pends.file request.number request pends.stands),
-      ))
+      )))
 
   -- or its lock is given back
   pub grant-back : (u : Unit {0}) (status : NlmStatus) → (status ≡ statuses.Granted → ⊥) → (settled : Settled) →

@@ -5,7 +5,7 @@ ghost use Rattle.std.specs.Prelude.{◌≡◌, true};
 ghost use Rattle.nfs_machine.specs.declared.calls.Call.TheVariants as calls;
 ghost use Rattle.nfs_objects.specs.Attempt.{EndsCall, EndsFirst};
 ghost use Rattle.nfs_objects.specs.Begins.{Begins};
-ghost use Rattle.nfs_objects.specs.Only.{EndsAtOnce};
+ghost use Rattle.nfs_objects.specs.Only.{EndsAtOnce, EndsFirstOnly};
 ghost use Rattle.nlm_daemon.specs.Answering.{is_passed, reply_passed};
 
 use nfs_inodes::exports;
@@ -18,6 +18,7 @@ pub(crate) fn null(draft: Draft<'_>) -> Result<Change, Halt>
     requires { Begins (calls.Nlm NlmCall.Null) draft }
     ensures ends { EndsCall (calls.Nlm NlmCall.Null) draft.entry.ctx draft.entry.view result }
     ensures first { EndsFirst (calls.Nlm NlmCall.Null) draft.entry.view result }
+    ensures only { EndsFirstOnly (calls.Nlm NlmCall.Null) draft.entry.view result }
     ensures at_once { EndsAtOnce (calls.Nlm NlmCall.Null) draft.entry.view result }
 {
     Ok(draft.answer(Reply::Nlm(NlmReply::Null)))
@@ -33,6 +34,7 @@ pub(crate) fn pass(draft: Draft<'_>, call: &NlmCall) -> Result<Change, Halt>
     requires begins { Begins (calls.Nlm call.now) draft }
     ensures ends { EndsCall (calls.Nlm call.now) draft.entry.ctx draft.entry.view result }
     ensures first { EndsFirst (calls.Nlm call.now) draft.entry.view result }
+    ensures only { EndsFirstOnly (calls.Nlm call.now) draft.entry.view result }
     ensures at_once { EndsAtOnce (calls.Nlm call.now) draft.entry.view result }
 {
     exports(&draft)?;

@@ -10,7 +10,7 @@ returns-in_err-put-in-Granted c =
 
 pub returns-in_ok-put-in-Granted : goal.returns-in_ok-put-in-Granted
 returns-in_ok-put-in-Granted c =
-    grant-kept c.args.draft.now c.put.new.draft c.args.pending.now c.requires.knows _ c.in_ok-left.left
+    grant-kept c.args.draft.now c.put.new.draft c.args.pending.now c.requires.knows _ c.args.status c.in-Granted.is c.in_ok-left.left
     (rw (c.file.ensures, c.number-2.ensures) at c.in_ok-left.ensures)
     (rw (c.number.ensures, c.export.ensures) at c.in_ok-put-in-Granted.ensures)
 

@@ -1,5 +1,4 @@
 use Rattle.std.proofs.lemmas.Result.{err_from_is_err_and}
-use Rattle.side_wire.specs.declared.nlm.NlmCall.{NlmCall}
 use Rattle.nfs_machine.specs.declared.calls.Call.TheVariants as calls
 use Rattle.nlm_daemon.proofs.Calling.{alone-ends, alone-first, alone-never, passing-of}
 use Rattle.nlm_daemon.proofs.Judging.{first-halts, first-past}
@@ -20,6 +19,11 @@ returns-in_err-exports-clause-first c =
     rw (p.1, p.2)
     (alone-first (calls.Nlm c.args.call.now) c.args.draft c.requires.begins (passing-of c.args.call.now c.requires.passes)
     _ (first-halts c.args.draft.modes c.args.draft.view _ _ (c.in_err-exports.ensures.first c.requires.begins.none)))
+
+pub returns-in_err-exports-clause-only : goal.returns-in_err-exports-clause-only
+returns-in_err-exports-clause-only c = λ seen.
+    absurd (alone-never (calls.Nlm c.args.call.now) c.args.draft c.requires.begins
+    (passing-of c.args.call.now c.requires.passes) seen _ c.in_err-exports.ensures.reads)
 
 pub returns-in_err-exports-clause-at_once : goal.returns-in_err-exports-clause-at_once
 returns-in_err-exports-clause-at_once c = λ seen.
