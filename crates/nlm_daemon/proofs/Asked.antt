@@ -1,6 +1,6 @@
 -- What the answer of a host finds, as far as a draft knows.
-use Rattle.std.proofs.Common.{◌≡◌, ◌==◌, ◌%◌, ◌∷◌, ℕ, true, false, cond, List, [], Option, Some, None, length, option_map}
-use Rattle.std.proofs.Common.{refl, sym, ◌∙◌, ap, subst}
+use Rattle.std.proofs.Common.{◌≡◌, ◌%◌, ◌∷◌, ℕ, true, false, cond, List, [], Option, Some, None, length, option_map}
+use Rattle.std.proofs.Common.{sym, ◌∙◌, ap, subst}
 use Rattle.std.specs.Arc.{arc_value}
 use Rattle.std.specs.Cmp.{unsigned_Decides}
 use Rattle.std.specs.FinMap.{get}
@@ -10,11 +10,11 @@ use Rattle.nfs_machine.specs.Bytes.{same_bytes}
 use Rattle.nfs_machine.specs.Exports.{LivingExport}
 use Rattle.nfs_machine.specs.Grants.{grant_cookie}
 use Rattle.nfs_machine.specs.WellFormed.{WellFormed}
-use Rattle.nlm_ranges.specs.Buckets.{BucketValue, IsBucket, LockedValue, bucket_count}
+use Rattle.nlm_ranges.specs.Buckets.{BucketValue, IsBucket, bucket_count}
 use Rattle.nfs_objects.specs.Asks.{Lacks}
 use Rattle.nfs_objects.specs.Calls.{locks_at}
 use Rattle.nfs_objects.specs.Knows.{Knows, Possible}
-use Rattle.nfs_objects.specs.Stands.{IsPlaced, Kept, bucket_at, bucket_there, lives_in}
+use Rattle.nfs_objects.specs.Stands.{IsPlaced, Kept, bucket_at, bucket_there}
 use Rattle.nfs_objects.specs.Store.{Store, with_writes}
 use Rattle.nfs_objects.specs.Values.{DraftValue, known_at}
 use Rattle.nfs_objects.specs.declared.address.Addr.{Addr}
@@ -22,7 +22,6 @@ use Rattle.nfs_objects.specs.declared.address.Addr.TheVariants as addresses
 use Rattle.nfs_objects.specs.declared.change.Halt.{Halt}
 use Rattle.nfs_inodes.proofs.Bucketing.{bucket-stands}
 use Rattle.nfs_inodes.proofs.Placing.{locks-stop-behind}
-use Rattle.nfs_inodes.specs.Locks.{IsFileAt}
 use Rattle.nfs_inodes.specs.Stops.{StopsAt}
 use Rattle.nlm_daemon.proofs.Finding.{NoGrant, all-has, its-host, no-number, none-answered, other-host, pending-none, pending-now}
 use Rattle.nlm_daemon.proofs.Placed.{placed-lives}

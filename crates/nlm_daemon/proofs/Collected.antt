@@ -1,17 +1,14 @@
 -- What FREE_ALL finds, bucket by bucket, as far as a draft knows.
-use Rattle.std.proofs.Common.{◌≡◌, ◌+◌, ℕ, true, List, [], Some, option_map, ap, sym, subst}
-use Rattle.std.specs.List.{AllByRecursion, Contains}
+use Rattle.std.proofs.Common.{◌≡◌, ◌+◌, ℕ, List, []}
 use Rattle.std.specs.List.Sorted.{IsNonDecreasingBy, IsPermutation}
 use Rattle.nfs_machine.specs.Exports.{LivingExport}
 use Rattle.nfs_machine.specs.WellFormed.{WellFormed}
-use Rattle.nlm_ranges.specs.Buckets.{BucketValue, LockedValue, bucket_count}
+use Rattle.nlm_ranges.specs.Buckets.{LockedValue, bucket_count}
 use Rattle.nfs_objects.specs.Knows.{Knows, Possible}
-use Rattle.nfs_objects.specs.Stands.{IsPlaced, Kept, bucket_at, bucket_there, lives_in}
+use Rattle.nfs_objects.specs.Stands.{IsPlaced, Kept, bucket_there}
 use Rattle.nfs_objects.specs.Store.{Store, with_writes}
-use Rattle.nfs_objects.specs.Values.{DraftValue, known_at}
-use Rattle.nfs_objects.specs.declared.address.Addr.TheVariants as addresses
+use Rattle.nfs_objects.specs.Values.{DraftValue}
 use Rattle.nfs_inodes.proofs.Bucketing.{bucket-stands}
-use Rattle.nfs_inodes.specs.Locks.{IsFileAt}
 use Rattle.nlm_daemon.proofs.Finding.{all-has}
 use Rattle.nlm_daemon.proofs.Gathered.{AreFreedBelow, below-first, below-step, freed-all}
 use Rattle.nlm_daemon.proofs.Placed.{placed-lives}

@@ -1,5 +1,5 @@
 -- What a call of NLM comes to is its promise.
-use Rattle.std.proofs.Common.{◌≡◌, List, [], ◌∷◌, ◌++◌, refl, sym, ◌∙◌, ap, subst}
+use Rattle.std.proofs.Common.{◌≡◌, List, [], ◌++◌, refl, sym, ◌∙◌, ap, subst}
 use Rattle.side_wire.specs.declared.message.Message.{Message}
 use Rattle.nfs_machine.proofs.Kept.{steps_keep_form}
 use Rattle.nfs_machine.specs.State.{State}
@@ -17,7 +17,7 @@ use Rattle.nfs_objects.specs.Values.{ChangeValue, DraftValue, done_value}
 use Rattle.nlm_daemon.specs.Comes.{ComesTo, KnowsEnd, TurnsSending}
 
 -- where nothing was written yet, the store stands for what it stands for once the draft is written
-possible-before : (d : DraftValue) → d.writes ≡ [] → (s : Store) (k : Kept) → Fits d.view s → Represents s k → Sound k →
+pub possible-before : (d : DraftValue) → d.writes ≡ [] → (s : Store) (k : Kept) → Fits d.view s → Represents s k → Sound k →
     Possible d s k
 possible-before d none s k fits stands sound = record {
   fits = fits;

@@ -8,7 +8,7 @@ use Rattle.std.specs.List.{Contains}
 use Rattle.std.specs.Ordering.{nat_cmp}
 use Rattle.side_wire.specs.declared.message.Message.{Message}
 use Rattle.nfs_machine.specs.LockSteps.{Frees}
-use Rattle.nfs_machine.specs.State.{Living, Request, State}
+use Rattle.nfs_machine.specs.State.{Living, State}
 use Rattle.nfs_machine.specs.WellFormed.{WellFormed}
 use Rattle.nfs_machine.proofs.Firm.{firm-of}
 use Rattle.nlm_ranges.specs.Buckets.{LockedValue}

@@ -1,5 +1,5 @@
 -- What calls of NLM come to, from what a draft knows of the file.
-use Rattle.std.proofs.Common.{◌≡◌, ◌==◌, ◌||◌, ◌≤◌, ℕ, Bool, true, false, cond, List, [], ◌∷◌, ◌++◌, None, Option, Some, Result, Ok}
+use Rattle.std.proofs.Common.{◌≡◌, ◌==◌, ◌||◌, ◌≤◌, ℕ, Bool, true, false, cond, List, [], ◌∷◌, ◌++◌, None, Some, Result, Ok}
 use Rattle.std.proofs.Common.{Err, inl, inr, refl, sym, ◌∙◌, ap, append-nil, arith, nat_le, subst}
 use Rattle.std.proofs.lemmas.Bool.{and_parts, leb-true}
 use Rattle.std.specs.List.{list_any}
@@ -16,9 +16,8 @@ use Rattle.side_wire.specs.declared.nlm.TestStatus.TheVariants as tested
 use Rattle.side_wire.specs.declared.nlm.UnlockArguments.{UnlockArguments}
 use Rattle.nfs_machine.specs.Answers.{Answers}
 use Rattle.nfs_machine.specs.FileLists.{all_but, of_file, with_list}
-use Rattle.nfs_machine.specs.Grants.{at_file}
 use Rattle.nfs_machine.specs.LockSteps.{CancelEnds, HeldUp, LockEnds, LockFault, ShareEnds, TestEnds, UnlockEnds}
-use Rattle.nfs_machine.specs.LockSteps.{UnshareEnds, file_checked, is_grant_number, is_request, lock_checked}
+use Rattle.nfs_machine.specs.LockSteps.{UnshareEnds, file_checked, is_request, lock_checked}
 use Rattle.nfs_machine.specs.LockSteps.{nlm_status_of, share_of, test_status_of}
 use Rattle.nfs_machine.specs.Locks.{Conflicts, Mode, denies, mode_at, range_of}
 use Rattle.nfs_machine.specs.OneFile.{FileLocks, is_denied, shared, unshared}

@@ -1,6 +1,6 @@
 -- Which grant a host answers, and where it is found.
-use Rattle.std.proofs.Common.{◌≡◌, ◌==◌, ◌%◌, ◌&&◌, ◌⊎◌, ◌+◌, ◌<◌, ℕ, zero, suc, Bool, true, false, cond, List, [], ◌∷◌, ◌++◌}
-use Rattle.std.proofs.Common.{Option, Some, None, find, get_or, inl, inr, length, nat_lt, option_map, take, refl, sym, ◌∙◌, ap, subst, arith}
+use Rattle.std.proofs.Common.{◌≡◌, ◌==◌, ◌%◌, ◌&&◌, ◌+◌, ◌<◌, ℕ, zero, Bool, true, false, cond, List, [], ◌∷◌, ◌++◌}
+use Rattle.std.proofs.Common.{Option, Some, None, find, get_or, inl, inr, length, nat_lt, take, refl, sym, ◌∙◌, ap, subst, arith}
 use Rattle.std.proofs.lemmas.Bool.{and_parts}
 use Rattle.std.proofs.lemmas.List.{get_or_default, take_more}
 use Rattle.std.proofs.lemmas.List.Elements.{Contains-append_cases}
@@ -13,18 +13,18 @@ use Rattle.std.specs.List.{AllByRecursion, Contains, list_any}
 use Rattle.std.specs.Prelude.{◌↔◌, ◌^◌}
 use Rattle.nfs_machine.specs.Bytes.{same_bytes}
 use Rattle.nfs_machine.specs.Exports.{LivingExport}
-use Rattle.nfs_machine.specs.Grants.{at_file, grant_cookie}
+use Rattle.nfs_machine.specs.Grants.{grant_cookie}
 use Rattle.nfs_machine.specs.LockSteps.{is_answered}
 use Rattle.nfs_machine.specs.LocksFormed.{LocksFormed}
 use Rattle.nfs_machine.specs.State.{PendingGrant, Request, State}
 use Rattle.nfs_machine.proofs.Modes.{none-passes}
 use Rattle.nlm_ranges.specs.Buckets.{BucketValue, IsBucket, LockedValue, bucket_count, file_in}
-use Rattle.nlm_ranges.specs.Files.{FileValue, no_file}
+use Rattle.nlm_ranges.specs.Files.{no_file}
 use Rattle.nfs_objects.specs.Stands.{IsPendingIn, IsPlaced, StandLocks, bucket_there, exported_file, lives_in}
 use Rattle.nfs_objects.specs.Store.{Store}
 use Rattle.nfs_inodes.proofs.Locking.{cons-cases, later, once-found}
 use Rattle.nfs_inodes.specs.Locks.{HasLocks, IsFileAt}
-use Rattle.nlm_daemon.specs.Granted.{FindsPending, HasGrant, IsPendingNow, grant_answered, grant_of}
+use Rattle.nlm_daemon.specs.Granted.{HasGrant, IsPendingNow, grant_answered, grant_of}
 use Rattle.nlm_daemon.specs.declared.granting.Pending.{Pending}
 
 -- ---- lists

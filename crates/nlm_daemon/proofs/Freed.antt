@@ -1,5 +1,5 @@
 -- A caller has nothing more of any file, and then what waits is tried file by file.
-use Rattle.std.proofs.Common.{◌≡◌, ◌==◌, ◌⊎◌, ◌≤◌, ◌<◌, ◌+◌, ℕ, zero, suc, Bool, true, false, cond, List, [], ◌∷◌, ◌++◌}
+use Rattle.std.proofs.Common.{◌≡◌, ◌==◌, ◌⊎◌, ◌≤◌, ◌<◌, ◌+◌, ℕ, zero, true, false, cond, List, [], ◌∷◌, ◌++◌}
 use Rattle.std.proofs.Common.{inl, inr, map, refl, sym, ◌∙◌, ap, append-nil, append_assoc, subst, arith}
 use Rattle.std.proofs.lemmas.List.{map-append}
 use Rattle.std.specs.Cmp.{unsigned_Decides}
@@ -126,7 +126,7 @@ laid-all below (f ∷ fs) m there laid rising within =
     (within f (zero, omega arith, refl)))) rising.1 (within-rest there f fs rising.1 within)
 
 -- so the numbers of what is pending of the next one are its own, once these were put
-own-next : (below : ℕ) (done : List LockedValue) (f : LockedValue) (m : State) (there : ℕ → FileValue) →
+pub own-next : (below : ℕ) (done : List LockedValue) (f : LockedValue) (m : State) (there : ℕ → FileValue) →
     IsLaid m there → AreRising below (done ++ f ∷ []) → Within there (done ++ f ∷ []) →
     AreOwnNumbers (set_all done m) f.number f.file.pending
 own-next below [] f m there laid rising within =

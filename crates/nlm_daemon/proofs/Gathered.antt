@@ -1,5 +1,5 @@
 -- The files that are freed, bucket by bucket, and by rising numbers in the end.
-use Rattle.std.proofs.Common.{◌≡◌, ◌==◌, ◌⊎◌, ◌%◌, ◌≤◌, ◌<◌, ◌+◌, ℕ, zero, suc, Bool, true, false, cond, List, [], ◌∷◌, ◌++◌}
+use Rattle.std.proofs.Common.{◌≡◌, ◌==◌, ◌%◌, ◌≤◌, ◌<◌, ◌+◌, ℕ, zero, suc, Bool, true, false, cond, List, [], ◌∷◌, ◌++◌}
 use Rattle.std.proofs.Common.{Option, Some, None, get_or, inl, inr, length, take, refl, sym, ◌∙◌, ap, append-nil, append_assoc}
 use Rattle.std.proofs.Common.{subst, arith, map, option_map}
 use Rattle.std.proofs.lemmas.List.{nil_from_length, take_all, take_more}
@@ -27,7 +27,7 @@ use Rattle.nfs_objects.specs.Store.{Store}
 use Rattle.nfs_objects.specs.Values.{DraftValue, known_at}
 use Rattle.nfs_objects.specs.declared.address.Addr.TheVariants as addresses
 use Rattle.nfs_inodes.proofs.Locking.{cons-cases, later}
-use Rattle.nfs_inodes.specs.Locks.{HasLocks, IsFileAt}
+use Rattle.nfs_inodes.specs.Locks.{IsFileAt}
 use Rattle.nlm_daemon.proofs.Finding.{all-has, file-index, found-in, found-of, nothing-in}
 use Rattle.nlm_daemon.specs.Freeing.{AddsBucket, AddsFreed, AddsOne, AreFreed, AreFreedOf, AreRising, IsFreedFile}
 use Rattle.nlm_daemon.specs.Freeing.{IsFreedOne}

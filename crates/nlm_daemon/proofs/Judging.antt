@@ -1,17 +1,17 @@
 -- What a handle names, as a call of NLM checks it.
-use Rattle.std.proofs.Common.{◌≡◌, ◌||◌, ℕ, Bool, true, false, List, [], ◌∷◌, Option, Some, None, Result, Ok, Err, is_ok, not}
+use Rattle.std.proofs.Common.{◌≡◌, ℕ, Bool, true, false, List, Option, Some, None, Result, Ok, Err, is_ok}
 use Rattle.std.proofs.Common.{refl, sym, ◌∙◌, ap, subst}
-use Rattle.std.specs.Prelude.{◌↔◌, IsSome}
+use Rattle.std.specs.Prelude.{◌↔◌, IfOk, IsSome}
 use Rattle.nfs_wire.specs.declared.attributes.FileType.TheVariants as types
 use Rattle.nfs_wire.specs.declared.status.NfsStatus.{NfsStatus}
 use Rattle.side_wire.specs.declared.message.NlmLock.{NlmLock}
 use Rattle.nfs_machine.specs.Attributes.{type_of}
-use Rattle.nfs_machine.specs.Checks.{◌>>=◌, bytes_in, holding, is_writable, object_of}
+use Rattle.nfs_machine.specs.Checks.{◌>>=◌, bytes_in, holding, object_of}
 use Rattle.nfs_machine.specs.Exports.{LivingExport}
 use Rattle.nfs_machine.specs.LockSteps.{LockFault, NotRegular, RangeTooBig, ReadOnly, StaleHandle, file_checked}
 use Rattle.nfs_machine.specs.Locks.{fits_offsets, range_of}
 use Rattle.nfs_machine.specs.Resolve.{BadHandle, Named, Names, Resolved, Stale, resolve}
-use Rattle.nfs_machine.specs.State.{Content, Socket, State}
+use Rattle.nfs_machine.specs.State.{Content}
 use Rattle.nfs_objects.specs.Attempt.{HaltsFirst}
 use Rattle.nfs_objects.specs.Knows.{Knows}
 use Rattle.nfs_objects.specs.Values.{DraftValue, ModesValue, ViewValue}

@@ -1,5 +1,5 @@
 -- What a file has changes: whose the numbers of its grants are then, and what the machine comes to.
-use Rattle.std.proofs.Common.{◌≡◌, ◌==◌, ◌⊎◌, ◌||◌, ℕ, ◌+◌, ◌≤◌, Bool, true, false, cond, not, List, [], ◌∷◌, ◌++◌}
+use Rattle.std.proofs.Common.{◌≡◌, ◌==◌, ◌⊎◌, ℕ, ◌+◌, ◌≤◌, Bool, true, false, cond, not, List, [], ◌∷◌, ◌++◌}
 use Rattle.std.proofs.Common.{Option, Some, None, inl, inr, is_some, map, refl, sym, ◌∙◌, ap, subst, arith}
 use Rattle.std.proofs.lemmas.List.Elements.{Contains-append_cases}
 use Rattle.std.proofs.lemmas.List.Sums.{sum_by-cons}
@@ -9,10 +9,10 @@ use Rattle.std.specs.List.{Contains}
 use Rattle.side_wire.specs.declared.message.Message.{Message}
 use Rattle.nfs_machine.specs.FileLists.{all_but, of_file, with_list}
 use Rattle.nfs_machine.specs.Grants.{ChangesLocks, Grants, SettlesFile, grant_message}
-use Rattle.nfs_machine.specs.Locks.{HasModes, Mode, modes_with, is_in}
-use Rattle.nfs_machine.specs.LocksFormed.{count_of, uses_of}
+use Rattle.nfs_machine.specs.Locks.{Mode, is_in}
+use Rattle.nfs_machine.specs.LocksFormed.{count_of}
 use Rattle.nfs_machine.specs.OneFile.{AreHeldUp, FileLocks, SetsMode, Settles}
-use Rattle.nfs_machine.specs.State.{Lock, Owner, PendingGrant, Range, Request, Share, State}
+use Rattle.nfs_machine.specs.State.{PendingGrant, Range, Request, Share, State}
 use Rattle.nfs_machine.proofs.Changes.{differs-remove}
 use Rattle.nfs_machine.proofs.FileMaps.{count-joined, total-with}
 use Rattle.nfs_machine.proofs.Firm.{Firm, firm-answered, granting, none-listed}

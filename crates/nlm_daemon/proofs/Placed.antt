@@ -1,12 +1,11 @@
 -- What a bucket lists of a living export is a file that lives.
-use Rattle.std.proofs.Common.{◌≡◌, ℕ, true, IsSome, Some, is_ok, option_map, refl, sym, ◌∙◌, ap, subst}
+use Rattle.std.proofs.Common.{◌≡◌, ℕ, true, IsSome, is_ok, option_map, refl, ◌∙◌, ap}
 use Rattle.nfs_machine.specs.Checks.{bytes_in}
 use Rattle.nlm_ranges.specs.Buckets.{LockedValue}
 use Rattle.nfs_objects.proofs.Exported.{inode-lives}
 use Rattle.nfs_objects.specs.Stands.{Beside, IsPlaced, Kept, Represents, beside_at, content_of, filled, inode_in, lives_in}
 use Rattle.nfs_objects.specs.Stands.{living_of_inode, map_in}
 use Rattle.nfs_objects.specs.Store.{Store}
-use Rattle.nfs_objects.specs.declared.address.Addr.TheVariants as addresses
 use Rattle.nfs_objects.specs.declared.object.Content.{Content}
 use Rattle.nfs_objects.specs.declared.object.Content.TheVariants as contents
 use Rattle.nfs_inodes.specs.Locks.{IsFileAt}

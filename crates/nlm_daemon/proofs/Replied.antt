@@ -1,5 +1,5 @@
 -- How a grant ends that a host answers, and what GRANTED_RES and FREE_ALL come to.
-use Rattle.std.proofs.Common.{◌≡◌, ◌==◌, ◌++◌, ℕ, Bool, true, false, cond, List, [], ◌∷◌, Option, Some, None, append-nil, refl, sym, ◌∙◌}
+use Rattle.std.proofs.Common.{◌≡◌, ◌==◌, ℕ, Bool, true, false, cond, List, [], Option, Some, None, append-nil, refl, sym, ◌∙◌}
 use Rattle.std.proofs.Common.{ap, inr, subst, ◌%◌, IsSome, Err}
 use Rattle.std.specs.Arc.{arc_value}
 use Rattle.std.specs.FinMap.{get, remove}
@@ -8,7 +8,6 @@ use Rattle.std.specs.Int.{w64, from_be_bytes}
 use Rattle.side_wire.specs.declared.message.Message.{Message}
 use Rattle.side_wire.specs.declared.nlm.FreeAllArguments.{FreeAllArguments}
 use Rattle.side_wire.specs.declared.nlm.NlmCall.TheVariants as nlm
-use Rattle.side_wire.specs.declared.nlm.NlmReply.{NlmReply}
 use Rattle.side_wire.specs.declared.nlm.NlmReply.TheVariants as replies
 use Rattle.side_wire.specs.declared.nlm.NlmResult.{NlmResult}
 use Rattle.side_wire.specs.declared.nlm.NlmStatus.{NlmStatus}
@@ -18,7 +17,6 @@ use Rattle.nfs_machine.specs.Grants.{ChangesLocks}
 use Rattle.nfs_machine.specs.LockSteps.{Frees, GrantAnswered, GrantEnds, is_answered}
 use Rattle.nfs_machine.specs.OneFile.{requested}
 use Rattle.nfs_machine.specs.State.{PendingGrant, Request, State}
-use Rattle.nfs_machine.specs.Step.{Step}
 use Rattle.nfs_machine.specs.WellFormed.{WellFormed}
 use Rattle.nfs_machine.specs.declared.calls.Call.{Call}
 use Rattle.nfs_machine.specs.declared.calls.Call.TheVariants as calls
@@ -31,7 +29,7 @@ use Rattle.nlm_ranges.specs.declared.file.Settled.{Settled}
 use Rattle.nfs_objects.specs.Attempt.{EndsCall}
 use Rattle.nfs_objects.specs.Begins.{Begins}
 use Rattle.nfs_objects.specs.Calls.{locks_at}
-use Rattle.nfs_objects.specs.Knows.{Knows, Possible, TurnsWhere}
+use Rattle.nfs_objects.specs.Knows.{Knows, TurnsWhere}
 use Rattle.nfs_objects.specs.Promise.{Given, Held, IsPromised}
 use Rattle.nfs_objects.specs.Stands.{IsPendingIn, Kept, StandLocks, bucket_at, exported_file, file_there}
 use Rattle.nfs_objects.specs.Store.{Store, with_writes}
@@ -49,7 +47,7 @@ use Rattle.nlm_daemon.proofs.Owning.{back-changes, back-own, grants_told, left-i
 use Rattle.nlm_daemon.proofs.Told.{step-frees, step-granted-res, told-promised}
 use Rattle.nlm_daemon.proofs.Turning.{sends-nothing, set-sound}
 use Rattle.nlm_daemon.specs.Comes.{ComesTo, TurnsSending}
-use Rattle.nlm_daemon.specs.Granted.{FindsGrant, IsPendingNow, grant_answered, grant_of}
+use Rattle.nlm_daemon.specs.Granted.{FindsGrant, IsPendingNow, grant_of}
 use Rattle.nlm_daemon.specs.declared.granting.Pending.{Pending}
 
 -- a status other than GRANTED gives the lock back

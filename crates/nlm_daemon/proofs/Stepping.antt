@@ -1,5 +1,5 @@
 -- The end of a call, with its answer, is a step of the machine.
-use Rattle.std.proofs.Common.{◌≡◌, true, false, List, [], ◌∷◌, ◌++◌, refl, sym, subst, append-nil}
+use Rattle.std.proofs.Common.{◌≡◌, true, false, List, ◌++◌, refl, sym, subst, append-nil}
 use Rattle.side_wire.specs.declared.message.Message.{Message}
 use Rattle.side_wire.specs.declared.nlm.CancelArguments.{CancelArguments}
 use Rattle.side_wire.specs.declared.nlm.LockArguments.{LockArguments}

@@ -15,7 +15,7 @@ use Rattle.side_wire.specs.declared.nlm.TestResult.{TestResult}
 use Rattle.side_wire.specs.declared.nlm.TestStatus.{TestStatus}
 use Rattle.nfs_machine.specs.Answers.{Answers}
 use Rattle.nfs_machine.specs.LockSteps.{Frees, GrantAnswered, TestEnds}
-use Rattle.nfs_machine.specs.NlmSteps.{NlmStep, result_with}
+use Rattle.nfs_machine.specs.NlmSteps.{NlmStep}
 use Rattle.nfs_machine.specs.State.{State}
 use Rattle.nfs_machine.specs.Step.{Step}
 use Rattle.nfs_machine.specs.declared.calls.Call.{Call}
@@ -25,15 +25,12 @@ use Rattle.nfs_machine.specs.declared.calls.Reply.TheVariants as answers
 use Rattle.nfs_machine.specs.declared.context.Ctx.{Ctx}
 use Rattle.nfs_objects.proofs.Promised.{promised-unchanged}
 use Rattle.nfs_objects.specs.Begins.{Begins}
-use Rattle.nfs_objects.specs.Knows.{Possible}
 use Rattle.nfs_objects.specs.Promise.{Given, Held, IsPromised}
-use Rattle.nfs_objects.specs.Stands.{Kept}
-use Rattle.nfs_objects.specs.Store.{Store}
 use Rattle.nfs_objects.specs.Values.{ChangeValue, DraftValue, done_value}
 use Rattle.nlm_daemon.proofs.Coming.{comes-unchanged, promised-comes}
 use Rattle.nlm_daemon.specs.Answering.{IsAnswered, granting_call, is_granting, is_passed, posted_by, reply_of}
 use Rattle.nlm_daemon.specs.Answering.{reply_passed}
-use Rattle.nlm_daemon.specs.Comes.{ComesTo, KnowsEnd}
+use Rattle.nlm_daemon.specs.Comes.{KnowsEnd}
 use Rattle.nlm_daemon.specs.declared.answering.Procedure.{Procedure}
 use Rattle.nlm_daemon.specs.declared.answering.Procedure.TheVariants as procedures
 

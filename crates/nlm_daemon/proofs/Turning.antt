@@ -1,6 +1,5 @@
 -- One change of what files have of locks after another.
-use Rattle.std.proofs.Common.{◌≡◌, ◌++◌, ℕ, List, [], sym, ◌∙◌, subst, append-nil}
-use Rattle.side_wire.specs.declared.message.Message.{Message}
+use Rattle.std.proofs.Common.{ℕ, [], sym, ◌∙◌, subst, append-nil}
 use Rattle.nlm_ranges.specs.Files.{FileValue}
 use Rattle.nfs_objects.specs.Fits.{Fits}
 use Rattle.nfs_objects.specs.Knows.{Turns, TurnsWhere}

@@ -1,5 +1,5 @@
 -- The buckets of all files, asked for at once.
-use Rattle.std.proofs.Common.{◌≡◌, ◌==◌, ◌%◌, ◌<◌, ◌+◌, ◌⊎◌, ◌≢◌, ℕ, zero, suc, true, false, List, [], ◌∷◌, inl, inr, refl, sym, ◌∙◌}
+use Rattle.std.proofs.Common.{◌≡◌, ◌==◌, ◌%◌, ◌<◌, ◌+◌, ◌⊎◌, ℕ, zero, suc, true, false, List, [], ◌∷◌, inl, inr, refl, sym, ◌∙◌}
 use Rattle.std.proofs.Common.{ap, arith, subst, IsSome}
 use Rattle.std.specs.Cmp.{unsigned_Decides}
 use Rattle.nlm_ranges.specs.Buckets.{bucket_count}

@@ -4,7 +4,6 @@ ghost use Rattle.std.specs.Prelude.{◌≡◌, ◌∷◌, [], MatchResult, true}
 ghost use Rattle.std.specs.List.{list_any};
 ghost use Rattle.nfs_machine.specs.FileLists.{of_file};
 ghost use Rattle.nfs_machine.specs.LockSteps.{HeldUp, LockEnds, is_request};
-ghost use Rattle.nfs_machine.specs.declared.calls.Call.TheVariants as calls;
 ghost use Rattle.nfs_objects.specs.Attempt.{EndsCall, EndsFirst, HaltsFirst, first_wanted_with};
 ghost use Rattle.nfs_objects.specs.Begins.{Begins};
 ghost use Rattle.nfs_objects.specs.Calls.{locks_at};

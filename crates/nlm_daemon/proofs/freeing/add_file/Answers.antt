@@ -1,4 +1,4 @@
-use Rattle.std.proofs.Common.{◌∷◌, [], None, Some, append-nil, sym}
+use Rattle.std.proofs.Common.{None, Some, append-nil, sym}
 use Rattle.nlm_daemon.proofs.freeing.add_file.Goals as goal
 
 pub returns-in_default : goal.returns-in_default

@@ -1,8 +1,7 @@
-use Rattle.std.proofs.Common.{arith, None, Some, subst}
+use Rattle.std.proofs.Common.{arith, subst}
 use Rattle.std.proofs.lemmas.List.{take_all}
 use Rattle.std.specs.Arc.{arc_value}
 use Rattle.nlm_daemon.proofs.Finding.{NoGrant, grant-there, none-first, none-next}
-use Rattle.nlm_daemon.specs.Granted.{FindsPending}
 use Rattle.nlm_daemon.proofs.granting.pending_in.Goals as goal
 
 pub loop-file-init : goal.loop-file-init

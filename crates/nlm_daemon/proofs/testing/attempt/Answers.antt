@@ -1,4 +1,4 @@
-use Rattle.std.proofs.Common.{◌∷◌, [], append-nil, refl, subst, sym}
+use Rattle.std.proofs.Common.{◌∷◌, [], append-nil, refl, sym}
 use Rattle.std.proofs.lemmas.Result.{err_from_is_err_and}
 use Rattle.side_wire.specs.declared.nlm.NlmCall.TheVariants as nlm
 use Rattle.nfs_machine.specs.LockSteps.{TestEnds}
