@@ -1,5 +1,5 @@
 -- The programs that are served (RFC 1813, sections 2.1 and 5.1, and the protocol NLM of its appendix II).
-use Rattle.std.specs.Prelude.{ℕ, Bool, nat_le, ◌==◌, if◌then◌else◌, Option, Some, None}
+use Rattle.std.specs.Prelude.{ℕ, Bool, nat_le, ◌==◌, ◌&&◌, ◌||◌, if◌then◌else◌, Option, Some, None}
 use Rattle.nfs_rpc.specs.declared.programs.Program.{Program}
 use Rattle.nfs_rpc.specs.declared.programs.Program.TheVariants.{Nfs, Mount, Nlm}
 
@@ -26,4 +26,4 @@ program_of number =
 abbrev pub is_built : Program → ℕ → Bool
 is_built Nfs procedure = nat_le procedure 21
 is_built Mount procedure = nat_le procedure 5
-is_built Nlm procedure = procedure == 0
+is_built Nlm procedure = nat_le procedure 15 || (nat_le 20 procedure && nat_le procedure 23)

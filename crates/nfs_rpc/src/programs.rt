@@ -56,7 +56,7 @@ impl Program {
         match self {
             Program::Nfs => procedure <= 21,
             Program::Mount => procedure <= 5,
-            Program::Nlm => procedure == 0,
+            Program::Nlm => procedure <= 15 || (20 <= procedure && procedure <= 23),
         }
     }
 }
