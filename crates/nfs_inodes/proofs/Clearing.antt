@@ -144,19 +144,24 @@ or-none : (b : Bool) → b ≡ (b || false)
 or-none true = refl
 or-none false = refl
 
+-- what is so of each page and each part at a number
+of-entries : (P : Addr → Type 0) (n : ℕ) → ((page : ℕ) → P (addresses.Page n page)) →
+    ((bucket part : ℕ) → P (addresses.Part n bucket part)) → (a : Addr) → is_entries_of n a ≡ true → P a
+of-entries P n pages parts (addresses.Page q page) own =
+    subst (λ m. P (addresses.Page m page)) (sym (eqb-true q n own)) (pages page)
+of-entries P n pages parts (addresses.Part q bucket part) own =
+    subst (λ m. P (addresses.Part m bucket part)) (sym (eqb-true q n own)) (parts bucket part)
+of-entries P n pages parts addresses.Exports own = cc
+of-entries P n pages parts (addresses.Inode q) own = cc
+of-entries P n pages parts (addresses.Map file page) own = cc
+of-entries P n pages parts (addresses.Block file index) own = cc
+of-entries P n pages parts addresses.Mounts own = cc
+of-entries P n pages parts (addresses.Usage export group) own = cc
+of-entries P n pages parts (addresses.Locks index) own = cc
+
 pub may-free : (d : DraftValue) (n : ℕ) (a : Addr) → is_entries_of n a ≡ true → MayChange d (addresses.Inode n) →
     MayChange d a
-may-free d n (addresses.Page q page) own may =
-    subst (λ m. MayChange d (addresses.Page m page)) (sym (eqb-true q n own)) may
-may-free d n (addresses.Part q bucket part) own may =
-    subst (λ m. MayChange d (addresses.Part m bucket part)) (sym (eqb-true q n own)) may
-may-free d n addresses.Exports own may = cc
-may-free d n (addresses.Inode q) own may = cc
-may-free d n (addresses.Map file page) own may = cc
-may-free d n (addresses.Block file index) own may = cc
-may-free d n addresses.Mounts own may = cc
-may-free d n (addresses.Usage export group) own may = cc
-may-free d n (addresses.Locks index) own may = cc
+may-free d n a own may = of-entries (MayChange d) n (λ page. may) (λ bucket part. may) a own
 
 -- what is written at an address
 freed-at : (d : DraftValue) (s : Store) (b a : Addr) →
@@ -185,22 +190,9 @@ frees-part d n bucket part = record {
 
 pub frees-own : (d new : DraftValue) (n : ℕ) (a : Addr) → is_entries_of n a ≡ true → new ≡ with_written d a None →
     Frees d new n (a ∷ [])
-frees-own d new n a own freed = subst (λ x. Frees d x n (a ∷ [])) (sym freed) (by a own)
-  where
-    by : (b : Addr) → is_entries_of n b ≡ true → Frees d (with_written d b None) n (b ∷ [])
-    by (addresses.Page q page) is =
-        subst (λ m. Frees d (with_written d (addresses.Page m page) None) n (addresses.Page m page ∷ []))
-        (sym (eqb-true q n is)) (frees-page d n page)
-    by (addresses.Part q bucket part) is =
-        subst (λ m. Frees d (with_written d (addresses.Part m bucket part) None) n (addresses.Part m bucket part ∷ []))
-        (sym (eqb-true q n is)) (frees-part d n bucket part)
-    by addresses.Exports is = cc
-    by (addresses.Inode q) is = cc
-    by (addresses.Map file page) is = cc
-    by (addresses.Block file index) is = cc
-    by addresses.Mounts is = cc
-    by (addresses.Usage export group) is = cc
-    by (addresses.Locks index) is = cc
+frees-own d new n a own freed =
+    subst (λ x. Frees d x n (a ∷ [])) (sym freed)
+    (of-entries (λ b. Frees d (with_written d b None) n (b ∷ [])) n (frees-page d n) (frees-part d n) a own)
 
 -- an address of anything else
 pub frees-other : (d : DraftValue) (n : ℕ) (a : Addr) → is_entries_of n a ≡ false → Frees d d n (a ∷ [])

@@ -25,7 +25,7 @@ use Rattle.nfs_inodes.specs.Counts.{IsShareOf}
 use Rattle.nfs_inodes.specs.Entered.{AsksToAdd, AsksToTake, DirectoryLives, MayEnter, grown_at, header_at, is_entries}
 use Rattle.nfs_inodes.specs.Kinds.{HasDirectory}
 use Rattle.nfs_inodes.specs.Known.{HasInode}
-use Rattle.nfs_inodes.specs.Stops.{StillStands, StopsAt, counted_at, group_at, inode_at}
+use Rattle.nfs_inodes.specs.Stops.{StillStands, StopsAt, group_at, inode_at}
 use Rattle.nfs_inodes.specs.declared.usage.Share.{Share}
 
 -- ---- pages and parts
@@ -182,17 +182,6 @@ grown-stops d n name cookie halt stops =
       | None ↦ []
       | Some h ↦ places_for h.entries n name cookie
     ]) halt stops
-
--- a name that is lost with its object, which is counted no more
-pub lost-asking : (d : DraftValue) (n x : ℕ) (start mid asked : List (Addr × Mode)) → start ≡ [] →
-    AsksFor d (MayEnter d []) (λ a. ⊥) start mid →
-    AsksFor d (IsAmong (group_at x (inode_at d x))) (λ a. ⊥) mid asked →
-    IsAsking d (addresses_of d.view n ++ counted_at d x) asked
-lost-asking d n x start mid asked empty first second =
-    both-asking d [] (group_at x (inode_at d x)) (addresses_of d.view n ++ counted_at d x) start mid asked empty first
-    second (group-apart x (inode_at d x)) (λ a none. absurd none)
-    (λ a among. among-behind (addresses_of d.view n) (counted_at d x) a
-    (among-behind (addresses_of d.view x) (group_at x (inode_at d x)) a among))
 
 -- an object that is made under a name
 pub made-asking : (d : DraftValue) (named : List Addr) (export number : ℕ) (same : Bool)

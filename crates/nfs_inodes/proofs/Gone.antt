@@ -1,5 +1,5 @@
 -- What is asked for where an object goes with its last name: it is counted no more, and what it has of locks goes too.
-use Rattle.std.proofs.Common.{◌≡◌, ◌⊎◌, ◌%◌, ◌++◌, ◌∷◌, ℕ, List, [], Option, Some, None, Result, Ok, Err, inl, inr, false}
+use Rattle.std.proofs.Common.{◌≡◌, ◌⊎◌, ◌%◌, ◌++◌, ℕ, List, [], Option, Some, None, Result, Ok, Err, inl, inr, false}
 use Rattle.std.proofs.Common.{sym, ap, ◌∙◌}
 use Rattle.std.specs.Prelude.{MatchResult}
 use Rattle.nlm_ranges.specs.Buckets.{bucket_count}

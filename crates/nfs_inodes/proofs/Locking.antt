@@ -1,5 +1,5 @@
 -- What a store stands for where a bucket is put: a file has other locks, or a number is given.
-use Rattle.std.proofs.Common.{◌≡◌, ◌==◌, ◌+◌, ◌*◌, ◌/◌, ◌%◌, ◌<◌, ◌≤◌, ◌&&◌, ◌||◌, ◌⊎◌, ℕ, true, false, cond, not}
+use Rattle.std.proofs.Common.{◌≡◌, ◌==◌, ◌+◌, ◌/◌, ◌%◌, ◌<◌, ◌||◌, ◌⊎◌, ℕ, true, false, cond, not}
 use Rattle.std.proofs.Common.{List, [], ◌∷◌, Option, Some, None, find, inl, inr, length, suc, zero}
 use Rattle.std.proofs.Common.{refl, sym, ◌∙◌, ap, subst, arith}
 use Rattle.std.proofs.lemmas.Bool.{and_parts}
