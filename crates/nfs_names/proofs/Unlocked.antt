@@ -1,10 +1,11 @@
 -- Where the locks are of what loses its name: the call names them once the view shows what the name leads to.
 use Rattle.std.proofs.Common.{◌≡◌, ℕ, List, [], ◌∷◌, ◌++◌, Option, Some, None, Result, Ok, Err, inl, inr}
 use Rattle.std.proofs.Common.{refl, sym, ap, subst, ◌∙◌}
-use Rattle.std.specs.Prelude.{IfSome, MatchResult}
+use Rattle.std.specs.Prelude.{IfOk, IfSome, MatchResult}
 use Rattle.nfs_wire.specs.declared.calls.NfsCall.TheVariants as nfs
 use Rattle.nfs_wire.specs.declared.calls.Place.{Place}
 use Rattle.nfs_wire.specs.declared.calls.RenameArguments.{RenameArguments}
+use Rattle.nfs_wire.specs.declared.status.NfsStatus.{NfsStatus}
 use Rattle.nfs_machine.specs.Handles.{handle_of}
 use Rattle.nfs_machine.specs.declared.calls.Call.TheVariants as calls
 use Rattle.nfs_machine.specs.declared.handle.Handle.{Handle}
@@ -47,6 +48,16 @@ module _ (view : ViewValue) (place : Place) (n : ℕ) (has : HasNumber place.dir
       (a : Addr) → IsAmong (elim o [ None ↦ [] | Some x ↦ locks_at x.number ]) a → IsAmong (locks_under view place) a
   replaced-named None led a among = absurd among
   replaced-named (Some x) led a among = under-named x.number led a among
+
+-- what was found under a name as it was read
+pub led-so : (view : ViewValue) (read directory : Known) (bytes name : List ℕ) (found : Result Known NfsStatus)
+    (x : Known) → read ≡ directory → bytes ≡ name → found ≡ Ok x →
+    IfOk found (λ (y : Known). led_at view read.number bytes ≡ Some y.number) →
+    led_at view directory.number name ≡ Some x.number
+led-so view read directory bytes name found x same named is led =
+    subst (λ (r : Known). led_at view r.number name ≡ Some x.number) same
+    (subst (λ n. led_at view read.number n ≡ Some x.number) named
+    (subst (λ f. IfOk f (λ (y : Known). led_at view read.number bytes ≡ Some y.number)) is led))
 
 -- ---- how a call that takes a name away halts
 pub taking-names : (taking : Taking) (place : Place) (view : ViewValue) (a : Addr) →

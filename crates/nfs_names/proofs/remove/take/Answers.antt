@@ -4,7 +4,7 @@ use Rattle.nfs_objects.proofs.Promised.{does-nothing}
 use Rattle.nfs_objects.specs.Calls.{locks_at, locks_under}
 use Rattle.nfs_inodes.proofs.Standing.{known-lives}
 use Rattle.nfs_names.proofs.Removed.{refused-end, taken-does, untaken-end}
-use Rattle.nfs_names.proofs.Unlocked.{both-stop-locked, under-named}
+use Rattle.nfs_names.proofs.Unlocked.{both-stop-locked, led-so, under-named}
 use Rattle.nfs_names.specs.Removes.{IsTakenEnd}
 use Rattle.nfs_objects.specs.declared.address.Addr.TheVariants as addresses
 use Rattle.nfs_inodes.proofs.Halting.{any-stops, exports-stop-at}
@@ -53,7 +53,8 @@ returns-in_err-take_name c =
     (known-lives c.args.draft.now c.in-Ok-2.object c.requires.none (λ s k w. (takable s k w).known))
     (λ a among. inr (under-named c.args.draft.now.view c.args.place.now c.args.known.now.number c.requires.number
     c.in-Ok-2.object.number
-    (rw (c.in-Ok.ensures.known, c.as_slice-name.ensures, c.in-Ok-2.is) at c.in_ok-object.ensures.led) a among))
+    (led-so c.args.draft.now.view c.in-Ok.directory.known c.args.known.now _ c.args.place.now.name _
+    c.in-Ok-2.object c.in-Ok.ensures.known c.as_slice-name.ensures c.in-Ok-2.is c.in_ok-object.ensures.led) a among))
     c.in_err-take_name.ensures)
 
 pub returns : goal.returns
