@@ -65,10 +65,9 @@ use Rattle.nfs_inodes.specs.Known.{ChecksDirectory, IsKnown, IsObject, Means, Na
 use Rattle.nfs_inodes.specs.Known.{new_cookie, object_at, target, weak_of}
 use Rattle.nfs_inodes.specs.Makes.{link_lost}
 use Rattle.nfs_inodes.specs.Renames.{name_given, name_left, rehomed}
-use Rattle.nfs_inodes.proofs.Composing.{counted-stops}
 use Rattle.nfs_inodes.proofs.Halting.{any-stops, lives-stops, stops-before}
 use Rattle.nfs_inodes.specs.Entered.{grown_at}
-use Rattle.nfs_inodes.specs.Stops.{StopsAt, UsageLives, counted_at}
+use Rattle.nfs_inodes.specs.Stops.{StopsAt, UsageLives}
 use Rattle.nfs_inodes.specs.declared.found.Known.{Known}
 use Rattle.nfs_inodes.specs.declared.kinds.Directory as kinds
 use Rattle.nfs_names.proofs.Making.{a-cookie, no-cookie}
