@@ -3,6 +3,7 @@ pub mod Answered
 pub mod Booked
 pub mod Bounds
 pub mod Built
+pub mod CallSizes
 pub mod Came
 pub mod Dropped
 pub mod Ended

@@ -3,8 +3,7 @@
 ghost use Rattle.std.specs.Prelude.{◌≡◌, ◌+◌, ◌<◌, ◌≤◌, ◌^◌, [], ◌++◌, length, IfOk, OnOk};
 ghost use Rattle.std.specs.Bool.{Decides};
 ghost use Rattle.side_wire.specs.Messages.{HasCallbackForm};
-ghost use Rattle.nfs_engine.specs.Journal.{TakesPosted};
-ghost use Rattle.nfs_engine.specs.Posting.{HaveForms};
+ghost use Rattle.nfs_engine.specs.Posting.{HasCallbackForm-prop, HaveForms};
 
 use side_wire::Message;
 use std::alloc::{AllocError, Global};
@@ -17,7 +16,7 @@ pub struct Posted {
     /// From 1.
     pub number: u64,
     pub message: Message,
-    pub ghost form: { HasCallbackForm message.call },
+    pub ghost form: { HasCallbackForm message.call } by { HasCallbackForm-prop message.call },
 }
 
 /// The messages of what was executed that were not yet taken, the oldest first. They are numbered from 1.
@@ -44,6 +43,8 @@ impl Model for Outbox {
 }
 
 impl Outbox {
+    ghost use Rattle.nfs_engine.specs.Journal.{TakesPosted};
+
     /// No message yet.
     pub(crate) fn new(alloc: Global) -> Outbox
         ensures { (result.waiting ≡ []) × (result.taken ≡ 0) }
