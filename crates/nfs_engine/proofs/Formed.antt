@@ -5,18 +5,16 @@ use Rattle.side_wire.specs.declared.mount.MountCall.TheVariants as mount
 use Rattle.side_wire.specs.declared.mount.MountStatus.TheVariants as mount_status
 use Rattle.side_wire.specs.declared.nlm.NlmCall.{NlmCall}
 use Rattle.side_wire.specs.declared.nlm.NlmCall.TheVariants as nlm
-use Rattle.side_wire.specs.declared.nlm.NlmReply.{NlmReply}
 use Rattle.side_wire.specs.Nlm.{HasNlmForm}
 use Rattle.nfs_wire.specs.declared.calls.NfsCall.{NfsCall}
 use Rattle.nfs_wire.specs.declared.replies.NfsReply.{NfsReply}
 use Rattle.nfs_machine.proofs.Bounds.{spelled_calls_fit}
-use Rattle.nfs_machine.proofs.Posted.{nlm_messages_form}
 use Rattle.nfs_machine.proofs.Short.{replies_short, refusals_short}
 use Rattle.nfs_machine.proofs.SideReplies.{nlm_replies_form}
 use Rattle.nfs_machine.specs.Laws.{IsShort}
 use Rattle.nfs_machine.specs.Refusal.{nfs_refusal, nlm_refusal, refusal_of}
 use Rattle.nfs_machine.specs.Run.{FromHost, Received, Setting, context_of}
-use Rattle.nfs_machine.specs.SideLaws.{AskedFits, CallFits}
+use Rattle.nfs_machine.specs.SideLaws.{AskedFits, CallFits, NlmMessagesHaveForm}
 use Rattle.nfs_machine.specs.State.{State}
 use Rattle.nfs_machine.specs.Step.{Step}
 use Rattle.nfs_machine.specs.WellFormed.{WellFormed}
@@ -63,21 +61,22 @@ step_form old ctx (calls.Nlm call) (replies.Nlm reply) messages new fits within 
     nlm_replies_form old ctx call reply messages new (λ file. (within.locks file).0) fits step in
     (form, nlm-size reply form)
 
--- the messages that a step puts can be spelled
-pub step_messages : (old : State) (ctx : Ctx) (call : Call) (reply : Reply) (messages : List Message) (new : State) →
-    IsWithin call → IsWithinBounds old → Step old ctx call reply messages new → HaveForms messages
-step_messages old ctx (calls.Nfs call) (replies.Nfs reply) messages new fits within step =
+-- the messages that a step puts can be spelled: those of NLM by its law, and the others put none
+pub step_messages : NlmMessagesHaveForm → (old : State) (ctx : Ctx) (call : Call) (reply : Reply)
+    (messages : List Message) (new : State) → IsWithin call → IsWithinBounds old →
+    Step old ctx call reply messages new → HaveForms messages
+step_messages law old ctx (calls.Nfs call) (replies.Nfs reply) messages new fits within step =
     subst HaveForms (sym (nfs-quiet old ctx call reply messages new step)) tt
-step_messages old ctx (calls.Nfs call) (replies.Mount reply) messages new fits within step = absurd step
-step_messages old ctx (calls.Nfs call) (replies.Nlm reply) messages new fits within step = absurd step
-step_messages old ctx (calls.Mount call) (replies.Nfs reply) messages new fits within step = absurd step
-step_messages old ctx (calls.Mount call) (replies.Mount reply) messages new fits within step =
+step_messages law old ctx (calls.Nfs call) (replies.Mount reply) messages new fits within step = absurd step
+step_messages law old ctx (calls.Nfs call) (replies.Nlm reply) messages new fits within step = absurd step
+step_messages law old ctx (calls.Mount call) (replies.Nfs reply) messages new fits within step = absurd step
+step_messages law old ctx (calls.Mount call) (replies.Mount reply) messages new fits within step =
     subst HaveForms (sym (mount-quiet old ctx call reply messages new step)) tt
-step_messages old ctx (calls.Mount call) (replies.Nlm reply) messages new fits within step = absurd step
-step_messages old ctx (calls.Nlm call) (replies.Nfs reply) messages new fits within step = absurd step
-step_messages old ctx (calls.Nlm call) (replies.Mount reply) messages new fits within step = absurd step
-step_messages old ctx (calls.Nlm call) (replies.Nlm reply) messages new fits within step =
-    (nlm_messages_form old ctx call reply messages new within.locks fits step).0
+step_messages law old ctx (calls.Mount call) (replies.Nlm reply) messages new fits within step = absurd step
+step_messages law old ctx (calls.Nlm call) (replies.Nfs reply) messages new fits within step = absurd step
+step_messages law old ctx (calls.Nlm call) (replies.Mount reply) messages new fits within step = absurd step
+step_messages law old ctx (calls.Nlm call) (replies.Nlm reply) messages new fits within step =
+    (law old ctx call reply messages new within.locks fits step).0
 
 by_status : (call : NfsCall) (r : Option NfsReply) → nfs_refusal call ≡ r → RefusalHasForm (elim r [ None ↦ refusals.SystemError | Some reply ↦ refusals.Reply (replies.Nfs reply) ])
 by_status call None is = tt

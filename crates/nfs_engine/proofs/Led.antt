@@ -6,7 +6,7 @@ use Rattle.nfs_machine.proofs.Kept.{steps_keep_form}
 use Rattle.nfs_machine.proofs.Runs.{run-append}
 use Rattle.nfs_machine.specs.RpcReplies.{success_message}
 use Rattle.nfs_machine.specs.Run.{Executes, FromHost, Received, ReceivedAsks, Record, Run, Setting}
-use Rattle.nfs_machine.specs.SideLaws.{AskedFits}
+use Rattle.nfs_machine.specs.SideLaws.{AskedFits, NlmMessagesHaveForm}
 use Rattle.nfs_machine.specs.State.{State}
 use Rattle.nfs_machine.specs.declared.calls.Call.{Call}
 use Rattle.nfs_machine.specs.declared.context.Ctx.{Ctx}
@@ -127,11 +127,11 @@ module _ (old : BookValue) (f : FinishedValue) (called : IsCalled f.received f.x
       fits_of l.stands.within l.stands.formed s.step
 
   -- and each of its messages can be spelled
-  pub messages_form : IsRun old → HaveForms f.done.change.messages
-  messages_form r =
+  pub messages_form : NlmMessagesHaveForm → IsRun old → HaveForms f.done.change.messages
+  messages_form law r =
       let l = r.leads in
       let s = step_of l.state l.stands in
-      step_messages l.state f.done.ctx f.done.call f.done.change.reply f.done.change.messages s.new.state
+      step_messages law l.state f.done.ctx f.done.call f.done.change.reply f.done.change.messages s.new.state
       fits_of l.stands.within s.step
 
   module _ (new : BookValue) (commits : Commits old new f) where

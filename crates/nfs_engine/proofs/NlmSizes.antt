@@ -1,6 +1,6 @@
 -- How many bytes results of NLM have at most: the parts of a result add theirs one after the other.
-use Rattle.std.proofs.Common.{ℕ, ℤ, ◌+◌, ◌≤◌, nat_le, List, [], length, length-append, arith}
-use Rattle.nfs_xdr.specs.Types.{Enum, Flag, Hyper, Int as IntType, Pair, Void, Word, Value}
+use Rattle.std.proofs.Common.{ℕ, ℤ, ◌≤◌, nat_le, List, [], length, length-append, arith}
+use Rattle.nfs_xdr.specs.Types.{Flag, Hyper, Int as IntType, Pair, Word}
 use Rattle.nfs_xdr.specs.Writing.{appended, with_arm, with_word, write}
 use Rattle.nfs_wire.proofs.Sizes.{Adds, adds-enum, adds-flag, adds-hyper, adds-opaque, adds-pair, adds-word}
 use Rattle.side_wire.specs.Nlm.{HasNlmForm, HasTestStatusForm, IsNetobj, nlm_result_bytes}

@@ -33,6 +33,7 @@ use crate::outbox::Posted;
 use crate::records::Era;
 use crate::running::{AdmitError, Calls, Place};
 use bytes::Bytes;
+use nfs_machine::laws::side_replies_have_forms;
 use nfs_machine::{Ctx, Limits};
 use nfs_objects::{View, Write};
 use nfs_replies::{Capacity, Replies, Sought};
@@ -293,8 +294,9 @@ impl Book {
         ensures leaves { IfOk result (Leaves finished) }
         ensures err { IfErr result (λ back. (back ≡ finished) × (self.new ≡ self.old)) }
     {
-        // It brings that this is what its record asks, and keeps the promise.
+        // They bring that this is what its record asks and keeps the promise, and that messages can be spelled.
         finished.is_finished();
+        side_replies_have_forms();
         let Some(numbered) = self.journal.make_room_for(alloc, &finished) else {
             return Err(finished);
         };

@@ -15,7 +15,7 @@ use Rattle.nfs_engine.proofs.book.Book.commit.Goals.{After-commit}
 pub make_room_for-requires-clause-messages : goal.make_room_for-requires-clause-messages
 make_room_for-requires-clause-messages c =
     messages_form _ c.args.finished c.is_finished.ensures.called c.is_finished.ensures.promised c.requires
-    (subst IsBook c.self.view_is c.self.invariant).run
+    c.side_replies_have_forms.ensures.messages (subst IsBook c.self.view_is c.self.invariant).run
 
 pub make_room_for-requires-clause-reply : goal.make_room_for-requires-clause-reply
 make_room_for-requires-clause-reply c =
