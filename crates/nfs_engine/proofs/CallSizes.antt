@@ -67,20 +67,27 @@ lock-size l =
     let range = Pair Hyper Hyper in
     let process = Pair IntType range in
     let owner = Pair netobj process in
-    omega (arith,
-    pair-size netobj (Pair netobj owner) l.caller_name (l.file, (l.owner, (l.process, (l.offset, l.length)))),
-    pair-size netobj owner l.file (l.owner, (l.process, (l.offset, l.length))),
-    pair-size netobj process l.owner (l.process, (l.offset, l.length)),
-    pair-size IntType range l.process (l.offset, l.length),
-    pair-size Hyper Hyper l.offset l.length,
-    int-size l.process, hyper-size l.offset, hyper-size l.length)
+    omega (
+      arith,
+      pair-size netobj (Pair netobj owner) l.caller_name (l.file, (l.owner, (l.process, (l.offset, l.length)))),
+      pair-size netobj owner l.file (l.owner, (l.process, (l.offset, l.length))),
+      pair-size netobj process l.owner (l.process, (l.offset, l.length)),
+      pair-size IntType range l.process (l.offset, l.length),
+      pair-size Hyper Hyper l.offset l.length,
+      int-size l.process,
+      hyper-size l.offset,
+      hyper-size l.length,
+    )
 
 pub granted-size : (a : TestArguments) → length (write nlm4_testargs (test_value a)) ≡
     of_opaque a.cookie + 4 + length (write nlm4_lock (lock_value a.lock))
 granted-size a =
-    omega (arith,
-    pair-size netobj (Pair Flag nlm4_lock) a.cookie (a.exclusive, lock_value a.lock),
-    pair-size Flag nlm4_lock a.exclusive (lock_value a.lock), flag-size a.exclusive)
+    omega (
+      arith,
+      pair-size netobj (Pair Flag nlm4_lock) a.cookie (a.exclusive, lock_value a.lock),
+      pair-size Flag nlm4_lock a.exclusive (lock_value a.lock),
+      flag-size a.exclusive,
+    )
 
 pub plain-size : (r : NlmResult) → length (write nlm4_res (result_value r)) ≡ of_opaque r.cookie + 4
 plain-size r =
@@ -92,12 +99,17 @@ holder-size h =
     let range = Pair Hyper Hyper in
     let owner = Pair netobj range in
     let process = Pair IntType owner in
-    omega (arith,
-    pair-size Flag process h.exclusive (h.process, (h.owner, (h.offset, h.length))),
-    pair-size IntType owner h.process (h.owner, (h.offset, h.length)),
-    pair-size netobj range h.owner (h.offset, h.length),
-    pair-size Hyper Hyper h.offset h.length,
-    flag-size h.exclusive, int-size h.process, hyper-size h.offset, hyper-size h.length)
+    omega (
+      arith,
+      pair-size Flag process h.exclusive (h.process, (h.owner, (h.offset, h.length))),
+      pair-size IntType owner h.process (h.owner, (h.offset, h.length)),
+      pair-size netobj range h.owner (h.offset, h.length),
+      pair-size Hyper Hyper h.offset h.length,
+      flag-size h.exclusive,
+      int-size h.process,
+      hyper-size h.offset,
+      hyper-size h.length,
+    )
 
 -- a status with its arm
 abbrev pub status_size : TestStatus → ℕ
@@ -136,8 +148,12 @@ pub message-size : (m : Message) → length (message_bytes 0 m) ≡
     40 + length (write (callback_arguments m.call).0 (callback_arguments m.call).1)
 message-size m =
     let procedure = nlm_procedure_of (call_of m.call) in
-    omega (arith, header-size 0 procedure, pair-size call_header (callback_arguments m.call).0
-    (header_value 0 procedure) (callback_arguments m.call).1)
+    omega (
+      arith,
+      header-size 0 procedure,
+      pair-size call_header (callback_arguments m.call).0
+          (header_value 0 procedure) (callback_arguments m.call).1,
+    )
 
 -- ---- lists of messages
 
@@ -175,20 +191,44 @@ pub lock-is : (l : NlmLock) (host file first owner second sum : ℕ) → HasLock
     owner ≡ of_opaque l.owner → second ≡ min (first + owner) limit → sum ≡ min (second + 20) limit →
     sum ≡ length (write nlm4_lock (lock_value l))
 lock-is l host file first owner second sum form host_is file_is first_is owner_is second_is sum_is =
-    omega (arith, lock-size l, opaque-bound l.caller_name form.0, opaque-bound l.file form.1, opaque-bound l.owner form.2,
-    host_is, file_is, first_is, owner_is, second_is, sum_is)
+    omega (
+      arith,
+      lock-size l,
+      opaque-bound l.caller_name form.0,
+      opaque-bound l.file form.1,
+      opaque-bound l.owner form.2,
+      host_is,
+      file_is,
+      first_is,
+      owner_is,
+      second_is,
+      sum_is,
+    )
 
 lock-bound : (l : NlmLock) → HasLockForm l → length (write nlm4_lock (lock_value l)) ≤ 3104
-lock-bound l form = omega (arith, lock-size l, opaque-bound l.caller_name form.0, opaque-bound l.file form.1,
-    opaque-bound l.owner form.2)
+lock-bound l form = omega (
+  arith,
+  lock-size l,
+  opaque-bound l.caller_name form.0,
+  opaque-bound l.file form.1,
+  opaque-bound l.owner form.2,
+)
 
 pub granted-is : (a : TestArguments) (cookie first lock sum : ℕ) → HasTestArgumentsForm a →
     cookie ≡ of_opaque a.cookie → first ≡ min (cookie + 4) limit →
     lock ≡ length (write nlm4_lock (lock_value a.lock)) → sum ≡ min (first + lock) limit →
     sum ≡ length (write nlm4_testargs (test_value a))
 granted-is a cookie first lock sum form cookie_is first_is lock_is sum_is =
-    omega (arith, granted-size a, opaque-bound a.cookie form.0, lock-bound a.lock form.1, cookie_is, first_is, lock_is,
-    sum_is)
+    omega (
+      arith,
+      granted-size a,
+      opaque-bound a.cookie form.0,
+      lock-bound a.lock form.1,
+      cookie_is,
+      first_is,
+      lock_is,
+      sum_is,
+    )
 
 status-bound : (s : TestStatus) → HasTestStatusForm s → status_size s ≤ 1056
 status-bound (tested.Denied holder) form = omega (arith, opaque-bound holder.owner form)
@@ -208,8 +248,18 @@ pub denied-is : (r : TestResult) (h : LockHolder) (cookie first owner second sum
     sum ≡ min (second + 24) limit → sum ≡ length (write nlm4_testres (test_result_value r))
 denied-is r h cookie first owner second sum is form cookie_is first_is owner_is second_is sum_is =
     let small : IsNetobj h.owner = subst HasTestStatusForm is form.1 in
-    omega (arith, tested-size r, ap status_size is, opaque-bound r.cookie form.0, opaque-bound h.owner small,
-    cookie_is, first_is, owner_is small, second_is, sum_is)
+    omega (
+      arith,
+      tested-size r,
+      ap status_size is,
+      opaque-bound r.cookie form.0,
+      opaque-bound h.owner small,
+      cookie_is,
+      first_is,
+      owner_is small,
+      second_is,
+      sum_is,
+    )
 
 undenied : (s : TestStatus) → ((h : LockHolder) → s ≡ tested.Denied h → ⊥) → status_size s ≡ 4
 undenied (tested.Denied holder) other = absurd (other holder refl)

@@ -1,10 +1,11 @@
 -- The reply of a step, and a refusal, has its form, and so do its messages.
-use Rattle.std.proofs.Common.{◌≡◌, List, [], ◌∷◌, Option, Some, None, IfSome, refl, sym, subst, arith}
+use Rattle.std.proofs.Common.{◌≡◌, ℕ, List, [], ◌∷◌, Option, Some, None, IfSome, refl, sym, subst, arith}
 use Rattle.side_wire.specs.declared.message.Message.{Message}
 use Rattle.side_wire.specs.declared.mount.MountCall.TheVariants as mount
 use Rattle.side_wire.specs.declared.mount.MountStatus.TheVariants as mount_status
 use Rattle.side_wire.specs.declared.nlm.NlmCall.{NlmCall}
 use Rattle.side_wire.specs.declared.nlm.NlmCall.TheVariants as nlm
+use Rattle.side_wire.specs.declared.nlm.NlmReply.{NlmReply}
 use Rattle.side_wire.specs.Nlm.{HasNlmForm}
 use Rattle.nfs_wire.specs.declared.calls.NfsCall.{NfsCall}
 use Rattle.nfs_wire.specs.declared.replies.NfsReply.{NfsReply}
@@ -83,16 +84,15 @@ by_status call None is = tt
 by_status call (Some reply) is = subst (λ (r : Option NfsReply). IfSome r IsShort) is (refusals_short call)
 
 -- of a call of NLM by its cookie
-by_cookie : (call : NlmCall) → CallFits call →
-    RefusalHasForm (elim (nlm_refusal call) [ None ↦ refusals.SystemError | Some r ↦ refusals.Reply (replies.Nlm r) ])
-by_cookie (nlm.Test a) fits = ((fits.0, tt), nlm-size _ (fits.0, tt))
-by_cookie (nlm.Lock a) fits = (fits.0, nlm-size _ fits.0)
-by_cookie (nlm.Cancel a) fits = (fits.0, nlm-size _ fits.0)
-by_cookie (nlm.Unlock a) fits = (fits.0, nlm-size _ fits.0)
-by_cookie (nlm.Granted a) fits = (fits.0, nlm-size _ fits.0)
-by_cookie (nlm.NmLock a) fits = (fits.0, nlm-size _ fits.0)
-by_cookie (nlm.Share a) fits = (fits, nlm-size _ fits)
-by_cookie (nlm.Unshare a) fits = (fits, nlm-size _ fits)
+by_cookie : (call : NlmCall) → CallFits call → IfSome (nlm_refusal call) HasNlmForm
+by_cookie (nlm.Test a) fits = (fits.0, tt)
+by_cookie (nlm.Lock a) fits = fits.0
+by_cookie (nlm.Cancel a) fits = fits.0
+by_cookie (nlm.Unlock a) fits = fits.0
+by_cookie (nlm.Granted a) fits = fits.0
+by_cookie (nlm.NmLock a) fits = fits.0
+by_cookie (nlm.Share a) fits = fits
+by_cookie (nlm.Unshare a) fits = fits
 by_cookie nlm.Null fits = tt
 by_cookie (nlm.TestMsg a) fits = tt
 by_cookie (nlm.LockMsg a) fits = tt
@@ -106,13 +106,18 @@ by_cookie (nlm.UnlockRes r) fits = tt
 by_cookie (nlm.GrantedRes r) fits = tt
 by_cookie (nlm.FreeAll a) fits = tt
 
+by_reply : (r : Option NlmReply) → IfSome r HasNlmForm →
+    RefusalHasForm (elim r [ None ↦ refusals.SystemError | Some reply ↦ refusals.Reply (replies.Nlm reply) ])
+by_reply None form = tt
+by_reply (Some reply) form = (form, nlm-size reply form)
+
 -- a refusal has its form
 pub refusal_form : (call : Call) → IsWithin call → RefusalHasForm (refusal_of call)
 unfolding refusal_of
 refusal_form (calls.Nfs call) fits = by_status call (nfs_refusal call) refl
 refusal_form (calls.Mount (mount.Mnt path)) fits = (tt, omega (arith, mount_refused_size mount_status.ServerFault))
 refusal_form (calls.Mount call) fits = tt
-refusal_form (calls.Nlm call) fits = by_cookie call fits
+refusal_form (calls.Nlm call) fits = by_reply (nlm_refusal call) (by_cookie call fits)
 
 -- what a record asks is within its bounds, whoever sent it
 asked-within : (bytes : List ℕ) (asked : Asked) → IsAsked bytes asked → IsWithin asked.call
