@@ -6,12 +6,13 @@ use Rattle.std.specs.Vec.Iter.{into_iter_items}
 use Rattle.nfs_objects.specs.declared.address.Addr.{Addr}
 use Rattle.nfs_objects.specs.declared.modes.Mode.{Mode}
 use Rattle.nfs_objects.specs.declared.modes.Mode.TheVariants.{Shared, Exclusive}
+use Rattle.nfs_engine.specs.Book.{BookValue, IsRun, store_in}
 use Rattle.nfs_engine.specs.Calls.{TxnValue, txn_of}
 use Rattle.nfs_engine.specs.Engine.{IsTied, Lives, slot_among}
 use Rattle.nfs_engine.specs.Holders.{hold_in, is_among}
 use Rattle.nfs_schedule.proofs.Few.{reads_few}
 use Rattle.nfs_schedule.specs.Asking.{HasRead, IsRead, wanted_by}
-use Rattle.nfs_schedule.specs.Order.{IsOrderly, IsReading, executed_by}
+use Rattle.nfs_schedule.specs.Order.{IsOrderly, IsReading, KeepsApart, executed_by}
 use Rattle.nfs_schedule.specs.Workers.{WorkerLives}
 use Rattle.nfs_schedule.specs.Worlds.{IsKept, WorldValue}
 use Rattle.nfs_schedule.specs.declared.worker.Worker.{Worker}
@@ -80,9 +81,19 @@ asks_so (Leaving left after) t is r = cc
 asks_so (PutOff p) t is r = cc
 asks_so (Refusing p) t is r = cc
 
-pub orderly : (w : WorldValue) → IsTied w.engine → IsKept w.engine w.workers → IsOrderly w
-orderly w tied kept = record {
+-- ---- the owners of locks
+keeps_apart : (b : BookValue) → IsRun b → KeepsApart (store_in b)
+keeps_apart b run = record {
+  state = run.leads.state;
+  stands = run.leads.stands;
+  apart = run.leads.stands.formed.locks.apart;
+  held_up = run.leads.stands.formed.locks.held_up;
+}
+
+pub orderly : (w : WorldValue) → IsTied w.engine → IsRun w.engine.book → IsKept w.engine w.workers → IsOrderly w
+orderly w tied run kept = record {
   tied = tied;
+  locks = keeps_apart w.engine.book run;
   alone = λ a i j is some.
       one_alone (slot_among w.engine.shards a).holders.alone (slot_among w.engine.shards a).holders.beside i j is some;
   held = kept.held;
