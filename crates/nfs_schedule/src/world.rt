@@ -30,9 +30,13 @@ pub struct World {
 }
 
 impl Model for World {
+    ghost use Rattle.std.specs.Coded.{codes};
+    ghost use Rattle.nfs_engine.specs.contracts.outbox.Posted as posted;
     ghost use Rattle.nfs_schedule.specs.Worlds.{IsKept, WorldValue};
 
     ghost Value = { WorldValue };
+
+    ghost coded = { Prim.hlevel (codes, posted.the_row.coded) };
 
     ghost view = { λ w. record {
       engine = w.engine;
