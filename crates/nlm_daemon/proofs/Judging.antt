@@ -123,10 +123,10 @@ first-past modes view None x first r = tt
 first-past modes view (Some a) x first r = absurd first
 
 -- and what halts halts so whatever was to come of it
-pub first-halts : {A B : Type 0} (modes : ModesValue) (view : ViewValue) (wanted : Option Addr) (halt : Halt) →
+pub first-halts : (A B : Type 0) (modes : ModesValue) (view : ViewValue) (wanted : Option Addr) (halt : Halt) →
     HaltsFirst {A = A} modes view wanted (Err halt) → HaltsFirst {A = B} modes view wanted (Err halt)
-first-halts modes view None halt first = tt
-first-halts modes view (Some a) halt first = first
+first-halts A B modes view None halt first = tt
+first-halts A B modes view (Some a) halt first = first
 
 -- ---- a file, and a range of it
 module _ (d : DraftValue) (handle : List ℕ) (x : Known) (names : Knows d (λ k. known.Names d.ctx handle k x)) where

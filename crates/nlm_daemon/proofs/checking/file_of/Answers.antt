@@ -1,9 +1,13 @@
-use Rattle.std.proofs.Common.{Err, Ok, true}
+use Rattle.std.proofs.Common.{Err, Ok, Result, true}
 use Rattle.std.proofs.lemmas.Result.{err_from_is_err_and}
+use Rattle.nfs_wire.specs.declared.status.NfsStatus.{NfsStatus}
 use Rattle.nfs_inodes.proofs.Ending.{means-as, number-as}
 use Rattle.nfs_inodes.proofs.Halting.{exports-stop}
+use Rattle.nfs_inodes.specs.declared.found.Known.{Known}
+use Rattle.nfs_inodes.specs.declared.kinds.File.{File}
 use Rattle.nlm_daemon.proofs.Judging.{checked-judged, checked-nothing, file-number, file-of, first-halts, first-past}
 use Rattle.nlm_daemon.specs.Checks.{file_found}
+use Rattle.nlm_daemon.specs.declared.checking.LockFault.{LockFault}
 use Rattle.nlm_daemon.proofs.checking.file_of.Goals as goal
 
 pub returns-in_err-known-clause-checked : goal.returns-in_err-known-clause-checked
@@ -14,7 +18,7 @@ returns-in_err-known-clause-checked c =
 pub returns-in_err-known-clause-first : goal.returns-in_err-known-clause-first
 returns-in_err-known-clause-first c =
     let p = err_from_is_err_and c.from_residual.result c.from_residual.ensures.1 in
-    rw (p.1, p.2, ← c.as_slice.ensures) (first-halts c.args.draft.now.modes c.args.draft.now.view _ _
+    rw (p.1, p.2, ← c.as_slice.ensures) (first-halts (Result Known NfsStatus) (Result File LockFault) c.args.draft.now.modes c.args.draft.now.view _ _
     c.in_err-known.ensures.first)
 
 pub returns-in-Err-clause-checked : goal.returns-in-Err-clause-checked

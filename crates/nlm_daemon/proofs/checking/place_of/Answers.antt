@@ -3,7 +3,7 @@ use Rattle.std.proofs.lemmas.Result.{err_from_is_err_and}
 use Rattle.nfs_machine.specs.Locks.{fits_offsets}
 use Rattle.nfs_inodes.proofs.Ending.{means-as, number-as}
 use Rattle.nfs_inodes.proofs.Halting.{exports-stop}
-use Rattle.nlm_daemon.proofs.Judging.{checked-judged, checked-nothing, first-halts, first-past, place-of}
+use Rattle.nlm_daemon.proofs.Judging.{checked-judged, checked-nothing, first-past, place-of}
 use Rattle.nlm_daemon.specs.Checks.{place_found}
 use Rattle.nlm_daemon.proofs.checking.place_of.Goals as goal
 
@@ -11,12 +11,6 @@ pub returns-in_err-known-clause-checked : goal.returns-in_err-known-clause-check
 returns-in_err-known-clause-checked c =
     let p = err_from_is_err_and c.from_residual.result c.from_residual.ensures.1 in
     rw (p.1, p.2, ← c.as_slice.ensures) c.in_err-known.ensures.stops
-
-pub returns-in_err-known-clause-first : goal.returns-in_err-known-clause-first
-returns-in_err-known-clause-first c =
-    let p = err_from_is_err_and c.from_residual.result c.from_residual.ensures.1 in
-    rw (p.1, p.2, ← c.as_slice.ensures) (first-halts c.args.draft.now.modes c.args.draft.now.view _ _
-    c.in_err-known.ensures.first)
 
 pub returns-in-Err-clause-checked : goal.returns-in-Err-clause-checked
 returns-in-Err-clause-checked c =

@@ -1,7 +1,10 @@
 use Rattle.std.proofs.lemmas.Result.{err_from_is_err_and}
 use Rattle.nfs_machine.specs.declared.calls.Call.TheVariants as calls
+use Rattle.nfs_objects.specs.declared.address.Addr.TheVariants as addresses
+use Rattle.nfs_objects.specs.declared.change.Change.{Change}
+use Rattle.nfs_inodes.proofs.Halting.{lacking-first-at}
 use Rattle.nlm_daemon.proofs.Calling.{alone-ends, alone-first, alone-never, passing-of}
-use Rattle.nlm_daemon.proofs.Judging.{first-halts, first-past}
+use Rattle.nlm_daemon.proofs.Judging.{first-past}
 use Rattle.nlm_daemon.proofs.Told.{passed-promised, step-passed}
 use Rattle.nlm_daemon.specs.Answering.{reply_passed}
 use Rattle.nlm_daemon.proofs.passing.pass.Goals as goal
@@ -18,7 +21,7 @@ returns-in_err-exports-clause-first c =
     let p = err_from_is_err_and c.from_residual.result c.from_residual.ensures.1 in
     rw (p.1, p.2)
     (alone-first (calls.Nlm c.args.call.now) c.args.draft c.requires.begins (passing-of c.args.call.now c.requires.passes)
-    _ (first-halts c.args.draft.modes c.args.draft.view _ _ (c.in_err-exports.ensures.first c.requires.begins.none)))
+    _ (lacking-first-at Change c.args.draft addresses.Exports _ c.in_err-exports.ensures.reads))
 
 pub returns-in_err-exports-clause-only : goal.returns-in_err-exports-clause-only
 returns-in_err-exports-clause-only c = λ seen.

@@ -1,9 +1,11 @@
 use Rattle.std.proofs.Common.{◌∷◌, [], append-nil, refl, sym}
 use Rattle.std.proofs.lemmas.Result.{err_from_is_err_and}
 use Rattle.side_wire.specs.declared.nlm.NlmCall.TheVariants as nlm
+use Rattle.side_wire.specs.declared.nlm.TestStatus.{TestStatus}
 use Rattle.nfs_machine.specs.LockSteps.{TestEnds}
 use Rattle.nfs_machine.specs.declared.calls.Call.TheVariants as calls
 use Rattle.nfs_objects.specs.Attempt.{first_wanted_with}
+use Rattle.nfs_objects.specs.declared.change.Change.{Change}
 use Rattle.nlm_daemon.proofs.Calling.{ends-first, ends-stopped}
 use Rattle.nlm_daemon.proofs.Judging.{first-halts, first-past}
 use Rattle.nlm_daemon.proofs.Told.{step-test, told-promised}
@@ -26,7 +28,7 @@ returns-in_err-status-clause-first c =
     rw (p.1, p.2)
     (ends-first (calls.Nlm (nlm.Test c.args.arguments.now)) c.args.draft c.requires
     (first_wanted_with c.args.draft.view (c.args.arguments.now.lock.file ∷ [])) refl _
-    (first-halts c.args.draft.modes c.args.draft.view _ _ c.in_err-status.ensures.first))
+    (first-halts TestStatus Change c.args.draft.modes c.args.draft.view _ _ c.in_err-status.ensures.first))
 
 pub returns-in_err-clone-clause-first : goal.returns-in_err-clone-clause-first
 returns-in_err-clone-clause-first c =
