@@ -1,5 +1,5 @@
 -- What a handle names, as a call of NLM checks it.
-use Rattle.std.proofs.Common.{◌≡◌, ℕ, Bool, true, false, List, Option, Some, None, Result, Ok, Err, is_ok}
+use Rattle.std.proofs.Common.{◌≡◌, ℕ, Bool, true, false, List, [], ◌∷◌, Option, Some, None, Result, Ok, Err, is_ok}
 use Rattle.std.proofs.Common.{refl, sym, ◌∙◌, ap, subst}
 use Rattle.std.specs.Prelude.{◌↔◌, IfOk, IsSome}
 use Rattle.nfs_wire.specs.declared.attributes.FileType.TheVariants as types
@@ -12,7 +12,7 @@ use Rattle.nfs_machine.specs.LockSteps.{LockFault, NotRegular, RangeTooBig, Read
 use Rattle.nfs_machine.specs.Locks.{fits_offsets, range_of}
 use Rattle.nfs_machine.specs.Resolve.{BadHandle, Named, Names, Resolved, Stale, resolve}
 use Rattle.nfs_machine.specs.State.{Content}
-use Rattle.nfs_objects.specs.Attempt.{HaltsFirst}
+use Rattle.nfs_objects.specs.Attempt.{HaltsFirst, first_wanted_with}
 use Rattle.nfs_objects.specs.Knows.{Knows}
 use Rattle.nfs_objects.specs.Values.{DraftValue, ModesValue, ViewValue}
 use Rattle.nfs_objects.specs.declared.address.Addr.{Addr}
@@ -121,6 +121,14 @@ pub first-past : {A B : Type 0} (modes : ModesValue) (view : ViewValue) (wanted 
     HaltsFirst modes view wanted (Ok x) → (r : Result B Halt) → HaltsFirst modes view wanted r
 first-past modes view None x first r = tt
 first-past modes view (Some a) x first r = absurd first
+
+-- the same where the handle was read as bytes
+pub first-read : {A B : Type 0} (modes : ModesValue) (view : ViewValue) (handle bytes : List ℕ) (x : A) →
+    bytes ≡ handle → HaltsFirst modes view (first_wanted_with view (bytes ∷ [])) (Ok x) → (r : Result B Halt) →
+    HaltsFirst modes view (first_wanted_with view (handle ∷ [])) r
+first-read {A} modes view handle bytes x is first r =
+    first-past modes view (first_wanted_with view (handle ∷ [])) x
+    (subst (λ h. HaltsFirst {A = A} modes view (first_wanted_with view (h ∷ [])) (Ok x)) is first) r
 
 -- and what halts halts so whatever was to come of it
 pub first-halts : (A B : Type 0) (modes : ModesValue) (view : ViewValue) (wanted : Option Addr) (halt : Halt) →

@@ -199,3 +199,21 @@ module _ (d : DraftValue) (call : Call) (begins : Begins call d) where
       (ap (λ (c : ChangeValue). c.reply) is)
       (subst (λ (x : DraftValue). Held x.view x.writes) sent held)
       (subst (λ (x : DraftValue). Given x.view x.writes) sent given) steps
+
+-- TEST tells it in its reply
+pub tested-promised : (d : DraftValue) (a : TestArguments) → Begins (calls.Nlm (nlm.Test a)) d → (s : TestStatus) →
+    KnowsEnd d (λ m. TestEnds m d.ctx a) s → (cookie : List ℕ) → cookie ≡ a.cookie → (change : ChangeValue) →
+    change ≡ record {
+      writes = d.writes;
+      messages = d.messages;
+      reply = answers.Nlm (replies.Test (record { cookie = cookie; status = s }));
+    } → Held d.view d.writes → Given d.view d.writes →
+    IsPromised (done_value (calls.Nlm (nlm.Test a)) d.ctx d.view change)
+tested-promised d a begins s knows cookie same change is held given =
+    told-promised d (calls.Nlm (nlm.Test a)) begins (λ m. TestEnds m d.ctx a) s knows
+    (answers.Nlm (replies.Test (record { cookie = a.cookie; status = s }))) [] change
+    (ap (λ (c : ChangeValue). c.writes) is)
+    (ap (λ (c : ChangeValue). c.messages) is ∙ sym (append-nil d.messages))
+    (ap (λ (c : ChangeValue). c.reply) is
+    ∙ ap (λ (b : List ℕ). answers.Nlm (replies.Test (record { cookie = b; status = s }))) same) held given
+    (λ m ends. step-test m d.ctx a s ends)

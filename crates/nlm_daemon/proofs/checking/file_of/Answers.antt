@@ -1,25 +1,15 @@
-use Rattle.std.proofs.Common.{Err, Ok, Result, true}
+use Rattle.std.proofs.Common.{Err, Ok, true}
 use Rattle.std.proofs.lemmas.Result.{err_from_is_err_and}
-use Rattle.nfs_wire.specs.declared.status.NfsStatus.{NfsStatus}
 use Rattle.nfs_inodes.proofs.Ending.{means-as, number-as}
 use Rattle.nfs_inodes.proofs.Halting.{exports-stop}
-use Rattle.nfs_inodes.specs.declared.found.Known.{Known}
-use Rattle.nfs_inodes.specs.declared.kinds.File.{File}
-use Rattle.nlm_daemon.proofs.Judging.{checked-judged, checked-nothing, file-number, file-of, first-halts, first-past}
+use Rattle.nlm_daemon.proofs.Judging.{checked-judged, checked-nothing, file-number, file-of, first-read}
 use Rattle.nlm_daemon.specs.Checks.{file_found}
-use Rattle.nlm_daemon.specs.declared.checking.LockFault.{LockFault}
 use Rattle.nlm_daemon.proofs.checking.file_of.Goals as goal
 
 pub returns-in_err-known-clause-checked : goal.returns-in_err-known-clause-checked
 returns-in_err-known-clause-checked c =
     let p = err_from_is_err_and c.from_residual.result c.from_residual.ensures.1 in
     rw (p.1, p.2, ← c.as_slice.ensures) c.in_err-known.ensures.stops
-
-pub returns-in_err-known-clause-first : goal.returns-in_err-known-clause-first
-returns-in_err-known-clause-first c =
-    let p = err_from_is_err_and c.from_residual.result c.from_residual.ensures.1 in
-    rw (p.1, p.2, ← c.as_slice.ensures) (first-halts (Result Known NfsStatus) (Result File LockFault) c.args.draft.now.modes c.args.draft.now.view _ _
-    c.in_err-known.ensures.first)
 
 pub returns-in-Err-clause-checked : goal.returns-in-Err-clause-checked
 returns-in-Err-clause-checked c =
@@ -29,7 +19,8 @@ returns-in-Err-clause-checked c =
 
 pub returns-in-Err-clause-first : goal.returns-in-Err-clause-first
 returns-in-Err-clause-first c =
-    rw (← c.as_slice.ensures) (first-past c.args.draft.now.modes c.args.draft.now.view _ _ c.in_ok-known.ensures.first _)
+    first-read c.args.draft.now.modes c.args.draft.now.view c.args.handle.now _ _ c.as_slice.ensures
+    c.in_ok-known.ensures.first _
 
 pub returns-in_err-exports-clause-checked : goal.returns-in_err-exports-clause-checked
 returns-in_err-exports-clause-checked c =
@@ -38,12 +29,13 @@ returns-in_err-exports-clause-checked c =
 
 pub returns-in_err-exports-clause-first : goal.returns-in_err-exports-clause-first
 returns-in_err-exports-clause-first c =
-    rw (← c.as_slice.ensures) (first-past c.args.draft.now.modes c.args.draft.now.view _ _ c.in_ok-known.ensures.first _)
+    first-read c.args.draft.now.modes c.args.draft.now.view c.args.handle.now _ _ c.as_slice.ensures
+    c.in_ok-known.ensures.first _
 
 pub returns-clause-checked : goal.returns-clause-checked
 returns-clause-checked c =
     checked-judged c.args.draft.now c.args.handle.now true c.args.writes c.in-Ok.known
-    c.in_ok-exports.exports.now
+    c.in_ok-exports.field-0.now
     (means-as c.args.draft.now c.args.handle.now _ _ (Ok c.in-Ok.known) c.as_slice.ensures c.in-Ok.is
     c.in_ok-known.ensures.means) c.in_ok-exports.ensures.exports (file_found c.judged_file.result)
     c.judged_file.ensures.checks
@@ -63,4 +55,5 @@ returns-clause-number c =
 
 pub returns-clause-first : goal.returns-clause-first
 returns-clause-first c =
-    rw (← c.as_slice.ensures) (first-past c.args.draft.now.modes c.args.draft.now.view _ _ c.in_ok-known.ensures.first _)
+    first-read c.args.draft.now.modes c.args.draft.now.view c.args.handle.now _ _ c.as_slice.ensures
+    c.in_ok-known.ensures.first _

@@ -3,7 +3,7 @@ use Rattle.std.proofs.lemmas.Result.{err_from_is_err_and}
 use Rattle.nfs_machine.specs.Locks.{fits_offsets}
 use Rattle.nfs_inodes.proofs.Ending.{means-as, number-as}
 use Rattle.nfs_inodes.proofs.Halting.{exports-stop}
-use Rattle.nlm_daemon.proofs.Judging.{checked-judged, checked-nothing, first-past, place-of}
+use Rattle.nlm_daemon.proofs.Judging.{checked-judged, checked-nothing, first-read, place-of}
 use Rattle.nlm_daemon.specs.Checks.{place_found}
 use Rattle.nlm_daemon.proofs.checking.place_of.Goals as goal
 
@@ -20,7 +20,8 @@ returns-in-Err-clause-checked c =
 
 pub returns-in-Err-clause-first : goal.returns-in-Err-clause-first
 returns-in-Err-clause-first c =
-    rw (← c.as_slice.ensures) (first-past c.args.draft.now.modes c.args.draft.now.view _ _ c.in_ok-known.ensures.first _)
+    first-read c.args.draft.now.modes c.args.draft.now.view c.args.lock.now.file _ _ c.as_slice.ensures
+    c.in_ok-known.ensures.first _
 
 pub returns-in_err-exports-clause-checked : goal.returns-in_err-exports-clause-checked
 returns-in_err-exports-clause-checked c =
@@ -29,12 +30,13 @@ returns-in_err-exports-clause-checked c =
 
 pub returns-in_err-exports-clause-first : goal.returns-in_err-exports-clause-first
 returns-in_err-exports-clause-first c =
-    rw (← c.as_slice.ensures) (first-past c.args.draft.now.modes c.args.draft.now.view _ _ c.in_ok-known.ensures.first _)
+    first-read c.args.draft.now.modes c.args.draft.now.view c.args.lock.now.file _ _ c.as_slice.ensures
+    c.in_ok-known.ensures.first _
 
 pub returns-clause-checked : goal.returns-clause-checked
 returns-clause-checked c =
     checked-judged c.args.draft.now c.args.lock.now.file (fits_offsets c.args.lock.now) c.args.writes c.in-Ok.known
-    c.in_ok-exports.exports.now
+    c.in_ok-exports.field-0.now
     (means-as c.args.draft.now c.args.lock.now.file _ _ (Ok c.in-Ok.known) c.as_slice.ensures c.in-Ok.is
     c.in_ok-known.ensures.means) c.in_ok-exports.ensures.exports (place_found c.judged_place.result)
     c.judged_place.ensures.checks
@@ -50,4 +52,5 @@ returns-clause-place c =
 
 pub returns-clause-first : goal.returns-clause-first
 returns-clause-first c =
-    rw (← c.as_slice.ensures) (first-past c.args.draft.now.modes c.args.draft.now.view _ _ c.in_ok-known.ensures.first _)
+    first-read c.args.draft.now.modes c.args.draft.now.view c.args.lock.now.file _ _ c.as_slice.ensures
+    c.in_ok-known.ensures.first _

@@ -1,14 +1,13 @@
-use Rattle.std.proofs.Common.{◌∷◌, [], append-nil, refl, sym}
+use Rattle.std.proofs.Common.{◌∷◌, [], refl}
 use Rattle.std.proofs.lemmas.Result.{err_from_is_err_and}
 use Rattle.side_wire.specs.declared.nlm.NlmCall.TheVariants as nlm
 use Rattle.side_wire.specs.declared.nlm.TestStatus.{TestStatus}
-use Rattle.nfs_machine.specs.LockSteps.{TestEnds}
 use Rattle.nfs_machine.specs.declared.calls.Call.TheVariants as calls
 use Rattle.nfs_objects.specs.Attempt.{first_wanted_with}
 use Rattle.nfs_objects.specs.declared.change.Change.{Change}
 use Rattle.nlm_daemon.proofs.Calling.{ends-first, ends-stopped}
 use Rattle.nlm_daemon.proofs.Judging.{first-halts, first-past}
-use Rattle.nlm_daemon.proofs.Told.{step-test, told-promised}
+use Rattle.nlm_daemon.proofs.Told.{tested-promised}
 use Rattle.nlm_daemon.specs.Comes.{lock_places}
 use Rattle.nlm_daemon.proofs.testing.attempt.Goals as goal
 
@@ -38,11 +37,8 @@ returns-in_err-clone-clause-first c =
 
 pub returns-clause-ends : goal.returns-clause-ends
 returns-clause-ends c =
-    rw (c.answer.ensures.value, c.in_ok-clone.ensures)
-    (told-promised c.args.draft (calls.Nlm (nlm.Test c.args.arguments.now)) c.requires
-    (λ m. TestEnds m c.args.draft.ctx c.args.arguments.now) c.in_ok-status.status c.in_ok-status.ensures.ends _ [] _
-    refl (sym (append-nil c.args.draft.messages)) refl c.answer.ensures.held c.answer.ensures.given
-    (λ m ends. step-test m c.args.draft.ctx c.args.arguments.now c.in_ok-status.status ends))
+    tested-promised c.args.draft c.args.arguments.now c.requires c.in_ok-status.status c.in_ok-status.ensures.ends _
+    c.in_ok-clone.ensures.cases _ c.answer.ensures.value c.answer.ensures.held c.answer.ensures.given
 
 pub returns-clause-first : goal.returns-clause-first
 returns-clause-first c =
