@@ -1,6 +1,5 @@
 pub mod Asked
 pub mod Attempted
-pub mod Begun
 pub mod Calling
 pub mod Collected
 pub mod Coming
