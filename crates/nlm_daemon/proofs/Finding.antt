@@ -137,7 +137,8 @@ module _ (s : Store) (m : State) (stand : StandLocks s m) (index : ℕ) (b : Buc
 
     module _ (bucket : IsBucket b) where
       pub found-of : (f : LockedValue) → Contains b.files f → file_in b f.number ≡ Some f
-      found-of f has = all-has _ b.files f (once-found b.files bucket.once) has
+      found-of f has =
+          all-has (λ (x : LockedValue). file_in b x.number ≡ Some x) b.files f (once-found b.files bucket.once) has
 
       pub has-listed : (f : LockedValue) → Contains b.files f → lives_in m.exports f.export ≡ true →
           HasLocks m f.number f.file
