@@ -1,9 +1,12 @@
 use Rattle.std.proofs.lemmas.Result.{err_from_is_err_and}
 use Rattle.side_wire.specs.declared.nlm.NlmStatus.TheVariants as statuses
 use Rattle.nlm_daemon.proofs.Calling.{alone-ends, alone-first, alone-never, asks-nothing, ends-memory, granting-of}
-use Rattle.nlm_daemon.proofs.Judging.{first-halts, first-past}
+use Rattle.nlm_daemon.proofs.Judging.{first-past}
 use Rattle.nlm_daemon.proofs.Told.{denied-promised, step-denied}
 use Rattle.nlm_daemon.specs.Answering.{IsAnswered, granting_call}
+use Rattle.nfs_objects.specs.declared.change.Change.{Change}
+use Rattle.nfs_inodes.proofs.Halting.{lacking-first-at}
+use Rattle.nfs_objects.specs.declared.address.Addr.TheVariants as addresses
 use Rattle.nlm_daemon.proofs.granting.attempt.Goals as goal
 
 pub returns-in_err-exports-clause-ends : goal.returns-in_err-exports-clause-ends
@@ -19,7 +22,7 @@ returns-in_err-exports-clause-first c =
     rw (p.1, p.2)
     (alone-first (granting_call c.args.procedure c.args.arguments.now) c.args.draft c.requires.begins
     (granting-of c.args.procedure c.args.arguments.now) _
-    (first-halts c.args.draft.modes c.args.draft.view _ _ (c.in_err-exports.ensures.first c.requires.begins.none)))
+    (lacking-first-at Change c.args.draft addresses.Exports _ c.in_err-exports.ensures.reads))
 
 pub returns-in_err-exports-clause-only : goal.returns-in_err-exports-clause-only
 returns-in_err-exports-clause-only c = λ seen.

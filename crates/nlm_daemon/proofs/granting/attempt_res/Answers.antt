@@ -4,11 +4,12 @@ use Rattle.side_wire.specs.declared.nlm.NlmCall.TheVariants as nlm
 use Rattle.nfs_machine.specs.declared.calls.Call.TheVariants as calls
 use Rattle.nfs_objects.specs.Attempt.{unless_seen}
 use Rattle.nfs_objects.specs.declared.address.Addr.TheVariants as addresses
-use Rattle.nfs_inodes.proofs.Halting.{exports-stop-at}
+use Rattle.nfs_inodes.proofs.Halting.{exports-stop-at, lacking-first-at}
 use Rattle.nlm_daemon.proofs.Calling.{ends-first, ends-stopped, wanted-alone}
-use Rattle.nlm_daemon.proofs.Judging.{first-halts, first-past}
+use Rattle.nlm_daemon.proofs.Judging.{first-past}
 use Rattle.nlm_daemon.proofs.Replied.{grant-stopped, none-promised, some-promised}
 use Rattle.nlm_daemon.specs.Granted.{grant_places}
+use Rattle.nfs_objects.specs.declared.change.Change.{Change}
 use Rattle.nlm_daemon.proofs.granting.attempt_res.Goals as goal
 
 pub end_grant-requires-clause-alone : goal.end_grant-requires-clause-alone
@@ -32,7 +33,7 @@ returns-in_err-exports-clause-first c =
     rw (p.1, p.2)
     (ends-first (calls.Nlm (nlm.GrantedRes c.args.answer.now)) c.args.draft c.requires
     (unless_seen c.args.draft.view addresses.Exports) (wanted-alone c.args.draft.view) _
-    (first-halts c.args.draft.modes c.args.draft.view _ _ (c.in_err-exports.ensures.first c.requires.none)))
+    (lacking-first-at Change c.args.draft addresses.Exports _ c.in_err-exports.ensures.reads))
 
 pub returns-in_err-pending-clause-ends : goal.returns-in_err-pending-clause-ends
 returns-in_err-pending-clause-ends c =

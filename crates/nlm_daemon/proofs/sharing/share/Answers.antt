@@ -9,6 +9,8 @@ use Rattle.nlm_daemon.proofs.Judging.{first-halts, first-past}
 use Rattle.nlm_daemon.specs.Answering.{IsAnswered}
 use Rattle.nlm_daemon.specs.Comes.{lock_places}
 use Rattle.nlm_daemon.specs.declared.answering.Procedure.TheVariants as procedures
+use Rattle.side_wire.specs.declared.nlm.NlmStatus.{NlmStatus}
+use Rattle.nfs_objects.specs.declared.change.Change.{Change}
 use Rattle.nlm_daemon.proofs.sharing.share.Goals as goal
 
 pub shared-requires-clause-none : goal.shared-requires-clause-none
@@ -32,7 +34,7 @@ returns-in_err-status-clause-first c =
     (ends-first (calls.Nlm (nlm.Share c.args.arguments.now)) c.args.draft c.requires
     (first_wanted_with c.args.draft.view (c.args.arguments.now.share.file ∷ []))
     ((sharing-of c.args.arguments.now).first c.args.draft.view) _
-    (first-halts c.args.draft.modes c.args.draft.view _ _ c.in_err-status.ensures.first))
+    (first-halts NlmStatus Change c.args.draft.modes c.args.draft.view _ _ c.in_err-status.ensures.first))
 
 pub returns-clause-ends : goal.returns-clause-ends
 returns-clause-ends c =

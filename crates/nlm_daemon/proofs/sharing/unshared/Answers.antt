@@ -1,10 +1,13 @@
-use Rattle.std.proofs.Common.{refl}
+use Rattle.std.proofs.Common.{refl, Result}
 use Rattle.std.proofs.lemmas.Result.{err_from_is_err_and}
 use Rattle.nlm_ranges.specs.Files.{no_file}
 use Rattle.nlm_daemon.proofs.Calling.{stops-behind, stops-locks, stops-named}
 use Rattle.nlm_daemon.proofs.Ends.{comes-known, unshare-fault, unshare-nothing, unshare-put}
 use Rattle.nlm_daemon.proofs.Judging.{first-halts, first-past}
 use Rattle.nlm_daemon.specs.Checks.{fault_value}
+use Rattle.side_wire.specs.declared.nlm.NlmStatus.{NlmStatus}
+use Rattle.nlm_daemon.specs.declared.checking.LockFault.{LockFault}
+use Rattle.nfs_inodes.specs.declared.kinds.File.{File}
 use Rattle.nlm_daemon.proofs.sharing.unshared.Goals as goal
 
 pub returns-in_err-file-clause-ends : goal.returns-in_err-file-clause-ends
@@ -15,7 +18,7 @@ returns-in_err-file-clause-ends c =
 pub returns-in_err-file-clause-first : goal.returns-in_err-file-clause-first
 returns-in_err-file-clause-first c =
     let p = err_from_is_err_and c.from_residual.result c.from_residual.ensures.1 in
-    rw (p.1, p.2) (first-halts c.args.draft.now.modes c.args.draft.now.view _ _ c.in_err-file.ensures.first)
+    rw (p.1, p.2) (first-halts (Result File LockFault) NlmStatus c.args.draft.now.modes c.args.draft.now.view _ _ c.in_err-file.ensures.first)
 
 pub returns-in-Err-clause-ends : goal.returns-in-Err-clause-ends
 returns-in-Err-clause-ends c =

@@ -6,6 +6,8 @@ use Rattle.nlm_daemon.proofs.Calling.{begins-alone, ends-first, ends-memory, end
 use Rattle.nlm_daemon.proofs.Judging.{first-halts, first-past}
 use Rattle.nlm_daemon.specs.Answering.{IsAnswered, canceling_call}
 use Rattle.nlm_daemon.specs.Comes.{lock_places}
+use Rattle.side_wire.specs.declared.nlm.NlmStatus.{NlmStatus}
+use Rattle.nfs_objects.specs.declared.change.Change.{Change}
 use Rattle.nlm_daemon.proofs.unlocking.cancel.Goals as goal
 
 pub canceled-requires-clause-none : goal.canceled-requires-clause-none
@@ -29,7 +31,7 @@ returns-in_err-status-clause-first c =
     (ends-first (canceling_call c.args.procedure c.args.arguments.now) c.args.draft c.requires.begins
     (first_wanted_with c.args.draft.view (c.args.arguments.now.lock.file ∷ []))
     ((canceling-of c.args.procedure c.args.arguments.now).first c.args.draft.view) _
-    (first-halts c.args.draft.modes c.args.draft.view _ _ c.in_err-status.ensures.first))
+    (first-halts NlmStatus Change c.args.draft.modes c.args.draft.view _ _ c.in_err-status.ensures.first))
 
 pub returns-clause-ends : goal.returns-clause-ends
 returns-clause-ends c =
