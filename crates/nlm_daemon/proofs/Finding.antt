@@ -115,6 +115,14 @@ module _ (exports : List LivingExport) (number : ℕ) where
         number_is = (unsigned_Decides r.number number).0 h.1;
       }
 
+  -- the same of copies
+  pub grant-copied : (file copy : LockedValue) (r s : Request) → copy ≡ file → s ≡ r →
+      lives_in exports file.export ≡ true →
+      find (λ (x : Request). x.number == number) file.file.pending ≡ Some r → HasGrant exports (file ∷ []) number copy s
+  grant-copied file copy r s same is lives found =
+      subst (λ f. HasGrant exports (file ∷ []) number f s) (sym same)
+      (subst (HasGrant exports (file ∷ []) number file) (sym is) (grant-here file r lives found))
+
 -- ---- in a state
 module _ (s : Store) (m : State) (stand : StandLocks s m) (index : ℕ) (b : BucketValue) (there : bucket_there s index ≡ b)
   where

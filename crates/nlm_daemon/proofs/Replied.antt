@@ -16,7 +16,7 @@ use Rattle.nfs_machine.specs.FileLists.{all_but}
 use Rattle.nfs_machine.specs.Grants.{ChangesLocks}
 use Rattle.nfs_machine.specs.LockSteps.{Frees, GrantAnswered, GrantEnds, is_answered}
 use Rattle.nfs_machine.specs.OneFile.{requested}
-use Rattle.nfs_machine.specs.State.{PendingGrant, Request, State}
+use Rattle.nfs_machine.specs.State.{PendingGrant, Range, Request, State}
 use Rattle.nfs_machine.specs.WellFormed.{WellFormed}
 use Rattle.nfs_machine.specs.declared.calls.Call.{Call}
 use Rattle.nfs_machine.specs.declared.calls.Call.TheVariants as calls
@@ -86,13 +86,15 @@ module _ (old new : DraftValue) (pending : Pending)
 
   -- it is pending no more
   pub grant-kept : (u : Unit {0}) (status : NlmStatus) → status ≡ statuses.Granted → (locks : FileValue) →
-      locks ≡ fewer → TurnsWhere (May file export locks) old new (locks_set file locks) →
-      ComesTo old new (EndsGrant status) u
-  grant-kept u status granted locks is turns =
+      locks ≡ fewer → (n e : ℕ) → n ≡ file → e ≡ export →
+      TurnsWhere (May n e locks) old new (locks_set n locks) → ComesTo old new (EndsGrant status) u
+  grant-kept u status granted locks is n e n-is e-is turns =
       subst (λ s. ComesTo old new (EndsGrant s) u) (sym granted)
       (sent-comes old new (EndsGrant statuses.Granted) u (May file export fewer) [] (locks_set file fewer)
       (sends-nothing old new (locks_set file fewer) (May file export fewer)
-      (subst (λ x. TurnsWhere (May file export x) old new (locks_set file x)) is turns))
+      (subst (λ x. TurnsWhere (May file export x) old new (locks_set file x)) is
+      (subst (λ x. TurnsWhere (May file x locks) old new (locks_set file locks)) e-is
+      (subst (λ x. TurnsWhere (May x e locks) old new (locks_set x locks)) n-is turns))))
       (set-sound file fewer) (λ s k w formed.
       let pends = now s k w formed in
       let laid = laid-at old s k w formed in
@@ -106,13 +108,19 @@ module _ (old new : DraftValue) (pending : Pending)
       )))
 
   -- or its lock is given back
-  pub grant-back : (u : Unit {0}) (status : NlmStatus) → (status ≡ statuses.Granted → ⊥) → (settled : Settled) →
-      IsSet fewer (requested request) None settled →
-      TurnsSending (May file export settled.file) old new (grants_told settled) (locks_set file settled.file) →
+  pub grant-back : (u : Unit {0}) (status : NlmStatus) → (status ≡ statuses.Granted → ⊥) → (settled : Settled)
+      (left : FileValue) → left ≡ fewer → (r : Range) → r ≡ requested request → IsSet left r None settled →
+      (n e : ℕ) → n ≡ file → e ≡ export →
+      TurnsSending (May n e settled.file) old new (grants_told settled) (locks_set n settled.file) →
       ComesTo old new (EndsGrant status) u
-  grant-back u status other settled set sending =
+  grant-back u status other settled left is r r-is sets n e n-is e-is sending =
+      let set : IsSet fewer (requested request) None settled =
+      subst (λ x. IsSet x (requested request) None settled) is (subst (λ x. IsSet left x None settled) r-is sets) in
       sent-comes old new (EndsGrant status) u (May file export settled.file) (grants_told settled)
-      (locks_set file settled.file) sending (set-sound file settled.file) (λ s k w formed.
+      (locks_set file settled.file)
+      (subst (λ x. TurnsSending (May file x settled.file) old new (grants_told settled) (locks_set file settled.file)) e-is
+      (subst (λ x. TurnsSending (May x e settled.file) old new (grants_told settled) (locks_set x settled.file)) n-is
+      sending)) (set-sound file settled.file) (λ s k w formed.
       let pends = now s k w formed in
       let laid = laid-at old s k w formed in
       let firm = firm-of k.state formed.locks in

@@ -49,7 +49,7 @@ returns-then-eq c =
     c.in_ok-exports.ensures.exports c.bucket_index.result c.bucket_index.ensures.index c.in-Some-2.bucket.now
     (c.in_ok-bucket.ensures ∙ ap (λ o. Some (bucket_in (option_copied o))) c.in-Some-2.is) c.files.ensures.bucket
     c.in-Some-3.pending (rw (c.in-Some-3.is, c.files.ensures.files) at c.in_ok-pending.ensures)
-    (sym (rw (c.host.ensures, c.ctx.ensures) at c.if-eq.ensures))
+    (sym (rw (c.host.ensures, c.deref.ensures, c.ctx.ensures) at c.if-eq.ensures))
 
 pub returns-else-eq : goal.returns-else-eq
 returns-else-eq c =
@@ -58,4 +58,4 @@ returns-else-eq c =
     c.in_ok-exports.ensures.exports c.bucket_index.result c.bucket_index.ensures.index c.in-Some-2.bucket.now
     (c.in_ok-bucket.ensures ∙ ap (λ o. Some (bucket_in (option_copied o))) c.in-Some-2.is) c.files.ensures.bucket
     c.in-Some-3.pending (rw (c.in-Some-3.is, c.files.ensures.files) at c.in_ok-pending.ensures)
-    (sym (rw (c.host.ensures, c.ctx.ensures) at c.if-eq.ensures))
+    (sym (rw (c.host.ensures, c.deref.ensures, c.ctx.ensures) at c.if-eq.ensures))

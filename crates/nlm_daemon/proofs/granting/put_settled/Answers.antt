@@ -1,4 +1,7 @@
+use Rattle.std.proofs.Common.{map}
 use Rattle.std.proofs.lemmas.Result.{err_from_is_err_and}
+use Rattle.nfs_machine.specs.Grants.{grant_message}
+use Rattle.nlm_ranges.specs.Granting.{granted_in}
 use Rattle.nfs_inodes.specs.Locks.{locks_set}
 use Rattle.nlm_daemon.proofs.Ends.{May}
 use Rattle.nlm_daemon.proofs.Sending.{put-sends}
@@ -12,5 +15,6 @@ returns-in_err-put c =
 pub returns : goal.returns
 returns c =
     put-sends (May c.args.number c.args.export c.args.settled.file) c.args.draft.now c.put.new.draft
-    c.send_grants.new.draft _ (locks_set c.args.number c.args.settled.file) c.in_ok-put.ensures
-    c.in_ok-send_grants.ensures
+    c.send_grants.new.draft (map grant_message (granted_in c.args.settled))
+    (locks_set c.args.number c.args.settled.file) c.in_ok-put.ensures
+    (rw c.deref.ensures.value at c.in_ok-send_grants.ensures)

@@ -1,4 +1,5 @@
-use Rattle.std.proofs.Common.{arith}
+use Rattle.std.proofs.Common.{arith, ap, ◌∙◌}
+use Rattle.nfs_machine.specs.Grants.{grant_message}
 use Rattle.nlm_daemon.proofs.Sending.{all-sent, sends-next, sends-none}
 use Rattle.nlm_daemon.proofs.granting.send_grants.Goals as goal
 
@@ -9,7 +10,7 @@ pub loop-request-preserved : goal.loop-request-preserved
 loop-request-preserved c =
     sends-next c.args.draft.now c.loop-request.draft c.send.new.self c.args.granted.now c.loop-request.request-index
     c.request-item.result c.in_ok-message.message c.loop-request-test.true c.request-item.is c.loop-request.invariant
-    c.in_ok-message.ensures c.in_ok-send.ensures.ok
+    (c.in_ok-message.ensures ∙ ap grant_message c.deref.ensures) c.in_ok-send.ensures.ok
 
 pub returns : goal.returns
 returns c =

@@ -7,12 +7,12 @@ use Rattle.nfs_inodes.specs.Locks.{number_spent}
 use Rattle.nlm_daemon.proofs.Ends.{comes-known, held-blocked, held-denied, held-none, held-put, longer-is}
 use Rattle.nlm_daemon.proofs.locking.held_up.Goals as goal
 
-pub returns-then-not-block : goal.returns-then-not-block
-returns-then-not-block c = comes-known c.args.draft.now _ _ (held-denied c.args.draft.now c.args.arguments.now c.args.by_message c.args.place.now.file.known.number c.args.locks.now c.requires.knows c.if-not-block.true)
+pub returns-then-not-arguments : goal.returns-then-not-arguments
+returns-then-not-arguments c = comes-known c.args.draft.now _ _ (held-denied c.args.draft.now c.args.arguments.now c.args.by_message c.args.place.now.file.known.number c.args.locks.now c.requires.knows c.if-not-arguments.true)
 
 pub returns-then-is_waiting : goal.returns-then-is_waiting
 returns-then-is_waiting c =
-    comes-known c.args.draft.now _ _ (held-blocked c.args.draft.now c.args.arguments.now c.args.by_message c.args.place.now.file.known.number c.args.locks.now c.requires.knows c.if-not-block.false
+    comes-known c.args.draft.now _ _ (held-blocked c.args.draft.now c.args.arguments.now c.args.by_message c.args.place.now.file.known.number c.args.locks.now c.requires.knows c.if-not-arguments.false
     (sym c.if-is_waiting.ensures))
 
 pub returns-in_err-number : goal.returns-in_err-number
@@ -22,7 +22,7 @@ returns-in_err-number c =
 
 pub returns-in_default : goal.returns-in_default
 returns-in_default c =
-    comes-known c.args.draft.now _ _ (held-none c.args.draft.now c.args.arguments.now c.args.by_message c.args.place.now.file.known.number c.args.locks.now c.requires.knows c.if-not-block.false
+    comes-known c.args.draft.now _ _ (held-none c.args.draft.now c.args.arguments.now c.args.by_message c.args.place.now.file.known.number c.args.locks.now c.requires.knows c.if-not-arguments.false
     (sym c.if-is_waiting.ensures) (rw c.in_default.is at c.in_ok-number.ensures))
 
 pub new-requires : goal.new-requires
@@ -47,10 +47,10 @@ returns-in_err-put c =
 
 pub returns : goal.returns
 returns c =
-    held-put c.args.draft.now c.args.arguments.now c.args.by_message c.args.place.now.file.known.number c.args.locks.now c.requires.knows c.if-not-block.false (sym c.if-is_waiting.ensures)
+    held-put c.args.draft.now c.args.arguments.now c.args.by_message c.args.place.now.file.known.number c.args.locks.now c.requires.knows c.if-not-arguments.false (sym c.if-is_waiting.ensures)
     c.spend_number.new.draft c.put.new.draft c.in-Some.number (rw c.in-Some.is at c.in_ok-number.ensures).1
     c.args.place.now.file.known.export c.requires.place.lives c.in_ok-longer.longer
-    (longer-is c.args.draft.now c.args.arguments.now c.args.by_message c.args.place.now.file.known.number c.args.locks.now c.requires.knows c.if-not-block.false (sym c.if-is_waiting.ensures)
+    (longer-is c.args.draft.now c.args.arguments.now c.args.by_message c.args.place.now.file.known.number c.args.locks.now c.requires.knows c.if-not-arguments.false (sym c.if-is_waiting.ensures)
     c.spend_number.new.draft c.put.new.draft c.in-Some.number (rw c.in-Some.is at c.in_ok-number.ensures).1
     c.args.place.now.file.known.export c.requires.place.lives c.in_ok-request.request c.in_ok-longer.longer c.ctx.result.now c.ctx.ensures c.in_ok-request.ensures
     c.in_ok-longer.ensures)
