@@ -15,7 +15,6 @@ use Rattle.nfs_machine.specs.Exports.{LivingExport}
 use Rattle.nfs_machine.specs.Locks.{Mode}
 use Rattle.nfs_machine.specs.State.{State}
 use Rattle.nfs_machine.proofs.Changes.{apart}
-use Rattle.nfs_machine.proofs.Distinct.{distinct-last, distinct-none}
 use Rattle.nfs_machine.proofs.Firm.{none-listed}
 use Rattle.nfs_machine.proofs.Modes.{all-joined}
 use Rattle.nlm_ranges.specs.Buckets.{BucketValue, IsBucket, LockedValue, bucket_count, file_in, same_number}
@@ -38,6 +37,10 @@ all-of P [] each = tt
 all-of P (x ∷ xs) each = (each x (zero, omega arith, refl), all-of P xs (λ y has. each y (later x xs y has)))
 
 module _ {X : Type 0} (same : X → X → Bool) where
+  distinct-none : IsDistinct same []
+  unfolding IsDistinct
+  distinct-none = tt
+
   distinct-append : (xs ys : List X) → IsDistinct same xs → IsDistinct same ys →
       ((x y : X) → Contains xs x → Contains ys y → same x y ≡ false) → IsDistinct same (xs ++ ys)
   unfolding IsDistinct
@@ -46,6 +49,15 @@ module _ {X : Type 0} (same : X → X → Bool) where
     all-joined (λ y. same x y ≡ false) xs ys once.0
         (all-of (λ y. same x y ≡ false) ys (λ y has. apart x y (zero, omega arith, refl) has)),
     distinct-append xs ys once.1 others (λ a b mine theirs. apart a b (later x xs a mine) theirs),
+  )
+
+  distinct-last : (xs : List X) (y : X) → AllByRecursion (λ x. same x y ≡ false) xs → IsDistinct same xs →
+      IsDistinct same (xs ++ y ∷ [])
+  unfolding IsDistinct
+  distinct-last [] y others once = (tt, tt)
+  distinct-last (x ∷ xs) y others once = (
+    all-joined (λ z. same x z ≡ false) xs (y ∷ []) once.0 (others.0, tt),
+    distinct-last xs y others.1 once.1,
   )
 
   -- without the last
