@@ -15,7 +15,7 @@ returns-in_err-exports-clause-stops c =
     c.in_err-exports.ensures.exports)
 
 pub loop-index-init : goal.loop-index-init
-loop-index-init c = rw c.new-freed.ensures (gathered-first c.args.draft.now c.args.caller_name.now)
+loop-index-init c = rw c.new-freed.ensures.items (gathered-first c.args.draft.now c.args.caller_name.now)
 
 pub loop-index-preserved : goal.loop-index-preserved
 loop-index-preserved c =

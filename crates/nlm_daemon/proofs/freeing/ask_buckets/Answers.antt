@@ -9,7 +9,7 @@ use Rattle.nlm_daemon.proofs.Wanting.{IsBelow, below-asking, below-known, below-
 use Rattle.nlm_daemon.proofs.freeing.ask_buckets.Goals as goal
 
 pub loop-index-init : goal.loop-index-init
-loop-index-init c = rw c.new.ensures (below-none c.args.draft.now)
+loop-index-init c = rw c.new-asking.ensures (below-none c.args.draft.now)
 
 pub loop-index-preserved : goal.loop-index-preserved
 loop-index-preserved c =

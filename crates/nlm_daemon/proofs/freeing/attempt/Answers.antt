@@ -4,6 +4,7 @@ use Rattle.side_wire.specs.declared.nlm.NlmCall.TheVariants as nlm
 use Rattle.nfs_machine.specs.declared.calls.Call.TheVariants as calls
 use Rattle.nfs_objects.specs.Attempt.{unless_seen}
 use Rattle.nfs_objects.specs.declared.address.Addr.TheVariants as addresses
+use Rattle.nfs_objects.specs.declared.change.Change.{Change}
 use Rattle.nlm_daemon.proofs.Calling.{ends-first, ends-stopped, wanted-alone}
 use Rattle.nlm_daemon.proofs.Judging.{first-halts, first-past}
 use Rattle.nlm_daemon.proofs.Replied.{freed-promised}
@@ -29,7 +30,7 @@ returns-in_err-free_all-clause-first c =
     rw (p.1, p.2)
     (ends-first (calls.Nlm (nlm.FreeAll c.args.arguments.now)) c.args.draft c.requires
     (unless_seen c.args.draft.view addresses.Exports) (wanted-alone c.args.draft.view) _
-    (first-halts c.args.draft.modes c.args.draft.view _ _ c.in_err-free_all.ensures.first))
+    (first-halts (Unit {0}) Change c.args.draft.modes c.args.draft.view _ _ c.in_err-free_all.ensures.first))
 
 pub returns-clause-ends : goal.returns-clause-ends
 returns-clause-ends c =

@@ -1,9 +1,10 @@
 use Rattle.std.proofs.Common.{◌∙◌, ap}
 use Rattle.std.proofs.lemmas.Result.{err_from_is_err_and}
 use Rattle.nfs_objects.specs.Values.{ModesValue}
-use Rattle.nfs_inodes.proofs.Halting.{exports-stop-at}
+use Rattle.nfs_objects.specs.declared.address.Addr.TheVariants as addresses
+use Rattle.nfs_inodes.proofs.Halting.{exports-stop-at, lacking-first-at}
 use Rattle.nlm_daemon.proofs.Emptying.{frees-whole, set-first, set-step, set-whole, try-step}
-use Rattle.nlm_daemon.proofs.Judging.{first-halts, first-past}
+use Rattle.nlm_daemon.proofs.Judging.{first-past}
 use Rattle.nlm_daemon.proofs.Wanting.{all_places, buckets-stop, file-stops}
 use Rattle.nlm_daemon.proofs.freeing.free_all.Goals as goal
 
@@ -16,7 +17,7 @@ pub returns-in_err-exports-clause-first : goal.returns-in_err-exports-clause-fir
 returns-in_err-exports-clause-first c =
     let p = err_from_is_err_and c.from_residual.result c.from_residual.ensures.1 in
     rw (p.1, p.2)
-    (first-halts c.args.draft.now.modes c.args.draft.now.view _ _ (c.in_err-exports.ensures.first c.requires.none))
+    (lacking-first-at (Unit {0}) c.args.draft.now addresses.Exports _ c.in_err-exports.ensures.reads)
 
 pub returns-in_err-ask_buckets-clause-frees : goal.returns-in_err-ask_buckets-clause-frees
 returns-in_err-ask_buckets-clause-frees c =

@@ -13,7 +13,7 @@ returns-then-not-lives c = λ lives.
 pub returns-then-eq : goal.returns-then-eq
 returns-then-eq c = λ lives.
     (let same = c.if-eq.ensures.same.0 refl in
-    rw c.file.ensures at (subst (IsFreed _ c.args.caller_name.now) same c.in_ok-locks.ensures))
+    rw (c.file.ensures, c.file-2.ensures) at (subst (IsFreed _ c.args.caller_name.now) same c.in_ok-locks.ensures))
 
 pub returns : goal.returns
 returns c = (
