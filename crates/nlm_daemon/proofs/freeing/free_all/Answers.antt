@@ -67,7 +67,7 @@ loop-file-preserved c =
     c.loop-file.file-index c.file-item.result (rw c.deref-file-items.ensures.value at c.loop-file-test.true)
     (rw c.deref-file-items.ensures.value at c.file-item.is) c.loop-file.draft c.set_locks.new.draft
     (rw c.deref-file-items.ensures.value at c.loop-file.invariant)
-    (rw c.in_ok-clone.ensures at c.in_ok-set_locks.ensures))
+    (rw c.in_ok-clone.ensures.cases at c.in_ok-set_locks.ensures))
 
 pub loop-file-2-init : goal.loop-file-2-init
 loop-file-2-init c =
@@ -95,14 +95,14 @@ pub loop-file-2-preserved : goal.loop-file-2-preserved
 loop-file-2-preserved c =
     rw c.deref-file-items-2.ensures.value
     (try-step c.args.draft.now c.args.caller_name.now c.in_ok-freed.freed.items c.in_ok-freed.ensures.freed
-    c.loop-file-2.file-index-2 c.file-item-2.result (rw c.deref-file-items-2.ensures.value at c.loop-file-2-test.true)
-    (rw c.deref-file-items-2.ensures.value at c.file-item-2.is) c.loop-file-2.draft c.settle_file.new.draft
+    c.loop-file-2.file-index c.file-item-in-loop-file-2.result (rw c.deref-file-items-2.ensures.value at c.loop-file-2-test.true)
+    (rw c.deref-file-items-2.ensures.value at c.file-item-in-loop-file-2.is) c.loop-file-2.draft c.settle_file.new.draft
     (rw c.deref-file-items-2.ensures.value at c.loop-file-2.invariant) c.in_ok-settle_file.ensures)
 
 pub returns-clause-frees : goal.returns-clause-frees
 returns-clause-frees c =
     frees-whole c.args.draft.now c.args.caller_name.now c.in_ok-freed.freed.items c.in_ok-freed.ensures.freed
-    c.loop-file-2.file-index-2 c.loop-file-2.draft _ (rw c.deref-file-items-2.ensures.value at c.loop-file-2-test.false)
+    c.loop-file-2.file-index c.loop-file-2.draft _ (rw c.deref-file-items-2.ensures.value at c.loop-file-2-test.false)
     (rw c.deref-file-items-2.ensures.value at c.loop-file-2.invariant)
 
 pub returns-clause-first : goal.returns-clause-first

@@ -10,4 +10,4 @@ invariant-loop-file l = TurnsWhere IsFormed l.fn.draft l.draft (all_set (take l.
 
 abbrev pub invariant-loop-file-2 : goal.invariant-loop-file-2
 invariant-loop-file-2 l =
-    Tries l.fn.draft l.file-items-2 l.draft (take l.file-index-2 l.file-items-2) (drop l.file-index-2 l.file-items-2)
+    Tries l.fn.draft l.file-items l.draft (take l.file-index l.file-items) (drop l.file-index l.file-items)
