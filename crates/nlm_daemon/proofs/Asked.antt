@@ -23,7 +23,8 @@ use Rattle.nfs_objects.specs.declared.change.Halt.{Halt}
 use Rattle.nfs_inodes.proofs.Bucketing.{bucket-stands}
 use Rattle.nfs_inodes.proofs.Placing.{locks-stop-behind}
 use Rattle.nfs_inodes.specs.Stops.{StopsAt}
-use Rattle.nlm_daemon.proofs.Finding.{NoGrant, all-has, its-host, no-number, none-answered, other-host, pending-none, pending-now}
+use Rattle.nlm_daemon.proofs.Finding.{NoGrant, all-has, its-host, no-number, none-answered, other-host, pending-none}
+use Rattle.nlm_daemon.proofs.Finding.{pending-now}
 use Rattle.nlm_daemon.proofs.Placed.{placed-lives}
 use Rattle.nlm_daemon.specs.Granted.{FindsGrant, HasGrant, IsPendingNow, grant_of, grant_places}
 use Rattle.nlm_daemon.specs.declared.granting.Pending.{Pending}

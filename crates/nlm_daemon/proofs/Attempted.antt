@@ -1,5 +1,5 @@
 -- A call that comes to a status, and its answer, is its promise.
-use Rattle.std.proofs.Common.{◌≡◌, ◌∙◌, ◌++◌, ℕ, List, true, ap}
+use Rattle.std.proofs.Common.{◌≡◌, ◌∙◌, ◌++◌, ℕ, Bool, List, true, ap, subst}
 use Rattle.side_wire.specs.declared.message.Message.{Message}
 use Rattle.side_wire.specs.declared.nlm.CancelArguments.{CancelArguments}
 use Rattle.side_wire.specs.declared.nlm.LockArguments.{LockArguments}
@@ -43,12 +43,13 @@ module _ (d new : DraftValue) (status : NlmStatus) (change : ChangeValue) where
       (λ s k w formed ends. steps k.state comes.messages (comes.op k).state ends)
 
   pub locks-promised : (procedure : Procedure) (a : LockArguments) → is_locking procedure ≡ true →
-      Begins (locking_call procedure a) d → ComesTo d new (λ m. LockEnds m d.ctx a (is_message procedure)) status →
-      IsAnswered new procedure a.cookie status change →
+      Begins (locking_call procedure a) d → (by_message : Bool) → by_message ≡ is_message procedure →
+      ComesTo d new (λ m. LockEnds m d.ctx a by_message) status → IsAnswered new procedure a.cookie status change →
       IsPromised (done_value (locking_call procedure a) d.ctx d.view change)
-  locks-promised procedure a is begins comes answered =
+  locks-promised procedure a is begins by_message same comes answered =
       answered-promised (locking_call procedure a) procedure a.cookie
-      (λ m. LockEnds m d.ctx a (is_message procedure)) begins comes answered
+      (λ m. LockEnds m d.ctx a (is_message procedure)) begins
+      (subst (λ b. ComesTo d new (λ m. LockEnds m d.ctx a b) status) same comes) answered
       (λ m messages after ends. step-locks m d.ctx status messages after procedure a is ends)
 
   pub cancels-promised : (procedure : Procedure) (a : CancelArguments) → is_canceling procedure ≡ true →

@@ -1,5 +1,6 @@
 -- What calls of NLM name and want first, and how they halt.
-use Rattle.std.proofs.Common.{◌≡◌, List, [], ◌∷◌, ◌++◌, Option, Some, None, Result, Ok, Err, inl, inr, option_map, refl, sym, ap, subst}
+use Rattle.std.proofs.Common.{◌≡◌, List, [], ◌∷◌, ◌++◌, Option, Some, None, Result, Ok, Err, inl, inr, option_map, refl}
+use Rattle.std.proofs.Common.{sym, ap, subst}
 use Rattle.std.proofs.Common.{◌∙◌, ℕ, true}
 use Rattle.std.specs.Prelude.{MatchResult}
 use Rattle.side_wire.specs.declared.nlm.CancelArguments.{CancelArguments}
@@ -146,17 +147,7 @@ exports-known d none seen halt lacks =
     let no : Some addresses.Exports ≡ None = sym wanted ∙ seen in cc
 
 -- ---- how calls halt
--- want of memory stops each call
-pub memory-stops : (d : DraftValue) (places : List Addr) (halt : Halt) → halt ≡ halts.Memory → StopsAt d places halt
-memory-stops d places halt is = subst (StopsAt d places) (sym is) tt
-
--- of a call whose halts are these
-pub halts-memory : {A : Type 0} (P : A → Type 0) (d : DraftValue) (places : List Addr) (r : Result A Halt) →
-    MatchResult r P (λ halt. halt ≡ halts.Memory) → MatchResult r P (StopsAt d places)
-halts-memory P d places (Ok x) is = is
-halts-memory P d places (Err halt) is = memory-stops d places halt is
-
--- and so nothing is asked for
+-- where each halt is want of memory, nothing is asked for
 pub asks-nothing : {A : Type 0} (P : A → Type 0) (r : Result A Halt) → MatchResult r P (λ halt. halt ≡ halts.Memory) →
     AsksNothing r
 asks-nothing P (Ok x) is = tt

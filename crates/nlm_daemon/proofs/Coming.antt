@@ -17,7 +17,8 @@ use Rattle.nfs_objects.specs.Values.{ChangeValue, DraftValue, done_value}
 use Rattle.nlm_daemon.specs.Comes.{ComesTo, KnowsEnd, TurnsSending}
 
 -- where nothing was written yet, the store stands for what it stands for once the draft is written
-pub possible-before : (d : DraftValue) → d.writes ≡ [] → (s : Store) (k : Kept) → Fits d.view s → Represents s k → Sound k →
+pub possible-before : (d : DraftValue) → d.writes ≡ [] → (s : Store) (k : Kept) → Fits d.view s → Represents s k →
+    Sound k →
     Possible d s k
 possible-before d none s k fits stands sound = record {
   fits = fits;
@@ -105,7 +106,8 @@ module _ {Status : Type 0} (old d : DraftValue) (IsEnd : State → Status → Li
               step = step;
               stands = comes.turns.turns.turns s k fits w.stands (sound, formed);
               sound = comes.sound s k w formed;
-              formed = steps_keep_form k.state old.ctx call reply (comes.messages ++ own) (comes.op k).state step formed;
+              formed =
+                  steps_keep_form k.state old.ctx call reply (comes.messages ++ own) (comes.op k).state step formed;
             };
         held = subst (λ v. Held v d.writes) comes.turns.turns.view held;
         given = subst (λ v. Given v d.writes) comes.turns.turns.view given;

@@ -1,5 +1,6 @@
 -- FREE_ALL as a draft does it: all files are freed, and then what waits for each is tried.
-use Rattle.std.proofs.Common.{◌≡◌, ◌≤◌, ◌<◌, ◌+◌, ℕ, List, [], ◌∷◌, ◌++◌, refl, sym, ◌∙◌, ap, append_assoc, arith, subst}
+use Rattle.std.proofs.Common.{◌≡◌, ◌≤◌, ◌<◌, ◌+◌, ℕ, List, [], ◌∷◌, ◌++◌, refl, sym, ◌∙◌, ap, append_assoc, arith}
+use Rattle.std.proofs.Common.{subst}
 use Rattle.std.proofs.Common.{drop, get_or, inl, inr, length, take}
 use Rattle.std.proofs.lemmas.List.{at_drop_more, drop_all, take-append-drop, take_all, take_more}
 use Rattle.std.proofs.lemmas.List.Elements.{Contains-append_left, Contains-append_right}

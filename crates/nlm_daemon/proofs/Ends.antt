@@ -1,5 +1,6 @@
 -- What calls of NLM come to, from what a draft knows of the file.
-use Rattle.std.proofs.Common.{◌≡◌, ◌==◌, ◌||◌, ◌≤◌, ℕ, Bool, true, false, cond, List, [], ◌∷◌, ◌++◌, None, Some, Result, Ok}
+use Rattle.std.proofs.Common.{◌≡◌, ◌==◌, ◌||◌, ◌≤◌, ℕ, Bool, true, false, cond, List, [], ◌∷◌, ◌++◌, None, Some, Result}
+use Rattle.std.proofs.Common.{Ok}
 use Rattle.std.proofs.Common.{Err, inl, inr, refl, sym, ◌∙◌, ap, append-nil, arith, nat_le, subst}
 use Rattle.std.proofs.lemmas.Bool.{and_parts, leb-true}
 use Rattle.std.specs.List.{list_any}
@@ -36,7 +37,8 @@ use Rattle.nfs_objects.specs.Stands.{Kept, file_there}
 use Rattle.nfs_objects.specs.Store.{Store, with_writes}
 use Rattle.nfs_objects.specs.Values.{DraftValue}
 use Rattle.nfs_inodes.specs.Locks.{HasLocks, IsFileAt, IsNextNumber, MayHave, NoNumberIsLeft, locks_set, number_spent}
-use Rattle.nlm_daemon.proofs.Owning.{grants_told, nothing-changes, own-still, set-changes, set-own, shares-instead, shares-still}
+use Rattle.nlm_daemon.proofs.Owning.{grants_told, nothing-changes, own-still, set-changes, set-own, shares-instead}
+use Rattle.nlm_daemon.proofs.Owning.{shares-still}
 use Rattle.nlm_daemon.proofs.Owning.{waits-instead}
 use Rattle.nlm_daemon.proofs.Coming.{comes-as, comes-unchanged, sent-comes}
 use Rattle.nlm_daemon.proofs.Laid.{IsLaid, laid-there}
@@ -242,7 +244,8 @@ module _ (old : DraftValue) (a : LockArguments) (by_message : Bool) (n : ℕ) (f
 
   pub held-denied : a.block ≡ false → KnowsEnd old Held statuses.Denied
   held-denied none s k w formed =
-      subst (λ b. held_so b (list_any is_equal (of_file k.state.waiting n)) k.state statuses.Denied [] k.state) (sym none)
+      subst (λ b. held_so b (list_any is_equal (of_file k.state.waiting n)) k.state statuses.Denied [] k.state)
+      (sym none)
       (unchanged statuses.Denied k.state)
 
   module _ (blocks : a.block ≡ true) where
@@ -429,7 +432,8 @@ module _ (old new : DraftValue) (a : UnlockArguments) where
               (has s k w) (range_of a.lock),
         )
 
-    pub unlock-granted : (f : FileValue) → Knows old (λ k. HasLocks k.state n f) → (e : ℕ) → Knows old (λ k. IsFileAt k.state n e) →
+    pub unlock-granted : (f : FileValue) → Knows old (λ k. HasLocks k.state n f) → (e : ℕ) →
+        Knows old (λ k. IsFileAt k.state n e) →
         (settled : Settled) → IsSet f (range_of a.lock) None settled →
         TurnsSending (May n e settled.file) old new (grants_told settled) (locks_set n settled.file) →
         ComesTo old new UnlocksSo statuses.Granted
@@ -477,7 +481,8 @@ module _ (old new : DraftValue) (a : ShareArguments) where
     abbrev sharing : FileValue
     sharing = record f { held = record f.held { shares = shared (share_of a.share) f.held.shares } }
 
-    pub share-granted : is_denied (share_of a.share) f.held.shares ≡ false → (e : ℕ) → Knows old (λ k. IsFileAt k.state n e) →
+    pub share-granted : is_denied (share_of a.share) f.held.shares ≡ false → (e : ℕ) →
+        Knows old (λ k. IsFileAt k.state n e) →
         TurnsWhere (May n e sharing) old new (locks_set n sharing) → ComesTo old new SharesSo statuses.Granted
     share-granted is e lives turns =
         put-comes old new SharesSo statuses.Granted n sharing e turns (λ s k w formed.
@@ -495,7 +500,8 @@ module _ (old new : DraftValue) (a : ShareArguments) where
           }),
         ))
 
-    pub share-put : is_denied (share_of a.share) f.held.shares ≡ false → (e : ℕ) → Knows old (λ k. IsFileAt k.state n e) →
+    pub share-put : is_denied (share_of a.share) f.held.shares ≡ false → (e : ℕ) →
+        Knows old (λ k. IsFileAt k.state n e) →
         (locks : FileValue) → locks ≡ sharing → TurnsWhere (May n e locks) old new (locks_set n locks) →
         ComesTo old new SharesSo statuses.Granted
     share-put free e lives locks is turns =
@@ -518,7 +524,8 @@ module _ (old new : DraftValue) (a : ShareArguments) where
         after ≡ record k.state { shares = with_list k.state.shares n (unshared (share_of a.share) f.held.shares) } →
         UnsharesSo k.state statuses.Granted [] after
     unshared-as s k w after is =
-        goes-on (λ c. UnshareOf k.state a.share c statuses.Granted [] after) (share_named k.state) n (found s k w) (record {
+        goes-on (λ c. UnshareOf k.state a.share c statuses.Granted [] after) (share_named k.state) n (found s k w)
+        (record {
           reply_is = refl;
           no_message = refl;
           state_is = is

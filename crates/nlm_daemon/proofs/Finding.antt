@@ -1,6 +1,7 @@
 -- Which grant a host answers, and where it is found.
 use Rattle.std.proofs.Common.{◌≡◌, ◌==◌, ◌%◌, ◌&&◌, ◌+◌, ◌<◌, ℕ, zero, Bool, true, false, cond, List, [], ◌∷◌, ◌++◌}
-use Rattle.std.proofs.Common.{Option, Some, None, find, get_or, inl, inr, length, nat_lt, take, refl, sym, ◌∙◌, ap, subst, arith}
+use Rattle.std.proofs.Common.{Option, Some, None, find, get_or, inl, inr, length, nat_lt, take, refl, sym, ◌∙◌, ap}
+use Rattle.std.proofs.Common.{subst, arith}
 use Rattle.std.proofs.lemmas.Bool.{and_parts}
 use Rattle.std.proofs.lemmas.List.{get_or_default, take_more}
 use Rattle.std.proofs.lemmas.List.Elements.{Contains-append_cases}
@@ -124,7 +125,8 @@ module _ (exports : List LivingExport) (number : ℕ) where
       (subst (HasGrant exports (file ∷ []) number file) (sym is) (grant-here file r lives found))
 
 -- ---- in a state
-module _ (s : Store) (m : State) (stand : StandLocks s m) (index : ℕ) (b : BucketValue) (there : bucket_there s index ≡ b)
+module _ (s : Store) (m : State) (stand : StandLocks s m) (index : ℕ) (b : BucketValue)
+    (there : bucket_there s index ≡ b)
   where
     -- a file of the bucket has its index
     pub file-index : (f : LockedValue) → Contains b.files f → f.number % bucket_count ≡ index
@@ -227,7 +229,8 @@ module _ (m : State) (host cookie : List ℕ) where
           ∙ elim (is_answered host cookie number_of (Some g)) as
           (λ t. is_answered host cookie number_of (Some g) ≡ t → cond t (Some g) None ≡ None) [
             | true ↦ λ is.
-                (let both = and_parts (same_bytes g.request.host host) (same_bytes (grant_cookie number_of) cookie) is in
+                (let both =
+                and_parts (same_bytes g.request.host host) (same_bytes (grant_cookie number_of) cookie) is in
                 let same : to_be_bytes w64 number_of ≡ cookie =
                 (bytes_decides (grant_cookie number_of) cookie).0 both.1 in
                 absurd (other (ap length (sym same) ∙ eight)))

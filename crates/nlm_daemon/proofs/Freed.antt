@@ -357,7 +357,8 @@ module _ (m : State) (below : ℕ) (done : List LockedValue) (f : LockedValue) (
       (with_file new f.number settled.file)
   tried-next = record {
     settles = more-settle (grants_told settled) (with_file new f.number settled.file) one;
-    firm = subst Firm (sym one.grants.state_is) (firm-settled new tried.firm f.number one.after one.granted one.settles);
+    firm =
+        subst Firm (sym one.grants.state_is) (firm-settled new tried.firm f.number one.after one.granted one.settles);
     there = put_there tried.there f.number settled.file;
     laid = laid-put new tried.there tried.laid f.number settled.file next-own;
     rest_is = λ g has.

@@ -1,6 +1,7 @@
 -- The files that are freed, bucket by bucket, and by rising numbers in the end.
 use Rattle.std.proofs.Common.{◌≡◌, ◌==◌, ◌%◌, ◌≤◌, ◌<◌, ◌+◌, ℕ, zero, suc, Bool, true, false, cond, List, [], ◌∷◌, ◌++◌}
-use Rattle.std.proofs.Common.{Option, Some, None, get_or, inl, inr, length, take, refl, sym, ◌∙◌, ap, append-nil, append_assoc}
+use Rattle.std.proofs.Common.{Option, Some, None, get_or, inl, inr, length, take, refl, sym, ◌∙◌, ap, append-nil}
+use Rattle.std.proofs.Common.{append_assoc}
 use Rattle.std.proofs.Common.{subst, arith, map, option_map}
 use Rattle.std.proofs.lemmas.List.{nil_from_length, take_all, take_more}
 use Rattle.std.specs.Arc.{arc_value}
@@ -69,7 +70,8 @@ module _ {X : Type 0} (same : X → X → Bool) where
       let rest = distinct-front xs y once.1 in (
         (
           all-of (λ z. same x z ≡ false) xs
-              (λ z has. all-has (λ w. same x w ≡ false) (xs ++ y ∷ []) z once.0 (Contains-append_left xs (y ∷ []) z has)),
+              (λ z has. all-has (λ w. same x w ≡ false) (xs ++ y ∷ []) z once.0
+              (Contains-append_left xs (y ∷ []) z has)),
           rest.0,
         ),
         λ z has. elim (cons-cases x xs z has) [
@@ -320,7 +322,8 @@ module _ (s : Store) (m : State) (stand : StandLocks s m) (name : List ℕ) wher
       let back : (f : LockedValue) → Contains sorted f → Contains freed f =
       λ f has. Contains-permutation sorted freed f (IsPermutation-sym freed sorted moved) has in record {
         rising = rising-sorted 0 sorted rises
-            (IsDistinct-IsPermutation same_number (λ x y. nat_eq_equiv.symm x.number y.number) freed sorted moved all.once)
+            (IsDistinct-IsPermutation same_number (λ x y. nat_eq_equiv.symm x.number y.number) freed sorted moved
+            all.once)
             (λ f has. omega arith);
         had = file_there s m.exports;
         has = λ n. record { held = stand.held n; pending = λ grant r. stand.pending grant n r };

@@ -18,7 +18,8 @@ use Rattle.nfs_machine.specs.Locks.{HasModes, is_in, is_within, mode_at, modes_w
 use Rattle.nfs_machine.specs.OneFile.{FileLocks, requests_without, shares_without}
 use Rattle.nfs_machine.specs.State.{Lock, Owner, PendingGrant, Request, State}
 use Rattle.nfs_machine.proofs.Changes.{differs-remove, itself}
-use Rattle.nfs_machine.proofs.FileMaps.{differs-with, get-grants_but, get-relisted, grants-left, kept, kept-is, kept-some}
+use Rattle.nfs_machine.proofs.FileMaps.{differs-with, get-grants_but, get-relisted, grants-left, kept, kept-is}
+use Rattle.nfs_machine.proofs.FileMaps.{kept-some}
 use Rattle.nfs_machine.proofs.FileMaps.{kept-there, of-with, remade}
 use Rattle.nfs_machine.proofs.Firm.{Firm, granting}
 use Rattle.nfs_machine.proofs.Modes.{holds, mode_by, owner-itself}
@@ -392,7 +393,8 @@ module _ (m : State) (there : ℕ → FileValue) (laid : IsLaid m there) (n : �
         | true ↦ λ same here.
             (let is : q ≡ n = (unsigned_Decides q n).0 same in
             let kept = filter-has (λ (x : Request). not (x.number == number)) old.pending r here in
-            let other : (k == number) ≡ false = ap (λ x. x == number) (sym have.1) ∙ denied (r.number == number) kept.1 in
+            let other : (k == number) ≡ false = ap (λ x. x == number) (sym have.1) ∙ denied (r.number == number) kept.1
+            in
             differs-remove m.granted number k ∙ ap (λ b. cond b None (get m.granted k)) other
             ∙ subst (λ x. IsPendingIn m k x r) (sym is) ((has.pending k r).1 (kept.0, have.1)))
         | false ↦ λ apart elsewhere.

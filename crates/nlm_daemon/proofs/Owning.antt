@@ -331,7 +331,8 @@ module _ (m : State) (there : ℕ → FileValue) (laid : IsLaid m there) (firm :
 
   module _ (set : IsSet less r None settled) where
     own-without : AreOwnNumbers without n settled.file.pending
-    own-without = set-own without (put_there there n less) laid-without firm-without n less has-without r None settled set
+    own-without =
+        set-own without (put_there there n less) laid-without firm-without n less has-without r None settled set
 
     pub back-own : AreOwnNumbers m n settled.file.pending
     back-own = own-before m there laid firm n old has number request stands settled.file.pending own-without

@@ -3,7 +3,8 @@ use Rattle.std.proofs.Common.{◌≡◌, ℕ, true, IsSome, is_ok, option_map, r
 use Rattle.nfs_machine.specs.Checks.{bytes_in}
 use Rattle.nlm_ranges.specs.Buckets.{LockedValue}
 use Rattle.nfs_objects.proofs.Exported.{inode-lives}
-use Rattle.nfs_objects.specs.Stands.{Beside, IsPlaced, Kept, Represents, beside_at, content_of, filled, inode_in, lives_in}
+use Rattle.nfs_objects.specs.Stands.{Beside, IsPlaced, Kept, Represents, beside_at, content_of, filled, inode_in}
+use Rattle.nfs_objects.specs.Stands.{lives_in}
 use Rattle.nfs_objects.specs.Stands.{living_of_inode, map_in}
 use Rattle.nfs_objects.specs.Store.{Store}
 use Rattle.nfs_objects.specs.declared.object.Content.{Content}

@@ -1,5 +1,6 @@
 -- How a grant ends that a host answers, and what GRANTED_RES and FREE_ALL come to.
-use Rattle.std.proofs.Common.{◌≡◌, ◌==◌, ℕ, Bool, true, false, cond, List, [], Option, Some, None, append-nil, refl, sym, ◌∙◌}
+use Rattle.std.proofs.Common.{◌≡◌, ◌==◌, ℕ, Bool, true, false, cond, List, [], Option, Some, None, append-nil, refl}
+use Rattle.std.proofs.Common.{sym, ◌∙◌}
 use Rattle.std.proofs.Common.{ap, inr, subst, ◌%◌, IsSome, Err}
 use Rattle.std.specs.Arc.{arc_value}
 use Rattle.std.specs.FinMap.{get, remove}
@@ -118,7 +119,8 @@ module _ (old new : DraftValue) (pending : Pending)
       subst (λ x. IsSet x (requested request) None settled) is (subst (λ x. IsSet left x None settled) r-is sets) in
       sent-comes old new (EndsGrant status) u (May file export settled.file) (grants_told settled)
       (locks_set file settled.file)
-      (subst (λ x. TurnsSending (May file x settled.file) old new (grants_told settled) (locks_set file settled.file)) e-is
+      (subst (λ x. TurnsSending (May file x settled.file) old new (grants_told settled) (locks_set file settled.file))
+      e-is
       (subst (λ x. TurnsSending (May x e settled.file) old new (grants_told settled) (locks_set x settled.file)) n-is
       sending)) (set-sound file settled.file) (λ s k w formed.
       let pends = now s k w formed in
@@ -159,7 +161,8 @@ module _ (d : DraftValue) (r : NlmResult) (begins : Begins (calls.Nlm (nlm.Grant
   Answered m u = GrantAnswered m d.ctx r.cookie r.status
 
   -- no grant of this host has that cookie
-  pub none-promised : (change : ChangeValue) → Knows d (λ k. WellFormed k.state → FindsGrant k.state d.ctx.host r.cookie None) →
+  pub none-promised : (change : ChangeValue) →
+      Knows d (λ k. WellFormed k.state → FindsGrant k.state d.ctx.host r.cookie None) →
       change ≡ record { writes = d.writes; messages = d.messages; reply = answers.Nlm replies.GrantedRes } →
       Held d.view d.writes → Given d.view d.writes → IsPromised (done_value call d.ctx d.view change)
   none-promised change finds is held given =
@@ -179,7 +182,8 @@ module _ (d : DraftValue) (r : NlmResult) (begins : Begins (calls.Nlm (nlm.Grant
       asking d call halt begins (locks_at pending.file.number) (
         inr (λ s k fits stands sound formed.
             let now = (finds s k (possible-before d begins.none s k fits stands sound) formed).1 in
-            bucket-of s k pending.file.number (arc_value pending.request).number (arc_value pending.request) stands.locks
+            bucket-of s k pending.file.number (arc_value pending.request).number (arc_value pending.request)
+            stands.locks
             now.stands),
         tt,
       ) stops
@@ -204,8 +208,10 @@ module _ (d : DraftValue) (r : NlmResult) (begins : Begins (calls.Nlm (nlm.Grant
       let same : (arc_value pending.request).number ≡ from_be_bytes w64 r.cookie =
       (formed.locks.pending (from_be_bytes w64 r.cookie) (grant_of pending) at).own in
       step-granted-res k.state d.ctx r comes.messages (comes.op k).state
-      (subst (λ o. GrantEnds k.state (from_be_bytes w64 r.cookie) o r.status comes.messages (comes.op k).state) (sym found)
-      (subst (λ n. GrantEnds k.state n (Some (grant_of pending)) r.status comes.messages (comes.op k).state) same ends)))
+      (subst (λ o. GrantEnds k.state (from_be_bytes w64 r.cookie) o r.status comes.messages (comes.op k).state)
+      (sym found)
+      (subst (λ n. GrantEnds k.state n (Some (grant_of pending)) r.status comes.messages (comes.op k).state) same
+      ends)))
 
 -- ---- FREE_ALL
 pub freed-promised : (d new : DraftValue) (a : FreeAllArguments) (begins : Begins (calls.Nlm (nlm.FreeAll a)) d)

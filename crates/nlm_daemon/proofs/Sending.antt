@@ -1,5 +1,6 @@
 -- Messages behind what is put, and changes that send.
-use Rattle.std.proofs.Common.{◌≡◌, ◌<◌, ◌≤◌, ◌+◌, ℕ, ◌∷◌, ◌++◌, List, [], get_or, length, map, take, append-nil, append_assoc, refl, sym, ◌∙◌, ap, subst}
+use Rattle.std.proofs.Common.{◌≡◌, ◌<◌, ◌≤◌, ◌+◌, ℕ, ◌∷◌, ◌++◌, List, [], get_or, length, map, take, append-nil}
+use Rattle.std.proofs.Common.{append_assoc, refl, sym, ◌∙◌, ap, subst}
 use Rattle.std.proofs.lemmas.List.{map-append, take_all, take_more}
 use Rattle.std.specs.Arc.{arc_value}
 use Rattle.std.specs.declared.sync.Arc.{Arc}
@@ -35,7 +36,8 @@ pub sends-next : {Z : Type 0} (old mid new : DraftValue) (granted : List (Arc Re
     Sends old new (map grant_message (map arc_value (take (i + 1) granted)))
 sends-next old mid new granted i request message within is sends made sent =
     subst (Sends old new)
-    (ap (λ m. map grant_message (map arc_value (take i granted)) ++ m ∷ []) (made ∙ ap (λ r. grant_message (arc_value r)) is)
+    (ap (λ m. map grant_message (map arc_value (take i granted)) ++ m ∷ [])
+    (made ∙ ap (λ r. grant_message (arc_value r)) is)
     ∙ sym (ap (map grant_message) (ap (map arc_value) (take_more granted i request within)
     ∙ map-append arc_value (take i granted) (get_or granted i request ∷ []))
     ∙ map-append grant_message (map arc_value (take i granted)) (arc_value (get_or granted i request) ∷ [])))
@@ -63,23 +65,6 @@ put-sends IsSo old mid new messages op turns sends = record {
 -- ---- changes of sound and well-formed states
 abbrev pub IsFormed : Kept → Type 0
 IsFormed k = Sound k × WellFormed k.state
-
--- where each such state is so
-pub sends-where : (old new : DraftValue) (op : Kept → Kept) (IsSo : Kept → Type 0) (messages : List Message) →
-    ((s : Store) (k : Kept) → Possible old s k → WellFormed k.state → IsSo k) →
-    TurnsSending IsSo old new messages op → TurnsSending IsFormed old new messages op
-sends-where old new op IsSo messages so sending = record {
-  turns = record {
-    ctx = sending.turns.ctx;
-    view = sending.turns.view;
-    modes = sending.turns.modes;
-    messages = sending.turns.messages;
-    turns = λ s k fits stands formed.
-        sending.turns.turns s k fits stands
-        (so s k (record { fits = fits; stands = stands; sound = formed.0 }) formed.1);
-  };
-  sent = sending.sent;
-}
 
 -- one behind another, where what the first leaves is so
 pub sends-both : (old mid new : DraftValue) (f g : Kept → Kept) (IsSo : Kept → Type 0) (messages more : List Message) →

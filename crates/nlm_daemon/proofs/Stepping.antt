@@ -25,8 +25,10 @@ module _ (old : State) (ctx : Ctx) (s : NlmStatus) (messages : List Message) (ne
       Step old ctx (locking_call procedure a) (answers.Nlm (reply_of procedure a.cookie s))
       (messages ++ posted_by procedure ctx.host a.cookie s) new
   unfolding NlmStep
-  step-locks procedures.Lock a is ends = (s, subst (λ ms. LockEnds old ctx a false s ms new) (sym (append-nil messages)) ends, refl)
-  step-locks procedures.NmLock a is ends = (s, subst (λ ms. LockEnds old ctx a false s ms new) (sym (append-nil messages)) ends, refl)
+  step-locks procedures.Lock a is ends =
+      (s, subst (λ ms. LockEnds old ctx a false s ms new) (sym (append-nil messages)) ends, refl)
+  step-locks procedures.NmLock a is ends =
+      (s, subst (λ ms. LockEnds old ctx a false s ms new) (sym (append-nil messages)) ends, refl)
   step-locks procedures.LockMsg a is ends = (s, messages, ends, refl, refl)
   step-locks procedures.Cancel a is ends = cc
   step-locks procedures.CancelMsg a is ends = cc
@@ -42,7 +44,8 @@ module _ (old : State) (ctx : Ctx) (s : NlmStatus) (messages : List Message) (ne
       Step old ctx (canceling_call procedure a) (answers.Nlm (reply_of procedure a.cookie s))
       (messages ++ posted_by procedure ctx.host a.cookie s) new
   unfolding NlmStep
-  step-cancels procedures.Cancel a is ends = (s, subst (λ ms. CancelEnds old ctx a s ms new) (sym (append-nil messages)) ends, refl)
+  step-cancels procedures.Cancel a is ends =
+      (s, subst (λ ms. CancelEnds old ctx a s ms new) (sym (append-nil messages)) ends, refl)
   step-cancels procedures.CancelMsg a is ends = (s, messages, ends, refl, refl)
   step-cancels procedures.Lock a is ends = cc
   step-cancels procedures.NmLock a is ends = cc
@@ -59,7 +62,8 @@ module _ (old : State) (ctx : Ctx) (s : NlmStatus) (messages : List Message) (ne
       Step old ctx (unlocking_call procedure a) (answers.Nlm (reply_of procedure a.cookie s))
       (messages ++ posted_by procedure ctx.host a.cookie s) new
   unfolding NlmStep
-  step-unlocks procedures.Unlock a is ends = (s, subst (λ ms. UnlockEnds old ctx a s ms new) (sym (append-nil messages)) ends, refl)
+  step-unlocks procedures.Unlock a is ends =
+      (s, subst (λ ms. UnlockEnds old ctx a s ms new) (sym (append-nil messages)) ends, refl)
   step-unlocks procedures.UnlockMsg a is ends = (s, messages, ends, refl, refl)
   step-unlocks procedures.Lock a is ends = cc
   step-unlocks procedures.NmLock a is ends = cc

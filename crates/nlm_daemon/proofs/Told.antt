@@ -157,7 +157,8 @@ module _ (d : DraftValue) (call : Call) (begins : Begins call d) where
       IsPromised (done_value call d.ctx d.view change)
   passed-promised reply change is held given steps = subst
       (λ (c : ChangeValue). IsPromised (done_value call d.ctx d.view c)) (sym is)
-      (promised-unchanged d begins.none begins.quiet call (answers.Nlm reply) held given (λ s k w formed. steps k.state))
+      (promised-unchanged d begins.none begins.quiet call (answers.Nlm reply) held given
+      (λ s k w formed. steps k.state))
 
   -- this server waits for no lock
   pub denied-promised : (procedure : Procedure) (cookie : List ℕ) (change : ChangeValue) →

@@ -21,30 +21,6 @@ where-after old mid new f g IsSo first second = record {
       (first.turns s k fits stands) so;
 }
 
--- two that are where something is so
-pub where-both : (old mid new : DraftValue) (f g : Kept → Kept) (First Second : Kept → Type 0) →
-    TurnsWhere First old mid f → TurnsWhere Second mid new g →
-    TurnsWhere (λ k. First k × Second (f k)) old new (λ k. g (f k))
-where-both old mid new f g First Second first second = record {
-  ctx = second.ctx ∙ first.ctx;
-  view = second.view ∙ first.view;
-  modes = second.modes ∙ first.modes;
-  messages = second.messages ∙ first.messages;
-  turns = λ s k fits stands so. second.turns s (f k) (subst (λ v. Fits v s) (sym first.view) fits)
-      (first.turns s k fits stands so.0) so.1;
-}
-
--- where more is so
-pub where-more : (old new : DraftValue) (op : Kept → Kept) (IsSo More : Kept → Type 0) →
-    ((k : Kept) → More k → IsSo k) → TurnsWhere IsSo old new op → TurnsWhere More old new op
-where-more old new op IsSo More so turns = record {
-  ctx = turns.ctx;
-  view = turns.view;
-  modes = turns.modes;
-  messages = turns.messages;
-  turns = λ s k fits stands more. turns.turns s k fits stands (so k more);
-}
-
 -- with no message
 pub sends-nothing : (old new : DraftValue) (op : Kept → Kept) (IsSo : Kept → Type 0) → TurnsWhere IsSo old new op →
     TurnsSending IsSo old new [] op

@@ -1,5 +1,6 @@
 -- The buckets of all files, asked for at once.
-use Rattle.std.proofs.Common.{◌≡◌, ◌==◌, ◌%◌, ◌<◌, ◌+◌, ◌⊎◌, ℕ, zero, suc, true, false, List, [], ◌∷◌, inl, inr, refl, sym, ◌∙◌}
+use Rattle.std.proofs.Common.{◌≡◌, ◌==◌, ◌%◌, ◌<◌, ◌+◌, ◌⊎◌, ℕ, zero, suc, true, false, List, [], ◌∷◌, inl, inr, refl}
+use Rattle.std.proofs.Common.{sym, ◌∙◌}
 use Rattle.std.proofs.Common.{ap, arith, subst, IsSome}
 use Rattle.std.specs.Cmp.{unsigned_Decides}
 use Rattle.nlm_ranges.specs.Buckets.{bucket_count}
@@ -23,7 +24,8 @@ pub among-buckets : (count index : ℕ) → index < count → IsAmong (buckets_b
 unfolding buckets_below
 among-buckets zero index low = absurd (omega (arith, low))
 among-buckets (suc n) index low =
-    elim (index == n) as (λ b. (index == n) ≡ b → IsAmong (addresses.Locks n ∷ buckets_below n) (addresses.Locks index)) [
+    elim (index == n) as
+    (λ b. (index == n) ≡ b → IsAmong (addresses.Locks n ∷ buckets_below n) (addresses.Locks index)) [
       | true ↦ λ same. inl (ap addresses.Locks (sym ((unsigned_Decides index n).0 same)))
       | false ↦ λ other.
           inr (among-buckets n index
@@ -85,7 +87,8 @@ module _ (d : DraftValue) where
 abbrev pub all_places : List Addr
 all_places = addresses.Exports ∷ buckets_below bucket_count
 
-pub buckets-stop : (d : DraftValue) (halt : Halt) → StopsAt d (buckets_below bucket_count) halt → StopsAt d all_places halt
+pub buckets-stop : (d : DraftValue) (halt : Halt) → StopsAt d (buckets_below bucket_count) halt →
+    StopsAt d all_places halt
 buckets-stop d halt stops =
     stops-wider d.modes (buckets_below bucket_count) all_places 0 d.view halt
     (covers-among (buckets_below bucket_count) all_places d.view (λ a among. inr among)) stops

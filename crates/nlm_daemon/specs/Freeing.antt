@@ -1,5 +1,6 @@
 -- What is freed where a caller has nothing more (RFC 1813, appendix II, 6.2: procedure 23).
-use Rattle.std.specs.Prelude.{◌≡◌, ◌≤◌, ◌+◌, ℕ, Contains, List, [], ◌∷◌, ◌++◌, Option, Some, None, option_map, map, true, ◌⊎◌}
+use Rattle.std.specs.Prelude.{◌≡◌, ◌≤◌, ◌+◌, ℕ, Contains, List, [], ◌∷◌, ◌++◌, Option, Some, None, option_map, map}
+use Rattle.std.specs.Prelude.{true, ◌⊎◌}
 use Rattle.std.specs.List.{IsDistinct}
 use Rattle.nfs_machine.specs.Exports.{LivingExport}
 use Rattle.nfs_machine.specs.Grants.{grant_message}
@@ -43,8 +44,8 @@ pub record AreFreedOf (exports : List LivingExport) (caller_name : List ℕ) (fi
       ((new : LockedValue) → Contains freed new → new.number ≡ old.number → ⊥) → IsFreed old.file caller_name old.file
 
 -- of one file more
-pub record AddsOne (exports : List LivingExport) (caller_name : List ℕ) (file : LockedValue) (old new : List LockedValue) :
-    Type 0 where
+pub record AddsOne (exports : List LivingExport) (caller_name : List ℕ) (file : LockedValue)
+    (old new : List LockedValue) : Type 0 where
   pub left : Option LockedValue
   pub freed : IsFreedOne exports caller_name file left
   pub grown : new ≡ old ++ elim left [ None ↦ [] | Some f ↦ f ∷ [] ]

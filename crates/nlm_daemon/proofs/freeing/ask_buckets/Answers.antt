@@ -24,5 +24,6 @@ returns c =
     subst (λ n. AsksFor d (IsBelow n) (IsBelow n) [] items)
     (let whole : c.loop-index.index ≡ bucket_count = omega arith in whole) c.loop-index.invariant in
     asked-result d (buckets_below bucket_count) items
-    ((index : ℕ) → index < bucket_count → IsSome (known_at d (addresses.Locks index))) c.ask.result c.ask.ensures.nothing
+    ((index : ℕ) → index < bucket_count → IsSome (known_at d (addresses.Locks index))) c.ask.result
+    c.ask.ensures.nothing
     c.ask.ensures.stops (below-asking d items asks) (below-known d items asks)

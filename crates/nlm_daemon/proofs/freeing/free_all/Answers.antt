@@ -95,7 +95,8 @@ pub loop-file-2-preserved : goal.loop-file-2-preserved
 loop-file-2-preserved c =
     rw c.deref-file-items-2.ensures.value
     (try-step c.args.draft.now c.args.caller_name.now c.in_ok-freed.freed.items c.in_ok-freed.ensures.freed
-    c.loop-file-2.file-index c.file-item-in-loop-file-2.result (rw c.deref-file-items-2.ensures.value at c.loop-file-2-test.true)
+    c.loop-file-2.file-index c.file-item-in-loop-file-2.result
+    (rw c.deref-file-items-2.ensures.value at c.loop-file-2-test.true)
     (rw c.deref-file-items-2.ensures.value at c.file-item-in-loop-file-2.is) c.loop-file-2.draft c.settle_file.new.draft
     (rw c.deref-file-items-2.ensures.value at c.loop-file-2.invariant) c.in_ok-settle_file.ensures)
 

@@ -14,14 +14,17 @@ pub lock-requires-clause-none : goal.lock-requires-clause-none
 lock-requires-clause-none c = c.requires.begins.none
 
 pub lock-requires-clause-alone : goal.lock-requires-clause-alone
-lock-requires-clause-alone c = begins-alone (locking_call c.args.procedure c.args.arguments.now) c.args.draft c.requires.begins (locking-of c.args.procedure c.args.arguments.now).alone
+lock-requires-clause-alone c =
+    begins-alone (locking_call c.args.procedure c.args.arguments.now) c.args.draft c.requires.begins
+    (locking-of c.args.procedure c.args.arguments.now).alone
 
 pub returns-in_err-status-clause-ends : goal.returns-in_err-status-clause-ends
 returns-in_err-status-clause-ends c =
     let p = err_from_is_err_and c.from_residual.result c.from_residual.ensures.1 in
     rw (p.1, p.2)
     (ends-stopped (locking_call c.args.procedure c.args.arguments.now) c.args.draft c.requires.begins
-    (lock_places c.args.draft.view c.args.arguments.now.lock.file) ((locking-of c.args.procedure c.args.arguments.now).named c.args.draft.view) _
+    (lock_places c.args.draft.view c.args.arguments.now.lock.file)
+    ((locking-of c.args.procedure c.args.arguments.now).named c.args.draft.view) _
     c.in_err-status.ensures.ends)
 
 pub returns-in_err-status-clause-first : goal.returns-in_err-status-clause-first
@@ -39,7 +42,7 @@ returns-clause-ends c =
     (IsAnswered c.lock.new.draft c.args.procedure c.args.arguments.now.cookie c.in_ok-status.status) c.answer.ensures
     (λ change answered. locks-promised c.args.draft c.lock.new.draft c.in_ok-status.status change
     c.args.procedure c.args.arguments.now c.requires.locks c.requires.begins
-    (rw c.is_message.ensures at c.in_ok-status.ensures.ends) answered)
+    c.is_message.result c.is_message.ensures c.in_ok-status.ensures.ends answered)
 
 pub returns-clause-first : goal.returns-clause-first
 returns-clause-first c =

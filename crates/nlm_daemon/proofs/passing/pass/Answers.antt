@@ -13,14 +13,16 @@ pub returns-in_err-exports-clause-ends : goal.returns-in_err-exports-clause-ends
 returns-in_err-exports-clause-ends c =
     let p = err_from_is_err_and c.from_residual.result c.from_residual.ensures.1 in
     rw (p.1, p.2)
-    (alone-ends (calls.Nlm c.args.call.now) c.args.draft c.requires.begins (passing-of c.args.call.now c.requires.passes) _
+    (alone-ends (calls.Nlm c.args.call.now) c.args.draft c.requires.begins
+    (passing-of c.args.call.now c.requires.passes) _
     c.in_err-exports.ensures.exports)
 
 pub returns-in_err-exports-clause-first : goal.returns-in_err-exports-clause-first
 returns-in_err-exports-clause-first c =
     let p = err_from_is_err_and c.from_residual.result c.from_residual.ensures.1 in
     rw (p.1, p.2)
-    (alone-first (calls.Nlm c.args.call.now) c.args.draft c.requires.begins (passing-of c.args.call.now c.requires.passes)
+    (alone-first (calls.Nlm c.args.call.now) c.args.draft c.requires.begins
+    (passing-of c.args.call.now c.requires.passes)
     _ (lacking-first-at Change c.args.draft addresses.Exports _ c.in_err-exports.ensures.reads))
 
 pub returns-in_err-exports-clause-only : goal.returns-in_err-exports-clause-only
@@ -41,5 +43,6 @@ returns-clause-ends c =
 
 pub returns-clause-first : goal.returns-clause-first
 returns-clause-first c =
-    alone-first (calls.Nlm c.args.call.now) c.args.draft c.requires.begins (passing-of c.args.call.now c.requires.passes)
+    alone-first (calls.Nlm c.args.call.now) c.args.draft c.requires.begins
+    (passing-of c.args.call.now c.requires.passes)
     _ (first-past c.args.draft.modes c.args.draft.view _ _ (c.in_ok-exports.ensures.first c.requires.begins.none) _)

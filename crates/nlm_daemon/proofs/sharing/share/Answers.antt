@@ -17,14 +17,17 @@ pub shared-requires-clause-none : goal.shared-requires-clause-none
 shared-requires-clause-none c = c.requires.none
 
 pub shared-requires-clause-alone : goal.shared-requires-clause-alone
-shared-requires-clause-alone c = begins-alone (calls.Nlm (nlm.Share c.args.arguments.now)) c.args.draft c.requires (sharing-of c.args.arguments.now).alone
+shared-requires-clause-alone c =
+    begins-alone (calls.Nlm (nlm.Share c.args.arguments.now)) c.args.draft c.requires
+    (sharing-of c.args.arguments.now).alone
 
 pub returns-in_err-status-clause-ends : goal.returns-in_err-status-clause-ends
 returns-in_err-status-clause-ends c =
     let p = err_from_is_err_and c.from_residual.result c.from_residual.ensures.1 in
     rw (p.1, p.2)
     (ends-stopped (calls.Nlm (nlm.Share c.args.arguments.now)) c.args.draft c.requires
-    (lock_places c.args.draft.view c.args.arguments.now.share.file) ((sharing-of c.args.arguments.now).named c.args.draft.view) _
+    (lock_places c.args.draft.view c.args.arguments.now.share.file)
+    ((sharing-of c.args.arguments.now).named c.args.draft.view) _
     c.in_err-status.ensures.ends)
 
 pub returns-in_err-status-clause-first : goal.returns-in_err-status-clause-first

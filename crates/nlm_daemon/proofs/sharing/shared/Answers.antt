@@ -17,12 +17,14 @@ returns-in_err-file-clause-ends c =
 pub returns-in_err-file-clause-first : goal.returns-in_err-file-clause-first
 returns-in_err-file-clause-first c =
     let p = err_from_is_err_and c.from_residual.result c.from_residual.ensures.1 in
-    rw (p.1, p.2) (first-halts (Result File LockFault) NlmStatus c.args.draft.now.modes c.args.draft.now.view _ _ c.in_err-file.ensures.first)
+    rw (p.1, p.2) (first-halts (Result File LockFault) NlmStatus c.args.draft.now.modes c.args.draft.now.view _ _
+    c.in_err-file.ensures.first)
 
 pub returns-in-Err-clause-ends : goal.returns-in-Err-clause-ends
 returns-in-Err-clause-ends c =
     rw c.status.ensures
-    (share-fault c.args.draft.now (fault_value c.in-Err.fault) c.args.arguments.now (rw (c.in-Err.is, c.is_writing.ensures) at c.in_ok-file.ensures.checked))
+    (share-fault c.args.draft.now (fault_value c.in-Err.fault) c.args.arguments.now
+    (rw (c.in-Err.is, c.is_writing.ensures) at c.in_ok-file.ensures.checked))
 
 pub returns-in-Err-clause-first : goal.returns-in-Err-clause-first
 returns-in-Err-clause-first c = first-past c.args.draft.now.modes c.args.draft.now.view _ _ c.in_ok-file.ensures.first _
@@ -30,36 +32,44 @@ returns-in-Err-clause-first c = first-past c.args.draft.now.modes c.args.draft.n
 pub returns-in_err-locks-clause-ends : goal.returns-in_err-locks-clause-ends
 returns-in_err-locks-clause-ends c =
     let p = err_from_is_err_and c.from_residual-in_err-locks.result c.from_residual-in_err-locks.ensures.1 in
-    rw (p.1, p.2) (stops-behind c.args.draft.now c.args.arguments.now.share.file _ c.in-Ok.file.known.number (rw c.in-Ok.is at c.in_ok-file.ensures.number) c.in_err-locks.ensures)
+    rw (p.1, p.2) (stops-behind c.args.draft.now c.args.arguments.now.share.file _ c.in-Ok.file.known.number
+    (rw c.in-Ok.is at c.in_ok-file.ensures.number) c.in_err-locks.ensures)
 
 pub returns-then-is_denied-clause-ends : goal.returns-then-is_denied-clause-ends
 returns-then-is_denied-clause-ends c =
-    comes-known c.args.draft.now _ _ (share-denied c.args.draft.now c.args.draft.now c.args.arguments.now c.in-Ok.file.known.number (rw (c.in-Ok.is, c.is_writing.ensures) at c.in_ok-file.ensures.checked)
+    comes-known c.args.draft.now _ _ (share-denied c.args.draft.now c.args.draft.now c.args.arguments.now
+    c.in-Ok.file.known.number (rw (c.in-Ok.is, c.is_writing.ensures) at c.in_ok-file.ensures.checked)
     c.in_ok-locks.locks c.in_ok-locks.ensures (sym c.if-is_denied.ensures))
 
 pub returns-in_err-put-clause-ends : goal.returns-in_err-put-clause-ends
 returns-in_err-put-clause-ends c =
     let p = err_from_is_err_and c.from_residual-in_err-put.result c.from_residual-in_err-put.ensures.1 in
-    rw (p.1, p.2) (stops-locks c.args.draft.now c.args.arguments.now.share.file _ c.in-Ok.file.known.number (rw c.in-Ok.is at c.in_ok-file.ensures.number) c.in_err-put.ensures)
+    rw (p.1, p.2) (stops-locks c.args.draft.now c.args.arguments.now.share.file _ c.in-Ok.file.known.number
+    (rw c.in-Ok.is at c.in_ok-file.ensures.number) c.in_err-put.ensures)
 
 pub returns-clause-ends : goal.returns-clause-ends
 returns-clause-ends c =
-    share-put c.args.draft.now c.put.new.draft c.args.arguments.now c.in-Ok.file.known.number (rw (c.in-Ok.is, c.is_writing.ensures) at c.in_ok-file.ensures.checked)
+    share-put c.args.draft.now c.put.new.draft c.args.arguments.now c.in-Ok.file.known.number
+    (rw (c.in-Ok.is, c.is_writing.ensures) at c.in_ok-file.ensures.checked)
     c.in_ok-locks.locks c.in_ok-locks.ensures (sym c.if-is_denied.ensures)
     c.in-Ok.file.known.export (rw c.in-Ok.is at c.in_ok-file.ensures.lives) c.in_ok-more.more c.in_ok-more.ensures
     c.in_ok-put.ensures
 
 pub returns-in_err-locks-clause-first : goal.returns-in_err-locks-clause-first
-returns-in_err-locks-clause-first c = first-past c.args.draft.now.modes c.args.draft.now.view _ _ c.in_ok-file.ensures.first _
+returns-in_err-locks-clause-first c =
+    first-past c.args.draft.now.modes c.args.draft.now.view _ _ c.in_ok-file.ensures.first _
 
 pub returns-then-is_denied-clause-first : goal.returns-then-is_denied-clause-first
-returns-then-is_denied-clause-first c = first-past c.args.draft.now.modes c.args.draft.now.view _ _ c.in_ok-file.ensures.first _
+returns-then-is_denied-clause-first c =
+    first-past c.args.draft.now.modes c.args.draft.now.view _ _ c.in_ok-file.ensures.first _
 
 pub returns-in_err-more-clause-first : goal.returns-in_err-more-clause-first
-returns-in_err-more-clause-first c = first-past c.args.draft.now.modes c.args.draft.now.view _ _ c.in_ok-file.ensures.first _
+returns-in_err-more-clause-first c =
+    first-past c.args.draft.now.modes c.args.draft.now.view _ _ c.in_ok-file.ensures.first _
 
 pub returns-in_err-put-clause-first : goal.returns-in_err-put-clause-first
-returns-in_err-put-clause-first c = first-past c.args.draft.now.modes c.args.draft.now.view _ _ c.in_ok-file.ensures.first _
+returns-in_err-put-clause-first c =
+    first-past c.args.draft.now.modes c.args.draft.now.view _ _ c.in_ok-file.ensures.first _
 
 pub returns-clause-first : goal.returns-clause-first
 returns-clause-first c = first-past c.args.draft.now.modes c.args.draft.now.view _ _ c.in_ok-file.ensures.first _

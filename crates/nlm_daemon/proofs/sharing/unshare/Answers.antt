@@ -17,14 +17,17 @@ pub unshared-requires-clause-none : goal.unshared-requires-clause-none
 unshared-requires-clause-none c = c.requires.none
 
 pub unshared-requires-clause-alone : goal.unshared-requires-clause-alone
-unshared-requires-clause-alone c = begins-alone (calls.Nlm (nlm.Unshare c.args.arguments.now)) c.args.draft c.requires (unsharing-of c.args.arguments.now).alone
+unshared-requires-clause-alone c =
+    begins-alone (calls.Nlm (nlm.Unshare c.args.arguments.now)) c.args.draft c.requires
+    (unsharing-of c.args.arguments.now).alone
 
 pub returns-in_err-status-clause-ends : goal.returns-in_err-status-clause-ends
 returns-in_err-status-clause-ends c =
     let p = err_from_is_err_and c.from_residual.result c.from_residual.ensures.1 in
     rw (p.1, p.2)
     (ends-stopped (calls.Nlm (nlm.Unshare c.args.arguments.now)) c.args.draft c.requires
-    (lock_places c.args.draft.view c.args.arguments.now.share.file) ((unsharing-of c.args.arguments.now).named c.args.draft.view) _
+    (lock_places c.args.draft.view c.args.arguments.now.share.file)
+    ((unsharing-of c.args.arguments.now).named c.args.draft.view) _
     c.in_err-status.ensures.ends)
 
 pub returns-in_err-status-clause-first : goal.returns-in_err-status-clause-first
@@ -39,7 +42,8 @@ returns-in_err-status-clause-first c =
 pub returns-clause-ends : goal.returns-clause-ends
 returns-clause-ends c =
     ends-memory (calls.Nlm (nlm.Unshare c.args.arguments.now)) c.args.draft c.args.draft.ctx c.answer.result
-    (IsAnswered c.unshared.new.draft procedures.Unshare c.args.arguments.now.cookie c.in_ok-status.status) c.answer.ensures
+    (IsAnswered c.unshared.new.draft procedures.Unshare c.args.arguments.now.cookie c.in_ok-status.status)
+    c.answer.ensures
     (λ change answered. unshares-promised c.args.draft c.unshared.new.draft c.in_ok-status.status change
     c.args.arguments.now c.requires
     c.in_ok-status.ensures.ends answered)

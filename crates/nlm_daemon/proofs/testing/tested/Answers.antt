@@ -18,7 +18,8 @@ returns-in_err-place-clause-ends c =
 pub returns-in_err-place-clause-first : goal.returns-in_err-place-clause-first
 returns-in_err-place-clause-first c =
     let p = err_from_is_err_and c.from_residual.result c.from_residual.ensures.1 in
-    rw (p.1, p.2) (first-halts (Result Place LockFault) TestStatus c.args.draft.now.modes c.args.draft.now.view _ _ c.in_err-place.ensures.first)
+    rw (p.1, p.2) (first-halts (Result Place LockFault) TestStatus c.args.draft.now.modes c.args.draft.now.view _ _
+    c.in_err-place.ensures.first)
 
 pub returns-in-Err-clause-ends : goal.returns-in-Err-clause-ends
 returns-in-Err-clause-ends c =

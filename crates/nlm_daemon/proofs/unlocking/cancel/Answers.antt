@@ -14,14 +14,17 @@ pub canceled-requires-clause-none : goal.canceled-requires-clause-none
 canceled-requires-clause-none c = c.requires.begins.none
 
 pub canceled-requires-clause-alone : goal.canceled-requires-clause-alone
-canceled-requires-clause-alone c = begins-alone (canceling_call c.args.procedure c.args.arguments.now) c.args.draft c.requires.begins (canceling-of c.args.procedure c.args.arguments.now).alone
+canceled-requires-clause-alone c =
+    begins-alone (canceling_call c.args.procedure c.args.arguments.now) c.args.draft c.requires.begins
+    (canceling-of c.args.procedure c.args.arguments.now).alone
 
 pub returns-in_err-status-clause-ends : goal.returns-in_err-status-clause-ends
 returns-in_err-status-clause-ends c =
     let p = err_from_is_err_and c.from_residual.result c.from_residual.ensures.1 in
     rw (p.1, p.2)
     (ends-stopped (canceling_call c.args.procedure c.args.arguments.now) c.args.draft c.requires.begins
-    (lock_places c.args.draft.view c.args.arguments.now.lock.file) ((canceling-of c.args.procedure c.args.arguments.now).named c.args.draft.view) _
+    (lock_places c.args.draft.view c.args.arguments.now.lock.file)
+    ((canceling-of c.args.procedure c.args.arguments.now).named c.args.draft.view) _
     c.in_err-status.ensures.ends)
 
 pub returns-in_err-status-clause-first : goal.returns-in_err-status-clause-first
@@ -36,7 +39,8 @@ returns-in_err-status-clause-first c =
 pub returns-clause-ends : goal.returns-clause-ends
 returns-clause-ends c =
     ends-memory (canceling_call c.args.procedure c.args.arguments.now) c.args.draft c.args.draft.ctx c.answer.result
-    (IsAnswered c.canceled.new.draft c.args.procedure c.args.arguments.now.cookie c.in_ok-status.status) c.answer.ensures
+    (IsAnswered c.canceled.new.draft c.args.procedure c.args.arguments.now.cookie c.in_ok-status.status)
+    c.answer.ensures
     (λ change answered. cancels-promised c.args.draft c.canceled.new.draft c.in_ok-status.status change
     c.args.procedure c.args.arguments.now c.requires.cancels c.requires.begins
     c.in_ok-status.ensures.ends answered)

@@ -19,58 +19,76 @@ returns-in_err-place-clause-ends c =
 pub returns-in_err-place-clause-first : goal.returns-in_err-place-clause-first
 returns-in_err-place-clause-first c =
     let p = err_from_is_err_and c.from_residual.result c.from_residual.ensures.1 in
-    rw (p.1, p.2) (first-halts (Result Place LockFault) NlmStatus c.args.draft.now.modes c.args.draft.now.view _ _ c.in_err-place.ensures.first)
+    rw (p.1, p.2) (first-halts (Result Place LockFault) NlmStatus c.args.draft.now.modes c.args.draft.now.view _ _
+    c.in_err-place.ensures.first)
 
 pub returns-in-Err-clause-ends : goal.returns-in-Err-clause-ends
 returns-in-Err-clause-ends c =
     rw c.status.ensures
-    (cancel-fault c.args.draft.now (fault_value c.in-Err.fault) c.args.arguments.now (rw c.in-Err.is at c.in_ok-place.ensures.checked))
+    (cancel-fault c.args.draft.now (fault_value c.in-Err.fault) c.args.arguments.now
+    (rw c.in-Err.is at c.in_ok-place.ensures.checked))
 
 pub returns-in-Err-clause-first : goal.returns-in-Err-clause-first
-returns-in-Err-clause-first c = first-past c.args.draft.now.modes c.args.draft.now.view _ _ c.in_ok-place.ensures.first _
+returns-in-Err-clause-first c =
+    first-past c.args.draft.now.modes c.args.draft.now.view _ _ c.in_ok-place.ensures.first _
 
 pub returns-in_err-locks-clause-ends : goal.returns-in_err-locks-clause-ends
 returns-in_err-locks-clause-ends c =
     let p = err_from_is_err_and c.from_residual-in_err-locks.result c.from_residual-in_err-locks.ensures.1 in
-    let place : IsPlaceOf c.args.draft.now c.args.arguments.now.lock c.in-Ok.place = rw c.in-Ok.is at c.in_ok-place.ensures.place in
-    rw (p.1, p.2) (stops-behind c.args.draft.now c.args.arguments.now.lock.file _ c.in-Ok.place.file.known.number place.number c.in_err-locks.ensures)
+    let place : IsPlaceOf c.args.draft.now c.args.arguments.now.lock c.in-Ok.place =
+    rw c.in-Ok.is at c.in_ok-place.ensures.place in
+    rw (p.1, p.2) (stops-behind c.args.draft.now c.args.arguments.now.lock.file _ c.in-Ok.place.file.known.number
+    place.number c.in_err-locks.ensures)
 
 pub returns-in_default-clause-ends : goal.returns-in_default-clause-ends
 returns-in_default-clause-ends c =
-    comes-known c.args.draft.now _ _ (cancel-denied c.args.draft.now c.args.draft.now c.args.arguments.now c.in-Ok.place.file.known.number (rw c.in-Ok.is at c.in_ok-place.ensures.checked) no_file
-    (rw c.in_default.is at c.in_ok-locks.ensures) (nothing-waits (is_request c.args.arguments.now.exclusive c.args.arguments.now.lock)))
+    comes-known c.args.draft.now _ _ (cancel-denied c.args.draft.now c.args.draft.now c.args.arguments.now
+    c.in-Ok.place.file.known.number (rw c.in-Ok.is at c.in_ok-place.ensures.checked) no_file
+    (rw c.in_default.is at c.in_ok-locks.ensures) (nothing-waits
+    (is_request c.args.arguments.now.exclusive c.args.arguments.now.lock)))
 
 pub returns-then-not-is_waiting-clause-ends : goal.returns-then-not-is_waiting-clause-ends
 returns-then-not-is_waiting-clause-ends c =
-    comes-known c.args.draft.now _ _ (cancel-denied c.args.draft.now c.args.draft.now c.args.arguments.now c.in-Ok.place.file.known.number (rw c.in-Ok.is at c.in_ok-place.ensures.checked) c.in-Some.locks.now
+    comes-known c.args.draft.now _ _ (cancel-denied c.args.draft.now c.args.draft.now c.args.arguments.now
+    c.in-Ok.place.file.known.number (rw c.in-Ok.is at c.in_ok-place.ensures.checked) c.in-Some.locks.now
     (rw c.in-Some.is at c.in_ok-locks.ensures) (sym c.if-not-is_waiting.ensures))
 
 pub returns-in_err-put-clause-ends : goal.returns-in_err-put-clause-ends
 returns-in_err-put-clause-ends c =
     let p = err_from_is_err_and c.from_residual-in_err-put.result c.from_residual-in_err-put.ensures.1 in
-    let place : IsPlaceOf c.args.draft.now c.args.arguments.now.lock c.in-Ok.place = rw c.in-Ok.is at c.in_ok-place.ensures.place in
-    rw (p.1, p.2) (stops-locks c.args.draft.now c.args.arguments.now.lock.file _ c.in-Ok.place.file.known.number place.number c.in_err-put.ensures)
+    let place : IsPlaceOf c.args.draft.now c.args.arguments.now.lock c.in-Ok.place =
+    rw c.in-Ok.is at c.in_ok-place.ensures.place in
+    rw (p.1, p.2) (stops-locks c.args.draft.now c.args.arguments.now.lock.file _ c.in-Ok.place.file.known.number
+    place.number c.in_err-put.ensures)
 
 pub returns-clause-ends : goal.returns-clause-ends
 returns-clause-ends c =
-    let place : IsPlaceOf c.args.draft.now c.args.arguments.now.lock c.in-Ok.place = rw c.in-Ok.is at c.in_ok-place.ensures.place in
-    cancel-put c.args.draft.now c.put.new.draft c.args.arguments.now c.in-Ok.place.file.known.number (rw c.in-Ok.is at c.in_ok-place.ensures.checked) c.in-Some.locks.now (rw c.in-Some.is at c.in_ok-locks.ensures)
-    (sym c.if-not-is_waiting.ensures) c.in-Ok.place.file.known.export place.lives c.in_ok-left.left c.in_ok-left.ensures c.in_ok-put.ensures
+    let place : IsPlaceOf c.args.draft.now c.args.arguments.now.lock c.in-Ok.place =
+    rw c.in-Ok.is at c.in_ok-place.ensures.place in
+    cancel-put c.args.draft.now c.put.new.draft c.args.arguments.now c.in-Ok.place.file.known.number
+    (rw c.in-Ok.is at c.in_ok-place.ensures.checked) c.in-Some.locks.now (rw c.in-Some.is at c.in_ok-locks.ensures)
+    (sym c.if-not-is_waiting.ensures) c.in-Ok.place.file.known.export place.lives c.in_ok-left.left c.in_ok-left.ensures
+    c.in_ok-put.ensures
 
 pub returns-in_err-locks-clause-first : goal.returns-in_err-locks-clause-first
-returns-in_err-locks-clause-first c = first-past c.args.draft.now.modes c.args.draft.now.view _ _ c.in_ok-place.ensures.first _
+returns-in_err-locks-clause-first c =
+    first-past c.args.draft.now.modes c.args.draft.now.view _ _ c.in_ok-place.ensures.first _
 
 pub returns-in_default-clause-first : goal.returns-in_default-clause-first
-returns-in_default-clause-first c = first-past c.args.draft.now.modes c.args.draft.now.view _ _ c.in_ok-place.ensures.first _
+returns-in_default-clause-first c =
+    first-past c.args.draft.now.modes c.args.draft.now.view _ _ c.in_ok-place.ensures.first _
 
 pub returns-then-not-is_waiting-clause-first : goal.returns-then-not-is_waiting-clause-first
-returns-then-not-is_waiting-clause-first c = first-past c.args.draft.now.modes c.args.draft.now.view _ _ c.in_ok-place.ensures.first _
+returns-then-not-is_waiting-clause-first c =
+    first-past c.args.draft.now.modes c.args.draft.now.view _ _ c.in_ok-place.ensures.first _
 
 pub returns-in_err-left-clause-first : goal.returns-in_err-left-clause-first
-returns-in_err-left-clause-first c = first-past c.args.draft.now.modes c.args.draft.now.view _ _ c.in_ok-place.ensures.first _
+returns-in_err-left-clause-first c =
+    first-past c.args.draft.now.modes c.args.draft.now.view _ _ c.in_ok-place.ensures.first _
 
 pub returns-in_err-put-clause-first : goal.returns-in_err-put-clause-first
-returns-in_err-put-clause-first c = first-past c.args.draft.now.modes c.args.draft.now.view _ _ c.in_ok-place.ensures.first _
+returns-in_err-put-clause-first c =
+    first-past c.args.draft.now.modes c.args.draft.now.view _ _ c.in_ok-place.ensures.first _
 
 pub returns-clause-first : goal.returns-clause-first
 returns-clause-first c = first-past c.args.draft.now.modes c.args.draft.now.view _ _ c.in_ok-place.ensures.first _
