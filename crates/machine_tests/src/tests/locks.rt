@@ -1,6 +1,10 @@
 //! Locks of a file in an export that is read only, which no call of such an export can make (RFC 1813, appendix II,
 //! 6.1.4: NLM4_ROFS).
 
+ghost use Rattle.std.specs.Prelude.{◌≡◌, [], IfOk, OnOk, true};
+ghost use Rattle.nfs_machine.specs.declared.calls.Call.TheVariants as calls;
+ghost use Rattle.nfs_objects.specs.Modes.{Suits, changes_locks, locking, modes_of};
+
 use super::*;
 use nfs_machine::Reply;
 use nfs_objects::Outcome;
@@ -17,7 +21,9 @@ const READ_ONLY: Given = Given {
 };
 
 /// LOCK of byte 0 of file 9.
-fn lock(exclusive: bool) -> NlmCall {
+fn lock(exclusive: bool) -> NlmCall
+    ensures { changes_locks result ≡ true }
+{
     NlmCall::Lock(LockArguments {
         cookie: Bytes::from_static(b"cookie"),
         block: false,
@@ -35,17 +41,37 @@ fn lock(exclusive: bool) -> NlmCall {
     })
 }
 
-/// Adds the export, file 9 and that it has no locks to a view that has read nothing.
-fn fill(view: &mut View, alloc: Global) -> Result<(), AllocError> {
+/// Adds the export, file 9 and that no file of its bucket has locks to a view that has read nothing.
+fn fill(view: &mut View, alloc: Global) -> Result<(), AllocError>
+    requires { view.old ≡ record { entries = []; reserved = [] } }
+    ensures { OnOk result (Suits locking view.new) }
+{
     let exports = Object::Exports(table(alloc, &[READ_ONLY])?);
     add(view, alloc, Addr::Exports, Mode::Shared, exports)?;
     let file = Object::Inode(hello(1)?);
     add(view, alloc, Addr::Inode(9), Mode::Exclusive, file)?;
-    view.add(LOCKS, Mode::Exclusive, None)
+    view.add(LOCKS, Mode::Exclusive, None)?;
+    Ok(())
+}
+
+/// A view of these.
+fn shown(alloc: Global) -> Result<View, AllocError>
+    ensures { IfOk result (Suits locking) }
+{
+    let mut view = View::new(alloc);
+    match fill(&mut view, alloc) {
+        Ok(()) => Ok(view),
+        Err(AllocError) => {
+            drop(view);
+            Err(AllocError)
+        }
+    }
 }
 
 /// What LOCK comes to on this view, and how many writes it has.
-fn status(alloc: Global, call: &NlmCall, view: &View) -> Option<(NlmStatus, usize)> {
+fn status(alloc: Global, call: &NlmCall, view: &View) -> Option<(NlmStatus, usize)>
+    requires { Suits (modes_of (calls.Nlm call.now)) view.now }
+{
     let ctx = ctx(0);
     let outcome = attempt(alloc, call, &ctx, view);
     drop(ctx);
@@ -68,13 +94,11 @@ fn status(alloc: Global, call: &NlmCall, view: &View) -> Option<(NlmStatus, usiz
 
 /// The same of an exclusive lock, or of a shared one.
 fn locked(alloc: Global, exclusive: bool) -> Result<Option<(NlmStatus, usize)>, AllocError> {
-    let mut view = View::new(alloc);
-    let filled = fill(&mut view, alloc);
+    let view = shown(alloc)?;
     let call = lock(exclusive);
     let status = status(alloc, &call, &view);
     drop(call);
     drop(view);
-    filled?;
     Ok(status)
 }
 
