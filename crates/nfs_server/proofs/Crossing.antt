@@ -8,7 +8,9 @@ use Rattle.crossbeam_channel.proofs.channel.Receiver.TheSendSync as receiver
 use Rattle.crossbeam_channel.proofs.channel.Sender.TheSendSync as sender
 use Rattle.nfs_pool.proofs.Crossing.{pool_send, pool_sync}
 use Rattle.nfs_pool.proofs.seat.Seat.TheSendSync as seat
+use Rattle.nfs_server.proofs.callbacks.Callbacks.TheSendSync as callbacks
 use Rattle.nfs_server.proofs.clock.ServerClock.TheSendSync as clock
+use Rattle.nfs_server.proofs.network.bell.Bell.TheSendSync as bell
 use Rattle.nfs_server.proofs.network.jobs.Job.TheSendSync as job
 use Rattle.nfs_server.proofs.network.line.Line.TheSendSync as line
 use Rattle.nfs_server.specs.contracts.network.clerk.Clerk as Clerk
@@ -17,6 +19,7 @@ use Rattle.nfs_server.specs.contracts.network.places.Keeper as Keeper
 use Rattle.nfs_server.specs.contracts.network.places.Place as Place
 use Rattle.nfs_server.specs.contracts.network.places.Places as Places
 use Rattle.nfs_server.specs.contracts.network.reading.Reader as Reader
+use Rattle.nfs_server.specs.contracts.network.sending.Sender as Sender
 
 module _ (L : RattleType) (g : Ghosts L.Denot) (s : IsSend L) (y : IsSync L) where
   place_send : IsSend (Place.the_row L g)
@@ -32,13 +35,29 @@ module _ (L : RattleType) (g : Ghosts L.Denot) (s : IsSend L) (y : IsSync L) whe
 
   pub service_send : IsSend (Service.the_row L g)
   service_send =
-      declared_send (Service.the_type L g)
-      (places_send, (search (sendable, crosses, sender.the_send, job.the_send) depth 20, (search sendable depth 20, tt)))
+      declared_send (Service.the_type L g) (
+        places_send,
+        (
+          search (sendable, crosses, sender.the_send, job.the_send) depth 20,
+          (search (sendable, crosses, bell.the_send, bell.the_sync) depth 20, (search sendable depth 20, tt)),
+        ),
+      )
 
   pub clerk_send : (C : RattleType) → IsSend C → IsSend (Clerk.the_row L C g)
   clerk_send C c =
-      declared_send (Clerk.the_type L C g) (places_send, (search (sendable, clock.the_send) depth 20, tt))
+      declared_send (Clerk.the_type L C g) (
+        places_send,
+        (
+          search (sendable, crosses, bell.the_send, bell.the_sync) depth 20,
+          (search (sendable, clock.the_send) depth 20, tt),
+        ),
+      )
 
   pub reader_send : (C : RattleType) → IsSend C → IsSend (Reader.the_row L C g)
   reader_send C c =
       declared_send (Reader.the_type L C g) (search (sendable, crosses, line.the_send) depth 20, (clerk_send C c, tt))
+
+  pub sender_send : (C : RattleType) → IsSend C → IsSend (Sender.the_row L C g)
+  sender_send C c =
+      declared_send (Sender.the_type L C g)
+      (clerk_send C c, (search (sendable, crosses, callbacks.the_send) depth 20, tt))

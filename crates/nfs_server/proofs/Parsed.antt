@@ -23,13 +23,17 @@ use Rattle.nfs_server.specs.Limits.{IsWithin}
 use Rattle.nfs_server.specs.declared.limits.Limit.{Limit}
 use Rattle.nfs_server.specs.declared.limits.Limits.{Limits}
 use Rattle.nfs_server.specs.CommandLine.{AreRefused, AreWithin, AsksAlone, AsksStdio, Configures, HasLimits, HasWorkers, IsConflict, IsHostRefusal, IsLimitRefusal, IsParsedFrom, IsRefusal, IsTaken, IsTransportRefusal, IsValueRefusal, NamesAddress, NamesLimit, ReadsOptions, ReadsFlag, ReadsNumber, ReadsTransport, Refuses, export_parts, exports_of, host_of, nfsd, parts_of}
+use Rattle.nfs_server.specs.CommandLine.{GivesExports, IsBadCallback, callbacks_of}
+use Rattle.nfs_server.specs.Callbacks.{RefusesCallbacks}
+use Rattle.nfs_server.specs.declared.callbacks.CallbackError.{CallbackError}
+use Rattle.nfs_server.specs.declared.callbacks.CallbackError.TheVariants as callback
 use Rattle.nfs_engine.specs.Hosts.{IsHost}
-use Rattle.nfs_server.specs.Exits.{exit_of_command, exit_of_exports, exit_of_kind}
+use Rattle.nfs_server.specs.Exits.{exit_of_callbacks, exit_of_command, exit_of_exports, exit_of_kind}
 use Rattle.nfs_server.specs.declared.exit.Exit.{Exit}
 use Rattle.nfs_server.specs.declared.options.Options.{Options}
 use Rattle.nfs_server.specs.declared.options.Transport.{Transport}
 use Rattle.nfs_server.specs.declared.options.Transport.TheVariants.{Stdio, Network}
-use Rattle.nfs_server.specs.declared.exit.Exit.TheVariants.{CannotListen, CommandLine, Exports, Memory, NoTransport, StandardStream}
+use Rattle.nfs_server.specs.declared.exit.Exit.TheVariants.{Callback, CannotListen, CommandLine, Exports, Memory, NoTransport, StandardStream}
 
 nfsd_is_simple : is_simple nfsd ≡ true
 unfolding nfsd clap_on_literals
@@ -141,6 +145,7 @@ refuses_limit limit rows value (CommandLine e) names other refused = (limit, val
 refuses_limit limit rows value Memory names other refused = tt
 refuses_limit limit rows value NoTransport names other refused = absurd refused
 refuses_limit limit rows value (Exports e) names other refused = absurd refused
+refuses_limit limit rows value (Callback number) names other refused = absurd refused
 refuses_limit limit rows value StandardStream names other refused = absurd refused
 refuses_limit limit rows value (CannotListen text) names other refused = absurd refused
 
@@ -151,6 +156,7 @@ refuses_conflict rows (CommandLine e) asks names refused = (asks, names, refused
 refuses_conflict rows Memory asks names refused = tt
 refuses_conflict rows NoTransport asks names refused = absurd refused
 refuses_conflict rows (Exports e) asks names refused = absurd refused
+refuses_conflict rows (Callback number) asks names refused = absurd refused
 refuses_conflict rows StandardStream asks names refused = absurd refused
 refuses_conflict rows (CannotListen text) asks names refused = absurd refused
 
@@ -164,6 +170,7 @@ refused_host words m (CommandLine e) parsed refused = inr (
 refused_host words m Memory parsed refused = tt
 refused_host words m NoTransport parsed refused = absurd refused
 refused_host words m (Exports e) parsed refused = absurd refused
+refused_host words m (Callback number) parsed refused = absurd refused
 refused_host words m StandardStream parsed refused = absurd refused
 refused_host words m (CannotListen text) parsed refused = absurd refused
 
@@ -176,6 +183,7 @@ refused_limit words m (CommandLine e) parsed refused = inr (
 refused_limit words m Memory parsed refused = tt
 refused_limit words m NoTransport parsed refused = absurd refused
 refused_limit words m (Exports e) parsed refused = absurd refused
+refused_limit words m (Callback number) parsed refused = absurd refused
 refused_limit words m StandardStream parsed refused = absurd refused
 refused_limit words m (CannotListen text) parsed refused = absurd refused
 
@@ -193,6 +201,7 @@ refused_transport words m host limits NoTransport parsed is its refused = (
   subst (λ (rows : List Row). IsTransportRefusal rows NoTransport) parsed.rows refused,
 )
 refused_transport words m host limits (Exports e) parsed is its refused = absurd refused
+refused_transport words m host limits (Callback number) parsed is its refused = absurd refused
 refused_transport words m host limits StandardStream parsed is its refused = absurd refused
 refused_transport words m host limits (CannotListen text) parsed is its refused = absurd refused
 
@@ -264,11 +273,31 @@ refuses_options words m limits transport (Exports e) parsed is_taken reads refus
   subst (λ (rows : List Row). AsksStdio rows true ⊎ NamesAddress rows) parsed.rows
       (has_transport (rows_of (found_of m)) limits transport reads),
 )
+refuses_options words m limits transport (Callback number) parsed is_taken reads refused = (
+  is_taken,
+  subst (λ (rows : List Row). IsBadCallback rows number) parsed.rows refused,
+  subst (λ (rows : List Row). AsksStdio rows true ⊎ NamesAddress rows) parsed.rows
+      (has_transport (rows_of (found_of m)) limits transport reads),
+)
 refuses_options words m limits transport Memory parsed is_taken reads refused = tt
 refuses_options words m limits transport (CommandLine e) parsed is_taken reads refused = absurd refused
 refuses_options words m limits transport NoTransport parsed is_taken reads refused = absurd refused
 refuses_options words m limits transport StandardStream parsed is_taken reads refused = absurd refused
 refuses_options words m limits transport (CannotListen text) parsed is_taken reads refused = absurd refused
+
+-- the texts of the callbacks that are read are those of the rows
+pub callbacks_read : (f : Found) (r : Option (Bor (List (Bor Text)))) (d : Bor (List (Bor Text)))
+    → option_map (λ s. map (λ v. v.now) s.now) r ≡ option_map raw_values (matched_of f (codes "callback"))
+    → d.now ≡ [] → map (λ t. t.now) (unwrap_or r d).now ≡ callbacks_of (rows_of f)
+callbacks_read f None d is none =
+    ap (map (λ (t : Bor Text). t.now)) none ∙ ap (λ o. unwrap_or o []) (is ∙ raw_values-rows f (codes "callback"))
+callbacks_read f (Some s) d is none = ap (λ o. unwrap_or o []) (is ∙ raw_values-rows f (codes "callback"))
+
+-- callbacks that are refused are told as such, or as want of memory
+pub refuses_callbacks : (rows : List Row) (exports : List ExportValue) (e : CallbackError) → GivesExports rows exports
+    → RefusesCallbacks (callbacks_of rows) e → IsRefusal rows (exit_of_callbacks e)
+refuses_callbacks rows exports (callback.BadForm number) gives bad = (bad, (exports, gives))
+refuses_callbacks rows exports callback.Memory gives bad = tt
 
 -- what `Exports::new` says, by its result
 pub exports_made : (list : List ExportText) (r : Result (List ExportValue) ExportError) → IfSome (export_fault list) (λ fault. r ≡ Err fault)
@@ -290,5 +319,6 @@ refuses_host rows (CommandLine e) other refused = (other, refused)
 refuses_host rows Memory other refused = tt
 refuses_host rows NoTransport other refused = absurd refused
 refuses_host rows (Exports e) other refused = absurd refused
+refuses_host rows (Callback number) other refused = absurd refused
 refuses_host rows StandardStream other refused = absurd refused
 refuses_host rows (CannotListen text) other refused = absurd refused

@@ -1,6 +1,6 @@
 -- The command line: which words are taken, and what they ask for.
 use Rattle.std.specs.Prelude.{◌≡◌, ◌<◌, ◌≤◌, ◌^◌, ◌⊎◌, ◌==◌, ℕ, Bool, true, false}
-use Rattle.std.specs.Prelude.{List, [], map, drop, length, Option, Some, None, IsSome, option_map, unwrap_or, slice_get}
+use Rattle.std.specs.Prelude.{List, [], map, drop, Option, Some, None, IsSome, option_map, unwrap_or, slice_get}
 use Rattle.std.specs.Prelude.{codes, pos}
 use Rattle.std.specs.List.{slice_split}
 use Rattle.std.specs.Option.{SomeIff}
@@ -18,16 +18,17 @@ use Rattle.clap.specs.declared.builder.value_parser.ValueParser.TheVariants.{Sig
 use Rattle.clap.specs.declared.error.kind.ErrorKind.TheVariants.{ArgumentConflict, ValueValidation}
 use Rattle.clap.specs.declared.parser.matches.ArgMatches.{ArgMatches}
 use Rattle.nfs_machine.specs.ExportFaults.{export_fault, export_of}
+use Rattle.nfs_machine.specs.Exports.{ExportValue}
 use Rattle.nfs_machine.specs.declared.exports.ExportError.{ExportError}
 use Rattle.nfs_machine.specs.declared.exports.ExportText.{ExportText}
 use Rattle.nfs_engine.specs.Hosts.{IsHost}
 use Rattle.nfs_engine.specs.Opening.{IsLimit}
+use Rattle.nfs_server.specs.Callbacks.{AreCallbacks, IsFirstBad}
 use Rattle.nfs_server.specs.Limits.{IsWithin, default_of, name_of}
 use Rattle.nfs_server.specs.declared.limits.Limit.{Limit}
 use Rattle.nfs_server.specs.declared.limits.Limit.TheVariants.{Era, Cache, Workers, Connections}
 use Rattle.nfs_server.specs.declared.limits.Limits.{Limits}
 use Rattle.nfs_server.specs.declared.exit.Exit.{Exit}
-use Rattle.nfs_server.specs.Callbacks.{host_in, hosts_of}
 use Rattle.nfs_server.specs.declared.exit.Exit.TheVariants.{CommandLine, NoTransport, Exports, Callback, Memory}
 use Rattle.nfs_server.specs.declared.options.Network.{Network as NetworkOptions}
 use Rattle.nfs_server.specs.declared.options.Options.{Options}
@@ -179,6 +180,12 @@ ReadsTransport rows limits Stdio = AsksStdio rows true × (NamesAddress rows →
 ReadsTransport rows limits (Network network) =
     AsksStdio rows false × NamesAddress rows × ReadsNetwork rows limits network
 
+-- the exports of the rows are faultless, and these
+abbrev pub GivesExports : List Row → List ExportValue → Type 0
+GivesExports rows exports =
+    (list : List ExportText) × (map parts_of list ≡ map export_parts (exports_of rows))
+    × (export_fault list ≡ None) × (exports ≡ map export_of list)
+
 -- the rows of a command line that is taken give the options
 pub record ReadsOptions (rows : List Row) (options : Options) : Type 0 where
   pub start : ReadsNumber 64 (one_of (codes "start") rows) options.start
@@ -188,10 +195,8 @@ pub record ReadsOptions (rows : List Row) (options : Options) : Type 0 where
   pub host : options.host ≡ host_of rows
   pub limits : (limits : Limits) × HasLimits rows limits × (options.era_records ≡ limits.era_records)
       × (options.capacity ≡ limits.capacity) × ReadsTransport rows limits options.transport
-  pub exports : (list : List ExportText)
-      × (map parts_of list ≡ map export_parts (exports_of rows)) × (export_fault list ≡ None)
-      × (options.exports ≡ map export_of list)
-  pub callbacks : hosts_of options.callbacks ≡ map host_in (callbacks_of rows)
+  pub exports : GivesExports rows options.exports
+  pub callbacks : AreCallbacks (callbacks_of rows) options.callbacks.list.items
 
 -- the exports of the rows are at fault
 abbrev pub AreRefused : List Row → ExportError → Type 0
@@ -199,10 +204,15 @@ AreRefused rows e =
     (list : List ExportText) × (map parts_of list ≡ map export_parts (exports_of rows))
     × (export_fault list ≡ Some e)
 
+-- the exports of the rows are faultless, and the callback with this number is the first that is none
+abbrev pub IsBadCallback : List Row → ℕ → Type 0
+IsBadCallback rows number =
+    IsFirstBad (callbacks_of rows) number × ((exports : List ExportValue) × GivesExports rows exports)
+
 -- why rows that are taken give no options
 abbrev pub IsRefusal : List Row → Exit → Type 0
 IsRefusal rows (Exports e) = AreRefused rows e
-IsRefusal rows (Callback number) = (1 ≤ number) × (number ≤ length (callbacks_of rows))
+IsRefusal rows (Callback number) = IsBadCallback rows number
 IsRefusal rows Memory = Unit {0}
 IsRefusal rows _ = ⊥
 
@@ -284,7 +294,7 @@ Refuses words (CommandLine e) =
 Refuses words NoTransport = IsTaken words × IsTransportRefusal (matches_of nfsd words) NoTransport
 Refuses words (Exports e) = IsTaken words × AreRefused (matches_of nfsd words) e
     × (AsksStdio (matches_of nfsd words) true ⊎ NamesAddress (matches_of nfsd words))
-Refuses words (Callback number) = IsTaken words × IsRefusal (matches_of nfsd words) (Callback number)
+Refuses words (Callback number) = IsTaken words × IsBadCallback (matches_of nfsd words) number
     × (AsksStdio (matches_of nfsd words) true ⊎ NamesAddress (matches_of nfsd words))
 Refuses words Memory = Unit {0}
 Refuses words _ = ⊥

@@ -1,3 +1,4 @@
+pub mod CalledBack
 pub mod Callbacks
 pub mod Clocks
 pub mod CommandLine

@@ -1,21 +1,20 @@
 //! Where hosts are called back.
 
-ghost use Rattle.std.specs.Prelude.{◌≡◌, IfErr, IfOk, IfSome, length, map};
-ghost use Rattle.nfs_server.specs.Callbacks.{IsCallbackError, host_in, hosts_of};
+ghost use Rattle.std.specs.Prelude.{◌≡◌, IfErr, IfOk, map};
+ghost use Rattle.std.specs.Option.{MatchOption, option_copied};
+ghost use Rattle.nfs_server.specs.Callbacks.{AreCallbacks, IsCallback, IsNoCallback, RefusesCallbacks, callback_of};
 
 use bytes::Bytes;
+use nfs_engine::Host;
 use std::alloc::{AllocError, AllocFailed, Global};
 use std::net::SocketAddr;
 use thiserror::Error;
-
-/// How many bytes a host has at most.
-const HOST_SIZE: usize = 255;
 
 /// A host, and where the server calls it back.
 #[derive(Drop)]
 pub struct CallbackAddress {
     /// As peers are called.
-    pub host: Bytes,
+    pub host: Host,
     pub address: SocketAddr,
 }
 
@@ -58,40 +57,41 @@ impl<T: Drop> From<AllocFailed<T>> for CallbackError {
 }
 
 impl Callbacks {
-    /// The callbacks that texts `HOST=ADDR:PORT` name. A host ends at the first `=`.
+    /// The callbacks that texts `HOST=ADDR:PORT` name, in their order. A host ends at the first `=`.
     ///
     /// # Errors
     ///
     /// `BadForm` of the first text that is none; `Memory`.
     pub fn new(alloc: Global, texts: &[&str]) -> Result<Callbacks, CallbackError>
-        ensures hosts { IfOk result (λ callbacks. hosts_of callbacks ≡ map (λ text. host_in text.now) texts.now) }
-        ensures number { IfErr result (IsCallbackError (length texts.now)) }
+        ensures callbacks { IfOk result
+            (λ callbacks. AreCallbacks (map (λ text. text.now) texts.now) callbacks.list.items) }
+        ensures error { IfErr result (RefusesCallbacks (map (λ text. text.now) texts.now)) }
     {
         let mut list = Vec::with_capacity(alloc, texts.len())?;
-        for (index, text) in texts.iter().enumerate() {
+        for text in texts {
             match callback(alloc, text)? {
                 Some(callback) => list.push(callback)?,
-                None => return Err(CallbackError::BadForm(index as u64 + 1)),
+                None => return Err(CallbackError::BadForm(list.len() as u64 + 1)),
             }
         }
         Ok(Callbacks { list })
     }
 
-    /// Where a host is called back, if it is. It takes no memory.
-    pub fn address_of(&self, host: &Bytes) -> Option<SocketAddr> {
-        let mut found = None;
-        for callback in &self.list {
-            if callback.host == *host {
-                found = Some(callback.address);
-            }
-        }
-        found
+    /// The last callback of a host, if it has one. It takes no memory.
+    pub fn of_host(&self, host: &Bytes) -> Option<&CallbackAddress>
+        ensures { option_copied result ≡ callback_of self.now.list.items host.now }
+    {
+        self.list
+            .iter()
+            .rev()
+            .find(|callback| callback.host.text() == host)
     }
 }
 
-/// The callback that a text names; None where it is not `HOST=ADDR:PORT`.
+/// The callback that a text is; None where it is not `HOST=ADDR:PORT`.
 fn callback(alloc: Global, text: &str) -> Result<Option<CallbackAddress>, AllocError>
-    ensures { IfOk result (λ found. IfSome found (λ callback. callback.host ≡ host_in text.now)) }
+    ensures { IfOk result (λ found.
+        MatchOption found (IsNoCallback text.now) (IsCallback text.now)) }
 {
     let Some((host, address)) = text.split_once('=') else {
         return Ok(None);
@@ -99,11 +99,8 @@ fn callback(alloc: Global, text: &str) -> Result<Option<CallbackAddress>, AllocE
     let Ok(address) = address.parse::<SocketAddr>() else {
         return Ok(None);
     };
-    if host.is_empty() || host.len() > HOST_SIZE {
-        return Ok(None);
+    match Host::new(Bytes::copy_from_slice(alloc, host.as_bytes())?) {
+        Some(host) => Ok(Some(CallbackAddress { host, address })),
+        None => Ok(None),
     }
-    Ok(Some(CallbackAddress {
-        host: Bytes::copy_from_slice(alloc, host.as_bytes())?,
-        address,
-    }))
 }

@@ -9,6 +9,7 @@ mod clerk;
 mod jobs;
 mod line;
 mod listening;
+mod messages;
 mod places;
 mod reading;
 mod sending;
@@ -21,7 +22,6 @@ use crate::callbacks::Callbacks;
 use crate::clock::{ServerClock, start_number};
 use crate::exit::Exit;
 use crate::network::attendance::Attendance;
-use crate::network::bell::Bell;
 use crate::network::jobs::{JOBS, Job};
 pub use crate::network::listening::Sockets;
 use crate::network::listening::{Service, let_in, take_datagrams};
@@ -190,15 +190,7 @@ fn serve_pool<
     };
     let places = open_places(rt, alloc, pool, seats, count)?;
     let (jobs, queue) = bounded(alloc, JOBS)?;
-    let Ok(bell) = Arc::new(alloc, Bell::new()) else {
-        return Err(Exit::Memory);
-    };
-    let service = Service {
-        places,
-        jobs,
-        bell,
-        clock,
-    };
+    let service = Service::new(alloc, places, jobs, clock)?;
     start_workers(rt, alloc, &service, queue, network.workers)?;
     start_sender(rt, alloc, &service, callbacks)?;
     attend(rt, alloc, sockets, network, service)
@@ -264,7 +256,6 @@ fn start_sender<
     let mut sender = Sender {
         clerk: service.clerk(rt)?,
         callbacks,
-        bell: Arc::try_clone(&service.bell)?,
     };
     thread::spawn(&rt, move || sender.work(&rt, alloc))?;
     Ok(())

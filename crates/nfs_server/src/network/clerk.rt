@@ -97,6 +97,24 @@ impl<L: Ledger, C: Clock> Clerk<L, C> {
         line.send(waiting)
     }
 
+    /// Answers a record on a place that it takes for this one alone.
+    ///
+    /// # Errors
+    ///
+    /// There was no memory to take the record in or to answer it.
+    pub(crate) fn answer_alone<R: Wait>(
+        &mut self,
+        rt: &R,
+        alloc: Global,
+        host: &Host,
+        record: Record,
+    ) -> Answered {
+        let place = self.places.take(rt);
+        let (place, answered) = self.answer(rt, alloc, host, place, record);
+        self.places.give(rt, place);
+        answered
+    }
+
     /// Answers a record. The place that is handed back may be another one.
     ///
     /// # Errors
@@ -115,7 +133,7 @@ impl<L: Ledger, C: Clock> Clerk<L, C> {
             Ok(host) => match Arrival::read(alloc, host, record, moment) {
                 Ok(arrival) => {
                     let (place, answered) = self.execute(rt, alloc, place, arrival);
-                    if has_posted(&answered) {
+                    if may_have_posted(&answered) {
                         self.bell.ring(rt);
                     }
                     (place, answered)
@@ -160,11 +178,12 @@ impl<L: Ledger, C: Clock> Clerk<L, C> {
     }
 }
 
-/// Whether a call was executed that put a message.
-fn has_posted(answered: &Answered) -> bool {
+/// Whether a call may have been executed that put a message. Where there was no memory for its answer that is not told.
+fn may_have_posted(answered: &Answered) -> bool {
     match answered {
         Ok(Answer::Executed(receipt)) => !receipt.executed.messages.is_empty(),
-        _ => false,
+        Ok(_) => false,
+        Err(_) => true,
     }
 }
 

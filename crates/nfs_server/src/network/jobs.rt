@@ -39,10 +39,7 @@ impl<L: Ledger, C: Clock> Clerk<L, C> {
             host,
             record,
         } = job;
-        let place = self.places.take(rt);
-        let (place, answered) = self.answer(rt, alloc, &host, place, record);
-        self.places.give(rt, place);
-        match answered {
+        match self.answer_alone(rt, alloc, &host, record) {
             Ok(answer) => {
                 if let Some(datagram) = datagram_of(answer.bytes()) {
                     let _ = socket.send_to(datagram, peer);

@@ -146,6 +146,21 @@ pub(crate) struct Service<L: Ledger> {
 }
 
 impl<L: Ledger> Service<L> {
+    /// These places and jobs, and a bell that is not rung.
+    pub(crate) fn new(
+        alloc: Global,
+        places: Places<L>,
+        jobs: Sender<Job>,
+        clock: Option<u32>,
+    ) -> Result<Service<L>, AllocError> {
+        Ok(Service {
+            places,
+            jobs,
+            bell: Arc::new(alloc, Bell::new())?,
+            clock,
+        })
+    }
+
     /// One more owner.
     pub(crate) fn share(&self) -> Result<Service<L>, AllocError> {
         Ok(Service {
