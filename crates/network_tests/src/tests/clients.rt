@@ -1,6 +1,6 @@
 //! What clients do.
 
-use crate::tests::callbacks::is_given_back;
+use crate::tests::callbacks::is_called_back;
 use std::alloc::{AllocError, Global};
 use std::io;
 use std::io::{Read, Write};
@@ -37,8 +37,9 @@ pub(super) enum Visit {
     Closed(Exchange, &'static [u32]),
     /// The same, where the client ends what it sends behind these words.
     Ended(Exchange, &'static [u32]),
-    /// A lock that another client waits for is given back; that one is called back here, and denies it.
-    Called(TcpListener),
+    /// A lock that is given back while another caller waits for it; that one is called back here, and answers with this
+    /// status.
+    Called(TcpListener, u32),
 }
 
 impl Visit {
@@ -59,7 +60,7 @@ impl Visit {
             Visit::Refused(exchange) => open_beside(rt, tcp, exchange, &[], false),
             Visit::Closed(exchange, words) => open_beside(rt, tcp, exchange, words, false),
             Visit::Ended(exchange, words) => open_beside(rt, tcp, exchange, words, true),
-            Visit::Called(listener) => is_given_back(rt, tcp, &listener),
+            Visit::Called(listener, status) => is_called_back(rt, tcp, &listener, status),
         };
         well.unwrap_or(false)
     }
@@ -92,7 +93,7 @@ pub fn send(alloc: Global, stream: &TcpStream, words: &[u32]) -> io::Result<()> 
 }
 
 /// Whether this answer is what comes next over a connection.
-fn is_next(alloc: Global, stream: &TcpStream, answer: &[u32]) -> io::Result<bool> {
+pub fn is_next(alloc: Global, stream: &TcpStream, answer: &[u32]) -> io::Result<bool> {
     let mut stream = stream;
     let answer = spelled(alloc, answer)?;
     let mut told = Vec::from_elem(alloc, 0u8, answer.len())?;

@@ -26,8 +26,8 @@ const CALLBACKS: [&str; 3] = [
 /// Whether a host is called back at this address.
 fn is_at(callbacks: &Callbacks, host: &'static [u8], address: &str) -> bool {
     let host = Bytes::from_static(host);
-    match (callbacks.address_of(&host), address.parse::<SocketAddr>()) {
-        (Some(told), Ok(wanted)) => told == wanted,
+    match (callbacks.of_host(&host), address.parse::<SocketAddr>()) {
+        (Some(callback), Ok(wanted)) => callback.address == wanted,
         _ => false,
     }
 }
@@ -37,7 +37,7 @@ fn are_right(callbacks: &Callbacks) -> bool {
     is_at(callbacks, b"10.0.0.2", "127.0.0.1:9")
         && is_at(callbacks, b"::1", "[::1]:8")
         && callbacks
-            .address_of(&Bytes::from_static(b"10.0.0.3"))
+            .of_host(&Bytes::from_static(b"10.0.0.3"))
             .is_none()
 }
 
